@@ -1,0 +1,79 @@
+//! What the words of the heap are and where they lie: configurations, names, values, the encodings
+//! of words, and the places of words.
+#![tactic(auto)]
+
+ghost use Rattle.std.specs.Prelude.{◌≡◌, ◌↔◌, IsTrue};
+ghost use Rattle.block_store.specs.Configs.{IsInBounds};
+
+use std::alloc::{AllocError, AllocFailed};
+
+/// A payload word is one of this many in each block.
+pub const PAYLOADS: u32 = 4;
+
+/// The registers of a thread take this many blocks.
+pub const REGISTER_BLOCKS: u32 = 5;
+
+/// Memory ran out.
+#[derive(Clone, Copy, Debug, PartialEq, Eq)]
+pub struct OutOfMemory;
+
+impl From<AllocError> for OutOfMemory {
+    fn from(_error: AllocError) -> OutOfMemory {
+        OutOfMemory
+    }
+}
+
+impl<T: Drop> From<AllocFailed<T>> for OutOfMemory {
+    fn from(_error: AllocFailed<T>) -> OutOfMemory {
+        OutOfMemory
+    }
+}
+
+/// The five numbers that fix a heap.
+#[derive(Clone, Copy, Debug, PartialEq, Eq)]
+pub struct Config {
+    /// How many threads share the heap, 1 to 16.
+    pub threads: u32,
+    /// How many blocks the heap has, 1 to 65,535.
+    pub blocks: u32,
+    /// The most blocks that a program keeps reachable, 0 to 65,535.
+    pub live: u32,
+    /// The most blocks that one object takes, 1 to 1,024.
+    pub object: u32,
+    /// How many elements the array that all threads share has, 0 to 1,024.
+    pub shared: u32,
+}
+
+impl Config {
+    /// Whether each of the five numbers is in its range.
+    pub fn in_bounds(&self) -> bool
+        ensures { IsTrue result ↔ IsInBounds self.now }
+    {
+        (1..=16).contains(&self.threads)
+            && (1..=65_535).contains(&self.blocks)
+            && self.live <= 65_535
+            && (1..=1024).contains(&self.object)
+            && self.shared <= 1024
+    }
+}
+
+/// The name of an object: `t.s` is the s-th object that thread t allocated. The array that all of n
+/// threads share is `n.0`.
+#[derive(Clone, Copy, Debug, PartialEq, Eq)]
+pub struct Name {
+    /// The number of the thread, from 0.
+    pub thread: u32,
+    /// The number of the allocation, from 1; 0 for the shared array.
+    pub serial: u32,
+}
+
+/// What a register or a field holds.
+#[derive(Clone, Copy, Debug, PartialEq, Eq)]
+pub enum Value {
+    /// Nothing.
+    Nil,
+    /// A number below 2^62.
+    Int(u64),
+    /// A reference to the object of this name.
+    Ref(Name),
+}

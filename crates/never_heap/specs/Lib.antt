@@ -1,0 +1,5 @@
+pub mod Graphs
+pub mod Steps
+pub mod Bounds
+pub mod Histories
+pub mod Runs

@@ -1,0 +1,109 @@
+//! The model that every promise is measured against: commands, replies, and a heap that never frees.
+#![tactic(auto)]
+
+ghost use Rattle.std.specs.Prelude.{◌≡◌, ℕ, List, [], ◌<◌, length, slice_index_or};
+ghost use Rattle.never_heap.specs.declared.Entry.{Entry};
+
+use block_store::{Name, Value};
+use std::sync::Wait;
+
+/// What a thread is told to do. `d`, `s`, `a`, `b` and `v` are registers, from 0 to 15.
+#[derive(Clone, Copy, Debug, PartialEq, Eq)]
+pub enum Command {
+    /// Makes a record of nil fields, to which register `d` then refers.
+    New { d: u8, fields: u32 },
+    /// Register `d` becomes nil.
+    Nil { d: u8 },
+    /// Register `d` becomes field `i` of the object in register `s`.
+    Get { d: u8, s: u8, i: u64 },
+    /// Field `i` of the object in register `s` becomes what register `v` holds.
+    Put { s: u8, i: u64, v: u8 },
+    /// Shows register `s`.
+    Say { s: u8 },
+}
+
+/// What a command answers.
+#[derive(Clone, Copy, Debug, PartialEq, Eq)]
+pub enum Reply {
+    /// The object of this name was made.
+    New(Name),
+    /// The heap had too few blocks; the number is the cycle that shows why.
+    Full(u64),
+    /// What was to be stored is stored.
+    Stored,
+    /// The value that was asked for.
+    Val(Value),
+    /// The number of fields or elements.
+    Len(u64),
+    /// The two registers are the same.
+    Yes,
+    /// They are not.
+    No,
+    /// The register is nil.
+    Null,
+    /// The register holds a number.
+    Kind,
+    /// The object has no such field.
+    Range,
+}
+
+/// A command that was answered.
+#[derive(Clone, Copy, Debug, PartialEq, Eq)]
+pub struct Entry {
+    /// Whose command it was.
+    pub thread: u32,
+    pub command: Command,
+    pub reply: Reply,
+    /// The units of marking or sweeping that were made for it.
+    pub work: u64,
+}
+
+/// An item of an order: the next entry of a thread, or the start of the next cycle.
+#[derive(Clone, Copy, Debug, PartialEq, Eq)]
+pub enum Item {
+    Entry(u8),
+    Start,
+}
+
+/// What a finished run shows: each thread's entries, and two totals.
+pub trait Logs {
+    /// The entries of each thread, oldest first.
+    ghost logs: { Self → List (List Entry) };
+
+    /// How many cycles were started.
+    ghost cycle_count: { Self → ℕ };
+
+    /// How many units of marking and sweeping were made.
+    ghost unit_count: { Self → ℕ };
+
+    /// How many threads ran.
+    fn threads(&self) -> u32
+        ensures { result ≡ length (logs self.now) };
+
+    /// The entries of thread `t`, oldest first.
+    fn entries(&self, t: u32) -> &[Entry]
+        requires { t < length (logs self.now) }
+        ensures { result.now ≡ slice_index_or (logs self.now) t [] };
+
+    /// How many cycles were started.
+    fn cycles(&self) -> u64
+        ensures { result ≡ cycle_count self.now };
+
+    /// How many units of marking and sweeping were made.
+    fn units(&self) -> u64
+        ensures { result ≡ unit_count self.now };
+}
+
+/// Is told of each command before its first event, outside the gate. A test makes threads meet by it.
+pub trait Pace: Sync {
+    /// Before the command of this number, from 0, of a thread.
+    fn before<R: Wait>(&self, rt: &R, thread: u32, command: u64);
+}
+
+/// Does nothing before a command.
+#[derive(Clone, Copy, Debug)]
+pub struct NoPace;
+
+impl Pace for NoPace {
+    fn before<R: Wait>(&self, _rt: &R, _thread: u32, _command: u64) {}
+}

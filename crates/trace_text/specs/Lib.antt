@@ -1,0 +1,6 @@
+pub mod Faults
+pub mod Streams
+pub mod Lines
+pub mod Spellings
+pub mod Jobs
+pub mod Texts

@@ -1,0 +1,23 @@
+//! Where output goes.
+
+ghost use Rattle.std.specs.Prelude.{◌≡◌, ℕ, List, Option, OnOk, OnErr};
+ghost use Rattle.trace_text.specs.Faults.{Rose};
+ghost use Rattle.trace_text.specs.Streams.{Appends, AppendsFront};
+
+use crate::Failed;
+
+/// A stream of bytes that is written in pieces.
+pub trait Sink {
+    /// The bytes that the sink holds, where it tells them.
+    ghost held: { Self → Option (List ℕ) };
+
+    /// How many faults the sink has counted. The count never falls, and stands still at 2^64 - 1.
+    ghost faults: { Self → ℕ };
+
+    /// Appends a piece. At `Failed` a front of it was appended.
+    fn put(&mut self, piece: &[u8]) -> Result<(), Failed>
+        ensures appended { OnOk result (Appends (held self.old) (held self.new) piece.now) }
+        ensures front { OnErr result (AppendsFront (held self.old) (held self.new) piece.now) }
+        ensures rose { OnErr result (Rose (faults self.old) (faults self.new)) }
+        ensures still { OnOk result (faults self.new ≡ faults self.old) };
+}
