@@ -1,5 +1,5 @@
 -- The object graph of a heap that never frees.
-use Rattle.std.specs.Prelude.{ℕ, ◌+◌, ◌-◌, ◌==◌, if◌then◌else◌, List, [], ◌∷◌, ◌++◌, length, replicate, slice_set, slice_index_or}
+use Rattle.std.specs.Prelude.{ℕ, ◌+◌, ◌-◌, ◌==◌, ◌&&◌, nat_le, Bool, if◌then◌else◌, List, [], ◌∷◌, ◌++◌, length, replicate, slice_set, slice_index_or}
 use Rattle.block_store.specs.declared.Config.{Config}
 use Rattle.block_store.specs.declared.Name.{Name}
 use Rattle.block_store.specs.declared.Value.{Value}
@@ -64,6 +64,14 @@ object_of g name =
     if name.serial == 0
     then (if name.thread == length g.mutators then g.shared else no_object)
     else slice_index_or (mutator_at g name.thread).objects (name.serial - 1) no_object
+
+-- whether the graph has an object of this name
+abbrev pub has_name : Graph → Name → Bool
+has_name g name = if name.serial == 0 then name.thread == length g.mutators else nat_le name.serial (count_of g name.thread)
+
+-- whether two names are one
+abbrev pub same_name : Name → Name → Bool
+same_name a b = (a.thread == b.thread) && (a.serial == b.serial)
 
 abbrev pub field_of : Object → ℕ → Value
 field_of o i = slice_index_or o.fields i Nil

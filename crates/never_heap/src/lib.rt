@@ -1,8 +1,10 @@
 //! The model that every promise is measured against: commands, replies, and a heap that never frees.
 #![tactic(auto)]
 
-ghost use Rattle.std.specs.Prelude.{◌≡◌, ℕ, List, [], ◌<◌, length, slice_index_or};
+ghost use Rattle.std.specs.Prelude.{◌≡◌, ◌<◌, ℕ, List, [], ◌∷◌, ◌++◌, length, slice_index_or};
+ghost use Rattle.block_store.specs.declared.Config.{Config};
 ghost use Rattle.never_heap.specs.declared.Entry.{Entry};
+ghost use Rattle.never_heap.specs.Histories.{HistoryItem, after, replay, part, Legal, IsAnswered};
 
 use block_store::{Name, Value};
 use std::sync::Wait;
@@ -107,3 +109,11 @@ pub struct NoPace;
 impl Pace for NoPace {
     fn before<R: Wait>(&self, _rt: &R, _thread: u32, _command: u64) {}
 }
+
+/// Replay goes on by one item at the end, a legal history goes on by an item that is answered on its
+/// replay, and each thread's part goes on by the part of what comes.
+pub fn histories_grow()
+    ensures replay { (c : Config) (h : List HistoryItem) (i : HistoryItem) → replay c (h ++ i ∷ []) ≡ after (replay c h) i }
+    ensures legal { (c : Config) (h : List HistoryItem) (i : HistoryItem) → Legal c h → IsAnswered (replay c h) i → Legal c (h ++ i ∷ []) }
+    ensures part { (t : ℕ) (h k : List HistoryItem) → part t (h ++ k) ≡ part t h ++ part t k }
+{}
