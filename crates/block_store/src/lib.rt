@@ -5,7 +5,14 @@
 ghost use Rattle.std.specs.Prelude.{◌≡◌, ◌↔◌, IsTrue};
 ghost use Rattle.block_store.specs.Configs.{IsInBounds};
 
+mod laws;
+mod places;
+mod words;
+
+pub use laws::{places_differ, words_read_back, writes_are_of_places};
+pub use places::Places;
 use std::alloc::{AllocError, AllocFailed};
+pub use words::{owner_word, payload_word, read_owner, read_payload, read_shape, shape_word};
 
 /// A payload word is one of this many in each block.
 pub const PAYLOADS: u32 = 4;
@@ -76,4 +83,35 @@ pub enum Value {
     Int(u64),
     /// A reference to the object of this name.
     Ref(Name),
+}
+
+/// What a payload word of a block holds.
+#[derive(Clone, Copy, Debug, PartialEq, Eq)]
+pub enum Payload {
+    /// Nothing.
+    Nil,
+    /// A number below 2^62.
+    Int(u64),
+    /// A reference to this block, 1 to 65,535.
+    Block(u32),
+}
+
+/// Which block of which object a block is.
+#[derive(Clone, Copy, Debug, PartialEq, Eq)]
+pub struct Owner {
+    /// The thread in the object's name, 0 to 16.
+    pub thread: u32,
+    /// The serial in the object's name, 0 to 131,072.
+    pub serial: u32,
+    /// The number of the block in its object, 0 to 1,023.
+    pub ordinal: u32,
+}
+
+/// What an object is, and how long.
+#[derive(Clone, Copy, Debug, PartialEq, Eq)]
+pub enum Shape {
+    /// A record of this many fields, at most 65,535, in a list of blocks.
+    List(u32),
+    /// An array of this many elements, at most 65,535, in a tree of blocks.
+    Tree(u32),
 }

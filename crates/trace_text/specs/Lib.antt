@@ -4,3 +4,4 @@ pub mod Lines
 pub mod Spellings
 pub mod Jobs
 pub mod Texts
+pub mod Memories

@@ -2,12 +2,16 @@
 #![tactic(auto)]
 
 mod jobs;
+mod memory;
 mod sinks;
 mod sources;
+mod standard;
 
 pub use jobs::{Job, Traces};
+pub use memory::{MemSink, MemSource};
 pub use sinks::Sink;
 pub use sources::Source;
+pub use standard::{StdSink, StdSource};
 
 /// A source or sink did not do what it was asked, and counted a fault.
 #[derive(Clone, Copy, Debug, PartialEq, Eq)]

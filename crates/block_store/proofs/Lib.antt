@@ -1,0 +1,4 @@
+pub mod PayloadWords
+pub mod OwnerWords
+pub mod ShapeWords
+pub mod Indexes

@@ -1,0 +1,77 @@
+-- The places of a heap, and the index of each among its words.
+use Rattle.std.specs.Prelude.{ℕ, ◌+◌, ◌*◌, ◌-◌, ◌≤◌, Bool, true, false, ◌==◌, ◌&&◌, nat_lt, nat_le}
+use Rattle.block_store.specs.declared.Config.{Config}
+use Rattle.block_store.specs.declared.TheConstants.{PAYLOADS}
+
+-- how many threads and blocks a heap has, and how many payload words a block
+pub record Extent : Type 0 where
+  pub threads : ℕ
+  pub blocks : ℕ
+  pub width : ℕ
+
+abbrev pub extent : Config → Extent
+extent c = record { threads = c.threads; blocks = c.blocks; width = PAYLOADS }
+
+-- what a word of the heap is of: the whole heap, thread t, or block x
+pub data Place : Type 0 where
+  Phase : Place
+  Cursor : Place
+  FreeCount : Place
+  GreyList : (t : ℕ) → Place
+  FreeList : (t : ℕ) → Place
+  ColourOf : (x : ℕ) → Place
+  OwnerOf : (x : ℕ) → Place
+  ShapeOf : (x : ℕ) → Place
+  PayloadOf : (x j : ℕ) → Place
+
+-- blocks are counted from 1
+abbrev pub is_block : Extent → ℕ → Bool
+is_block e x = nat_le 1 x && nat_le x e.blocks
+
+-- a place of the heap
+abbrev pub in_range : Extent → Place → Bool
+in_range e Phase = true
+in_range e Cursor = true
+in_range e FreeCount = true
+in_range e (GreyList t) = nat_lt t e.threads
+in_range e (FreeList t) = nat_lt t e.threads
+in_range e (ColourOf x) = is_block e x
+in_range e (OwnerOf x) = is_block e x
+in_range e (ShapeOf x) = is_block e x
+in_range e (PayloadOf x j) = is_block e x && nat_lt j e.width
+
+-- the index of the first word of block x, which is its colour
+abbrev pub block_index : Extent → ℕ → ℕ
+block_index e x = 3 + 2 * e.threads + (3 + e.width) * (x - 1)
+
+-- where a place is among the words
+abbrev pub index : Extent → Place → ℕ
+index e Phase = 0
+index e Cursor = 1
+index e FreeCount = 2
+index e (GreyList t) = 3 + t
+index e (FreeList t) = 3 + e.threads + t
+index e (ColourOf x) = block_index e x
+index e (OwnerOf x) = block_index e x + 1
+index e (ShapeOf x) = block_index e x + 2
+index e (PayloadOf x j) = block_index e x + (3 + j)
+
+abbrev pub words_count : Extent → ℕ
+words_count e = 3 + 2 * e.threads + (3 + e.width) * e.blocks
+
+-- whether two places are one
+abbrev pub same_place : Place → Place → Bool
+same_place Phase Phase = true
+same_place Cursor Cursor = true
+same_place FreeCount FreeCount = true
+same_place (GreyList t) (GreyList u) = t == u
+same_place (FreeList t) (FreeList u) = t == u
+same_place (ColourOf x) (ColourOf y) = x == y
+same_place (OwnerOf x) (OwnerOf y) = x == y
+same_place (ShapeOf x) (ShapeOf y) = x == y
+same_place (PayloadOf x j) (PayloadOf y k) = (x == y) && (j == k)
+same_place _ _ = false
+
+-- x is the number of a block
+abbrev pub IsBlock : Config → ℕ → Type 0
+IsBlock c x = (1 ≤ x) × (x ≤ c.blocks)
