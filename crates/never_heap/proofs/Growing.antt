@@ -4,7 +4,7 @@ use Rattle.block_store.specs.declared.Config.{Config}
 use Rattle.never_heap.specs.declared.Entry.{Entry}
 use Rattle.never_heap.specs.Graphs.{Graph, start_graph}
 use Rattle.never_heap.specs.Histories.{HistoryItem, Started, Did, after, replay_from, IsAnswered, Legal, LegalFrom, replay, part, starts_in, work_in}
-use Rattle.never_heap.specs.Runs.{FullsExactly, NoWork, taken_by}
+use Rattle.never_heap.specs.Runs.{FullsExactly, NoWork, taken_by, taken_in}
 
 -- replay goes on by the item
 pub replay_more : (g : Graph) (h : List HistoryItem) (i : HistoryItem) → replay_from g (h ++ i ∷ []) ≡ after (replay_from g h) i
@@ -51,12 +51,6 @@ pub no_work_append : (h k : List HistoryItem) → NoWork h → NoWork k → NoWo
 no_work_append [] k w v = v
 no_work_append (Started ∷ h) k w v = no_work_append h k w v
 no_work_append (Did e ∷ h) k w v = (w.0, no_work_append h k w.1 v)
-
--- the blocks that the entries took
-abbrev pub taken_in : List HistoryItem → ℕ
-taken_in [] = 0
-taken_in (Started ∷ h) = taken_in h
-taken_in (Did e ∷ h) = taken_by e + taken_in h
 
 pub fulls_append : (m used : ℕ) (h k : List HistoryItem) → FullsExactly m used h → FullsExactly m (used + taken_in h) k → FullsExactly m used (h ++ k)
 fulls_append m used [] k f g = subst (λ u. FullsExactly m u k) (add-zero used) g

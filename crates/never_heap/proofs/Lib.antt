@@ -1,3 +1,4 @@
 pub mod Growing
 pub mod GraphMoves
 pub mod FieldStores
+pub mod Starting

@@ -16,6 +16,12 @@ blocks_if_new _ k = 0
 abbrev pub taken_by : Entry → ℕ
 taken_by e = blocks_if_new e.reply (blocks_of e.command)
 
+-- the blocks that the entries took
+abbrev pub taken_in : List HistoryItem → ℕ
+taken_in [] = 0
+taken_in (Started ∷ h) = taken_in h
+taken_in (Did e ∷ h) = taken_by e + taken_in h
+
 -- the blocks of the opening heap with an empty shared array: each thread's registers take five, and the array takes one
 abbrev pub opening_blocks : Config → ℕ
 opening_blocks c = 5 * c.threads + 1

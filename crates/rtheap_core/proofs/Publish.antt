@@ -12,16 +12,8 @@ use Rattle.never_heap.specs.Graphs.{Graph, Object, Mutator, ObjectKind, Record, 
 use Rattle.never_heap.proofs.GraphMoves.{same_from, name_of_thread}
 use Rattle.never_heap.proofs.FieldStores.{object_with_object, has_name_with_object, registers_with_object}
 use Rattle.rtheap_core.specs.Shown.{value_word, kind_word, object_shape, IsValueIn, Holds, ShowsObject, Shows}
+use Rattle.rtheap_core.specs.Plain.{Written}
 use Rattle.rtheap_core.proofs.Stores.{name_one, same_parts, holds_stays, holds_at}
-
--- the block of a new object, and every other block as it was
-pub record Written (heap new : Heap) (x : ℕ) (thread serial : ℕ) (o : Object) : Type 0 where
-  pub owner : new (OwnerOf x) ≡ owner_word thread serial 0
-  pub shape : new (ShapeOf x) ≡ object_shape o
-  pub payload : (j : ℕ) → 0 < j → j < 4 → new (PayloadOf x j) ≡ 0
-  pub owners : (y : ℕ) → (y ≡ x → ⊥) → new (OwnerOf y) ≡ heap (OwnerOf y)
-  pub shapes : (y : ℕ) → (y ≡ x → ⊥) → new (ShapeOf y) ≡ heap (ShapeOf y)
-  pub payloads : (y j : ℕ) → (y ≡ x → ⊥) → new (PayloadOf y j) ≡ heap (PayloadOf y j)
 
 -- where the objects stand, with the new one at x
 abbrev pub placed : (Name → ℕ) → Name → ℕ → Name → ℕ

@@ -1,2 +1,6 @@
 //! The top call of rtheap.
 #![tactic(auto)]
+
+mod plain;
+mod run;
+mod store;
