@@ -2,7 +2,7 @@
 
 ghost use Rattle.std.specs.Prelude.{◌≡◌, ◌≢◌, ◌<◌, ◌^◌, IfSome, IfNone, ℕ, Some};
 ghost use Rattle.block_store.specs.Colours.{IsColour, colour_code, colour_of, colour_link, colour_kind, link, kind, black_of, white_of, black_word, white_word};
-ghost use Rattle.block_store.specs.Phases.{phase_code, phase_of, IsPhase};
+ghost use Rattle.block_store.specs.Phases.{phase_code, phase_of};
 ghost use Rattle.block_store.specs.declared.Colour.{Colour};
 
 use crate::{Colour, PhaseWord};
@@ -49,10 +49,9 @@ pub fn black(cycle: u64) -> Colour
     ensures word { colour_code result ≡ black_word cycle }
     ensures in_range { IsColour result }
 {
-    if cycle % 2 == 0 {
-        Colour::Even
-    } else {
-        Colour::Odd
+    match cycle % 2 {
+        0 => Colour::Even,
+        _ => Colour::Odd,
     }
 }
 
@@ -63,10 +62,9 @@ pub fn white(cycle: u64) -> Colour
     ensures word { colour_code result ≡ white_word cycle }
     ensures in_range { IsColour result }
 {
-    if cycle % 2 == 0 {
-        Colour::Odd
-    } else {
-        Colour::Even
+    match cycle % 2 {
+        0 => Colour::Odd,
+        _ => Colour::Even,
     }
 }
 

@@ -8,6 +8,8 @@ ghost use Rattle.block_store.specs.Configs.{IsInBounds};
 mod colours;
 mod laws;
 mod places;
+#[cfg(test)]
+mod tests;
 mod words;
 
 pub use colours::{black, colour_word, phase_word, read_colour, read_phase, white};
