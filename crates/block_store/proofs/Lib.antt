@@ -1,4 +1,6 @@
 pub mod PayloadWords
 pub mod OwnerWords
 pub mod ShapeWords
+pub mod ColourWords
+pub mod PhaseWords
 pub mod Indexes

@@ -1,7 +1,8 @@
 -- What payload words say.
-use Rattle.std.proofs.Common.{◌≡◌, ◌≢◌, ℕ, ◌+◌, ◌*◌, ◌/◌, ◌%◌, ◌^◌, ◌≤◌, Some, None, refl, arith, true, false, eqb, ltb, leb, ap}
+use Rattle.std.proofs.Common.{inl, inr, ◌&&◌, ltb-true, leb-true, eqb-true, ne_eqb, subst, IfSome, ◌≡◌, ◌≢◌, ℕ, ◌+◌, ◌*◌, ◌/◌, ◌%◌, ◌^◌, ◌≤◌, Some, None, refl, arith, true, false, eqb, ltb, leb, ap}
+use Rattle.std.proofs.lemmas.Bool.{cases_eq, cases_Bool, and_parts}
 use Rattle.std.proofs.lemmas.Bool.Decides.{nat_tests}
-use Rattle.block_store.specs.Payloads.{IsPayload, payload_code, payload_of, target, number_word, reference_word}
+use Rattle.block_store.specs.Payloads.{IsPayload, payload_code, payload_of, payload_target, target, number_word, reference_word}
 use Rattle.block_store.specs.declared.Payload.{Payload}
 use Rattle.block_store.specs.declared.Payload.TheVariants.{Nil, Int, Block}
 
@@ -59,3 +60,27 @@ payload-code (Block x) h =
 -- a word that reads as nothing was not written
 pub unread : (w : ℕ) → payload_of w ≡ None → (p : Payload) → IsPayload p → payload_code p ≢ w
 unread w e p h q = let r = payload-code p h in let z = ap payload_of q in cc
+
+-- what is read of a word is what it says
+shown : (w : ℕ) → IfSome (payload_of w) (λ p. IsPayload p × (payload_code p ≡ w) × (payload_target p ≡ target w))
+unfolding payload_of number_word reference_word target
+shown w = elim (cases_eq w 0) [
+  | inl e ↦ rw e (tt, refl, refl)
+  | inr some ↦ rw (ne_eqb w 0 some) (elim (cases_Bool (eqb (w % 2) 1 && ltb (w / 2) (2 ^ 62))) [
+    | inl t ↦ (
+        let p = and_parts (eqb (w % 2) 1) (ltb (w / 2) (2 ^ 62)) t in
+        let odd = eqb-true (w % 2) 1 p.0 in
+        let even : eqb (w % 2) 0 ≡ false = ne_eqb (w % 2) 0 (λ z. omega arith) in
+        rw (t, even) (ltb-true (w / 2) (2 ^ 62) p.1, omega arith, refl))
+    | inr f ↦ rw f (elim (cases_Bool (eqb (w % 2) 0 && leb (w / 2) 65535)) [
+      | inl t ↦ (
+          let p = and_parts (eqb (w % 2) 0) (leb (w / 2) 65535) t in
+          let even = eqb-true (w % 2) 0 p.0 in
+          rw (t, p.0) ((omega arith, leb-true (w / 2) 65535 p.1), omega arith, refl))
+      | inr g ↦ rw g tt
+    ])
+  ])
+]
+
+pub reads : (w : ℕ) (p : Payload) → payload_of w ≡ Some p → IsPayload p × (payload_code p ≡ w) × (payload_target p ≡ target w)
+reads w p e = subst (λ o. IfSome o (λ q. IsPayload q × (payload_code q ≡ w) × (payload_target q ≡ target w))) e (shown w)

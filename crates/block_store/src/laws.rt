@@ -1,14 +1,18 @@
 //! Laws of the words and places, for the proofs above: each is the contract of a function that does nothing.
 
-ghost use Rattle.std.specs.Prelude.{◌≡◌, ◌<◌, ◌≤◌, ℕ, List, length, Some, slice_set, true};
+ghost use Rattle.std.specs.Prelude.{◌≢◌, ◌+◌, ◌≡◌, ◌<◌, ◌≤◌, ℕ, List, length, Some, slice_set, true};
 ghost use Rattle.block_store.specs.Payloads.{IsPayload, payload_code, payload_of};
 ghost use Rattle.block_store.specs.Owners.{IsOwner, owner_code, owner_of};
 ghost use Rattle.block_store.specs.Shapes.{IsShape, shape_code, shape_of};
+ghost use Rattle.block_store.specs.Colours.{IsColour, colour_code, colour_of, black_word, white_word};
+ghost use Rattle.block_store.specs.Phases.{phase_code, phase_of};
 ghost use Rattle.block_store.specs.Places.{Extent, Place, in_range, index, words_count};
 ghost use Rattle.block_store.specs.Heaps.{heap_of, put_at};
 ghost use Rattle.block_store.specs.declared.Payload.{Payload};
 ghost use Rattle.block_store.specs.declared.Owner.{Owner};
 ghost use Rattle.block_store.specs.declared.Shape.{Shape};
+ghost use Rattle.block_store.specs.declared.Colour.{Colour};
+ghost use Rattle.block_store.specs.declared.PhaseWord.{PhaseWord};
 
 /// What was written reads back as itself. So each word has one meaning, and two meanings differ in
 /// their words.
@@ -16,6 +20,24 @@ pub fn words_read_back()
     ensures payload { (p : Payload) → IsPayload p → payload_of (payload_code p) ≡ Some p }
     ensures owner { (o : Owner) → IsOwner o → owner_of (owner_code o) ≡ Some o }
     ensures shape { (s : Shape) → IsShape s → shape_of (shape_code s) ≡ Some s }
+    ensures colour { (c : Colour) → IsColour c → colour_of (colour_code c) ≡ Some c }
+    ensures phase { (p : PhaseWord) → p.inside < 256 → phase_of (phase_code p) ≡ p }
+{}
+
+/// A word that reads as something is the word of it.
+pub fn words_are_written()
+    ensures payload { (w : ℕ) (p : Payload) → payload_of w ≡ Some p → IsPayload p × (payload_code p ≡ w) }
+    ensures owner { (w : ℕ) (o : Owner) → owner_of w ≡ Some o → IsOwner o × (owner_code o ≡ w) }
+    ensures shape { (w : ℕ) (s : Shape) → shape_of w ≡ Some s → IsShape s × (shape_code s ≡ w) }
+    ensures colour { (w : ℕ) (c : Colour) → colour_of w ≡ Some c → IsColour c × (colour_code c ≡ w) }
+    ensures phase { (w : ℕ) → phase_code (phase_of w) ≡ w }
+{}
+
+/// Black and white are told apart in each cycle, and change places with the next.
+pub fn colours_turn()
+    ensures apart { (c : ℕ) → black_word c ≢ white_word c }
+    ensures black { (c : ℕ) → black_word (c + 1) ≡ white_word c }
+    ensures white { (c : ℕ) → white_word (c + 1) ≡ black_word c }
 {}
 
 /// Distinct places have distinct indices, and all are below the number of words.

@@ -5,11 +5,17 @@
 ghost use Rattle.std.specs.Prelude.{◌≡◌, ◌↔◌, IsTrue};
 ghost use Rattle.block_store.specs.Configs.{IsInBounds};
 
+mod colours;
 mod laws;
 mod places;
+#[cfg(test)]
+mod tests;
 mod words;
 
-pub use laws::{places_differ, words_read_back, writes_are_of_places};
+pub use colours::{black, colour_word, phase_word, read_colour, read_phase, white};
+pub use laws::{
+    colours_turn, places_differ, words_are_written, words_read_back, writes_are_of_places,
+};
 pub use places::Places;
 use std::alloc::{AllocError, AllocFailed};
 pub use words::{owner_word, payload_word, read_owner, read_payload, read_shape, shape_word};
@@ -96,6 +102,20 @@ pub enum Payload {
     Block(u32),
 }
 
+/// The colour of a block, and its place in a list.
+#[derive(Clone, Copy, Debug, PartialEq, Eq)]
+pub enum Colour {
+    /// In no object; the number is the next block of its list, or 0, and at most 65,535.
+    Free(u32),
+    /// In an object, last made black in a cycle of an even number.
+    Even,
+    /// In an object, last made black in a cycle of an odd number.
+    Odd,
+    /// Reached and not yet scanned; the number is the next block of its list, or 0, and at most
+    /// 65,535.
+    Grey(u32),
+}
+
 /// Which block of which object a block is.
 #[derive(Clone, Copy, Debug, PartialEq, Eq)]
 pub struct Owner {
@@ -114,4 +134,17 @@ pub enum Shape {
     List(u32),
     /// An array of this many elements, at most 65,535, in a tree of blocks.
     Tree(u32),
+}
+
+/// What the phase word of a heap says.
+#[derive(Clone, Copy, Debug, PartialEq, Eq)]
+pub struct PhaseWord {
+    /// How many threads are inside.
+    pub inside: u8,
+    /// Whether the phase is Sweep, and not Mark.
+    pub sweep: bool,
+    /// Whether the gate is closed.
+    pub closed: bool,
+    /// The number of the cycle, below 2^54.
+    pub cycle: u64,
 }
