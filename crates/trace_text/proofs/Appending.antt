@@ -1,7 +1,10 @@
 -- Texts that are appended one after the other, and what std's words say of bytes.
-use Rattle.std.proofs.Common.{◌≡◌, ℕ, ◌+◌, ◌-◌, List, [], ◌++◌, length, take, drop, sym, ◌∙◌, ap, subst, append_assoc, append-nil, Option, Some, None, IfSome}
-use Rattle.std.proofs.lemmas.List.{take_rest}
-use Rattle.std.proofs.Math.Seq.{take-append_seam, take-append-add, take-add}
+use Rattle.std.proofs.Common.{◌≡◌, ℕ, ◌+◌, ◌-◌, ◌<◌, ◌≤◌, min, List, [], ◌∷◌, ◌++◌, get_or, take-append-drop, arith, length, take, drop, sym, ◌∙◌, ap, subst, append_assoc, append-nil, Option, Some, None, IfSome, Result, Ok, Err, OnErr}
+use Rattle.std.proofs.lemmas.List.{take_rest, take_min, take-append-le, take_all}
+use Rattle.std.proofs.Math.Seq.{take-append_seam, take-append-add, take-add, take-suc}
+use Rattle.std.proofs.Math.Numerals.{add-one}
+use Rattle.std.proofs.lemmas.Grind.{flat_map-append}
+use Rattle.std.specs.List.{flat_map}
 use Rattle.std.specs.Io.KnownBytes as known
 use Rattle.trace_text.specs.Streams.{Appends, AppendsFront}
 
@@ -57,3 +60,39 @@ pub kept_more : (a b c : Option (List ℕ)) (text : List ℕ) → Appends a b te
 kept_more a b c text before h =
     let Q : List ℕ → Type 0 = λ ys. Appends a c ys in
     subst Q (append-nil text) (appends_in_turn a b c text [] before (keeps_known b c h))
+
+-- a front of a text is a front of it and more
+pub front_longer : (a b : Option (List ℕ)) (xs ys : List ℕ) → AppendsFront a b xs → AppendsFront a b (xs ++ ys)
+front_longer None b xs ys h = tt
+front_longer (Some before) b xs ys h =
+    let k = min h.0 (length xs) in
+    let cut : take k xs ≡ take h.0 xs = take_min h.0 xs in
+    let more : take k (xs ++ ys) ≡ take k xs = take-append-le k xs ys (omega arith) in
+    (k, h.1 ∙ ap (λ zs. Some (before ++ zs)) (sym (more ∙ cut)))
+
+-- what holds in any case holds after an error
+pub at_err : {T E P : Type 0} (r : Result T E) → P → OnErr r P
+at_err (Ok x) h = tt
+at_err (Err e) h = h
+
+module _ {X : Type 0} (f : X → List ℕ) where
+  lines_next : (xs : List X) (i : ℕ) (d : X) → i < length xs → flat_map f (take (i + 1) xs) ≡ flat_map f (take i xs) ++ f (get_or xs i d)
+  lines_next xs i d lt =
+      ap (flat_map f) (ap (λ n. take n xs) (add-one i) ∙ take-suc xs i d lt) ∙ flat_map-append f (take i xs) (get_or xs i d ∷ [])
+      ∙ ap (λ zs. flat_map f (take i xs) ++ zs) (append-nil (f (get_or xs i d)))
+
+  -- the lines up to a place, and a front of the line there
+  pub lines_front : (a b c : Option (List ℕ)) (xs : List X) (i : ℕ) (d : X) → i < length xs → Appends a b (flat_map f (take i xs))
+      → AppendsFront b c (f (get_or xs i d)) → AppendsFront a c (flat_map f xs)
+  lines_front a b c xs i d lt before h =
+      let P : List ℕ → Type 0 = λ text. AppendsFront a c text in
+      let whole : flat_map f (take (i + 1) xs) ++ flat_map f (drop (i + 1) xs) ≡ flat_map f xs =
+      sym (flat_map-append f (take (i + 1) xs) (drop (i + 1) xs)) ∙ ap (flat_map f) (take-append-drop (i + 1) xs) in
+      let so_far : AppendsFront a c (flat_map f (take (i + 1) xs)) = subst P (sym (lines_next xs i d lt)) (front_in_turn a b c _ _ before h) in
+      subst P whole (front_longer a c _ _ so_far)
+
+  -- the lines up to a place at the end or past it
+  pub lines_whole : (a b : Option (List ℕ)) (xs : List X) (i : ℕ) → length xs ≤ i → Appends a b (flat_map f (take i xs)) → Appends a b (flat_map f xs)
+  lines_whole a b xs i le h =
+      let P : List X → Type 0 = λ ys. Appends a b (flat_map f ys) in
+      subst P (take_all i xs le) h

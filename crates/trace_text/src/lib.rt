@@ -2,13 +2,16 @@
 #![tactic(auto)]
 
 mod jobs;
+mod line_buffer;
 mod memory;
+mod printing;
 mod sinks;
 mod sources;
 mod standard;
 
 pub use jobs::{Job, Traces};
 pub use memory::{MemSink, MemSource};
+pub use printing::write_run;
 pub use sinks::Sink;
 pub use sources::Source;
 pub use standard::{StdSink, StdSource};
