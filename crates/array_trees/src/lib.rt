@@ -3,14 +3,15 @@
 #![tactic(auto)]
 
 ghost use Rattle.std.specs.Prelude.{◌≡◌, ℕ, ◌<◌, ◌≤◌};
-ghost use Rattle.array_trees.specs.Trees.{leaves, array_blocks, IsTree};
+ghost use Rattle.array_trees.specs.Trees.{leaves, tree, array_blocks, IsTree};
 
 use block_store::PAYLOADS;
 
 /// The count of a tree's blocks is the one that two equations give: one block has no level over it,
 /// and over more blocks stands a level with one block per `w` of them.
 pub fn tree_counts()
-    ensures { (w : ℕ) → 1 < w → IsTree w }
+    ensures equations { (w : ℕ) → 1 < w → IsTree w }
+    ensures all_levels { (w q : ℕ) → 1 < w → q ≤ tree w q }
 {}
 
 // How many blocks hold the elements.

@@ -1,5 +1,5 @@
-use Rattle.array_trees.proofs.Counts.{tree_is}
+use Rattle.array_trees.proofs.Counts.{le-tree, tree_is}
 use Rattle.array_trees.proofs.tree_counts.Goals as goal
 
 pub returns : goal.returns
-returns c = tree_is
+returns c = record { equations = tree_is; all_levels = le-tree }
