@@ -1,0 +1,85 @@
+-- Facts on the number of blocks of a level and of all levels over it.
+use Rattle.std.proofs.Common.{◌≡◌, ℕ, zero, suc, ◌+◌, ◌-◌, ◌*◌, ◌/◌, ◌^◌, ◌<◌, ◌≤◌, refl, sym, ap, arith, inl, inr, subst}
+use Rattle.std.proofs.lemmas.Nat.{div_below, le-div}
+use Rattle.std.proofs.Math.Nat.{pow-suc, one-le-pow}
+use Rattle.std.proofs.lemmas.Bool.{cases_lt, lt-ltb, le-ltb}
+use Rattle.array_trees.specs.Trees.{blocks_over, tree_within, tree, IsTree}
+
+-- a level of more than one block has fewer blocks over it
+pub over_less : (w q : ℕ) → 1 < w → 1 < q → blocks_over w q < q
+over_less zero q hw hq = absurd (omega arith)
+over_less (suc zero) q hw hq = absurd (omega arith)
+over_less (suc (suc v)) zero hw hq = absurd (omega arith)
+over_less (suc (suc v)) (suc zero) hw hq = absurd (omega arith)
+over_less (suc (suc v)) (suc (suc p)) hw hq =
+    div_below (suc (suc p) + (suc (suc v) - 1)) (suc (suc v)) (suc (suc p)) (omega arith) (omega arith)
+
+-- and at least one
+pub over_some : (w q : ℕ) → 1 < w → 0 < q → 0 < blocks_over w q
+over_some w q hw hq =
+    let some : 1 ≤ (q + (w - 1)) / w = le-div 1 (q + (w - 1)) w (omega arith) (omega arith) in
+    omega arith
+
+-- the bound on the number of levels may be any that is large enough
+pub tree_bound : (w n m q : ℕ) → 1 < w → q ≤ suc n → q ≤ suc m → tree_within w n q ≡ tree_within w m q
+tree_bound w zero zero q hw hn hm = refl
+tree_bound w zero (suc m) q hw hn hm = rw (le-ltb 1 q hn) refl
+tree_bound w (suc n) zero q hw hn hm = rw (le-ltb 1 q hm) refl
+tree_bound w (suc n) (suc m) q hw hn hm = elim (cases_lt 1 q) [
+  | inl some ↦
+      let less : blocks_over w q < q = over_less w q hw some in
+      rw (lt-ltb 1 q some) (ap (λ t. q + t) (tree_bound w n m (blocks_over w q) hw (omega arith) (omega arith)))
+  | inr few ↦ rw (le-ltb 1 q few) refl
+]
+
+pub tree-one : (w : ℕ) → tree w 1 ≡ 1
+unfolding tree
+tree-one w = refl
+
+-- no level stands over a level of one block
+pub tree-last : (w q : ℕ) → q ≤ 1 → 0 < q → tree w q ≡ q
+tree-last w q hq some =
+    let e : q ≡ 1 = omega arith in
+    subst (λ x. tree w x ≡ x) (sym e) (tree-one w)
+
+pub tree-more : (w q : ℕ) → 1 < w → 1 < q → tree w q ≡ q + tree w (blocks_over w q)
+unfolding tree
+tree-more w zero hw hq = absurd (omega arith)
+tree-more w (suc n) hw hq =
+    let less : blocks_over w (suc n) < suc n = over_less w (suc n) hw hq in
+    rw (lt-ltb 1 (suc n) hq) (ap (λ t. suc n + t) (tree_bound w n (blocks_over w (suc n)) (blocks_over w (suc n)) hw (omega arith) (omega arith)))
+
+pub tree_is : (w : ℕ) → 1 < w → IsTree w
+tree_is w hw = record { one = tree-one w; more = λ q hq. tree-more w q hw hq }
+
+-- a tree has at least its lowest level
+pub le-tree : (w q : ℕ) → 1 < w → q ≤ tree w q
+le-tree w zero hw = omega arith
+le-tree w (suc q) hw = elim (cases_lt 1 (suc q)) [
+  | inl some ↦ omega (arith, tree-more w (suc q) hw some)
+  | inr few ↦
+      let e : suc q ≡ 1 = omega arith in
+      subst (λ x. x ≤ tree w x) (sym e) (omega (arith, tree-one w))
+]
+
+-- and about a third more blocks in all, where four stand under one
+few_within : (k q : ℕ) → q ≤ 4 ^ k → 0 < q → 3 * tree 4 q < 4 * 4 ^ k
+few_within zero q hn hq =
+    let e : q ≡ 1 = omega arith in
+    subst (λ x. 3 * tree 4 x < 4 * 1) (sym e) (omega (arith, tree-one 4))
+few_within (suc k) q hn hq =
+    let power : 4 ^ suc k ≡ 4 ^ k * 4 = pow-suc 4 k in
+    elim (cases_lt 1 q) [
+      | inl some ↦
+          let over : blocks_over 4 q ≤ 4 ^ k = omega arith in
+          omega (arith, tree-more 4 q (omega arith) some, few_within k (blocks_over 4 q) over (over_some 4 q (omega arith) hq))
+      | inr few ↦
+          let e : q ≡ 1 = omega arith in
+          let positive : 1 ≤ 4 ^ k = one-le-pow k 4 (omega arith) in
+          subst (λ x. 3 * tree 4 x < 4 * 4 ^ suc k) (sym e) (omega (arith, tree-one 4))
+    ]
+
+pub tree_few : (q : ℕ) → q ≤ 16384 → 0 < q → tree 4 q ≤ 21845
+tree_few q hn hq = let few : 3 * tree 4 q < 4 * 4 ^ 7 = few_within 7 q hn hq in omega arith
+
+pub ruleset counts = (over_less, over_some, tree-last, tree-more, le-tree, tree_few)

@@ -1,0 +1,35 @@
+-- The rate: how many units of marking and sweeping an allocation makes for each block that it asks for.
+use Rattle.std.specs.Prelude.{ℕ, ◌+◌, ◌-◌, ◌*◌, ◌/◌, ◌<◌, ◌≤◌}
+use Rattle.block_store.specs.declared.Config.{Config}
+use Rattle.array_trees.specs.Trees.{array_blocks}
+use Rattle.rate_plan.specs.declared.PlanFault.{PlanFault}
+use Rattle.rate_plan.specs.declared.PlanFault.TheVariants.{NoRate, LiveTooSmall}
+
+-- x divided by y and rounded up
+abbrev pub ceiling : ℕ → ℕ → ℕ
+ceiling x y = (x + (y - 1)) / y
+
+-- the blocks of the opening heap: five for the registers of each thread, and those of the shared array
+abbrev pub start_blocks : Config → ℕ
+start_blocks c = 5 * c.threads + array_blocks c.shared
+
+-- At p units for each block a cycle ends before the blocks are used up. A cycle has at most 2 units for each block
+-- of the heap, so it lasts for at most ceiling (2 * blocks) p blocks, and one allocation more of each thread.
+abbrev pub KeepsUp : Config → ℕ → Type 0
+KeepsUp c p = c.live + 2 * (ceiling (2 * c.blocks) p + c.threads * c.object) ≤ c.blocks
+
+-- the least whole number, at least 1, that keeps up
+pub record IsRate (c : Config) (p : ℕ) : Type 0 where
+  pub some : 1 ≤ p
+  pub enough : KeepsUp c p
+  pub least : (k : ℕ) → 1 ≤ k → KeepsUp c k → p ≤ k
+
+-- the heap opens with no more blocks than may be live, and there is room for a cycle of one block
+pub record IsAdmitted (c : Config) : Type 0 where
+  pub opens : start_blocks c ≤ c.live
+  pub room : c.live + 2 * (1 + c.threads * c.object) ≤ c.blocks
+
+-- when each refusal comes
+abbrev pub IsRefusal : Config → PlanFault → Type 0
+IsRefusal c LiveTooSmall = c.live < start_blocks c
+IsRefusal c NoRate = (start_blocks c ≤ c.live) × (c.blocks < c.live + 2 * (1 + c.threads * c.object))

@@ -1,0 +1,121 @@
+//! The rate at which allocations pay for the collection of a heap.
+#![tactic(auto)]
+
+ghost use Rattle.std.specs.Prelude.{◌≡◌, ℕ, ◌*◌, ◌≤◌, MatchResult};
+ghost use Rattle.block_store.specs.Configs.{IsInBounds};
+ghost use Rattle.block_store.specs.declared.Config.{Config};
+ghost use Rattle.rate_plan.specs.Rates.{IsRate, IsAdmitted, IsRefusal};
+
+use array_trees::blocks_of_array;
+use block_store::{Config, REGISTER_BLOCKS};
+
+/// Why a configuration has no rate.
+#[derive(Clone, Copy, Debug, PartialEq, Eq)]
+pub enum PlanFault {
+    /// The live blocks leave too little of the heap.
+    NoRate,
+    /// The opening heap has more blocks than the live limit.
+    LiveTooSmall,
+}
+
+/// The least number of units, at least 1, that an allocation has to make for each block so that a
+/// cycle ends before the blocks are used up. The configuration is in bounds.
+///
+/// # Errors
+///
+/// `LiveTooSmall` where the opening heap has more than `live` blocks, which is looked at first.
+/// `NoRate` where no number of units is enough.
+pub fn plan(c: &Config) -> Result<u64, PlanFault>
+    requires { IsInBounds c.now }
+    ensures { MatchResult result (λ p. IsAdmitted c.now × IsRate c.now p) (IsRefusal c.now) }
+{
+    if c.live < REGISTER_BLOCKS * c.threads + blocks_of_array(c.shared) {
+        return Err(PlanFault::LiveTooSmall);
+    }
+    let taken = c.live + 2 * c.threads * c.object;
+    if c.blocks < taken + 2 {
+        return Err(PlanFault::NoRate);
+    }
+    // The most blocks that may be asked for while a cycle lasts.
+    let spare = (c.blocks - taken) / 2;
+    Ok(u64::from((2 * c.blocks).div_ceil(spare)))
+}
+
+/// An admitted configuration has one rate. It is at least 5, and at most twice the number of blocks.
+pub fn one_rate()
+    ensures found { (c : Config) → IsAdmitted c → (p : ℕ) × IsRate c p }
+    ensures single { (c : Config) (p q : ℕ) → IsRate c p → IsRate c q → p ≡ q }
+    ensures large { (c : Config) (p : ℕ) → IsAdmitted c → IsRate c p → 5 ≤ p }
+    ensures small { (c : Config) (p : ℕ) → IsAdmitted c → IsRate c p → p ≤ 2 * c.blocks }
+{
+    array_trees::tree_counts();
+}
+
+#[cfg(test)]
+mod tests {
+    use super::PlanFault::{self, LiveTooSmall, NoRate};
+    use super::plan;
+    use block_store::Config;
+
+    #[test]
+    fn known_rates(rt: HostRuntime) {
+        for (blocks, live, rate) in [
+            (64, 20, Ok(7)),
+            (26, 20, Ok(52)),
+            (25, 20, Err(NoRate)),
+            (64, 5, Err(LiveTooSmall)),
+            (10, 5, Err(LiveTooSmall)),
+        ] {
+            let c = Config {
+                threads: 1,
+                blocks,
+                live,
+                object: 2,
+                shared: 0,
+            };
+            assert_eq!(rt; plan(&c), rate, "{c:?}");
+        }
+        let c = Config {
+            threads: 4,
+            blocks: 4096,
+            live: 2000,
+            object: 16,
+            shared: 64,
+        };
+        assert_eq!(rt; plan(&c), Ok(9));
+    }
+
+    // Tries one rate after the other. `opening` is how many blocks the heap opens with.
+    fn searched(c: &Config, opening: u32) -> Result<u64, PlanFault>
+        requires { IsInBounds c.now }
+    {
+        if c.live < opening {
+            return Err(LiveTooSmall);
+        }
+        for rate in 1..=2 * c.blocks {
+            let asked = (2 * c.blocks).div_ceil(rate);
+            if c.live + 2 * (asked + c.threads * c.object) <= c.blocks {
+                return Ok(u64::from(rate));
+            }
+        }
+        Err(NoRate)
+    }
+
+    #[test]
+    fn no_smaller_rate_is_enough(rt: HostRuntime) {
+        for (threads, object, shared, opening) in [(1, 1, 0, 6), (1, 3, 17, 13), (2, 2, 5, 13)] {
+            for blocks in 1..60 {
+                for live in 5..30 {
+                    let c = Config {
+                        threads,
+                        blocks,
+                        live,
+                        object,
+                        shared,
+                    };
+                    assert_eq!(rt; plan(&c), searched(&c, opening), "{c:?}");
+                }
+            }
+        }
+    }
+}
