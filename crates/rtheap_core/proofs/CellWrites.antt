@@ -1,8 +1,8 @@
 -- One write among the words is one write of a place.
-use Rattle.std.proofs.Common.{ℕ, ◌≡◌, ◌<◌, ◌≤◌, Bool, true, ◌&&◌, List, length, set, refl, sym, ap, ◌∙◌, subst, arith, le-leb}
+use Rattle.std.proofs.Common.{ℕ, ◌≡◌, ◌<◌, true, length, set, sym, ap, ◌∙◌, subst, arith, le-leb}
 use Rattle.std.proofs.lemmas.Bool.{and_from, lt-ltb}
 use Rattle.block_store.specs.declared.Config.{Config}
-use Rattle.block_store.specs.Places.{Place, OwnerOf, ShapeOf, PayloadOf, IsBlock, extent, index, in_range, is_block, words_count}
+use Rattle.block_store.specs.Places.{Place, PayloadOf, IsBlock, extent, index, in_range, is_block, words_count}
 use Rattle.block_store.specs.Heaps.{put_at}
 use Rattle.block_store.proofs.Indexes.{heap_of-put}
 use Rattle.rtheap_core.specs.Cells.{Cells, heap_in}

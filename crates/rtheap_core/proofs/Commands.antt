@@ -1,5 +1,5 @@
 -- Each command of the plain heap does what the step does.
-use Rattle.std.proofs.Common.{ℕ, zero, suc, ◌+◌, ◌*◌, ◌/◌, ◌%◌, ◌^◌, ◌≡◌, ◌<◌, ◌≤◌, Bool, true, false, cond, ◌&&◌, ltb, Option, Some, None, Result, Ok, Err, MatchResult, List, [], ◌∷◌, ◌++◌, length, set, refl, sym, ap, ◌∙◌, subst, arith, add_comm, inl, inr}
+use Rattle.std.proofs.Common.{ℕ, ◌+◌, ◌*◌, ◌/◌, ◌%◌, ◌≡◌, ◌<◌, ◌≤◌, true, cond, ◌&&◌, ltb, Result, Ok, Err, MatchResult, length, refl, sym, ap, ◌∙◌, subst, arith, add_comm, inl, inr}
 use Rattle.std.proofs.lemmas.Bool.{cases_Bool, lt-ltb, ltb-true}
 use Rattle.std.proofs.lemmas.List.{length-set}
 use Rattle.block_store.specs.declared.Name.{Name}
@@ -13,13 +13,13 @@ use Rattle.block_store.proofs.PayloadWords.{payload-code}
 use Rattle.never_heap.specs.declared.Command.TheVariants as commands
 use Rattle.never_heap.specs.declared.Reply.{Reply}
 use Rattle.never_heap.specs.declared.Reply.TheVariants as replies
-use Rattle.never_heap.specs.Graphs.{Graph, Mutator, mutator_at, count_of, object_of, field_of, register_of, has_name, with_register, with_field}
-use Rattle.never_heap.specs.Steps.{step, at_field}
+use Rattle.never_heap.specs.Graphs.{Graph, object_of, field_of, register_of, has_name, with_register, with_field}
+use Rattle.never_heap.specs.Steps.{at_field}
 use Rattle.never_heap.proofs.GraphMoves.{objects_with}
 use Rattle.never_heap.proofs.FieldStores.{threads_with_field, count_with_field}
 use Rattle.rtheap_core.specs.declared.plain.PlainHeap.{PlainHeap}
 use Rattle.rtheap_core.specs.Cells.{heap_in}
-use Rattle.rtheap_core.specs.Shown.{Holds, Shows, IsValueIn, value_word}
+use Rattle.rtheap_core.specs.Shown.{Holds, Shows}
 use Rattle.rtheap_core.specs.Readings.{value_in, fields_at, field_block_at, field_block_of}
 use Rattle.rtheap_core.specs.Plain.{IsPlain, ShowsPlain, Answers, HasField, Refuses}
 use Rattle.rtheap_core.proofs.Reading.{value_shown, fields_shown}
@@ -32,14 +32,14 @@ module _ (heap : Heap) (at : Name → ℕ) (next : ℕ) (g : Graph) (shows : Sho
       let up : at a < next = shows.high a h in
       let low : 5 * length g.mutators < at a = shows.low a h in
       let found : field_block_at heap next (at a) i ≡ cond (ltb i (length (object_of g a).fields)) (Ok (at a)) (Err replies.Range) =
-          ap (λ b. cond ((b && ltb (at a) next) && ltb i (fields_at heap (at a))) (Ok (at a)) (Err replies.Range)) (lt-ltb 0 (at a) (omega arith))
-          ∙ ap (λ b. cond (b && ltb i (fields_at heap (at a))) (Ok (at a)) (Err replies.Range)) (lt-ltb (at a) next up)
-          ∙ ap (λ k. cond (ltb i k) (Ok (at a)) (Err replies.Range)) (fields_shown heap at next g shows few a h) in
+      ap (λ b. cond ((b && ltb (at a) next) && ltb i (fields_at heap (at a))) (Ok (at a)) (Err replies.Range)) (lt-ltb 0 (at a) (omega arith))
+      ∙ ap (λ b. cond (b && ltb i (fields_at heap (at a))) (Ok (at a)) (Err replies.Range)) (lt-ltb (at a) next up)
+      ∙ ap (λ k. cond (ltb i k) (Ok (at a)) (Err replies.Range)) (fields_shown heap at next g shows few a h) in
       elim (cases_Bool (ltb i (length (object_of g a).fields))) [
         | inl more ↦ subst (λ (q : Result ℕ Reply). MatchResult q (HasField at g (values.Ref a) i) (Refuses g (values.Ref a) i)) (sym (found ∙ ap (λ b. cond b (Ok (at a)) (Err replies.Range)) more) ∙ e)
-          (record { name = a; refers = refl; there = h; block = refl; within = ltb-true i _ more })
+            (record { name = a; refers = refl; there = h; block = refl; within = ltb-true i _ more })
         | inr less ↦ subst (λ (q : Result ℕ Reply). MatchResult q (HasField at g (values.Ref a) i) (Refuses g (values.Ref a) i)) (sym (found ∙ ap (λ b. cond b (Ok (at a)) (Err replies.Range)) less) ∙ e)
-          (λ act. ap (λ b. cond b (act a) (g, replies.Range)) less)
+            (λ act. ap (λ b. cond b (act a) (g, replies.Range)) less)
       ]
 
   pub field_shown : (v : Value) → Holds word at g v → (r : Result ℕ Reply) → field_block_of heap next (payload_of word) i ≡ r → MatchResult r (HasField at g v i) (Refuses g v i)
@@ -59,7 +59,7 @@ shows_register h new at g d word v small s k e n m =
     let there : 0 < length g.mutators = omega (arith, s.one_thread) in
     record {
       shows = subst (λ i. Shows (heap_in new.store) at i (with_register g 0 d v)) (sym n)
-        (subst (λ (q : Heap). Shows q at h.next (with_register g 0 d v)) (sym (e ∙ ap (put_at (heap_in h.store) (PayloadOf (2 + d / 4) (d % 4))) k.reads)) (register_store (heap_in h.store) at h.next g s.shows 0 d v there small k.in_graph));
+          (subst (λ (q : Heap). Shows q at h.next (with_register g 0 d v)) (sym (e ∙ ap (put_at (heap_in h.store) (PayloadOf (2 + d / 4) (d % 4))) k.reads)) (register_store (heap_in h.store) at h.next g s.shows 0 d v there small k.in_graph));
       one_thread = length-set g.mutators 0 _ ∙ s.one_thread;
       made = ap length (objects_with g 0 0 _ there refl) ∙ s.made ∙ sym m;
     }
@@ -102,7 +102,7 @@ put_found h new at g s i v x word small sh f w e n m =
       same = sym (ap (λ (p : Graph × Reply). p.1) took);
       shown = subst (λ (p : Graph × Reply). ShowsPlain new at p.0) (sym took) (record {
         shows = subst (λ q. Shows (heap_in new.store) at q (with_field g f.name i (register_of g 0 v))) (sym n)
-          (subst (λ (q : Heap). Shows q at h.next (with_field g f.name i (register_of g 0 v)))
+            (subst (λ (q : Heap). Shows q at h.next (with_field g f.name i (register_of g 0 v)))
             (sym (e ∙ ap (λ y. put_at (heap_in h.store) (PayloadOf y (1 + i)) word) f.block ∙ ap (λ j. put_at (heap_in h.store) (PayloadOf (at f.name) j) word) (add_comm 1 i) ∙ ap (put_at (heap_in h.store) (PayloadOf (at f.name) (i + 1))) k.reads))
             (field_store (heap_in h.store) at h.next g sh.shows f.name i (register_of g 0 v) f.there f.within k.in_graph));
         one_thread = threads_with_field g f.name i (register_of g 0 v) f.there ∙ sh.one_thread;

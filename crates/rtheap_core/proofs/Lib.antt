@@ -6,3 +6,4 @@ pub mod Commands
 pub mod Making
 pub mod Openings
 pub mod RunsOn
+pub mod Headlines

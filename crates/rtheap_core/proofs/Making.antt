@@ -1,5 +1,5 @@
 -- An allocation of the plain heap does what the step does; so do nil and say.
-use Rattle.std.proofs.Common.{ℕ, zero, suc, ◌+◌, ◌*◌, ◌/◌, ◌%◌, ◌^◌, ◌≡◌, ◌<◌, ◌≤◌, Bool, true, false, cond, ◌&&◌, eqb, List, [], ◌∷◌, ◌++◌, length, set, refl, sym, ap, ◌∙◌, subst, arith, eq-eqb, ne_eqb, inl, inr}
+use Rattle.std.proofs.Common.{ℕ, ◌+◌, ◌*◌, ◌/◌, ◌%◌, ◌≡◌, ◌<◌, ◌≤◌, cond, length, refl, sym, ap, ◌∙◌, subst, arith, eq-eqb, ne_eqb, inl, inr}
 use Rattle.std.proofs.lemmas.Bool.{cases_eq}
 use Rattle.std.proofs.lemmas.List.{length-set, length-replicate}
 use Rattle.block_store.specs.declared.Name.{Name}
@@ -12,12 +12,12 @@ use Rattle.block_store.specs.Places.{OwnerOf, ShapeOf, PayloadOf}
 use Rattle.block_store.specs.Shapes.{record_word}
 use Rattle.never_heap.specs.declared.Command.TheVariants as commands
 use Rattle.never_heap.specs.declared.Reply.TheVariants as replies
-use Rattle.never_heap.specs.Graphs.{Graph, Object, Record, nils, count_of, register_of, same_name, with_register, with_object, next_name}
+use Rattle.never_heap.specs.Graphs.{Graph, Record, nils, count_of, with_register, with_object, next_name}
 use Rattle.never_heap.proofs.GraphMoves.{objects_with, same_from}
 use Rattle.never_heap.proofs.FieldStores.{count_with_object}
 use Rattle.rtheap_core.specs.declared.plain.PlainHeap.{PlainHeap}
 use Rattle.rtheap_core.specs.Cells.{heap_in}
-use Rattle.rtheap_core.specs.Shown.{Holds, Shows, value_word}
+use Rattle.rtheap_core.specs.Shown.{Shows, value_word}
 use Rattle.rtheap_core.specs.Readings.{value_in}
 use Rattle.rtheap_core.specs.Plain.{IsPlain, ShowsPlain, Answers, Written}
 use Rattle.rtheap_core.proofs.Reading.{value_shown}
@@ -91,7 +91,7 @@ module _ (h w new : PlainHeap) (at : Name → ℕ) (g : Graph) (d f : ℕ) (plai
         same = ap (λ k. replies.New (record { thread = 0; serial = k + 1 })) (sym sh.made);
         shown = record {
           shows = subst (λ k. Shows (heap_in new.store) (placed at (next_name g 0) h.next) k (with_register (with_object g 0 (record { kind = Record; fields = nils f })) 0 d (values.Ref (next_name g 0)))) (sym n)
-            (subst (λ (q : Heap). Shows q (placed at (next_name g 0) h.next) (h.next + 1) (with_register (with_object g 0 (record { kind = Record; fields = nils f })) 0 d (values.Ref (next_name g 0)))) (sym (e ∙ ap (put_at (heap_in w.store) (PayloadOf (2 + d / 4) (d % 4))) word)) stored);
+              (subst (λ (q : Heap). Shows q (placed at (next_name g 0) h.next) (h.next + 1) (with_register (with_object g 0 (record { kind = Record; fields = nils f })) 0 d (values.Ref (next_name g 0)))) (sym (e ∙ ap (put_at (heap_in w.store) (PayloadOf (2 + d / 4) (d % 4))) word)) stored);
           one_thread = length-set (with_object g 0 (record { kind = Record; fields = nils f })).mutators 0 _ ∙ length-set g.mutators 0 _ ∙ sh.one_thread;
           made = ap length (objects_with (with_object g 0 (record { kind = Record; fields = nils f })) 0 0 _ new_there refl) ∙ count_with_object g 0 (record { kind = Record; fields = nils f }) there 0 ∙ ap (λ k. k + 1) sh.made ∙ sym m;
         };

@@ -1,5 +1,5 @@
 -- What the words of a plain heap show is what is read from them.
-use Rattle.std.proofs.Common.{ℕ, zero, suc, ◌+◌, ◌*◌, ◌≡◌, ◌<◌, ◌≤◌, Bool, true, false, cond, Option, Some, None, min, leb, List, length, refl, sym, ap, ◌∙◌, subst, arith, ne_eqb}
+use Rattle.std.proofs.Common.{ℕ, ◌*◌, ◌≡◌, ◌<◌, ◌≤◌, true, cond, leb, length, ap, ◌∙◌, arith, ne_eqb}
 use Rattle.std.proofs.lemmas.Bool.{lt-leb}
 use Rattle.block_store.specs.declared.Name.{Name}
 use Rattle.block_store.specs.declared.Value.{Value}
@@ -15,7 +15,7 @@ use Rattle.block_store.proofs.OwnerWords.{owner-code}
 use Rattle.block_store.proofs.PayloadWords.{payload-code}
 use Rattle.block_store.proofs.ShapeWords.{shape-code}
 use Rattle.never_heap.specs.Graphs.{Graph, ObjectKind, Record, Array, object_of, has_name}
-use Rattle.rtheap_core.specs.Shown.{Holds, Shows, value_word, kind_word}
+use Rattle.rtheap_core.specs.Shown.{Holds, Shows, kind_word}
 use Rattle.rtheap_core.specs.Readings.{reference_of, reference_at, value_of_payload, value_in, size_of, fields_at}
 
 module _ (heap : Heap) (at : Name → ℕ) (next : ℕ) (g : Graph) (shows : Shows heap at next g) (few : next ≤ 65536) where

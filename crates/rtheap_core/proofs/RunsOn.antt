@@ -1,5 +1,5 @@
 -- A run on the plain heap goes on by one command.
-use Rattle.std.proofs.Common.{ℕ, zero, suc, ◌+◌, ◌≡◌, ◌<◌, ◌≤◌, ◌⊎◌, Bool, true, false, cond, eqb, List, [], ◌∷◌, ◌++◌, map, length, get_or, refl, sym, ap, ◌∙◌, subst, arith, ne_eqb, inl, inr, add_comm}
+use Rattle.std.proofs.Common.{ℕ, zero, suc, ◌+◌, ◌≡◌, ◌<◌, ◌≤◌, true, false, cond, eqb, List, [], ◌∷◌, ◌++◌, map, get_or, refl, sym, ap, ◌∙◌, subst, arith, ne_eqb, inl, inr}
 use Rattle.std.proofs.lemmas.Bool.{cases_lt}
 use Rattle.std.proofs.lemmas.List.{map-append}
 use Rattle.block_store.specs.declared.Config.{Config}
@@ -11,7 +11,7 @@ use Rattle.never_heap.specs.declared.Reply.{Reply}
 use Rattle.never_heap.specs.declared.Reply.TheVariants as replies
 use Rattle.never_heap.specs.Graphs.{Graph, start_graph}
 use Rattle.never_heap.specs.Steps.{step, blocks_of}
-use Rattle.never_heap.specs.Histories.{HistoryItem, Did, after, is_full, LegalFrom, IsAnswered, replay_from, part, starts_in}
+use Rattle.never_heap.specs.Histories.{Did, after, is_full, LegalFrom, IsAnswered, replay_from, part, starts_in}
 use Rattle.never_heap.specs.Runs.{FullsExactly, NoWork, IsPlainRun, opening_blocks, blocks_if_new, taken_by, taken_in}
 use Rattle.never_heap.proofs.Growing.{replay_more, legal_more, part_append, no_work_append, fulls_append, taken_append}
 use Rattle.rtheap_core.specs.declared.plain.PlainHeap.{PlainHeap}
@@ -122,14 +122,22 @@ run_goes_on c commands h new log command reply run plain config room full answer
     let g = replay_from (start_graph c) (map Did log) in
     goes_on c commands h new log command reply run plain (config ∙ run.config)
     (adds c.blocks (opening_blocks c + taken_in (map Did log)) run.at g h new command reply (omega (arith, run.given)) run.given run.shown
-      (λ l. room (omega arith)) (λ l. full (omega arith)) (answered run.at g run.shown))
+    (λ l. room (omega arith)) (λ l. full (omega arith)) (answered run.at g run.shown))
 
 -- before the first command
 pub run_starts : (c : Config) (at : Name → ℕ) (h : PlainHeap) (log : List Entry) → IsPlain h → h.store.config ≡ c → h.next ≡ 7 → ShowsPlain h at (start_graph c) → log ≡ [] → IsRunSoFar c [] h log
 run_starts c at h log plain config next shown e = subst (λ (es : List Entry). IsRunSoFar c [] h es) (sym e) (record {
-  plain = plain; config = config; done = refl; thread = refl; others = λ t n. refl; legal = tt; no_work = tt; fulls = tt;
+  plain = plain;
+  config = config;
+  done = refl;
+  thread = refl;
+  others = λ t n. refl;
+  legal = tt;
+  no_work = tt;
+  fulls = tt;
   given = let one : c.threads ≡ 1 = ap (λ (k : Config). k.threads) (sym config) ∙ plain.one_thread in omega arith;
-  at = at; shown = shown;
+  at = at;
+  shown = shown;
 })
 
 starts_of_entries : (log : List Entry) → starts_in (map Did log) ≡ 0

@@ -1,18 +1,18 @@
 -- The words go on showing the graph: after a store in a register, after a store in a field, and after one more object.
-use Rattle.std.proofs.Common.{ℕ, zero, suc, ◌+◌, ◌-◌, ◌*◌, ◌/◌, ◌%◌, ◌^◌, ◌≡◌, ◌≢◌, ◌<◌, ◌≤◌, ◌⊎◌, inl, inr, Bool, true, false, cond, ◌&&◌, ◌||◌, eqb, List, [], ◌∷◌, ◌++◌, length, set, get_or, replicate, refl, sym, ap, ◌∙◌, subst, arith, eq-eqb, ne_eqb}
+use Rattle.std.proofs.Common.{ℕ, ◌+◌, ◌*◌, ◌/◌, ◌%◌, ◌^◌, ◌≡◌, ◌<◌, ◌≤◌, inl, inr, true, false, cond, ◌&&◌, eqb, length, set, get_or, refl, sym, ap, ◌∙◌, subst, arith, eq-eqb, ne_eqb}
 use Rattle.std.proofs.lemmas.Bool.{cases_eq, cases_Bool, eqb-true, and_parts}
-use Rattle.std.proofs.lemmas.List.{length-set, length-replicate, get_or-replicate}
+use Rattle.std.proofs.lemmas.List.{length-set}
 use Rattle.block_store.specs.declared.Name.{Name}
 use Rattle.block_store.specs.declared.Value.{Value}
 use Rattle.block_store.specs.declared.Value.TheVariants.{Nil, Int, Ref}
-use Rattle.block_store.specs.Places.{Place, OwnerOf, ShapeOf, PayloadOf, same_place}
+use Rattle.block_store.specs.Places.{OwnerOf, ShapeOf, PayloadOf}
 use Rattle.block_store.specs.Heaps.{Heap, put_at}
 use Rattle.block_store.specs.declared.Owner.{Owner}
 use Rattle.block_store.specs.Owners.{owner_word, owner_parts}
 use Rattle.block_store.proofs.OwnerWords.{owner_parts-word}
-use Rattle.never_heap.specs.Graphs.{Graph, Object, Mutator, ObjectKind, Record, object_of, field_of, register_of, mutator_at, count_of, has_name, same_name, with_register, with_field, with_object, set_field, next_name}
-use Rattle.never_heap.proofs.GraphMoves.{get_or_set, object_with_register, has_name_with_register, register_with_register, sixteen_with_register, same_from, not_same, name_of_thread, thread_of_name}
-use Rattle.never_heap.proofs.FieldStores.{object_with_field, has_name_with_field, registers_with_field, threads_with_field, object_with_object, has_name_with_object, registers_with_object}
+use Rattle.never_heap.specs.Graphs.{Graph, Object, object_of, field_of, register_of, mutator_at, has_name, same_name, with_register, with_field, set_field}
+use Rattle.never_heap.proofs.GraphMoves.{get_or_set, object_with_register, has_name_with_register, register_with_register, sixteen_with_register, same_from}
+use Rattle.never_heap.proofs.FieldStores.{object_with_field, has_name_with_field, registers_with_field, threads_with_field}
 use Rattle.rtheap_core.specs.Shown.{value_word, kind_word, object_shape, IsValueIn, Holds, ShowsObject, Shows}
 
 -- a value stays one of the graph while no name is lost
@@ -59,11 +59,13 @@ module _ (heap : Heap) (at : Name → ℕ) (free : ℕ) (g : Graph) (shows : Sho
       let o = shows.objects a h in
       let e : object_of g a ≡ object_of (with_register g t r v) a = sym (object_with_register g t r v a there) in
       record {
-        thread = o.thread; serial = o.serial; owner = o.owner;
+        thread = o.thread;
+        serial = o.serial;
+        owner = o.owner;
         shape = subst (λ (x : Object). heap (ShapeOf (at a)) ≡ object_shape x) e o.shape;
         small = subst (λ (x : Object). length x.fields ≤ 3) e o.small;
         fields = subst (λ (x : Object). (i : ℕ) → i < length x.fields → Holds (cond (eqb (5 * t + 2 + r / 4) (at a) && eqb (r % 4) (i + 1)) (value_word at v) (heap (PayloadOf (at a) (i + 1)))) at (with_register g t r v) (field_of x i)) e
-          (λ i l. holds_at _ _ at (with_register g t r v) _ _ (far_register (at a) (i + 1) _ (shows.low a h)) refl (holds_stays _ at g (with_register g t r v) _ keep_register (o.fields i l)));
+            (λ i l. holds_at _ _ at (with_register g t r v) _ _ (far_register (at a) (i + 1) _ (shows.low a h)) refl (holds_stays _ at g (with_register g t r v) _ keep_register (o.fields i l)));
       }
 
   -- two registers in one place are one
@@ -77,15 +79,15 @@ module _ (heap : Heap) (at : Name → ℕ) (free : ℕ) (g : Graph) (shows : Sho
       let old = holds_stays _ at g (with_register g t r v) _ keep_register (shows.registers u q h l) in
       elim (cases_eq t u) [
         | inr n ↦ holds_at _ _ at (with_register g t r v) _ _ (rw (ne_eqb (5 * t + 2 + r / 4) (5 * u + 2 + q / 4) (λ e. absurd (n (omega arith)))) refl)
-          (sym (moved ∙ ap (λ k. cond (k && eqb r q) v (register_of g u q)) (ne_eqb t u n))) old
+            (sym (moved ∙ ap (λ k. cond (k && eqb r q) v (register_of g u q)) (ne_eqb t u n))) old
         | inl e ↦ elim (cases_eq r q) [
           | inl f ↦ holds_at (value_word at v) _ at (with_register g t r v) v _
-            (ap (λ k. cond (k && eqb (r % 4) (q % 4)) (value_word at v) (heap (PayloadOf (5 * u + 2 + q / 4) (q % 4)))) (eq-eqb (5 * t + 2 + r / 4) (5 * u + 2 + q / 4) (rw (e, f) refl))
+              (ap (λ k. cond (k && eqb (r % 4) (q % 4)) (value_word at v) (heap (PayloadOf (5 * u + 2 + q / 4) (q % 4)))) (eq-eqb (5 * t + 2 + r / 4) (5 * u + 2 + q / 4) (rw (e, f) refl))
               ∙ ap (λ k. cond k (value_word at v) (heap (PayloadOf (5 * u + 2 + q / 4) (q % 4)))) (eq-eqb (r % 4) (q % 4) (ap (λ k. k % 4) f)))
-            (sym (moved ∙ ap (λ k. cond (k && eqb r q) v (register_of g u q)) (eq-eqb t u e) ∙ ap (λ k. cond k v (register_of g u q)) (eq-eqb r q f)))
-            (record { reads = refl; in_graph = value_stays g (with_register g t r v) v keep_register value })
+              (sym (moved ∙ ap (λ k. cond (k && eqb r q) v (register_of g u q)) (eq-eqb t u e) ∙ ap (λ k. cond k v (register_of g u q)) (eq-eqb r q f)))
+              (record { reads = refl; in_graph = value_stays g (with_register g t r v) v keep_register value })
           | inr n ↦ holds_at _ _ at (with_register g t r v) _ _ (other_place u q l n)
-            (sym (moved ∙ ap (λ k. cond (k && eqb r q) v (register_of g u q)) (eq-eqb t u e) ∙ ap (λ k. cond k v (register_of g u q)) (ne_eqb r q n))) old
+              (sym (moved ∙ ap (λ k. cond (k && eqb r q) v (register_of g u q)) (eq-eqb t u e) ∙ ap (λ k. cond k v (register_of g u q)) (ne_eqb r q n))) old
         ]
       ]
     where
@@ -134,13 +136,13 @@ module _ (heap : Heap) (at : Name → ℕ) (free : ℕ) (g : Graph) (shows : Sho
       → Holds (cond (eqb (at a) (at b) && eqb (i + 1) (k + 1)) (value_word at v) (heap (PayloadOf (at b) (k + 1)))) at (with_field g a i v) (field_of (set_field (object_of g a) i v) k)
   own_fields b same k l = elim (cases_eq i k) [
     | inl e ↦ holds_at (value_word at v) _ at (with_field g a i v) v _
-      (rw (eq-eqb (at a) (at b) same, eq-eqb (i + 1) (k + 1) (ap (λ n. n + 1) e)) refl)
-      (sym (get_or_set (object_of g a).fields i k v Nil within ∙ ap (λ t. cond t v (field_of (object_of g a) k)) (eq-eqb i k e)))
-      (record { reads = refl; in_graph = value_stays g (with_field g a i v) v keep_field value })
+        (rw (eq-eqb (at a) (at b) same, eq-eqb (i + 1) (k + 1) (ap (λ n. n + 1) e)) refl)
+        (sym (get_or_set (object_of g a).fields i k v Nil within ∙ ap (λ t. cond t v (field_of (object_of g a) k)) (eq-eqb i k e)))
+        (record { reads = refl; in_graph = value_stays g (with_field g a i v) v keep_field value })
     | inr n ↦ holds_at (heap (PayloadOf (at a) (k + 1))) _ at (with_field g a i v) (field_of (object_of g a) k) _
-      (rw (eq-eqb (at a) (at b) same, ne_eqb (i + 1) (k + 1) (λ e. n (omega arith))) (ap (λ x. heap (PayloadOf x (k + 1))) (sym same)))
-      (sym (get_or_set (object_of g a).fields i k v Nil within ∙ ap (λ t. cond t v (field_of (object_of g a) k)) (ne_eqb i k n)))
-      (holds_stays _ at g (with_field g a i v) _ keep_field ((shows.objects a has).fields k (rw length-set at l)))
+        (rw (eq-eqb (at a) (at b) same, ne_eqb (i + 1) (k + 1) (λ e. n (omega arith))) (ap (λ x. heap (PayloadOf x (k + 1))) (sym same)))
+        (sym (get_or_set (object_of g a).fields i k v Nil within ∙ ap (λ t. cond t v (field_of (object_of g a) k)) (ne_eqb i k n)))
+        (holds_stays _ at g (with_field g a i v) _ keep_field ((shows.objects a has).fields k (rw length-set at l)))
   ]
 
   object_field : (b : Name) → has_name g b ≡ true → ShowsObject (put_at heap (PayloadOf (at a) (i + 1)) (value_word at v)) at (with_field g a i v) b
@@ -148,28 +150,32 @@ module _ (heap : Heap) (at : Name → ℕ) (free : ℕ) (g : Graph) (shows : Sho
       let o = shows.objects b h in
       elim (cases_Bool (same_name a b)) [
         | inl same ↦
-          let t : a.thread ≡ b.thread = (same_parts a b same).0 in
-          let s : a.serial ≡ b.serial = (same_parts a b same).1 in
-          let one : a ≡ b = name_one a b t s in
-          let e : set_field (object_of g a) i v ≡ object_of (with_field g a i v) b = sym (object_with_field g a i v has b ∙ ap (λ k. cond k (set_field (object_of g a) i v) (object_of g b)) same) in
-          let w = shows.objects a has in
-          record {
-            thread = o.thread; serial = o.serial; owner = o.owner;
-            shape = subst (λ (x : Object). heap (ShapeOf (at b)) ≡ object_shape x) e (subst (λ (c : Name). heap (ShapeOf (at c)) ≡ object_shape (set_field (object_of g a) i v)) one (w.shape ∙ ap (kind_word (object_of g a).kind) (sym (length-set (object_of g a).fields i v))));
-            small = subst (λ (x : Object). length x.fields ≤ 3) e (rw length-set w.small);
-            fields = subst (λ (x : Object). (k : ℕ) → k < length x.fields → Holds (cond (eqb (at a) (at b) && eqb (i + 1) (k + 1)) (value_word at v) (heap (PayloadOf (at b) (k + 1)))) at (with_field g a i v) (field_of x k)) e (own_fields b (ap at one));
-          }
+            let t : a.thread ≡ b.thread = (same_parts a b same).0 in
+            let s : a.serial ≡ b.serial = (same_parts a b same).1 in
+            let one : a ≡ b = name_one a b t s in
+            let e : set_field (object_of g a) i v ≡ object_of (with_field g a i v) b = sym (object_with_field g a i v has b ∙ ap (λ k. cond k (set_field (object_of g a) i v) (object_of g b)) same) in
+            let w = shows.objects a has in
+            record {
+              thread = o.thread;
+              serial = o.serial;
+              owner = o.owner;
+              shape = subst (λ (x : Object). heap (ShapeOf (at b)) ≡ object_shape x) e (subst (λ (c : Name). heap (ShapeOf (at c)) ≡ object_shape (set_field (object_of g a) i v)) one (w.shape ∙ ap (kind_word (object_of g a).kind) (sym (length-set (object_of g a).fields i v))));
+              small = subst (λ (x : Object). length x.fields ≤ 3) e (rw length-set w.small);
+              fields = subst (λ (x : Object). (k : ℕ) → k < length x.fields → Holds (cond (eqb (at a) (at b) && eqb (i + 1) (k + 1)) (value_word at v) (heap (PayloadOf (at b) (k + 1)))) at (with_field g a i v) (field_of x k)) e (own_fields b (ap at one));
+            }
         | inr other ↦
-          let e : object_of g b ≡ object_of (with_field g a i v) b = sym (object_with_field g a i v has b ∙ ap (λ k. cond k (set_field (object_of g a) i v) (object_of g b)) other) in
-          record {
-            thread = o.thread; serial = o.serial; owner = o.owner;
-            shape = subst (λ (x : Object). heap (ShapeOf (at b)) ≡ object_shape x) e o.shape;
-            small = subst (λ (x : Object). length x.fields ≤ 3) e o.small;
-            fields = subst (λ (x : Object). (k : ℕ) → k < length x.fields → Holds (cond (eqb (at a) (at b) && eqb (i + 1) (k + 1)) (value_word at v) (heap (PayloadOf (at b) (k + 1)))) at (with_field g a i v) (field_of x k)) e
-              (λ k l. holds_at _ _ at (with_field g a i v) _ _
-                (rw (ne_eqb (at a) (at b) (λ m. true≢false (sym (names_apart heap at free g shows a b has h m) ∙ other))) refl) refl
-                (holds_stays _ at g (with_field g a i v) _ keep_field (o.fields k l)));
-          }
+            let e : object_of g b ≡ object_of (with_field g a i v) b = sym (object_with_field g a i v has b ∙ ap (λ k. cond k (set_field (object_of g a) i v) (object_of g b)) other) in
+            record {
+              thread = o.thread;
+              serial = o.serial;
+              owner = o.owner;
+              shape = subst (λ (x : Object). heap (ShapeOf (at b)) ≡ object_shape x) e o.shape;
+              small = subst (λ (x : Object). length x.fields ≤ 3) e o.small;
+              fields = subst (λ (x : Object). (k : ℕ) → k < length x.fields → Holds (cond (eqb (at a) (at b) && eqb (i + 1) (k + 1)) (value_word at v) (heap (PayloadOf (at b) (k + 1)))) at (with_field g a i v) (field_of x k)) e
+                  (λ k l. holds_at _ _ at (with_field g a i v) _ _
+                  (rw (ne_eqb (at a) (at b) (λ m. true≢false (sym (names_apart heap at free g shows a b has h m) ∙ other))) refl) refl
+                  (holds_stays _ at g (with_field g a i v) _ keep_field (o.fields k l)));
+            }
       ]
 
   -- a store of a value in a field
@@ -179,8 +185,8 @@ module _ (heap : Heap) (at : Name → ℕ) (free : ℕ) (g : Graph) (shows : Sho
     high = λ b h. shows.high b (back_field b h);
     objects = λ b h. object_field b (back_field b h);
     registers = λ u q h l.
-      let under : u < length g.mutators = rw (threads_with_field g a i v has) at h in
-      holds_at _ _ at (with_field g a i v) _ _
+        let under : u < length g.mutators = rw (threads_with_field g a i v has) at h in
+        holds_at _ _ at (with_field g a i v) _ _
         (rw (ne_eqb (at a) (5 * u + 2 + q / 4) (λ e. let far : 5 * length g.mutators < at a = shows.low a has in absurd (omega arith))) refl)
         (ap (λ rs. get_or rs q Nil) (sym (registers_with_field g a i v has u)))
         (holds_stays _ at g (with_field g a i v) _ keep_field (shows.registers u q under l));

@@ -3,3 +3,6 @@ pub mod Shown
 pub mod Readings
 pub mod Plain
 pub mod PlainRuns
+pub mod Exits
+pub mod Refusals
+pub mod Outcomes

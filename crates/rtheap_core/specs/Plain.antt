@@ -54,4 +54,3 @@ pub record Written (heap new : Heap) (x : ℕ) (thread serial : ℕ) (o : Object
   pub owners : (y : ℕ) → (y ≡ x → ⊥) → new (OwnerOf y) ≡ heap (OwnerOf y)
   pub shapes : (y : ℕ) → (y ≡ x → ⊥) → new (ShapeOf y) ≡ heap (ShapeOf y)
   pub payloads : (y j : ℕ) → (y ≡ x → ⊥) → new (PayloadOf y j) ≡ heap (PayloadOf y j)
-

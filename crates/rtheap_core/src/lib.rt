@@ -1,6 +1,13 @@
 //! The top call of rtheap.
 #![tactic(auto)]
 
+mod exit;
 mod plain;
+mod refusal;
 mod run;
 mod store;
+mod top;
+
+pub use exit::{Exit, RunEnd};
+pub use run::Plain;
+pub use top::rtheap;

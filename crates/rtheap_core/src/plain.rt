@@ -20,8 +20,10 @@ ghost use Rattle.rtheap_core.specs.Readings.{reference_at, value_in, fields_at, 
 ghost use Rattle.rtheap_core.specs.Plain.{IsPlain, ShowsPlain, Answers, Written};
 
 use crate::store::Store;
-use block_store::{Config, Name, OutOfMemory, Owner, Payload, REGISTER_BLOCKS, Shape, Value};
-use block_store::{owner_word, payload_word, read_owner, read_payload, read_shape, shape_word};
+use block_store::{
+    Config, Name, OutOfMemory, Owner, Payload, REGISTER_BLOCKS, Shape, Value, owner_word,
+    payload_word, read_owner, read_payload, read_shape, shape_word,
+};
 use never_heap::{Command, Reply};
 use std::alloc::Global;
 

@@ -1,5 +1,5 @@
 -- Which bytes are a job.
-use Rattle.std.specs.Prelude.{ℕ, ◌≤◌, ◌≡◌, List, map, length}
+use Rattle.std.specs.Prelude.{ℕ, ◌<◌, ◌≤◌, ◌≡◌, ◌⊎◌, List, map, length}
 use Rattle.std.specs.List.{AllByRecursion}
 use Rattle.block_store.specs.Configs.{IsInBounds}
 use Rattle.never_heap.specs.declared.Command.{Command}
@@ -41,3 +41,7 @@ pub record IsFirst (job : Job) : Type 0 where
 pub record IsFirstJob (bytes : List ℕ) (job : Job) : Type 0 where
   pub is_job : IsJob bytes job
   pub first : IsFirst job
+
+-- the input is too long, or it is no job that can be run
+abbrev pub IsRefused : List ℕ → Type 0
+IsRefused bytes = (input_limit < length bytes) ⊎ ((job : Job) → IsFirstJob bytes job → ⊥)

@@ -1,4 +1,4 @@
-use Rattle.std.proofs.Common.{◌+◌, ◌<◌, ◌++◌, ◌∷◌, [], List, length, get_or, take, subst, sym, arith, rules}
+use Rattle.std.proofs.Common.{◌+◌, ◌<◌, ◌++◌, ◌∷◌, [], List, length, get_or, take, subst, sym, ap, arith}
 use Rattle.std.proofs.lemmas.List.{take_more, take_all}
 use Rattle.never_heap.specs.declared.Command.{Command}
 use Rattle.never_heap.specs.declared.Command.TheVariants as commands
@@ -18,10 +18,14 @@ loop-command-preserved c =
     let command : Command = get_or trace i (commands.New 0 0) in
     subst (λ (es : List Entry). IsRunSoFar c.args.config.now (take (i + 1) trace) c.step-reply.new.self es) (sym c.in_ok-push.ensures.items)
     (subst (λ (cs : List Command). IsRunSoFar c.args.config.now cs c.step-reply.new.self (c.loop-command.log.items ++ entry_of command c.step-reply.result ∷ [])) (sym (take_more trace i (commands.New 0 0) below))
-      (run_goes_on c.args.config.now (take i trace) c.loop-command.heap c.step-reply.new.self c.loop-command.log.items command c.step-reply.result c.loop-command.invariant
-        c.step-reply.ensures.plain c.step-reply.ensures.config c.step-reply.ensures.room c.step-reply.ensures.full c.step-reply.ensures.answered))
+    (run_goes_on c.args.config.now (take i trace) c.loop-command.heap c.step-reply.new.self c.loop-command.log.items command c.step-reply.result c.loop-command.invariant
+    c.step-reply.ensures.plain c.step-reply.ensures.config c.step-reply.ensures.room c.step-reply.ensures.full c.step-reply.ensures.answered))
 
 pub returns : goal.returns
 returns c =
-    run_ends c.args.config.now c.args.trace.now c.loop-command.heap c.loop-command.log.items
-    (subst (λ (cs : List Command). IsRunSoFar c.args.config.now cs c.loop-command.heap c.loop-command.log.items) (take_all c.loop-command.command-index c.args.trace.now (omega arith)) c.loop-command.invariant)
+    let run = subst (λ (cs : List Command). IsRunSoFar c.args.config.now cs c.loop-command.heap c.loop-command.log.items) (take_all c.loop-command.command-index c.args.trace.now (omega arith)) c.loop-command.invariant in
+    record {
+      run = run_ends c.args.config.now c.args.trace.now c.loop-command.heap c.loop-command.log.items run;
+      part = ap (λ (es : List Entry). es ∷ []) run.thread;
+      commands = run.done;
+    }

@@ -1,0 +1,56 @@
+//! What the top call answers.
+
+use crate::run::Plain;
+use never_heap::{Entry, Logs};
+
+/// A run that ended.
+#[derive(Drop)]
+pub enum RunEnd {
+    /// Of the word `run`.
+    Ran(Plain),
+}
+
+impl Logs for RunEnd {
+    ghost use Rattle.std.specs.Prelude.{[], ◌∷◌};
+    ghost use Rattle.rtheap_core.specs.Exits.{run_of};
+
+    ghost logs = { λ e. (run_of e).log ∷ [] };
+
+    ghost cycle_count = { λ _. 1 };
+
+    ghost unit_count = { λ _. 0 };
+
+    fn threads(&self) -> u32 {
+        match self {
+            RunEnd::Ran(run) => run.threads(),
+        }
+    }
+
+    fn entries(&self, t: u32) -> &[Entry] {
+        match self {
+            RunEnd::Ran(run) => run.entries(t),
+        }
+    }
+
+    fn cycles(&self) -> u64 {
+        match self {
+            RunEnd::Ran(run) => run.cycles(),
+        }
+    }
+
+    fn units(&self) -> u64 {
+        match self {
+            RunEnd::Ran(run) => run.units(),
+        }
+    }
+}
+
+/// What became of a call. `due` is the status by all but the writing: 0 where the command was done,
+/// 2 for words that are no command, 3 for an input that is no job, 5 for a read fault, 7 for want of
+/// memory. `status` is `due`, or 6 where writing failed. `run` is there where a run ended.
+#[derive(Drop)]
+pub struct Exit {
+    pub status: u8,
+    pub due: u8,
+    pub run: Option<RunEnd>,
+}
