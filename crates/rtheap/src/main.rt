@@ -1,0 +1,44 @@
+//! Runs a job of commands on a garbage-collected heap and prints what each command answered.
+#![tactic(auto)]
+
+use never_heap::NoPace;
+use rtheap_core::rtheap;
+use std::alloc::AllocError;
+use std::io::{self, BufWriter, ErrorKind, Write};
+use std::process::ExitCode;
+use std::rt::Env;
+use std::env;
+use trace_text::{StdSink, StdSource};
+
+/// The status of a writing that failed, and that of want of memory.
+const WRITE_FAULT: u8 = 6;
+const NO_MEMORY: u8 = 7;
+
+fn main(rt: HostRuntime) -> ExitCode {
+    ExitCode::from(run(&rt).unwrap_or(NO_MEMORY))
+}
+
+/// Does what the program's words ask for, and says with which status the program ends. What is
+/// written to standard output goes out in large pieces; the last goes out here.
+fn run(rt: &HostRuntime) -> Result<u8, AllocError> {
+    let words = words_of(rt)?;
+    let mut source = StdSource::new(rt.stdin());
+    let mut out = BufWriter::new(rt.alloc(), rt.stdout()).map_err(|_| AllocError)?;
+    let mut sink = StdSink::new(&mut out);
+    let exit = rtheap(rt, rt.alloc(), &words, &mut source, &mut sink, &NoPace);
+    Ok(if out.flush().is_ok() {
+        exit.status
+    } else {
+        WRITE_FAULT
+    })
+}
+
+/// The words behind the program's name. Words of which one is no text are no words that the
+/// program knows.
+fn words_of(rt: &HostRuntime) -> Result<Vec<String>, AllocError> {
+    match env::args(rt) {
+        Ok(args) => args.skip(1).collect(rt.alloc()),
+        Err(e) if e.kind() == ErrorKind::OutOfMemory => Err(AllocError),
+        Err(_) => Ok(Vec::new(rt.alloc())),
+    }
+}
