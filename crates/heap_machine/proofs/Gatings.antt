@@ -31,6 +31,10 @@ stand_out Outside a b = refl
 stand_out Inside a b = absurd (omega arith)
 stand_out Closing a b = absurd (omega arith)
 
+-- at most all threads are inside
+pub inside_most : (n phase : ℕ) (gs : ℕ → Gating) → GateOf n phase gs → inside_of phase ≤ n
+inside_most n phase gs k = omega (arith, k.count, total_bits n (λ u. is_inside (gs u).stand))
+
 module _ (n phase : ℕ) (gs : ℕ → Gating) (k : GateOf n phase gs) (t : ℕ) (tl : t < n) where
   -- thread t goes in
   pub gate_enters : (g : Gating) → n < 255 → is_closed phase ≡ false → (gs t).stand ≡ Outside → g.stand ≡ Inside → g.cycle ≡ cycle_of phase → g.sweep ≡ is_sweep phase → GateOf n (phase + 1) (changed gs t g)
@@ -129,10 +133,6 @@ module _ (n phase : ℕ) (gs : ℕ → Gating) (k : GateOf n phase gs) (t : ℕ)
             (λ e z. (let r = rest z in let p = k.passes t tl (ap is_outside (sym same) ∙ z) in (r.0 ∙ p.0, r.1 ∙ p.1)))
             (λ _ e. k.passes u ul e);
       }
-
-  -- at most all threads are inside
-  pub inside_most : inside_of phase ≤ n
-  inside_most = omega (arith, k.count, total_bits n (λ u. is_inside (gs u).stand))
 
   -- where a thread is inside, the word counts one
   pub inside_some : (gs t).stand ≡ Inside → 1 ≤ inside_of phase

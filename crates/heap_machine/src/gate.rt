@@ -27,6 +27,7 @@ pub enum GateRow {
 }
 
 /// A part of a thread's work at the gate.
+#[derive(Drop)]
 pub struct Gate {
     row: GateRow,
 }

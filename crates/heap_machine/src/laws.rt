@@ -22,6 +22,6 @@ pub fn operations_are_of_places()
 pub fn gate_counts()
     ensures enters { (n phase : ℕ) (gs : ℕ → Gating) → GateOf n phase gs → (t : ℕ) → t < n → (g : Gating) → n < 255 → is_closed phase ≡ false → (gs t).stand ≡ Outside → g.stand ≡ Inside → g.cycle ≡ cycle_of phase → g.sweep ≡ is_sweep phase → GateOf n (phase + 1) (changed gs t g) }
     ensures leaves { (n phase : ℕ) (gs : ℕ → Gating) → GateOf n phase gs → (t : ℕ) → t < n → (g : Gating) → (gs t).stand ≡ Inside → g.stand ≡ Outside → GateOf n (phase - 1) (changed gs t g) }
-    ensures most { (n phase : ℕ) (gs : ℕ → Gating) → GateOf n phase gs → (t : ℕ) → t < n → inside_of phase ≤ n }
+    ensures most { (n phase : ℕ) (gs : ℕ → Gating) → GateOf n phase gs → inside_of phase ≤ n }
     ensures some { (n phase : ℕ) (gs : ℕ → Gating) → GateOf n phase gs → (t : ℕ) → t < n → (gs t).stand ≡ Inside → 1 ≤ inside_of phase }
 {}

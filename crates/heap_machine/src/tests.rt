@@ -1,10 +1,10 @@
 //! Operations and the gate on a few words.
 
 use crate::*;
-use block_store::{Config, PhaseWord, Places, phase_word};
+use block_store::{Config, OutOfMemory, Places};
 
 #[test]
-fn operations_answer_the_word_before(rt: HostRuntime) {
+fn operations_answer_the_word_before(rt: HostRuntime) -> Result<(), OutOfMemory> {
     let mut words = Words::zeroed(rt.alloc(), 3)?;
     assert_eq!(rt; words.len(), 3);
     assert_eq!(rt; words.word(2), 0);
@@ -29,9 +29,11 @@ fn operations_answer_the_word_before(rt: HostRuntime) {
     );
     assert_eq!(rt; words.word(1), 5);
     assert_eq!(rt; words.word(0), 0);
+    Ok(())
 }
 
 #[test]
+#[tactic(auto, unfolding(block_store::specs::Phases::inside_of, block_store::specs::Phases::cycle_of))]
 fn a_thread_goes_in_and_out(rt: HostRuntime) {
     let places = Places::new(&Config {
         threads: 1,
@@ -42,13 +44,7 @@ fn a_thread_goes_in_and_out(rt: HostRuntime) {
     });
     let mut gate = Gate::enter();
     assert_eq!(rt; gate.want(&places), Op::Load { place: 0 });
-    let closed = phase_word(PhaseWord {
-        inside: 0,
-        sweep: false,
-        closed: true,
-        cycle: 1,
-    });
-    assert_eq!(rt; gate.got(&places, closed), Step::Waited);
+    assert_eq!(rt; gate.got(&places, 1536), Step::Waited);
     assert_eq!(rt; gate.got(&places, 1024), Step::Went);
     assert_eq!(rt;
         gate.want(&places),

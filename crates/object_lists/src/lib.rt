@@ -1,8 +1,10 @@
 //! A record is a list of blocks, each of which refers to the next.
 #![tactic(auto)]
 
-ghost use Rattle.std.specs.Prelude.{◌≡◌, ◌≤◌};
-ghost use Rattle.object_lists.specs.Records.{record_blocks};
+ghost use Rattle.std.specs.Prelude.{◌≡◌, ℕ, ◌+◌, ◌<◌, ◌≤◌, SomeIff};
+ghost use Rattle.object_lists.specs.Layouts.{IsLayout, IsWay};
+ghost use Rattle.object_lists.specs.Parts.{link_in};
+ghost use Rattle.object_lists.specs.Records.{record_blocks, record_part, record_spot};
 
 use block_store::PAYLOADS;
 
@@ -17,14 +19,75 @@ pub fn blocks_of_record(f: u32) -> u32
     f.div_ceil(FIELDS).max(1)
 }
 
+/// Where field `i` of a record stands: the number of links to follow from the first block, which is
+/// the ordinal of the field's block, and the payload there.
+pub fn walk_of(i: u32) -> (u32, u32)
+    ensures pair { result ≡ record_spot i }
+    ensures way { (f : ℕ) → i < f → IsWay (record_part f) i result.0 result.1 (λ l. l) (λ l. 0) }
+{
+    (i / FIELDS, 1 + i % FIELDS)
+}
+
+/// The ordinal to which the block of this ordinal refers, in a record of this many blocks. `None` at
+/// the last. The ordinal is below `blocks`.
+pub fn link_of(blocks: u32, ordinal: u32) -> Option<u32>
+    requires { ordinal < blocks }
+    ensures next { SomeIff result (ordinal + 1 < blocks) (ordinal + 1) }
+    ensures link { (f : ℕ) → record_blocks f ≡ blocks → result ≡ link_in (record_part f ordinal 0) }
+{
+    let next = ordinal + 1;
+    (next < blocks).then_some(next)
+}
+
+/// Records have a layout: distinct fields have distinct places, each link goes to a larger ordinal,
+/// and each block but the first is linked from one place.
+pub fn record_layouts()
+    ensures { (f : ℕ) → IsLayout 4 f (record_blocks f) (record_part f) record_spot }
+{}
+
 #[cfg(test)]
 mod tests {
-    use super::blocks_of_record;
+    use super::{blocks_of_record, link_of, walk_of};
 
     #[test]
-    fn three_fields_a_block(rt: HostRuntime) {
+    fn known_layouts(rt: HostRuntime) {
         for (fields, blocks) in [(0, 1), (3, 1), (4, 2), (65_535, 21_845)] {
             assert_eq!(rt; blocks_of_record(fields), blocks, "at {fields}");
+        }
+        assert_eq!(rt; walk_of(4), (1, 2));
+        assert_eq!(rt; link_of(2, 0), Some(1));
+        assert_eq!(rt; link_of(2, 1), None);
+    }
+
+    // Goes through the blocks, and compares what is at each place with the calls.
+    fn is_laid_out(fields: u32) -> bool
+        requires { fields ≤ 65535 }
+    {
+        let blocks = blocks_of_record(fields);
+        for ordinal in 0..blocks {
+            let next = link_of(blocks, ordinal);
+            if next.is_some() != (3 * (ordinal + 1) < fields)
+                || next.is_some_and(|n| n != ordinal + 1)
+            {
+                return false;
+            }
+            for payload in 1..4 {
+                let i = 3 * ordinal + payload - 1;
+                if i < fields && walk_of(i) != (ordinal, payload) {
+                    return false;
+                }
+            }
+        }
+        fields <= 3 * blocks
+    }
+
+    #[test]
+    fn fields_follow_each_other(rt: HostRuntime) {
+        for fields in 0..=70 {
+            assert!(rt; is_laid_out(fields), "at {fields}");
+        }
+        for fields in [255, 256, 257, 1_023, 3_072, 65_535] {
+            assert!(rt; is_laid_out(fields), "at {fields}");
         }
     }
 }

@@ -3,18 +3,22 @@
 
 mod jobs;
 mod line_buffer;
-mod memory;
+mod mem_sink;
+mod mem_source;
 mod printing;
 mod sinks;
 mod sources;
-mod standard;
+mod std_sink;
+mod std_source;
 
 pub use jobs::{Job, Traces};
-pub use memory::{MemSink, MemSource};
-pub use printing::write_run;
+pub use mem_sink::MemSink;
+pub use mem_source::MemSource;
+pub use printing::{lines_are_short, write_run};
 pub use sinks::Sink;
 pub use sources::Source;
-pub use standard::{StdSink, StdSource};
+pub use std_sink::StdSink;
+pub use std_source::StdSource;
 
 /// A source or sink did not do what it was asked, and counted a fault.
 #[derive(Clone, Copy, Debug, PartialEq, Eq)]

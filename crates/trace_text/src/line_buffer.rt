@@ -1,15 +1,14 @@
 //! A line in an array of fixed length, which is made from its end to its beginning.
 
-ghost use Rattle.std.specs.Prelude.{◌≡◌, ◌+◌, ◌≤◌, [], ◌∷◌, ◌++◌, length, decimal};
-ghost use Rattle.trace_text.specs.Lines.{line_feed};
+ghost use Rattle.std.specs.Prelude.{◌≡◌, ◌+◌, ◌≤◌, [], ◌++◌, length, decimal};
 
 use std::marker::Model;
 
 /// How many bytes a line may have.
 const ROOM: usize = 128;
 
-/// The end of a line, its line feed included. A number ends at a known place, but may begin at any:
-/// so what is put in front of it needs no copy.
+/// The end of a line, to which more is put in front. Made so, a number's digits go to their place at
+/// once: where they end is known, and where they begin is not.
 #[derive(Drop)]
 pub(crate) struct LineBuffer {
     bytes: [u8; ROOM],
@@ -27,16 +26,21 @@ impl Model for LineBuffer {
 }
 
 impl LineBuffer {
-    /// A line feed alone.
+    /// An empty end.
     pub(crate) fn new() -> LineBuffer
-        ensures { result ≡ line_feed ∷ [] }
+        ensures { result ≡ [] }
     {
-        let mut bytes = [0; ROOM];
-        bytes[ROOM - 1] = b'\n';
         LineBuffer {
-            bytes,
-            start: ROOM - 1,
+            bytes: [0; ROOM],
+            start: ROOM,
         }
+    }
+
+    /// Leaves an empty end.
+    pub(crate) fn clear(&mut self)
+        ensures { self.new ≡ [] }
+    {
+        self.start = ROOM;
     }
 
     /// The line as far as it is made.
@@ -64,5 +68,14 @@ impl LineBuffer {
         ensures length { length self.new ≤ 20 + length self.old }
     {
         self.start = itoa::write_digits(number, &mut self.bytes, self.start);
+    }
+
+    /// The same of a number of at most 10 digits.
+    pub(crate) fn prepend_short_number(&mut self, number: u32)
+        requires { 10 + length self.old ≤ 128 }
+        ensures text { self.new ≡ decimal number ++ self.old }
+        ensures length { length self.new ≤ 10 + length self.old }
+    {
+        self.start = itoa::write_digits(u64::from(number), &mut self.bytes, self.start);
     }
 }

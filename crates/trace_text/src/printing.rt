@@ -33,6 +33,15 @@ pub fn write_run<R: Logs, K: Sink>(run: &R, sink: &mut K) -> Result<(), Failed>
     sink.put(line_of_totals(run.cycles(), run.units()).bytes())
 }
 
+/// A law: each line of a run has at most 64 bytes, whatever its numbers.
+pub fn lines_are_short(entry: Entry, cycles: u64, units: u64)
+    ensures entry { length (entry_line entry) ≤ 64 }
+    ensures totals { length (totals_line cycles units) ≤ 64 }
+{
+    fill_entry(&mut LineBuffer::new(), &entry);
+    line_of_totals(cycles, units);
+}
+
 /// Writes a line for each entry.
 fn write_log<K: Sink>(log: &[Entry], sink: &mut K) -> Result<(), Failed>
     ensures written { OnOk result (Appends (K.held sink.old) (K.held sink.new) (flat_map entry_line log.now)) }
@@ -40,26 +49,32 @@ fn write_log<K: Sink>(log: &[Entry], sink: &mut K) -> Result<(), Failed>
     ensures rose { OnErr result (Rose (K.faults sink.old) (K.faults sink.new)) }
     ensures still { OnOk result (K.faults sink.new ≡ K.faults sink.old) }
 {
+    let mut line = LineBuffer::new();
     for entry in log {
-        sink.put(line_of_entry(entry).bytes())?;
+        fill_entry(&mut line, entry);
+        sink.put(line.bytes())?;
     }
     Ok(())
 }
 
-fn line_of_entry(entry: &Entry) -> LineBuffer
-    ensures { result ≡ entry_line entry.now }
+/// Makes an entry's line, in place of what the buffer held.
+fn fill_entry(line: &mut LineBuffer, entry: &Entry)
+    ensures text { line.new ≡ entry_line entry.now }
+    ensures short { length line.new ≤ 64 }
 {
-    let mut line = LineBuffer::new();
-    prepend_reply(&mut line, entry.reply, entry.work);
+    line.clear();
+    line.prepend(b"\n");
+    prepend_reply(line, entry.reply, entry.work);
     line.prepend(b" ");
-    line.prepend_number(u64::from(entry.thread));
-    line
+    line.prepend_short_number(entry.thread);
 }
 
 fn line_of_totals(cycles: u64, units: u64) -> LineBuffer
-    ensures { result ≡ totals_line cycles units }
+    ensures text { result ≡ totals_line cycles units }
+    ensures short { length result ≤ 64 }
 {
     let mut line = LineBuffer::new();
+    line.prepend(b"\n");
     line.prepend_number(units);
     line.prepend(b" work ");
     line.prepend_number(cycles);
@@ -70,7 +85,7 @@ fn line_of_totals(cycles: u64, units: u64) -> LineBuffer
 fn prepend_reply(line: &mut LineBuffer, reply: Reply, work: u64)
     requires { length line.old ≤ 1 }
     ensures text { line.new ≡ reply_text reply work ++ line.old }
-    ensures length { length line.new ≤ 80 }
+    ensures length { length line.new ≤ 53 }
 {
     match reply {
         Reply::New(name) => {
@@ -109,7 +124,7 @@ fn prepend_work(line: &mut LineBuffer, work: u64)
 fn prepend_value(line: &mut LineBuffer, value: Value)
     requires { length line.old ≤ 1 }
     ensures text { line.new ≡ value_text value ++ line.old }
-    ensures length { length line.new ≤ 45 + length line.old }
+    ensures length { length line.new ≤ 25 + length line.old }
 {
     match value {
         Value::Nil => line.prepend(b"nil"),
@@ -127,11 +142,11 @@ fn prepend_value(line: &mut LineBuffer, value: Value)
 fn prepend_name(line: &mut LineBuffer, name: Name)
     requires { length line.old ≤ 27 }
     ensures text { line.new ≡ name_text name ++ line.old }
-    ensures length { length line.new ≤ 41 + length line.old }
+    ensures length { length line.new ≤ 21 + length line.old }
 {
-    line.prepend_number(u64::from(name.serial));
+    line.prepend_short_number(name.serial);
     line.prepend(b".");
-    line.prepend_number(u64::from(name.thread));
+    line.prepend_short_number(name.thread);
 }
 
 #[cfg(test)]
@@ -265,7 +280,8 @@ end cycles 2 work 43
             thread: u32::MAX,
             serial: u32::MAX,
         };
-        let line = line_of_entry(&entry(u32::MAX, Reply::New(most), u64::MAX));
+        let mut line = LineBuffer::new();
+        fill_entry(&mut line, &entry(u32::MAX, Reply::New(most), u64::MAX));
         assert_eq!(rt;
             line.bytes(),
             b"4294967295 new 4294967295.4294967295 work 18446744073709551615\n".as_slice()

@@ -1,4 +1,4 @@
-use Rattle.std.proofs.Common.{ap, rules, arith, ◌≡◌, ◌+◌, ◌≤◌, length, decimal, length-drop, length-append, drop}
+use Rattle.std.proofs.Common.{ap, rules, arith, length, decimal, length-drop, length-append}
 use Rattle.std.proofs.lemmas.Fmt.{length-decimal-le}
 use Rattle.trace_text.proofs.line_buffer.LineBuffer.prepend_number.Goals as goal
 
