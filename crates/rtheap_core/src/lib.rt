@@ -8,6 +8,9 @@ mod run;
 mod store;
 mod top;
 
+#[cfg(test)]
+mod tests;
+
 pub use exit::{Exit, RunEnd};
 pub use run::Plain;
 pub use top::rtheap;

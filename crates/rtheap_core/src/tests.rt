@@ -1,0 +1,186 @@
+//! Whole calls over sources and sinks in memory.
+
+use crate::{Exit, rtheap};
+use never_heap::NoPace;
+use std::alloc::{AllocError, Global};
+use std::test::Fail;
+use trace_text::{MemSink, MemSource};
+
+/// A job without commands, with the lines `thread 0` and `end` left out.
+const HEADER: &str = "rtheap 1 threads 1 blocks 64 live 20 object 2 shared 0\nthread 0\n";
+
+/// What a call is given: its words, its input and in which pieces it comes, and which calls of the
+/// source and the sink fail.
+struct Call<'a> {
+    words: &'a [&'a str],
+    input: &'a str,
+    most: usize,
+    read_fails: &'a [u64],
+    write_fails: &'a [u64],
+}
+
+impl<'a> Call<'a> {
+    fn run(input: &'a str) -> Call<'a> {
+        Call {
+            words: &["run"],
+            input,
+            most: 7,
+            read_fails: &[],
+            write_fails: &[],
+        }
+    }
+}
+
+fn texts(alloc: Global, words: &[&str]) -> Result<Vec<String>, AllocError> {
+    let mut all = Vec::new(alloc);
+    for word in words {
+        all.push(String::from_str(alloc, word)?)?;
+    }
+    Ok(all)
+}
+
+/// Makes a call, and gives its exit and what it wrote.
+fn made(rt: &HostRuntime, call: &Call<'_>) -> Result<(Exit, MemSink), Fail> {
+    let alloc = rt.alloc();
+    let words = texts(alloc, call.words)?;
+    let bytes = Vec::from_slice(alloc, call.input.as_bytes())?;
+    let most = call.most.max(1);
+    let mut source = MemSource::new(bytes, most, Vec::from_slice(alloc, call.read_fails)?);
+    let mut sink = MemSink::new(alloc, 4096, Vec::from_slice(alloc, call.write_fails)?)
+        .ok()
+        .ok_or("memory")?;
+    let exit = rtheap(rt, alloc, &words, &mut source, &mut sink, &NoPace);
+    Ok((exit, sink))
+}
+
+/// A job on the usual heap with these command lines.
+fn job(alloc: Global, commands: &str) -> Result<String, AllocError> {
+    format!(in alloc; "{HEADER}{commands}end\n")
+}
+
+#[test]
+fn words_that_are_no_command_are_refused_and_nothing_is_read(rt: HostRuntime) -> Result<(), Fail> {
+    let wrong: [&[&str]; 4] = [&[], &["run", "now"], &["replay", "robin"], &["walk"]];
+    for words in wrong {
+        let call = Call {
+            words,
+            read_fails: &[0],
+            ..Call::run("")
+        };
+        let (exit, sink) = made(&rt, &call)?;
+        assert_eq!(rt; (exit.status, exit.due), (2, 2));
+        assert!(rt; exit.run.is_none());
+        assert_eq!(rt; sink.bytes(), b"rtheap: usage\n".as_slice());
+    }
+    Ok(())
+}
+
+#[test]
+fn a_job_without_commands_prints_the_totals(rt: HostRuntime) -> Result<(), Fail> {
+    let text = job(rt.alloc(), "")?;
+    let (exit, sink) = made(&rt, &Call::run(text.as_str()))?;
+    assert_eq!(rt; (exit.status, exit.due), (0, 0));
+    assert!(rt; exit.run.is_some());
+    assert_eq!(rt; sink.bytes(), b"end cycles 1 work 0\n".as_slice());
+    Ok(())
+}
+
+#[test]
+fn references_nils_and_refusals_are_answered(rt: HostRuntime) -> Result<(), Fail> {
+    let text = job(
+        rt.alloc(),
+        "new 1 2\nput 1 1 1\nget 2 1 1\nget 3 1 2\nnil 1\nsay 1\nsay 2\nget 3 1 0\nsay 0\n",
+    )?;
+    let (exit, sink) = made(&rt, &Call::run(text.as_str()))?;
+    assert_eq!(rt; exit.status, 0);
+    assert_eq!(rt;
+        sink.bytes(),
+        b"0 new 0.1 work 0
+0 ok
+0 ref 0.1
+0 range
+0 ok
+0 nil
+0 ref 0.1
+0 null
+0 ref 1.0
+end cycles 1 work 0
+"
+            .as_slice()
+    );
+    Ok(())
+}
+
+#[test]
+fn the_heap_is_full_when_the_last_block_is_given(rt: HostRuntime) -> Result<(), Fail> {
+    let alloc = rt.alloc();
+    let mut commands = String::new(alloc);
+    let mut expected = String::new(alloc);
+    for serial in 1..60u32 {
+        commands.push_str("new 1 0\n")?;
+        if serial < 59 {
+            let line = format!(in alloc; "0 new 0.{serial} work 0\n")?;
+            expected.push_str(line.as_str())?;
+        }
+    }
+    expected.push_str("0 full 1 work 0\nend cycles 1 work 0\n")?;
+    let text = job(alloc, commands.as_str())?;
+    let (exit, sink) = made(&rt, &Call::run(text.as_str()))?;
+    assert_eq!(rt; exit.status, 0);
+    assert_eq!(rt; sink.bytes(), expected.as_bytes());
+    Ok(())
+}
+
+#[test]
+fn what_cannot_be_run_yet_is_put_off(rt: HostRuntime) -> Result<(), Fail> {
+    let text = job(rt.alloc(), "set 1 5\n")?;
+    for input in [text.as_str(), ""] {
+        let (exit, sink) = made(&rt, &Call::run(input))?;
+        assert_eq!(rt; (exit.status, exit.due), (3, 3));
+        assert!(rt; exit.run.is_none());
+        assert_eq!(rt; sink.bytes(), b"rtheap: later\n".as_slice());
+    }
+    Ok(())
+}
+
+#[test]
+fn a_fault_of_the_source_is_told(rt: HostRuntime) -> Result<(), Fail> {
+    let text = job(rt.alloc(), "")?;
+    let call = Call {
+        most: 10,
+        read_fails: &[1],
+        ..Call::run(text.as_str())
+    };
+    let (exit, sink) = made(&rt, &call)?;
+    assert_eq!(rt; (exit.status, exit.due), (5, 5));
+    assert_eq!(rt; sink.bytes(), b"rtheap: read fault\n".as_slice());
+    Ok(())
+}
+
+#[test]
+fn a_fault_of_the_sink_leaves_the_lines_before(rt: HostRuntime) -> Result<(), Fail> {
+    let text = job(rt.alloc(), "new 1 2\nsay 1\nnil 1\n")?;
+    let call = Call {
+        write_fails: &[2],
+        ..Call::run(text.as_str())
+    };
+    let (exit, sink) = made(&rt, &call)?;
+    assert_eq!(rt; (exit.status, exit.due), (6, 0));
+    assert!(rt; exit.run.is_some());
+    assert_eq!(rt; sink.bytes(), b"0 new 0.1 work 0\n0 ref 0.1\n".as_slice());
+    Ok(())
+}
+
+#[test]
+fn a_refusal_that_cannot_be_written_is_a_write_fault(rt: HostRuntime) -> Result<(), Fail> {
+    let call = Call {
+        words: &[],
+        write_fails: &[0],
+        ..Call::run("")
+    };
+    let (exit, sink) = made(&rt, &call)?;
+    assert_eq!(rt; (exit.status, exit.due), (6, 2));
+    assert!(rt; exit.run.is_none());
+    assert_eq!(rt; sink.bytes(), b"".as_slice());
+    Ok(())
+}
