@@ -1,6 +1,7 @@
--- What a source and a sink in memory are.
+-- A source and a sink in memory, and what a call makes of them.
 use Rattle.std.specs.Prelude.{ℕ, ◌+◌, ◌-◌, ◌^◌, min, List, ◌++◌, drop}
 
+-- what a source in memory is
 pub record SourceState : Type 0 where
   -- the bytes that were not given yet
   pub left : List ℕ
@@ -13,6 +14,7 @@ pub record SourceState : Type 0 where
   -- how many of them failed
   pub faults : ℕ
 
+-- what a sink in memory is
 pub record SinkState : Type 0 where
   -- the bytes that were taken
   pub held : List ℕ
