@@ -2,6 +2,7 @@
 #![tactic(auto)]
 
 mod jobs;
+mod reading;
 mod sinks;
 mod sources;
 

@@ -1,0 +1,4 @@
+//! Reading a job from a source.
+
+mod numbers;
+mod pieces;
