@@ -4,4 +4,7 @@ pub mod Lines
 pub mod Spellings
 pub mod Jobs
 pub mod Reading
+pub mod Words
+pub mod Said
+pub mod Headers
 pub mod Texts

@@ -1,6 +1,17 @@
 -- Reading: what pieces spell, where they spell something.
-use Rattle.std.specs.Prelude.{ℕ, ◌+◌, ◌-◌, ◌*◌, ◌==◌, nat_le, nat_lt, Bool, ◌&&◌, ◌||◌, List, [], ◌∷◌, length, slice_index, Option, None, Some, if◌then◌else◌}
+use Rattle.std.specs.Prelude.{ℕ, ◌+◌, ◌-◌, ◌*◌, ◌≡◌, ◌==◌, nat_le, nat_lt, Bool, ◌&&◌, ◌||◌, List, [], ◌∷◌, length, slice_index, Option, None, Some, if◌then◌else◌}
 use Rattle.trace_text.specs.Lines.{pieces_of}
+
+-- what a reader answers, seen by view
+abbrev pub Gives : {X Y : Type 0} → (X → Y) → Option X → Option Y → Type 0
+Gives view (Some x) read = read ≡ Some (view x)
+Gives view None read = read ≡ None
+
+infixl 10 ◌>>=◌
+-- what is read in two steps
+abbrev pub ◌>>=◌ : {A B : Type 0} → Option A → (A → Option B) → Option B
+(Some x) >>= f = f x
+None >>= f = None
 
 -- the pieces of what is left of a line
 abbrev pub pieces_left : Option (List ℕ) → List (List ℕ)
@@ -20,3 +31,27 @@ unfoldable pub number_at : List ℕ → Option ℕ
 number_at piece =
     if length piece == 0 || nat_lt 19 (length piece) || (nat_lt 1 (length piece) && slice_index piece 0 == 48)
     then None else digits_on 0 piece
+
+-- that no piece is left
+unfoldable pub no_more_of : List (List ℕ) → Option (Unit {0})
+no_more_of [] = Some tt
+no_more_of (a ∷ pieces) = None
+
+-- the pieces, where there are so many
+unfoldable pub one_piece_of : List (List ℕ) → Option (List ℕ)
+one_piece_of [] = None
+one_piece_of (a ∷ pieces) = do
+  _ ← no_more_of pieces
+  Some a
+
+unfoldable pub two_pieces_of : List (List ℕ) → Option (List ℕ × List ℕ)
+two_pieces_of [] = None
+two_pieces_of (a ∷ pieces) = do
+  b ← one_piece_of pieces
+  Some (a, b)
+
+unfoldable pub three_pieces_of : List (List ℕ) → Option (List ℕ × List ℕ × List ℕ)
+three_pieces_of [] = None
+three_pieces_of (a ∷ pieces) = do
+  p ← two_pieces_of pieces
+  Some (a, p.0, p.1)

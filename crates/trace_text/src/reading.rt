@@ -1,4 +1,7 @@
 //! Reading a job from a source.
 
+mod header;
+mod lines;
 mod numbers;
 mod pieces;
+mod words;
