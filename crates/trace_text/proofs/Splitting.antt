@@ -1,9 +1,10 @@
 -- A list of bytes is split at the first of its bytes that is a line feed or a space.
-use Rattle.std.proofs.Common.{◌≡◌, ℕ, zero, suc, ◌<◌, ◌≤◌, Bool, true, false, cond, eqb, List, [], ◌∷◌, length, get_or, take, drop, refl, arith, ltb, Some, None}
+use Rattle.std.proofs.Common.{◌≡◌, ℕ, zero, suc, ◌<◌, ◌≤◌, Bool, true, false, cond, eqb, List, [], ◌∷◌, length, get_or, map, take, drop, refl, ap, arith, ltb, Some, None}
 use Rattle.std.specs.List.{position, position_or_len}
 use Rattle.std.proofs.lemmas.Bool.{ltb-false}
 use Rattle.std.proofs.lemmas.List.Sums.{fails_before_first}
 use Rattle.trace_text.specs.Lines.{lines_of, pieces_of}
+use Rattle.trace_text.specs.Reading.{parted, pieced}
 
 -- before place i no byte is c
 abbrev pub NoneBefore : ℕ → List ℕ → ℕ → Type 0
@@ -53,3 +54,7 @@ pub position_none : (p : ℕ → Bool) (bs : List ℕ) → position p bs ≡ Non
 position_none p bs e k lt =
     let past : length bs ≤ position_or_len p bs = ltb-false _ _ (none_past (ltb (position_or_len p bs) (length bs)) (position_or_len p bs) e) in
     fails_before_first p bs k 0 (omega arith)
+
+-- the line that is parted from the others
+pub parts_at : (bs line rest : List ℕ) → lines_of bs ≡ line ∷ lines_of rest → parted (pieced bs) ≡ Some (pieces_of line, pieced rest)
+parts_at bs line rest e = ap (λ (ls : List (List ℕ)). parted (map pieces_of ls)) e

@@ -2,12 +2,7 @@
 use Rattle.std.specs.Prelude.{ℕ, nat_lt, ◌||◌, List, [], ◌∷◌, Option, None, Some, codes, if◌then◌else◌}
 use Rattle.std.specs.Str.{bytes_eq}
 use Rattle.block_store.specs.declared.Config.{Config}
-use Rattle.trace_text.specs.Reading.{◌>>=◌, number_at, no_more_of}
-
--- the first piece, and the others
-abbrev pub parted : List (List ℕ) → Option (List ℕ × List (List ℕ))
-parted [] = None
-parted (piece ∷ rest) = Some (piece, rest)
+use Rattle.trace_text.specs.Reading.{◌>>=◌, parted, number_at, no_more_of}
 
 -- the pieces behind this word
 unfoldable pub behind_at : List ℕ → List (List ℕ) → Option (List (List ℕ))

@@ -7,4 +7,5 @@ pub mod Reading
 pub mod Words
 pub mod Said
 pub mod Headers
+pub mod Wholes
 pub mod Texts

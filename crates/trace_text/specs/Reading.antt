@@ -1,6 +1,6 @@
 -- Reading: what pieces spell, where they spell something.
-use Rattle.std.specs.Prelude.{ℕ, ◌+◌, ◌-◌, ◌*◌, ◌≡◌, ◌==◌, nat_le, nat_lt, Bool, ◌&&◌, ◌||◌, List, [], ◌∷◌, length, slice_index, Option, None, Some, if◌then◌else◌}
-use Rattle.trace_text.specs.Lines.{pieces_of}
+use Rattle.std.specs.Prelude.{ℕ, ◌+◌, ◌-◌, ◌*◌, ◌≡◌, ◌==◌, nat_le, nat_lt, Bool, ◌&&◌, ◌||◌, List, [], ◌∷◌, map, length, slice_index, Option, None, Some, if◌then◌else◌}
+use Rattle.trace_text.specs.Lines.{lines_of, pieces_of}
 
 -- what a reader answers, seen by view
 abbrev pub Gives : {X Y : Type 0} → (X → Y) → Option X → Option Y → Type 0
@@ -12,6 +12,15 @@ infixl 10 ◌>>=◌
 abbrev pub ◌>>=◌ : {A B : Type 0} → Option A → (A → Option B) → Option B
 (Some x) >>= f = f x
 None >>= f = None
+
+-- the first, and the others
+abbrev pub parted : {A : Type 0} → List A → Option (A × List A)
+parted [] = None
+parted (first ∷ others) = Some (first, others)
+
+-- the lines of an input, each as its pieces
+abbrev pub pieced : List ℕ → List (List (List ℕ))
+pieced input = map pieces_of (lines_of input)
 
 -- the pieces of what is left of a line
 abbrev pub pieces_left : Option (List ℕ) → List (List ℕ)
