@@ -2,3 +2,4 @@ pub mod Splitting
 pub mod Numerals
 pub mod Counting
 pub mod Commands
+pub mod Fronts

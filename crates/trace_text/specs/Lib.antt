@@ -8,4 +8,5 @@ pub mod Words
 pub mod Said
 pub mod Headers
 pub mod Wholes
+pub mod Inputs
 pub mod Texts

@@ -4,12 +4,14 @@ ghost use Rattle.std.specs.Prelude.{◌≡◌};
 ghost use Rattle.trace_text.specs.declared.reading.TraceFault.TheVariants as faults;
 
 mod header;
+mod input;
 mod lines;
 mod numbers;
 mod pieces;
 mod whole;
 mod words;
 
+use crate::Failed;
 use std::alloc::{AllocError, AllocFailed};
 
 /// Why no job was read.
@@ -21,6 +23,14 @@ pub enum TraceFault {
     Later,
     /// Memory ran out.
     OutOfMemory,
+}
+
+impl From<Failed> for TraceFault {
+    ghost from_gives = { λ _ fault. fault ≡ faults.ReadFault };
+
+    fn from(_error: Failed) -> TraceFault {
+        TraceFault::ReadFault
+    }
 }
 
 impl From<AllocError> for TraceFault {
