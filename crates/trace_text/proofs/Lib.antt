@@ -6,3 +6,4 @@ pub mod Fronts
 pub mod NumberLaws
 pub mod LineLaws
 pub mod HeaderLaws
+pub mod WholeLaws
