@@ -7,3 +7,4 @@ pub mod NumberLaws
 pub mod LineLaws
 pub mod HeaderLaws
 pub mod WholeLaws
+pub mod Ends

@@ -41,3 +41,8 @@ pub record IsFirst (job : Job) : Type 0 where
 pub record IsFirstJob (bytes : List ℕ) (job : Job) : Type 0 where
   pub is_job : IsJob bytes job
   pub first : IsFirst job
+
+-- an input that is such a job, and not too long
+pub record IsFirstInput (bytes : List ℕ) (job : Job) : Type 0 where
+  pub within : length bytes ≤ input_limit
+  pub is_job : IsFirstJob bytes job
