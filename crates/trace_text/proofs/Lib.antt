@@ -8,3 +8,4 @@ pub mod LineLaws
 pub mod HeaderLaws
 pub mod WholeLaws
 pub mod Ends
+pub mod OneJob

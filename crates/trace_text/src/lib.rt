@@ -7,7 +7,7 @@ mod sinks;
 mod sources;
 
 pub use jobs::{Job, Traces};
-pub use reading::{TraceFault, read_trace};
+pub use reading::{TraceFault, jobs_are_one, read_trace};
 pub use sinks::Sink;
 pub use sources::Source;
 

@@ -1,9 +1,9 @@
 //! Reading a job from a source.
 
-ghost use Rattle.std.specs.Prelude.{◌≡◌, ◌≢◌, ◌+◌, ◌≤◌, Some, [], drop, length, IfOk, IfSome, OnOk, MatchResult, IsErrOf};
+ghost use Rattle.std.specs.Prelude.{◌≡◌, ◌≢◌, ◌+◌, ◌≤◌, ℕ, List, Some, [], drop, length, IfOk, IfSome, OnOk, MatchResult, IsErrOf};
 ghost use Rattle.trace_text.specs.declared.jobs.Job as jobs;
 ghost use Rattle.trace_text.specs.declared.reading.TraceFault.TheVariants as faults;
-ghost use Rattle.trace_text.specs.Jobs.{input_limit, IsJobInBounds, IsFirst, IsFirstInput};
+ghost use Rattle.trace_text.specs.Jobs.{input_limit, IsJobInBounds, IsJob, IsFirst, IsFirstInput};
 ghost use Rattle.trace_text.specs.Streams.{IsAtEnd, StillTells};
 ghost use Rattle.trace_text.specs.Inputs.{CountsFault};
 
@@ -88,4 +88,10 @@ pub fn read_trace<S: Source>(alloc: Global, source: &mut S) -> Result<Job, Trace
         return Err(TraceFault::Later);
     }
     job_of(alloc, &input)
+}
+
+/// Bytes are at most one job.
+pub fn jobs_are_one()
+    ensures { (bytes : List ℕ) (job other : jobs.Job) → IsJob bytes job → IsJob bytes other → job ≡ other }
+{
 }
