@@ -25,6 +25,7 @@ pub headline_of : (words : List (List ℕ)) (left left_now held held_now : Optio
     → Headline left left_now held held_now status run
 headline_of words left left_now held held_now status run r ok fault = record {
   in_bounds = r.in_bounds;
+  first = r.first;
   history = history_of run.log;
   is_run = r.is_run;
   logs = ap (λ n. parts n (history_of run.log)) r.first.one_thread ∙ r.part;

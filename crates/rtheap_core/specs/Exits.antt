@@ -1,9 +1,9 @@
 -- What the top call answers.
-use Rattle.std.specs.Prelude.{ℕ, ◌≡◌, ◌≤◌, ◌==◌, ◌⊎◌, if◌then◌else◌, List, [], ◌∷◌, ◌++◌, length, codes, Option, IfSome}
+use Rattle.std.specs.Prelude.{ℕ, ◌≡◌, ◌==◌, ◌⊎◌, if◌then◌else◌, List, [], ◌∷◌, ◌++◌, codes, Option, IfSome}
 use Rattle.never_heap.specs.Histories.{HistoryItem, parts, work_in}
 use Rattle.never_heap.specs.Runs.{IsPlainRun}
 use Rattle.trace_text.specs.declared.jobs.Job.{Job}
-use Rattle.trace_text.specs.Jobs.{IsJobInBounds, IsFirstJob, input_limit}
+use Rattle.trace_text.specs.Jobs.{IsJobInBounds, IsFirst, IsFirstInput}
 use Rattle.trace_text.specs.Lines.{line_feed}
 use Rattle.trace_text.specs.Streams.{Appends, AppendsFront, IsAtEnd}
 use Rattle.trace_text.specs.Texts.{text_by_threads}
@@ -36,11 +36,12 @@ refusal_line due =
 -- the job that was run, and all were read. Where the sink tells its bytes the history's text was appended, and a front of it at a fault.
 pub record Headline (left left_now held held_now : Option (List ℕ)) (status : ℕ) (run : PlainRun) : Type 0 where
   pub in_bounds : IsJobInBounds (job_of run)
+  pub first : IsFirst (job_of run)
   pub history : List HistoryItem
   pub is_run : IsPlainRun run.config (job_of run).traces history
   pub logs : parts run.config.threads history ≡ run.log ∷ []
   pub units : work_in history ≡ 0
-  pub job : IfSome left (λ bytes. (length bytes ≤ input_limit) × IsFirstJob bytes (job_of run))
+  pub job : IfSome left (λ bytes. IsFirstInput bytes (job_of run))
   pub read : IsAtEnd left left_now
   pub written : status ≡ 0 → Appends held held_now (text_by_threads run.config.threads history)
   pub front : status ≡ 6 → AppendsFront held held_now (text_by_threads run.config.threads history)

@@ -6,10 +6,9 @@ mod plain;
 mod refusal;
 mod run;
 mod store;
-mod top;
-
 #[cfg(test)]
 mod tests;
+mod top;
 
 pub use exit::{Exit, RunEnd};
 pub use run::Plain;

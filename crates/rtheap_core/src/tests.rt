@@ -11,6 +11,7 @@ const HEADER: &str = "rtheap 1 threads 1 blocks 64 live 20 object 2 shared 0\nth
 
 /// What a call is given: its words, its input and in which pieces it comes, and which calls of the
 /// source and the sink fail.
+#[derive(Drop)]
 struct Call<'a> {
     words: &'a [&'a str],
     input: &'a str,

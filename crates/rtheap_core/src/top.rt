@@ -3,7 +3,7 @@
 ghost use Rattle.std.specs.Prelude.{◌≡◌, ◌≢◌, ◌<◌, ◌≤◌, ◌⊎◌, ◌↔◌, List, ℕ, [], ◌∷◌, length, map, codes, string_bytes, IsTrue, IsSome, IfSome, Some, None, IfOk, IfErr, OnOk, OnErr};
 ghost use Rattle.trace_text.specs.declared.jobs.Job.{Job};
 ghost use Rattle.trace_text.specs.Faults.{Rose};
-ghost use Rattle.trace_text.specs.Jobs.{IsFirstJob, IsRefused, input_limit};
+ghost use Rattle.trace_text.specs.Jobs.{IsFirstInput};
 ghost use Rattle.trace_text.specs.Streams.{Appends, AppendsFront, IsAtEnd};
 ghost use Rattle.trace_text.specs.Texts.{run_text};
 ghost use Rattle.rtheap_core.specs.declared.exit.RunEnd.TheVariants as ends;
@@ -41,7 +41,7 @@ pub fn rtheap<R, S: Source, K: Sink, Q: Pace>(
     ensures any_status { (result.status ≡ result.due) ⊎ (result.status ≡ 6) }
     ensures usage { (result.due ≡ 2) ↔ (AskForRun (map (λ w. string_bytes w) words.now) → ⊥) }
     ensures nothing_read { result.due ≡ 2 → (S.left source.new ≡ S.left source.old) × (S.faults source.new ≡ S.faults source.old) }
-    ensures later { result.due ≡ 3 → IfSome (S.left source.old) IsRefused }
+    ensures later { result.due ≡ 3 → IfSome (S.left source.old) (λ bytes. (job : Job) → ¬ IsFirstInput bytes job) }
     ensures read_fault { result.due ≡ 5 → Rose (S.faults source.old) (S.faults source.new) }
     ensures read_fault_told { S.faults source.old < S.faults source.new → result.due ≡ 5 }
     ensures write_fault { result.status ≡ 6 → Rose (K.faults sink.old) (K.faults sink.new) }
@@ -52,7 +52,7 @@ pub fn rtheap<R, S: Source, K: Sink, Q: Pace>(
     ensures front { result.due ≢ 0 → result.status ≡ 6 → AppendsFront (K.held sink.old) (K.held sink.new) (refusal_line result.due) }
 
     // A job that can be run is run, unless memory runs out or a stream fails.
-    ensures complete { AskForRun (map (λ w. string_bytes w) words.now) → IfSome (S.left source.old) (λ bytes. (job : Job) → length bytes ≤ input_limit → IsFirstJob bytes job →
+    ensures complete { AskForRun (map (λ w. string_bytes w) words.now) → IfSome (S.left source.old) (λ bytes. (job : Job) → IsFirstInput bytes job →
         (Rose (S.faults source.old) (S.faults source.new) → ⊥) → (Rose (K.faults sink.old) (K.faults sink.new) → ⊥) → (result.status ≡ 0) ⊎ (result.status ≡ 7)) }
 {
     match outcome(alloc, words, source) {

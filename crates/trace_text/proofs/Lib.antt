@@ -1,1 +1,12 @@
 pub mod Appending
+pub mod Splitting
+pub mod Numerals
+pub mod Counting
+pub mod Commands
+pub mod Fronts
+pub mod NumberLaws
+pub mod LineLaws
+pub mod HeaderLaws
+pub mod WholeLaws
+pub mod Ends
+pub mod OneJob

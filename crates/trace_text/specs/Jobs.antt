@@ -1,5 +1,5 @@
 -- Which bytes are a job.
-use Rattle.std.specs.Prelude.{ℕ, ◌<◌, ◌≤◌, ◌≡◌, ◌⊎◌, List, map, length}
+use Rattle.std.specs.Prelude.{ℕ, ◌≤◌, ◌≡◌, List, map, length}
 use Rattle.std.specs.List.{AllByRecursion}
 use Rattle.block_store.specs.Configs.{IsInBounds}
 use Rattle.never_heap.specs.declared.Command.{Command}
@@ -42,6 +42,7 @@ pub record IsFirstJob (bytes : List ℕ) (job : Job) : Type 0 where
   pub is_job : IsJob bytes job
   pub first : IsFirst job
 
--- the input is too long, or it is no job that can be run
-abbrev pub IsRefused : List ℕ → Type 0
-IsRefused bytes = (input_limit < length bytes) ⊎ ((job : Job) → IsFirstJob bytes job → ⊥)
+-- an input that is such a job, and not too long
+pub record IsFirstInput (bytes : List ℕ) (job : Job) : Type 0 where
+  pub within : length bytes ≤ input_limit
+  pub is_job : IsFirstJob bytes job

@@ -3,5 +3,11 @@ pub mod Streams
 pub mod Lines
 pub mod Spellings
 pub mod Jobs
+pub mod Reading
+pub mod Words
+pub mod Said
+pub mod Headers
+pub mod Wholes
+pub mod Inputs
 pub mod Texts
 pub mod Memories

@@ -1,0 +1,77 @@
+//! The header, which names the five numbers of the configuration.
+
+ghost use Rattle.std.specs.Prelude.{◌≡◌};
+ghost use Rattle.std.specs.Option.{option_copied};
+ghost use Rattle.trace_text.specs.Lines.{pieces_of};
+ghost use Rattle.trace_text.specs.Reading.{Gives, pieces_left};
+ghost use Rattle.trace_text.specs.Headers.{behind_at, labelled_at, labels_at, bounded_at, header_at};
+
+use crate::reading::numbers::number_of;
+use crate::reading::pieces::{first_piece, no_more};
+use block_store::Config;
+
+/// The configuration that a header names, each number in its range.
+#[tactic(auto, unfolding(crate::specs::Headers::header_at))]
+pub fn header_of(line: &[u8]) -> Option<Config>
+    ensures { result ≡ header_at (pieces_of line.now) }
+{
+    let (threads, blocks, live, object, shared) = labels_of(line)?;
+    let (threads, blocks, live) = (number_of(threads)?, number_of(blocks)?, number_of(live)?);
+    let (object, shared) = (number_of(object)?, number_of(shared)?);
+    Some(Config {
+        threads: bounded(threads, 1, 16)?,
+        blocks: bounded(blocks, 1, 65_535)?,
+        live: bounded(live, 0, 65_535)?,
+        object: bounded(object, 1, 1024)?,
+        shared: bounded(shared, 0, 1024)?,
+    })
+}
+
+/// The five pieces of a header that are to be numbers.
+#[tactic(auto, unfolding(crate::specs::Headers::labels_at))]
+fn labels_of(line: &[u8]) -> Option<(&[u8], &[u8], &[u8], &[u8], &[u8])>
+    ensures { Gives (λ x. (x.0.now, x.1.now, x.2.now, x.3.now, x.4.now)) result (labels_at (pieces_of line.now)) }
+{
+    let rest = behind(Some(line), b"rtheap")?;
+    let rest = behind(rest, b"1")?;
+    let (threads, rest) = labelled(rest, b"threads")?;
+    let (blocks, rest) = labelled(rest, b"blocks")?;
+    let (live, rest) = labelled(rest, b"live")?;
+    let (object, rest) = labelled(rest, b"object")?;
+    let (shared, rest) = labelled(rest, b"shared")?;
+    no_more(rest)?;
+    Some((threads, blocks, live, object, shared))
+}
+
+/// The piece behind a label that the pieces begin with, and the pieces behind it.
+#[tactic(auto, unfolding(crate::specs::Headers::labelled_at))]
+fn labelled<'a>(pieces: Option<&'a [u8]>, label: &[u8]) -> Option<(&'a [u8], Option<&'a [u8]>)>
+    ensures { Gives (λ x. (x.0.now, pieces_left (option_copied x.1))) result
+        (labelled_at label.now (pieces_left (option_copied pieces.entry))) }
+{
+    let others = behind(pieces, label)?;
+    Some(first_piece(others?))
+}
+
+/// The pieces behind a word that the pieces begin with.
+#[tactic(auto, unfolding(crate::specs::Headers::behind_at))]
+fn behind<'a>(pieces: Option<&'a [u8]>, word: &[u8]) -> Option<Option<&'a [u8]>>
+    ensures { Gives (λ x. pieces_left (option_copied x)) result
+        (behind_at word.now (pieces_left (option_copied pieces.entry))) }
+{
+    let (first, others) = first_piece(pieces?);
+    if first != word {
+        return None;
+    }
+    Some(others)
+}
+
+/// A number, if it is in a range.
+fn bounded(number: u64, least: u32, most: u32) -> Option<u32>
+    ensures { result ≡ bounded_at least most number }
+{
+    if number < u64::from(least) || number > u64::from(most) {
+        return None;
+    }
+    Some(number as u32)
+}
