@@ -1,12 +1,12 @@
 -- What the opening graph has.
-use Rattle.std.proofs.Common.{ℕ, zero, suc, ◌+◌, ◌-◌, ◌≡◌, ◌<◌, ◌≤◌, Bool, true, false, cond, eqb, List, [], ◌∷◌, length, get_or, replicate, refl, sym, ap, ◌∙◌, subst, arith, eq-eqb, ne_eqb, inl, inr}
+use Rattle.std.proofs.Common.{ℕ, zero, suc, ◌≡◌, ◌<◌, ◌≤◌, true, cond, eqb, ◌∷◌, length, get_or, refl, sym, ap, ◌∙◌, arith, eq-eqb, ne_eqb, inl, inr}
 use Rattle.std.proofs.lemmas.Bool.{cases_eq, cases_lt}
 use Rattle.std.proofs.lemmas.List.{length-replicate, get_or-replicate, get_or_past}
 use Rattle.block_store.specs.declared.Config.{Config}
 use Rattle.block_store.specs.declared.Name.{Name}
 use Rattle.block_store.specs.declared.Value.{Value}
 use Rattle.block_store.specs.declared.Value.TheVariants.{Nil, Ref}
-use Rattle.never_heap.specs.Graphs.{Graph, Mutator, Object, Array, no_mutator, no_object, start_graph, start_mutator, shared_name, nils, mutator_at, count_of, register_of, object_of, has_name}
+use Rattle.never_heap.specs.Graphs.{Mutator, Array, no_mutator, no_object, start_graph, start_mutator, shared_name, nils, mutator_at, count_of, register_of, object_of, has_name}
 use Rattle.never_heap.proofs.GraphMoves.{name_of_shared, name_of_thread, at_zero}
 
 pub threads_of_start : (c : Config) → length (start_graph c).mutators ≡ c.threads
