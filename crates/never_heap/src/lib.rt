@@ -1,27 +1,87 @@
 //! The model that every promise is measured against: commands, replies, and a heap that never frees.
 #![tactic(auto)]
 
-ghost use Rattle.std.specs.Prelude.{◌≡◌, ◌<◌, ℕ, List, [], ◌∷◌, ◌++◌, length, slice_index_or};
+ghost use Rattle.std.specs.Prelude.{◌≡◌, ◌<◌, ◌≤◌, ◌↔◌, IsTrue, ℕ, List, [], ◌∷◌, ◌++◌, length, slice_index_or};
+ghost use Rattle.never_heap.specs.Bounds.{IsCommandInBounds};
+ghost use Rattle.never_heap.specs.Steps.{length_made, blocks_of};
 ghost use Rattle.block_store.specs.declared.Config.{Config};
 ghost use Rattle.never_heap.specs.declared.Entry.{Entry};
 ghost use Rattle.never_heap.specs.Histories.{HistoryItem, after, replay, part, Legal, IsAnswered};
 
-use block_store::{Name, Value};
+use array_trees::blocks_of_array;
+use block_store::{Config, Name, Value};
+use object_lists::blocks_of_record;
 use std::sync::Wait;
+
+/// A thread has this many registers.
+pub const REGISTERS: u8 = 16;
+
+/// Numbers and indexes are below this.
+pub const NUMBERS: u64 = 1 << 62;
+
+/// A record or array is at most this long.
+pub const MOST_FIELDS: u32 = 65_535;
 
 /// What a thread is told to do. `d`, `s`, `a`, `b` and `v` are registers, from 0 to 15.
 #[derive(Clone, Copy, Debug, PartialEq, Eq)]
 pub enum Command {
     /// Makes a record of nil fields, to which register `d` then refers.
     New { d: u8, fields: u32 },
+    /// Makes an array of nil elements, to which register `d` then refers.
+    Arr { d: u8, elements: u32 },
+    /// Register `d` becomes this number, which is below 2^62.
+    Set { d: u8, value: u64 },
     /// Register `d` becomes nil.
     Nil { d: u8 },
+    /// Register `d` becomes what register `s` holds.
+    Mov { d: u8, s: u8 },
     /// Register `d` becomes field `i` of the object in register `s`.
     Get { d: u8, s: u8, i: u64 },
     /// Field `i` of the object in register `s` becomes what register `v` holds.
     Put { s: u8, i: u64, v: u8 },
+    /// How many fields or elements the object in register `s` has.
+    Len { s: u8 },
+    /// Whether registers `a` and `b` are both nil, the same number, or refer to the same object.
+    Same { a: u8, b: u8 },
     /// Shows register `s`.
     Say { s: u8 },
+}
+
+impl Command {
+    /// Whether registers are below 16, numbers and indexes below 2^62, and an object that is made is
+    /// at most 65,535 long and takes no more blocks than one object may.
+    pub fn in_bounds(&self, c: &Config) -> bool
+        ensures { IsTrue result ↔ IsCommandInBounds c.now self.now }
+    {
+        match *self {
+            Command::New { d, fields } => {
+                d < REGISTERS && fields <= MOST_FIELDS && blocks_of_record(fields) <= c.object
+            }
+            Command::Arr { d, elements } => {
+                d < REGISTERS && elements <= MOST_FIELDS && blocks_of_array(elements) <= c.object
+            }
+            Command::Set { d, value } => d < REGISTERS && value < NUMBERS,
+            Command::Nil { d } => d < REGISTERS,
+            Command::Mov { d, s } => d < REGISTERS && s < REGISTERS,
+            Command::Get { d, s, i } => d < REGISTERS && s < REGISTERS && i < NUMBERS,
+            Command::Put { s, i, v } => s < REGISTERS && i < NUMBERS && v < REGISTERS,
+            Command::Len { s } | Command::Say { s } => s < REGISTERS,
+            Command::Same { a, b } => a < REGISTERS && b < REGISTERS,
+        }
+    }
+
+    /// How many blocks the command allocates; 0 for one that makes no object. An object is at most
+    /// 65,535 long.
+    pub fn blocks(&self) -> u32
+        requires { length_made self.now ≤ 65535 }
+        ensures { result ≡ blocks_of self.now }
+    {
+        match *self {
+            Command::New { fields, .. } => blocks_of_record(fields),
+            Command::Arr { elements, .. } => blocks_of_array(elements),
+            _ => 0,
+        }
+    }
 }
 
 /// What a command answers.
