@@ -25,24 +25,7 @@ pub record IsJob (bytes : List ℕ) (job : Job) : Type 0 where
   pub in_bounds : IsJobInBounds job
   pub lines : map pieces_of (lines_of bytes) ≡ job_lines job.config job.traces
 
--- a record that takes one block
-abbrev pub IsFirstCommand : Command → Type 0
-IsFirstCommand (New d f) = f ≤ 3
-IsFirstCommand _ = Unit {0}
-
--- what the plain heap takes: one thread, an empty shared array, records of one block
-pub record IsFirst (job : Job) : Type 0 where
-  pub one_thread : job.config.threads ≡ 1
-  pub room : 6 ≤ job.config.blocks
-  pub none_shared : job.config.shared ≡ 0
-  pub commands : AllByRecursion (λ (trace : List Command). AllByRecursion IsFirstCommand trace) job.traces
-
--- the bytes are a job that the plain heap takes
-pub record IsFirstJob (bytes : List ℕ) (job : Job) : Type 0 where
-  pub is_job : IsJob bytes job
-  pub first : IsFirst job
-
--- an input that is such a job, and not too long
-pub record IsFirstInput (bytes : List ℕ) (job : Job) : Type 0 where
+-- the bytes are this job, and not too many
+pub record IsInput (bytes : List ℕ) (job : Job) : Type 0 where
   pub within : length bytes ≤ input_limit
-  pub is_job : IsFirstJob bytes job
+  pub is_job : IsJob bytes job

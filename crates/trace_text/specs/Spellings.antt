@@ -2,7 +2,7 @@
 use Rattle.std.specs.Prelude.{ℕ, ◌+◌, List, [], ◌∷◌, ◌++◌, map, codes, decimal}
 use Rattle.block_store.specs.declared.Config.{Config}
 use Rattle.never_heap.specs.declared.Command.{Command}
-use Rattle.never_heap.specs.declared.Command.TheVariants.{New, Nil, Get, Put, Say}
+use Rattle.never_heap.specs.declared.Command.TheVariants.{New, Arr, Set, Nil, Mov, Get, Put, Len, Same, Say}
 
 -- the first line
 abbrev pub header : Config → List (List ℕ)
@@ -12,9 +12,14 @@ header c =
 
 abbrev pub command_line : Command → List (List ℕ)
 command_line (New d f) = codes "new" ∷ decimal d ∷ decimal f ∷ []
+command_line (Arr d e) = codes "arr" ∷ decimal d ∷ decimal e ∷ []
+command_line (Set d v) = codes "set" ∷ decimal d ∷ decimal v ∷ []
 command_line (Nil d) = codes "nil" ∷ decimal d ∷ []
+command_line (Mov d s) = codes "mov" ∷ decimal d ∷ decimal s ∷ []
 command_line (Get d s i) = codes "get" ∷ decimal d ∷ decimal s ∷ decimal i ∷ []
 command_line (Put s i v) = codes "put" ∷ decimal s ∷ decimal i ∷ decimal v ∷ []
+command_line (Len s) = codes "len" ∷ decimal s ∷ []
+command_line (Same a b) = codes "same" ∷ decimal a ∷ decimal b ∷ []
 command_line (Say s) = codes "say" ∷ decimal s ∷ []
 
 -- a thread's line, and a line for each of its commands
