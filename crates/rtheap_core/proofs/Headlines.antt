@@ -2,10 +2,9 @@
 use Rattle.std.proofs.Common.{ℕ, ◌≡◌, List, [], ◌∷◌, Option, refl, sym, ap, ◌∙◌, subst, arith}
 use Rattle.never_heap.specs.Histories.{HistoryItem, Started, Did, parts, starts_in, work_in}
 use Rattle.never_heap.specs.Runs.{NoWork}
-use Rattle.trace_text.specs.Streams.{Appends, AppendsFront}
 use Rattle.trace_text.specs.Texts.{run_text, text_by_threads}
 use Rattle.rtheap_core.specs.PlainRuns.{PlainRun, history_of}
-use Rattle.rtheap_core.specs.Exits.{Headline}
+use Rattle.rtheap_core.specs.Exits.{Headline, IsWritten}
 use Rattle.rtheap_core.specs.Outcomes.{HasRun}
 
 sum_of_none : (h : List HistoryItem) → NoWork h → work_in h ≡ 0
@@ -14,24 +13,21 @@ sum_of_none (Started ∷ h) n = sum_of_none h n
 sum_of_none (Did e ∷ h) n = let later : work_in h ≡ 0 = sum_of_none h n.1 in omega (arith, n.0)
 
 -- the text of the history is that of the log
-text_of_run : (words : List (List ℕ)) (left left_now : Option (List ℕ)) (run : PlainRun) → HasRun words left left_now run → run_text (run.log ∷ []) 1 0 ≡ text_by_threads run.config.threads (history_of run.log)
-text_of_run words left left_now run r =
-    ap (λ ls. run_text ls 1 0) (sym (ap (λ n. parts n (history_of run.log)) r.first.one_thread ∙ r.part))
+text_of_run : (left left_now : Option (List ℕ)) (run : PlainRun) → HasRun left left_now run → run_text (run.log ∷ []) 1 0 ≡ text_by_threads run.config.threads (history_of run.log)
+text_of_run left left_now run r =
+    ap (λ ls. run_text ls 1 0) (sym (ap (λ n. parts n (history_of run.log)) r.runnable.one_thread ∙ r.part))
     ∙ ap (λ k. run_text (parts run.config.threads (history_of run.log)) k 0) (sym r.is_run.one_start)
     ∙ ap (λ k. run_text (parts run.config.threads (history_of run.log)) (starts_in (history_of run.log)) k) (sym (sum_of_none (history_of run.log) r.is_run.no_work))
 
-pub headline_of : (words : List (List ℕ)) (left left_now held held_now : Option (List ℕ)) (status : ℕ) (run : PlainRun) → HasRun words left left_now run
-    → (status ≡ 0 → Appends held held_now (run_text (run.log ∷ []) 1 0)) → (status ≡ 6 → AppendsFront held held_now (run_text (run.log ∷ []) 1 0))
+pub headline_of : (left left_now held held_now : Option (List ℕ)) (status : ℕ) (run : PlainRun) → HasRun left left_now run → IsWritten held held_now status (run_text (run.log ∷ []) 1 0)
     → Headline left left_now held held_now status run
-headline_of words left left_now held held_now status run r ok fault = record {
-  in_bounds = r.in_bounds;
-  first = r.first;
+headline_of left left_now held held_now status run r w = record {
+  read = r.read;
+  admitted = r.admitted;
+  runnable = r.runnable;
   history = history_of run.log;
   is_run = r.is_run;
-  logs = ap (λ n. parts n (history_of run.log)) r.first.one_thread ∙ r.part;
+  logs = ap (λ n. parts n (history_of run.log)) r.runnable.one_thread ∙ r.part;
   units = sum_of_none (history_of run.log) r.is_run.no_work;
-  job = r.job;
-  read = r.read;
-  written = λ e. subst (Appends held held_now) (text_of_run words left left_now run r) (ok e);
-  front = λ e. subst (AppendsFront held held_now) (text_of_run words left left_now run r) (fault e);
+  text = subst (IsWritten held held_now status) (text_of_run left left_now run r) w;
 }

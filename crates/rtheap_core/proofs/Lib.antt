@@ -7,3 +7,4 @@ pub mod Making
 pub mod Openings
 pub mod RunsOn
 pub mod Headlines
+pub mod Verdicts

@@ -34,9 +34,14 @@ nothing_taken replies.Range = refl
 -- what the step answers took the blocks of its command
 taken_answered : (g : Graph) (command : Command) (r : Reply) → r ≡ (step g 0 command).1 → blocks_if_new r (blocks_of command) ≡ blocks_of command
 taken_answered g (commands.New d f) r e = ap (λ q. blocks_if_new q (blocks_of (commands.New d f))) e
+taken_answered g (commands.Arr d n) r e = ap (λ q. blocks_if_new q (blocks_of (commands.Arr d n))) e
+taken_answered g (commands.Set d v) r e = nothing_taken r
 taken_answered g (commands.Nil d) r e = nothing_taken r
+taken_answered g (commands.Mov d s) r e = nothing_taken r
 taken_answered g (commands.Get d s i) r e = nothing_taken r
 taken_answered g (commands.Put s i v) r e = nothing_taken r
+taken_answered g (commands.Len s) r e = nothing_taken r
+taken_answered g (commands.Same a b) r e = nothing_taken r
 taken_answered g (commands.Say s) r e = nothing_taken r
 
 -- the entry of a command of thread 0

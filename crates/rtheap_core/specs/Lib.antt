@@ -1,8 +1,10 @@
 pub mod Cells
 pub mod Shown
 pub mod Readings
+pub mod Runnable
 pub mod Plain
 pub mod PlainRuns
 pub mod Exits
 pub mod Refusals
 pub mod Outcomes
+pub mod Tasks

@@ -5,11 +5,14 @@ mod exit;
 mod plain;
 mod refusal;
 mod run;
+mod runnable;
 mod store;
+mod task;
 #[cfg(test)]
 mod tests;
 mod top;
 
 pub use exit::{Exit, RunEnd};
+pub use refusal::Refusal;
 pub use run::Plain;
 pub use top::rtheap;

@@ -11,7 +11,7 @@ ghost use Rattle.block_store.specs.Heaps.{put_at};
 ghost use Rattle.never_heap.specs.declared.Command.{Command};
 ghost use Rattle.never_heap.specs.Bounds.{IsCommandInBounds};
 ghost use Rattle.never_heap.specs.Graphs.{Graph, Record, nils, start_graph};
-ghost use Rattle.trace_text.specs.Jobs.{IsFirstCommand};
+ghost use Rattle.rtheap_core.specs.Runnable.{IsRunnable};
 ghost use Rattle.never_heap.specs.Histories.{is_full};
 ghost use Rattle.never_heap.specs.Steps.{blocks_of};
 ghost use Rattle.rtheap_core.specs.Cells.{heap_in};
@@ -270,7 +270,7 @@ impl PlainHeap {
     pub fn step(&mut self, command: &Command) -> Reply
         requires plain { IsPlain self.old }
         requires bounds { IsCommandInBounds self.old.store.config command.now }
-        requires small { IsFirstCommand command.now }
+        requires small { IsRunnable command.now }
         ensures plain { IsPlain self.new }
         ensures config { self.new.store.config ≡ self.old.store.config }
         ensures room { self.old.next + blocks_of command.now ≤ self.old.store.config.blocks + 1 → (is_full result ≡ false) × (self.new.next ≡ self.old.next + blocks_of command.now) }
@@ -286,6 +286,11 @@ impl PlainHeap {
             Command::Get { d, s, i } => self.get(d, s, i),
             Command::Put { s, i, v } => self.put(s, i, v),
             Command::Say { s } => Reply::Val(self.say(s)),
+            Command::Arr { .. }
+            | Command::Set { .. }
+            | Command::Mov { .. }
+            | Command::Len { .. }
+            | Command::Same { .. } => unreachable!(),
         }
     }
 }

@@ -1,19 +1,27 @@
-//! Why nothing was run.
+//! Why a call was refused.
 
-ghost use Rattle.std.specs.Prelude.{◌≡◌};
+ghost use Rattle.std.specs.Prelude.{◌≡◌, ◌≤◌, ◌++◌, length};
 ghost use Rattle.rtheap_core.specs.declared.refusal.Refusal.TheVariants as refusals;
-ghost use Rattle.rtheap_core.specs.Refusals.{status_of, cause_of};
-ghost use Rattle.rtheap_core.specs.Exits.{refusal_line};
+ghost use Rattle.rtheap_core.specs.Refusals.{status_of, refusal_of, refusal_of_plan, refusal_line, reason_text, why_text};
 
 use block_store::OutOfMemory;
-use trace_text::TraceFault;
+use rate_plan::PlanFault;
+use trace_text::{LineBuffer, TraceFault, Why};
 
-/// Why nothing was run.
+/// Why a call was refused, each with a status and a line of its own.
 #[derive(Clone, Copy, Debug, PartialEq, Eq)]
 pub enum Refusal {
     /// The words are no command.
     Usage,
-    /// The input is no job that can be run yet.
+    /// This line of the input, counted from 1, is the first outside the grammar.
+    BadLine { line: u64, why: Why },
+    /// The input has more than 16,777,216 bytes.
+    TooLong,
+    /// The heap opens with more blocks than the live limit.
+    LiveTooSmall,
+    /// No rate is enough for the configuration.
+    NoRate,
+    /// The job cannot be run yet.
     Later,
     /// The source failed.
     ReadFault,
@@ -28,32 +36,72 @@ impl Refusal {
     {
         match self {
             Refusal::Usage => 2,
-            Refusal::Later => 3,
+            Refusal::BadLine { .. } | Refusal::TooLong | Refusal::Later => 3,
+            Refusal::LiveTooSmall | Refusal::NoRate => 4,
             Refusal::ReadFault => 5,
             Refusal::OutOfMemory => 7,
         }
     }
 
     /// The line that is written, with its line feed.
-    pub fn line(self) -> &'static [u8]
-        ensures { result.now ≡ refusal_line (status_of self) }
+    pub fn line(self) -> LineBuffer
+        ensures { result ≡ refusal_line self }
+    {
+        let mut line = LineBuffer::new();
+        line.prepend(b"\n");
+        self.prepend_reason(&mut line);
+        line.prepend(b"rtheap: ");
+        line
+    }
+
+    fn prepend_reason(self, line: &mut LineBuffer)
+        requires { length line.old ≤ 1 }
+        ensures text { line.new ≡ reason_text self ++ line.old }
+        ensures length { length line.new ≤ 60 }
     {
         match self {
-            Refusal::Usage => b"rtheap: usage\n",
-            Refusal::Later => b"rtheap: later\n",
-            Refusal::ReadFault => b"rtheap: read fault\n",
-            Refusal::OutOfMemory => b"rtheap: no memory\n",
+            Refusal::Usage => line.prepend(b"usage"),
+            Refusal::BadLine { line: number, why } => {
+                line.prepend(why_bytes(why));
+                line.prepend(b": ");
+                line.prepend_number(number);
+                line.prepend(b"line ");
+            }
+            Refusal::TooLong => line.prepend(b"input too long"),
+            Refusal::LiveTooSmall => line.prepend(b"live limit too small"),
+            Refusal::NoRate => line.prepend(b"no rate"),
+            Refusal::Later => line.prepend(b"later"),
+            Refusal::ReadFault => line.prepend(b"read fault"),
+            Refusal::OutOfMemory => line.prepend(b"no memory"),
         }
     }
 }
 
+/// The reason as it is written.
+fn why_bytes(why: Why) -> &'static [u8]
+    ensures text { result.now ≡ why_text why }
+    ensures length { length result.now ≤ 8 }
+{
+    match why {
+        Why::Header => b"header",
+        Why::Word => b"word",
+        Why::Number => b"number",
+        Why::Count => b"count",
+        Why::Register => b"register",
+        Why::Size => b"size",
+        Why::Order => b"order",
+        Why::End => b"end",
+    }
+}
+
 impl From<TraceFault> for Refusal {
-    ghost from_gives = { λ fault refusal. refusal ≡ cause_of fault };
+    ghost from_gives = { λ fault refusal. refusal ≡ refusal_of fault };
 
     fn from(fault: TraceFault) -> Refusal {
         match fault {
             TraceFault::ReadFault => Refusal::ReadFault,
-            TraceFault::Later => Refusal::Later,
+            TraceFault::TooLong => Refusal::TooLong,
+            TraceFault::BadLine { line, why } => Refusal::BadLine { line, why },
             TraceFault::OutOfMemory => Refusal::OutOfMemory,
         }
     }
@@ -64,5 +112,16 @@ impl From<OutOfMemory> for Refusal {
 
     fn from(_error: OutOfMemory) -> Refusal {
         Refusal::OutOfMemory
+    }
+}
+
+impl From<PlanFault> for Refusal {
+    ghost from_gives = { λ fault refusal. refusal ≡ refusal_of_plan fault };
+
+    fn from(fault: PlanFault) -> Refusal {
+        match fault {
+            PlanFault::LiveTooSmall => Refusal::LiveTooSmall,
+            PlanFault::NoRate => Refusal::NoRate,
+        }
     }
 }

@@ -6,7 +6,9 @@ ghost use Rattle.block_store.specs.Configs.{IsInBounds};
 ghost use Rattle.never_heap.specs.Bounds.{IsCommandInBounds};
 ghost use Rattle.never_heap.specs.Histories.{parts};
 ghost use Rattle.never_heap.specs.Runs.{IsPlainRun};
-ghost use Rattle.trace_text.specs.Jobs.{IsFirstCommand, IsJobInBounds, IsFirst};
+ghost use Rattle.trace_text.specs.Jobs.{IsJobInBounds};
+ghost use Rattle.rate_plan.specs.Rates.{IsAdmitted};
+ghost use Rattle.rtheap_core.specs.Runnable.{CanRun, IsRunnable};
 ghost use Rattle.rtheap_core.specs.PlainRuns.{history_of, commands_of};
 ghost use Rattle.rtheap_core.specs.Exits.{job_of};
 
@@ -68,9 +70,9 @@ impl Logs for Plain {
 /// Runs a job that the plain heap takes.
 pub fn run_job(alloc: Global, job: &Job) -> Result<Plain, OutOfMemory>
     requires bounds { IsJobInBounds job.now }
-    requires first { IsFirst job.now }
+    requires admitted { IsAdmitted job.now.config }
+    requires runnable { CanRun job.now }
     ensures job { IfOk result (λ p. job_of p ≡ job.now) }
-    ensures bounds { IfOk result (λ p. IsJobInBounds (job_of p) × IsFirst (job_of p)) }
     ensures run { IfOk result (λ p. IsPlainRun p.config (job_of p).traces (history_of p.log)) }
     ensures part { IfOk result (λ p. parts 1 (history_of p.log) ≡ p.log ∷ []) }
 {
@@ -88,7 +90,7 @@ fn run_trace(alloc: Global, config: &Config, trace: &[Command]) -> Result<Vec<En
     requires room { 6 ≤ config.now.blocks }
     requires none_shared { config.now.shared ≡ 0 }
     requires commands { AllByRecursion (IsCommandInBounds config.now) trace.now }
-    requires small { AllByRecursion IsFirstCommand trace.now }
+    requires small { AllByRecursion IsRunnable trace.now }
     ensures run { IfOk result (λ log. IsPlainRun config.now (trace.now ∷ []) (history_of log.items)) }
     ensures part { IfOk result (λ log. parts 1 (history_of log.items) ≡ log.items ∷ []) }
     ensures commands { IfOk result (λ log. commands_of log.items ≡ trace.now) }

@@ -1,28 +1,38 @@
 //! The top call.
 
-ghost use Rattle.std.specs.Prelude.{◌≡◌, ◌≢◌, ◌<◌, ◌≤◌, ◌⊎◌, ◌↔◌, List, ℕ, [], ◌∷◌, length, map, codes, string_bytes, IsTrue, IsSome, IfSome, Some, None, IfOk, IfErr, OnOk, OnErr};
+ghost use Rattle.std.specs.Prelude.{◌≡◌, ◌≢◌, ◌<◌, ◌≤◌, ◌⊎◌, ◌↔◌, List, ℕ, [], ◌∷◌, length, map, string_bytes, IsSome, Some, None, IfSome, IfOk, IfErr, OnOk};
+ghost use Rattle.rate_plan.specs.declared.PlanFault.{PlanFault};
+ghost use Rattle.rate_plan.specs.Rates.{IsAdmitted, IsRate, IsRefusal};
 ghost use Rattle.trace_text.specs.declared.jobs.Job.{Job};
+ghost use Rattle.trace_text.specs.declared.reading.Why as whys;
 ghost use Rattle.trace_text.specs.Faults.{Rose};
-ghost use Rattle.trace_text.specs.Jobs.{IsFirstInput};
-ghost use Rattle.trace_text.specs.Streams.{Appends, AppendsFront, IsAtEnd};
+ghost use Rattle.trace_text.specs.Jobs.{IsInput, input_limit};
+ghost use Rattle.trace_text.specs.Refusals.{IsFirstBadLine};
+ghost use Rattle.trace_text.specs.Streams.{Appends, AppendsFront};
 ghost use Rattle.trace_text.specs.Texts.{run_text};
 ghost use Rattle.rtheap_core.specs.declared.exit.RunEnd.TheVariants as ends;
-ghost use Rattle.rtheap_core.specs.Outcomes.{HasRun, HasCause};
-ghost use Rattle.rtheap_core.specs.Refusals.{status_of};
-ghost use Rattle.rtheap_core.specs.Exits.{AskForRun, Headline, IsDue, refusal_line, run_of};
+ghost use Rattle.rtheap_core.specs.Exits.{AskForRun, AskForPlan, Ask, Headline, Planned, IsReadAs, IsWritten, IsDue, IsDueOrFails, rate_text, run_of};
+ghost use Rattle.rtheap_core.specs.Outcomes.{HasRun, HasRate};
+ghost use Rattle.rtheap_core.specs.Refusals.{IsCause, Refused, status_of, refusal_line};
+ghost use Rattle.rtheap_core.specs.Runnable.{CanRun};
 
 use crate::exit::{Exit, RunEnd};
 use crate::refusal::Refusal;
 use crate::run::{Plain, run_job};
+use crate::runnable::can_run;
+use crate::task::Task;
 use never_heap::Pace;
+use rate_plan::plan;
 use std::alloc::Global;
-use trace_text::{Sink, Source, read_trace, write_run};
+use trace_text::{Job, LineBuffer, Sink, Source};
+use trace_text::{inputs_are_told_apart, jobs_are_one, read_trace, write_run};
 
 /// The status of a writing that failed.
 const WRITE_FAULT: u8 = 6;
 
 /// Does what the words ask for: `run` reads a job from the source, runs it, and writes what each
-/// command answered and a line of totals. Any other words are refused with the line `rtheap: usage`.
+/// command answered and a line of totals; `plan` reads a job and writes the rate of its
+/// configuration. Any other words are refused with the line `rtheap: usage`.
 pub fn rtheap<R, S: Source, K: Sink, Q: Pace>(
     _rt: &R,
     alloc: Global,
@@ -33,56 +43,116 @@ pub fn rtheap<R, S: Source, K: Sink, Q: Pace>(
 ) -> Exit
     // What was run is a run on a heap that never frees, and what was written is its text.
     ensures headline { IfSome result.run (λ end. Headline (S.left source.old) (S.left source.new) (K.held sink.old) (K.held sink.new) result.status (run_of end)) }
+    ensures planned { AskForPlan (map (λ w. string_bytes w) words.now) → result.due ≡ 0
+        → Planned (S.left source.old) (S.left source.new) (K.held sink.old) (K.held sink.new) result.status }
     // A run is there exactly where the words ask for it and nothing refused it.
     ensures run { IsSome result.run ↔ (AskForRun (map (λ w. string_bytes w) words.now) × (result.due ≡ 0)) }
 
     // Each status has its cause, and there is no other status.
     ensures any_due { IsDue result.due }
     ensures any_status { (result.status ≡ result.due) ⊎ (result.status ≡ 6) }
-    ensures usage { (result.due ≡ 2) ↔ (AskForRun (map (λ w. string_bytes w) words.now) → ⊥) }
-    ensures nothing_read { result.due ≡ 2 → (S.left source.new ≡ S.left source.old) × (S.faults source.new ≡ S.faults source.old) }
-    ensures later { result.due ≡ 3 → IfSome (S.left source.old) (λ bytes. (job : Job) → ¬ IsFirstInput bytes job) }
+    ensures refused { result.due ≢ 0 → Refused (map (λ w. string_bytes w) words.now) (S.left source.old) (S.left source.new) (K.held sink.old) (K.held sink.new)
+        (S.faults source.old) (S.faults source.new) result.status result.due }
+    ensures usage { (result.due ≡ 2) ↔ (Ask (map (λ w. string_bytes w) words.now) → ⊥) }
     ensures read_fault { result.due ≡ 5 → Rose (S.faults source.old) (S.faults source.new) }
     ensures read_fault_told { S.faults source.old < S.faults source.new → result.due ≡ 5 }
     ensures write_fault { result.status ≡ 6 → Rose (K.faults sink.old) (K.faults sink.new) }
     ensures write_fault_told { K.faults sink.old < K.faults sink.new → result.status ≡ 6 }
 
-    // What is written of a refusal is its line, or a front of it.
-    ensures line { result.due ≢ 0 → result.status ≢ 6 → Appends (K.held sink.old) (K.held sink.new) (refusal_line result.due) }
-    ensures front { result.due ≢ 0 → result.status ≡ 6 → AppendsFront (K.held sink.old) (K.held sink.new) (refusal_line result.due) }
-
-    // A job that can be run is run, unless memory runs out or a stream fails.
-    ensures complete { AskForRun (map (λ w. string_bytes w) words.now) → IfSome (S.left source.old) (λ bytes. (job : Job) → IsFirstInput bytes job →
-        (Rose (S.faults source.old) (S.faults source.new) → ⊥) → (Rose (K.faults sink.old) (K.faults sink.new) → ⊥) → (result.status ≡ 0) ⊎ (result.status ≡ 7)) }
+    // A known input has one answer, unless the source fails or memory runs out.
+    ensures too_long { Ask (map (λ w. string_bytes w) words.now) → IfSome (S.left source.old) (λ bytes. input_limit < length bytes → IsDueOrFails 3 result.due) }
+    ensures bad_line { Ask (map (λ w. string_bytes w) words.now) → IfSome (S.left source.old) (λ bytes. (line : ℕ) (why : whys.Why) → length bytes ≤ input_limit → IsFirstBadLine bytes line why
+        → IsDueOrFails 3 result.due) }
+    ensures no_rate { Ask (map (λ w. string_bytes w) words.now) → IfSome (S.left source.old) (λ bytes. (job : Job) → IsInput bytes job → (fault : PlanFault) → IsRefusal job.config fault
+        → IsDueOrFails 4 result.due) }
+    ensures later { AskForRun (map (λ w. string_bytes w) words.now) → IfSome (S.left source.old) (λ bytes. (job : Job) → IsInput bytes job → IsAdmitted job.config → (CanRun job → ⊥)
+        → IsDueOrFails 3 result.due) }
+    ensures complete { Ask (map (λ w. string_bytes w) words.now) → IfSome (S.left source.old) (λ bytes. (job : Job) → IsInput bytes job → IsAdmitted job.config
+        → (AskForRun (map (λ w. string_bytes w) words.now) → CanRun job) → IsDueOrFails 0 result.due) }
+    // Without a fault of a stream the task is done, or memory ran out.
+    ensures unfailed { (Rose (S.faults source.old) (S.faults source.new) → ⊥) → (Rose (K.faults sink.old) (K.faults sink.new) → ⊥) → IsDueOrFails 0 result.due
+        → (result.status ≡ 0) ⊎ (result.status ≡ 7) }
 {
-    match outcome(alloc, words, source) {
-        Ok(run) => written(run, sink),
-        Err(refusal) => refused(refusal, sink),
+    inputs_are_told_apart();
+    jobs_are_one();
+    carried_out(alloc, words, source, sink)
+}
+
+/// Carries out what the words ask for.
+fn carried_out<S: Source, K: Sink>(
+    alloc: Global,
+    words: &[String],
+    source: &mut S,
+    sink: &mut K,
+) -> Exit
+    // What was run is a run on a heap that never frees, and what was written is its text.
+    ensures headline { IfSome result.run (λ end. Headline (S.left source.old) (S.left source.new) (K.held sink.old) (K.held sink.new) result.status (run_of end)) }
+    ensures planned { AskForPlan (map (λ w. string_bytes w) words.now) → result.due ≡ 0
+        → Planned (S.left source.old) (S.left source.new) (K.held sink.old) (K.held sink.new) result.status }
+    // A run is there exactly where the words ask for it and nothing refused it.
+    ensures run { IsSome result.run ↔ (AskForRun (map (λ w. string_bytes w) words.now) × (result.due ≡ 0)) }
+
+    // Each status has its cause, and there is no other status.
+    ensures any_due { IsDue result.due }
+    ensures any_status { (result.status ≡ result.due) ⊎ (result.status ≡ 6) }
+    ensures refused { result.due ≢ 0 → Refused (map (λ w. string_bytes w) words.now) (S.left source.old) (S.left source.new) (K.held sink.old) (K.held sink.new)
+        (S.faults source.old) (S.faults source.new) result.status result.due }
+    ensures usage { (result.due ≡ 2) ↔ (Ask (map (λ w. string_bytes w) words.now) → ⊥) }
+    ensures read_fault { result.due ≡ 5 → Rose (S.faults source.old) (S.faults source.new) }
+    ensures read_fault_told { S.faults source.old < S.faults source.new → result.due ≡ 5 }
+    ensures write_fault { result.status ≡ 6 → Rose (K.faults sink.old) (K.faults sink.new) }
+    ensures write_fault_told { K.faults sink.old < K.faults sink.new → result.status ≡ 6 }
+{
+    match Task::of(words) {
+        None => refused(Refusal::Usage, sink),
+        Some(Task::Run) => match ran(alloc, source) {
+            Ok(run) => written(run, sink),
+            Err(refusal) => refused(refusal, sink),
+        },
+        Some(Task::Plan) => match rated(alloc, source) {
+            Ok(rate) => planned(rate, sink),
+            Err(refusal) => refused(refusal, sink),
+        },
     }
 }
 
-/// Reads the job and runs it, where the words ask for that.
-fn outcome<S: Source>(alloc: Global, words: &[String], source: &mut S) -> Result<Plain, Refusal>
-    ensures ran { IfOk result (HasRun (map (λ w. string_bytes w) words.now) (S.left source.old) (S.left source.new)) }
+/// Reads a job, and finds its rate.
+fn planned_job<S: Source>(alloc: Global, source: &mut S) -> Result<(Job, u64), Refusal>
+    ensures read { IfOk result (λ x. IsReadAs (S.left source.old) (S.left source.new) x.0) }
+    ensures rate { IfOk result (λ x. IsAdmitted x.0.config × IsRate x.0.config x.1) }
     ensures still { OnOk result (S.faults source.new ≡ S.faults source.old) }
-    ensures refused { IfErr result (HasCause (map (λ w. string_bytes w) words.now) (S.left source.old) (S.left source.new) (S.faults source.old) (S.faults source.new)) }
+    ensures refused { IfErr result (λ refusal. (words : List (List ℕ)) → Ask words
+        → IsCause words (S.left source.old) (S.left source.new) (S.faults source.old) (S.faults source.new) refusal) }
 {
-    if !asks_for_run(words) {
-        return Err(Refusal::Usage);
-    }
     let job = read_trace(alloc, source)?;
+    let rate = plan(&job.config)?;
+    Ok((job, rate))
+}
+
+/// Reads a job and runs it.
+fn ran<S: Source>(alloc: Global, source: &mut S) -> Result<Plain, Refusal>
+    ensures ran { IfOk result (HasRun (S.left source.old) (S.left source.new)) }
+    ensures still { OnOk result (S.faults source.new ≡ S.faults source.old) }
+    ensures refused { IfErr result (λ refusal. (words : List (List ℕ)) → AskForRun words
+        → IsCause words (S.left source.old) (S.left source.new) (S.faults source.old) (S.faults source.new) refusal) }
+{
+    let (job, _rate) = planned_job(alloc, source)?;
+    if !can_run(&job) {
+        return Err(Refusal::Later);
+    }
     let run = run_job(alloc, &job)?;
     Ok(run)
 }
 
-/// Whether the words are the one word `run`.
-fn asks_for_run(words: &[String]) -> bool
-    ensures { IsTrue result ↔ AskForRun (map (λ w. string_bytes w) words.now) }
+/// Reads a job, and gives its rate.
+fn rated<S: Source>(alloc: Global, source: &mut S) -> Result<u64, Refusal>
+    ensures rated { IfOk result (HasRate (S.left source.old) (S.left source.new)) }
+    ensures still { OnOk result (S.faults source.new ≡ S.faults source.old) }
+    ensures refused { IfErr result (λ refusal. (words : List (List ℕ)) → AskForPlan words
+        → IsCause words (S.left source.old) (S.left source.new) (S.faults source.old) (S.faults source.new) refusal) }
 {
-    match words {
-        [word] => word.as_str() == "run",
-        _ => false,
-    }
+    let (_job, rate) = planned_job(alloc, source)?;
+    Ok(rate)
 }
 
 /// Writes the text of a run.
@@ -90,8 +160,9 @@ fn written<K: Sink>(run: Plain, sink: &mut K) -> Exit
     ensures due { result.due ≡ 0 }
     ensures run { result.run ≡ Some (ends.Ran run) }
     ensures status { (result.status ≡ 0) ⊎ (result.status ≡ 6) }
-    ensures ok { result.status ≡ 0 → Appends (K.held sink.old) (K.held sink.new) (run_text (run.log ∷ []) 1 0) × (K.faults sink.new ≡ K.faults sink.old) }
-    ensures fault { result.status ≡ 6 → AppendsFront (K.held sink.old) (K.held sink.new) (run_text (run.log ∷ []) 1 0) × Rose (K.faults sink.old) (K.faults sink.new) }
+    ensures text { IsWritten (K.held sink.old) (K.held sink.new) result.status (run_text (run.log ∷ []) 1 0) }
+    ensures still { result.status ≢ 6 → K.faults sink.new ≡ K.faults sink.old }
+    ensures rose { result.status ≡ 6 → Rose (K.faults sink.old) (K.faults sink.new) }
 {
     match write_run(&run, sink) {
         Ok(()) => Exit {
@@ -107,16 +178,47 @@ fn written<K: Sink>(run: Plain, sink: &mut K) -> Exit
     }
 }
 
+/// Writes a rate.
+fn planned<K: Sink>(rate: u64, sink: &mut K) -> Exit
+    ensures due { result.due ≡ 0 }
+    ensures run { result.run ≡ None }
+    ensures status { (result.status ≡ 0) ⊎ (result.status ≡ 6) }
+    ensures text { IsWritten (K.held sink.old) (K.held sink.new) result.status (rate_text rate) }
+    ensures still { result.status ≢ 6 → K.faults sink.new ≡ K.faults sink.old }
+    ensures rose { result.status ≡ 6 → Rose (K.faults sink.old) (K.faults sink.new) }
+{
+    let mut line = LineBuffer::new();
+    line.prepend(b"\n");
+    line.prepend_number(rate);
+    line.prepend(b"rate ");
+    told(&line, 0, sink)
+}
+
 /// Writes the line of a refusal.
 fn refused<K: Sink>(refusal: Refusal, sink: &mut K) -> Exit
     ensures due { result.due ≡ status_of refusal }
     ensures run { result.run ≡ None }
     ensures status { (result.status ≡ result.due) ⊎ (result.status ≡ 6) }
-    ensures ok { result.status ≢ 6 → Appends (K.held sink.old) (K.held sink.new) (refusal_line result.due) × (K.faults sink.new ≡ K.faults sink.old) }
-    ensures fault { result.status ≡ 6 → AppendsFront (K.held sink.old) (K.held sink.new) (refusal_line result.due) × Rose (K.faults sink.old) (K.faults sink.new) }
+    ensures line { result.status ≢ 6 → Appends (K.held sink.old) (K.held sink.new) (refusal_line refusal) }
+    ensures front { result.status ≡ 6 → AppendsFront (K.held sink.old) (K.held sink.new) (refusal_line refusal) }
+    ensures still { result.status ≢ 6 → K.faults sink.new ≡ K.faults sink.old }
+    ensures rose { result.status ≡ 6 → Rose (K.faults sink.old) (K.faults sink.new) }
 {
-    let due = refusal.status();
-    let status = match sink.put(refusal.line()) {
+    told(&refusal.line(), refusal.status(), sink)
+}
+
+/// Writes the one line of a call that ran nothing.
+fn told<K: Sink>(line: &LineBuffer, due: u8, sink: &mut K) -> Exit
+    requires { due ≢ WRITE_FAULT }
+    ensures due { result.due ≡ due }
+    ensures run { result.run ≡ None }
+    ensures status { (result.status ≡ due) ⊎ (result.status ≡ 6) }
+    ensures line { result.status ≢ 6 → Appends (K.held sink.old) (K.held sink.new) line.now }
+    ensures front { result.status ≡ 6 → AppendsFront (K.held sink.old) (K.held sink.new) line.now }
+    ensures still { result.status ≢ 6 → K.faults sink.new ≡ K.faults sink.old }
+    ensures rose { result.status ≡ 6 → Rose (K.faults sink.old) (K.faults sink.new) }
+{
+    let status = match sink.put(line.bytes()) {
         Ok(()) => due,
         Err(_) => WRITE_FAULT,
     };

@@ -7,10 +7,10 @@ use std::marker::Model;
 /// How many bytes a line may have.
 const ROOM: usize = 128;
 
-/// The end of a line, to which more is put in front. Made so, a number's digits go to their place at
+/// A line of at most 128 bytes, made from its end: more is put in front. Made so, a number's digits go to their place at
 /// once: where they end is known, and where they begin is not.
 #[derive(Drop)]
-pub(crate) struct LineBuffer {
+pub struct LineBuffer {
     bytes: [u8; ROOM],
     start: usize,
 }
@@ -27,7 +27,7 @@ impl Model for LineBuffer {
 
 impl LineBuffer {
     /// An empty end.
-    pub(crate) fn new() -> LineBuffer
+    pub fn new() -> LineBuffer
         ensures { result ≡ [] }
     {
         LineBuffer {
@@ -37,21 +37,21 @@ impl LineBuffer {
     }
 
     /// Leaves an empty end.
-    pub(crate) fn clear(&mut self)
+    pub fn clear(&mut self)
         ensures { self.new ≡ [] }
     {
         self.start = ROOM;
     }
 
     /// The line as far as it is made.
-    pub(crate) fn bytes(&self) -> &[u8]
+    pub fn bytes(&self) -> &[u8]
         ensures { result.now ≡ self.now }
     {
         &self.bytes[self.start..]
     }
 
     /// Puts a text in front.
-    pub(crate) fn prepend(&mut self, text: &[u8])
+    pub fn prepend(&mut self, text: &[u8])
         requires { length text.now + length self.old ≤ 128 }
         ensures text { self.new ≡ text.now ++ self.old }
         ensures length { length self.new ≡ length text.now + length self.old }
@@ -62,7 +62,7 @@ impl LineBuffer {
     }
 
     /// Puts a number in front, in decimal digits.
-    pub(crate) fn prepend_number(&mut self, number: u64)
+    pub fn prepend_number(&mut self, number: u64)
         requires { 20 + length self.old ≤ 128 }
         ensures text { self.new ≡ decimal number ++ self.old }
         ensures length { length self.new ≤ 20 + length self.old }
@@ -71,7 +71,7 @@ impl LineBuffer {
     }
 
     /// The same of a number of at most 10 digits.
-    pub(crate) fn prepend_short_number(&mut self, number: u32)
+    pub fn prepend_short_number(&mut self, number: u32)
         requires { 10 + length self.old ≤ 128 }
         ensures text { self.new ≡ decimal number ++ self.old }
         ensures length { length self.new ≤ 10 + length self.old }

@@ -1,0 +1,23 @@
+use Rattle.std.proofs.Common.{inl, subst, sym}
+use Rattle.std.proofs.lemmas.Result.{err_from_is_err_and}
+use Rattle.trace_text.specs.declared.jobs.Job.{Job}
+use Rattle.rate_plan.specs.Rates.{IsAdmitted}
+use Rattle.rtheap_core.specs.Exits.{IsReadAs, job_of}
+use Rattle.rtheap_core.specs.Runnable.{CanRun}
+use Rattle.rtheap_core.proofs.top.ran.Goals as goal
+
+pub returns-in_err-job-clause-refused : goal.returns-in_err-job-clause-refused
+returns-in_err-job-clause-refused g c =
+    let p = err_from_is_err_and c.from_residual.result c.from_residual.ensures.1 in
+    rw (p.1, p.2) (λ words asked. c.in_err-job.ensures.refused words (inl asked))
+
+pub returns-clause-ran : goal.returns-clause-ran
+returns-clause-ran g c =
+    let same = c.in_ok-run.ensures.job in
+    record {
+      read = subst (IsReadAs (g.S.Source.left c.args.source.now) (g.S.Source.left c.planned_job.new.source)) (sym same) c.in_ok-job.ensures.read;
+      admitted = subst (λ (j : Job). IsAdmitted j.config) (sym same) c.in_ok-job.ensures.rate.0;
+      runnable = subst CanRun (sym same) (c.can_run.ensures.0 c.if-not-can_run.false);
+      is_run = c.in_ok-run.ensures.run;
+      part = c.in_ok-run.ensures.part;
+    }
