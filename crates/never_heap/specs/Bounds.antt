@@ -18,3 +18,16 @@ IsCommandInBounds c (Put s i v) = (s < 16) × (i < 2 ^ 62) × (v < 16)
 IsCommandInBounds c (Len s) = s < 16
 IsCommandInBounds c (Same a b) = (a < 16) × (b < 16)
 IsCommandInBounds c (Say s) = s < 16
+
+-- the same, but for the blocks that an object takes
+abbrev pub IsCommandInRange : Command → Type 0
+IsCommandInRange (New d f) = (d < 16) × (f ≤ 65535)
+IsCommandInRange (Arr d e) = (d < 16) × (e ≤ 65535)
+IsCommandInRange (Set d v) = (d < 16) × (v < 2 ^ 62)
+IsCommandInRange (Nil d) = d < 16
+IsCommandInRange (Mov d s) = (d < 16) × (s < 16)
+IsCommandInRange (Get d s i) = (d < 16) × (s < 16) × (i < 2 ^ 62)
+IsCommandInRange (Put s i v) = (s < 16) × (i < 2 ^ 62) × (v < 16)
+IsCommandInRange (Len s) = s < 16
+IsCommandInRange (Same a b) = (a < 16) × (b < 16)
+IsCommandInRange (Say s) = s < 16

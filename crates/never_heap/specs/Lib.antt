@@ -1,4 +1,7 @@
 pub mod Graphs
+pub mod Finding
+pub mod Kinds
+pub mod LiveBlocks
 pub mod Steps
 pub mod Bounds
 pub mod Histories

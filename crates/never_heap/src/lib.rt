@@ -8,8 +8,15 @@ ghost use Rattle.block_store.specs.declared.Config.{Config};
 ghost use Rattle.never_heap.specs.declared.Entry.{Entry};
 ghost use Rattle.never_heap.specs.Histories.{HistoryItem, after, replay, part, Legal, IsAnswered};
 
+mod graph;
+mod mutator;
+mod object;
+#[cfg(test)]
+mod tests;
+
 use array_trees::blocks_of_array;
 use block_store::{Config, Name, Value};
+pub use graph::Graph;
 use object_lists::blocks_of_record;
 use std::sync::Wait;
 

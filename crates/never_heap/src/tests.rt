@@ -1,0 +1,51 @@
+use crate::{Command, Graph, Reply};
+use block_store::{Config, Name, OutOfMemory, Value};
+
+const CONFIG: Config = Config {
+    threads: 1,
+    blocks: 64,
+    live: 20,
+    object: 2,
+    shared: 0,
+};
+
+const RECORD: Name = Name {
+    thread: 0,
+    serial: 1,
+};
+
+const ARRAY: Name = Name {
+    thread: 1,
+    serial: 0,
+};
+
+// Commands with their replies, on one graph.
+const ANSWERED: [(Command, Reply); 16] = [
+    (Command::New { d: 1, fields: 2 }, Reply::New(RECORD)),
+    (Command::Set { d: 2, value: 5 }, Reply::Stored),
+    (Command::Put { s: 1, i: 1, v: 2 }, Reply::Stored),
+    (Command::Get { d: 3, s: 1, i: 1 }, Reply::Val(Value::Int(5))),
+    (Command::Get { d: 3, s: 1, i: 2 }, Reply::Range),
+    (Command::Say { s: 3 }, Reply::Val(Value::Int(5))),
+    (Command::Get { d: 3, s: 4, i: 0 }, Reply::Null),
+    (Command::Get { d: 3, s: 2, i: 0 }, Reply::Kind),
+    (Command::Len { s: 1 }, Reply::Len(2)),
+    (Command::Len { s: 4 }, Reply::Null),
+    (Command::Same { a: 1, b: 1 }, Reply::Yes),
+    (Command::Same { a: 1, b: 2 }, Reply::No),
+    (Command::Put { s: 4, i: 0, v: 2 }, Reply::Null),
+    (Command::Say { s: 1 }, Reply::Val(Value::Ref(RECORD))),
+    (Command::Say { s: 0 }, Reply::Val(Value::Ref(ARRAY))),
+    (Command::Len { s: 0 }, Reply::Len(0)),
+];
+
+#[test]
+#[tactic(auto, using(crate::proofs::Stepping::step_threads, crate::proofs::Stepping::step_count))]
+fn commands_are_answered(rt: HostRuntime) -> Result<(), OutOfMemory> {
+    let mut graph = Graph::start(rt.alloc(), &CONFIG)?;
+    for (command, reply) in ANSWERED {
+        assert!(rt; command.in_bounds(&CONFIG));
+        assert_eq!(rt; graph.apply(0, &command)?, reply);
+    }
+    Ok(())
+}
