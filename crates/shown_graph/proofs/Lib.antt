@@ -1,0 +1,9 @@
+pub mod ObjectLayouts
+pub mod Names
+pub mod Blocks
+pub mod Registering
+pub mod Stores
+pub mod Publish
+pub mod Reading
+pub mod Opening
+pub mod Every

@@ -1,0 +1,6 @@
+pub mod Layouts
+pub mod Words
+pub mod Shown
+pub mod Made
+pub mod Read
+pub mod Openings
