@@ -7,3 +7,6 @@ pub mod Publish
 pub mod Reading
 pub mod Opening
 pub mod Every
+pub mod Serving
+pub mod Loads
+pub mod Example

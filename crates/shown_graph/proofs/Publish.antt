@@ -6,11 +6,11 @@ use Rattle.block_store.specs.declared.Name.{Name}
 use Rattle.block_store.specs.declared.Value.TheVariants.{Nil}
 use Rattle.never_heap.specs.Graphs.{Graph, Object, ObjectKind, nils, object_of, field_of, register_of, mutator_at, same_name, with_object, next_name}
 use Rattle.never_heap.proofs.FieldStores.{object_with_object, has_name_with_object, registers_with_object}
-use Rattle.object_lists.specs.Parts.{Part, Link, Field, Blank}
-use Rattle.shown_graph.specs.Layouts.{layout_blocks, object_blocks, object_part}
-use Rattle.shown_graph.specs.Words.{BlockWords, value_word, part_word}
+use Rattle.object_lists.specs.Parts.{Part, Link, Field, Blank, link_in}
+use Rattle.shown_graph.specs.Layouts.{layout_blocks, layout_part, object_blocks, object_part}
+use Rattle.shown_graph.specs.Words.{BlockWords, value_word, part_word, kind_word}
 use Rattle.shown_graph.specs.Shown.{IsValueOf, heads, BlockShows, Written, Shows}
-use Rattle.shown_graph.specs.Made.{new_object, with_blocks, and_name, IsMade}
+use Rattle.shown_graph.specs.Made.{new_object, with_blocks, and_name, IsMade, link_word, IsWritten}
 use Rattle.shown_graph.proofs.Names.{same_parts, same_is, same_self, not_next, value_stays, word_stays}
 use Rattle.shown_graph.proofs.Registering.{registers_renamed, registers_stay}
 
@@ -35,6 +35,20 @@ new_shows head other w a k n block_of o s = record {
   owned = s.owned;
   shaped = s.shaped;
   words = λ j jl. s.words j jl ∙ part_of_new head other block_of k n (object_part (new_object k n) o j);
+}
+
+-- the words of a new object's block are its links, and nil elsewhere
+pub part_links : (head : Name → ℕ) (block_of : ℕ → ℕ) (k : ObjectKind) (n : ℕ) (p : Part) → part_word head block_of (field_of (new_object k n)) p ≡ link_word block_of (link_in p)
+part_links head block_of k n (Link o) = refl
+part_links head block_of k n (Field i) = ap (value_word head) (field_of_new k n i)
+part_links head block_of k n Blank = refl
+
+pub written_shows : (head : Name → ℕ) (w : BlockWords) (a : Name) (k : ObjectKind) (n : ℕ) (block_of : ℕ → ℕ) (o : ℕ) → IsWritten w a k n block_of o → BlockShows head w a (new_object k n) block_of o
+written_shows head w a k n block_of o s = record {
+  owned = s.owned;
+  shaped = s.shaped ∙ sym (ap (kind_word k) (length-replicate n Nil));
+  words = λ j jl. s.links j jl ∙ sym (part_links head block_of k n (layout_part k n o j))
+      ∙ sym (ap (λ l. part_word head block_of (field_of (new_object k n)) (layout_part k l o j)) (length-replicate n Nil));
 }
 
 -- a block that shows a part of a kept object shows it where other objects have come

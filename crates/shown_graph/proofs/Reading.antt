@@ -14,10 +14,10 @@ use Rattle.block_store.proofs.ShapeWords.{shape-code}
 use Rattle.never_heap.specs.Graphs.{Graph, ObjectKind, Record, Array, object_of, field_of, register_of}
 use Rattle.object_lists.specs.Parts.{Link}
 use Rattle.object_lists.specs.Layouts.{IsWay}
-use Rattle.shown_graph.specs.Layouts.{object_blocks, object_part, object_spot}
+use Rattle.shown_graph.specs.Layouts.{kind_shape, object_blocks, object_part, object_spot}
 use Rattle.shown_graph.specs.Words.{BlockWords, value_word, part_word, kind_word, register_block}
 use Rattle.shown_graph.specs.Shown.{IsValueOf, heads, Shows}
-use Rattle.shown_graph.specs.Read.{value_payload, kind_shape}
+use Rattle.shown_graph.specs.Read.{value_payload}
 use Rattle.shown_graph.proofs.ObjectLayouts.{object_layout, few_fields}
 use Rattle.shown_graph.proofs.Names.{apart, same_is}
 

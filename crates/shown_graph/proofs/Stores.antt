@@ -50,6 +50,18 @@ module _ (n m : ℕ) (K : Name → Type 0) (g : Graph) (at : Name → ℕ → �
     registers = registers_stay n K (heads at) (register_of g) (register_of g) late late w u registers (λ t r tn rl e. (e, refl)) shows.registers;
   }
 
+  -- A register that is late may have the value that it shows.
+  pub more_late : (late' : ℕ → ℕ → Bool) → ((t r : ℕ) → t < n → r < 16 → late' t r ≡ false → late t r ≡ false) → Shows n m K g at w late'
+  more_late late' more = record {
+    sized = shows.sized;
+    names = shows.names;
+    closed = shows.closed;
+    numbered = shows.numbered;
+    placed = shows.placed;
+    written = shows.written;
+    registers = registers_stay n K (heads at) (register_of g) (register_of g) late late' w w (λ x j some xl jl. refl) (λ t r tn rl e. (more t r tn rl e, refl)) shows.registers;
+  }
+
   -- There is room behind the last block.
   pub later_last : (l : ℕ) → m ≤ l → Shows n l K g at w late
   later_last l more = record {
@@ -114,7 +126,7 @@ module _ (n m : ℕ) (K : Name → Type 0) (g : Graph) (at : Name → ℕ → �
       register_moved : (u q : ℕ) → register_of (with_register g t r v) u q ≡ cond (eqb t u && eqb r q) v (register_of g u q)
       register_moved u q = register_with_register g t r u q v in_graph full
 
-      register_same : (u q : ℕ) → ((t ≡ u) → (r ≡ q) → ⊥) → register_of g u q ≡ register_of (with_register g t r v) u q
+      pub register_same : (u q : ℕ) → ((t ≡ u) → (r ≡ q) → ⊥) → register_of g u q ≡ register_of (with_register g t r v) u q
       register_same u q ne = sym (register_moved u q ∙ elim (cases_eq t u) [
         | inr m ↦ ap (λ b. cond (b && eqb r q) v (register_of g u q)) (ne_eqb t u m)
         | inl e ↦ elim (cases_eq r q) [
@@ -123,7 +135,7 @@ module _ (n m : ℕ) (K : Name → Type 0) (g : Graph) (at : Name → ℕ → �
         ]
       ])
 
-      register_new : v ≡ register_of (with_register g t r v) t r
+      pub register_new : v ≡ register_of (with_register g t r v) t r
       register_new = sym (register_moved t r ∙ rw (eq-eqb t t refl, eq-eqb r r refl) refl)
 
       moved_sized : IsSized n (with_register g t r v)
@@ -132,7 +144,7 @@ module _ (n m : ℕ) (K : Name → Type 0) (g : Graph) (at : Name → ℕ → �
         sixteen = λ u un. sixteen_with_register g t r u v in_graph ∙ shows.sized.sixteen u un;
       }
 
-      object_same : (a : Name) → object_of (with_register g t r v) a ≡ object_of g a
+      pub object_same : (a : Name) → object_of (with_register g t r v) a ≡ object_of g a
       object_same a = object_with_register g t r v a in_graph
 
       moved_closed : Closed n K (object_of (with_register g t r v)) (register_of (with_register g t r v))
@@ -173,7 +185,7 @@ module _ (n m : ℕ) (K : Name → Type 0) (g : Graph) (at : Name → ℕ → �
       }
 
   module _ (a : Name) (i : ℕ) (v : Value) (ka : K a) (within : i < length (object_of g a).fields) (kept : IsValueOf K v) where
-    changed_object : (b : Name) → object_of (with_field g a i v) b ≡ cond (same_name a b) (set_field (object_of g a) i v) (object_of g b)
+    pub changed_object : (b : Name) → object_of (with_field g a i v) b ≡ cond (same_name a b) (set_field (object_of g a) i v) (object_of g b)
     changed_object b = object_with_field g a i v (shows.names a ka) b
 
     blocks_same : (b : Name) → object_blocks (object_of (with_field g a i v) b) ≡ object_blocks (object_of g b)
@@ -183,7 +195,7 @@ module _ (n m : ℕ) (K : Name → Type 0) (g : Graph) (at : Name → ℕ → �
       | inr other ↦ ap (λ t. object_blocks (cond t (set_field (object_of g a) i v) (object_of g b))) other
     ]
 
-    register_kept : (t r : ℕ) → register_of g t r ≡ register_of (with_field g a i v) t r
+    pub register_kept : (t r : ℕ) → register_of g t r ≡ register_of (with_field g a i v) t r
     register_kept t r = sym (ap (λ rs. get_or rs r Nil) (registers_with_field g a i v (shows.names a ka) t))
 
     fields_kept : (b : Name) (k : ℕ) → K b → IsValueOf K (field_of (object_of (with_field g a i v) b) k)

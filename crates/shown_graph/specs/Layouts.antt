@@ -4,6 +4,8 @@ use Rattle.object_lists.specs.Parts.{Part}
 use Rattle.object_lists.specs.Records.{record_blocks, record_part, record_spot}
 use Rattle.array_trees.specs.Trees.{array_blocks}
 use Rattle.array_trees.specs.Levels.{array_part, array_spot}
+use Rattle.block_store.specs.declared.Shape.{Shape}
+use Rattle.block_store.specs.declared.Shape.TheVariants as shapes
 use Rattle.never_heap.specs.Graphs.{ObjectKind, Record, Array, Object}
 
 -- how many blocks an object of this many fields takes
@@ -30,3 +32,12 @@ object_part o = layout_part o.kind (length o.fields)
 
 abbrev pub object_spot : Object → ℕ → ℕ × ℕ
 object_spot o = layout_spot o.kind (length o.fields)
+
+-- the shape of an object of this kind and length, and what stands in the blocks of a shape
+abbrev pub kind_shape : ObjectKind → ℕ → Shape
+kind_shape Record n = shapes.List n
+kind_shape Array n = shapes.Tree n
+
+abbrev pub shape_part : Shape → ℕ → ℕ → Part
+shape_part (shapes.List f) = record_part f
+shape_part (shapes.Tree e) = array_part e

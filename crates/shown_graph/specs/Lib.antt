@@ -4,3 +4,5 @@ pub mod Shown
 pub mod Made
 pub mod Read
 pub mod Openings
+pub mod Events
+pub mod Example

@@ -1,9 +1,12 @@
 -- An object that was made, and its name.
-use Rattle.std.specs.Prelude.{ℕ, ◌+◌, ◌*◌, ◌<◌, ◌≤◌, ◌⊎◌, ◌≡◌, true, cond}
+use Rattle.std.specs.Prelude.{ℕ, ◌+◌, ◌*◌, ◌<◌, ◌≤◌, ◌⊎◌, ◌≡◌, true, cond, Option, Some, None}
 use Rattle.block_store.specs.declared.Name.{Name}
+use Rattle.block_store.specs.Owners.{owner_word}
+use Rattle.block_store.specs.Payloads.{reference_word}
+use Rattle.object_lists.specs.Parts.{link_in}
 use Rattle.never_heap.specs.Graphs.{Graph, Object, ObjectKind, nils, count_of, same_name, next_name}
-use Rattle.shown_graph.specs.Layouts.{layout_blocks}
-use Rattle.shown_graph.specs.Words.{BlockWords}
+use Rattle.shown_graph.specs.Layouts.{layout_blocks, layout_part}
+use Rattle.shown_graph.specs.Words.{BlockWords, kind_word}
 use Rattle.shown_graph.specs.Shown.{BlockShows}
 
 -- an object of n nils
@@ -28,3 +31,14 @@ pub record IsMade (threads m : ℕ) (g : Graph) (w : BlockWords) (t : ℕ) (k : 
   pub behind : (o : ℕ) → o < layout_blocks k n → 5 * threads < block_of o
   pub within : (o : ℕ) → o < layout_blocks k n → block_of o ≤ m
   pub blocks : (o : ℕ) → o < layout_blocks k n → BlockShows (λ a. 0) w (next_name g t) (new_object k n) block_of o
+
+-- a word of a new object: a reference to the block of the ordinal to which it links, or nil
+abbrev pub link_word : (ℕ → ℕ) → Option ℕ → ℕ
+link_word block_of None = 0
+link_word block_of (Some o) = reference_word (block_of o)
+
+-- a block of a new object by its words alone: its owner, its shape, and its links
+pub record IsWritten (w : BlockWords) (a : Name) (k : ObjectKind) (n : ℕ) (block_of : ℕ → ℕ) (o : ℕ) : Type 0 where
+  pub owned : w.owner (block_of o) ≡ owner_word a.thread a.serial o
+  pub shaped : w.shape (block_of o) ≡ kind_word k n
+  pub links : (j : ℕ) → j < 4 → w.payload (block_of o) j ≡ link_word block_of (link_in (layout_part k n o j))

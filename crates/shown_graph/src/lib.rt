@@ -3,23 +3,26 @@
 //! does nothing.
 #![tactic(auto)]
 
-ghost use Rattle.std.specs.Prelude.{◌≡◌, ℕ, ◌+◌, ◌*◌, ◌%◌, ◌<◌, ◌≤◌, Bool, true, false, Some, length};
+ghost use Rattle.std.specs.Prelude.{◌≡◌, ℕ, ◌+◌, ◌*◌, ◌%◌, ◌<◌, ◌≤◌, Bool, true, false, Some, List, length};
 ghost use Rattle.block_store.specs.declared.Config.{Config};
 ghost use Rattle.block_store.specs.declared.Name.{Name};
+ghost use Rattle.block_store.specs.declared.Shape.{Shape};
 ghost use Rattle.block_store.specs.declared.Value.{Value};
-ghost use Rattle.block_store.specs.declared.Value.TheVariants.{Ref};
+ghost use Rattle.block_store.specs.declared.Value.TheVariants.{Int, Ref};
 ghost use Rattle.block_store.specs.Configs.{IsInBounds};
 ghost use Rattle.block_store.specs.Owners.{owner_of};
-ghost use Rattle.block_store.specs.Payloads.{payload_of, reference_word};
+ghost use Rattle.block_store.specs.Payloads.{payload_of, reference_word, target};
 ghost use Rattle.block_store.specs.Shapes.{shape_of};
 ghost use Rattle.object_lists.specs.Layouts.{IsLayout, IsWay};
-ghost use Rattle.never_heap.specs.Graphs.{Graph, ObjectKind, start_graph, object_of, field_of, register_of, has_name, with_register, with_field, with_object, next_name};
-ghost use Rattle.shown_graph.specs.Layouts.{layout_blocks, layout_part, layout_spot, object_blocks, object_part, object_spot};
+ghost use Rattle.never_heap.specs.Graphs.{Graph, ObjectKind, Record, start_graph, object_of, field_of, register_of, has_name, with_register, with_field, with_object, next_name};
+ghost use Rattle.shown_graph.specs.Layouts.{kind_shape, layout_blocks, layout_part, layout_spot, object_blocks, object_part, object_spot};
 ghost use Rattle.shown_graph.specs.Words.{Agrees, BlockWords, value_word, with_payload, register_block};
-ghost use Rattle.shown_graph.specs.Shown.{IsValueOf, heads, Closed, Shows, every_name, named, never_late};
-ghost use Rattle.shown_graph.specs.Made.{new_object, with_blocks, and_name, IsMade};
+ghost use Rattle.shown_graph.specs.Shown.{IsValueOf, heads, BlockShows, Closed, Shows, every_name, named, never_late};
+ghost use Rattle.shown_graph.specs.Made.{new_object, with_blocks, and_name, IsMade, IsWritten};
 ghost use Rattle.shown_graph.specs.Openings.{opening_at, opening_last, opening_words};
-ghost use Rattle.shown_graph.specs.Read.{value_payload, kind_shape};
+ghost use Rattle.shown_graph.specs.Events.{ObjectLoad, ValueLoad, GraphState, Event, run, Guarded, ObjectIs, ValueIs, Follows, opening_state};
+ghost use Rattle.shown_graph.specs.Example.{small_config, some_events, with_record};
+ghost use Rattle.shown_graph.specs.Read.{value_payload};
 
 /// Objects of each kind and length have a layout in blocks of four payload words.
 pub fn objects_are_laid_out()
@@ -46,6 +49,12 @@ pub fn stores_are_shown()
     ensures field { (n m i : ℕ) (kept : Name → Bool) (g : Graph) (at : Name → ℕ → ℕ) (w : BlockWords) (late : ℕ → ℕ → Bool) (a : Name) (v : Value) → Shows n m (named kept) g at w late
         → kept a ≡ true → i < length (object_of g a).fields → IsValueOf (named kept) v
         → Shows n m (named kept) (with_field g a i v) at (with_payload w (at a (object_spot (object_of g a) i).0) (object_spot (object_of g a) i).1 (value_word (heads at) v)) late }
+{}
+
+/// A block of a new object shows its part once its owner, its shape and its links are written, and nil
+/// elsewhere.
+pub fn written_blocks_are_shown()
+    ensures { (n o : ℕ) (head : Name → ℕ) (w : BlockWords) (a : Name) (k : ObjectKind) (block_of : ℕ → ℕ) → IsWritten w a k n block_of o → BlockShows head w a (new_object k n) block_of o }
 {}
 
 /// An object that was made block by block gets the next name of its thread, and is kept. With all names
@@ -90,4 +99,30 @@ pub fn shown_words_are_read()
         → (walked steps ≡ at a (object_spot (object_of g a) i).0) × (w.payload (walked steps) last ≡ value_word (heads at) (field_of (object_of g a) i)) }
     ensures apart { (n m o p : ℕ) (kept : Name → Bool) (g : Graph) (at : Name → ℕ → ℕ) (w : BlockWords) (late : ℕ → ℕ → Bool) (a b : Name) → Shows n m (named kept) g at w late
         → kept a ≡ true → kept b ≡ true → o < object_blocks (object_of g a) → p < object_blocks (object_of g b) → at a o ≡ at b p → (a ≡ b) × (o ≡ p) }
+{}
+
+/// What a thread has loaded reads as the graph says: the value of its register, the name to which that
+/// refers, and the kind and length of an object whose shape was read.
+pub fn loads_are_read()
+    ensures value { (n m t : ℕ) (kept : Name → Bool) (at : Name → ℕ → ℕ) (s : GraphState) (v : ValueLoad) → Follows n m (named kept) at s → t < n → m ≤ 65535
+        → ValueIs s.graph at t v → payload_of v.word ≡ Some (value_payload (heads at) (register_of s.graph t v.origin)) }
+    ensures name { (n m t : ℕ) (kept : Name → Bool) (at : Name → ℕ → ℕ) (s : GraphState) (v : ValueLoad) (a : Name) → Follows n m (named kept) at s → t < n
+        → ValueIs s.graph at t v → register_of s.graph t v.origin ≡ Ref a → owner_of (s.words.owner (target v.word)) ≡ Some (record { thread = a.thread; serial = a.serial; ordinal = 0 }) }
+    ensures length { (t : ℕ) (at : Name → ℕ → ℕ) (g : Graph) (l : ObjectLoad) (f : Shape) (a : Name) → ObjectIs g at t l → l.shape ≡ Some f
+        → register_of g t l.source ≡ Ref a → f ≡ kind_shape (object_of g a).kind (length (object_of g a).fields) }
+{}
+
+/// After every list of events of commands that allocate nothing, each of which may come where it does,
+/// the words show the graph. So they do at the opening.
+pub fn commands_are_shown()
+    ensures opening { (c : Config) → IsInBounds c → Follows c.threads (opening_last c) (every_name (start_graph c)) (opening_at c.threads) (opening_state c) }
+    ensures run { (n m : ℕ) (kept : Name → Bool) (at : Name → ℕ → ℕ) (s : GraphState) (es : List Event) → Follows n m (named kept) at s → Guarded n s es → Follows n m (named kept) at (run s es) }
+{}
+
+/// The conditions of these laws are met by a small heap: by an array that two threads share, a store
+/// in it, a load of what was stored, and a record of two blocks.
+pub fn the_example_runs()
+    ensures events { Guarded 2 (opening_state small_config) some_events }
+    ensures result { register_of (run (opening_state small_config) some_events).graph 1 2 ≡ Int 7 }
+    ensures made { IsMade 2 13 (start_graph small_config) (with_record (opening_words small_config)) 0 Record 4 (λ o. 12 + o) }
 {}
