@@ -1,0 +1,12 @@
+pub mod ObjectLayouts
+pub mod Names
+pub mod Blocks
+pub mod Registering
+pub mod Stores
+pub mod Publish
+pub mod Reading
+pub mod Opening
+pub mod Every
+pub mod Serving
+pub mod Loads
+pub mod Example

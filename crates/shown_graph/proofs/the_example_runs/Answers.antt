@@ -1,0 +1,5 @@
+use Rattle.shown_graph.proofs.Example.{example_runs, example_reads, example_made}
+use Rattle.shown_graph.proofs.the_example_runs.Goals as goal
+
+pub returns : goal.returns
+returns c = record { events = example_runs; result = example_reads; made = example_made }
