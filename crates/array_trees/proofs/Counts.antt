@@ -1,9 +1,19 @@
 -- Facts on the number of blocks of a level and of all levels over it.
-use Rattle.std.proofs.Common.{◌≡◌, ℕ, zero, suc, ◌+◌, ◌-◌, ◌*◌, ◌/◌, ◌^◌, ◌<◌, ◌≤◌, refl, sym, ap, arith, inl, inr, subst}
+use Rattle.std.proofs.Common.{◌≡◌, ℕ, zero, suc, ◌+◌, ◌-◌, ◌*◌, ◌/◌, ◌%◌, min, ◌^◌, ◌<◌, ◌≤◌, refl, sym, ap, arith, inl, inr, subst}
 use Rattle.std.proofs.lemmas.Nat.{div_below, le-div}
-use Rattle.std.proofs.Math.Nat.{pow-suc, one-le-pow}
+use Rattle.std.proofs.lemmas.Grind.{div_ceil_times}
+use Rattle.std.proofs.Math.Nat.{div-eq_of_lt-le, pow-suc, one-le-pow}
 use Rattle.std.proofs.lemmas.Bool.{cases_lt, lt-ltb, le-ltb}
 use Rattle.array_trees.specs.Trees.{blocks_over, tree_within, tree, IsTree}
+
+-- how std rounds up
+pub div-over : (x y : ℕ) → 0 < y → x / y + min 1 (x % y) ≡ blocks_over y x
+div-over x y some =
+    let both : (x ≤ (x / y + min 1 (x % y)) * y) × ((x / y + min 1 (x % y)) * y < x + y) = div_ceil_times x y some in
+    ceiling_of x y (x / y + min 1 (x % y)) some both.0 both.1
+  where
+    ceiling_of : (x y z : ℕ) → 0 < y → x ≤ z * y → z * y < x + y → z ≡ blocks_over y x
+    ceiling_of x y z some low high = sym (div-eq_of_lt-le {k = z} y {m = x + (y - 1)} (omega arith) (omega arith))
 
 -- a level of more than one block has fewer blocks over it
 pub over_less : (w q : ℕ) → 1 < w → 1 < q → blocks_over w q < q

@@ -1,0 +1,13 @@
+use Rattle.std.proofs.Common.{◌≡◌, ◌≤◌}
+use Rattle.object_lists.specs.Parts.{link_in}
+use Rattle.array_trees.specs.Levels.{level_size, level_start, part_from, array_part, array_depth}
+use Rattle.array_trees.proofs.child_of.Given as goal
+
+-- the block is none of a level above this one
+abbrev pub invariant-loop-height : goal.invariant-loop-height
+invariant-loop-height l = record {
+  deep : l.height ≤ array_depth l.e;
+  start : l.start ≡ level_start 4 l.e l.height;
+  inside : l.start ≤ l.ordinal;
+  part : link_in (part_from 4 l.e (level_start 4 l.e) (level_size 4 l.e) l.height l.ordinal l.j) ≡ link_in (array_part l.e l.ordinal l.j);
+}
