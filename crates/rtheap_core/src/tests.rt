@@ -132,15 +132,95 @@ fn the_heap_is_full_when_the_last_block_is_given(rt: HostRuntime) -> Result<(), 
     Ok(())
 }
 
+/// Makes a call whose input comes in pieces of 7 bytes, and compares its status and what it wrote.
+fn answers(
+    rt: &HostRuntime,
+    word: &str,
+    input: &str,
+    status: u8,
+    written: &str,
+) -> Result<(), Fail> {
+    let words = [word];
+    let call = Call {
+        words: &words,
+        ..Call::run(input)
+    };
+    let (exit, sink) = made(rt, &call)?;
+    assert_eq!(rt; (exit.status, exit.due), (status, status), "{word}: {input}");
+    assert_eq!(rt; sink.bytes(), written.as_bytes(), "{word}: {input}");
+    Ok(())
+}
+
+/// A job of one thread without commands, on a heap of these numbers.
+fn heap(alloc: Global, blocks: u32, live: u32) -> Result<String, AllocError> {
+    format!(in alloc; "rtheap 1 threads 1 blocks {blocks} live {live} object 2 shared 0\nthread 0\nend\n")
+}
+
 #[test]
-fn what_cannot_be_run_yet_is_put_off(rt: HostRuntime) -> Result<(), Fail> {
-    let text = job(rt.alloc(), "set 1 5\n")?;
-    for input in [text.as_str(), ""] {
-        let (exit, sink) = made(&rt, &Call::run(input))?;
-        assert_eq!(rt; (exit.status, exit.due), (3, 3));
-        assert!(rt; exit.run.is_none());
-        assert_eq!(rt; sink.bytes(), b"rtheap: later\n".as_slice());
+fn jobs_of_several_threads_are_put_off(rt: HostRuntime) -> Result<(), Fail> {
+    let two = "rtheap 1 threads 2 blocks 64 live 20 object 2 shared 0\nthread 0\nthread 1\nend\n";
+    answers(&rt, "run", two, 3, "rtheap: later\n")?;
+    answers(&rt, "plan", two, 0, "rate 8\n")
+}
+
+#[test]
+fn plan_tells_the_rate_or_why_there_is_none(rt: HostRuntime) -> Result<(), Fail> {
+    let alloc = rt.alloc();
+    answers(&rt, "plan", heap(alloc, 64, 20)?.as_str(), 0, "rate 7\n")?;
+    answers(&rt, "plan", heap(alloc, 26, 20)?.as_str(), 0, "rate 52\n")?;
+    for word in ["plan", "run"] {
+        let no_rate = heap(alloc, 25, 20)?;
+        answers(&rt, word, no_rate.as_str(), 4, "rtheap: no rate\n")?;
+        for blocks in [64, 10] {
+            let small = heap(alloc, blocks, 5)?;
+            answers(&rt, word, small.as_str(), 4, "rtheap: live limit too small\n")?;
+        }
     }
+    Ok(())
+}
+
+#[test]
+fn the_first_bad_line_is_named_with_its_reason(rt: HostRuntime) -> Result<(), Fail> {
+    let alloc = rt.alloc();
+    for word in ["plan", "run"] {
+        answers(&rt, word, "", 3, "rtheap: line 1: header\n")?;
+        answers(&rt, word, "rtheap 3 threads 1 blocks 64 live 20 object 2 shared 0\n", 3, "rtheap: line 1: header\n")?;
+        answers(&rt, word, "rtheap 1 threads 01 blocks 64 live 20 object 2 shared 0\n", 3, "rtheap: line 1: number\n")?;
+        answers(&rt, word, "rtheap 1 threads 0 blocks 64 live 20 object 2 shared 0\n", 3, "rtheap: line 1: size\n")?;
+        let open = format!(in alloc; "{HEADER}new 1 1\n")?;
+        answers(&rt, word, open.as_str(), 3, "rtheap: line 4: end\n")?;
+    }
+    for (line, why) in [
+        ("push 1 1", "word"),
+        ("", "word"),
+        ("new 1", "count"),
+        ("new  1 1", "count"),
+        ("new 1 x", "number"),
+        ("new 16 1", "register"),
+        ("set 1 4611686018427387904", "size"),
+        ("new 1 7", "size"),
+        ("arr 1 5", "size"),
+    ] {
+        let text = job(alloc, format!(in alloc; "{line}\n")?.as_str())?;
+        let refusal = format!(in alloc; "rtheap: line 3: {why}\n")?;
+        answers(&rt, "run", text.as_str(), 3, refusal.as_str())?;
+    }
+    let behind = format!(in alloc; "{HEADER}end\nnil 1\n")?;
+    answers(&rt, "run", behind.as_str(), 3, "rtheap: line 4: end\n")
+}
+
+#[test]
+fn an_input_of_one_byte_too_many_is_refused(rt: HostRuntime) -> Result<(), Fail> {
+    let alloc = rt.alloc();
+    let bytes = vec![in alloc; b'x'; 16_777_217]?;
+    let mut source = MemSource::new(bytes, 1_000_000, Vec::new(alloc));
+    let mut sink = MemSink::new(alloc, 100, Vec::new(alloc))
+        .ok()
+        .ok_or("memory")?;
+    let words = texts(alloc, &["plan"])?;
+    let exit = rtheap(&rt, alloc, &words, &mut source, &mut sink, &NoPace);
+    assert_eq!(rt; (exit.status, exit.due), (3, 3));
+    assert_eq!(rt; sink.bytes(), b"rtheap: input too long\n".as_slice());
     Ok(())
 }
 
