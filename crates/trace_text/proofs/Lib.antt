@@ -1,4 +1,6 @@
 pub mod Appending
+pub mod TraceLines
+pub mod WrittenLines
 pub mod Splitting
 pub mod Numerals
 pub mod Counting

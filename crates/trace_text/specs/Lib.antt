@@ -10,4 +10,5 @@ pub mod Headers
 pub mod Wholes
 pub mod Inputs
 pub mod Texts
+pub mod JobTexts
 pub mod Memories

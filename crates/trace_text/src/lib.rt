@@ -1,6 +1,7 @@
 //! The text edges: sources and sinks of bytes, the reader of traces and the printer of runs.
 #![tactic(auto)]
 
+mod job_writer;
 mod jobs;
 mod line_buffer;
 mod mem_sink;
@@ -12,6 +13,7 @@ mod sources;
 mod std_sink;
 mod std_source;
 
+pub use job_writer::{job_text_is_job, write_job};
 pub use jobs::{Job, Traces};
 pub use mem_sink::MemSink;
 pub use mem_source::MemSource;
