@@ -5,3 +5,6 @@ pub mod Starting
 pub mod Making
 pub mod Stepping
 pub mod Ranges
+pub mod Naming
+pub mod Reaching
+pub mod Cycling

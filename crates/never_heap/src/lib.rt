@@ -9,6 +9,7 @@ ghost use Rattle.never_heap.specs.declared.Entry.{Entry};
 ghost use Rattle.never_heap.specs.Histories.{HistoryItem, after, replay, part, Legal, IsAnswered};
 
 mod graph;
+mod laws;
 mod mutator;
 mod object;
 #[cfg(test)]
@@ -17,6 +18,7 @@ mod tests;
 use array_trees::blocks_of_array;
 use block_store::{Config, Name, Value};
 pub use graph::Graph;
+pub use laws::{blocks_are_given, cycles_start, reachable_is_least, runs_grow};
 use object_lists::blocks_of_record;
 use std::sync::Wait;
 
