@@ -1,5 +1,5 @@
 -- What a call answers to an input that is known.
-use Rattle.std.proofs.Common.{ℕ, ◌≡◌, ◌≢◌, ◌≤◌, ◌<◌, ◌⊎◌, inl, inr, List, length, Option, false, true, Some, None, IfSome, IsSome, refl, sym, ap, ◌∙◌, subst, arith}
+use Rattle.std.proofs.Common.{ℕ, ◌≡◌, ◌≢◌, ◌≤◌, ◌<◌, ◌⊎◌, inl, inr, List, [], ◌∷◌, length, Option, false, true, Some, None, IfSome, IsSome, refl, sym, ap, ◌∙◌, subst, arith}
 use Rattle.std.proofs.lemmas.Bool.{cases_eq}
 use Rattle.rate_plan.specs.declared.PlanFault.{PlanFault}
 use Rattle.rate_plan.specs.declared.PlanFault.TheVariants as plans
@@ -105,7 +105,7 @@ not_two_words words a b = let e = sym a ∙ b in cc
 
 -- a call that is done has read a job with a rate, which can be run where a run was asked for
 done_as : (words : List (List ℕ)) (left now held held_now : Option (List ℕ)) (status due : ℕ) (run : Option RunEnd) → Ask words
-    → IfSome run (λ e. Headline left now held held_now status (run_of e)) → (AskForRun words × (due ≡ 0) → IsSome run) → (AskForPlan words → due ≡ 0 → Planned left now held held_now status)
+    → IfSome run (λ e. Headline left now held held_now status (run_of e) ((run_of e).log ∷ []) 1 0) → (AskForRun words × (due ≡ 0) → IsSome run) → (AskForPlan words → due ≡ 0 → Planned left now held held_now status)
     → due ≡ 0 → IsJobWith (λ job. IsAdmitted job.config × (AskForRun words → CanRun job)) left now
 done_as words left now held held_now status due (Some e) (inl ask) headline some planned zero = (job_of (run_of e), headline.read, (headline.admitted, λ _. headline.runnable))
 done_as words left now held held_now status due None (inl ask) headline some planned zero = let e : false ≡ true = some (ask, zero) in cc
@@ -114,7 +114,7 @@ done_as words left now held held_now status due run (inr ask) headline some plan
 
 -- what a call answers, where the source told its bytes
 module _ (laws : Laws) (words : List (List ℕ)) (left now held held_now : Option (List ℕ)) (before after status due : ℕ) (run : Option RunEnd)
-    (headline : IfSome run (λ e. Headline left now held held_now status (run_of e))) (some : AskForRun words × (due ≡ 0) → IsSome run) (planned : AskForPlan words → due ≡ 0 → Planned left now held held_now status)
+    (headline : IfSome run (λ e. Headline left now held held_now status (run_of e) ((run_of e).log ∷ []) 1 0)) (some : AskForRun words × (due ≡ 0) → IsSome run) (planned : AskForPlan words → due ≡ 0 → Planned left now held held_now status)
     (refused : due ≢ 0 → Refused words left now held held_now before after status due) where
   verdict_of : (asked : Ask words) (bytes : List ℕ) → left ≡ Some bytes → Verdict words bytes due
   verdict_of asked bytes e =
