@@ -1,37 +1,45 @@
-//! The same work as `rtheap run` on a job of one thread whose records have at most three fields, as
-//! a plain program: the job is read and checked, run on a heap that only grows, and answered.
+//! The same work as `rtheap run` and `rtheap plan`, as a plain program: a job is read and checked,
+//! run on a heap that only grows, and answered; or its rate is found.
 
 use std::io::{self, BufWriter, Read, Write};
 use std::process::ExitCode;
 
 const REGISTERS: usize = 16;
-const OPENING_BLOCKS: usize = 6;
+const MOST_COMMANDS: usize = 131_072;
 
 #[derive(Clone, Copy)]
 enum Command {
     New { d: usize, fields: usize },
+    Arr { d: usize, elements: usize },
+    Set { d: usize, value: u64 },
     Nil { d: usize },
+    Mov { d: usize, s: usize },
     Get { d: usize, s: usize, i: u64 },
     Put { s: usize, i: u64, v: usize },
+    Len { s: usize },
+    Same { a: usize, b: usize },
     Say { s: usize },
 }
 
-struct Job {
+struct Config {
+    threads: usize,
     blocks: usize,
-    commands: Vec<Command>,
+    live: usize,
+    object: usize,
+    shared: usize,
 }
 
-/// A record is known by its number, from 1; the shared array has number 0.
-#[derive(Clone, Copy)]
+struct Job {
+    config: Config,
+    traces: Vec<Vec<Command>>,
+}
+
+/// An object is known by its number, from 1; the shared array has number 0.
+#[derive(Clone, Copy, PartialEq)]
 enum Value {
     Nil,
+    Int(u64),
     Ref(usize),
-}
-
-#[derive(Clone, Copy)]
-struct Record {
-    len: usize,
-    fields: [Value; 3],
 }
 
 enum Reply {
@@ -39,8 +47,25 @@ enum Reply {
     Full,
     Stored,
     Val(Value),
+    Len(usize),
+    Same(bool),
     Null,
+    Kind,
     Range,
+}
+
+fn blocks_of_record(fields: usize) -> usize {
+    fields.div_ceil(3).max(1)
+}
+
+fn blocks_of_array(elements: usize) -> usize {
+    let mut level = elements.div_ceil(4).max(1);
+    let mut blocks = level;
+    while level > 1 {
+        level = level.div_ceil(4);
+        blocks += level;
+    }
+    blocks
 }
 
 fn number(piece: &str) -> Option<u64> {
@@ -56,18 +81,34 @@ fn index(piece: &str) -> Option<u64> {
     number(piece).filter(|&i| i < 1 << 62)
 }
 
-fn command(line: &str) -> Option<Command> {
+fn size(piece: &str, most: usize, blocks_of: fn(usize) -> usize) -> Option<usize> {
+    let size = number(piece).filter(|&size| size <= 65_535)? as usize;
+    (blocks_of(size) <= most).then_some(size)
+}
+
+fn command(line: &str, most: usize) -> Option<Command> {
     let mut pieces = line.split(' ');
     let word = pieces.next()?;
     let mut next = || pieces.next();
     let command = match word {
-        "new" => {
-            let d = register(next()?)?;
-            let fields = number(next()?).filter(|&f| f <= 3)? as usize;
-            Command::New { d, fields }
-        }
+        "new" => Command::New {
+            d: register(next()?)?,
+            fields: size(next()?, most, blocks_of_record)?,
+        },
+        "arr" => Command::Arr {
+            d: register(next()?)?,
+            elements: size(next()?, most, blocks_of_array)?,
+        },
+        "set" => Command::Set {
+            d: register(next()?)?,
+            value: index(next()?)?,
+        },
         "nil" => Command::Nil {
             d: register(next()?)?,
+        },
+        "mov" => Command::Mov {
+            d: register(next()?)?,
+            s: register(next()?)?,
         },
         "get" => Command::Get {
             d: register(next()?)?,
@@ -79,6 +120,13 @@ fn command(line: &str) -> Option<Command> {
             i: index(next()?)?,
             v: register(next()?)?,
         },
+        "len" => Command::Len {
+            s: register(next()?)?,
+        },
+        "same" => Command::Same {
+            a: register(next()?)?,
+            b: register(next()?)?,
+        },
         "say" => Command::Say {
             s: register(next()?)?,
         },
@@ -87,96 +135,126 @@ fn command(line: &str) -> Option<Command> {
     next().is_none().then_some(command)
 }
 
-fn blocks_of_header(line: &str) -> Option<usize> {
+fn config(line: &str) -> Option<Config> {
     let pieces: Vec<&str> = line.split(' ').collect();
-    let ["rtheap", "1", "threads", "1", "blocks", m, "live", l, "object", b, "shared", "0"] =
+    let ["rtheap", "1", "threads", n, "blocks", m, "live", l, "object", b, "shared", s] =
         pieces[..]
     else {
         return None;
     };
-    let blocks = number(m).filter(|m| (6..=65_535).contains(m))?;
-    number(l).filter(|&l| l <= 65_535)?;
-    number(b).filter(|b| (1..=1024).contains(b))?;
-    Some(blocks as usize)
+    let within = |piece, range: std::ops::RangeInclusive<u64>| {
+        number(piece)
+            .filter(|n| range.contains(n))
+            .map(|n| n as usize)
+    };
+    Some(Config {
+        threads: within(n, 1..=16)?,
+        blocks: within(m, 1..=65_535)?,
+        live: within(l, 0..=65_535)?,
+        object: within(b, 1..=1024)?,
+        shared: within(s, 0..=1024)?,
+    })
 }
 
 fn job(text: &str) -> Option<Job> {
     let mut lines = text.strip_suffix('\n').unwrap_or(text).split('\n');
-    let blocks = blocks_of_header(lines.next()?)?;
-    if lines.next()? != "thread 0" {
-        return None;
-    }
-    let mut commands = Vec::new();
+    let config = config(lines.next()?)?;
+    let mut traces: Vec<Vec<Command>> = Vec::new();
     loop {
-        match lines.next()? {
-            "end" => break,
-            line => commands.push(command(line)?),
+        let line = lines.next()?;
+        if line == "end" {
+            break;
+        } else if let Some(thread) = line.strip_prefix("thread ") {
+            if number(thread)? != traces.len() as u64 || traces.len() == config.threads {
+                return None;
+            }
+            traces.push(Vec::new());
+        } else {
+            let command = command(line, config.object)?;
+            let trace = traces.last_mut()?;
+            if trace.len() == MOST_COMMANDS {
+                return None;
+            }
+            trace.push(command);
         }
     }
-    (lines.next().is_none() && commands.len() <= 131_072).then_some(Job { blocks, commands })
+    (lines.next().is_none() && traces.len() == config.threads).then_some(Job { config, traces })
+}
+
+/// The least rate, or the reason why there is none.
+fn rate(c: &Config) -> Result<usize, &'static str> {
+    if c.live < 5 * c.threads + blocks_of_array(c.shared) {
+        return Err("live limit too small");
+    }
+    let taken = c.live + 2 * c.threads * c.object;
+    if c.blocks < taken + 2 {
+        return Err("no rate");
+    }
+    Ok((2 * c.blocks).div_ceil((c.blocks - taken) / 2))
 }
 
 struct Heap {
-    most: usize,
+    left: usize,
     registers: [Value; REGISTERS],
-    records: Vec<Record>,
+    objects: Vec<Box<[Value]>>,
 }
 
 impl Heap {
-    fn new(blocks: usize) -> Heap {
+    fn new(c: &Config) -> Heap {
         let mut registers = [Value::Nil; REGISTERS];
         registers[0] = Value::Ref(0);
-        let shared = Record {
-            len: 0,
-            fields: [Value::Nil; 3],
-        };
         Heap {
-            most: blocks - OPENING_BLOCKS,
+            left: c.blocks - 5 - blocks_of_array(c.shared),
             registers,
-            records: vec![shared],
+            objects: vec![vec![Value::Nil; c.shared].into()],
+        }
+    }
+
+    fn object(&mut self, s: usize) -> Result<&mut [Value], Reply> {
+        match self.registers[s] {
+            Value::Nil => Err(Reply::Null),
+            Value::Int(_) => Err(Reply::Kind),
+            Value::Ref(name) => Ok(&mut self.objects[name]),
         }
     }
 
     fn field(&mut self, s: usize, i: u64) -> Result<&mut Value, Reply> {
-        let Value::Ref(name) = self.registers[s] else {
-            return Err(Reply::Null);
-        };
-        let record = &mut self.records[name];
-        record.fields[..record.len]
-            .get_mut(i as usize)
-            .ok_or(Reply::Range)
+        self.object(s)?.get_mut(i as usize).ok_or(Reply::Range)
+    }
+
+    fn make(&mut self, d: usize, len: usize, blocks: usize) -> Result<Reply, Reply> {
+        self.left = self.left.checked_sub(blocks).ok_or(Reply::Full)?;
+        let name = self.objects.len();
+        self.objects.push(vec![Value::Nil; len].into());
+        self.registers[d] = Value::Ref(name);
+        Ok(Reply::New(name))
     }
 
     fn step(&mut self, command: Command) -> Result<Reply, Reply> {
         match command {
-            Command::New { d, fields } => {
-                let name = self.records.len();
-                if name > self.most {
-                    return Err(Reply::Full);
-                }
-                self.records.push(Record {
-                    len: fields,
-                    fields: [Value::Nil; 3],
-                });
-                self.registers[d] = Value::Ref(name);
-                Ok(Reply::New(name))
+            Command::New { d, fields } => return self.make(d, fields, blocks_of_record(fields)),
+            Command::Arr { d, elements } => {
+                return self.make(d, elements, blocks_of_array(elements));
             }
-            Command::Nil { d } => {
-                self.registers[d] = Value::Nil;
-                Ok(Reply::Stored)
-            }
+            Command::Set { d, value } => self.registers[d] = Value::Int(value),
+            Command::Nil { d } => self.registers[d] = Value::Nil,
+            Command::Mov { d, s } => self.registers[d] = self.registers[s],
             Command::Get { d, s, i } => {
                 let value = *self.field(s, i)?;
                 self.registers[d] = value;
-                Ok(Reply::Val(value))
+                return Ok(Reply::Val(value));
             }
             Command::Put { s, i, v } => {
                 let value = self.registers[v];
                 *self.field(s, i)? = value;
-                Ok(Reply::Stored)
             }
-            Command::Say { s } => Ok(Reply::Val(self.registers[s])),
+            Command::Len { s } => return Ok(Reply::Len(self.object(s)?.len())),
+            Command::Same { a, b } => {
+                return Ok(Reply::Same(self.registers[a] == self.registers[b]));
+            }
+            Command::Say { s } => return Ok(Reply::Val(self.registers[s])),
         }
+        Ok(Reply::Stored)
     }
 }
 
@@ -186,22 +264,39 @@ fn print(out: &mut impl Write, reply: Reply) -> io::Result<()> {
         Reply::Full => writeln!(out, "0 full 1 work 0"),
         Reply::Stored => writeln!(out, "0 ok"),
         Reply::Val(Value::Nil) => writeln!(out, "0 nil"),
+        Reply::Val(Value::Int(number)) => writeln!(out, "0 int {number}"),
         Reply::Val(Value::Ref(0)) => writeln!(out, "0 ref 1.0"),
         Reply::Val(Value::Ref(name)) => writeln!(out, "0 ref 0.{name}"),
+        Reply::Len(len) => writeln!(out, "0 len {len}"),
+        Reply::Same(true) => writeln!(out, "0 yes"),
+        Reply::Same(false) => writeln!(out, "0 no"),
         Reply::Null => writeln!(out, "0 null"),
+        Reply::Kind => writeln!(out, "0 kind"),
         Reply::Range => writeln!(out, "0 range"),
     }
 }
 
-fn run(out: &mut impl Write) -> io::Result<u8> {
+fn answer(word: &str, out: &mut impl Write) -> io::Result<u8> {
     let mut text = String::new();
     io::stdin().lock().read_to_string(&mut text)?;
     let Some(job) = job(&text) else {
-        writeln!(out, "rtheap: later")?;
+        writeln!(out, "rtheap: no job")?;
         return Ok(3);
     };
-    let mut heap = Heap::new(job.blocks);
-    for &command in &job.commands {
+    drop(text);
+    let rate = match rate(&job.config) {
+        Ok(rate) => rate,
+        Err(why) => {
+            writeln!(out, "rtheap: {why}")?;
+            return Ok(4);
+        }
+    };
+    if word == "plan" {
+        writeln!(out, "rate {rate}")?;
+        return Ok(0);
+    }
+    let mut heap = Heap::new(&job.config);
+    for &command in &job.traces[0] {
         let reply = heap.step(command).unwrap_or_else(|refusal| refusal);
         print(out, reply)?;
     }
@@ -210,8 +305,9 @@ fn run(out: &mut impl Write) -> io::Result<u8> {
 }
 
 fn main() -> ExitCode {
+    let word = std::env::args().nth(1).unwrap_or_default();
     let mut out = BufWriter::new(io::stdout().lock());
-    match run(&mut out).and_then(|status| out.flush().map(|()| status)) {
+    match answer(&word, &mut out).and_then(|status| out.flush().map(|()| status)) {
         Ok(status) => ExitCode::from(status),
         Err(_) => ExitCode::from(6),
     }
