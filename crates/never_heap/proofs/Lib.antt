@@ -8,3 +8,6 @@ pub mod Ranges
 pub mod Naming
 pub mod Reaching
 pub mod Cycling
+pub mod Spreading
+pub mod Rounds
+pub mod Sums

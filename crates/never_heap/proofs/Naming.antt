@@ -1,13 +1,13 @@
 -- The list of names, and names in lists of values.
-use Rattle.std.proofs.Common.{ℕ, zero, suc, ◌+◌, ◌-◌, ◌≡◌, ◌<◌, ◌≤◌, Bool, true, false, eqb, List, [], ◌∷◌, ◌++◌, length, get_or, ap, sym, ◌∙◌, refl, subst, arith, inl, inr}
+use Rattle.std.proofs.Common.{ℕ, zero, suc, ◌+◌, ◌-◌, ◌≡◌, ◌<◌, ◌≤◌, Bool, true, false, eqb, List, [], ◌∷◌, ◌++◌, length, get_or, ap, sym, ◌∙◌, refl, subst, arith, inl, inr, add-one}
 use Rattle.std.specs.List.{list_any}
 use Rattle.std.proofs.lemmas.Bool.{cases_eq, cases_lt, or_cases, or_left, or_right, and_parts, eqb-true}
-use Rattle.std.proofs.lemmas.List.{length_push, get_or_push, get_or_append_left, get_or_past}
+use Rattle.std.proofs.lemmas.List.{get_or_default, length_push, get_or_push, get_or_append_left, get_or_past}
 use Rattle.std.proofs.lemmas.List.Folds.{list_any_at, list_any-append}
 use Rattle.block_store.specs.declared.Name.{Name}
 use Rattle.block_store.specs.declared.Value.{Value}
 use Rattle.block_store.specs.declared.Value.TheVariants.{Nil, Int, Ref}
-use Rattle.never_heap.specs.Graphs.{Graph, same_name, shared_name, count_of, has_name}
+use Rattle.never_heap.specs.Graphs.{Graph, Mutator, no_mutator, same_name, shared_name, count_of, has_name}
 use Rattle.never_heap.specs.Reach.{refers, stands_in, thread_names, names_below, names}
 use Rattle.never_heap.proofs.GraphMoves.{name_of_shared, name_of_thread, thread_of_name, same_from}
 
@@ -91,3 +91,17 @@ any_of_names g p a has h = elim (cases_eq a.serial 0) [
       let here : a ≡ record { thread = a.thread; serial = (a.serial - 1) + 1 } = one_name a (record { thread = a.thread; serial = (a.serial - 1) + 1 }) (same_from a (record { thread = a.thread; serial = (a.serial - 1) + 1 }) refl back) in
       any_threads g p (length g.mutators) a.thread (a.serial - 1) there (omega arith) (subst (λ n. p n ≡ true) here h)
 ]
+
+-- one more name of a thread, and one more thread
+pub thread_names_more : (t k : ℕ) → thread_names t (k + 1) ≡ thread_names t k ++ record { thread = t; serial = k + 1 } ∷ []
+thread_names_more t k = ap (λ n. thread_names t n) (add-one k)
+
+pub names_below_more : (g : Graph) (t : ℕ) → names_below g (t + 1) ≡ names_below g t ++ thread_names t (count_of g t)
+names_below_more g t = ap (λ n. names_below g n) (add-one t)
+
+-- the names of the next thread behind those of the threads before it
+pub names_step : (g : Graph) (t n : ℕ) (m : Mutator) (ms : List Mutator) (old new : List Name) → t < length ms → m ≡ get_or ms t m → ms ≡ g.mutators → n ≡ length m.objects
+    → old ≡ names_below g t → new ≡ old ++ thread_names t n → new ≡ names_below g (t + 1)
+names_step g t n m ms old new there is same count before after =
+    let here : n ≡ count_of g t = count ∙ ap (λ (k : Mutator). length k.objects) (is ∙ get_or_default ms t m no_mutator there ∙ ap (λ xs. get_or xs t no_mutator) same) in
+    after ∙ ap (λ xs. xs ++ thread_names t n) before ∙ ap (λ k. names_below g t ++ thread_names t k) here ∙ sym (names_below_more g t)

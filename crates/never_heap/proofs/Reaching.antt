@@ -1,5 +1,5 @@
 -- Reachable names: the rounds come to an end, and give the least closed set.
-use Rattle.std.proofs.Common.{ℕ, zero, suc, ◌+◌, ◌≡◌, ◌<◌, ◌≤◌, ◌⊎◌, Bool, true, false, ◌&&◌, cond, List, [], ◌∷◌, length, get_or, ap, ◌∙◌, arith, inl, inr}
+use Rattle.std.proofs.Common.{ℕ, zero, suc, ◌+◌, ◌≡◌, ◌<◌, ◌≤◌, ◌⊎◌, Bool, true, false, ◌&&◌, cond, List, [], ◌∷◌, length, get_or, ap, ◌∙◌, arith, inl, inr, subst, sym}
 use Rattle.std.specs.List.{list_any, count_by}
 use Rattle.std.proofs.lemmas.Bool.{cases_eq, cases_lt, cases_Bool, or_cases, or_left, or_right, and_parts, and_from, both_ways}
 use Rattle.std.proofs.lemmas.List.{get_or_past}
@@ -112,18 +112,18 @@ module _ (g : Graph) where
     | inr more ↦ absurd (omega (arith, count_by-le-length (in_round g (length (names g))) (names g)))
   ]
 
-  from_registers : (j : ℕ) (a : Name) → in_round g 0 a ≡ true → in_round g j a ≡ true
+  pub from_registers : (j : ℕ) (a : Name) → in_round g 0 a ≡ true → in_round g j a ≡ true
   from_registers zero a h = h
   from_registers (suc j) a h = round_next j a (from_registers j a h)
 
-  in_register : (t r : ℕ) (a : Name) → register_of g t r ≡ Ref a → in_round g 0 a ≡ true
+  pub in_register : (t r : ℕ) (a : Name) → register_of g t r ≡ Ref a → in_round g 0 a ≡ true
   in_register t r a e = elim (cases_lt t (length g.mutators)) [
     | inl l ↦ list_any_at (λ (m : Mutator). stands_in a m.registers) g.mutators t no_mutator l (stands_at a (mutator_at g t).registers r e)
     | inr l ↦ let past : register_of g t r ≡ Nil = ap (λ (m : Mutator). get_or m.registers r Nil) (get_or_past g.mutators t no_mutator l) in absurd cc
   ]
 
   -- where a field holds a reference, the object has that field
-  field_there : (b a : Name) (i : ℕ) → field_of (object_of g b) i ≡ Ref a → i < length (object_of g b).fields
+  pub field_there : (b a : Name) (i : ℕ) → field_of (object_of g b) i ≡ Ref a → i < length (object_of g b).fields
   field_there b a i e = elim (cases_lt i (length (object_of g b).fields)) [
     | inl l ↦ l
     | inr l ↦ let past : field_of (object_of g b) i ≡ Nil = get_or_past (object_of g b).fields i Nil l in absurd cc
@@ -164,3 +164,11 @@ module _ (g : Graph) where
 
   pub reachable_within : (s : Name → Bool) (a : Name) → IsClosed g s → reachable g a ≡ true → s a ≡ true
   reachable_within s a closed h = reachable_least (λ b. s b ≡ true) closed.registers closed.fields a h
+
+  -- what is in a round can be reached, and what can be reached is in the round of the number of names
+  pub reached_by : (j : ℕ) (a : Name) → in_round g j a ≡ true → reachable g a ≡ true
+  reached_by j a h = round_least (λ b. reachable g b ≡ true) reachable_closed.registers reachable_closed.fields j a h
+
+  pub round_of_all : (j : ℕ) (a : Name) → j ≡ length (names g) → reachable g a ≡ true → in_round g j a ≡ true
+  unfolding reachable
+  round_of_all j a e h = subst (λ k. in_round g k a ≡ true) (sym e) h

@@ -11,3 +11,4 @@ pub mod Cycles
 pub mod Given
 pub mod Licensed
 pub mod RightWork
+pub mod Marks

@@ -10,8 +10,10 @@ ghost use Rattle.never_heap.specs.Histories.{HistoryItem, after, replay, part, L
 
 mod graph;
 mod laws;
+mod marks;
 mod mutator;
 mod object;
+mod reach;
 #[cfg(test)]
 mod tests;
 
