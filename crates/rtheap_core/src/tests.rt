@@ -132,6 +132,81 @@ fn the_heap_is_full_when_the_last_block_is_given(rt: HostRuntime) -> Result<(), 
     Ok(())
 }
 
+/// Commands of every kind, and what they answer.
+const EACH_KIND: (&str, &str) = (
+    "new 1 2
+set 2 5
+put 1 1 2
+get 3 1 1
+get 3 1 2
+say 3
+get 3 4 0
+get 3 2 0
+len 1
+len 4
+same 1 1
+same 1 2
+put 4 0 2
+say 1
+say 0
+len 0
+",
+    "0 new 0.1 work 0
+0 ok
+0 ok
+0 int 5
+0 range
+0 int 5
+0 null
+0 kind
+0 len 2
+0 null
+0 yes
+0 no
+0 null
+0 ref 0.1
+0 ref 1.0
+0 len 0
+end cycles 1 work 0
+",
+);
+
+#[test]
+fn every_kind_of_command_is_answered(rt: HostRuntime) -> Result<(), Fail> {
+    let (commands, written) = EACH_KIND;
+    let text = job(rt.alloc(), commands)?;
+    answers(&rt, "run", text.as_str(), 0, written)
+}
+
+#[test]
+fn objects_of_several_blocks_and_large_numbers_are_stored(rt: HostRuntime) -> Result<(), Fail> {
+    let alloc = rt.alloc();
+    let record = job(alloc, "new 1 6\nset 2 4611686018427387903\nput 1 5 2\nget 3 1 5\nget 3 1 6\n")?;
+    let written = "0 new 0.1 work 0\n0 ok\n0 ok\n0 int 4611686018427387903\n0 range\nend cycles 1 work 0\n";
+    answers(&rt, "run", record.as_str(), 0, written)?;
+    let shared = "rtheap 1 threads 1 blocks 64 live 40 object 2 shared 17
+thread 0
+len 0
+set 1 9
+put 0 16 1
+get 2 0 16
+get 2 0 17
+end
+";
+    let written = "0 len 17\n0 ok\n0 ok\n0 int 9\n0 range\nend cycles 1 work 0\n";
+    answers(&rt, "run", shared, 0, written)
+}
+
+#[test]
+fn what_one_register_stores_is_seen_through_another(rt: HostRuntime) -> Result<(), Fail> {
+    let text = job(
+        rt.alloc(),
+        "new 1 2\nmov 2 1\nset 3 7\nput 2 1 3\nget 4 1 1\nput 1 0 2\nget 5 2 0\nsame 5 1\nput 0 0 1\n",
+    )?;
+    let written = "0 new 0.1 work 0\n0 ok\n0 ok\n0 ok\n0 int 7\n0 ok\n0 ref 0.1\n0 yes\n0 range\nend cycles 1 work 0\n";
+    answers(&rt, "run", text.as_str(), 0, written)
+}
+
 /// Makes a call whose input comes in pieces of 7 bytes, and compares its status and what it wrote.
 fn answers(
     rt: &HostRuntime,
