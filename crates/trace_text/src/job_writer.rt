@@ -27,6 +27,7 @@ use never_heap::Command;
 /// end
 /// ```
 ///
+/// The job has to be in its ranges, with one trace per thread and at most 131,072 commands in each.
 /// Each line is one `put`. At the first one that fails it stops, and a front of the text is written.
 /// Where the text has at most 16,777,216 bytes, reading it gives the job back.
 pub fn write_job<K: Sink>(job: &Job, sink: &mut K) -> Result<(), Failed>
@@ -45,7 +46,8 @@ pub fn write_job<K: Sink>(job: &Job, sink: &mut K) -> Result<(), Failed>
 /// A law: the text of a job is that job, and an input where it is not too long.
 pub fn job_text_is_job()
     ensures is_job { (job : jobs.Job) → IsJobInBounds job → IsJob (job_text job) job }
-    ensures is_input { (job : jobs.Job) → IsJobInBounds job → length (job_text job) ≤ input_limit → IsInput (job_text job) job }
+    ensures is_input { (job : jobs.Job) → IsJobInBounds job → length (job_text job) ≤ input_limit
+        → IsInput (job_text job) job }
 {}
 
 /// Writes the traces from that of thread 0 on.
@@ -138,7 +140,8 @@ fn fill_command(line: &mut LineBuffer, command: &Command)
 fn prepend_three(line: &mut LineBuffer, word: &[u8], first: u8, second: u64, third: u64)
     requires word { length word.now ≤ 6 }
     requires room { length line.old ≤ 1 }
-    ensures { line.new ≡ word.now ++ space ∷ decimal first ++ space ∷ decimal second ++ space ∷ decimal third ++ line.old }
+    ensures { line.new ≡ word.now ++ space ∷ decimal first ++ space ∷ decimal second
+        ++ space ∷ decimal third ++ line.old }
 {
     prepend_operand(line, third);
     prepend_two(line, word, first, second);
