@@ -5,7 +5,7 @@ use Rattle.rate_plan.specs.declared.PlanFault.{PlanFault}
 use Rattle.rate_plan.specs.declared.PlanFault.TheVariants as plans
 use Rattle.rate_plan.specs.Rates.{IsAdmitted, IsRefusal}
 use Rattle.trace_text.specs.declared.jobs.Job.{Job}
-use Rattle.trace_text.specs.declared.reading.Why.{Why}
+use Rattle.trace_text.specs.declared.trace_faults.Why.{Why}
 use Rattle.trace_text.specs.Jobs.{IsJob, IsInput, input_limit}
 use Rattle.trace_text.specs.Refusals.{IsFirstBadLine}
 use Rattle.rtheap_core.specs.declared.refusal.Refusal.{Refusal}
@@ -28,7 +28,7 @@ pub data Verdict : List (List ℕ) → List ℕ → ℕ → Type 0 where
 refused_as : (words : List (List ℕ)) (bytes : List ℕ) (now : Option (List ℕ)) (before after due : ℕ) (r : Refusal) → Ask words → due ≡ status_of r → IsCause words (Some bytes) now before after r → Verdict words bytes due
 refused_as words bytes now before after due Usage asked e c = absurd (c.0 asked)
 refused_as words bytes now before after due (BadLine line why) asked e c = Bad line why c.1.0 c.1.1 e
-refused_as words bytes now before after due TooLong asked e c = Long c.1 e
+refused_as words bytes now before after due TooLong asked e c = Long c.1.0 e
 refused_as words bytes now before after due Later asked e c = PutOff c.1.0 c.0 c.1.1.input c.1.2.0 c.1.2.1 e
 refused_as words bytes now before after due LiveTooSmall asked e c = Rateless c.1.0 plans.LiveTooSmall c.1.1.input c.1.2 e
 refused_as words bytes now before after due NoRate asked e c = Rateless c.1.0 plans.NoRate c.1.1.input c.1.2 e

@@ -4,7 +4,7 @@ ghost use Rattle.std.specs.Prelude.{◌≡◌, ◌≢◌, ◌<◌, ◌≤◌, �
 ghost use Rattle.rate_plan.specs.declared.PlanFault.{PlanFault};
 ghost use Rattle.rate_plan.specs.Rates.{IsAdmitted, IsRate, IsRefusal};
 ghost use Rattle.trace_text.specs.declared.jobs.Job.{Job};
-ghost use Rattle.trace_text.specs.declared.reading.Why as whys;
+ghost use Rattle.trace_text.specs.declared.trace_faults.Why as whys;
 ghost use Rattle.trace_text.specs.Faults.{Rose};
 ghost use Rattle.trace_text.specs.Jobs.{IsInput, input_limit};
 ghost use Rattle.trace_text.specs.Refusals.{IsFirstBadLine};
