@@ -4,11 +4,15 @@ pub mod WrittenLines
 pub mod Splitting
 pub mod Numerals
 pub mod Counting
-pub mod Commands
 pub mod Fronts
 pub mod NumberLaws
+pub mod Numbers
+pub mod WordLaws
 pub mod LineLaws
+pub mod LabelLaws
 pub mod HeaderLaws
+pub mod QuietLaws
 pub mod WholeLaws
-pub mod Ends
+pub mod EachInput
 pub mod OneJob
+pub mod Ends
