@@ -16,6 +16,7 @@ mod trace_faults;
 
 pub use job_writer::{job_text_is_job, write_job};
 pub use jobs::{Job, Traces};
+pub use line_buffer::LineBuffer;
 pub use mem_sink::MemSink;
 pub use mem_source::MemSource;
 pub use printing::{lines_are_short, write_run};
