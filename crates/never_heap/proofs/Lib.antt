@@ -11,3 +11,4 @@ pub mod Cycling
 pub mod Spreading
 pub mod Rounds
 pub mod Sums
+pub mod Staying
