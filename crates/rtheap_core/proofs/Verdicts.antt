@@ -1,5 +1,5 @@
 -- What a call answers to an input that is known.
-use Rattle.std.proofs.Common.{ℕ, ◌≡◌, ◌≢◌, ◌≤◌, ◌<◌, ◌⊎◌, inl, inr, List, [], ◌∷◌, length, Option, false, true, Some, None, IfSome, IsSome, refl, sym, ap, ◌∙◌, subst, arith}
+use Rattle.std.proofs.Common.{ℕ, ◌≡◌, ◌≢◌, ◌≤◌, ◌<◌, ◌⊎◌, inl, inr, List, [], ◌∷◌, length, Option, false, true, Some, None, IfSome, IsSome, refl, sym, ◌∙◌, subst, arith}
 use Rattle.std.proofs.lemmas.Bool.{cases_eq}
 use Rattle.rate_plan.specs.declared.PlanFault.{PlanFault}
 use Rattle.rate_plan.specs.declared.PlanFault.TheVariants as plans
@@ -10,7 +10,7 @@ use Rattle.trace_text.specs.Jobs.{IsJob, IsInput, input_limit}
 use Rattle.trace_text.specs.Refusals.{IsFirstBadLine}
 use Rattle.rtheap_core.specs.declared.refusal.Refusal.{Refusal}
 use Rattle.rtheap_core.specs.declared.refusal.Refusal.TheVariants.{Usage, BadLine, TooLong, LiveTooSmall, NoRate, Later, ReadFault, OutOfMemory}
-use Rattle.rtheap_core.specs.Exits.{AskForRun, AskForPlan, Ask, Headline, Planned, IsReadAs, IsDueOrFails, run_of, job_of}
+use Rattle.rtheap_core.specs.Exits.{AskForRun, AskForPlan, Ask, Headline, Planned, IsDueOrFails, run_of, job_of}
 use Rattle.rtheap_core.specs.declared.exit.RunEnd.{RunEnd}
 use Rattle.rtheap_core.specs.Refusals.{IsCause, Refused, IsJobWith, status_of}
 use Rattle.rtheap_core.specs.Runnable.{CanRun}

@@ -6,7 +6,6 @@ use Rattle.rate_plan.specs.Rates.{IsAdmitted, IsRefusal}
 use Rattle.trace_text.specs.declared.jobs.Job.{Job}
 use Rattle.trace_text.specs.declared.trace_faults.TraceFault.{TraceFault}
 use Rattle.trace_text.specs.declared.trace_faults.TraceFault.TheVariants as faults
-use Rattle.trace_text.specs.declared.trace_faults.Why.{Why}
 use Rattle.trace_text.specs.Faults.{Rose}
 use Rattle.trace_text.specs.Jobs.{input_limit}
 use Rattle.trace_text.specs.Lines.{line_feed}
