@@ -25,7 +25,8 @@ use Rattle.rtheap_core.specs.declared.plain.PlainHeap.{PlainHeap}
 use Rattle.rtheap_core.specs.Cells.{heap_in}
 use Rattle.rtheap_core.specs.Objects.{length_of}
 use Rattle.rtheap_core.specs.Readings.{value_in, object_in, spot_in}
-use Rattle.rtheap_core.specs.Plain.{IsPlain, ShowsPlain, Answers, HasObject, HasField, Refuses, RefusesField}
+use Rattle.rtheap_core.specs.Plain.{IsPlain, ShowsPlain, Answers}
+use Rattle.rtheap_core.proofs.Found.{HasObject, HasField, Refuses, RefusesField}
 use Rattle.rtheap_core.proofs.Reading.{value_shown, looked_object, looked_field}
 
 few_blocks : (h : PlainHeap) → IsPlain h → h.last ≤ 65535

@@ -1,5 +1,6 @@
 pub mod CellWrites
 pub mod NewObjects
+pub mod Found
 pub mod Reading
 pub mod Commands
 pub mod Making

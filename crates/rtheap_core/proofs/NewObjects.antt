@@ -1,6 +1,6 @@
 -- The blocks of a new object are written one after another, and the words of a block one after another.
-use Rattle.std.proofs.Common.{ℕ, ◌+◌, ◌≡◌, ◌<◌, false, cond, ◌&&◌, eqb, Option, Some, None, IfSome, refl, sym, ap, ◌∙◌, subst, arith, eq-eqb, ne_eqb, inl, inr}
-use Rattle.std.proofs.lemmas.Bool.{cases_eq}
+use Rattle.std.proofs.Common.{ℕ, zero, suc, ◌-◌, ◌*◌, ◌≤◌, ltb, ◌+◌, ◌≡◌, ◌<◌, false, cond, ◌&&◌, eqb, Option, Some, None, IfSome, refl, sym, ap, ◌∙◌, subst, arith, eq-eqb, ne_eqb, inl, inr}
+use Rattle.std.proofs.lemmas.Bool.{cases_eq, cases_lt, cases_Bool, lt-ltb, le-ltb}
 use Rattle.block_store.specs.declared.Name.{Name}
 use Rattle.block_store.specs.declared.Shape.{Shape}
 use Rattle.block_store.specs.declared.Shape.TheVariants as shapes
@@ -8,7 +8,8 @@ use Rattle.block_store.specs.Heaps.{Heap, put_at}
 use Rattle.block_store.specs.Owners.{owner_word}
 use Rattle.block_store.specs.Shapes.{shape_code}
 use Rattle.block_store.specs.Places.{OwnerOf, ShapeOf, PayloadOf}
-use Rattle.object_lists.specs.Parts.{Part, Link, Field, Blank, link_in}
+use Rattle.object_lists.specs.Parts.{Part, Link, Field, Blank, link_in, link_below, field_below}
+use Rattle.array_trees.specs.Levels.{level_start, level_size, part_from, tree_depth}
 use Rattle.never_heap.specs.Graphs.{ObjectKind}
 use Rattle.shown_graph.specs.Layouts.{layout_part}
 use Rattle.shown_graph.specs.Made.{IsWritten}
@@ -25,6 +26,43 @@ part_linked Blank p e = cc
 pub links_inside : (s : Shape) (o j : ℕ) (r : Option ℕ) → r ≡ link_in (layout_part (kind_of s) (length_of s) o j) → IfSome r (λ p. p < blocks_in s)
 links_inside s o j None e = tt
 links_inside s o j (Some p) e = ((layout_laws (kind_of s) (length_of s)).onward o j p (part_linked _ p (sym e))).2
+
+-- where a list of children is over, it stays so
+below_none : (a b n : ℕ) → a ≤ b → link_in (link_below a n) ≡ None → link_in (link_below b n) ≡ None
+below_none a b n more e = elim (cases_lt a n) [
+  | inl low ↦ let is : link_in (cond (ltb a n) (Link a) Blank) ≡ Some a = ap (λ t. link_in (cond t (Link a) Blank)) (lt-ltb a n low) in absurd (none≢some a (sym e ∙ is))
+  | inr above ↦ ap (λ t. link_in (cond t (Link b) Blank)) (le-ltb b n (omega (arith, above)))
+]
+  where
+    none≢some : (k : ℕ) → None ≡ Some k → ⊥
+    none≢some k is = cc
+
+field_none : (a n : ℕ) → link_in (field_below a n) ≡ None
+field_none a n = elim (cases_Bool (ltb a n)) [
+  | inl is ↦ ap (λ t. link_in (cond t (Field a) Blank)) is
+  | inr is ↦ ap (λ t. link_in (cond t (Field a) Blank)) is
+]
+
+part_none : (e : ℕ) (start size : ℕ → ℕ) (h o j : ℕ) → link_in (part_from 4 e start size h o 0) ≡ None → link_in (part_from 4 e start size h o j) ≡ None
+part_none e start size zero o j is = field_none ((o - start 0) * 4 + j) e
+part_none e start size (suc h) o j is = elim (cases_Bool (ltb o (start h))) [
+  | inl inner ↦
+      let first = ap (λ t. link_in (cond t (link_below (start h + ((o - start (suc h)) * 4 + 0)) (start h + size h)) (part_from 4 e start size h o 0))) inner in
+      ap (λ t. link_in (cond t (link_below (start h + ((o - start (suc h)) * 4 + j)) (start h + size h)) (part_from 4 e start size h o j))) inner
+      ∙ below_none (start h + ((o - start (suc h)) * 4 + 0)) (start h + ((o - start (suc h)) * 4 + j)) (start h + size h) (omega arith) (sym first ∙ is)
+  | inr out ↦
+      let first = ap (λ t. link_in (cond t (link_below (start h + ((o - start (suc h)) * 4 + 0)) (start h + size h)) (part_from 4 e start size h o 0))) out in
+      ap (λ t. link_in (cond t (link_below (start h + ((o - start (suc h)) * 4 + j)) (start h + size h)) (part_from 4 e start size h o j))) out
+      ∙ part_none e start size h o j (sym first ∙ is)
+]
+
+-- a block that does not link by its first payload links by none
+pub leaf_links : (s : Shape) (o j : ℕ) → j < 4 → link_in (layout_part (kind_of s) (length_of s) o 0) ≡ None → link_in (layout_part (kind_of s) (length_of s) o j) ≡ None
+leaf_links (shapes.List f) o zero l e = e
+leaf_links (shapes.List f) o (suc j) l e = ap (λ t. link_in (cond t (field_below (o * 3 + j) f) Blank)) (lt-ltb j 3 (omega arith)) ∙ field_none (o * 3 + j) f
+leaf_links (shapes.Tree n) o j l e =
+    ap (λ t. link_in (cond t (part_from 4 n (level_start 4 n) (level_size 4 n) (tree_depth 4 n) o j) Blank)) (lt-ltb j 4 l)
+    ∙ part_none n (level_start 4 n) (level_size 4 n) (tree_depth 4 n) o j e
 
 pub agrees_still : (u v w : BlockWords) (x : ℕ) → Agrees u v x → Agrees v w x → Agrees u w x
 agrees_still u v w x a b = record { owners = b.owners ∙ a.owners; shapes = b.shapes ∙ a.shapes; payloads = λ j l. b.payloads j l ∙ a.payloads j l }

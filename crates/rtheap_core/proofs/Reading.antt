@@ -27,7 +27,7 @@ use Rattle.shown_graph.proofs.ObjectLayouts.{object_layout}
 use Rattle.shown_graph.proofs.Reading.{owner_read, value_read, length_read, link_read}
 use Rattle.rtheap_core.specs.Objects.{length_of}
 use Rattle.rtheap_core.specs.Readings.{reference_of, reference_at, value_of_payload, value_in, with_shape, object_of_payload, object_in, block_or, walk, spot_of, spot_in}
-use Rattle.rtheap_core.specs.Plain.{HasObject, HasField, Refuses, RefusesField}
+use Rattle.rtheap_core.proofs.Found.{HasObject, HasField, Refuses, RefusesField}
 
 length_of_kind : (k : ObjectKind) (n : ℕ) → length_of (kind_shape k n) ≡ n
 length_of_kind Record n = refl

@@ -3,9 +3,8 @@
 
 mod objects;
 
-ghost use Rattle.std.specs.Prelude.{◌≡◌, ◌<◌, ◌≤◌, ◌+◌, ◌/◌, ◌%◌, ◌^◌, ℕ, true, false, length, IfOk, IfErr, MatchResult};
+ghost use Rattle.std.specs.Prelude.{◌≡◌, ◌<◌, ◌≤◌, ◌+◌, ◌/◌, ◌%◌, ◌^◌, ℕ, false, IfOk};
 ghost use Rattle.block_store.specs.declared.Name.{Name};
-ghost use Rattle.block_store.specs.declared.Value.{Value};
 ghost use Rattle.block_store.specs.Configs.{IsInBounds};
 ghost use Rattle.block_store.specs.Heaps.{put_at};
 ghost use Rattle.block_store.specs.Payloads.{payload_of};
@@ -24,7 +23,7 @@ ghost use Rattle.rtheap_core.specs.Readings.{reference_at, value_in, object_at, 
 ghost use Rattle.rtheap_core.specs.Plain.{IsPlain, ShowsPlain, Answers, making};
 
 use crate::store::Store;
-use array_trees::{depth_of, path_of};
+use array_trees::depth_of;
 use block_store::{
     Config, Name, OutOfMemory, PAYLOADS, Payload, REGISTER_BLOCKS, Shape, Value, payload_word,
     read_owner, read_payload, read_shape,
@@ -43,6 +42,14 @@ pub struct PlainHeap {
     store: Store,
     last: u32,
     made: u32,
+}
+
+// The payload that leads to element `i` of an array from its block at this height above the leaves.
+fn turn(i: u32, height: u32) -> u32
+    requires { height ≤ 7 }
+    ensures { result ≡ i / 4 ^ height % 4 }
+{
+    (i >> (2 * height)) % PAYLOADS
 }
 
 impl PlainHeap {
@@ -202,15 +209,14 @@ impl PlainHeap {
     fn walk_tree(&self, first: u32, elements: u32, i: u32, depth: u32) -> u32
         requires plain { IsPlain self.now }
         requires block { IsBlock self.now.store.config first }
-        requires few { elements ≤ 65535 }
-        requires element { i < elements }
         requires depth { depth ≡ array_depth elements }
+        requires few { depth ≤ 7 }
         ensures block { IsBlock self.now.store.config result }
         ensures value { result ≡ walk (heap_in self.now.store) self.now.last first (array_turn elements i) depth }
     {
         let mut block = first;
         for level in 0..depth {
-            block = self.follow(block, path_of(elements, i, level));
+            block = self.follow(block, turn(i, depth - level));
         }
         block
     }
@@ -232,7 +238,7 @@ impl PlainHeap {
             Shape::Tree(elements) => {
                 let depth = depth_of(elements);
                 let leaf = self.walk_tree(first, elements, i, depth);
-                (leaf, path_of(elements, i, depth))
+                (leaf, i % PAYLOADS)
             }
         }
     }

@@ -1,7 +1,6 @@
 //! Writes the blocks of new objects.
 
-ghost use Rattle.std.specs.Prelude.{◌≡◌, ◌+◌, ◌<◌, ◌≤◌, IfSome};
-ghost use Rattle.block_store.specs.Places.{IsBlock};
+ghost use Rattle.std.specs.Prelude.{◌≡◌, ◌+◌, ◌<◌, ◌≤◌, true, None, IfSome};
 ghost use Rattle.block_store.specs.Shapes.{IsShape};
 ghost use Rattle.object_lists.specs.Parts.{link_in};
 ghost use Rattle.shown_graph.specs.Layouts.{layout_part};
@@ -64,7 +63,7 @@ fn write_block(store: &mut Store, name: Name, shape: Shape, first: u32, ordinal:
     write_links(store, shape, first, ordinal);
 }
 
-// Writes its payload words.
+// Writes its payload words. A block that does not link by its first payload links by none.
 fn write_links(store: &mut Store, shape: Shape, first: u32, ordinal: u32)
     requires shape { IsShape shape }
     requires ordinal { ordinal < blocks_in shape }
@@ -74,21 +73,27 @@ fn write_links(store: &mut Store, shape: Shape, first: u32, ordinal: u32)
     ensures config { store.new.config ≡ store.old.config }
     ensures written { AreLinksWritten (heap_in store.old) (heap_in store.new) shape first ordinal PAYLOADS }
 {
+    let leaf = link(shape, ordinal, 0).is_none();
     for payload in 0..PAYLOADS {
-        let word = link_word(shape, first, ordinal, payload);
+        let word = link_word(shape, first, ordinal, payload, leaf);
         store.set_payload(first + ordinal, payload, word);
     }
 }
 
-// The word of a payload: a reference to the block to which it links, or nil.
-fn link_word(shape: Shape, first: u32, ordinal: u32, payload: u32) -> u64
+// The word of a payload: a reference to the block to which it links, or nil. The first payload of a
+// leaf links to none.
+fn link_word(shape: Shape, first: u32, ordinal: u32, payload: u32, leaf: bool) -> u64
     requires shape { IsShape shape }
     requires ordinal { ordinal < blocks_in shape }
     requires payload { payload < PAYLOADS }
     requires some { 1 ≤ first }
     requires few { first + blocks_in shape ≤ 65536 }
+    requires leaf { leaf ≡ true → link_in (layout_part (kind_of shape) (length_of shape) ordinal 0) ≡ None }
     ensures { result ≡ new_word shape first ordinal payload }
 {
+    if leaf {
+        return payload_word(Payload::Nil);
+    }
     match link(shape, ordinal, payload) {
         Some(linked) => payload_word(Payload::Block(first + linked)),
         None => payload_word(Payload::Nil),
