@@ -12,3 +12,4 @@ pub mod Spreading
 pub mod Rounds
 pub mod Sums
 pub mod Staying
+pub mod ReachSteps

@@ -1,7 +1,7 @@
 -- What stays over a step and over a replay: names, with the kind and length of their objects, and what no command stored in.
-use Rattle.std.proofs.Common.{ℕ, zero, suc, ◌+◌, ◌-◌, ◌≡◌, ◌<◌, ◌≤◌, ◌⊎◌, Bool, true, false, ◌&&◌, ◌||◌, cond, eqb, leb, ltb, List, [], ◌∷◌, length, set, get_or, ap, sym, ◌∙◌, refl, subst, arith, inl, inr, eq-eqb, ne_eqb}
+use Rattle.std.proofs.Common.{ℕ, ◌+◌, ◌≡◌, ◌<◌, ◌≤◌, Bool, true, false, cond, eqb, leb, ltb, List, [], ◌∷◌, length, set, get_or, ap, sym, ◌∙◌, refl, subst, arith, inl, inr, eq-eqb, ne_eqb}
 use Rattle.std.proofs.lemmas.Bool.{cases_eq, cases_lt, cases_Bool, both_ways, or_right, lt-leb, eqb-false}
-use Rattle.std.proofs.lemmas.List.{length-set, set_past, get_or_past, get_or-set_same, get_or-set_other}
+use Rattle.std.proofs.lemmas.List.{length-set, set_past, get_or_past, get_or-set_other}
 use Rattle.block_store.specs.declared.Name.{Name}
 use Rattle.block_store.specs.declared.Value.{Value}
 use Rattle.block_store.specs.declared.Value.TheVariants.{Nil, Int, Ref}
@@ -9,7 +9,7 @@ use Rattle.never_heap.specs.declared.Command.{Command}
 use Rattle.never_heap.specs.declared.Command.TheVariants as commands
 use Rattle.never_heap.specs.declared.Reply.{Reply}
 use Rattle.never_heap.specs.declared.Reply.TheVariants.{Range}
-use Rattle.never_heap.specs.Graphs.{Graph, Mutator, Object, ObjectKind, no_mutator, mutator_at, count_of, register_of, object_of, has_name, same_name, with_mutator, with_register, with_field, with_object, set_field, next_name}
+use Rattle.never_heap.specs.Graphs.{SameShape, Graph, Mutator, Object, no_mutator, mutator_at, count_of, register_of, object_of, has_name, same_name, with_mutator, with_register, with_field, with_object, set_field, next_name}
 use Rattle.never_heap.specs.Histories.{HistoryItem, Started, Did, is_full, after, replay_from}
 use Rattle.never_heap.specs.Steps.{step, made, at_field, at_object, makes_object, stores_in, stores_in_field}
 use Rattle.never_heap.proofs.GraphMoves.{mutator_with, object_with_register, has_name_with_register}
@@ -37,16 +37,11 @@ next_is_new g t =
     ap (λ b. cond b (eqb t (length g.mutators)) (leb (count_of g t + 1) (count_of g t))) (ne_eqb (count_of g t + 1) 0 (λ e. absurd (omega arith)))
     ∙ lt-leb (count_of g t + 1) (count_of g t) (omega arith)
 
--- an object has the kind and the length of another
-pub record SameShape (o p : Object) : Type 0 where
-  pub kind : p.kind ≡ o.kind
-  pub length : length p.fields ≡ length o.fields
-
 same_shape : (o p : Object) → p ≡ o → SameShape o p
-same_shape o p e = record { kind = ap (λ (x : Object). x.kind) e; length = ap (λ (x : Object). length x.fields) e }
+same_shape o p e = record { kind = ap (λ (x : Object). x.kind) e; size = ap (λ (x : Object). length x.fields) e }
 
 shape_set : (o p : Object) (i : ℕ) (v : Value) → p ≡ set_field o i v → SameShape o p
-shape_set o p i v e = record { kind = ap (λ (x : Object). x.kind) e; length = ap (λ (x : Object). length x.fields) e ∙ length-set o.fields i v }
+shape_set o p i v e = record { kind = ap (λ (x : Object). x.kind) e; size = ap (λ (x : Object). length x.fields) e ∙ length-set o.fields i v }
 
 module _ (g : Graph) (t : ℕ) (new : Bool) (there : t < length g.mutators) where
   names_here : (h : Graph) → Change g t new h → (a : Name) → has_name g a ≡ true → has_name h a ≡ true
@@ -113,11 +108,11 @@ record Kept (o : Object) (a : Name) (g : Graph) : Type 0 where
 
 pub replay_shape : (g : Graph) (h : List HistoryItem) (a : Name) → has_name g a ≡ true → SameShape (object_of g a) (object_of (replay_from g h) a)
 replay_shape g h a has = (replay_keeps (Kept (object_of g a) a) (λ k t command p.
-  let s = step_shape k t command a p.has in
-  record {
-    has = step_names k t command a p.has;
-    shape = record { kind = s.kind ∙ p.shape.kind; length = s.length ∙ p.shape.length };
-  }) h g (record { has = has; shape = same_shape (object_of g a) (object_of g a) refl })).shape
+    let s = step_shape k t command a p.has in
+    record {
+      has = step_names k t command a p.has;
+      shape = record { kind = s.kind ∙ p.shape.kind; size = s.size ∙ p.shape.size };
+    }) h g (record { has = has; shape = same_shape (object_of g a) (object_of g a) refl })).shape
 
 -- registers of other threads, and registers in which the command does not store
 other_register : (g : Graph) (t d u q : ℕ) (v : Value) → (t ≡ u → eqb d q ≡ false) → register_of (with_register g t d v) u q ≡ register_of g u q

@@ -1,17 +1,21 @@
 //! Laws of the definitions, for the proofs of the crates above.
 
-ghost use Rattle.std.specs.Prelude.{◌≡◌, ◌<◌, ◌≤◌, ◌+◌, ℕ, Bool, true, List, [], ◌∷◌, ◌++◌};
+ghost use Rattle.std.specs.Prelude.{◌≡◌, ◌<◌, ◌≤◌, ◌+◌, ◌⊎◌, ℕ, Bool, true, false, length, List, [], ◌∷◌, ◌++◌};
 ghost use Rattle.block_store.specs.declared.Config.{Config};
 ghost use Rattle.block_store.specs.declared.Name.{Name};
+ghost use Rattle.block_store.specs.declared.Value.TheVariants.{Ref};
+ghost use Rattle.never_heap.specs.declared.Command.{Command};
+ghost use Rattle.never_heap.specs.declared.Command.TheVariants.{Put};
 ghost use Rattle.never_heap.specs.declared.Entry.{Entry};
 ghost use Rattle.never_heap.specs.Cycles.{graph_at};
 ghost use Rattle.never_heap.specs.Given.{given};
-ghost use Rattle.never_heap.specs.Graphs.{Graph};
-ghost use Rattle.never_heap.specs.Histories.{HistoryItem, Started, Did, replay, starts_in};
+ghost use Rattle.never_heap.specs.Graphs.{Graph, SameShape, register_of, object_of, has_name, next_name};
+ghost use Rattle.never_heap.specs.Histories.{HistoryItem, Started, Did, replay, replay_from, starts_in};
 ghost use Rattle.never_heap.specs.Licensed.{IsLicensedItem, Licensed};
 ghost use Rattle.never_heap.specs.Reach.{reachable, IsClosed};
 ghost use Rattle.never_heap.specs.RightWork.{IsRightWork, RightWork};
 ghost use Rattle.never_heap.specs.Runs.{taken_by};
+ghost use Rattle.never_heap.specs.Steps.{step, makes_object, stores_in, stores_in_field};
 
 /// Fulls stay licensed and works stay right, where those of one more item at the end are.
 pub fn runs_grow()
@@ -40,4 +44,29 @@ pub fn blocks_are_given()
 pub fn reachable_is_least()
     ensures closed { (g : Graph) → IsClosed g (reachable g) }
     ensures least { (g : Graph) (s : Name → Bool) (a : Name) → IsClosed g s → reachable g a ≡ true → s a ≡ true }
+{}
+
+/// A step of thread `t` leaves the registers in which it does not store, all objects where it stores
+/// in no field, and else all but the one to which the register of the put refers. The threads stay.
+pub fn steps_leave()
+    ensures registers { (g : Graph) (t : ℕ) (command : Command) (u q : ℕ) → (t ≡ u → stores_in command q ≡ false) → register_of (step g t command).0 u q ≡ register_of g u q }
+    ensures objects { (g : Graph) (t : ℕ) (command : Command) (a : Name) → has_name g a ≡ true → stores_in_field command ≡ false → object_of (step g t command).0 a ≡ object_of g a }
+    ensures others { (g : Graph) (t s i v : ℕ) (a : Name) → ¬ (register_of g t s ≡ Ref a) → object_of (step g t (Put s i v)).0 a ≡ object_of g a }
+    ensures threads { (g : Graph) (t : ℕ) (command : Command) → length (step g t command).0.mutators ≡ length g.mutators }
+{}
+
+/// A name stays over each step and each history, with the kind and the length of its object.
+pub fn names_stay()
+    ensures step { (g : Graph) (t : ℕ) (command : Command) (a : Name) → has_name g a ≡ true → has_name (step g t command).0 a ≡ true }
+    ensures step_shape { (g : Graph) (t : ℕ) (command : Command) (a : Name) → has_name g a ≡ true → SameShape (object_of g a) (object_of (step g t command).0 a) }
+    ensures replay { (g : Graph) (h : List HistoryItem) (a : Name) → has_name g a ≡ true → has_name (replay_from g h) a ≡ true }
+    ensures replay_shape { (g : Graph) (h : List HistoryItem) (a : Name) → has_name g a ≡ true → SameShape (object_of g a) (object_of (replay_from g h) a) }
+{}
+
+/// What can be reached after a step could be reached before, or is the object that the step made.
+/// After each history every reference is to an object, and so is what can be reached.
+pub fn reach_grows_by_new_objects()
+    ensures step { (g : Graph) (t : ℕ) (command : Command) (a : Name) → reachable (step g t command).0 a ≡ true → (reachable g a ≡ true) ⊎ ((makes_object command ≡ true) × (a ≡ next_name g t)) }
+    ensures references { (c : Config) (h : List HistoryItem) → IsClosed (replay c h) (has_name (replay c h)) }
+    ensures objects { (c : Config) (h : List HistoryItem) (a : Name) → reachable (replay c h) a ≡ true → has_name (replay c h) a ≡ true }
 {}
