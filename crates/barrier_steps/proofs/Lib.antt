@@ -3,3 +3,4 @@ pub mod Walking
 pub mod ReadWords
 pub mod FieldRows
 pub mod Decisions
+pub mod Promising

@@ -2,3 +2,4 @@ pub mod Walks
 pub mod Rows
 pub mod Fits
 pub mod Deciding
+pub mod Replies

@@ -1,11 +1,14 @@
 //! Laws of the rows, for the proofs above: each is the contract of a function that does nothing.
 
-ghost use Rattle.std.specs.Prelude.{◌≡◌, ◌<◌, ◌||◌, ℕ, true, false, IsSome};
+ghost use Rattle.std.specs.Prelude.{◌≡◌, ◌<◌, ◌||◌, ℕ, true, false, Some, IsSome};
 ghost use Rattle.block_store.specs.declared.Config.{Config};
+ghost use Rattle.block_store.specs.declared.Name.{Name};
 ghost use Rattle.block_store.specs.declared.Shape.{Shape};
 ghost use Rattle.block_store.specs.Places.{extent, in_range};
 ghost use Rattle.object_lists.specs.Layouts.{IsWay};
 ghost use Rattle.never_heap.specs.declared.Command.{Command};
+ghost use Rattle.never_heap.specs.declared.Reply.{Reply};
+ghost use Rattle.never_heap.specs.Graphs.{Graph};
 ghost use Rattle.never_heap.specs.Bounds.{IsCommandInRange};
 ghost use Rattle.never_heap.specs.Steps.{blocks_of};
 ghost use Rattle.shown_graph.specs.Layouts.{shape_part};
@@ -15,6 +18,7 @@ ghost use Rattle.barrier_steps.specs.Walks.{shape_length, links_to, link_at, fie
 ghost use Rattle.barrier_steps.specs.Rows.{first_row, field_want, field_got, field_reply, field_decided};
 ghost use Rattle.barrier_steps.specs.Fits.{IsThread, FieldFits, FieldReads, StoresHeld};
 ghost use Rattle.barrier_steps.specs.Deciding.{is_deciding};
+ghost use Rattle.barrier_steps.specs.Replies.{Asked, asked, answer, Shown, Promises, NameShown};
 
 /// The links that a thread follows lead to the field, in a record and in an array.
 pub fn ways_lead_to_fields()
@@ -38,4 +42,15 @@ pub fn rows_decide_once()
     ensures after { (row : FieldRow) (w : ℕ) → field_decided (field_got row w) ≡ (field_decided row || is_deciding row w) }
     ensures once { (row : FieldRow) (w : ℕ) → field_decided row ≡ true → is_deciding row w ≡ false }
     ensures reply { (row : FieldRow) → IsSome (field_reply row) → field_decided row ≡ true }
+{}
+
+/// A row names its thread and command until it is decided. At the deciding event the command answers
+/// what its step does on the graph of which the words that were read are, and that reply is given at
+/// the end, whatever becomes of the graph, where the name of the object that it refers to is read.
+pub fn rows_answer_as_steps()
+    ensures first { (t : ℕ) (command : Command) → blocks_of command ≡ 0 → asked (first_row t command) ≡ Some (t, command) }
+    ensures still { (row : FieldRow) (w : ℕ) → field_decided row ≡ false → is_deciding row w ≡ false → asked (field_got row w) ≡ asked row }
+    ensures decided { (head : Name → ℕ) (g : Graph) (row : FieldRow) (w : ℕ) (q : Asked) → asked row ≡ Some q → is_deciding row w ≡ true → Shown head g row w → Promises head (field_got row w) (answer g q) }
+    ensures kept { (head : Name → ℕ) (row : FieldRow) (w : ℕ) (reply : Reply) → Promises head row reply → NameShown head row reply w → Promises head (field_got row w) reply }
+    ensures given { (head : Name → ℕ) (row : FieldRow) (q reply : Reply) → field_reply row ≡ Some q → Promises head row reply → q ≡ reply }
 {}
