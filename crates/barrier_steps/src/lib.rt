@@ -9,6 +9,8 @@ mod rows;
 mod tests;
 mod walks;
 
-pub use laws::{rows_answer_as_steps, rows_decide_once, rows_stay_in_the_heap, ways_lead_to_fields};
+pub use laws::{
+    rows_answer_as_steps, rows_decide_once, rows_stay_in_the_heap, ways_lead_to_fields,
+};
 pub use pass::FieldPass;
 pub use rows::{Access, Errand, FieldRow, Walk};
