@@ -3,3 +3,4 @@ pub mod Rows
 pub mod Fits
 pub mod Deciding
 pub mod Replies
+pub mod Projection

@@ -8,7 +8,7 @@ ghost use Rattle.block_store.specs.Payloads.{payload_of, payload_target};
 ghost use Rattle.block_store.specs.Shapes.{IsShape, shape_of};
 ghost use Rattle.never_heap.specs.Bounds.{IsCommandInRange};
 ghost use Rattle.never_heap.specs.Steps.{blocks_of};
-ghost use Rattle.heap_machine.specs.Operations.{op_at};
+ghost use Rattle.heap_machine.specs.Operations.{op_at, Exchange};
 ghost use Rattle.barrier_steps.specs.Walks;
 ghost use Rattle.barrier_steps.specs.Walks.{shape_length, links_to};
 ghost use Rattle.barrier_steps.specs.Rows;
@@ -224,6 +224,20 @@ fn after_link(thread: u32, walk: Walk, errand: Errand, block: u32) -> FieldRow
     on_way(thread, next, errand)
 }
 
+// The store of `mov`.
+fn store_moved(thread: u32, d: u8, s: u8, word: u64) -> FieldRow
+    ensures { result ≡ FieldRow.StoreMoved thread d s word }
+{
+    FieldRow::StoreMoved { thread, d, s, word }
+}
+
+// The second register of `same`.
+fn load_second(thread: u32, a: u8, b: u8, word: u64) -> FieldRow
+    ensures { result ≡ FieldRow.LoadSecond thread a b word }
+{
+    FieldRow::LoadSecond { thread, a, b, word }
+}
+
 // The store of a field's word, once its value is known.
 fn store_late(thread: u32, d: u8, word: u64, value: Value) -> FieldRow
     ensures { result ≡ FieldRow.StoreLate thread d word value }
@@ -270,10 +284,10 @@ fn after_both(first: u64, second: u64) -> FieldRow
 }
 
 // The row after a row that read this word.
-fn after(row: FieldRow, _places: &Places, word: u64) -> FieldRow
+fn after(row: FieldRow, _places: &Places, read: u64) -> FieldRow
     requires fits { FieldFits _places.now row }
-    requires word { FieldReads _places.now row word }
-    ensures { result ≡ field_got row word }
+    requires word { FieldReads _places.now row read }
+    ensures { result ≡ field_got row read }
 {
     use FieldRow::*;
 
@@ -281,31 +295,27 @@ fn after(row: FieldRow, _places: &Places, word: u64) -> FieldRow
         StoreNumber { .. } | StoreNil { .. } | StoreMoved { .. } | StoreField { .. } => {
             answered(Reply::Stored)
         }
-        LoadMoved { thread, d, s } => StoreMoved { thread, d, s, word },
-        LoadObject { thread, s, access } => after_object(thread, s, access, payload_in(word)),
+        LoadMoved { thread, d, s } => store_moved(thread, d, s, read),
+        LoadObject { thread, s, access } => after_object(thread, s, access, payload_in(read)),
         LoadShape {
             thread,
             s,
             block,
             access,
-        } => { after_shape(thread, s, block, access, shape_in(word)) }
-        LoadValue { thread, walk, v } => on_way(thread, walk, Errand::Put { v, word }),
+        } => after_shape(thread, s, block, access, shape_in(read)),
+        LoadValue { thread, walk, v } => on_way(thread, walk, Errand::Put { v, word: read }),
         LoadLink {
             thread,
             walk,
             errand,
-        } => after_link(thread, walk, errand, target(word)),
-        LoadField { thread, d, .. } => after_field(thread, d, word, payload_in(word)),
-        LoadOwner {
-            thread,
-            d,
-            word: field,
-        } => store_late(thread, d, field, object_in(word)),
+        } => after_link(thread, walk, errand, target(read)),
+        LoadField { thread, d, .. } => after_field(thread, d, read, payload_in(read)),
+        LoadOwner { thread, d, word } => store_late(thread, d, word, object_in(read)),
         StoreLate { value, .. } => answered(Reply::Val(value)),
-        LoadFirst { thread, a, b } => LoadSecond { thread, a, b, word },
-        LoadSecond { word: first, .. } => after_both(first, word),
-        LoadSaid { thread, s } => after_said(thread, s, word, payload_in(word)),
-        LoadSaidOwner { .. } => answered(Reply::Val(object_in(word))),
+        LoadFirst { thread, a, b } => load_second(thread, a, b, read),
+        LoadSecond { word, .. } => after_both(word, read),
+        LoadSaid { thread, s } => after_said(thread, s, read, payload_in(read)),
+        LoadSaidOwner { .. } => answered(Reply::Val(object_in(read))),
         Answered { reply } => answered(reply),
     }
 }
@@ -320,6 +330,15 @@ fn exchange(place: usize, new: u64) -> Op
     ensures { result ≡ Op.Exchange place new }
 {
     Op::Exchange { place, new }
+}
+
+// A store in a register.
+fn store(places: &Places, thread: u32, d: u8, word: u64) -> Op
+    requires thread { IsThread places.now thread }
+    requires register { d < 16 }
+    ensures { result ≡ op_at (extent places.now) (Exchange (register_place thread d) word) }
+{
+    exchange(register(places, thread, d), word)
 }
 
 // The place of the next link on a way.
@@ -347,19 +366,16 @@ fn want(row: FieldRow, places: &Places) -> Op
 
     match row {
         StoreNumber { thread, d, value } => {
-            let number = payload_word(Payload::Int(value));
-            exchange(register(places, thread, d), number)
+            store(places, thread, d, payload_word(Payload::Int(value)))
         }
-        StoreNil { thread, d } => {
-            exchange(register(places, thread, d), payload_word(Payload::Nil))
-        }
+        StoreNil { thread, d } => store(places, thread, d, payload_word(Payload::Nil)),
         LoadMoved { thread, s, .. } => load(register(places, thread, s)),
         StoreMoved {
             thread,
             d,
             word,
             ..
-        } => exchange(register(places, thread, d), word),
+        } => store(places, thread, d, word),
         LoadObject { thread, s, .. } => load(register(places, thread, s)),
         LoadShape { block, .. } => load(places.shape(block)),
         LoadValue { thread, v, .. } => load(register(places, thread, v)),
@@ -371,7 +387,7 @@ fn want(row: FieldRow, places: &Places) -> Op
             d,
             word,
             ..
-        } => exchange(register(places, thread, d), word),
+        } => store(places, thread, d, word),
         StoreField { walk, word, .. } => exchange(field(places, walk), word),
         LoadFirst { thread, a, .. } => load(register(places, thread, a)),
         LoadSecond { thread, b, .. } => load(register(places, thread, b)),
