@@ -4,3 +4,5 @@ pub mod ReadWords
 pub mod FieldRows
 pub mod Decisions
 pub mod Promising
+pub mod Projecting
+pub mod Stepping

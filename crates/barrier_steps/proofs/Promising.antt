@@ -1,6 +1,6 @@
 -- A deciding event answers as the step of the command does on what the events read.
-use Rattle.std.proofs.Common.{◌≡◌, ◌≢◌, ℕ, ◌<◌, ◌≤◌, Bool, true, false, ◌&&◌, not, cond, ◌+◌, Option, None, Some, length, refl, sym, ap, ◌∙◌, subst, inl, inr, eqb, ltb, eq-eqb, eqb-true, arith}
-use Rattle.std.proofs.lemmas.Bool.{cases_Bool, cases_eq, cases_lt, lt-ltb, le-ltb, ne_eqb}
+use Rattle.std.proofs.Common.{◌≡◌, ℕ, ◌<◌, Bool, true, false, not, cond, ◌+◌, Some, length, refl, sym, ap, ◌∙◌, subst, inl, inr, eqb, ltb, eq-eqb, eqb-true}
+use Rattle.std.proofs.lemmas.Bool.{cases_Bool, cases_eq, lt-ltb, ne_eqb}
 use Rattle.block_store.specs.declared.Name.{Name}
 use Rattle.block_store.specs.declared.Payload.{Payload}
 use Rattle.block_store.specs.declared.Payload.TheVariants as payloads
@@ -8,16 +8,15 @@ use Rattle.block_store.specs.declared.Shape.{Shape}
 use Rattle.block_store.specs.declared.Value.{Value}
 use Rattle.block_store.specs.declared.Value.TheVariants as values
 use Rattle.block_store.specs.Payloads.{payload_of, payload_code, target}
-use Rattle.block_store.specs.Shapes.{shape_of}
 use Rattle.block_store.proofs.PayloadWords as payload_words
 use Rattle.never_heap.specs.declared.Command.{Command}
 use Rattle.never_heap.specs.declared.Command.TheVariants as commands
 use Rattle.never_heap.specs.declared.Reply.{Reply}
 use Rattle.never_heap.specs.declared.Reply.TheVariants as replies
-use Rattle.never_heap.specs.Graphs.{Graph, ObjectKind, Record, Array, object_of, field_of, register_of, same_name}
+use Rattle.never_heap.specs.Graphs.{Graph, ObjectKind, Record, Array, object_of, field_of, register_of}
 use Rattle.never_heap.proofs.GraphMoves.{same_from}
 use Rattle.shown_graph.proofs.Names.{same_is}
-use Rattle.never_heap.specs.Steps.{at_object, at_field, same_value, step, blocks_of}
+use Rattle.never_heap.specs.Steps.{at_object, at_field, same_value, blocks_of}
 use Rattle.shown_graph.specs.Layouts.{kind_shape}
 use Rattle.shown_graph.specs.Read.{value_payload}
 use Rattle.barrier_steps.specs.declared.rows.Access.{Access}
@@ -28,12 +27,12 @@ use Rattle.barrier_steps.specs.declared.rows.FieldRow.{FieldRow}
 use Rattle.barrier_steps.specs.declared.rows.FieldRow.TheVariants.{StoreNumber, StoreNil, LoadMoved, StoreMoved, LoadObject, LoadShape, LoadValue, LoadLink, LoadField, LoadOwner, StoreLate, StoreField, LoadFirst, LoadSecond, LoadSaid, LoadSaidOwner, Answered}
 use Rattle.barrier_steps.specs.declared.rows.Walk.{Walk}
 use Rattle.barrier_steps.specs.Walks.{shape_length, links_to}
-use Rattle.barrier_steps.specs.Rows.{payload_or_nil, payload_in, shape_or_empty, shape_in, object_or_nil, object_in, first_row, field_got, field_reply, field_decided, after_object, after_shape, after_field, after_said, at_block, on_way, way_from}
+use Rattle.barrier_steps.specs.Rows.{payload_or_nil, payload_in, shape_or_empty, shape_in, object_or_nil, first_row, field_got, field_reply, field_decided, after_object, after_shape, after_field, after_said, at_block, on_way, way_from}
 use Rattle.barrier_steps.specs.Deciding.{refers, length_decides, is_deciding}
-use Rattle.barrier_steps.specs.Replies.{Asked, access_command, errand_command, asked, answer, IsWordOf, ShapeShown, FieldFound, BothShown, Shown, RefersTo, Promises, OwnerShown, NameShown}
+use Rattle.barrier_steps.specs.Replies.{Asked, access_command, errand_command, asked, answer, IsWordOf, ShapeShown, Shown, Promises, NameShown}
 use Rattle.barrier_steps.proofs.Blocks.{record_has_blocks, array_has_blocks}
 
-is_false : (b : Bool) → not b ≡ true → b ≡ false
+pub is_false : (b : Bool) → not b ≡ true → b ≡ false
 is_false true h = absurd cc
 is_false false h = refl
 
@@ -81,7 +80,7 @@ kind_length Record n = refl
 kind_length Array n = refl
 
 -- the length that a shape word shows
-shown_length : (g : Graph) (t s w : ℕ) (h : ShapeShown g t s w) → shape_length (shape_in w) ≡ length (object_of g h.name).fields
+pub shown_length : (g : Graph) (t s w : ℕ) (h : ShapeShown g t s w) → shape_length (shape_in w) ≡ length (object_of g h.name).fields
 shown_length g t s w h = ap (λ o. shape_length (shape_or_empty o)) h.shape ∙ kind_length (object_of g h.name).kind (length (object_of g h.name).fields)
 
 range_row : (i n : ℕ) (row : FieldRow) → not (ltb i n) ≡ true → cond (ltb i n) row (Answered replies.Range) ≡ Answered replies.Range
@@ -152,7 +151,7 @@ same_words head u v x w hu hv apart = elim (cases_eq x w) [
 ]
 
 -- of one decided answer to another
-from_some : (x y : Asked) → Some x ≡ Some y → x ≡ y
+pub from_some : (x y : Asked) → Some x ≡ Some y → x ≡ y
 from_some x y e = cc
 
 -- a deciding event answers as the step does

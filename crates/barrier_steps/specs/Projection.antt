@@ -2,6 +2,10 @@
 use Rattle.std.specs.Prelude.{ℕ, ◌+◌, ◌≡◌, false, true, if◌then◌else◌, Option, Some, None}
 use Rattle.block_store.specs.declared.Name.{Name}
 use Rattle.block_store.specs.declared.Value.TheVariants as values
+use Rattle.block_store.specs.Heaps.{Heap}
+use Rattle.never_heap.specs.Graphs.{register_of}
+use Rattle.heap_machine.specs.Operations.{place_of}
+use Rattle.shown_graph.specs.Words.{block_words}
 use Rattle.shown_graph.specs.Events as events
 use Rattle.shown_graph.specs.Events.{ObjectLoad, ValueLoad, Loading, unloaded, GraphState, Event, apply}
 use Rattle.barrier_steps.specs.declared.rows.Errand.{Errand}
@@ -10,7 +14,7 @@ use Rattle.barrier_steps.specs.declared.rows.FieldRow.{FieldRow}
 use Rattle.barrier_steps.specs.declared.rows.FieldRow.TheVariants.{StoreNumber, StoreNil, LoadMoved, StoreMoved, LoadObject, LoadShape, LoadValue, LoadLink, LoadField, LoadOwner, StoreLate, StoreField, LoadFirst, LoadSecond, LoadSaid, LoadSaidOwner, Answered}
 use Rattle.barrier_steps.specs.declared.rows.Walk.{Walk}
 use Rattle.barrier_steps.specs.Walks.{shape_length, link_at, field_at, ordinal_at}
-use Rattle.barrier_steps.specs.Rows.{payload_in, shape_in}
+use Rattle.barrier_steps.specs.Rows.{payload_in, shape_in, field_want}
 use Rattle.barrier_steps.specs.Deciding.{refers, length_decides}
 
 -- the thread of a row that is not over
@@ -91,3 +95,15 @@ event_of a (Answered reply) w = None
 abbrev pub after_event : GraphState → Option Event → GraphState
 after_event s None = s
 after_event s (Some e) = apply s e
+
+-- a is the name of the object in which a row loads or stores a field
+abbrev pub IsInHand : GraphState → Name → FieldRow → Type 0
+IsInHand s a (LoadField t walk d) = register_of s.graph t walk.source ≡ values.Ref a
+IsInHand s a (StoreField t walk v word) = register_of s.graph t walk.source ≡ values.Ref a
+IsInHand s a _ = Unit {0}
+
+-- the words and loads of a state are those of a heap and of a row of its thread, which reads w there
+pub record IsAtRow (s : GraphState) (h : Heap) (row : FieldRow) (w : ℕ) : Type 0 where
+  pub words : s.words ≡ block_words h
+  pub loads : s.loads (thread_of row) ≡ loading_of row
+  pub reads : w ≡ h (place_of (field_want row))

@@ -59,6 +59,10 @@ asked (Answered reply) = None
 abbrev pub answer : Graph → Asked → Reply
 answer g q = (step g q.0 q.1).1
 
+-- and the graph that it leaves
+abbrev pub graph_after : Graph → Asked → Graph
+graph_after g q = (step g q.0 q.1).0
+
 -- the word is that of the value, where the first block of a name's object is head of it
 abbrev pub IsWordOf : (Name → ℕ) → Value → ℕ → Type 0
 IsWordOf head v w = payload_of w ≡ Some (value_payload head v)
