@@ -1,0 +1,8 @@
+pub mod Blocks
+pub mod Walking
+pub mod ReadWords
+pub mod FieldRows
+pub mod Decisions
+pub mod Promising
+pub mod Projecting
+pub mod Stepping
