@@ -9,3 +9,4 @@ pub mod HeaderLaws
 pub mod WholeLaws
 pub mod Ends
 pub mod OneJob
+pub mod Appending

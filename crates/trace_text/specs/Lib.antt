@@ -10,3 +10,4 @@ pub mod Headers
 pub mod Wholes
 pub mod Inputs
 pub mod Texts
+pub mod Memories

@@ -93,5 +93,4 @@ pub fn read_trace<S: Source>(alloc: Global, source: &mut S) -> Result<Job, Trace
 /// Bytes are at most one job.
 pub fn jobs_are_one()
     ensures { (bytes : List ℕ) (job other : jobs.Job) → IsJob bytes job → IsJob bytes other → job ≡ other }
-{
-}
+{}

@@ -1,0 +1,291 @@
+//! What is printed of a run.
+
+ghost use Rattle.std.specs.Prelude.{◌≡◌, ◌+◌, ◌≤◌, ◌++◌, length, codes, decimal, OnOk, OnErr};
+ghost use Rattle.std.specs.List.{flat_map};
+ghost use Rattle.trace_text.specs.Faults.{Rose};
+ghost use Rattle.trace_text.specs.Streams.{Appends, AppendsFront};
+ghost use Rattle.trace_text.specs.Texts.{name_text, value_text, reply_text, entry_line, totals_line, run_text};
+
+use crate::line_buffer::LineBuffer;
+use crate::{Failed, Sink};
+use block_store::{Name, Value};
+use never_heap::{Entry, Logs, Reply};
+
+/// Writes a run: the entries of thread 0 in their order, then those of thread 1, and so on, each as
+/// a line, and a last line with the totals. For example, a run of one thread may give
+///
+/// ```text
+/// 0 new 0.1 work 36
+/// 0 ok
+/// end cycles 2 work 36
+/// ```
+///
+/// Each line is one `put`. At the first one that fails it stops, and a front of the text is written.
+pub fn write_run<R: Logs, K: Sink>(run: &R, sink: &mut K) -> Result<(), Failed>
+    ensures written { OnOk result (Appends (K.held sink.old) (K.held sink.new) (run_text (R.logs run.now) (R.cycle_count run.now) (R.unit_count run.now))) }
+    ensures front { OnErr result (AppendsFront (K.held sink.old) (K.held sink.new) (run_text (R.logs run.now) (R.cycle_count run.now) (R.unit_count run.now))) }
+    ensures rose { OnErr result (Rose (K.faults sink.old) (K.faults sink.new)) }
+    ensures still { OnOk result (K.faults sink.new ≡ K.faults sink.old) }
+{
+    for t in 0..run.threads() {
+        write_log(run.entries(t), sink)?;
+    }
+    sink.put(line_of_totals(run.cycles(), run.units()).bytes())
+}
+
+/// A law: each line of a run has at most 64 bytes, whatever its numbers.
+pub fn lines_are_short(entry: Entry, cycles: u64, units: u64)
+    ensures entry { length (entry_line entry) ≤ 64 }
+    ensures totals { length (totals_line cycles units) ≤ 64 }
+{
+    fill_entry(&mut LineBuffer::new(), &entry);
+    line_of_totals(cycles, units);
+}
+
+/// Writes a line for each entry.
+fn write_log<K: Sink>(log: &[Entry], sink: &mut K) -> Result<(), Failed>
+    ensures written { OnOk result (Appends (K.held sink.old) (K.held sink.new) (flat_map entry_line log.now)) }
+    ensures front { OnErr result (AppendsFront (K.held sink.old) (K.held sink.new) (flat_map entry_line log.now)) }
+    ensures rose { OnErr result (Rose (K.faults sink.old) (K.faults sink.new)) }
+    ensures still { OnOk result (K.faults sink.new ≡ K.faults sink.old) }
+{
+    let mut line = LineBuffer::new();
+    for entry in log {
+        fill_entry(&mut line, entry);
+        sink.put(line.bytes())?;
+    }
+    Ok(())
+}
+
+/// Makes an entry's line, in place of what the buffer held.
+fn fill_entry(line: &mut LineBuffer, entry: &Entry)
+    ensures text { line.new ≡ entry_line entry.now }
+    ensures short { length line.new ≤ 64 }
+{
+    line.clear();
+    line.prepend(b"\n");
+    prepend_reply(line, entry.reply, entry.work);
+    line.prepend(b" ");
+    line.prepend_short_number(entry.thread);
+}
+
+fn line_of_totals(cycles: u64, units: u64) -> LineBuffer
+    ensures text { result ≡ totals_line cycles units }
+    ensures short { length result ≤ 64 }
+{
+    let mut line = LineBuffer::new();
+    line.prepend(b"\n");
+    line.prepend_number(units);
+    line.prepend(b" work ");
+    line.prepend_number(cycles);
+    line.prepend(b"end cycles ");
+    line
+}
+
+fn prepend_reply(line: &mut LineBuffer, reply: Reply, work: u64)
+    requires { length line.old ≤ 1 }
+    ensures text { line.new ≡ reply_text reply work ++ line.old }
+    ensures length { length line.new ≤ 53 }
+{
+    match reply {
+        Reply::New(name) => {
+            prepend_work(line, work);
+            prepend_name(line, name);
+            line.prepend(b"new ");
+        }
+        Reply::Full(cycle) => {
+            prepend_work(line, work);
+            line.prepend_number(cycle);
+            line.prepend(b"full ");
+        }
+        Reply::Stored => line.prepend(b"ok"),
+        Reply::Val(value) => prepend_value(line, value),
+        Reply::Len(length) => {
+            line.prepend_number(length);
+            line.prepend(b"len ");
+        }
+        Reply::Yes => line.prepend(b"yes"),
+        Reply::No => line.prepend(b"no"),
+        Reply::Null => line.prepend(b"null"),
+        Reply::Kind => line.prepend(b"kind"),
+        Reply::Range => line.prepend(b"range"),
+    }
+}
+
+fn prepend_work(line: &mut LineBuffer, work: u64)
+    requires { length line.old ≤ 1 }
+    ensures text { line.new ≡ codes " work " ++ decimal work ++ line.old }
+    ensures length { length line.new ≤ 26 + length line.old }
+{
+    line.prepend_number(work);
+    line.prepend(b" work ");
+}
+
+fn prepend_value(line: &mut LineBuffer, value: Value)
+    requires { length line.old ≤ 1 }
+    ensures text { line.new ≡ value_text value ++ line.old }
+    ensures length { length line.new ≤ 25 + length line.old }
+{
+    match value {
+        Value::Nil => line.prepend(b"nil"),
+        Value::Int(number) => {
+            line.prepend_number(number);
+            line.prepend(b"int ");
+        }
+        Value::Ref(name) => {
+            prepend_name(line, name);
+            line.prepend(b"ref ");
+        }
+    }
+}
+
+fn prepend_name(line: &mut LineBuffer, name: Name)
+    requires { length line.old ≤ 27 }
+    ensures text { line.new ≡ name_text name ++ line.old }
+    ensures length { length line.new ≤ 21 + length line.old }
+{
+    line.prepend_short_number(name.serial);
+    line.prepend(b".");
+    line.prepend_short_number(name.thread);
+}
+
+#[cfg(test)]
+mod tests {
+    use super::*;
+    use crate::MemSink;
+    use never_heap::Command;
+    use std::alloc::{AllocError, Global};
+    use std::test::Fail;
+
+    /// What two threads answered, in two cycles.
+    #[derive(Drop)]
+    struct Pair {
+        first: Vec<Entry>,
+        second: Vec<Entry>,
+    }
+
+    impl Logs for Pair {
+        ghost use Rattle.std.specs.Prelude.{[], ◌∷◌};
+
+        ghost logs = { λ s. s.first.items ∷ s.second.items ∷ [] };
+
+        ghost cycle_count = { λ _. 2 };
+
+        ghost unit_count = { λ _. 43 };
+
+        fn threads(&self) -> u32 {
+            2
+        }
+
+        fn entries(&self, t: u32) -> &[Entry] {
+            if t == 0 {
+                self.first.as_slice()
+            } else {
+                self.second.as_slice()
+            }
+        }
+
+        fn cycles(&self) -> u64 {
+            2
+        }
+
+        fn units(&self) -> u64 {
+            43
+        }
+    }
+
+    fn entry(thread: u32, reply: Reply, work: u64) -> Entry {
+        Entry {
+            thread,
+            command: Command::Nil { d: 0 },
+            reply,
+            work,
+        }
+    }
+
+    /// One reply of each kind.
+    fn replies(alloc: Global) -> Result<Pair, AllocError> {
+        let made = Name {
+            thread: 0,
+            serial: 1,
+        };
+        let seen = Name {
+            thread: 1,
+            serial: 120,
+        };
+        let first = [
+            entry(0, Reply::New(made), 36),
+            entry(0, Reply::Full(3), 7),
+            entry(0, Reply::Stored, 0),
+            entry(0, Reply::Val(Value::Nil), 0),
+            entry(0, Reply::Val(Value::Int(5)), 0),
+            entry(0, Reply::Val(Value::Ref(seen)), 0),
+            entry(0, Reply::Len(17), 0),
+        ];
+        let second = [
+            entry(1, Reply::Yes, 0),
+            entry(1, Reply::No, 0),
+            entry(1, Reply::Null, 0),
+            entry(1, Reply::Kind, 0),
+            entry(1, Reply::Range, 0),
+        ];
+        Ok(Pair {
+            first: Vec::from_slice(alloc, &first)?,
+            second: Vec::from_slice(alloc, &second)?,
+        })
+    }
+
+    #[test]
+    fn each_reply_has_its_text(rt: HostRuntime) -> Result<(), Fail> {
+        let mut sink = MemSink::new(rt.alloc(), 1000, Vec::new(rt.alloc()))
+            .ok()
+            .ok_or("memory")?;
+        assert_eq!(rt; write_run(&replies(rt.alloc())?, &mut sink), Ok(()));
+        assert_eq!(rt;
+            sink.bytes(),
+            b"0 new 0.1 work 36
+0 full 3 work 7
+0 ok
+0 nil
+0 int 5
+0 ref 1.120
+0 len 17
+1 yes
+1 no
+1 null
+1 kind
+1 range
+end cycles 2 work 43
+"
+                .as_slice()
+        );
+        Ok(())
+    }
+
+    #[test]
+    fn a_put_that_fails_leaves_the_lines_before(rt: HostRuntime) -> Result<(), Fail> {
+        let fail = Vec::from_slice(rt.alloc(), &[3])?;
+        let mut sink = MemSink::new(rt.alloc(), 1000, fail).ok().ok_or("memory")?;
+        assert_eq!(rt; write_run(&replies(rt.alloc())?, &mut sink), Err(Failed));
+        assert_eq!(rt;
+            sink.bytes(),
+            b"0 new 0.1 work 36\n0 full 3 work 7\n0 ok\n".as_slice()
+        );
+        Ok(())
+    }
+
+    #[test]
+    fn the_longest_line_fits(rt: HostRuntime) -> Result<(), Fail> {
+        let most = Name {
+            thread: u32::MAX,
+            serial: u32::MAX,
+        };
+        let mut line = LineBuffer::new();
+        fill_entry(&mut line, &entry(u32::MAX, Reply::New(most), u64::MAX));
+        assert_eq!(rt;
+            line.bytes(),
+            b"4294967295 new 4294967295.4294967295 work 18446744073709551615\n".as_slice()
+        );
+        Ok(())
+    }
+}

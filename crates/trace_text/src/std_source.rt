@@ -1,0 +1,109 @@
+//! A source over std's readers.
+
+ghost use Rattle.std.specs.Prelude.{◌≡◌, ◌<◌, length, take, OnErr, IfOk};
+ghost use Rattle.std.specs.Io.{ReadsAtMost};
+ghost use Rattle.std.specs.Io.KnownBytes.{Consumes, IsAtEnd, Keeps};
+
+use crate::{Failed, Source};
+use std::io::{ErrorKind, Read};
+
+/// A source over a reader.
+///
+/// A read that was interrupted is tried again. Any other error is a fault, and the next call reads
+/// on. For example, over standard input `take` gives what one read gives, be it less than fits.
+/// What is left is known where the reader tells it; standard input does not.
+#[derive(Debug, Drop)]
+pub struct StdSource<R> {
+    reader: R,
+    faults: u64,
+}
+
+impl<R: Read> StdSource<R> {
+    /// A source over this reader, with no fault counted.
+    pub fn new(reader: R) -> StdSource<R>
+        ensures left { ⟦<StdSource<R> as Source>⟧.left result ≡ R.remaining reader }
+        ensures faults { ⟦<StdSource<R> as Source>⟧.faults result ≡ 0 }
+    {
+        StdSource { reader, faults: 0 }
+    }
+}
+
+impl<R: Read> Source for StdSource<R> {
+    ghost left = { λ s. R.remaining s.reader };
+
+    ghost faults = { λ s. s.faults };
+
+    /// Gives what one read gives.
+    fn take(&mut self, piece: &mut [u8]) -> Result<usize, Failed> {
+        let read = read_once(&mut self.reader, piece);
+        if read.is_err() {
+            self.faults = self.faults.saturating_add(1);
+        }
+        read
+    }
+}
+
+/// One read, which is tried again as often as it is interrupted.
+fn read_once<R: Read>(reader: &mut R, piece: &mut [u8]) -> Result<usize, Failed>
+    ensures bound { ReadsAtMost result piece.new }
+    ensures ok { IfOk result (λ k. Consumes (R.remaining reader.old) (R.remaining reader.new) (take k piece.new)) }
+    ensures end { IfOk result (λ k. k ≡ 0 → 0 < length piece.old → IsAtEnd (R.remaining reader.new)) }
+    ensures err { OnErr result (Keeps (R.remaining reader.old) (R.remaining reader.new)) }
+{
+    for _ in 0..u64::MAX {
+        match reader.read(piece) {
+            Ok(count) => return Ok(count),
+            Err(e) if e.kind() == ErrorKind::Interrupted => {}
+            Err(_) => return Err(Failed),
+        }
+    }
+    Err(Failed)
+}
+
+#[cfg(test)]
+mod tests {
+    use super::*;
+    use std::io::{Error, Result as IoResult};
+    use std::test::Fail;
+
+    /// Reads at most two bytes a call. Call 1 is interrupted, and call 2 fails.
+    #[derive(Drop)]
+    struct Halting<'a> {
+        left: &'a [u8],
+        calls: u8,
+    }
+
+    impl<'a> Read for Halting<'a> {
+        fn read(&mut self, piece: &mut [u8]) -> IoResult<usize> {
+            let number = self.calls;
+            self.calls = number.saturating_add(1);
+            if number == 1 {
+                return Err(Error::from(ErrorKind::Interrupted));
+            }
+            if number == 2 {
+                return Err(Error::from(ErrorKind::BrokenPipe));
+            }
+            let count = piece.len().min(self.left.len()).min(2);
+            piece[..count].copy_from_slice(&self.left[..count]);
+            self.left = &self.left[count..];
+            Ok(count)
+        }
+    }
+
+    #[test]
+    fn reads_are_short_and_a_fault_loses_nothing(rt: HostRuntime) -> Result<(), Fail> {
+        let mut source = StdSource::new(Halting {
+            left: b"abcde",
+            calls: 0,
+        });
+        let mut piece = [0; 4];
+        assert_eq!(rt; source.take(&mut piece), Ok(2));
+        assert_eq!(rt; piece, *b"ab\0\0");
+        assert_eq!(rt; source.take(&mut piece), Err(Failed));
+        assert_eq!(rt; source.take(&mut piece), Ok(2));
+        assert_eq!(rt; piece, *b"cd\0\0");
+        assert_eq!(rt; source.take(&mut piece), Ok(1));
+        assert_eq!(rt; source.take(&mut piece), Ok(0));
+        Ok(())
+    }
+}
