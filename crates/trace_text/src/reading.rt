@@ -12,6 +12,8 @@ mod input;
 mod lines;
 mod numbers;
 mod pieces;
+#[cfg(test)]
+mod tests;
 mod whole;
 mod words;
 
