@@ -26,9 +26,11 @@ labels_at line = do
   _ ← no_more_of shared.1
   Some (threads.0, blocks.0, live.0, object.0, shared.0)
 
+-- a number from least to most
 abbrev pub bounded_at : ℕ → ℕ → ℕ → Option ℕ
 bounded_at least most n = if nat_lt n least || nat_lt most n then None else Some n
 
+-- the configuration, each number in its range
 unfoldable pub header_at : List (List ℕ) → Option Config
 header_at line = do
   pieces ← labels_at line

@@ -12,6 +12,8 @@ mod input;
 mod lines;
 mod numbers;
 mod pieces;
+#[cfg(test)]
+mod tests;
 mod whole;
 mod words;
 
@@ -74,9 +76,11 @@ pub fn read_trace<S: Source>(alloc: Global, source: &mut S) -> Result<Job, Trace
     // How far the source was read.
     ensures ended { OnOk result (IsAtEnd (S.left source.old) (S.left source.new)) }
     ensures stopped { IsErrOf result faults.Later
-        → IfSome (S.left source.old) (λ bytes. S.left source.new ≡ Some (drop (input_limit + 1) bytes)) }
+        → IfSome (S.left source.old) (λ bytes.
+        S.left source.new ≡ Some (drop (input_limit + 1) bytes)) }
     ensures stopped_at_end { IsErrOf result faults.Later
-        → IfSome (S.left source.old) (λ bytes. length bytes ≤ input_limit → S.left source.new ≡ Some []) }
+        → IfSome (S.left source.old) (λ bytes. length bytes ≤ input_limit
+        → S.left source.new ≡ Some []) }
     ensures told { StillTells (S.left source.old) (S.left source.new) }
 
     // A source is blamed only where its count of faults rose.
@@ -92,6 +96,6 @@ pub fn read_trace<S: Source>(alloc: Global, source: &mut S) -> Result<Job, Trace
 
 /// Bytes are at most one job.
 pub fn jobs_are_one()
-    ensures { (bytes : List ℕ) (job other : jobs.Job) → IsJob bytes job → IsJob bytes other → job ≡ other }
-{
-}
+    ensures { (bytes : List ℕ) (job other : jobs.Job)
+        → IsJob bytes job → IsJob bytes other → job ≡ other }
+{}
