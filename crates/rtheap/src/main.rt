@@ -4,14 +4,15 @@
 use never_heap::NoPace;
 use rtheap_core::rtheap;
 use std::alloc::AllocError;
+use std::env;
 use std::io::{self, BufWriter, ErrorKind, Write};
 use std::process::ExitCode;
 use std::rt::Env;
-use std::env;
 use trace_text::{StdSink, StdSource};
 
 /// The status of a writing that failed, and that of want of memory.
 const WRITE_FAULT: u8 = 6;
+
 const NO_MEMORY: u8 = 7;
 
 fn main(rt: HostRuntime) -> ExitCode {
