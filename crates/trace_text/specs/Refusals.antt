@@ -18,14 +18,17 @@ abbrev pub first_of : List (Bool × Why) → Option Why
 first_of [] = None
 first_of (test ∷ tests) = if test.0 then Some test.1 else first_of tests
 
+-- a piece is a number
 abbrev pub is_number : List ℕ → Bool
 is_number piece = is_some (number_at piece)
 
+-- the number that a piece is
 abbrev pub value_of : List ℕ → ℕ
 value_of piece = unwrap_or (number_at piece) 0
 
 -- ---- the header
 
+-- a number is not from least to most
 abbrev pub is_outside : ℕ → ℕ → ℕ → Bool
 is_outside least most n = nat_lt n least || nat_lt most n
 
@@ -38,9 +41,11 @@ numbers_fault (Some p) =
     ∷ (is_outside 1 16 (value_of p.0) || is_outside 1 65535 (value_of p.1) || is_outside 0 65535 (value_of p.2) || is_outside 1 1024 (value_of p.3) || is_outside 0 1024 (value_of p.4), whys.Size)
     ∷ [])
 
+-- what is wrong with a header
 unfoldable pub header_fault : List (List ℕ) → Option Why
 header_fault line = numbers_fault (labels_at line)
 
+-- the configuration of five pieces
 abbrev pub numbers_config : Option (List ℕ × List ℕ × List ℕ × List ℕ × List ℕ) → Config
 numbers_config None = record { threads = 0; blocks = 0; live = 0; object = 0; shared = 0 }
 numbers_config (Some p) = record { threads = value_of p.0; blocks = value_of p.1; live = value_of p.2; object = value_of p.3; shared = value_of p.4 }
@@ -60,19 +65,23 @@ pub record Before : Type 0 where
   -- whether one began with `end`
   pub ended : Bool
 
+-- behind the header
 abbrev pub nothing_before : Before
 nothing_before = record { threads = 0; commands = 0; ended = false }
 
+-- what the lines were, with one more that begins with this word
 abbrev pub after_word : Before → Option Word → Before
 after_word b None = b
 after_word b (Some Thread) = record { threads = b.threads + 1; commands = 0; ended = b.ended }
 after_word b (Some End) = record { threads = b.threads; commands = b.commands; ended = true }
 after_word b (Some word) = record { threads = b.threads; commands = b.commands + 1; ended = b.ended }
 
+-- the same with one more line
 abbrev pub after_line : Before → List (List ℕ) → Before
 after_line b [] = b
 after_line b (first ∷ others) = after_word b (word_at first)
 
+-- the same with more lines
 abbrev pub after_lines : Before → List (List (List ℕ)) → Before
 after_lines b [] = b
 after_lines b (line ∷ lines) = after_lines (after_line b line) lines
@@ -83,6 +92,7 @@ any_operand test [] numbers = false
 any_operand test (o ∷ os) [] = false
 any_operand test (o ∷ os) (n ∷ numbers) = test o n || any_operand test os numbers
 
+-- a register above 15
 abbrev pub is_high_register : Operand → ℕ → Bool
 is_high_register OfRegister n = nat_lt 15 n
 is_high_register o n = false
@@ -115,6 +125,7 @@ word_fault c b (Some word) pieces =
     ∷ (any_operand (is_too_large c) (operands word) numbers || (is_command word && nat_le 131072 b.commands), whys.Size)
     ∷ [])
 
+-- what is wrong with a line behind the header
 unfoldable pub later_fault : Config → Before → List (List ℕ) → Option Why
 later_fault c b [] = if b.ended then Some whys.End else Some whys.Word
 later_fault c b (first ∷ pieces) = if b.ended then Some whys.End else word_fault c b (word_at first) pieces

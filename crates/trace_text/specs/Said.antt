@@ -38,6 +38,7 @@ count_is zero (x ∷ xs) = false
 count_is (suc n) [] = false
 count_is (suc n) (x ∷ xs) = count_is n xs
 
+-- the numbers of pieces
 abbrev pub values_at : List (List ℕ) → Result (List ℕ) Why
 values_at [] = Ok []
 values_at (piece ∷ pieces) = do
@@ -53,6 +54,7 @@ numbers_at n pieces = if count_is n pieces then values_at pieces else Err whys.C
 abbrev pub checked : Bool → Bool → Line → Result Line Why
 checked register size line = if register then Err whys.Register else if size then Err whys.Size else Ok line
 
+-- behind no number, one, two or three
 abbrev pub on_none : List ℕ → Result Line Why → Result Line Why
 on_none [] line = line
 on_none (n ∷ ns) line = Err whys.Count
@@ -92,12 +94,14 @@ operands_at p word pieces = numbers_at (length (operands word)) pieces >>= told_
 abbrev pub in_turn : Place → Word → List (List ℕ) → Result Line Why
 in_turn p word pieces = if is_command word && p.threads == 0 then Err whys.Order else operands_at p word pieces
 
+-- what a line says
 unfoldable pub line_at : Place → List (List ℕ) → Result Line Why
 line_at p [] = Err whys.Word
 line_at p (first ∷ others) = do
   word ← ok_or (word_at first) whys.Word
   in_turn p word others
 
+-- a number from least to most
 abbrev pub bounded_at : ℕ → ℕ → ℕ → Result ℕ Why
 bounded_at least most n = if nat_lt n least || nat_lt most n then Err whys.Size else Ok n
 

@@ -14,6 +14,10 @@ mod input;
 mod lines;
 mod numbers;
 mod pieces;
+#[cfg(test)]
+mod refused;
+#[cfg(test)]
+mod tests;
 mod whole;
 mod words;
 

@@ -32,7 +32,8 @@ pub fn header_of(line: &[u8]) -> Result<Config, Why>
 /// The five pieces of a header that are to be numbers.
 #[tactic(auto, unfolding(crate::specs::Headers::labels_at))]
 fn labels_of(line: &[u8]) -> Option<(&[u8], &[u8], &[u8], &[u8], &[u8])>
-    ensures { Gives (λ x. (x.0.now, x.1.now, x.2.now, x.3.now, x.4.now)) result (labels_at (pieces_of line.now)) }
+    ensures { Gives (λ x. (x.0.now, x.1.now, x.2.now, x.3.now, x.4.now)) result
+        (labels_at (pieces_of line.now)) }
 {
     let rest = behind(Some(line), b"rtheap")?;
     let rest = behind(rest, b"1")?;

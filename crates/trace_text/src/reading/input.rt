@@ -19,7 +19,8 @@ const PIECE_LEN: usize = 65_536;
 pub fn input_of<S: Source>(alloc: Global, source: &mut S) -> Result<Vec<u8>, TraceFault>
     ensures read { IfOk result (λ input. HasRead (S.left source.old) input.items (S.left source.new)) }
     ensures within { IfOk result (λ input. vec_len input ≤ INPUT_LIMIT + 1) }
-    ensures ended { IfOk result (λ input. vec_len input ≤ INPUT_LIMIT → IsAtEnd (S.left source.old) (S.left source.new)) }
+    ensures ended { IfOk result (λ input. vec_len input ≤ INPUT_LIMIT
+        → IsAtEnd (S.left source.old) (S.left source.new)) }
     ensures cause_alone { IfErr result IsOfNoByte }
     ensures cause { MatchResult result (λ _. S.faults source.new ≡ S.faults source.old)
         (λ fault. CountsFault fault (S.faults source.old) (S.faults source.new)) }
@@ -44,8 +45,10 @@ fn take_into<S: Source>(
     input: &mut Vec<u8>,
 ) -> Result<usize, TraceFault>
     requires { 0 < length piece.old }
-    ensures added { IfOk result (λ k. IfSome (S.left source.old) (λ bytes. Adds k bytes input.old.items input.new.items (S.left source.new))) }
-    ensures len { IfOk result (λ k. (k ≤ length piece.old) × (vec_len input.new ≡ vec_len input.old + k)) }
+    ensures added { IfOk result (λ k. IfSome (S.left source.old) (λ bytes.
+        Adds k bytes input.old.items input.new.items (S.left source.new))) }
+    ensures len { IfOk result (λ k.
+        (k ≤ length piece.old) × (vec_len input.new ≡ vec_len input.old + k)) }
     ensures end { IfOk result (λ k. k ≡ 0 → IsAtEnd (S.left source.old) (S.left source.new)) }
     ensures cause_alone { IfErr result IsOfNoByte }
     ensures cause { MatchResult result (λ _. S.faults source.new ≡ S.faults source.old)
