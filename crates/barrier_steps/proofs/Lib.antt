@@ -6,3 +6,5 @@ pub mod Decisions
 pub mod Promising
 pub mod Projecting
 pub mod Stepping
+pub mod Showing
+pub mod Registers

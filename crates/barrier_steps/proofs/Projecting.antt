@@ -89,7 +89,7 @@ field_loading t d word (payloads.Int v) = refl
 field_loading t d word (payloads.Block x) = refl
 
 -- the word that a row reads in a block
-payload_read : (s : GraphState) (h : Heap) (x j w : ℕ) → s.words ≡ block_words h → w ≡ h (PayloadOf x j) → s.words.payload x j ≡ w
+pub payload_read : (s : GraphState) (h : Heap) (x j w : ℕ) → s.words ≡ block_words h → w ≡ h (PayloadOf x j) → s.words.payload x j ≡ w
 payload_read s h x j w is reads = ap (λ b. b.payload x j) is ∙ sym reads
 
 -- a value that is read beside an object

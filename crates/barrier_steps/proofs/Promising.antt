@@ -56,7 +56,7 @@ kind_object : (g : Graph) (v : Value) (act : Name → Graph × Reply) (n : ℕ) 
 kind_object g v act n e = subst (λ x. replies.Kind ≡ (at_object g x act).1) (sym e) refl
 
 -- the field is within the object, or it is not
-in_field : (g : Graph) (v : Value) (a : Name) (i : ℕ) (act : Name → Graph × Reply) → v ≡ values.Ref a → i < length (object_of g a).fields → (at_field g v i act).1 ≡ (act a).1
+pub in_field : (g : Graph) (v : Value) (a : Name) (i : ℕ) (act : Name → Graph × Reply) → v ≡ values.Ref a → i < length (object_of g a).fields → (at_field g v i act).1 ≡ (act a).1
 in_field g v a i act e h =
     subst (λ x. (at_field g x i act).1 ≡ (act a).1) (sym e) (rw (lt-ltb i (length (object_of g a).fields) h) refl)
 
@@ -75,7 +75,7 @@ object_promised head g t s w (accesses.Put i v) h n =
 object_promised head g t s w accesses.Len h n =
     refused head t s w accesses.Len (register_of g t s) _ h n (λ e. null_object g (register_of g t s) _ e) (λ k e. kind_object g (register_of g t s) _ k e)
 
-kind_length : (k : ObjectKind) (n : ℕ) → shape_length (kind_shape k n) ≡ n
+pub kind_length : (k : ObjectKind) (n : ℕ) → shape_length (kind_shape k n) ≡ n
 kind_length Record n = refl
 kind_length Array n = refl
 

@@ -25,7 +25,7 @@ chosen : (s : GraphState) (b : Bool) (t r : ℕ) → (after_event s (cond b (Som
 chosen s true t r = refl
 chosen s false t r = refl
 
-chosen_value : (s : GraphState) (b : Bool) (t r : ℕ) → (after_event s (cond b (Some (events.ReadValue t r)) None)).graph ≡ s.graph
+pub chosen_value : (s : GraphState) (b : Bool) (t r : ℕ) → (after_event s (cond b (Some (events.ReadValue t r)) None)).graph ≡ s.graph
 chosen_value s true t r = refl
 chosen_value s false t r = refl
 
@@ -82,7 +82,7 @@ shape_step g t r w (accesses.Put i v) h n =
 shape_step g t r w accesses.Len h n = in_object g (register_of g t r) h.name _ h.refers
 
 -- the name of an object that a register refers to
-one_name : (v : Value) (a b : Name) → v ≡ values.Ref a → v ≡ values.Ref b → a ≡ b
+pub one_name : (v : Value) (a b : Name) → v ≡ values.Ref a → v ≡ values.Ref b → a ≡ b
 one_name v a b e f = let same : values.Ref a ≡ values.Ref b = sym e ∙ f in cc
 
 -- the deciding event makes the step

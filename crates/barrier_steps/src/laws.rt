@@ -1,6 +1,6 @@
 //! Laws of the rows, for the proofs above: each is the contract of a function that does nothing.
 
-ghost use Rattle.std.specs.Prelude.{◌≡◌, ◌<◌, ◌||◌, ℕ, true, false, Some, IsSome, IfSome};
+ghost use Rattle.std.specs.Prelude.{◌≡◌, ◌<◌, ◌||◌, ℕ, ◌≤◌, Bool, true, false, None, Some, IsSome, IfSome};
 ghost use Rattle.block_store.specs.declared.Config.{Config};
 ghost use Rattle.block_store.specs.declared.Name.{Name};
 ghost use Rattle.block_store.specs.declared.Shape.{Shape};
@@ -14,14 +14,15 @@ ghost use Rattle.never_heap.specs.Bounds.{IsCommandInRange};
 ghost use Rattle.never_heap.specs.Steps.{blocks_of};
 ghost use Rattle.shown_graph.specs.Layouts.{shape_part};
 ghost use Rattle.shown_graph.specs.Words.{block_words};
-ghost use Rattle.shown_graph.specs.Events.{GraphState, Guard, with_load};
+ghost use Rattle.shown_graph.specs.Shown.{heads, named, IsSized};
+ghost use Rattle.shown_graph.specs.Events.{GraphState, Follows, Guard, with_load};
 ghost use Rattle.heap_machine.specs.Operations.{place_of, heap_after, Fits};
 ghost use Rattle.barrier_steps.specs.declared.rows.FieldRow.{FieldRow};
 ghost use Rattle.barrier_steps.specs.Walks.{shape_length, links_to, link_at, field_at, ordinal_at};
 ghost use Rattle.barrier_steps.specs.Rows.{first_row, field_want, field_got, field_reply, field_decided};
 ghost use Rattle.barrier_steps.specs.Fits.{IsThread, FieldFits, FieldReads, StoresHeld};
 ghost use Rattle.barrier_steps.specs.Deciding.{is_deciding};
-ghost use Rattle.barrier_steps.specs.Replies.{Asked, asked, answer, graph_after, Shown, Promises, NameShown};
+ghost use Rattle.barrier_steps.specs.Replies.{Asked, asked, answer, graph_after, Shown, Promises, NameShown, ShowsRegister};
 ghost use Rattle.barrier_steps.specs.Projection.{thread_of, loading_of, event_of, after_event, IsAtRow, IsInHand};
 
 /// The links that a thread follows lead to the field, in a record and in an array.
@@ -68,4 +69,14 @@ pub fn rows_are_events()
     ensures stays { (s : GraphState) (a : Name) (row : FieldRow) (w : ℕ) → is_deciding row w ≡ false → (after_event s (event_of a row w)).graph ≡ s.graph }
     ensures steps { (head : Name → ℕ) (s : GraphState) (a : Name) (row : FieldRow) (w : ℕ) (q : Asked) → asked row ≡ Some q → is_deciding row w ≡ true → Shown head s.graph row w → s.loads (thread_of row) ≡ loading_of row → IsInHand s a row → (after_event s (event_of a row w)).graph ≡ graph_after s.graph q }
     ensures guarded { (c : Config) (h : Heap) (s : GraphState) (a : Name) (row : FieldRow) (w : ℕ) → FieldFits c row → FieldReads c row w → IsAtRow s h row w → IsInHand s a row → IfSome (event_of a row w) (Guard c.threads s) }
+{}
+
+/// Where the words show the graph and the thread has loaded what its row names, the row reads words
+/// that its places can hold, and these are what the graph says, the name of a reply's object among
+/// them.
+pub fn rows_read_the_graph()
+    ensures reads { (c : Config) (m : ℕ) (kept : Name → Bool) (at : Name → ℕ → ℕ) (s : GraphState) (h : Heap) (row : FieldRow) (w : ℕ) → c.blocks ≤ 65535 → m ≤ c.blocks → Follows c.threads m (named kept) at s → FieldFits c row → IsAtRow s h row w → field_reply row ≡ None → FieldReads c row w }
+    ensures shown { (c : Config) (m : ℕ) (kept : Name → Bool) (at : Name → ℕ → ℕ) (s : GraphState) (h : Heap) (row : FieldRow) (w : ℕ) → c.blocks ≤ 65535 → m ≤ c.blocks → Follows c.threads m (named kept) at s → FieldFits c row → IsAtRow s h row w → Shown (heads at) s.graph row w }
+    ensures register { (c : Config) (head : Name → ℕ) (s : GraphState) (a : Name) (row : FieldRow) (w : ℕ) (q : Asked) → IsSized c.threads s.graph → FieldFits c row → Shown head s.graph row w → IsInHand s a row → asked row ≡ Some q → is_deciding row w ≡ true → ShowsRegister (after_event s (event_of a row w)).graph (field_got row w) (answer s.graph q) }
+    ensures name { (c : Config) (m : ℕ) (kept : Name → Bool) (at : Name → ℕ → ℕ) (s : GraphState) (h : Heap) (row : FieldRow) (w : ℕ) (reply : Reply) → c.blocks ≤ 65535 → m ≤ c.blocks → Follows c.threads m (named kept) at s → FieldFits c row → IsAtRow s h row w → ShowsRegister s.graph row reply → NameShown (heads at) row reply w }
 {}
