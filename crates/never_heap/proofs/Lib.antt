@@ -13,3 +13,4 @@ pub mod Rounds
 pub mod Sums
 pub mod Staying
 pub mod ReachSteps
+pub mod Answering

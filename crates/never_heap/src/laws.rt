@@ -10,12 +10,12 @@ ghost use Rattle.never_heap.specs.declared.Entry.{Entry};
 ghost use Rattle.never_heap.specs.Cycles.{graph_at};
 ghost use Rattle.never_heap.specs.Given.{given};
 ghost use Rattle.never_heap.specs.Graphs.{Graph, SameShape, register_of, object_of, has_name, next_name};
-ghost use Rattle.never_heap.specs.Histories.{HistoryItem, Started, Did, replay, replay_from, starts_in};
+ghost use Rattle.never_heap.specs.Histories.{HistoryItem, Started, Did, is_full, replay, replay_from, starts_in};
 ghost use Rattle.never_heap.specs.Licensed.{IsLicensedItem, Licensed};
 ghost use Rattle.never_heap.specs.Reach.{reachable, IsClosed};
 ghost use Rattle.never_heap.specs.RightWork.{IsRightWork, RightWork};
 ghost use Rattle.never_heap.specs.Runs.{taken_by};
-ghost use Rattle.never_heap.specs.Steps.{step, makes_object, stores_in, stores_in_field};
+ghost use Rattle.never_heap.specs.Steps.{step, blocks_of, makes_object, stores_in, stores_in_field};
 
 /// Fulls stay licensed and works stay right, where those of one more item at the end are.
 pub fn runs_grow()
@@ -69,4 +69,11 @@ pub fn reach_grows_by_new_objects()
     ensures step { (g : Graph) (t : ℕ) (command : Command) (a : Name) → reachable (step g t command).0 a ≡ true → (reachable g a ≡ true) ⊎ ((makes_object command ≡ true) × (a ≡ next_name g t)) }
     ensures references { (c : Config) (h : List HistoryItem) → IsClosed (replay c h) (has_name (replay c h)) }
     ensures objects { (c : Config) (h : List HistoryItem) (a : Name) → reachable (replay c h) a ≡ true → has_name (replay c h) a ≡ true }
+{}
+
+/// No step answers with a full, and the commands that make an object are those that have blocks.
+pub fn steps_answer()
+    ensures full { (g : Graph) (t : ℕ) (command : Command) → is_full (step g t command).1 ≡ false }
+    ensures makers { (command : Command) → makes_object command ≡ true → 0 < blocks_of command }
+    ensures others { (command : Command) → makes_object command ≡ false → blocks_of command ≡ 0 }
 {}

@@ -22,7 +22,7 @@ use block_store::{Config, Name, Value};
 pub use graph::Graph;
 pub use laws::{
     blocks_are_given, cycles_start, names_stay, reach_grows_by_new_objects, reachable_is_least,
-    runs_grow, steps_leave,
+    runs_grow, steps_answer, steps_leave,
 };
 use object_lists::blocks_of_record;
 use std::sync::Wait;
