@@ -1,0 +1,4 @@
+pub mod Walks
+pub mod Rows
+pub mod Fits
+pub mod Deciding
