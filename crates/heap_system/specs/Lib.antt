@@ -1,1 +1,4 @@
 pub mod Openings
+pub mod Locals
+pub mod Machines
+pub mod Pictures
