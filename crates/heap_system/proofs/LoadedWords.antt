@@ -38,7 +38,7 @@ shape_kind : (k : ObjectKind) (l : ℕ) → shape_part (kind_shape k l) ≡ layo
 shape_kind Record l = refl
 shape_kind Array l = refl
 
-length_kind : (k : ObjectKind) (l : ℕ) → shape_length (kind_shape k l) ≡ l
+pub length_kind : (k : ObjectKind) (l : ℕ) → shape_length (kind_shape k l) ≡ l
 length_kind Record l = refl
 length_kind Array l = refl
 
