@@ -181,7 +181,7 @@ refused : (n : ℕ) (g : Graph) (h : Heap) (ls : ℕ → Loading) (t : ℕ) (k :
 refused n g h ls t k before r tl prompt e =
     decided n g h h ls t k before (rows.Answered r) (Finish t) (tl, prompt) (sym (ap (λ (x : Graph × Reply). state x.0 h (with_load ls t unloaded)) e)) tt (sym (ap (λ (x : Graph × Reply). Some x.1) e)) tt
 
-load_self : (ls : ℕ → Loading) (t : ℕ) (l : Loading) → ls t ≡ l → with_load ls t l ≡ ls
+pub load_self : (ls : ℕ → Loading) (t : ℕ) (l : Loading) → ls t ≡ l → with_load ls t l ≡ ls
 load_self ls t l is = funext (with_load ls t l) ls (λ u. elim (cases_eq t u) [
   | inl e ↦ ap (λ b. cond b l (ls u)) (eq-eqb t u e) ∙ sym is ∙ ap ls e
   | inr ne ↦ ap (λ b. cond b l (ls u)) (ne_eqb t u ne)

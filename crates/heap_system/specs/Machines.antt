@@ -49,15 +49,15 @@ turned c t s = if has_event c t s then event_done c t s else s
 abbrev pub answer : Config → ℕ → State → Turn
 answer c t s = if is_done (local_at c s t) then Done else turn_of (part_step (local_at c s t).part (word_read c s (local_at c s t)))
 
--- the command of thread l takes its place in an order with the reply that the heap that never frees gives there
-abbrev pub entry_decided : Config → LocalState → List HistoryItem → HistoryItem
-entry_decided c l order = Did (entry_of l.thread (command_of l) (step (replay c order) l.thread (command_of l)).1)
+-- the command of thread t takes its place in an order, with the reply that the heap that never frees gives there
+abbrev pub entry_decided : Config → ℕ → Command → List HistoryItem → HistoryItem
+entry_decided c t k order = Did (entry_of t k (step (replay c order) t k).1)
 
 -- what a turn of thread t adds to an order: an entry, where its event decides a command
 abbrev pub decided : Config → ℕ → State → List HistoryItem → List HistoryItem
 decided c t s order =
     if has_event c t s
-    then (if decides (local_at c s t).part (word_read c s (local_at c s t)) then entry_decided c (local_at c s t) order ∷ [] else [])
+    then (if decides (local_at c s t).part (word_read c s (local_at c s t)) then entry_decided c t (command_of (local_at c s t)) order ∷ [] else [])
     else []
 
 -- a state with the order that led to it, the oldest item first
