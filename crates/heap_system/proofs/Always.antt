@@ -27,7 +27,7 @@ use Rattle.heap_system.specs.Pictures.{gating, loading, heap_in, graph_state}
 use Rattle.heap_system.proofs.Kept.{LocalKept, loads_in, gates_in, Kept, IsMark, opening_low}
 use Rattle.heap_system.proofs.Turning.{next_kept}
 
-length_starts : (c : Config) (t : ℕ) (traces : List (List Command)) → length (starts_from c t traces) ≡ length traces
+pub length_starts : (c : Config) (t : ℕ) (traces : List (List Command)) → length (starts_from c t traces) ≡ length traces
 length_starts c t [] = refl
 length_starts c t (trace ∷ traces) = ap suc (length_starts c (t + 1) traces)
 
@@ -106,6 +106,7 @@ module _ (c : Config) (traces : List (List Command)) (job : IsJob c traces) (s :
     };
     stands = tt;
     told = refl;
+    said = refl;
   }
 
   pub opening_kept : Kept c traces (opened s)
@@ -122,6 +123,8 @@ module _ (c : Config) (traces : List (List Command)) (job : IsJob c traces) (s :
     shown = follows;
     locals = λ t tl. subst (λ l. LocalKept c (get_or traces t []) (start_graph c) (Started ∷ []) t l) (sym (here t tl)) (local_start t tl);
     legal = tt;
+    foreign = λ u ul. refl;
+    counts = (refl, refl);
   }
 
 -- any turn

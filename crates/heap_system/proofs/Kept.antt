@@ -1,5 +1,5 @@
 -- What every list of turns keeps, and what one event of a thread does to it.
-use Rattle.std.proofs.Common.{◌≡◌, ℕ, ◌+◌, ◌-◌, ◌<◌, ◌≤◌, Bool, true, false, cond, eqb, ltb, append-nil, eqb-true, Option, Some, None, List, [], ◌∷◌, ◌++◌, length, get_or, refl, sym, ap, ◌∙◌, subst, arith, inl, inr}
+use Rattle.std.proofs.Common.{◌≡◌, ℕ, ◌+◌, ◌-◌, ◌<◌, ◌≤◌, Bool, true, false, cond, eqb, ltb, append-nil, eqb-true, Option, Some, None, List, [], ◌∷◌, ◌++◌, length, get_or, refl, sym, ap, ◌∙◌, subst, arith, inl, inr, map, take}
 use Rattle.std.proofs.lemmas.Bool.{cases_Bool}
 use Rattle.block_store.specs.declared.Config.{Config}
 use Rattle.block_store.specs.Configs.{IsInBounds}
@@ -10,10 +10,11 @@ use Rattle.block_store.proofs.PhaseWords.{phase-more, phase-less}
 use Rattle.block_store.specs.declared.PhaseWord.{PhaseWord}
 use Rattle.never_heap.specs.declared.Command.{Command}
 use Rattle.never_heap.specs.declared.Command.TheVariants as commands
+use Rattle.never_heap.specs.declared.Entry.{Entry}
 use Rattle.never_heap.specs.declared.Reply.{Reply}
 use Rattle.never_heap.specs.Bounds.{IsCommandInRange}
 use Rattle.never_heap.specs.Graphs.{Graph, start_graph}
-use Rattle.never_heap.specs.Histories.{HistoryItem, replay, part, Legal}
+use Rattle.never_heap.specs.Histories.{HistoryItem, replay, part, Legal, starts_in, work_in}
 use Rattle.never_heap.specs.Steps.{step, blocks_of}
 use Rattle.shown_graph.specs.Shown.{every_name}
 use Rattle.shown_graph.specs.Openings.{opening_at, opening_last}
@@ -84,6 +85,7 @@ pub record LocalKept (c : Config) (given : List Command) (g : Graph) (order : Li
   pub fits : IsLocal l
   pub stands : PartKept g t (command_of l) l.part
   pub told : part t order ≡ l.log ++ entries_waiting g l
+  pub said : map (λ (e : Entry). e.command) l.log ≡ take (length l.log) l.trace
 
 -- cycle 1 in Mark, with the gate open
 pub record IsMark (w : ℕ) : Type 0 where
@@ -106,6 +108,8 @@ pub record Kept (c : Config) (traces : List (List Command)) (r : Run) : Type 0 w
   pub shown : Follows c.threads (opening_last c) (every_name (start_graph c)) (opening_at c.threads) (graph_state c r)
   pub locals : (t : ℕ) → t < c.threads → LocalKept c (get_or traces t []) (replay c r.order) r.order t (local_at c r.state t)
   pub legal : Legal c r.order
+  pub foreign : (u : ℕ) → c.threads ≤ u → part u r.order ≡ []
+  pub counts : (starts_in r.order ≡ 1) × (work_in r.order ≡ 0)
 
 -- one event of thread t in command k: the heap after it, whether it decides, the part after it, and the reply that it brings. Before it a reply was decided or none.
 pub record EventKept (c : Config) (g : Graph) (new : Heap) (gs : ℕ → Gating) (ls : ℕ → Loading) (t : ℕ) (k : Command) (done all : ℕ) (before : Option Reply) (b : Bool) (p : Part) (reply : Option Reply) : Type 0 where

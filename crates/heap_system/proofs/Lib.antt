@@ -5,3 +5,5 @@ pub mod Moves
 pub mod Kept
 pub mod Turning
 pub mod Always
+pub mod Reached
+pub mod Told

@@ -1,5 +1,5 @@
 -- A turn keeps what every list of turns keeps.
-use Rattle.std.proofs.Common.{◌≡◌, ℕ, ◌+◌, ◌<◌, ◌≤◌, Bool, true, false, cond, eqb, lt-ltb, eq-eqb, ne_eqb, ◌&&◌, Option, Some, None, List, [], ◌∷◌, ◌++◌, length, get_or, append_assoc, append-nil, length-append, length-set, refl, sym, ap, ◌∙◌, subst, arith, inl, inr, All}
+use Rattle.std.proofs.Common.{suc, ◌≡◌, ℕ, ◌+◌, ◌<◌, ◌≤◌, Bool, true, false, cond, eqb, lt-ltb, eq-eqb, ne_eqb, ◌&&◌, Option, Some, None, List, [], ◌∷◌, ◌++◌, length, get_or, append_assoc, append-nil, length-append, length-set, refl, sym, ap, ◌∙◌, subst, arith, inl, inr, All, map, take}
 use Rattle.std.proofs.lemmas.Bool.{cases_Bool, cases_eq, cases_lt}
 use Rattle.std.proofs.lemmas.List.{get_or_past}
 use Rattle.block_store.specs.declared.Config.{Config}
@@ -12,9 +12,11 @@ use Rattle.never_heap.specs.declared.Command.TheVariants as commands
 use Rattle.never_heap.specs.declared.Entry.{Entry}
 use Rattle.never_heap.specs.declared.Reply.{Reply}
 use Rattle.never_heap.specs.Graphs.{Graph, start_graph, register_of}
-use Rattle.never_heap.specs.Histories.{HistoryItem, replay, part, Legal}
+use Rattle.never_heap.specs.Histories.{HistoryItem, replay, part, Legal, starts_in, work_in}
 use Rattle.never_heap.specs.Steps.{step}
-use Rattle.never_heap.proofs.Growing.{replay_more, legal_history_more, part_append}
+use Rattle.never_heap.proofs.Growing.{replay_more, legal_history_more, part_append, starts_append, work_append}
+use Rattle.std.proofs.Math.Seq.{take-suc}
+use Rattle.std.proofs.lemmas.List.{map-append}
 use Rattle.never_heap.proofs.GraphMoves.{get_or_set}
 use Rattle.never_heap.proofs.Ranges as ranges
 use Rattle.shown_graph.specs.Shown.{every_name}
@@ -62,6 +64,20 @@ module _ (c : Config) (order : List HistoryItem) (t : ℕ) (k : Command) where
   registers_stay true u q there other = register_stays (replay c order) t u q k there other
   registers_stay false u q there other = refl
 
+-- the threads that there are not have no part, and there is one start and no unit
+module _ (c : Config) (order : List HistoryItem) (t : ℕ) (k : Command) where
+  counts_grow : (b : Bool) → (starts_in order ≡ 1) × (work_in order ≡ 0) → (starts_in (order_after c order t k b) ≡ 1) × (work_in (order_after c order t k b) ≡ 0)
+  counts_grow true n = (omega (arith, starts_append order (entry_decided c t k order ∷ []), n.0), omega (arith, work_append order (entry_decided c t k order ∷ []), n.1))
+  counts_grow false n = (ap starts_in (append-nil order) ∙ n.0, ap work_in (append-nil order) ∙ n.1)
+
+-- one command more is said
+said_more : (log : List Entry) (trace : List Command) (e : Entry) (k : Command) → e.command ≡ k → k ≡ get_or trace (length log) (commands.Nil 0) → length log < length trace → map (λ (x : Entry). x.command) log ≡ take (length log) trace
+    → map (λ (x : Entry). x.command) (log ++ e ∷ []) ≡ take (length (log ++ e ∷ [])) trace
+said_more log trace e k is following low said =
+    let longer : length (log ++ e ∷ []) ≡ suc (length log) = length-append log (e ∷ []) ∙ omega arith in
+    map-append (λ (x : Entry). x.command) log (e ∷ []) ∙ ap (λ ks. ks ++ e.command ∷ []) said ∙ ap (λ x. take (length log) trace ++ x ∷ []) (is ∙ following)
+    ∙ sym (take-suc trace (length log) (commands.Nil 0) low) ∙ sym (ap (λ n. take n trace) longer)
+
 -- the other threads' rows say the same of a graph in which their registers are the same
 field_stays : (g new : Graph) (u : ℕ) (f : FieldRow) → thread_of f ≡ u → ((q : ℕ) → register_of new u q ≡ register_of g u q) → (IsKnown g f → IsKnown new f) × (field_waiting new f ≡ field_waiting g f)
 field_stays g new u (rows.StoreNumber t d v) e same = (λ x. x, refl)
@@ -100,6 +116,7 @@ local_stays c given g new order later u l kept same more =
       fits = kept.fits;
       stands = s.0;
       told = more ∙ kept.told ∙ sym (ap (λ o. l.log ++ entries_of l.thread (command_of l) o) s.1);
+      said = kept.said;
     }
 
 -- the thread itself, by whether its event brought a reply
@@ -124,6 +141,7 @@ local_moves c given g order later t l new gs ls b p None kept event more low = r
   told = more ∙ ap (λ x. x ++ cond b (entry_of t (command_of l) (step g t (command_of l)).1 ∷ []) []) (kept.told ∙ ap (λ x. l.log ++ entries_of x (command_of l) (waiting g l.part)) kept.thread)
       ∙ append_assoc l.log _ _ ∙ ap (λ x. l.log ++ x) event.told
       ∙ sym (ap (λ (x : List Entry). x ++ entries_of t (get_or l.trace (length x) (commands.Nil 0)) (waiting (graph_after g t (command_of l) b) p)) (append-nil l.log));
+  said = subst (λ (x : List Entry). map (λ (e : Entry). e.command) x ≡ take (length x) l.trace) (sym (append-nil l.log)) kept.said;
 }
 local_moves c given g order later t l new gs ls b p (Some r) kept event more low =
     let over : p ≡ Leave = event.over r refl in
@@ -145,6 +163,7 @@ local_moves c given g order later t l new gs ls b p (Some r) kept event more low
           ∙ append_assoc l.log _ _ ∙ ap (λ x. l.log ++ x) event.told ∙ ap (λ x. l.log ++ (entry_of t (command_of l) r ∷ entries_of t (command_of l) (waiting (graph_after g t (command_of l) b) x))) over
           ∙ sym (append-nil (l.log ++ entry_of t (command_of l) r ∷ []))
           ∙ sym (ap (λ x. (l.log ++ entry_of t (command_of l) r ∷ []) ++ entries_of t (get_or l.trace (length (l.log ++ entry_of t (command_of l) r ∷ [])) (commands.Nil 0)) (waiting (graph_after g t (command_of l) b) x)) over);
+      said = said_more l.log l.trace (entry_of t (command_of l) r) (command_of l) refl refl (low r refl) kept.said;
     }
 
 -- a thread with its event done, by its number and the word that it read
@@ -258,6 +277,8 @@ module _ (c : Config) (traces : List (List Command)) (bounds : IsInBounds c) (pl
           ∙ ap (λ x. state (replay c (order_after c r.order t (command_of (local_at c r.state t)) decides_here)) (heap_in c (event_done c t r.state)) x) (sym loads_new)) event.shown;
       locals = each;
       legal = legal_grows c r.order t (command_of (local_at c r.state t)) decides_here kept.legal;
+      foreign = λ u ul. part_stays c r.order t (command_of (local_at c r.state t)) decides_here u (λ e. omega arith) ∙ kept.foreign u ul;
+      counts = counts_grow c r.order t (command_of (local_at c r.state t)) decides_here kept.counts;
     }
       where
         there : t < length (replay c r.order).mutators

@@ -2,3 +2,4 @@ pub mod Openings
 pub mod Locals
 pub mod Machines
 pub mod Pictures
+pub mod Systems

@@ -1,5 +1,5 @@
 -- What the rows of the threads say of the gate and of the graph: where each stands, what it has loaded, and which reply is decided.
-use Rattle.std.specs.Prelude.{ℕ, true, false, Option, Some, None, List}
+use Rattle.std.specs.Prelude.{ℕ, true, false, Option, Some, None, List, Bool, ◌==◌}
 use Rattle.block_store.specs.declared.Config.{Config}
 use Rattle.block_store.specs.Heaps.{Heap, heap_of}
 use Rattle.block_store.specs.Places.{extent}
@@ -76,6 +76,15 @@ loading Rest = unloaded
 loading (Enter g) = unloaded
 loading (Serve f) = field_loading f
 loading Leave = unloaded
+
+-- whether register q's word is still that of an earlier value: after `get` has loaded the field and before it stores it
+abbrev pub is_late : Part → ℕ → Bool
+is_late Rest q = false
+is_late (Enter g) q = false
+is_late (Serve (LoadOwner t d word)) q = d == q
+is_late (Serve (StoreLate t d word value)) q = d == q
+is_late (Serve f) q = false
+is_late Leave q = false
 
 -- the reply that was decided and is not in the log yet: the value is the one that the register has in the graph
 abbrev pub field_waiting : Graph → FieldRow → Option Reply
