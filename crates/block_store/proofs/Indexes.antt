@@ -3,16 +3,8 @@ use Rattle.std.proofs.Common.{suc, mul_comm, mul-suc, ◌≡◌, ℕ, ◌+◌, �
 use Rattle.std.proofs.lemmas.Bool.{and_parts, cases_Bool}
 use Rattle.std.proofs.lemmas.Bool.Decides.{nat_tests}
 use Rattle.std.proofs.lemmas.Nat.{div-mul-add, mod-mul-add, mul-le}
-use Rattle.block_store.specs.Places.{Extent, Place, Phase, Cursor, FreeCount, GreyList, FreeList, ColourOf, OwnerOf, ShapeOf, PayloadOf, in_range, is_block, index, block_index, words_count, same_place}
+use Rattle.block_store.specs.Places.{Extent, Place, Phase, Cursor, FreeCount, GreyList, FreeList, ColourOf, OwnerOf, ShapeOf, PayloadOf, in_range, is_block, index, block_index, words_count, same_place, in_block, place_at}
 use Rattle.block_store.specs.Heaps.{heap_of, put_at}
-
--- the place of block x whose word is k words behind the colour
-abbrev in_block : ℕ → ℕ → Place
-in_block x k = cond (eqb k 0) (ColourOf x) (cond (eqb k 1) (OwnerOf x) (cond (eqb k 2) (ShapeOf x) (PayloadOf x (k - 3))))
-
--- the place whose word has this index
-abbrev place_at : Extent → ℕ → Place
-place_at e i = cond (ltb i 3) (cond (eqb i 0) Phase (cond (eqb i 1) Cursor FreeCount)) (cond (ltb i (3 + e.threads)) (GreyList (i - 3)) (cond (ltb i (3 + 2 * e.threads)) (FreeList (i - (3 + e.threads))) (in_block ((i - (3 + 2 * e.threads)) / (3 + e.width) + 1) ((i - (3 + 2 * e.threads)) % (3 + e.width)))))
 
 at_block : (e : Extent) (x k : ℕ) → 1 ≤ x → k < 3 + e.width → place_at e (block_index e x + k) ≡ in_block x k
 at_block e x k pos low =
@@ -30,7 +22,8 @@ at_block e x k pos low =
 block_low : (e : Extent) (x : ℕ) → is_block e x ≡ true → (1 ≤ x) × (x ≤ e.blocks)
 block_low e x h = let p = and_parts _ _ h in (leb-true 1 x p.0, leb-true x e.blocks p.1)
 
-back : (e : Extent) (p : Place) → in_range e p ≡ true → place_at e (index e p) ≡ p
+-- the place that an index has is the one whose index it is
+pub back : (e : Extent) (p : Place) → in_range e p ≡ true → place_at e (index e p) ≡ p
 back e Phase h = refl
 back e Cursor h = refl
 back e FreeCount h = refl

@@ -1,5 +1,5 @@
 -- The places of a heap, and the index of each among its words.
-use Rattle.std.specs.Prelude.{ℕ, ◌+◌, ◌*◌, ◌-◌, ◌≤◌, Bool, true, false, ◌==◌, ◌&&◌, nat_lt, nat_le}
+use Rattle.std.specs.Prelude.{ℕ, ◌+◌, ◌*◌, ◌-◌, ◌/◌, ◌%◌, ◌≤◌, Bool, true, false, cond, ◌==◌, ◌&&◌, nat_lt, nat_le}
 use Rattle.block_store.specs.declared.Config.{Config}
 use Rattle.block_store.specs.declared.TheConstants.{PAYLOADS}
 
@@ -58,6 +58,14 @@ index e (PayloadOf x j) = block_index e x + (3 + j)
 
 abbrev pub words_count : Extent → ℕ
 words_count e = 3 + 2 * e.threads + (3 + e.width) * e.blocks
+
+-- the place of block x whose word is k words behind the colour
+abbrev pub in_block : ℕ → ℕ → Place
+in_block x k = cond (k == 0) (ColourOf x) (cond (k == 1) (OwnerOf x) (cond (k == 2) (ShapeOf x) (PayloadOf x (k - 3))))
+
+-- the place whose word has this index
+abbrev pub place_at : Extent → ℕ → Place
+place_at e i = cond (nat_lt i 3) (cond (i == 0) Phase (cond (i == 1) Cursor FreeCount)) (cond (nat_lt i (3 + e.threads)) (GreyList (i - 3)) (cond (nat_lt i (3 + 2 * e.threads)) (FreeList (i - (3 + e.threads))) (in_block ((i - (3 + 2 * e.threads)) / (3 + e.width) + 1) ((i - (3 + 2 * e.threads)) % (3 + e.width)))))
 
 -- whether two places are one
 abbrev pub same_place : Place → Place → Bool

@@ -1,0 +1,12 @@
+use Rattle.heap_system.proofs.Always.{run_kept}
+use Rattle.heap_system.proofs.Told.{rest_told, decided_told, undecided_told}
+use Rattle.heap_system.proofs.laws.logs_are_parts.Goals as goal
+
+pub returns-clause-rest : goal.returns-clause-rest
+returns-clause-rest _ c traces ts r job is t tl e = rest_told c traces r (run_kept c traces ts r job is) t tl e
+
+pub returns-clause-decided : goal.returns-clause-decided
+returns-clause-decided _ c traces ts r job is t tl f at e = decided_told c traces r (run_kept c traces ts r job is) t tl f at e
+
+pub returns-clause-undecided : goal.returns-clause-undecided
+returns-clause-undecided _ c traces ts r job is t tl f at e = undecided_told c traces r (run_kept c traces ts r job is) t tl f at e

@@ -1,0 +1,16 @@
+use Rattle.std.proofs.Common.{sym}
+use Rattle.block_store.specs.Places.{Phase}
+use Rattle.heap_machine.proofs.Gatings.{inside_most}
+use Rattle.heap_system.specs.Pictures.{heap_in}
+use Rattle.heap_system.proofs.Always.{run_kept}
+use Rattle.heap_system.proofs.Kept.{gates_in}
+use Rattle.heap_system.proofs.laws.threads_inside_are_counted.Goals as goal
+
+pub returns-clause-count : goal.returns-clause-count
+returns-clause-count _ c traces ts r job is = sym (run_kept c traces ts r job is).gate.count
+
+pub returns-clause-most : goal.returns-clause-most
+returns-clause-most _ c traces ts r job is = inside_most c.threads (heap_in c r.state Phase) (gates_in c r.state) (run_kept c traces ts r job is).gate
+
+pub returns-clause-opened : goal.returns-clause-opened
+returns-clause-opened _ c traces ts r job is = let p = (run_kept c traces ts r job is).phase in (p.opened, p.cycle)

@@ -1,0 +1,5 @@
+pub mod Openings
+pub mod Locals
+pub mod Machines
+pub mod Pictures
+pub mod Systems

@@ -1,0 +1,102 @@
+-- The words and all threads, what a turn of a thread makes of them, and the order that a list of turns has: its commands and starts as they were decided.
+use Rattle.std.specs.Prelude.{ℕ, ◌+◌, ◌++◌, ◌<◌, ◌≡◌, true, false, not, nat_lt, if◌then◌else◌, Bool, List, [], ◌∷◌, length, slice_index, slice_index_or, slice_set}
+use Rattle.block_store.specs.declared.Config.{Config}
+use Rattle.block_store.specs.Configs.{IsInBounds}
+use Rattle.block_store.specs.Heaps.{heap_of}
+use Rattle.block_store.specs.Places.{Place, extent, in_range, words_count}
+use Rattle.rate_plan.specs.Rates.{IsAdmitted}
+use Rattle.never_heap.specs.declared.Command.{Command}
+use Rattle.never_heap.specs.Histories.{HistoryItem, Started, Did, replay}
+use Rattle.never_heap.specs.Steps.{step}
+use Rattle.heap_machine.specs.Operations.{op_at, op_place, words_after}
+use Rattle.heap_system.specs.declared.local.Part.TheVariants.{Leave}
+use Rattle.heap_system.specs.declared.Turn.{Turn}
+use Rattle.heap_system.specs.declared.Turn.TheVariants.{Done}
+use Rattle.heap_system.specs.Locals.{LocalState, command_of, is_done, part_want, part_step, decides, turn_of, local_got, entry_of, at_start, IsTrace}
+use Rattle.heap_system.specs.Openings.{opening_heap}
+
+-- the list of words, and the threads by their numbers
+pub record State : Type 0 where
+  pub words : List ℕ
+  pub locals : List LocalState
+
+-- a thread that there is not
+abbrev pub no_local : Config → LocalState
+no_local c = record { config = c; thread = c.threads; trace = []; log = []; part = Leave }
+
+abbrev pub local_at : Config → State → ℕ → LocalState
+local_at c s t = slice_index_or s.locals t (no_local c)
+
+-- the word at the place of the thread's next event
+abbrev pub word_read : Config → State → LocalState → ℕ
+word_read c s l = slice_index s.words (op_place (op_at (extent c) (part_want l.part)))
+
+-- the state after the event of thread t: one operation on one word, and the thread moves on by one row
+abbrev pub event_done : Config → ℕ → State → State
+event_done c t s = record {
+  words = words_after (op_at (extent c) (part_want (local_at c s t).part)) s.words;
+  locals = slice_set s.locals t (local_got (local_at c s t) (word_read c s (local_at c s t)));
+}
+
+-- whether thread t has an event: a turn of a thread that is done changes nothing
+abbrev pub has_event : Config → ℕ → State → Bool
+has_event c t s = if nat_lt t c.threads then not (is_done (local_at c s t)) else false
+
+abbrev pub turned : Config → ℕ → State → State
+turned c t s = if has_event c t s then event_done c t s else s
+
+-- what the turn answers
+abbrev pub answer : Config → ℕ → State → Turn
+answer c t s = if is_done (local_at c s t) then Done else turn_of (part_step (local_at c s t).part (word_read c s (local_at c s t)))
+
+-- the command of thread t takes its place in an order, with the reply that the heap that never frees gives there
+abbrev pub entry_decided : Config → ℕ → Command → List HistoryItem → HistoryItem
+entry_decided c t k order = Did (entry_of t k (step (replay c order) t k).1)
+
+-- what a turn of thread t adds to an order: an entry, where its event decides a command
+abbrev pub decided : Config → ℕ → State → List HistoryItem → List HistoryItem
+decided c t s order =
+    if has_event c t s
+    then (if decides (local_at c s t).part (word_read c s (local_at c s t)) then entry_decided c t (command_of (local_at c s t)) order ∷ [] else [])
+    else []
+
+-- a state with the order that led to it, the oldest item first
+pub record Run : Type 0 where
+  pub state : State
+  pub order : List HistoryItem
+
+abbrev pub next : Config → ℕ → Run → Run
+next c t r = record { state = turned c t r.state; order = r.order ++ decided c t r.state r.order }
+
+-- after a list of turns, by the numbers of the threads
+abbrev pub after_turns : Config → Run → List ℕ → Run
+after_turns c r [] = r
+after_turns c r (t ∷ ts) = after_turns c (next c t r) ts
+
+-- thread t on with these traces, each at rest
+abbrev pub starts_from : Config → ℕ → List (List Command) → List LocalState
+starts_from c t [] = []
+starts_from c t (trace ∷ traces) = at_start c t trace ∷ starts_from c (t + 1) traces
+
+-- the opening words, and each thread at rest before its trace
+pub record IsOpening (c : Config) (traces : List (List Command)) (s : State) : Type 0 where
+  pub count : length s.words ≡ words_count (extent c)
+  pub words : (p : Place) → in_range (extent c) p ≡ true → heap_of (extent c) s.words p ≡ opening_heap c p
+  pub locals : s.locals ≡ starts_from c 0 traces
+
+-- a configuration that has a rate, with a trace for each thread
+pub record IsJob (c : Config) (traces : List (List Command)) : Type 0 where
+  pub bounds : IsInBounds c
+  pub plan : IsAdmitted c
+  pub count : length traces ≡ c.threads
+  pub each : (t : ℕ) → t < c.threads → IsTrace c (slice_index_or traces t [])
+
+-- the order begins with the start of cycle 1
+abbrev pub opened : State → Run
+opened s = record { state = s; order = Started ∷ [] }
+
+-- the run of a job by a list of turns
+pub record IsRunOf (c : Config) (traces : List (List Command)) (ts : List ℕ) (r : Run) : Type 0 where
+  pub first : State
+  pub opening : IsOpening c traces first
+  pub turns : r ≡ after_turns c (opened first) ts

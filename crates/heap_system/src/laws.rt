@@ -1,0 +1,74 @@
+//! What holds after every list of turns, for the proofs above: each law is the contract of a function
+//! that does nothing.
+
+ghost use Rattle.std.specs.Prelude.{◌≡◌, ◌<◌, ◌≤◌, ◌++◌, ◌∷◌, [], ℕ, List, true, false, slice_index_or};
+ghost use Rattle.block_store.specs.declared.Config.{Config};
+ghost use Rattle.block_store.specs.Heaps.{heap_of};
+ghost use Rattle.block_store.specs.Phases.{bit, inside_of, is_closed, cycle_of};
+ghost use Rattle.block_store.specs.Places.{Place, Phase, extent, in_range};
+ghost use Rattle.rate_plan.specs.Rates.{IsAdmitted};
+ghost use Rattle.never_heap.specs.declared.Command.{Command};
+ghost use Rattle.never_heap.specs.declared.Reply.{Reply};
+ghost use Rattle.never_heap.specs.Graphs.{start_graph};
+ghost use Rattle.never_heap.specs.Histories.{replay, part, Legal, starts_in, work_in};
+ghost use Rattle.shown_graph.specs.Words.{block_words, Agrees};
+ghost use Rattle.shown_graph.specs.Shown.{every_name, Shows};
+ghost use Rattle.shown_graph.specs.Openings.{opening_at, opening_last, opening_words};
+ghost use Rattle.shown_graph.specs.Events.{unloaded, Follows};
+ghost use Rattle.heap_machine.specs.Counts.{total};
+ghost use Rattle.heap_machine.specs.Gating.{is_inside};
+ghost use Rattle.heap_machine.specs.Operations.{place_of, op_at, SumFits};
+ghost use Rattle.barrier_steps.specs.declared.rows.FieldRow.{FieldRow};
+ghost use Rattle.barrier_steps.specs.Rows.{field_decided};
+ghost use Rattle.heap_system.specs.declared.local.Part.TheVariants.{Serve};
+ghost use Rattle.heap_system.specs.Locals.{is_rest, command_of, entry_of, part_want, PartReads};
+ghost use Rattle.heap_system.specs.Machines.{Run, IsJob, IsRunOf, local_at, word_read};
+ghost use Rattle.heap_system.specs.Openings.{opening_heap};
+ghost use Rattle.heap_system.specs.Pictures.{stand_of, loading, is_late, heap_in, graph_state};
+
+/// The words of an opening are those of the start graph, up to the last block of the shared array.
+pub fn opening_shows_the_start()
+    ensures { (c : Config) (ws : List ℕ) → IsAdmitted c → ((p : Place) → in_range (extent c) p ≡ true → heap_of (extent c) ws p ≡ opening_heap c p)
+        → (x : ℕ) → 0 < x → x ≤ opening_last c → Agrees (opening_words c) (block_words (heap_of (extent c) ws)) x }
+{}
+
+/// The words show the replay of the order. Between the load of the field and the store of a `get`, its
+/// register's word is still that of an earlier value. What a thread has loaded is of that graph.
+pub fn words_show_the_order()
+    ensures words { (c : Config) (traces : List (List Command)) (ts : List ℕ) (r : Run) → IsJob c traces → IsRunOf c traces ts r
+        → Shows c.threads (opening_last c) (every_name (start_graph c)) (replay c r.order) (opening_at c.threads) (block_words (heap_in c r.state)) (λ t q. is_late (local_at c r.state t).part q) }
+    ensures loads { (c : Config) (traces : List (List Command)) (ts : List ℕ) (r : Run) → IsJob c traces → IsRunOf c traces ts r
+        → Follows c.threads (opening_last c) (every_name (start_graph c)) (opening_at c.threads) (graph_state c r) }
+{}
+
+/// The order is legal: each command is answered as the heap that never frees answers it there.
+pub fn order_is_legal()
+    ensures legal { (c : Config) (traces : List (List Command)) (ts : List ℕ) (r : Run) → IsJob c traces → IsRunOf c traces ts r → Legal c r.order }
+    ensures counts { (c : Config) (traces : List (List Command)) (ts : List ℕ) (r : Run) → IsJob c traces → IsRunOf c traces ts r → (starts_in r.order ≡ 1) × (work_in r.order ≡ 0) }
+{}
+
+/// A thread's log is its part of the order, reply for reply. Between the deciding event of a command
+/// and its last event inside, the order has one entry more. A thread at rest holds nothing.
+pub fn logs_are_parts()
+    ensures rest { (c : Config) (traces : List (List Command)) (ts : List ℕ) (r : Run) → IsJob c traces → IsRunOf c traces ts r → (t : ℕ) → t < c.threads → is_rest (local_at c r.state t).part ≡ true
+        → (part t r.order ≡ (local_at c r.state t).log) × (loading (local_at c r.state t).part ≡ unloaded) }
+    ensures decided { (c : Config) (traces : List (List Command)) (ts : List ℕ) (r : Run) → IsJob c traces → IsRunOf c traces ts r → (t : ℕ) → t < c.threads → (f : FieldRow) → (local_at c r.state t).part ≡ Serve f → field_decided f ≡ true
+        → (y : Reply) × (part t r.order ≡ (local_at c r.state t).log ++ entry_of t (command_of (local_at c r.state t)) y ∷ []) }
+    ensures undecided { (c : Config) (traces : List (List Command)) (ts : List ℕ) (r : Run) → IsJob c traces → IsRunOf c traces ts r → (t : ℕ) → t < c.threads → (f : FieldRow) → (local_at c r.state t).part ≡ Serve f → field_decided f ≡ false
+        → part t r.order ≡ (local_at c r.state t).log }
+{}
+
+/// The phase word counts the threads inside, at most all of them; the gate stays open, in cycle 1.
+pub fn threads_inside_are_counted()
+    ensures count { (c : Config) (traces : List (List Command)) (ts : List ℕ) (r : Run) → IsJob c traces → IsRunOf c traces ts r → inside_of (heap_in c r.state Phase) ≡ total c.threads (λ t. bit (is_inside (stand_of (local_at c r.state t).part))) }
+    ensures most { (c : Config) (traces : List (List Command)) (ts : List ℕ) (r : Run) → IsJob c traces → IsRunOf c traces ts r → inside_of (heap_in c r.state Phase) ≤ c.threads }
+    ensures opened { (c : Config) (traces : List (List Command)) (ts : List ℕ) (r : Run) → IsJob c traces → IsRunOf c traces ts r → (is_closed (heap_in c r.state Phase) ≡ false) × (cycle_of (heap_in c r.state Phase) ≡ 1) }
+{}
+
+/// The next event of a thread is on a place of the heap, reads a word that its row may read, and
+/// leaves no sum or difference outside of 64 bits.
+pub fn events_are_safe()
+    ensures place { (c : Config) (traces : List (List Command)) (ts : List ℕ) (r : Run) → IsJob c traces → IsRunOf c traces ts r → (t : ℕ) → t < c.threads → in_range (extent c) (place_of (part_want (local_at c r.state t).part)) ≡ true }
+    ensures reads { (c : Config) (traces : List (List Command)) (ts : List ℕ) (r : Run) → IsJob c traces → IsRunOf c traces ts r → (t : ℕ) → t < c.threads → PartReads c (local_at c r.state t).part (word_read c r.state (local_at c r.state t)) }
+    ensures sums { (c : Config) (traces : List (List Command)) (ts : List ℕ) (r : Run) → IsJob c traces → IsRunOf c traces ts r → (t : ℕ) → t < c.threads → SumFits (op_at (extent c) (part_want (local_at c r.state t).part)) (word_read c r.state (local_at c r.state t)) }
+{}

@@ -1,0 +1,26 @@
+//! The whole heap: one thread's state, and all threads with the words that they share.
+#![tactic(auto)]
+
+mod laws;
+mod local;
+mod start;
+mod system;
+
+pub use laws::{
+    events_are_safe, logs_are_parts, opening_shows_the_start, order_is_legal,
+    threads_inside_are_counted, words_show_the_order,
+};
+pub use local::Local;
+pub use start::opening;
+pub use system::{Finished, System, Unfinished};
+
+/// What a turn of a thread was.
+#[derive(Clone, Copy, Debug, PartialEq, Eq)]
+pub enum Turn {
+    /// An event that did not wait.
+    Went,
+    /// An event that waited: what it read has to change before the thread can go on.
+    Waited,
+    /// Nothing: the thread was done.
+    Done,
+}

@@ -1,0 +1,233 @@
+//! The words of a heap before the first event.
+
+ghost use Rattle.std.specs.Prelude.{◌≡◌, ◌≤◌, ◌<◌, ◌+◌, ◌*◌, ◌&&◌, ◌==◌, ℕ, cond, true, length, IfOk};
+ghost use Rattle.block_store.specs.Configs.{IsInBounds};
+ghost use Rattle.block_store.specs.Heaps.{heap_of};
+ghost use Rattle.block_store.specs.Places.{Place, ColourOf, OwnerOf, ShapeOf, PayloadOf, extent, in_range, words_count, IsBlock, FreeList, in_block, place_at};
+ghost use Rattle.rate_plan.specs.Rates.{IsAdmitted};
+ghost use Rattle.object_lists.specs.Parts.{link_in};
+ghost use Rattle.array_trees.specs.Trees.{array_blocks};
+ghost use Rattle.array_trees.specs.Levels.{array_part};
+ghost use Rattle.shown_graph.specs.Made.{link_word};
+ghost use Rattle.shown_graph.specs.Openings.{opening_last, register_word, shared_word};
+ghost use Rattle.heap_system.specs.Openings.{opening_colour, opening_heap};
+
+use array_trees::{blocks_of_array, child_of};
+use block_store::{
+    Colour, Config, OutOfMemory, Owner, PAYLOADS, Payload, PhaseWord, Places, REGISTER_BLOCKS,
+    Shape, colour_word, owner_word, payload_word, phase_word, shape_word, white,
+};
+use heap_machine::Words;
+use std::alloc::Global;
+
+// The registers of a thread are an array of this many elements.
+const REGISTERS: u32 = 16;
+
+// A block has its colour, its owner, its shape and its payload.
+const BLOCK_WORDS: u32 = 3 + PAYLOADS;
+
+/// The words of the opening heap of a configuration that has a rate: each thread has its registers,
+/// of which register 0 refers to the shared array, and all blocks behind that are Free.
+pub fn opening(alloc: Global, c: &Config) -> Result<Words, OutOfMemory>
+    requires bounds { IsInBounds c.now }
+    requires plan { IsAdmitted c.now }
+    ensures count { IfOk result (λ w. length w ≡ words_count (extent c.now)) }
+    ensures words { IfOk result (λ w. (p : Place) → in_range (extent c.now) p ≡ true → heap_of (extent c.now) w p ≡ opening_heap c.now p) }
+{
+    let count = Places::new(c).words();
+    let mut words = Words::zeroed(alloc, count)?;
+    for i in 0..count {
+        words.put(i, word_at(c, i));
+    }
+    Ok(words)
+}
+
+// The word of this number.
+fn word_at(c: &Config, i: usize) -> u64
+    requires bounds { IsInBounds c.now }
+    requires plan { IsAdmitted c.now }
+    requires low { i < words_count (extent c.now) }
+    ensures { result ≡ opening_heap c.now (place_at (extent c.now) i) }
+{
+    let threads = c.threads as usize;
+    let lists = 3 + threads;
+    let first = 3 + 2 * threads;
+    if i < 3 {
+        head_at(c, i)
+    } else if i < lists {
+        REGISTER_BLOCKS as u64 * (i - 3) as u64 + 1
+    } else if i < first {
+        free_list_at(c, i - lists)
+    } else {
+        let behind = (i - first) as u32;
+        block_word(c, behind / BLOCK_WORDS + 1, behind % BLOCK_WORDS)
+    }
+}
+
+// The phase word, the cursor, and the free count.
+fn head_at(c: &Config, i: usize) -> u64
+    requires bounds { IsInBounds c.now }
+    requires plan { IsAdmitted c.now }
+    requires low { i < 3 }
+    ensures { result ≡ opening_heap c.now (place_at (extent c.now) i) }
+{
+    match i {
+        0 => phase_word(PhaseWord {
+            inside: 0,
+            sweep: false,
+            closed: false,
+            cycle: 1,
+        }),
+        1 => c.blocks as u64 + 1,
+        _ => (c.blocks - last_block(c)) as u64,
+    }
+}
+
+// The free list of thread `t`.
+fn free_list_at(c: &Config, t: usize) -> u64
+    requires { IsInBounds c.now }
+    ensures { result ≡ opening_heap c.now (FreeList t) }
+{
+    if t == 0 { last_block(c) as u64 + 1 } else { 0 }
+}
+
+// The word of block `x` that stands `k` words behind its colour.
+fn block_word(c: &Config, x: u32, k: u32) -> u64
+    requires bounds { IsInBounds c.now }
+    requires plan { IsAdmitted c.now }
+    requires block { IsBlock c.now x }
+    requires low { k < 7 }
+    ensures { result ≡ opening_heap c.now (in_block x k) }
+{
+    match k {
+        0 => colour_at(c, x),
+        1 => owner_at(c, x),
+        2 => shape_at(c, x),
+        _ => payload_at(c, x, k - 3),
+    }
+}
+
+// The last block of the shared array.
+fn last_block(c: &Config) -> u32
+    requires { IsInBounds c.now }
+    ensures { result ≡ opening_last c.now }
+{
+    REGISTER_BLOCKS * c.threads + blocks_of_array(c.shared)
+}
+
+// The colour word of block `x`.
+fn colour_at(c: &Config, x: u32) -> u64
+    requires bounds { IsInBounds c.now }
+    requires block { IsBlock c.now x }
+    ensures { result ≡ opening_colour c.now x }
+{
+    if x <= REGISTER_BLOCKS * c.threads && (x - 1) % REGISTER_BLOCKS == 0 {
+        colour_word(Colour::Grey(0))
+    } else if x <= last_block(c) {
+        colour_word(white(1))
+    } else if x < c.blocks {
+        colour_word(Colour::Free(x + 1))
+    } else {
+        colour_word(Colour::Free(0))
+    }
+}
+
+// The owner word of block `x`.
+fn owner_at(c: &Config, x: u32) -> u64
+    requires bounds { IsInBounds c.now }
+    requires block { IsBlock c.now x }
+    ensures { result ≡ opening_heap c.now (OwnerOf x) }
+{
+    let registers = REGISTER_BLOCKS * c.threads;
+    if x <= registers {
+        owner_word(Owner {
+            thread: (x - 1) / REGISTER_BLOCKS,
+            serial: 0,
+            ordinal: (x - 1) % REGISTER_BLOCKS,
+        })
+    } else if x <= last_block(c) {
+        owner_word(Owner {
+            thread: c.threads,
+            serial: 0,
+            ordinal: x - (registers + 1),
+        })
+    } else {
+        0
+    }
+}
+
+// The shape word of block `x`.
+fn shape_at(c: &Config, x: u32) -> u64
+    requires bounds { IsInBounds c.now }
+    requires block { IsBlock c.now x }
+    ensures { result ≡ opening_heap c.now (ShapeOf x) }
+{
+    if x <= REGISTER_BLOCKS * c.threads {
+        shape_word(Shape::Tree(REGISTERS))
+    } else if x <= last_block(c) {
+        shape_word(Shape::Tree(c.shared))
+    } else {
+        0
+    }
+}
+
+// The word of payload `j` of an array of nils, whose ordinals stand from block `first` on.
+fn link_at(elements: u32, first: u32, ordinal: u32, j: u32) -> u64
+    requires few { elements ≤ 65535 }
+    requires inside { ordinal < array_blocks elements }
+    requires child { j < 4 }
+    requires first { 1 ≤ first }
+    requires low { first + array_blocks elements ≤ 65536 }
+    ensures { result ≡ link_word (λ o. first + o) (link_in (array_part elements ordinal j)) }
+{
+    match child_of(elements, ordinal, j) {
+        Some(child) => payload_word(Payload::Block(first + child)),
+        None => 0,
+    }
+}
+
+// Payload `j` of block `x`.
+fn payload_at(c: &Config, x: u32, j: u32) -> u64
+    requires bounds { IsInBounds c.now }
+    requires plan { IsAdmitted c.now }
+    requires block { IsBlock c.now x }
+    requires payload { j < PAYLOADS }
+    ensures { result ≡ opening_heap c.now (PayloadOf x j) }
+{
+    let registers = REGISTER_BLOCKS * c.threads;
+    if x <= registers {
+        register_payload(c, (x - 1) / REGISTER_BLOCKS, (x - 1) % REGISTER_BLOCKS, j)
+    } else if x <= last_block(c) {
+        shared_payload(c, x - (registers + 1), j)
+    } else {
+        0
+    }
+}
+
+// Payload `j` of ordinal `ordinal` of the register array of thread `t`: register 0 refers to the
+// shared array, and the other registers are nil.
+fn register_payload(c: &Config, t: u32, ordinal: u32, j: u32) -> u64
+    requires bounds { IsInBounds c.now }
+    requires plan { IsAdmitted c.now }
+    requires thread { t < c.now.threads }
+    requires ordinal { ordinal < 5 }
+    requires payload { j < 4 }
+    ensures { result ≡ register_word c.now t ordinal j }
+{
+    if ordinal == 1 && j == 0 {
+        payload_word(Payload::Block(REGISTER_BLOCKS * c.threads + 1))
+    } else {
+        link_at(REGISTERS, REGISTER_BLOCKS * t + 1, ordinal, j)
+    }
+}
+
+// Payload `j` of ordinal `ordinal` of the shared array, whose elements are nil.
+fn shared_payload(c: &Config, ordinal: u32, j: u32) -> u64
+    requires bounds { IsInBounds c.now }
+    requires plan { IsAdmitted c.now }
+    requires ordinal { ordinal < array_blocks c.now.shared }
+    requires payload { j < 4 }
+    ensures { result ≡ shared_word c.now ordinal j }
+{
+    link_at(c.shared, REGISTER_BLOCKS * c.threads + 1, ordinal, j)
+}

@@ -1,0 +1,193 @@
+//! All threads with the words that they share, and what a finished run shows.
+
+ghost use Rattle.std.specs.Prelude.{◌≡◌, ◌<◌, ◌≤◌, ℕ, List, [], length, map, slice_index, slice_index_or, IfOk, IfErr, IfSome, IfNone, true, false};
+ghost use Rattle.block_store.specs.declared.Config.{Config};
+ghost use Rattle.never_heap.specs.declared.Command.{Command};
+ghost use Rattle.heap_system.specs.Locals.{LocalState, is_done};
+ghost use Rattle.heap_system.specs.Machines.{turned, answer, local_at, IsJob, IsOpening};
+ghost use Rattle.heap_system.specs.Systems.{Whole, Finish, traces_of, logs_of, AllDone, IsFinished, IsLeastUndone};
+
+use crate::Turn;
+use crate::local::Local;
+use crate::start::opening;
+use block_store::{Config, OutOfMemory};
+use heap_machine::Words;
+use never_heap::{Command, Entry, Logs};
+use std::alloc::Global;
+use std::marker::Model;
+
+/// The words of a heap and its threads, after some turns of them.
+#[derive(Drop)]
+pub struct System {
+    config: Config,
+    words: Words,
+    locals: Vec<Local>,
+}
+
+impl Model for System {
+    ghost use Rattle.heap_system.specs.Systems.{Whole, IsReached};
+
+    ghost Value = { Whole };
+
+    ghost view = { λ s. record { config = s.config; state = record { words = s.words; locals = s.locals.items } } };
+
+    ghost invariant = { λ s. IsReached s.config (record { words = s.words; locals = s.locals.items }) };
+}
+
+/// What is left of a system after a run: its configuration, and what its threads answered.
+#[derive(Drop)]
+pub struct Finished {
+    config: Config,
+    locals: Vec<Local>,
+}
+
+impl Model for Finished {
+    ghost use Rattle.std.specs.Prelude.{◌≡◌, ◌≤◌, length, map};
+    ghost use Rattle.heap_system.specs.Locals.{LocalState};
+    ghost use Rattle.heap_system.specs.Systems.{Finish};
+
+    ghost Value = { Finish };
+
+    ghost view = { λ f. record { config = f.config; logs = map (λ (l : LocalState). l.log) f.locals.items } };
+
+    ghost invariant = { λ f. (length f.locals.items ≡ f.config.threads) × (f.config.threads ≤ 16) };
+}
+
+/// A system that is not finished.
+#[derive(Drop)]
+pub struct Unfinished {
+    /// The system, as it was.
+    pub system: System,
+    /// The least thread that is not done.
+    pub thread: u32,
+}
+
+// The least thread that is not done.
+fn first_undone(locals: &[Local]) -> Option<usize>
+    ensures none { IfNone result ((t : ℕ) (d : LocalState) → t < length locals.now → is_done (slice_index_or locals.now t d) ≡ true) }
+    ensures there { IfSome result (λ t. t < length locals.now) }
+    ensures undone { IfSome result (λ t. (d : LocalState) → is_done (slice_index_or locals.now t d) ≡ false) }
+    ensures least { IfSome result (λ t. (u : ℕ) (d : LocalState) → u < t → is_done (slice_index_or locals.now u d) ≡ true) }
+{
+    locals.iter().position(|local| !local.done())
+}
+
+impl System {
+    /// The system of a configuration that has a rate, with a trace for each thread: the opening words,
+    /// and each thread at rest. A trace has at most 131,072 commands, which are in bounds and allocate
+    /// nothing.
+    pub fn new(alloc: Global, c: Config, traces: Vec<Vec<Command>>) -> Result<System, OutOfMemory>
+        requires { IsJob c (map (λ v. v.items) traces.items) }
+        ensures config { IfOk result (λ s. s.config ≡ c) }
+        ensures opening { IfOk result (λ s. IsOpening c (map (λ v. v.items) traces.items) s.state) }
+    {
+        let words = opening(alloc, &c)?;
+        let mut locals = Vec::with_capacity(alloc, traces.len())?;
+        for trace in traces {
+            let thread = locals.len() as u32;
+            locals.push(Local::new(alloc, &c, thread, trace)?)?;
+        }
+        Ok(System {
+            config: c,
+            words,
+            locals,
+        })
+    }
+
+    /// Makes the event that a thread of the heap wants. Nothing changes where the thread is done.
+    pub fn turn(&mut self, thread: u32) -> Turn
+        requires { thread < self.old.config.threads }
+        ensures state { self.new ≡ record self.old { state = turned self.old.config thread self.old.state } }
+        ensures answer { result ≡ answer self.old.config thread self.old.state }
+    {
+        let local = &mut self.locals[thread as usize];
+        if local.done() {
+            return Turn::Done;
+        }
+        let word = self.words.act(&local.want());
+        local.got(word)
+    }
+
+    /// The configuration.
+    pub fn config(&self) -> &Config
+        ensures { result.now ≡ self.now.config }
+    {
+        let _words = &self.words;
+        &self.config
+    }
+
+    /// A thread of the heap.
+    pub fn local(&self, thread: u32) -> &Local
+        requires { thread < self.now.config.threads }
+        ensures { result.now ≡ local_at self.now.config self.now.state thread }
+    {
+        &self.locals[thread as usize]
+    }
+
+    /// The word at a place, which is below the number of words.
+    pub fn word(&self, place: usize) -> u64
+        requires { place < length self.now.state.words }
+        ensures { result ≡ slice_index self.now.state.words place }
+    {
+        self.words.word(place)
+    }
+
+    /// What a run shows whose threads are all done.
+    ///
+    /// # Errors
+    ///
+    /// The system, unchanged, where a thread is not done, with the least such thread.
+    pub fn finish(self) -> Result<Finished, Unfinished>
+        ensures done { IfOk result (λ f. AllDone self.config self.state) }
+        ensures finished { IfOk result (λ f. (f.config ≡ self.config) × (f.logs ≡ logs_of self.state) × IsFinished self.config (traces_of self.state) f.logs) }
+        ensures unchanged { IfErr result (λ u. u.system ≡ self) }
+        ensures least { IfErr result (λ u. IsLeastUndone self.config self.state u.thread) }
+    {
+        match first_undone(&self.locals) {
+            Some(thread) => Err(Unfinished {
+                system: self,
+                thread: thread as u32,
+            }),
+            None => Ok(Finished {
+                config: self.config,
+                locals: self.locals,
+            }),
+        }
+    }
+}
+
+impl Finished {
+    /// The configuration of the run.
+    pub fn config(&self) -> &Config
+        ensures { result.now ≡ self.now.config }
+    {
+        let _locals = &self.locals;
+        &self.config
+    }
+}
+
+impl Logs for Finished {
+    ghost logs = { λ f. f.logs };
+
+    ghost cycle_count = { λ f. 1 };
+
+    ghost unit_count = { λ f. 0 };
+
+    fn threads(&self) -> u32 {
+        self.locals.len() as u32
+    }
+
+    fn entries(&self, t: u32) -> &[Entry] {
+        self.locals[t as usize].log()
+    }
+
+    fn cycles(&self) -> u64 {
+        let _locals = &self.locals;
+        1
+    }
+
+    fn units(&self) -> u64 {
+        let _locals = &self.locals;
+        0
+    }
+}
