@@ -5,6 +5,8 @@ mod laws;
 mod local;
 mod start;
 mod system;
+#[cfg(test)]
+mod tests;
 
 pub use laws::{
     events_are_safe, logs_are_parts, opening_shows_the_start, order_is_legal,

@@ -1,0 +1,147 @@
+//! The opening heap, and two threads on one shared array.
+
+ghost use Rattle.std.specs.Prelude.{◌≡◌, ◌<◌, IfOk};
+
+use crate::*;
+use block_store::{Config, OutOfMemory, Value};
+use never_heap::{Command, Logs, Reply};
+use rate_plan::plan;
+use std::alloc::Global;
+
+const ONE: Config = Config {
+    threads: 1,
+    blocks: 64,
+    live: 20,
+    object: 2,
+    shared: 0,
+};
+
+const TWO: Config = Config {
+    threads: 2,
+    blocks: 64,
+    live: 20,
+    object: 2,
+    shared: 4,
+};
+
+#[test]
+fn the_opening_has_these_words(rt: HostRuntime) -> Result<(), OutOfMemory> {
+    if plan(&ONE) != Ok(7) {
+        return Ok(());
+    }
+    let words = opening(rt.alloc(), &ONE)?;
+    assert_eq!(rt; words.len(), 453);
+    let all: [(usize, u64); 25] = [
+        (0, 1024),
+        (1, 65),
+        (2, 58),
+        (3, 1),
+        (4, 7),
+        (5, 3),
+        (6, 0),
+        (7, 33),
+        (8, 4),
+        (9, 6),
+        (10, 8),
+        (11, 10),
+        (12, 1),
+        (13, 1),
+        (14, 33),
+        (15, 12),
+        (16, 0),
+        (17, 0),
+        (18, 0),
+        (40, 1),
+        (41, 1_099_511_627_776),
+        (42, 1),
+        (43, 0),
+        (47, 64),
+        (446, 0),
+    ];
+    for (place, word) in all {
+        if place < words.len() {
+            assert_eq!(rt; words.word(place), word);
+        }
+    }
+    Ok(())
+}
+
+// One thread stores 7 in an element of the shared array, and the other reads that element.
+fn writer_and_reader(alloc: Global) -> Result<System, OutOfMemory>
+    ensures { IfOk result (λ s. s.config.threads ≡ 2) }
+{
+    let writer = vec![in alloc;
+        Command::Set { d: 1, value: 7 },
+        Command::Put { s: 0, i: 2, v: 1 },
+    ]?;
+    let reader = vec![in alloc; Command::Get { d: 2, s: 0, i: 2 }, Command::Say { s: 2 }]?;
+    System::new(alloc, TWO, vec![in alloc; writer, reader]?)
+}
+
+// Gives a thread turns until its log has this many entries, or until it is done.
+fn turns(system: &mut System, thread: u32, entries: usize)
+    requires { thread < system.old.config.threads }
+    ensures { system.new.config ≡ system.old.config }
+{
+    for _ in 0..100 {
+        let local = system.local(thread);
+        if local.done() || local.log().len() >= entries {
+            return;
+        }
+        system.turn(thread);
+    }
+}
+
+// What thread `t` answered.
+fn replies(logs: &Finished, t: u32) -> (usize, Option<Reply>, Option<Reply>) {
+    if t >= logs.threads() {
+        return (0, None, None);
+    }
+    let entries = logs.entries(t);
+    (
+        entries.len(),
+        entries.first().map(|entry| entry.reply),
+        entries.last().map(|entry| entry.reply),
+    )
+}
+
+#[test]
+fn a_reader_that_comes_first_reads_nil(rt: HostRuntime) -> Result<(), OutOfMemory> {
+    let system = writer_and_reader(rt.alloc())?;
+    let Err(Unfinished { mut system, thread }) = system.finish() else {
+        assert!(rt; false, "finished at once");
+        return Ok(());
+    };
+    assert_eq!(rt; thread, 0);
+    if system.config().threads == 2 {
+        turns(&mut system, 1, 1);
+        turns(&mut system, 0, 3);
+        turns(&mut system, 1, 3);
+        assert_eq!(rt; system.turn(0), Turn::Done);
+    }
+    let Ok(logs) = system.finish() else {
+        assert!(rt; false, "not finished");
+        return Ok(());
+    };
+    let stored = Some(Reply::Stored);
+    let nil = Some(Reply::Val(Value::Nil));
+    assert_eq!(rt; replies(&logs, 0), (2, stored, stored));
+    assert_eq!(rt; replies(&logs, 1), (2, nil, nil));
+    assert_eq!(rt; (logs.cycles(), logs.units()), (1, 0));
+    assert_eq!(rt; logs.config(), &TWO);
+    Ok(())
+}
+
+#[test]
+fn a_reader_that_comes_last_reads_what_was_stored(rt: HostRuntime) -> Result<(), OutOfMemory> {
+    let mut system = writer_and_reader(rt.alloc())?;
+    turns(&mut system, 0, 3);
+    turns(&mut system, 1, 3);
+    let Ok(logs) = system.finish() else {
+        assert!(rt; false, "not finished");
+        return Ok(());
+    };
+    let seven = Some(Reply::Val(Value::Int(7)));
+    assert_eq!(rt; replies(&logs, 1), (2, seven, seven));
+    Ok(())
+}
