@@ -1,7 +1,11 @@
 //! Whole calls over sources and sinks in memory.
 
-use crate::{Exit, rtheap};
-use never_heap::NoPace;
+ghost use Rattle.std.specs.Prelude.{◌≡◌, ◌≤◌, length};
+ghost use Rattle.block_store.specs.Configs.{IsInBounds};
+
+use crate::{Exit, RunEnd, rtheap};
+use block_store::Config;
+use never_heap::{Entry, Graph, Logs, NoPace};
 use std::alloc::{AllocError, Global};
 use std::process::Abort;
 use std::test::Fail;
@@ -340,4 +344,80 @@ fn a_refusal_that_cannot_be_written_is_a_write_fault(rt: HostRuntime) -> Result<
     assert!(rt; exit.run.is_none());
     assert_eq!(rt; sink.bytes(), b"".as_slice());
     Ok(())
+}
+
+/// Does the commands of a run on the heap that never frees, and compares each reply.
+#[tactic(auto, using(never_heap::proofs::Stepping::step_threads, never_heap::proofs::Stepping::step_count))]
+fn agrees(
+    rt: &impl Abort,
+    alloc: Global,
+    config: &Config,
+    entries: &[Entry],
+) -> Result<(), Fail>
+    requires bounds { IsInBounds config.now }
+    requires one_thread { config.now.threads ≡ 1 }
+    requires few { length entries.now ≤ 131072 }
+{
+    let mut graph = Graph::start(alloc, config).ok().ok_or("memory")?;
+    for k in 0..entries.len() {
+        let entry = &entries[k];
+        assert!(rt; entry.command.in_bounds(config));
+        let reply = graph.apply(0, &entry.command).ok().ok_or("memory")?;
+        assert_eq!(rt; reply, entry.reply, "entry {k}");
+    }
+    Ok(())
+}
+
+/// Runs a job, and its commands on the heap that never frees.
+fn runs_agree(rt: &impl Abort, alloc: Global, input: &str) -> Result<(), Fail> {
+    let (exit, _sink) = made(rt, alloc, &Call::run(input))?;
+    let Some(RunEnd::Ran(run)) = exit.run else {
+        return Err("nothing was run".into());
+    };
+    let config = run.config();
+    let entries = run.entries(0);
+    assert!(rt; config.in_bounds() && config.threads == 1);
+    assert!(rt; !entries.is_empty() && entries.len() <= 131_072);
+    agrees(rt, alloc, config, entries)
+}
+
+/// Objects that refer to each other in rings, an array in several registers, and a link that is
+/// overwritten.
+const RINGS: &str = "rtheap 1 threads 1 blocks 64 live 40 object 2 shared 17
+thread 0
+arr 1 5
+new 2 2
+put 2 0 2
+put 1 4 2
+put 2 1 1
+get 3 1 4
+same 3 2
+get 4 3 1
+same 4 1
+mov 5 4
+put 0 16 5
+set 6 8
+put 2 0 6
+get 7 3 0
+nil 2
+nil 3
+get 8 5 4
+get 9 8 0
+len 5
+len 8
+get 11 0 16
+same 11 5
+say 11
+put 11 0 11
+get 12 5 0
+say 12
+end
+";
+
+#[test]
+fn a_heap_of_words_answers_as_the_heap_that_never_frees(rt: HostRuntime) -> Result<(), Fail> {
+    let (commands, _written) = EACH_KIND;
+    let text = job(rt.alloc(), commands)?;
+    runs_agree(&rt, rt.alloc(), text.as_str())?;
+    runs_agree(&rt, rt.alloc(), RINGS)
 }

@@ -1,0 +1,6 @@
+use Rattle.std.proofs.Common.{◌≡◌, ◌≤◌, length}
+use Rattle.never_heap.specs.Graphs.{count_of}
+use Rattle.rtheap_core.proofs.tests.agrees.Given as goal
+
+abbrev pub invariant-loop-k : goal.invariant-loop-k
+invariant-loop-k g l = (length l.graph.mutators ≡ 1) × (count_of l.graph 0 ≤ l.k-counter)
