@@ -185,8 +185,12 @@ fn every_kind_of_command_is_answered(rt: HostRuntime) -> Result<(), Fail> {
 #[test]
 fn objects_of_several_blocks_and_large_numbers_are_stored(rt: HostRuntime) -> Result<(), Fail> {
     let alloc = rt.alloc();
-    let record = job(alloc, "new 1 6\nset 2 4611686018427387903\nput 1 5 2\nget 3 1 5\nget 3 1 6\n")?;
-    let written = "0 new 0.1 work 0\n0 ok\n0 ok\n0 int 4611686018427387903\n0 range\nend cycles 1 work 0\n";
+    let record = job(
+        alloc,
+        "new 1 6\nset 2 4611686018427387903\nput 1 5 2\nget 3 1 5\nget 3 1 6\n",
+    )?;
+    let written =
+        "0 new 0.1 work 0\n0 ok\n0 ok\n0 int 4611686018427387903\n0 range\nend cycles 1 work 0\n";
     answers(&rt, rt.alloc(), "run", record.as_str(), 0, written)?;
     let shared = "rtheap 1 threads 1 blocks 64 live 40 object 2 shared 17
 thread 0
@@ -207,7 +211,8 @@ fn what_one_register_stores_is_seen_through_another(rt: HostRuntime) -> Result<(
         rt.alloc(),
         "new 1 2\nmov 2 1\nset 3 7\nput 2 1 3\nget 4 1 1\nput 1 0 2\nget 5 2 0\nsame 5 1\nput 0 0 1\n",
     )?;
-    let written = "0 new 0.1 work 0\n0 ok\n0 ok\n0 ok\n0 int 7\n0 ok\n0 ref 0.1\n0 yes\n0 range\nend cycles 1 work 0\n";
+    let written =
+        "0 new 0.1 work 0\n0 ok\n0 ok\n0 ok\n0 int 7\n0 ok\n0 ref 0.1\n0 yes\n0 range\nend cycles 1 work 0\n";
     answers(&rt, rt.alloc(), "run", text.as_str(), 0, written)
 }
 
@@ -226,14 +231,20 @@ fn answers(
         ..Call::run(input)
     };
     let (exit, sink) = made(rt, alloc, &call)?;
-    assert_eq!(rt; (exit.status, exit.due), (status, status), "{word}: {input}");
+    assert_eq!(rt;
+        (exit.status, exit.due),
+        (status, status),
+        "{word}: {input}"
+    );
     assert_eq!(rt; sink.bytes(), written.as_bytes(), "{word}: {input}");
     Ok(())
 }
 
 /// A job of one thread without commands, on a heap of these numbers.
 fn heap(alloc: Global, blocks: u32, live: u32) -> Result<String, AllocError> {
-    format!(in alloc; "rtheap 1 threads 1 blocks {blocks} live {live} object 2 shared 0\nthread 0\nend\n")
+    format!(in alloc;
+        "rtheap 1 threads 1 blocks {blocks} live {live} object 2 shared 0\nthread 0\nend\n"
+    )
 }
 
 #[test]
@@ -246,14 +257,42 @@ fn jobs_of_several_threads_are_put_off(rt: HostRuntime) -> Result<(), Fail> {
 #[test]
 fn plan_tells_the_rate_or_why_there_is_none(rt: HostRuntime) -> Result<(), Fail> {
     let alloc = rt.alloc();
-    answers(&rt, rt.alloc(), "plan", heap(alloc, 64, 20)?.as_str(), 0, "rate 7\n")?;
-    answers(&rt, rt.alloc(), "plan", heap(alloc, 26, 20)?.as_str(), 0, "rate 52\n")?;
+    answers(
+        &rt,
+        rt.alloc(),
+        "plan",
+        heap(alloc, 64, 20)?.as_str(),
+        0,
+        "rate 7\n",
+    )?;
+    answers(
+        &rt,
+        rt.alloc(),
+        "plan",
+        heap(alloc, 26, 20)?.as_str(),
+        0,
+        "rate 52\n",
+    )?;
     for word in ["plan", "run"] {
         let no_rate = heap(alloc, 25, 20)?;
-        answers(&rt, rt.alloc(), word, no_rate.as_str(), 4, "rtheap: no rate\n")?;
+        answers(
+            &rt,
+            rt.alloc(),
+            word,
+            no_rate.as_str(),
+            4,
+            "rtheap: no rate\n",
+        )?;
         for blocks in [64, 10] {
             let small = heap(alloc, blocks, 5)?;
-            answers(&rt, rt.alloc(), word, small.as_str(), 4, "rtheap: live limit too small\n")?;
+            answers(
+                &rt,
+                rt.alloc(),
+                word,
+                small.as_str(),
+                4,
+                "rtheap: live limit too small\n",
+            )?;
         }
     }
     Ok(())
@@ -264,11 +303,39 @@ fn the_first_bad_line_is_named_with_its_reason(rt: HostRuntime) -> Result<(), Fa
     let alloc = rt.alloc();
     for word in ["plan", "run"] {
         answers(&rt, rt.alloc(), word, "", 3, "rtheap: line 1: header\n")?;
-        answers(&rt, rt.alloc(), word, "rtheap 3 threads 1 blocks 64 live 20 object 2 shared 0\n", 3, "rtheap: line 1: header\n")?;
-        answers(&rt, rt.alloc(), word, "rtheap 1 threads 01 blocks 64 live 20 object 2 shared 0\n", 3, "rtheap: line 1: number\n")?;
-        answers(&rt, rt.alloc(), word, "rtheap 1 threads 0 blocks 64 live 20 object 2 shared 0\n", 3, "rtheap: line 1: size\n")?;
+        answers(
+            &rt,
+            rt.alloc(),
+            word,
+            "rtheap 3 threads 1 blocks 64 live 20 object 2 shared 0\n",
+            3,
+            "rtheap: line 1: header\n",
+        )?;
+        answers(
+            &rt,
+            rt.alloc(),
+            word,
+            "rtheap 1 threads 01 blocks 64 live 20 object 2 shared 0\n",
+            3,
+            "rtheap: line 1: number\n",
+        )?;
+        answers(
+            &rt,
+            rt.alloc(),
+            word,
+            "rtheap 1 threads 0 blocks 64 live 20 object 2 shared 0\n",
+            3,
+            "rtheap: line 1: size\n",
+        )?;
         let open = format!(in alloc; "{HEADER}new 1 1\n")?;
-        answers(&rt, rt.alloc(), word, open.as_str(), 3, "rtheap: line 4: end\n")?;
+        answers(
+            &rt,
+            rt.alloc(),
+            word,
+            open.as_str(),
+            3,
+            "rtheap: line 4: end\n",
+        )?;
     }
     for (line, why) in [
         ("push 1 1", "word"),
@@ -286,7 +353,14 @@ fn the_first_bad_line_is_named_with_its_reason(rt: HostRuntime) -> Result<(), Fa
         answers(&rt, rt.alloc(), "run", text.as_str(), 3, refusal.as_str())?;
     }
     let behind = format!(in alloc; "{HEADER}end\nnil 1\n")?;
-    answers(&rt, rt.alloc(), "run", behind.as_str(), 3, "rtheap: line 4: end\n")
+    answers(
+        &rt,
+        rt.alloc(),
+        "run",
+        behind.as_str(),
+        3,
+        "rtheap: line 4: end\n",
+    )
 }
 
 #[test]
@@ -348,12 +422,7 @@ fn a_refusal_that_cannot_be_written_is_a_write_fault(rt: HostRuntime) -> Result<
 
 /// Does the commands of a run on the heap that never frees, and compares each reply.
 #[tactic(auto, using(never_heap::proofs::Stepping::step_threads, never_heap::proofs::Stepping::step_count))]
-fn agrees(
-    rt: &impl Abort,
-    alloc: Global,
-    config: &Config,
-    entries: &[Entry],
-) -> Result<(), Fail>
+fn agrees(rt: &impl Abort, alloc: Global, config: &Config, entries: &[Entry]) -> Result<(), Fail>
     requires bounds { IsInBounds config.now }
     requires one_thread { config.now.threads ≡ 1 }
     requires few { length entries.now ≤ 131072 }

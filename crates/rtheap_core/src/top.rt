@@ -24,8 +24,9 @@ use crate::task::Task;
 use never_heap::{Logs, Pace};
 use rate_plan::plan;
 use std::alloc::Global;
-use trace_text::{Job, LineBuffer, Sink, Source};
-use trace_text::{inputs_are_told_apart, jobs_are_one, read_trace, write_run};
+use trace_text::{
+    Job, LineBuffer, Sink, Source, inputs_are_told_apart, jobs_are_one, read_trace, write_run,
+};
 
 /// The status of a writing that failed.
 const WRITE_FAULT: u8 = 6;
