@@ -7,3 +7,4 @@ pub mod Turning
 pub mod Always
 pub mod Reached
 pub mod Told
+pub mod Waiting

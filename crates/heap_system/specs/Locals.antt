@@ -1,8 +1,9 @@
 -- One thread's state, and its events as a table of rows: what each row wants, and what it becomes on the word that it read.
-use Rattle.std.specs.Prelude.{ℕ, ◌==◌, ◌&&◌, ◌++◌, ◌<◌, ◌≤◌, ◌≡◌, Bool, true, false, Option, Some, None, List, [], ◌∷◌, length, slice_index_or, All}
+use Rattle.std.specs.Prelude.{ℕ, ◌==◌, ◌&&◌, ◌++◌, ◌<◌, ◌≤◌, ◌≡◌, Bool, true, false, Option, Some, None, List, [], ◌∷◌, length, slice_index_or, All, not}
 use Rattle.block_store.specs.declared.Config.{Config}
 use Rattle.block_store.specs.declared.PhaseWord.{PhaseWord}
 use Rattle.block_store.specs.Configs.{IsInBounds}
+use Rattle.block_store.specs.Phases.{is_closed}
 use Rattle.block_store.specs.Places.{Phase, extent}
 use Rattle.rate_plan.specs.Rates.{IsAdmitted}
 use Rattle.never_heap.specs.declared.Command.{Command}
@@ -99,6 +100,15 @@ turn_of steps.Went = turns.Went
 turn_of steps.Over = turns.Went
 turn_of steps.Waited = turns.Waited
 turn_of steps.WaitedOver = turns.Waited
+
+-- whether a turn that reads w waits: at a look on a closed gate, and where the phase word was changed since the look
+abbrev pub waits : Part → ℕ → Bool
+waits Rest w = is_closed w
+waits (Enter gates.Look) w = is_closed w
+waits (Enter (gates.Enter seen)) w = not (w == seen)
+waits (Enter a) w = false
+waits (Serve f) w = false
+waits Leave w = false
 
 -- the entry of a command that allocates nothing
 abbrev pub entry_of : ℕ → Command → Reply → Entry

@@ -1,7 +1,7 @@
 //! What holds after every list of turns, for the proofs above: each law is the contract of a function
 //! that does nothing.
 
-ghost use Rattle.std.specs.Prelude.{◌≡◌, ◌<◌, ◌≤◌, ◌++◌, ◌∷◌, [], ℕ, List, true, false, slice_index_or};
+ghost use Rattle.std.specs.Prelude.{◌≡◌, ◌<◌, ◌≤◌, ◌++◌, ◌∷◌, [], ℕ, List, true, false, if◌then◌else◌, slice_index_or};
 ghost use Rattle.block_store.specs.declared.Config.{Config};
 ghost use Rattle.block_store.specs.Heaps.{heap_of};
 ghost use Rattle.block_store.specs.Phases.{bit, inside_of, is_closed, cycle_of};
@@ -21,9 +21,10 @@ ghost use Rattle.heap_machine.specs.Operations.{place_of, op_at, SumFits};
 ghost use Rattle.barrier_steps.specs.declared.rows.FieldRow.{FieldRow};
 ghost use Rattle.barrier_steps.specs.Rows.{field_decided};
 ghost use Rattle.heap_system.specs.declared.local.Part.TheVariants.{Serve};
-ghost use Rattle.heap_system.specs.Locals.{is_rest, command_of, entry_of, part_want, PartReads};
-ghost use Rattle.heap_system.specs.Machines.{Run, IsJob, IsRunOf, local_at, word_read};
+ghost use Rattle.heap_system.specs.Locals.{is_done, waits, is_rest, command_of, entry_of, part_want, PartReads};
+ghost use Rattle.heap_system.specs.Machines.{State, answer, turned, Run, IsJob, IsRunOf, local_at, word_read};
 ghost use Rattle.heap_system.specs.Openings.{opening_heap};
+ghost use Rattle.heap_system.specs.declared.Turn.TheVariants as Turn;
 ghost use Rattle.heap_system.specs.Pictures.{stand_of, loading, is_late, heap_in, graph_state};
 
 /// The words of an opening are those of the start graph, up to the last block of the shared array.
@@ -63,6 +64,14 @@ pub fn threads_inside_are_counted()
     ensures count { (c : Config) (traces : List (List Command)) (ts : List ℕ) (r : Run) → IsJob c traces → IsRunOf c traces ts r → inside_of (heap_in c r.state Phase) ≡ total c.threads (λ t. bit (is_inside (stand_of (local_at c r.state t).part))) }
     ensures most { (c : Config) (traces : List (List Command)) (ts : List ℕ) (r : Run) → IsJob c traces → IsRunOf c traces ts r → inside_of (heap_in c r.state Phase) ≤ c.threads }
     ensures opened { (c : Config) (traces : List (List Command)) (ts : List ℕ) (r : Run) → IsJob c traces → IsRunOf c traces ts r → (is_closed (heap_in c r.state Phase) ≡ false) × (cycle_of (heap_in c r.state Phase) ≡ 1) }
+{}
+
+/// A turn waits exactly where it looks at a closed gate, and where another thread changed the phase
+/// word between the look and the entry. It answers that a thread is done exactly where it is, and then
+/// changes nothing.
+pub fn turns_wait_at_the_gate()
+    ensures waits { (c : Config) (t : ℕ) (s : State) → is_done (local_at c s t) ≡ false → answer c t s ≡ (if waits (local_at c s t).part (word_read c s (local_at c s t)) then Turn.Waited else Turn.Went) }
+    ensures done { (c : Config) (t : ℕ) (s : State) → is_done (local_at c s t) ≡ true → (answer c t s ≡ Turn.Done) × (turned c t s ≡ s) }
 {}
 
 /// The next event of a thread is on a place of the heap, reads a word that its row may read, and

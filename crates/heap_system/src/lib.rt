@@ -10,7 +10,7 @@ mod tests;
 
 pub use laws::{
     events_are_safe, logs_are_parts, opening_shows_the_start, order_is_legal,
-    threads_inside_are_counted, words_show_the_order,
+    threads_inside_are_counted, turns_wait_at_the_gate, words_show_the_order,
 };
 pub use local::Local;
 pub use start::opening;

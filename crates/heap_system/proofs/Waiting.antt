@@ -1,0 +1,33 @@
+-- Which turns wait.
+use Rattle.std.proofs.Common.{◌≡◌, ℕ, Bool, true, false, cond, not, eqb, ltb, Option, Some, None, refl, sym, ap, ◌∙◌, inl, inr}
+use Rattle.std.proofs.lemmas.Bool.{cases_Bool}
+use Rattle.block_store.specs.declared.Config.{Config}
+use Rattle.block_store.specs.Phases.{is_closed}
+use Rattle.never_heap.specs.declared.Reply.{Reply}
+use Rattle.heap_machine.specs.declared.gate.GateRow.TheVariants as gates
+use Rattle.barrier_steps.specs.Rows.{field_got, field_reply, step_of}
+use Rattle.heap_system.specs.declared.local.Part.{Part}
+use Rattle.heap_system.specs.declared.local.Part.TheVariants.{Rest, Enter, Serve, Leave}
+use Rattle.heap_system.specs.declared.Turn.TheVariants as turns
+use Rattle.heap_system.specs.Locals.{is_done, part_step, turn_of, waits}
+use Rattle.heap_system.specs.Machines.{State, local_at, event_done, has_event, turned}
+
+serves : (o : Option Reply) → turn_of (step_of o) ≡ turns.Went
+serves None = refl
+serves (Some r) = refl
+
+pub part_waits : (p : Part) (w : ℕ) → turn_of (part_step p w) ≡ cond (waits p w) turns.Waited turns.Went
+part_waits Rest w = elim (cases_Bool (is_closed w)) [ inl e ↦ rw e refl | inr e ↦ rw e refl ]
+part_waits (Enter gates.Look) w = elim (cases_Bool (is_closed w)) [ inl e ↦ rw e refl | inr e ↦ rw e refl ]
+part_waits (Enter (gates.Enter seen)) w = elim (cases_Bool (eqb w seen)) [ inl e ↦ rw e refl | inr e ↦ rw e refl ]
+part_waits (Enter (gates.Entered seen)) w = refl
+part_waits (Enter gates.Leave) w = refl
+part_waits (Enter gates.Left) w = refl
+part_waits (Serve f) w = serves (field_reply (field_got f w))
+part_waits Leave w = refl
+
+pub done_stays : (c : Config) (t : ℕ) (s : State) → is_done (local_at c s t) ≡ true → turned c t s ≡ s
+done_stays c t s e = elim (cases_Bool (ltb t c.threads)) [
+  | inl low ↦ rw (low, e) refl
+  | inr out ↦ rw out refl
+]
