@@ -1,6 +1,6 @@
 -- What a step of the heap that never frees leaves, and what it does not answer.
-use Rattle.std.proofs.Common.{◌≡◌, ℕ, ◌<◌, Bool, true, false, cond, ltb, length, refl, ap, ◌∙◌, arith, ne_eqb, inl, inr, get_or, set}
-use Rattle.std.proofs.lemmas.Bool.{cases_Bool}
+use Rattle.std.proofs.Common.{subst, ◌≡◌, ℕ, ◌+◌, ◌<◌, ◌≤◌, Bool, true, false, cond, ltb, length, refl, ap, ◌∙◌, arith, ne_eqb, inl, inr, get_or, set}
+use Rattle.std.proofs.lemmas.Bool.{cases_Bool, cases_eq}
 use Rattle.std.proofs.lemmas.List.{length-set}
 use Rattle.block_store.specs.declared.Name.{Name}
 use Rattle.block_store.specs.declared.Value.{Value}
@@ -9,12 +9,12 @@ use Rattle.never_heap.specs.declared.Command.{Command}
 use Rattle.never_heap.specs.declared.Command.TheVariants as commands
 use Rattle.never_heap.specs.declared.Reply.{Reply}
 use Rattle.never_heap.specs.declared.Reply.TheVariants as replies
-use Rattle.never_heap.specs.Graphs.{Graph, Mutator, object_of, mutator_at, register_of, with_register, with_object, next_name}
+use Rattle.never_heap.specs.Graphs.{Graph, Mutator, count_of, object_of, mutator_at, register_of, with_register, with_object, next_name}
 use Rattle.never_heap.specs.Histories.{is_full}
 use Rattle.never_heap.specs.Steps.{step, makes_object, at_field, at_object, same_value}
 use Rattle.never_heap.proofs.GraphMoves.{mutator_with}
 use Rattle.never_heap.proofs.FieldStores.{registers_with_field, registers_with_object}
-use Rattle.never_heap.proofs.Stepping.{has_field, Change, change_of}
+use Rattle.never_heap.proofs.Stepping.{has_field, Change, change_of, step_count, count_of_other}
 use Rattle.never_heap.proofs.Stepping.Change.{none, store, put, make}
 
 field_answers : (g : Graph) (v : Value) (i : ℕ) (act : Name → Graph × Reply) → ((a : Name) → is_full (act a).1 ≡ false) → is_full (at_field g v i act).1 ≡ false
@@ -63,3 +63,10 @@ other_registers g t u new _ there other (make d o n e y) =
 
 pub register_stays : (g : Graph) (t u q : ℕ) (command : Command) → t < length g.mutators → (t ≡ u → ⊥) → register_of (step g t command).0 u q ≡ register_of g u q
 register_stays g t u q command there other = ap (λ rs. get_or rs q Nil) (other_registers g t u (makes_object command) (step g t command).0 there other (change_of g t command))
+
+-- a step adds one object at most to any thread
+pub counts_more : (g : Graph) (t : ℕ) (command : Command) → t < length g.mutators → (k u : ℕ) → ((v : ℕ) → count_of g v ≤ k) → count_of (step g t command).0 u ≤ k + 1
+counts_more g t command there k u few = elim (cases_eq t u) [
+  | inl e ↦ subst (λ v. count_of (step g t command).0 v ≤ k + 1) e (omega (arith, step_count g t command there, few t))
+  | inr n ↦ omega (arith, count_of_other g t u (makes_object command) (step g t command).0 there n (change_of g t command), few u)
+]

@@ -1,5 +1,5 @@
 -- Which turns wait.
-use Rattle.std.proofs.Common.{◌≡◌, ℕ, Bool, true, false, cond, not, eqb, ltb, Option, Some, None, refl, sym, ap, ◌∙◌, inl, inr}
+use Rattle.std.proofs.Common.{◌≡◌, ℕ, true, cond, eqb, ltb, Option, Some, None, refl, inl, inr}
 use Rattle.std.proofs.lemmas.Bool.{cases_Bool}
 use Rattle.block_store.specs.declared.Config.{Config}
 use Rattle.block_store.specs.Phases.{is_closed}
@@ -10,7 +10,7 @@ use Rattle.heap_system.specs.declared.local.Part.{Part}
 use Rattle.heap_system.specs.declared.local.Part.TheVariants.{Rest, Enter, Serve, Leave}
 use Rattle.heap_system.specs.declared.Turn.TheVariants as turns
 use Rattle.heap_system.specs.Locals.{is_done, part_step, turn_of, waits}
-use Rattle.heap_system.specs.Machines.{State, local_at, event_done, has_event, turned}
+use Rattle.heap_system.specs.Machines.{State, local_at, turned}
 
 serves : (o : Option Reply) → turn_of (step_of o) ≡ turns.Went
 serves None = refl

@@ -3,6 +3,8 @@
 
 mod laws;
 mod local;
+#[cfg(test)]
+mod schedules;
 mod start;
 mod system;
 #[cfg(test)]

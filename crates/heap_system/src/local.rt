@@ -123,6 +123,12 @@ impl Local {
         self.at_rest() && self.log.len() == self.trace.len()
     }
 
+    // Whether the command in hand is decided and not in the log yet.
+    #[cfg(test)]
+    pub(crate) fn decided(&self) -> bool {
+        matches!(&self.part, Part::Serve(pass) if pass.decided())
+    }
+
     /// The operation of the thread's next event. The thread is not done.
     pub fn want(&self) -> Op
         requires { is_done self.now ≡ false }

@@ -1,4 +1,4 @@
-use Rattle.std.proofs.Common.{refl, ◌∙◌}
+use Rattle.std.proofs.Common.{refl}
 use Rattle.heap_system.specs.Machines.{local_at, word_read}
 use Rattle.heap_system.proofs.Waiting.{part_waits, done_stays}
 use Rattle.heap_system.proofs.laws.turns_wait_at_the_gate.Goals as goal

@@ -1,0 +1,34 @@
+use Rattle.std.proofs.Common.{◌<◌, ℕ, zero, suc, List, [], ◌∷◌, map, get_or, refl, sym, subst, arith, Vec, Global}
+use Rattle.block_store.specs.declared.Config.{Config}
+use Rattle.array_trees.specs.Trees.{tree}
+use Rattle.rate_plan.specs.Rates.{IsAdmitted}
+use Rattle.never_heap.specs.declared.Command.{Command}
+use Rattle.heap_system.specs.Locals.{IsTrace}
+use Rattle.heap_system.specs.Machines.{IsJob}
+use Rattle.heap_system.proofs.schedules.three_threads.Goals as goal
+
+abbrev config : Config
+config = record { threads = 3; blocks = 64; live = 24; object = 2; shared = 17 }
+
+admitted : IsAdmitted config
+unfolding tree
+admitted = record { opens = omega arith; room = omega arith }
+
+all_three : (xs ys zs : List Command) → IsTrace config xs → IsTrace config ys → IsTrace config zs → IsJob config (xs ∷ ys ∷ zs ∷ [])
+all_three xs ys zs px py pz = record {
+  bounds = record { some_thread = omega arith; threads = omega arith; some_block = omega arith; blocks = omega arith; live = omega arith; some_object = omega arith; object = omega arith; shared = omega arith };
+  plan = admitted;
+  count = refl;
+  each = at;
+}
+  where
+    at : (t : ℕ) → t < 3 → IsTrace config (get_or (xs ∷ ys ∷ zs ∷ []) t [])
+    at zero low = px
+    at (suc zero) low = py
+    at (suc (suc zero)) low = pz
+    at (suc (suc (suc t))) low = absurd (omega arith)
+
+pub new-requires : goal.new-requires
+new-requires c =
+    subst (λ xs. IsJob config (map (λ (v : Vec Command Global). v.items) xs)) (sym c.in_ok-vec.ensures.items)
+    (all_three c.in_ok-first.first.items c.in_ok-second.second.items c.in_ok-third.third.items c.in_ok-first.ensures c.in_ok-second.ensures c.in_ok-third.ensures)

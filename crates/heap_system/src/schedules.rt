@@ -1,0 +1,118 @@
+//! Three threads with all eight commands that allocate nothing, under drawn schedules: each reply is
+//! that of the heap that never frees, in the order of the deciding events.
+
+ghost use Rattle.std.specs.Prelude.{◌≡◌, ◌<◌, ◌≤◌, ◌+◌, ℕ, length, IfOk, OnOk};
+ghost use Rattle.never_heap.specs.Graphs.{count_of};
+ghost use Rattle.heap_system.specs.Locals.{IsTrace};
+
+use crate::*;
+use block_store::{Config, OutOfMemory};
+use never_heap::{Command, Graph, Reply};
+use rand_core::utils::NextWord;
+use rand_pcg::Lcg64Xsh32;
+use std::alloc::Global;
+
+const THREE: Config = Config {
+    threads: 3,
+    blocks: 64,
+    live: 24,
+    object: 2,
+    shared: 17,
+};
+
+// What each thread is told to do. Element 16 of the shared array is two links from its root.
+const COMMANDS: [Command; 16] = [
+    Command::Set { d: 1, value: 10 },
+    Command::Put { s: 0, i: 16, v: 1 },
+    Command::Get { d: 2, s: 0, i: 3 },
+    Command::Put { s: 0, i: 3, v: 0 },
+    Command::Mov { d: 3, s: 2 },
+    Command::Same { a: 2, b: 0 },
+    Command::Get { d: 4, s: 0, i: 16 },
+    Command::Nil { d: 1 },
+    Command::Put { s: 0, i: 16, v: 1 },
+    Command::Get { d: 5, s: 4, i: 0 },
+    Command::Len { s: 3 },
+    Command::Get { d: 5, s: 0, i: 17 },
+    Command::Say { s: 3 },
+    Command::Put { s: 0, i: 3, v: 4 },
+    Command::Len { s: 0 },
+    Command::Same { a: 3, b: 4 },
+];
+
+// The commands as a trace.
+fn trace(alloc: Global) -> Result<Vec<Command>, OutOfMemory>
+    ensures { IfOk result (λ v. IsTrace (record { threads = 3; blocks = 64; live = 24; object = 2; shared = 17 }) v.items) }
+{
+    let mut trace = Vec::new(alloc);
+    for command in &COMMANDS {
+        if command.in_bounds(&THREE) && command.blocks() == 0 {
+            trace.push(*command)?;
+        }
+    }
+    Ok(trace)
+}
+
+fn three_threads(alloc: Global) -> Result<System, OutOfMemory>
+    ensures { IfOk result (λ s. s.config ≡ record { threads = 3; blocks = 64; live = 24; object = 2; shared = 17 }) }
+{
+    let (first, second, third) = (trace(alloc)?, trace(alloc)?, trace(alloc)?);
+    System::new(alloc, THREE, vec![in alloc; first, second, third]?)
+}
+
+// The reply of the heap that never frees.
+fn model_reply(
+    graph: &mut Graph,
+    thread: u32,
+    command: &Command,
+) -> Result<Option<Reply>, OutOfMemory>
+    requires thread { thread < length graph.old.mutators }
+    requires counts { (u : ℕ) → count_of graph.old u < 131072 }
+    ensures threads { OnOk result (length graph.new.mutators ≡ length graph.old.mutators) }
+    ensures counts { OnOk result ((k u : ℕ) → ((v : ℕ) → count_of graph.old v ≤ k) → count_of graph.new u ≤ k + 1) }
+{
+    if command.in_bounds(&THREE) {
+        Ok(Some(graph.apply(thread, command)?))
+    } else {
+        Ok(None)
+    }
+}
+
+// Whether each reply is the model's.
+fn agrees(alloc: Global, key: u64) -> Result<bool, OutOfMemory> {
+    let mut system = three_threads(alloc)?;
+    let mut graph = Graph::start(alloc, &THREE)?;
+    let mut draws = Lcg64Xsh32::new(key, 1);
+    let mut waiting = [None; 3];
+    let mut good = true;
+    for _turn in 0..1500_u32 {
+        let thread = draws.next_word() % 3;
+        let (logged, decided) = progress(system.local(thread));
+        system.turn(thread);
+        let (logged_now, decided_now) = progress(system.local(thread));
+        if decided_now > decided {
+            if let Some(command) = COMMANDS.get(decided) {
+                waiting[thread as usize] = model_reply(&mut graph, thread, command)?;
+            }
+        }
+        if logged_now > logged {
+            let last = system.local(thread).log().last().map(|entry| entry.reply);
+            good &= last == waiting[thread as usize];
+        }
+    }
+    Ok(good && system.finish().is_ok())
+}
+
+// How many commands are in the log, and how many are decided.
+fn progress(local: &Local) -> (usize, usize) {
+    let logged = local.log().len();
+    (logged, if local.decided() { logged + 1 } else { logged })
+}
+
+#[test]
+fn every_schedule_agrees_with_the_model(rt: HostRuntime) -> Result<(), OutOfMemory> {
+    for key in 0..200 {
+        assert!(rt; agrees(rt.alloc(), key)?, "schedule {key}");
+    }
+    Ok(())
+}
