@@ -352,6 +352,19 @@ fn the_first_bad_line_is_named_with_its_reason(rt: HostRuntime) -> Result<(), Fa
         let refusal = format!(in alloc; "rtheap: line 3: {why}\n")?;
         answers(&rt, rt.alloc(), "run", text.as_str(), 3, refusal.as_str())?;
     }
+    for second in ["thread 1", "new 1 1"] {
+        let text = format!(in alloc;
+            "rtheap 1 threads 1 blocks 64 live 20 object 2 shared 0\n{second}\nend\n"
+        )?;
+        answers(
+            &rt,
+            rt.alloc(),
+            "run",
+            text.as_str(),
+            3,
+            "rtheap: line 2: order\n",
+        )?;
+    }
     let behind = format!(in alloc; "{HEADER}end\nnil 1\n")?;
     answers(
         &rt,
@@ -360,6 +373,25 @@ fn the_first_bad_line_is_named_with_its_reason(rt: HostRuntime) -> Result<(), Fa
         behind.as_str(),
         3,
         "rtheap: line 4: end\n",
+    )
+}
+
+#[test]
+fn the_largest_number_and_a_missing_last_line_feed_are_accepted(
+    rt: HostRuntime,
+) -> Result<(), Fail> {
+    let alloc = rt.alloc();
+    let largest = job(alloc, "set 1 4611686018427387903\n")?;
+    let written = "0 ok\nend cycles 1 work 0\n";
+    answers(&rt, rt.alloc(), "run", largest.as_str(), 0, written)?;
+    let unended = format!(in alloc; "{HEADER}end")?;
+    answers(
+        &rt,
+        rt.alloc(),
+        "run",
+        unended.as_str(),
+        0,
+        "end cycles 1 work 0\n",
     )
 }
 
@@ -452,7 +484,7 @@ fn runs_agree(rt: &impl Abort, alloc: Global, input: &str) -> Result<(), Fail> {
 
 /// Objects that refer to each other in rings, an array in several registers, and a link that is
 /// overwritten.
-const RINGS: &str = "rtheap 1 threads 1 blocks 64 live 40 object 2 shared 17
+const RINGS: &str = "rtheap 1 threads 1 blocks 64 live 40 object 3 shared 17
 thread 0
 arr 1 5
 new 2 2
