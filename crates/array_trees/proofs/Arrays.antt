@@ -3,12 +3,12 @@ use Rattle.std.proofs.Common.{◌≡◌, ℕ, zero, suc, ◌+◌, ◌-◌, ◌*�
 use Rattle.std.proofs.Math.Nat.{lt-div-mul-add, mul-le-mul_right, pow-suc, pow-zero}
 use Rattle.std.proofs.lemmas.Bool.{cases_lt, lt-ltb, le-ltb}
 use Rattle.std.proofs.lemmas.Nat.{div-add-mod', mod_below}
-use Rattle.object_lists.specs.Parts.{Part, Link, Field, Blank}
+use Rattle.object_lists.specs.Parts.{Part, Link, Field, Blank, link_below, field_below}
 use Rattle.object_lists.specs.Layouts.{IsLayout, IsWay}
 use Rattle.array_trees.specs.Trees.{blocks_over, leaves, tree}
-use Rattle.array_trees.specs.Levels.{level, depth_within, tree_depth, IsDepth, level_size, level_start, part_from, tree_part, tree_spot, tree_way, tree_turn}
+use Rattle.array_trees.specs.Levels.{level, depth_within, tree_depth, IsDepth, IsByLevels, level_size, level_start, part_from, tree_part, tree_spot, tree_way, tree_turn}
 use Rattle.array_trees.proofs.Counts.{over_less, over_some, tree-one, tree-more, le-tree}
-use Rattle.array_trees.proofs.Parts.{IsLevels, spots_from, links_onward, linked_from, once_from, way_on, way_end, in_level}
+use Rattle.array_trees.proofs.Parts.{IsLevels, spots_from, links_onward, linked_from, once_from, way_on, way_end, in_level, level_from, leaf_from}
 
 -- the first power is the number itself
 pub pow_one : (w : ℕ) → w ^ 1 ≡ w
@@ -156,6 +156,34 @@ module _ (w e : ℕ) (hw : 1 < w) where
     onward = tree_onward;
     linked = tree_linked;
     once = tree_once;
+  }
+
+  -- a block by its number in its level
+  level_links : (h r j : ℕ) → h < tree_depth w e → r < level_size w e (suc h) → j < w
+      → tree_part w e (level_start w e (suc h) + r) j ≡ link_below (level_start w e h + (r * w + j)) (level_start w e h + level_size w e h)
+  unfolding whole_part
+  level_links h r j low inside column =
+      let join : level_start w e (suc h) + level_size w e (suc h) ≡ level_start w e h = levels.joins h low in
+      let back : level_start w e (suc h) + r - level_start w e (suc h) ≡ r = omega arith in
+      tree_at (level_start w e (suc h) + r) j column
+      ∙ level_from w e (tree_depth w e) (level_start w e) (level_size w e) levels (tree_depth w e) h (level_start w e (suc h) + r) j low (omega arith) (omega arith) (omega arith)
+      ∙ ap (λ x. link_below (level_start w e h + (x * w + j)) (level_start w e h + level_size w e h)) back
+
+  level_elements : (r j : ℕ) → j < w → tree_part w e (level_start w e 0 + r) j ≡ field_below (r * w + j) e
+  unfolding whole_part
+  level_elements r j column =
+      let back : level_start w e 0 + r - level_start w e 0 ≡ r = omega arith in
+      tree_at (level_start w e 0 + r) j column
+      ∙ leaf_from w e (tree_depth w e) (level_start w e) (level_size w e) levels (tree_depth w e) (level_start w e 0 + r) j (omega arith) (omega arith)
+      ∙ ap (λ x. field_below (x * w + j) e) back
+
+  pub by_levels : IsByLevels w e
+  by_levels = record {
+    root = levels.origin;
+    next = λ h low. sym (levels.joins h low);
+    last = sym all_blocks;
+    links = level_links;
+    elements = level_elements;
   }
 
   -- the step from a level to the next one, by the numbers of levels below them

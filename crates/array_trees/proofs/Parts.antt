@@ -74,7 +74,7 @@ module _ (w e d : ℕ) (start size : ℕ → ℕ) (levels : IsLevels w e d start
   ]
 
   -- the leaves are found from each level above them
-  leaf_from : (h o j : ℕ) → h ≤ d → start 0 ≤ o → part_from w e start size h o j ≡ part_from w e start size 0 o j
+  pub leaf_from : (h o j : ℕ) → h ≤ d → start 0 ≤ o → part_from w e start size h o j ≡ part_from w e start size 0 o j
   leaf_from zero o j hd low = refl
   leaf_from (suc h) o j hd low =
       let below : start h ≤ o = omega (arith, start_le h 0 (omega arith) (omega arith)) in

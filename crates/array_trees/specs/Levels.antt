@@ -44,6 +44,16 @@ part_from w e start size (suc h) o j =
 abbrev pub tree_part : ℕ → ℕ → ℕ → ℕ → Part
 tree_part w e o j = if nat_lt j w then part_from w e (level_start w e) (level_size w e) (tree_depth w e) o j else Blank
 
+-- What `tree_part` is: the ordinals go level by level from the root, block r of a level that has one below it refers to the
+-- blocks r * w to r * w + w - 1 of that level, as far as they exist, and a leaf r has the elements of these numbers.
+pub record IsByLevels (w e : ℕ) : Type 0 where
+  pub root : level_start w e (tree_depth w e) ≡ 0
+  pub next : (h : ℕ) → h < tree_depth w e → level_start w e h ≡ level_start w e (suc h) + level_size w e (suc h)
+  pub last : tree w (leaves w e) ≡ level_start w e 0 + level_size w e 0
+  pub links : (h r j : ℕ) → h < tree_depth w e → r < level_size w e (suc h) → j < w
+      → tree_part w e (level_start w e (suc h) + r) j ≡ link_below (level_start w e h + (r * w + j)) (level_start w e h + level_size w e h)
+  pub elements : (r j : ℕ) → j < w → tree_part w e (level_start w e 0 + r) j ≡ field_below (r * w + j) e
+
 -- where element i stands: its leaf, and its payload
 abbrev pub tree_spot : ℕ → ℕ → ℕ → ℕ × ℕ
 tree_spot w e i = (level_start w e 0 + i / w, i % w)

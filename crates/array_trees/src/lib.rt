@@ -5,7 +5,7 @@
 ghost use Rattle.std.specs.Prelude.{◌≡◌, ℕ, ◌+◌, ◌<◌, ◌≤◌};
 ghost use Rattle.object_lists.specs.Layouts.{IsLayout, IsWay};
 ghost use Rattle.object_lists.specs.Parts.{Link, Field, link_in};
-ghost use Rattle.array_trees.specs.Levels.{level_size, IsDepth, array_part, array_spot, array_depth, array_way, array_turn};
+ghost use Rattle.array_trees.specs.Levels.{level_size, IsByLevels, IsDepth, array_part, array_spot, array_depth, array_way, array_turn};
 ghost use Rattle.array_trees.specs.Trees.{leaves, tree, array_blocks, IsTree};
 
 use block_store::PAYLOADS;
@@ -66,14 +66,15 @@ pub fn path_of(e: u32, i: u32, level: u32) -> u32
     requires element { i < e }
     requires level { level ≤ array_depth e }
     ensures turn { result ≡ array_turn e i level }
-    ensures on { level < array_depth e → array_part e (array_way e i level) result ≡ Link (array_way e i (level + 1)) }
+    ensures on { level < array_depth e
+        → array_part e (array_way e i level) result ≡ Link (array_way e i (level + 1)) }
     ensures ends { level ≡ array_depth e → array_part e (array_way e i level) result ≡ Field i }
 {
     i / PAYLOADS.pow(depth_of(e) - level) % PAYLOADS
 }
 
-#[tactic(auto, using(crate::proofs::Depths::depths))]
 // How many blocks has the level that is `height` levels above the leaves.
+#[tactic(auto, using(crate::proofs::Depths::depths))]
 fn blocks_in_level(e: u32, height: u32) -> u32
     requires few { e ≤ 65535 }
     requires height { height ≤ array_depth e }
@@ -106,11 +107,15 @@ pub fn child_of(e: u32, ordinal: u32, j: u32) -> Option<u32>
 }
 
 /// Arrays have a layout: distinct elements have distinct places, each link goes to a larger ordinal,
-/// and each block but the root is linked from one place. The way to an element ends at its place.
+/// and each block but the root is linked from one place. The ordinals go level by level from the
+/// root, and the way to an element ends at its place.
 pub fn array_layouts()
     ensures layout { (e : ℕ) → IsLayout 4 e (array_blocks e) (array_part e) (array_spot e) }
     ensures depth { (e : ℕ) → IsDepth 4 e (array_depth e) }
-    ensures way { (e i : ℕ) → i < e → IsWay (array_part e) i (array_depth e) (array_turn e i (array_depth e)) (array_way e i) (array_turn e i) }
+    ensures levels { (e : ℕ) → IsByLevels 4 e }
+    ensures way { (e i : ℕ) → i < e
+        → IsWay (array_part e) i (array_depth e) (array_turn e i (array_depth e))
+        (array_way e i) (array_turn e i) }
 {}
 
 #[cfg(test)]
@@ -145,6 +150,58 @@ mod tests {
             child_of(e, ordinal, j)
         } else {
             None
+        }
+    }
+
+    // Whether the links, block by block, go to the ordinals from 1 on, each once.
+    fn is_linked_in_order(e: u32) -> bool
+        requires { e ≤ 65535 }
+    {
+        let blocks = blocks_of_array(e);
+        let mut next = 1;
+        for ordinal in 0..blocks {
+            for j in 0..4 {
+                if let Some(child) = child_at(e, ordinal, j) {
+                    if child != next || next >= blocks {
+                        return false;
+                    }
+                    next += 1;
+                }
+            }
+        }
+        next == blocks
+    }
+
+    // Whether the way to each element ends in the leaf and at the payload that come next.
+    fn ends_in_order(e: u32) -> bool
+        requires { e ≤ 65535 }
+    {
+        let blocks = blocks_of_array(e);
+        let leaves = e.div_ceil(4).max(1);
+        (0..e).all(|i| {
+            let leaf = leaf_of(e, i).and_then(|ordinal| ordinal.checked_add(leaves));
+            leaf == Some(blocks + i / 4) && path_at(e, i, depth_of(e)) == Some(i % 4)
+        })
+    }
+
+    // Follows the links from the root to the leaf of an element.
+    fn leaf_of(e: u32, i: u32) -> Option<u32>
+        requires { e ≤ 65535 }
+    {
+        let mut ordinal = 0;
+        for level in 0..depth_of(e) {
+            ordinal = child_at(e, ordinal, path_at(e, i, level)?)?;
+        }
+        Some(ordinal)
+    }
+
+    #[test]
+    fn blocks_and_elements_follow_each_other(rt: HostRuntime) {
+        for e in 0..=70 {
+            assert!(rt; is_linked_in_order(e) && ends_in_order(e), "at {e}");
+        }
+        for e in [255, 256, 257, 1_023, 3_072, 65_535] {
+            assert!(rt; is_linked_in_order(e) && ends_in_order(e), "at {e}");
         }
     }
 }

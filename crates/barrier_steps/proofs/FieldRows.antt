@@ -41,7 +41,7 @@ register_in c t r h low =
 loaded : (c : Config) (w : ℕ) → IsSome (payload_of w) × (target w ≤ c.blocks) → IsLoaded c w
 loaded c w h = record { payload = h.0; block = h.1 }
 
-reference : (x w : ℕ) → x ≡ target w → 1 ≤ x → target w ≢ 0
+pub reference : (x w : ℕ) → x ≡ target w → 1 ≤ x → target w ≢ 0
 reference x w is some = omega arith
 
 -- a word that is written is one that a payload place can hold

@@ -3,3 +3,8 @@ pub mod Walking
 pub mod ReadWords
 pub mod FieldRows
 pub mod Decisions
+pub mod Promising
+pub mod Projecting
+pub mod Stepping
+pub mod Showing
+pub mod Registers

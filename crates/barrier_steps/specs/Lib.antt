@@ -2,3 +2,5 @@ pub mod Walks
 pub mod Rows
 pub mod Fits
 pub mod Deciding
+pub mod Replies
+pub mod Projection

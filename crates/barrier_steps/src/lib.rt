@@ -9,6 +9,9 @@ mod rows;
 mod tests;
 mod walks;
 
-pub use laws::{rows_decide_once, rows_stay_in_the_heap, ways_lead_to_fields};
+pub use laws::{
+    rows_answer_as_steps, rows_are_events, rows_decide_once, rows_read_the_graph,
+    rows_stay_in_the_heap, ways_lead_to_fields,
+};
 pub use pass::FieldPass;
 pub use rows::{Access, Errand, FieldRow, Walk};

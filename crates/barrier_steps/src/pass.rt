@@ -2,17 +2,18 @@
 
 ghost use Rattle.std.specs.Prelude.{◌≡◌, ◌+◌, ◌<◌, ◌≤◌, ◌==◌, if◌then◌else◌, IsSome};
 ghost use Rattle.block_store.specs.Owners.{owner_of};
+ghost use Rattle.block_store.specs.Places.{extent, index, PayloadOf};
 ghost use Rattle.block_store.specs.Payloads as words;
-ghost use Rattle.block_store.specs.Places.{extent, index, IsBlock};
-ghost use Rattle.block_store.specs.Payloads.{IsPayload, payload_of, payload_target};
+ghost use Rattle.block_store.specs.Payloads.{payload_of, payload_target};
 ghost use Rattle.block_store.specs.Shapes.{IsShape, shape_of};
 ghost use Rattle.never_heap.specs.Bounds.{IsCommandInRange};
 ghost use Rattle.never_heap.specs.Steps.{blocks_of};
-ghost use Rattle.heap_machine.specs.Operations.{op_at, place_of};
+ghost use Rattle.heap_machine.specs.Operations.{op_at, Exchange};
+ghost use Rattle.barrier_steps.specs.Walks;
 ghost use Rattle.barrier_steps.specs.Walks.{shape_length, links_to};
 ghost use Rattle.barrier_steps.specs.Rows;
-ghost use Rattle.barrier_steps.specs.Rows.{register_place, first_row, field_want, field_got, field_step, field_decided, field_reply};
-ghost use Rattle.barrier_steps.specs.Fits.{IsThread, IsLoaded, IsWalk, FieldFits, FieldReads};
+ghost use Rattle.barrier_steps.specs.Rows.{register_place, field_want, field_got, field_step, field_decided, field_reply};
+ghost use Rattle.barrier_steps.specs.Fits.{IsThread, IsWalk, FieldFits, FieldReads};
 
 use crate::walks::{field_at, length_of, link_at, links_to};
 use crate::{Access, Errand, FieldRow, Walk};
@@ -223,23 +224,39 @@ fn after_link(thread: u32, walk: Walk, errand: Errand, block: u32) -> FieldRow
     on_way(thread, next, errand)
 }
 
+// The store of `mov`.
+fn store_moved(thread: u32, d: u8, s: u8, word: u64) -> FieldRow
+    ensures { result ≡ FieldRow.StoreMoved thread d s word }
+{
+    FieldRow::StoreMoved { thread, d, s, word }
+}
+
+// The second register of `same`.
+fn load_second(thread: u32, a: u8, b: u8, word: u64) -> FieldRow
+    ensures { result ≡ FieldRow.LoadSecond thread a b word }
+{
+    FieldRow::LoadSecond { thread, a, b, word }
+}
+
+// The store of a field's word, once its value is known.
+fn store_late(thread: u32, d: u8, word: u64, value: Value) -> FieldRow
+    ensures { result ≡ FieldRow.StoreLate thread d word value }
+{
+    FieldRow::StoreLate {
+        thread,
+        d,
+        word,
+        value,
+    }
+}
+
 // After the field that `get` loads.
 fn after_field(thread: u32, d: u8, word: u64, payload: Payload) -> FieldRow
     ensures { result ≡ Rows.after_field thread d word payload }
 {
     match payload {
-        Payload::Nil => FieldRow::StoreLate {
-            thread,
-            d,
-            word,
-            value: Value::Nil,
-        },
-        Payload::Int(number) => FieldRow::StoreLate {
-            thread,
-            d,
-            word,
-            value: Value::Int(number),
-        },
+        Payload::Nil => store_late(thread, d, word, Value::Nil),
+        Payload::Int(number) => store_late(thread, d, word, Value::Int(number)),
         Payload::Block(_) => FieldRow::LoadOwner { thread, d, word },
     }
 }
@@ -267,52 +284,77 @@ fn after_both(first: u64, second: u64) -> FieldRow
 }
 
 // The row after a row that read this word.
-fn after(row: FieldRow, _places: &Places, word: u64) -> FieldRow
+fn after(row: FieldRow, _places: &Places, read: u64) -> FieldRow
     requires fits { FieldFits _places.now row }
-    requires word { FieldReads _places.now row word }
-    ensures { result ≡ field_got row word }
+    requires word { FieldReads _places.now row read }
+    ensures { result ≡ field_got row read }
 {
+    use FieldRow::*;
+
     match row {
-        FieldRow::StoreNumber { .. }
-        | FieldRow::StoreNil { .. }
-        | FieldRow::StoreMoved { .. }
-        | FieldRow::StoreField { .. } => answered(Reply::Stored),
-        FieldRow::LoadMoved { thread, d, s } => FieldRow::StoreMoved { thread, d, s, word },
-        FieldRow::LoadObject { thread, s, access } => {
-            after_object(thread, s, access, payload_in(word))
+        StoreNumber { .. } | StoreNil { .. } | StoreMoved { .. } | StoreField { .. } => {
+            answered(Reply::Stored)
         }
-        FieldRow::LoadShape {
+        LoadMoved { thread, d, s } => store_moved(thread, d, s, read),
+        LoadObject { thread, s, access } => after_object(thread, s, access, payload_in(read)),
+        LoadShape {
             thread,
             s,
             block,
             access,
-        } => after_shape(thread, s, block, access, shape_in(word)),
-        FieldRow::LoadValue { thread, walk, v } => on_way(thread, walk, Errand::Put { v, word }),
-        FieldRow::LoadLink {
+        } => after_shape(thread, s, block, access, shape_in(read)),
+        LoadValue { thread, walk, v } => on_way(thread, walk, Errand::Put { v, word: read }),
+        LoadLink {
             thread,
             walk,
             errand,
-        } => after_link(thread, walk, errand, target(word)),
-        FieldRow::LoadField { thread, walk: _, d } => {
-            after_field(thread, d, word, payload_in(word))
-        }
-        FieldRow::LoadOwner {
-            thread,
-            d,
-            word: field,
-        } => FieldRow::StoreLate {
-            thread,
-            d,
-            word: field,
-            value: object_in(word),
-        },
-        FieldRow::StoreLate { value, .. } => answered(Reply::Val(value)),
-        FieldRow::LoadFirst { thread, a, b } => FieldRow::LoadSecond { thread, a, b, word },
-        FieldRow::LoadSecond { word: first, .. } => after_both(first, word),
-        FieldRow::LoadSaid { thread, s } => after_said(thread, s, word, payload_in(word)),
-        FieldRow::LoadSaidOwner { .. } => answered(Reply::Val(object_in(word))),
-        FieldRow::Answered { reply } => answered(reply),
+        } => after_link(thread, walk, errand, target(read)),
+        LoadField { thread, d, .. } => after_field(thread, d, read, payload_in(read)),
+        LoadOwner { thread, d, word } => store_late(thread, d, word, object_in(read)),
+        StoreLate { value, .. } => answered(Reply::Val(value)),
+        LoadFirst { thread, a, b } => load_second(thread, a, b, read),
+        LoadSecond { word, .. } => after_both(word, read),
+        LoadSaid { thread, s } => after_said(thread, s, read, payload_in(read)),
+        LoadSaidOwner { .. } => answered(Reply::Val(object_in(read))),
+        Answered { reply } => answered(reply),
     }
+}
+
+fn load(place: usize) -> Op
+    ensures { result ≡ Op.Load place }
+{
+    Op::Load { place }
+}
+
+fn exchange(place: usize, new: u64) -> Op
+    ensures { result ≡ Op.Exchange place new }
+{
+    Op::Exchange { place, new }
+}
+
+// A store in a register.
+fn store(places: &Places, thread: u32, d: u8, word: u64) -> Op
+    requires thread { IsThread places.now thread }
+    requires register { d < 16 }
+    ensures { result ≡ op_at (extent places.now) (Exchange (register_place thread d) word) }
+{
+    exchange(register(places, thread, d), word)
+}
+
+// The place of the next link on a way.
+fn link(places: &Places, walk: Walk) -> usize
+    requires walk { IsWalk places.now walk }
+    ensures { result ≡ index (extent places.now) (PayloadOf walk.block (Walks.link_at walk.shape walk.index walk.level)) }
+{
+    places.payload(walk.block, link_at(walk))
+}
+
+// The place of a field, at its block.
+fn field(places: &Places, walk: Walk) -> usize
+    requires walk { IsWalk places.now walk }
+    ensures { result ≡ index (extent places.now) (PayloadOf walk.block (Walks.field_at walk.shape walk.index)) }
+{
+    places.payload(walk.block, field_at(walk))
 }
 
 // The operation of a row.
@@ -320,63 +362,38 @@ fn want(row: FieldRow, places: &Places) -> Op
     requires { FieldFits places.now row }
     ensures { result ≡ op_at (extent places.now) (field_want row) }
 {
+    use FieldRow::*;
+
     match row {
-        FieldRow::StoreNumber { thread, d, value } => Op::Exchange {
-            place: register(places, thread, d),
-            new: payload_word(Payload::Int(value)),
-        },
-        FieldRow::StoreNil { thread, d } => Op::Exchange {
-            place: register(places, thread, d),
-            new: payload_word(Payload::Nil),
-        },
-        FieldRow::StoreMoved {
-            thread,
-            d,
-            word,
-            ..
+        StoreNumber { thread, d, value } => {
+            store(places, thread, d, payload_word(Payload::Int(value)))
         }
-        | FieldRow::StoreLate {
+        StoreNil { thread, d } => store(places, thread, d, payload_word(Payload::Nil)),
+        LoadMoved { thread, s, .. } => load(register(places, thread, s)),
+        StoreMoved {
             thread,
             d,
             word,
             ..
-        } => Op::Exchange {
-            place: register(places, thread, d),
-            new: word,
-        },
-        FieldRow::LoadMoved { thread, s, .. }
-        | FieldRow::LoadObject { thread, s, .. }
-        | FieldRow::LoadSaid { thread, s } => Op::Load {
-            place: register(places, thread, s),
-        },
-        FieldRow::LoadValue { thread, v, .. } => Op::Load {
-            place: register(places, thread, v),
-        },
-        FieldRow::LoadFirst { thread, a, .. } => Op::Load {
-            place: register(places, thread, a),
-        },
-        FieldRow::LoadSecond { thread, b, .. } => Op::Load {
-            place: register(places, thread, b),
-        },
-        FieldRow::LoadShape { block, .. } => Op::Load {
-            place: places.shape(block),
-        },
-        FieldRow::LoadLink { walk, .. } => Op::Load {
-            place: places.payload(walk.block, link_at(walk)),
-        },
-        FieldRow::LoadField { walk, .. } => Op::Load {
-            place: places.payload(walk.block, field_at(walk)),
-        },
-        FieldRow::StoreField { walk, word, .. } => Op::Exchange {
-            place: places.payload(walk.block, field_at(walk)),
-            new: word,
-        },
-        FieldRow::LoadOwner { word, .. } | FieldRow::LoadSaidOwner { word, .. } => Op::Load {
-            place: places.owner(target(word)),
-        },
-        FieldRow::Answered { .. } => Op::Load {
-            place: places.phase(),
-        },
+        } => store(places, thread, d, word),
+        LoadObject { thread, s, .. } => load(register(places, thread, s)),
+        LoadShape { block, .. } => load(places.shape(block)),
+        LoadValue { thread, v, .. } => load(register(places, thread, v)),
+        LoadLink { walk, .. } => load(link(places, walk)),
+        LoadField { walk, .. } => load(field(places, walk)),
+        LoadOwner { word, .. } => load(places.owner(target(word))),
+        StoreLate {
+            thread,
+            d,
+            word,
+            ..
+        } => store(places, thread, d, word),
+        StoreField { walk, word, .. } => exchange(field(places, walk), word),
+        LoadFirst { thread, a, .. } => load(register(places, thread, a)),
+        LoadSecond { thread, b, .. } => load(register(places, thread, b)),
+        LoadSaid { thread, s } => load(register(places, thread, s)),
+        LoadSaidOwner { word, .. } => load(places.owner(target(word))),
+        Answered { .. } => load(places.phase()),
     }
 }
 

@@ -11,7 +11,7 @@ use Rattle.never_heap.specs.declared.Reply.{Reply}
 use Rattle.never_heap.specs.declared.Reply.TheVariants as replies
 use Rattle.never_heap.specs.Graphs.{Graph, Mutator, count_of, object_of, mutator_at, register_of, with_register, with_object, next_name}
 use Rattle.never_heap.specs.Histories.{is_full}
-use Rattle.never_heap.specs.Steps.{step, at_field, at_object, same_value}
+use Rattle.never_heap.specs.Steps.{step, makes_object, at_field, at_object, same_value}
 use Rattle.never_heap.proofs.GraphMoves.{mutator_with}
 use Rattle.never_heap.proofs.FieldStores.{registers_with_field, registers_with_object}
 use Rattle.never_heap.proofs.Stepping.{has_field, Change, change_of, step_count, count_of_other}
@@ -53,20 +53,20 @@ stored_registers g t d u v there other =
     ap (λ (x : Mutator). x.registers) (mutator_with g t u m there ∙ ap (λ b. cond b m (mutator_at g u)) (ne_eqb t u other))
 
 -- a step leaves the registers of the other threads
-other_registers : (g : Graph) (t u : ℕ) (h : Graph) → t < length g.mutators → (t ≡ u → ⊥) → Change g t h → (mutator_at h u).registers ≡ (mutator_at g u).registers
-other_registers g t u _ there other none = refl
-other_registers g t u _ there other (store d v s) = stored_registers g t d u v there other
-other_registers g t u _ there other (put s i v a e l) = registers_with_field g a i (register_of g t v) (has_field g a i l) u
-other_registers g t u _ there other (make d o n e) =
+other_registers : (g : Graph) (t u : ℕ) (new : Bool) (h : Graph) → t < length g.mutators → (t ≡ u → ⊥) → Change g t new h → (mutator_at h u).registers ≡ (mutator_at g u).registers
+other_registers g t u new _ there other none = refl
+other_registers g t u new _ there other (store d v s) = stored_registers g t d u v there other
+other_registers g t u new _ there other (put s i v a e l) = registers_with_field g a i (register_of g t v) (has_field g a i l) u
+other_registers g t u new _ there other (make d o n e y) =
     let same : length (with_object g t o).mutators ≡ length g.mutators = length-set g.mutators t _ in
     stored_registers (with_object g t o) t d u (Ref (next_name g t)) (omega arith) other ∙ registers_with_object g t o there u
 
 pub register_stays : (g : Graph) (t u q : ℕ) (command : Command) → t < length g.mutators → (t ≡ u → ⊥) → register_of (step g t command).0 u q ≡ register_of g u q
-register_stays g t u q command there other = ap (λ rs. get_or rs q Nil) (other_registers g t u (step g t command).0 there other (change_of g t command))
+register_stays g t u q command there other = ap (λ rs. get_or rs q Nil) (other_registers g t u (makes_object command) (step g t command).0 there other (change_of g t command))
 
 -- a step adds one object at most to any thread
 pub counts_more : (g : Graph) (t : ℕ) (command : Command) → t < length g.mutators → (k u : ℕ) → ((v : ℕ) → count_of g v ≤ k) → count_of (step g t command).0 u ≤ k + 1
 counts_more g t command there k u few = elim (cases_eq t u) [
   | inl e ↦ subst (λ v. count_of (step g t command).0 v ≤ k + 1) e (omega (arith, step_count g t command there, few t))
-  | inr n ↦ omega (arith, count_of_other g t u (step g t command).0 there n (change_of g t command), few u)
+  | inr n ↦ omega (arith, count_of_other g t u (makes_object command) (step g t command).0 there n (change_of g t command), few u)
 ]

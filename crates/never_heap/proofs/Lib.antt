@@ -5,3 +5,12 @@ pub mod Starting
 pub mod Making
 pub mod Stepping
 pub mod Ranges
+pub mod Naming
+pub mod Reaching
+pub mod Cycling
+pub mod Spreading
+pub mod Rounds
+pub mod Sums
+pub mod Staying
+pub mod ReachSteps
+pub mod Answering

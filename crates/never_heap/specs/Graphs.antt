@@ -1,5 +1,5 @@
 -- The object graph of a heap that never frees.
-use Rattle.std.specs.Prelude.{ℕ, ◌+◌, ◌-◌, ◌==◌, ◌&&◌, nat_le, Bool, if◌then◌else◌, List, [], ◌∷◌, ◌++◌, length, replicate, slice_set, slice_index_or}
+use Rattle.std.specs.Prelude.{ℕ, ◌≡◌, ◌+◌, ◌-◌, ◌==◌, ◌&&◌, nat_le, Bool, if◌then◌else◌, List, [], ◌∷◌, ◌++◌, length, replicate, slice_set, slice_index_or}
 use Rattle.block_store.specs.declared.Config.{Config}
 use Rattle.block_store.specs.declared.Name.{Name}
 use Rattle.block_store.specs.declared.Value.{Value}
@@ -107,3 +107,8 @@ with_object g t o = let m = mutator_at g t in with_mutator g t (record { registe
 -- the name that thread t's next allocation makes
 abbrev pub next_name : Graph → ℕ → Name
 next_name g t = record { thread = t; serial = count_of g t + 1 }
+
+-- an object has the kind and the length of another
+pub record SameShape (o p : Object) : Type 0 where
+  pub kind : p.kind ≡ o.kind
+  pub size : length p.fields ≡ length o.fields

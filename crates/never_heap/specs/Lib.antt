@@ -1,8 +1,14 @@
 pub mod Graphs
 pub mod Finding
 pub mod Kinds
+pub mod Reach
 pub mod LiveBlocks
 pub mod Steps
 pub mod Bounds
 pub mod Histories
 pub mod Runs
+pub mod Cycles
+pub mod Given
+pub mod Licensed
+pub mod RightWork
+pub mod Marks

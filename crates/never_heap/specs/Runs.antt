@@ -1,6 +1,7 @@
 -- What a history says of the blocks that were asked for, while nothing is given back.
 use Rattle.std.specs.Prelude.{ℕ, ◌+◌, ◌*◌, ◌<◌, ◌≤◌, ◌≡◌, false, List, [], ◌∷◌}
 use Rattle.block_store.specs.declared.Config.{Config}
+use Rattle.array_trees.specs.Trees.{array_blocks}
 use Rattle.never_heap.specs.declared.Command.{Command}
 use Rattle.never_heap.specs.declared.Entry.{Entry}
 use Rattle.never_heap.specs.declared.Reply.{Reply}
@@ -22,9 +23,9 @@ taken_in [] = 0
 taken_in (Started ∷ h) = taken_in h
 taken_in (Did e ∷ h) = taken_by e + taken_in h
 
--- the blocks of the opening heap with an empty shared array: each thread's registers take five, and the array takes one
+-- the blocks of the opening heap: five for the registers of each thread, and those of the shared array
 abbrev pub opening_blocks : Config → ℕ
-opening_blocks c = 5 * c.threads + 1
+opening_blocks c = 5 * c.threads + array_blocks c.shared
 
 -- where this many blocks are in use: with too few left for what is asked the reply is a full of cycle 1, and else it is no full
 abbrev pub FullsExactly : ℕ → ℕ → List HistoryItem → Type 0

@@ -30,6 +30,27 @@ blocks_of (commands.Len s) = 0
 blocks_of (commands.Same a b) = 0
 blocks_of (commands.Say s) = 0
 
+-- whether a command makes an object
+abbrev pub makes_object : Command → Bool
+makes_object (commands.New d f) = true
+makes_object (commands.Arr d e) = true
+makes_object _ = false
+
+-- whether a command, where it is not refused, stores in register q
+abbrev pub stores_in : Command → ℕ → Bool
+stores_in (commands.New d f) q = d == q
+stores_in (commands.Arr d e) q = d == q
+stores_in (commands.Set d v) q = d == q
+stores_in (commands.Nil d) q = d == q
+stores_in (commands.Mov d s) q = d == q
+stores_in (commands.Get d s i) q = d == q
+stores_in _ q = false
+
+-- whether a command stores in a field
+abbrev pub stores_in_field : Command → Bool
+stores_in_field (commands.Put s i v) = true
+stores_in_field _ = false
+
 -- a new object in register d
 abbrev pub made : Graph → ℕ → ℕ → Object → Graph × Reply
 made g t d o = (with_register (with_object g t o) t d (Ref (next_name g t)), replies.New (next_name g t))

@@ -70,8 +70,19 @@ impl Graph {
         self.object(name).map(|object| object.fields())
     }
 
+    pub(crate) fn alloc(&self) -> Global {
+        self.alloc
+    }
+
+    pub(crate) fn mutators(&self) -> &[Mutator]
+        ensures mutators { result.now ≡ self.now.mutators }
+        ensures few { length result.now ≤ 16 }
+    {
+        &self.mutators
+    }
+
     // The object of a name.
-    fn object(&self, name: Name) -> Option<&Object>
+    pub(crate) fn object(&self, name: Name) -> Option<&Object>
         ensures { option_copied result ≡ (if has_name self.now name then Some (object_of self.now name) else None) }
     {
         if name.serial == 0 {
@@ -81,7 +92,7 @@ impl Graph {
     }
 
     // The fields of the object of a name; none where no object has it.
-    fn cells(&self, name: Name) -> &[Value]
+    pub(crate) fn cells(&self, name: Name) -> &[Value]
         ensures { result.now ≡ (object_of self.now name).fields }
     {
         self.fields(name).unwrap_or(&[])

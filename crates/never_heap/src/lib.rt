@@ -9,14 +9,21 @@ ghost use Rattle.never_heap.specs.declared.Entry.{Entry};
 ghost use Rattle.never_heap.specs.Histories.{HistoryItem, after, replay, part, Legal, IsAnswered};
 
 mod graph;
+mod laws;
+mod marks;
 mod mutator;
 mod object;
+mod reach;
 #[cfg(test)]
 mod tests;
 
 use array_trees::blocks_of_array;
 use block_store::{Config, Name, Value};
 pub use graph::Graph;
+pub use laws::{
+    blocks_are_given, cycles_start, names_stay, reach_grows_by_new_objects, reachable_is_least,
+    runs_grow, steps_answer, steps_leave,
+};
 use object_lists::blocks_of_record;
 use std::sync::Wait;
 

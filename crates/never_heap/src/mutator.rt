@@ -51,6 +51,12 @@ impl Mutator {
         self.registers[r as usize]
     }
 
+    pub(crate) fn registers(&self) -> &[Value]
+        ensures { result.now ≡ self.now.registers }
+    {
+        &self.registers
+    }
+
     pub(crate) fn set_register(&mut self, r: u8, value: Value)
         requires { r < 16 }
         ensures registers { self.new.registers ≡ slice_set self.old.registers r value }

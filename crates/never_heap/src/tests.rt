@@ -47,5 +47,6 @@ fn commands_are_answered(rt: HostRuntime) -> Result<(), OutOfMemory> {
         assert!(rt; command.in_bounds(&CONFIG));
         assert_eq!(rt; graph.apply(0, &command)?, reply);
     }
+    assert_eq!(rt; graph.reach_blocks()?, 7);
     Ok(())
 }

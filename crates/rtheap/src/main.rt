@@ -4,18 +4,27 @@
 use never_heap::NoPace;
 use rtheap_core::rtheap;
 use std::alloc::AllocError;
+use std::env;
 use std::io::{self, BufWriter, ErrorKind, Write};
 use std::process::ExitCode;
 use std::rt::Env;
-use std::env;
-use trace_text::{StdSink, StdSource};
+use trace_text::{Sink, StdSink, StdSource};
 
 /// The status of a writing that failed, and that of want of memory.
 const WRITE_FAULT: u8 = 6;
+
 const NO_MEMORY: u8 = 7;
 
 fn main(rt: HostRuntime) -> ExitCode {
-    ExitCode::from(run(&rt).unwrap_or(NO_MEMORY))
+    ExitCode::from(run(&rt).unwrap_or_else(|_| without_memory(&rt)))
+}
+
+/// Tells that memory ran out before anything was done.
+fn without_memory(rt: &HostRuntime) -> u8 {
+    match StdSink::new(rt.stdout()).put(b"rtheap: no memory\n") {
+        Ok(()) => NO_MEMORY,
+        Err(_) => WRITE_FAULT,
+    }
 }
 
 /// Does what the program's words ask for, and says with which status the program ends. What is

@@ -20,14 +20,16 @@ text_of_run left left_now run r =
     ∙ ap (λ k. run_text (parts run.config.threads (history_of run.log)) (starts_in (history_of run.log)) k) (sym (sum_of_none (history_of run.log) r.is_run.no_work))
 
 pub headline_of : (left left_now held held_now : Option (List ℕ)) (status : ℕ) (run : PlainRun) → HasRun left left_now run → IsWritten held held_now status (run_text (run.log ∷ []) 1 0)
-    → Headline left left_now held held_now status run
+    → Headline left left_now held held_now status run (run.log ∷ []) 1 0
 headline_of left left_now held held_now status run r w = record {
   read = r.read;
   admitted = r.admitted;
   runnable = r.runnable;
   history = history_of run.log;
   is_run = r.is_run;
-  logs = ap (λ n. parts n (history_of run.log)) r.runnable.one_thread ∙ r.part;
-  units = sum_of_none (history_of run.log) r.is_run.no_work;
+  parts_logged = ap (λ n. parts n (history_of run.log)) r.runnable.one_thread ∙ r.part;
+  starts_counted = r.is_run.one_start;
+  work_counted = sum_of_none (history_of run.log) r.is_run.no_work;
+  kept = refl;
   text = subst (IsWritten held held_now status) (text_of_run left left_now run r) w;
 }

@@ -1,6 +1,6 @@
 pub mod CellWrites
-pub mod Stores
-pub mod Publish
+pub mod NewObjects
+pub mod Found
 pub mod Reading
 pub mod Commands
 pub mod Making

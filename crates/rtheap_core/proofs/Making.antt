@@ -1,114 +1,94 @@
--- An allocation of the plain heap does what the step does; so do nil and say.
-use Rattle.std.proofs.Common.{ℕ, ◌+◌, ◌*◌, ◌/◌, ◌%◌, ◌≡◌, ◌<◌, ◌≤◌, cond, length, refl, sym, ap, ◌∙◌, subst, arith, eq-eqb, ne_eqb, inl, inr}
-use Rattle.std.proofs.lemmas.Bool.{cases_eq}
-use Rattle.std.proofs.lemmas.List.{length-set, length-replicate}
+-- An allocation of the plain heap does what the step does.
+use Rattle.std.proofs.Common.{ℕ, ◌+◌, ◌/◌, ◌%◌, ◌≡◌, ◌<◌, ◌≤◌, length, refl, sym, ap, ◌∙◌, subst, arith}
+use Rattle.std.proofs.lemmas.List.{length-set}
+use Rattle.block_store.specs.declared.Config.{Config}
 use Rattle.block_store.specs.declared.Name.{Name}
-use Rattle.block_store.specs.declared.Value.{Value}
+use Rattle.block_store.specs.declared.Shape.{Shape}
+use Rattle.block_store.specs.declared.Shape.TheVariants as shapes
 use Rattle.block_store.specs.declared.Value.TheVariants as values
+use Rattle.block_store.specs.Configs.{IsInBounds}
 use Rattle.block_store.specs.Heaps.{Heap, put_at}
-use Rattle.block_store.specs.Owners.{owner_word}
 use Rattle.block_store.specs.Payloads.{reference_word}
-use Rattle.block_store.specs.Places.{OwnerOf, ShapeOf, PayloadOf}
-use Rattle.block_store.specs.Shapes.{record_word}
-use Rattle.never_heap.specs.declared.Command.TheVariants as commands
+use Rattle.block_store.specs.Places.{PayloadOf}
+use Rattle.never_heap.specs.declared.Reply.{Reply}
 use Rattle.never_heap.specs.declared.Reply.TheVariants as replies
-use Rattle.never_heap.specs.Graphs.{Graph, Record, nils, count_of, with_register, with_object, next_name}
-use Rattle.never_heap.proofs.GraphMoves.{objects_with, same_from}
+use Rattle.never_heap.specs.Graphs.{Graph, with_register, with_object, next_name}
+use Rattle.never_heap.specs.Steps.{step, made}
+use Rattle.never_heap.proofs.GraphMoves.{objects_with}
 use Rattle.never_heap.proofs.FieldStores.{count_with_object}
+use Rattle.shown_graph.specs.Made.{new_object, with_blocks, IsMade, IsWritten}
+use Rattle.shown_graph.specs.Shown.{Shows, every_name, never_late}
+use Rattle.shown_graph.specs.Words.{block_words}
+use Rattle.shown_graph.proofs.Every.{words_behind, every_new}
+use Rattle.shown_graph.proofs.ObjectLayouts.{layout_laws}
+use Rattle.shown_graph.proofs.Publish.{written_shows}
+use Rattle.shown_graph.proofs.Stores.{later_last}
 use Rattle.rtheap_core.specs.declared.plain.PlainHeap.{PlainHeap}
-use Rattle.rtheap_core.specs.Cells.{heap_in}
-use Rattle.rtheap_core.specs.Shown.{Shows, value_word}
-use Rattle.rtheap_core.specs.Readings.{value_in}
-use Rattle.rtheap_core.specs.Plain.{IsPlain, ShowsPlain, Answers, Written}
-use Rattle.rtheap_core.proofs.Reading.{value_shown}
-use Rattle.rtheap_core.proofs.Stores.{register_store}
-use Rattle.rtheap_core.proofs.Publish.{placed, publish, has_next}
-use Rattle.rtheap_core.proofs.Commands.{shows_register}
+use Rattle.rtheap_core.specs.Cells.{Cells, heap_in}
+use Rattle.rtheap_core.specs.Objects.{kind_of, length_of, blocks_in, AreBlocksWritten}
+use Rattle.rtheap_core.specs.Plain.{IsPlain, ShowsPlain, Answers, making}
 
--- the heap after the six writes of a record's block
-abbrev after_writes : Heap → ℕ → ℕ → ℕ → Heap
-after_writes h x owner shape = put_at (put_at (put_at (put_at (put_at (put_at h (OwnerOf x) owner) (ShapeOf x) shape) (PayloadOf x 0) 0) (PayloadOf x 1) 0) (PayloadOf x 2) 0) (PayloadOf x 3) 0
+-- an object takes a block at least
+pub some_blocks : (s : Shape) → 0 < blocks_in s
+some_blocks s = (layout_laws (kind_of s) (length_of s)).first
 
-payload_written : (h : Heap) (x w s j : ℕ) → 0 < j → j < 4 → after_writes h x w s (PayloadOf x j) ≡ 0
-payload_written h x w s j a b = elim (cases_eq j 1) [
-  | inl e ↦ rw (e, eq-eqb x x refl) refl
-  | inr n ↦ elim (cases_eq j 2) [
-    | inl e ↦ rw (e, eq-eqb x x refl) refl
-    | inr m ↦ let e : j ≡ 3 = omega arith in rw (e, eq-eqb x x refl) refl
-  ]
-]
-
-written_there : (h : Heap) (x serial f : ℕ) → Written h (after_writes h x (owner_word 0 serial 0) (record_word f)) x 0 serial (record { kind = Record; fields = nils f })
-written_there h x serial f = record {
-  owner = rw (eq-eqb x x refl) refl;
-  shape = rw (eq-eqb x x refl, length-replicate) refl;
-  payload = λ j a b. payload_written h x (owner_word 0 serial 0) (record_word f) j a b;
-  owners = λ y n. rw (ne_eqb x y (λ e. n (sym e))) refl;
-  shapes = λ y n. rw (ne_eqb x y (λ e. n (sym e))) refl;
-  payloads = λ y j n. rw (ne_eqb x y (λ e. n (sym e))) refl;
+-- the heap after it gave these blocks to one more object
+pub plain_after : (h : PlainHeap) (store : Cells) (blocks : ℕ) → IsPlain h → store.config ≡ h.store.config → 0 < blocks → h.last + blocks ≤ h.store.config.blocks
+    → IsPlain (record { store = store; last = h.last + blocks; made = h.made + 1 })
+plain_after h store blocks plain e some room = record {
+  config = subst (λ (c : Config). IsInBounds c) (sym e) plain.config;
+  one_thread = ap (λ (c : Config). c.threads) e ∙ plain.one_thread;
+  given = omega (arith, plain.given);
+  within = subst (λ (c : Config). h.last + blocks ≤ c.blocks) (sym e) room;
 }
 
--- the six writes, one after another
-pub written_record : (h a b c d e new : Heap) (x serial f : ℕ) → a ≡ put_at h (OwnerOf x) (owner_word 0 serial 0) → b ≡ put_at a (ShapeOf x) (record_word f)
-    → c ≡ put_at b (PayloadOf x 0) 0 → d ≡ put_at c (PayloadOf x 1) 0 → e ≡ put_at d (PayloadOf x 2) 0 → new ≡ put_at e (PayloadOf x 3) 0
-    → Written h new x 0 serial (record { kind = Record; fields = nils f })
-written_record h a b c d e new x serial f ea eb ec ed ee en =
-    subst (λ (q : Heap). Written h q x 0 serial (record { kind = Record; fields = nils f }))
-    (sym (en ∙ ap (λ (q : Heap). put_at q (PayloadOf x 3) 0) (ee ∙ ap (λ (q : Heap). put_at q (PayloadOf x 2) 0) (ed ∙ ap (λ (q : Heap). put_at q (PayloadOf x 1) 0) (ec ∙ ap (λ (q : Heap). put_at q (PayloadOf x 0) 0) (eb ∙ ap (λ (q : Heap). put_at q (ShapeOf x) (record_word f)) ea))))))
-    (written_there h x serial f)
+step_making : (g : Graph) (d : ℕ) (s : Shape) → step g 0 (making d s) ≡ made g 0 d (new_object (kind_of s) (length_of s))
+step_making g d (shapes.List f) = refl
+step_making g d (shapes.Tree e) = refl
 
-module _ (h w new : PlainHeap) (at : Name → ℕ) (g : Graph) (d f : ℕ) (plain : IsPlain h) (small : d < 16) (few : f ≤ 3) (sh : ShowsPlain h at g) (room : h.next ≤ h.store.config.blocks)
-    (written : Written (heap_in h.store) (heap_in w.store) h.next 0 (h.made + 1) (record { kind = Record; fields = nils f }))
-    (e : heap_in new.store ≡ put_at (heap_in w.store) (PayloadOf (2 + d / 4) (d % 4)) (reference_word h.next)) (n : new.next ≡ h.next + 1) (m : new.made ≡ h.made + 1) where
+module _ (h new : PlainHeap) (w : Heap) (at : Name → ℕ → ℕ) (g : Graph) (d : ℕ) (s : Shape) (plain : IsPlain h) (small : d < 16) (few : blocks_in s ≤ 1024) (sh : ShowsPlain h at g)
+    (room : h.last + blocks_in s ≤ h.store.config.blocks) (written : AreBlocksWritten (heap_in h.store) w (record { thread = 0; serial = h.made + 1 }) s (h.last + 1) (blocks_in s))
+    (e : heap_in new.store ≡ put_at w (PayloadOf (2 + d / 4) (d % 4)) (reference_word (h.last + 1))) (n : new.last ≡ h.last + blocks_in s) (m : new.made ≡ h.made + 1) where
+  abbrev block_of : ℕ → ℕ
+  block_of o = h.last + 1 + o
+
   there : 0 < length g.mutators
-  there = omega (arith, sh.one_thread)
+  there = omega (arith, sh.shows.sized.threads)
 
-  written_here : Written (heap_in h.store) (heap_in w.store) h.next 0 (count_of g 0 + 1) (record { kind = Record; fields = nils f })
-  written_here = subst (λ s. Written (heap_in h.store) (heap_in w.store) h.next 0 (s + 1) (record { kind = Record; fields = nils f })) (sym sh.made) written
+  -- the words behind the last block are not of the graph
+  shows_old : Shows 1 (h.last + blocks_in s) (every_name g) g at (block_words w) never_late
+  shows_old = later_last 1 h.last (every_name g) g at (block_words w) never_late
+      (words_behind 1 h.last (every_name g) g at (block_words (heap_in h.store)) never_late sh.shows (block_words w) (omega (arith, plain.given)) (λ x some low. written.before x (omega arith)))
+      (h.last + blocks_in s) (omega arith)
 
-  low : 5 * length g.mutators < h.next
-  low = omega (arith, sh.one_thread, plain.given)
+  is_made : IsMade 1 (h.last + blocks_in s) g (block_words w) 0 (kind_of s) (length_of s) block_of
+  is_made = record {
+    thread = omega arith;
+    few_threads = omega arith;
+    serial = omega (arith, sh.made, plain.given, plain.within, plain.config.blocks);
+    ordinals = few;
+    behind = λ o ol. omega (arith, plain.given);
+    within = λ o ol. omega arith;
+    blocks = λ o ol. written_shows (λ a. 0) (block_words w) (next_name g 0) (kind_of s) (length_of s) block_of o
+        (subst (λ c. IsWritten (block_words w) (record { thread = 0; serial = c + 1 }) (kind_of s) (length_of s) block_of o) (sym sh.made) (written.blocks o ol));
+  }
 
-  serial : count_of g 0 + 1 ≤ 131072
-  serial = omega (arith, sh.made, plain.given, plain.within, plain.config.blocks)
-
-  published : Shows (heap_in w.store) (placed at (next_name g 0) h.next) (h.next + 1) (with_object g 0 (record { kind = Record; fields = nils f }))
-  published = publish (heap_in h.store) (heap_in w.store) at h.next g sh.shows 0 f there (omega arith) serial low few written_here
-
-  new_there : 0 < length (with_object g 0 (record { kind = Record; fields = nils f })).mutators
-  new_there = rw length-set there
-
-  stored : Shows (put_at (heap_in w.store) (PayloadOf (2 + d / 4) (d % 4)) (value_word (placed at (next_name g 0) h.next) (values.Ref (next_name g 0)))) (placed at (next_name g 0) h.next) (h.next + 1) (with_register (with_object g 0 (record { kind = Record; fields = nils f })) 0 d (values.Ref (next_name g 0)))
-  stored = register_store (heap_in w.store) (placed at (next_name g 0) h.next) (h.next + 1) (with_object g 0 (record { kind = Record; fields = nils f })) published 0 d (values.Ref (next_name g 0)) new_there small
-      (has_next (heap_in h.store) (heap_in w.store) at h.next g sh.shows 0 f there (omega arith) serial low few written_here)
-
-  -- an allocation for which a block is left
-  pub make_answers : Answers new g (commands.New d f) (replies.New (record { thread = 0; serial = h.made + 1 }))
+  -- an allocation for which there are blocks
+  pub make_answers : Answers new g (making d s) (replies.New (record { thread = 0; serial = h.made + 1 }))
   make_answers =
-      let word : reference_word h.next ≡ value_word (placed at (next_name g 0) h.next) (values.Ref (next_name g 0)) = sym (ap (λ b. reference_word (cond b h.next (at (next_name g 0)))) (same_from (next_name g 0) (next_name g 0) refl refl)) in
+      let grown = with_object g 0 (new_object (kind_of s) (length_of s)) in
+      let after = with_register grown 0 d (values.Ref (next_name g 0)) in
+      let first : h.last + 1 + 0 ≡ h.last + 1 = omega arith in
+      let stored : Shows 1 (h.last + blocks_in s) (every_name after) after (with_blocks at (next_name g 0) block_of) (block_words (put_at w (PayloadOf (2 + d / 4) (d % 4)) (reference_word (h.last + 1 + 0)))) never_late =
+      every_new 1 (h.last + blocks_in s) g at (block_words w) never_late shows_old 0 d (kind_of s) (length_of s) block_of is_made small in
+      let more : 0 < length grown.mutators = rw length-set there in
       record {
-        at = placed at (next_name g 0) h.next;
-        same = ap (λ k. replies.New (record { thread = 0; serial = k + 1 })) (sym sh.made);
-        shown = record {
-          shows = subst (λ k. Shows (heap_in new.store) (placed at (next_name g 0) h.next) k (with_register (with_object g 0 (record { kind = Record; fields = nils f })) 0 d (values.Ref (next_name g 0)))) (sym n)
-              (subst (λ (q : Heap). Shows q (placed at (next_name g 0) h.next) (h.next + 1) (with_register (with_object g 0 (record { kind = Record; fields = nils f })) 0 d (values.Ref (next_name g 0)))) (sym (e ∙ ap (put_at (heap_in w.store) (PayloadOf (2 + d / 4) (d % 4))) word)) stored);
-          one_thread = length-set (with_object g 0 (record { kind = Record; fields = nils f })).mutators 0 _ ∙ length-set g.mutators 0 _ ∙ sh.one_thread;
-          made = ap length (objects_with (with_object g 0 (record { kind = Record; fields = nils f })) 0 0 _ new_there refl) ∙ count_with_object g 0 (record { kind = Record; fields = nils f }) there 0 ∙ ap (λ k. k + 1) sh.made ∙ sym m;
-        };
+        at = with_blocks at (next_name g 0) block_of;
+        same = ap (λ k. replies.New (record { thread = 0; serial = k + 1 })) (sym sh.made) ∙ sym (ap (λ (p : Graph × Reply). p.1) (step_making g d s));
+        shown = subst (λ (p : Graph × Reply). ShowsPlain new (with_blocks at (next_name g 0) block_of) p.0) (sym (step_making g d s)) (record {
+          shows = subst (λ l. Shows 1 l (every_name after) after (with_blocks at (next_name g 0) block_of) (block_words (heap_in new.store)) never_late) (sym n)
+              (subst (λ (q : Heap). Shows 1 (h.last + blocks_in s) (every_name after) after (with_blocks at (next_name g 0) block_of) (block_words q) never_late)
+              (sym (e ∙ ap (λ x. put_at w (PayloadOf (2 + d / 4) (d % 4)) (reference_word x)) (sym first))) stored);
+          made = ap length (objects_with grown 0 0 _ more refl) ∙ count_with_object g 0 (new_object (kind_of s) (length_of s)) there 0 ∙ ap (λ k. k + 1) sh.made ∙ sym m;
+        });
       }
-
--- nil
-pub nil_answers : (h new : PlainHeap) (at : Name → ℕ) (g : Graph) (d : ℕ) → d < 16 → ShowsPlain h at g → heap_in new.store ≡ put_at (heap_in h.store) (PayloadOf (2 + d / 4) (d % 4)) 0 → new.next ≡ h.next → new.made ≡ h.made
-    → Answers new g (commands.Nil d) replies.Stored
-nil_answers h new at g d small sh e n m = record { at = at; same = refl; shown = shows_register h new at g d 0 values.Nil small sh (record { reads = refl; in_graph = tt }) e n m }
-
--- say
-pub say_answers : (h : PlainHeap) (at : Name → ℕ) (g : Graph) (s word : ℕ) (value : Value) → IsPlain h → s < 16 → ShowsPlain h at g → word ≡ heap_in h.store (PayloadOf (2 + s / 4) (s % 4)) → value ≡ value_in (heap_in h.store) h.next word
-    → Answers h g (commands.Say s) (replies.Val value)
-say_answers h at g s word value plain small sh w val =
-    let k = sh.shows.registers 0 s (omega (arith, sh.one_thread)) small in
-    record {
-      at = at;
-      same = ap replies.Val (val ∙ ap (value_in (heap_in h.store) h.next) w ∙ value_shown (heap_in h.store) at h.next g sh.shows (omega (arith, plain.within, plain.config.blocks)) _ _ k);
-      shown = sh;
-    }

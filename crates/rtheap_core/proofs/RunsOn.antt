@@ -53,27 +53,27 @@ record Adds (m used : ℕ) (g : Graph) (new : PlainHeap) (e : Entry) : Type 0 wh
   answered : IsAnswered g (Did e)
   lacks : 0 < blocks_of e.command → m < used + blocks_of e.command → e.reply ≡ replies.Full 1
   fits : 0 < blocks_of e.command → used + blocks_of e.command ≤ m → is_full e.reply ≡ false
-  given : new.next ≡ used + taken_by e + 1
-  at : Name → ℕ
+  given : new.last ≡ used + taken_by e
+  at : Name → ℕ → ℕ
   shown : ShowsPlain new at (after g (Did e))
 
 true≢false : (true ≡ false) → ⊥
 true≢false e = cc
 
 -- where too few blocks are left
-adds_full : (m used : ℕ) (at : Name → ℕ) (g : Graph) (h new : PlainHeap) (command : Command) (reply : Reply) → used ≤ m → m < used + blocks_of command → h.next ≡ used + 1 → reply ≡ replies.Full 1 → new ≡ h → ShowsPlain h at g
+adds_full : (m used : ℕ) (at : Name → ℕ → ℕ) (g : Graph) (h new : PlainHeap) (command : Command) (reply : Reply) → used ≤ m → m < used + blocks_of command → h.last ≡ used → reply ≡ replies.Full 1 → new ≡ h → ShowsPlain h at g
     → Adds m used g new (entry_of command reply)
 adds_full m used at g h new command reply low lack n e same sh = record {
   answered = inr (ap is_full e, omega arith);
   lacks = λ _ _. e;
   fits = λ k l. absurd (omega arith);
-  given = let t : blocks_if_new reply (blocks_of command) ≡ 0 = ap (λ (r : Reply). blocks_if_new r (blocks_of command)) e in let q : new.next ≡ h.next = ap (λ (q : PlainHeap). q.next) same in omega arith;
+  given = let t : blocks_if_new reply (blocks_of command) ≡ 0 = ap (λ (r : Reply). blocks_if_new r (blocks_of command)) e in let q : new.last ≡ h.last = ap (λ (q : PlainHeap). q.last) same in omega arith;
   at = at;
   shown = subst (λ (r : Reply). ShowsPlain new at (cond (is_full r) g (step g 0 command).0)) (sym e) (subst (λ (q : PlainHeap). ShowsPlain q at g) (sym same) sh);
 }
 
 -- where they are left
-adds_new : (m used : ℕ) (g : Graph) (h new : PlainHeap) (command : Command) (reply : Reply) → used + blocks_of command ≤ m → h.next ≡ used + 1 → is_full reply ≡ false → new.next ≡ h.next + blocks_of command → Answers new g command reply
+adds_new : (m used : ℕ) (g : Graph) (h new : PlainHeap) (command : Command) (reply : Reply) → used + blocks_of command ≤ m → h.last ≡ used → is_full reply ≡ false → new.last ≡ h.last + blocks_of command → Answers new g command reply
     → Adds m used g new (entry_of command reply)
 adds_new m used g h new command reply fit n f nn a = record {
   answered = inl a.same;
@@ -84,11 +84,11 @@ adds_new m used g h new command reply fit n f nn a = record {
   shown = subst (λ b. ShowsPlain new a.at (cond b g (step g 0 command).0)) (sym f) a.shown;
 }
 
-adds : (m used : ℕ) (at : Name → ℕ) (g : Graph) (h new : PlainHeap) (command : Command) (reply : Reply) → used ≤ m → h.next ≡ used + 1 → ShowsPlain h at g
-    → (h.next + blocks_of command ≤ m + 1 → (is_full reply ≡ false) × (new.next ≡ h.next + blocks_of command))
-    → (m + 1 < h.next + blocks_of command → (reply ≡ replies.Full 1) × (new ≡ h))
+adds : (m used : ℕ) (at : Name → ℕ → ℕ) (g : Graph) (h new : PlainHeap) (command : Command) (reply : Reply) → used ≤ m → h.last ≡ used → ShowsPlain h at g
+    → (h.last + blocks_of command ≤ m → (is_full reply ≡ false) × (new.last ≡ h.last + blocks_of command))
+    → (m < h.last + blocks_of command → (reply ≡ replies.Full 1) × (new ≡ h))
     → (is_full reply ≡ false → Answers new g command reply) → Adds m used g new (entry_of command reply)
-adds m used at g h new command reply low n sh room full answered = elim (cases_lt (m + 1) (h.next + blocks_of command)) [
+adds m used at g h new command reply low n sh room full answered = elim (cases_lt m (h.last + blocks_of command)) [
   | inl l ↦ let p = full l in adds_full m used at g h new command reply low (omega arith) n p.0 p.1 sh
   | inr l ↦ let p = room l in adds_new m used g h new command reply (omega arith) n p.0 p.1 (answered p.0)
 ]
@@ -108,29 +108,29 @@ goes_on c commands h new log command reply run plain config a =
       legal = subst (LegalFrom (start_graph c)) longer (legal_more (start_graph c) (map Did log) (Did e) run.legal a.answered);
       no_work = subst NoWork longer (no_work_append (map Did log) (Did e ∷ []) run.no_work (refl, tt));
       fulls = subst (FullsExactly c.blocks (opening_blocks c)) longer (fulls_append c.blocks (opening_blocks c) (map Did log) (Did e ∷ []) run.fulls (a.lacks, a.fits, tt));
-      given = a.given ∙ sym (ap (λ k. opening_blocks c + k + 1) (ap taken_in (sym longer) ∙ taken_append (map Did log) (Did e ∷ [])) ∙ sums (opening_blocks c) (taken_in (map Did log)) (taken_by e));
+      given = a.given ∙ sym (ap (λ k. opening_blocks c + k) (ap taken_in (sym longer) ∙ taken_append (map Did log) (Did e ∷ [])) ∙ sums (opening_blocks c) (taken_in (map Did log)) (taken_by e));
       at = a.at;
       shown = subst (λ (g : Graph). ShowsPlain new a.at g) (sym (ap (replay_from (start_graph c)) (sym longer) ∙ replay_more (start_graph c) (map Did log) (Did e))) a.shown;
     }
   where
-    sums : (o t k : ℕ) → o + (t + (k + 0)) + 1 ≡ (o + t) + k + 1
+    sums : (o t k : ℕ) → o + (t + (k + 0)) ≡ (o + t) + k
     sums o t k = omega arith
 
 pub run_goes_on : (c : Config) (commands : List Command) (h new : PlainHeap) (log : List Entry) (command : Command) (reply : Reply) → IsRunSoFar c commands h log → IsPlain new → new.store.config ≡ h.store.config
-    → (h.next + blocks_of command ≤ h.store.config.blocks + 1 → (is_full reply ≡ false) × (new.next ≡ h.next + blocks_of command))
-    → (h.store.config.blocks + 1 < h.next + blocks_of command → (reply ≡ replies.Full 1) × (new ≡ h))
-    → ((at : Name → ℕ) (g : Graph) → ShowsPlain h at g → is_full reply ≡ false → Answers new g command reply)
+    → (h.last + blocks_of command ≤ h.store.config.blocks → (is_full reply ≡ false) × (new.last ≡ h.last + blocks_of command))
+    → (h.store.config.blocks < h.last + blocks_of command → (reply ≡ replies.Full 1) × (new ≡ h))
+    → ((at : Name → ℕ → ℕ) (g : Graph) → ShowsPlain h at g → is_full reply ≡ false → Answers new g command reply)
     → IsRunSoFar c (commands ++ command ∷ []) new (log ++ entry_of command reply ∷ [])
 run_goes_on c commands h new log command reply run plain config room full answered =
     let blocks : h.store.config.blocks ≡ c.blocks = ap (λ (k : Config). k.blocks) run.config in
-    let up : h.next ≤ h.store.config.blocks + 1 = run.plain.within in
+    let up : h.last ≤ h.store.config.blocks = run.plain.within in
     let g = replay_from (start_graph c) (map Did log) in
     goes_on c commands h new log command reply run plain (config ∙ run.config)
     (adds c.blocks (opening_blocks c + taken_in (map Did log)) run.at g h new command reply (omega (arith, run.given)) run.given run.shown
     (λ l. room (omega arith)) (λ l. full (omega arith)) (answered run.at g run.shown))
 
 -- before the first command
-pub run_starts : (c : Config) (at : Name → ℕ) (h : PlainHeap) (log : List Entry) → IsPlain h → h.store.config ≡ c → h.next ≡ 7 → ShowsPlain h at (start_graph c) → log ≡ [] → IsRunSoFar c [] h log
+pub run_starts : (c : Config) (at : Name → ℕ → ℕ) (h : PlainHeap) (log : List Entry) → IsPlain h → h.store.config ≡ c → h.last ≡ opening_blocks c → ShowsPlain h at (start_graph c) → log ≡ [] → IsRunSoFar c [] h log
 run_starts c at h log plain config next shown e = subst (λ (es : List Entry). IsRunSoFar c [] h es) (sym e) (record {
   plain = plain;
   config = config;
@@ -140,7 +140,7 @@ run_starts c at h log plain config next shown e = subst (λ (es : List Entry). I
   legal = tt;
   no_work = tt;
   fulls = tt;
-  given = let one : c.threads ≡ 1 = ap (λ (k : Config). k.threads) (sym config) ∙ plain.one_thread in omega arith;
+  given = omega arith;
   at = at;
   shown = shown;
 })

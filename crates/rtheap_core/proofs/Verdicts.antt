@@ -1,16 +1,16 @@
 -- What a call answers to an input that is known.
-use Rattle.std.proofs.Common.{ℕ, ◌≡◌, ◌≢◌, ◌≤◌, ◌<◌, ◌⊎◌, inl, inr, List, length, Option, false, true, Some, None, IfSome, IsSome, refl, sym, ap, ◌∙◌, subst, arith}
+use Rattle.std.proofs.Common.{ℕ, ◌≡◌, ◌≢◌, ◌≤◌, ◌<◌, ◌⊎◌, inl, inr, List, [], ◌∷◌, length, Option, false, true, Some, None, IfSome, IsSome, refl, sym, ◌∙◌, subst, arith}
 use Rattle.std.proofs.lemmas.Bool.{cases_eq}
 use Rattle.rate_plan.specs.declared.PlanFault.{PlanFault}
 use Rattle.rate_plan.specs.declared.PlanFault.TheVariants as plans
 use Rattle.rate_plan.specs.Rates.{IsAdmitted, IsRefusal}
 use Rattle.trace_text.specs.declared.jobs.Job.{Job}
-use Rattle.trace_text.specs.declared.reading.Why.{Why}
+use Rattle.trace_text.specs.declared.trace_faults.Why.{Why}
 use Rattle.trace_text.specs.Jobs.{IsJob, IsInput, input_limit}
 use Rattle.trace_text.specs.Refusals.{IsFirstBadLine}
 use Rattle.rtheap_core.specs.declared.refusal.Refusal.{Refusal}
 use Rattle.rtheap_core.specs.declared.refusal.Refusal.TheVariants.{Usage, BadLine, TooLong, LiveTooSmall, NoRate, Later, ReadFault, OutOfMemory}
-use Rattle.rtheap_core.specs.Exits.{AskForRun, AskForPlan, Ask, Headline, Planned, IsReadAs, IsDueOrFails, run_of, job_of}
+use Rattle.rtheap_core.specs.Exits.{AskForRun, AskForPlan, Ask, Headline, Planned, IsDueOrFails, run_of, job_of}
 use Rattle.rtheap_core.specs.declared.exit.RunEnd.{RunEnd}
 use Rattle.rtheap_core.specs.Refusals.{IsCause, Refused, IsJobWith, status_of}
 use Rattle.rtheap_core.specs.Runnable.{CanRun}
@@ -28,7 +28,7 @@ pub data Verdict : List (List ℕ) → List ℕ → ℕ → Type 0 where
 refused_as : (words : List (List ℕ)) (bytes : List ℕ) (now : Option (List ℕ)) (before after due : ℕ) (r : Refusal) → Ask words → due ≡ status_of r → IsCause words (Some bytes) now before after r → Verdict words bytes due
 refused_as words bytes now before after due Usage asked e c = absurd (c.0 asked)
 refused_as words bytes now before after due (BadLine line why) asked e c = Bad line why c.1.0 c.1.1 e
-refused_as words bytes now before after due TooLong asked e c = Long c.1 e
+refused_as words bytes now before after due TooLong asked e c = Long c.1.0 e
 refused_as words bytes now before after due Later asked e c = PutOff c.1.0 c.0 c.1.1.input c.1.2.0 c.1.2.1 e
 refused_as words bytes now before after due LiveTooSmall asked e c = Rateless c.1.0 plans.LiveTooSmall c.1.1.input c.1.2 e
 refused_as words bytes now before after due NoRate asked e c = Rateless c.1.0 plans.NoRate c.1.1.input c.1.2 e
@@ -105,7 +105,7 @@ not_two_words words a b = let e = sym a ∙ b in cc
 
 -- a call that is done has read a job with a rate, which can be run where a run was asked for
 done_as : (words : List (List ℕ)) (left now held held_now : Option (List ℕ)) (status due : ℕ) (run : Option RunEnd) → Ask words
-    → IfSome run (λ e. Headline left now held held_now status (run_of e)) → (AskForRun words × (due ≡ 0) → IsSome run) → (AskForPlan words → due ≡ 0 → Planned left now held held_now status)
+    → IfSome run (λ e. Headline left now held held_now status (run_of e) ((run_of e).log ∷ []) 1 0) → (AskForRun words × (due ≡ 0) → IsSome run) → (AskForPlan words → due ≡ 0 → Planned left now held held_now status)
     → due ≡ 0 → IsJobWith (λ job. IsAdmitted job.config × (AskForRun words → CanRun job)) left now
 done_as words left now held held_now status due (Some e) (inl ask) headline some planned zero = (job_of (run_of e), headline.read, (headline.admitted, λ _. headline.runnable))
 done_as words left now held held_now status due None (inl ask) headline some planned zero = let e : false ≡ true = some (ask, zero) in cc
@@ -114,7 +114,7 @@ done_as words left now held held_now status due run (inr ask) headline some plan
 
 -- what a call answers, where the source told its bytes
 module _ (laws : Laws) (words : List (List ℕ)) (left now held held_now : Option (List ℕ)) (before after status due : ℕ) (run : Option RunEnd)
-    (headline : IfSome run (λ e. Headline left now held held_now status (run_of e))) (some : AskForRun words × (due ≡ 0) → IsSome run) (planned : AskForPlan words → due ≡ 0 → Planned left now held held_now status)
+    (headline : IfSome run (λ e. Headline left now held held_now status (run_of e) ((run_of e).log ∷ []) 1 0)) (some : AskForRun words × (due ≡ 0) → IsSome run) (planned : AskForPlan words → due ≡ 0 → Planned left now held held_now status)
     (refused : due ≢ 0 → Refused words left now held held_now before after status due) where
   verdict_of : (asked : Ask words) (bytes : List ℕ) → left ≡ Some bytes → Verdict words bytes due
   verdict_of asked bytes e =

@@ -1,6 +1,7 @@
 -- What the top call answers.
 use Rattle.std.specs.Prelude.{ℕ, ◌≡◌, ◌⊎◌, List, [], ◌∷◌, ◌++◌, codes, decimal, Option, IfSome}
-use Rattle.never_heap.specs.Histories.{HistoryItem, parts, work_in}
+use Rattle.never_heap.specs.declared.Entry.{Entry}
+use Rattle.never_heap.specs.Histories.{HistoryItem, parts, starts_in, work_in}
 use Rattle.never_heap.specs.Runs.{IsPlainRun}
 use Rattle.rate_plan.specs.Rates.{IsAdmitted, IsRate}
 use Rattle.trace_text.specs.declared.jobs.Job.{Job}
@@ -44,16 +45,18 @@ pub record IsWritten (held held_now : Option (List ℕ)) (status : ℕ) (text : 
   pub front : status ≡ 6 → AppendsFront held held_now text
 
 -- The headline. There is one history of a heap that never frees: its replies, thread by thread in trace order, are those of the logs;
--- each allocation made 0 units; and a reply `full 1` stands exactly where the blocks ran out. The job that was run is the input, and
--- the history's text is what was written.
-pub record Headline (left left_now held held_now : Option (List ℕ)) (status : ℕ) (run : PlainRun) : Type 0 where
+-- each allocation made 0 units; and a reply `full 1` stands exactly where the blocks ran out. The job that was run is the input, the
+-- logs, cycles and units are those that the ended run shows, and the history's text is what was written.
+pub record Headline (left left_now held held_now : Option (List ℕ)) (status : ℕ) (run : PlainRun) (logs : List (List Entry)) (cycles units : ℕ) : Type 0 where
   pub read : IsReadAs left left_now (job_of run)
   pub admitted : IsAdmitted run.config
   pub runnable : CanRun (job_of run)
   pub history : List HistoryItem
   pub is_run : IsPlainRun run.config (job_of run).traces history
-  pub logs : parts run.config.threads history ≡ run.log ∷ []
-  pub units : work_in history ≡ 0
+  pub parts_logged : parts run.config.threads history ≡ logs
+  pub starts_counted : starts_in history ≡ cycles
+  pub work_counted : work_in history ≡ units
+  pub kept : logs ≡ run.log ∷ []
   pub text : IsWritten held held_now status (text_by_threads run.config.threads history)
 
 -- a rate's line
@@ -73,6 +76,6 @@ pub record Planned (left left_now held held_now : Option (List ℕ)) (status : �
 abbrev pub IsDue : ℕ → Type 0
 IsDue due = (due ≡ 0) ⊎ ((due ≡ 2) ⊎ ((due ≡ 3) ⊎ ((due ≡ 4) ⊎ ((due ≡ 5) ⊎ (due ≡ 7)))))
 
--- the status by all but the writing is k, unless the source failed or memory ran out
+-- the status by all but the writing is k, unless the source failed or the answer is want of memory
 abbrev pub IsDueOrFails : ℕ → ℕ → Type 0
 IsDueOrFails k due = (due ≡ k) ⊎ ((due ≡ 5) ⊎ (due ≡ 7))

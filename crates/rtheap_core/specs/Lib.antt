@@ -1,5 +1,5 @@
 pub mod Cells
-pub mod Shown
+pub mod Objects
 pub mod Readings
 pub mod Runnable
 pub mod Plain

@@ -33,6 +33,6 @@ pub record IsRunSoFar (c : Config) (commands : List Command) (heap : PlainHeap) 
   pub legal : LegalFrom (start_graph c) (map Did log)
   pub no_work : NoWork (map Did log)
   pub fulls : FullsExactly c.blocks (opening_blocks c) (map Did log)
-  pub given : heap.next ≡ opening_blocks c + taken_in (map Did log) + 1
-  pub at : Name → ℕ
+  pub given : heap.last ≡ opening_blocks c + taken_in (map Did log)
+  pub at : Name → ℕ → ℕ
   pub shown : ShowsPlain heap at (replay_from (start_graph c) (map Did log))

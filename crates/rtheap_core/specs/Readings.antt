@@ -1,5 +1,5 @@
--- What is read from words of the plain heap.
-use Rattle.std.specs.Prelude.{ℕ, ◌==◌, nat_le, nat_lt, ◌&&◌, min, if◌then◌else◌, Option, Some, None, Result, Ok, Err}
+-- What is read from words of the plain heap, of which the blocks up to the last were given.
+use Rattle.std.specs.Prelude.{ℕ, zero, suc, nat_le, nat_lt, if◌then◌else◌, Option, Some, None, Result, Ok, Err}
 use Rattle.block_store.specs.declared.Owner.{Owner}
 use Rattle.block_store.specs.declared.Payload.{Payload}
 use Rattle.block_store.specs.declared.Payload.TheVariants as payloads
@@ -7,49 +7,74 @@ use Rattle.block_store.specs.declared.Shape.{Shape}
 use Rattle.block_store.specs.declared.Shape.TheVariants as shapes
 use Rattle.block_store.specs.declared.Value.{Value}
 use Rattle.block_store.specs.declared.Value.TheVariants as values
-use Rattle.never_heap.specs.declared.Reply.{Reply}
-use Rattle.never_heap.specs.declared.Reply.TheVariants.{Kind, Null, Range}
 use Rattle.block_store.specs.Heaps.{Heap}
 use Rattle.block_store.specs.Owners.{owner_of}
 use Rattle.block_store.specs.Payloads.{payload_of}
-use Rattle.block_store.specs.Places.{OwnerOf, ShapeOf}
+use Rattle.block_store.specs.Places.{OwnerOf, ShapeOf, PayloadOf}
 use Rattle.block_store.specs.Shapes.{shape_of}
+use Rattle.object_lists.specs.Records.{record_spot}
+use Rattle.array_trees.specs.Levels.{array_depth, array_turn}
+use Rattle.rtheap_core.specs.Objects.{length_of}
+use Rattle.never_heap.specs.declared.Reply.{Reply}
+use Rattle.never_heap.specs.declared.Reply.TheVariants.{Kind, Null, Range}
 
 -- a reference to the object of an owner
 abbrev pub reference_of : Option Owner → Value
 reference_of (Some o) = values.Ref (record { thread = o.thread; serial = o.serial })
 reference_of None = values.Nil
 
--- a reference to the object at block x, where the blocks from next on were not given
+-- a reference to the object at block x
 abbrev pub reference_at : Heap → ℕ → ℕ → Value
-reference_at heap next x = if x == 0 then values.Nil else (if nat_le next x then values.Nil else reference_of (owner_of (heap (OwnerOf x))))
+reference_at heap last x = if nat_le x last then reference_of (owner_of (heap (OwnerOf x))) else values.Nil
 
 abbrev pub value_of_payload : Heap → ℕ → Option Payload → Value
-value_of_payload heap next (Some (payloads.Int n)) = values.Int n
-value_of_payload heap next (Some (payloads.Block x)) = reference_at heap next x
-value_of_payload heap next (Some payloads.Nil) = values.Nil
-value_of_payload heap next None = values.Nil
+value_of_payload heap last (Some (payloads.Int n)) = values.Int n
+value_of_payload heap last (Some (payloads.Block x)) = reference_at heap last x
+value_of_payload heap last (Some payloads.Nil) = values.Nil
+value_of_payload heap last None = values.Nil
 
 -- the value that a word shows
 abbrev pub value_in : Heap → ℕ → ℕ → Value
-value_in heap next word = value_of_payload heap next (payload_of word)
+value_in heap last word = value_of_payload heap last (payload_of word)
 
-abbrev pub size_of : Option Shape → ℕ
-size_of (Some (shapes.List f)) = f
-size_of (Some (shapes.Tree e)) = e
-size_of None = 0
+-- a block with the shape of its object; without a shape there is no object
+abbrev pub with_shape : ℕ → Option Shape → Result (ℕ × Shape) Reply
+with_shape x (Some s) = Ok (x, s)
+with_shape x None = Err Null
 
--- how many fields the object at block x has, of the three that a block holds
-abbrev pub fields_at : Heap → ℕ → ℕ
-fields_at heap x = min (size_of (shape_of (heap (ShapeOf x)))) 3
+-- the first block and the shape of the object at block x
+abbrev pub object_at : Heap → ℕ → ℕ → Result (ℕ × Shape) Reply
+object_at heap last x = if nat_le x last then with_shape x (shape_of (heap (ShapeOf x))) else Err Null
 
--- block x, where its object has a field i; else there is none
-abbrev pub field_block_at : Heap → ℕ → ℕ → ℕ → Result ℕ Reply
-field_block_at heap next x i = if (nat_lt 0 x && nat_lt x next) && nat_lt i (fields_at heap x) then Ok x else Err Range
+-- the same of the object to which a payload refers, or the reply that refuses
+abbrev pub object_of_payload : Heap → ℕ → Option Payload → Result (ℕ × Shape) Reply
+object_of_payload heap last (Some (payloads.Int n)) = Err Kind
+object_of_payload heap last (Some (payloads.Block x)) = object_at heap last x
+object_of_payload heap last (Some payloads.Nil) = Err Null
+object_of_payload heap last None = Err Null
 
--- the block of what a payload refers to, where it has a field i; else the reply that refuses
-abbrev pub field_block_of : Heap → ℕ → Option Payload → ℕ → Result ℕ Reply
-field_block_of heap next (Some (payloads.Int n)) i = Err Kind
-field_block_of heap next (Some (payloads.Block x)) i = field_block_at heap next x i
-field_block_of heap next (Some payloads.Nil) i = Err Null
-field_block_of heap next None i = Err Null
+-- and of that to which a word refers
+abbrev pub object_in : Heap → ℕ → ℕ → Result (ℕ × Shape) Reply
+object_in heap last word = object_of_payload heap last (payload_of word)
+
+-- the block to which a payload refers; where there is none, x
+abbrev pub block_or : ℕ → ℕ → Option Payload → ℕ
+block_or last x (Some (payloads.Block y)) = if nat_le y last then y else x
+block_or last x (Some (payloads.Int n)) = x
+block_or last x (Some payloads.Nil) = x
+block_or last x None = x
+
+-- the block at which one is after some links from block x on, where the l-th link is at payload turn l
+abbrev pub walk : Heap → ℕ → ℕ → (ℕ → ℕ) → ℕ → ℕ
+walk heap last x turn zero = x
+walk heap last x turn (suc l) = block_or last (walk heap last x turn l) (payload_of (heap (PayloadOf (walk heap last x turn l) (turn l))))
+
+-- the block and the payload of field i of the object of this shape at block x
+abbrev pub spot_of : Heap → ℕ → ℕ → Shape → ℕ → ℕ × ℕ
+spot_of heap last x (shapes.List f) i = (walk heap last x (λ _. 0) (record_spot i).0, (record_spot i).1)
+spot_of heap last x (shapes.Tree e) i = (walk heap last x (array_turn e i) (array_depth e), array_turn e i (array_depth e))
+
+-- the same where there is a field i, and else the reply that refuses
+abbrev pub spot_in : Heap → ℕ → Result (ℕ × Shape) Reply → ℕ → Result (ℕ × ℕ) Reply
+spot_in heap last (Ok o) i = if nat_lt i (length_of o.1) then Ok (spot_of heap last o.0 o.1 i) else Err Range
+spot_in heap last (Err reply) i = Err reply

@@ -1,16 +1,15 @@
 -- Why a call was refused: the status, the line and the cause of each refusal.
-use Rattle.std.specs.Prelude.{ℕ, ◌≡◌, ◌≢◌, ◌≤◌, ◌<◌, List, [], ◌∷◌, ◌++◌, length, codes, decimal, Option, IfSome}
+use Rattle.std.specs.Prelude.{ℕ, ◌≡◌, ◌≢◌, ◌≤◌, ◌<◌, ◌+◌, List, [], ◌∷◌, ◌++◌, length, drop, codes, decimal, Option, Some, IfSome}
 use Rattle.rate_plan.specs.declared.PlanFault.{PlanFault}
 use Rattle.rate_plan.specs.declared.PlanFault.TheVariants as plans
 use Rattle.rate_plan.specs.Rates.{IsAdmitted, IsRefusal}
 use Rattle.trace_text.specs.declared.jobs.Job.{Job}
-use Rattle.trace_text.specs.declared.reading.TraceFault.{TraceFault}
-use Rattle.trace_text.specs.declared.reading.TraceFault.TheVariants as faults
-use Rattle.trace_text.specs.declared.reading.Why.{Why}
-use Rattle.trace_text.specs.declared.reading.Why.TheVariants as whys
+use Rattle.trace_text.specs.declared.trace_faults.TraceFault.{TraceFault}
+use Rattle.trace_text.specs.declared.trace_faults.TraceFault.TheVariants as faults
 use Rattle.trace_text.specs.Faults.{Rose}
 use Rattle.trace_text.specs.Jobs.{input_limit}
 use Rattle.trace_text.specs.Lines.{line_feed}
+use Rattle.trace_text.specs.Reasons.{reason_text}
 use Rattle.trace_text.specs.Refusals.{IsFirstBadLine}
 use Rattle.trace_text.specs.Streams.{Appends, AppendsFront, IsAtEnd}
 use Rattle.rtheap_core.specs.declared.refusal.Refusal.{Refusal}
@@ -28,30 +27,20 @@ status_of NoRate = 4
 status_of ReadFault = 5
 status_of OutOfMemory = 7
 
--- a reason in lower case
-abbrev pub why_text : Why → List ℕ
-why_text whys.Header = codes "header"
-why_text whys.Word = codes "word"
-why_text whys.Number = codes "number"
-why_text whys.Count = codes "count"
-why_text whys.Register = codes "register"
-why_text whys.Size = codes "size"
-why_text whys.Order = codes "order"
-why_text whys.End = codes "end"
-
-abbrev pub reason_text : Refusal → List ℕ
-reason_text Usage = codes "usage"
-reason_text (BadLine line why) = codes "line " ++ decimal line ++ codes ": " ++ why_text why
-reason_text TooLong = codes "input too long"
-reason_text Later = codes "later"
-reason_text LiveTooSmall = codes "live limit too small"
-reason_text NoRate = codes "no rate"
-reason_text ReadFault = codes "read fault"
-reason_text OutOfMemory = codes "no memory"
+-- what a refusal says
+abbrev pub refusal_text : Refusal → List ℕ
+refusal_text Usage = codes "usage"
+refusal_text (BadLine line why) = codes "line " ++ decimal line ++ codes ": " ++ reason_text why
+refusal_text TooLong = codes "input too long"
+refusal_text Later = codes "later"
+refusal_text LiveTooSmall = codes "live limit too small"
+refusal_text NoRate = codes "no rate"
+refusal_text ReadFault = codes "read fault"
+refusal_text OutOfMemory = codes "no memory"
 
 -- the line of a refusal
 abbrev pub refusal_line : Refusal → List ℕ
-refusal_line r = codes "rtheap: " ++ reason_text r ++ line_feed ∷ []
+refusal_line r = codes "rtheap: " ++ refusal_text r ++ line_feed ∷ []
 
 -- the refusal for a fault of reading
 abbrev pub refusal_of : TraceFault → Refusal
@@ -74,7 +63,8 @@ abbrev pub IsCause : List (List ℕ) → Option (List ℕ) → Option (List ℕ)
 IsCause words left left_now before now Usage = (Ask words → ⊥) × (left_now ≡ left) × (now ≡ before)
 IsCause words left left_now before now (BadLine line why) =
     Ask words × IfSome left (λ bytes. (length bytes ≤ input_limit) × IsFirstBadLine bytes line why) × IsAtEnd left left_now × (now ≡ before)
-IsCause words left left_now before now TooLong = Ask words × IfSome left (λ bytes. input_limit < length bytes) × (now ≡ before)
+IsCause words left left_now before now TooLong =
+    Ask words × IfSome left (λ bytes. (input_limit < length bytes) × (left_now ≡ Some (drop (input_limit + 1) bytes))) × (now ≡ before)
 IsCause words left left_now before now Later = AskForRun words × IsJobWith (λ job. IsAdmitted job.config × (CanRun job → ⊥)) left left_now × (now ≡ before)
 IsCause words left left_now before now LiveTooSmall = Ask words × IsJobWith (λ job. IsRefusal job.config plans.LiveTooSmall) left left_now × (now ≡ before)
 IsCause words left left_now before now NoRate = Ask words × IsJobWith (λ job. IsRefusal job.config plans.NoRate) left left_now × (now ≡ before)

@@ -1,5 +1,5 @@
 -- Which words ask for which task.
-use Rattle.std.specs.Prelude.{ℕ, ◌≡◌, List, Option, Some, None}
+use Rattle.std.specs.Prelude.{ℕ, List, Option, Some, None}
 use Rattle.rtheap_core.specs.declared.task.Task.{Task}
 use Rattle.rtheap_core.specs.declared.task.Task.TheVariants.{Run, Plan}
 use Rattle.rtheap_core.specs.Exits.{AskForRun, AskForPlan, Ask}

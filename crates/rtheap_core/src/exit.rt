@@ -45,9 +45,10 @@ impl Logs for RunEnd {
     }
 }
 
-/// What became of a call. `due` is the status by all but the writing: 0 where the command was done,
-/// 2 for words that are no command, 3 for an input that is no job, 5 for a read fault, 7 for want of
-/// memory. `status` is `due`, or 6 where writing failed. `run` is there where a run ended.
+/// What became of a call. `due` is the status by all but the writing: 0 where the task was done, 2
+/// for words that ask for nothing, 3 for an input that is no job or a job that cannot be run yet, 4
+/// for a configuration without a rate, 5 for a read fault, 7 for want of memory. `status` is `due`,
+/// or 6 where writing failed. `run` is there where a run ended.
 #[derive(Drop)]
 pub struct Exit {
     pub status: u8,

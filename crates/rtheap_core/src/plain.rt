@@ -1,65 +1,91 @@
-//! A heap of one thread whose objects take one block each. Blocks are given upwards from the first
-//! behind the opening heap, and never taken back.
+//! A heap of one thread. Blocks are given upwards from the first behind the opening heap, and never
+//! taken back.
 
-ghost use Rattle.std.specs.Prelude.{◌≡◌, ◌<◌, ◌≤◌, ◌+◌, ◌/◌, ◌%◌, ℕ, true, false, length, IfOk, IfErr, MatchResult};
+mod objects;
+
+ghost use Rattle.std.specs.Prelude.{◌≡◌, ◌<◌, ◌≤◌, ◌+◌, ◌/◌, ◌%◌, ◌^◌, ℕ, false, IfOk};
 ghost use Rattle.block_store.specs.declared.Name.{Name};
-ghost use Rattle.block_store.specs.declared.Value.{Value};
 ghost use Rattle.block_store.specs.Configs.{IsInBounds};
-ghost use Rattle.block_store.specs.Places.{PayloadOf, IsBlock};
-ghost use Rattle.block_store.specs.Payloads.{payload_of};
 ghost use Rattle.block_store.specs.Heaps.{put_at};
+ghost use Rattle.block_store.specs.Payloads.{payload_of};
+ghost use Rattle.block_store.specs.Places.{PayloadOf, IsBlock};
+ghost use Rattle.block_store.specs.Shapes.{IsShape};
+ghost use Rattle.array_trees.specs.Levels.{array_depth, array_turn};
 ghost use Rattle.never_heap.specs.declared.Command.{Command};
 ghost use Rattle.never_heap.specs.Bounds.{IsCommandInBounds};
-ghost use Rattle.never_heap.specs.Graphs.{Graph, Record, nils, start_graph};
-ghost use Rattle.rtheap_core.specs.Runnable.{IsRunnable};
+ghost use Rattle.never_heap.specs.Graphs.{Graph, start_graph};
 ghost use Rattle.never_heap.specs.Histories.{is_full};
 ghost use Rattle.never_heap.specs.Steps.{blocks_of};
+ghost use Rattle.shown_graph.specs.Openings.{opening_at, opening_last};
 ghost use Rattle.rtheap_core.specs.Cells.{heap_in};
-ghost use Rattle.rtheap_core.specs.Shown.{Holds};
-ghost use Rattle.rtheap_core.specs.Readings.{reference_at, value_in, fields_at, field_block_at, field_block_of};
-ghost use Rattle.rtheap_core.specs.Plain.{IsPlain, ShowsPlain, Answers, Written};
+ghost use Rattle.rtheap_core.specs.Objects.{length_of, blocks_in};
+ghost use Rattle.rtheap_core.specs.Readings.{reference_at, value_in, object_at, object_in, block_or, walk, spot_of, spot_in};
+ghost use Rattle.rtheap_core.specs.Plain.{IsPlain, ShowsPlain, Answers, making};
 
 use crate::store::Store;
+use array_trees::depth_of;
 use block_store::{
-    Config, Name, OutOfMemory, Owner, Payload, REGISTER_BLOCKS, Shape, Value, owner_word,
-    payload_word, read_owner, read_payload, read_shape, shape_word,
+    Config, Name, OutOfMemory, PAYLOADS, Payload, REGISTER_BLOCKS, Shape, Value, payload_word,
+    read_owner, read_payload, read_shape,
 };
 use never_heap::{Command, Reply};
+use object_lists::walk_of;
+use objects::{blocks_of_shape, length_of_shape, write_object};
 use std::alloc::Global;
 
-/// The words, the first block that was not given yet, and how many objects were made.
+// How many registers a thread has.
+const REGISTERS: u32 = 16;
+
+/// The words, the last block that was given, and how many objects were made.
 #[derive(Drop)]
 pub struct PlainHeap {
     store: Store,
-    next: u32,
+    last: u32,
     made: u32,
 }
 
+// The payload that leads to element `i` of an array from its block at this height above the leaves.
+fn turn(i: u32, height: u32) -> u32
+    requires { height ≤ 7 }
+    ensures { result ≡ i / 4 ^ height % 4 }
+{
+    (i >> (2 * height)) % PAYLOADS
+}
+
 impl PlainHeap {
-    /// The opening heap of one thread with an empty shared array, to which register 0 refers.
+    /// The opening heap of one thread, to whose shared array register 0 refers.
     pub fn open(alloc: Global, c: &Config) -> Result<PlainHeap, OutOfMemory>
         requires config { IsInBounds c.now }
         requires one_thread { c.now.threads ≡ 1 }
-        requires room { 6 ≤ c.now.blocks }
-        requires none_shared { c.now.shared ≡ 0 }
+        requires room { opening_last c.now ≤ c.now.blocks }
         ensures plain { IfOk result IsPlain }
         ensures config { IfOk result (λ h. h.store.config ≡ c.now) }
-        ensures next { IfOk result (λ h. h.next ≡ 7) }
-        ensures shown { IfOk result (λ h. ShowsPlain h (λ _. 6) (start_graph c.now)) }
+        ensures last { IfOk result (λ h. h.last ≡ opening_last c.now) }
+        ensures shown { IfOk result (λ h. ShowsPlain h (opening_at c.now.threads) (start_graph c.now)) }
     {
         let mut store = Store::new(alloc, c)?;
-        let array = REGISTER_BLOCKS + 1;
-        let owner = Owner {
+        let registers = Name {
+            thread: 0,
+            serial: 0,
+        };
+        write_object(
+            &mut store,
+            registers,
+            Shape::Tree(REGISTERS),
+            1,
+            REGISTER_BLOCKS,
+        );
+        let shared = Name {
             thread: 1,
             serial: 0,
-            ordinal: 0,
         };
-        store.set_owner(array, owner_word(owner));
-        store.set_shape(array, shape_word(Shape::Tree(0)));
-        store.set_payload(2, 0, payload_word(Payload::Block(array)));
+        let blocks = blocks_of_shape(Shape::Tree(c.shared));
+        let first = REGISTER_BLOCKS + 1;
+        write_object(&mut store, shared, Shape::Tree(c.shared), first, blocks);
+        store.set_payload(2, 0, payload_word(Payload::Block(first)));
         Ok(PlainHeap {
             store,
-            next: array + 1,
+            last: REGISTER_BLOCKS + blocks,
             made: 0,
         })
     }
@@ -70,13 +96,27 @@ impl PlainHeap {
         requires register { r < 16 }
         ensures { result ≡ heap_in self.now.store (PayloadOf (2 + r / 4) (r % 4)) }
     {
-        self.store.payload(2 + r as u32 / 4, r as u32 % 4)
+        self.store
+            .payload(2 + r as u32 / PAYLOADS, r as u32 % PAYLOADS)
+    }
+
+    // Writes register `r`.
+    fn set_register(&mut self, r: u8, word: u64)
+        requires plain { IsPlain self.old }
+        requires register { r < 16 }
+        ensures plain { IsPlain self.new }
+        ensures heap { heap_in self.new.store ≡ put_at (heap_in self.old.store) (PayloadOf (2 + r / 4) (r % 4)) word }
+        ensures config { self.new.store.config ≡ self.old.store.config }
+        ensures counts { (self.new.last ≡ self.old.last) × (self.new.made ≡ self.old.made) }
+    {
+        self.store
+            .set_payload(2 + r as u32 / PAYLOADS, r as u32 % PAYLOADS, word);
     }
 
     // What a word shows. A word that refers to no object shows nothing.
     fn value(&self, word: u64) -> Value
         requires { IsPlain self.now }
-        ensures { result ≡ value_in (heap_in self.now.store) self.now.next word }
+        ensures { result ≡ value_in (heap_in self.now.store) self.now.last word }
     {
         match read_payload(word) {
             Some(Payload::Int(number)) => Value::Int(number),
@@ -87,10 +127,11 @@ impl PlainHeap {
 
     // The reference to the object at a block.
     fn reference(&self, block: u32) -> Value
-        requires { IsPlain self.now }
-        ensures { result ≡ reference_at (heap_in self.now.store) self.now.next block }
+        requires plain { IsPlain self.now }
+        requires block { 1 ≤ block }
+        ensures { result ≡ reference_at (heap_in self.now.store) self.now.last block }
     {
-        if block == 0 || block >= self.next {
+        if block > self.last {
             return Value::Nil;
         }
         match read_owner(self.store.owner(block)) {
@@ -102,57 +143,122 @@ impl PlainHeap {
         }
     }
 
-    // How many fields the object at a block has, at most 3.
-    fn len(&self, block: u32) -> u32
-        requires plain { IsPlain self.now }
-        requires block { IsBlock self.now.store.config block }
-        ensures small { result ≤ 3 }
-        ensures fields { result ≡ fields_at (heap_in self.now.store) block }
+    // The first block and the shape of the object to which a word refers, or the reply that refuses.
+    fn object(&self, word: u64) -> Result<(u32, Shape), Reply>
+        requires { IsPlain self.now }
+        ensures block { IfOk result (λ o. IsBlock self.now.store.config o.0 × IsShape o.1) }
+        ensures value { result ≡ object_in (heap_in self.now.store) self.now.last word }
     {
-        match read_shape(self.store.shape(block)) {
-            Some(Shape::List(fields)) => fields.min(3),
-            Some(Shape::Tree(elements)) => elements.min(3),
-            None => 0,
-        }
-    }
-
-    // The block of the object in register `s`, where it has a field `i`; else the reply that refuses.
-    fn field_block(&self, s: u8, i: u64) -> Result<u32, Reply>
-        requires plain { IsPlain self.now }
-        requires register { s < 16 }
-        ensures block { IfOk result (λ x. IsBlock self.now.store.config x × (i < 3)) }
-        ensures value { result ≡ field_block_of (heap_in self.now.store) self.now.next (payload_of (heap_in self.now.store (PayloadOf (2 + s / 4) (s % 4)))) i }
-    {
-        match read_payload(self.register(s)) {
+        match read_payload(word) {
             Some(Payload::Int(_)) => Err(Reply::Kind),
-            Some(Payload::Block(block)) => self.field_at(block, i),
+            Some(Payload::Block(block)) => self.object_at(block),
             _ => Err(Reply::Null),
         }
     }
 
-    // The block itself, where its object has a field `i`.
-    fn field_at(&self, block: u32, i: u64) -> Result<u32, Reply>
-        requires { IsPlain self.now }
-        ensures block { IfOk result (λ x. IsBlock self.now.store.config x × (i < 3)) }
-        ensures value { result ≡ field_block_at (heap_in self.now.store) self.now.next block i }
+    // The same of the object at a block.
+    fn object_at(&self, block: u32) -> Result<(u32, Shape), Reply>
+        requires plain { IsPlain self.now }
+        requires block { 1 ≤ block }
+        ensures block { IfOk result (λ o. IsBlock self.now.store.config o.0 × IsShape o.1) }
+        ensures value { result ≡ object_at (heap_in self.now.store) self.now.last block }
     {
-        if block > 0 && block < self.next && i < self.len(block) as u64 {
-            Ok(block)
-        } else {
-            Err(Reply::Range)
+        if block > self.last {
+            return Err(Reply::Null);
+        }
+        match read_shape(self.store.shape(block)) {
+            Some(shape) => Ok((block, shape)),
+            None => Err(Reply::Null),
         }
     }
 
-    // Writes register `r`.
-    fn set_register(&mut self, r: u8, word: u64)
-        requires plain { IsPlain self.old }
-        requires register { r < 16 }
-        ensures plain { IsPlain self.new }
-        ensures heap { heap_in self.new.store ≡ put_at (heap_in self.old.store) (PayloadOf (2 + r / 4) (r % 4)) word }
-        ensures config { self.new.store.config ≡ self.old.store.config }
-        ensures counts { (self.new.next ≡ self.old.next) × (self.new.made ≡ self.old.made) }
+    // The block to which a payload of a block refers; where there is none, the block itself.
+    fn follow(&self, block: u32, payload: u32) -> u32
+        requires plain { IsPlain self.now }
+        requires block { IsBlock self.now.store.config block }
+        requires payload { payload < PAYLOADS }
+        ensures block { IsBlock self.now.store.config result }
+        ensures value { result ≡ block_or self.now.last block (payload_of (heap_in self.now.store (PayloadOf block payload))) }
     {
-        self.store.set_payload(2 + r as u32 / 4, r as u32 % 4, word);
+        match read_payload(self.store.payload(block, payload)) {
+            Some(Payload::Block(next)) => {
+                if next > self.last {
+                    return block;
+                }
+                next
+            }
+            _ => block,
+        }
+    }
+
+    // The block to which so many links lead from the first block of a record.
+    fn walk_list(&self, first: u32, steps: u32) -> u32
+        requires plain { IsPlain self.now }
+        requires block { IsBlock self.now.store.config first }
+        ensures block { IsBlock self.now.store.config result }
+        ensures value { result ≡ walk (heap_in self.now.store) self.now.last first (λ _. 0) steps }
+    {
+        let mut block = first;
+        for _step in 0..steps {
+            block = self.follow(block, 0);
+        }
+        block
+    }
+
+    // The leaf of element `i` of an array of `elements`, which has a tree of this depth.
+    fn walk_tree(&self, first: u32, elements: u32, i: u32, depth: u32) -> u32
+        requires plain { IsPlain self.now }
+        requires block { IsBlock self.now.store.config first }
+        requires depth { depth ≡ array_depth elements }
+        requires few { depth ≤ 7 }
+        ensures block { IsBlock self.now.store.config result }
+        ensures value { result ≡ walk (heap_in self.now.store) self.now.last first (array_turn elements i) depth }
+    {
+        let mut block = first;
+        for level in 0..depth {
+            block = self.follow(block, turn(i, depth - level));
+        }
+        block
+    }
+
+    // The block and the payload of field `i` of the object of this shape at a block.
+    fn spot(&self, first: u32, shape: Shape, i: u32) -> (u32, u32)
+        requires plain { IsPlain self.now }
+        requires block { IsBlock self.now.store.config first }
+        requires shape { IsShape shape }
+        requires field { i < length_of shape }
+        ensures place { IsBlock self.now.store.config result.0 × (result.1 < PAYLOADS) }
+        ensures value { result ≡ spot_of (heap_in self.now.store) self.now.last first shape i }
+    {
+        match shape {
+            Shape::List(_) => {
+                let (steps, payload) = walk_of(i);
+                (self.walk_list(first, steps), payload)
+            }
+            Shape::Tree(elements) => {
+                let depth = depth_of(elements);
+                let leaf = self.walk_tree(first, elements, i, depth);
+                (leaf, i % PAYLOADS)
+            }
+        }
+    }
+
+    // The block and the payload of field `i` of the object in register `s`, or the reply that refuses.
+    fn field(&self, s: u8, i: u64) -> Result<(u32, u32), Reply>
+        requires plain { IsPlain self.now }
+        requires register { s < 16 }
+        ensures place { IfOk result (λ p. IsBlock self.now.store.config p.0 × (p.1 < PAYLOADS)) }
+        ensures value { result ≡ spot_in (heap_in self.now.store) self.now.last (object_in (heap_in self.now.store) self.now.last (heap_in self.now.store (PayloadOf (2 + s / 4) (s % 4)))) i }
+    {
+        match self.object(self.register(s)) {
+            Ok((first, shape)) => {
+                if i >= length_of_shape(shape) as u64 {
+                    return Err(Reply::Range);
+                }
+                Ok(self.spot(first, shape, i as u32))
+            }
+            Err(reply) => Err(reply),
+        }
     }
 
     // Register `d` becomes field `i` of the object in register `s`.
@@ -162,13 +268,13 @@ impl PlainHeap {
         requires from { s < 16 }
         ensures plain { IsPlain self.new }
         ensures config { self.new.store.config ≡ self.old.store.config }
-        ensures next { self.new.next ≡ self.old.next }
+        ensures last { self.new.last ≡ self.old.last }
         ensures not_full { is_full result ≡ false }
-        ensures answered { (at : Name → ℕ) (g : Graph) → ShowsPlain self.old at g → Answers self.new g (Command.Get d s i) result }
+        ensures answered { (at : Name → ℕ → ℕ) (g : Graph) → ShowsPlain self.old at g → Answers self.new g (Command.Get d s i) result }
     {
-        match self.field_block(s, i) {
-            Ok(block) => {
-                let word = self.store.payload(block, 1 + i as u32);
+        match self.field(s, i) {
+            Ok((block, payload)) => {
+                let word = self.store.payload(block, payload);
                 let value = self.value(word);
                 self.set_register(d, word);
                 Reply::Val(value)
@@ -184,18 +290,67 @@ impl PlainHeap {
         requires from { v < 16 }
         ensures plain { IsPlain self.new }
         ensures config { self.new.store.config ≡ self.old.store.config }
-        ensures next { self.new.next ≡ self.old.next }
+        ensures last { self.new.last ≡ self.old.last }
         ensures not_full { is_full result ≡ false }
-        ensures answered { (at : Name → ℕ) (g : Graph) → ShowsPlain self.old at g → Answers self.new g (Command.Put s i v) result }
+        ensures answered { (at : Name → ℕ → ℕ) (g : Graph) → ShowsPlain self.old at g → Answers self.new g (Command.Put s i v) result }
     {
-        match self.field_block(s, i) {
-            Ok(block) => {
+        match self.field(s, i) {
+            Ok((block, payload)) => {
                 let word = self.register(v);
-                self.store.set_payload(block, 1 + i as u32, word);
+                self.store.set_payload(block, payload, word);
                 Reply::Stored
             }
             Err(reply) => reply,
         }
+    }
+
+    // How many fields the object in register `s` has.
+    fn len(&self, s: u8) -> Reply
+        requires plain { IsPlain self.now }
+        requires from { s < 16 }
+        ensures not_full { is_full result ≡ false }
+        ensures answered { (at : Name → ℕ → ℕ) (g : Graph) → ShowsPlain self.now at g → Answers self.now g (Command.Len s) result }
+    {
+        match self.object(self.register(s)) {
+            Ok((_, shape)) => Reply::Len(length_of_shape(shape) as u64),
+            Err(reply) => reply,
+        }
+    }
+
+    // Whether two registers hold the same.
+    fn same(&self, a: u8, b: u8) -> Reply
+        requires plain { IsPlain self.now }
+        requires first { a < 16 }
+        requires second { b < 16 }
+        ensures not_full { is_full result ≡ false }
+        ensures answered { (at : Name → ℕ → ℕ) (g : Graph) → ShowsPlain self.now at g → Answers self.now g (Command.Same a b) result }
+    {
+        if self.register(a) == self.register(b) {
+            return Reply::Yes;
+        }
+        Reply::No
+    }
+
+    // Shows register `s`.
+    fn say(&self, s: u8) -> Value
+        requires plain { IsPlain self.now }
+        requires from { s < 16 }
+        ensures answered { (at : Name → ℕ → ℕ) (g : Graph) → ShowsPlain self.now at g → Answers self.now g (Command.Say s) (Reply.Val result) }
+    {
+        self.value(self.register(s))
+    }
+
+    // Register `d` becomes a number.
+    fn set(&mut self, d: u8, value: u64)
+        requires plain { IsPlain self.old }
+        requires into { d < 16 }
+        requires number { value < 2 ^ 62 }
+        ensures plain { IsPlain self.new }
+        ensures config { self.new.store.config ≡ self.old.store.config }
+        ensures last { self.new.last ≡ self.old.last }
+        ensures answered { (at : Name → ℕ → ℕ) (g : Graph) → ShowsPlain self.old at g → Answers self.new g (Command.Set d value) Reply.Stored }
+    {
+        self.set_register(d, payload_word(Payload::Int(value)));
     }
 
     // Register `d` becomes nil.
@@ -204,93 +359,84 @@ impl PlainHeap {
         requires into { d < 16 }
         ensures plain { IsPlain self.new }
         ensures config { self.new.store.config ≡ self.old.store.config }
-        ensures next { self.new.next ≡ self.old.next }
-        ensures answered { (at : Name → ℕ) (g : Graph) → ShowsPlain self.old at g → Answers self.new g (Command.Nil d) Reply.Stored }
+        ensures last { self.new.last ≡ self.old.last }
+        ensures answered { (at : Name → ℕ → ℕ) (g : Graph) → ShowsPlain self.old at g → Answers self.new g (Command.Nil d) Reply.Stored }
     {
         self.set_register(d, payload_word(Payload::Nil));
     }
 
-    // Shows register `s`.
-    fn say(&self, s: u8) -> Value
-        requires plain { IsPlain self.now }
-        requires from { s < 16 }
-        ensures answered { (at : Name → ℕ) (g : Graph) → ShowsPlain self.now at g → Answers self.now g (Command.Say s) (Reply.Val result) }
-    {
-        self.value(self.register(s))
-    }
-
-    // Writes the block of a new record of nils.
-    fn write_record(&mut self, block: u32, serial: u32, fields: u32)
-        requires plain { IsPlain self.old }
-        requires block { IsBlock self.old.store.config block }
-        requires serial { serial ≤ 131072 }
-        requires fields { fields ≤ 3 }
-        ensures plain { IsPlain self.new }
-        ensures config { self.new.store.config ≡ self.old.store.config }
-        ensures counts { (self.new.next ≡ self.old.next) × (self.new.made ≡ self.old.made) }
-        ensures written { Written (heap_in self.old.store) (heap_in self.new.store) block 0 serial (record { kind = Record; fields = nils fields }) }
-    {
-        let owner = Owner {
-            thread: 0,
-            serial,
-            ordinal: 0,
-        };
-        self.store.set_owner(block, owner_word(owner));
-        self.store.set_shape(block, shape_word(Shape::List(fields)));
-        self.store.set_payload(block, 0, payload_word(Payload::Nil));
-        self.store.set_payload(block, 1, payload_word(Payload::Nil));
-        self.store.set_payload(block, 2, payload_word(Payload::Nil));
-        self.store.set_payload(block, 3, payload_word(Payload::Nil));
-    }
-
-    // Makes a record of nils, to which register `d` then refers; `Full` where no block is left.
-    fn make(&mut self, d: u8, fields: u32) -> Reply
+    // Register `d` becomes what register `s` holds.
+    fn mov(&mut self, d: u8, s: u8)
         requires plain { IsPlain self.old }
         requires into { d < 16 }
-        requires fields { fields ≤ 3 }
+        requires from { s < 16 }
         ensures plain { IsPlain self.new }
         ensures config { self.new.store.config ≡ self.old.store.config }
-        ensures room { self.old.next ≤ self.old.store.config.blocks → (is_full result ≡ false) × (self.new.next ≡ self.old.next + 1) }
-        ensures full { self.old.store.config.blocks < self.old.next → (result ≡ Reply.Full 1) × (self.new ≡ self.old) }
-        ensures answered { (at : Name → ℕ) (g : Graph) → ShowsPlain self.old at g → is_full result ≡ false → Answers self.new g (Command.New d fields) result }
+        ensures last { self.new.last ≡ self.old.last }
+        ensures answered { (at : Name → ℕ → ℕ) (g : Graph) → ShowsPlain self.old at g → Answers self.new g (Command.Mov d s) Reply.Stored }
     {
-        if self.next > self.store.config().blocks {
-            return Reply::Full(1);
-        }
-        let block = self.next;
-        let serial = self.made + 1;
-        self.write_record(block, serial, fields);
-        self.set_register(d, payload_word(Payload::Block(block)));
-        self.next = block + 1;
-        self.made = serial;
-        Reply::New(Name { thread: 0, serial })
+        let word = self.register(s);
+        self.set_register(d, word);
     }
 
-    /// Does a command that takes at most one block.
+    // Makes an object of nils, to which register `d` then refers; `Full` where too few blocks are left.
+    fn make(&mut self, d: u8, shape: Shape) -> Reply
+        requires plain { IsPlain self.old }
+        requires into { d < 16 }
+        requires shape { IsShape shape }
+        requires few { blocks_in shape ≤ 1024 }
+        ensures plain { IsPlain self.new }
+        ensures config { self.new.store.config ≡ self.old.store.config }
+        ensures room { self.old.last + blocks_in shape ≤ self.old.store.config.blocks → (is_full result ≡ false) × (self.new.last ≡ self.old.last + blocks_in shape) }
+        ensures full { self.old.store.config.blocks < self.old.last + blocks_in shape → (result ≡ Reply.Full 1) × (self.new ≡ self.old) }
+        ensures answered { (at : Name → ℕ → ℕ) (g : Graph) → ShowsPlain self.old at g → is_full result ≡ false → Answers self.new g (making d shape) result }
+    {
+        let blocks = blocks_of_shape(shape);
+        if self.last + blocks > self.store.config().blocks {
+            return Reply::Full(1);
+        }
+        let name = Name {
+            thread: 0,
+            serial: self.made + 1,
+        };
+        let first = self.last + 1;
+        write_object(&mut self.store, name, shape, first, blocks);
+        self.last += blocks;
+        self.made += 1;
+        self.set_register(d, payload_word(Payload::Block(first)));
+        Reply::New(name)
+    }
+
+    /// Does a command.
     pub fn step(&mut self, command: &Command) -> Reply
         requires plain { IsPlain self.old }
         requires bounds { IsCommandInBounds self.old.store.config command.now }
-        requires small { IsRunnable command.now }
         ensures plain { IsPlain self.new }
         ensures config { self.new.store.config ≡ self.old.store.config }
-        ensures room { self.old.next + blocks_of command.now ≤ self.old.store.config.blocks + 1 → (is_full result ≡ false) × (self.new.next ≡ self.old.next + blocks_of command.now) }
-        ensures full { self.old.store.config.blocks + 1 < self.old.next + blocks_of command.now → (result ≡ Reply.Full 1) × (self.new ≡ self.old) }
-        ensures answered { (at : Name → ℕ) (g : Graph) → ShowsPlain self.old at g → is_full result ≡ false → Answers self.new g command.now result }
+        ensures room { self.old.last + blocks_of command.now ≤ self.old.store.config.blocks → (is_full result ≡ false) × (self.new.last ≡ self.old.last + blocks_of command.now) }
+        ensures full { self.old.store.config.blocks < self.old.last + blocks_of command.now → (result ≡ Reply.Full 1) × (self.new ≡ self.old) }
+        ensures answered { (at : Name → ℕ → ℕ) (g : Graph) → ShowsPlain self.old at g → is_full result ≡ false → Answers self.new g command.now result }
     {
         match *command {
-            Command::New { d, fields } => self.make(d, fields),
+            Command::New { d, fields } => self.make(d, Shape::List(fields)),
+            Command::Arr { d, elements } => self.make(d, Shape::Tree(elements)),
+            Command::Set { d, value } => {
+                self.set(d, value);
+                Reply::Stored
+            }
             Command::Nil { d } => {
                 self.nil(d);
                 Reply::Stored
             }
+            Command::Mov { d, s } => {
+                self.mov(d, s);
+                Reply::Stored
+            }
             Command::Get { d, s, i } => self.get(d, s, i),
             Command::Put { s, i, v } => self.put(s, i, v),
+            Command::Len { s } => self.len(s),
+            Command::Same { a, b } => self.same(a, b),
             Command::Say { s } => Reply::Val(self.say(s)),
-            Command::Arr { .. }
-            | Command::Set { .. }
-            | Command::Mov { .. }
-            | Command::Len { .. }
-            | Command::Same { .. } => unreachable!(),
         }
     }
 }

@@ -2,7 +2,8 @@
 
 ghost use Rattle.std.specs.Prelude.{◌≡◌, ◌≤◌, ◌++◌, length};
 ghost use Rattle.rtheap_core.specs.declared.refusal.Refusal.TheVariants as refusals;
-ghost use Rattle.rtheap_core.specs.Refusals.{status_of, refusal_of, refusal_of_plan, refusal_line, reason_text, why_text};
+ghost use Rattle.rtheap_core.specs.Refusals.{status_of, refusal_of, refusal_of_plan, refusal_line, refusal_text};
+ghost use Rattle.trace_text.specs.Reasons.{reason_text};
 
 use block_store::OutOfMemory;
 use rate_plan::PlanFault;
@@ -56,7 +57,7 @@ impl Refusal {
 
     fn prepend_reason(self, line: &mut LineBuffer)
         requires { length line.old ≤ 1 }
-        ensures text { line.new ≡ reason_text self ++ line.old }
+        ensures text { line.new ≡ refusal_text self ++ line.old }
         ensures length { length line.new ≤ 60 }
     {
         match self {
@@ -79,7 +80,7 @@ impl Refusal {
 
 /// The reason as it is written.
 fn why_bytes(why: Why) -> &'static [u8]
-    ensures text { result.now ≡ why_text why }
+    ensures text { result.now ≡ reason_text why }
     ensures length { length result.now ≤ 8 }
 {
     match why {

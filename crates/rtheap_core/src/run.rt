@@ -5,10 +5,10 @@ ghost use Rattle.std.specs.List.{AllByRecursion};
 ghost use Rattle.block_store.specs.Configs.{IsInBounds};
 ghost use Rattle.never_heap.specs.Bounds.{IsCommandInBounds};
 ghost use Rattle.never_heap.specs.Histories.{parts};
-ghost use Rattle.never_heap.specs.Runs.{IsPlainRun};
+ghost use Rattle.never_heap.specs.Runs.{IsPlainRun, opening_blocks};
 ghost use Rattle.trace_text.specs.Jobs.{IsJobInBounds};
 ghost use Rattle.rate_plan.specs.Rates.{IsAdmitted};
-ghost use Rattle.rtheap_core.specs.Runnable.{CanRun, IsRunnable};
+ghost use Rattle.rtheap_core.specs.Runnable.{CanRun};
 ghost use Rattle.rtheap_core.specs.PlainRuns.{history_of, commands_of};
 ghost use Rattle.rtheap_core.specs.Exits.{job_of};
 
@@ -87,10 +87,8 @@ pub fn run_job(alloc: Global, job: &Job) -> Result<Plain, OutOfMemory>
 fn run_trace(alloc: Global, config: &Config, trace: &[Command]) -> Result<Vec<Entry>, OutOfMemory>
     requires config { IsInBounds config.now }
     requires one_thread { config.now.threads ≡ 1 }
-    requires room { 6 ≤ config.now.blocks }
-    requires none_shared { config.now.shared ≡ 0 }
+    requires room { opening_blocks config.now ≤ config.now.blocks }
     requires commands { AllByRecursion (IsCommandInBounds config.now) trace.now }
-    requires small { AllByRecursion IsRunnable trace.now }
     ensures run { IfOk result (λ log. IsPlainRun config.now (trace.now ∷ []) (history_of log.items)) }
     ensures part { IfOk result (λ log. parts 1 (history_of log.items) ≡ log.items ∷ []) }
     ensures commands { IfOk result (λ log. commands_of log.items ≡ trace.now) }

@@ -3,6 +3,7 @@
 use crate::{Exit, rtheap};
 use never_heap::NoPace;
 use std::alloc::{AllocError, Global};
+use std::process::Abort;
 use std::test::Fail;
 use trace_text::{MemSink, MemSource};
 
@@ -41,8 +42,7 @@ fn texts(alloc: Global, words: &[&str]) -> Result<Vec<String>, AllocError> {
 }
 
 /// Makes a call, and gives its exit and what it wrote.
-fn made(rt: &HostRuntime, call: &Call<'_>) -> Result<(Exit, MemSink), Fail> {
-    let alloc = rt.alloc();
+fn made<R>(rt: &R, alloc: Global, call: &Call<'_>) -> Result<(Exit, MemSink), Fail> {
     let words = texts(alloc, call.words)?;
     let bytes = Vec::from_slice(alloc, call.input.as_bytes())?;
     let most = call.most.max(1);
@@ -68,7 +68,7 @@ fn words_that_are_no_command_are_refused_and_nothing_is_read(rt: HostRuntime) ->
             read_fails: &[0],
             ..Call::run("")
         };
-        let (exit, sink) = made(&rt, &call)?;
+        let (exit, sink) = made(&rt, rt.alloc(), &call)?;
         assert_eq!(rt; (exit.status, exit.due), (2, 2));
         assert!(rt; exit.run.is_none());
         assert_eq!(rt; sink.bytes(), b"rtheap: usage\n".as_slice());
@@ -79,7 +79,7 @@ fn words_that_are_no_command_are_refused_and_nothing_is_read(rt: HostRuntime) ->
 #[test]
 fn a_job_without_commands_prints_the_totals(rt: HostRuntime) -> Result<(), Fail> {
     let text = job(rt.alloc(), "")?;
-    let (exit, sink) = made(&rt, &Call::run(text.as_str()))?;
+    let (exit, sink) = made(&rt, rt.alloc(), &Call::run(text.as_str()))?;
     assert_eq!(rt; (exit.status, exit.due), (0, 0));
     assert!(rt; exit.run.is_some());
     assert_eq!(rt; sink.bytes(), b"end cycles 1 work 0\n".as_slice());
@@ -92,7 +92,7 @@ fn references_nils_and_refusals_are_answered(rt: HostRuntime) -> Result<(), Fail
         rt.alloc(),
         "new 1 2\nput 1 1 1\nget 2 1 1\nget 3 1 2\nnil 1\nsay 1\nsay 2\nget 3 1 0\nsay 0\n",
     )?;
-    let (exit, sink) = made(&rt, &Call::run(text.as_str()))?;
+    let (exit, sink) = made(&rt, rt.alloc(), &Call::run(text.as_str()))?;
     assert_eq!(rt; exit.status, 0);
     assert_eq!(rt;
         sink.bytes(),
@@ -126,21 +126,177 @@ fn the_heap_is_full_when_the_last_block_is_given(rt: HostRuntime) -> Result<(), 
     }
     expected.push_str("0 full 1 work 0\nend cycles 1 work 0\n")?;
     let text = job(alloc, commands.as_str())?;
-    let (exit, sink) = made(&rt, &Call::run(text.as_str()))?;
+    let (exit, sink) = made(&rt, rt.alloc(), &Call::run(text.as_str()))?;
     assert_eq!(rt; exit.status, 0);
     assert_eq!(rt; sink.bytes(), expected.as_bytes());
     Ok(())
 }
 
+/// Commands of every kind, and what they answer.
+const EACH_KIND: (&str, &str) = (
+    "new 1 2
+set 2 5
+put 1 1 2
+get 3 1 1
+get 3 1 2
+say 3
+get 3 4 0
+get 3 2 0
+len 1
+len 4
+same 1 1
+same 1 2
+put 4 0 2
+say 1
+say 0
+len 0
+",
+    "0 new 0.1 work 0
+0 ok
+0 ok
+0 int 5
+0 range
+0 int 5
+0 null
+0 kind
+0 len 2
+0 null
+0 yes
+0 no
+0 null
+0 ref 0.1
+0 ref 1.0
+0 len 0
+end cycles 1 work 0
+",
+);
+
 #[test]
-fn what_cannot_be_run_yet_is_put_off(rt: HostRuntime) -> Result<(), Fail> {
-    let text = job(rt.alloc(), "set 1 5\n")?;
-    for input in [text.as_str(), ""] {
-        let (exit, sink) = made(&rt, &Call::run(input))?;
-        assert_eq!(rt; (exit.status, exit.due), (3, 3));
-        assert!(rt; exit.run.is_none());
-        assert_eq!(rt; sink.bytes(), b"rtheap: later\n".as_slice());
+fn every_kind_of_command_is_answered(rt: HostRuntime) -> Result<(), Fail> {
+    let (commands, written) = EACH_KIND;
+    let text = job(rt.alloc(), commands)?;
+    answers(&rt, rt.alloc(), "run", text.as_str(), 0, written)
+}
+
+#[test]
+fn objects_of_several_blocks_and_large_numbers_are_stored(rt: HostRuntime) -> Result<(), Fail> {
+    let alloc = rt.alloc();
+    let record = job(alloc, "new 1 6\nset 2 4611686018427387903\nput 1 5 2\nget 3 1 5\nget 3 1 6\n")?;
+    let written = "0 new 0.1 work 0\n0 ok\n0 ok\n0 int 4611686018427387903\n0 range\nend cycles 1 work 0\n";
+    answers(&rt, rt.alloc(), "run", record.as_str(), 0, written)?;
+    let shared = "rtheap 1 threads 1 blocks 64 live 40 object 2 shared 17
+thread 0
+len 0
+set 1 9
+put 0 16 1
+get 2 0 16
+get 2 0 17
+end
+";
+    let written = "0 len 17\n0 ok\n0 ok\n0 int 9\n0 range\nend cycles 1 work 0\n";
+    answers(&rt, rt.alloc(), "run", shared, 0, written)
+}
+
+#[test]
+fn what_one_register_stores_is_seen_through_another(rt: HostRuntime) -> Result<(), Fail> {
+    let text = job(
+        rt.alloc(),
+        "new 1 2\nmov 2 1\nset 3 7\nput 2 1 3\nget 4 1 1\nput 1 0 2\nget 5 2 0\nsame 5 1\nput 0 0 1\n",
+    )?;
+    let written = "0 new 0.1 work 0\n0 ok\n0 ok\n0 ok\n0 int 7\n0 ok\n0 ref 0.1\n0 yes\n0 range\nend cycles 1 work 0\n";
+    answers(&rt, rt.alloc(), "run", text.as_str(), 0, written)
+}
+
+/// Makes a call whose input comes in pieces of 7 bytes, and compares its status and what it wrote.
+fn answers(
+    rt: &impl Abort,
+    alloc: Global,
+    word: &str,
+    input: &str,
+    status: u8,
+    written: &str,
+) -> Result<(), Fail> {
+    let words = [word];
+    let call = Call {
+        words: &words,
+        ..Call::run(input)
+    };
+    let (exit, sink) = made(rt, alloc, &call)?;
+    assert_eq!(rt; (exit.status, exit.due), (status, status), "{word}: {input}");
+    assert_eq!(rt; sink.bytes(), written.as_bytes(), "{word}: {input}");
+    Ok(())
+}
+
+/// A job of one thread without commands, on a heap of these numbers.
+fn heap(alloc: Global, blocks: u32, live: u32) -> Result<String, AllocError> {
+    format!(in alloc; "rtheap 1 threads 1 blocks {blocks} live {live} object 2 shared 0\nthread 0\nend\n")
+}
+
+#[test]
+fn jobs_of_several_threads_are_put_off(rt: HostRuntime) -> Result<(), Fail> {
+    let two = "rtheap 1 threads 2 blocks 64 live 20 object 2 shared 0\nthread 0\nthread 1\nend\n";
+    answers(&rt, rt.alloc(), "run", two, 3, "rtheap: later\n")?;
+    answers(&rt, rt.alloc(), "plan", two, 0, "rate 8\n")
+}
+
+#[test]
+fn plan_tells_the_rate_or_why_there_is_none(rt: HostRuntime) -> Result<(), Fail> {
+    let alloc = rt.alloc();
+    answers(&rt, rt.alloc(), "plan", heap(alloc, 64, 20)?.as_str(), 0, "rate 7\n")?;
+    answers(&rt, rt.alloc(), "plan", heap(alloc, 26, 20)?.as_str(), 0, "rate 52\n")?;
+    for word in ["plan", "run"] {
+        let no_rate = heap(alloc, 25, 20)?;
+        answers(&rt, rt.alloc(), word, no_rate.as_str(), 4, "rtheap: no rate\n")?;
+        for blocks in [64, 10] {
+            let small = heap(alloc, blocks, 5)?;
+            answers(&rt, rt.alloc(), word, small.as_str(), 4, "rtheap: live limit too small\n")?;
+        }
     }
+    Ok(())
+}
+
+#[test]
+fn the_first_bad_line_is_named_with_its_reason(rt: HostRuntime) -> Result<(), Fail> {
+    let alloc = rt.alloc();
+    for word in ["plan", "run"] {
+        answers(&rt, rt.alloc(), word, "", 3, "rtheap: line 1: header\n")?;
+        answers(&rt, rt.alloc(), word, "rtheap 3 threads 1 blocks 64 live 20 object 2 shared 0\n", 3, "rtheap: line 1: header\n")?;
+        answers(&rt, rt.alloc(), word, "rtheap 1 threads 01 blocks 64 live 20 object 2 shared 0\n", 3, "rtheap: line 1: number\n")?;
+        answers(&rt, rt.alloc(), word, "rtheap 1 threads 0 blocks 64 live 20 object 2 shared 0\n", 3, "rtheap: line 1: size\n")?;
+        let open = format!(in alloc; "{HEADER}new 1 1\n")?;
+        answers(&rt, rt.alloc(), word, open.as_str(), 3, "rtheap: line 4: end\n")?;
+    }
+    for (line, why) in [
+        ("push 1 1", "word"),
+        ("", "word"),
+        ("new 1", "count"),
+        ("new  1 1", "count"),
+        ("new 1 x", "number"),
+        ("new 16 1", "register"),
+        ("set 1 4611686018427387904", "size"),
+        ("new 1 7", "size"),
+        ("arr 1 5", "size"),
+    ] {
+        let text = job(alloc, format!(in alloc; "{line}\n")?.as_str())?;
+        let refusal = format!(in alloc; "rtheap: line 3: {why}\n")?;
+        answers(&rt, rt.alloc(), "run", text.as_str(), 3, refusal.as_str())?;
+    }
+    let behind = format!(in alloc; "{HEADER}end\nnil 1\n")?;
+    answers(&rt, rt.alloc(), "run", behind.as_str(), 3, "rtheap: line 4: end\n")
+}
+
+#[test]
+fn an_input_of_one_byte_too_many_is_refused(rt: HostRuntime) -> Result<(), Fail> {
+    let alloc = rt.alloc();
+    let bytes = vec![in alloc; b'x'; 16_777_217]?;
+    let mut source = MemSource::new(bytes, 1_000_000, Vec::new(alloc));
+    let mut sink = MemSink::new(alloc, 100, Vec::new(alloc))
+        .ok()
+        .ok_or("memory")?;
+    let words = texts(alloc, &["plan"])?;
+    let exit = rtheap(&rt, alloc, &words, &mut source, &mut sink, &NoPace);
+    assert_eq!(rt; (exit.status, exit.due), (3, 3));
+    assert_eq!(rt; sink.bytes(), b"rtheap: input too long\n".as_slice());
     Ok(())
 }
 
@@ -152,7 +308,7 @@ fn a_fault_of_the_source_is_told(rt: HostRuntime) -> Result<(), Fail> {
         read_fails: &[1],
         ..Call::run(text.as_str())
     };
-    let (exit, sink) = made(&rt, &call)?;
+    let (exit, sink) = made(&rt, rt.alloc(), &call)?;
     assert_eq!(rt; (exit.status, exit.due), (5, 5));
     assert_eq!(rt; sink.bytes(), b"rtheap: read fault\n".as_slice());
     Ok(())
@@ -165,7 +321,7 @@ fn a_fault_of_the_sink_leaves_the_lines_before(rt: HostRuntime) -> Result<(), Fa
         write_fails: &[2],
         ..Call::run(text.as_str())
     };
-    let (exit, sink) = made(&rt, &call)?;
+    let (exit, sink) = made(&rt, rt.alloc(), &call)?;
     assert_eq!(rt; (exit.status, exit.due), (6, 0));
     assert!(rt; exit.run.is_some());
     assert_eq!(rt; sink.bytes(), b"0 new 0.1 work 0\n0 ref 0.1\n".as_slice());
@@ -179,7 +335,7 @@ fn a_refusal_that_cannot_be_written_is_a_write_fault(rt: HostRuntime) -> Result<
         write_fails: &[0],
         ..Call::run("")
     };
-    let (exit, sink) = made(&rt, &call)?;
+    let (exit, sink) = made(&rt, rt.alloc(), &call)?;
     assert_eq!(rt; (exit.status, exit.due), (6, 2));
     assert!(rt; exit.run.is_none());
     assert_eq!(rt; sink.bytes(), b"".as_slice());

@@ -4,7 +4,7 @@ ghost use Rattle.std.specs.Prelude.{◌≡◌, ◌≢◌, ◌<◌, ◌≤◌, �
 ghost use Rattle.rate_plan.specs.declared.PlanFault.{PlanFault};
 ghost use Rattle.rate_plan.specs.Rates.{IsAdmitted, IsRate, IsRefusal};
 ghost use Rattle.trace_text.specs.declared.jobs.Job.{Job};
-ghost use Rattle.trace_text.specs.declared.reading.Why as whys;
+ghost use Rattle.trace_text.specs.declared.trace_faults.Why as whys;
 ghost use Rattle.trace_text.specs.Faults.{Rose};
 ghost use Rattle.trace_text.specs.Jobs.{IsInput, input_limit};
 ghost use Rattle.trace_text.specs.Refusals.{IsFirstBadLine};
@@ -21,7 +21,7 @@ use crate::refusal::Refusal;
 use crate::run::{Plain, run_job};
 use crate::runnable::can_run;
 use crate::task::Task;
-use never_heap::Pace;
+use never_heap::{Logs, Pace};
 use rate_plan::plan;
 use std::alloc::Global;
 use trace_text::{Job, LineBuffer, Sink, Source};
@@ -42,7 +42,8 @@ pub fn rtheap<R, S: Source, K: Sink, Q: Pace>(
     _pace: &Q,
 ) -> Exit
     // What was run is a run on a heap that never frees, and what was written is its text.
-    ensures headline { IfSome result.run (λ end. Headline (S.left source.old) (S.left source.new) (K.held sink.old) (K.held sink.new) result.status (run_of end)) }
+    ensures headline { IfSome result.run (λ end. Headline (S.left source.old) (S.left source.new) (K.held sink.old) (K.held sink.new) result.status (run_of end)
+        (⟦<RunEnd as Logs>⟧.logs end) (⟦<RunEnd as Logs>⟧.cycle_count end) (⟦<RunEnd as Logs>⟧.unit_count end)) }
     ensures planned { AskForPlan (map (λ w. string_bytes w) words.now) → result.due ≡ 0
         → Planned (S.left source.old) (S.left source.new) (K.held sink.old) (K.held sink.new) result.status }
     // A run is there exactly where the words ask for it and nothing refused it.
@@ -59,7 +60,7 @@ pub fn rtheap<R, S: Source, K: Sink, Q: Pace>(
     ensures write_fault { result.status ≡ 6 → Rose (K.faults sink.old) (K.faults sink.new) }
     ensures write_fault_told { K.faults sink.old < K.faults sink.new → result.status ≡ 6 }
 
-    // A known input has one answer, unless the source fails or memory runs out.
+    // A known input has one answer, unless the source fails or the answer is want of memory.
     ensures too_long { Ask (map (λ w. string_bytes w) words.now) → IfSome (S.left source.old) (λ bytes. input_limit < length bytes → IsDueOrFails 3 result.due) }
     ensures bad_line { Ask (map (λ w. string_bytes w) words.now) → IfSome (S.left source.old) (λ bytes. (line : ℕ) (why : whys.Why) → length bytes ≤ input_limit → IsFirstBadLine bytes line why
         → IsDueOrFails 3 result.due) }
@@ -69,7 +70,7 @@ pub fn rtheap<R, S: Source, K: Sink, Q: Pace>(
         → IsDueOrFails 3 result.due) }
     ensures complete { Ask (map (λ w. string_bytes w) words.now) → IfSome (S.left source.old) (λ bytes. (job : Job) → IsInput bytes job → IsAdmitted job.config
         → (AskForRun (map (λ w. string_bytes w) words.now) → CanRun job) → IsDueOrFails 0 result.due) }
-    // Without a fault of a stream the task is done, or memory ran out.
+    // Without a fault of a stream the task is done, or the answer is want of memory.
     ensures unfailed { (Rose (S.faults source.old) (S.faults source.new) → ⊥) → (Rose (K.faults sink.old) (K.faults sink.new) → ⊥) → IsDueOrFails 0 result.due
         → (result.status ≡ 0) ⊎ (result.status ≡ 7) }
 {
@@ -86,7 +87,8 @@ fn carried_out<S: Source, K: Sink>(
     sink: &mut K,
 ) -> Exit
     // What was run is a run on a heap that never frees, and what was written is its text.
-    ensures headline { IfSome result.run (λ end. Headline (S.left source.old) (S.left source.new) (K.held sink.old) (K.held sink.new) result.status (run_of end)) }
+    ensures headline { IfSome result.run (λ end. Headline (S.left source.old) (S.left source.new) (K.held sink.old) (K.held sink.new) result.status (run_of end)
+        (⟦<RunEnd as Logs>⟧.logs end) (⟦<RunEnd as Logs>⟧.cycle_count end) (⟦<RunEnd as Logs>⟧.unit_count end)) }
     ensures planned { AskForPlan (map (λ w. string_bytes w) words.now) → result.due ≡ 0
         → Planned (S.left source.old) (S.left source.new) (K.held sink.old) (K.held sink.new) result.status }
     // A run is there exactly where the words ask for it and nothing refused it.

@@ -1,296 +1,457 @@
--- What a line says is what is written so, and what is written is read again.
-use Rattle.std.proofs.Common.{◌≡◌, ℕ, ◌^◌, ◌<◌, ◌≤◌, true, cond, leb, ltb, ◌&&◌, List, [], ◌∷◌, decimal, codes, bytes_eq, Option, Some, None, refl, sym, ap, subst, ◌∙◌, inl, inr, arith}
-use Rattle.std.proofs.lemmas.Option.{same_Some}
-use Rattle.std.proofs.lemmas.Bool.{cases_Bool, leb-true, le-leb, lt-ltb}
+-- What a line says is what is written so, what is written is read again, and what says nothing has the reason of the first test that holds.
+use Rattle.std.proofs.Common.{◌≡◌, ◌≢◌, ℕ, ◌^◌, ◌<◌, ◌≤◌, Bool, true, false, cond, leb, ltb, eqb, not, ◌&&◌, ◌||◌, List, [], ◌∷◌, map, length, decimal, Option, Some, None, Result, Ok, Err, refl, sym, ap, subst, ◌∙◌, ◌⊎◌, inl, inr, arith}
+use Rattle.std.specs.List.{list_any}
+use Rattle.std.specs.Option.{ok_or}
+use Rattle.std.proofs.lemmas.Bool.{eq-eqb, ne_eqb}
 use Rattle.std.proofs.lemmas.Bool.Decides.{nat_tests}
-use Rattle.std.proofs.lemmas.Slice.Eq.{bytes_eq-Decides}
-use Rattle.never_heap.specs.declared.Command.{Command}
+use Rattle.block_store.specs.declared.Config.{Config}
+use Rattle.object_lists.specs.Records.{record_blocks}
+use Rattle.array_trees.specs.Trees.{array_blocks}
 use Rattle.never_heap.specs.declared.Command.TheVariants as commands
+use Rattle.never_heap.specs.Bounds.{IsCommandInBounds}
+use Rattle.trace_text.specs.declared.trace_faults.Why.{Why}
+use Rattle.trace_text.specs.declared.trace_faults.Why.TheVariants as whys
 use Rattle.trace_text.specs.declared.reading.lines.Line.{Line}
 use Rattle.trace_text.specs.declared.reading.lines.Line.TheVariants.{Thread, End, Told}
+use Rattle.trace_text.specs.declared.reading.lines.Place.{Place}
 use Rattle.trace_text.specs.declared.reading.words.Word.{Word}
 use Rattle.trace_text.specs.declared.reading.words.Word.TheVariants as words
 use Rattle.trace_text.specs.Spellings.{command_line}
-use Rattle.trace_text.specs.Reading.{◌>>=◌, number_at, no_more_of, one_piece_of, two_pieces_of, three_pieces_of}
-use Rattle.trace_text.specs.Words.{word_at}
-use Rattle.trace_text.specs.Said.{new_at, nil_at, get_at, put_at, say_at, thread_at, end_at, operands_at, line_at}
-use Rattle.trace_text.proofs.NumberLaws.{then_some, number_sound, number_complete}
+use Rattle.trace_text.specs.Words.{word_at, is_command, operands}
+use Rattle.trace_text.specs.Said.{◌>>=◌, count_is, numbers_at, checked, on_none, on_one, on_two, on_three, told_at, operands_at, in_turn, line_at}
+use Rattle.trace_text.specs.Refusals.{Before, first_of, is_number, value_of, any_operand, is_high_register, is_too_large, is_out_of_turn, word_fault, later_fault}
+use Rattle.trace_text.proofs.WordLaws.{word_text, word_sound, word_complete, count_map, count_length, values_are, AreWritten, numbers_complete, numbers_sound}
 
--- ---- steps
+-- the reason of an answer
+abbrev pub reason : {A : Type 0} → Result A Why → Option Why
+reason (Ok x) = None
+reason (Err why) = Some why
 
-pub record Through {A B : Type 0} (o : Option A) (f : A → Option B) (y : B) : Type 0 where
-  pub at : A
-  pub first : o ≡ Some at
-  pub second : f at ≡ Some y
+-- behind t threads, the last with k commands so far
+abbrev pub place : Config → ℕ → ℕ → Place
+place c t k = record { config = c; threads = t; full = leb 131072 k }
 
-pub bind_some : {A B : Type 0} (o : Option A) (f : A → Option B) (y : B) → (o >>= f) ≡ Some y → Through o f y
-bind_some None f y e = absurd cc
-bind_some (Some x) f y e = record { at = x; first = refl; second = e }
+abbrev pub prior : ℕ → ℕ → Before
+prior t k = record { threads = t; commands = k; ended = false }
 
--- the same for what follows from the steps
-pub bind_then : {A B P : Type 0} (o : Option A) (f : A → Option B) (y : B) → (o >>= f) ≡ Some y → ((x : A) → o ≡ Some x → f x ≡ Some y → P) → P
-bind_then None f y e go = absurd cc
-bind_then (Some x) f y e go = go x refl e
+-- ---- numbers by their count
 
--- ---- words
+at_none : (P : List ℕ → Type 0) (ns : List ℕ) → count_is 0 ns ≡ true → P [] → P ns
+at_none P [] h go = go
+at_none P (a ∷ ns) h go = absurd cc
 
-abbrev pub word_text : Word → List ℕ
-word_text words.Thread = codes "thread"
-word_text words.End = codes "end"
-word_text words.New = codes "new"
-word_text words.Nil = codes "nil"
-word_text words.Get = codes "get"
-word_text words.Put = codes "put"
-word_text words.Say = codes "say"
+at_one : (P : List ℕ → Type 0) (ns : List ℕ) → count_is 1 ns ≡ true → ((a : ℕ) → P (a ∷ [])) → P ns
+at_one P [] h go = absurd cc
+at_one P (a ∷ []) h go = go a
+at_one P (a ∷ b ∷ ns) h go = absurd cc
 
--- one more text is tried
-tried : (piece text : List ℕ) (w v : Word) (more : Option Word) → word_text w ≡ text → (more ≡ Some v → piece ≡ word_text v) → cond (bytes_eq piece text) (Some w) more ≡ Some v → piece ≡ word_text v
-tried piece text w v more is otherwise e =
-    elim (cases_Bool (bytes_eq piece text)) [
-      | inl yes' ↦ (bytes_eq-Decides piece text).0 yes' ∙ sym is ∙ ap word_text (same_Some w v (subst (λ b. cond b (Some w) more ≡ Some v) yes' e))
-      | inr no' ↦ otherwise (subst (λ b. cond b (Some w) more ≡ Some v) no' e)
-    ]
+at_two : (P : List ℕ → Type 0) (ns : List ℕ) → count_is 2 ns ≡ true → ((a b : ℕ) → P (a ∷ b ∷ [])) → P ns
+at_two P [] h go = absurd cc
+at_two P (a ∷ []) h go = absurd cc
+at_two P (a ∷ b ∷ []) h go = go a b
+at_two P (a ∷ b ∷ d ∷ ns) h go = absurd cc
 
-pub word_sound : (piece : List ℕ) (v : Word) → word_at piece ≡ Some v → piece ≡ word_text v
-word_sound piece v e =
-    tried piece (codes "get") words.Get v _ refl
-    (tried piece (codes "put") words.Put v _ refl
-    (tried piece (codes "new") words.New v _ refl
-    (tried piece (codes "nil") words.Nil v _ refl
-    (tried piece (codes "say") words.Say v _ refl
-    (tried piece (codes "thread") words.Thread v _ refl
-    (tried piece (codes "end") words.End v None refl (λ none. absurd cc)))))))
-    e
+at_three : (P : List ℕ → Type 0) (ns : List ℕ) → count_is 3 ns ≡ true → ((a b d : ℕ) → P (a ∷ b ∷ d ∷ [])) → P ns
+at_three P [] h go = absurd cc
+at_three P (a ∷ []) h go = absurd cc
+at_three P (a ∷ b ∷ []) h go = absurd cc
+at_three P (a ∷ b ∷ d ∷ []) h go = go a b d
+at_three P (a ∷ b ∷ d ∷ e ∷ ns) h go = absurd cc
 
-pub word_complete : (v : Word) → word_at (word_text v) ≡ Some v
-word_complete words.Thread = refl
-word_complete words.End = refl
-word_complete words.New = refl
-word_complete words.Nil = refl
-word_complete words.Get = refl
-word_complete words.Put = refl
-word_complete words.Say = refl
+from_none : (P : List ℕ → Type 0) (ns : List ℕ) (f : Result Line Why) (l : Line) → on_none ns f ≡ Ok l → (f ≡ Ok l → P []) → P ns
+from_none P [] f l e go = go e
+from_none P (a ∷ ns) f l e go = absurd cc
 
--- ---- pieces
+from_one : (P : List ℕ → Type 0) (ns : List ℕ) (f : ℕ → Result Line Why) (l : Line) → on_one ns f ≡ Ok l → ((a : ℕ) → f a ≡ Ok l → P (a ∷ [])) → P ns
+from_one P [] f l e go = absurd cc
+from_one P (a ∷ []) f l e go = go a e
+from_one P (a ∷ b ∷ ns) f l e go = absurd cc
 
-pub none_sound : (ps : List (List ℕ)) (x : Unit {0}) → no_more_of ps ≡ Some x → ps ≡ []
-unfolding no_more_of
-none_sound [] x e = refl
-none_sound (p ∷ ps) x e = absurd cc
+from_two : (P : List ℕ → Type 0) (ns : List ℕ) (f : ℕ → ℕ → Result Line Why) (l : Line) → on_two ns f ≡ Ok l → ((a b : ℕ) → f a b ≡ Ok l → P (a ∷ b ∷ [])) → P ns
+from_two P [] f l e go = absurd cc
+from_two P (a ∷ []) f l e go = absurd cc
+from_two P (a ∷ b ∷ []) f l e go = go a b e
+from_two P (a ∷ b ∷ d ∷ ns) f l e go = absurd cc
 
-pub one_sound : (ps : List (List ℕ)) (a : List ℕ) → one_piece_of ps ≡ Some a → ps ≡ a ∷ []
-unfolding one_piece_of
-one_sound [] a e = absurd cc
-one_sound (p ∷ ps) a e =
-    let t = bind_some (no_more_of ps) (λ _. Some p) a e in
-    let rest = none_sound ps t.at t.first in
-    let same = same_Some p a t.second in
-    cc
+from_three : (P : List ℕ → Type 0) (ns : List ℕ) (f : ℕ → ℕ → ℕ → Result Line Why) (l : Line) → on_three ns f ≡ Ok l → ((a b d : ℕ) → f a b d ≡ Ok l → P (a ∷ b ∷ d ∷ [])) → P ns
+from_three P [] f l e go = absurd cc
+from_three P (a ∷ []) f l e go = absurd cc
+from_three P (a ∷ b ∷ []) f l e go = absurd cc
+from_three P (a ∷ b ∷ d ∷ []) f l e go = go a b d e
+from_three P (a ∷ b ∷ d ∷ g ∷ ns) f l e go = absurd cc
 
-pub two_sound : (ps : List (List ℕ)) (x : List ℕ × List ℕ) → two_pieces_of ps ≡ Some x → ps ≡ x.0 ∷ x.1 ∷ []
-unfolding two_pieces_of
-two_sound [] x e = absurd cc
-two_sound (p ∷ ps) x e =
-    let t = bind_some (one_piece_of ps) (λ b. Some (p, b)) x e in
-    let rest = one_sound ps t.at t.first in
-    let same = same_Some (p, t.at) x t.second in
-    subst (λ (y : List ℕ × List ℕ). p ∷ ps ≡ y.0 ∷ y.1 ∷ []) same (ap (λ (r : List (List ℕ)). p ∷ r) rest)
+-- ---- the tests of a word's numbers
 
-pub three_sound : (ps : List (List ℕ)) (x : List ℕ × List ℕ × List ℕ) → three_pieces_of ps ≡ Some x → ps ≡ x.0 ∷ x.1 ∷ x.2 ∷ []
-unfolding three_pieces_of
-three_sound [] x e = absurd cc
-three_sound (p ∷ ps) x e =
-    let t = bind_some (two_pieces_of ps) (λ q. Some (p, q.0, q.1)) x e in
-    let rest = two_sound ps t.at t.first in
-    let same = same_Some (p, t.at.0, t.at.1) x t.second in
-    subst (λ (y : List ℕ × List ℕ × List ℕ). p ∷ ps ≡ y.0 ∷ y.1 ∷ y.2 ∷ []) same (ap (λ (r : List (List ℕ)). p ∷ r) rest)
+checks_are : (r s : Bool) (l : Line) → reason (checked r s l) ≡ first_of ((r, whys.Register) ∷ (s, whys.Size) ∷ [])
+checks_are true s l = refl
+checks_are false true l = refl
+checks_are false false l = refl
 
-pub one_complete : (a : List ℕ) → one_piece_of (a ∷ []) ≡ Some a
-unfolding one_piece_of no_more_of
-one_complete a = refl
+checks : (r r' s s' : Bool) (l : Line) → r ≡ r' → s ≡ s' → reason (checked r s l) ≡ first_of ((r', whys.Register) ∷ (s', whys.Size) ∷ [])
+checks r r' s s' l e f = checks_are r s l ∙ ap (λ (x : Bool). first_of ((x, whys.Register) ∷ (s, whys.Size) ∷ [])) e ∙ ap (λ (x : Bool). first_of ((r', whys.Register) ∷ (x, whys.Size) ∷ [])) f
 
-pub two_complete : (a b : List ℕ) → two_pieces_of (a ∷ b ∷ []) ≡ Some (a, b)
-unfolding two_pieces_of one_piece_of no_more_of
-two_complete a b = refl
+turns : (x x' : Bool) (l : Line) → x ≡ x' → reason (cond x (Err whys.Order) (Ok l)) ≡ cond x' (Some whys.Order) None
+turns true x' l e = ap (λ (y : Bool). cond y (Some whys.Order) None) e
+turns false x' l e = ap (λ (y : Bool). cond y (Some whys.Order) None) e
 
-pub three_complete : (a b d : List ℕ) → three_pieces_of (a ∷ b ∷ d ∷ []) ≡ Some (a, b, d)
-unfolding three_pieces_of two_pieces_of one_piece_of no_more_of
-three_complete a b d = refl
+or_false : (a : Bool) → a ≡ (a || false)
+or_false true = refl
+or_false false = refl
 
--- ---- lines
+two_or_false : (a b : Bool) → (a || b) ≡ (a || (b || false))
+two_or_false a b = ap (λ (x : Bool). a || x) (or_false b)
+
+or_turn : (a b : Bool) → (a || b) ≡ ((a || false) || b)
+or_turn a b = ap (λ (x : Bool). x || b) (or_false a)
+
+full_last : (f a : Bool) → (f || a) ≡ ((a || false) || f)
+full_last true true = refl
+full_last true false = refl
+full_last false true = refl
+full_last false false = refl
+
+full_both : (f a b : Bool) → (f || a || b) ≡ ((a || b || false) || f)
+full_both true true b = refl
+full_both true false true = refl
+full_both true false false = refl
+full_both false true b = refl
+full_both false false true = refl
+full_both false false false = refl
+
+abbrev Agrees : Config → ℕ → ℕ → Word → List ℕ → Type 0
+Agrees c t k w ns =
+    reason (told_at (place c t k) w ns) ≡ first_of (
+    (is_out_of_turn c (prior t k) w ns, whys.Order)
+    ∷ (any_operand is_high_register (operands w) ns, whys.Register)
+    ∷ (any_operand (is_too_large c) (operands w) ns || (is_command w && leb 131072 k), whys.Size)
+    ∷ [])
+
+told_agree : (c : Config) (t k : ℕ) (w : Word) (ns : List ℕ) → count_is (length (operands w)) ns ≡ true → Agrees c t k w ns
+unfolding told_at
+told_agree c t k words.Thread ns h = at_one (Agrees c t k words.Thread) ns h (λ n. turns _ _ (Thread n) (or_turn (not (eqb n t)) (eqb t c.threads)))
+told_agree c t k words.End ns h = at_none (Agrees c t k words.End) ns h (turns _ _ End refl)
+told_agree c t k words.New ns h = at_two (Agrees c t k words.New) ns h (λ d f. checks _ _ _ _ (Told (commands.New d f)) (or_false (ltb 15 d)) (full_both (leb 131072 k) (ltb 65535 f) (ltb c.object (record_blocks f))))
+told_agree c t k words.Arr ns h = at_two (Agrees c t k words.Arr) ns h (λ d e. checks _ _ _ _ (Told (commands.Arr d e)) (or_false (ltb 15 d)) (full_both (leb 131072 k) (ltb 65535 e) (ltb c.object (array_blocks e))))
+told_agree c t k words.Set ns h = at_two (Agrees c t k words.Set) ns h (λ d v. checks _ _ _ _ (Told (commands.Set d v)) (or_false (ltb 15 d)) (full_last (leb 131072 k) (leb (2 ^ 62) v)))
+told_agree c t k words.Nil ns h = at_one (Agrees c t k words.Nil) ns h (λ d. checks _ _ _ _ (Told (commands.Nil d)) (or_false (ltb 15 d)) refl)
+told_agree c t k words.Mov ns h = at_two (Agrees c t k words.Mov) ns h (λ d s. checks _ _ _ _ (Told (commands.Mov d s)) (two_or_false (ltb 15 d) (ltb 15 s)) refl)
+told_agree c t k words.Get ns h = at_three (Agrees c t k words.Get) ns h (λ d s i. checks _ _ _ _ (Told (commands.Get d s i)) (two_or_false (ltb 15 d) (ltb 15 s)) (full_last (leb 131072 k) (leb (2 ^ 62) i)))
+told_agree c t k words.Put ns h = at_three (Agrees c t k words.Put) ns h (λ s i v. checks _ _ _ _ (Told (commands.Put s i v)) (two_or_false (ltb 15 s) (ltb 15 v)) (full_last (leb 131072 k) (leb (2 ^ 62) i)))
+told_agree c t k words.Len ns h = at_one (Agrees c t k words.Len) ns h (λ s. checks _ _ _ _ (Told (commands.Len s)) (or_false (ltb 15 s)) refl)
+told_agree c t k words.Same ns h = at_two (Agrees c t k words.Same) ns h (λ a b. checks _ _ _ _ (Told (commands.Same a b)) (two_or_false (ltb 15 a) (ltb 15 b)) refl)
+told_agree c t k words.Say ns h = at_one (Agrees c t k words.Say) ns h (λ s. checks _ _ _ _ (Told (commands.Say s)) (or_false (ltb 15 s)) refl)
+
+first_test : (x : Bool) (why : Why) (r : Result Line Why) (o : Option Why) → reason r ≡ o → reason (cond x (Err why) r) ≡ cond x (Some why) o
+first_test true why r o e = refl
+first_test false why r o e = e
+
+counted : (n m : Bool) (ns : List ℕ) (f : List ℕ → Result Line Why) (o : Option Why) → (n ≡ true → reason (f ns) ≡ o)
+    → reason ((cond n (cond m (Err whys.Number) (Ok ns)) (Err whys.Count)) >>= f) ≡ cond (not n) (Some whys.Count) (cond m (Some whys.Number) o)
+counted false m ns f o h = refl
+counted true true ns f o h = refl
+counted true false ns f o h = h refl
+
+turn_agree : (c : Config) (t k : ℕ) (w : Word) (ps : List (List ℕ)) → reason (in_turn (place c t k) w ps) ≡ word_fault c (prior t k) (Some w) ps
+unfolding operands_at numbers_at
+turn_agree c t k w ps =
+    let n = length (operands w) in
+    first_test (is_command w && eqb t 0) whys.Order _ _
+    (rw (values_are ps, count_length ps n)
+    (counted (count_is n ps) (list_any (λ piece. not (is_number piece)) ps) (map value_of ps) (told_at (place c t k) w) _ (λ h. told_agree c t k w (map value_of ps) (count_map value_of n ps ∙ h))))
+
+named_agree : (c : Config) (t k : ℕ) (o : Option Word) (ps : List (List ℕ)) → reason (ok_or o whys.Word >>= λ w. in_turn (place c t k) w ps) ≡ word_fault c (prior t k) o ps
+named_agree c t k None ps = refl
+named_agree c t k (Some w) ps = turn_agree c t k w ps
+
+-- a line says something exactly where nothing is wrong with it
+pub line_agrees : (c : Config) (t k : ℕ) (ps : List (List ℕ)) → later_fault c (prior t k) ps ≡ reason (line_at (place c t k) ps)
+unfolding later_fault line_at
+line_agrees c t k [] = refl
+line_agrees c t k (first ∷ ps) = sym (named_agree c t k (word_at first) ps)
+
+-- ---- what is said is what is written so
 
 abbrev pub line_text : Line → List (List ℕ)
-line_text (Thread t) = codes "thread" ∷ decimal t ∷ []
-line_text End = codes "end" ∷ []
+line_text (Thread t) = word_text words.Thread ∷ decimal t ∷ []
+line_text End = word_text words.End ∷ []
 line_text (Told command) = command_line command
 
--- a command of the plain heap, its numbers in their ranges
-abbrev pub IsPlain : Command → Type 0
-IsPlain (commands.New d f) = (d ≤ 15) × (f ≤ 3)
-IsPlain (commands.Nil d) = d ≤ 15
-IsPlain (commands.Get d s i) = (d ≤ 15) × (s ≤ 15) × (i < 2 ^ 62)
-IsPlain (commands.Put s i v) = (s ≤ 15) × (i < 2 ^ 62) × (v ≤ 15)
-IsPlain (commands.Say s) = s ≤ 15
+-- a line behind t threads and k commands of the last
+abbrev pub Fits : Config → ℕ → ℕ → Line → Type 0
+Fits c t k (Thread n) = (n ≡ t) × (t ≢ c.threads)
+Fits c t k End = t ≡ c.threads
+Fits c t k (Told command) = IsCommandInBounds c command × (k < 131072)
 
-abbrev pub FitsLine : Line → Type 0
-FitsLine (Thread t) = t < 10 ^ 19
-FitsLine End = Unit {0}
-FitsLine (Told command) = IsPlain command
+-- a word and the numbers behind it say this
+pub record Says (c : Config) (t k : ℕ) (w : Word) (l : Line) (ns : List ℕ) : Type 0 where
+  pub text : word_text w ∷ map decimal ns ≡ line_text l
+  pub fits : Fits c t k l
+  pub command : is_command w ≡ false → (l ≡ Thread t) ⊎ (l ≡ End)
 
--- behind this word these pieces say this
-pub record Says (w : Word) (ps : List (List ℕ)) (l : Line) : Type 0 where
-  pub text : word_text w ∷ ps ≡ line_text l
-  pub fits : FitsLine l
+same_Ok : {A : Type 0} (x y : A) → ◌≡◌ {A = Result A Why} (Ok x) (Ok y) → x ≡ y
+same_Ok x y e = cc
 
-one_text : (w : List ℕ) (ps : List (List ℕ)) (a : List ℕ) (m : ℕ) → ps ≡ a ∷ [] → a ≡ decimal m → w ∷ ps ≡ w ∷ decimal m ∷ []
-one_text w ps a m e x = rw (e, x) refl
+passed : (r s : Bool) (x l : Line) → checked r s x ≡ Ok l → (r ≡ false) × (s ≡ false) × (x ≡ l)
+passed true s x l e = absurd cc
+passed false true x l e = absurd cc
+passed false false x l e = (refl, refl, same_Ok x l e)
 
-two_text : (w : List ℕ) (ps : List (List ℕ)) (a b : List ℕ) (m n : ℕ) → ps ≡ a ∷ b ∷ [] → a ≡ decimal m → b ≡ decimal n → w ∷ ps ≡ w ∷ decimal m ∷ decimal n ∷ []
-two_text w ps a b m n e x y = rw (e, x, y) refl
+in_order : (r : Bool) (x l : Line) → cond r (Err whys.Order) (Ok x) ≡ Ok l → (r ≡ false) × (x ≡ l)
+in_order true x l e = absurd cc
+in_order false x l e = (refl, same_Ok x l e)
 
-three_text : (w : List ℕ) (ps : List (List ℕ)) (a b d : List ℕ) (m n k : ℕ) → ps ≡ a ∷ b ∷ d ∷ [] → a ≡ decimal m → b ≡ decimal n → d ≡ decimal k → w ∷ ps ≡ w ∷ decimal m ∷ decimal n ∷ decimal k ∷ []
-three_text w ps a b d m n k e x y z = rw (e, x, y, z) refl
+-- what the tests of the words mean
+one_low : (a k : ℕ) → ltb 15 a ≡ false → leb 131072 k ≡ false → (a < 16) × (k < 131072)
+one_low a k r s = (grind (arith, nat_tests), grind (arith, nat_tests))
 
-both_true : (m a n b : ℕ) → (leb m a && leb n b) ≡ true → (m ≤ a) × (n ≤ b)
-both_true m a n b t = (grind (arith, nat_tests), grind (arith, nat_tests))
+two_low : (a b k : ℕ) → (ltb 15 a || ltb 15 b) ≡ false → leb 131072 k ≡ false → (a < 16) × (b < 16) × (k < 131072)
+two_low a b k r s = (grind (arith, nat_tests), grind (arith, nat_tests), grind (arith, nat_tests))
 
-get_tests : (d s i : ℕ) → (leb d 15 && leb s 15 && ltb i (2 ^ 62)) ≡ true → (d ≤ 15) × (s ≤ 15) × (i < 2 ^ 62)
-get_tests d s i t = (grind (arith, nat_tests), grind (arith, nat_tests), grind (arith, nat_tests))
+few_numbers : (n k : ℕ) → (leb 131072 k || leb (2 ^ 62) n) ≡ false → (n < 2 ^ 62) × (k < 131072)
+few_numbers n k s = (grind (arith, nat_tests), grind (arith, nat_tests))
 
-put_tests : (s i v : ℕ) → (leb s 15 && ltb i (2 ^ 62) && leb v 15) ≡ true → (s ≤ 15) × (i < 2 ^ 62) × (v ≤ 15)
-put_tests s i v t = (grind (arith, nat_tests), grind (arith, nat_tests), grind (arith, nat_tests))
+few_blocks : (n blocks most k : ℕ) → (leb 131072 k || ltb 65535 n || ltb most blocks) ≡ false → (n ≤ 65535) × (blocks ≤ most) × (k < 131072)
+few_blocks n blocks most k s = (grind (arith, nat_tests), grind (arith, nat_tests), grind (arith, nat_tests))
 
-line_is : (x l : Line) → ◌≡◌ {A = Option Line} (Some x) (Some l) → x ≡ l
-line_is x l e = same_Some x l e
+low : (a : ℕ) → ltb 15 a ≡ false → a < 16
+low a r = grind (arith, nat_tests)
 
-thread_sound : (ps : List (List ℕ)) (l : Line) → thread_at ps ≡ Some l → Says words.Thread ps l
-unfolding thread_at
-thread_sound ps l e =
-    let a = bind_some (one_piece_of ps) (λ piece. number_at piece >>= λ t. Some (Thread t)) l e in
-    let b = bind_some (number_at a.at) (λ t. Some (Thread t)) l a.second in
-    let pieces = one_sound ps a.at a.first in
-    let n = number_sound a.at b.at b.first in
-    subst (Says words.Thread ps) (line_is (Thread b.at) l b.second) record {
-      text = one_text (codes "thread") ps a.at b.at pieces n.0;
-      fits = n.1;
-    }
+both_low : (a b : ℕ) → (ltb 15 a || ltb 15 b) ≡ false → (a < 16) × (b < 16)
+both_low a b r = (grind (arith, nat_tests), grind (arith, nat_tests))
 
-thread_complete : (t : ℕ) → t < 10 ^ 19 → thread_at (decimal t ∷ []) ≡ Some (Thread t)
-unfolding thread_at
-thread_complete t lt = rw (one_complete (decimal t), number_complete t lt) refl
+abbrev says : (c : Config) (t k : ℕ) (w : Word) (x l : Line) (ns : List ℕ) → x ≡ l → Says c t k w x ns → Says c t k w l ns
+says c t k w x l ns e s = subst (λ (y : Line). Says c t k w y ns) e s
 
-end_sound : (ps : List (List ℕ)) (l : Line) → end_at ps ≡ Some l → Says words.End ps l
-unfolding end_at
-end_sound ps l e =
-    let a = bind_some (no_more_of ps) (λ _. Some End) l e in
-    let pieces = none_sound ps a.at a.first in
-    subst (Says words.End ps) (line_is End l a.second) record { text = ap (λ (r : List (List ℕ)). codes "end" ∷ r) pieces; fits = tt }
+thread_turn : (n t m : ℕ) → (not (eqb n t) || eqb t m) ≡ false → (n ≡ t) × (t ≢ m)
+thread_turn n t m r = (grind (arith, nat_tests), λ e. grind (arith, nat_tests, e))
 
-nil_sound : (ps : List (List ℕ)) (l : Line) → nil_at ps ≡ Some l → Says words.Nil ps l
-unfolding nil_at
-nil_sound ps l e =
-    let a = bind_some (one_piece_of ps) (λ piece. number_at piece >>= λ r. cond (leb r 15) (Some (Told (commands.Nil r))) None) l e in
-    let b = bind_some (number_at a.at) (λ r. cond (leb r 15) (Some (Told (commands.Nil r))) None) l a.second in
-    let t = then_some (leb b.at 15) (Some (Told (commands.Nil b.at))) l b.second in
-    let n = number_sound a.at b.at b.first in
-    subst (Says words.Nil ps) (line_is (Told (commands.Nil b.at)) l t.1) record {
-      text = one_text (codes "nil") ps a.at b.at (one_sound ps a.at a.first) n.0;
-      fits = leb-true _ _ t.0;
-    }
+end_turn : (t m : ℕ) → not (eqb t m) ≡ false → t ≡ m
+end_turn t m r = grind (arith, nat_tests)
 
-nil_complete : (r : ℕ) → r ≤ 15 → nil_at (decimal r ∷ []) ≡ Some (Told (commands.Nil r))
-unfolding nil_at
-nil_complete r le = rw (one_complete (decimal r), number_complete r (omega arith), le-leb r 15 le) refl
+told_sound : (c : Config) (t k : ℕ) (w : Word) (ns : List ℕ) (l : Line) → told_at (place c t k) w ns ≡ Ok l → Says c t k w l ns
+unfolding told_at
+told_sound c t k words.Thread ns l e =
+    from_one (Says c t k words.Thread l) ns _ l e (λ n f.
+    let p = in_order (not (eqb n t) || eqb t c.threads) (Thread n) l f in
+    let turn = thread_turn n t c.threads p.0 in
+    says c t k words.Thread (Thread n) l (n ∷ []) p.1 record { text = refl; fits = turn; command = λ _. inl (ap Thread turn.0) })
+told_sound c t k words.End ns l e =
+    from_none (Says c t k words.End l) ns _ l e (λ f.
+    let p = in_order (not (eqb t c.threads)) End l f in
+    says c t k words.End End l [] p.1 record { text = refl; fits = end_turn t c.threads p.0; command = λ _. inr refl })
+told_sound c t k words.New ns l e =
+    from_two (Says c t k words.New l) ns _ l e (λ d n f.
+    let p = passed (ltb 15 d) (leb 131072 k || ltb 65535 n || ltb c.object (record_blocks n)) (Told (commands.New d n)) l f in
+    let b = few_blocks n (record_blocks n) c.object k p.1 in
+    says c t k words.New (Told (commands.New d n)) l (d ∷ n ∷ []) p.2 record { text = refl; fits = ((low d p.0, b.0, b.1), b.2); command = λ h. absurd cc })
+told_sound c t k words.Arr ns l e =
+    from_two (Says c t k words.Arr l) ns _ l e (λ d n f.
+    let p = passed (ltb 15 d) (leb 131072 k || ltb 65535 n || ltb c.object (array_blocks n)) (Told (commands.Arr d n)) l f in
+    let b = few_blocks n (array_blocks n) c.object k p.1 in
+    says c t k words.Arr (Told (commands.Arr d n)) l (d ∷ n ∷ []) p.2 record { text = refl; fits = ((low d p.0, b.0, b.1), b.2); command = λ h. absurd cc })
+told_sound c t k words.Set ns l e =
+    from_two (Says c t k words.Set l) ns _ l e (λ d n f.
+    let p = passed (ltb 15 d) (leb 131072 k || leb (2 ^ 62) n) (Told (commands.Set d n)) l f in
+    let b = few_numbers n k p.1 in
+    says c t k words.Set (Told (commands.Set d n)) l (d ∷ n ∷ []) p.2 record { text = refl; fits = ((low d p.0, b.0), b.1); command = λ h. absurd cc })
+told_sound c t k words.Nil ns l e =
+    from_one (Says c t k words.Nil l) ns _ l e (λ d f.
+    let p = passed (ltb 15 d) (leb 131072 k) (Told (commands.Nil d)) l f in
+    says c t k words.Nil (Told (commands.Nil d)) l (d ∷ []) p.2 record { text = refl; fits = one_low d k p.0 p.1; command = λ h. absurd cc })
+told_sound c t k words.Mov ns l e =
+    from_two (Says c t k words.Mov l) ns _ l e (λ d s f.
+    let p = passed (ltb 15 d || ltb 15 s) (leb 131072 k) (Told (commands.Mov d s)) l f in
+    let b = two_low d s k p.0 p.1 in
+    says c t k words.Mov (Told (commands.Mov d s)) l (d ∷ s ∷ []) p.2 record { text = refl; fits = ((b.0, b.1), b.2); command = λ h. absurd cc })
+told_sound c t k words.Get ns l e =
+    from_three (Says c t k words.Get l) ns _ l e (λ d s i f.
+    let p = passed (ltb 15 d || ltb 15 s) (leb 131072 k || leb (2 ^ 62) i) (Told (commands.Get d s i)) l f in
+    let r = both_low d s p.0 in
+    let b = few_numbers i k p.1 in
+    says c t k words.Get (Told (commands.Get d s i)) l (d ∷ s ∷ i ∷ []) p.2 record { text = refl; fits = ((r.0, r.1, b.0), b.1); command = λ h. absurd cc })
+told_sound c t k words.Put ns l e =
+    from_three (Says c t k words.Put l) ns _ l e (λ s i v f.
+    let p = passed (ltb 15 s || ltb 15 v) (leb 131072 k || leb (2 ^ 62) i) (Told (commands.Put s i v)) l f in
+    let r = both_low s v p.0 in
+    let b = few_numbers i k p.1 in
+    says c t k words.Put (Told (commands.Put s i v)) l (s ∷ i ∷ v ∷ []) p.2 record { text = refl; fits = ((r.0, b.0, r.1), b.1); command = λ h. absurd cc })
+told_sound c t k words.Len ns l e =
+    from_one (Says c t k words.Len l) ns _ l e (λ s f.
+    let p = passed (ltb 15 s) (leb 131072 k) (Told (commands.Len s)) l f in
+    says c t k words.Len (Told (commands.Len s)) l (s ∷ []) p.2 record { text = refl; fits = one_low s k p.0 p.1; command = λ h. absurd cc })
+told_sound c t k words.Same ns l e =
+    from_two (Says c t k words.Same l) ns _ l e (λ a b f.
+    let p = passed (ltb 15 a || ltb 15 b) (leb 131072 k) (Told (commands.Same a b)) l f in
+    let r = two_low a b k p.0 p.1 in
+    says c t k words.Same (Told (commands.Same a b)) l (a ∷ b ∷ []) p.2 record { text = refl; fits = ((r.0, r.1), r.2); command = λ h. absurd cc })
+told_sound c t k words.Say ns l e =
+    from_one (Says c t k words.Say l) ns _ l e (λ s f.
+    let p = passed (ltb 15 s) (leb 131072 k) (Told (commands.Say s)) l f in
+    says c t k words.Say (Told (commands.Say s)) l (s ∷ []) p.2 record { text = refl; fits = one_low s k p.0 p.1; command = λ h. absurd cc })
 
-say_sound : (ps : List (List ℕ)) (l : Line) → say_at ps ≡ Some l → Says words.Say ps l
-unfolding say_at
-say_sound ps l e =
-    let a = bind_some (one_piece_of ps) (λ piece. number_at piece >>= λ r. cond (leb r 15) (Some (Told (commands.Say r))) None) l e in
-    let b = bind_some (number_at a.at) (λ r. cond (leb r 15) (Some (Told (commands.Say r))) None) l a.second in
-    let t = then_some (leb b.at 15) (Some (Told (commands.Say b.at))) l b.second in
-    let n = number_sound a.at b.at b.first in
-    subst (Says words.Say ps) (line_is (Told (commands.Say b.at)) l t.1) record {
-      text = one_text (codes "say") ps a.at b.at (one_sound ps a.at a.first) n.0;
-      fits = leb-true _ _ t.0;
-    }
+-- the same for what follows from two steps
+pub bind_ok : {A B P : Type 0} (r : Result A Why) (f : A → Result B Why) (y : B) → (r >>= f) ≡ Ok y → ((x : A) → r ≡ Ok x → f x ≡ Ok y → P) → P
+bind_ok (Err why) f y e go = absurd cc
+bind_ok (Ok x) f y e go = go x refl e
 
-say_complete : (r : ℕ) → r ≤ 15 → say_at (decimal r ∷ []) ≡ Some (Told (commands.Say r))
-unfolding say_at
-say_complete r le = rw (one_complete (decimal r), number_complete r (omega arith), le-leb r 15 le) refl
+pub from_option : {A : Type 0} (o : Option A) (why : Why) (x : A) → ok_or o why ≡ Ok x → o ≡ Some x
+from_option None why x e = absurd cc
+from_option (Some y) why x e = ap Some (same_Ok y x e)
 
-new_sound : (ps : List (List ℕ)) (l : Line) → new_at ps ≡ Some l → Says words.New ps l
-unfolding new_at
-new_sound ps l e =
-    bind_then (two_pieces_of ps) (λ p. number_at p.0 >>= λ d. number_at p.1 >>= λ f. cond (leb d 15 && leb f 3) (Some (Told (commands.New d f))) None) l e (λ p is_p r0.
-    bind_then (number_at p.0) (λ d. number_at p.1 >>= λ f. cond (leb d 15 && leb f 3) (Some (Told (commands.New d f))) None) l r0 (λ d is_d r1.
-    bind_then (number_at p.1) (λ f. cond (leb d 15 && leb f 3) (Some (Told (commands.New d f))) None) l r1 (λ f is_f r2.
-    (let t = then_some (leb d 15 && leb f 3) (Some (Told (commands.New d f))) l r2 in
-    subst (Says words.New ps) (line_is (Told (commands.New d f)) l t.1) record {
-      text = two_text (codes "new") ps p.0 p.1 d f (two_sound ps p is_p) (number_sound p.0 d is_d).0 (number_sound p.1 f is_f).0;
-      fits = both_true d 15 f 3 t.0;
-    }))))
+-- what a line says behind t threads and k commands of the last
+pub record SaysLine (c : Config) (t k : ℕ) (ps : List (List ℕ)) (l : Line) : Type 0 where
+  pub text : ps ≡ line_text l
+  pub fits : Fits c t k l
+  pub opens : t ≡ 0 → (l ≡ Thread t) ⊎ (l ≡ End)
 
-new_complete : (d f : ℕ) → d ≤ 15 → f ≤ 3 → new_at (decimal d ∷ decimal f ∷ []) ≡ Some (Told (commands.New d f))
-unfolding new_at
-new_complete d f le few = rw (two_complete (decimal d) (decimal f), number_complete d (omega arith), number_complete f (omega arith), le-leb d 15 le, le-leb f 3 few) refl
+not_refused : (x : Bool) (r : Result Line Why) (l : Line) → cond x (Err whys.Order) r ≡ Ok l → (x ≡ false) × (r ≡ Ok l)
+not_refused true r l e = absurd cc
+not_refused false r l e = (refl, e)
 
-get_sound : (ps : List (List ℕ)) (l : Line) → get_at ps ≡ Some l → Says words.Get ps l
-unfolding get_at
-get_sound ps l e =
-    bind_then (three_pieces_of ps) (λ p. number_at p.0 >>= λ d. number_at p.1 >>= λ s. number_at p.2 >>= λ i. cond (leb d 15 && leb s 15 && ltb i (2 ^ 62)) (Some (Told (commands.Get d s i))) None) l e (λ p is_p r0.
-    bind_then (number_at p.0) (λ d. number_at p.1 >>= λ s. number_at p.2 >>= λ i. cond (leb d 15 && leb s 15 && ltb i (2 ^ 62)) (Some (Told (commands.Get d s i))) None) l r0 (λ d is_d r1.
-    bind_then (number_at p.1) (λ s. number_at p.2 >>= λ i. cond (leb d 15 && leb s 15 && ltb i (2 ^ 62)) (Some (Told (commands.Get d s i))) None) l r1 (λ s is_s r2.
-    bind_then (number_at p.2) (λ i. cond (leb d 15 && leb s 15 && ltb i (2 ^ 62)) (Some (Told (commands.Get d s i))) None) l r2 (λ i is_i r3.
-    (let t = then_some (leb d 15 && leb s 15 && ltb i (2 ^ 62)) (Some (Told (commands.Get d s i))) l r3 in
-    subst (Says words.Get ps) (line_is (Told (commands.Get d s i)) l t.1) record {
-      text = three_text (codes "get") ps p.0 p.1 p.2 d s i (three_sound ps p is_p) (number_sound p.0 d is_d).0 (number_sound p.1 s is_s).0 (number_sound p.2 i is_i).0;
-      fits = get_tests d s i t.0;
-    })))))
+no_command : (x : Bool) (t : ℕ) → (x && eqb t 0) ≡ false → t ≡ 0 → x ≡ false
+no_command true t e z = let is : eqb t 0 ≡ true = eq-eqb t 0 z in absurd cc
+no_command false t e z = refl
 
-get_complete : (d s i : ℕ) → d ≤ 15 → s ≤ 15 → i < 2 ^ 62 → get_at (decimal d ∷ decimal s ∷ decimal i ∷ []) ≡ Some (Told (commands.Get d s i))
-unfolding get_at
-get_complete d s i p q r = rw (three_complete (decimal d) (decimal s) (decimal i), number_complete d (omega arith), number_complete s (omega arith), number_complete i (omega arith), le-leb d 15 p, le-leb s 15 q, lt-ltb i (2 ^ 62) r) refl
+turn_sound : (c : Config) (t k : ℕ) (w : Word) (first : List ℕ) (ps : List (List ℕ)) (l : Line) → first ≡ word_text w → in_turn (place c t k) w ps ≡ Ok l → SaysLine c t k (first ∷ ps) l
+unfolding operands_at
+turn_sound c t k w first ps l named e =
+    let told = not_refused (is_command w && eqb t 0) (numbers_at (length (operands w)) ps >>= told_at (place c t k) w) l e in
+    bind_ok (numbers_at (length (operands w)) ps) (told_at (place c t k) w) l told.1 (λ ns are says.
+    let s = told_sound c t k w ns l says in
+    record {
+      text = ap (λ (p : List ℕ). p ∷ ps) named ∙ ap (λ (qs : List (List ℕ)). word_text w ∷ qs) (numbers_sound (length (operands w)) ps ns are) ∙ s.text;
+      fits = s.fits;
+      opens = λ z. s.command (no_command (is_command w) t told.0 z);
+    })
 
-put_sound : (ps : List (List ℕ)) (l : Line) → put_at ps ≡ Some l → Says words.Put ps l
-unfolding put_at
-put_sound ps l e =
-    bind_then (three_pieces_of ps) (λ p. number_at p.0 >>= λ s. number_at p.1 >>= λ i. number_at p.2 >>= λ v. cond (leb s 15 && ltb i (2 ^ 62) && leb v 15) (Some (Told (commands.Put s i v))) None) l e (λ p is_p r0.
-    bind_then (number_at p.0) (λ s. number_at p.1 >>= λ i. number_at p.2 >>= λ v. cond (leb s 15 && ltb i (2 ^ 62) && leb v 15) (Some (Told (commands.Put s i v))) None) l r0 (λ s is_s r1.
-    bind_then (number_at p.1) (λ i. number_at p.2 >>= λ v. cond (leb s 15 && ltb i (2 ^ 62) && leb v 15) (Some (Told (commands.Put s i v))) None) l r1 (λ i is_i r2.
-    bind_then (number_at p.2) (λ v. cond (leb s 15 && ltb i (2 ^ 62) && leb v 15) (Some (Told (commands.Put s i v))) None) l r2 (λ v is_v r3.
-    (let t = then_some (leb s 15 && ltb i (2 ^ 62) && leb v 15) (Some (Told (commands.Put s i v))) l r3 in
-    subst (Says words.Put ps) (line_is (Told (commands.Put s i v)) l t.1) record {
-      text = three_text (codes "put") ps p.0 p.1 p.2 s i v (three_sound ps p is_p) (number_sound p.0 s is_s).0 (number_sound p.1 i is_i).0 (number_sound p.2 v is_v).0;
-      fits = put_tests s i v t.0;
-    })))))
-
-put_complete : (s i v : ℕ) → s ≤ 15 → i < 2 ^ 62 → v ≤ 15 → put_at (decimal s ∷ decimal i ∷ decimal v ∷ []) ≡ Some (Told (commands.Put s i v))
-unfolding put_at
-put_complete s i v p q r = rw (three_complete (decimal s) (decimal i) (decimal v), number_complete s (omega arith), number_complete i (omega arith), number_complete v (omega arith), le-leb s 15 p, lt-ltb i (2 ^ 62) q, le-leb v 15 r) refl
-
-operands_sound : (w : Word) (ps : List (List ℕ)) (l : Line) → operands_at w ps ≡ Some l → Says w ps l
-operands_sound words.Thread = thread_sound
-operands_sound words.End = end_sound
-operands_sound words.New = new_sound
-operands_sound words.Nil = nil_sound
-operands_sound words.Get = get_sound
-operands_sound words.Put = put_sound
-operands_sound words.Say = say_sound
-
-pub line_sound : (ps : List (List ℕ)) (l : Line) → line_at ps ≡ Some l → (ps ≡ line_text l) × FitsLine l
+pub line_sound : (c : Config) (t k : ℕ) (ps : List (List ℕ)) (l : Line) → line_at (place c t k) ps ≡ Ok l → SaysLine c t k ps l
 unfolding line_at
-line_sound [] l e = absurd cc
-line_sound (first ∷ operands) l e =
-    let a = bind_some (word_at first) (λ w. operands_at w operands) l e in
-    let says = operands_sound a.at operands l a.second in
-    (ap (λ (p : List ℕ). p ∷ operands) (word_sound first a.at a.first) ∙ says.text, says.fits)
+line_sound c t k [] l e = absurd cc
+line_sound c t k (first ∷ ps) l e =
+    bind_ok (ok_or (word_at first) whys.Word) (λ w. in_turn (place c t k) w ps) l e (λ w is told.
+    turn_sound c t k w first ps l (word_sound first w (from_option (word_at first) whys.Word w is)) told)
 
-pub line_complete : (l : Line) → FitsLine l → line_at (line_text l) ≡ Some l
-unfolding line_at end_at no_more_of
-line_complete (Thread t) fits = thread_complete t fits
-line_complete End fits = refl
-line_complete (Told (commands.New d f)) fits = new_complete d f fits.0 fits.1
-line_complete (Told (commands.Nil d)) fits = nil_complete d fits
-line_complete (Told (commands.Get d s i)) fits = get_complete d s i fits.0 fits.1 fits.2
-line_complete (Told (commands.Put s i v)) fits = put_complete s i v fits.0 fits.1 fits.2
-line_complete (Told (commands.Say s)) fits = say_complete s fits
+-- ---- what is written is read again
+
+abbrev line_word : Line → Word
+line_word (Thread t) = words.Thread
+line_word End = words.End
+line_word (Told (commands.New d f)) = words.New
+line_word (Told (commands.Arr d e)) = words.Arr
+line_word (Told (commands.Set d v)) = words.Set
+line_word (Told (commands.Nil d)) = words.Nil
+line_word (Told (commands.Mov d s)) = words.Mov
+line_word (Told (commands.Get d s i)) = words.Get
+line_word (Told (commands.Put s i v)) = words.Put
+line_word (Told (commands.Len s)) = words.Len
+line_word (Told (commands.Same a b)) = words.Same
+line_word (Told (commands.Say s)) = words.Say
+
+abbrev line_numbers : Line → List ℕ
+line_numbers (Thread t) = t ∷ []
+line_numbers End = []
+line_numbers (Told (commands.New d f)) = d ∷ f ∷ []
+line_numbers (Told (commands.Arr d e)) = d ∷ e ∷ []
+line_numbers (Told (commands.Set d v)) = d ∷ v ∷ []
+line_numbers (Told (commands.Nil d)) = d ∷ []
+line_numbers (Told (commands.Mov d s)) = d ∷ s ∷ []
+line_numbers (Told (commands.Get d s i)) = d ∷ s ∷ i ∷ []
+line_numbers (Told (commands.Put s i v)) = s ∷ i ∷ v ∷ []
+line_numbers (Told (commands.Len s)) = s ∷ []
+line_numbers (Told (commands.Same a b)) = a ∷ b ∷ []
+line_numbers (Told (commands.Say s)) = s ∷ []
+
+-- how a line is written
+record IsWritten (l : Line) : Type 0 where
+  text : line_text l ≡ word_text (line_word l) ∷ map decimal (line_numbers l)
+  count : count_is (length (operands (line_word l))) (line_numbers l) ≡ true
+
+written : (l : Line) → IsWritten l
+written (Thread t) = record { text = refl; count = refl }
+written End = record { text = refl; count = refl }
+written (Told (commands.New d f)) = record { text = refl; count = refl }
+written (Told (commands.Arr d e)) = record { text = refl; count = refl }
+written (Told (commands.Set d v)) = record { text = refl; count = refl }
+written (Told (commands.Nil d)) = record { text = refl; count = refl }
+written (Told (commands.Mov d s)) = record { text = refl; count = refl }
+written (Told (commands.Get d s i)) = record { text = refl; count = refl }
+written (Told (commands.Put s i v)) = record { text = refl; count = refl }
+written (Told (commands.Len s)) = record { text = refl; count = refl }
+written (Told (commands.Same a b)) = record { text = refl; count = refl }
+written (Told (commands.Say s)) = record { text = refl; count = refl }
+
+small : (c : Config) (t k : ℕ) (l : Line) → t < 10 ^ 19 → Fits c t k l → AreWritten (line_numbers l)
+small c t k (Thread n) le f = (omega (arith, f.0), tt)
+small c t k End le f = tt
+small c t k (Told (commands.New d n)) le f = (omega (arith, f.0.0), (omega (arith, f.0.1), tt))
+small c t k (Told (commands.Arr d e)) le f = (omega (arith, f.0.0), (omega (arith, f.0.1), tt))
+small c t k (Told (commands.Set d v)) le f = (omega (arith, f.0.0), (omega (arith, f.0.1), tt))
+small c t k (Told (commands.Nil d)) le f = (omega (arith, f.0), tt)
+small c t k (Told (commands.Mov d s)) le f = (omega (arith, f.0.0), (omega (arith, f.0.1), tt))
+small c t k (Told (commands.Get d s i)) le f = (omega (arith, f.0.0), (omega (arith, f.0.1), (omega (arith, f.0.2), tt)))
+small c t k (Told (commands.Put s i v)) le f = (omega (arith, f.0.0), (omega (arith, f.0.1), (omega (arith, f.0.2), tt)))
+small c t k (Told (commands.Len s)) le f = (omega (arith, f.0), tt)
+small c t k (Told (commands.Same a b)) le f = (omega (arith, f.0.0), (omega (arith, f.0.1), tt))
+small c t k (Told (commands.Say s)) le f = (omega (arith, f.0), tt)
+
+passes : (r s : Bool) (l : Line) → r ≡ false → s ≡ false → checked r s l ≡ Ok l
+passes r s l e f = rw (e, f) refl
+
+is_low : (a : ℕ) → a < 16 → ltb 15 a ≡ false
+is_low a h = grind (arith, nat_tests)
+
+are_low : (a b : ℕ) → a < 16 → b < 16 → (ltb 15 a || ltb 15 b) ≡ false
+are_low a b h i = rw (is_low a h) (is_low b i)
+
+is_few : (k : ℕ) → k < 131072 → leb 131072 k ≡ false
+is_few k h = grind (arith, nat_tests)
+
+is_small : (n k : ℕ) → n < 2 ^ 62 → k < 131072 → (leb 131072 k || leb (2 ^ 62) n) ≡ false
+is_small n k h i = let big : leb (2 ^ 62) n ≡ false = grind (arith, nat_tests) in rw (is_few k i) big
+
+has_room : (n blocks most k : ℕ) → n ≤ 65535 → blocks ≤ most → k < 131072 → (leb 131072 k || ltb 65535 n || ltb most blocks) ≡ false
+has_room n blocks most k h i j =
+    let long : ltb 65535 n ≡ false = grind (arith, nat_tests) in
+    let large : ltb most blocks ≡ false = grind (arith, nat_tests) in
+    rw (is_few k j, long) large
+
+told_complete : (c : Config) (t k : ℕ) (l : Line) → Fits c t k l → told_at (place c t k) (line_word l) (line_numbers l) ≡ Ok l
+unfolding told_at
+told_complete c t k (Thread n) f = rw (eq-eqb n t f.0, ne_eqb t c.threads f.1) refl
+told_complete c t k End f = rw (eq-eqb t c.threads f) refl
+told_complete c t k (Told (commands.New d n)) f = passes _ _ (Told (commands.New d n)) (is_low d f.0.0) (has_room n (record_blocks n) c.object k f.0.1 f.0.2 f.1)
+told_complete c t k (Told (commands.Arr d n)) f = passes _ _ (Told (commands.Arr d n)) (is_low d f.0.0) (has_room n (array_blocks n) c.object k f.0.1 f.0.2 f.1)
+told_complete c t k (Told (commands.Set d v)) f = passes _ _ (Told (commands.Set d v)) (is_low d f.0.0) (is_small v k f.0.1 f.1)
+told_complete c t k (Told (commands.Nil d)) f = passes _ _ (Told (commands.Nil d)) (is_low d f.0) (is_few k f.1)
+told_complete c t k (Told (commands.Mov d s)) f = passes _ _ (Told (commands.Mov d s)) (are_low d s f.0.0 f.0.1) (is_few k f.1)
+told_complete c t k (Told (commands.Get d s i)) f = passes _ _ (Told (commands.Get d s i)) (are_low d s f.0.0 f.0.1) (is_small i k f.0.2 f.1)
+told_complete c t k (Told (commands.Put s i v)) f = passes _ _ (Told (commands.Put s i v)) (are_low s v f.0.0 f.0.2) (is_small i k f.0.1 f.1)
+told_complete c t k (Told (commands.Len s)) f = passes _ _ (Told (commands.Len s)) (is_low s f.0) (is_few k f.1)
+told_complete c t k (Told (commands.Same a b)) f = passes _ _ (Told (commands.Same a b)) (are_low a b f.0.0 f.0.1) (is_few k f.1)
+told_complete c t k (Told (commands.Say s)) f = passes _ _ (Told (commands.Say s)) (is_low s f.0) (is_few k f.1)
+
+abbrev pub is_told : Line → Bool
+is_told (Thread t) = false
+is_told End = false
+is_told (Told command) = true
+
+told_word : (l : Line) → is_command (line_word l) ≡ is_told l
+told_word (Thread t) = refl
+told_word End = refl
+told_word (Told (commands.New d f)) = refl
+told_word (Told (commands.Arr d e)) = refl
+told_word (Told (commands.Set d v)) = refl
+told_word (Told (commands.Nil d)) = refl
+told_word (Told (commands.Mov d s)) = refl
+told_word (Told (commands.Get d s i)) = refl
+told_word (Told (commands.Put s i v)) = refl
+told_word (Told (commands.Len s)) = refl
+told_word (Told (commands.Same a b)) = refl
+told_word (Told (commands.Say s)) = refl
+
+pub line_complete : (c : Config) (t k : ℕ) (l : Line) → t < 10 ^ 19 → Fits c t k l → (is_told l && eqb t 0) ≡ false → line_at (place c t k) (line_text l) ≡ Ok l
+unfolding line_at operands_at
+line_complete c t k l le f turn =
+    let w = written l in
+    let behind : (is_command (line_word l) && eqb t 0) ≡ false = ap (λ (x : Bool). x && eqb t 0) (told_word l) ∙ turn in
+    rw (w.text, word_complete (line_word l), behind, numbers_complete (length (operands (line_word l))) (line_numbers l) w.count (small c t k l le f)) (told_complete c t k l f)

@@ -1,229 +1,304 @@
--- A job that is read is the job that is written so, and what is written is read again.
-use Rattle.std.proofs.Common.{◌≡◌, ℕ, ◌≤◌, true, false, cond, leb, eqb, ◌&&◌, List, [], ◌∷◌, ◌++◌, map, length, decimal, codes, is_some, Option, Some, None, refl, sym, ap, subst, ◌∙◌, arith}
+-- How the reading of lines goes on, and that each input is a job or has a first bad line.
+use Rattle.std.proofs.Common.{◌≡◌, ◌≢◌, ℕ, zero, suc, ◌+◌, ◌-◌, ◌<◌, ◌≤◌, Bool, true, false, cond, leb, List, [], ◌∷◌, ◌++◌, map, length, take, drop, decimal, codes, Option, Some, None, is_some, Result, Ok, Err, refl, sym, ap, subst, ◌∙◌, inl, inr, append_assoc, arith}
 use Rattle.std.specs.List.{AllByRecursion}
-use Rattle.std.proofs.lemmas.List.{append-nil}
+use Rattle.std.specs.Result.{IsErrAnd, MatchResult}
+use Rattle.std.proofs.lemmas.List.{append-nil, length-append}
+use Rattle.std.proofs.lemmas.Bool.{eq-eqb, ne_eqb, cases_eq, cases_lt}
 use Rattle.std.proofs.lemmas.Option.{same_Some}
-use Rattle.std.proofs.lemmas.Bool.{leb-true, le-leb}
-use Rattle.std.proofs.lemmas.Bool.Decides.{nat_tests}
 use Rattle.block_store.specs.declared.Config.{Config}
-use Rattle.block_store.specs.Configs.{IsInBounds}
 use Rattle.never_heap.specs.declared.Command.{Command}
-use Rattle.never_heap.specs.declared.Command.TheVariants as commands
 use Rattle.never_heap.specs.Bounds.{IsCommandInBounds}
-use Rattle.never_heap.specs.Steps.{record_blocks}
 use Rattle.trace_text.specs.declared.jobs.Job.{Job}
+use Rattle.trace_text.specs.declared.trace_faults.TraceFault.{TraceFault}
+use Rattle.trace_text.specs.declared.trace_faults.TraceFault.TheVariants.{ReadFault, TooLong, BadLine, OutOfMemory}
+use Rattle.trace_text.specs.declared.trace_faults.Why.{Why}
+use Rattle.trace_text.specs.declared.trace_faults.Why.TheVariants as whys
 use Rattle.trace_text.specs.declared.reading.lines.Line.{Line}
 use Rattle.trace_text.specs.declared.reading.lines.Line.TheVariants.{Thread, End, Told}
-use Rattle.trace_text.specs.Spellings.{header, command_line, trace_lines, job_lines}
-use Rattle.trace_text.specs.Jobs.{IsJobInBounds, IsFirstCommand, IsFirst, IsFirstJob}
-use Rattle.trace_text.specs.Reading.{◌>>=◌, parted, pieced}
-use Rattle.trace_text.specs.Headers.{header_at}
-use Rattle.trace_text.specs.Said.{line_at}
-use Rattle.trace_text.specs.Wholes.{few, go_on, commands_at, plain_at, opened, opening_at, job_at}
-use Rattle.trace_text.proofs.NumberLaws.{then_some, else_some}
-use Rattle.trace_text.proofs.LineLaws.{bind_then, line_text, IsPlain, line_sound, line_complete}
-use Rattle.trace_text.proofs.HeaderLaws.{header_sound, header_complete}
-use Rattle.trace_text.proofs.Commands.{parted_some}
+use Rattle.trace_text.specs.Spellings.{header, command_line, trace_lines, traces_lines, job_lines}
+use Rattle.trace_text.specs.Jobs.{IsJobInBounds, IsJob}
+use Rattle.trace_text.specs.Reading.{Gives, pieced}
+use Rattle.trace_text.specs.Said.{line_at, header_at}
+use Rattle.trace_text.specs.Refusals.{Before, nothing_before, after_lines, later_fault, next_fault, fault_at, IsFirstBadLine}
+use Rattle.trace_text.specs.Wholes.{IsLineFault, next_line, IsTraceInBounds, IsTrace, IsBadTrace, IsBegun}
+use Rattle.trace_text.proofs.LineLaws.{reason, prior, place, is_told, line_agrees, line_sound}
+use Rattle.trace_text.proofs.HeaderLaws.{header_agrees, header_sound}
+use Rattle.trace_text.proofs.QuietLaws.{Lines, IsQuiet, LeadsThrough, in_turn, quiet_append, after_append, trace_leads, traces_lead, end_is_quiet, all_quiet, header_quiet, header_config, first_bad}
 
--- ---- commands
+-- ---- lists of commands and traces
 
--- the lines of these commands, and that of the end
-abbrev pub body : List Command → List (List (List ℕ))
-body trace = map command_line trace ++ (codes "end" ∷ []) ∷ []
+pub all_snoc : {A : Type 0} (P : A → Type 0) (xs : List A) (x : A) → AllByRecursion P xs → P x → AllByRecursion P (xs ++ x ∷ [])
+all_snoc P [] x ps p = (p, tt)
+all_snoc P (y ∷ ys) x ps p = (ps.0, all_snoc P ys x ps.1 p)
 
-pub record SaysTrace (ls : List (List (List ℕ))) (trace : List Command) : Type 0 where
-  pub text : ls ≡ body trace
-  pub fits : AllByRecursion IsPlain trace
+-- one more command
+commands_snoc : (trace : List Command) (x : Command) (others : Lines) → map command_line trace ++ command_line x ∷ others ≡ map command_line (trace ++ x ∷ []) ++ others
+commands_snoc [] x others = refl
+commands_snoc (y ∷ trace) x others = ap (λ (ls : Lines). command_line y ∷ ls) (commands_snoc trace x others)
 
-is_last : {A : Type 0} (ls : List A) → is_some (parted ls) ≡ false → ls ≡ []
-is_last [] e = refl
-is_last (l ∷ ls) e = absurd cc
+-- one more trace
+traces_snoc : (t : ℕ) (done : List (List Command)) (trace : List Command) (others : Lines) (n : ℕ) → n ≡ t + length done
+    → traces_lines t done ++ (trace_lines n trace ++ others) ≡ traces_lines t (done ++ trace ∷ []) ++ others
+traces_snoc t [] trace others n is =
+    let same : n ≡ t = omega arith in
+    ap (λ (m : ℕ). trace_lines m trace ++ others) same ∙ ap (λ (ls : Lines). ls ++ others) (sym (append-nil (trace_lines t trace)))
+traces_snoc t (first ∷ done) trace others n is =
+    append_assoc (trace_lines t first) (traces_lines (t + 1) done) (trace_lines n trace ++ others)
+    ∙ ap (λ (ls : Lines). trace_lines t first ++ ls) (traces_snoc (t + 1) done trace others n (omega arith))
+    ∙ sym (append_assoc (trace_lines t first) (traces_lines (t + 1) (done ++ trace ∷ [])) others)
 
-said_sound : (said : Option Line) (line : List (List ℕ)) (lines : List (List (List ℕ))) (trace : List Command) → line_at line ≡ said → ((more : List Command) → commands_at lines ≡ Some more → SaysTrace lines more)
-    → go_on said lines (commands_at lines) ≡ Some trace → SaysTrace (line ∷ lines) trace
-said_sound None line lines trace is more e = absurd cc
-said_sound (Some (Thread t)) line lines trace is more e = absurd cc
-said_sound (Some End) line lines trace is more e =
-    let t = else_some (is_some (parted lines)) (Some []) trace e in
-    let same : [] ≡ trace = same_Some [] trace t.1 in
-    let rest : lines ≡ [] = is_last lines t.0 in
-    let text : line ≡ codes "end" ∷ [] = (line_sound line End is).0 in
-    subst (SaysTrace (line ∷ lines)) same record { text = rw (text, rest) refl; fits = tt }
-said_sound (Some (Told command)) line lines trace is more e =
-    bind_then (commands_at lines) (λ trace. Some ((command ∷ []) ++ trace)) trace e (λ others found made.
-    let says = more others found in
-    let own = line_sound line (Told command) is in
-    subst (SaysTrace (line ∷ lines)) (same_Some (command ∷ others) trace made) record {
-      text = rw (own.0, says.text) refl;
-      fits = (own.1, says.fits);
-    })
+length_commands : (trace : List Command) → length (map command_line trace) ≡ length trace
+length_commands [] = refl
+length_commands (x ∷ trace) = ap suc (length_commands trace)
 
-pub commands_sound : (ls : List (List (List ℕ))) (trace : List Command) → commands_at ls ≡ Some trace → SaysTrace ls trace
-unfolding commands_at
-commands_sound [] trace e = absurd cc
-commands_sound (line ∷ lines) trace e = said_sound (line_at line) line lines trace refl (commands_sound lines) e
+lines_snoc : (t : ℕ) (done : List (List Command)) (trace : List Command) → length (traces_lines t (done ++ trace ∷ [])) ≡ length (traces_lines t done) + 1 + length trace
+lines_snoc t [] trace = omega (arith, length_commands trace, ap length (append-nil (trace_lines t trace)))
+lines_snoc t (first ∷ done) trace =
+    omega (arith, lines_snoc (t + 1) done trace, length-append (trace_lines t first) (traces_lines (t + 1) (done ++ trace ∷ [])), length-append (trace_lines t first) (traces_lines (t + 1) done))
 
-pub commands_complete : (trace : List Command) → AllByRecursion IsPlain trace → commands_at (body trace) ≡ Some trace
-unfolding commands_at
-commands_complete [] fits = rw (line_complete End tt) refl
-commands_complete (command ∷ trace) fits = rw (line_complete (Told command) fits.0, commands_complete trace fits.1) refl
+-- ---- one line of a trace
 
-few_sound : (commands : Option (List Command)) (trace : List Command) → few commands ≡ Some trace → (commands ≡ Some trace) × (length trace ≤ 131072)
-few_sound commands trace e =
-    bind_then commands (λ t. cond (leb (length t) 131072) (Some t) None) trace e (λ t found within.
-    let c = then_some (leb (length t) 131072) (Some t) trace within in
-    let same : t ≡ trace = same_Some t trace c.1 in
-    (found ∙ ap Some same, subst (λ (x : List Command). length x ≤ 131072) same (leb-true _ _ c.0)))
+-- the lines of a trace so far, and the others
+pub record IsSoFar (c : Config) (lines : Lines) (trace : List Command) (others : Lines) : Type 0 where
+  pub text : lines ≡ map command_line trace ++ others
+  pub in_bounds : IsTraceInBounds c trace
 
-few_complete : (trace : List Command) → length trace ≤ 131072 → few (Some trace) ≡ Some trace
-few_complete trace within = rw (le-leb (length trace) 131072 within) refl
+next_is : (c : Config) (t k : ℕ) (ps : List (List ℕ)) (l : Line) → line_at (place c t k) ps ≡ Ok l → is_told l ≡ false → ps ≡ next_line c t
+next_is c t k ps (Thread n) e told =
+    let s = line_sound c t k ps (Thread n) e in
+    s.text ∙ ap (λ (m : ℕ). codes "thread" ∷ decimal m ∷ []) s.fits.0 ∙ sym (ap (λ (b : Bool). cond b (codes "end" ∷ []) (codes "thread" ∷ decimal t ∷ [])) (ne_eqb t c.threads s.fits.1))
+next_is c t k ps End e told =
+    let s = line_sound c t k ps End e in
+    s.text ∙ sym (ap (λ (b : Bool). cond b (codes "end" ∷ []) (codes "thread" ∷ decimal t ∷ [])) (eq-eqb t c.threads s.fits))
+next_is c t k ps (Told x) e told = absurd cc
+
+module _ (c : Config) (t : ℕ) (lines : Lines) (trace : List Command) (left : Lines) (so_far : IsSoFar c lines trace left) where
+  pub trace_ends : left ≡ [] → (read : ℕ) → IsBadTrace c t lines read (read + length trace + 1) whys.End
+  trace_ends e read = record { trace = trace; others = left; text = so_far.text; in_bounds = so_far.in_bounds; place = refl; fault = rw e refl }
+
+  module _ (ps : List (List ℕ)) (others : Lines) (parts : left ≡ ps ∷ others) where
+    pub trace_goes_on : (x : Command) → line_at (place c t (length trace)) ps ≡ Ok (Told x) → IsSoFar c lines (trace ++ x ∷ []) others
+    trace_goes_on x e =
+        let s = line_sound c t (length trace) ps (Told x) e in
+        record {
+          text = so_far.text ∙ ap (λ (ls : Lines). map command_line trace ++ ls) (parts ∙ ap (λ (p : List (List ℕ)). p ∷ others) s.text) ∙ commands_snoc trace x others;
+          in_bounds = record {
+            few = omega (arith, length-append trace (x ∷ []), s.fits.1);
+            commands = all_snoc (IsCommandInBounds c) trace x so_far.in_bounds.commands s.fits.0;
+          };
+        }
+
+    pub trace_stops : (l : Line) → line_at (place c t (length trace)) ps ≡ Ok l → is_told l ≡ false → IsTrace c t lines trace others
+    trace_stops l e told =
+        record {
+          text = so_far.text ∙ ap (λ (ls : Lines). map command_line trace ++ ls) (parts ∙ ap (λ (p : List (List ℕ)). p ∷ others) (next_is c t (length trace) ps l e told));
+          in_bounds = so_far.in_bounds;
+        }
+
+    pub trace_is_bad : (why : Why) → line_at (place c t (length trace)) ps ≡ Err why → (read : ℕ) → IsBadTrace c t lines read (read + length trace + 1) why
+    trace_is_bad why e read =
+        record {
+          trace = trace;
+          others = left;
+          text = so_far.text;
+          in_bounds = so_far.in_bounds;
+          place = refl;
+          fault = ap (next_fault c (prior t (length trace))) parts ∙ line_agrees c t (length trace) ps ∙ ap reason e;
+        }
 
 -- ---- the opening
 
-pub record IsPlainConfig (c : Config) : Type 0 where
-  pub in_bounds : IsInBounds c
-  pub one_thread : c.threads ≡ 1
-  pub room : 6 ≤ c.blocks
-  pub none_shared : c.shared ≡ 0
+pub no_header : (bytes : List ℕ) → pieced bytes ≡ [] → IsFirstBadLine bytes 1 whys.Header
+no_header bytes e = record { some = omega arith; before = λ i lt. absurd (omega arith); fault = ap (λ (ls : Lines). fault_at ls 0) e }
 
-abbrev pub first_thread : List (List ℕ)
-first_thread = codes "thread" ∷ decimal 0 ∷ []
+pub bad_header : (bytes : List ℕ) (ps : List (List ℕ)) (others : Lines) (why : Why) → pieced bytes ≡ ps ∷ others → header_at ps ≡ Err why → IsFirstBadLine bytes 1 why
+bad_header bytes ps others why e bad =
+    record { some = omega arith; before = λ i lt. absurd (omega arith); fault = ap (λ (ls : Lines). fault_at ls 0) e ∙ header_agrees ps ∙ ap reason bad }
 
-pub record SaysOpening (ls : List (List (List ℕ))) (c : Config) (rest : List (List (List ℕ))) : Type 0 where
-  pub text : ls ≡ header c ∷ first_thread ∷ rest
-  pub fits : IsPlainConfig c
+module _ (bytes : List ℕ) (ps : List (List ℕ)) (others : Lines) (c : Config) (text : pieced bytes ≡ ps ∷ others) (said : header_at ps ≡ Ok c) where
+  begins : pieced bytes ≡ header c ∷ others
+  begins = text ∙ ap (λ (p : List (List ℕ)). p ∷ others) (header_sound ps c said).text
 
-plain_sound : (c d : Config) → plain_at c ≡ Some d → IsInBounds c → (c ≡ d) × IsPlainConfig d
-plain_sound c d e fits =
-    let t = then_some (eqb c.threads 1 && leb 6 c.blocks && eqb c.shared 0) (Some c) d e in
-    let same : c ≡ d = same_Some c d t.1 in
-    (same, subst IsPlainConfig same record { in_bounds = fits; one_thread = grind (arith, nat_tests); room = grind (arith, nat_tests); none_shared = grind (arith, nat_tests) })
+  pub no_thread : others ≡ [] → IsFirstBadLine bytes 2 whys.End
+  no_thread e = first_bad c (header_sound ps c said).fits [] others tt bytes 2 whys.End nothing_before begins (omega arith) refl (rw e refl)
 
-opened_sound : {A : Type 0} (x y : A) (l : Line) → opened x l ≡ Some y → (l ≡ Thread 0) × (x ≡ y)
-opened_sound x y (Thread t) e =
-    let c = then_some (eqb t 0) (Some x) y e in
-    (ap Thread (grind (arith, nat_tests)), same_Some x y c.1)
-opened_sound x y End e = absurd cc
-opened_sound x y (Told command) e = absurd cc
+  pub bad_thread : (qs : List (List ℕ)) (more : Lines) (why : Why) → others ≡ qs ∷ more → line_at (place c 0 0) qs ≡ Err why → IsFirstBadLine bytes 2 why
+  bad_thread qs more why e bad =
+      first_bad c (header_sound ps c said).fits [] others tt bytes 2 why nothing_before begins (omega arith) refl (ap (next_fault c nothing_before) e ∙ line_agrees c 0 0 qs ∙ ap reason bad)
 
--- the parts of an opening
-opening_text : (ls rest more : List (List (List ℕ))) (a b : List (List ℕ)) (c : Config) → ls ≡ a ∷ rest → rest ≡ b ∷ more → a ≡ header c → b ≡ first_thread → ls ≡ header c ∷ first_thread ∷ more
-opening_text ls rest more a b c e f g h = rw (e, f, g, h) refl
+  pub opens : (qs : List (List ℕ)) (more : Lines) (l : Line) → others ≡ qs ∷ more → line_at (place c 0 0) qs ≡ Ok l → IsBegun c [] bytes 2 more
+  opens qs more l e is =
+      let not_told : is_told l ≡ false = elim ((line_sound c 0 0 qs l is).opens refl) [ inl h ↦ ap is_told h | inr h ↦ ap is_told h ] in
+      record {
+        config = (header_sound ps c said).fits;
+        threads = omega arith;
+        text = begins ∙ ap (λ (ls : Lines). header c ∷ ls) (e ∙ ap (λ (q : List (List ℕ)). q ∷ more) (next_is c 0 0 qs l is not_told));
+        traces = tt;
+        place = refl;
+      }
 
-pub opening_sound : (ls : List (List (List ℕ))) (x : Config × List (List (List ℕ))) → opening_at ls ≡ Some x → SaysOpening ls x.0 x.1
-unfolding opening_at
-opening_sound ls x e =
-    bind_then (parted ls) (λ first. header_at first.0 >>= λ config. plain_at config >>= λ config. parted first.1 >>= λ second. line_at second.0 >>= λ line. opened (config, second.1) line) x e (λ first is_first r0.
-    bind_then (header_at first.0) (λ config. plain_at config >>= λ config. parted first.1 >>= λ second. line_at second.0 >>= λ line. opened (config, second.1) line) x r0 (λ named is_named r1.
-    bind_then (plain_at named) (λ config. parted first.1 >>= λ second. line_at second.0 >>= λ line. opened (config, second.1) line) x r1 (λ config is_config r2.
-    bind_then (parted first.1) (λ second. line_at second.0 >>= λ line. opened (config, second.1) line) x r2 (λ second is_second r3.
-    bind_then (line_at second.0) (λ line. opened (config, second.1) line) x r3 (λ line is_line r4.
-    let says = header_sound first.0 named is_named in
-    let takes = plain_sound named config is_config says.fits in
-    let opens = opened_sound (config, second.1) x line r4 in
-    let thread : second.0 ≡ first_thread = (line_sound second.0 line is_line).0 ∙ ap line_text opens.0 in
-    subst (λ (y : Config × List (List (List ℕ))). SaysOpening ls y.0 y.1) opens.1 record {
-      text = opening_text ls first.1 second.1 first.0 second.0 config (parted_some ls first.0 first.1 is_first) (parted_some first.1 second.0 second.1 is_second) (says.text ∙ ap header takes.0) thread;
-      fits = takes.1;
-    })))))
+-- ---- one trace after the other
 
-plain_complete : (c : Config) → IsPlainConfig c → plain_at c ≡ Some c
-plain_complete c fits =
-    let test : (eqb c.threads 1 && leb 6 c.blocks && eqb c.shared 0) ≡ true = grind (arith, nat_tests, fits.one_thread, fits.room, fits.none_shared) in
-    rw test refl
+thread_next : (c : Config) (t : ℕ) → t < c.threads → next_line c t ≡ codes "thread" ∷ decimal t ∷ []
+thread_next c t lt = ap (λ (b : Bool). cond b (codes "end" ∷ []) (codes "thread" ∷ decimal t ∷ [])) (ne_eqb t c.threads (λ e. omega arith))
 
-pub opening_complete : (c : Config) (rest : List (List (List ℕ))) → IsPlainConfig c → opening_at (header c ∷ first_thread ∷ rest) ≡ Some (c, rest)
-unfolding opening_at
-opening_complete c rest fits = rw (header_complete c fits.in_bounds, plain_complete c fits, line_complete (Thread 0) (omega arith)) refl
+end_next : (c : Config) (t : ℕ) → t ≡ c.threads → next_line c t ≡ codes "end" ∷ []
+end_next c t e = ap (λ (b : Bool). cond b (codes "end" ∷ []) (codes "thread" ∷ decimal t ∷ [])) (eq-eqb t c.threads e)
 
--- ---- the job
+-- behind the end each line is wrong
+behind_end : (c : Config) (t k : ℕ) (ps : List (List ℕ)) → later_fault c (record { threads = t; commands = k; ended = true }) ps ≡ Some whys.End
+unfolding later_fault
+behind_end c t k [] = refl
+behind_end c t k (p ∷ ps) = refl
 
-few_blocks : (f : ℕ) → f ≤ 3 → record_blocks f ≤ 1
-few_blocks f le = omega arith
+all_few : (c : Config) (traces : List (List Command)) → AllByRecursion (IsTraceInBounds c) traces → AllByRecursion (λ (trace : List Command). length trace ≤ 131072) traces
+all_few c [] h = tt
+all_few c (trace ∷ traces) h = (h.0.few, all_few c traces h.1)
 
-plain_in_bounds : (c : Config) (x : Command) → IsInBounds c → IsPlain x → IsCommandInBounds c x
-plain_in_bounds c (commands.New d f) b p = (omega arith, omega arith, omega (arith, few_blocks f p.1, b.some_object))
-plain_in_bounds c (commands.Nil d) b p = omega arith
-plain_in_bounds c (commands.Get d s i) b p = (omega arith, omega arith, p.2)
-plain_in_bounds c (commands.Put s i v) b p = (omega arith, p.1, omega arith)
-plain_in_bounds c (commands.Say s) b p = omega arith
+all_fit : (c : Config) (traces : List (List Command)) → AllByRecursion (IsTraceInBounds c) traces → AllByRecursion (λ (trace : List Command). AllByRecursion (IsCommandInBounds c) trace) traces
+all_fit c [] h = tt
+all_fit c (trace ∷ traces) h = (h.0.commands, all_fit c traces h.1)
 
-plain_is_first : (x : Command) → IsPlain x → IsFirstCommand x
-plain_is_first (commands.New d f) p = p.1
-plain_is_first (commands.Nil d) p = tt
-plain_is_first (commands.Get d s i) p = tt
-plain_is_first (commands.Put s i v) p = tt
-plain_is_first (commands.Say s) p = tt
+all_bounded : (c : Config) (traces : List (List Command)) → AllByRecursion (λ (trace : List Command). length trace ≤ 131072) traces → AllByRecursion (λ (trace : List Command). AllByRecursion (IsCommandInBounds c) trace) traces → AllByRecursion (IsTraceInBounds c) traces
+all_bounded c [] h i = tt
+all_bounded c (trace ∷ traces) h i = (record { few = h.0; commands = i.0 }, all_bounded c traces h.1 i.1)
 
-first_is_plain : (c : Config) (x : Command) → IsCommandInBounds c x → IsFirstCommand x → IsPlain x
-first_is_plain c (commands.New d f) b p = (omega arith, p)
-first_is_plain c (commands.Nil d) b p = omega arith
-first_is_plain c (commands.Get d s i) b p = (omega arith, omega arith, b.2)
-first_is_plain c (commands.Put s i v) b p = (omega arith, b.1, omega arith)
-first_is_plain c (commands.Say s) b p = omega arith
+module _ (c : Config) (done : List (List Command)) (bytes : List ℕ) (read : ℕ) (left : Lines) (begun : IsBegun c done bytes read left) where
+  through : LeadsThrough c 0 0 done (length done)
+  through = traces_lead c 0 0 done (length done) (omega arith) begun.threads begun.config.threads begun.traces
 
-all_in_bounds : (c : Config) (trace : List Command) → IsInBounds c → AllByRecursion IsPlain trace → AllByRecursion (IsCommandInBounds c) trace
-all_in_bounds c [] b p = tt
-all_in_bounds c (x ∷ trace) b p = (plain_in_bounds c x b p.0, all_in_bounds c trace b p.1)
+  module _ (more : length done < c.threads) where
+    text_on : (trace : List Command) (others : Lines) → left ≡ map command_line trace ++ others → pieced bytes ≡ header c ∷ (traces_lines 0 done ++ (trace_lines (length done) trace ++ others))
+    text_on trace others e =
+        begun.text ∙ ap (λ (p : List (List ℕ)). header c ∷ (traces_lines 0 done ++ p ∷ left)) (thread_next c (length done) more)
+        ∙ ap (λ (ls : Lines). header c ∷ (traces_lines 0 done ++ (codes "thread" ∷ decimal (length done) ∷ []) ∷ ls)) e
 
-all_first : (trace : List Command) → AllByRecursion IsPlain trace → AllByRecursion IsFirstCommand trace
-all_first [] p = tt
-all_first (x ∷ trace) p = (plain_is_first x p.0, all_first trace p.1)
+    pub goes_on : (trace : List Command) (others : Lines) → IsTrace c (length done + 1) left trace others → IsBegun c (done ++ trace ∷ []) bytes (read + length trace + 1) others
+    goes_on trace others is =
+        let count : length (done ++ trace ∷ []) ≡ length done + 1 = omega (arith, length-append done (trace ∷ [])) in
+        record {
+          config = begun.config;
+          threads = omega (arith, count);
+          text = text_on trace (next_line c (length done + 1) ∷ others) is.text ∙ ap (λ (ls : Lines). header c ∷ ls) (traces_snoc 0 done trace (next_line c (length done + 1) ∷ others) (length done) (omega arith))
+              ∙ ap (λ (n : ℕ). header c ∷ (traces_lines 0 (done ++ trace ∷ []) ++ next_line c n ∷ others)) (sym count);
+          traces = all_snoc (IsTraceInBounds c) done trace begun.traces is.in_bounds;
+          place = omega (arith, begun.place, lines_snoc 0 done trace);
+        }
 
-all_plain : (c : Config) (trace : List Command) → AllByRecursion (IsCommandInBounds c) trace → AllByRecursion IsFirstCommand trace → AllByRecursion IsPlain trace
-all_plain c [] b p = tt
-all_plain c (x ∷ trace) b p = (first_is_plain c x b.0 p.0, all_plain c trace b.1 p.1)
+    pub goes_wrong : (line : ℕ) (why : Why) → IsBadTrace c (length done + 1) left read line why → IsFirstBadLine bytes line why
+    goes_wrong line why bad =
+        let own = trace_leads c (length done) through.last bad.trace more (omega (arith, begun.config.threads)) bad.in_bounds in
+        let all = in_turn c 0 0 (traces_lines 0 done) (trace_lines (length done) bad.trace) (length done) through.last (length done + 1) (length bad.trace) through.leads own in
+        let ls = traces_lines 0 done ++ trace_lines (length done) bad.trace in
+        first_bad c begun.config ls bad.others all.quiet bytes line why (prior (length done + 1) (length bad.trace))
+        (text_on bad.trace bad.others bad.text ∙ ap (λ (more' : Lines). header c ∷ more') (sym (append_assoc (traces_lines 0 done) (trace_lines (length done) bad.trace) bad.others)))
+        (omega (arith, bad.place, begun.place, length-append (traces_lines 0 done) (trace_lines (length done) bad.trace), length_commands bad.trace))
+        all.after bad.fault
 
-abbrev pub one_trace : Config → List Command → Job
-one_trace c trace = record { config = c; traces = trace ∷ [] }
+  module _ (last : length done ≡ c.threads) where
+    text_end : pieced bytes ≡ header c ∷ (traces_lines 0 done ++ (codes "end" ∷ []) ∷ left)
+    text_end = begun.text ∙ ap (λ (p : List (List ℕ)). header c ∷ (traces_lines 0 done ++ p ∷ left)) (end_next c (length done) last)
 
--- the lines of a job of one thread
-lines_of_one : (c : Config) (trace : List Command) → job_lines c (trace ∷ []) ≡ header c ∷ first_thread ∷ body trace
-lines_of_one c trace = ap (λ (ls : List (List (List ℕ))). header c ∷ (ls ++ (codes "end" ∷ []) ∷ [])) (append-nil (trace_lines 0 trace))
+    pub is_whole : left ≡ [] → IsJob bytes (record { config = c; traces = done })
+    is_whole e =
+        record {
+          in_bounds = record { config = begun.config; threads = last; few = all_few c done begun.traces; commands = all_fit c done begun.traces };
+          lines = text_end ∙ ap (λ (ls : Lines). header c ∷ (traces_lines 0 done ++ (codes "end" ∷ []) ∷ ls)) e;
+        }
 
--- what the lines of an input are, if they are a job of the plain heap
-pub record SaysJob (ls : List (List (List ℕ))) (job : Job) : Type 0 where
-  pub text : ls ≡ job_lines job.config job.traces
-  pub in_bounds : IsJobInBounds job
-  pub first : IsFirst job
+    end_leads : LeadsThrough c 0 0 done (length done) → (ps : List (List ℕ)) (others : Lines) → left ≡ ps ∷ others → IsFirstBadLine bytes (read + 1) whys.End
+    end_leads t ps others e =
+        let ls = traces_lines 0 done ++ (codes "end" ∷ []) ∷ [] in
+        let own : IsQuiet c (prior (length done) t.last) ((codes "end" ∷ []) ∷ []) = (end_is_quiet c (length done) t.last last (omega (arith, begun.config.threads)), tt) in
+        let quiet : IsQuiet c nothing_before ls = quiet_append c nothing_before (traces_lines 0 done) ((codes "end" ∷ []) ∷ []) t.leads.quiet (subst (λ (b : Before). IsQuiet c b ((codes "end" ∷ []) ∷ [])) (sym t.leads.after) own) in
+        let after : after_lines nothing_before ls ≡ record { threads = length done; commands = t.last; ended = true } = after_append nothing_before (traces_lines 0 done) ((codes "end" ∷ []) ∷ []) ∙ ap (λ (b : Before). after_lines b ((codes "end" ∷ []) ∷ [])) t.leads.after in
+        first_bad c begun.config ls left quiet bytes (read + 1) whys.End (record { threads = length done; commands = t.last; ended = true })
+        (text_end ∙ ap (λ (more' : Lines). header c ∷ more') (sym (append_assoc (traces_lines 0 done) ((codes "end" ∷ []) ∷ []) left)))
+        (omega (arith, begun.place, length-append (traces_lines 0 done) ((codes "end" ∷ []) ∷ [])))
+        after (ap (next_fault c (record { threads = length done; commands = t.last; ended = true })) e ∙ behind_end c (length done) t.last ps)
 
-joined : (ls rest : List (List (List ℕ))) (c : Config) (trace : List Command) → ls ≡ header c ∷ first_thread ∷ rest → rest ≡ body trace → ls ≡ job_lines c (trace ∷ [])
-joined ls rest c trace e f = e ∙ ap (λ (r : List (List (List ℕ))). header c ∷ first_thread ∷ r) f ∙ sym (lines_of_one c trace)
+    pub is_too_long : (ps : List (List ℕ)) (others : Lines) → left ≡ ps ∷ others → IsFirstBadLine bytes (read + 1) whys.End
+    is_too_long = end_leads through
 
-pub job_sound : (ls : List (List (List ℕ))) (job : Job) → job_at ls ≡ Some job → SaysJob ls job
-unfolding job_at
-job_sound ls job e =
-    bind_then (opening_at ls) (λ opening. few (commands_at opening.1) >>= λ trace. Some (one_trace opening.0 trace)) job e (λ opening is_opening r0.
-    bind_then (few (commands_at opening.1)) (λ trace. Some (one_trace opening.0 trace)) job r0 (λ trace is_trace r1.
-    let opens = opening_sound ls opening is_opening in
-    let few' = few_sound (commands_at opening.1) trace is_trace in
-    let says = commands_sound opening.1 trace few'.0 in
-    subst (SaysJob ls) (same_Some (one_trace opening.0 trace) job r1) record {
-      text = joined ls opening.1 opening.0 trace opens.text says.text;
-      in_bounds = record { config = opens.fits.in_bounds; threads = sym opens.fits.one_thread; few = (few'.1, tt); commands = (all_in_bounds opening.0 trace opens.fits.in_bounds says.fits, tt) };
-      first = record { one_thread = opens.fits.one_thread; room = opens.fits.room; none_shared = opens.fits.none_shared; commands = (all_first trace says.fits, tt) };
-    }))
+-- ---- jobs and first bad lines
 
-job_of_one : (c : Config) (trace : List Command) → IsPlainConfig c → length trace ≤ 131072 → AllByRecursion IsPlain trace → job_at (job_lines c (trace ∷ [])) ≡ Some (one_trace c trace)
-unfolding job_at
-job_of_one c trace fits within plain =
-    rw (lines_of_one c trace, opening_complete c (body trace) fits, commands_complete trace plain, few_complete trace within) refl
+apart_order : (m n : ℕ) → (m < n → ⊥) → (n < m → ⊥) → m ≢ n → ⊥
+apart_order m n low high ne = elim (cases_lt m n) [ inl lt ↦ low lt | inr le ↦ high (omega arith) ]
 
-one_is : (c : Config) (traces : List (List Command)) → IsJobInBounds (record { config = c; traces = traces }) → IsFirst (record { config = c; traces = traces }) → job_at (job_lines c traces) ≡ Some (record { config = c; traces = traces })
-one_is c [] b f = absurd (omega (arith, b.threads, f.one_thread))
-one_is c (trace ∷ []) b f =
-    job_of_one c trace (record { in_bounds = b.config; one_thread = f.one_thread; room = f.room; none_shared = f.none_shared }) b.few.0 (all_plain c trace b.commands.0 f.commands.0)
-one_is c (trace ∷ other ∷ traces) b f = absurd (omega (arith, b.threads, f.one_thread))
+job_quiet : (c : Config) (traces : List (List Command)) (i : ℕ) → IsJobInBounds (record { config = c; traces = traces }) → fault_at (job_lines c traces) i ≡ None
+job_quiet c traces zero b = header_quiet c b.config
+job_quiet c traces (suc i) b =
+    let t = traces_lead c 0 0 traces (length traces) (omega arith) (omega (arith, b.threads)) b.config.threads (all_bounded c traces b.few b.commands) in
+    let ls = traces_lines 0 traces ++ (codes "end" ∷ []) ∷ [] in
+    let own : IsQuiet c (prior (length traces) t.last) ((codes "end" ∷ []) ∷ []) = (end_is_quiet c (length traces) t.last b.threads (omega (arith, b.threads, b.config.threads)), tt) in
+    let quiet : IsQuiet c nothing_before ls = quiet_append c nothing_before (traces_lines 0 traces) ((codes "end" ∷ []) ∷ []) t.leads.quiet (subst (λ (p : Before). IsQuiet c p ((codes "end" ∷ []) ∷ [])) (sym t.leads.after) own) in
+    let after : after_lines nothing_before ls ≡ record { threads = length traces; commands = t.last; ended = true } = after_append nothing_before (traces_lines 0 traces) ((codes "end" ∷ []) ∷ []) ∙ ap (λ (p : Before). after_lines p ((codes "end" ∷ []) ∷ [])) t.leads.after in
+    ap (λ (d : Config). next_fault d (after_lines nothing_before (take i ls)) (drop i ls)) (header_config c b.config)
+    ∙ all_quiet c nothing_before ls i quiet (ap (λ (p : Before). p.ended) after)
 
-pub job_complete : (job : Job) → IsJobInBounds job → IsFirst job → job_at (job_lines job.config job.traces) ≡ Some job
-job_complete job b f = one_is job.config job.traces b f
+-- no bytes are both a job and have a bad line
+pub apart : (bytes : List ℕ) (job : Job) (line : ℕ) (why : Why) → IsJob bytes job → IsFirstBadLine bytes line why → ⊥
+apart bytes job line why is bad =
+    let none : fault_at (pieced bytes) (line - 1) ≡ None = ap (λ (ls : Lines). fault_at ls (line - 1)) is.lines ∙ job_quiet job.config job.traces (line - 1) is.in_bounds in
+    let fault = bad.fault in
+    absurd cc
 
--- ---- bytes
+not_below : (bytes : List ℕ) (line other : ℕ) (why reason : Why) → IsFirstBadLine bytes line why → IsFirstBadLine bytes other reason → line < other → ⊥
+not_below bytes line other why reason p q lt =
+    let none : fault_at (pieced bytes) (line - 1) ≡ None = q.before (line - 1) (omega (arith, p.some)) in
+    let fault = p.fault in
+    absurd cc
 
-pub first_job_sound : (bytes : List ℕ) (job : Job) → job_at (pieced bytes) ≡ Some job → IsFirstJob bytes job
-first_job_sound bytes job e =
-    let says = job_sound (pieced bytes) job e in
-    record { is_job = record { in_bounds = says.in_bounds; lines = says.text }; first = says.first }
+-- there is at most one first bad line, with one reason
+pub one_first : (bytes : List ℕ) (line other : ℕ) (why reason : Why) → IsFirstBadLine bytes line why → IsFirstBadLine bytes other reason → (line ≡ other) × (why ≡ reason)
+one_first bytes line other why reason p q =
+    let low : line < other → ⊥ = not_below bytes line other why reason p q in
+    let high : other < line → ⊥ = not_below bytes other line reason why q p in
+    let same : line ≡ other = elim (cases_eq line other) [ inl e ↦ e | inr ne ↦ absurd (apart_order line other low high ne) ] in
+    (same, same_Some why reason (sym p.fault ∙ ap (λ (n : ℕ). fault_at (pieced bytes) (n - 1)) same ∙ q.fault))
 
-pub first_job_complete : (bytes : List ℕ) (job : Job) → IsFirstJob bytes job → job_at (pieced bytes) ≡ Some job
-first_job_complete bytes job is = ap job_at is.is_job.lines ∙ job_complete job is.is_job.in_bounds is.first
+-- ---- as a loop reads
+
+-- what was read with the place's count of commands
+pub read_at : (c : Config) (t n k : ℕ) (ps : List (List ℕ)) (said : Result Line Why) → n ≡ k → said ≡ line_at (record { config = c; threads = t; full = leb 131072 n }) ps → line_at (place c t k) ps ≡ said
+read_at c t n k ps said e is = ap (λ (m : ℕ). line_at (place c t m) ps) (sym e) ∙ sym is
+
+pub not_told : (l : Line) → ((x : Command) → l ≡ Told x → ⊥) → is_told l ≡ false
+not_told (Thread t) h = refl
+not_told End h = refl
+not_told (Told x) h = absurd (h x refl)
+
+pub gives_none : {X Y : Type 0} (view : X → Y) (o : Option X) (read : Option Y) → Gives view o read → is_some o ≡ false → read ≡ None
+gives_none view None read g e = g
+gives_none view (Some x) read g e = absurd cc
+
+pub gives_some : {X Y : Type 0} (view : X → Y) (o : Option X) (read : Option Y) → Gives view o read → is_some o ≡ true → (y : Y) × (read ≡ Some y)
+gives_some view None read g e = absurd cc
+gives_some view (Some x) read g e = (view x, g)
+
+-- with the number of threads as a loop has it
+module _ (c : Config) (done : List (List Command)) (n : ℕ) (bytes : List ℕ) (read : ℕ) (left : Lines) (begun : IsBegun c done bytes read left) (count : n ≡ length done) where
+  pub next_begun : n < c.threads → (trace : List Command) (others : Lines) (now : ℕ) → IsTrace c (n + 1) left trace others → now ≡ read + length trace + 1 → IsBegun c (done ++ trace ∷ []) bytes now others
+  next_begun more trace others now is e =
+      let on = goes_on c done bytes read left begun (omega (arith, count, more)) trace others (subst (λ (m : ℕ). IsTrace c (m + 1) left trace others) count is) in
+      subst (λ (m : ℕ). IsBegun c (done ++ trace ∷ []) bytes m others) (sym e) on
+
+  next_bad : n < c.threads → (line : ℕ) (why : Why) → IsBadTrace c (n + 1) left read line why → IsFirstBadLine bytes line why
+  next_bad more line why bad = goes_wrong c done bytes read left begun (omega (arith, count, more)) line why (subst (λ (m : ℕ). IsBadTrace c (m + 1) left read line why) count bad)
+
+  pub next_fault_is : n < c.threads → (fault : TraceFault) → IsLineFault (IsBadTrace c (n + 1) left read) fault → IsLineFault (IsFirstBadLine bytes) fault
+  next_fault_is more ReadFault is = absurd is
+  next_fault_is more TooLong is = absurd is
+  next_fault_is more (BadLine line why) is = next_bad more line why is
+  next_fault_is more OutOfMemory is = tt
+
+  pub ends_whole : c.threads ≤ n → left ≡ [] → IsJob bytes (record { config = c; traces = done })
+  ends_whole le e = is_whole c done bytes read left begun (omega (arith, count, begun.threads)) e
+
+  pub ends_late : c.threads ≤ n → (p : List (List ℕ) × Lines) → left ≡ p.0 ∷ p.1 → IsFirstBadLine bytes (read + 1) whys.End
+  ends_late le p e = is_too_long c done bytes read left begun (omega (arith, count, begun.threads)) p.0 p.1 e
+
+-- an error that is passed on
+pub passed_on : {A : Type 0} (r : Result A TraceFault) (P : A → Type 0) (Q : TraceFault → Type 0) (f : TraceFault) → IsErrAnd r (λ e. e ≡ f) → Q f → MatchResult r P Q
+passed_on (Ok x) P Q f h q = absurd h
+passed_on (Err e) P Q f h q = subst Q (sym h) q

@@ -3,7 +3,6 @@ use Rattle.std.specs.Prelude.{ℕ, ◌≤◌, ◌≡◌, List, map, length}
 use Rattle.std.specs.List.{AllByRecursion}
 use Rattle.block_store.specs.Configs.{IsInBounds}
 use Rattle.never_heap.specs.declared.Command.{Command}
-use Rattle.never_heap.specs.declared.Command.TheVariants.{New}
 use Rattle.never_heap.specs.Bounds.{IsCommandInBounds}
 use Rattle.trace_text.specs.declared.jobs.Job.{Job}
 use Rattle.trace_text.specs.Lines.{lines_of, pieces_of}

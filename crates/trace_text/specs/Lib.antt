@@ -7,7 +7,10 @@ pub mod Reading
 pub mod Words
 pub mod Said
 pub mod Headers
+pub mod Refusals
+pub mod Reasons
 pub mod Wholes
 pub mod Inputs
 pub mod Texts
+pub mod JobTexts
 pub mod Memories

@@ -27,6 +27,7 @@ abbrev pub pieces_left : Option (List ℕ) → List (List ℕ)
 pieces_left None = []
 pieces_left (Some line) = pieces_of line
 
+-- a decimal digit
 abbrev pub is_digit : ℕ → Bool
 is_digit b = nat_le 48 b && nat_le b 57
 
@@ -46,19 +47,21 @@ unfoldable pub no_more_of : List (List ℕ) → Option (Unit {0})
 no_more_of [] = Some tt
 no_more_of (a ∷ pieces) = None
 
--- the pieces, where there are so many
+-- the piece, where there is one
 unfoldable pub one_piece_of : List (List ℕ) → Option (List ℕ)
 one_piece_of [] = None
 one_piece_of (a ∷ pieces) = do
   _ ← no_more_of pieces
   Some a
 
+-- the pieces, where there are two
 unfoldable pub two_pieces_of : List (List ℕ) → Option (List ℕ × List ℕ)
 two_pieces_of [] = None
 two_pieces_of (a ∷ pieces) = do
   b ← one_piece_of pieces
   Some (a, b)
 
+-- the pieces, where there are three
 unfoldable pub three_pieces_of : List (List ℕ) → Option (List ℕ × List ℕ × List ℕ)
 three_pieces_of [] = None
 three_pieces_of (a ∷ pieces) = do

@@ -1,71 +1,122 @@
--- What a line behind the header says, by its pieces.
-use Rattle.std.specs.Prelude.{ℕ, ◌^◌, nat_le, nat_lt, ◌&&◌, List, [], ◌∷◌, Option, None, Some, if◌then◌else◌}
+-- What a line says, by its pieces, or the reason why it says nothing.
+use Rattle.std.specs.Prelude.{ℕ, zero, suc, ◌≡◌, ◌==◌, ◌^◌, nat_le, nat_lt, Bool, true, false, not, ◌&&◌, ◌||◌, List, [], ◌∷◌, length, Result, Ok, Err, if◌then◌else◌}
+use Rattle.std.specs.Option.{ok_or}
+use Rattle.block_store.specs.declared.Config.{Config}
+use Rattle.object_lists.specs.Records.{record_blocks}
+use Rattle.array_trees.specs.Trees.{array_blocks}
 use Rattle.never_heap.specs.declared.Command.TheVariants as commands
+use Rattle.trace_text.specs.declared.trace_faults.Why.{Why}
+use Rattle.trace_text.specs.declared.trace_faults.Why.TheVariants as whys
 use Rattle.trace_text.specs.declared.reading.lines.Line.{Line}
 use Rattle.trace_text.specs.declared.reading.lines.Line.TheVariants.{Thread, End, Told}
+use Rattle.trace_text.specs.declared.reading.lines.Place.{Place}
 use Rattle.trace_text.specs.declared.reading.words.Word.{Word}
 use Rattle.trace_text.specs.declared.reading.words.Word.TheVariants as words
-use Rattle.trace_text.specs.Reading.{◌>>=◌, number_at, no_more_of, one_piece_of, two_pieces_of, three_pieces_of}
-use Rattle.trace_text.specs.Words.{word_at}
+use Rattle.trace_text.specs.Reading.{number_at}
+use Rattle.trace_text.specs.Headers.{labels_at}
+use Rattle.trace_text.specs.Words.{word_at, is_command, operands}
 
-unfoldable pub thread_at : List (List ℕ) → Option Line
-thread_at operands = do
-  piece ← one_piece_of operands
-  thread ← number_at piece
-  Some (Thread thread)
+infixl 10 ◌>>=◌
+-- what is read in two steps
+abbrev pub ◌>>=◌ : {A B : Type 0} → Result A Why → (A → Result B Why) → Result B Why
+(Ok x) >>= f = f x
+(Err why) >>= f = Err why
 
-unfoldable pub end_at : List (List ℕ) → Option Line
-end_at operands = do
-  _ ← no_more_of operands
-  Some End
+-- what a reader answers, seen by view
+abbrev pub Tells : {X Y : Type 0} → (X → Y) → Result X Why → Result Y Why → Type 0
+Tells view (Ok x) read = read ≡ Ok (view x)
+Tells view (Err why) read = read ≡ Err why
 
-unfoldable pub new_at : List (List ℕ) → Option Line
-new_at operands = do
-  pieces ← two_pieces_of operands
-  d ← number_at pieces.0
-  fields ← number_at pieces.1
-  if nat_le d 15 && nat_le fields 3 then Some (Told (commands.New d fields)) else None
+-- the number of a piece
+abbrev pub spelled : List ℕ → Result ℕ Why
+spelled piece = ok_or (number_at piece) whys.Number
 
-unfoldable pub nil_at : List (List ℕ) → Option Line
-nil_at operands = do
-  piece ← one_piece_of operands
-  d ← number_at piece
-  if nat_le d 15 then Some (Told (commands.Nil d)) else None
+-- there are this many
+abbrev pub count_is : {A : Type 0} → ℕ → List A → Bool
+count_is zero [] = true
+count_is zero (x ∷ xs) = false
+count_is (suc n) [] = false
+count_is (suc n) (x ∷ xs) = count_is n xs
 
-unfoldable pub get_at : List (List ℕ) → Option Line
-get_at operands = do
-  pieces ← three_pieces_of operands
-  d ← number_at pieces.0
-  s ← number_at pieces.1
-  i ← number_at pieces.2
-  if nat_le d 15 && nat_le s 15 && nat_lt i (2 ^ 62) then Some (Told (commands.Get d s i)) else None
+-- the numbers of pieces
+abbrev pub values_at : List (List ℕ) → Result (List ℕ) Why
+values_at [] = Ok []
+values_at (piece ∷ pieces) = do
+  n ← spelled piece
+  ns ← values_at pieces
+  Ok (n ∷ ns)
 
-unfoldable pub put_at : List (List ℕ) → Option Line
-put_at operands = do
-  pieces ← three_pieces_of operands
-  s ← number_at pieces.0
-  i ← number_at pieces.1
-  v ← number_at pieces.2
-  if nat_le s 15 && nat_lt i (2 ^ 62) && nat_le v 15 then Some (Told (commands.Put s i v)) else None
+-- the numbers of this many pieces
+unfoldable pub numbers_at : ℕ → List (List ℕ) → Result (List ℕ) Why
+numbers_at n pieces = if count_is n pieces then values_at pieces else Err whys.Count
 
-unfoldable pub say_at : List (List ℕ) → Option Line
-say_at operands = do
-  piece ← one_piece_of operands
-  s ← number_at piece
-  if nat_le s 15 then Some (Told (commands.Say s)) else None
+-- what is said, where the registers and sizes are in their ranges
+abbrev pub checked : Bool → Bool → Line → Result Line Why
+checked register size line = if register then Err whys.Register else if size then Err whys.Size else Ok line
 
--- what the pieces behind a word say
-abbrev pub operands_at : Word → List (List ℕ) → Option Line
-operands_at words.Thread operands = thread_at operands
-operands_at words.End operands = end_at operands
-operands_at words.New operands = new_at operands
-operands_at words.Nil operands = nil_at operands
-operands_at words.Get operands = get_at operands
-operands_at words.Put operands = put_at operands
-operands_at words.Say operands = say_at operands
+-- behind no number, one, two or three
+abbrev pub on_none : List ℕ → Result Line Why → Result Line Why
+on_none [] line = line
+on_none (n ∷ ns) line = Err whys.Count
 
-unfoldable pub line_at : List (List ℕ) → Option Line
-line_at [] = None
-line_at (first ∷ operands) = do
-  word ← word_at first
-  operands_at word operands
+abbrev pub on_one : List ℕ → (ℕ → Result Line Why) → Result Line Why
+on_one (a ∷ []) line = line a
+on_one ns line = Err whys.Count
+
+abbrev pub on_two : List ℕ → (ℕ → ℕ → Result Line Why) → Result Line Why
+on_two (a ∷ b ∷ []) line = line a b
+on_two ns line = Err whys.Count
+
+abbrev pub on_three : List ℕ → (ℕ → ℕ → ℕ → Result Line Why) → Result Line Why
+on_three (a ∷ b ∷ d ∷ []) line = line a b d
+on_three ns line = Err whys.Count
+
+-- what a word and the numbers behind it say
+unfoldable pub told_at : Place → Word → List ℕ → Result Line Why
+told_at p words.Thread ns = on_one ns (λ t. if not (t == p.threads) || p.threads == p.config.threads then Err whys.Order else Ok (Thread t))
+told_at p words.End ns = on_none ns (if not (p.threads == p.config.threads) then Err whys.Order else Ok End)
+told_at p words.New ns = on_two ns (λ d f. checked (nat_lt 15 d) (p.full || nat_lt 65535 f || nat_lt p.config.object (record_blocks f)) (Told (commands.New d f)))
+told_at p words.Arr ns = on_two ns (λ d e. checked (nat_lt 15 d) (p.full || nat_lt 65535 e || nat_lt p.config.object (array_blocks e)) (Told (commands.Arr d e)))
+told_at p words.Set ns = on_two ns (λ d v. checked (nat_lt 15 d) (p.full || nat_le (2 ^ 62) v) (Told (commands.Set d v)))
+told_at p words.Nil ns = on_one ns (λ d. checked (nat_lt 15 d) p.full (Told (commands.Nil d)))
+told_at p words.Mov ns = on_two ns (λ d s. checked (nat_lt 15 d || nat_lt 15 s) p.full (Told (commands.Mov d s)))
+told_at p words.Get ns = on_three ns (λ d s i. checked (nat_lt 15 d || nat_lt 15 s) (p.full || nat_le (2 ^ 62) i) (Told (commands.Get d s i)))
+told_at p words.Put ns = on_three ns (λ s i v. checked (nat_lt 15 s || nat_lt 15 v) (p.full || nat_le (2 ^ 62) i) (Told (commands.Put s i v)))
+told_at p words.Len ns = on_one ns (λ s. checked (nat_lt 15 s) p.full (Told (commands.Len s)))
+told_at p words.Same ns = on_two ns (λ a b. checked (nat_lt 15 a || nat_lt 15 b) p.full (Told (commands.Same a b)))
+told_at p words.Say ns = on_one ns (λ s. checked (nat_lt 15 s) p.full (Told (commands.Say s)))
+
+-- what a word and the pieces behind it say
+unfoldable pub operands_at : Place → Word → List (List ℕ) → Result Line Why
+operands_at p word pieces = numbers_at (length (operands word)) pieces >>= told_at p word
+
+-- the same, where a command comes only behind a thread
+abbrev pub in_turn : Place → Word → List (List ℕ) → Result Line Why
+in_turn p word pieces = if is_command word && p.threads == 0 then Err whys.Order else operands_at p word pieces
+
+-- what a line says
+unfoldable pub line_at : Place → List (List ℕ) → Result Line Why
+line_at p [] = Err whys.Word
+line_at p (first ∷ others) = do
+  word ← ok_or (word_at first) whys.Word
+  in_turn p word others
+
+-- a number from least to most
+abbrev pub bounded_at : ℕ → ℕ → ℕ → Result ℕ Why
+bounded_at least most n = if nat_lt n least || nat_lt most n then Err whys.Size else Ok n
+
+-- the configuration that a header names
+unfoldable pub header_at : List (List ℕ) → Result Config Why
+header_at line = do
+  pieces ← ok_or (labels_at line) whys.Header
+  threads ← spelled pieces.0
+  blocks ← spelled pieces.1
+  live ← spelled pieces.2
+  object ← spelled pieces.3
+  shared ← spelled pieces.4
+  threads ← bounded_at 1 16 threads
+  blocks ← bounded_at 1 65535 blocks
+  live ← bounded_at 0 65535 live
+  object ← bounded_at 1 1024 object
+  shared ← bounded_at 0 1024 shared
+  Ok (record { threads = threads; blocks = blocks; live = live; object = object; shared = shared })

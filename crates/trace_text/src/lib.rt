@@ -1,6 +1,7 @@
 //! The text edges: sources and sinks of bytes, the reader of traces and the printer of runs.
 #![tactic(auto)]
 
+mod job_writer;
 mod jobs;
 mod line_buffer;
 mod mem_sink;
@@ -11,16 +12,20 @@ mod sinks;
 mod sources;
 mod std_sink;
 mod std_source;
+mod trace_faults;
 
+pub use job_writer::{job_text_is_job, write_job};
 pub use jobs::{Job, Traces};
+pub use line_buffer::LineBuffer;
 pub use mem_sink::MemSink;
 pub use mem_source::MemSource;
 pub use printing::{lines_are_short, write_run};
-pub use reading::{TraceFault, jobs_are_one, read_trace};
+pub use reading::{inputs_are_told_apart, jobs_are_one, read_trace};
 pub use sinks::Sink;
 pub use sources::Source;
 pub use std_sink::StdSink;
 pub use std_source::StdSource;
+pub use trace_faults::{TraceFault, Why};
 
 /// A source or sink did not do what it was asked, and counted a fault.
 #[derive(Clone, Copy, Debug, PartialEq, Eq)]

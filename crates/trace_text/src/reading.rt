@@ -1,82 +1,60 @@
 //! Reading a job from a source.
 
-ghost use Rattle.std.specs.Prelude.{◌≡◌, ◌≢◌, ◌+◌, ◌≤◌, ℕ, List, Some, [], drop, length, IfOk, IfSome, OnOk, MatchResult, IsErrOf};
+ghost use Rattle.std.specs.Prelude.{◌≡◌, ◌+◌, ◌<◌, ◌≤◌, ◌⊎◌, ℕ, List, Some, [], drop, length, Err, IfOk, IfSome, OnOk, MatchResult, IsErrOf};
 ghost use Rattle.trace_text.specs.declared.jobs.Job as jobs;
-ghost use Rattle.trace_text.specs.declared.reading.TraceFault.TheVariants as faults;
-ghost use Rattle.trace_text.specs.Jobs.{input_limit, IsJobInBounds, IsJob, IsFirst, IsFirstInput};
+ghost use Rattle.trace_text.specs.declared.trace_faults.Why as whys;
+ghost use Rattle.trace_text.specs.declared.trace_faults.TraceFault.TheVariants as faults;
+ghost use Rattle.trace_text.specs.Jobs.{input_limit, IsJobInBounds, IsJob, IsInput};
+ghost use Rattle.trace_text.specs.Refusals.{IsFirstBadLine};
 ghost use Rattle.trace_text.specs.Streams.{IsAtEnd, StillTells};
-ghost use Rattle.trace_text.specs.Inputs.{CountsFault};
+ghost use Rattle.trace_text.specs.Inputs.{CountsFault, IsRead, IsRefused, StopsAt};
 
 mod header;
 mod input;
 mod lines;
 mod numbers;
 mod pieces;
+#[cfg(test)]
+mod refused;
+#[cfg(test)]
+mod tests;
 mod whole;
 mod words;
 
-use crate::Failed;
 use crate::jobs::Job;
 use crate::reading::input::{INPUT_LIMIT, input_of};
 use crate::reading::whole::job_of;
 use crate::sources::Source;
-use std::alloc::{AllocError, AllocFailed, Global};
-
-/// Why no job was read.
-#[derive(Clone, Copy, Debug, PartialEq, Eq)]
-pub enum TraceFault {
-    /// The source failed.
-    ReadFault,
-    /// The input is too long, or no job that the plain heap takes.
-    Later,
-    /// Memory ran out.
-    OutOfMemory,
-}
-
-impl From<Failed> for TraceFault {
-    ghost from_gives = { λ _ fault. fault ≡ faults.ReadFault };
-
-    fn from(_error: Failed) -> TraceFault {
-        TraceFault::ReadFault
-    }
-}
-
-impl From<AllocError> for TraceFault {
-    ghost from_gives = { λ _ fault. fault ≡ faults.OutOfMemory };
-
-    fn from(_error: AllocError) -> TraceFault {
-        TraceFault::OutOfMemory
-    }
-}
-
-impl<T: Drop> From<AllocFailed<T>> for TraceFault {
-    ghost from_gives = { λ _ fault. fault ≡ faults.OutOfMemory };
-
-    fn from(_error: AllocFailed<T>) -> TraceFault {
-        TraceFault::OutOfMemory
-    }
-}
+use crate::trace_faults::TraceFault;
+use std::alloc::Global;
 
 /// Reads a source to its end, and then the job that its bytes are. Reading stops at the first byte
-/// too many, the 16,777,217th, and at a failure of the source. `Later` comes where there are too
-/// many bytes, or where they are no job that the plain heap takes.
+/// too many, the 16,777,217th, and at a failure of the source.
+///
+/// # Errors
+///
+/// `ReadFault` where the source fails, `TooLong` where there are too many bytes, `BadLine` where
+/// they are no job, with the first line that is wrong, and `OutOfMemory`.
 pub fn read_trace<S: Source>(alloc: Global, source: &mut S) -> Result<Job, TraceFault>
     // What is read is the job of the bytes, and in its ranges whatever the source tells.
-    ensures job { IfOk result (λ job. IfSome (S.left source.old) (λ bytes. IsFirstInput bytes job)) }
-    ensures bounds { IfOk result (λ job. IsJobInBounds job × IsFirst job) }
+    ensures job { IfOk result (λ job. IfSome (S.left source.old) (λ bytes. IsInput bytes job)) }
+    ensures bounds { IfOk result IsJobInBounds }
 
     // Bytes that are a job are read as that job, unless the source fails or memory runs out.
-    ensures complete { IfSome (S.left source.old) (λ bytes. (job : jobs.Job) → IsFirstInput bytes job
-        → MatchResult result (λ found. found ≡ job) (λ fault. fault ≢ faults.Later)) }
-    ensures later { IsErrOf result faults.Later
-        → IfSome (S.left source.old) (λ bytes. (job : jobs.Job) → ¬ IsFirstInput bytes job) }
+    ensures complete { IfSome (S.left source.old) (λ bytes. (job : jobs.Job) → IsInput bytes job → IsRead result job) }
+
+    // Too many bytes are refused as such, and only they are.
+    ensures long { IfSome (S.left source.old) (λ bytes. input_limit < length bytes → IsRefused result faults.TooLong) }
+    ensures too_long { IsErrOf result faults.TooLong → IfSome (S.left source.old) (λ bytes. input_limit < length bytes) }
+
+    // Other bytes that are no job are refused for the first line that is wrong, and only they are.
+    ensures wrong { IfSome (S.left source.old) (λ bytes. (line : ℕ) (why : whys.Why) → length bytes ≤ input_limit
+        → IsFirstBadLine bytes line why → IsRefused result (faults.BadLine line why)) }
+    ensures bad_line { (line : ℕ) (why : whys.Why) → IsErrOf result (faults.BadLine line why)
+        → IfSome (S.left source.old) (λ bytes. (length bytes ≤ input_limit) × IsFirstBadLine bytes line why) }
 
     // How far the source was read.
-    ensures ended { OnOk result (IsAtEnd (S.left source.old) (S.left source.new)) }
-    ensures stopped { IsErrOf result faults.Later
-        → IfSome (S.left source.old) (λ bytes. S.left source.new ≡ Some (drop (input_limit + 1) bytes)) }
-    ensures stopped_at_end { IsErrOf result faults.Later
-        → IfSome (S.left source.old) (λ bytes. length bytes ≤ input_limit → S.left source.new ≡ Some []) }
+    ensures stopped { StopsAt result (S.left source.old) (S.left source.new) }
     ensures told { StillTells (S.left source.old) (S.left source.new) }
 
     // A source is blamed only where its count of faults rose.
@@ -85,7 +63,7 @@ pub fn read_trace<S: Source>(alloc: Global, source: &mut S) -> Result<Job, Trace
 {
     let input = input_of(alloc, source)?;
     if input.len() > INPUT_LIMIT {
-        return Err(TraceFault::Later);
+        return Err(TraceFault::TooLong);
     }
     job_of(alloc, &input)
 }
@@ -93,5 +71,12 @@ pub fn read_trace<S: Source>(alloc: Global, source: &mut S) -> Result<Job, Trace
 /// Bytes are at most one job.
 pub fn jobs_are_one()
     ensures { (bytes : List ℕ) (job other : jobs.Job) → IsJob bytes job → IsJob bytes other → job ≡ other }
-{
-}
+{}
+
+/// Bytes are a job, or one line is the first that is wrong, for one reason; and never both.
+pub fn inputs_are_told_apart()
+    ensures either { (bytes : List ℕ) → ((job : jobs.Job) × IsJob bytes job) ⊎ ((line : ℕ) × (why : whys.Why) × IsFirstBadLine bytes line why) }
+    ensures apart { (bytes : List ℕ) (job : jobs.Job) (line : ℕ) (why : whys.Why) → IsJob bytes job → IsFirstBadLine bytes line why → ⊥ }
+    ensures one { (bytes : List ℕ) (line other : ℕ) (why reason : whys.Why) → IsFirstBadLine bytes line why
+        → IsFirstBadLine bytes other reason → (line ≡ other) × (why ≡ reason) }
+{}

@@ -4,21 +4,23 @@ ghost use Rattle.std.specs.Prelude.{◌≡◌};
 ghost use Rattle.std.specs.Option.{option_copied};
 ghost use Rattle.trace_text.specs.Lines.{pieces_of};
 ghost use Rattle.trace_text.specs.Reading.{Gives, pieces_left};
-ghost use Rattle.trace_text.specs.Headers.{behind_at, labelled_at, labels_at, bounded_at, header_at};
+ghost use Rattle.trace_text.specs.Headers.{behind_at, labelled_at, labels_at};
+ghost use Rattle.trace_text.specs.Said.{bounded_at, header_at};
 
-use crate::reading::numbers::number_of;
+use crate::reading::lines::spelled;
 use crate::reading::pieces::{first_piece, no_more};
+use crate::trace_faults::Why;
 use block_store::Config;
 
 /// The configuration that a header names, each number in its range.
-#[tactic(auto, unfolding(crate::specs::Headers::header_at))]
-pub fn header_of(line: &[u8]) -> Option<Config>
+#[tactic(auto, unfolding(crate::specs::Said::header_at))]
+pub fn header_of(line: &[u8]) -> Result<Config, Why>
     ensures { result ≡ header_at (pieces_of line.now) }
 {
-    let (threads, blocks, live, object, shared) = labels_of(line)?;
-    let (threads, blocks, live) = (number_of(threads)?, number_of(blocks)?, number_of(live)?);
-    let (object, shared) = (number_of(object)?, number_of(shared)?);
-    Some(Config {
+    let (threads, blocks, live, object, shared) = labels_of(line).ok_or(Why::Header)?;
+    let (threads, blocks, live) = (spelled(threads)?, spelled(blocks)?, spelled(live)?);
+    let (object, shared) = (spelled(object)?, spelled(shared)?);
+    Ok(Config {
         threads: bounded(threads, 1, 16)?,
         blocks: bounded(blocks, 1, 65_535)?,
         live: bounded(live, 0, 65_535)?,
@@ -30,7 +32,8 @@ pub fn header_of(line: &[u8]) -> Option<Config>
 /// The five pieces of a header that are to be numbers.
 #[tactic(auto, unfolding(crate::specs::Headers::labels_at))]
 fn labels_of(line: &[u8]) -> Option<(&[u8], &[u8], &[u8], &[u8], &[u8])>
-    ensures { Gives (λ x. (x.0.now, x.1.now, x.2.now, x.3.now, x.4.now)) result (labels_at (pieces_of line.now)) }
+    ensures { Gives (λ x. (x.0.now, x.1.now, x.2.now, x.3.now, x.4.now)) result
+        (labels_at (pieces_of line.now)) }
 {
     let rest = behind(Some(line), b"rtheap")?;
     let rest = behind(rest, b"1")?;
@@ -67,11 +70,11 @@ fn behind<'a>(pieces: Option<&'a [u8]>, word: &[u8]) -> Option<Option<&'a [u8]>>
 }
 
 /// A number, if it is in a range.
-fn bounded(number: u64, least: u32, most: u32) -> Option<u32>
+fn bounded(number: u64, least: u32, most: u32) -> Result<u32, Why>
     ensures { result ≡ bounded_at least most number }
 {
     if number < u64::from(least) || number > u64::from(most) {
-        return None;
+        return Err(Why::Size);
     }
-    Some(number as u32)
+    Ok(number as u32)
 }

@@ -1,12 +1,11 @@
 //! The bytes of a source.
 
-ghost use Rattle.std.specs.Prelude.{◌≡◌, ◌≢◌, ◌+◌, ◌<◌, ◌≤◌, ◌++◌, [], take, length, vec_len, IfOk, IfSome, MatchResult, Err};
-ghost use Rattle.trace_text.specs.declared.reading.TraceFault.TheVariants.{Later};
+ghost use Rattle.std.specs.Prelude.{◌≡◌, ◌+◌, ◌<◌, ◌≤◌, ◌++◌, [], take, length, vec_len, IfOk, IfErr, IfSome, MatchResult};
 ghost use Rattle.trace_text.specs.Streams.{IsAtEnd, StillTells};
-ghost use Rattle.trace_text.specs.Inputs.{HasRead, Adds, CountsFault};
+ghost use Rattle.trace_text.specs.Inputs.{HasRead, Adds, CountsFault, IsOfNoByte};
 
-use crate::reading::TraceFault;
 use crate::sources::Source;
+use crate::trace_faults::TraceFault;
 use std::alloc::{AllocError, Global};
 
 /// The most bytes that an input may have.
@@ -20,8 +19,9 @@ const PIECE_LEN: usize = 65_536;
 pub fn input_of<S: Source>(alloc: Global, source: &mut S) -> Result<Vec<u8>, TraceFault>
     ensures read { IfOk result (λ input. HasRead (S.left source.old) input.items (S.left source.new)) }
     ensures within { IfOk result (λ input. vec_len input ≤ INPUT_LIMIT + 1) }
-    ensures ended { IfOk result (λ input. vec_len input ≤ INPUT_LIMIT → IsAtEnd (S.left source.old) (S.left source.new)) }
-    ensures in_time { result ≢ Err Later }
+    ensures ended { IfOk result (λ input. vec_len input ≤ INPUT_LIMIT
+        → IsAtEnd (S.left source.old) (S.left source.new)) }
+    ensures cause_alone { IfErr result IsOfNoByte }
     ensures cause { MatchResult result (λ _. S.faults source.new ≡ S.faults source.old)
         (λ fault. CountsFault fault (S.faults source.old) (S.faults source.new)) }
     ensures told { StillTells (S.left source.old) (S.left source.new) }
@@ -45,10 +45,12 @@ fn take_into<S: Source>(
     input: &mut Vec<u8>,
 ) -> Result<usize, TraceFault>
     requires { 0 < length piece.old }
-    ensures added { IfOk result (λ k. IfSome (S.left source.old) (λ bytes. Adds k bytes input.old.items input.new.items (S.left source.new))) }
-    ensures len { IfOk result (λ k. (k ≤ length piece.old) × (vec_len input.new ≡ vec_len input.old + k)) }
+    ensures added { IfOk result (λ k. IfSome (S.left source.old) (λ bytes.
+        Adds k bytes input.old.items input.new.items (S.left source.new))) }
+    ensures len { IfOk result (λ k.
+        (k ≤ length piece.old) × (vec_len input.new ≡ vec_len input.old + k)) }
     ensures end { IfOk result (λ k. k ≡ 0 → IsAtEnd (S.left source.old) (S.left source.new)) }
-    ensures in_time { result ≢ Err Later }
+    ensures cause_alone { IfErr result IsOfNoByte }
     ensures cause { MatchResult result (λ _. S.faults source.new ≡ S.faults source.old)
         (λ fault. CountsFault fault (S.faults source.old) (S.faults source.new)) }
     ensures told { StillTells (S.left source.old) (S.left source.new) }

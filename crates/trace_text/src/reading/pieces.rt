@@ -62,7 +62,8 @@ pub fn one_piece(pieces: Option<&[u8]>) -> Option<&[u8]>
 /// The two pieces.
 #[tactic(auto, unfolding(crate::specs::Reading::two_pieces_of))]
 pub fn two_pieces(pieces: Option<&[u8]>) -> Option<(&[u8], &[u8])>
-    ensures { Gives (λ x. (x.0.now, x.1.now)) result (two_pieces_of (pieces_left (option_copied pieces.entry))) }
+    ensures { Gives (λ x. (x.0.now, x.1.now)) result
+        (two_pieces_of (pieces_left (option_copied pieces.entry))) }
 {
     let (first, others) = first_piece(pieces?);
     Some((first, one_piece(others)?))
@@ -71,7 +72,8 @@ pub fn two_pieces(pieces: Option<&[u8]>) -> Option<(&[u8], &[u8])>
 /// The three pieces.
 #[tactic(auto, unfolding(crate::specs::Reading::three_pieces_of))]
 pub fn three_pieces(pieces: Option<&[u8]>) -> Option<(&[u8], &[u8], &[u8])>
-    ensures { Gives (λ x. (x.0.now, x.1.now, x.2.now)) result (three_pieces_of (pieces_left (option_copied pieces.entry))) }
+    ensures { Gives (λ x. (x.0.now, x.1.now, x.2.now)) result
+        (three_pieces_of (pieces_left (option_copied pieces.entry))) }
 {
     let (first, others) = first_piece(pieces?);
     let (second, third) = two_pieces(others)?;

@@ -1,14 +1,17 @@
 //! A whole job.
 
-ghost use Rattle.std.specs.Prelude.{◌≡◌};
-ghost use Rattle.trace_text.specs.Reading.{Gives, pieced};
-ghost use Rattle.trace_text.specs.Wholes.{Reads, few, last_at, commands_at, opening_at, plain_at, job_at};
+ghost use Rattle.std.specs.Prelude.{◌≡◌, ◌+◌, ◌≤◌, [], length, vec_len, MatchResult, IfOk};
+ghost use Rattle.trace_text.specs.Jobs.{IsJob};
+ghost use Rattle.trace_text.specs.Reading.{pieced};
+ghost use Rattle.trace_text.specs.Refusals.{IsFirstBadLine};
+ghost use Rattle.trace_text.specs.Wholes.{IsLineFault, IsTrace, IsBadTrace, IsBegun};
 
 use crate::jobs::{Job, Traces};
-use crate::reading::TraceFault;
 use crate::reading::header::header_of;
-use crate::reading::lines::{Line, line_of};
+use crate::reading::input::INPUT_LIMIT;
+use crate::reading::lines::{Line, Place, line_of};
 use crate::reading::pieces::first_line;
+use crate::trace_faults::{TraceFault, Why};
 use block_store::Config;
 use never_heap::Command;
 use std::alloc::Global;
@@ -16,18 +19,33 @@ use std::alloc::Global;
 /// The most commands of a thread.
 const MOST_COMMANDS: usize = 131_072;
 
-/// The fewest blocks of a heap for one thread: its registers, and the shared array.
-const FEWEST_BLOCKS: u32 = 6;
+/// What is left of an input.
+#[derive(Clone, Copy, Debug)]
+struct Rest<'a> {
+    /// The lines that were not read yet.
+    lines: &'a [u8],
+    /// How many lines were read.
+    read: u64,
+}
 
-/// The job that an input is, if it is one that the plain heap takes.
-#[tactic(auto, unfolding(crate::specs::Wholes::job_at))]
+/// The job that an input is, or its first line that is wrong.
 pub fn job_of(alloc: Global, input: &[u8]) -> Result<Job, TraceFault>
-    ensures { Reads (λ job. job) result (job_at (pieced input.now)) }
+    requires { length input.now ≤ INPUT_LIMIT }
+    ensures { MatchResult result (IsJob input.now) (IsLineFault (IsFirstBadLine input.now)) }
 {
-    let (config, rest) = opening_of(input).ok_or(TraceFault::Later)?;
-    let trace = trace_of(alloc, rest)?;
+    let (config, mut rest) = opening_of(input)?;
     let mut traces = Vec::new(alloc);
-    traces.push(trace)?;
+    for thread in 0..config.threads {
+        let (trace, after) = trace_of(alloc, config, thread + 1, rest)?;
+        traces.push(trace)?;
+        rest = after;
+    }
+    if first_line(rest.lines).is_some() {
+        return Err(TraceFault::BadLine {
+            line: rest.read + 1,
+            why: Why::End,
+        });
+    }
     Ok(Job {
         config,
         traces: Traces::new(traces),
@@ -35,60 +53,73 @@ pub fn job_of(alloc: Global, input: &[u8]) -> Result<Job, TraceFault>
 }
 
 /// What the header and the line of the first thread say, and what stands behind them.
-#[tactic(auto, unfolding(crate::specs::Wholes::opening_at))]
-fn opening_of(input: &[u8]) -> Option<(Config, &[u8])>
-    ensures { Gives (λ x. (x.0, pieced x.1.now)) result (opening_at (pieced input.now)) }
+fn opening_of(input: &[u8]) -> Result<(Config, Rest<'_>), TraceFault>
+    requires { length input.now ≤ INPUT_LIMIT }
+    ensures begun { MatchResult result (λ x. IsBegun x.0 [] input.now x.1.read (pieced x.1.lines.now)) (IsLineFault (IsFirstBadLine input.now)) }
+    ensures within { IfOk result (λ x. x.1.read + length x.1.lines.now ≤ INPUT_LIMIT) }
 {
-    let (line, rest) = first_line(input)?;
-    let config = plain(header_of(line)?)?;
-    let (line, rest) = first_line(rest)?;
-    match line_of(line)? {
-        Line::Thread(0) => Some((config, rest)),
-        _ => None,
+    let Some((line, lines)) = first_line(input) else {
+        return Err(TraceFault::BadLine {
+            line: 1,
+            why: Why::Header,
+        });
+    };
+    let config = match header_of(line) {
+        Ok(config) => config,
+        Err(why) => return Err(TraceFault::BadLine { line: 1, why }),
+    };
+    let Some((line, lines)) = first_line(lines) else {
+        return Err(TraceFault::BadLine {
+            line: 2,
+            why: Why::End,
+        });
+    };
+    let place = Place {
+        config,
+        threads: 0,
+        full: false,
+    };
+    match line_of(&place, line) {
+        Ok(_) => Ok((config, Rest { lines, read: 2 })),
+        Err(why) => Err(TraceFault::BadLine { line: 2, why }),
     }
 }
 
-/// A configuration, if the plain heap takes it.
-fn plain(config: Config) -> Option<Config>
-    ensures { result ≡ plain_at config }
-{
-    if config.threads != 1 || config.blocks < FEWEST_BLOCKS || config.shared != 0 {
-        return None;
-    }
-    Some(config)
-}
-
-/// The commands of the lines up to the line of the end, which is the last.
-fn trace_of(alloc: Global, lines: &[u8]) -> Result<Vec<Command>, TraceFault>
-    ensures { Reads (λ trace. trace.items) result (few (commands_at (pieced lines.now))) }
+/// The commands up to the line behind them, when this many threads had their line, and what stands
+/// behind that line.
+fn trace_of<'a>(
+    alloc: Global,
+    config: Config,
+    threads: u32,
+    rest: Rest<'a>,
+) -> Result<(Vec<Command>, Rest<'a>), TraceFault>
+    requires { rest.read + length rest.lines.now ≤ INPUT_LIMIT }
+    ensures trace { MatchResult result (λ x. IsTrace config threads (pieced rest.entry.lines.now) x.0.items (pieced x.1.lines.now))
+        (IsLineFault (IsBadTrace config threads (pieced rest.entry.lines.now) rest.entry.read)) }
+    ensures read { IfOk result (λ x. x.1.read ≡ rest.entry.read + vec_len x.0 + 1) }
+    ensures within { IfOk result (λ x. x.1.read + length x.1.lines.now ≤ INPUT_LIMIT) }
 {
     let mut trace = Vec::new(alloc);
-    let mut rest = lines;
-    while let Some((line, after)) = first_line(rest) {
-        let Some(said) = line_of(line) else {
-            return Err(TraceFault::Later);
+    let mut lines = rest.lines;
+    while let Some((line, after)) = first_line(lines) {
+        let place = Place {
+            config,
+            threads,
+            full: trace.len() >= MOST_COMMANDS,
         };
-        match said {
-            Line::Thread(_) => return Err(TraceFault::Later),
-            Line::End => return ended(trace, after),
-            Line::Told(command) => {
-                if trace.len() >= MOST_COMMANDS {
-                    return Err(TraceFault::Later);
-                }
-                trace.push(command)?;
-            }
-        }
-        rest = after;
+        let read = rest.read + trace.len() as u64 + 1;
+        let said = match line_of(&place, line) {
+            Ok(said) => said,
+            Err(why) => return Err(TraceFault::BadLine { line: read, why }),
+        };
+        let Line::Told(command) = said else {
+            return Ok((trace, Rest { lines: after, read }));
+        };
+        trace.push(command)?;
+        lines = after;
     }
-    Err(TraceFault::Later)
-}
-
-/// A finished trace, if nothing stands behind the line of the end.
-fn ended(trace: Vec<Command>, rest: &[u8]) -> Result<Vec<Command>, TraceFault>
-    ensures { Reads (λ trace. trace.items) result (last_at trace.items (pieced rest.now)) }
-{
-    if first_line(rest).is_some() {
-        return Err(TraceFault::Later);
-    }
-    Ok(trace)
+    Err(TraceFault::BadLine {
+        line: rest.read + trace.len() as u64 + 1,
+        why: Why::End,
+    })
 }

@@ -1,7 +1,7 @@
 //! The words that a line behind the header begins with.
 
 ghost use Rattle.std.specs.Prelude.{◌≡◌};
-ghost use Rattle.trace_text.specs.Words.{word_at};
+ghost use Rattle.trace_text.specs.Words.{word_at, is_command};
 
 /// The first piece of a line behind the header.
 #[derive(Clone, Copy, Debug, PartialEq, Eq)]
@@ -9,10 +9,24 @@ pub enum Word {
     Thread,
     End,
     New,
+    Arr,
+    Set,
     Nil,
+    Mov,
     Get,
     Put,
+    Len,
+    Same,
     Say,
+}
+
+impl Word {
+    /// Whether a command begins with this word.
+    pub fn is_command(self) -> bool
+        ensures { result ≡ is_command self }
+    {
+        !matches!(self, Word::Thread | Word::End)
+    }
 }
 
 /// The word that a piece is.
@@ -23,7 +37,12 @@ pub fn word_of(piece: &[u8]) -> Option<Word>
         b"get" => Some(Word::Get),
         b"put" => Some(Word::Put),
         b"new" => Some(Word::New),
+        b"arr" => Some(Word::Arr),
+        b"set" => Some(Word::Set),
+        b"mov" => Some(Word::Mov),
         b"nil" => Some(Word::Nil),
+        b"len" => Some(Word::Len),
+        b"same" => Some(Word::Same),
         b"say" => Some(Word::Say),
         b"thread" => Some(Word::Thread),
         b"end" => Some(Word::End),

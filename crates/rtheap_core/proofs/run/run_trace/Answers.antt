@@ -3,12 +3,13 @@ use Rattle.std.proofs.lemmas.List.{take_more, take_all}
 use Rattle.never_heap.specs.declared.Command.{Command}
 use Rattle.never_heap.specs.declared.Command.TheVariants as commands
 use Rattle.never_heap.specs.declared.Entry.{Entry}
+use Rattle.shown_graph.specs.Openings.{opening_at}
 use Rattle.rtheap_core.specs.PlainRuns.{IsRunSoFar}
 use Rattle.rtheap_core.proofs.RunsOn.{entry_of, run_starts, run_goes_on, run_ends}
 use Rattle.rtheap_core.proofs.run.run_trace.Goals as goal
 
 pub loop-command-init : goal.loop-command-init
-loop-command-init c = run_starts c.args.config.now (λ _. 6) c.in_ok-heap.heap c.in_ok-log.log.items c.in_ok-heap.ensures.plain c.in_ok-heap.ensures.config c.in_ok-heap.ensures.next c.in_ok-heap.ensures.shown c.in_ok-log.ensures.items
+loop-command-init c = run_starts c.args.config.now (opening_at c.args.config.now.threads) c.in_ok-heap.heap c.in_ok-log.log.items c.in_ok-heap.ensures.plain c.in_ok-heap.ensures.config c.in_ok-heap.ensures.last c.in_ok-heap.ensures.shown c.in_ok-log.ensures.items
 
 pub loop-command-preserved : goal.loop-command-preserved
 loop-command-preserved c =

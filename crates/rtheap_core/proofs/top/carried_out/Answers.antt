@@ -1,4 +1,4 @@
-use Rattle.std.proofs.Common.{Option, IfSome, map, string_bytes, subst, sym, refl}
+use Rattle.std.proofs.Common.{Option, [], ◌∷◌, IfSome, map, string_bytes, subst, sym, refl}
 use Rattle.rtheap_core.specs.declared.exit.RunEnd.{RunEnd}
 use Rattle.rtheap_core.specs.declared.refusal.Refusal.TheVariants.{Usage}
 use Rattle.rtheap_core.specs.Exits.{Headline, run_of}
@@ -7,7 +7,7 @@ use Rattle.rtheap_core.proofs.top.carried_out.Goals as goal
 
 pub returns-in-Ok-clause-headline : goal.returns-in-Ok-clause-headline
 returns-in-Ok-clause-headline g c =
-    subst (λ (o : Option RunEnd). IfSome o (λ end. Headline (g.S.Source.left c.args.source.now) (g.S.Source.left c.ran.new.source) (g.K.Sink.held c.args.sink.now) (g.K.Sink.held c.written.new.sink) c.written.result.status (run_of end))) (sym c.written.ensures.run)
+    subst (λ (o : Option RunEnd). IfSome o (λ end. Headline (g.S.Source.left c.args.source.now) (g.S.Source.left c.ran.new.source) (g.K.Sink.held c.args.sink.now) (g.K.Sink.held c.written.new.sink) c.written.result.status (run_of end) ((run_of end).log ∷ []) 1 0)) (sym c.written.ensures.run)
     (headline_of (g.S.Source.left c.args.source.now) (g.S.Source.left c.ran.new.source) (g.K.Sink.held c.args.sink.now) (g.K.Sink.held c.written.new.sink) c.written.result.status c.in-Ok.run' c.in-Ok.ensures.ran c.written.ensures.text)
 
 pub returns-in-None-clause-refused : goal.returns-in-None-clause-refused

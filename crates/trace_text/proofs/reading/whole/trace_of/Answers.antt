@@ -1,32 +1,38 @@
-use Rattle.std.proofs.Common.{◌∙◌, sym, arith}
-use Rattle.std.proofs.lemmas.List.{length_push}
+use Rattle.std.proofs.Common.{◌≡◌, ◌+◌, ℕ, length, Ok, sym, ap, subst, ◌∙◌, arith}
 use Rattle.trace_text.specs.Lines.{pieces_of}
 use Rattle.trace_text.specs.Reading.{pieced}
-use Rattle.trace_text.specs.Wholes.{commands_at}
-use Rattle.trace_text.proofs.Commands.{no_lines, goes_on, too_many, ends, stops, stops_at_thread, some_of}
+use Rattle.trace_text.specs.Wholes.{IsBadTrace}
+use Rattle.trace_text.proofs.LabelLaws.{parted_some}
+use Rattle.trace_text.proofs.WholeLaws.{read_at, not_told, trace_goes_on, trace_stops, trace_is_bad}
 use Rattle.trace_text.proofs.reading.whole.trace_of.Goals as goal
 
-pub returns-in_default-line_of : goal.returns-in_default-line_of
-returns-in_default-line_of c = stops c.loop-line.trace.items (pieced c.loop-line.rest.now) (pieces_of c.in-Some.line.now) (pieced c.in-Some.after.now) (commands_at (pieced c.args.lines.now)) c.in-Some.ensures.lines c.loop-line.invariant.whole (sym c.in_default-line_of.ensures)
+pub returns-in_default-said : goal.returns-in_default-said
+returns-in_default-said c =
+    let trace = c.loop-line.trace in
+    let said = read_at c.args.config c.args.threads c.len.result (length trace.items) (pieces_of c.in-Some.line.now) _ (c.len.ensures ∙ trace.ok.0) c.in-Ok.ensures in
+    record {
+      trace = trace_stops c.args.config c.args.threads (pieced c.args.rest.lines.now) trace.items (pieced c.loop-line.lines.now) c.loop-line.invariant.so_far
+          (pieces_of c.in-Some.line.now) (pieced c.in-Some.after.now) (parted_some _ _ _ c.in-Some.ensures.lines) c.in-Ok.said said (not_told c.in-Ok.said c.in_default-said.not-Told);
+      read = omega (arith, c.len-in-Some.ensures);
+      within = omega (arith, c.len-in-Some.ensures, c.in-Some.ensures.shorter, c.loop-line.invariant.within);
+    }
 
-pub returns-in-Thread : goal.returns-in-Thread
-returns-in-Thread c = stops_at_thread c.loop-line.trace.items (pieced c.loop-line.rest.now) (pieces_of c.in-Some.line.now) (pieced c.in-Some.after.now) (commands_at (pieced c.args.lines.now)) c.in-Some.ensures.lines c.loop-line.invariant.whole c.in-Thread.field-0 (sym c.in-Some-line_of.ensures ∙ some_of c.in-Thread.is)
-
-pub returns-in-End : goal.returns-in-End
-returns-in-End c =
-    let e = ends c.loop-line.trace.items (pieced c.loop-line.rest.now) (pieces_of c.in-Some.line.now) (pieced c.in-Some.after.now) (commands_at (pieced c.args.lines.now)) c.in-Some.ensures.lines c.loop-line.invariant.whole (sym c.in-Some-line_of.ensures ∙ some_of c.in-End.is) c.loop-line.invariant.within in
-    rw e c.ended.ensures
-
-pub returns-then-len-ge-MOST_COMMANDS : goal.returns-then-len-ge-MOST_COMMANDS
-returns-then-len-ge-MOST_COMMANDS c = too_many c.loop-line.trace.items (pieced c.loop-line.rest.now) (pieces_of c.in-Some.line.now) (pieced c.in-Some.after.now) (commands_at (pieced c.args.lines.now)) c.in-Some.ensures.lines c.loop-line.invariant.whole c.in-Told.command (sym c.in-Some-line_of.ensures ∙ some_of c.in-Told.is) (omega (arith, c.loop-line.trace.ok.0))
+pub returns-in-Err-clause-trace : goal.returns-in-Err-clause-trace
+returns-in-Err-clause-trace c =
+    let trace = c.loop-line.trace in
+    let count : c.len-in-Some.result ≡ length trace.items = c.len-in-Some.ensures ∙ trace.ok.0 in
+    let said = read_at c.args.config c.args.threads c.len.result (length trace.items) (pieces_of c.in-Some.line.now) _ (c.len.ensures ∙ trace.ok.0) c.in-Err.ensures in
+    let bad = trace_is_bad c.args.config c.args.threads (pieced c.args.rest.lines.now) trace.items (pieced c.loop-line.lines.now) c.loop-line.invariant.so_far
+    (pieces_of c.in-Some.line.now) (pieced c.in-Some.after.now) (parted_some _ _ _ c.in-Some.ensures.lines) c.in-Err.why said c.args.rest.read in
+    subst (λ (n : ℕ). IsBadTrace c.args.config c.args.threads (pieced c.args.rest.lines.now) c.args.rest.read (c.args.rest.read + n + 1) c.in-Err.why) (sym count) bad
 
 pub loop-line-preserved : goal.loop-line-preserved
 loop-line-preserved c =
-    let whole = goes_on c.loop-line.trace.items (pieced c.loop-line.rest.now) (pieces_of c.in-Some.line.now) (pieced c.in-Some.after.now) (commands_at (pieced c.args.lines.now)) c.in-Some.ensures.lines c.loop-line.invariant.whole c.in-Told.command (sym c.in-Some-line_of.ensures ∙ some_of c.in-Told.is) in
-    rw c.in_ok-push-in-Told.ensures.items record {
-      whole = whole;
-      within = omega (arith, length_push c.loop-line.trace.items c.in-Told.command, c.loop-line.trace.ok.0);
+    let trace = c.loop-line.trace in
+    let said = read_at c.args.config c.args.threads c.len.result (length trace.items) (pieces_of c.in-Some.line.now) _ (c.len.ensures ∙ trace.ok.0) c.in-Ok.ensures in
+    let more = trace_goes_on c.args.config c.args.threads (pieced c.args.rest.lines.now) trace.items (pieced c.loop-line.lines.now) c.loop-line.invariant.so_far
+    (pieces_of c.in-Some.line.now) (pieced c.in-Some.after.now) (parted_some _ _ _ c.in-Some.ensures.lines) c.in-Told.command (said ∙ ap Ok c.in-Told.is) in
+    record {
+      so_far = rw c.in_ok-push.ensures.items more;
+      within = omega (arith, c.in_ok-push.ensures.len, c.in-Some.ensures.shorter, c.loop-line.invariant.within);
     }
-
-pub returns : goal.returns
-returns c = no_lines c.loop-line.trace.items (pieced c.loop-line.rest.now) (commands_at (pieced c.args.lines.now)) c.in_default.ensures.lines c.loop-line.invariant.whole

@@ -1,14 +1,14 @@
-use Rattle.std.proofs.Common.{◌≡◌, ◌≤◌, length}
+use Rattle.std.proofs.Common.{◌+◌, ◌≤◌, length, vec_len}
 use Rattle.trace_text.specs.Reading.{pieced}
-use Rattle.trace_text.specs.Wholes.{with_front, commands_at}
+use Rattle.trace_text.proofs.WholeLaws.{IsSoFar}
 use Rattle.trace_text.proofs.reading.whole.trace_of.Given as goal
 
--- the commands so far, and those of the lines that are left, are those of all
+-- the commands so far, and those of the lines that are left, are those of all lines
 abbrev pub invariant-loop-line : goal.invariant-loop-line
 invariant-loop-line l = record {
-  whole : with_front l.trace.items (commands_at (pieced l.rest)) ≡ commands_at (pieced l.lines);
-  within : length l.trace.items ≤ 131072;
+  so_far : IsSoFar l.config (pieced l.rest.lines.now) l.trace.items (pieced l.lines);
+  within : l.rest.read + vec_len l.trace + length l.lines ≤ 16777216;
 }
 
 abbrev pub decreases-loop-line : goal.decreases-loop-line
-decreases-loop-line l = length l.rest
+decreases-loop-line l = length l.lines

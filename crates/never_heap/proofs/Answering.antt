@@ -1,0 +1,63 @@
+-- What a step answers, and which commands have blocks.
+use Rattle.std.proofs.Common.{ℕ, ◌≡◌, ◌<◌, true, false, cond, ltb, length, refl, arith}
+use Rattle.array_trees.specs.Trees.{leaves}
+use Rattle.array_trees.proofs.Counts.{le-tree}
+use Rattle.block_store.specs.declared.Name.{Name}
+use Rattle.block_store.specs.declared.Value.{Value}
+use Rattle.block_store.specs.declared.Value.TheVariants.{Nil, Int, Ref}
+use Rattle.never_heap.specs.declared.Command.{Command}
+use Rattle.never_heap.specs.declared.Command.TheVariants as commands
+use Rattle.never_heap.specs.declared.Reply.{Reply}
+use Rattle.never_heap.specs.declared.Reply.TheVariants as replies
+use Rattle.never_heap.specs.Graphs.{Graph, object_of, register_of}
+use Rattle.never_heap.specs.Histories.{is_full}
+use Rattle.never_heap.specs.Steps.{step, at_field, at_object, blocks_of, makes_object, same_value}
+
+field_not_full : (g : Graph) (v : Value) (i : ℕ) (act : Name → Graph × Reply) → ((a : Name) → is_full (act a).1 ≡ false) → is_full (at_field g v i act).1 ≡ false
+field_not_full g Nil i act f = refl
+field_not_full g (Int n) i act f = refl
+field_not_full g (Ref a) i act f = elim (ltb i (length (object_of g a).fields)) as (λ b. is_full (cond b (act a) (g, replies.Range)).1 ≡ false) [ true ↦ f a | false ↦ refl ]
+
+object_not_full : (g : Graph) (v : Value) (act : Name → Graph × Reply) → ((a : Name) → is_full (act a).1 ≡ false) → is_full (at_object g v act).1 ≡ false
+object_not_full g Nil act f = refl
+object_not_full g (Int n) act f = refl
+object_not_full g (Ref a) act f = f a
+
+-- no step answers with a full
+pub step_not_full : (g : Graph) (t : ℕ) (command : Command) → is_full (step g t command).1 ≡ false
+step_not_full g t (commands.New d f) = refl
+step_not_full g t (commands.Arr d e) = refl
+step_not_full g t (commands.Set d v) = refl
+step_not_full g t (commands.Nil d) = refl
+step_not_full g t (commands.Mov d s) = refl
+step_not_full g t (commands.Get d s i) = field_not_full g (register_of g t s) i _ (λ a. refl)
+step_not_full g t (commands.Put s i v) = field_not_full g (register_of g t s) i _ (λ a. refl)
+step_not_full g t (commands.Len s) = object_not_full g (register_of g t s) _ (λ a. refl)
+step_not_full g t (commands.Same a b) =
+    elim (same_value (register_of g t a) (register_of g t b)) as (λ k. is_full (cond k replies.Yes replies.No) ≡ false) [ true ↦ refl | false ↦ refl ]
+step_not_full g t (commands.Say s) = refl
+
+-- a command that makes an object has a block at least, and any other has none
+pub makers_have_blocks : (command : Command) → makes_object command ≡ true → 0 < blocks_of command
+makers_have_blocks (commands.New d f) e = omega arith
+makers_have_blocks (commands.Arr d n) e = omega (arith, le-tree 4 (leaves 4 n) (omega arith))
+makers_have_blocks (commands.Set d v) e = absurd cc
+makers_have_blocks (commands.Nil d) e = absurd cc
+makers_have_blocks (commands.Mov d s) e = absurd cc
+makers_have_blocks (commands.Get d s i) e = absurd cc
+makers_have_blocks (commands.Put s i v) e = absurd cc
+makers_have_blocks (commands.Len s) e = absurd cc
+makers_have_blocks (commands.Same a b) e = absurd cc
+makers_have_blocks (commands.Say s) e = absurd cc
+
+pub others_have_none : (command : Command) → makes_object command ≡ false → blocks_of command ≡ 0
+others_have_none (commands.New d f) e = absurd cc
+others_have_none (commands.Arr d n) e = absurd cc
+others_have_none (commands.Set d v) e = refl
+others_have_none (commands.Nil d) e = refl
+others_have_none (commands.Mov d s) e = refl
+others_have_none (commands.Get d s i) e = refl
+others_have_none (commands.Put s i v) e = refl
+others_have_none (commands.Len s) e = refl
+others_have_none (commands.Same a b) e = refl
+others_have_none (commands.Say s) e = refl

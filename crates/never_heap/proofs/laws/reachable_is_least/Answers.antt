@@ -1,0 +1,8 @@
+use Rattle.never_heap.proofs.Reaching.{reachable_closed, reachable_within}
+use Rattle.never_heap.proofs.laws.reachable_is_least.Goals as goal
+
+pub returns-clause-closed : goal.returns-clause-closed
+returns-clause-closed c = reachable_closed
+
+pub returns-clause-least : goal.returns-clause-least
+returns-clause-least c = reachable_within

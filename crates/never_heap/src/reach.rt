@@ -1,0 +1,126 @@
+//! Which objects of a graph can be reached, and how many blocks they take.
+
+ghost use Rattle.std.specs.Prelude.{◌≡◌, ◌<◌, ◌≤◌, ◌+◌, ◌*◌, ◌&&◌, ◌||◌, ◌++◌, true, false, IfOk, OnOk, vec_len};
+ghost use Rattle.std.specs.List.{list_any};
+ghost use Rattle.block_store.specs.declared.Name.{Name};
+ghost use Rattle.never_heap.specs.Graphs.{has_name, object_of};
+ghost use Rattle.never_heap.specs.LiveBlocks.{live_blocks, object_blocks};
+ghost use Rattle.never_heap.specs.Marks.{has_place, has_mark};
+ghost use Rattle.never_heap.specs.Reach.{names, thread_names, in_round, stands_in, reachable};
+
+use crate::Graph;
+use crate::marks::Marks;
+use block_store::{Name, OutOfMemory, REGISTER_BLOCKS};
+
+// The names of the first objects of a thread, behind what the list has.
+fn push_names(list: &mut Vec<Name>, thread: u32, count: u32) -> Result<(), OutOfMemory>
+    requires { count ≤ 131072 }
+    ensures names { OnOk result (list.new.items ≡ list.old.items ++ thread_names thread count) }
+    ensures more { OnOk result (vec_len list.new ≡ vec_len list.old + count) }
+{
+    for before in 0..count {
+        let serial = before + 1;
+        list.push(Name { thread, serial })?;
+    }
+    Ok(())
+}
+
+impl Graph {
+    // All names: that of the shared array, and then thread by thread.
+    fn list_names(&self) -> Result<Vec<Name>, OutOfMemory>
+        ensures names { IfOk result (λ v. v.items ≡ names self.now) }
+        ensures few { IfOk result (λ v. vec_len v ≤ 2097153) }
+    {
+        let mutators = self.mutators();
+        let shared = Name {
+            thread: mutators.len() as u32,
+            serial: 0,
+        };
+        let mut list = vec![in self.alloc(); shared]?;
+        for thread in 0..mutators.len() {
+            let count = mutators[thread].count() as u32;
+            push_names(&mut list, thread as u32, count)?;
+        }
+        Ok(list)
+    }
+
+    // A place for each object, and no mark.
+    fn no_marks(&self) -> Result<Marks, OutOfMemory>
+        ensures places { IfOk result (λ m. (b : Name) → has_place m b ≡ has_name self.now b) }
+        ensures marks { IfOk result (λ m. (b : Name) → has_mark m b ≡ false) }
+    {
+        let mut marks = Marks::new(self.alloc());
+        for mutator in self.mutators() {
+            marks.add(self.alloc(), mutator.count())?;
+        }
+        Ok(marks)
+    }
+
+    // Marks what stands in registers.
+    fn mark_registers(&self, marks: &mut Marks)
+        ensures marks { (b : Name) → has_mark marks.new b ≡ (has_mark marks.old b || (in_round self.now 0 b && has_place marks.old b)) }
+        ensures places { (b : Name) → has_place marks.new b ≡ has_place marks.old b }
+    {
+        for mutator in self.mutators() {
+            marks.spread(mutator.registers());
+        }
+    }
+
+    // One round: marks each name in a field of a marked object, and answers whether one was not
+    // marked before.
+    fn mark_fields(&self, list: &[Name], marks: &mut Marks) -> bool
+        ensures places { (b : Name) → has_place marks.new b ≡ has_place marks.old b }
+        ensures kept { (b : Name) → has_mark marks.old b ≡ true → has_mark marks.new b ≡ true }
+        ensures led { (a : Name) → list_any (λ (b : Name). has_mark marks.old b && stands_in a (object_of self.now b).fields) list.now ≡ true → has_place marks.old a ≡ true → has_mark marks.new a ≡ true }
+        ensures sound { ((b : Name) → has_mark marks.old b ≡ true → reachable self.now b ≡ true) → (b : Name) → has_mark marks.new b ≡ true → reachable self.now b ≡ true }
+        ensures unchanged { result ≡ false → marks.new ≡ marks.old }
+    {
+        let mut is_new = false;
+        for name in list {
+            if marks.has(*name) {
+                is_new |= marks.spread(self.cells(*name));
+            }
+        }
+        is_new
+    }
+
+    // Marks all objects that can be reached: what stands in registers, and then round by round.
+    fn mark_reachable(&self, list: &[Name]) -> Result<Marks, OutOfMemory>
+        requires { list.now ≡ names self.now }
+        ensures { IfOk result (λ m. (b : Name) → has_mark m b ≡ (reachable self.now b && has_name self.now b)) }
+    {
+        let mut marks = self.no_marks()?;
+        self.mark_registers(&mut marks);
+        for _round in 0..list.len() {
+            if !self.mark_fields(list, &mut marks) {
+                return Ok(marks);
+            }
+        }
+        Ok(marks)
+    }
+
+    /// Five blocks for the registers of each thread, and the blocks of all objects that can be
+    /// reached from registers.
+    pub fn reach_blocks(&self) -> Result<u64, OutOfMemory>
+        ensures { IfOk result (λ k. k ≡ live_blocks self.now) }
+    {
+        let list = self.list_names()?;
+        let marks = self.mark_reachable(&list)?;
+        let mut blocks = u64::from(REGISTER_BLOCKS) * self.mutators().len() as u64;
+        for name in &list {
+            if marks.has(*name) {
+                blocks += u64::from(self.blocks_of(*name));
+            }
+        }
+        Ok(blocks)
+    }
+
+    // The blocks of the object of a name.
+    fn blocks_of(&self, name: Name) -> u32
+        requires { has_name self.now name ≡ true }
+        ensures value { result ≡ object_blocks (object_of self.now name) }
+        ensures few { result ≤ 21845 }
+    {
+        self.object(name).map_or(0, |object| object.blocks())
+    }
+}

@@ -1,0 +1,86 @@
+-- The pieces behind the labels of a header.
+use Rattle.std.proofs.Common.{◌≡◌, List, [], ◌∷◌, ℕ, codes, bytes_eq, Option, Some, None, refl, ap, subst, ◌∙◌}
+use Rattle.std.proofs.lemmas.Option.{same_Some, some_pair_parts}
+use Rattle.std.proofs.lemmas.Slice.Eq.{bytes_eq-Decides}
+use Rattle.trace_text.specs.Reading.{◌>>=◌, parted, no_more_of}
+use Rattle.trace_text.specs.Headers.{behind_at, labelled_at, labels_at}
+use Rattle.trace_text.proofs.NumberLaws.{then_some}
+
+pub parted_some : {A : Type 0} (xs : List A) (x : A) (others : List A) → parted xs ≡ Some (x, others) → xs ≡ x ∷ others
+parted_some [] x others e = absurd cc
+parted_some (y ∷ ys) x others e =
+    let p = some_pair_parts y x ys others e in cc
+
+pub parted_none : {A : Type 0} (xs : List A) → parted xs ≡ None → xs ≡ []
+parted_none [] e = refl
+parted_none (y ∷ ys) e = absurd cc
+
+record Through {A B : Type 0} (o : Option A) (f : A → Option B) (y : B) : Type 0 where
+  at : A
+  first : o ≡ Some at
+  second : f at ≡ Some y
+
+bind_some : {A B : Type 0} (o : Option A) (f : A → Option B) (y : B) → (o >>= f) ≡ Some y → Through o f y
+bind_some None f y e = absurd cc
+bind_some (Some x) f y e = record { at = x; first = refl; second = e }
+
+-- the same for what follows from the steps
+bind_then : {A B P : Type 0} (o : Option A) (f : A → Option B) (y : B) → (o >>= f) ≡ Some y → ((x : A) → o ≡ Some x → f x ≡ Some y → P) → P
+bind_then None f y e go = absurd cc
+bind_then (Some x) f y e go = go x refl e
+
+none_sound : (ps : List (List ℕ)) (x : Unit {0}) → no_more_of ps ≡ Some x → ps ≡ []
+unfolding no_more_of
+none_sound [] x e = refl
+none_sound (p ∷ ps) x e = absurd cc
+
+behind_sound : (word : List ℕ) (ps rest : List (List ℕ)) → behind_at word ps ≡ Some rest → ps ≡ word ∷ rest
+unfolding behind_at
+behind_sound word [] rest e = absurd cc
+behind_sound word (first ∷ others) rest e =
+    let t = then_some (bytes_eq first word) (Some others) rest e in
+    let is : first ≡ word = (bytes_eq-Decides first word).0 t.0 in
+    let same : others ≡ rest = same_Some others rest t.1 in
+    cc
+
+behind_complete : (word : List ℕ) (rest : List (List ℕ)) → behind_at word (word ∷ rest) ≡ Some rest
+unfolding behind_at
+behind_complete word rest = rw ((bytes_eq-Decides word word).1 refl) refl
+
+labelled_sound : (label : List ℕ) (ps : List (List ℕ)) (x : List ℕ × List (List ℕ)) → labelled_at label ps ≡ Some x → ps ≡ label ∷ x.0 ∷ x.1
+unfolding labelled_at
+labelled_sound label ps x e =
+    let a = bind_some (behind_at label ps) parted x e in
+    behind_sound label ps a.at a.first ∙ ap (λ (r : List (List ℕ)). label ∷ r) (parted_some a.at x.0 x.1 a.second)
+
+labelled_complete : (label piece : List ℕ) (rest : List (List ℕ)) → labelled_at label (label ∷ piece ∷ rest) ≡ Some (piece, rest)
+unfolding labelled_at
+labelled_complete label piece rest = rw (behind_complete label (piece ∷ rest)) refl
+
+-- the pieces of a header with these five pieces behind its labels
+abbrev pub labels : List ℕ → List ℕ → List ℕ → List ℕ → List ℕ → List (List ℕ)
+labels n m l b s =
+    codes "rtheap" ∷ codes "1" ∷ codes "threads" ∷ n ∷ codes "blocks" ∷ m ∷ codes "live" ∷ l ∷ codes "object" ∷ b ∷ codes "shared" ∷ s ∷ []
+
+-- each part behind the one before
+joined : (n m l b s : List ℕ) (p0 p1 p2 p3 p4 p5 p6 p7 : List (List ℕ)) → p0 ≡ codes "rtheap" ∷ p1 → p1 ≡ codes "1" ∷ p2 → p2 ≡ codes "threads" ∷ n ∷ p3 → p3 ≡ codes "blocks" ∷ m ∷ p4 → p4 ≡ codes "live" ∷ l ∷ p5 → p5 ≡ codes "object" ∷ b ∷ p6 → p6 ≡ codes "shared" ∷ s ∷ p7 → p7 ≡ [] → p0 ≡ labels n m l b s
+joined n m l b s p0 p1 p2 p3 p4 p5 p6 p7 e0 e1 e2 e3 e4 e5 e6 e7 = rw (e0, e1, e2, e3, e4, e5, e6, e7) refl
+
+pub labels_sound : (ps : List (List ℕ)) (x : List ℕ × List ℕ × List ℕ × List ℕ × List ℕ) → labels_at ps ≡ Some x → ps ≡ labels x.0 x.1 x.2 x.3 x.4
+unfolding labels_at
+labels_sound ps x e =
+    bind_then (behind_at (codes "rtheap") ps) (λ a. behind_at (codes "1") a >>= λ b. labelled_at (codes "threads") b >>= λ n. labelled_at (codes "blocks") n.1 >>= λ m. labelled_at (codes "live") m.1 >>= λ l. labelled_at (codes "object") l.1 >>= λ o. labelled_at (codes "shared") o.1 >>= λ s. no_more_of s.1 >>= λ z. Some (n.0, m.0, l.0, o.0, s.0)) x e (λ a is_a r0.
+    bind_then (behind_at (codes "1") a) (λ b. labelled_at (codes "threads") b >>= λ n. labelled_at (codes "blocks") n.1 >>= λ m. labelled_at (codes "live") m.1 >>= λ l. labelled_at (codes "object") l.1 >>= λ o. labelled_at (codes "shared") o.1 >>= λ s. no_more_of s.1 >>= λ z. Some (n.0, m.0, l.0, o.0, s.0)) x r0 (λ b is_b r1.
+    bind_then (labelled_at (codes "threads") b) (λ n. labelled_at (codes "blocks") n.1 >>= λ m. labelled_at (codes "live") m.1 >>= λ l. labelled_at (codes "object") l.1 >>= λ o. labelled_at (codes "shared") o.1 >>= λ s. no_more_of s.1 >>= λ z. Some (n.0, m.0, l.0, o.0, s.0)) x r1 (λ n is_n r2.
+    bind_then (labelled_at (codes "blocks") n.1) (λ m. labelled_at (codes "live") m.1 >>= λ l. labelled_at (codes "object") l.1 >>= λ o. labelled_at (codes "shared") o.1 >>= λ s. no_more_of s.1 >>= λ z. Some (n.0, m.0, l.0, o.0, s.0)) x r2 (λ m is_m r3.
+    bind_then (labelled_at (codes "live") m.1) (λ l. labelled_at (codes "object") l.1 >>= λ o. labelled_at (codes "shared") o.1 >>= λ s. no_more_of s.1 >>= λ z. Some (n.0, m.0, l.0, o.0, s.0)) x r3 (λ l is_l r4.
+    bind_then (labelled_at (codes "object") l.1) (λ o. labelled_at (codes "shared") o.1 >>= λ s. no_more_of s.1 >>= λ z. Some (n.0, m.0, l.0, o.0, s.0)) x r4 (λ o is_o r5.
+    bind_then (labelled_at (codes "shared") o.1) (λ s. no_more_of s.1 >>= λ z. Some (n.0, m.0, l.0, o.0, s.0)) x r5 (λ s is_s r6.
+    bind_then (no_more_of s.1) (λ z. Some (n.0, m.0, l.0, o.0, s.0)) x r6 (λ z is_z r7.
+    (subst (λ (y : List ℕ × List ℕ × List ℕ × List ℕ × List ℕ). ps ≡ labels y.0 y.1 y.2 y.3 y.4) (same_Some (n.0, m.0, l.0, o.0, s.0) x r7)
+    (joined n.0 m.0 l.0 o.0 s.0 ps a b n.1 m.1 l.1 o.1 s.1 (behind_sound (codes "rtheap") ps a is_a) (behind_sound (codes "1") a b is_b) (labelled_sound (codes "threads") b n is_n)
+    (labelled_sound (codes "blocks") n.1 m is_m) (labelled_sound (codes "live") m.1 l is_l) (labelled_sound (codes "object") l.1 o is_o) (labelled_sound (codes "shared") o.1 s is_s) (none_sound s.1 z is_z)))))))))))
+
+pub labels_complete : (n m l b s : List ℕ) → labels_at (labels n m l b s) ≡ Some (n, m, l, b, s)
+unfolding labels_at behind_at labelled_at no_more_of
+labels_complete n m l b s = refl

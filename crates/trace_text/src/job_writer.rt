@@ -1,0 +1,262 @@
+//! Writing a job.
+
+ghost use Rattle.std.specs.Prelude.{◌≡◌, ◌+◌, ◌≤◌, [], ◌∷◌, ◌++◌, map, length, codes, decimal, IfOk, OnOk, OnErr};
+ghost use Rattle.std.specs.List.{flat_map};
+ghost use Rattle.trace_text.specs.declared.jobs.Job as jobs;
+ghost use Rattle.trace_text.specs.Faults.{Rose};
+ghost use Rattle.trace_text.specs.Lines.{space};
+ghost use Rattle.trace_text.specs.Streams.{Appends, AppendsFront};
+ghost use Rattle.trace_text.specs.Spellings.{header, command_line, trace_lines, traces_lines};
+ghost use Rattle.trace_text.specs.Jobs.{input_limit, IsJobInBounds, IsJob, IsInput};
+ghost use Rattle.trace_text.specs.JobTexts.{line_text, job_text};
+
+use crate::jobs::{Job, Traces};
+use crate::line_buffer::LineBuffer;
+use crate::{Failed, Sink};
+use block_store::Config;
+use never_heap::Command;
+
+/// Writes a job: a line with the configuration, then for each thread its line and a line for each of
+/// its commands, and a last line. For example, a job of one thread with two commands may give
+///
+/// ```text
+/// rtheap 1 threads 1 blocks 40 live 12 object 1 shared 2
+/// thread 0
+/// new 3 2
+/// get 4 3 0
+/// end
+/// ```
+///
+/// The job has to be in its ranges, with one trace per thread and at most 131,072 commands in each.
+/// Each line is one `put`. At the first one that fails it stops, and a front of the text is written.
+/// Where the text has at most 16,777,216 bytes, reading it gives the job back.
+pub fn write_job<K: Sink>(job: &Job, sink: &mut K) -> Result<(), Failed>
+    requires { IsJobInBounds job.now }
+    ensures written { OnOk result (Appends (K.held sink.old) (K.held sink.new) (job_text job.now)) }
+    ensures front { OnErr result (AppendsFront (K.held sink.old) (K.held sink.new) (job_text job.now)) }
+    ensures rose { OnErr result (Rose (K.faults sink.old) (K.faults sink.new)) }
+    ensures still { OnOk result (K.faults sink.new ≡ K.faults sink.old) }
+    ensures is_job { IsJob (job_text job.now) job.now }
+{
+    sink.put(line_of_header(&job.config).bytes())?;
+    write_traces(&job.traces, sink)?;
+    sink.put(b"end\n")
+}
+
+/// A law: the text of a job is that job, and an input where it is not too long.
+pub fn job_text_is_job()
+    ensures is_job { (job : jobs.Job) → IsJobInBounds job → IsJob (job_text job) job }
+    ensures is_input { (job : jobs.Job) → IsJobInBounds job → length (job_text job) ≤ input_limit
+        → IsInput (job_text job) job }
+{}
+
+/// Writes the traces from that of thread 0 on.
+fn write_traces<K: Sink>(traces: &Traces, sink: &mut K) -> Result<(), Failed>
+    ensures written { OnOk result (Appends (K.held sink.old) (K.held sink.new) (flat_map line_text (traces_lines 0 traces.now))) }
+    ensures front { OnErr result (AppendsFront (K.held sink.old) (K.held sink.new) (flat_map line_text (traces_lines 0 traces.now))) }
+    ensures rose { OnErr result (Rose (K.faults sink.old) (K.faults sink.new)) }
+    ensures still { OnOk result (K.faults sink.new ≡ K.faults sink.old) }
+{
+    for t in 0..traces.len() {
+        write_trace(t, traces.trace(t), sink)?;
+    }
+    Ok(())
+}
+
+/// Writes the line of thread `t`, and one for each of its commands.
+fn write_trace<K: Sink>(t: usize, trace: &[Command], sink: &mut K) -> Result<(), Failed>
+    ensures written { OnOk result (Appends (K.held sink.old) (K.held sink.new) (flat_map line_text (trace_lines t trace.now))) }
+    ensures front { OnErr result (AppendsFront (K.held sink.old) (K.held sink.new) (flat_map line_text (trace_lines t trace.now))) }
+    ensures rose { OnErr result (Rose (K.faults sink.old) (K.faults sink.new)) }
+    ensures still { OnOk result (K.faults sink.new ≡ K.faults sink.old) }
+{
+    sink.put(line_of_thread(t).bytes())?;
+    write_commands(trace, sink)
+}
+
+/// Writes a line for each command.
+fn write_commands<K: Sink>(trace: &[Command], sink: &mut K) -> Result<(), Failed>
+    ensures written { OnOk result (Appends (K.held sink.old) (K.held sink.new) (flat_map line_text (map command_line trace.now))) }
+    ensures front { OnErr result (AppendsFront (K.held sink.old) (K.held sink.new) (flat_map line_text (map command_line trace.now))) }
+    ensures rose { OnErr result (Rose (K.faults sink.old) (K.faults sink.new)) }
+    ensures still { OnOk result (K.faults sink.new ≡ K.faults sink.old) }
+{
+    let mut line = LineBuffer::new();
+    for command in trace {
+        fill_command(&mut line, command);
+        sink.put(line.bytes())?;
+    }
+    Ok(())
+}
+
+fn line_of_thread(t: usize) -> LineBuffer
+    ensures { result ≡ line_text (codes "thread" ∷ decimal t ∷ []) }
+{
+    let mut line = LineBuffer::new();
+    line.prepend(b"\n");
+    prepend_one(&mut line, b"thread", t as u64);
+    line
+}
+
+fn line_of_header(config: &Config) -> LineBuffer
+    ensures { result ≡ line_text (header config.now) }
+{
+    let mut line = LineBuffer::new();
+    line.prepend(b"\n");
+    line.prepend_short_number(config.shared);
+    line.prepend(b" shared ");
+    line.prepend_short_number(config.object);
+    line.prepend(b" object ");
+    line.prepend_short_number(config.live);
+    line.prepend(b" live ");
+    line.prepend_short_number(config.blocks);
+    line.prepend(b" blocks ");
+    line.prepend_short_number(config.threads);
+    line.prepend(b"rtheap 1 threads ");
+    line
+}
+
+/// Makes a command's line, in place of what the buffer held.
+fn fill_command(line: &mut LineBuffer, command: &Command)
+    ensures { line.new ≡ line_text (command_line command.now) }
+{
+    line.clear();
+    line.prepend(b"\n");
+    match *command {
+        Command::New { d, fields } => prepend_two(line, b"new", d, u64::from(fields)),
+        Command::Arr { d, elements } => prepend_two(line, b"arr", d, u64::from(elements)),
+        Command::Set { d, value } => prepend_two(line, b"set", d, value),
+        Command::Nil { d } => prepend_one(line, b"nil", u64::from(d)),
+        Command::Mov { d, s } => prepend_two(line, b"mov", d, u64::from(s)),
+        Command::Get { d, s, i } => prepend_three(line, b"get", d, u64::from(s), i),
+        Command::Put { s, i, v } => prepend_three(line, b"put", s, i, u64::from(v)),
+        Command::Len { s } => prepend_one(line, b"len", u64::from(s)),
+        Command::Same { a, b } => prepend_two(line, b"same", a, u64::from(b)),
+        Command::Say { s } => prepend_one(line, b"say", u64::from(s)),
+    }
+}
+
+/// Puts a word and three operands in front.
+fn prepend_three(line: &mut LineBuffer, word: &[u8], first: u8, second: u64, third: u64)
+    requires word { length word.now ≤ 6 }
+    requires room { length line.old ≤ 1 }
+    ensures { line.new ≡ word.now ++ space ∷ decimal first ++ space ∷ decimal second
+        ++ space ∷ decimal third ++ line.old }
+{
+    prepend_operand(line, third);
+    prepend_two(line, word, first, second);
+}
+
+/// Puts a word and two operands in front.
+fn prepend_two(line: &mut LineBuffer, word: &[u8], first: u8, second: u64)
+    requires word { length word.now ≤ 6 }
+    requires room { length line.old ≤ 22 }
+    ensures { line.new ≡ word.now ++ space ∷ decimal first ++ space ∷ decimal second ++ line.old }
+{
+    prepend_operand(line, second);
+    prepend_one(line, word, u64::from(first));
+}
+
+/// Puts a word and its one operand in front.
+fn prepend_one(line: &mut LineBuffer, word: &[u8], operand: u64)
+    requires word { length word.now ≤ 6 }
+    requires room { length line.old ≤ 43 }
+    ensures { line.new ≡ word.now ++ space ∷ decimal operand ++ line.old }
+{
+    prepend_operand(line, operand);
+    line.prepend(word);
+}
+
+/// Puts a space and an operand in front.
+fn prepend_operand(line: &mut LineBuffer, operand: u64)
+    requires room { length line.old ≤ 43 }
+    ensures text { line.new ≡ space ∷ decimal operand ++ line.old }
+    ensures length { length line.new ≤ 21 + length line.old }
+{
+    line.prepend_number(operand);
+    line.prepend(b" ");
+}
+
+#[cfg(test)]
+mod tests {
+    use super::*;
+    use crate::MemSink;
+    use std::alloc::{AllocError, Global};
+    use std::test::Fail;
+
+    /// Two threads and one command of each kind.
+    fn job(alloc: Global) -> Result<Job, AllocError>
+        ensures { IfOk result (λ job. IsJobInBounds job) }
+    {
+        let first = [
+            Command::New { d: 3, fields: 5 },
+            Command::Arr { d: 15, elements: 0 },
+            Command::Set {
+                d: 1,
+                value: 4611686018427387903,
+            },
+            Command::Nil { d: 0 },
+            Command::Mov { d: 4, s: 3 },
+        ];
+        let second = [
+            Command::Get { d: 2, s: 0, i: 17 },
+            Command::Put { s: 0, i: 1, v: 12 },
+            Command::Len { s: 7 },
+            Command::Same { a: 8, b: 9 },
+            Command::Say { s: 10 },
+        ];
+        let mut traces = Vec::new(alloc);
+        traces.push(Vec::from_slice(alloc, &first)?)?;
+        traces.push(Vec::from_slice(alloc, &second)?)?;
+        Ok(Job {
+            config: Config {
+                threads: 2,
+                blocks: 65535,
+                live: 0,
+                object: 2,
+                shared: 1024,
+            },
+            traces: Traces::new(traces),
+        })
+    }
+
+    #[test]
+    fn a_job_of_two_threads(rt: HostRuntime) -> Result<(), Fail> {
+        let mut sink = MemSink::new(rt.alloc(), 1000, Vec::new(rt.alloc()))
+            .ok()
+            .ok_or("memory")?;
+        assert_eq!(rt; write_job(&job(rt.alloc())?, &mut sink), Ok(()));
+        assert_eq!(rt;
+            sink.bytes(),
+            b"rtheap 1 threads 2 blocks 65535 live 0 object 2 shared 1024
+thread 0
+new 3 5
+arr 15 0
+set 1 4611686018427387903
+nil 0
+mov 4 3
+thread 1
+get 2 0 17
+put 0 1 12
+len 7
+same 8 9
+say 10
+end
+"
+                .as_slice()
+        );
+        Ok(())
+    }
+
+    #[test]
+    fn a_put_that_fails_leaves_the_lines_before(rt: HostRuntime) -> Result<(), Fail> {
+        let fail = Vec::from_slice(rt.alloc(), &[2])?;
+        let mut sink = MemSink::new(rt.alloc(), 1000, fail).ok().ok_or("memory")?;
+        assert_eq!(rt; write_job(&job(rt.alloc())?, &mut sink), Err(Failed));
+        assert_eq!(rt;
+            sink.bytes(),
+            b"rtheap 1 threads 2 blocks 65535 live 0 object 2 shared 1024\nthread 0\n".as_slice()
+        );
+        Ok(())
+    }
+}

@@ -1,0 +1,152 @@
+//! Small jobs, read whole and in pieces.
+
+ghost use Rattle.std.specs.Prelude.{◌≤◌};
+
+use super::*;
+use crate::{MemSource, Why};
+use block_store::Config;
+use never_heap::Command;
+use std::alloc::AllocError;
+use std::process::Abort;
+use std::test::Fail;
+
+/// What reading these bytes answers, at most `most` of them a call. The calls in `fail` fail.
+fn read(
+    alloc: Global,
+    bytes: &[u8],
+    most: usize,
+    fail: &[u64],
+) -> Result<Result<Job, TraceFault>, AllocError>
+    requires { 1 ≤ most }
+{
+    let bytes = Vec::from_slice(alloc, bytes)?;
+    let fail = Vec::from_slice(alloc, fail)?;
+    let mut source = MemSource::new(bytes, most, fail);
+    Ok(read_trace(alloc, &mut source))
+}
+
+/// That a job is one for a heap of 64 blocks, with this trace.
+fn expect_job(rt: &impl Abort, job: &Job, trace: &[Command]) {
+    let config = Config {
+        threads: 1,
+        blocks: 64,
+        live: 20,
+        object: 2,
+        shared: 0,
+    };
+    assert_eq!(rt; job.config, config);
+    assert_eq!(rt; job.traces.len(), 1);
+    assert_eq!(rt; job.traces.trace(0), trace);
+}
+
+#[test]
+fn a_job_is_read_in_any_pieces(rt: HostRuntime) -> Result<(), Fail> {
+    let text =
+        b"rtheap 1 threads 1 blocks 64 live 20 object 2 shared 0\nthread 0\nnew 1 2\nput 1 1 1\nget 2 1 1\nget 3 1 2\nnil 1\nsay 1\nsay 2\nget 3 1 0\nsay 0\nend\n";
+    let trace = [
+        Command::New { d: 1, fields: 2 },
+        Command::Put { s: 1, i: 1, v: 1 },
+        Command::Get { d: 2, s: 1, i: 1 },
+        Command::Get { d: 3, s: 1, i: 2 },
+        Command::Nil { d: 1 },
+        Command::Say { s: 1 },
+        Command::Say { s: 2 },
+        Command::Get { d: 3, s: 1, i: 0 },
+        Command::Say { s: 0 },
+    ];
+    for most in [1, 3, 64] {
+        let job = read(rt.alloc(), text, most, &[])??;
+        expect_job(&rt, &job, &trace);
+    }
+    Ok(())
+}
+
+#[test]
+fn a_job_may_be_short(rt: HostRuntime) -> Result<(), Fail> {
+    let text = b"rtheap 1 threads 1 blocks 64 live 20 object 2 shared 0\nthread 0\nend";
+    let job = read(rt.alloc(), text, 64, &[])??;
+    expect_job(&rt, &job, &[]);
+    let fault = read(rt.alloc(), text, 8, &[1])?.err();
+    assert_eq!(rt; fault, Some(TraceFault::ReadFault));
+    Ok(())
+}
+
+/// That reading these bytes is refused with this fault.
+fn expect_fault(
+    rt: &impl Abort,
+    alloc: Global,
+    bytes: &[u8],
+    fault: TraceFault,
+) -> Result<(), Fail> {
+    let found = read(alloc, bytes, 64, &[])?.err();
+    assert_eq!(rt; found, Some(fault));
+    Ok(())
+}
+
+#[test]
+fn all_commands_of_two_threads_are_read(rt: HostRuntime) -> Result<(), Fail> {
+    let text =
+        b"rtheap 1 threads 2 blocks 64 live 20 object 2 shared 4\nthread 0\nnew 1 6\narr 15 4\nset 1 4611686018427387903\nnil 1\nmov 1 2\nthread 1\nget 1 2 3\nput 1 2 3\nlen 1\nsame 1 2\nsay 0\nend\n";
+    let first = [
+        Command::New { d: 1, fields: 6 },
+        Command::Arr { d: 15, elements: 4 },
+        Command::Set {
+            d: 1,
+            value: 4_611_686_018_427_387_903,
+        },
+        Command::Nil { d: 1 },
+        Command::Mov { d: 1, s: 2 },
+    ];
+    let second = [
+        Command::Get { d: 1, s: 2, i: 3 },
+        Command::Put { s: 1, i: 2, v: 3 },
+        Command::Len { s: 1 },
+        Command::Same { a: 1, b: 2 },
+        Command::Say { s: 0 },
+    ];
+    let job = read(rt.alloc(), text, 7, &[])??;
+    assert_eq!(rt; job.traces.len(), 2);
+    assert_eq!(rt; job.traces.trace(0), first.as_slice());
+    assert_eq!(rt; job.traces.trace(1), second.as_slice());
+    Ok(())
+}
+
+#[test]
+fn input_ends_early_or_never(rt: HostRuntime) -> Result<(), Fail> {
+    let text = b"rtheap 1 threads 1 blocks 64 live 20 object 2 shared 0\nthread 0\nnew 1 1";
+    let line = TraceFault::BadLine {
+        line: 4,
+        why: Why::End,
+    };
+    expect_fault(&rt, rt.alloc(), text, line)?;
+    let line = TraceFault::BadLine {
+        line: 1,
+        why: Why::Header,
+    };
+    expect_fault(&rt, rt.alloc(), b"", line)?;
+    let most = vec![in rt.alloc(); b'x'; 16_777_216]?;
+    expect_fault(&rt, rt.alloc(), &most, line)?;
+    let more = vec![in rt.alloc(); b'x'; 16_777_217]?;
+    expect_fault(&rt, rt.alloc(), &more, TraceFault::TooLong)
+}
+
+#[test]
+fn a_thread_has_so_many_commands(rt: HostRuntime) -> Result<(), Fail> {
+    let opening = b"rtheap 1 threads 1 blocks 64 live 20 object 2 shared 0\nthread 0\n";
+    let mut text = Vec::from_slice(rt.alloc(), opening)?;
+    for _ in 0..131_072 {
+        text.extend_from_slice(b"nil 1\n")?;
+    }
+    let full = text.len();
+    text.extend_from_slice(b"end\n")?;
+    let job = read(rt.alloc(), &text, 65_536, &[])??;
+    assert_eq!(rt; job.traces.len(), 1);
+    assert_eq!(rt; job.traces.trace(0).len(), 131_072);
+    text.truncate(full);
+    text.extend_from_slice(b"say 1\nend\n")?;
+    let line = TraceFault::BadLine {
+        line: 131_075,
+        why: Why::Size,
+    };
+    expect_fault(&rt, rt.alloc(), &text, line)
+}
