@@ -5,7 +5,7 @@ use Rattle.block_store.specs.declared.Config.{Config}
 use Rattle.block_store.specs.declared.PhaseWord.{PhaseWord}
 use Rattle.block_store.specs.Heaps.{heap_of}
 use Rattle.block_store.specs.Phases.{bit, inside_of, is_closed, is_sweep, cycle_of}
-use Rattle.block_store.specs.Places.{Place, Phase, OwnerOf, ShapeOf, PayloadOf, extent, in_range}
+use Rattle.block_store.specs.Places.{Place, Phase, OwnerOf, ShapeOf, PayloadOf, extent, in_range, ColourOf}
 use Rattle.block_store.proofs.PhaseWords.{inside-code, sweep-code, closed-code, cycle-code}
 use Rattle.rate_plan.specs.Rates.{IsAdmitted}
 use Rattle.never_heap.specs.declared.Command.{Command}
@@ -124,6 +124,7 @@ module _ (c : Config) (traces : List (List Command)) (job : IsJob c traces) (s :
     locals = λ t tl. subst (λ l. LocalKept c (get_or traces t []) (start_graph c) (Started ∷ []) t l) (sym (here t tl)) (local_start t tl);
     legal = tt;
     foreign = λ u ul. refl;
+    colours = λ x inp. start.words (ColourOf x) inp;
     counts = (refl, refl);
   }
 

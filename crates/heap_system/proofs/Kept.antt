@@ -5,7 +5,7 @@ use Rattle.block_store.specs.declared.Config.{Config}
 use Rattle.block_store.specs.Configs.{IsInBounds}
 use Rattle.block_store.specs.Heaps.{Heap, put_at}
 use Rattle.block_store.specs.Phases.{phase_of, inside_of, is_closed, is_sweep, cycle_of}
-use Rattle.block_store.specs.Places.{Phase, extent, in_range, words_count}
+use Rattle.block_store.specs.Places.{Phase, extent, in_range, words_count, ColourOf}
 use Rattle.block_store.proofs.PhaseWords.{phase-more, phase-less}
 use Rattle.block_store.specs.declared.PhaseWord.{PhaseWord}
 use Rattle.never_heap.specs.declared.Command.{Command}
@@ -52,6 +52,7 @@ use Rattle.heap_system.specs.declared.local.Part.{Part}
 use Rattle.heap_system.specs.declared.local.Part.TheVariants.{Rest, Enter, Serve, Leave}
 use Rattle.heap_system.specs.Locals.{LocalState, command_of, if_entered, if_replied, part_want, part_got, part_reply, decides, entry_of, entries_of, PartFits, IsLocal, PartReads}
 use Rattle.heap_system.specs.Machines.{State, Run, local_at}
+use Rattle.heap_system.specs.Openings.{opening_heap}
 use Rattle.heap_system.specs.Pictures.{gating, stand_of, loading, field_loading, field_waiting, waiting, entries_waiting, heap_in, graph_state}
 use Rattle.heap_system.proofs.LoadedWords.{thread_of, field_reads}
 use Rattle.heap_system.proofs.Moves.{state, IsRowOf, IsKnown, graph_after, FieldStep, field_moves, load_self}
@@ -109,6 +110,7 @@ pub record Kept (c : Config) (traces : List (List Command)) (r : Run) : Type 0 w
   pub locals : (t : ℕ) → t < c.threads → LocalKept c (get_or traces t []) (replay c r.order) r.order t (local_at c r.state t)
   pub legal : Legal c r.order
   pub foreign : (u : ℕ) → c.threads ≤ u → part u r.order ≡ []
+  pub colours : (x : ℕ) → in_range (extent c) (ColourOf x) ≡ true → heap_in c r.state (ColourOf x) ≡ opening_heap c (ColourOf x)
   pub counts : (starts_in r.order ≡ 1) × (work_in r.order ≡ 0)
 
 -- one event of thread t in command k: the heap after it, whether it decides, the part after it, and the reply that it brings. Before it a reply was decided or none.
@@ -165,6 +167,36 @@ field_phase h (rows.LoadSecond t a b word) = refl
 field_phase h (rows.LoadSaid t s) = refl
 field_phase h (rows.LoadSaidOwner t s word) = refl
 field_phase h (rows.Answered reply) = refl
+
+-- a command that allocates nothing writes no colour
+field_colour : (h : Heap) (f : FieldRow) (x : ℕ) → heap_after h (field_want f) (ColourOf x) ≡ h (ColourOf x)
+field_colour h (rows.StoreNumber t d v) x = refl
+field_colour h (rows.StoreNil t d) x = refl
+field_colour h (rows.LoadMoved t d s) x = refl
+field_colour h (rows.StoreMoved t d s word) x = refl
+field_colour h (rows.LoadObject t s access) x = refl
+field_colour h (rows.LoadShape t s y access) x = refl
+field_colour h (rows.LoadValue t walk v) x = refl
+field_colour h (rows.LoadLink t walk errand) x = refl
+field_colour h (rows.LoadField t walk d) x = refl
+field_colour h (rows.LoadOwner t d word) x = refl
+field_colour h (rows.StoreLate t d word value) x = refl
+field_colour h (rows.StoreField t walk v word) x = refl
+field_colour h (rows.LoadFirst t a b) x = refl
+field_colour h (rows.LoadSecond t a b word) x = refl
+field_colour h (rows.LoadSaid t s) x = refl
+field_colour h (rows.LoadSaidOwner t s word) x = refl
+field_colour h (rows.Answered reply) x = refl
+
+pub part_colour : (h : Heap) (p : Part) (x : ℕ) → heap_after h (part_want p) (ColourOf x) ≡ h (ColourOf x)
+part_colour h Rest x = refl
+part_colour h (Enter gates.Look) x = refl
+part_colour h (Enter (gates.Enter seen)) x = elim (cases_Bool (eqb (h Phase) seen)) [ inl e ↦ rw e refl | inr e ↦ rw e refl ]
+part_colour h (Enter (gates.Entered seen)) x = refl
+part_colour h (Enter gates.Leave) x = refl
+part_colour h (Enter gates.Left) x = refl
+part_colour h (Serve f) x = field_colour h f x
+part_colour h Leave x = refl
 
 -- an event that decides a command had nothing decided before it
 deciding_first : (g : Graph) (f : FieldRow) (w : ℕ) → is_deciding f w ≡ true → field_waiting g f ≡ None

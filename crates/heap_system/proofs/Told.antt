@@ -1,9 +1,18 @@
 -- The laws, from what every run keeps.
-use Rattle.std.proofs.Common.{◌≡◌, ℕ, ◌<◌, true, false, List, ◌++◌, ◌∷◌, [], Some, None, append-nil, refl, ap, ◌∙◌}
+use Rattle.std.proofs.Common.{◌≤◌, ◌≡◌, ℕ, ◌<◌, true, false, List, ◌++◌, ◌∷◌, [], Some, None, append-nil, refl, ap, ◌∙◌, ◌+◌, ◌*◌, arith, le-leb}
+use Rattle.std.proofs.lemmas.Bool.{and_from, lt-leb}
+use Rattle.block_store.specs.declared.Name.{Name}
+use Rattle.block_store.specs.Colours.{is_free, white_word}
+use Rattle.block_store.proofs.ColourWords.{not_free_white}
+use Rattle.block_store.specs.Places.{ColourOf, extent, is_block}
+use Rattle.rate_plan.specs.Rates.{IsAdmitted}
+use Rattle.shown_graph.specs.Layouts.{object_blocks}
+use Rattle.heap_system.specs.Openings.{opening_colour}
+use Rattle.heap_system.proofs.Kept.{opening_low}
 use Rattle.block_store.specs.declared.Config.{Config}
 use Rattle.never_heap.specs.declared.Command.{Command}
 use Rattle.never_heap.specs.declared.Reply.{Reply}
-use Rattle.never_heap.specs.Graphs.{Graph, start_graph}
+use Rattle.never_heap.specs.Graphs.{Graph, start_graph, has_name, object_of}
 use Rattle.never_heap.specs.Histories.{replay, part}
 use Rattle.shown_graph.specs.Words.{block_words}
 use Rattle.shown_graph.specs.Shown.{every_name, Shows}
@@ -111,3 +120,14 @@ module _ (c : Config) (traces : List (List Command)) (r : Run) (k : Kept c trace
   pub undecided_told : (f : FieldRow) → (local_at c r.state t).part ≡ Serve f → field_decided f ≡ false → part t r.order ≡ (local_at c r.state t).log
   undecided_told f is e =
       told_at (Serve f) is ∙ ap (λ o. (local_at c r.state t).log ++ entries_of t (command_of (local_at c r.state t)) o) (undecided_waits (replay c r.order) f e) ∙ append-nil (local_at c r.state t).log
+
+-- the blocks of objects are white
+pub not_free : (c : Config) (traces : List (List Command)) → IsAdmitted c → (r : Run) → Kept c traces r → (a : Name) (o : ℕ) → has_name (start_graph c) a ≡ true → o < object_blocks (object_of (replay c r.order) a)
+    → is_free (heap_in c r.state (ColourOf (opening_at c.threads a o))) ≡ false
+not_free c traces plan r k a o ka ol =
+    let x = opening_at c.threads a o in
+    let behind : 5 * c.threads < x = k.shown.shows.placed.behind a o ka ol in
+    let within : x ≤ opening_last c = k.shown.shows.placed.within a o ka ol in
+    let inp : is_block (extent c) x ≡ true = and_from _ _ (le-leb 1 x (omega arith)) (le-leb x c.blocks (omega (arith, opening_low c plan))) in
+    let white : opening_colour c x ≡ white_word 1 = rw (lt-leb x (5 * c.threads) behind, le-leb x (opening_last c) within) refl in
+    ap is_free (k.colours x inp ∙ white) ∙ not_free_white 1

@@ -5,7 +5,7 @@ use Rattle.std.proofs.lemmas.List.{get_or_past}
 use Rattle.block_store.specs.declared.Config.{Config}
 use Rattle.block_store.specs.Configs.{IsInBounds}
 use Rattle.block_store.specs.Heaps.{Heap}
-use Rattle.block_store.specs.Places.{Phase, extent, in_range}
+use Rattle.block_store.specs.Places.{Phase, extent, in_range, ColourOf}
 use Rattle.rate_plan.specs.Rates.{IsAdmitted}
 use Rattle.never_heap.specs.declared.Command.{Command}
 use Rattle.never_heap.specs.declared.Command.TheVariants as commands
@@ -37,7 +37,7 @@ use Rattle.heap_system.specs.Pictures.{gating, loading, field_waiting, waiting, 
 use Rattle.heap_system.proofs.LoadedWords.{thread_of}
 use Rattle.heap_system.proofs.Moves.{state, IsKnown, graph_after}
 use Rattle.heap_system.proofs.Steady.{never_full, register_stays}
-use Rattle.heap_system.proofs.Kept.{PartKept, LocalKept, loads_in, gates_in, Kept, EventKept, part_event, part_reads, part_sum, part_place, IsMark}
+use Rattle.heap_system.proofs.Kept.{PartKept, LocalKept, loads_in, gates_in, Kept, EventKept, part_event, part_reads, part_sum, part_place, part_colour, IsMark}
 
 -- the order with an entry more, or as it was
 module _ (c : Config) (order : List HistoryItem) (t : ℕ) (k : Command) where
@@ -278,6 +278,7 @@ module _ (c : Config) (traces : List (List Command)) (bounds : IsInBounds c) (pl
       locals = each;
       legal = legal_grows c r.order t (command_of (local_at c r.state t)) decides_here kept.legal;
       foreign = λ u ul. part_stays c r.order t (command_of (local_at c r.state t)) decides_here u (λ e. omega arith) ∙ kept.foreign u ul;
+      colours = λ x inp. ap (λ h. h (ColourOf x)) heap_new ∙ part_colour (heap_in c r.state) (local_at c r.state t).part x ∙ kept.colours x inp;
       counts = counts_grow c r.order t (command_of (local_at c r.state t)) decides_here kept.counts;
     }
       where

@@ -5,11 +5,14 @@ ghost use Rattle.std.specs.Prelude.{◌≡◌, ◌<◌, ◌≤◌, ◌++◌, ◌
 ghost use Rattle.block_store.specs.declared.Config.{Config};
 ghost use Rattle.block_store.specs.Heaps.{heap_of};
 ghost use Rattle.block_store.specs.Phases.{bit, inside_of, is_closed, cycle_of};
-ghost use Rattle.block_store.specs.Places.{Place, Phase, extent, in_range};
+ghost use Rattle.block_store.specs.Places.{Place, Phase, ColourOf, extent, in_range};
+ghost use Rattle.block_store.specs.declared.Name.{Name};
+ghost use Rattle.block_store.specs.Colours.{is_free};
+ghost use Rattle.shown_graph.specs.Layouts.{object_blocks};
 ghost use Rattle.rate_plan.specs.Rates.{IsAdmitted};
 ghost use Rattle.never_heap.specs.declared.Command.{Command};
 ghost use Rattle.never_heap.specs.declared.Reply.{Reply};
-ghost use Rattle.never_heap.specs.Graphs.{start_graph};
+ghost use Rattle.never_heap.specs.Graphs.{start_graph, has_name, object_of};
 ghost use Rattle.never_heap.specs.Histories.{replay, part, Legal, starts_in, work_in};
 ghost use Rattle.shown_graph.specs.Words.{block_words, Agrees};
 ghost use Rattle.shown_graph.specs.Shown.{every_name, Shows};
@@ -34,10 +37,13 @@ pub fn opening_shows_the_start()
 {}
 
 /// The words show the replay of the order. Between the load of the field and the store of a `get`, its
-/// register's word is still that of an earlier value. What a thread has loaded is of that graph.
+/// register's word is still that of an earlier value. What a thread has loaded is of that graph, and
+/// no block of an object is Free.
 pub fn words_show_the_order()
     ensures words { (c : Config) (traces : List (List Command)) (ts : List ℕ) (r : Run) → IsJob c traces → IsRunOf c traces ts r
         → Shows c.threads (opening_last c) (every_name (start_graph c)) (replay c r.order) (opening_at c.threads) (block_words (heap_in c r.state)) (λ t q. is_late (local_at c r.state t).part q) }
+    ensures free { (c : Config) (traces : List (List Command)) (ts : List ℕ) (r : Run) → IsJob c traces → IsRunOf c traces ts r → (a : Name) (o : ℕ) → has_name (start_graph c) a ≡ true → o < object_blocks (object_of (replay c r.order) a)
+        → is_free (heap_in c r.state (ColourOf (opening_at c.threads a o))) ≡ false }
     ensures loads { (c : Config) (traces : List (List Command)) (ts : List ℕ) (r : Run) → IsJob c traces → IsRunOf c traces ts r
         → Follows c.threads (opening_last c) (every_name (start_graph c)) (opening_at c.threads) (graph_state c r) }
 {}

@@ -1,5 +1,5 @@
 use Rattle.heap_system.proofs.Always.{run_kept}
-use Rattle.heap_system.proofs.Told.{words_shown}
+use Rattle.heap_system.proofs.Told.{words_shown, not_free}
 use Rattle.heap_system.proofs.laws.words_show_the_order.Goals as goal
 
 pub returns-clause-words : goal.returns-clause-words
@@ -7,3 +7,6 @@ returns-clause-words _ c traces ts r job is = words_shown c traces r (run_kept c
 
 pub returns-clause-loads : goal.returns-clause-loads
 returns-clause-loads _ c traces ts r job is = (run_kept c traces ts r job is).shown
+
+pub returns-clause-free : goal.returns-clause-free
+returns-clause-free _ c traces ts r job is a o ka ol = not_free c traces job.plan r (run_kept c traces ts r job is) a o ka ol

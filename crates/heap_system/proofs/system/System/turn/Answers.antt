@@ -4,7 +4,6 @@ use Rattle.heap_system.specs.Systems.{Whole}
 use Rattle.heap_system.specs.declared.system.System.TheInside.{Inside}
 use Rattle.heap_system.proofs.Reached.{TurnMade, cell_here, sum_here, reads_here, turn_made}
 use Rattle.heap_system.proofs.system.System.turn.Goals as goal
-use Rattle.heap_system.proofs.system.System.turn.Goals.{After-self-2-1}
 
 -- the fields of what is seen
 threads_of : (s : Inside) (w : Whole) (t : ℕ) → record { config = s.config; state = record { words = s.words; locals = s.locals.items } } ≡ w → t < w.config.threads → t < s.config.threads
@@ -19,15 +18,12 @@ act-word-requires-clause-sum c = sum_here c.self.inside.config (record { words =
 pub got-requires-clause-word : goal.got-requires-clause-word
 got-requires-clause-word c = reads_here c.self.inside.config (record { words = c.self.inside.words; locals = c.self.inside.locals.items }) c.args.thread c.index_mut-local.result.now c.self.invariant (threads_of c.self.inside c.args.self.now c.args.thread c.self.view_is c.requires) c.index_mut-local.ensures.value c.want.result c.want.ensures c.act-word.result c.act-word.ensures.before
 
-made : (c : After-self-2-1) → TurnMade c.self.inside.config (record { words = c.self.inside.words; locals = c.self.inside.locals.items }) c.args.thread c.act-word.new.self c.got.new.self c.got.result
-made c = turn_made c.self.inside.config (record { words = c.self.inside.words; locals = c.self.inside.locals.items }) c.args.thread c.index_mut-local.result.now c.self.invariant (threads_of c.self.inside c.args.self.now c.args.thread c.self.view_is c.requires) c.index_mut-local.ensures.value c.want.result c.want.ensures c.act-word.result c.act-word.ensures.before (sym c.done.ensures ∙ c.if-done.false) c.act-word.new.self c.got.new.self c.got.result c.act-word.ensures.after c.got.ensures.local c.got.ensures.turn
-
 pub invariant_of-self-2 : goal.invariant_of-self-2
-invariant_of-self-2 c = (made c).reached
+invariant_of-self-2 c = (turn_made c.self.inside.config (record { words = c.self.inside.words; locals = c.self.inside.locals.items }) c.args.thread c.index_mut-local.result.now c.self.invariant (threads_of c.self.inside c.args.self.now c.args.thread c.self.view_is c.requires) c.index_mut-local.ensures.value c.want.result c.want.ensures c.act-word.result c.act-word.ensures.before (sym c.done.ensures ∙ c.if-done.false) c.act-word.new.self c.got.new.self c.got.result c.act-word.ensures.after c.got.ensures.local c.got.ensures.turn).reached
 
 pub returns-clause-state : goal.returns-clause-state
 returns-clause-state c =
-    ap (λ (s : State). let w : Whole = record { config = c.self.inside.config; state = s } in w) (made c).state ∙ ap (λ (w : Whole). record { config = w.config; state = turned w.config c.args.thread w.state }) c.self.view_is
+    ap (λ (s : State). let w : Whole = record { config = c.self.inside.config; state = s } in w) (turn_made c.self.inside.config (record { words = c.self.inside.words; locals = c.self.inside.locals.items }) c.args.thread c.index_mut-local.result.now c.self.invariant (threads_of c.self.inside c.args.self.now c.args.thread c.self.view_is c.requires) c.index_mut-local.ensures.value c.want.result c.want.ensures c.act-word.result c.act-word.ensures.before (sym c.done.ensures ∙ c.if-done.false) c.act-word.new.self c.got.new.self c.got.result c.act-word.ensures.after c.got.ensures.local c.got.ensures.turn).state ∙ ap (λ (w : Whole). record { config = w.config; state = turned w.config c.args.thread w.state }) c.self.view_is
 
 pub returns-clause-answer : goal.returns-clause-answer
-returns-clause-answer c = (made c).answered ∙ ap (λ (w : Whole). answer w.config c.args.thread w.state) c.self.view_is
+returns-clause-answer c = (turn_made c.self.inside.config (record { words = c.self.inside.words; locals = c.self.inside.locals.items }) c.args.thread c.index_mut-local.result.now c.self.invariant (threads_of c.self.inside c.args.self.now c.args.thread c.self.view_is c.requires) c.index_mut-local.ensures.value c.want.result c.want.ensures c.act-word.result c.act-word.ensures.before (sym c.done.ensures ∙ c.if-done.false) c.act-word.new.self c.got.new.self c.got.result c.act-word.ensures.after c.got.ensures.local c.got.ensures.turn).answered ∙ ap (λ (w : Whole). answer w.config c.args.thread w.state) c.self.view_is
