@@ -1,5 +1,5 @@
 -- The laws, from what every run keeps.
-use Rattle.std.proofs.Common.{◌≤◌, ◌≡◌, ℕ, ◌<◌, true, false, List, ◌++◌, ◌∷◌, [], Some, None, append-nil, refl, ap, ◌∙◌, ◌+◌, ◌*◌, arith, le-leb}
+use Rattle.std.proofs.Common.{◌≤◌, ◌≡◌, ℕ, ◌<◌, true, false, List, ◌++◌, ◌∷◌, [], Some, None, append-nil, refl, ap, ◌∙◌, ◌*◌, arith, le-leb}
 use Rattle.std.proofs.lemmas.Bool.{and_from, lt-leb}
 use Rattle.block_store.specs.declared.Name.{Name}
 use Rattle.block_store.specs.Colours.{is_free, white_word}

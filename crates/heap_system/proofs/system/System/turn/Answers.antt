@@ -2,7 +2,7 @@ use Rattle.std.proofs.Common.{◌≡◌, ◌<◌, ℕ, sym, ap, ◌∙◌, subst
 use Rattle.heap_system.specs.Machines.{State, turned, answer}
 use Rattle.heap_system.specs.Systems.{Whole}
 use Rattle.heap_system.specs.declared.system.System.TheInside.{Inside}
-use Rattle.heap_system.proofs.Reached.{TurnMade, cell_here, sum_here, reads_here, turn_made}
+use Rattle.heap_system.proofs.Reached.{cell_here, sum_here, reads_here, turn_made}
 use Rattle.heap_system.proofs.system.System.turn.Goals as goal
 
 -- the fields of what is seen
