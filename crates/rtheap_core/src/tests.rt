@@ -257,123 +257,75 @@ fn jobs_of_several_threads_are_put_off(rt: HostRuntime) -> Result<(), Fail> {
 #[test]
 fn plan_tells_the_rate_or_why_there_is_none(rt: HostRuntime) -> Result<(), Fail> {
     let alloc = rt.alloc();
-    answers(
-        &rt,
-        rt.alloc(),
-        "plan",
-        heap(alloc, 64, 20)?.as_str(),
-        0,
-        "rate 7\n",
-    )?;
-    answers(
-        &rt,
-        rt.alloc(),
-        "plan",
-        heap(alloc, 26, 20)?.as_str(),
-        0,
-        "rate 52\n",
-    )?;
-    for word in ["plan", "run"] {
-        let no_rate = heap(alloc, 25, 20)?;
-        answers(
-            &rt,
-            rt.alloc(),
-            word,
-            no_rate.as_str(),
-            4,
-            "rtheap: no rate\n",
-        )?;
-        for blocks in [64, 10] {
-            let small = heap(alloc, blocks, 5)?;
-            answers(
-                &rt,
-                rt.alloc(),
-                word,
-                small.as_str(),
-                4,
-                "rtheap: live limit too small\n",
-            )?;
-        }
+    for (word, blocks, live, status, line) in [
+        ("plan", 64, 20, 0, "rate 7\n"),
+        ("plan", 26, 20, 0, "rate 52\n"),
+        ("plan", 25, 20, 4, "rtheap: no rate\n"),
+        ("run", 25, 20, 4, "rtheap: no rate\n"),
+        ("plan", 64, 5, 4, "rtheap: live limit too small\n"),
+        ("run", 64, 5, 4, "rtheap: live limit too small\n"),
+        ("plan", 10, 5, 4, "rtheap: live limit too small\n"),
+    ] {
+        let text = heap(alloc, blocks, live)?;
+        answers(&rt, alloc, word, text.as_str(), status, line)?;
     }
     Ok(())
 }
+
+/// Inputs that are refused, each with its line and reason.
+const REFUSED: [(&str, &str); 5] = [
+    ("", "line 1: header"),
+    (
+        "rtheap 3 threads 1 blocks 64 live 20 object 2 shared 0\n",
+        "line 1: header",
+    ),
+    (
+        "rtheap 1 threads 01 blocks 64 live 20 object 2 shared 0\n",
+        "line 1: number",
+    ),
+    (
+        "rtheap 1 threads 0 blocks 64 live 20 object 2 shared 0\n",
+        "line 1: size",
+    ),
+    (
+        "rtheap 1 threads 1 blocks 64 live 20 object 2 shared 0\nthread 0\nnew 1 1\n",
+        "line 4: end",
+    ),
+];
+
+/// Lines behind the header of one thread that are refused, each with its line and reason.
+const REFUSED_LINES: [(&str, &str); 12] = [
+    ("thread 1\n", "line 2: order"),
+    ("new 1 1\n", "line 2: order"),
+    ("thread 0\npush 1 1\n", "line 3: word"),
+    ("thread 0\n\n", "line 3: word"),
+    ("thread 0\nnew 1\n", "line 3: count"),
+    ("thread 0\nnew  1 1\n", "line 3: count"),
+    ("thread 0\nnew 1 x\n", "line 3: number"),
+    ("thread 0\nnew 16 1\n", "line 3: register"),
+    ("thread 0\nset 1 4611686018427387904\n", "line 3: size"),
+    ("thread 0\nnew 1 7\n", "line 3: size"),
+    ("thread 0\narr 1 5\n", "line 3: size"),
+    ("thread 0\nend\nnil 1\n", "line 4: end"),
+];
 
 #[test]
 fn the_first_bad_line_is_named_with_its_reason(rt: HostRuntime) -> Result<(), Fail> {
     let alloc = rt.alloc();
     for word in ["plan", "run"] {
-        answers(&rt, rt.alloc(), word, "", 3, "rtheap: line 1: header\n")?;
-        answers(
-            &rt,
-            rt.alloc(),
-            word,
-            "rtheap 3 threads 1 blocks 64 live 20 object 2 shared 0\n",
-            3,
-            "rtheap: line 1: header\n",
-        )?;
-        answers(
-            &rt,
-            rt.alloc(),
-            word,
-            "rtheap 1 threads 01 blocks 64 live 20 object 2 shared 0\n",
-            3,
-            "rtheap: line 1: number\n",
-        )?;
-        answers(
-            &rt,
-            rt.alloc(),
-            word,
-            "rtheap 1 threads 0 blocks 64 live 20 object 2 shared 0\n",
-            3,
-            "rtheap: line 1: size\n",
-        )?;
-        let open = format!(in alloc; "{HEADER}new 1 1\n")?;
-        answers(
-            &rt,
-            rt.alloc(),
-            word,
-            open.as_str(),
-            3,
-            "rtheap: line 4: end\n",
-        )?;
+        for (input, reason) in REFUSED {
+            let refusal = format!(in alloc; "rtheap: {reason}\n")?;
+            answers(&rt, alloc, word, input, 3, refusal.as_str())?;
+        }
+        for (lines, reason) in REFUSED_LINES {
+            let text = format!(in alloc;
+                "rtheap 1 threads 1 blocks 64 live 20 object 2 shared 0\n{lines}end\n"
+            )?;
+            let refusal = format!(in alloc; "rtheap: {reason}\n")?;
+            answers(&rt, alloc, word, text.as_str(), 3, refusal.as_str())?;
+        }
     }
-    for (line, why) in [
-        ("push 1 1", "word"),
-        ("", "word"),
-        ("new 1", "count"),
-        ("new  1 1", "count"),
-        ("new 1 x", "number"),
-        ("new 16 1", "register"),
-        ("set 1 4611686018427387904", "size"),
-        ("new 1 7", "size"),
-        ("arr 1 5", "size"),
-    ] {
-        let text = job(alloc, format!(in alloc; "{line}\n")?.as_str())?;
-        let refusal = format!(in alloc; "rtheap: line 3: {why}\n")?;
-        answers(&rt, rt.alloc(), "run", text.as_str(), 3, refusal.as_str())?;
-    }
-    for second in ["thread 1", "new 1 1"] {
-        let text = format!(in alloc;
-            "rtheap 1 threads 1 blocks 64 live 20 object 2 shared 0\n{second}\nend\n"
-        )?;
-        answers(
-            &rt,
-            rt.alloc(),
-            "run",
-            text.as_str(),
-            3,
-            "rtheap: line 2: order\n",
-        )?;
-    }
-    let behind = format!(in alloc; "{HEADER}end\nnil 1\n")?;
-    answers(
-        &rt,
-        rt.alloc(),
-        "run",
-        behind.as_str(),
-        3,
-        "rtheap: line 4: end\n",
-    )
+    Ok(())
 }
 
 #[test]
