@@ -134,8 +134,10 @@ pub all_done : (c : Config) (s : State) (k : IsReached c s) → AllDone c s → 
 all_done c s k done = record {
   turns = k.turns;
   run = k.run;
+  job = k.job;
   by_turns = k.by_turns;
   done = subst (λ x. AllDone c x) k.state done;
+  logged = ap logs_of k.state;
   parts_logged = logs_are s.locals 0 k.run.order (no_local c) (λ i low. (let e : 0 + i ≡ i = omega arith in ap (λ u. part u k.run.order) e ∙ logged i (omega (arith, kept.threads)))) ∙ ap (λ n. parts_from 0 n k.run.order) kept.threads;
   legal = kept.legal;
   traces_whole = whole;

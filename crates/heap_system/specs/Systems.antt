@@ -41,8 +41,10 @@ pub record IsReached (c : Config) (s : State) : Type 0 where
 pub record IsFinished (c : Config) (traces : List (List Command)) (logs : List (List Entry)) : Type 0 where
   pub turns : List ℕ
   pub run : Run
+  pub job : IsJob c traces
   pub by_turns : IsRunOf c traces turns run
   pub done : AllDone c run.state
+  pub logged : logs ≡ logs_of run.state
   pub parts_logged : logs ≡ parts c.threads run.order
   pub legal : Legal c run.order
   pub traces_whole : HasTraces traces run.order

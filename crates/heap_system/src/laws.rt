@@ -4,7 +4,7 @@
 ghost use Rattle.std.specs.Prelude.{◌≡◌, ◌<◌, ◌≤◌, ◌++◌, ◌∷◌, [], ℕ, List, true, false, if◌then◌else◌, slice_index_or};
 ghost use Rattle.block_store.specs.declared.Config.{Config};
 ghost use Rattle.block_store.specs.Heaps.{heap_of};
-ghost use Rattle.block_store.specs.Phases.{bit, inside_of, is_closed, cycle_of};
+ghost use Rattle.block_store.specs.Phases.{bit, inside_of, is_closed, is_sweep, cycle_of};
 ghost use Rattle.block_store.specs.Places.{Place, Phase, ColourOf, extent, in_range};
 ghost use Rattle.block_store.specs.declared.Name.{Name};
 ghost use Rattle.block_store.specs.Colours.{is_free};
@@ -28,7 +28,7 @@ ghost use Rattle.heap_system.specs.Locals.{is_done, waits, is_rest, command_of, 
 ghost use Rattle.heap_system.specs.Machines.{State, answer, turned, Run, IsJob, IsRunOf, local_at, word_read};
 ghost use Rattle.heap_system.specs.Openings.{opening_heap};
 ghost use Rattle.heap_system.specs.declared.Turn.TheVariants as Turn;
-ghost use Rattle.heap_system.specs.Pictures.{stand_of, loading, is_late, heap_in, graph_state};
+ghost use Rattle.heap_system.specs.Pictures.{stand_of, loading, is_late, heap_in, graph_state, entries_waiting};
 
 /// The words of an opening are those of the start graph, up to the last block of the shared array.
 pub fn opening_shows_the_start()
@@ -55,8 +55,10 @@ pub fn order_is_legal()
 {}
 
 /// A thread's log is its part of the order, reply for reply. Between the deciding event of a command
-/// and its last event inside, the order has one entry more. A thread at rest holds nothing.
+/// and its last event inside, the order has one entry more, with the reply that the log will have. A
+/// thread at rest holds nothing.
 pub fn logs_are_parts()
+    ensures each { (c : Config) (traces : List (List Command)) (ts : List ℕ) (r : Run) → IsJob c traces → IsRunOf c traces ts r → (t : ℕ) → t < c.threads → part t r.order ≡ (local_at c r.state t).log ++ entries_waiting (replay c r.order) (local_at c r.state t) }
     ensures rest { (c : Config) (traces : List (List Command)) (ts : List ℕ) (r : Run) → IsJob c traces → IsRunOf c traces ts r → (t : ℕ) → t < c.threads → is_rest (local_at c r.state t).part ≡ true
         → (part t r.order ≡ (local_at c r.state t).log) × (loading (local_at c r.state t).part ≡ unloaded) }
     ensures decided { (c : Config) (traces : List (List Command)) (ts : List ℕ) (r : Run) → IsJob c traces → IsRunOf c traces ts r → (t : ℕ) → t < c.threads → (f : FieldRow) → (local_at c r.state t).part ≡ Serve f → field_decided f ≡ true
@@ -65,11 +67,12 @@ pub fn logs_are_parts()
         → part t r.order ≡ (local_at c r.state t).log }
 {}
 
-/// The phase word counts the threads inside, at most all of them; the gate stays open, in cycle 1.
+/// The phase word counts the threads inside, at most all of them; the gate stays open, in
+/// cycle 1 and its Mark.
 pub fn threads_inside_are_counted()
     ensures count { (c : Config) (traces : List (List Command)) (ts : List ℕ) (r : Run) → IsJob c traces → IsRunOf c traces ts r → inside_of (heap_in c r.state Phase) ≡ total c.threads (λ t. bit (is_inside (stand_of (local_at c r.state t).part))) }
     ensures most { (c : Config) (traces : List (List Command)) (ts : List ℕ) (r : Run) → IsJob c traces → IsRunOf c traces ts r → inside_of (heap_in c r.state Phase) ≤ c.threads }
-    ensures opened { (c : Config) (traces : List (List Command)) (ts : List ℕ) (r : Run) → IsJob c traces → IsRunOf c traces ts r → (is_closed (heap_in c r.state Phase) ≡ false) × (cycle_of (heap_in c r.state Phase) ≡ 1) }
+    ensures opened { (c : Config) (traces : List (List Command)) (ts : List ℕ) (r : Run) → IsJob c traces → IsRunOf c traces ts r → (is_closed (heap_in c r.state Phase) ≡ false) × (cycle_of (heap_in c r.state Phase) ≡ 1) × (is_sweep (heap_in c r.state Phase) ≡ false) }
 {}
 
 /// A turn waits exactly where it looks at a closed gate, and where another thread changed the phase

@@ -2,6 +2,9 @@ use Rattle.heap_system.proofs.Always.{run_kept}
 use Rattle.heap_system.proofs.Told.{rest_told, decided_told, undecided_told}
 use Rattle.heap_system.proofs.laws.logs_are_parts.Goals as goal
 
+pub returns-clause-each : goal.returns-clause-each
+returns-clause-each _ c traces ts r job is t tl = ((run_kept c traces ts r job is).locals t tl).told
+
 pub returns-clause-rest : goal.returns-clause-rest
 returns-clause-rest _ c traces ts r job is t tl e = rest_told c traces r (run_kept c traces ts r job is) t tl e
 

@@ -13,4 +13,4 @@ pub returns-clause-most : goal.returns-clause-most
 returns-clause-most _ c traces ts r job is = inside_most c.threads (heap_in c r.state Phase) (gates_in c r.state) (run_kept c traces ts r job is).gate
 
 pub returns-clause-opened : goal.returns-clause-opened
-returns-clause-opened _ c traces ts r job is = let p = (run_kept c traces ts r job is).phase in (p.opened, p.cycle)
+returns-clause-opened _ c traces ts r job is = let p = (run_kept c traces ts r job is).phase in (p.opened, p.cycle, p.sweep)
