@@ -28,18 +28,17 @@ fn without_memory(rt: &HostRuntime) -> u8 {
 }
 
 /// Does what the program's words ask for, and says with which status the program ends. What is
-/// written to standard output goes out in large pieces; the last goes out here.
+/// written to standard output goes out in large pieces; the last goes out here, where none failed.
 fn run(rt: &HostRuntime) -> Result<u8, AllocError> {
     let words = words_of(rt)?;
     let mut source = StdSource::new(rt.stdin());
     let mut out = BufWriter::new(rt.alloc(), rt.stdout()).map_err(|_| AllocError)?;
     let mut sink = StdSink::new(&mut out);
     let exit = rtheap(rt, rt.alloc(), &words, &mut source, &mut sink, &NoPace);
-    Ok(if out.flush().is_ok() {
-        exit.status
-    } else {
-        WRITE_FAULT
-    })
+    if exit.status != WRITE_FAULT && out.flush().is_err() {
+        return Ok(WRITE_FAULT);
+    }
+    Ok(exit.status)
 }
 
 /// The words behind the program's name. Words of which one is no text are no words that the

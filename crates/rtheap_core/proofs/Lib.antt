@@ -8,3 +8,4 @@ pub mod Openings
 pub mod RunsOn
 pub mod Headlines
 pub mod Verdicts
+pub mod Taken

@@ -11,7 +11,7 @@ use Rattle.trace_text.specs.Jobs.{input_limit}
 use Rattle.trace_text.specs.Lines.{line_feed}
 use Rattle.trace_text.specs.Reasons.{reason_text}
 use Rattle.trace_text.specs.Refusals.{IsFirstBadLine}
-use Rattle.trace_text.specs.Streams.{Appends, AppendsFront, IsAtEnd}
+use Rattle.trace_text.specs.Streams.{Appends, AppendsFront, IsAtEnd, TookAtMost}
 use Rattle.rtheap_core.specs.declared.refusal.Refusal.{Refusal}
 use Rattle.rtheap_core.specs.declared.refusal.Refusal.TheVariants.{Usage, BadLine, TooLong, LiveTooSmall, NoRate, Later, ReadFault, OutOfMemory}
 use Rattle.rtheap_core.specs.Exits.{AskForRun, Ask, IsReadAs}
@@ -69,7 +69,7 @@ IsCause words left left_now before now Later = AskForRun words × IsJobWith (λ 
 IsCause words left left_now before now LiveTooSmall = Ask words × IsJobWith (λ job. IsRefusal job.config plans.LiveTooSmall) left left_now × (now ≡ before)
 IsCause words left left_now before now NoRate = Ask words × IsJobWith (λ job. IsRefusal job.config plans.NoRate) left left_now × (now ≡ before)
 IsCause words left left_now before now ReadFault = Ask words × Rose before now
-IsCause words left left_now before now OutOfMemory = Ask words × (now ≡ before)
+IsCause words left left_now before now OutOfMemory = Ask words × TookAtMost (input_limit + 1) left left_now × (now ≡ before)
 
 -- A refused call: its status is that of a refusal with its cause, and the refusal's line was appended, or a front of it.
 pub record Refused (words : List (List ℕ)) (left left_now held held_now : Option (List ℕ)) (before now status due : ℕ) : Type 0 where

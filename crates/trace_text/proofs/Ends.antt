@@ -9,7 +9,7 @@ use Rattle.trace_text.specs.declared.trace_faults.TraceFault.{TraceFault}
 use Rattle.trace_text.specs.declared.trace_faults.TraceFault.TheVariants.{ReadFault, TooLong, BadLine, OutOfMemory}
 use Rattle.trace_text.specs.Jobs.{IsJobInBounds, IsJob, IsInput}
 use Rattle.trace_text.specs.Refusals.{IsFirstBadLine}
-use Rattle.trace_text.specs.Streams.{IsAtEnd}
+use Rattle.trace_text.specs.Streams.{IsAtEnd, TookAtMost}
 use Rattle.trace_text.specs.Wholes.{IsLineFault}
 use Rattle.trace_text.specs.Inputs.{HasRead, IsRead, IsRefused, StopsAt}
 use Rattle.trace_text.proofs.OneJob.{one_job}
@@ -62,12 +62,17 @@ whatever : (r : Result Job TraceFault) (P : Job → Type 0) → ((job : Job) →
 whatever (Ok job) P h = h job
 whatever (Err e) P h = tt
 
-ends_by : (r : Result Job TraceFault) (input : List ℕ) (old new : Option (List ℕ)) → Answers r input → IsAtEnd old new → StopsAt r old new
-ends_by (Ok job) input old new is ended = ended
-ends_by (Err ReadFault) input old new is ended = tt
-ends_by (Err TooLong) input old new is ended = absurd is
-ends_by (Err (BadLine line why)) input old new is ended = ended
-ends_by (Err OutOfMemory) input old new is ended = tt
+ended_few : (old new : Option (List ℕ)) (input : List ℕ) → length input ≤ 16777216 → HasRead old input new → TookAtMost 16777217 old new
+ended_few None new input short read = tt
+ended_few (Some bytes) new input short read =
+    (length input, omega arith, read.2 ∙ ap Some (sym (ap (drop (length input)) read.1 ∙ drop_at input read.0 (length input) refl)))
+
+ends_by : (r : Result Job TraceFault) (input : List ℕ) (old new : Option (List ℕ)) → Answers r input → IsAtEnd old new → TookAtMost 16777217 old new → StopsAt r old new
+ends_by (Ok job) input old new is ended few = ended
+ends_by (Err ReadFault) input old new is ended few = tt
+ends_by (Err TooLong) input old new is ended few = absurd is
+ends_by (Err (BadLine line why)) input old new is ended few = ended
+ends_by (Err OutOfMemory) input old new is ended few = few
 
 -- what is known of each source's bytes
 pub record Known (r : Result Job TraceFault) (old : Option (List ℕ)) : Type 0 where
@@ -93,8 +98,8 @@ known r (Some bytes) new input is short read ended =
       bad_line = λ line why e. (few, blamed r bytes told line why e);
     }
 
-pub stops : (r : Result Job TraceFault) (old new : Option (List ℕ)) (input : List ℕ) → Answers r input → IsAtEnd old new → StopsAt r old new
-stops r old new input is ended = ends_by r input old new is ended
+pub stops : (r : Result Job TraceFault) (old new : Option (List ℕ)) (input : List ℕ) → Answers r input → length input ≤ 16777216 → HasRead old input new → IsAtEnd old new → StopsAt r old new
+stops r old new input is short read ended = ends_by r input old new is ended (ended_few old new input short read)
 
 -- a source that told too many bytes was read as far as the first of them
 pub stops_early : (old new : Option (List ℕ)) (input : List ℕ) → length input ≡ 16777217 → HasRead old input new → IfSome old (λ bytes. new ≡ Some (drop 16777217 bytes))

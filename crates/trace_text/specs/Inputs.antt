@@ -4,7 +4,7 @@ use Rattle.trace_text.specs.declared.jobs.Job.{Job}
 use Rattle.trace_text.specs.declared.trace_faults.TraceFault.{TraceFault}
 use Rattle.trace_text.specs.declared.trace_faults.TraceFault.TheVariants.{ReadFault, TooLong, BadLine, OutOfMemory}
 use Rattle.trace_text.specs.Jobs.{input_limit}
-use Rattle.trace_text.specs.Streams.{IsAtEnd}
+use Rattle.trace_text.specs.Streams.{IsAtEnd, TookAtMost}
 use Rattle.trace_text.specs.Faults.{Rose}
 
 -- the first k bytes that were left stand behind what was read before, and the others are left
@@ -41,10 +41,17 @@ abbrev pub IsRefused : Result Job TraceFault → TraceFault → Type 0
 IsRefused (Ok job) due = ⊥
 IsRefused (Err fault) due = (fault ≡ due) ⊎ IsOfNoByte fault
 
--- how far a source was read: to its end for a job or a bad line, and to the first byte too many
+-- where memory ran out, at most so many bytes were taken
+abbrev pub TookFew : TraceFault → ℕ → Option (List ℕ) → Option (List ℕ) → Type 0
+TookFew ReadFault most old new = Unit {0}
+TookFew TooLong most old new = Unit {0}
+TookFew (BadLine line why) most old new = Unit {0}
+TookFew OutOfMemory most old new = TookAtMost most old new
+
+-- how far a source was read: to its end for a job or a bad line, and else to the first byte too many at the furthest
 abbrev pub StopsAt : Result Job TraceFault → Option (List ℕ) → Option (List ℕ) → Type 0
 StopsAt (Ok job) old new = IsAtEnd old new
 StopsAt (Err ReadFault) old new = Unit {0}
 StopsAt (Err TooLong) old new = IfSome old (λ bytes. new ≡ Some (drop (input_limit + 1) bytes))
 StopsAt (Err (BadLine line why)) old new = IsAtEnd old new
-StopsAt (Err OutOfMemory) old new = Unit {0}
+StopsAt (Err OutOfMemory) old new = TookAtMost (input_limit + 1) old new

@@ -19,6 +19,10 @@ AppendsFront old new text = IfSome old (λ bytes. (k : ℕ) × (new ≡ Some (by
 abbrev pub IsAtEnd : Option (List ℕ) → Option (List ℕ) → Type 0
 IsAtEnd old new = IfSome old (λ bytes. new ≡ Some [])
 
+-- of the bytes that were left at most so many were taken, the first ones
+abbrev pub TookAtMost : ℕ → Option (List ℕ) → Option (List ℕ) → Type 0
+TookAtMost most old new = IfSome old (λ bytes. (k : ℕ) × (k ≤ most) × (new ≡ Some (drop k bytes)))
+
 -- a stream that told its bytes still tells them
 abbrev pub StillTells : Option (List ℕ) → Option (List ℕ) → Type 0
 StillTells old new = IsSome old → IsSome new

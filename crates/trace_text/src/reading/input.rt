@@ -2,7 +2,7 @@
 
 ghost use Rattle.std.specs.Prelude.{◌≡◌, ◌+◌, ◌<◌, ◌≤◌, ◌++◌, [], take, length, vec_len, IfOk, IfErr, IfSome, MatchResult};
 ghost use Rattle.trace_text.specs.Streams.{IsAtEnd, StillTells};
-ghost use Rattle.trace_text.specs.Inputs.{HasRead, Adds, CountsFault, IsOfNoByte};
+ghost use Rattle.trace_text.specs.Inputs.{HasRead, Adds, CountsFault, IsOfNoByte, TookFew};
 
 use crate::sources::Source;
 use crate::trace_faults::TraceFault;
@@ -21,6 +21,7 @@ pub fn input_of<S: Source>(alloc: Global, source: &mut S) -> Result<Vec<u8>, Tra
     ensures within { IfOk result (λ input. vec_len input ≤ INPUT_LIMIT + 1) }
     ensures ended { IfOk result (λ input. vec_len input ≤ INPUT_LIMIT
         → IsAtEnd (S.left source.old) (S.left source.new)) }
+    ensures few { IfErr result (λ fault. TookFew fault (INPUT_LIMIT + 1) (S.left source.old) (S.left source.new)) }
     ensures cause_alone { IfErr result IsOfNoByte }
     ensures cause { MatchResult result (λ _. S.faults source.new ≡ S.faults source.old)
         (λ fault. CountsFault fault (S.faults source.old) (S.faults source.new)) }
@@ -50,6 +51,7 @@ fn take_into<S: Source>(
     ensures len { IfOk result (λ k.
         (k ≤ length piece.old) × (vec_len input.new ≡ vec_len input.old + k)) }
     ensures end { IfOk result (λ k. k ≡ 0 → IsAtEnd (S.left source.old) (S.left source.new)) }
+    ensures few { IfErr result (λ fault. TookFew fault (length piece.old) (S.left source.old) (S.left source.new)) }
     ensures cause_alone { IfErr result IsOfNoByte }
     ensures cause { MatchResult result (λ _. S.faults source.new ≡ S.faults source.old)
         (λ fault. CountsFault fault (S.faults source.old) (S.faults source.new)) }

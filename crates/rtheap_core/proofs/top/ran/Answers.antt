@@ -4,12 +4,19 @@ use Rattle.trace_text.specs.declared.jobs.Job.{Job}
 use Rattle.rate_plan.specs.Rates.{IsAdmitted}
 use Rattle.rtheap_core.specs.Exits.{IsReadAs}
 use Rattle.rtheap_core.specs.Runnable.{CanRun}
+use Rattle.rtheap_core.proofs.Taken.{few_taken}
 use Rattle.rtheap_core.proofs.top.ran.Goals as goal
 
 pub returns-in_err-job-clause-refused : goal.returns-in_err-job-clause-refused
 returns-in_err-job-clause-refused g c =
     let p = err_from_is_err_and c.from_residual.result c.from_residual.ensures.1 in
     rw (p.1, p.2) (λ words asked. c.in_err-job.ensures.refused words (inl asked))
+
+pub returns-in_err-run-clause-refused : goal.returns-in_err-run-clause-refused
+returns-in_err-run-clause-refused g c =
+    let p = err_from_is_err_and c.from_residual-in_err-run.result c.from_residual-in_err-run.ensures.1 in
+    let few = few_taken (g.S.Source.left c.args.source.now) (g.S.Source.left c.planned_job.new.source) _ c.in_ok-job.ensures.read in
+    rw (p.1, p.2) (λ words asked. (inl asked, few, c.in_ok-job.ensures.still))
 
 pub returns-clause-ran : goal.returns-clause-ran
 returns-clause-ran g c =

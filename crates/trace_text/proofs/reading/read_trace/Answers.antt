@@ -96,4 +96,4 @@ returns-clause-stopped g c =
     let input = c.in_ok-input.input in
     let is = subst (λ (i : List ℕ). Answers c.job_of.result i) c.deref.ensures.value c.job_of.ensures in
     let short : length input.items ≤ 16777216 = omega (arith, input.ok.0) in
-    stops c.job_of.result (left c.args.source.now) (left c.input_of.new.source) input.items is (c.in_ok-input.ensures.ended (omega arith))
+    stops c.job_of.result (left c.args.source.now) (left c.input_of.new.source) input.items is short c.in_ok-input.ensures.read (c.in_ok-input.ensures.ended (omega arith))
