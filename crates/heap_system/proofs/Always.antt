@@ -59,7 +59,7 @@ phase_parts w is =
     )
 
 module _ (c : Config) (traces : List (List Command)) (job : IsJob c traces) (s : State) (start : IsOpening c traces s) where
-  here : (t : ℕ) → t < c.threads → local_at c s t ≡ at_start c t (get_or traces t [])
+  pub here : (t : ℕ) → t < c.threads → local_at c s t ≡ at_start c t (get_or traces t [])
   here t tl =
       let e : 0 + t ≡ t = omega arith in
       ap (λ ls. get_or ls t (no_local c)) start.locals ∙ starts_at c 0 t traces (no_local c) (omega (arith, job.count)) ∙ ap (λ u. at_start c u (get_or traces t [])) e

@@ -8,3 +8,4 @@ pub mod Always
 pub mod Reached
 pub mod Told
 pub mod Waiting
+pub mod Older

@@ -197,7 +197,7 @@ module _ (c : Config) (traces : List (List Command)) (bounds : IsInBounds c) (pl
   abbrev mine : LocalKept c (get_or traces t []) (replay c r.order) r.order t (local_at c r.state t)
   mine = kept.locals t tl
 
-  fits : PartFits c (length (local_at c r.state t).log) (length (local_at c r.state t).trace) (local_at c r.state t).part
+  pub fits : PartFits c (length (local_at c r.state t).log) (length (local_at c r.state t).trace) (local_at c r.state t).part
   fits = subst (λ x. PartFits x (length (local_at c r.state t).log) (length (local_at c r.state t).trace) (local_at c r.state t).part) (kept.locals t tl).config (kept.locals t tl).fits.part
 
   served : IsServed c (command_of (local_at c r.state t))
@@ -245,7 +245,7 @@ module _ (c : Config) (traces : List (List Command)) (bounds : IsInBounds c) (pl
     moved_is : local_got (local_at c r.state t) (word_read c r.state (local_at c r.state t)) ≡ moved_on (local_at c r.state t) t (heap_in c r.state (place_of (part_want (local_at c r.state t).part)))
     moved_is = ap (moved_on (local_at c r.state t) (local_at c r.state t).thread) word_is ∙ ap (λ u. moved_on (local_at c r.state t) u (heap_in c r.state (place_of (part_want (local_at c r.state t).part)))) (kept.locals t tl).thread
 
-    local_new : (u : ℕ) → local_at c (event_done c t r.state) u ≡ cond (eqb t u) (moved_on (local_at c r.state t) t (heap_in c r.state (place_of (part_want (local_at c r.state t).part)))) (local_at c r.state u)
+    pub local_new : (u : ℕ) → local_at c (event_done c t r.state) u ≡ cond (eqb t u) (moved_on (local_at c r.state t) t (heap_in c r.state (place_of (part_want (local_at c r.state t).part)))) (local_at c r.state u)
     local_new u = get_or_set r.state.locals t u (local_got (local_at c r.state t) (word_read c r.state (local_at c r.state t))) (no_local c) (omega (arith, kept.threads)) ∙ ap (λ l. cond (eqb t u) l (local_at c r.state u)) moved_is
 
     cond_of : {A B : Type 0} (f : A → B) (b : Bool) (x y : A) → f (cond b x y) ≡ cond b (f x) (f y)
@@ -258,7 +258,7 @@ module _ (c : Config) (traces : List (List Command)) (bounds : IsInBounds c) (pl
     loads_new : loads_in c (event_done c t r.state) ≡ with_load (loads_in c r.state) t (loading new_part)
     loads_new = funext _ _ (λ u. ap (λ (l : LocalState). loading l.part) (local_new u) ∙ cond_of (λ (l : LocalState). loading l.part) (eqb t u) _ (local_at c r.state u))
 
-    heap_new : heap_in c (event_done c t r.state) ≡ new_heap
+    pub heap_new : heap_in c (event_done c t r.state) ≡ new_heap
     heap_new = heap_of-after (extent c) r.state.words (part_want (local_at c r.state t).part) place (omega (arith, kept.long))
 
     graph_new : replay c (order_after c r.order t (command_of (local_at c r.state t)) decides_here) ≡ graph_after (replay c r.order) t (command_of (local_at c r.state t)) decides_here

@@ -1,13 +1,13 @@
 -- What the rows of the threads say of the gate and of the graph: where each stands, what it has loaded, and which reply is decided.
-use Rattle.std.specs.Prelude.{ℕ, true, false, Option, Some, None, List, Bool, ◌==◌}
+use Rattle.std.specs.Prelude.{ℕ, ◌≡◌, ◌%◌, true, false, Option, Some, None, List, [], ◌∷◌, ◌++◌, Bool, ◌==◌}
 use Rattle.block_store.specs.declared.Config.{Config}
 use Rattle.block_store.specs.Heaps.{Heap, heap_of}
-use Rattle.block_store.specs.Places.{extent}
+use Rattle.block_store.specs.Places.{PayloadOf, extent}
 use Rattle.never_heap.specs.declared.Entry.{Entry}
 use Rattle.never_heap.specs.declared.Reply.{Reply}
 use Rattle.never_heap.specs.declared.Reply.TheVariants as replies
 use Rattle.never_heap.specs.Graphs.{Graph, register_of}
-use Rattle.never_heap.specs.Histories.{replay}
+use Rattle.never_heap.specs.Histories.{HistoryItem, Did, part, replay}
 use Rattle.heap_machine.specs.Gating.{Gating, Stand, Outside, Inside}
 use Rattle.barrier_steps.specs.declared.rows.Errand.{Errand}
 use Rattle.barrier_steps.specs.declared.rows.Errand.TheVariants as errands
@@ -15,7 +15,9 @@ use Rattle.barrier_steps.specs.declared.rows.FieldRow.{FieldRow}
 use Rattle.barrier_steps.specs.declared.rows.FieldRow.TheVariants.{StoreNumber, StoreNil, LoadMoved, StoreMoved, LoadObject, LoadShape, LoadValue, LoadLink, LoadField, LoadOwner, StoreLate, StoreField, LoadFirst, LoadSecond, LoadSaid, LoadSaidOwner, Answered}
 use Rattle.barrier_steps.specs.declared.rows.Walk.{Walk}
 use Rattle.barrier_steps.specs.Walks.{ordinal_at}
-use Rattle.shown_graph.specs.Words.{block_words}
+use Rattle.shown_graph.specs.Openings.{opening_at}
+use Rattle.shown_graph.specs.Shown.{heads}
+use Rattle.shown_graph.specs.Words.{block_words, register_block, value_word}
 use Rattle.shown_graph.specs.Events.{ObjectLoad, ValueLoad, Loading, unloaded, GraphState}
 use Rattle.heap_system.specs.declared.local.Part.{Part}
 use Rattle.heap_system.specs.declared.local.Part.TheVariants.{Rest, Enter, Serve, Leave}
@@ -115,3 +117,14 @@ graph_state c r = record {
   words = block_words (heap_in c r.state);
   loads = λ t. loading (local_at c r.state t).part;
 }
+
+-- Register q of thread t has the word that it had before the last command of the thread was decided: the order is what was before that command, its
+-- entry, and entries of other threads.
+pub record IsOlder (c : Config) (r : Run) (t q : ℕ) : Type 0 where
+  pub before : List HistoryItem
+  pub entry : Entry
+  pub behind : List HistoryItem
+  pub split : r.order ≡ before ++ Did entry ∷ behind
+  pub own : entry.thread ≡ t
+  pub others : part t behind ≡ []
+  pub word : heap_in c r.state (PayloadOf (register_block t q) (q % 4)) ≡ value_word (heads (opening_at c.threads)) (register_of (replay c before) t q)

@@ -1,5 +1,6 @@
 use Rattle.heap_system.proofs.Always.{run_kept}
 use Rattle.heap_system.proofs.Told.{words_shown, not_free}
+use Rattle.heap_system.proofs.Older.{run_older}
 use Rattle.heap_system.proofs.laws.words_show_the_order.Goals as goal
 
 pub returns-clause-words : goal.returns-clause-words
@@ -10,3 +11,6 @@ returns-clause-loads _ c traces ts r job is = (run_kept c traces ts r job is).sh
 
 pub returns-clause-free : goal.returns-clause-free
 returns-clause-free _ c traces ts r job is a o ka ol = not_free c traces job.plan r (run_kept c traces ts r job is) a o ka ol
+
+pub returns-clause-older : goal.returns-clause-older
+returns-clause-older _ c traces ts r job is = run_older c traces ts r job is
