@@ -8,3 +8,4 @@ pub mod Projecting
 pub mod Stepping
 pub mod Showing
 pub mod Registers
+pub mod Dues

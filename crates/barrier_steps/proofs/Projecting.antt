@@ -67,7 +67,7 @@ load_is : (o p : Option ObjectLoad) (v u : Option ValueLoad) → o ≡ p → v �
 load_is o p v u e f = ap (λ x. pair x v) e ∙ ap (pair p) f
 
 -- no load changes where the row has the same
-unmoved : (ls : ℕ → Loading) (t : ℕ) (l : Loading) (u : ℕ) → ls t ≡ l → ls u ≡ with_load ls t l u
+pub unmoved : (ls : ℕ → Loading) (t : ℕ) (l : Loading) (u : ℕ) → ls t ≡ l → ls u ≡ with_load ls t l u
 unmoved ls t l u e = elim (cases_eq t u) [
   | inl same ↦ rw (eq-eqb t u same) (ap ls (sym same) ∙ e)
   | inr ne ↦ rw (ne_eqb t u ne) refl

@@ -58,8 +58,8 @@ shape_row g reply t s x (accesses.Put i v) f = elim (cases_Bool (ltb i (shape_le
 shape_row g reply t s x accesses.Len f = tt
 
 field_row : (g : Graph) (reply : Reply) (t d w : ℕ) (p : Payload) → reply ≡ replies.Val (register_of g t d) → ShowsRegister g (after_field t d w p) reply
-field_row g reply t d w payloads.Nil e = tt
-field_row g reply t d w (payloads.Int v) e = tt
+field_row g reply t d w payloads.Nil e = e
+field_row g reply t d w (payloads.Int v) e = e
 field_row g reply t d w (payloads.Block x) e = e
 
 said_row : (g : Graph) (reply : Reply) (t s w : ℕ) (p : Payload) → reply ≡ replies.Val (register_of g t s) → ShowsRegister g (after_said t s w p) reply

@@ -28,7 +28,7 @@ use Rattle.barrier_steps.specs.declared.rows.FieldRow.TheVariants.{StoreNumber, 
 use Rattle.barrier_steps.specs.Walks.{shape_length, links_to, link_at, field_at, ordinal_at}
 use Rattle.barrier_steps.specs.Rows.{register_place, field_reply}
 use Rattle.barrier_steps.specs.Fits.{IsWalk, IsThere, FieldFits, FieldReads}
-use Rattle.barrier_steps.specs.Replies.{IsWordOf, ShapeShown, FieldFound, Shown, OwnerShown, NameShown, ShowsRegister}
+use Rattle.barrier_steps.specs.Replies.{IsWordOf, ShapeShown, FieldFound, Shown, RefersTo, Promises, OwnerShown, NameShown, ShowsRegister, reply_due, IsKnown}
 use Rattle.barrier_steps.specs.Projection.{walk_load, object_load, value_load, late_load, IsAtRow}
 use Rattle.barrier_steps.proofs.Walking.{way_is, field_low}
 use Rattle.barrier_steps.proofs.Projecting.{payload_read}
@@ -151,17 +151,23 @@ module _ (c : Config) (m : ℕ) (K : Name → Type 0) (at : Name → ℕ → ℕ
             let reads : payload_of w ≡ Some (payloads.Block x) = ap payload_of (sym e) ∙ payload-code (payloads.Block x) (some, omega (arith, few)) in
             ((ap is_some reads, omega arith), positive (target w) x goes some)
 
-  -- a value's word goes to the first block of the name, which has an owner word
-  value_named : (t r w x : ℕ) → t < c.threads → ValueIs s.graph at t (record { origin = r; word = w; late = false }) → target w ≢ 0 → s.words.owner (target w) ≡ x → IsSome (owner_of x)
-  value_named t r w x tn is some e = go (register_of s.graph t r) refl
+  -- a value's word that refers to a block is that of a name, whose first block it is
+  refers_to : (t r w : ℕ) (reply : Reply) → ValueIs s.graph at t (record { origin = r; word = w; late = false }) → target w ≢ 0 → reply ≡ replies.Val (register_of s.graph t r) → RefersTo (heads at) w reply
+  refers_to t r w reply is some shows = go (register_of s.graph t r) refl
     where
-      go : (v : Value) → register_of s.graph t r ≡ v → IsSome (owner_of x)
-      go values.Nil e1 = absurd (some (ap target (is.word ∙ ap (value_word (heads at)) e1) ∙ target-nil))
-      go (values.Int n) e1 = absurd (some (ap target (is.word ∙ ap (value_word (heads at)) e1) ∙ target-number n))
-      go (values.Ref a) e1 =
-          let goes : target w ≡ at a 0 = ap target (is.word ∙ ap (value_word (heads at)) e1) ∙ target-reference (at a 0) in
-          ap is_some (ap owner_of (sym e ∙ ap s.words.owner goes)
-          ∙ owner_read c.threads m K s.graph at s.words (lates s.loads) k.shows a 0 (is_kept t r a tn is.origin e1) (object_layout (object_of s.graph a)).first)
+      go : (v : Value) → register_of s.graph t r ≡ v → RefersTo (heads at) w reply
+      go values.Nil e = absurd (some (ap target (is.word ∙ ap (value_word (heads at)) e) ∙ target-nil))
+      go (values.Int n) e = absurd (some (ap target (is.word ∙ ap (value_word (heads at)) e) ∙ target-number n))
+      go (values.Ref a) e = record { name = a; says = shows ∙ ap replies.Val e; block = ap target (is.word ∙ ap (value_word (heads at)) e) ∙ target-reference (at a 0) }
+
+  -- and that block has an owner word
+  value_named : (t r w x : ℕ) → t < c.threads → ValueIs s.graph at t (record { origin = r; word = w; late = false }) → target w ≢ 0 → s.words.owner (target w) ≡ x → IsSome (owner_of x)
+  value_named t r w x tn is some e =
+      let to = refers_to t r w (replies.Val (register_of s.graph t r)) is some refl in
+      let says : replies.Val (register_of s.graph t r) ≡ replies.Val (values.Ref to.name) = to.says in
+      let refers : register_of s.graph t r ≡ values.Ref to.name = cc in
+      ap is_some (ap owner_of (sym e ∙ ap s.words.owner to.block)
+      ∙ owner_read c.threads m K s.graph at s.words (lates s.loads) k.shows to.name 0 (is_kept t r to.name tn is.origin refers) (object_layout (object_of s.graph to.name)).first)
 
   on_time : (t r w : ℕ) (b : Bool) → ValueIs s.graph at t (record { origin = r; word = w; late = b }) → ValueIs s.graph at t (record { origin = r; word = w; late = false })
   on_time t r w b is = record { origin = is.origin; word = is.word }
@@ -272,3 +278,15 @@ module _ (c : Config) (m : ℕ) (K : Name → Type 0) (at : Name → ℕ → ℕ
   row_named (LoadSecond t a b word) w reply fits is shows = tt
   row_named (LoadSaid t r) w reply fits is shows = tt
   row_named (Answered given) w reply fits is shows = tt
+
+  -- a decided row promises the reply that is due
+  pub row_promises : (row : FieldRow) (w : ℕ) (reply : Reply) → FieldFits c row → IsAtRow s h row w → IsKnown s.graph row → reply_due s.graph row ≡ Some reply → Promises (heads at) row reply
+  row_promises (LoadOwner t d word) w reply fits is known due =
+      refers_to t d word reply (on_time t d word true (value_is t _ (value_in (late_load d word)) fits.0.thread is.loads refl)) fits.3 cc
+  row_promises (StoreLate t d word value) w reply fits is known due =
+      let says : reply ≡ replies.Val (register_of s.graph t d) = cc in
+      says ∙ ap replies.Val (sym known)
+  row_promises (LoadSaidOwner t r word) w reply fits is known due =
+      refers_to t r word reply (value_is t _ (value_in (value_load r word)) fits.0.thread is.loads refl) fits.3 cc
+  row_promises (Answered given) w reply fits is known due = cc
+  row_promises _ w reply fits is known due = absurd cc

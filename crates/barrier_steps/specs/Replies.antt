@@ -120,8 +120,22 @@ NameShown head (LoadOwner t d word) reply w = OwnerShown head word reply w
 NameShown head (LoadSaidOwner t s word) reply w = OwnerShown head word reply w
 NameShown head _ reply w = Unit {0}
 
--- where a decided row still reads a name, its reply is the value of the register that the word is of
+-- where a decided row still reads a name, or stores the value, its reply is the value of the register that the word is of
 abbrev pub ShowsRegister : Graph → FieldRow → Reply → Type 0
 ShowsRegister g (LoadOwner t d word) reply = reply ≡ Val (register_of g t d)
+ShowsRegister g (StoreLate t d word value) reply = reply ≡ Val (register_of g t d)
 ShowsRegister g (LoadSaidOwner t s word) reply = reply ≡ Val (register_of g t s)
 ShowsRegister g _ reply = Unit {0}
+
+-- the reply that was decided, also where it is not given yet: a value is the one that the register has in the graph
+abbrev pub reply_due : Graph → FieldRow → Option Reply
+reply_due g (LoadOwner t d word) = Some (Val (register_of g t d))
+reply_due g (StoreLate t d word value) = Some (Val (register_of g t d))
+reply_due g (LoadSaidOwner t s word) = Some (Val (register_of g t s))
+reply_due g (Answered reply) = Some reply
+reply_due g _ = None
+
+-- the value that `get` has still to store is the one that its register has in the graph
+abbrev pub IsKnown : Graph → FieldRow → Type 0
+IsKnown g (StoreLate t d word value) = value ≡ register_of g t d
+IsKnown g _ = Unit {0}

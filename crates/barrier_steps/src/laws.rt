@@ -1,6 +1,6 @@
 //! Laws of the rows, for the proofs above: each is the contract of a function that does nothing.
 
-ghost use Rattle.std.specs.Prelude.{◌≡◌, ◌<◌, ◌||◌, ℕ, ◌≤◌, Bool, true, false, None, Some, IsSome, IfSome};
+ghost use Rattle.std.specs.Prelude.{◌≡◌, ◌<◌, ◌||◌, ℕ, ◌≤◌, Bool, true, false, if◌then◌else◌, None, Some, IsSome, IfSome};
 ghost use Rattle.block_store.specs.declared.Config.{Config};
 ghost use Rattle.block_store.specs.declared.Name.{Name};
 ghost use Rattle.block_store.specs.declared.Shape.{Shape};
@@ -22,7 +22,7 @@ ghost use Rattle.barrier_steps.specs.Walks.{shape_length, links_to, link_at, fie
 ghost use Rattle.barrier_steps.specs.Rows.{first_row, field_want, field_got, field_reply, field_decided};
 ghost use Rattle.barrier_steps.specs.Fits.{IsThread, FieldFits, FieldReads, StoresHeld};
 ghost use Rattle.barrier_steps.specs.Deciding.{is_deciding};
-ghost use Rattle.barrier_steps.specs.Replies.{Asked, asked, answer, graph_after, Shown, Promises, NameShown, ShowsRegister};
+ghost use Rattle.barrier_steps.specs.Replies.{Asked, asked, answer, graph_after, Shown, Promises, NameShown, ShowsRegister, reply_due, IsKnown};
 ghost use Rattle.barrier_steps.specs.Projection.{thread_of, loading_of, event_of, after_event, IsAtRow, IsInHand};
 
 /// The links that a thread follows lead to the field, in a record and in an array.
@@ -73,10 +73,12 @@ pub fn rows_are_events()
 
 /// Where the words show the graph and the thread has loaded what its row names, the row reads words
 /// that its places can hold, and these are what the graph says, the name of a reply's object among
-/// them.
+/// them. From the deciding event on the reply that is due is the step's answer.
 pub fn rows_read_the_graph()
     ensures reads { (c : Config) (m : ℕ) (kept : Name → Bool) (at : Name → ℕ → ℕ) (s : GraphState) (h : Heap) (row : FieldRow) (w : ℕ) → c.blocks ≤ 65535 → m ≤ c.blocks → Follows c.threads m (named kept) at s → FieldFits c row → IsAtRow s h row w → field_reply row ≡ None → FieldReads c row w }
     ensures shown { (c : Config) (m : ℕ) (kept : Name → Bool) (at : Name → ℕ → ℕ) (s : GraphState) (h : Heap) (row : FieldRow) (w : ℕ) → c.blocks ≤ 65535 → m ≤ c.blocks → Follows c.threads m (named kept) at s → FieldFits c row → IsAtRow s h row w → Shown (heads at) s.graph row w }
     ensures register { (c : Config) (head : Name → ℕ) (s : GraphState) (a : Name) (row : FieldRow) (w : ℕ) (q : Asked) → IsSized c.threads s.graph → FieldFits c row → Shown head s.graph row w → IsInHand s a row → asked row ≡ Some q → is_deciding row w ≡ true → ShowsRegister (after_event s (event_of a row w)).graph (field_got row w) (answer s.graph q) }
     ensures name { (c : Config) (m : ℕ) (kept : Name → Bool) (at : Name → ℕ → ℕ) (s : GraphState) (h : Heap) (row : FieldRow) (w : ℕ) (reply : Reply) → c.blocks ≤ 65535 → m ≤ c.blocks → Follows c.threads m (named kept) at s → FieldFits c row → IsAtRow s h row w → ShowsRegister s.graph row reply → NameShown (heads at) row reply w }
+    ensures due { (c : Config) (m : ℕ) (kept : Name → Bool) (at : Name → ℕ → ℕ) (s : GraphState) (h : Heap) (a : Name) (row : FieldRow) (w : ℕ) (q : Asked) → c.blocks ≤ 65535 → m ≤ c.blocks → Follows c.threads m (named kept) at s → FieldFits c row → IsAtRow s h row w → IsInHand s a row → (field_decided row ≡ false → asked row ≡ Some q) → IsKnown s.graph row → reply_due (after_event s (event_of a row w)).graph (field_got row w) ≡ (if is_deciding row w then Some (answer s.graph q) else reply_due s.graph row) }
+    ensures known { (c : Config) (m : ℕ) (kept : Name → Bool) (at : Name → ℕ → ℕ) (s : GraphState) (h : Heap) (a : Name) (row : FieldRow) (w : ℕ) (q : Asked) → c.blocks ≤ 65535 → m ≤ c.blocks → Follows c.threads m (named kept) at s → FieldFits c row → IsAtRow s h row w → IsInHand s a row → (field_decided row ≡ false → asked row ≡ Some q) → IsKnown s.graph row → IsKnown (after_event s (event_of a row w)).graph (field_got row w) }
 {}

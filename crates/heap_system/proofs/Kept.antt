@@ -19,7 +19,6 @@ use Rattle.never_heap.specs.Steps.{step, blocks_of}
 use Rattle.shown_graph.specs.Shown.{every_name}
 use Rattle.shown_graph.specs.Openings.{opening_at, opening_last}
 use Rattle.shown_graph.specs.Events.{Loading, unloaded, with_load, Follows}
-use Rattle.shown_graph.proofs.Serving.{run_follows}
 use Rattle.heap_machine.specs.Counts.{changed}
 use Rattle.heap_machine.specs.Gates.{gate_want, gate_got, gate_entered, SeenOpen}
 use Rattle.heap_machine.specs.Gating.{Gating, GateOf, Outside, Inside}
@@ -33,7 +32,12 @@ use Rattle.barrier_steps.specs.declared.rows.FieldRow.{FieldRow}
 use Rattle.barrier_steps.specs.declared.rows.FieldRow.TheVariants as rows
 use Rattle.barrier_steps.specs.Deciding.{is_deciding}
 use Rattle.barrier_steps.specs.Fits.{IsThread, FieldFits, FieldReads}
-use Rattle.barrier_steps.specs.Rows.{payload_in, shape_in, first_row, field_want, field_got, field_reply, after_object, at_block, on_way, way_from, after_shape, after_field, after_said}
+use Rattle.barrier_steps.specs.Projection.{thread_of, loading_of}
+use Rattle.barrier_steps.specs.Replies.{asked, reply_due, IsKnown}
+use Rattle.barrier_steps.proofs.Decisions.{first_undecided}
+use Rattle.barrier_steps.proofs.Dues.{none_due}
+use Rattle.barrier_steps.proofs.Promising.{first_asked}
+use Rattle.barrier_steps.specs.Rows.{field_decided, payload_in, shape_in, first_row, field_want, field_got, field_reply, after_object, at_block, on_way, way_from, after_shape, after_field, after_said}
 use Rattle.barrier_steps.specs.Walks.{shape_length, links_to}
 use Rattle.barrier_steps.specs.declared.rows.Access.{Access}
 use Rattle.barrier_steps.specs.declared.rows.Access.TheVariants as accesses
@@ -53,14 +57,13 @@ use Rattle.heap_system.specs.declared.local.Part.TheVariants.{Rest, Enter, Serve
 use Rattle.heap_system.specs.Locals.{LocalState, command_of, if_entered, if_replied, part_want, part_got, part_reply, decides, entry_of, entries_of, PartFits, IsLocal, PartReads}
 use Rattle.heap_system.specs.Machines.{State, Run, local_at}
 use Rattle.heap_system.specs.Openings.{opening_heap}
-use Rattle.heap_system.specs.Pictures.{gating, stand_of, loading, field_loading, field_waiting, waiting, entries_waiting, heap_in, graph_state}
-use Rattle.heap_system.proofs.LoadedWords.{thread_of, field_reads}
-use Rattle.heap_system.proofs.Moves.{state, IsRowOf, IsKnown, graph_after, FieldStep, field_moves, load_self}
+use Rattle.heap_system.specs.Pictures.{gating, stand_of, loading, waiting, entries_waiting, heap_in, graph_state}
+use Rattle.heap_system.proofs.Moves.{state, graph_after, FieldStep, field_reads, field_moves, load_self, undecided}
 
 -- a row of thread t in command k that is not over
 pub record RowKept (g : Graph) (t : ℕ) (k : Command) (f : FieldRow) : Type 0 where
   pub thread : thread_of f ≡ t
-  pub row : IsRowOf k f
+  pub asks : field_decided f ≡ false → asked f ≡ Some (t, k)
   pub known : IsKnown g f
   pub going : field_reply f ≡ None
 
@@ -127,26 +130,15 @@ pub record EventKept (c : Config) (g : Graph) (new : Heap) (gs : ℕ → Gating)
 first_thread : (t : ℕ) (k : Command) → blocks_of k ≡ 0 → thread_of (first_row t k) ≡ t
 first_thread t (commands.New d f) z = absurd (record_has_blocks d f z)
 first_thread t (commands.Arr d e) z = absurd (array_has_blocks d e z)
-first_thread t (commands.Set d v) z = refl
-first_thread t (commands.Nil d) z = refl
-first_thread t (commands.Mov d s) z = refl
-first_thread t (commands.Get d s i) z = refl
-first_thread t (commands.Put s i v) z = refl
-first_thread t (commands.Len s) z = refl
-first_thread t (commands.Same a b) z = refl
-first_thread t (commands.Say s) z = refl
+first_thread t _ z = refl
 
-pub first_is : (g : Graph) (t : ℕ) (k : Command) → blocks_of k ≡ 0 → (IsRowOf k (first_row t k)) × (IsKnown g (first_row t k)) × (field_reply (first_row t k) ≡ None) × (field_loading (first_row t k) ≡ unloaded) × (field_waiting g (first_row t k) ≡ None)
-first_is g t (commands.New d f) z = absurd (record_has_blocks d f z)
-first_is g t (commands.Arr d e) z = absurd (array_has_blocks d e z)
-first_is g t (commands.Set d v) z = (refl, tt, refl, refl, refl)
-first_is g t (commands.Nil d) z = (refl, tt, refl, refl, refl)
-first_is g t (commands.Mov d s) z = (refl, tt, refl, refl, refl)
-first_is g t (commands.Get d s i) z = (refl, tt, refl, refl, refl)
-first_is g t (commands.Put s i v) z = (refl, tt, refl, refl, refl)
-first_is g t (commands.Len s) z = (refl, tt, refl, refl, refl)
-first_is g t (commands.Same a b) z = (refl, tt, refl, refl, refl)
-first_is g t (commands.Say s) z = (refl, tt, refl, refl, refl)
+first_unloaded : (t : ℕ) (k : Command) → loading_of (first_row t k) ≡ unloaded
+first_unloaded t (commands.New d f) = refl
+first_unloaded t _ = refl
+
+not_over : (f : FieldRow) → field_decided f ≡ false → field_reply f ≡ None
+not_over (rows.Answered reply) e = absurd cc
+not_over _ e = refl
 
 -- a row of a command leaves the phase word
 field_phase : (h : Heap) (f : FieldRow) → heap_after h (field_want f) Phase ≡ h Phase
@@ -198,65 +190,15 @@ part_colour h (Enter gates.Left) x = refl
 part_colour h (Serve f) x = field_colour h f x
 part_colour h Leave x = refl
 
--- an event that decides a command had nothing decided before it
-deciding_first : (g : Graph) (f : FieldRow) (w : ℕ) → is_deciding f w ≡ true → field_waiting g f ≡ None
-deciding_first g (rows.StoreNumber t d v) w e = refl
-deciding_first g (rows.StoreNil t d) w e = refl
-deciding_first g (rows.LoadMoved t d s) w e = refl
-deciding_first g (rows.StoreMoved t d s word) w e = refl
-deciding_first g (rows.LoadObject t s access) w e = refl
-deciding_first g (rows.LoadShape t s x access) w e = refl
-deciding_first g (rows.LoadValue t walk v) w e = refl
-deciding_first g (rows.LoadLink t walk errand) w e = refl
-deciding_first g (rows.LoadField t walk d) w e = refl
-deciding_first g (rows.LoadOwner t d word) w e = absurd cc
-deciding_first g (rows.StoreLate t d word value) w e = absurd cc
-deciding_first g (rows.StoreField t walk v word) w e = refl
-deciding_first g (rows.LoadFirst t a b) w e = refl
-deciding_first g (rows.LoadSecond t a b word) w e = refl
-deciding_first g (rows.LoadSaid t s) w e = refl
-deciding_first g (rows.LoadSaidOwner t s word) w e = absurd cc
-deciding_first g (rows.Answered reply) w e = absurd cc
-
 -- a reply that is there is the one that was decided
-reply_waits : (g : Graph) (f : FieldRow) (r : Reply) → field_reply f ≡ Some r → field_waiting g f ≡ Some r
-reply_waits g (rows.StoreNumber t d v) r e = absurd cc
-reply_waits g (rows.StoreNil t d) r e = absurd cc
-reply_waits g (rows.LoadMoved t d s) r e = absurd cc
-reply_waits g (rows.StoreMoved t d s word) r e = absurd cc
-reply_waits g (rows.LoadObject t s access) r e = absurd cc
-reply_waits g (rows.LoadShape t s x access) r e = absurd cc
-reply_waits g (rows.LoadValue t walk v) r e = absurd cc
-reply_waits g (rows.LoadLink t walk errand) r e = absurd cc
-reply_waits g (rows.LoadField t walk d) r e = absurd cc
-reply_waits g (rows.LoadOwner t d word) r e = absurd cc
-reply_waits g (rows.StoreLate t d word value) r e = absurd cc
-reply_waits g (rows.StoreField t walk v word) r e = absurd cc
-reply_waits g (rows.LoadFirst t a b) r e = absurd cc
-reply_waits g (rows.LoadSecond t a b word) r e = absurd cc
-reply_waits g (rows.LoadSaid t s) r e = absurd cc
-reply_waits g (rows.LoadSaidOwner t s word) r e = absurd cc
+reply_waits : (g : Graph) (f : FieldRow) (r : Reply) → field_reply f ≡ Some r → reply_due g f ≡ Some r
 reply_waits g (rows.Answered reply) r e = e
+reply_waits g _ r e = absurd cc
 
 -- and a row with a reply has nothing loaded
-reply_unloads : (f : FieldRow) (r : Reply) → field_reply f ≡ Some r → field_loading f ≡ unloaded
-reply_unloads (rows.StoreNumber t d v) r e = refl
-reply_unloads (rows.StoreNil t d) r e = refl
-reply_unloads (rows.LoadMoved t d s) r e = refl
-reply_unloads (rows.StoreMoved t d s word) r e = absurd cc
-reply_unloads (rows.LoadObject t s access) r e = refl
-reply_unloads (rows.LoadShape t s x access) r e = absurd cc
-reply_unloads (rows.LoadValue t walk v) r e = absurd cc
-reply_unloads (rows.LoadLink t walk errand) r e = absurd cc
-reply_unloads (rows.LoadField t walk d) r e = absurd cc
-reply_unloads (rows.LoadOwner t d word) r e = absurd cc
-reply_unloads (rows.StoreLate t d word value) r e = absurd cc
-reply_unloads (rows.StoreField t walk v word) r e = absurd cc
-reply_unloads (rows.LoadFirst t a b) r e = refl
-reply_unloads (rows.LoadSecond t a b word) r e = absurd cc
-reply_unloads (rows.LoadSaid t s) r e = refl
-reply_unloads (rows.LoadSaidOwner t s word) r e = absurd cc
+reply_unloads : (f : FieldRow) (r : Reply) → field_reply f ≡ Some r → loading_of f ≡ unloaded
 reply_unloads (rows.Answered reply) r e = refl
+reply_unloads _ r e = absurd cc
 
 -- the thread of a row is that of the next
 way_thread : (t : ℕ) (walk : Walk) (errand : Errand) → thread_of (on_way t walk errand) ≡ t
@@ -379,15 +321,16 @@ module _ (c : Config) (bounds : IsInBounds c) (plan : IsAdmitted c) (g : Graph) 
 
       won : h Phase ≡ seen → Event (put_at h Phase (seen + 1)) None false (Serve (first_row t k)) None
       won e =
-          let first = first_is g t k serves in
+          let first = first_undecided t k serves in
+          let none = none_due g (first_row t k) first in
           subst (λ x. Event (put_at h Phase (x + 1)) None false (Serve (first_row t k)) None) e (record {
             gate = gate_enters c.threads (h Phase) gs gate t tl (gating (Serve (first_row t k))) (omega (arith, bounds.threads)) phase.opened out refl (sym phase.cycle) (sym phase.sweep);
             phase = mark_moves (h Phase + 1) (h Phase) (ap (λ (p : PhaseWord). p.closed) more) (ap (λ (p : PhaseWord). p.cycle) more) (ap (λ (p : PhaseWord). p.sweep) more) phase;
-            shown = still (put_at h Phase (h Phase + 1)) (Serve (first_row t k)) refl is first.3;
-            part = record { thread = first_thread t k serves; row = first.0; known = first.1; going = first.2 };
+            shown = still (put_at h Phase (h Phase + 1)) (Serve (first_row t k)) refl is (first_unloaded t k);
+            part = record { thread = first_thread t k serves; asks = λ _. first_asked t k serves; known = none.1; going = not_over (first_row t k) first };
             fits = (first_fits c t k (is_thread c bounds plan t tl) range, low);
             over = λ r e. absurd cc;
-            told = sym (ap (entries_of t k) first.4);
+            told = sym (ap (entries_of t k) none.0);
           })
 
   leave_event : (gs t).stand ≡ Inside → ls t ≡ unloaded → Event (heap_after h (gate_want gates.Leave)) None false Rest None
@@ -405,38 +348,28 @@ module _ (c : Config) (bounds : IsInBounds c) (plan : IsAdmitted c) (g : Graph) 
       }
 
   -- in a command
-  module _ (f : FieldRow) (is : ls t ≡ field_loading f) (stands : (gs t) ≡ gating (Serve f)) (kept : RowKept g t k f) (fits : FieldFits c f) (low : done < all) where
-    loaded : ls (thread_of f) ≡ field_loading f
-    loaded = ap ls kept.thread ∙ is
-
-    word : ℕ
-    word = h (place_of (field_want f))
-
+  module _ (f : FieldRow) (is : ls t ≡ loading_of f) (stands : (gs t) ≡ gating (Serve f)) (kept : RowKept g t k f) (fits : FieldFits c f) (low : done < all) where
     pub reads : FieldReads c f (h (place_of (field_want f)))
-    reads = field_reads c bounds (opening_last c) (opening_low c plan) (every_name (start_graph c)) (opening_at c.threads) g h ls shown f fits loaded kept.going
+    reads = field_reads c bounds (opening_last c) (opening_low c plan) (every_name (start_graph c)) (opening_at c.threads) g h ls shown t f fits kept.thread is kept.going
 
-    moves : FieldStep c.threads g h (heap_after h (field_want f)) ls t k (field_waiting g f) (is_deciding f (h (place_of (field_want f)))) (field_got f (h (place_of (field_want f))))
-    moves = subst (λ u. FieldStep c.threads g h (heap_after h (field_want f)) ls u k (field_waiting g f) (is_deciding f (h (place_of (field_want f)))) (field_got f (h (place_of (field_want f))))) kept.thread
-        (field_moves c bounds (opening_last c) (opening_low c plan) (every_name (start_graph c)) (opening_at c.threads) g h ls shown k f fits loaded kept.row kept.known kept.going)
+    moves : FieldStep c.threads (opening_last c) (every_name (start_graph c)) (opening_at c.threads) g (heap_after h (field_want f)) ls t k (reply_due g f) (is_deciding f (h (place_of (field_want f)))) (field_got f (h (place_of (field_want f))))
+    moves = field_moves c bounds (opening_last c) (opening_low c plan) (every_name (start_graph c)) (opening_at c.threads) g h ls shown t f fits kept.thread is kept.going k kept.asks kept.known
 
-    follows : Follows c.threads (opening_last c) (every_name (start_graph c)) (opening_at c.threads) (state (graph_after g t k (is_deciding f (h (place_of (field_want f))))) (heap_after h (field_want f)) (with_load ls t (field_loading (field_got f (h (place_of (field_want f)))))))
-    follows = subst (λ s. Follows c.threads (opening_last c) (every_name (start_graph c)) (opening_at c.threads) s) moves.same (run_follows c.threads (opening_last c) (every_name (start_graph c)) (opening_at c.threads) moves.events (state g h ls) moves.guarded shown)
-
-    told_is : entries_of t k (field_waiting g f) ++ cond (is_deciding f (h (place_of (field_want f)))) (entry_of t k (step g t k).1 ∷ []) []
-        ≡ entries_of t k (field_waiting (graph_after g t k (is_deciding f (h (place_of (field_want f))))) (field_got f (h (place_of (field_want f)))))
-    told_is = tell t k (field_waiting g f) (is_deciding f (h (place_of (field_want f)))) (step g t k).1 (deciding_first g f (h (place_of (field_want f)))) ∙ ap (entries_of t k) (sym moves.reply)
+    told_is : entries_of t k (reply_due g f) ++ cond (is_deciding f (h (place_of (field_want f)))) (entry_of t k (step g t k).1 ∷ []) []
+        ≡ entries_of t k (reply_due (graph_after g t k (is_deciding f (h (place_of (field_want f))))) (field_got f (h (place_of (field_want f)))))
+    told_is = tell t k (reply_due g f) (is_deciding f (h (place_of (field_want f)))) (step g t k).1 (λ e. (none_due g f (undecided f (h (place_of (field_want f))) e)).0) ∙ ap (entries_of t k) (sym moves.reply)
 
     stays : (p : Part) → stand_of p ≡ Inside → GateOf c.threads (heap_after h (field_want f) Phase) (changed gs t (gating p))
     stays p inside = subst (λ w. GateOf c.threads w (changed gs t (gating p))) (sym (field_phase h f))
         (gate_stays c.threads (h Phase) gs gate t tl (gating p) (inside ∙ sym (ap (λ (x : Gating). x.stand) stands)) (λ _. (sym (ap (λ (x : Gating). x.cycle) stands), sym (ap (λ (x : Gating). x.sweep) stands))))
 
     pub serve_event : (o : Option Reply) → field_reply (field_got f (h (place_of (field_want f)))) ≡ o
-        → Event (heap_after h (field_want f)) (field_waiting g f) (is_deciding f (h (place_of (field_want f)))) (if_replied o (field_got f (h (place_of (field_want f))))) o
+        → Event (heap_after h (field_want f)) (reply_due g f) (is_deciding f (h (place_of (field_want f)))) (if_replied o (field_got f (h (place_of (field_want f))))) o
     serve_event None e = record {
       gate = stays (Serve (field_got f (h (place_of (field_want f))))) refl;
       phase = subst (λ w. IsMark w) (sym (field_phase h f)) phase;
-      shown = follows;
-      part = record { thread = same_thread f (h (place_of (field_want f))) e ∙ kept.thread; row = moves.row; known = moves.known; going = e };
+      shown = moves.follows;
+      part = record { thread = same_thread f (h (place_of (field_want f))) e ∙ kept.thread; asks = moves.asks; known = moves.known; going = e };
       fits = (field_fits c f (h (place_of (field_want f))) fits reads, low);
       over = λ r z. absurd cc;
       told = told_is;
@@ -444,7 +377,7 @@ module _ (c : Config) (bounds : IsInBounds c) (plan : IsAdmitted c) (g : Graph) 
     serve_event (Some r) e = record {
       gate = stays Leave refl;
       phase = subst (λ w. IsMark w) (sym (field_phase h f)) phase;
-      shown = subst (λ l. Follows c.threads (opening_last c) (every_name (start_graph c)) (opening_at c.threads) (state (graph_after g t k (is_deciding f (h (place_of (field_want f))))) (heap_after h (field_want f)) (with_load ls t l))) (reply_unloads (field_got f (h (place_of (field_want f)))) r e) follows;
+      shown = subst (λ l. Follows c.threads (opening_last c) (every_name (start_graph c)) (opening_at c.threads) (state (graph_after g t k (is_deciding f (h (place_of (field_want f))))) (heap_after h (field_want f)) (with_load ls t l))) (reply_unloads (field_got f (h (place_of (field_want f)))) r e) moves.follows;
       part = tt;
       fits = tt;
       over = λ r z. refl;

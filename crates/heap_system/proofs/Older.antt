@@ -20,7 +20,7 @@ use Rattle.never_heap.proofs.Growing.{part_append}
 use Rattle.shown_graph.specs.Words.{BlockWords, block_words, register_block, value_word}
 use Rattle.shown_graph.specs.Shown.{Shows, IsValueOf, every_name, heads}
 use Rattle.shown_graph.specs.Openings.{opening_at, opening_last}
-use Rattle.shown_graph.specs.Events.{ObjectLoad, ObjectIs, LoadIs, lates}
+use Rattle.shown_graph.specs.Events.{ObjectLoad, ObjectIs, LoadIs, object_in, is_late, lates}
 use Rattle.shown_graph.proofs.Registering.{register_low}
 use Rattle.shown_graph.proofs.Stores.{register_apart}
 use Rattle.heap_machine.specs.Operations.{heap_after, place_of}
@@ -33,45 +33,48 @@ use Rattle.barrier_steps.specs.declared.rows.FieldRow.{FieldRow}
 use Rattle.barrier_steps.specs.declared.rows.FieldRow.TheVariants as rows
 use Rattle.barrier_steps.specs.declared.rows.Walk.{Walk}
 use Rattle.barrier_steps.specs.Fits.{FieldFits}
-use Rattle.barrier_steps.specs.Rows.{first_row, field_want, field_got, field_reply, after_object, after_shape, after_said, on_way, at_block, payload_in, shape_in, way_from}
+use Rattle.barrier_steps.specs.Rows.{first_row, field_want, field_got, field_reply, after_object, after_shape, after_said, on_way, payload_in, shape_in, way_from}
 use Rattle.barrier_steps.specs.Walks.{links_to, shape_length}
 use Rattle.heap_system.specs.declared.local.Part.{Part}
 use Rattle.heap_system.specs.declared.local.Part.TheVariants.{Rest, Enter, Serve, Leave}
 use Rattle.heap_system.specs.Locals.{LocalState, if_replied, if_entered, part_want, part_got, decides, is_done, command_of, entry_of, PartFits}
 use Rattle.heap_system.specs.Machines.{Run, State, IsJob, IsRunOf, local_at, word_read, event_done, has_event, entry_decided, next, after_turns, opened, IsOpening}
-use Rattle.heap_system.specs.Pictures.{field_loading, loading, is_late, walk_load, heap_in, IsOlder}
-use Rattle.heap_system.proofs.LoadedWords.{thread_of}
+use Rattle.heap_system.specs.Pictures.{loading, heap_in, IsOlder}
+use Rattle.barrier_steps.specs.Projection.{thread_of, loading_of, walk_load}
 use Rattle.heap_system.proofs.Kept.{PartKept, Kept, loads_in}
 use Rattle.heap_system.proofs.Always.{here, opening_kept, turn_kept}
-use Rattle.heap_system.proofs.Told.{words_shown}
 use Rattle.heap_system.proofs.Turning.{local_new, heap_new, fits, word_is}
 
 -- the part that a row leads to
 abbrev led : FieldRow → Part
 led f = if_replied (field_reply f) f
 
+-- whether the word of register q is older than the graph, by where its thread is
+abbrev late_in : Part → ℕ → Bool
+late_in p q = is_late (loading p).value q
+
 -- rows after which no register is late
-object_quiet : (t s : ℕ) (access : Access) (y : Payload) (q : ℕ) → is_late (led (after_object t s access y)) q ≡ false
+object_quiet : (t s : ℕ) (access : Access) (y : Payload) (q : ℕ) → late_in (led (after_object t s access y)) q ≡ false
 object_quiet t s access payloads.Nil q = refl
 object_quiet t s access (payloads.Int v) q = refl
 object_quiet t s access (payloads.Block x) q = refl
 
-said_quiet : (t s w : ℕ) (y : Payload) (q : ℕ) → is_late (led (after_said t s w y)) q ≡ false
+said_quiet : (t s w : ℕ) (y : Payload) (q : ℕ) → late_in (led (after_said t s w y)) q ≡ false
 said_quiet t s w payloads.Nil q = refl
 said_quiet t s w (payloads.Int v) q = refl
 said_quiet t s w (payloads.Block x) q = refl
 
-way_quiet : (t : ℕ) (walk : Walk) (errand : Errand) (q : ℕ) → is_late (led (on_way t walk errand)) q ≡ false
-way_quiet t walk errand q = elim (cases_Bool (ltb walk.level (links_to walk.shape walk.index))) [
+way_quiet : (t : ℕ) (walk : Walk) (errand : Errand) (q : ℕ) → late_in (led (on_way t walk errand)) q ≡ false
+way_quiet t walk (errands.Get d) q = elim (cases_Bool (ltb walk.level (links_to walk.shape walk.index))) [
   | inl e ↦ rw e refl
-  | inr e ↦ rw e (here errand)
+  | inr e ↦ rw e refl
 ]
-  where
-    here : (e : Errand) → is_late (led (at_block t walk e)) q ≡ false
-    here (errands.Get d) = refl
-    here (errands.Put v word) = refl
+way_quiet t walk (errands.Put v word) q = elim (cases_Bool (ltb walk.level (links_to walk.shape walk.index))) [
+  | inl e ↦ rw e refl
+  | inr e ↦ rw e refl
+]
 
-shape_quiet : (t s x : ℕ) (access : Access) (f : Shape) (q : ℕ) → is_late (led (after_shape t s x access f)) q ≡ false
+shape_quiet : (t s x : ℕ) (access : Access) (f : Shape) (q : ℕ) → late_in (led (after_shape t s x access f)) q ≡ false
 shape_quiet t s x (accesses.Get d i) f q = elim (cases_Bool (ltb i (shape_length f))) [
   | inl e ↦ rw e (way_quiet t (way_from s x f i) (errands.Get d) q)
   | inr e ↦ rw e refl
@@ -82,7 +85,7 @@ shape_quiet t s x (accesses.Put i v) f q = elim (cases_Bool (ltb i (shape_length
 ]
 shape_quiet t s x accesses.Len f q = refl
 
-first_quiet : (t : ℕ) (k : Command) (q : ℕ) → is_late (Serve (first_row t k)) q ≡ false
+first_quiet : (t : ℕ) (k : Command) (q : ℕ) → late_in (Serve (first_row t k)) q ≡ false
 first_quiet t (commands.New d f) q = refl
 first_quiet t (commands.Arr d e) q = refl
 first_quiet t (commands.Set d v) q = refl
@@ -100,9 +103,9 @@ no_way b e f = let z : true ≡ false = sym f ∙ e in absurd cc
 -- an event after which a register is late only reads; it decides, or the register was late before
 pub record Lately (h : Heap) (p : Part) (w q : ℕ) : Type 0 where
   pub reads : heap_after h (part_want p) ≡ h
-  pub how : ((decides p w ≡ true) × (is_late p q ≡ false)) ⊎ ((decides p w ≡ false) × (is_late p q ≡ true))
+  pub how : ((decides p w ≡ true) × (late_in p q ≡ false)) ⊎ ((decides p w ≡ false) × (late_in p q ≡ true))
 
-field_lately : (h : Heap) (f : FieldRow) (w q : ℕ) → is_late (led (field_got f w)) q ≡ true → Lately h (Serve f) w q
+field_lately : (h : Heap) (f : FieldRow) (w q : ℕ) → late_in (led (field_got f w)) q ≡ true → Lately h (Serve f) w q
 field_lately h (rows.StoreNumber t d v) w q e = absurd cc
 field_lately h (rows.StoreNil t d) w q e = absurd cc
 field_lately h (rows.LoadMoved t d s) w q e = absurd cc
@@ -121,11 +124,11 @@ field_lately h (rows.LoadSaid t s) w q e = no_way _ (said_quiet t s w (payload_i
 field_lately h (rows.LoadSaidOwner t s word) w q e = absurd cc
 field_lately h (rows.Answered reply) w q e = absurd cc
 
-entered_quiet : (o : Option _) (t : ℕ) (k : Command) (g : _) (q : ℕ) → is_late (if_entered o t k g) q ≡ false
+entered_quiet : (o : Option _) (t : ℕ) (k : Command) (g : _) (q : ℕ) → late_in (if_entered o t k g) q ≡ false
 entered_quiet None t k g q = refl
 entered_quiet (Some x) t k g q = first_quiet t k q
 
-pub part_lately : (h : Heap) (t : ℕ) (k : Command) (p : Part) (w q : ℕ) → is_late (part_got t k p w) q ≡ true → Lately h p w q
+pub part_lately : (h : Heap) (t : ℕ) (k : Command) (p : Part) (w q : ℕ) → late_in (part_got t k p w) q ≡ true → Lately h p w q
 part_lately h t k Rest w q e = no_way _ (entered_quiet _ t k _ q) e
 part_lately h t k (Enter g) w q e = no_way _ (entered_quiet _ t k _ q) e
 part_lately h t k (Serve f) w q e = field_lately h f w q e
@@ -144,7 +147,7 @@ module _ (c : Config) (g : Graph) (m : ℕ) (K : Name → Type 0) (at : Name →
   register_other : (s d : ℕ) → s ≡ t → d < 16 → register_block s d ≡ register_block u q → ⊥
   register_other s d e dl f = other (omega arith)
 
-  field_frame : (f : FieldRow) → thread_of f ≡ t → FieldFits c f → LoadIs g at t (field_loading f) → heap_after h (field_want f) (PayloadOf (register_block u q) (q % 4)) ≡ h (PayloadOf (register_block u q) (q % 4))
+  field_frame : (f : FieldRow) → thread_of f ≡ t → FieldFits c f → LoadIs g at t (loading_of f) → heap_after h (field_want f) (PayloadOf (register_block u q) (q % 4)) ≡ h (PayloadOf (register_block u q) (q % 4))
   field_frame (rows.StoreNumber s d v) e fits loads = stays_at _ _ _ (register_other s d e fits.1)
   field_frame (rows.StoreNil s d) e fits loads = stays_at _ _ _ (register_other s d e fits.1)
   field_frame (rows.LoadMoved s d r) e fits loads = refl
@@ -156,7 +159,7 @@ module _ (c : Config) (g : Graph) (m : ℕ) (K : Name → Type 0) (at : Name →
   field_frame (rows.LoadField s walk d) e fits loads = refl
   field_frame (rows.LoadOwner s d word) e fits loads = refl
   field_frame (rows.StoreLate s d word value) e fits loads = stays_at _ _ _ (register_other s d e fits.1)
-  field_frame (rows.StoreField s walk v word) e fits loads = stays_at _ _ _ (object_apart (walk_load walk) loads.object)
+  field_frame (rows.StoreField s walk v word) e fits loads = stays_at _ _ _ (object_apart (object_in (walk_load walk)) loads.object)
   field_frame (rows.LoadFirst s a b) e fits loads = refl
   field_frame (rows.LoadSecond s a b word) e fits loads = refl
   field_frame (rows.LoadSaid s r) e fits loads = refl
@@ -181,7 +184,7 @@ cond_yes b x y e = rw e refl
 
 -- every late register has its older word
 abbrev pub AllOlder : Config → Run → Type 0
-AllOlder c r = (u q : ℕ) → u < c.threads → q < 16 → is_late (local_at c r.state u).part q ≡ true → IsOlder c r u q
+AllOlder c r = (u q : ℕ) → u < c.threads → q < 16 → late_in (local_at c r.state u).part q ≡ true → IsOlder c r u q
 
 others_none : (c : Config) (order : List HistoryItem) (t u : ℕ) (k : Command) (b : Bool) → (t ≡ u → ⊥) → part u (cond b (entry_decided c t k order ∷ []) []) ≡ []
 others_none c order t u k true n = ap (λ x. cond x (entry_of t k (step (replay c order) t k).1 ∷ []) []) (ne_eqb t u n)
@@ -197,10 +200,10 @@ module _ (c : Config) (traces : List (List Command)) (bounds : IsInBounds c) (pl
   abbrev after : Run
   after = record { state = event_done c t r.state; order = r.order ++ cond deciding (entry_decided c t (command_of (local_at c r.state t)) r.order ∷ []) [] }
 
-  older_other : (u q : ℕ) → u < c.threads → q < 16 → (t ≡ u → ⊥) → is_late (local_at c (event_done c t r.state) u).part q ≡ true → IsOlder c after u q
+  older_other : (u q : ℕ) → u < c.threads → q < 16 → (t ≡ u → ⊥) → late_in (local_at c (event_done c t r.state) u).part q ≡ true → IsOlder c after u q
   older_other u q ul ql n late =
       let same : local_at c (event_done c t r.state) u ≡ local_at c r.state u = local_new c traces bounds plan r kept t tl going u ∙ cond_no _ _ _ (ne_eqb t u n) in
-      let o : IsOlder c r u q = all u q ul ql (sym (ap (λ (l : LocalState). is_late l.part q) same) ∙ late) in
+      let o : IsOlder c r u q = all u q ul ql (sym (ap (λ (l : LocalState). late_in l.part q) same) ∙ late) in
       record {
         before = o.before;
         entry = o.entry;
@@ -214,14 +217,14 @@ module _ (c : Config) (traces : List (List Command)) (bounds : IsInBounds c) (pl
             ∙ o.word;
       }
 
-  older_self : (q : ℕ) → q < 16 → is_late (local_at c (event_done c t r.state) t).part q ≡ true → IsOlder c after t q
+  older_self : (q : ℕ) → q < 16 → late_in (local_at c (event_done c t r.state) t).part q ≡ true → IsOlder c after t q
   older_self q ql late =
       let same = local_new c traces bounds plan r kept t tl going t ∙ cond_yes _ _ _ (eq-eqb t t refl) in
-      let l : Lately (heap_in c r.state) (local_at c r.state t).part word_here q = part_lately (heap_in c r.state) t (command_of (local_at c r.state t)) (local_at c r.state t).part word_here q (sym (ap (λ (l : LocalState). is_late l.part q) same) ∙ late) in
+      let l : Lately (heap_in c r.state) (local_at c r.state t).part word_here q = part_lately (heap_in c r.state) t (command_of (local_at c r.state t)) (local_at c r.state t).part word_here q (sym (ap (λ (l : LocalState). late_in l.part q) same) ∙ late) in
       let still = ap (λ h. h (PayloadOf (register_block t q) (q % 4))) (heap_new c traces bounds plan r kept t tl going ∙ l.reads) in
       elim l.how [
         | inl d ↦
-            let shown = (words_shown c traces r kept).registers.holds t q tl ql in
+            let shown = kept.shown.shows.registers.holds t q tl ql in
             record {
               before = r.order;
               entry = entry_of t (command_of (local_at c r.state t)) (step (replay c r.order) t (command_of (local_at c r.state t))).1;
@@ -246,7 +249,7 @@ module _ (c : Config) (traces : List (List Command)) (bounds : IsInBounds c) (pl
 
   event_older : AllOlder c after
   event_older u q ul ql late = elim (cases_eq t u) [
-    | inl e ↦ subst (λ v. is_late (local_at c (event_done c t r.state) v).part q ≡ true → IsOlder c after v q) e (older_self q ql) late
+    | inl e ↦ subst (λ v. late_in (local_at c (event_done c t r.state) v).part q ≡ true → IsOlder c after v q) e (older_self q ql) late
     | inr n ↦ older_other u q ul ql n late
   ]
 
@@ -273,7 +276,7 @@ turns_older c traces job [] r kept all = all
 turns_older c traces job (t ∷ ts) r kept all = turns_older c traces job ts (next c t r) (turn_kept c traces job r kept t) (turn_older c traces job r kept t all)
 
 opened_older : (c : Config) (traces : List (List Command)) → IsJob c traces → (s : State) → IsOpening c traces s → AllOlder c (opened s)
-opened_older c traces job s start u q ul ql late = let z : true ≡ false = sym late ∙ ap (λ (l : LocalState). is_late l.part q) (here c traces job s start u ul) in absurd cc
+opened_older c traces job s start u q ul ql late = let z : true ≡ false = sym late ∙ ap (λ (l : LocalState). late_in l.part q) (here c traces job s start u ul) in absurd cc
 
 -- every run
 pub run_older : (c : Config) (traces : List (List Command)) (ts : List ℕ) (r : Run) → IsJob c traces → IsRunOf c traces ts r → AllOlder c r

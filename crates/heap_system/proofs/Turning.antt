@@ -33,9 +33,10 @@ use Rattle.heap_system.specs.declared.local.Part.{Part}
 use Rattle.heap_system.specs.declared.local.Part.TheVariants.{Rest, Enter, Serve, Leave}
 use Rattle.heap_system.specs.Locals.{LocalState, command_of, is_rest, is_done, part_want, part_got, part_reply, decides, entry_of, entries_of, local_got, IsServed, PartFits, PartReads}
 use Rattle.heap_system.specs.Machines.{no_local, local_at, word_read, event_done, has_event, entry_decided, Run, next}
-use Rattle.heap_system.specs.Pictures.{gating, loading, field_waiting, waiting, heap_in}
-use Rattle.heap_system.proofs.LoadedWords.{thread_of}
-use Rattle.heap_system.proofs.Moves.{state, IsKnown, graph_after}
+use Rattle.heap_system.specs.Pictures.{gating, loading, waiting, heap_in}
+use Rattle.barrier_steps.specs.Projection.{thread_of}
+use Rattle.barrier_steps.specs.Replies.{reply_due, IsKnown}
+use Rattle.heap_system.proofs.Moves.{state, graph_after}
 use Rattle.heap_system.proofs.Steady.{never_full, register_stays}
 use Rattle.heap_system.proofs.Kept.{PartKept, LocalKept, loads_in, gates_in, Kept, EventKept, part_event, part_reads, part_sum, part_place, part_colour, IsMark}
 
@@ -79,31 +80,18 @@ said_more log trace e k is following low said =
     ∙ sym (take-suc trace (length log) (commands.Nil 0) low) ∙ sym (ap (λ n. take n trace) longer)
 
 -- the other threads' rows say the same of a graph in which their registers are the same
-field_stays : (g new : Graph) (u : ℕ) (f : FieldRow) → thread_of f ≡ u → ((q : ℕ) → register_of new u q ≡ register_of g u q) → (IsKnown g f → IsKnown new f) × (field_waiting new f ≡ field_waiting g f)
-field_stays g new u (rows.StoreNumber t d v) e same = (λ x. x, refl)
-field_stays g new u (rows.StoreNil t d) e same = (λ x. x, refl)
-field_stays g new u (rows.LoadMoved t d s) e same = (λ x. x, refl)
-field_stays g new u (rows.StoreMoved t d s word) e same = (λ x. x, refl)
-field_stays g new u (rows.LoadObject t s access) e same = (λ x. x, refl)
-field_stays g new u (rows.LoadShape t s x access) e same = (λ x. x, refl)
-field_stays g new u (rows.LoadValue t walk v) e same = (λ x. x, refl)
-field_stays g new u (rows.LoadLink t walk errand) e same = (λ x. x, refl)
-field_stays g new u (rows.LoadField t walk d) e same = (λ x. x, refl)
+field_stays : (g new : Graph) (u : ℕ) (f : FieldRow) → thread_of f ≡ u → ((q : ℕ) → register_of new u q ≡ register_of g u q) → (IsKnown g f → IsKnown new f) × (reply_due new f ≡ reply_due g f)
 field_stays g new u (rows.LoadOwner t d word) e same = (λ x. x, rw (e, same d) refl)
 field_stays g new u (rows.StoreLate t d word value) e same = let s : register_of new t d ≡ register_of g t d = rw e (same d) in (λ x. x ∙ sym s, rw s refl)
-field_stays g new u (rows.StoreField t walk v word) e same = (λ x. x, refl)
-field_stays g new u (rows.LoadFirst t a b) e same = (λ x. x, refl)
-field_stays g new u (rows.LoadSecond t a b word) e same = (λ x. x, refl)
-field_stays g new u (rows.LoadSaid t s) e same = (λ x. x, refl)
 field_stays g new u (rows.LoadSaidOwner t s word) e same = (λ x. x, rw (e, same s) refl)
-field_stays g new u (rows.Answered reply) e same = (λ x. x, refl)
+field_stays g new u _ e same = (λ x. x, refl)
 
 part_kept_stays : (g new : Graph) (u : ℕ) (k : Command) (p : Part) → PartKept g u k p → ((q : ℕ) → register_of new u q ≡ register_of g u q) → PartKept new u k p × (waiting new p ≡ waiting g p)
 part_kept_stays g new u k Rest kept same = (tt, refl)
 part_kept_stays g new u k (Enter a) kept same = (kept, refl)
 part_kept_stays g new u k (Serve f) kept same =
     let s = field_stays g new u f kept.thread same in
-    (record { thread = kept.thread; row = kept.row; known = s.0 kept.known; going = kept.going }, s.1)
+    (record { thread = kept.thread; asks = kept.asks; known = s.0 kept.known; going = kept.going }, s.1)
 part_kept_stays g new u k Leave kept same = (tt, refl)
 
 local_stays : (c : Config) (given : List Command) (g new : Graph) (order later : List HistoryItem) (u : ℕ) (l : LocalState) → LocalKept c given g order u l → ((q : ℕ) → register_of new u q ≡ register_of g u q) → part u later ≡ part u order → LocalKept c given new later u l

@@ -17,7 +17,7 @@ ghost use Rattle.never_heap.specs.Histories.{replay, part, Legal, starts_in, wor
 ghost use Rattle.shown_graph.specs.Words.{block_words, Agrees};
 ghost use Rattle.shown_graph.specs.Shown.{every_name, Shows};
 ghost use Rattle.shown_graph.specs.Openings.{opening_at, opening_last, opening_words};
-ghost use Rattle.shown_graph.specs.Events.{unloaded, Follows};
+ghost use Rattle.shown_graph.specs.Events.{unloaded, lates, Follows};
 ghost use Rattle.heap_machine.specs.Counts.{total};
 ghost use Rattle.heap_machine.specs.Gating.{is_inside};
 ghost use Rattle.heap_machine.specs.Operations.{place_of, op_at, SumFits};
@@ -28,7 +28,7 @@ ghost use Rattle.heap_system.specs.Locals.{is_done, waits, is_rest, command_of, 
 ghost use Rattle.heap_system.specs.Machines.{State, answer, turned, Run, IsJob, IsRunOf, local_at, word_read};
 ghost use Rattle.heap_system.specs.Openings.{opening_heap};
 ghost use Rattle.heap_system.specs.declared.Turn.TheVariants as Turn;
-ghost use Rattle.heap_system.specs.Pictures.{stand_of, loading, is_late, heap_in, graph_state, entries_waiting, IsOlder};
+ghost use Rattle.heap_system.specs.Pictures.{stand_of, loading, heap_in, graph_state, entries_waiting, IsOlder};
 
 /// The words of an opening are those of the start graph, up to the last block of the shared array.
 pub fn opening_shows_the_start()
@@ -41,10 +41,10 @@ pub fn opening_shows_the_start()
 /// no block of an object is Free.
 pub fn words_show_the_order()
     ensures words { (c : Config) (traces : List (List Command)) (ts : List ℕ) (r : Run) → IsJob c traces → IsRunOf c traces ts r
-        → Shows c.threads (opening_last c) (every_name (start_graph c)) (replay c r.order) (opening_at c.threads) (block_words (heap_in c r.state)) (λ t q. is_late (local_at c r.state t).part q) }
+        → Shows c.threads (opening_last c) (every_name (start_graph c)) (replay c r.order) (opening_at c.threads) (block_words (heap_in c r.state)) (lates (graph_state c r).loads) }
     ensures free { (c : Config) (traces : List (List Command)) (ts : List ℕ) (r : Run) → IsJob c traces → IsRunOf c traces ts r → (a : Name) (o : ℕ) → has_name (start_graph c) a ≡ true → o < object_blocks (object_of (replay c r.order) a)
         → is_free (heap_in c r.state (ColourOf (opening_at c.threads a o))) ≡ false }
-    ensures older { (c : Config) (traces : List (List Command)) (ts : List ℕ) (r : Run) → IsJob c traces → IsRunOf c traces ts r → (t q : ℕ) → t < c.threads → q < 16 → is_late (local_at c r.state t).part q ≡ true → IsOlder c r t q }
+    ensures older { (c : Config) (traces : List (List Command)) (ts : List ℕ) (r : Run) → IsJob c traces → IsRunOf c traces ts r → (t q : ℕ) → t < c.threads → q < 16 → lates (graph_state c r).loads t q ≡ true → IsOlder c r t q }
     ensures loads { (c : Config) (traces : List (List Command)) (ts : List ℕ) (r : Run) → IsJob c traces → IsRunOf c traces ts r
         → Follows c.threads (opening_last c) (every_name (start_graph c)) (opening_at c.threads) (graph_state c r) }
 {}

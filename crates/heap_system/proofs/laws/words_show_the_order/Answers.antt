@@ -1,10 +1,10 @@
 use Rattle.heap_system.proofs.Always.{run_kept}
-use Rattle.heap_system.proofs.Told.{words_shown, not_free}
+use Rattle.heap_system.proofs.Told.{not_free}
 use Rattle.heap_system.proofs.Older.{run_older}
 use Rattle.heap_system.proofs.laws.words_show_the_order.Goals as goal
 
 pub returns-clause-words : goal.returns-clause-words
-returns-clause-words _ c traces ts r job is = words_shown c traces r (run_kept c traces ts r job is)
+returns-clause-words _ c traces ts r job is = (run_kept c traces ts r job is).shown.shows
 
 pub returns-clause-loads : goal.returns-clause-loads
 returns-clause-loads _ c traces ts r job is = (run_kept c traces ts r job is).shown
