@@ -14,16 +14,16 @@ use Rattle.barrier_steps.specs.declared.rows.FieldRow.TheVariants.{LoadOwner, St
 use Rattle.barrier_steps.specs.Rows.{field_got, field_decided}
 use Rattle.barrier_steps.specs.Fits.{FieldFits}
 use Rattle.barrier_steps.specs.Deciding.{is_deciding}
-use Rattle.barrier_steps.specs.Replies.{Asked, asked, answer, Promises, ShowsRegister, reply_due, IsKnown}
+use Rattle.barrier_steps.specs.Replies.{Asked, asked, answer, Promises, reply_due, IsKnown}
 use Rattle.barrier_steps.specs.Projection.{event_of, after_event, IsAtRow, IsInHand}
 use Rattle.barrier_steps.proofs.Decisions.{decided_after, decided_once}
 use Rattle.barrier_steps.proofs.Promising.{promised, kept}
 use Rattle.barrier_steps.proofs.Stepping.{graph_stays}
 use Rattle.barrier_steps.proofs.Showing.{row_shown, row_named, row_promises}
-use Rattle.barrier_steps.proofs.Registers.{row_shows}
+use Rattle.barrier_steps.proofs.Registers.{HasRegister, has_shows, row_has}
 
 -- a promised reply that shows its register is due
-promised_due : (head : Name → ℕ) (g : Graph) (row : FieldRow) (reply : Reply) → Promises head row reply → ShowsRegister g row reply → (reply_due g row ≡ Some reply) × IsKnown g row
+promised_due : (head : Name → ℕ) (g : Graph) (row : FieldRow) (reply : Reply) → Promises head row reply → HasRegister g row reply → (reply_due g row ≡ Some reply) × IsKnown g row
 promised_due head g (LoadOwner t d word) reply p e = (ap Some (sym e), tt)
 promised_due head g (StoreLate t d word value) reply p e = (ap Some (sym e), let same : replies.Val value ≡ replies.Val (register_of g t d) = sym p ∙ e in cc)
 promised_due head g (LoadSaidOwner t s word) reply p e = (ap Some (sym e), tt)
@@ -45,18 +45,18 @@ some_due g (LoadSaidOwner t s word) e = (_, refl)
 some_due g (Answered given) e = (given, refl)
 some_due g _ e = absurd cc
 
-due_shows : (g : Graph) (row : FieldRow) (reply : Reply) → reply_due g row ≡ Some reply → ShowsRegister g row reply
-due_shows g (LoadOwner t d word) reply e = cc
-due_shows g (StoreLate t d word value) reply e = cc
-due_shows g (LoadSaidOwner t s word) reply e = cc
-due_shows g _ reply e = tt
+due_has : (g : Graph) (row : FieldRow) (reply : Reply) → reply_due g row ≡ Some reply → HasRegister g row reply
+due_has g (LoadOwner t d word) reply e = cc
+due_has g (StoreLate t d word value) reply e = cc
+due_has g (LoadSaidOwner t s word) reply e = cc
+due_has g _ reply e = tt
 
-still_shows : (g : Graph) (row : FieldRow) (w : ℕ) (reply : Reply) → field_decided row ≡ true → ShowsRegister g row reply → ShowsRegister g (field_got row w) reply
-still_shows g (LoadOwner t d word) w reply h e = e
-still_shows g (StoreLate t d word value) w reply h e = tt
-still_shows g (LoadSaidOwner t s word) w reply h e = tt
-still_shows g (Answered given) w reply h e = tt
-still_shows g _ w reply h e = absurd cc
+still_has : (g : Graph) (row : FieldRow) (w : ℕ) (reply : Reply) → field_decided row ≡ true → HasRegister g row reply → HasRegister g (field_got row w) reply
+still_has g (LoadOwner t d word) w reply h e = e
+still_has g (StoreLate t d word value) w reply h e = tt
+still_has g (LoadSaidOwner t s word) w reply h e = tt
+still_has g (Answered given) w reply h e = tt
+still_has g _ w reply h e = absurd cc
 
 module _ (c : Config) (m : ℕ) (K : Name → Type 0) (at : Name → ℕ → ℕ) (few : c.blocks ≤ 65535) (low : m ≤ c.blocks) (s : GraphState) (k : Follows c.threads m K at s) (h : Heap) where
   pub row_due : (a : Name) (row : FieldRow) (w : ℕ) (q : Asked) → FieldFits c row → IsAtRow s h row w → IsInHand s a row → (field_decided row ≡ false → asked row ≡ Some q) → IsKnown s.graph row
@@ -65,15 +65,15 @@ module _ (c : Config) (m : ℕ) (K : Name → Type 0) (at : Name → ℕ → ℕ
     | inl d ↦
         let quiet : is_deciding row w ≡ false = decided_once row w d in
         let due = some_due s.graph row d in
-        let shows = due_shows s.graph row due.0 due.1 in
-        let p = kept (heads at) row w due.0 (row_promises c m K at few low s k h row w due.0 fits is known due.1) (row_named c m K at few low s k h row w due.0 fits is shows) in
-        let out = promised_due (heads at) s.graph (field_got row w) due.0 p (still_shows s.graph row w due.0 d shows) in
+        let has = due_has s.graph row due.0 due.1 in
+        let p = kept (heads at) row w due.0 (row_promises c m K at few low s k h row w due.0 fits is known due.1) (row_named c m K at few low s k h row w due.0 fits is (has_shows s.graph row due.0 has)) in
+        let out = promised_due (heads at) s.graph (field_got row w) due.0 p (still_has s.graph row w due.0 d has) in
         subst (λ g. (reply_due g (field_got row w) ≡ cond (is_deciding row w) (Some (answer s.graph q)) (reply_due s.graph row)) × IsKnown g (field_got row w)) (sym (graph_stays s a row w quiet))
         (out.0 ∙ sym due.1 ∙ ap (λ b. cond b (Some (answer s.graph q)) (reply_due s.graph row)) (sym quiet), out.1)
     | inr u ↦ elim (cases_Bool (is_deciding row w)) [
       | inl n ↦
           let shown = row_shown c m K at few low s k h row w fits is in
-          let out = promised_due (heads at) (after_event s (event_of a row w)).graph (field_got row w) (answer s.graph q) (promised (heads at) s.graph row w q (asks u) n shown) (row_shows c (heads at) s a row w q k.shows.sized fits shown hand (asks u) n) in
+          let out = promised_due (heads at) (after_event s (event_of a row w)).graph (field_got row w) (answer s.graph q) (promised (heads at) s.graph row w q (asks u) n shown) (row_has c (heads at) s a row w q k.shows.sized fits shown hand (asks u) n) in
           (out.0 ∙ ap (λ b. cond b (Some (answer s.graph q)) (reply_due s.graph row)) (sym n), out.1)
       | inr n ↦
           let still : (field_decided row || is_deciding row w) ≡ false = rw (u, n) refl in

@@ -120,10 +120,9 @@ NameShown head (LoadOwner t d word) reply w = OwnerShown head word reply w
 NameShown head (LoadSaidOwner t s word) reply w = OwnerShown head word reply w
 NameShown head _ reply w = Unit {0}
 
--- where a decided row still reads a name, or stores the value, its reply is the value of the register that the word is of
+-- where a decided row still reads a name, its reply is the value of the register that the word is of
 abbrev pub ShowsRegister : Graph → FieldRow → Reply → Type 0
 ShowsRegister g (LoadOwner t d word) reply = reply ≡ Val (register_of g t d)
-ShowsRegister g (StoreLate t d word value) reply = reply ≡ Val (register_of g t d)
 ShowsRegister g (LoadSaidOwner t s word) reply = reply ≡ Val (register_of g t s)
 ShowsRegister g _ reply = Unit {0}
 
