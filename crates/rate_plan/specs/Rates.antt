@@ -13,8 +13,8 @@ ceiling x y = (x + (y - 1)) / y
 abbrev pub start_blocks : Config → ℕ
 start_blocks c = 5 * c.threads + array_blocks c.shared
 
--- At p units for each block a cycle ends before the blocks are used up. A cycle has at most 2 units for each block
--- of the heap, so it lasts for at most ceiling (2 * blocks) p blocks, and one allocation more of each thread.
+-- p units for each block are to be enough for a cycle to end before the blocks are used up: a cycle has at most 2 units for each
+-- block of the heap, so it should last for at most ceiling (2 * blocks) p blocks, and one allocation more of each thread.
 abbrev pub KeepsUp : Config → ℕ → Type 0
 KeepsUp c p = c.live + 2 * (ceiling (2 * c.blocks) p + c.threads * c.object) ≤ c.blocks
 

@@ -18,8 +18,9 @@ pub enum PlanFault {
     LiveTooSmall,
 }
 
-/// The least number of units, at least 1, that an allocation has to make for each block so that a
-/// cycle ends before the blocks are used up. The configuration is in bounds.
+/// The rate: how many units an allocation will make for each block, chosen so that a cycle ends before
+/// the blocks are used up. It is the least number, at least 1, that is enough by `KeepsUp`. The
+/// configuration is in bounds.
 ///
 /// # Errors
 ///
