@@ -14,3 +14,4 @@ pub mod Sums
 pub mod Staying
 pub mod ReachSteps
 pub mod Answering
+pub mod Refusing

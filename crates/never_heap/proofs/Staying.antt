@@ -9,13 +9,13 @@ use Rattle.never_heap.specs.declared.Command.{Command}
 use Rattle.never_heap.specs.declared.Command.TheVariants as commands
 use Rattle.never_heap.specs.declared.Reply.{Reply}
 use Rattle.never_heap.specs.declared.Reply.TheVariants.{Range}
-use Rattle.never_heap.specs.Graphs.{SameShape, Graph, Mutator, Object, no_mutator, mutator_at, count_of, register_of, object_of, has_name, same_name, with_mutator, with_register, with_field, with_object, set_field, next_name}
+use Rattle.never_heap.specs.Graphs.{SameShape, Graph, Mutator, Object, no_mutator, mutator_at, count_of, register_of, object_of, has_name, same_name, with_mutator, with_register, with_field, with_object, set_field, field_of, next_name}
 use Rattle.never_heap.specs.Histories.{HistoryItem, Started, Did, is_full, after, replay_from}
 use Rattle.never_heap.specs.Steps.{step, made, at_field, at_object, makes_object, stores_in, stores_in_field}
 use Rattle.never_heap.proofs.GraphMoves.{mutator_with, object_with_register, has_name_with_register}
 use Rattle.never_heap.proofs.FieldStores.{object_with_field, has_name_with_field, object_with_object, has_name_with_object, registers_with_field, registers_with_object}
 use Rattle.never_heap.proofs.Naming.{one_name}
-use Rattle.never_heap.proofs.Stepping.{Change, none, store, put, make, change_of, has_field, with_object_threads}
+use Rattle.never_heap.proofs.Stepping.{Change, none, store, put, make, change_of, has_field, with_object_threads, count_stays, made_count}
 
 -- a thread that there is not changes nothing
 past_with : (g : Graph) (t : ℕ) (m : Mutator) → length g.mutators ≤ t → with_mutator g t m ≡ g
@@ -190,9 +190,41 @@ step_object g t (commands.Len s) a has n = object_keeps (λ k. object_of k a ≡
 step_object g t (commands.Same b c) a has n = refl
 step_object g t (commands.Say s) a has n = refl
 
--- a put leaves the objects to which its register does not refer, and the fields of another place
+-- a put leaves the objects to which its register does not refer
 pub put_other : (g : Graph) (t s i v : ℕ) (a : Name) → (register_of g t s ≡ Ref a → ⊥) → object_of (step g t (commands.Put s i v)).0 a ≡ object_of g a
 put_other g t s i v a n = field_keeps (λ k. object_of k a ≡ object_of g a) g i (register_of g t s) _ refl (λ b e l. elim (cases_Bool (same_name b a)) [
   | inl same ↦ absurd (n (e ∙ ap Ref (one_name b a same)))
   | inr other ↦ object_with_field g b i (register_of g t v) (has_field g b i l) a ∙ ap (λ k. cond k (set_field (object_of g b) i (register_of g t v)) (object_of g a)) other
 ])
+
+-- and the fields of another place
+other_field : (o : Object) (i j : ℕ) (v : Value) → (i ≡ j → ⊥) → field_of (set_field o i v) j ≡ field_of o j
+other_field o i j v n = get_or-set_other o.fields i j v Nil (λ e. n (sym e))
+
+pub put_field : (g : Graph) (t s i v : ℕ) (a : Name) (j : ℕ) → (i ≡ j → ⊥) → field_of (object_of (step g t (commands.Put s i v)).0 a) j ≡ field_of (object_of g a) j
+put_field g t s i v a j n = field_keeps (λ k. field_of (object_of k a) j ≡ field_of (object_of g a) j) g i (register_of g t s) _ refl (λ b e l.
+    ap (λ o. field_of o j) (object_with_field g b i (register_of g t v) (has_field g b i l) a)
+    ∙ elim (cases_Bool (same_name b a)) [
+      | inl same ↦ ap (λ k. field_of (cond k (set_field (object_of g b) i (register_of g t v)) (object_of g a)) j) same
+          ∙ other_field (object_of g b) i j (register_of g t v) n ∙ ap (λ k. field_of (object_of g k) j) (one_name b a same)
+      | inr other ↦ ap (λ k. field_of (cond k (set_field (object_of g b) i (register_of g t v)) (object_of g a)) j) other
+    ])
+
+-- how many objects a thread made
+pub step_counts : (g : Graph) (t : ℕ) (command : Command) (u : ℕ) → (t ≡ u → makes_object command ≡ false) → count_of (step g t command).0 u ≡ count_of g u
+step_counts g t command u n = elim (cases_lt t (length g.mutators)) [
+  | inl there ↦ count_stays g t u (makes_object command) (step g t command).0 there n (change_of g t command)
+  | inr past ↦ ap (λ k. count_of k u) (change_past g t (makes_object command) (step g t command).0 past (change_of g t command))
+]
+
+pub step_made : (g : Graph) (t : ℕ) (command : Command) → makes_object command ≡ true → t < length g.mutators → count_of (step g t command).0 t ≡ count_of g t + 1
+step_made g t (commands.New d f) e there = made_count g t d _ there
+step_made g t (commands.Arr d f) e there = made_count g t d _ there
+step_made g t (commands.Set d v) e there = absurd cc
+step_made g t (commands.Nil d) e there = absurd cc
+step_made g t (commands.Mov d s) e there = absurd cc
+step_made g t (commands.Get d s i) e there = absurd cc
+step_made g t (commands.Put s i v) e there = absurd cc
+step_made g t (commands.Len s) e there = absurd cc
+step_made g t (commands.Same a b) e there = absurd cc
+step_made g t (commands.Say s) e there = absurd cc

@@ -1,6 +1,6 @@
 -- What a step can do to a graph, by cases, and what every step leaves.
 use Rattle.std.proofs.Common.{ℕ, Bool, false, ◌+◌, ◌-◌, ◌≡◌, ◌<◌, ◌≤◌, true, cond, ltb, length, ap, sym, ◌∙◌, refl, subst, arith, inl, inr, eq-eqb, ne_eqb}
-use Rattle.std.proofs.lemmas.Bool.{cases_eq, cases_lt, cases_Bool, ltb-true, le-leb}
+use Rattle.std.proofs.lemmas.Bool.{cases_eq, cases_lt, cases_Bool, both_ways, ltb-true, le-leb}
 use Rattle.std.proofs.lemmas.List.{length-set, get_or_past}
 use Rattle.block_store.specs.declared.Name.{Name}
 use Rattle.block_store.specs.declared.Value.{Value}
@@ -9,7 +9,7 @@ use Rattle.never_heap.specs.declared.Command.{Command}
 use Rattle.never_heap.specs.declared.Command.TheVariants as commands
 use Rattle.never_heap.specs.declared.Reply.{Reply}
 use Rattle.never_heap.specs.Graphs.{Graph, Object, no_object, nils, mutator_at, count_of, register_of, object_of, has_name, field_of, with_register, with_field, with_object, next_name}
-use Rattle.never_heap.specs.Steps.{step, makes_object, at_field, at_object}
+use Rattle.never_heap.specs.Steps.{step, made, makes_object, at_field, at_object}
 use Rattle.never_heap.proofs.GraphMoves.{at_zero, at_serial, objects_with}
 use Rattle.never_heap.proofs.FieldStores.{threads_with_field, count_with_field, count_with_object}
 
@@ -89,25 +89,30 @@ threads_of_change g t new _ (make d o n e y) = with_register_threads (with_objec
 count_with_register : (g : Graph) (t d u : ℕ) (v : Value) → t < length g.mutators → count_of (with_register g t d v) u ≡ count_of g u
 count_with_register g t d u v there = ap length (objects_with g t u _ there refl)
 
+-- a thread that makes an object has one more
+pub made_count : (g : Graph) (t d : ℕ) (o : Object) → t < length g.mutators → count_of (made g t d o).0 t ≡ count_of g t + 1
+made_count g t d o there =
+    count_with_register (with_object g t o) t d t (Ref (next_name g t)) (omega (arith, with_object_threads g t o))
+    ∙ count_with_object g t o there t ∙ ap (λ b. cond b (count_of g t + 1) (count_of g t)) (eq-eqb t t refl)
+
 -- the thread makes one object at most
 pub count_of_change : (g : Graph) (t : ℕ) (new : Bool) (h : Graph) → t < length g.mutators → Change g t new h → count_of h t ≤ count_of g t + 1
 count_of_change g t new _ there none = omega arith
 count_of_change g t new _ there (store d v s) = omega (arith, count_with_register g t d t v there)
 count_of_change g t new _ there (put s i v a e l) = omega (arith, count_with_field g a i (register_of g t v) (has_field g a i l) t)
-count_of_change g t new _ there (make d o n e y) =
-    let more : count_of (with_object g t o) t ≡ count_of g t + 1 = count_with_object g t o there t ∙ ap (λ b. cond b (count_of g t + 1) (count_of g t)) (eq-eqb t t refl) in
-    let stays : count_of (with_register (with_object g t o) t d (Ref (next_name g t))) t ≡ count_of (with_object g t o) t =
-    count_with_register (with_object g t o) t d t (Ref (next_name g t)) (omega (arith, with_object_threads g t o)) in
-    omega arith
+count_of_change g t new _ there (make d o n e y) = omega (arith, made_count g t d o there)
 
--- another thread makes none
-pub count_of_other : (g : Graph) (t u : ℕ) (new : Bool) (h : Graph) → t < length g.mutators → (t ≡ u → ⊥) → Change g t new h → count_of h u ≡ count_of g u
-count_of_other g t u new _ there other none = refl
-count_of_other g t u new _ there other (store d v s) = count_with_register g t d u v there
-count_of_other g t u new _ there other (put s i v a e l) = count_with_field g a i (register_of g t v) (has_field g a i l) u
-count_of_other g t u new _ there other (make d o n e y) =
+-- another thread makes none, nor does a command that makes no object
+pub count_stays : (g : Graph) (t u : ℕ) (new : Bool) (h : Graph) → t < length g.mutators → (t ≡ u → new ≡ false) → Change g t new h → count_of h u ≡ count_of g u
+count_stays g t u new _ there other none = refl
+count_stays g t u new _ there other (store d v s) = count_with_register g t d u v there
+count_stays g t u new _ there other (put s i v a e l) = count_with_field g a i (register_of g t v) (has_field g a i l) u
+count_stays g t u new _ there other (make d o n e y) =
     count_with_register (with_object g t o) t d u (Ref (next_name g t)) (omega (arith, with_object_threads g t o))
-    ∙ count_with_object g t o there u ∙ ap (λ b. cond b (count_of g t + 1) (count_of g u)) (ne_eqb t u other)
+    ∙ count_with_object g t o there u ∙ ap (λ b. cond b (count_of g t + 1) (count_of g u)) (ne_eqb t u (λ same. both_ways new (other same) y))
+
+pub count_of_other : (g : Graph) (t u : ℕ) (new : Bool) (h : Graph) → t < length g.mutators → (t ≡ u → ⊥) → Change g t new h → count_of h u ≡ count_of g u
+count_of_other g t u new h there other = count_stays g t u new h there (λ same. absurd (other same))
 
 -- what the program's caller needs: a step leaves the threads, and makes one object at most
 pub step_threads : (g : Graph) (t : ℕ) (command : Command) → length (step g t command).0.mutators ≡ length g.mutators

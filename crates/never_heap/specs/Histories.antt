@@ -4,7 +4,7 @@ use Rattle.block_store.specs.declared.Config.{Config}
 use Rattle.never_heap.specs.declared.Command.{Command}
 use Rattle.never_heap.specs.declared.Entry.{Entry}
 use Rattle.never_heap.specs.declared.Reply.{Reply}
-use Rattle.never_heap.specs.declared.Reply.TheVariants.{Full}
+use Rattle.never_heap.specs.declared.Reply.TheVariants.{Full, Null, Kind, Range}
 use Rattle.never_heap.specs.Graphs.{Graph, start_graph}
 use Rattle.never_heap.specs.Steps.{step, blocks_of}
 
@@ -16,6 +16,13 @@ pub data HistoryItem : Type 0 where
 abbrev pub is_full : Reply → Bool
 is_full (Full c) = true
 is_full _ = false
+
+-- whether a command was refused: the register was nil or held a number, or the object has no such field
+abbrev pub is_refusal : Reply → Bool
+is_refusal Null = true
+is_refusal Kind = true
+is_refusal Range = true
+is_refusal _ = false
 
 -- the graph after an item: a start and an entry answered full change nothing
 abbrev pub after : Graph → HistoryItem → Graph

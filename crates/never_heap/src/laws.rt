@@ -9,8 +9,8 @@ ghost use Rattle.never_heap.specs.declared.Command.TheVariants.{Put};
 ghost use Rattle.never_heap.specs.declared.Entry.{Entry};
 ghost use Rattle.never_heap.specs.Cycles.{graph_at};
 ghost use Rattle.never_heap.specs.Given.{given};
-ghost use Rattle.never_heap.specs.Graphs.{Graph, SameShape, register_of, object_of, has_name, next_name};
-ghost use Rattle.never_heap.specs.Histories.{HistoryItem, Started, Did, is_full, replay, replay_from, starts_in};
+ghost use Rattle.never_heap.specs.Graphs.{Graph, SameShape, register_of, object_of, field_of, count_of, has_name, next_name};
+ghost use Rattle.never_heap.specs.Histories.{HistoryItem, Started, Did, is_full, is_refusal, replay, replay_from, starts_in};
 ghost use Rattle.never_heap.specs.Licensed.{IsLicensedItem, Licensed};
 ghost use Rattle.never_heap.specs.Reach.{reachable, IsClosed};
 ghost use Rattle.never_heap.specs.RightWork.{IsRightWork, RightWork};
@@ -47,12 +47,19 @@ pub fn reachable_is_least()
 {}
 
 /// A step of thread `t` leaves the registers in which it does not store, all objects where it stores
-/// in no field, and else all but the one to which the register of the put refers. The threads stay.
+/// in no field, and else all but the one to which the register of the put refers, of which it leaves
+/// the other fields. The threads stay, and so does how many objects each has made, but that a command
+/// that makes an object adds one for `t`, where there is such a thread. A command that is refused
+/// leaves the whole graph.
 pub fn steps_leave()
     ensures registers { (g : Graph) (t : ℕ) (command : Command) (u q : ℕ) → (t ≡ u → stores_in command q ≡ false) → register_of (step g t command).0 u q ≡ register_of g u q }
     ensures objects { (g : Graph) (t : ℕ) (command : Command) (a : Name) → has_name g a ≡ true → stores_in_field command ≡ false → object_of (step g t command).0 a ≡ object_of g a }
     ensures others { (g : Graph) (t s i v : ℕ) (a : Name) → ¬ (register_of g t s ≡ Ref a) → object_of (step g t (Put s i v)).0 a ≡ object_of g a }
+    ensures fields { (g : Graph) (t s i v : ℕ) (a : Name) (j : ℕ) → ¬ (i ≡ j) → field_of (object_of (step g t (Put s i v)).0 a) j ≡ field_of (object_of g a) j }
     ensures threads { (g : Graph) (t : ℕ) (command : Command) → length (step g t command).0.mutators ≡ length g.mutators }
+    ensures counts { (g : Graph) (t : ℕ) (command : Command) (u : ℕ) → (t ≡ u → makes_object command ≡ false) → count_of (step g t command).0 u ≡ count_of g u }
+    ensures made { (g : Graph) (t : ℕ) (command : Command) → makes_object command ≡ true → t < length g.mutators → count_of (step g t command).0 t ≡ count_of g t + 1 }
+    ensures refused { (g : Graph) (t : ℕ) (command : Command) → is_refusal (step g t command).1 ≡ true → (step g t command).0 ≡ g }
 {}
 
 /// A name stays over each step and each history, with the kind and the length of its object.

@@ -26,3 +26,10 @@ pub record IsWay (part : ℕ → ℕ → Part) (i steps last : ℕ) (way turn : 
   pub starts : way 0 ≡ 0
   pub links : (l : ℕ) → l < steps → part (way l) (turn l) ≡ Link (way (l + 1))
   pub ends : part (way steps) last ≡ Field i
+
+-- A way along links from the first block to the block of ordinal o: by this many steps, of which step l takes the link at
+-- payload `turn l`, from ordinal `way l` to `way (l + 1)`.
+pub record IsPath (part : ℕ → ℕ → Part) (o steps : ℕ) (way turn : ℕ → ℕ) : Type 0 where
+  pub starts : way 0 ≡ 0
+  pub links : (l : ℕ) → l < steps → part (way l) (turn l) ≡ Link (way (l + 1))
+  pub ends : way steps ≡ o

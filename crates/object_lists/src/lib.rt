@@ -2,8 +2,8 @@
 #![tactic(auto)]
 
 ghost use Rattle.std.specs.Prelude.{◌≡◌, ℕ, ◌+◌, ◌<◌, ◌≤◌, SomeIff};
-ghost use Rattle.object_lists.specs.Layouts.{IsLayout, IsWay};
-ghost use Rattle.object_lists.specs.Parts.{link_in};
+ghost use Rattle.object_lists.specs.Layouts.{IsLayout, IsWay, IsPath};
+ghost use Rattle.object_lists.specs.Parts.{Part, link_in};
 ghost use Rattle.object_lists.specs.Records.{record_blocks, record_part, record_spot};
 
 use block_store::PAYLOADS;
@@ -43,6 +43,13 @@ pub fn link_of(blocks: u32, ordinal: u32) -> Option<u32>
 /// and each block but the first is linked from one place.
 pub fn record_layouts()
     ensures { (f : ℕ) → IsLayout 4 f (record_blocks f) (record_part f) record_spot }
+{}
+
+/// In every layout, of a record or of an array, each block is reached from the first along links, in
+/// no more steps than its ordinal says.
+pub fn blocks_are_reached()
+    ensures { (w len blocks : ℕ) (part : ℕ → ℕ → Part) (spot : ℕ → ℕ × ℕ) → IsLayout w len blocks part spot
+        → (o : ℕ) → o < blocks → (steps : ℕ) × (way : ℕ → ℕ) × (turn : ℕ → ℕ) × (steps ≤ o) × IsPath part o steps way turn }
 {}
 
 #[cfg(test)]

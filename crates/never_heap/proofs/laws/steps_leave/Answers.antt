@@ -1,5 +1,6 @@
 use Rattle.never_heap.proofs.Stepping.{step_threads}
-use Rattle.never_heap.proofs.Staying.{step_register, step_object, put_other}
+use Rattle.never_heap.proofs.Staying.{step_register, step_object, put_other, put_field, step_counts, step_made}
+use Rattle.never_heap.proofs.Refusing.{step_refused}
 use Rattle.never_heap.proofs.laws.steps_leave.Goals as goal
 
 pub returns-clause-registers : goal.returns-clause-registers
@@ -13,3 +14,15 @@ returns-clause-others c = put_other
 
 pub returns-clause-threads : goal.returns-clause-threads
 returns-clause-threads c = step_threads
+
+pub returns-clause-fields : goal.returns-clause-fields
+returns-clause-fields c = put_field
+
+pub returns-clause-counts : goal.returns-clause-counts
+returns-clause-counts c = step_counts
+
+pub returns-clause-made : goal.returns-clause-made
+returns-clause-made c = step_made
+
+pub returns-clause-refused : goal.returns-clause-refused
+returns-clause-refused c = step_refused
