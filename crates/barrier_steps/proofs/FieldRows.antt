@@ -14,6 +14,7 @@ use Rattle.never_heap.specs.declared.Command.{Command}
 use Rattle.never_heap.specs.declared.Command.TheVariants as commands
 use Rattle.never_heap.specs.Bounds.{IsCommandInRange}
 use Rattle.heap_machine.specs.Operations.{place_of, Fits}
+use Rattle.heap_machine.specs.Readings.{StoresHeld}
 use Rattle.barrier_steps.specs.declared.rows.Access.{Access}
 use Rattle.barrier_steps.specs.declared.rows.Access.TheVariants as accesses
 use Rattle.barrier_steps.specs.declared.rows.Errand.{Errand}
@@ -23,7 +24,7 @@ use Rattle.barrier_steps.specs.declared.rows.FieldRow.TheVariants.{StoreNumber, 
 use Rattle.barrier_steps.specs.declared.rows.Walk.{Walk}
 use Rattle.barrier_steps.specs.Walks.{shape_length, links_to}
 use Rattle.barrier_steps.specs.Rows.{register_place, shape_in, first_row, field_want, field_got, after_object, after_shape, after_field, after_said, on_way, at_block, way_from}
-use Rattle.barrier_steps.specs.Fits.{IsThread, IsLoaded, IsWalk, IsThere, AccessFits, ErrandFits, FieldFits, FieldReads, StoresHeld}
+use Rattle.barrier_steps.specs.Fits.{IsThread, IsLoaded, IsWalk, IsThere, AccessFits, ErrandFits, FieldFits, FieldReads}
 use Rattle.barrier_steps.proofs.Walking.{link_low, field_low}
 use Rattle.barrier_steps.proofs.ReadWords.{payload_cases, shape_fits}
 

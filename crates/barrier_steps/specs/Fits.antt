@@ -4,7 +4,7 @@ use Rattle.block_store.specs.declared.Config.{Config}
 use Rattle.block_store.specs.Payloads.{payload_of, target}
 use Rattle.block_store.specs.Places.{extent, IsBlock}
 use Rattle.block_store.specs.Shapes.{IsShape}
-use Rattle.heap_machine.specs.Operations.{Operation, Load, Exchange, CompareExchange, FetchAdd, FetchSub, place_of}
+use Rattle.heap_machine.specs.Operations.{place_of}
 use Rattle.heap_machine.specs.Readings.{CanHold}
 use Rattle.barrier_steps.specs.declared.rows.Access.{Access}
 use Rattle.barrier_steps.specs.declared.rows.Access.TheVariants as accesses
@@ -76,11 +76,3 @@ LinkReads _ w = Unit {0}
 -- the words that a row may read: those that the wanted place can hold, and at a link a reference
 abbrev pub FieldReads : Config → FieldRow → ℕ → Type 0
 FieldReads c row w = CanHold (extent c) (place_of (field_want row)) w × LinkReads row w
-
--- what the operation stores is what its place can hold
-abbrev pub StoresHeld : Config → Operation → Type 0
-StoresHeld c (Load p) = Unit {0}
-StoresHeld c (Exchange p v) = CanHold (extent c) p v
-StoresHeld c (CompareExchange p old v) = CanHold (extent c) p v
-StoresHeld c (FetchAdd p v) = ⊥
-StoresHeld c (FetchSub p v) = ⊥

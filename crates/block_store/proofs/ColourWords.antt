@@ -136,6 +136,11 @@ code_white c = elim (cases_eq (c % 2) 0) [
   | inr nz ↦ (let o : c % 2 ≡ 1 = omega arith in rw o refl)
 ]
 
+-- a black block has no link
+pub link-black : (c : ℕ) → link (black_word c) ≡ 0
+unfolding link black_word
+link-black c = omega arith
+
 pub colour-code : (c : Colour) → IsColour c → colour_of (colour_code c) ≡ Some c
 unfolding colour_of free_word grey_word
 colour-code (Free l) h =
@@ -154,6 +159,14 @@ colour-code (Grey l) h =
     let d : (8 * l + 3) / 8 ≡ l = omega arith in
     let low : leb l 65535 ≡ true = grind (arith, nat_tests) in
     rw (a, b, r, d, low) refl
+
+-- the word of a black block reads as a colour
+pub colour-black : (c : ℕ) → colour_of (black_word c) ≡ Some (black_of c)
+unfolding black_of black_word
+colour-black c = elim (cases_eq (c % 2) 0) [
+  | inl z ↦ rw z (colour-code Even tt)
+  | inr nz ↦ (let o : c % 2 ≡ 1 = omega arith in rw o (colour-code Odd tt))
+]
 
 -- a word that reads as nothing was not written
 pub unread : (w : ℕ) → colour_of w ≡ None → (c : Colour) → IsColour c → colour_code c ≢ w

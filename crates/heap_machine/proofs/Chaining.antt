@@ -1,5 +1,7 @@
 -- What keeps a chain, and how it is taken apart.
-use Rattle.std.proofs.Common.{◌≡◌, ℕ, cond, eqb, refl, arith, subst, sym, ap, ◌∙◌, List, [], ◌∷◌, false}
+use Rattle.std.proofs.Common.{◌≡◌, ℕ, ◌≤◌, cond, eqb, refl, arith, subst, sym, ap, ◌∙◌, List, [], ◌∷◌, length, false, inl, inr, eq-eqb, ne_eqb}
+use Rattle.std.proofs.lemmas.Bool.{cases_eq, cases_lt}
+use Rattle.block_store.specs.Phases.{bit}
 use Rattle.block_store.specs.Colours.{link}
 use Rattle.heap_machine.specs.Chains.{Chain}
 use Rattle.heap_machine.specs.Counts.{times}
@@ -31,3 +33,33 @@ Chain-one c a (x ∷ xs) (y ∷ ys) k l =
     let e : x ≡ y = sym k.0 ∙ l.0 in
     let tail = Chain-one c (link (c x)) xs ys k.2 (subst (λ z. Chain c (link (c z)) ys) (sym e) l.2) in
     rw (e, tail) refl
+
+-- a write of a colour word whose link is the chain's first block puts its block in front
+pub Chain-front : (c : ℕ → ℕ) (y v a : ℕ) (xs : List ℕ) → (y ≡ 0 → ⊥) → link v ≡ a → times y xs ≡ 0 → Chain c a xs → Chain (λ x. cond (eqb y x) v (c x)) y (y ∷ xs)
+Chain-front c y v a xs ne l out k = (refl, ne, rw (eq-eqb y y refl, l) (Chain-outside c y v xs a out k))
+
+-- from each block of a chain there is a chain, and it is no longer
+Chain-from : (c : ℕ → ℕ) (a x : ℕ) (xs : List ℕ) → Chain c a xs → 1 ≤ times x xs → (ys : List ℕ) × Chain c x ys × (length ys ≤ length xs)
+Chain-from c a x [] k some = absurd (omega arith)
+Chain-from c a x (y ∷ ys) k some = elim (cases_eq x y) [
+  | inl e ↦ (y ∷ ys, (e, k.1, k.2), omega arith)
+  | inr ne ↦
+      let b : bit (eqb x y) ≡ 0 = ap bit (ne_eqb x y ne) in
+      let r = Chain-from c (link (c y)) x ys k.2 (omega arith) in
+      (r.0, r.1, omega (arith, r.2))
+]
+
+-- a chain has no block twice
+pub Chain-once : (c : ℕ → ℕ) (a x : ℕ) (xs : List ℕ) → Chain c a xs → times x xs ≤ 1
+Chain-once c a x [] k = omega arith
+Chain-once c a x (y ∷ ys) k = elim (cases_eq x y) [
+  | inl e ↦ elim (cases_lt (times x ys) 1) [
+    | inl none ↦ rw (eq-eqb x y e) (omega arith)
+    | inr some ↦
+        let r = Chain-from c (link (c y)) x ys k.2 some in
+        let same : y ∷ ys ≡ r.0 = Chain-one c x (y ∷ ys) r.0 (e, k.1, k.2) r.1 in
+        let long : length (y ∷ ys) ≡ length r.0 = ap length same in
+        absurd (omega (arith, r.2))
+  ]
+  | inr ne ↦ let rest = Chain-once c (link (c y)) x ys k.2 in rw (ne_eqb x y ne) (omega arith)
+]

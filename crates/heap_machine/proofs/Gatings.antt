@@ -1,9 +1,10 @@
 -- What keeps the rule of the gate.
-use Rattle.std.proofs.Common.{◌≡◌, ℕ, ◌+◌, ◌-◌, ◌≤◌, ◌<◌, Bool, true, false, refl, arith, sym, ap, ◌∙◌}
+use Rattle.std.proofs.Common.{◌≡◌, ℕ, zero, suc, inl, inr, ◌+◌, ◌-◌, ◌≤◌, ◌<◌, Bool, true, false, refl, arith, sym, ap, ◌∙◌}
+use Rattle.std.proofs.lemmas.Bool.{cases_eq}
 use Rattle.block_store.specs.Phases.{bit, phase_of, inside_of, is_sweep, is_closed, cycle_of}
 use Rattle.block_store.proofs.PhaseWords.{phase-more, phase-less, phase-code}
 use Rattle.block_store.specs.declared.PhaseWord.{PhaseWord}
-use Rattle.heap_machine.specs.Counts.{changed}
+use Rattle.heap_machine.specs.Counts.{changed, total}
 use Rattle.heap_machine.specs.Gating.{Stand, Outside, Inside, Closing, is_outside, is_inside, is_closing, Gating, GateOf, closed_word, open_word}
 use Rattle.heap_machine.proofs.Functions.{bit_one, bit_le, changed_both, total_changed, total_part, total_parts, total_bits, total_none}
 
@@ -20,10 +21,10 @@ leave_parts w some = parts (w - 1) w (inside_of w - 1) (phase-less w some)
 four : (v : ℕ) (p : PhaseWord) → phase_of v ≡ p → (inside_of v ≡ p.inside) × (is_sweep v ≡ p.sweep) × (is_closed v ≡ p.closed) × (cycle_of v ≡ p.cycle)
 four v p e = (ap (λ (q : PhaseWord). q.inside) e, ap (λ (q : PhaseWord). q.sweep) e, ap (λ (q : PhaseWord). q.closed) e, ap (λ (q : PhaseWord). q.cycle) e)
 
-close_parts : (w : ℕ) → inside_of w < 256 → (inside_of (closed_word w) ≡ inside_of w) × (is_sweep (closed_word w) ≡ is_sweep w) × (is_closed (closed_word w) ≡ true) × (cycle_of (closed_word w) ≡ cycle_of w)
+pub close_parts : (w : ℕ) → inside_of w < 256 → (inside_of (closed_word w) ≡ inside_of w) × (is_sweep (closed_word w) ≡ is_sweep w) × (is_closed (closed_word w) ≡ true) × (cycle_of (closed_word w) ≡ cycle_of w)
 close_parts w low = four (closed_word w) (record (phase_of w) { closed = true }) (phase-code (record (phase_of w) { closed = true }) low)
 
-open_parts : (c : ℕ) (s : Bool) → (inside_of (open_word c s) ≡ 0) × (is_sweep (open_word c s) ≡ s) × (is_closed (open_word c s) ≡ false) × (cycle_of (open_word c s) ≡ c)
+pub open_parts : (c : ℕ) (s : Bool) → (inside_of (open_word c s) ≡ 0) × (is_sweep (open_word c s) ≡ s) × (is_closed (open_word c s) ≡ false) × (cycle_of (open_word c s) ≡ c)
 open_parts c s = four (open_word c s) (record { inside = 0; sweep = s; closed = false; cycle = c }) (phase-code (record { inside = 0; sweep = s; closed = false; cycle = c }) (omega arith))
 
 pub stand_out : (s : Stand) → bit (is_inside s) ≡ 0 → bit (is_closing s) ≡ 0 → s ≡ Outside
@@ -34,6 +35,17 @@ stand_out Closing a b = absurd (omega arith)
 -- at most all threads are inside
 pub inside_most : (n phase : ℕ) (gs : ℕ → Gating) → GateOf n phase gs → inside_of phase ≤ n
 inside_most n phase gs k = omega (arith, k.count, total_bits n (λ u. is_inside (gs u).stand))
+
+-- a thread that goes in, or closes the gate, leaves the cycle and the phase
+pub entered_phase : (n phase : ℕ) (gs : ℕ → Gating) → GateOf n phase gs → n < 255 → (cycle_of (phase + 1) ≡ cycle_of phase) × (is_sweep (phase + 1) ≡ is_sweep phase)
+entered_phase n phase gs k small =
+    let parts = enter_parts phase (omega (arith, inside_most n phase gs k)) in
+    (parts.3, parts.1)
+
+pub closed_phase : (phase : ℕ) → inside_of phase ≡ 0 → (cycle_of (closed_word phase) ≡ cycle_of phase) × (is_sweep (closed_word phase) ≡ is_sweep phase)
+closed_phase phase none =
+    let parts = close_parts phase (omega (arith, none)) in
+    (parts.3, parts.1)
 
 module _ (n phase : ℕ) (gs : ℕ → Gating) (k : GateOf n phase gs) (t : ℕ) (tl : t < n) where
   -- thread t goes in
@@ -95,16 +107,25 @@ module _ (n phase : ℕ) (gs : ℕ → Gating) (k : GateOf n phase gs) (t : ℕ)
             (λ _ e. (let r = k.passes u ul e in (r.0 ∙ sym p.3, r.1 ∙ sym p.1)));
       }
 
+  -- where a thread has closed the gate, the word says so
+  is_closed_by : (gs t).stand ≡ Closing → is_closed phase ≡ true
+  is_closed_by is =
+      let c1 : bit (is_closing (gs t).stand) ≡ 1 = ap (λ s. bit (is_closing s)) is in
+      let one = total_part n (λ v. bit (is_closing (gs v).stand)) t tl in
+      bit_one (is_closed phase) (omega (arith, k.closers))
+
   -- while the gate is closed nobody is inside, and no other thread has closed it
   pub gate_alone : (gs t).stand ≡ Closing → (u : ℕ) → u < n → (t ≡ u → ⊥) → (gs u).stand ≡ Outside
   gate_alone is u ul ne =
       let c1 : bit (is_closing (gs t).stand) ≡ 1 = ap (λ s. bit (is_closing s)) is in
-      let one = total_part n (λ v. bit (is_closing (gs v).stand)) t tl in
       let two = total_parts n (λ v. bit (is_closing (gs v).stand)) t u tl ul ne in
       let le = bit_le (is_closed phase) in
-      let closed : is_closed phase ≡ true = bit_one (is_closed phase) (omega (arith, k.closers)) in
       let none = total_part n (λ v. bit (is_inside (gs v).stand)) u ul in
-      stand_out (gs u).stand (omega (arith, k.count, k.alone closed)) (omega (arith, k.closers))
+      stand_out (gs u).stand (omega (arith, k.count, k.alone (is_closed_by is))) (omega (arith, k.closers))
+
+  -- while thread t has closed the gate it is closed, nobody is inside, and the others are outside
+  pub gate_closing : (gs t).stand ≡ Closing → (is_closed phase ≡ true) × (inside_of phase ≡ 0) × ((u : ℕ) → u < n → (t ≡ u → ⊥) → (gs u).stand ≡ Outside)
+  gate_closing is = (is_closed_by is, k.alone (is_closed_by is), gate_alone is)
 
   -- thread t opens the gate again
   pub gate_opens : (g : Gating) (c : ℕ) (s : Bool) → (gs t).stand ≡ Closing → g.stand ≡ Outside → GateOf n (open_word c s) (changed gs t g)
@@ -134,8 +155,36 @@ module _ (n phase : ℕ) (gs : ℕ → Gating) (k : GateOf n phase gs) (t : ℕ)
             (λ _ e. k.passes u ul e);
       }
 
+  -- a thread that goes out leaves the cycle and the phase
+  pub left_phase : (gs t).stand ≡ Inside → (cycle_of (phase - 1) ≡ cycle_of phase) × (is_sweep (phase - 1) ≡ is_sweep phase)
+  left_phase is =
+      let one : bit (is_inside (gs t).stand) ≡ 1 = ap (λ s. bit (is_inside s)) is in
+      let parts = leave_parts phase (omega (arith, k.count, total_part n (λ u. bit (is_inside (gs u).stand)) t tl)) in
+      (parts.3, parts.1)
+
   -- where a thread is inside, the word counts one
   pub inside_some : (gs t).stand ≡ Inside → 1 ≤ inside_of phase
   inside_some is =
       let one : bit (is_inside (gs t).stand) ≡ 1 = ap (λ s. bit (is_inside s)) is in
       omega (arith, k.count, total_part n (λ u. bit (is_inside (gs u).stand)) t tl)
+
+-- where a sum is not 0, one of its parts is not
+some_part : (n : ℕ) (f : ℕ → ℕ) → 1 ≤ total n f → (t : ℕ) × (t < n) × (1 ≤ f t)
+some_part zero f h = absurd (omega arith)
+some_part (suc n) f h = elim (cases_eq (f n) 0) [
+  | inl none ↦ (let r = some_part n f (omega arith) in (r.0, omega (arith, r.1), r.2))
+  | inr some ↦ (n, omega arith, omega arith)
+]
+
+stand_closing : (s : Stand) → 1 ≤ bit (is_closing s) → s ≡ Closing
+stand_closing Outside h = absurd (omega arith)
+stand_closing Inside h = absurd (omega arith)
+stand_closing Closing h = refl
+
+-- a closed gate was closed by one thread, and the others are outside
+pub gate_closer : (n phase : ℕ) (gs : ℕ → Gating) → GateOf n phase gs → is_closed phase ≡ true → (t : ℕ) × (t < n) × ((gs t).stand ≡ Closing) × ((u : ℕ) → u < n → (t ≡ u → ⊥) → (gs u).stand ≡ Outside)
+gate_closer n phase gs k closed =
+    let one : bit (is_closed phase) ≡ 1 = ap bit closed in
+    let r = some_part n (λ u. bit (is_closing (gs u).stand)) (omega (arith, k.closers)) in
+    let is : (gs r.0).stand ≡ Closing = stand_closing (gs r.0).stand r.2 in
+    (r.0, r.1, is, gate_alone n phase gs k r.0 r.1 is)

@@ -3,3 +3,10 @@ pub mod Chaining
 pub mod HeapAfter
 pub mod GateRows
 pub mod Gatings
+pub mod Turnovers
+pub mod GreyBlocks
+pub mod GreyEvents
+pub mod GreyLost
+pub mod Held
+pub mod Tricolours
+pub mod Solids

@@ -1,6 +1,10 @@
 pub mod Operations
 pub mod Readings
 pub mod Gates
+pub mod Turning
 pub mod Counts
 pub mod Chains
 pub mod Gating
+pub mod Grey
+pub mod Tricolour
+pub mod Solid

@@ -1,15 +1,24 @@
 //! The shared words of a heap: one atomic operation on one of them, and the part of a thread's work
-//! that goes in and out at the gate, one operation at a time.
+//! that goes in and out at the gate, or closes it and turns the phase over, one operation at a time. And
+//! the rules that every part of a thread's work keeps: where grey blocks stand, that no black block
+//! refers to a white one, and that only Free blocks refer to Free ones.
 #![tactic(auto)]
 
 mod gate;
 mod laws;
 #[cfg(test)]
 mod tests;
+mod turnover;
 mod words;
 
-pub use gate::{Gate, GateRow};
-pub use laws::{gate_counts, operations_are_of_places};
+pub use gate::{Gate, GateRow, IdlePass};
+pub use laws::{
+    black_blocks_refer_to_none_white, chains_are_lists, checked_lists_are_empty, gate_counts,
+    gate_rows_stay_in_the_heap, grey_blocks_stand_once, lists_are_lost_at_a_put,
+    only_the_flip_turns_the_phase, operations_are_of_places, other_writes_keep_grey,
+    stores_are_held, turn_over_checks_every_list, turn_over_keeps_the_gate,
+    unshaded_stores_break_tricolour, what_keeps_solid, what_keeps_tricolour,
+};
 pub use words::Words;
 
 /// One atomic operation on one word.

@@ -1,11 +1,11 @@
 -- What is kept holds of the opening, and so after every list of turns.
-use Rattle.std.proofs.Common.{◌≡◌, ℕ, zero, suc, ◌+◌, ◌<◌, ◌≤◌, true, false, cond, List, [], ◌∷◌, ◌++◌, length, get_or, append-nil, refl, sym, ap, ◌∙◌, subst, arith, inl, inr, lt-ltb, le-ltb, le-leb}
+use Rattle.std.proofs.Common.{◌≡◌, ℕ, zero, suc, ◌+◌, ◌<◌, ◌≤◌, true, false, cond, List, [], ◌∷◌, ◌++◌, length, get_or, map, append-nil, refl, sym, ap, ◌∙◌, subst, arith, inl, inr, lt-ltb, le-ltb, le-leb}
 use Rattle.std.proofs.lemmas.Bool.{cases_lt, and_from}
 use Rattle.block_store.specs.declared.Config.{Config}
 use Rattle.block_store.specs.declared.PhaseWord.{PhaseWord}
 use Rattle.block_store.specs.Heaps.{heap_of}
 use Rattle.block_store.specs.Phases.{bit, inside_of, is_closed, is_sweep, cycle_of}
-use Rattle.block_store.specs.Places.{Place, Phase, OwnerOf, ShapeOf, PayloadOf, extent, in_range, ColourOf}
+use Rattle.block_store.specs.Places.{Place, Phase, OwnerOf, ShapeOf, PayloadOf, extent, in_range, is_block, ColourOf}
 use Rattle.block_store.proofs.PhaseWords.{inside-code, sweep-code, closed-code, cycle-code}
 use Rattle.rate_plan.specs.Rates.{IsAdmitted}
 use Rattle.never_heap.specs.declared.Command.{Command}
@@ -17,24 +17,32 @@ use Rattle.shown_graph.specs.Openings.{opening_at, opening_last, opening_words}
 use Rattle.shown_graph.specs.Events.{unloaded, lates, LoadIs, Follows}
 use Rattle.shown_graph.proofs.Opening.{opening_shows}
 use Rattle.shown_graph.proofs.Stores.{words_change, more_late}
+use Rattle.heap_machine.specs.Grey.{no_grey}
 use Rattle.heap_machine.specs.Gating.{Gating, is_outside, is_inside, is_closing}
 use Rattle.heap_machine.proofs.Functions.{total_none}
 use Rattle.heap_system.specs.declared.local.Part.TheVariants.{Rest}
 use Rattle.heap_system.specs.Locals.{LocalState, at_start, command_of, decides}
 use Rattle.heap_system.specs.Machines.{State, no_local, local_at, event_done, has_event, word_read, entry_decided, Run, next, after_turns, starts_from, IsOpening, IsJob, opened, IsRunOf}
 use Rattle.heap_system.specs.Openings.{opening_heap, opening_phase}
-use Rattle.heap_system.specs.Pictures.{gating, loading, heap_in, graph_state}
-use Rattle.heap_system.proofs.Kept.{LocalKept, loads_in, gates_in, Kept, IsMark, opening_low}
+use Rattle.heap_system.specs.Pictures.{gating, loading, holding, heap_in, graph_state}
+use Rattle.heap_system.proofs.Kept.{LocalKept, loads_in, gates_in, holdings_in, Kept, IsMark, opening_low}
 use Rattle.heap_system.proofs.Turning.{next_kept}
+use Rattle.heap_system.proofs.Grounds.{opening_grey, opening_held, opening_solid}
+use Rattle.heap_system.specs.Systems.{units_of}
 
-pub length_starts : (c : Config) (t : ℕ) (traces : List (List Command)) → length (starts_from c t traces) ≡ length traces
-length_starts c t [] = refl
-length_starts c t (trace ∷ traces) = ap suc (length_starts c (t + 1) traces)
+pub length_starts : (c : Config) (rate t : ℕ) (traces : List (List Command)) → length (starts_from c rate t traces) ≡ length traces
+length_starts c rate t [] = refl
+length_starts c rate t (trace ∷ traces) = ap suc (length_starts c rate (t + 1) traces)
 
-starts_at : (c : Config) (t i : ℕ) (traces : List (List Command)) (d : LocalState) → i < length traces → get_or (starts_from c t traces) i d ≡ at_start c (t + i) (get_or traces i [])
-starts_at c t i [] d low = absurd (omega arith)
-starts_at c t zero (trace ∷ traces) d low = let e : t ≡ t + 0 = omega arith in ap (λ u. at_start c u trace) e
-starts_at c t (suc i) (trace ∷ traces) d low = let e : t + 1 + i ≡ t + suc i = omega arith in starts_at c (t + 1) i traces d (omega arith) ∙ ap (λ u. at_start c u (get_or traces i [])) e
+starts_at : (c : Config) (rate t i : ℕ) (traces : List (List Command)) (d : LocalState) → i < length traces → get_or (starts_from c rate t traces) i d ≡ at_start c rate (t + i) (get_or traces i [])
+starts_at c rate t i [] d low = absurd (omega arith)
+starts_at c rate t zero (trace ∷ traces) d low = let e : t ≡ t + 0 = omega arith in ap (λ u. at_start c rate u trace) e
+starts_at c rate t (suc i) (trace ∷ traces) d low = let e : t + 1 + i ≡ t + suc i = omega arith in starts_at c rate (t + 1) i traces d (omega arith) ∙ ap (λ u. at_start c rate u (get_or traces i [])) e
+
+-- no work is in the logs
+units_start : (c : Config) (rate t : ℕ) (traces : List (List Command)) → units_of (map (λ (l : LocalState). l.log) (starts_from c rate t traces)) ≡ 0
+units_start c rate t [] = refl
+units_start c rate t (trace ∷ traces) = omega (arith, units_start c rate (t + 1) traces)
 
 -- the words of an opening are those of the start graph, up to the last block of the shared array
 pub opening_agrees : (c : Config) (ws : List ℕ) → IsAdmitted c → ((p : Place) → in_range (extent c) p ≡ true → heap_of (extent c) ws p ≡ opening_heap c p)
@@ -59,16 +67,22 @@ phase_parts w is =
     )
 
 module _ (c : Config) (traces : List (List Command)) (job : IsJob c traces) (s : State) (start : IsOpening c traces s) where
-  pub here : (t : ℕ) → t < c.threads → local_at c s t ≡ at_start c t (get_or traces t [])
+  pub here : (t : ℕ) → t < c.threads → local_at c s t ≡ at_start c start.rate t (get_or traces t [])
   here t tl =
       let e : 0 + t ≡ t = omega arith in
-      ap (λ ls. get_or ls t (no_local c)) start.locals ∙ starts_at c 0 t traces (no_local c) (omega (arith, job.count)) ∙ ap (λ u. at_start c u (get_or traces t [])) e
+      ap (λ ls. get_or ls t (no_local c)) start.locals ∙ starts_at c start.rate 0 t traces (no_local c) (omega (arith, job.count)) ∙ ap (λ u. at_start c start.rate u (get_or traces t [])) e
 
   unloads : (t : ℕ) → t < c.threads → loads_in c s t ≡ unloaded
   unloads t tl = ap (λ (l : LocalState). loading l.part) (here t tl)
 
   outside : (t : ℕ) → t < c.threads → gates_in c s t ≡ gating Rest
   outside t tl = ap (λ (l : LocalState). gating l.part) (here t tl)
+
+  holds : (t : ℕ) → t < c.threads → holdings_in c s t ≡ no_grey
+  holds t tl = ap (λ (l : LocalState). holding l.part) (here t tl)
+
+  outside_words : (x : ℕ) → is_block (extent c) x ≡ false → heap_in c s (ColourOf x) ≡ 0
+  outside_words x out = rw out refl
 
   phase : (inside_of (heap_in c s Phase) ≡ 0) × IsMark (heap_in c s Phase)
   phase = phase_parts (heap_in c s Phase) (start.words Phase refl)
@@ -91,7 +105,7 @@ module _ (c : Config) (traces : List (List Command)) (job : IsJob c traces) (s :
     loads = λ t tl. subst (λ l. LoadIs (start_graph c) (opening_at c.threads) t l) (sym (unloads t tl)) (record { object = tt; value = tt });
   }
 
-  local_start : (t : ℕ) → t < c.threads → LocalKept c (get_or traces t []) (start_graph c) (Started ∷ []) t (at_start c t (get_or traces t []))
+  local_start : (t : ℕ) → t < c.threads → LocalKept c (get_or traces t []) (start_graph c) (Started ∷ []) t (at_start c start.rate t (get_or traces t []))
   local_start t tl = record {
     config = refl;
     thread = refl;
@@ -99,12 +113,17 @@ module _ (c : Config) (traces : List (List Command)) (job : IsJob c traces) (s :
     fits = record {
       bounds = job.bounds;
       plan = job.plan;
+      rate = start.planned;
       thread = tl;
       trace = job.each t tl;
       log = omega arith;
       part = tt;
+      paid = omega arith;
+      worked = omega arith;
     };
     stands = tt;
+    settled = (refl, refl);
+    within = tt;
     told = refl;
     said = refl;
   }
@@ -112,7 +131,7 @@ module _ (c : Config) (traces : List (List Command)) (job : IsJob c traces) (s :
   pub opening_kept : Kept c traces (opened s)
   opening_kept = record {
     long = start.count;
-    threads = ap length start.locals ∙ length_starts c 0 traces ∙ job.count;
+    threads = ap length start.locals ∙ length_starts c start.rate 0 traces ∙ job.count;
     gate = record {
       count = total_none c.threads _ (λ t tl. ap (λ (g : Gating). bit (is_inside g.stand)) (outside t tl)) ∙ sym phase.0;
       closers = total_none c.threads _ (λ t tl. ap (λ (g : Gating). bit (is_closing g.stand)) (outside t tl)) ∙ sym (ap bit phase.1.opened);
@@ -124,8 +143,10 @@ module _ (c : Config) (traces : List (List Command)) (job : IsJob c traces) (s :
     locals = λ t tl. subst (λ l. LocalKept c (get_or traces t []) (start_graph c) (Started ∷ []) t l) (sym (here t tl)) (local_start t tl);
     legal = tt;
     foreign = λ u ul. refl;
-    colours = λ x inp. start.words (ColourOf x) inp;
-    counts = (refl, refl);
+    grey = opening_grey c job.bounds job.plan (heap_in c s) start.words outside_words (holdings_in c s) holds;
+    held = opening_held c job.bounds job.plan (heap_in c s) start.words (record { inside = omega (arith, phase.0); cycle = omega (arith, phase.1.cycle) });
+    solid = opening_solid c job.bounds job.plan (heap_in c s) start.words;
+    counts = (refl, sym (ap (λ ls. units_of (map (λ (l : LocalState). l.log) ls)) start.locals ∙ units_start c start.rate 0 traces));
   }
 
 -- any turn
@@ -134,7 +155,7 @@ turn_kept c traces job r kept t = elim (cases_lt t c.threads) [
   | inl tl ↦ next_kept c traces job.bounds job.plan r kept t tl
   | inr out ↦
       let none : has_event c t r.state ≡ false = rw (le-ltb t c.threads out) refl in
-      subst (λ x. Kept c traces (record { state = cond x (event_done c t r.state) r.state; order = r.order ++ cond x (cond (decides (local_at c r.state t).part (word_read c r.state (local_at c r.state t))) (entry_decided c t (command_of (local_at c r.state t)) r.order ∷ []) []) [] })) (sym none)
+      subst (λ x. Kept c traces (record { state = cond x (event_done c t r.state) r.state; order = r.order ++ cond x (cond (decides (local_at c r.state t).part (word_read c r.state (local_at c r.state t))) (entry_decided c t (command_of (local_at c r.state t)) (local_at c r.state t).paid r.order ∷ []) []) [] })) (sym none)
       (subst (λ o. Kept c traces (record { state = r.state; order = o })) (sym (append-nil r.order)) kept)
 ]
 

@@ -1,18 +1,20 @@
 -- What every list of turns keeps, and what one event of a thread does to it.
-use Rattle.std.proofs.Common.{◌≡◌, ℕ, ◌+◌, ◌-◌, ◌<◌, ◌≤◌, Bool, true, false, cond, eqb, ltb, append-nil, eqb-true, Option, Some, None, List, [], ◌∷◌, ◌++◌, length, get_or, refl, sym, ap, ◌∙◌, subst, arith, inl, inr, map, take}
-use Rattle.std.proofs.lemmas.Bool.{cases_Bool}
+use Rattle.std.proofs.Common.{◌≡◌, ℕ, ◌+◌, ◌-◌, ◌<◌, ◌≤◌, Bool, true, false, not, ◌&&◌, ◌||◌, cond, eqb, ltb, ltb-true, ne_eqb, eq-eqb, append-nil, eqb-true, Option, Some, None, List, [], ◌∷◌, ◌++◌, length, get_or, refl, sym, ap, ◌∙◌, subst, arith, inl, inr, map, take}
+use Rattle.std.proofs.lemmas.Bool.{cases_Bool, cases_eq, and_parts}
 use Rattle.block_store.specs.declared.Config.{Config}
 use Rattle.block_store.specs.Configs.{IsInBounds}
 use Rattle.block_store.specs.Heaps.{Heap, put_at}
-use Rattle.block_store.specs.Phases.{phase_of, inside_of, is_closed, is_sweep, cycle_of}
-use Rattle.block_store.specs.Places.{Phase, extent, in_range, words_count, ColourOf}
+use Rattle.block_store.specs.Colours.{is_free}
+use Rattle.block_store.specs.Phases.{bit, phase_of, inside_of, is_closed, is_sweep, cycle_of}
+use Rattle.block_store.specs.Places.{Phase, FreeCount, ColourOf, extent, in_range, words_count}
 use Rattle.block_store.proofs.PhaseWords.{phase-more, phase-less}
 use Rattle.block_store.specs.declared.PhaseWord.{PhaseWord}
 use Rattle.never_heap.specs.declared.Command.{Command}
 use Rattle.never_heap.specs.declared.Command.TheVariants as commands
 use Rattle.never_heap.specs.declared.Entry.{Entry}
 use Rattle.never_heap.specs.declared.Reply.{Reply}
-use Rattle.never_heap.specs.Bounds.{IsCommandInRange}
+use Rattle.never_heap.specs.declared.Reply.TheVariants.{Full}
+use Rattle.never_heap.specs.Bounds.{IsCommandInBounds}
 use Rattle.never_heap.specs.Graphs.{Graph, start_graph}
 use Rattle.never_heap.specs.Histories.{HistoryItem, replay, part, Legal, starts_in, work_in}
 use Rattle.never_heap.specs.Steps.{step, blocks_of}
@@ -23,11 +25,21 @@ use Rattle.heap_machine.specs.Counts.{changed}
 use Rattle.heap_machine.specs.Gates.{gate_want, gate_got, gate_entered, SeenOpen}
 use Rattle.heap_machine.specs.Gating.{Gating, GateOf, Outside, Inside}
 use Rattle.heap_machine.specs.Operations.{heap_after, place_of, Fits}
-use Rattle.heap_machine.specs.Readings.{IsPhaseWord}
+use Rattle.heap_machine.specs.Grey.{GreyHolding, no_grey, GreyKept, is_of_grey}
+use Rattle.heap_machine.specs.Readings.{IsPhaseWord, IsHeld}
 use Rattle.heap_machine.specs.declared.gate.GateRow.{GateRow}
 use Rattle.heap_machine.specs.declared.gate.GateRow.TheVariants as gates
 use Rattle.heap_machine.proofs.Gatings.{gate_enters, gate_leaves, gate_stays, inside_most, inside_some}
 use Rattle.heap_machine.proofs.GateRows.{gate_place}
+use Rattle.heap_machine.proofs.Functions.{funext}
+use Rattle.heap_machine.proofs.GreyBlocks.{kept_other}
+use Rattle.heap_machine.proofs.Held.{held_put, held_after}
+use Rattle.grey_steps.specs.Rows.{GreyState, grey_want, grey_got, grey_over, grey_unit, grey_holding, scanning}
+use Rattle.grey_steps.specs.Ends.{is_blackening}
+use Rattle.grey_steps.specs.Fits.{GreyFits, GreyReads}
+use Rattle.grey_steps.proofs.Ends.{unit_after, unit_once, over_holds_none}
+use Rattle.grey_steps.proofs.Marking.{keeps}
+use Rattle.grey_steps.proofs.Ranges as marks
 use Rattle.barrier_steps.specs.declared.rows.FieldRow.{FieldRow}
 use Rattle.barrier_steps.specs.declared.rows.FieldRow.TheVariants as rows
 use Rattle.barrier_steps.specs.Deciding.{is_deciding}
@@ -51,35 +63,56 @@ use Rattle.block_store.specs.Payloads.{target}
 use Rattle.shown_graph.specs.Words.{block_words}
 use Rattle.rate_plan.specs.Rates.{IsAdmitted}
 use Rattle.barrier_steps.proofs.Blocks.{record_has_blocks, array_has_blocks}
-use Rattle.barrier_steps.proofs.FieldRows.{first_fits, field_fits, field_sum, field_place}
+use Rattle.barrier_steps.proofs.FieldRows.{field_fits, field_sum, field_place, stores_held}
 use Rattle.heap_system.specs.declared.local.Part.{Part}
-use Rattle.heap_system.specs.declared.local.Part.TheVariants.{Rest, Enter, Serve, Leave}
-use Rattle.heap_system.specs.Locals.{LocalState, command_of, if_entered, if_replied, part_want, part_got, part_reply, decides, entry_of, entries_of, PartFits, IsLocal, PartReads}
-use Rattle.heap_system.specs.Machines.{State, Run, local_at}
-use Rattle.heap_system.specs.Openings.{opening_heap}
-use Rattle.heap_system.specs.Pictures.{gating, stand_of, loading, waiting, entries_waiting, heap_in, graph_state}
+use Rattle.heap_system.specs.declared.local.Part.TheVariants.{Rest, Enter, Serve, Mark, Count, Again, Leave}
+use Rattle.heap_system.specs.Locals.{LocalState, command_of, owed, first_part, if_entered, if_replied, part_want, part_got, part_reply, decides, makes_unit, finds_nothing, paid_got, waived_got, entry_of, entries_of, works, unit_to_come, PartFits, IsLocal, PartReads}
+use Rattle.heap_system.specs.Machines.{State, Run, local_at, reply_decided}
+use Rattle.heap_system.specs.Systems.{logs_of, units_of}
+use Rattle.heap_system.specs.Units.{IsWithin}
+use Rattle.heap_system.specs.Pictures.{gating, stand_of, holding, loading, waiting, entries_waiting, heap_in, graph_state}
+use Rattle.heap_system.proofs.Marks.{mark_phase, mark_words, mark_solid}
+use Rattle.heap_system.proofs.Paying.{first_part_fits, first_part_pays, going_at}
 use Rattle.heap_system.proofs.Moves.{state, graph_after, FieldStep, field_reads, field_moves, load_self, undecided}
 
 -- a row of thread t in command k that is not over
 pub record RowKept (g : Graph) (t : ℕ) (k : Command) (f : FieldRow) : Type 0 where
+  pub serves : blocks_of k ≡ 0
   pub thread : thread_of f ≡ t
   pub asks : field_decided f ≡ false → asked f ≡ Some (t, k)
   pub known : IsKnown g f
   pub going : field_reply f ≡ None
 
+-- a Mark pass of thread t in the colours of cycle 1, for an allocation
+pub record MarkKept (t : ℕ) (k : Command) (m : GreyState) : Type 0 where
+  pub allocates : blocks_of k ≡ 0 → ⊥
+  pub thread : m.thread ≡ t
+  pub cycle : m.cycle ≡ 1
+
 -- a part on its way in is not over
 abbrev pub IsEntering : GateRow → Type 0
 IsEntering gates.Look = Unit {0}
 IsEntering (gates.Enter seen) = Unit {0}
-IsEntering (gates.Entered seen) = ⊥
-IsEntering gates.Leave = ⊥
-IsEntering gates.Left = ⊥
+IsEntering _ = ⊥
 
 abbrev pub PartKept : Graph → ℕ → Command → Part → Type 0
 PartKept g t k Rest = Unit {0}
 PartKept g t k (Enter a) = IsEntering a
 PartKept g t k (Serve f) = RowKept g t k f
+PartKept g t k (Mark m) = MarkKept t k m
+PartKept g t k Count = blocks_of k ≡ 0 → ⊥
+PartKept g t k Again = blocks_of k ≡ 0 → ⊥
 PartKept g t k Leave = Unit {0}
+
+-- between two commands nothing is paid or waived; in front of the look at the free count nothing is owed
+abbrev pub IsSettled : ℕ → ℕ → Bool → Part → Type 0
+IsSettled due paid waived Rest = (paid ≡ 0) × (waived ≡ false)
+IsSettled due paid waived (Enter a) = Unit {0}
+IsSettled due paid waived (Serve f) = Unit {0}
+IsSettled due paid waived (Mark m) = Unit {0}
+IsSettled due paid waived Count = (not waived && ltb paid due) ≡ false
+IsSettled due paid waived Again = Unit {0}
+IsSettled due paid waived Leave = (paid ≡ 0) × (waived ≡ false)
 
 -- thread t, where the order led to graph g
 pub record LocalKept (c : Config) (given : List Command) (g : Graph) (order : List HistoryItem) (t : ℕ) (l : LocalState) : Type 0 where
@@ -88,6 +121,8 @@ pub record LocalKept (c : Config) (given : List Command) (g : Graph) (order : Li
   pub trace : l.trace ≡ given
   pub fits : IsLocal l
   pub stands : PartKept g t (command_of l) l.part
+  pub settled : IsSettled (owed l) l.paid l.waived l.part
+  pub within : IsWithin l.rate (part t order)
   pub told : part t order ≡ l.log ++ entries_waiting g l
   pub said : map (λ (e : Entry). e.command) l.log ≡ take (length l.log) l.trace
 
@@ -97,12 +132,19 @@ pub record IsMark (w : ℕ) : Type 0 where
   pub cycle : cycle_of w ≡ 1
   pub sweep : is_sweep w ≡ false
 
--- what thread t has loaded, and where it stands
+-- the blocks of the opening's arrays are not Free
+abbrev pub IsSolid : Config → Heap → Type 0
+IsSolid c h = (x : ℕ) → 1 ≤ x → x ≤ opening_last c → is_free (h (ColourOf x)) ≡ false
+
+-- what thread t has loaded, where it stands, and what it holds
 abbrev pub loads_in : Config → State → ℕ → Loading
 loads_in c s = λ t. loading (local_at c s t).part
 
 abbrev pub gates_in : Config → State → ℕ → Gating
 gates_in c s = λ t. gating (local_at c s t).part
+
+abbrev pub holdings_in : Config → State → ℕ → GreyHolding
+holdings_in c s = λ t. holding (local_at c s t).part
 
 pub record Kept (c : Config) (traces : List (List Command)) (r : Run) : Type 0 where
   pub long : length r.state.words ≡ words_count (extent c)
@@ -113,18 +155,32 @@ pub record Kept (c : Config) (traces : List (List Command)) (r : Run) : Type 0 w
   pub locals : (t : ℕ) → t < c.threads → LocalKept c (get_or traces t []) (replay c r.order) r.order t (local_at c r.state t)
   pub legal : Legal c r.order
   pub foreign : (u : ℕ) → c.threads ≤ u → part u r.order ≡ []
-  pub colours : (x : ℕ) → in_range (extent c) (ColourOf x) ≡ true → heap_in c r.state (ColourOf x) ≡ opening_heap c (ColourOf x)
-  pub counts : (starts_in r.order ≡ 1) × (work_in r.order ≡ 0)
+  pub grey : GreyKept c.threads (heap_in c r.state) (holdings_in c r.state)
+  pub held : IsHeld c (heap_in c r.state)
+  pub solid : IsSolid c (heap_in c r.state)
+  pub counts : (starts_in r.order ≡ 1) × (work_in r.order ≡ units_of (logs_of r.state))
 
--- one event of thread t in command k: the heap after it, whether it decides, the part after it, and the reply that it brings. Before it a reply was decided or none.
-pub record EventKept (c : Config) (g : Graph) (new : Heap) (gs : ℕ → Gating) (ls : ℕ → Loading) (t : ℕ) (k : Command) (done all : ℕ) (before : Option Reply) (b : Bool) (p : Part) (reply : Option Reply) : Type 0 where
+-- the graph after an event of thread t, by whether it decides command k: an allocation is refused, and leaves it
+abbrev pub graph_decided : Graph → ℕ → Command → Bool → Graph
+graph_decided g t k b = cond (b && eqb (blocks_of k) 0) (step g t k).0 g
+
+-- one event of thread t in command k: the heap after it, whether it decides, the part after it, the reply that it brings, and whether it makes a unit or finds nothing. Before it a
+-- reply was decided or none, and so many units were made of those due, or the rest was waived.
+pub record EventKept (c : Config) (g : Graph) (new : Heap) (gs : ℕ → Gating) (ls : ℕ → Loading) (hs : ℕ → GreyHolding) (t : ℕ) (k : Command) (done all due paid : ℕ) (waived : Bool) (before : Option Reply) (b : Bool) (p : Part) (reply : Option Reply)
+    (unit nothing : Bool) : Type 0 where
   pub gate : GateOf c.threads (new Phase) (changed gs t (gating p))
   pub phase : IsMark (new Phase)
-  pub shown : Follows c.threads (opening_last c) (every_name (start_graph c)) (opening_at c.threads) (state (graph_after g t k b) new (with_load ls t (loading p)))
-  pub part : PartKept (graph_after g t k b) t k p
+  pub shown : Follows c.threads (opening_last c) (every_name (start_graph c)) (opening_at c.threads) (state (graph_decided g t k b) new (with_load ls t (loading p)))
+  pub part : PartKept (graph_decided g t k b) t k p
   pub fits : PartFits c done all p
   pub over : (r : Reply) → reply ≡ Some r → p ≡ Leave
-  pub told : entries_of t k before ++ cond b (entry_of t k (step g t k).1 ∷ []) [] ≡ entries_of t k reply ++ entries_of t k (waiting (graph_after g t k b) p)
+  pub told : entries_of t k paid before ++ cond b (entry_of t k paid (reply_decided g t k) ∷ []) [] ≡ entries_of t k paid reply ++ entries_of t k (paid_got reply unit paid) (waiting (graph_decided g t k b) p)
+  pub grey : GreyKept c.threads new (changed hs t (holding p))
+  pub held : IsHeld c new
+  pub solid : IsSolid c new
+  pub low : paid_got reply unit paid + unit_to_come p ≤ due
+  pub settled : IsSettled due (paid_got reply unit paid) (waived_got reply nothing waived) p
+  pub counted : works (cond b (entry_of t k paid (reply_decided g t k) ∷ []) []) ≡ works (entries_of t k paid reply)
 
 -- the first row of a command
 first_thread : (t : ℕ) (k : Command) → blocks_of k ≡ 0 → thread_of (first_row t k) ≡ t
@@ -160,8 +216,8 @@ field_phase h (rows.LoadSaid t s) = refl
 field_phase h (rows.LoadSaidOwner t s word) = refl
 field_phase h (rows.Answered reply) = refl
 
--- a command that allocates nothing writes no colour
-field_colour : (h : Heap) (f : FieldRow) (x : ℕ) → heap_after h (field_want f) (ColourOf x) ≡ h (ColourOf x)
+-- a command that allocates nothing writes no colour and no grey list
+pub field_colour : (h : Heap) (f : FieldRow) (x : ℕ) → heap_after h (field_want f) (ColourOf x) ≡ h (ColourOf x)
 field_colour h (rows.StoreNumber t d v) x = refl
 field_colour h (rows.StoreNil t d) x = refl
 field_colour h (rows.LoadMoved t d s) x = refl
@@ -180,15 +236,24 @@ field_colour h (rows.LoadSaid t s) x = refl
 field_colour h (rows.LoadSaidOwner t s word) x = refl
 field_colour h (rows.Answered reply) x = refl
 
-pub part_colour : (h : Heap) (p : Part) (x : ℕ) → heap_after h (part_want p) (ColourOf x) ≡ h (ColourOf x)
-part_colour h Rest x = refl
-part_colour h (Enter gates.Look) x = refl
-part_colour h (Enter (gates.Enter seen)) x = elim (cases_Bool (eqb (h Phase) seen)) [ inl e ↦ rw e refl | inr e ↦ rw e refl ]
-part_colour h (Enter (gates.Entered seen)) x = refl
-part_colour h (Enter gates.Leave) x = refl
-part_colour h (Enter gates.Left) x = refl
-part_colour h (Serve f) x = field_colour h f x
-part_colour h Leave x = refl
+field_other : (f : FieldRow) → is_of_grey (place_of (field_want f)) ≡ false
+field_other (rows.StoreNumber t d v) = refl
+field_other (rows.StoreNil t d) = refl
+field_other (rows.LoadMoved t d s) = refl
+field_other (rows.StoreMoved t d s word) = refl
+field_other (rows.LoadObject t s access) = refl
+field_other (rows.LoadShape t s y access) = refl
+field_other (rows.LoadValue t walk v) = refl
+field_other (rows.LoadLink t walk errand) = refl
+field_other (rows.LoadField t walk d) = refl
+field_other (rows.LoadOwner t d word) = refl
+field_other (rows.StoreLate t d word value) = refl
+field_other (rows.StoreField t walk v word) = refl
+field_other (rows.LoadFirst t a b) = refl
+field_other (rows.LoadSecond t a b word) = refl
+field_other (rows.LoadSaid t s) = refl
+field_other (rows.LoadSaidOwner t s word) = refl
+field_other (rows.Answered reply) = refl
 
 -- a reply that is there is the one that was decided
 reply_waits : (g : Graph) (f : FieldRow) (r : Reply) → field_reply f ≡ Some r → reply_due g f ≡ Some r
@@ -257,9 +322,56 @@ same_thread (rows.LoadSaidOwner t s word) w e = absurd cc
 same_thread (rows.Answered reply) w e = absurd cc
 
 -- what is decided is told once
-tell : (t : ℕ) (k : Command) (before : Option Reply) (b : Bool) (r : Reply) → (b ≡ true → before ≡ None) → entries_of t k before ++ cond b (entry_of t k r ∷ []) [] ≡ entries_of t k (cond b (Some r) before)
-tell t k before true r none = ap (λ o. entries_of t k o ++ entry_of t k r ∷ []) (none refl)
-tell t k before false r none = append-nil (entries_of t k before)
+tell : (t : ℕ) (k : Command) (paid : ℕ) (before : Option Reply) (b : Bool) (r : Reply) → (b ≡ true → before ≡ None) → entries_of t k paid before ++ cond b (entry_of t k paid r ∷ []) [] ≡ entries_of t k paid (cond b (Some r) before)
+tell t k paid before true r none = ap (λ o. entries_of t k paid o ++ entry_of t k paid r ∷ []) (none refl)
+tell t k paid before false r none = append-nil (entries_of t k paid before)
+
+-- a command that allocates nothing is decided as its step, with no work
+served_graph : (g : Graph) (t : ℕ) (k : Command) (b : Bool) → blocks_of k ≡ 0 → graph_decided g t k b ≡ graph_after g t k b
+served_graph g t k true z = ap (λ x. cond x (step g t k).0 g) (eq-eqb (blocks_of k) 0 z)
+served_graph g t k false z = refl
+
+pub served_reply : (g : Graph) (t : ℕ) (k : Command) → blocks_of k ≡ 0 → reply_decided g t k ≡ (step g t k).1
+served_reply g t k z = ap (λ x. cond x (step g t k).1 (Full 1)) (eq-eqb (blocks_of k) 0 z)
+
+no_works : (t : ℕ) (k : Command) (paid : ℕ) (r : Reply) (b : Bool) → paid ≡ 0 → works (cond b (entry_of t k paid r ∷ []) []) ≡ 0
+no_works t k paid r true z = omega (arith, z)
+no_works t k paid r false z = refl
+
+no_work : (t : ℕ) (k : Command) (paid : ℕ) (o : Option Reply) → paid ≡ 0 → works (entries_of t k paid o) ≡ 0
+no_work t k paid None z = refl
+no_work t k paid (Some r) z = omega (arith, z)
+
+-- an allocation is refused
+refused_graph : (g : Graph) (t : ℕ) (k : Command) (b : Bool) → (blocks_of k ≡ 0 → ⊥) → graph_decided g t k b ≡ g
+refused_graph g t k true n = ap (λ x. cond x (step g t k).0 g) (ne_eqb (blocks_of k) 0 n)
+refused_graph g t k false n = refl
+
+pub refused_reply : (g : Graph) (t : ℕ) (k : Command) → (blocks_of k ≡ 0 → ⊥) → reply_decided g t k ≡ Full 1
+refused_reply g t k n = ap (λ x. cond x (step g t k).1 (Full 1)) (ne_eqb (blocks_of k) 0 n)
+
+-- what a thread holds stays
+holding_self : (hs : ℕ → GreyHolding) (t : ℕ) (w : GreyHolding) → hs t ≡ w → changed hs t w ≡ hs
+holding_self hs t w is = funext _ _ (λ u. elim (cases_eq t u) [
+  | inl e ↦ rw (eq-eqb t u e) (sym is ∙ ap hs e)
+  | inr n ↦ rw (ne_eqb t u n) refl
+])
+
+phase_word : (n w : ℕ) (gs : ℕ → Gating) → n ≤ 16 → GateOf n w gs → IsMark w → IsPhaseWord w
+phase_word n w gs few gate mark = record { inside = omega (arith, inside_most n w gs gate); cycle = omega (arith, mark.cycle) }
+
+-- the unit of a Mark pass is paid once
+units_paid : (m : GreyState) (w paid due : ℕ) → paid + bit (not (grey_unit m.row)) ≤ due → cond (is_blackening m.row) (paid + 1) paid + bit (not (grey_unit (grey_got m w).row)) ≤ due
+units_paid m w paid due low = by (grey_unit m.row) (grey_unit (grey_got m w).row) (is_blackening m.row) low (unit_after m w) (unit_once m)
+  where
+    by : (a b u : Bool) → paid + bit (not a) ≤ due → b ≡ (a || u) → (a ≡ true → u ≡ false) → cond u (paid + 1) paid + bit (not b) ≤ due
+    by true b true l e once = absurd (let z : true ≡ false = once refl in cc)
+    by true true false l e once = omega (arith, l)
+    by true false false l e once = absurd cc
+    by false true true l e once = omega (arith, l)
+    by false false true l e once = absurd cc
+    by false true false l e once = absurd cc
+    by false false false l e once = omega (arith, l)
 
 mark_moves : (v w : ℕ) → is_closed v ≡ is_closed w → cycle_of v ≡ cycle_of w → is_sweep v ≡ is_sweep w → IsMark w → IsMark v
 mark_moves v w a b d m = record { opened = a ∙ m.opened; cycle = b ∙ m.cycle; sweep = d ∙ m.sweep }
@@ -275,13 +387,17 @@ inside_low : (w : ℕ) → 1 ≤ inside_of w → 1 ≤ w
 unfolding inside_of
 inside_low w h = omega arith
 
-module _ (c : Config) (bounds : IsInBounds c) (plan : IsAdmitted c) (g : Graph) (h : Heap) (gs : ℕ → Gating) (ls : ℕ → Loading) (t : ℕ) (tl : t < c.threads) (k : Command) (range : IsCommandInRange k) (serves : blocks_of k ≡ 0) (done all : ℕ)
-    (gate : GateOf c.threads (h Phase) gs) (phase : IsMark (h Phase)) (shown : Follows c.threads (opening_last c) (every_name (start_graph c)) (opening_at c.threads) (state g h ls)) where
+module _ (c : Config) (bounds : IsInBounds c) (plan : IsAdmitted c) (g : Graph) (h : Heap) (gs : ℕ → Gating) (ls : ℕ → Loading) (hs : ℕ → GreyHolding) (t : ℕ) (tl : t < c.threads) (k : Command) (inside : IsCommandInBounds c k) (done all due paid : ℕ) (waived : Bool)
+    (gate : GateOf c.threads (h Phase) gs) (phase : IsMark (h Phase)) (shown : Follows c.threads (opening_last c) (every_name (start_graph c)) (opening_at c.threads) (state g h ls))
+    (grey : GreyKept c.threads h hs) (held : IsHeld c h) (solid : IsSolid c h) where
   phase_is : IsPhaseWord (h Phase)
-  phase_is = record { inside = omega (arith, inside_most c.threads (h Phase) gs gate, bounds.threads); cycle = omega (arith, phase.cycle) }
+  phase_is = phase_word c.threads (h Phase) gs bounds.threads gate phase
 
-  abbrev Event : Heap → Option Reply → Bool → Part → Option Reply → Type 0
-  Event new before b p reply = EventKept c g new gs ls t k done all before b p reply
+  abbrev Event : Heap → Option Reply → Bool → Part → Option Reply → Bool → Bool → Type 0
+  Event new before b p reply unit nothing = EventKept c g new gs ls hs t k done all due paid waived before b p reply unit nothing
+
+  abbrev more : Bool
+  more = not waived && ltb paid due
 
   -- an event that leaves the graph and what was loaded, where nothing is
   still : (new : Heap) (p : Part) → block_words new ≡ block_words h → ls t ≡ unloaded → loading p ≡ unloaded → Follows c.threads (opening_last c) (every_name (start_graph c)) (opening_at c.threads) (state g new (with_load ls t (loading p)))
@@ -289,137 +405,300 @@ module _ (c : Config) (bounds : IsInBounds c) (plan : IsAdmitted c) (g : Graph) 
       subst (λ s. Follows c.threads (opening_last c) (every_name (start_graph c)) (opening_at c.threads) s)
       (ap (λ w. record { graph = g; words = w; loads = ls }) (sym words) ∙ ap (λ l. state g new l) (sym (ap (λ l. with_load ls t l) e ∙ load_self ls t unloaded is))) shown
 
-  -- on the way in
-  look_event : (gs t).stand ≡ Outside → ls t ≡ unloaded → done < all → Event h None false (if_entered (gate_entered (gate_got gates.Look (h Phase))) t k (gate_got gates.Look (h Phase))) None
-  look_event out is low = rw phase.opened (record {
-    gate = gate_stays c.threads (h Phase) gs gate t tl _ (sym out) (λ e. absurd cc);
-    phase = phase;
-    shown = still h (Enter (gates.Enter (h Phase))) refl is refl;
-    part = tt;
-    fits = (record { word = phase_is; opened = phase.opened }, low);
+  -- an event at the gate
+  gate_event : (v : ℕ) (p : Part) → GateOf c.threads v (changed gs t (gating p)) → IsMark v → ls t ≡ unloaded → loading p ≡ unloaded → hs t ≡ no_grey → holding p ≡ no_grey → waiting g p ≡ None
+      → PartKept g t k p → PartFits c done all p → paid + unit_to_come p ≤ due → IsSettled due paid waived p → Event (put_at h Phase v) None false p None false false
+  gate_event v p new mark is unl empty holds waits kept fits low settled = record {
+    gate = new;
+    phase = mark;
+    shown = still (put_at h Phase v) p refl is unl;
+    part = kept;
+    fits = fits;
     over = λ r e. absurd cc;
-    told = refl;
-  })
+    told = sym (ap (entries_of t k paid) waits);
+    grey = subst (λ x. GreyKept c.threads (put_at h Phase v) x) (sym (ap (changed hs t) holds ∙ holding_self hs t no_grey empty)) grey;
+    held = held_put c h Phase v (phase_word c.threads v (changed gs t (gating p)) bounds.threads new mark) held;
+    solid = solid;
+    low = low;
+    settled = settled;
+    counted = refl;
+  }
 
-  enter_event : (seen : ℕ) → SeenOpen seen → (gs t).stand ≡ Outside → ls t ≡ unloaded → done < all
-      → Event (heap_after h (gate_want (gates.Enter seen))) None false (if_entered (gate_entered (gate_got (gates.Enter seen) (h Phase))) t k (gate_got (gates.Enter seen) (h Phase))) None
-  enter_event seen fit out is low = elim (cases_Bool (eqb (h Phase) seen)) [
-    | inl e ↦ rw e (won (eqb-true (h Phase) seen e))
-    | inr e ↦ rw e (record {
-      gate = gate_stays c.threads (h Phase) gs gate t tl _ (sym out) (λ e. absurd cc);
-      phase = phase;
-      shown = still h (Enter gates.Look) refl is refl;
-      part = tt;
-      fits = (tt, low);
-      over = λ r e. absurd cc;
-      told = refl;
-    })
+  -- and one that only looks
+  look_at : (p : Part) → GateOf c.threads (h Phase) (changed gs t (gating p)) → ls t ≡ unloaded → loading p ≡ unloaded → hs t ≡ no_grey → holding p ≡ no_grey → waiting g p ≡ None
+      → PartKept g t k p → PartFits c done all p → paid + unit_to_come p ≤ due → IsSettled due paid waived p → Event h None false p None false false
+  look_at p new is unl empty holds waits kept fits low settled = record {
+    gate = new;
+    phase = phase;
+    shown = still h p refl is unl;
+    part = kept;
+    fits = fits;
+    over = λ r e. absurd cc;
+    told = sym (ap (entries_of t k paid) waits);
+    grey = subst (λ x. GreyKept c.threads h x) (sym (ap (changed hs t) holds ∙ holding_self hs t no_grey empty)) grey;
+    held = held;
+    solid = solid;
+    low = low;
+    settled = settled;
+    counted = refl;
+  }
+
+  -- on the way in
+  look_event : (gs t).stand ≡ Outside → ls t ≡ unloaded → hs t ≡ no_grey → done < all → paid ≤ due → Event h None false (if_entered (gate_entered (gate_got gates.Look (h Phase))) t c.threads k more (gate_got gates.Look (h Phase))) None false false
+  look_event out is empty low pays = rw phase.opened (look_at (Enter (gates.Enter (h Phase))) (gate_stays c.threads (h Phase) gs gate t tl _ (sym out) (λ e. absurd cc)) is refl empty refl refl tt (record { word = phase_is; opened = phase.opened }, refl, low) (omega (arith, pays)) tt)
+
+  -- the part of a thread that has entered
+  pub record EnteredKept (p : Part) : Type 0 where
+    pub gates : gating p ≡ gating Count
+    pub loads : loading p ≡ unloaded
+    pub holds : holding p ≡ no_grey
+    pub waits : waiting g p ≡ None
+    pub stands : PartKept g t k p
+    pub settled : IsSettled due paid waived p
+
+  entered_kept : EnteredKept (first_part t c.threads k more 1)
+  entered_kept = elim (cases_eq (blocks_of k) 0) [
+    | inl z ↦
+        let first = first_undecided t k z in
+        let none = none_due g (first_row t k) first in
+        rw (eq-eqb (blocks_of k) 0 z) (record {
+          gates = refl;
+          loads = first_unloaded t k;
+          holds = refl;
+          waits = none.0;
+          stands = record { serves = z; thread = first_thread t k z; asks = λ _. first_asked t k z; known = none.1; going = not_over (first_row t k) first };
+          settled = tt;
+        })
+    | inr n ↦ rw (ne_eqb (blocks_of k) 0 n) (by more n refl)
   ]
     where
-      more : phase_of (h Phase + 1) ≡ record (phase_of (h Phase)) { inside = inside_of (h Phase) + 1 }
-      more = phase-more (h Phase) phase_is.inside
+      by : (b : Bool) → (blocks_of k ≡ 0 → ⊥) → more ≡ b → EnteredKept (cond b (Mark (scanning t c.threads 1)) Count)
+      by true n e = record { gates = refl; loads = refl; holds = refl; waits = refl; stands = record { allocates = n; thread = refl; cycle = refl }; settled = tt }
+      by false n e = record { gates = refl; loads = refl; holds = refl; waits = refl; stands = n; settled = e }
 
-      won : h Phase ≡ seen → Event (put_at h Phase (seen + 1)) None false (Serve (first_row t k)) None
+  more_due : more ≡ true → paid < due
+  more_due e = ltb-true paid due (and_parts (not waived) (ltb paid due) e).1
+
+  enter_event : (seen : ℕ) → SeenOpen seen → (gs t).stand ≡ Outside → ls t ≡ unloaded → hs t ≡ no_grey → done < all → paid ≤ due
+      → Event (heap_after h (gate_want (gates.Enter seen))) None false (if_entered (gate_entered (gate_got (gates.Enter seen) (h Phase))) t c.threads k more (gate_got (gates.Enter seen) (h Phase))) None false false
+  enter_event seen fit out is empty low pays = elim (cases_Bool (eqb (h Phase) seen)) [
+    | inl e ↦ rw e (won (eqb-true (h Phase) seen e))
+    | inr e ↦ rw e (look_at (Enter gates.Look) (gate_stays c.threads (h Phase) gs gate t tl _ (sym out) (λ e. absurd cc)) is refl empty refl refl tt (tt, refl, low) (omega (arith, pays)) tt)
+  ]
+    where
+      more_inside : phase_of (h Phase + 1) ≡ record (phase_of (h Phase)) { inside = inside_of (h Phase) + 1 }
+      more_inside = phase-more (h Phase) phase_is.inside
+
+      cycle_is : h Phase ≡ seen → cycle_of seen ≡ 1
+      cycle_is e = ap cycle_of (sym e) ∙ phase.cycle
+
+      first : ℕ → Part
+      first cycle = first_part t c.threads k more cycle
+
+      won : h Phase ≡ seen → Event (put_at h Phase (seen + 1)) None false (first_part t c.threads k more (cycle_of seen)) None false false
       won e =
-          let first = first_undecided t k serves in
-          let none = none_due g (first_row t k) first in
-          subst (λ x. Event (put_at h Phase (x + 1)) None false (Serve (first_row t k)) None) e (record {
-            gate = gate_enters c.threads (h Phase) gs gate t tl (gating (Serve (first_row t k))) (omega (arith, bounds.threads)) phase.opened out refl (sym phase.cycle) (sym phase.sweep);
-            phase = mark_moves (h Phase + 1) (h Phase) (ap (λ (p : PhaseWord). p.closed) more) (ap (λ (p : PhaseWord). p.cycle) more) (ap (λ (p : PhaseWord). p.sweep) more) phase;
-            shown = still (put_at h Phase (h Phase + 1)) (Serve (first_row t k)) refl is (first_unloaded t k);
-            part = record { thread = first_thread t k serves; asks = λ _. first_asked t k serves; known = none.1; going = not_over (first_row t k) first };
-            fits = (first_fits c t k (is_thread c bounds plan t tl) range, low);
-            over = λ r e. absurd cc;
-            told = sym (ap (entries_of t k) none.0);
-          })
+          subst (λ x. Event (put_at h Phase (x + 1)) None false (first_part t c.threads k more (cycle_of seen)) None false false) e
+          (subst (λ x. Event (put_at h Phase (h Phase + 1)) None false (first_part t c.threads k more x) None false false) (sym (cycle_is e))
+          (gate_event (h Phase + 1) (first_part t c.threads k more 1)
+          (subst (λ x. GateOf c.threads (h Phase + 1) (changed gs t x)) (sym entered_kept.gates) (gate_enters c.threads (h Phase) gs gate t tl (gating Count) (omega (arith, bounds.threads)) phase.opened out refl (sym phase.cycle) (sym phase.sweep)))
+          (mark_moves (h Phase + 1) (h Phase) (ap (λ (p : PhaseWord). p.closed) more_inside) (ap (λ (p : PhaseWord). p.cycle) more_inside) (ap (λ (p : PhaseWord). p.sweep) more_inside) phase)
+          is entered_kept.loads empty entered_kept.holds entered_kept.waits entered_kept.stands
+          (first_part_fits c done all t k more 1 (is_thread c bounds plan t tl) bounds.blocks inside low)
+          (first_part_pays t c.threads k more 1 paid due pays more_due)
+          entered_kept.settled))
 
-  leave_event : (gs t).stand ≡ Inside → ls t ≡ unloaded → Event (heap_after h (gate_want gates.Leave)) None false Rest None
-  leave_event is unl =
+  -- on the way out, at rest or to come in again
+  leave_event : (p : Part) → (gs t).stand ≡ Inside → gating p ≡ gating Rest → ls t ≡ unloaded → loading p ≡ unloaded → hs t ≡ no_grey → holding p ≡ no_grey → waiting g p ≡ None
+      → PartKept g t k p → PartFits c done all p → paid + unit_to_come p ≤ due → IsSettled due paid waived p → Event (heap_after h (gate_want gates.Leave)) None false p None false false
+  leave_event p is out unl loads empty holds waits kept fits low settled =
       let some : 1 ≤ inside_of (h Phase) = inside_some c.threads (h Phase) gs gate t tl is in
       let less = phase-less (h Phase) some in
-      record {
-        gate = gate_leaves c.threads (h Phase) gs gate t tl (gating Rest) is refl;
-        phase = mark_moves (h Phase - 1) (h Phase) (ap (λ (p : PhaseWord). p.closed) less) (ap (λ (p : PhaseWord). p.cycle) less) (ap (λ (p : PhaseWord). p.sweep) less) phase;
-        shown = still (put_at h Phase (h Phase - 1)) Rest refl unl refl;
-        part = tt;
-        fits = tt;
-        over = λ r e. absurd cc;
-        told = refl;
-      }
+      gate_event (h Phase - 1) p
+      (subst (λ x. GateOf c.threads (h Phase - 1) (changed gs t x)) (sym out) (gate_leaves c.threads (h Phase) gs gate t tl (gating Rest) is refl))
+      (mark_moves (h Phase - 1) (h Phase) (ap (λ (p : PhaseWord). p.closed) less) (ap (λ (p : PhaseWord). p.cycle) less) (ap (λ (p : PhaseWord). p.sweep) less) phase)
+      unl loads empty holds waits kept fits low settled
+
+  -- inside, where the phase word stays
+  stays : (new : Heap) (p q : Part) → new Phase ≡ h Phase → gs t ≡ gating q → stand_of q ≡ Inside → stand_of p ≡ Inside → GateOf c.threads (new Phase) (changed gs t (gating p))
+  stays new p q same stands from to = subst (λ w. GateOf c.threads w (changed gs t (gating p))) (sym same)
+      (gate_stays c.threads (h Phase) gs gate t tl (gating p) (to ∙ sym (ap (λ (x : Gating). x.stand) stands ∙ from)) (λ _. (sym (ap (λ (x : Gating). x.cycle) stands), sym (ap (λ (x : Gating). x.sweep) stands))))
+
+  -- in a Mark pass
+  module _ (m : GreyState) (is : ls t ≡ unloaded) (stands : gs t ≡ gating (Mark m)) (holds : hs t ≡ grey_holding m.row) (kept : MarkKept t k m) (fits : GreyFits c m) (low : done < all) (pays : paid + unit_to_come (Mark m) ≤ due) where
+    abbrev mark_word : ℕ
+    mark_word = h (place_of (grey_want m))
+
+    pub mark_reads : GreyReads c m (h (place_of (grey_want m)))
+    mark_reads = held (place_of (grey_want m)) (marks.place_fits c m fits)
+
+    mark_kept : GreyKept c.threads (heap_after h (grey_want m)) (changed hs t (grey_holding (grey_got m mark_word).row))
+    mark_kept = subst (λ x. GreyKept c.threads (heap_after h (grey_want m)) (changed hs x (grey_holding (grey_got m mark_word).row))) kept.thread (keeps c h hs m fits grey (ap hs kept.thread ∙ holds))
+
+    mark_event : (b : Bool) → grey_over (grey_got m mark_word).row ≡ b
+        → Event (heap_after h (grey_want m)) None false (cond b Again (Mark (grey_got m mark_word))) None (makes_unit (Mark m) mark_word) (finds_nothing (Mark m) mark_word)
+    mark_event true e = record {
+      gate = stays (heap_after h (grey_want m)) Again (Mark m) (mark_phase h m.thread m.threads m.cycle m.row) stands refl refl;
+      phase = subst (λ w. IsMark w) (sym (mark_phase h m.thread m.threads m.cycle m.row)) phase;
+      shown = still (heap_after h (grey_want m)) Again (mark_words h m.thread m.threads m.cycle m.row) is refl;
+      part = kept.allocates;
+      fits = low;
+      over = λ r z. absurd cc;
+      told = refl;
+      grey = subst (λ x. GreyKept c.threads (heap_after h (grey_want m)) (changed hs t x)) (over_holds_none (grey_got m mark_word).row e) mark_kept;
+      held = held_after c h (grey_want m) (marks.stores_held c m fits) held;
+      solid = λ x some last. mark_solid h m.thread m.threads m.cycle m.row x (solid x some last);
+      low = omega (arith, units_paid m mark_word paid due pays);
+      settled = tt;
+      counted = refl;
+    }
+    mark_event false e = record {
+      gate = stays (heap_after h (grey_want m)) (Mark (grey_got m mark_word)) (Mark m) (mark_phase h m.thread m.threads m.cycle m.row) stands refl refl;
+      phase = subst (λ w. IsMark w) (sym (mark_phase h m.thread m.threads m.cycle m.row)) phase;
+      shown = still (heap_after h (grey_want m)) (Mark (grey_got m mark_word)) (mark_words h m.thread m.threads m.cycle m.row) is refl;
+      part = record { allocates = kept.allocates; thread = kept.thread; cycle = kept.cycle };
+      fits = (marks.next_fits c m mark_word fits mark_reads, low);
+      over = λ r z. absurd cc;
+      told = refl;
+      grey = mark_kept;
+      held = held_after c h (grey_want m) (marks.stores_held c m fits) held;
+      solid = λ x some last. mark_solid h m.thread m.threads m.cycle m.row x (solid x some last);
+      low = units_paid m mark_word paid due pays;
+      settled = tt;
+      counted = refl;
+    }
+
+  -- an allocation is answered full, and leaves the graph
+  count_event : ls t ≡ unloaded → gs t ≡ gating Count → hs t ≡ no_grey → (blocks_of k ≡ 0 → ⊥) → Event h None true Leave (Some (Full 1)) false false
+  count_event is stands empty allocates = record {
+    gate = stays h Leave Count refl stands refl refl;
+    phase = phase;
+    shown = subst (λ x. Follows c.threads (opening_last c) (every_name (start_graph c)) (opening_at c.threads) (state x h (with_load ls t unloaded))) (sym (refused_graph g t k true allocates)) (still h Leave refl is refl);
+    part = tt;
+    fits = tt;
+    over = λ r e. refl;
+    told = ap (λ r. entry_of t k paid r ∷ []) (refused_reply g t k allocates);
+    grey = subst (λ x. GreyKept c.threads h x) (sym (holding_self hs t no_grey empty)) grey;
+    held = held;
+    solid = solid;
+    low = omega arith;
+    settled = (refl, refl);
+    counted = refl;
+  }
 
   -- in a command
-  module _ (f : FieldRow) (is : ls t ≡ loading_of f) (stands : (gs t) ≡ gating (Serve f)) (kept : RowKept g t k f) (fits : FieldFits c f) (low : done < all) where
+  module _ (f : FieldRow) (is : ls t ≡ loading_of f) (stands : (gs t) ≡ gating (Serve f)) (empty : hs t ≡ no_grey) (kept : RowKept g t k f) (fits : FieldFits c f) (low : done < all) (unpaid : paid ≡ 0) where
     pub reads : FieldReads c f (h (place_of (field_want f)))
     reads = field_reads c bounds (opening_last c) (opening_low c plan) (every_name (start_graph c)) (opening_at c.threads) g h ls shown t f fits kept.thread is kept.going
 
     moves : FieldStep c.threads (opening_last c) (every_name (start_graph c)) (opening_at c.threads) g (heap_after h (field_want f)) ls t k (reply_due g f) (is_deciding f (h (place_of (field_want f)))) (field_got f (h (place_of (field_want f))))
     moves = field_moves c bounds (opening_last c) (opening_low c plan) (every_name (start_graph c)) (opening_at c.threads) g h ls shown t f fits kept.thread is kept.going k kept.asks kept.known
 
-    told_is : entries_of t k (reply_due g f) ++ cond (is_deciding f (h (place_of (field_want f)))) (entry_of t k (step g t k).1 ∷ []) []
-        ≡ entries_of t k (reply_due (graph_after g t k (is_deciding f (h (place_of (field_want f))))) (field_got f (h (place_of (field_want f)))))
-    told_is = tell t k (reply_due g f) (is_deciding f (h (place_of (field_want f)))) (step g t k).1 (λ e. (none_due g f (undecided f (h (place_of (field_want f))) e)).0) ∙ ap (entries_of t k) (sym moves.reply)
+    abbrev row_decides : Bool
+    row_decides = is_deciding f (h (place_of (field_want f)))
 
-    stays : (p : Part) → stand_of p ≡ Inside → GateOf c.threads (heap_after h (field_want f) Phase) (changed gs t (gating p))
-    stays p inside = subst (λ w. GateOf c.threads w (changed gs t (gating p))) (sym (field_phase h f))
-        (gate_stays c.threads (h Phase) gs gate t tl (gating p) (inside ∙ sym (ap (λ (x : Gating). x.stand) stands)) (λ _. (sym (ap (λ (x : Gating). x.cycle) stands), sym (ap (λ (x : Gating). x.sweep) stands))))
+    graph_is : graph_decided g t k row_decides ≡ graph_after g t k row_decides
+    graph_is = served_graph g t k row_decides kept.serves
+
+    told_is : entries_of t k paid (reply_due g f) ++ cond row_decides (entry_of t k paid (reply_decided g t k) ∷ []) []
+        ≡ entries_of t k paid (reply_due (graph_decided g t k row_decides) (field_got f (h (place_of (field_want f)))))
+    told_is =
+        ap (λ r. entries_of t k paid (reply_due g f) ++ cond row_decides (entry_of t k paid r ∷ []) []) (served_reply g t k kept.serves)
+        ∙ tell t k paid (reply_due g f) row_decides (step g t k).1 (λ e. (none_due g f (undecided f (h (place_of (field_want f))) e)).0) ∙ ap (entries_of t k paid) (sym moves.reply)
+        ∙ sym (ap (λ x. entries_of t k paid (reply_due x (field_got f (h (place_of (field_want f)))))) graph_is)
+
+    row_grey : (p : Part) → holding p ≡ no_grey → GreyKept c.threads (heap_after h (field_want f)) (changed hs t (holding p))
+    row_grey p e = subst (λ x. GreyKept c.threads (heap_after h (field_want f)) x) (sym (ap (changed hs t) e ∙ holding_self hs t no_grey empty)) (kept_other c.threads h hs (field_want f) (field_other f) grey)
+
+    row_solid : IsSolid c (heap_after h (field_want f))
+    row_solid x some last = ap is_free (field_colour h f x) ∙ solid x some last
+
+    row_shown : (l : Loading) → loading_of (field_got f (h (place_of (field_want f)))) ≡ l
+        → Follows c.threads (opening_last c) (every_name (start_graph c)) (opening_at c.threads) (state (graph_decided g t k row_decides) (heap_after h (field_want f)) (with_load ls t l))
+    row_shown l e = subst (λ x. Follows c.threads (opening_last c) (every_name (start_graph c)) (opening_at c.threads) (state x (heap_after h (field_want f)) (with_load ls t l))) (sym graph_is)
+        (subst (λ x. Follows c.threads (opening_last c) (every_name (start_graph c)) (opening_at c.threads) (state (graph_after g t k row_decides) (heap_after h (field_want f)) (with_load ls t x))) e moves.follows)
+
+    counted_is : (o : Option Reply) → works (cond row_decides (entry_of t k paid (reply_decided g t k) ∷ []) []) ≡ works (entries_of t k paid o)
+    counted_is o = no_works t k paid (reply_decided g t k) row_decides unpaid ∙ sym (no_work t k paid o unpaid)
 
     pub serve_event : (o : Option Reply) → field_reply (field_got f (h (place_of (field_want f)))) ≡ o
-        → Event (heap_after h (field_want f)) (reply_due g f) (is_deciding f (h (place_of (field_want f)))) (if_replied o (field_got f (h (place_of (field_want f))))) o
+        → Event (heap_after h (field_want f)) (reply_due g f) row_decides (if_replied o (field_got f (h (place_of (field_want f))))) o false false
     serve_event None e = record {
-      gate = stays (Serve (field_got f (h (place_of (field_want f))))) refl;
+      gate = stays (heap_after h (field_want f)) (Serve (field_got f (h (place_of (field_want f))))) (Serve f) (field_phase h f) stands refl refl;
       phase = subst (λ w. IsMark w) (sym (field_phase h f)) phase;
-      shown = moves.follows;
-      part = record { thread = same_thread f (h (place_of (field_want f))) e ∙ kept.thread; asks = moves.asks; known = moves.known; going = e };
+      shown = row_shown (loading_of (field_got f (h (place_of (field_want f))))) refl;
+      part = record { serves = kept.serves; thread = same_thread f (h (place_of (field_want f))) e ∙ kept.thread; asks = moves.asks; known = subst (λ x. IsKnown x (field_got f (h (place_of (field_want f))))) (sym graph_is) moves.known; going = e };
       fits = (field_fits c f (h (place_of (field_want f))) fits reads, low);
       over = λ r z. absurd cc;
       told = told_is;
+      grey = row_grey (Serve (field_got f (h (place_of (field_want f))))) refl;
+      held = held_after c h (field_want f) (stores_held c f fits) held;
+      solid = row_solid;
+      low = omega (arith, unpaid);
+      settled = tt;
+      counted = counted_is None;
     }
     serve_event (Some r) e = record {
-      gate = stays Leave refl;
+      gate = stays (heap_after h (field_want f)) Leave (Serve f) (field_phase h f) stands refl refl;
       phase = subst (λ w. IsMark w) (sym (field_phase h f)) phase;
-      shown = subst (λ l. Follows c.threads (opening_last c) (every_name (start_graph c)) (opening_at c.threads) (state (graph_after g t k (is_deciding f (h (place_of (field_want f))))) (heap_after h (field_want f)) (with_load ls t l))) (reply_unloads (field_got f (h (place_of (field_want f)))) r e) moves.follows;
+      shown = row_shown unloaded (reply_unloads (field_got f (h (place_of (field_want f)))) r e);
       part = tt;
       fits = tt;
       over = λ r z. refl;
-      told = told_is ∙ ap (entries_of t k) (reply_waits (graph_after g t k (is_deciding f (h (place_of (field_want f))))) (field_got f (h (place_of (field_want f)))) r e);
+      told = told_is ∙ ap (entries_of t k paid) (reply_waits (graph_decided g t k row_decides) (field_got f (h (place_of (field_want f)))) r e);
+      grey = row_grey Leave refl;
+      held = held_after c h (field_want f) (stores_held c f fits) held;
+      solid = row_solid;
+      low = omega arith;
+      settled = (refl, refl);
+      counted = counted_is (Some r);
     }
 
   -- the event of each part
-  pub part_event : (p : Part) → gs t ≡ gating p → ls t ≡ loading p → PartKept g t k p → PartFits c done all p → (p ≡ Rest → done < all)
-      → Event (heap_after h (part_want p)) (waiting g p) (decides p (h (place_of (part_want p)))) (part_got t k p (h (place_of (part_want p)))) (part_reply p (h (place_of (part_want p))))
-  part_event Rest stands is kept fits low = look_event (ap (λ (x : Gating). x.stand) stands) is (low refl)
-  part_event (Enter gates.Look) stands is kept fits low = look_event (ap (λ (x : Gating). x.stand) stands) is fits.1
-  part_event (Enter (gates.Enter seen)) stands is kept fits low = enter_event seen fits.0 (ap (λ (x : Gating). x.stand) stands) is fits.1
-  part_event (Enter (gates.Entered seen)) stands is kept fits low = absurd kept
-  part_event (Enter gates.Leave) stands is kept fits low = absurd kept
-  part_event (Enter gates.Left) stands is kept fits low = absurd kept
-  part_event (Serve f) stands is kept fits low = serve_event f is stands kept fits.0 fits.1 (field_reply (field_got f (h (place_of (field_want f))))) refl
-  part_event Leave stands is kept fits low = leave_event (ap (λ (x : Gating). x.stand) stands) is
+  pub part_event : (p : Part) → gs t ≡ gating p → ls t ≡ loading p → hs t ≡ holding p → PartKept g t k p → PartFits c done all p → paid + unit_to_come p ≤ due → IsSettled due paid waived p → (blocks_of k ≡ 0 → paid ≡ 0) → (p ≡ Rest → done < all)
+      → Event (heap_after h (part_want p)) (waiting g p) (decides p (h (place_of (part_want p)))) (part_got t c.threads k more p (h (place_of (part_want p)))) (part_reply p (h (place_of (part_want p)))) (makes_unit p (h (place_of (part_want p)))) (finds_nothing p (h (place_of (part_want p))))
+  part_event Rest stands is empty kept fits pays settled served low = look_event (ap (λ (x : Gating). x.stand) stands) is empty (low refl) (omega (arith, pays))
+  part_event (Enter gates.Look) stands is empty kept fits pays settled served low = look_event (ap (λ (x : Gating). x.stand) stands) is empty fits.2 (omega (arith, pays))
+  part_event (Enter (gates.Enter seen)) stands is empty kept fits pays settled served low = enter_event seen fits.0 (ap (λ (x : Gating). x.stand) stands) is empty fits.2 (omega (arith, pays))
+  part_event (Enter _) stands is empty kept fits pays settled served low = absurd kept
+  part_event (Serve f) stands is empty kept fits pays settled served low = serve_event f is stands empty kept fits.0 fits.1 (served kept.serves) (field_reply (field_got f (h (place_of (field_want f))))) refl
+  part_event (Mark m) stands is empty kept fits pays settled served low = mark_event m is stands empty kept fits.0 fits.1 pays (grey_over (grey_got m (h (place_of (grey_want m)))).row) refl
+  part_event Count stands is empty kept fits pays settled served low = count_event is stands empty kept
+  part_event Again stands is empty kept fits pays settled served low = leave_event (Enter gates.Look) (ap (λ (x : Gating). x.stand) stands) refl is refl empty refl refl tt (tt, refl, fits) pays tt
+  part_event Leave stands is empty kept fits pays settled served low = leave_event Rest (ap (λ (x : Gating). x.stand) stands) refl is refl empty refl refl tt tt pays settled
+
+  -- the phase word is that of cycle 1
+  began : 1 ≤ cycle_of (h Phase)
+  began = omega (arith, phase.cycle)
 
   -- and the word that it reads is one that it may read
-  pub part_reads : (p : Part) → gs t ≡ gating p → ls t ≡ loading p → PartKept g t k p → PartFits c done all p → PartReads c p (h (place_of (part_want p)))
-  part_reads Rest stands is kept fits = phase_is
-  part_reads (Enter gates.Look) stands is kept fits = phase_is
-  part_reads (Enter (gates.Enter seen)) stands is kept fits = phase_is
-  part_reads (Enter (gates.Entered seen)) stands is kept fits = absurd kept
-  part_reads (Enter gates.Leave) stands is kept fits = absurd kept
-  part_reads (Enter gates.Left) stands is kept fits = absurd kept
-  part_reads (Serve f) stands is kept fits = reads f is stands kept fits.0 fits.1
-  part_reads Leave stands is kept fits = phase_is
+  pub part_reads : (p : Part) → ls t ≡ loading p → PartKept g t k p → PartFits c done all p → PartReads c p (h (place_of (part_want p)))
+  part_reads Rest is kept fits = (phase_is, began)
+  part_reads (Enter gates.Look) is kept fits = (phase_is, began)
+  part_reads (Enter (gates.Enter seen)) is kept fits = (phase_is, began)
+  part_reads (Enter _) is kept fits = absurd kept
+  part_reads (Serve f) is kept fits = field_reads c bounds (opening_last c) (opening_low c plan) (every_name (start_graph c)) (opening_at c.threads) g h ls shown t f fits.0 kept.thread is kept.going
+  part_reads (Mark m) is kept fits = held (place_of (grey_want m)) (marks.place_fits c m fits.0)
+  part_reads Count is kept fits = held FreeCount refl
+  part_reads Again is kept fits = phase_is
+  part_reads Leave is kept fits = phase_is
 
   -- no sum or difference leaves 64 bits
-  pub part_sum : (p : Part) → gs t ≡ gating p → PartFits c done all p → PartKept g t k p → Fits (part_want p) (h (place_of (part_want p)))
-  part_sum Rest stands fits kept = tt
-  part_sum (Enter gates.Look) stands fits kept = tt
-  part_sum (Enter (gates.Enter seen)) stands fits kept = tt
-  part_sum (Enter (gates.Entered seen)) stands fits kept = absurd kept
-  part_sum (Enter gates.Leave) stands fits kept = absurd kept
-  part_sum (Enter gates.Left) stands fits kept = absurd kept
-  part_sum (Serve f) stands fits kept = field_sum f (h (place_of (field_want f)))
-  part_sum Leave stands fits kept = inside_low (h Phase) (inside_some c.threads (h Phase) gs gate t tl (ap (λ (x : Gating). x.stand) stands))
+  pub part_sum : (p : Part) → gs t ≡ gating p → PartKept g t k p → Fits (part_want p) (h (place_of (part_want p)))
+  part_sum Rest stands kept = tt
+  part_sum (Enter gates.Look) stands kept = tt
+  part_sum (Enter (gates.Enter seen)) stands kept = tt
+  part_sum (Enter _) stands kept = absurd kept
+  part_sum (Serve f) stands kept = field_sum f (h (place_of (field_want f)))
+  part_sum (Mark m) stands kept = marks.sum_fits m (h (place_of (grey_want m)))
+  part_sum Count stands kept = tt
+  part_sum Again stands kept = inside_low (h Phase) (inside_some c.threads (h Phase) gs gate t tl (ap (λ (x : Gating). x.stand) stands))
+  part_sum Leave stands kept = inside_low (h Phase) (inside_some c.threads (h Phase) gs gate t tl (ap (λ (x : Gating). x.stand) stands))
 
 pub part_place : (c : Config) (done all : ℕ) (p : Part) → PartFits c done all p → in_range (extent c) (place_of (part_want p)) ≡ true
 part_place c done all Rest fits = refl
-part_place c done all (Enter a) fits = ap (in_range (extent c)) (gate_place a)
+part_place c done all (Enter a) fits = gate_place c a fits.0 (going_at c a fits.1)
 part_place c done all (Serve f) fits = field_place c f fits.0
+part_place c done all (Mark m) fits = marks.place_fits c m fits.0
+part_place c done all Count fits = refl
+part_place c done all Again fits = refl
 part_place c done all Leave fits = refl

@@ -1,5 +1,8 @@
 pub mod Opened
 pub mod Steady
+pub mod Paying
+pub mod Marks
+pub mod Grounds
 pub mod Moves
 pub mod Kept
 pub mod Turning
@@ -8,3 +11,5 @@ pub mod Reached
 pub mod Told
 pub mod Waiting
 pub mod Older
+pub mod Making
+pub mod Jobs

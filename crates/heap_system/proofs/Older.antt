@@ -15,7 +15,7 @@ use Rattle.never_heap.specs.declared.Command.{Command}
 use Rattle.never_heap.specs.declared.Command.TheVariants as commands
 use Rattle.never_heap.specs.Graphs.{Graph, start_graph, object_of}
 use Rattle.never_heap.specs.Histories.{HistoryItem, Did, part, replay}
-use Rattle.never_heap.specs.Steps.{step}
+use Rattle.never_heap.specs.Steps.{blocks_of}
 use Rattle.never_heap.proofs.Growing.{part_append}
 use Rattle.shown_graph.specs.Words.{BlockWords, block_words, register_block, value_word}
 use Rattle.shown_graph.specs.Shown.{Shows, IsValueOf, every_name, heads}
@@ -25,6 +25,8 @@ use Rattle.shown_graph.proofs.Registering.{register_low}
 use Rattle.shown_graph.proofs.Stores.{register_apart}
 use Rattle.heap_machine.specs.Operations.{heap_after, place_of}
 use Rattle.heap_machine.specs.declared.gate.GateRow.TheVariants as gates
+use Rattle.grey_steps.specs.Rows.{GreyState, grey_got, grey_over, scanning}
+use Rattle.heap_system.proofs.Marks.{mark_words}
 use Rattle.barrier_steps.specs.declared.rows.Access.{Access}
 use Rattle.barrier_steps.specs.declared.rows.Access.TheVariants as accesses
 use Rattle.barrier_steps.specs.declared.rows.Errand.{Errand}
@@ -36,9 +38,9 @@ use Rattle.barrier_steps.specs.Fits.{FieldFits}
 use Rattle.barrier_steps.specs.Rows.{first_row, field_want, field_got, field_reply, after_object, after_shape, after_said, on_way, payload_in, shape_in, way_from}
 use Rattle.barrier_steps.specs.Walks.{links_to, shape_length}
 use Rattle.heap_system.specs.declared.local.Part.{Part}
-use Rattle.heap_system.specs.declared.local.Part.TheVariants.{Rest, Enter, Serve, Leave}
-use Rattle.heap_system.specs.Locals.{LocalState, if_replied, if_entered, part_want, part_got, decides, is_done, command_of, entry_of, PartFits}
-use Rattle.heap_system.specs.Machines.{Run, State, IsJob, IsRunOf, local_at, word_read, event_done, has_event, entry_decided, next, after_turns, opened, IsOpening}
+use Rattle.heap_system.specs.declared.local.Part.TheVariants.{Rest, Enter, Serve, Mark, Count, Again, Leave}
+use Rattle.heap_system.specs.Locals.{LocalState, owes, first_part, if_replied, if_entered, if_marked, part_want, part_got, decides, is_done, command_of, entry_of, PartFits}
+use Rattle.heap_system.specs.Machines.{Run, State, IsJob, IsRunOf, local_at, word_read, event_done, has_event, reply_decided, entry_decided, next, after_turns, opened, IsOpening}
 use Rattle.heap_system.specs.Pictures.{loading, heap_in, IsOlder}
 use Rattle.barrier_steps.specs.Projection.{thread_of, loading_of, walk_load}
 use Rattle.heap_system.proofs.Kept.{PartKept, Kept, loads_in}
@@ -124,15 +126,35 @@ field_lately h (rows.LoadSaid t s) w q e = no_way _ (said_quiet t s w (payload_i
 field_lately h (rows.LoadSaidOwner t s word) w q e = absurd cc
 field_lately h (rows.Answered reply) w q e = absurd cc
 
-entered_quiet : (o : Option _) (t : ℕ) (k : Command) (g : _) (q : ℕ) → late_in (if_entered o t k g) q ≡ false
-entered_quiet None t k g q = refl
-entered_quiet (Some x) t k g q = first_quiet t k q
+begun_quiet : (t n : ℕ) (k : Command) (more : Bool) (cycle q : ℕ) → late_in (first_part t n k more cycle) q ≡ false
+begun_quiet t n k more cycle q = elim (cases_Bool (eqb (blocks_of k) 0)) [
+  | inl e ↦ rw e (first_quiet t k q)
+  | inr e ↦ rw e (by more)
+]
+  where
+    by : (b : Bool) → late_in (cond b (Mark (scanning t n cycle)) Count) q ≡ false
+    by true = refl
+    by false = refl
 
-pub part_lately : (h : Heap) (t : ℕ) (k : Command) (p : Part) (w q : ℕ) → late_in (part_got t k p w) q ≡ true → Lately h p w q
-part_lately h t k Rest w q e = no_way _ (entered_quiet _ t k _ q) e
-part_lately h t k (Enter g) w q e = no_way _ (entered_quiet _ t k _ q) e
-part_lately h t k (Serve f) w q e = field_lately h f w q e
-part_lately h t k Leave w q e = absurd cc
+entered_quiet : (o : Option _) (t n : ℕ) (k : Command) (more : Bool) (g : _) (q : ℕ) → late_in (if_entered o t n k more g) q ≡ false
+entered_quiet None t n k more g q = refl
+entered_quiet (Some x) t n k more g q = begun_quiet t n k more x.cycle q
+
+marked_quiet : (m : GreyState) (q : ℕ) → late_in (if_marked m) q ≡ false
+marked_quiet m q = by (grey_over m.row)
+  where
+    by : (b : Bool) → late_in (cond b Again (Mark m)) q ≡ false
+    by true = refl
+    by false = refl
+
+pub part_lately : (h : Heap) (t n : ℕ) (k : Command) (more : Bool) (p : Part) (w q : ℕ) → late_in (part_got t n k more p w) q ≡ true → Lately h p w q
+part_lately h t n k more Rest w q e = no_way _ (entered_quiet _ t n k more _ q) e
+part_lately h t n k more (Enter g) w q e = no_way _ (entered_quiet _ t n k more _ q) e
+part_lately h t n k more (Serve f) w q e = field_lately h f w q e
+part_lately h t n k more (Mark m) w q e = no_way _ (marked_quiet (grey_got m w) q) e
+part_lately h t n k more Count w q e = absurd cc
+part_lately h t n k more Again w q e = absurd cc
+part_lately h t n k more Leave w q e = absurd cc
 
 -- another thread's event leaves a register's word
 module _ (c : Config) (g : Graph) (m : ℕ) (K : Name → Type 0) (at : Name → ℕ → ℕ) (words : BlockWords) (late : ℕ → ℕ → Bool) (shows : Shows c.threads m K g at words late) (u q : ℕ) (ul : u < c.threads) (ql : q < 16) (h : Heap) (t : ℕ) (tl : t < c.threads) (other : t ≡ u → ⊥) where
@@ -148,32 +170,33 @@ module _ (c : Config) (g : Graph) (m : ℕ) (K : Name → Type 0) (at : Name →
   register_other s d e dl f = other (omega arith)
 
   field_frame : (f : FieldRow) → thread_of f ≡ t → FieldFits c f → LoadIs g at t (loading_of f) → heap_after h (field_want f) (PayloadOf (register_block u q) (q % 4)) ≡ h (PayloadOf (register_block u q) (q % 4))
-  field_frame (rows.StoreNumber s d v) e fits loads = stays_at _ _ _ (register_other s d e fits.1)
-  field_frame (rows.StoreNil s d) e fits loads = stays_at _ _ _ (register_other s d e fits.1)
-  field_frame (rows.LoadMoved s d r) e fits loads = refl
-  field_frame (rows.StoreMoved s d r word) e fits loads = stays_at _ _ _ (register_other s d e fits.1)
-  field_frame (rows.LoadObject s r access) e fits loads = refl
-  field_frame (rows.LoadShape s r x access) e fits loads = refl
-  field_frame (rows.LoadValue s walk v) e fits loads = refl
-  field_frame (rows.LoadLink s walk errand) e fits loads = refl
-  field_frame (rows.LoadField s walk d) e fits loads = refl
-  field_frame (rows.LoadOwner s d word) e fits loads = refl
-  field_frame (rows.StoreLate s d word value) e fits loads = stays_at _ _ _ (register_other s d e fits.1)
-  field_frame (rows.StoreField s walk v word) e fits loads = stays_at _ _ _ (object_apart (object_in (walk_load walk)) loads.object)
-  field_frame (rows.LoadFirst s a b) e fits loads = refl
-  field_frame (rows.LoadSecond s a b word) e fits loads = refl
-  field_frame (rows.LoadSaid s r) e fits loads = refl
-  field_frame (rows.LoadSaidOwner s r word) e fits loads = refl
-  field_frame (rows.Answered reply) e fits loads = refl
+  field_frame (rows.StoreNumber s d v) e inside loads = stays_at _ _ _ (register_other s d e inside.1)
+  field_frame (rows.StoreNil s d) e inside loads = stays_at _ _ _ (register_other s d e inside.1)
+  field_frame (rows.LoadMoved s d r) e inside loads = refl
+  field_frame (rows.StoreMoved s d r word) e inside loads = stays_at _ _ _ (register_other s d e inside.1)
+  field_frame (rows.LoadObject s r access) e inside loads = refl
+  field_frame (rows.LoadShape s r x access) e inside loads = refl
+  field_frame (rows.LoadValue s walk v) e inside loads = refl
+  field_frame (rows.LoadLink s walk errand) e inside loads = refl
+  field_frame (rows.LoadField s walk d) e inside loads = refl
+  field_frame (rows.LoadOwner s d word) e inside loads = refl
+  field_frame (rows.StoreLate s d word value) e inside loads = stays_at _ _ _ (register_other s d e inside.1)
+  field_frame (rows.StoreField s walk v word) e inside loads = stays_at _ _ _ (object_apart (object_in (walk_load walk)) loads.object)
+  field_frame (rows.LoadFirst s a b) e inside loads = refl
+  field_frame (rows.LoadSecond s a b word) e inside loads = refl
+  field_frame (rows.LoadSaid s r) e inside loads = refl
+  field_frame (rows.LoadSaidOwner s r word) e inside loads = refl
+  field_frame (rows.Answered reply) e inside loads = refl
 
   pub part_frame : (k : Command) (done all : ℕ) (p : Part) → PartKept g t k p → PartFits c done all p → LoadIs g at t (loading p) → heap_after h (part_want p) (PayloadOf (register_block u q) (q % 4)) ≡ h (PayloadOf (register_block u q) (q % 4))
   part_frame k done all Rest stands fits loads = refl
   part_frame k done all (Enter gates.Look) stands fits loads = refl
   part_frame k done all (Enter (gates.Enter seen)) stands fits loads = elim (cases_Bool (eqb (h Phase) seen)) [ inl e ↦ rw e refl | inr e ↦ rw e refl ]
-  part_frame k done all (Enter (gates.Entered seen)) stands fits loads = refl
-  part_frame k done all (Enter gates.Leave) stands fits loads = refl
-  part_frame k done all (Enter gates.Left) stands fits loads = refl
+  part_frame k done all (Enter _) stands fits loads = absurd stands
   part_frame k done all (Serve f) stands fits loads = field_frame f stands.thread fits.0 loads
+  part_frame k done all (Mark m) stands fits loads = ap (λ (w : BlockWords). w.payload (register_block u q) (q % 4)) (mark_words h m.thread m.threads m.cycle m.row)
+  part_frame k done all Count stands fits loads = refl
+  part_frame k done all Again stands fits loads = refl
   part_frame k done all Leave stands fits loads = refl
 
 cond_no : {A : Type 0} (b : Bool) (x y : A) → b ≡ false → cond b x y ≡ y
@@ -186,9 +209,9 @@ cond_yes b x y e = rw e refl
 abbrev pub AllOlder : Config → Run → Type 0
 AllOlder c r = (u q : ℕ) → u < c.threads → q < 16 → late_in (local_at c r.state u).part q ≡ true → IsOlder c r u q
 
-others_none : (c : Config) (order : List HistoryItem) (t u : ℕ) (k : Command) (b : Bool) → (t ≡ u → ⊥) → part u (cond b (entry_decided c t k order ∷ []) []) ≡ []
-others_none c order t u k true n = ap (λ x. cond x (entry_of t k (step (replay c order) t k).1 ∷ []) []) (ne_eqb t u n)
-others_none c order t u k false n = refl
+others_none : (c : Config) (order : List HistoryItem) (t u : ℕ) (k : Command) (work : ℕ) (b : Bool) → (t ≡ u → ⊥) → part u (cond b (entry_decided c t k work order ∷ []) []) ≡ []
+others_none c order t u k work true n = ap (λ x. cond x (entry_of t k work (reply_decided (replay c order) t k) ∷ []) []) (ne_eqb t u n)
+others_none c order t u k work false n = refl
 
 module _ (c : Config) (traces : List (List Command)) (bounds : IsInBounds c) (plan : IsAdmitted c) (r : Run) (kept : Kept c traces r) (t : ℕ) (tl : t < c.threads) (going : is_done (local_at c r.state t) ≡ false) (all : AllOlder c r) where
   abbrev word_here : ℕ
@@ -198,7 +221,7 @@ module _ (c : Config) (traces : List (List Command)) (bounds : IsInBounds c) (pl
   deciding = decides (local_at c r.state t).part word_here
 
   abbrev after : Run
-  after = record { state = event_done c t r.state; order = r.order ++ cond deciding (entry_decided c t (command_of (local_at c r.state t)) r.order ∷ []) [] }
+  after = record { state = event_done c t r.state; order = r.order ++ cond deciding (entry_decided c t (command_of (local_at c r.state t)) (local_at c r.state t).paid r.order ∷ []) [] }
 
   older_other : (u q : ℕ) → u < c.threads → q < 16 → (t ≡ u → ⊥) → late_in (local_at c (event_done c t r.state) u).part q ≡ true → IsOlder c after u q
   older_other u q ul ql n late =
@@ -207,10 +230,10 @@ module _ (c : Config) (traces : List (List Command)) (bounds : IsInBounds c) (pl
       record {
         before = o.before;
         entry = o.entry;
-        behind = o.behind ++ cond deciding (entry_decided c t (command_of (local_at c r.state t)) r.order ∷ []) [];
-        split = ap (λ x. x ++ cond deciding (entry_decided c t (command_of (local_at c r.state t)) r.order ∷ []) []) o.split ∙ append_assoc o.before (Did o.entry ∷ o.behind) _;
+        behind = o.behind ++ cond deciding (entry_decided c t (command_of (local_at c r.state t)) (local_at c r.state t).paid r.order ∷ []) [];
+        split = ap (λ x. x ++ cond deciding (entry_decided c t (command_of (local_at c r.state t)) (local_at c r.state t).paid r.order ∷ []) []) o.split ∙ append_assoc o.before (Did o.entry ∷ o.behind) _;
         own = o.own;
-        others = part_append u o.behind _ ∙ ap (λ x. x ++ part u (cond deciding (entry_decided c t (command_of (local_at c r.state t)) r.order ∷ []) [])) o.others ∙ others_none c r.order t u _ deciding n;
+        others = part_append u o.behind _ ∙ ap (λ x. x ++ part u (cond deciding (entry_decided c t (command_of (local_at c r.state t)) (local_at c r.state t).paid r.order ∷ []) [])) o.others ∙ others_none c r.order t u _ _ deciding n;
         word = ap (λ h. h (PayloadOf (register_block u q) (q % 4))) (heap_new c traces bounds plan r kept t tl going)
             ∙ part_frame c (replay c r.order) (opening_last c) (every_name (start_graph c)) (opening_at c.threads) (block_words (heap_in c r.state)) (lates (loads_in c r.state)) kept.shown.shows u q ul ql (heap_in c r.state) t tl n
             (command_of (local_at c r.state t)) _ _ (local_at c r.state t).part (kept.locals t tl).stands (fits c traces bounds plan r kept t tl) (kept.shown.loads t tl)
@@ -220,16 +243,16 @@ module _ (c : Config) (traces : List (List Command)) (bounds : IsInBounds c) (pl
   older_self : (q : ℕ) → q < 16 → late_in (local_at c (event_done c t r.state) t).part q ≡ true → IsOlder c after t q
   older_self q ql late =
       let same = local_new c traces bounds plan r kept t tl going t ∙ cond_yes _ _ _ (eq-eqb t t refl) in
-      let l : Lately (heap_in c r.state) (local_at c r.state t).part word_here q = part_lately (heap_in c r.state) t (command_of (local_at c r.state t)) (local_at c r.state t).part word_here q (sym (ap (λ (l : LocalState). late_in l.part q) same) ∙ late) in
+      let l : Lately (heap_in c r.state) (local_at c r.state t).part word_here q = part_lately (heap_in c r.state) t c.threads (command_of (local_at c r.state t)) (owes (local_at c r.state t)) (local_at c r.state t).part word_here q (sym (ap (λ (l : LocalState). late_in l.part q) same) ∙ late) in
       let still = ap (λ h. h (PayloadOf (register_block t q) (q % 4))) (heap_new c traces bounds plan r kept t tl going ∙ l.reads) in
       elim l.how [
         | inl d ↦
             let shown = kept.shown.shows.registers.holds t q tl ql in
             record {
               before = r.order;
-              entry = entry_of t (command_of (local_at c r.state t)) (step (replay c r.order) t (command_of (local_at c r.state t))).1;
+              entry = entry_of t (command_of (local_at c r.state t)) (local_at c r.state t).paid (reply_decided (replay c r.order) t (command_of (local_at c r.state t)));
               behind = [];
-              split = ap (λ x. r.order ++ cond x (entry_decided c t (command_of (local_at c r.state t)) r.order ∷ []) []) d.0;
+              split = ap (λ x. r.order ++ cond x (entry_decided c t (command_of (local_at c r.state t)) (local_at c r.state t).paid r.order ∷ []) []) d.0;
               own = refl;
               others = refl;
               word = still ∙ shown.reads ∙ ap (value_word (heads (opening_at c.threads))) (shown.now d.1);
@@ -240,7 +263,7 @@ module _ (c : Config) (traces : List (List Command)) (bounds : IsInBounds c) (pl
               before = o.before;
               entry = o.entry;
               behind = o.behind;
-              split = ap (λ x. r.order ++ cond x (entry_decided c t (command_of (local_at c r.state t)) r.order ∷ []) []) d.0 ∙ append-nil r.order ∙ o.split;
+              split = ap (λ x. r.order ++ cond x (entry_decided c t (command_of (local_at c r.state t)) (local_at c r.state t).paid r.order ∷ []) []) d.0 ∙ append-nil r.order ∙ o.split;
               own = o.own;
               others = o.others;
               word = still ∙ o.word;
@@ -259,8 +282,8 @@ turn_older c traces job r kept t all = elim (cases_lt t c.threads) [
     | inl done ↦ nothing (rw (lt-ltb t c.threads tl, done) refl)
     | inr going ↦
         let some : has_event c t r.state ≡ true = rw (lt-ltb t c.threads tl, going) refl in
-        subst (λ x. AllOlder c (record { state = cond x (event_done c t r.state) r.state; order = r.order ++ cond x (cond (decides (local_at c r.state t).part (word_read c r.state (local_at c r.state t))) (entry_decided c t (command_of (local_at c r.state t)) r.order ∷ []) []) [] })) (sym some)
-        (subst (λ w. AllOlder c (record { state = event_done c t r.state; order = r.order ++ cond (decides (local_at c r.state t).part w) (entry_decided c t (command_of (local_at c r.state t)) r.order ∷ []) [] })) (sym (word_is c traces job.bounds job.plan r kept t tl))
+        subst (λ x. AllOlder c (record { state = cond x (event_done c t r.state) r.state; order = r.order ++ cond x (cond (decides (local_at c r.state t).part (word_read c r.state (local_at c r.state t))) (entry_decided c t (command_of (local_at c r.state t)) (local_at c r.state t).paid r.order ∷ []) []) [] })) (sym some)
+        (subst (λ w. AllOlder c (record { state = event_done c t r.state; order = r.order ++ cond (decides (local_at c r.state t).part w) (entry_decided c t (command_of (local_at c r.state t)) (local_at c r.state t).paid r.order ∷ []) [] })) (sym (word_is c traces job.bounds job.plan r kept t tl))
         (event_older c traces job.bounds job.plan r kept t tl going all))
   ]
   | inr out ↦ nothing (rw (le-ltb t c.threads out) refl)
@@ -268,7 +291,7 @@ turn_older c traces job r kept t all = elim (cases_lt t c.threads) [
   where
     nothing : has_event c t r.state ≡ false → AllOlder c (next c t r)
     nothing none =
-        subst (λ x. AllOlder c (record { state = cond x (event_done c t r.state) r.state; order = r.order ++ cond x (cond (decides (local_at c r.state t).part (word_read c r.state (local_at c r.state t))) (entry_decided c t (command_of (local_at c r.state t)) r.order ∷ []) []) [] })) (sym none)
+        subst (λ x. AllOlder c (record { state = cond x (event_done c t r.state) r.state; order = r.order ++ cond x (cond (decides (local_at c r.state t).part (word_read c r.state (local_at c r.state t))) (entry_decided c t (command_of (local_at c r.state t)) (local_at c r.state t).paid r.order ∷ []) []) [] })) (sym none)
         (subst (λ o. AllOlder c (record { state = r.state; order = o })) (sym (append-nil r.order)) all)
 
 turns_older : (c : Config) (traces : List (List Command)) → IsJob c traces → (ts : List ℕ) (r : Run) → Kept c traces r → AllOlder c r → AllOlder c (after_turns c r ts)

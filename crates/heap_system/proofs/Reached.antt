@@ -4,26 +4,38 @@ use Rattle.std.proofs.lemmas.Bool.{cases_lt, and_parts}
 use Rattle.std.proofs.lemmas.List.{get_or_default, get_or_past, map-append, length-map}
 use Rattle.std.proofs.Math.Seq.{take-length}
 use Rattle.block_store.specs.declared.Config.{Config}
-use Rattle.block_store.specs.Places.{extent}
+use Rattle.block_store.specs.Places.{extent, words_count}
 use Rattle.never_heap.specs.declared.Command.{Command}
 use Rattle.never_heap.specs.declared.Entry.{Entry}
 use Rattle.never_heap.specs.Histories.{HistoryItem, replay, part, parts_from}
 use Rattle.heap_machine.specs.Operations.{op_at, op_place, words_after, SumFits}
 use Rattle.heap_machine.specs.declared.Op.{Op}
 use Rattle.heap_system.specs.declared.local.Part.{Part}
-use Rattle.heap_system.specs.declared.local.Part.TheVariants.{Rest, Enter, Serve, Leave}
+use Rattle.heap_system.specs.declared.local.Part.TheVariants.{Rest, Enter, Serve, Mark, Count, Again, Leave}
 use Rattle.heap_system.specs.declared.Turn.{Turn}
-use Rattle.heap_system.specs.Locals.{LocalState, IsTrace, command_of, entries_of, is_rest, is_done, part_want, part_step, turn_of, local_got, at_start, PartReads}
+use Rattle.heap_system.specs.Locals.{LocalState, IsTrace, works, command_of, owed, entries_of, is_rest, is_done, part_want, part_step, turn_of, local_got, at_start, PartReads}
 use Rattle.heap_system.specs.Machines.{State, no_local, local_at, word_read, event_done, has_event, turned, answer, Run, next, after_turns, IsJob, IsOpening, starts_from, opened, IsRunOf}
 use Rattle.heap_system.specs.Pictures.{waiting}
-use Rattle.heap_system.specs.Systems.{traces_of, logs_of, AllDone, IsReached, IsFinished}
-use Rattle.heap_system.proofs.Kept.{Kept}
+use Rattle.heap_system.specs.Systems.{Whole, traces_of, logs_of, units_of, AllDone, IsReached, IsFinished}
+use Rattle.heap_system.specs.Units.{units_made}
+use Rattle.rate_plan.specs.Rates.{IsRate, IsAdmitted}
+use Rattle.rate_plan.proofs.Plans.{found}
+use Rattle.heap_system.proofs.Kept.{Kept, IsSettled}
 use Rattle.heap_system.proofs.Turning.{cell, sums, reads}
 use Rattle.heap_system.proofs.Always.{length_starts, run_kept}
+use Rattle.heap_system.proofs.Making.{run_makes}
 
 -- what is kept of a reached state
 pub reached_kept : (c : Config) (s : State) (k : IsReached c s) → Kept c (traces_of s) (record { state = s; order = k.run.order })
 reached_kept c s k = subst (λ x. Kept c (traces_of s) (record { state = x; order = k.run.order })) (sym k.state) (run_kept c (traces_of s) k.turns k.run k.job k.by_turns)
+
+-- a place of the configuration's heap has a word
+pub place_low : (c : Config) (s : State) → IsReached c s → (w : Whole) → record { config = c; state = s } ≡ w → (place : ℕ) → place < words_count (extent w.config) → place < length s.words
+place_low c s k w is place low = let all : place < words_count (extent c) = subst (λ (v : Whole). place < words_count (extent v.config)) (sym is) low in omega (arith, all, (reached_kept c s k).long)
+
+-- there is one rate
+pub one_rate : (c : Config) (p q : ℕ) → IsRate c p → IsRate c q → p ≡ q
+one_rate c p q a b = let low = a.least q b.some b.enough in let high = b.least p a.some a.enough in omega arith
 
 -- what the code of a turn reads of its thread
 pub record TurnFacts (c : Config) (s : State) (t : ℕ) (l : LocalState) : Type 0 where
@@ -52,7 +64,7 @@ traces_stay [] t l d e = refl
 traces_stay (x ∷ ls) zero l d e = ap (λ k. k ∷ map (λ (x : LocalState). x.trace) ls) e
 traces_stay (x ∷ ls) (suc t) l d e = ap (λ ks. x.trace ∷ ks) (traces_stay ls t l d e)
 
-turned_traces : (c : Config) (t : ℕ) (s : State) → traces_of (turned c t s) ≡ traces_of s
+pub turned_traces : (c : Config) (t : ℕ) (s : State) → traces_of (turned c t s) ≡ traces_of s
 turned_traces c t s = by (has_event c t s)
   where
     by : (b : Bool) → traces_of (cond b (event_done c t s) s) ≡ traces_of s
@@ -120,6 +132,9 @@ pub rest_is : (p : Part) → is_rest p ≡ true → p ≡ Rest
 rest_is Rest e = refl
 rest_is (Enter g) e = absurd cc
 rest_is (Serve f) e = absurd cc
+rest_is (Mark g) e = absurd cc
+rest_is Count e = absurd cc
+rest_is Again e = absurd cc
 rest_is Leave e = absurd cc
 
 logs_are : (ls : List LocalState) (t : ℕ) (order : List HistoryItem) (d : LocalState) → ((i : ℕ) → i < length ls → part (t + i) order ≡ (get_or ls i d).log) → map (λ (l : LocalState). l.log) ls ≡ parts_from t (length ls) order
@@ -128,6 +143,11 @@ logs_are (l ∷ ls) t order d each =
     let first : t + 0 ≡ t = omega arith in
     ap (λ x. x ∷ map (λ (l : LocalState). l.log) ls) (sym (each 0 (omega arith)) ∙ ap (λ u. part u order) first)
     ∙ ap (λ xs. part t order ∷ xs) (logs_are ls (t + 1) order d (λ i low. (let e : t + 1 + i ≡ t + suc i = omega arith in ap (λ u. part u order) e ∙ each (suc i) (omega arith))))
+
+log_at : (ls : List LocalState) (t : ℕ) (d : LocalState) → get_or (map (λ (l : LocalState). l.log) ls) t d.log ≡ (get_or ls t d).log
+log_at [] t d = refl
+log_at (l ∷ ls) zero d = refl
+log_at (l ∷ ls) (suc t) d = log_at ls t d
 
 -- a reached state in which all threads are done is finished
 pub all_done : (c : Config) (s : State) (k : IsReached c s) → AllDone c s → IsFinished c (traces_of s) (logs_of s)
@@ -142,7 +162,8 @@ all_done c s k done = record {
   legal = kept.legal;
   traces_whole = whole;
   one_start = kept.counts.0;
-  no_work = kept.counts.1;
+  made = made;
+  works = kept.counts.1;
 }
   where
     kept : Kept c (traces_of s) (record { state = s; order = k.run.order })
@@ -151,7 +172,15 @@ all_done c s k done = record {
     logged : (t : ℕ) → t < c.threads → part t k.run.order ≡ (local_at c s t).log
     logged t tl =
         let d = and_parts (is_rest (local_at c s t).part) (eqb (length (local_at c s t).log) (length (local_at c s t).trace)) (done t tl) in
-        (kept.locals t tl).told ∙ ap (λ p. (local_at c s t).log ++ entries_of (local_at c s t).thread (command_of (local_at c s t)) (waiting (replay c k.run.order) p)) (rest_is (local_at c s t).part d.0) ∙ append-nil (local_at c s t).log
+        (kept.locals t tl).told ∙ ap (λ p. (local_at c s t).log ++ entries_of (local_at c s t).thread (command_of (local_at c s t)) (local_at c s t).paid (waiting (replay c k.run.order) p)) (rest_is (local_at c s t).part d.0) ∙ append-nil (local_at c s t).log
+
+    made : (t : ℕ) → t < c.threads → works (get_or (logs_of s) t []) ≡ units_made c t (opened k.by_turns.first) k.turns
+    made t tl =
+        let d = and_parts (is_rest (local_at c s t).part) (eqb (length (local_at c s t).log) (length (local_at c s t).trace)) (done t tl) in
+        let settled : IsSettled (owed (local_at c s t)) (local_at c s t).paid (local_at c s t).waived Rest = subst (λ p. IsSettled (owed (local_at c s t)) (local_at c s t).paid (local_at c s t).waived p) (rest_is (local_at c s t).part d.0) (kept.locals t tl).settled in
+        let paid : (local_at c k.run.state t).paid ≡ 0 = ap (λ x. (local_at c x t).paid) (sym k.state) ∙ settled.0 in
+        let log : works (get_or (logs_of s) t []) ≡ works (part t k.run.order) = ap works (log_at s.locals t (no_local c) ∙ sym (logged t tl)) in
+        log ∙ omega (arith, paid, run_makes c (traces_of s) k.turns k.run k.job k.by_turns t tl)
 
     whole : (t : ℕ) → map (λ (e : Entry). e.command) (part t k.run.order) ≡ get_or (traces_of s) t []
     whole t = elim (cases_lt t c.threads) [
@@ -161,34 +190,41 @@ all_done c s k done = record {
       | inr out ↦ ap (map (λ (e : Entry). e.command)) (kept.foreign t out) ∙ sym (get_or_past (traces_of s) t [] (omega (arith, k.job.count)))
     ]
 
-starts_more : (c : Config) (t : ℕ) (traces : List (List Command)) (trace : List Command) → starts_from c t (traces ++ trace ∷ []) ≡ starts_from c t traces ++ at_start c (t + length traces) trace ∷ []
-starts_more c t [] trace = let e : t ≡ t + 0 = omega arith in ap (λ u. at_start c u trace ∷ []) e
-starts_more c t (x ∷ traces) trace =
+starts_more : (c : Config) (rate t : ℕ) (traces : List (List Command)) (trace : List Command) → starts_from c rate t (traces ++ trace ∷ []) ≡ starts_from c rate t traces ++ at_start c rate (t + length traces) trace ∷ []
+starts_more c rate t [] trace = let e : t ≡ t + 0 = omega arith in ap (λ u. at_start c rate u trace ∷ []) e
+starts_more c rate t (x ∷ traces) trace =
     let e : t + 1 + length traces ≡ t + suc (length traces) = omega arith in
-    ap (λ ls. at_start c t x ∷ ls) (starts_more c (t + 1) traces trace ∙ ap (λ u. starts_from c (t + 1) traces ++ at_start c u trace ∷ []) e)
+    ap (λ ls. at_start c rate t x ∷ ls) (starts_more c rate (t + 1) traces trace ∙ ap (λ u. starts_from c rate (t + 1) traces ++ at_start c rate u trace ∷ []) e)
 
-starts_traces : (c : Config) (t : ℕ) (traces : List (List Command)) → map (λ (l : LocalState). l.trace) (starts_from c t traces) ≡ traces
-starts_traces c t [] = refl
-starts_traces c t (x ∷ traces) = ap (λ xs. x ∷ xs) (starts_traces c (t + 1) traces)
+starts_traces : (c : Config) (rate t : ℕ) (traces : List (List Command)) → map (λ (l : LocalState). l.trace) (starts_from c rate t traces) ≡ traces
+starts_traces c rate t [] = refl
+starts_traces c rate t (x ∷ traces) = ap (λ xs. x ∷ xs) (starts_traces c rate (t + 1) traces)
+
+-- the threads are those of these traces at rest, with the rate of the configuration
+abbrev pub AllStart : Config → List LocalState → List (List Command) → Type 0
+AllStart c ls traces = (rate : ℕ) → IsRate c rate → ls ≡ starts_from c rate 0 traces
 
 -- one thread more
-pub thread_more : {V : Type 0} (f : V → List Command) (c : Config) (ls : List LocalState) (xs : List V) (x : V) (l : LocalState) → ls ≡ starts_from c 0 (map f xs) → l ≡ at_start c (length ls) (f x) → ls ++ l ∷ [] ≡ starts_from c 0 (map f (xs ++ x ∷ []))
-thread_more f c ls xs x l is new =
-    let long : length ls ≡ 0 + length (map f xs) = ap length is ∙ length_starts c 0 (map f xs) ∙ omega arith in
-    ap (λ y. ls ++ y ∷ []) (new ∙ ap (λ n. at_start c n (f x)) long) ∙ ap (λ ys. ys ++ at_start c (0 + length (map f xs)) (f x) ∷ []) is ∙ sym (starts_more c 0 (map f xs) (f x)) ∙ ap (starts_from c 0) (sym (map-append f xs (x ∷ [])))
+pub thread_more : {V : Type 0} (f : V → List Command) (c : Config) (rate : ℕ) (ls : List LocalState) (xs : List V) (x : V) (l : LocalState) → ls ≡ starts_from c rate 0 (map f xs) → l ≡ at_start c rate (length ls) (f x) → ls ++ l ∷ [] ≡ starts_from c rate 0 (map f (xs ++ x ∷ []))
+thread_more f c rate ls xs x l is new =
+    let long : length ls ≡ 0 + length (map f xs) = ap length is ∙ length_starts c rate 0 (map f xs) ∙ omega arith in
+    ap (λ y. ls ++ y ∷ []) (new ∙ ap (λ n. at_start c rate n (f x)) long) ∙ ap (λ ys. ys ++ at_start c rate (0 + length (map f xs)) (f x) ∷ []) is ∙ sym (starts_more c rate 0 (map f xs) (f x)) ∙ ap (starts_from c rate 0) (sym (map-append f xs (x ∷ [])))
 
-pub threads_long : {V : Type 0} (f : V → List Command) (c : Config) (ls : List LocalState) (xs : List V) → ls ≡ starts_from c 0 (map f xs) → length ls ≡ length xs
-threads_long f c ls xs is = ap length is ∙ length_starts c 0 (map f xs) ∙ length-map xs f
+pub threads_long : {V : Type 0} (f : V → List Command) (c : Config) (ls : List LocalState) (xs : List V) → AllStart c ls (map f xs) → IsAdmitted c → length ls ≡ length xs
+threads_long f c ls xs all plan = let rate = found c plan in ap length (all rate.0 rate.1) ∙ length_starts c rate.0 0 (map f xs) ∙ length-map xs f
 
 -- the trace in the middle
 pub at_middle : {V : Type 0} (f : V → List Command) (xs ys : List V) (x : V) → get_or (map f (xs ++ x ∷ ys)) (length xs) [] ≡ f x
 at_middle f [] ys x = refl
 at_middle f (z ∷ xs) ys x = at_middle f xs ys x
 
+pub opened_traces : (c : Config) (traces : List (List Command)) (s : State) → IsOpening c traces s → traces_of s ≡ traces
+opened_traces c traces s start = ap (map (λ (l : LocalState). l.trace)) start.locals ∙ starts_traces c start.rate 0 traces
+
 -- the opening is reached by no turn
 pub opened_reached : (c : Config) (traces : List (List Command)) (s : State) → IsJob c traces → IsOpening c traces s → IsReached c s
 opened_reached c traces s job start =
-    let same : traces_of s ≡ traces = ap (map (λ (l : LocalState). l.trace)) start.locals ∙ starts_traces c 0 traces in
+    let same : traces_of s ≡ traces = opened_traces c traces s start in
     record {
       job = subst (λ x. IsJob c x) (sym same) job;
       turns = [];
@@ -198,12 +234,12 @@ opened_reached c traces s job start =
     }
 
 -- what is so of the trace x, where those of ys have their threads and zs are left
-module _ {V : Type 0} (f : V → List Command) (c : Config) (all ys rest zs : List V) (x : V) (ls : List LocalState) (n : ℕ) (job : IsJob c (map f all)) (split : ys ++ rest ≡ all) (steps : rest ≡ x ∷ zs) (so_far : ls ≡ starts_from c 0 (map f ys)) (long : n ≡ length ls) where
+module _ {V : Type 0} (f : V → List Command) (c : Config) (all ys rest zs : List V) (x : V) (ls : List LocalState) (n : ℕ) (job : IsJob c (map f all)) (split : ys ++ rest ≡ all) (steps : rest ≡ x ∷ zs) (so_far : AllStart c ls (map f ys)) (long : n ≡ length ls) where
   whole_is : ys ++ (x ∷ zs) ≡ all
   whole_is = sym (ap (λ r. ys ++ r) steps) ∙ split
 
   number : n ≡ length ys
-  number = long ∙ threads_long f c ls ys so_far
+  number = long ∙ threads_long f c ls ys so_far job.plan
 
   pub number_low : n < c.threads
   number_low =
@@ -216,3 +252,14 @@ module _ {V : Type 0} (f : V → List Command) (c : Config) (all ys rest zs : Li
 
   pub splits_on : (ys ++ x ∷ []) ++ zs ≡ all
   splits_on = append_assoc ys (x ∷ []) zs ∙ whole_is
+
+-- one log more
+units_suc : (ls : List LocalState) (i : ℕ) (d : LocalState) → i < length ls → units_of (map (λ (l : LocalState). l.log) (take (suc i) ls)) ≡ units_of (map (λ (l : LocalState). l.log) (take i ls)) + works (get_or ls i d).log
+units_suc [] i d low = absurd (omega arith)
+units_suc (l ∷ ls) zero d low = omega arith
+units_suc (l ∷ ls) (suc i) d low = omega (arith, units_suc ls i d (omega arith))
+
+pub units_at : (ls : List LocalState) (i : ℕ) (l : LocalState) → i < length ls → l ≡ get_or ls i l → units_of (map (λ (x : LocalState). x.log) (take (i + 1) ls)) ≡ units_of (map (λ (x : LocalState). x.log) (take i ls)) + works l.log
+units_at ls i l low is =
+    let e : i + 1 ≡ suc i = omega arith in
+    ap (λ n. units_of (map (λ (x : LocalState). x.log) (take n ls))) e ∙ units_suc ls i l low ∙ ap (λ (x : LocalState). units_of (map (λ (y : LocalState). y.log) (take i ls)) + works x.log) (sym is)

@@ -1,13 +1,16 @@
 -- Which turns wait.
-use Rattle.std.proofs.Common.{◌≡◌, ℕ, true, cond, eqb, ltb, Option, Some, None, refl, inl, inr}
+use Rattle.std.proofs.Common.{◌≡◌, ℕ, Bool, true, false, cond, eqb, ltb, Option, Some, None, refl, inl, inr}
 use Rattle.std.proofs.lemmas.Bool.{cases_Bool}
 use Rattle.block_store.specs.declared.Config.{Config}
 use Rattle.block_store.specs.Phases.{is_closed}
 use Rattle.never_heap.specs.declared.Reply.{Reply}
+use Rattle.heap_machine.specs.Gates.{is_of_pass, is_empty}
 use Rattle.heap_machine.specs.declared.gate.GateRow.TheVariants as gates
+use Rattle.heap_machine.specs.declared.Step.TheVariants.{Over, Went}
+use Rattle.grey_steps.specs.Rows.{grey_got, grey_over}
 use Rattle.barrier_steps.specs.Rows.{field_got, field_reply, step_of}
 use Rattle.heap_system.specs.declared.local.Part.{Part}
-use Rattle.heap_system.specs.declared.local.Part.TheVariants.{Rest, Enter, Serve, Leave}
+use Rattle.heap_system.specs.declared.local.Part.TheVariants.{Rest, Enter, Serve, Mark, Count, Again, Leave}
 use Rattle.heap_system.specs.declared.Turn.TheVariants as turns
 use Rattle.heap_system.specs.Locals.{is_done, part_step, turn_of, waits}
 use Rattle.heap_system.specs.Machines.{State, local_at, turned}
@@ -16,6 +19,10 @@ serves : (o : Option Reply) → turn_of (step_of o) ≡ turns.Went
 serves None = refl
 serves (Some r) = refl
 
+marks : (b : Bool) → turn_of (cond b Over Went) ≡ turns.Went
+marks true = refl
+marks false = refl
+
 pub part_waits : (p : Part) (w : ℕ) → turn_of (part_step p w) ≡ cond (waits p w) turns.Waited turns.Went
 part_waits Rest w = elim (cases_Bool (is_closed w)) [ inl e ↦ rw e refl | inr e ↦ rw e refl ]
 part_waits (Enter gates.Look) w = elim (cases_Bool (is_closed w)) [ inl e ↦ rw e refl | inr e ↦ rw e refl ]
@@ -23,7 +30,21 @@ part_waits (Enter (gates.Enter seen)) w = elim (cases_Bool (eqb w seen)) [ inl e
 part_waits (Enter (gates.Entered seen)) w = refl
 part_waits (Enter gates.Leave) w = refl
 part_waits (Enter gates.Left) w = refl
+part_waits (Enter (gates.CloseLook p)) w = elim (cases_Bool (is_of_pass p w)) [
+  | inl of ↦ elim (cases_Bool (is_empty w)) [ inl e ↦ rw (of, e) refl | inr e ↦ rw (of, e) refl ]
+  | inr other ↦ rw other refl
+]
+part_waits (Enter (gates.Close p seen)) w = elim (cases_Bool (eqb w seen)) [ inl e ↦ rw e refl | inr e ↦ rw e refl ]
+part_waits (Enter (gates.CheckList p u)) w = refl
+part_waits (Enter (gates.SetCursor p)) w = refl
+part_waits (Enter (gates.Flip p)) w = refl
+part_waits (Enter (gates.Reopen p)) w = refl
+part_waits (Enter gates.TurnedOver) w = refl
+part_waits (Enter gates.KeptOut) w = refl
 part_waits (Serve f) w = serves (field_reply (field_got f w))
+part_waits (Mark g) w = marks (grey_over (grey_got g w).row)
+part_waits Count w = refl
+part_waits Again w = refl
 part_waits Leave w = refl
 
 pub done_stays : (c : Config) (t : ℕ) (s : State) → is_done (local_at c s t) ≡ true → turned c t s ≡ s

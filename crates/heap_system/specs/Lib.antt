@@ -3,3 +3,4 @@ pub mod Locals
 pub mod Machines
 pub mod Pictures
 pub mod Systems
+pub mod Units

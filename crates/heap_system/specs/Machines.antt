@@ -1,13 +1,16 @@
 -- The words and all threads, what a turn of a thread makes of them, and the order that a list of turns has: its commands and starts as they were decided.
-use Rattle.std.specs.Prelude.{ℕ, ◌+◌, ◌++◌, ◌<◌, ◌≡◌, true, false, not, nat_lt, if◌then◌else◌, Bool, List, [], ◌∷◌, length, slice_index, slice_index_or, slice_set}
+use Rattle.std.specs.Prelude.{ℕ, ◌+◌, ◌==◌, ◌++◌, ◌<◌, ◌≡◌, true, false, not, nat_lt, if◌then◌else◌, Bool, List, [], ◌∷◌, length, slice_index, slice_index_or, slice_set}
 use Rattle.block_store.specs.declared.Config.{Config}
 use Rattle.block_store.specs.Configs.{IsInBounds}
 use Rattle.block_store.specs.Heaps.{heap_of}
 use Rattle.block_store.specs.Places.{Place, extent, in_range, words_count}
-use Rattle.rate_plan.specs.Rates.{IsAdmitted}
+use Rattle.rate_plan.specs.Rates.{IsRate, IsAdmitted}
 use Rattle.never_heap.specs.declared.Command.{Command}
+use Rattle.never_heap.specs.declared.Reply.{Reply}
+use Rattle.never_heap.specs.declared.Reply.TheVariants.{Full}
+use Rattle.never_heap.specs.Graphs.{Graph}
 use Rattle.never_heap.specs.Histories.{HistoryItem, Started, Did, replay}
-use Rattle.never_heap.specs.Steps.{step}
+use Rattle.never_heap.specs.Steps.{step, blocks_of}
 use Rattle.heap_machine.specs.Operations.{op_at, op_place, words_after}
 use Rattle.heap_system.specs.declared.local.Part.TheVariants.{Leave}
 use Rattle.heap_system.specs.declared.Turn.{Turn}
@@ -22,7 +25,7 @@ pub record State : Type 0 where
 
 -- a thread that there is not
 abbrev pub no_local : Config → LocalState
-no_local c = record { config = c; thread = c.threads; trace = []; log = []; part = Leave }
+no_local c = record { config = c; rate = 0; thread = c.threads; trace = []; log = []; paid = 0; waived = false; part = Leave }
 
 abbrev pub local_at : Config → State → ℕ → LocalState
 local_at c s t = slice_index_or s.locals t (no_local c)
@@ -49,15 +52,19 @@ turned c t s = if has_event c t s then event_done c t s else s
 abbrev pub answer : Config → ℕ → State → Turn
 answer c t s = if is_done (local_at c s t) then Done else turn_of (part_step (local_at c s t).part (word_read c s (local_at c s t)))
 
--- the command of thread t takes its place in an order, with the reply that the heap that never frees gives there
-abbrev pub entry_decided : Config → ℕ → Command → List HistoryItem → HistoryItem
-entry_decided c t k order = Did (entry_of t k (step (replay c order) t k).1)
+-- the reply with which a command is decided: an allocation is answered full, and any other command as the heap that never frees answers it there
+abbrev pub reply_decided : Graph → ℕ → Command → Reply
+reply_decided g t k = if blocks_of k == 0 then (step g t k).1 else Full 1
+
+-- the command of thread t takes its place in an order, with the units made for it
+abbrev pub entry_decided : Config → ℕ → Command → ℕ → List HistoryItem → HistoryItem
+entry_decided c t k work order = Did (entry_of t k work (reply_decided (replay c order) t k))
 
 -- what a turn of thread t adds to an order: an entry, where its event decides a command
 abbrev pub decided : Config → ℕ → State → List HistoryItem → List HistoryItem
 decided c t s order =
     if has_event c t s
-    then (if decides (local_at c s t).part (word_read c s (local_at c s t)) then entry_decided c t (command_of (local_at c s t)) order ∷ [] else [])
+    then (if decides (local_at c s t).part (word_read c s (local_at c s t)) then entry_decided c t (command_of (local_at c s t)) (local_at c s t).paid order ∷ [] else [])
     else []
 
 -- a state with the order that led to it, the oldest item first
@@ -74,15 +81,17 @@ after_turns c r [] = r
 after_turns c r (t ∷ ts) = after_turns c (next c t r) ts
 
 -- thread t on with these traces, each at rest
-abbrev pub starts_from : Config → ℕ → List (List Command) → List LocalState
-starts_from c t [] = []
-starts_from c t (trace ∷ traces) = at_start c t trace ∷ starts_from c (t + 1) traces
+abbrev pub starts_from : Config → ℕ → ℕ → List (List Command) → List LocalState
+starts_from c rate t [] = []
+starts_from c rate t (trace ∷ traces) = at_start c rate t trace ∷ starts_from c rate (t + 1) traces
 
--- the opening words, and each thread at rest before its trace
+-- the opening words, and each thread at rest before its trace, with the rate of the configuration
 pub record IsOpening (c : Config) (traces : List (List Command)) (s : State) : Type 0 where
+  pub rate : ℕ
+  pub planned : IsRate c rate
   pub count : length s.words ≡ words_count (extent c)
   pub words : (p : Place) → in_range (extent c) p ≡ true → heap_of (extent c) s.words p ≡ opening_heap c p
-  pub locals : s.locals ≡ starts_from c 0 traces
+  pub locals : s.locals ≡ starts_from c rate 0 traces
 
 -- a configuration that has a rate, with a trace for each thread
 pub record IsJob (c : Config) (traces : List (List Command)) : Type 0 where

@@ -8,6 +8,8 @@ use Rattle.never_heap.specs.declared.Reply.{Reply}
 use Rattle.never_heap.specs.Graphs.{Graph, register_of}
 use Rattle.never_heap.specs.Histories.{HistoryItem, Did, part, replay}
 use Rattle.heap_machine.specs.Gating.{Gating, Stand, Outside, Inside}
+use Rattle.heap_machine.specs.Grey.{GreyHolding, no_grey}
+use Rattle.grey_steps.specs.Rows.{grey_holding}
 use Rattle.barrier_steps.specs.Projection.{loading_of}
 use Rattle.barrier_steps.specs.Replies.{reply_due}
 use Rattle.shown_graph.specs.Openings.{opening_at}
@@ -15,7 +17,7 @@ use Rattle.shown_graph.specs.Shown.{heads}
 use Rattle.shown_graph.specs.Words.{block_words, register_block, value_word}
 use Rattle.shown_graph.specs.Events.{Loading, unloaded, GraphState}
 use Rattle.heap_system.specs.declared.local.Part.{Part}
-use Rattle.heap_system.specs.declared.local.Part.TheVariants.{Rest, Enter, Serve, Leave}
+use Rattle.heap_system.specs.declared.local.Part.TheVariants.{Rest, Enter, Serve, Mark, Count, Again, Leave}
 use Rattle.heap_system.specs.Locals.{LocalState, command_of, entries_of}
 use Rattle.heap_system.specs.Machines.{State, Run, local_at}
 
@@ -24,16 +26,32 @@ abbrev pub stand_of : Part → Stand
 stand_of Rest = Outside
 stand_of (Enter g) = Outside
 stand_of (Serve f) = Inside
+stand_of (Mark g) = Inside
+stand_of Count = Inside
+stand_of Again = Inside
 stand_of Leave = Inside
 
 abbrev pub gating : Part → Gating
 gating p = record { stand = stand_of p; cycle = 1; sweep = false }
+
+-- what a thread holds of the grey blocks
+abbrev pub holding : Part → GreyHolding
+holding Rest = no_grey
+holding (Enter g) = no_grey
+holding (Serve f) = no_grey
+holding (Mark g) = grey_holding g.row
+holding Count = no_grey
+holding Again = no_grey
+holding Leave = no_grey
 
 -- what a thread has loaded for its command
 abbrev pub loading : Part → Loading
 loading Rest = unloaded
 loading (Enter g) = unloaded
 loading (Serve f) = loading_of f
+loading (Mark g) = unloaded
+loading Count = unloaded
+loading Again = unloaded
 loading Leave = unloaded
 
 -- the reply that was decided and is not in the log yet
@@ -41,11 +59,14 @@ abbrev pub waiting : Graph → Part → Option Reply
 waiting g Rest = None
 waiting g (Enter f) = None
 waiting g (Serve f) = reply_due g f
+waiting g (Mark f) = None
+waiting g Count = None
+waiting g Again = None
 waiting g Leave = None
 
 -- the entry of thread l that the order has and the log has not yet
 abbrev pub entries_waiting : Graph → LocalState → List Entry
-entries_waiting g l = entries_of l.thread (command_of l) (waiting g l.part)
+entries_waiting g l = entries_of l.thread (command_of l) l.paid (waiting g l.part)
 
 -- the heap of a state
 abbrev pub heap_in : Config → State → Heap

@@ -1,11 +1,12 @@
 -- A system as contracts see it, and what a finished run of it shows.
-use Rattle.std.specs.Prelude.{ℕ, ◌<◌, ◌≡◌, true, false, List, map}
+use Rattle.std.specs.Prelude.{ℕ, ◌+◌, ◌<◌, ◌≡◌, true, false, List, [], ◌∷◌, map, slice_index_or}
 use Rattle.block_store.specs.declared.Config.{Config}
 use Rattle.never_heap.specs.declared.Command.{Command}
 use Rattle.never_heap.specs.declared.Entry.{Entry}
 use Rattle.never_heap.specs.Histories.{Legal, HasTraces, parts, starts_in, work_in}
-use Rattle.heap_system.specs.Locals.{LocalState, is_done}
-use Rattle.heap_system.specs.Machines.{State, local_at, Run, IsJob, IsRunOf}
+use Rattle.heap_system.specs.Locals.{LocalState, is_done, works}
+use Rattle.heap_system.specs.Machines.{State, local_at, Run, opened, IsJob, IsRunOf}
+use Rattle.heap_system.specs.Units.{units_made}
 
 -- the configuration, the words, and each thread
 pub record Whole : Type 0 where
@@ -36,8 +37,13 @@ pub record IsReached (c : Config) (s : State) : Type 0 where
   pub by_turns : IsRunOf c (traces_of s) turns run
   pub state : s ≡ run.state
 
+-- the sum of the works of all logs
+abbrev pub units_of : List (List Entry) → ℕ
+units_of [] = 0
+units_of (log ∷ logs) = works log + units_of logs
+
 -- The logs are the parts of the order of some list of turns after which all threads are done. The order is legal, its parts are
--- the traces, whole, and it has one start and no unit of work.
+-- the traces, whole, it has one start, and its work is that of the logs. The works of each log are the turns of its thread that made a grey block black.
 pub record IsFinished (c : Config) (traces : List (List Command)) (logs : List (List Entry)) : Type 0 where
   pub turns : List ℕ
   pub run : Run
@@ -49,7 +55,8 @@ pub record IsFinished (c : Config) (traces : List (List Command)) (logs : List (
   pub legal : Legal c run.order
   pub traces_whole : HasTraces traces run.order
   pub one_start : starts_in run.order ≡ 1
-  pub no_work : work_in run.order ≡ 0
+  pub made : (t : ℕ) → t < c.threads → works (slice_index_or logs t []) ≡ units_made c t (opened by_turns.first) turns
+  pub works : work_in run.order ≡ units_of logs
 
 -- thread t is the least that is not done
 pub record IsLeastUndone (c : Config) (s : State) (t : ℕ) : Type 0 where

@@ -1,15 +1,16 @@
 //! What holds after every list of turns, for the proofs above: each law is the contract of a function
 //! that does nothing.
 
-ghost use Rattle.std.specs.Prelude.{◌≡◌, ◌<◌, ◌≤◌, ◌++◌, ◌∷◌, [], ℕ, List, true, false, if◌then◌else◌, slice_index_or};
+ghost use Rattle.std.specs.Prelude.{◌+◌, ◌≡◌, ◌<◌, ◌≤◌, ◌++◌, ◌∷◌, [], ℕ, List, true, false, if◌then◌else◌, slice_index_or};
 ghost use Rattle.block_store.specs.declared.Config.{Config};
 ghost use Rattle.block_store.specs.Heaps.{heap_of};
 ghost use Rattle.block_store.specs.Phases.{bit, inside_of, is_closed, is_sweep, cycle_of};
-ghost use Rattle.block_store.specs.Places.{Place, Phase, ColourOf, extent, in_range};
+ghost use Rattle.block_store.specs.Places.{Place, Phase, GreyList, ColourOf, extent, in_range};
 ghost use Rattle.block_store.specs.declared.Name.{Name};
 ghost use Rattle.block_store.specs.Colours.{is_free};
 ghost use Rattle.shown_graph.specs.Layouts.{object_blocks};
-ghost use Rattle.rate_plan.specs.Rates.{IsAdmitted};
+ghost use Rattle.rate_plan.specs.Rates.{IsRate, IsAdmitted};
+ghost use Rattle.never_heap.specs.Steps.{blocks_of};
 ghost use Rattle.never_heap.specs.declared.Command.{Command};
 ghost use Rattle.never_heap.specs.declared.Reply.{Reply};
 ghost use Rattle.never_heap.specs.Graphs.{start_graph, has_name, object_of};
@@ -20,15 +21,20 @@ ghost use Rattle.shown_graph.specs.Openings.{opening_at, opening_last, opening_w
 ghost use Rattle.shown_graph.specs.Events.{unloaded, lates, Follows};
 ghost use Rattle.heap_machine.specs.Counts.{total};
 ghost use Rattle.heap_machine.specs.Gating.{is_inside};
-ghost use Rattle.heap_machine.specs.Operations.{place_of, op_at, SumFits};
+ghost use Rattle.heap_machine.specs.Grey.{GreyKept, no_grey};
+ghost use Rattle.grey_steps.specs.Rows.{GreyState};
+ghost use Rattle.grey_steps.specs.Ends.{is_putting};
+ghost use Rattle.heap_machine.specs.Operations.{Exchange, place_of, op_at, SumFits};
 ghost use Rattle.barrier_steps.specs.declared.rows.FieldRow.{FieldRow};
 ghost use Rattle.barrier_steps.specs.Rows.{field_decided};
-ghost use Rattle.heap_system.specs.declared.local.Part.TheVariants.{Serve};
-ghost use Rattle.heap_system.specs.Locals.{is_done, waits, is_rest, command_of, entry_of, part_want, PartReads};
-ghost use Rattle.heap_system.specs.Machines.{State, answer, turned, Run, IsJob, IsRunOf, local_at, word_read};
+ghost use Rattle.heap_system.specs.declared.local.Part.TheVariants.{Serve, Mark, Count};
+ghost use Rattle.heap_system.specs.Locals.{is_done, waits, is_rest, command_of, owed, owes, entry_of, works, part_want, PartReads};
+ghost use Rattle.heap_system.specs.Systems.{units_of, logs_of};
+ghost use Rattle.heap_system.specs.Units.{units_made, IsWithin};
+ghost use Rattle.heap_system.specs.Machines.{State, answer, turned, Run, opened, IsJob, IsRunOf, local_at, word_read};
 ghost use Rattle.heap_system.specs.Openings.{opening_heap};
 ghost use Rattle.heap_system.specs.declared.Turn.TheVariants as Turn;
-ghost use Rattle.heap_system.specs.Pictures.{stand_of, loading, heap_in, graph_state, entries_waiting, IsOlder};
+ghost use Rattle.heap_system.specs.Pictures.{stand_of, holding, loading, heap_in, graph_state, entries_waiting, IsOlder};
 
 /// The words of an opening are those of the start graph, up to the last block of the shared array.
 pub fn opening_shows_the_start()
@@ -37,8 +43,8 @@ pub fn opening_shows_the_start()
 {}
 
 /// The words show the replay of the order. Between the load of the field and the store of a `get`, its
-/// register's word is still that of the value that it had before. What a thread has loaded is of that graph, and
-/// no block of an object is Free.
+/// register's word is still that of the value that it had before. What a thread has loaded is of that
+/// graph, and no block of an object is Free.
 pub fn words_show_the_order()
     ensures words { (c : Config) (traces : List (List Command)) (ts : List ℕ) (r : Run) → IsJob c traces → IsRunOf c traces ts r
         → Shows c.threads (opening_last c) (every_name (start_graph c)) (replay c r.order) (opening_at c.threads) (block_words (heap_in c r.state)) (lates (graph_state c r).loads) }
@@ -49,10 +55,12 @@ pub fn words_show_the_order()
         → Follows c.threads (opening_last c) (every_name (start_graph c)) (opening_at c.threads) (graph_state c r) }
 {}
 
-/// The order is legal: each command is answered as the heap that never frees answers it there.
+/// The order is legal: each command is answered as the heap that never frees answers it there, or it
+/// allocates and is answered full. That the threads answer this is `logs_are_parts`. It has one start,
+/// and its work is that of the logs.
 pub fn order_is_legal()
     ensures legal { (c : Config) (traces : List (List Command)) (ts : List ℕ) (r : Run) → IsJob c traces → IsRunOf c traces ts r → Legal c r.order }
-    ensures counts { (c : Config) (traces : List (List Command)) (ts : List ℕ) (r : Run) → IsJob c traces → IsRunOf c traces ts r → (starts_in r.order ≡ 1) × (work_in r.order ≡ 0) }
+    ensures counts { (c : Config) (traces : List (List Command)) (ts : List ℕ) (r : Run) → IsJob c traces → IsRunOf c traces ts r → (starts_in r.order ≡ 1) × (work_in r.order ≡ units_of (logs_of r.state)) }
 {}
 
 /// A thread's log is its part of the order, reply for reply. Between the deciding event of a command
@@ -61,11 +69,35 @@ pub fn order_is_legal()
 pub fn logs_are_parts()
     ensures each { (c : Config) (traces : List (List Command)) (ts : List ℕ) (r : Run) → IsJob c traces → IsRunOf c traces ts r → (t : ℕ) → t < c.threads → part t r.order ≡ (local_at c r.state t).log ++ entries_waiting (replay c r.order) (local_at c r.state t) }
     ensures rest { (c : Config) (traces : List (List Command)) (ts : List ℕ) (r : Run) → IsJob c traces → IsRunOf c traces ts r → (t : ℕ) → t < c.threads → is_rest (local_at c r.state t).part ≡ true
-        → (part t r.order ≡ (local_at c r.state t).log) × (loading (local_at c r.state t).part ≡ unloaded) }
+        → (part t r.order ≡ (local_at c r.state t).log) × (loading (local_at c r.state t).part ≡ unloaded) × (holding (local_at c r.state t).part ≡ no_grey) }
     ensures decided { (c : Config) (traces : List (List Command)) (ts : List ℕ) (r : Run) → IsJob c traces → IsRunOf c traces ts r → (t : ℕ) → t < c.threads → (f : FieldRow) → (local_at c r.state t).part ≡ Serve f → field_decided f ≡ true
-        → (y : Reply) × (part t r.order ≡ (local_at c r.state t).log ++ entry_of t (command_of (local_at c r.state t)) y ∷ []) }
+        → (y : Reply) × (part t r.order ≡ (local_at c r.state t).log ++ entry_of t (command_of (local_at c r.state t)) 0 y ∷ []) }
     ensures undecided { (c : Config) (traces : List (List Command)) (ts : List ℕ) (r : Run) → IsJob c traces → IsRunOf c traces ts r → (t : ℕ) → t < c.threads → (f : FieldRow) → (local_at c r.state t).part ≡ Serve f → field_decided f ≡ false
         → part t r.order ≡ (local_at c r.state t).log }
+{}
+
+/// The grey blocks stand in the chains of the lists and of the threads' hands, or are under scan, each
+/// once. Where a thread puts its hand, its own list is empty.
+pub fn grey_blocks_stand_once()
+    ensures kept { (c : Config) (traces : List (List Command)) (ts : List ℕ) (r : Run) → IsJob c traces → IsRunOf c traces ts r → GreyKept c.threads (heap_in c r.state) (λ t. holding (local_at c r.state t).part) }
+    ensures put { (c : Config) (traces : List (List Command)) (ts : List ℕ) (r : Run) → IsJob c traces → IsRunOf c traces ts r → (t : ℕ) → t < c.threads → (m : GreyState) → (local_at c r.state t).part ≡ Mark m → is_putting m.row ≡ true
+        → (part_want (local_at c r.state t).part ≡ Exchange (GreyList t) (holding (local_at c r.state t).part).hand) × (heap_in c r.state (GreyList t) ≡ 0) }
+{}
+
+/// The works of a thread's entries, and the units that it has made for the command in hand, are the
+/// turns at which it made a grey block black. It has made no more for any command than it owes, which is
+/// the rate times the blocks, and none at rest; and an allocation is decided where it has made all, or
+/// the rest is waived.
+pub fn works_are_units()
+    ensures made { (c : Config) (traces : List (List Command)) (ts : List ℕ) (r : Run) → IsJob c traces → (is : IsRunOf c traces ts r) → (t : ℕ) → t < c.threads
+        → works (part t r.order) + (local_at c r.state t).paid ≡ units_made c t (opened is.first) ts }
+    ensures owed { (c : Config) (traces : List (List Command)) (ts : List ℕ) (r : Run) → IsJob c traces → IsRunOf c traces ts r → (t : ℕ) → t < c.threads → (local_at c r.state t).paid ≤ owed (local_at c r.state t) }
+    ensures entries { (c : Config) (traces : List (List Command)) (ts : List ℕ) (r : Run) → IsJob c traces → IsRunOf c traces ts r → (t : ℕ) → t < c.threads → (rate : ℕ) → IsRate c rate → IsWithin rate (part t r.order) }
+    ensures rest { (c : Config) (traces : List (List Command)) (ts : List ℕ) (r : Run) → IsJob c traces → IsRunOf c traces ts r → (t : ℕ) → t < c.threads → is_rest (local_at c r.state t).part ≡ true
+        → ((local_at c r.state t).paid ≡ 0) × ((local_at c r.state t).waived ≡ false) }
+    ensures paid { (c : Config) (traces : List (List Command)) (ts : List ℕ) (r : Run) → IsJob c traces → IsRunOf c traces ts r → (t : ℕ) → t < c.threads → (local_at c r.state t).part ≡ Count
+        → (0 < blocks_of (command_of (local_at c r.state t))) × (owes (local_at c r.state t) ≡ false) }
+    ensures rate { (c : Config) (traces : List (List Command)) (ts : List ℕ) (r : Run) → IsJob c traces → IsRunOf c traces ts r → (t : ℕ) → t < c.threads → IsRate c (local_at c r.state t).rate }
 {}
 
 /// The phase word counts the threads inside, at most all of them; the gate stays open, in
@@ -76,9 +108,10 @@ pub fn threads_inside_are_counted()
     ensures opened { (c : Config) (traces : List (List Command)) (ts : List ℕ) (r : Run) → IsJob c traces → IsRunOf c traces ts r → (is_closed (heap_in c r.state Phase) ≡ false) × (cycle_of (heap_in c r.state Phase) ≡ 1) × (is_sweep (heap_in c r.state Phase) ≡ false) }
 {}
 
-/// A turn waits exactly where it looks at a closed gate, and where another thread changed the phase
-/// word between the look and the entry. It answers that a thread is done exactly where it is, and then
-/// changes nothing.
+/// A turn waits exactly where it looks at a closed gate, where another thread changed the phase
+/// word since the look, and where it would close the gate in its pass's cycle and phase but finds it
+/// closed or somebody inside. It answers that a thread is done exactly where it is, and then changes
+/// nothing.
 pub fn turns_wait_at_the_gate()
     ensures waits { (c : Config) (t : ℕ) (s : State) → is_done (local_at c s t) ≡ false → answer c t s ≡ (if waits (local_at c s t).part (word_read c s (local_at c s t)) then Turn.Waited else Turn.Went) }
     ensures done { (c : Config) (t : ℕ) (s : State) → is_done (local_at c s t) ≡ true → (answer c t s ≡ Turn.Done) × (turned c t s ≡ s) }

@@ -1,23 +1,28 @@
 //! One thread's whole state, one event at a time.
 
-ghost use Rattle.std.specs.Prelude.{◌≡◌, ◌≤◌, ◌<◌, ◌++◌, ◌∷◌, [], ℕ, false, length, IfOk};
+ghost use Rattle.std.specs.Prelude.{◌≡◌, ◌≤◌, ◌<◌, ◌+◌, ◌^◌, ◌-◌, ◌++◌, ◌∷◌, ◌&&◌, ◌||◌, [], true, false, not, if◌then◌else◌, length, IfOk, None, IfSome};
 ghost use Rattle.block_store.specs.Configs.{IsInBounds};
+ghost use Rattle.block_store.specs.Phases.{bit, cycle_of};
 ghost use Rattle.block_store.specs.Places.{extent, Phase};
-ghost use Rattle.rate_plan.specs.Rates.{IsAdmitted};
+ghost use Rattle.rate_plan.specs.Rates.{IsRate, IsAdmitted};
 ghost use Rattle.never_heap.specs.Bounds.{IsCommandInRange};
-ghost use Rattle.never_heap.specs.Steps.{blocks_of};
+ghost use Rattle.never_heap.specs.Steps.{blocks_of, length_made};
 ghost use Rattle.heap_machine.specs.Operations.{op_at};
 ghost use Rattle.heap_machine.specs.Readings.{CanHold};
 ghost use Rattle.heap_machine.specs.Gates.{gate_got, gate_step, gate_entered, GateFits};
+ghost use Rattle.grey_steps.specs.Rows.{grey_got, grey_step, grey_unit, grey_nothing, grey_over};
+ghost use Rattle.grey_steps.specs.Fits.{GreyFits, GreyReads};
 ghost use Rattle.barrier_steps.specs.Rows.{field_got, field_step, field_reply};
 ghost use Rattle.barrier_steps.specs.Fits.{FieldFits, FieldReads};
-ghost use Rattle.heap_system.specs.Locals.{IsTrace, PartReads, is_done, is_rest, part_want, part_step, local_got, at_start, turn_of, if_entered, if_replied, command_of, entry_of, entries_of};
+ghost use Rattle.heap_system.specs.Locals.{goes_in, IsTrace, PartReads, is_done, is_rest, part_want, part_step, local_got, at_start, turn_of, is_last, first_part, if_entered, if_replied, if_marked, command_of, owed, owes, paid_got, waived_got, works, entry_of, entries_of};
 
 use crate::Turn;
 use barrier_steps::FieldPass;
-use block_store::{Config, OutOfMemory, Places};
+use block_store::{Config, OutOfMemory, PhaseWord, Places};
+use grey_steps::GreyPass;
 use heap_machine::{Gate, Op, Step};
 use never_heap::{Command, Entry, Reply};
+use rate_plan::plan;
 use std::alloc::Global;
 use std::marker::Model;
 use std::mem;
@@ -31,6 +36,13 @@ pub enum Part {
     Enter(Gate),
     /// Inside, in a command that allocates nothing.
     Serve(FieldPass),
+    /// Inside, in an allocation that owes units, of which it makes one at most: none where nothing is
+    /// grey.
+    Mark(GreyPass),
+    /// Inside, in an allocation that owes no more: it looks how many blocks are free.
+    Count,
+    /// On its way out, to come in again for the command in hand.
+    Again,
     /// On its way out, with its command in the log.
     Leave,
 }
@@ -40,9 +52,15 @@ pub enum Part {
 #[derive(Drop)]
 pub struct Local {
     config: Config,
+    // The units that an allocation owes for each of its blocks.
+    rate: u64,
     thread: u32,
     trace: Vec<Command>,
     log: Vec<Entry>,
+    // The units made for the command in hand.
+    paid: u64,
+    // Whether the rest of them is waived.
+    waived: bool,
     part: Part,
 }
 
@@ -53,9 +71,9 @@ impl Model for Local {
 
     ghost Value = { LocalState };
 
-    ghost view = { λ l. record { config = l.config; thread = l.thread; trace = l.trace.items; log = l.log.items; part = l.part } };
+    ghost view = { λ l. record { config = l.config; rate = l.rate; thread = l.thread; trace = l.trace.items; log = l.log.items; paid = l.paid; waived = l.waived; part = l.part } };
 
-    ghost invariant = { λ l. IsLocal (record { config = l.config; thread = l.thread; trace = l.trace.items; log = l.log.items; part = l.part }) × (length l.trace.items ≤ vec_capacity l.log) };
+    ghost invariant = { λ l. IsLocal (record { config = l.config; rate = l.rate; thread = l.thread; trace = l.trace.items; log = l.log.items; paid = l.paid; waived = l.waived; part = l.part }) × (length l.trace.items ≤ vec_capacity l.log) };
 }
 
 // What a turn answers after this step of a part.
@@ -68,10 +86,44 @@ fn turn_after(step: Step) -> Turn
     }
 }
 
+// Whether the step was the last of its part.
+fn is_last(step: Step) -> bool
+    ensures { result ≡ is_last step }
+{
+    match step {
+        Step::Over | Step::WaitedOver => true,
+        Step::Went | Step::Waited => false,
+    }
+}
+
+// The units after an event, by whether it made one.
+fn counted(paid: u64, unit: bool) -> u64
+    requires { paid < 2 ^ 60 }
+    ensures { result ≡ (if unit then paid + 1 else paid) }
+{
+    if unit { paid + 1 } else { paid }
+}
+
+// The sum of the works of the entries.
+fn sum_of_works(entries: &[Entry]) -> u64
+    requires { works entries.now ≤ 2 ^ 60 }
+    ensures { result ≡ works entries.now }
+{
+    let mut sum = 0;
+    for entry in entries {
+        sum += entry.work;
+    }
+    sum
+}
+
 impl Local {
     /// A thread at rest before its first command, with room for all entries of its log. The
     /// configuration has a rate, the thread is one of it, and the trace has at most 131,072 commands,
-    /// which are in bounds and allocate nothing.
+    /// which are in bounds.
+    ///
+    /// # Errors
+    ///
+    /// `OutOfMemory` where there is no room for the log.
     pub fn new(
         alloc: Global,
         c: &Config,
@@ -82,14 +134,20 @@ impl Local {
         requires plan { IsAdmitted c.now }
         requires thread { thread < c.now.threads }
         requires trace { IsTrace c.now trace.items }
-        ensures { IfOk result (λ l. l ≡ at_start c.now thread trace.items) }
+        ensures { IfOk result (λ l. IsRate c.now l.rate × (l ≡ at_start c.now l.rate thread trace.items)) }
     {
         let log = Vec::with_capacity(alloc, trace.len())?;
+        let Ok(rate) = plan(c) else {
+            unreachable!();
+        };
         Ok(Local {
             config: *c,
+            rate,
             thread,
             trace,
             log,
+            paid: 0,
+            waived: false,
             part: Part::Rest,
         })
     }
@@ -123,6 +181,14 @@ impl Local {
         self.at_rest() && self.log.len() == self.trace.len()
     }
 
+    // The sum of the works of the log.
+    pub(crate) fn work(&self) -> u64
+        ensures sum { result ≡ works self.now.log }
+        ensures small { result ≤ 2 ^ 45 }
+    {
+        sum_of_works(&self.log)
+    }
+
     // Whether the command in hand is decided and not in the log yet.
     #[cfg(test)]
     pub(crate) fn decided(&self) -> bool {
@@ -130,6 +196,7 @@ impl Local {
     }
 
     /// The operation of the thread's next event. The thread is not done.
+    #[tactic(auto, using(crate::proofs::Paying::going_at))]
     pub fn want(&self) -> Op
         requires { is_done self.now ≡ false }
         ensures { result ≡ op_at (extent self.now.config) (part_want self.now.part) }
@@ -139,12 +206,17 @@ impl Local {
             Part::Rest => Gate::enter().want(&places),
             Part::Enter(gate) => gate.want(&places),
             Part::Serve(pass) => pass.want(&places),
-            Part::Leave => Gate::leave().want(&places),
+            Part::Mark(pass) => pass.want(&places),
+            Part::Count => Op::Load {
+                place: places.free_count(),
+            },
+            Part::Again | Part::Leave => Gate::leave().want(&places),
         }
     }
 
     /// Moves on by one event, whose operation read the word. The thread is not done, and the word is
-    /// one that its row may read.
+    /// one that its row may read: on the way in a phase word of cycle 1 or later.
+    #[tactic(auto, using(crate::proofs::Paying::unit_is_new))]
     pub fn got(&mut self, word: u64) -> Turn
         requires open { is_done self.old ≡ false }
         requires word { PartReads self.old.config self.old.part word }
@@ -156,27 +228,62 @@ impl Local {
             Part::Rest => self.enter(Gate::enter(), &places, word),
             Part::Enter(gate) => self.enter(gate, &places, word),
             Part::Serve(pass) => self.serve(pass, &places, word),
+            Part::Mark(pass) => self.mark(pass, &places, word),
+            Part::Count => {
+                self.answer(Reply::Full(1));
+                Turn::Went
+            }
+            Part::Again => {
+                self.part = Part::Enter(Gate::enter());
+                turn_after(Gate::leave().got(&places, word))
+            }
             Part::Leave => turn_after(Gate::leave().got(&places, word)),
         }
     }
 
     // On the way in.
+    #[tactic(auto, using(crate::proofs::Paying::going_at))]
     fn enter(&mut self, mut gate: Gate, places: &Places, word: u64) -> Turn
         requires places { places.now ≡ self.old.config }
+        requires out { goes_in gate ≡ true }
         requires command { length self.old.log < length self.old.trace }
         requires word { CanHold (extent places.now) Phase word }
-        ensures local { self.new ≡ record self.old { part = if_entered (gate_entered (gate_got gate word)) self.old.thread (command_of self.old) (gate_got gate word) } }
+        requires cycle { 1 ≤ cycle_of word }
+        ensures local { self.new ≡ record self.old { part = if_entered (gate_entered (gate_got gate word)) self.old.thread self.old.config.threads (command_of self.old) (owes self.old) (gate_got gate word) } }
         ensures turn { result ≡ turn_of (gate_step gate word) }
     {
         let turn = turn_after(gate.got(places, word));
         self.part = match gate.entered() {
-            Some(phase) => {
-                let command = self.trace[self.log.len()];
-                Part::Serve(FieldPass::new(self.thread, self.config.threads, phase, command))
-            }
+            Some(phase) => self.first_part(phase),
             None => Part::Enter(gate),
         };
         turn
+    }
+
+    // What the thread does that has entered by this phase word.
+    fn first_part(&self, phase: PhaseWord) -> Part
+        requires command { length self.now.log < length self.now.trace }
+        requires cycle { (1 ≤ phase.cycle) × (phase.cycle ≤ 2 ^ 54 - 2) }
+        ensures { result ≡ first_part self.now.thread self.now.config.threads (command_of self.now) (owes self.now) phase.cycle }
+    {
+        let command = self.trace[self.log.len()];
+        let threads = self.config.threads;
+        if command.blocks() == 0 {
+            Part::Serve(FieldPass::new(self.thread, threads, phase, command))
+        } else if self.owes(&command) {
+            Part::Mark(GreyPass::scan(self.thread, threads, phase.cycle))
+        } else {
+            Part::Count
+        }
+    }
+
+    // Whether the command in hand still owes units.
+    fn owes(&self, command: &Command) -> bool
+        requires command { command.now ≡ command_of self.now }
+        requires there { length self.now.log < length self.now.trace }
+        ensures { result ≡ owes self.now }
+    {
+        !self.waived && self.paid < self.rate * u64::from(command.blocks())
     }
 
     // In a command.
@@ -185,7 +292,7 @@ impl Local {
         requires fits { FieldFits self.old.config pass }
         requires command { length self.old.log < length self.old.trace }
         requires word { FieldReads places.now pass word }
-        ensures local { self.new ≡ record self.old { part = if_replied (field_reply (field_got pass word)) (field_got pass word); log = self.old.log ++ entries_of self.old.thread (command_of self.old) (field_reply (field_got pass word)) } }
+        ensures local { self.new ≡ record self.old { part = if_replied (field_reply (field_got pass word)) (field_got pass word); log = self.old.log ++ entries_of self.old.thread (command_of self.old) self.old.paid (field_reply (field_got pass word)); paid = paid_got (field_reply (field_got pass word)) false self.old.paid; waived = waived_got (field_reply (field_got pass word)) false self.old.waived } }
         ensures turn { result ≡ turn_of (field_step pass word) }
     {
         let turn = turn_after(pass.got(places, word));
@@ -196,18 +303,45 @@ impl Local {
         turn
     }
 
+    // In a Mark pass.
+    fn mark(&mut self, mut pass: GreyPass, places: &Places, word: u64) -> Turn
+        requires places { places.now ≡ self.old.config }
+        requires fits { GreyFits self.old.config pass }
+        requires command { length self.old.log < length self.old.trace }
+        requires paid { self.old.paid + bit (not (grey_unit pass.row)) ≤ owed self.old }
+        requires word { GreyReads places.now pass word }
+        ensures local { self.new ≡ record self.old { part = if_marked (grey_got pass word); paid = (if grey_unit (grey_got pass word).row && not (grey_unit pass.row) then self.old.paid + 1 else self.old.paid); waived = grey_nothing (grey_got pass word).row || self.old.waived } }
+        ensures turn { result ≡ turn_of (grey_step pass word) }
+    {
+        let unit = pass.unit();
+        let step = pass.got(places, word);
+        self.paid = counted(self.paid, pass.unit() && !unit);
+        self.waived = pass.nothing() || self.waived;
+        self.part = marking(pass, is_last(step));
+        turn_after(step)
+    }
+
     // The command in hand is done.
     fn answer(&mut self, reply: Reply)
         requires command { length self.old.log < length self.old.trace }
-        ensures { self.new ≡ record self.old { part = Part.Leave; log = self.old.log ++ entry_of self.old.thread (command_of self.old) reply ∷ [] } }
+        ensures { self.new ≡ record self.old { part = Part.Leave; log = self.old.log ++ entry_of self.old.thread (command_of self.old) self.old.paid reply ∷ []; paid = 0; waived = false } }
     {
         let command = self.trace[self.log.len()];
         self.log.push_reserved(Entry {
             thread: self.thread,
             command,
             reply,
-            work: 0,
+            work: self.paid,
         });
+        self.paid = 0;
+        self.waived = false;
         self.part = Part::Leave;
     }
+}
+
+// A Mark pass that is over has the thread go out and in again.
+fn marking(pass: GreyPass, over: bool) -> Part
+    ensures { result ≡ (if over then Part.Again else Part.Mark pass) }
+{
+    if over { Part::Again } else { Part::Mark(pass) }
 }

@@ -1,13 +1,14 @@
-//! Three threads with all eight commands that allocate nothing, under drawn schedules: each reply is
-//! that of the heap that never frees, in the order of the deciding events.
+//! Three threads with all ten commands, under drawn schedules: each reply is that of the heap that
+//! never frees, in the order of the deciding events, but an allocation is answered full. The units
+//! that they make are the blocks that are black in the end.
 
 ghost use Rattle.std.specs.Prelude.{◌≡◌, ◌<◌, ◌≤◌, ◌+◌, ℕ, length, IfOk, OnOk};
 ghost use Rattle.never_heap.specs.Graphs.{count_of};
 ghost use Rattle.heap_system.specs.Locals.{IsTrace};
 
 use crate::*;
-use block_store::{Config, OutOfMemory};
-use never_heap::{Command, Graph, Reply};
+use block_store::{Config, OutOfMemory, Places};
+use never_heap::{Command, Graph, Logs, Reply};
 use rand_core::utils::NextWord;
 use rand_pcg::Lcg64Xsh32;
 use std::alloc::Global;
@@ -21,8 +22,9 @@ const THREE: Config = Config {
 };
 
 // What each thread is told to do. Element 16 of the shared array is two links from its root.
-const COMMANDS: [Command; 16] = [
+const COMMANDS: [Command; 19] = [
     Command::Set { d: 1, value: 10 },
+    Command::New { d: 1, fields: 4 },
     Command::Put { s: 0, i: 16, v: 1 },
     Command::Get { d: 2, s: 0, i: 3 },
     Command::Put { s: 0, i: 3, v: 0 },
@@ -30,6 +32,7 @@ const COMMANDS: [Command; 16] = [
     Command::Same { a: 2, b: 0 },
     Command::Get { d: 4, s: 0, i: 16 },
     Command::Nil { d: 1 },
+    Command::Arr { d: 1, elements: 4 },
     Command::Put { s: 0, i: 16, v: 1 },
     Command::Get { d: 5, s: 4, i: 0 },
     Command::Len { s: 3 },
@@ -37,6 +40,7 @@ const COMMANDS: [Command; 16] = [
     Command::Say { s: 3 },
     Command::Put { s: 0, i: 3, v: 4 },
     Command::Len { s: 0 },
+    Command::New { d: 2, fields: 0 },
     Command::Same { a: 3, b: 4 },
 ];
 
@@ -46,7 +50,7 @@ fn trace(alloc: Global) -> Result<Vec<Command>, OutOfMemory>
 {
     let mut trace = Vec::new(alloc);
     for command in &COMMANDS {
-        if command.in_bounds(&THREE) && command.blocks() == 0 {
+        if command.in_bounds(&THREE) {
             trace.push(*command)?;
         }
     }
@@ -60,7 +64,7 @@ fn three_threads(alloc: Global) -> Result<System, OutOfMemory>
     System::new(alloc, THREE, vec![in alloc; first, second, third]?)
 }
 
-// The reply of the heap that never frees.
+// The reply of the heap that never frees, or the one of an allocation.
 fn model_reply(
     graph: &mut Graph,
     thread: u32,
@@ -71,11 +75,27 @@ fn model_reply(
     ensures threads { OnOk result (length graph.new.mutators ≡ length graph.old.mutators) }
     ensures counts { OnOk result ((k u : ℕ) → ((v : ℕ) → count_of graph.old v ≤ k) → count_of graph.new u ≤ k + 1) }
 {
-    if command.in_bounds(&THREE) {
+    if !command.in_bounds(&THREE) {
+        Ok(None)
+    } else if command.blocks() == 0 {
         Ok(Some(graph.apply(thread, command)?))
     } else {
-        Ok(None)
+        Ok(Some(Reply::Full(1)))
     }
+}
+
+// How many blocks are black. With three threads the words of block x begin at 7 x + 2, with its
+// colour, and black is 2.
+fn black_blocks(system: &System) -> u64 {
+    let words = Places::new(system.config()).words();
+    let mut black = 0;
+    for block in 1..65_u64 {
+        let place = 7 * block as usize + 2;
+        if place < words && system.word(place) == 2 && black < block {
+            black += 1;
+        }
+    }
+    black
 }
 
 // Whether each reply is the model's.
@@ -85,7 +105,7 @@ fn agrees(alloc: Global, key: u64) -> Result<bool, OutOfMemory> {
     let mut draws = Lcg64Xsh32::new(key, 1);
     let mut waiting = [None; 3];
     let mut good = true;
-    for _turn in 0..1500_u32 {
+    for _turn in 0..6000_u32 {
         let thread = draws.next_word() % 3;
         let (logged, decided) = progress(system.local(thread));
         system.turn(thread);
@@ -100,7 +120,11 @@ fn agrees(alloc: Global, key: u64) -> Result<bool, OutOfMemory> {
             good &= last == waiting[thread as usize];
         }
     }
-    Ok(good && system.finish().is_ok())
+    let black = black_blocks(&system);
+    let Ok(logs) = system.finish() else {
+        return Ok(false);
+    };
+    Ok(good && logs.units() == black)
 }
 
 // How many commands are in the log, and how many are decided.

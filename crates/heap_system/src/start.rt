@@ -28,6 +28,10 @@ const BLOCK_WORDS: u32 = 3 + PAYLOADS;
 
 /// The words of the opening heap of a configuration that has a rate: each thread has its registers,
 /// of which register 0 refers to the shared array, and all blocks behind that are Free.
+///
+/// # Errors
+///
+/// `OutOfMemory` where there is no room for the words.
 pub fn opening(alloc: Global, c: &Config) -> Result<Words, OutOfMemory>
     requires bounds { IsInBounds c.now }
     requires plan { IsAdmitted c.now }

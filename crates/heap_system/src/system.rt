@@ -2,10 +2,11 @@
 
 ghost use Rattle.std.specs.Prelude.{◌≡◌, ◌<◌, ◌≤◌, ℕ, List, [], length, map, slice_index, slice_index_or, IfOk, IfErr, IfSome, IfNone, true, false};
 ghost use Rattle.block_store.specs.declared.Config.{Config};
+ghost use Rattle.block_store.specs.Places.{extent, words_count};
 ghost use Rattle.never_heap.specs.declared.Command.{Command};
 ghost use Rattle.heap_system.specs.Locals.{LocalState, is_done};
 ghost use Rattle.heap_system.specs.Machines.{turned, answer, local_at, IsJob, IsOpening};
-ghost use Rattle.heap_system.specs.Systems.{Whole, Finish, traces_of, logs_of, AllDone, IsFinished, IsLeastUndone};
+ghost use Rattle.heap_system.specs.Systems.{Whole, Finish, traces_of, logs_of, units_of, AllDone, IsReached, IsFinished, IsLeastUndone};
 
 use crate::Turn;
 use crate::local::Local;
@@ -74,11 +75,15 @@ fn first_undone(locals: &[Local]) -> Option<usize>
 
 impl System {
     /// The system of a configuration that has a rate, with a trace for each thread: the opening words,
-    /// and each thread at rest. A trace has at most 131,072 commands, which are in bounds and allocate
-    /// nothing.
+    /// and each thread at rest. A trace has at most 131,072 commands, which are in bounds.
+    ///
+    /// # Errors
+    ///
+    /// `OutOfMemory` where there is no room for the words, the threads or their logs.
     pub fn new(alloc: Global, c: Config, traces: Vec<Vec<Command>>) -> Result<System, OutOfMemory>
         requires { IsJob c (map (λ v. v.items) traces.items) }
         ensures config { IfOk result (λ s. s.config ≡ c) }
+        ensures traces { IfOk result (λ s. traces_of s.state ≡ map (λ v. v.items) traces.items) }
         ensures opening { IfOk result (λ s. IsOpening c (map (λ v. v.items) traces.items) s.state) }
     {
         let words = opening(alloc, &c)?;
@@ -98,6 +103,7 @@ impl System {
     pub fn turn(&mut self, thread: u32) -> Turn
         requires { thread < self.old.config.threads }
         ensures state { self.new ≡ record self.old { state = turned self.old.config thread self.old.state } }
+        ensures traces { traces_of self.new.state ≡ traces_of self.old.state }
         ensures answer { result ≡ answer self.old.config thread self.old.state }
     {
         let local = &mut self.locals[thread as usize];
@@ -110,7 +116,8 @@ impl System {
 
     /// The configuration.
     pub fn config(&self) -> &Config
-        ensures { result.now ≡ self.now.config }
+        ensures same { result.now ≡ self.now.config }
+        ensures reached { IsReached self.now.config self.now.state }
     {
         let _words = &self.words;
         &self.config
@@ -124,9 +131,9 @@ impl System {
         &self.locals[thread as usize]
     }
 
-    /// The word at a place, which is below the number of words.
+    /// The word at a place, which is below the number of words of the configuration's heap.
     pub fn word(&self, place: usize) -> u64
-        requires { place < length self.now.state.words }
+        requires { place < words_count (extent self.now.config) }
         ensures { result ≡ slice_index self.now.state.words place }
     {
         self.words.word(place)
@@ -166,12 +173,24 @@ impl Finished {
     }
 }
 
+// The sum of the works of these threads.
+fn sum_of_works(locals: &[Local]) -> u64
+    requires { length locals.now ≤ 16 }
+    ensures { result ≡ units_of (map (λ (l : LocalState). l.log) locals.now) }
+{
+    let mut sum = 0;
+    for local in locals {
+        sum += local.work();
+    }
+    sum
+}
+
 impl Logs for Finished {
     ghost logs = { λ f. f.logs };
 
     ghost cycle_count = { λ f. 1 };
 
-    ghost unit_count = { λ f. 0 };
+    ghost unit_count = { λ f. units_of f.logs };
 
     fn threads(&self) -> u32 {
         self.locals.len() as u32
@@ -187,7 +206,6 @@ impl Logs for Finished {
     }
 
     fn units(&self) -> u64 {
-        let _locals = &self.locals;
-        0
+        sum_of_works(&self.locals)
     }
 }

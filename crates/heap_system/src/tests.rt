@@ -1,9 +1,9 @@
-//! The opening heap, and two threads on one shared array.
+//! The opening heap, two threads on one shared array, and an allocation that pays by marking.
 
 ghost use Rattle.std.specs.Prelude.{◌≡◌, ◌<◌, IfOk};
 
 use crate::*;
-use block_store::{Config, OutOfMemory, Value};
+use block_store::{Config, OutOfMemory, Places, Value};
 use never_heap::{Command, Logs, Reply};
 use rate_plan::plan;
 use std::alloc::Global;
@@ -27,6 +27,7 @@ const TWO: Config = Config {
 #[test]
 fn the_opening_has_these_words(rt: HostRuntime) -> Result<(), OutOfMemory> {
     if plan(&ONE) != Ok(7) {
+        assert!(rt; false, "no rate of 7");
         return Ok(());
     }
     let words = opening(rt.alloc(), &ONE)?;
@@ -83,7 +84,7 @@ fn turns(system: &mut System, thread: u32, entries: usize)
     requires { thread < system.old.config.threads }
     ensures { system.new.config ≡ system.old.config }
 {
-    for _ in 0..100 {
+    for _ in 0..1000 {
         let local = system.local(thread);
         if local.done() || local.log().len() >= entries {
             return;
@@ -102,6 +103,18 @@ fn replies(logs: &Finished, t: u32) -> (usize, Option<Reply>, Option<Reply>) {
         entries.len(),
         entries.first().map(|entry| entry.reply),
         entries.last().map(|entry| entry.reply),
+    )
+}
+
+// The works of the first and the last entry of thread `t`.
+fn works(logs: &Finished, t: u32) -> (Option<u64>, Option<u64>) {
+    if t >= logs.threads() {
+        return (None, None);
+    }
+    let entries = logs.entries(t);
+    (
+        entries.first().map(|entry| entry.work),
+        entries.last().map(|entry| entry.work),
     )
 }
 
@@ -141,7 +154,97 @@ fn a_reader_that_comes_last_reads_what_was_stored(rt: HostRuntime) -> Result<(),
         assert!(rt; false, "not finished");
         return Ok(());
     };
+    let stored = Some(Reply::Stored);
     let seven = Some(Reply::Val(Value::Int(7)));
+    assert_eq!(rt; replies(&logs, 0), (2, stored, stored));
     assert_eq!(rt; replies(&logs, 1), (2, seven, seven));
+    assert_eq!(rt; (logs.cycles(), logs.units()), (1, 0));
+    Ok(())
+}
+
+// One thread allocates a block, and the other does nothing.
+fn allocator(alloc: Global) -> Result<System, OutOfMemory>
+    ensures { IfOk result (λ s. s.config.threads ≡ 2) }
+{
+    let trace = vec![in alloc; Command::New { d: 1, fields: 1 }]?;
+    System::new(alloc, TWO, vec![in alloc; trace, Vec::new(alloc)]?)
+}
+
+// One thread allocates a block twice, and the other does nothing.
+fn allocator_of_two(alloc: Global) -> Result<System, OutOfMemory>
+    ensures { IfOk result (λ s. s.config.threads ≡ 2) }
+{
+    let trace = vec![in alloc;
+        Command::New { d: 1, fields: 1 },
+        Command::New { d: 1, fields: 1 },
+    ]?;
+    System::new(alloc, TWO, vec![in alloc; trace, Vec::new(alloc)]?)
+}
+
+// A word of the heap, or 0 where there is none.
+fn word(system: &System, place: usize) -> u64 {
+    if place < Places::new(system.config()).words() {
+        system.word(place)
+    } else {
+        0
+    }
+}
+
+// Gives thread 0 turns until it is done, and tells which blocks became black, in this order. With
+// two threads the words of block x begin at 7 x, with its colour, and black is 2.
+fn blackened(alloc: Global, system: &mut System) -> Result<Vec<usize>, OutOfMemory>
+    requires { system.old.config.threads ≡ 2 }
+    ensures { system.new.config ≡ system.old.config }
+{
+    let mut blocks = Vec::new(alloc);
+    for _ in 0..1000 {
+        if system.local(0).done() {
+            return Ok(blocks);
+        }
+        system.turn(0);
+        for block in 1..12 {
+            if word(system, 7 * block) == 2 && !blocks.contains(&block) {
+                blocks.push(block)?;
+            }
+        }
+    }
+    Ok(blocks)
+}
+
+#[test]
+fn an_allocation_pays_by_marking(rt: HostRuntime) -> Result<(), OutOfMemory> {
+    assert_eq!(rt; plan(&TWO), Ok(8));
+    let mut system = allocator(rt.alloc())?;
+    let blocks = blackened(rt.alloc(), &mut system)?;
+    let expected: [usize; 8] = [1, 5, 4, 3, 2, 11, 6, 10];
+    assert_eq!(rt; blocks.as_slice(), expected.as_slice());
+    assert_eq!(rt; (word(&system, 3), word(&system, 4)), (9, 0));
+    let Ok(logs) = system.finish() else {
+        assert!(rt; false, "not finished");
+        return Ok(());
+    };
+    let full = Some(Reply::Full(1));
+    assert_eq!(rt; replies(&logs, 0), (1, full, full));
+    assert_eq!(rt; replies(&logs, 1), (0, None, None));
+    assert_eq!(rt; (logs.cycles(), logs.units()), (1, 8));
+    Ok(())
+}
+
+#[test]
+fn the_second_allocation_pays_what_is_left(rt: HostRuntime) -> Result<(), OutOfMemory> {
+    let mut system = allocator_of_two(rt.alloc())?;
+    turns(&mut system, 0, 3);
+    for block in 1..12 {
+        assert_eq!(rt; word(&system, 7 * block), 2, "block {block}");
+    }
+    assert_eq!(rt; (word(&system, 3), word(&system, 4)), (0, 0));
+    let Ok(logs) = system.finish() else {
+        assert!(rt; false, "not finished");
+        return Ok(());
+    };
+    let full = Some(Reply::Full(1));
+    assert_eq!(rt; replies(&logs, 0), (2, full, full));
+    assert_eq!(rt; works(&logs, 0), (Some(8), Some(3)));
+    assert_eq!(rt; (logs.cycles(), logs.units()), (1, 11));
     Ok(())
 }

@@ -10,7 +10,7 @@ pub returns-clause-loads : goal.returns-clause-loads
 returns-clause-loads _ c traces ts r job is = (run_kept c traces ts r job is).shown
 
 pub returns-clause-free : goal.returns-clause-free
-returns-clause-free _ c traces ts r job is a o ka ol = not_free c traces job.plan r (run_kept c traces ts r job is) a o ka ol
+returns-clause-free _ c traces ts r job is a o ka ol = not_free c traces r (run_kept c traces ts r job is) a o ka ol
 
 pub returns-clause-older : goal.returns-clause-older
 returns-clause-older _ c traces ts r job is = run_older c traces ts r job is

@@ -1,6 +1,6 @@
 use Rattle.std.proofs.Common.{◌≤◌, length, All}
-use Rattle.heap_system.specs.Locals.{IsServed}
+use Rattle.never_heap.specs.Bounds.{IsCommandInBounds}
 use Rattle.heap_system.proofs.schedules.trace.Given as goal
 
 abbrev pub invariant-loop-command : goal.invariant-loop-command
-invariant-loop-command l = (length l.trace.items ≤ l.command-index) × All (IsServed (record { threads = 3; blocks = 64; live = 24; object = 2; shared = 17 })) l.trace.items
+invariant-loop-command l = (length l.trace.items ≤ l.command-index) × All (IsCommandInBounds (record { threads = 3; blocks = 64; live = 24; object = 2; shared = 17 })) l.trace.items

@@ -1,0 +1,5 @@
+pub mod Ranges
+pub mod Marking
+pub mod Ends
+pub mod Tricolours
+pub mod Solids

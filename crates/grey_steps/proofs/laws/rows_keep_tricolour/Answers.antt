@@ -1,0 +1,17 @@
+use Rattle.std.proofs.Common.{refl}
+use Rattle.grey_steps.specs.Rows.{shading}
+use Rattle.grey_steps.proofs.Ends.{shade_is_over}
+use Rattle.grey_steps.proofs.Tricolours.{keeps_tricolour, scan_over_none, shaded_dark, shade_dark, blackened_whole}
+use Rattle.grey_steps.proofs.laws.rows_keep_tricolour.Goals as goal
+
+pub returns : goal.returns
+returns c = record {
+  kept = keeps_tricolour;
+  scan = λ t n cycle. refl;
+  shade = λ t n cycle y. refl;
+  scan_over = scan_over_none;
+  shade_over = λ t n cycle y ws. shade_is_over y (shading t n cycle y) refl ws;
+  shaded = shaded_dark;
+  not_white = shade_dark;
+  black = blackened_whole;
+}

@@ -1,0 +1,27 @@
+-- Which event is a unit of marking, and what was read where a part has found nothing.
+use Rattle.std.specs.Prelude.{ℕ, zero, suc, ◌==◌, ◌&&◌, Bool, true, false, List, [], ◌∷◌}
+use Rattle.grey_steps.specs.declared.rows.GreyRow.{GreyRow}
+use Rattle.grey_steps.specs.declared.rows.GreyRow.TheVariants.{Blacken, Put, PutOwn}
+use Rattle.grey_steps.specs.Rows.{GreyState, grey_got}
+
+-- the event that makes the block under scan black
+abbrev pub is_blackening : GreyRow → Bool
+is_blackening (Blacken x hand) = true
+is_blackening _ = false
+
+-- the events that put a hand in the thread's own list
+abbrev pub is_putting : GreyRow → Bool
+is_putting (Put hand) = true
+is_putting (PutOwn y hand) = true
+is_putting _ = false
+
+-- the state after events that read these words, in this order
+abbrev pub grey_after : GreyState → List ℕ → GreyState
+grey_after s [] = s
+grey_after s (w ∷ ws) = grey_after (grey_got s w) ws
+
+-- the first n words are there, and each is 0
+abbrev pub begins_with_zeros : ℕ → List ℕ → Bool
+begins_with_zeros zero ws = true
+begins_with_zeros (suc n) [] = false
+begins_with_zeros (suc n) (w ∷ ws) = (w == 0) && begins_with_zeros n ws

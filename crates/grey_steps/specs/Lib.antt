@@ -1,0 +1,4 @@
+pub mod Rows
+pub mod Fits
+pub mod Ends
+pub mod TricolourHoldings

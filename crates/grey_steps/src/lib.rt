@@ -1,0 +1,17 @@
+//! Marking, one atomic operation at a time: a grey block is scanned, or a block becomes grey to which
+//! a command is about to store a reference. Grey blocks stand in lists that are linked through the blocks' own
+//! colour words, so marking takes no memory.
+#![tactic(auto)]
+
+mod laws;
+mod pass;
+mod rows;
+#[cfg(test)]
+mod tests;
+
+pub use laws::{
+    a_unit_is_a_blackening, nothing_is_each_list_empty, rows_keep_grey, rows_keep_solid,
+    rows_keep_tricolour, rows_stay_in_the_heap,
+};
+pub use pass::GreyPass;
+pub use rows::GreyRow;

@@ -1,0 +1,318 @@
+//! The part of a thread's work that marks: it scans one grey block, or makes one block grey.
+
+ghost use Rattle.std.specs.Prelude.{◌≡◌, ◌+◌, ◌-◌, ◌^◌, ◌<◌, ◌≤◌, IsSome};
+ghost use Rattle.block_store.specs.Colours as colours;
+ghost use Rattle.block_store.specs.Colours.{colour_of, colour_link, white_word, grey_word};
+ghost use Rattle.block_store.specs.Payloads as words;
+ghost use Rattle.block_store.specs.Payloads.{payload_of, payload_target};
+ghost use Rattle.block_store.specs.Places.{extent, ColourOf, IsBlock};
+ghost use Rattle.heap_machine.specs.Operations.{op_at, CompareExchange};
+ghost use Rattle.grey_steps.specs.Rows;
+ghost use Rattle.grey_steps.specs.Rows.{GreyState, grey_want, grey_got, grey_step, grey_unit, grey_nothing, grey_over, scanning, shading};
+ghost use Rattle.grey_steps.specs.Fits.{GreyFits, GreyReads};
+
+use crate::GreyRow;
+use block_store::{
+    Colour, PAYLOADS, Payload, Places, black, colour_word, read_colour, read_payload, white,
+};
+use heap_machine::{Op, Step};
+use std::marker::Model;
+
+/// Marking, done one event at a time while its thread is inside: a grey list is taken, one block of
+/// it is scanned and the rest put back; or one block is made grey.
+#[derive(Drop)]
+pub struct GreyPass {
+    thread: u32,
+    threads: u32,
+    cycle: u64,
+    row: GreyRow,
+}
+
+impl Model for GreyPass {
+    ghost use Rattle.grey_steps.specs.Rows.{GreyState};
+
+    ghost Value = { GreyState };
+
+    ghost view = { λ p. record { thread = p.thread; threads = p.threads; cycle = p.cycle; row = p.row } };
+}
+
+// The block to which a payload word refers, or 0.
+fn target_of(word: u64) -> u32
+    requires { IsSome (payload_of word) }
+    ensures { result ≡ words.target word }
+{
+    match read_payload(word).unwrap() {
+        Payload::Block(block) => block,
+        Payload::Nil | Payload::Int(_) => 0,
+    }
+}
+
+// The link in a colour word.
+fn link_in(word: u64) -> u32
+    requires { IsSome (colour_of word) }
+    ensures { result ≡ colours.link word }
+{
+    match read_colour(word).unwrap() {
+        Colour::Free(link) | Colour::Grey(link) => link,
+        Colour::Even | Colour::Odd => 0,
+    }
+}
+
+// The list that is taken as the u-th.
+#[tactic(auto, unfolding(crate::specs::Rows::list_of))]
+fn list_of(thread: u32, threads: u32, u: u32) -> u32
+    requires { (thread < threads) × (threads ≤ 16) × (u < threads) }
+    ensures list { result ≡ Rows.list_of thread threads u }
+    ensures low { result < threads }
+{
+    (thread + u) % threads
+}
+
+// After the u-th list, which began with this block.
+fn after_take(threads: u32, u: u32, head: u64) -> GreyRow
+    requires { (u < threads) × (threads ≤ 16) × (head ≤ 65535) }
+    ensures { result ≡ Rows.after_take threads u head }
+{
+    if head != 0 {
+        GreyRow::Pop { hand: head as u32 }
+    } else if u + 1 < threads {
+        GreyRow::Take { u: u + 1 }
+    } else {
+        GreyRow::NothingGrey
+    }
+}
+
+// The scan of a block begins.
+fn begin(block: u32, hand: u32) -> GreyRow
+    ensures { result ≡ GreyRow.ScanWord block 0 hand }
+{
+    GreyRow::ScanWord { block, j: 0, hand }
+}
+
+// After payload j was dealt with.
+fn after_word(block: u32, j: u32, hand: u32) -> GreyRow
+    requires { j < PAYLOADS }
+    ensures { result ≡ Rows.after_word block j hand }
+{
+    if j + 1 < PAYLOADS {
+        GreyRow::ScanWord {
+            block,
+            j: j + 1,
+            hand,
+        }
+    } else {
+        GreyRow::Blacken { block, hand }
+    }
+}
+
+// After payload j, which refers to this block, or to none where it is 0.
+fn after_scan(block: u32, j: u32, hand: u32, target: u32) -> GreyRow
+    requires { j < PAYLOADS }
+    ensures { result ≡ Rows.after_scan block j hand target }
+{
+    if target == 0 {
+        after_word(block, j, hand)
+    } else {
+        GreyRow::Shade {
+            block,
+            j,
+            target,
+            hand,
+        }
+    }
+}
+
+// The hand after a block of this colour was to become grey.
+fn shaded_hand(cycle: u64, target: u32, hand: u32, colour: u64) -> u32
+    ensures { result ≡ Rows.shaded_hand cycle target hand colour }
+{
+    if colour == colour_word(white(cycle)) {
+        target
+    } else {
+        hand
+    }
+}
+
+// After the block under scan was made black.
+fn after_black(hand: u32) -> GreyRow
+    ensures { result ≡ Rows.after_black hand }
+{
+    if hand == 0 {
+        GreyRow::Scanned
+    } else {
+        GreyRow::Put { hand }
+    }
+}
+
+// After the block to which a reference is about to be stored was to become grey.
+fn after_stored(target: u32, hand: u32) -> GreyRow
+    ensures { result ≡ Rows.after_stored target hand }
+{
+    if hand == 0 {
+        GreyRow::Shaded { target }
+    } else {
+        GreyRow::PutOwn { target, hand }
+    }
+}
+
+// After the own list was taken, which began with this block.
+fn after_own(target: u32, head: u64) -> GreyRow
+    requires { head ≤ 65535 }
+    ensures { result ≡ GreyRow.ShadeStored target head }
+{
+    GreyRow::ShadeStored {
+        target,
+        hand: head as u32,
+    }
+}
+
+fn load(place: usize) -> Op
+    ensures { result ≡ Op.Load place }
+{
+    Op::Load { place }
+}
+
+fn exchange(place: usize, new: u64) -> Op
+    ensures { result ≡ Op.Exchange place new }
+{
+    Op::Exchange { place, new }
+}
+
+// A white block becomes grey, in front of the hand.
+fn shading(places: &Places, cycle: u64, target: u32, hand: u32) -> Op
+    requires target { IsBlock places.now target }
+    requires hand { hand ≤ 65535 }
+    ensures { result ≡ op_at (extent places.now) (CompareExchange (ColourOf target) (white_word cycle) (grey_word hand)) }
+{
+    Op::CompareExchange {
+        place: places.colour(target),
+        old: colour_word(white(cycle)),
+        new: colour_word(Colour::Grey(hand)),
+    }
+}
+
+impl GreyPass {
+    /// The part that takes a grey list, scans one block of it and puts the rest back, for a thread
+    /// that is inside. `threads` is 1 to 16 and `thread` is below it. The cycle, 1 to 2^54 − 2, is
+    /// that of the phase word with which the thread entered.
+    pub fn scan(thread: u32, threads: u32, cycle: u64) -> GreyPass
+        requires thread { (thread < threads) × (threads ≤ 16) }
+        requires cycle { (1 ≤ cycle) × (cycle ≤ 2 ^ 54 - 2) }
+        ensures { result ≡ scanning thread threads cycle }
+    {
+        GreyPass {
+            thread,
+            threads,
+            cycle,
+            row: GreyRow::Take { u: 0 },
+        }
+    }
+
+    /// The part that takes the thread's own list, makes this block grey where it is white, in front
+    /// of that list, and puts the list back; an empty list is not put. `block` is 1 to 65,535;
+    /// `thread`, `threads` and `cycle` are as for `scan`.
+    pub fn shade(thread: u32, threads: u32, cycle: u64, block: u32) -> GreyPass
+        requires thread { (thread < threads) × (threads ≤ 16) }
+        requires cycle { (1 ≤ cycle) × (cycle ≤ 2 ^ 54 - 2) }
+        requires block { (1 ≤ block) × (block ≤ 65535) }
+        ensures { result ≡ shading thread threads cycle block }
+    {
+        GreyPass {
+            thread,
+            threads,
+            cycle,
+            row: GreyRow::TakeOwn { target: block },
+        }
+    }
+
+    /// The operation of the next event. A part that is over wants no more than a look at the phase.
+    /// The places are those of a heap that has the part's threads and its row's blocks, the same heap
+    /// at all calls of one part.
+    pub fn want(&self, places: &Places) -> Op
+        requires { GreyFits places.now self.now }
+        ensures { result ≡ op_at (extent places.now) (grey_want self.now) }
+    {
+        use GreyRow::*;
+
+        let (thread, cycle) = (self.thread, self.cycle);
+        match self.row {
+            Take { u } => exchange(places.grey_list(list_of(thread, self.threads, u)), 0),
+            Pop { hand } => load(places.colour(hand)),
+            ScanWord { block, j, .. } => load(places.payload(block, j)),
+            Shade { target, hand, .. } | ShadeStored { target, hand } => {
+                shading(places, cycle, target, hand)
+            }
+            Blacken { block, .. } => exchange(places.colour(block), colour_word(black(cycle))),
+            Put { hand } | PutOwn { hand, .. } => exchange(places.grey_list(thread), hand as u64),
+            TakeOwn { .. } => exchange(places.grey_list(thread), 0),
+            Scanned | NothingGrey | Shaded { .. } => load(places.phase()),
+        }
+    }
+
+    /// Moves on by one event, whose operation read the word: one that its place can hold. The places
+    /// are those that `want` was given. A part that is over stays as it is.
+    pub fn got(&mut self, places: &Places, word: u64) -> Step
+        requires fits { GreyFits places.now self.old }
+        requires word { GreyReads places.now self.old word }
+        ensures state { self.new ≡ grey_got self.old word }
+        ensures step { result ≡ grey_step self.old word }
+        ensures fits { GreyFits places.now self.new }
+    {
+        self.row = self.after(places, word);
+        if self.over() { Step::Over } else { Step::Went }
+    }
+
+    /// Whether the part has made a block black; it stays so from that event on.
+    pub fn unit(&self) -> bool
+        ensures { result ≡ grey_unit self.now.row }
+    {
+        matches!(self.row, GreyRow::Put { .. } | GreyRow::Scanned)
+    }
+
+    /// Whether the part is a scan that has found each list empty.
+    pub fn nothing(&self) -> bool
+        ensures { result ≡ grey_nothing self.now.row }
+    {
+        matches!(self.row, GreyRow::NothingGrey)
+    }
+
+    // The row after one event, whose operation read the word.
+    fn after(&self, _places: &Places, read: u64) -> GreyRow
+        requires fits { GreyFits _places.now self.now }
+        requires word { GreyReads _places.now self.now read }
+        ensures { result ≡ (grey_got self.now read).row }
+    {
+        use GreyRow::*;
+
+        let cycle = self.cycle;
+        match self.row {
+            Take { u } => after_take(self.threads, u, read),
+            Pop { hand } => begin(hand, link_in(read)),
+            ScanWord { block, j, hand } => after_scan(block, j, hand, target_of(read)),
+            Shade {
+                block,
+                j,
+                target,
+                hand,
+            } => after_word(block, j, shaded_hand(cycle, target, hand, read)),
+            Blacken { hand, .. } => after_black(hand),
+            Put { .. } | Scanned => Scanned,
+            NothingGrey => NothingGrey,
+            TakeOwn { target } => after_own(target, read),
+            ShadeStored { target, hand } => {
+                after_stored(target, shaded_hand(cycle, target, hand, read))
+            }
+            PutOwn { target, .. } | Shaded { target } => Shaded { target },
+        }
+    }
+
+    // Whether there is no event more.
+    fn over(&self) -> bool
+        ensures { result ≡ grey_over self.now.row }
+    {
+        matches!(
+            self.row,
+            GreyRow::Scanned | GreyRow::NothingGrey | GreyRow::Shaded { .. }
+        )
+    }
+}

@@ -1,0 +1,248 @@
+-- The opening's grey blocks are the roots, each alone in its list; the blocks of its arrays are not Free; and each place has a word that it can hold.
+use Rattle.std.proofs.Common.{◌≡◌, ℕ, zero, suc, ◌+◌, ◌-◌, ◌*◌, ◌/◌, ◌%◌, ◌<◌, ◌≤◌, Bool, true, false, cond, ◌&&◌, eqb, leb, ltb, eqb-true, leb-true, ltb-true, eq-eqb, ne_eqb, lt-ltb, le-ltb, le-leb, Option, Some, IsSome, [], ◌∷◌, refl, sym, ap, ◌∙◌, subst, arith, inl, inr}
+use Rattle.std.proofs.lemmas.Bool.{cases_Bool, cases_eq, cases_lt, and_parts, and_from}
+use Rattle.block_store.specs.declared.Config.{Config}
+use Rattle.block_store.specs.declared.Colour.{Colour}
+use Rattle.block_store.specs.declared.Colour.TheVariants as colours
+use Rattle.block_store.specs.declared.Owner.{Owner}
+use Rattle.block_store.specs.declared.Payload.TheVariants as payloads
+use Rattle.block_store.specs.declared.Shape.TheVariants as shapes
+use Rattle.block_store.specs.declared.Name.{Name}
+use Rattle.block_store.specs.declared.Value.{Value}
+use Rattle.block_store.specs.declared.Value.TheVariants as values
+use Rattle.block_store.specs.Configs.{IsInBounds}
+use Rattle.block_store.specs.Colours.{is_grey, is_free, link, grey_word, white_word, free_word, colour_of, colour_code, colour_link, IsColour}
+use Rattle.block_store.specs.Heaps.{Heap}
+use Rattle.block_store.specs.Owners.{owner_word, owner_of}
+use Rattle.block_store.specs.Payloads.{payload_of, reference_word}
+use Rattle.block_store.specs.Phases.{bit}
+use Rattle.block_store.specs.Places.{Place, Phase, Cursor, FreeCount, GreyList, FreeList, ColourOf, OwnerOf, ShapeOf, PayloadOf, extent, in_range, is_block}
+use Rattle.block_store.specs.Shapes.{shape_of, array_word, record_word}
+use Rattle.block_store.proofs.ColourWords.{link-grey, kind-zero, not_grey_white, not_grey_free, not_free_white, not_free_grey, grey_grey, colour-code, reads}
+use Rattle.block_store.proofs.OwnerWords.{owner-code}
+use Rattle.block_store.proofs.PayloadWords.{payload-code, target-reference, target-nil}
+use Rattle.block_store.proofs.ShapeWords.{shape-code}
+use Rattle.rate_plan.specs.Rates.{IsAdmitted}
+use Rattle.object_lists.specs.Parts.{Part, Link, Field, Blank}
+use Rattle.array_trees.specs.Trees.{tree, array_blocks}
+use Rattle.array_trees.specs.Levels.{array_part}
+use Rattle.array_trees.proofs.Arrays.{tree_layout}
+use Rattle.never_heap.specs.Graphs.{start_graph, shared_name, register_of}
+use Rattle.never_heap.proofs.Starting.{register_of_start}
+use Rattle.shown_graph.specs.Words.{part_word, value_word}
+use Rattle.shown_graph.specs.Openings.{opening_last, register_word, shared_word}
+use Rattle.shown_graph.proofs.Opening.{few_shared}
+use Rattle.heap_machine.specs.Counts.{total}
+use Rattle.heap_machine.specs.Grey.{GreyHolding, no_grey, Stands, GreyKept}
+use Rattle.heap_machine.specs.Readings.{CanHold, IsPhaseWord, IsHeld}
+use Rattle.heap_machine.proofs.Functions.{total_none}
+use Rattle.heap_system.specs.Openings.{is_root, opening_colour, opening_heap}
+
+some_is : {A : Type 0} (o : Option A) (x : A) → o ≡ Some x → IsSome o
+some_is o x e = subst (λ p. IsSome p) (sym e) refl
+
+-- how often x is a root of n threads
+no_root : (n x : ℕ) → ((t : ℕ) → t < n → x ≡ 5 * t + 1 → ⊥) → total n (λ t. bit (eqb x (5 * t + 1)) + 0) ≡ 0
+no_root n x ne = total_none n (λ t. bit (eqb x (5 * t + 1)) + 0) (λ t tl. rw (ne_eqb x (5 * t + 1) (ne t tl)) refl)
+
+one_root : (n x t : ℕ) → t < n → x ≡ 5 * t + 1 → total n (λ u. bit (eqb x (5 * u + 1)) + 0) ≡ 1
+one_root zero x t tl e = absurd (omega arith)
+one_root (suc n) x t tl e = elim (cases_eq t n) [
+  | inl s ↦
+      let none = no_root n x (λ u ul q. omega arith) in
+      let here : bit (eqb x (5 * n + 1)) ≡ 1 = ap bit (eq-eqb x (5 * n + 1) (omega arith)) in omega arith
+  | inr ne ↦
+      let below = one_root n x t (omega arith) e in
+      let here : bit (eqb x (5 * n + 1)) ≡ 0 = ap bit (ne_eqb x (5 * n + 1) (omega arith)) in omega arith
+]
+
+-- a root is the first block of a thread's registers
+root_is : (n x : ℕ) → 1 ≤ x → (leb x (5 * n) && eqb ((x - 1) % 5) 0) ≡ true → ((x - 1) / 5 < n) × (x ≡ 5 * ((x - 1) / 5) + 1)
+root_is n x some e =
+    let p = and_parts (leb x (5 * n)) (eqb ((x - 1) % 5) 0) e in
+    let low : x ≤ 5 * n = leb-true x (5 * n) p.0 in
+    let even : (x - 1) % 5 ≡ 0 = eqb-true ((x - 1) % 5) 0 p.1 in
+    (omega arith, omega arith)
+
+is_the_root : (n t : ℕ) → t < n → (leb (5 * t + 1) (5 * n) && eqb ((5 * t + 1 - 1) % 5) 0) ≡ true
+is_the_root n t tl = and_from _ _ (le-leb (5 * t + 1) (5 * n) (omega arith)) (eq-eqb ((5 * t + 1 - 1) % 5) 0 (omega arith))
+
+white_even : white_word 1 ≡ 1
+unfolding white_word
+white_even = refl
+
+owner_zero : owner_word 0 0 0 ≡ 0
+unfolding owner_word
+owner_zero = refl
+
+record_zero : record_word 0 ≡ 0
+unfolding record_word
+record_zero = refl
+
+five : array_blocks 16 ≡ 5
+unfolding tree
+five = refl
+
+module _ (c : Config) (bounds : IsInBounds c) (plan : IsAdmitted c) where
+  last_low : opening_last c + 1 ≤ c.blocks
+  last_low = omega (arith, plan.opens, plan.room)
+
+  block_in : (x : ℕ) → 1 ≤ x → x ≤ c.blocks → is_block (extent c) x ≡ true
+  block_in x some low = and_from _ _ (le-leb 1 x some) (le-leb x c.blocks low)
+
+  -- the colours of the opening
+  colour_grey : (x : ℕ) → is_grey (opening_colour c x) ≡ is_root c x
+  colour_grey x = elim (cases_Bool (is_root c x)) [
+    | inl e ↦ rw e (grey_grey 0)
+    | inr e ↦ rw e (elim (cases_Bool (leb x (opening_last c))) [
+      | inl f ↦ rw f (not_grey_white 1)
+      | inr f ↦ rw f (not_grey_free (cond (ltb x c.blocks) (x + 1) 0))
+    ])
+  ]
+
+  colour_solid : (x : ℕ) → x ≤ opening_last c → is_free (opening_colour c x) ≡ false
+  colour_solid x low = elim (cases_Bool (is_root c x)) [
+    | inl e ↦ rw e (not_free_grey 0)
+    | inr e ↦ rw e (rw (le-leb x (opening_last c) low) (not_free_white 1))
+  ]
+
+  colour_held : (x : ℕ) (w : ℕ) (k : Colour) → w ≡ colour_code k → IsColour k → colour_link k ≤ c.blocks → CanHold (extent c) (ColourOf x) w
+  colour_held x w k is fits low =
+      let r : colour_of w ≡ Some k = ap colour_of is ∙ colour-code k fits in
+      (some_is (colour_of w) k r, subst (λ n. n ≤ c.blocks) (reads w k r).2 low)
+
+  free_link_low : (x : ℕ) → cond (ltb x c.blocks) (x + 1) 0 ≤ c.blocks
+  free_link_low x = elim (cases_lt x c.blocks) [
+    | inl l ↦ rw (lt-ltb x c.blocks l) (omega arith)
+    | inr l ↦ rw (le-ltb x c.blocks l) (omega arith)
+  ]
+
+  opening_colour_held : (x : ℕ) → CanHold (extent c) (ColourOf x) (opening_colour c x)
+  opening_colour_held x = elim (cases_Bool (is_root c x)) [
+    | inl e ↦ rw e (colour_held x (grey_word 0) (colours.Grey 0) refl (omega arith) (omega arith))
+    | inr e ↦ rw e (elim (cases_Bool (leb x (opening_last c))) [
+      | inl f ↦ rw f (colour_held x (white_word 1) colours.Even white_even tt (omega arith))
+      | inr f ↦ rw f (colour_held x (free_word (cond (ltb x c.blocks) (x + 1) 0)) (colours.Free (cond (ltb x c.blocks) (x + 1) 0)) refl (omega (arith, free_link_low x, bounds.blocks)) (free_link_low x))
+    ])
+  ]
+
+  -- the owners and shapes
+  owner_held : (t o : ℕ) → t ≤ 16 → o ≤ 1023 → IsSome (owner_of (owner_word t 0 o))
+  owner_held t o tl ol = let owner : Owner = record { thread = t; serial = 0; ordinal = o } in some_is (owner_of (owner_word t 0 o)) owner (owner-code owner (record { thread = tl; serial = omega arith; ordinal = ol }))
+
+  no_owner : IsSome (owner_of 0)
+  no_owner = subst (λ w. IsSome (owner_of w)) owner_zero (owner_held 0 0 (omega arith) (omega arith))
+
+  shape_held : (e : ℕ) → e ≤ 65535 → IsSome (shape_of (array_word e))
+  shape_held e el = some_is (shape_of (array_word e)) (shapes.Tree e) (shape-code (shapes.Tree e) el)
+
+  no_shape : IsSome (shape_of 0)
+  no_shape = subst (λ w. IsSome (shape_of w)) record_zero (some_is (shape_of (record_word 0)) (shapes.List 0) (shape-code (shapes.List 0) (omega arith)))
+
+  -- the payloads
+  nothing_held : (x j : ℕ) → CanHold (extent c) (PayloadOf x j) 0
+  nothing_held x j = (some_is (payload_of 0) payloads.Nil (payload-code payloads.Nil tt), omega (arith, target-nil))
+
+  block_held : (x j y : ℕ) → 1 ≤ y → y ≤ c.blocks → CanHold (extent c) (PayloadOf x j) (reference_word y)
+  block_held x j y some low = (some_is (payload_of (reference_word y)) (payloads.Block y) (payload-code (payloads.Block y) (some, omega (arith, bounds.blocks))), omega (arith, target-reference y))
+
+  -- a part of an array whose blocks are those from this one on, where its fields are nil or refer to a block
+  part_held : (x j : ℕ) (head : Name → ℕ) (first : ℕ) (field : ℕ → Value) (e o : ℕ) → 1 ≤ first → first + array_blocks e ≤ c.blocks + 1
+      → ((i : ℕ) → i < e → CanHold (extent c) (PayloadOf x j) (value_word head (field i))) → CanHold (extent c) (PayloadOf x j) (part_word head (λ p. first + p) field (array_part e o j))
+  part_held x j head first field e o some low fields = by (array_part e o j) refl
+    where
+      by : (p : Part) → array_part e o j ≡ p → CanHold (extent c) (PayloadOf x j) (part_word head (λ p. first + p) field p)
+      by (Link q) is = let within = ((tree_layout 4 e (omega arith)).onward o j q is).2 in block_held x j (first + q) (omega arith) (omega arith)
+      by (Field i) is = fields i ((tree_layout 4 e (omega arith)).spots o j i is).0
+      by Blank is = nothing_held x j
+
+  register_held : (x j t o : ℕ) → t < c.threads → CanHold (extent c) (PayloadOf x j) (register_word c t o j)
+  register_held x j t o tl = part_held x j (λ a. 5 * c.threads + 1) (5 * t + 1) (register_of (start_graph c) t) 16 o (omega arith) (omega (arith, five, last_low))
+      (λ i il. subst (λ v. CanHold (extent c) (PayloadOf x j) (value_word (λ a. 5 * c.threads + 1) v)) (sym (register_of_start c t i tl il)) (by (eqb i 0)))
+    where
+      by : (b : Bool) → CanHold (extent c) (PayloadOf x j) (value_word (λ a. 5 * c.threads + 1) (cond b (values.Ref (shared_name c.threads)) values.Nil))
+      by true = block_held x j (5 * c.threads + 1) (omega arith) (omega (arith, last_low))
+      by false = nothing_held x j
+
+  shared_held : (x j o : ℕ) → CanHold (extent c) (PayloadOf x j) (shared_word c o j)
+  shared_held x j o = part_held x j (λ a. 5 * c.threads + 1) (5 * c.threads + 1) (λ i. values.Nil) c.shared o (omega arith) (omega (arith, last_low)) (λ i il. nothing_held x j)
+
+  payload_held : (x j : ℕ) → CanHold (extent c) (PayloadOf x j) (opening_heap c (PayloadOf x j))
+  payload_held x j = elim (cases_Bool (leb x (5 * c.threads))) [
+    | inl e ↦ rw e (register_held x j ((x - 1) / 5) ((x - 1) % 5) (let low : x ≤ 5 * c.threads = leb-true x (5 * c.threads) e in omega (arith, bounds.some_thread)))
+    | inr e ↦ rw e (elim (cases_Bool (leb x (opening_last c))) [
+      | inl f ↦ rw f (shared_held x j (x - (5 * c.threads + 1)))
+      | inr f ↦ rw f (nothing_held x j)
+    ])
+  ]
+
+  owner_here : (x : ℕ) → CanHold (extent c) (OwnerOf x) (opening_heap c (OwnerOf x))
+  owner_here x = elim (cases_Bool (leb x (5 * c.threads))) [
+    | inl e ↦ rw e (let low : x ≤ 5 * c.threads = leb-true x (5 * c.threads) e in owner_held ((x - 1) / 5) ((x - 1) % 5) (omega (arith, bounds.threads)) (omega arith))
+    | inr e ↦ rw e (elim (cases_Bool (leb x (opening_last c))) [
+      | inl f ↦ rw f (let low : x ≤ opening_last c = leb-true x (opening_last c) f in owner_held c.threads (x - (5 * c.threads + 1)) (omega (arith, bounds.threads)) (omega (arith, few_shared c.shared bounds.shared)))
+      | inr f ↦ rw f no_owner
+    ])
+  ]
+
+  shape_here : (x : ℕ) → CanHold (extent c) (ShapeOf x) (opening_heap c (ShapeOf x))
+  shape_here x = elim (cases_Bool (leb x (5 * c.threads))) [
+    | inl e ↦ rw e (shape_held 16 (omega arith))
+    | inr e ↦ rw e (elim (cases_Bool (leb x (opening_last c))) [
+      | inl f ↦ rw f (shape_held c.shared (omega (arith, bounds.shared)))
+      | inr f ↦ rw f no_shape
+    ])
+  ]
+
+  module _ (h : Heap) (words : (p : Place) → in_range (extent c) p ≡ true → h p ≡ opening_heap c p) where
+    -- each place has a word that it can hold
+    pub opening_held : IsPhaseWord (h Phase) → IsHeld c h
+    opening_held phase Phase inp = phase
+    opening_held phase Cursor inp = subst (CanHold (extent c) Cursor) (sym (words Cursor inp)) (omega arith, omega arith)
+    opening_held phase FreeCount inp = subst (CanHold (extent c) FreeCount) (sym (words FreeCount inp)) (omega arith)
+    opening_held phase (GreyList t) inp = subst (CanHold (extent c) (GreyList t)) (sym (words (GreyList t) inp)) (let low : t < c.threads = ltb-true t c.threads inp in omega (arith, last_low))
+    opening_held phase (FreeList t) inp = subst (CanHold (extent c) (FreeList t)) (sym (words (FreeList t) inp)) (by (eqb t 0))
+      where
+        by : (b : Bool) → cond b (opening_last c + 1) 0 ≤ c.blocks
+        by true = last_low
+        by false = omega arith
+    opening_held phase (ColourOf x) inp = subst (CanHold (extent c) (ColourOf x)) (sym (words (ColourOf x) inp)) (opening_colour_held x)
+    opening_held phase (OwnerOf x) inp = subst (CanHold (extent c) (OwnerOf x)) (sym (words (OwnerOf x) inp)) (owner_here x)
+    opening_held phase (ShapeOf x) inp = subst (CanHold (extent c) (ShapeOf x)) (sym (words (ShapeOf x) inp)) (shape_here x)
+    opening_held phase (PayloadOf x j) inp = subst (CanHold (extent c) (PayloadOf x j)) (sym (words (PayloadOf x j) inp)) (payload_held x j)
+
+    -- no block of the arrays is Free
+    pub opening_solid : (x : ℕ) → 1 ≤ x → x ≤ opening_last c → is_free (h (ColourOf x)) ≡ false
+    opening_solid x some low = ap is_free (words (ColourOf x) (block_in x some (omega (arith, last_low)))) ∙ colour_solid x low
+
+    -- each root stands in its list
+    module _ (outside : (x : ℕ) → is_block (extent c) x ≡ false → h (ColourOf x) ≡ 0) (hs : ℕ → GreyHolding) (empty : (t : ℕ) → t < c.threads → hs t ≡ no_grey) where
+      root_in : (t : ℕ) → t < c.threads → is_block (extent c) (5 * t + 1) ≡ true
+      root_in t tl = block_in (5 * t + 1) (omega arith) (omega (arith, last_low))
+
+      root_colour : (t : ℕ) → t < c.threads → h (ColourOf (5 * t + 1)) ≡ grey_word 0
+      root_colour t tl = words (ColourOf (5 * t + 1)) (root_in t tl) ∙ ap (λ b. cond b (grey_word 0) (cond (leb (5 * t + 1) (opening_last c)) (white_word 1) (free_word (cond (ltb (5 * t + 1) c.blocks) (5 * t + 1 + 1) 0)))) (is_the_root c.threads t tl)
+
+      once : (x : ℕ) → total c.threads (λ t. bit (eqb x (5 * t + 1)) + 0) ≡ bit (is_grey (h (ColourOf x)))
+      once x = elim (cases_Bool (is_block (extent c) x)) [
+        | inl inp ↦
+            let some : 1 ≤ x = leb-true 1 x (and_parts (leb 1 x) (leb x c.blocks) inp).0 in
+            let grey : is_grey (h (ColourOf x)) ≡ is_root c x = ap is_grey (words (ColourOf x) inp) ∙ colour_grey x in
+            elim (cases_Bool (is_root c x)) [
+              | inl e ↦ (let r = root_is c.threads x some e in one_root c.threads x ((x - 1) / 5) r.0 r.1 ∙ sym (ap bit (grey ∙ e)))
+              | inr e ↦ no_root c.threads x (λ t tl is. (let z : true ≡ false = sym (is_the_root c.threads t tl) ∙ sym (ap (is_root c) is) ∙ e in absurd cc)) ∙ sym (ap bit (grey ∙ e))
+            ]
+        | inr out ↦
+            no_root c.threads x (λ t tl is. (let z : true ≡ false = sym (root_in t tl) ∙ sym (ap (is_block (extent c)) is) ∙ out in absurd cc))
+            ∙ sym (ap (λ w. bit (is_grey w)) (outside x out) ∙ ap (λ k. bit (eqb k 3)) kind-zero)
+      ]
+
+      pub opening_grey : GreyKept c.threads h hs
+      opening_grey = record {
+        lists = λ t. (5 * t + 1) ∷ [];
+        hands = λ t. [];
+        list_chain = λ t tl. (words (GreyList t) (lt-ltb t c.threads tl), omega arith, ap link (root_colour t tl) ∙ link-grey 0);
+        hand_chain = λ t tl. subst (λ (v : GreyHolding). Stands (λ x. h (ColourOf x)) v.scan v.hand []) (sym (empty t tl)) refl;
+        once = λ x. (let none : total c.threads (λ t. 0) ≡ 0 = total_none c.threads (λ t. 0) (λ u ul. refl) in omega (arith, once x, none));
+        emptied = λ t tl e. absurd (let z : false ≡ true = sym (ap (λ (v : GreyHolding). v.emptied) (empty t tl)) ∙ e in cc);
+      }
