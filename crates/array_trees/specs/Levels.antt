@@ -35,7 +35,8 @@ level_start w e h = tree w (level_size w e h) - level_size w e h
 
 -- What stands at payload j of block o, which is in the level that is h levels above the leaves or in
 -- one below. Of a level that is h levels above the leaves, `start h` is the first ordinal and
--- `size h` the number of blocks. Block r of a level has as children the blocks r * w + j of the level below, as far as they exist.
+-- `size h` the number of blocks. Block r of a level has as children the blocks r * w + j of the
+-- level below, as far as they exist.
 abbrev pub part_from : ℕ → ℕ → (ℕ → ℕ) → (ℕ → ℕ) → ℕ → ℕ → ℕ → Part
 part_from w e start size zero o j = field_below ((o - start 0) * w + j) e
 part_from w e start size (suc h) o j =
