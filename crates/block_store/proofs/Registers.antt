@@ -1,17 +1,18 @@
 -- Where registers stand, over both widths.
-use Rattle.std.proofs.Common.{◌≡◌, ℕ, ◌+◌, ◌*◌, ◌/◌, ◌%◌, ◌<◌, ◌≤◌, refl, arith}
+use Rattle.std.proofs.Common.{◌≡◌, ℕ, ◌+◌, ◌-◌, ◌*◌, ◌/◌, ◌%◌, ◌<◌, ◌≤◌, refl, arith}
 use Rattle.block_store.specs.declared.Width.{Width}
 use Rattle.block_store.specs.declared.Width.TheVariants.{Four, Eight}
 use Rattle.block_store.specs.declared.TheConstants.{REGISTERS}
 use Rattle.block_store.specs.Widths.{payloads, register_blocks}
-use Rattle.block_store.specs.Registers.{root_block, register_block, register_slot, registers_end}
+use Rattle.block_store.specs.Registers.{root_block, register_block, register_slot, registers_end, register_thread, register_ordinal}
 
 -- the numbers by the width's two
 pub root_by : (w : Width) (t : ℕ) → root_block w t ≡ register_blocks w * t + 1
 root_by Four t = refl
 root_by Eight t = refl
 
-pub block_by : (w : Width) (t r : ℕ) → register_block w t r ≡ register_blocks w * t + 2 + r / payloads w
+pub block_by : (w : Width) (t r : ℕ)
+    → register_block w t r ≡ register_blocks w * t + 2 + r / payloads w
 block_by Four t r = refl
 block_by Eight t r = refl
 
@@ -22,6 +23,14 @@ slot_by Eight r = refl
 pub end_by : (w : Width) (n : ℕ) → registers_end w n ≡ register_blocks w * n
 end_by Four n = refl
 end_by Eight n = refl
+
+pub thread_by : (w : Width) (x : ℕ) → register_thread w x ≡ (x - 1) / register_blocks w
+thread_by Four x = refl
+thread_by Eight x = refl
+
+pub ordinal_by : (w : Width) (x : ℕ) → register_ordinal w x ≡ (x - 1) % register_blocks w
+ordinal_by Four x = refl
+ordinal_by Eight x = refl
 
 -- the bounds of a width
 pub wide : (w : Width) → (4 ≤ payloads w) × (payloads w ≤ 8)
@@ -49,7 +58,8 @@ pub root_next : (w : Width) (t : ℕ) → root_block w (t + 1) ≡ root_block w 
 root_next Four t = omega arith
 root_next Eight t = omega arith
 
-pub root_low : (w : Width) (n t : ℕ) → t < n → root_block w t + register_blocks w ≤ registers_end w n + 1
+pub root_low : (w : Width) (n t : ℕ) → t < n
+    → root_block w t + register_blocks w ≤ registers_end w n + 1
 root_low Four n t h = omega arith
 root_low Eight n t h = omega arith
 
@@ -88,7 +98,8 @@ pub register_some : (w : Width) (t r : ℕ) → 1 ≤ register_block w t r
 register_some Four t r = omega arith
 register_some Eight t r = omega arith
 
-pub register_low : (w : Width) (n t r : ℕ) → t < n → r < REGISTERS → register_block w t r ≤ registers_end w n
+pub register_low : (w : Width) (n t r : ℕ) → t < n → r < REGISTERS
+    → register_block w t r ≤ registers_end w n
 register_low Four n t r h l = omega arith
 register_low Eight n t r h l = omega arith
 
@@ -109,3 +120,27 @@ pub own_array : (w : Width) (t r u q : ℕ) → r < REGISTERS → q < REGISTERS
     → register_block w t r ≡ register_block w u q → t ≡ u
 own_array Four t r u q l m e = omega arith
 own_array Eight t r u q l m e = omega arith
+
+-- which thread's array a block is of, and which of its blocks
+pub thread_of : (w : Width) (t o : ℕ) → o < register_blocks w
+    → register_thread w (root_block w t + o) ≡ t
+thread_of Four t o h = omega arith
+thread_of Eight t o h = omega arith
+
+pub ordinal_of : (w : Width) (t o : ℕ) → o < register_blocks w
+    → register_ordinal w (root_block w t + o) ≡ o
+ordinal_of Four t o h = omega arith
+ordinal_of Eight t o h = omega arith
+
+pub thread_low : (w : Width) (n x : ℕ) → 1 ≤ x → x ≤ registers_end w n → register_thread w x < n
+thread_low Four n x h l = omega arith
+thread_low Eight n x h l = omega arith
+
+pub ordinal_low : (w : Width) (x : ℕ) → register_ordinal w x < register_blocks w
+ordinal_low Four x = omega arith
+ordinal_low Eight x = omega arith
+
+pub block_is : (w : Width) (x : ℕ) → 1 ≤ x
+    → x ≡ root_block w (register_thread w x) + register_ordinal w x
+block_is Four x h = omega arith
+block_is Eight x h = omega arith

@@ -1,7 +1,7 @@
 -- Where the registers of threads stand: each thread's are an array of 16 elements, and the arrays
 -- take the first blocks of the heap, thread by thread. This is the one place with the numbers of
 -- that layout, for either width.
-use Rattle.std.specs.Prelude.{ℕ, ◌+◌, ◌*◌, ◌/◌, ◌%◌}
+use Rattle.std.specs.Prelude.{ℕ, ◌+◌, ◌-◌, ◌*◌, ◌/◌, ◌%◌}
 use Rattle.block_store.specs.declared.Width.{Width}
 use Rattle.block_store.specs.declared.Width.TheVariants.{Four, Eight}
 
@@ -24,3 +24,12 @@ register_slot Eight r = r % 8
 abbrev pub registers_end : Width → ℕ → ℕ
 registers_end Four n = 5 * n
 registers_end Eight n = 3 * n
+
+-- the thread whose register array has block x, and which of its blocks that is
+abbrev pub register_thread : Width → ℕ → ℕ
+register_thread Four x = (x - 1) / 5
+register_thread Eight x = (x - 1) / 3
+
+abbrev pub register_ordinal : Width → ℕ → ℕ
+register_ordinal Four x = (x - 1) % 5
+register_ordinal Eight x = (x - 1) % 3

@@ -10,7 +10,7 @@ ghost use Rattle.block_store.specs.Phases.{phase_code, phase_of};
 ghost use Rattle.block_store.specs.Places.{Extent, Place, in_range, index, words_count};
 ghost use Rattle.block_store.specs.Heaps.{heap_of, put_at};
 ghost use Rattle.block_store.specs.Widths.{payloads, register_blocks};
-ghost use Rattle.block_store.specs.Registers.{root_block, register_block, register_slot, registers_end};
+ghost use Rattle.block_store.specs.Registers.{root_block, register_block, register_slot, registers_end, register_thread, register_ordinal};
 ghost use Rattle.block_store.specs.declared.TheConstants.{REGISTERS};
 ghost use Rattle.block_store.specs.declared.Width.{Width};
 ghost use Rattle.block_store.specs.declared.Payload.{Payload};
@@ -62,8 +62,8 @@ pub fn writes_are_of_places()
 {}
 
 /// In blocks of either width the register arrays of threads lie one behind the other, from block 1
-/// on. Each register stands in a block of its thread's array behind the root, and distinct registers
-/// at distinct places.
+/// on, and each block of them is of one thread and ordinal. Each register stands in a block of its
+/// thread's array behind the root, and distinct registers at distinct places.
 pub fn registers_are_placed()
     ensures first { (w : Width) → root_block w 0 ≡ 1 }
     ensures next { (w : Width) (t : ℕ) → root_block w (t + 1) ≡ root_block w t + register_blocks w }
@@ -74,4 +74,8 @@ pub fn registers_are_placed()
     ensures distinct { (w : Width) (t r u q : ℕ) → r < REGISTERS → q < REGISTERS
         → register_block w t r ≡ register_block w u q → register_slot w r ≡ register_slot w q
         → (t ≡ u) × (r ≡ q) }
+    ensures thread { (w : Width) (t o : ℕ) → o < register_blocks w
+        → register_thread w (root_block w t + o) ≡ t }
+    ensures ordinal { (w : Width) (t o : ℕ) → o < register_blocks w
+        → register_ordinal w (root_block w t + o) ≡ o }
 {}
