@@ -20,3 +20,4 @@ pub mod Ordering
 pub mod Coming
 pub mod Walking
 pub mod Counting
+pub mod Opening
