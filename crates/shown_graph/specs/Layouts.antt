@@ -1,18 +1,18 @@
 -- How an object lies in blocks of the width W: a record as a list, an array as a tree.
 use Rattle.std.specs.Prelude.{ℕ, length}
 use Rattle.object_lists.specs.Parts.{Part}
-use Rattle.object_lists.specs.Records.{record_blocks, record_part, record_spot}
-use Rattle.array_trees.specs.Trees.{array_blocks}
+use Rattle.object_lists.specs.Records.{record_part, record_spot}
 use Rattle.array_trees.specs.Levels.{array_part, array_spot}
 use Rattle.block_store.specs.declared.Shape.{Shape}
 use Rattle.block_store.specs.declared.Width.{Width}
 use Rattle.block_store.specs.declared.Shape.TheVariants as shapes
 use Rattle.never_heap.specs.Graphs.{ObjectKind, Record, Array, Object}
+use Rattle.never_heap.specs.LiveBlocks.{blocks_of_kind}
+pub use Rattle.never_heap.specs.LiveBlocks.{object_blocks}
 
 -- how many blocks an object of this many fields takes
 abbrev pub layout_blocks : Width → ObjectKind → ℕ → ℕ
-layout_blocks W Record n = record_blocks W n
-layout_blocks W Array n = array_blocks W n
+layout_blocks W k n = blocks_of_kind W k n
 
 -- what stands at payload j of ordinal o
 abbrev pub layout_part : Width → ObjectKind → ℕ → ℕ → ℕ → Part
@@ -24,10 +24,7 @@ abbrev pub layout_spot : Width → ObjectKind → ℕ → ℕ → ℕ × ℕ
 layout_spot W Record n i = record_spot W i
 layout_spot W Array n i = array_spot W n i
 
--- the same of an object
-abbrev pub object_blocks : Width → Object → ℕ
-object_blocks W o = layout_blocks W o.kind (length o.fields)
-
+-- the same of an object; how many blocks it takes is said with the graph
 abbrev pub object_part : Width → Object → ℕ → ℕ → Part
 object_part W o = layout_part W o.kind (length o.fields)
 
