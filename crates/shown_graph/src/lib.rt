@@ -153,7 +153,8 @@ pub fn loads_are_read()
         → owner_of (s.words.owner (target v.word))
         ≡ Some (record { thread = a.thread; serial = a.serial; ordinal = 0 }) }
     ensures length { (W : Width) (t : ℕ) (at : Name → ℕ → ℕ) (g : Graph) (l : ObjectLoad)
-        (f : Shape) (a : Name) → ObjectIs W g at t l → l.shape ≡ Some f → register_of g t l.source ≡ Ref a
+        (f : Shape) (a : Name) → ObjectIs W g at t l → l.shape ≡ Some f
+        → register_of g t l.source ≡ Ref a
         → f ≡ kind_shape (object_of g a).kind (length (object_of g a).fields) }
 {}
 
