@@ -52,8 +52,8 @@ tree_part w e o j =
     else Blank
 
 -- What `tree_part` is: the ordinals go level by level from the root, block r of a level that has
--- one below it refers to the blocks r * w to r * w + w - 1 of that level, as far as they exist, and a
--- leaf r has the elements of these numbers.
+-- one below it refers to the blocks r * w to r * w + w - 1 of that level, as far as they exist,
+-- and a leaf r has the elements of these numbers.
 pub record IsByLevels (w e : ℕ) : Type 0 where
   pub root : level_start w e (tree_depth w e) ≡ 0
   pub next : (h : ℕ) → h < tree_depth w e
