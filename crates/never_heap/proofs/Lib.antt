@@ -15,3 +15,5 @@ pub mod Staying
 pub mod ReachSteps
 pub mod Answering
 pub mod Refusing
+pub mod Once
+pub mod Scanning

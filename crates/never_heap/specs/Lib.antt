@@ -12,3 +12,4 @@ pub mod Given
 pub mod Licensed
 pub mod RightWork
 pub mod Marks
+pub mod Scans

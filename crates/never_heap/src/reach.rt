@@ -45,7 +45,7 @@ impl Graph {
     }
 
     // A place for each object, and no mark.
-    fn no_marks(&self) -> Result<Marks, OutOfMemory>
+    pub(crate) fn no_marks(&self) -> Result<Marks, OutOfMemory>
         ensures places { IfOk result (λ m. (b : Name) → has_place m b ≡ has_name self.now b) }
         ensures marks { IfOk result (λ m. (b : Name) → has_mark m b ≡ false) }
     {
@@ -116,7 +116,7 @@ impl Graph {
     }
 
     // The blocks of the object of a name.
-    fn blocks_of(&self, name: Name) -> u32
+    pub(crate) fn blocks_of(&self, name: Name) -> u32
         requires { has_name self.now name ≡ true }
         ensures value { result ≡ object_blocks (object_of self.now name) }
         ensures few { result ≤ 21845 }

@@ -1,0 +1,15 @@
+use Rattle.std.proofs.Common.{◌≤◌, ◌-◌, length}
+use Rattle.never_heap.specs.Reach.{names}
+use Rattle.never_heap.specs.Scans.{Scanned, HasRegisters}
+use Rattle.never_heap.proofs.Scanning.{HasLed}
+use Rattle.never_heap.proofs.graph.Graph.count_live.Given as goal
+
+abbrev pub invariant-loop-next : goal.invariant-loop-next
+invariant-loop-next l = record {
+  scanned : Scanned l.self l.scan.marks l.scan.found.items l.scan.blocks;
+  registers : HasRegisters l.self l.scan.marks;
+  led : HasLed l.self l.scan.marks l.scan.found.items l.next;
+}
+
+abbrev pub decreases-loop-next : goal.decreases-loop-next
+decreases-loop-next l = length (names l.self) - l.next

@@ -1,0 +1,35 @@
+use Rattle.std.proofs.Common.{◌≡◌, ◌≤◌, ◌∙◌, ◌*◌, ap, sym, subst, length, true, false, List, ℕ, arith}
+use Rattle.block_store.specs.declared.Name.{Name}
+use Rattle.never_heap.specs.Reach.{stands_in, reachable}
+use Rattle.never_heap.specs.Scans.{Scanned, Finds}
+use Rattle.never_heap.proofs.Scanning.{scanned_none, register_reached, first_more, first_all}
+use Rattle.never_heap.proofs.graph.Graph.scan_registers.Goals as goal
+
+pub loop-mutator-init : goal.loop-mutator-init
+loop-mutator-init c =
+    let g = c.args.self.now in
+    let blocks = c.from.result * length c.mutators.result.now in
+    record {
+      scanned = subst (λ (l : List Name). Scanned g c.in_ok-no_marks.field-0 l blocks) (sym c.new.ensures.items)
+          (scanned_none g c.in_ok-no_marks.field-0 blocks c.in_ok-no_marks.ensures.places c.in_ok-no_marks.ensures.marks
+          (ap (λ (n : ℕ). n * length c.mutators.result.now) c.from.ensures ∙ ap (λ l. 5 * length l) c.mutators.ensures.mutators)
+          (subst (λ l. length l ≤ 16) c.mutators.ensures.mutators c.mutators.ensures.few));
+      registers = λ b h has. absurd (let e : false ≡ true = h in cc);
+    }
+
+pub find_all-requires-clause-reached : goal.find_all-requires-clause-reached
+find_all-requires-clause-reached c b h =
+    register_reached c.args.self.now c.mutators-mutator-items.result.now c.loop-mutator.mutator-index c.mutator-item.result c.mutators-mutator-items.ensures.mutators c.loop-mutator-test.true
+      c.mutator-item.is b (subst (λ l. stands_in b l ≡ true) c.registers.ensures h)
+
+pub loop-mutator-preserved : goal.loop-mutator-preserved
+loop-mutator-preserved c =
+    let g = c.args.self.now in
+    let old = c.loop-mutator.scan in
+    let new = c.find_all.new.self in
+    record {
+      scanned = c.in_ok-find_all.ensures.scanned;
+      registers = first_more g c.mutators-mutator-items.result.now c.loop-mutator.mutator-index c.mutator-item.result c.mutators-mutator-items.ensures.mutators c.loop-mutator-test.true
+          c.mutator-item.is old.marks new.marks old.found.items new.found.items c.loop-mutator.invariant.registers
+          (subst (λ l. Finds g old.marks new.marks old.found.items new.found.items l) c.registers.ensures c.in_ok-find_all.ensures.finds);
+    }

@@ -1,0 +1,32 @@
+-- A scan over what can be reached.
+use Rattle.std.specs.Prelude.{ℕ, ◌+◌, ◌*◌, ◌≡◌, ◌≤◌, true, if◌then◌else◌, List, ◌++◌, length}
+use Rattle.std.specs.List.{list_any, sum_by}
+use Rattle.block_store.specs.declared.Name.{Name}
+use Rattle.block_store.specs.declared.Value.{Value}
+use Rattle.never_heap.specs.Graphs.{Graph, same_name, has_name, object_of}
+use Rattle.never_heap.specs.LiveBlocks.{object_blocks}
+use Rattle.never_heap.specs.Marks.{Marked, has_place, has_mark}
+use Rattle.never_heap.specs.Reach.{names, in_round, stands_in, reachable}
+
+-- the weights of the marked names of a graph
+abbrev pub marked_weight : (Name → ℕ) → Graph → Marked → ℕ
+marked_weight w g m = sum_by (λ (a : Name). if has_mark m a then w a else 0) (names g)
+
+-- the names found are those marked, each once, all of them can be reached, and the blocks are theirs and those of the registers
+pub record Scanned (g : Graph) (m : Marked) (found : List Name) (blocks : ℕ) : Type 0 where
+  pub places : (b : Name) → has_place m b ≡ has_name g b
+  pub sound : (b : Name) → has_mark m b ≡ true → reachable g b ≡ true
+  pub listed : (b : Name) → list_any (same_name b) found ≡ has_mark m b
+  pub once : length found ≡ marked_weight (λ _. 1) g m
+  pub sum : blocks ≡ 5 * length g.mutators + marked_weight (λ a. object_blocks (object_of g a)) g m
+  pub small : blocks ≤ 80 + 21845 * length found
+
+-- what is found in a list of values: the objects to which they refer, behind what was found before
+pub record Finds (g : Graph) (old new : Marked) (before after : List Name) (vs : List Value) : Type 0 where
+  pub kept : (b : Name) → has_mark old b ≡ true → has_mark new b ≡ true
+  pub all : (b : Name) → stands_in b vs ≡ true → has_name g b ≡ true → has_mark new b ≡ true
+  pub behind : (more : List Name) × (after ≡ before ++ more)
+
+-- what stands in registers is marked
+abbrev pub HasRegisters : Graph → Marked → Type 0
+HasRegisters g m = (b : Name) → in_round g 0 b ≡ true → has_name g b ≡ true → has_mark m b ≡ true

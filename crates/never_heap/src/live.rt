@@ -1,0 +1,102 @@
+//! How many blocks are live, by one scan over what can be reached.
+
+ghost use Rattle.std.specs.Prelude.{◌≡◌, ◌≤◌, ◌∷◌, [], true, ℕ, length, IfOk, OnOk};
+ghost use Rattle.block_store.specs.declared.Name.{Name};
+ghost use Rattle.block_store.specs.declared.Value.TheVariants.{Ref};
+ghost use Rattle.never_heap.specs.LiveBlocks.{live_blocks};
+ghost use Rattle.never_heap.specs.Reach.{names, stands_in, reachable};
+ghost use Rattle.never_heap.specs.Scans.{Scanned, Finds, HasRegisters};
+
+use crate::Graph;
+use crate::marks::Marks;
+use block_store::{Name, OutOfMemory, REGISTER_BLOCKS, Value};
+
+/// A scan over the objects that can be reached: those found so far, each once, and their blocks
+/// with those of the registers.
+#[derive(Drop)]
+struct Scan {
+    marks: Marks,
+    found: Vec<Name>,
+    blocks: u64,
+}
+
+impl Scan {
+    // Finds the object of a name, where it was not found before.
+    fn find(&mut self, graph: &Graph, name: Name) -> Result<(), OutOfMemory>
+        requires few { length (names graph.now) ≤ 2097153 }
+        requires scanned { Scanned graph.now self.old.marks self.old.found.items self.old.blocks }
+        requires reached { reachable graph.now name ≡ true }
+        ensures scanned { OnOk result (Scanned graph.now self.new.marks self.new.found.items self.new.blocks) }
+        ensures finds { OnOk result (Finds graph.now self.old.marks self.new.marks self.old.found.items self.new.found.items (Ref name ∷ [])) }
+    {
+        if !self.marks.mark(name) {
+            return Ok(());
+        }
+        self.found.push(name)?;
+        self.blocks += u64::from(graph.blocks_of(name));
+        Ok(())
+    }
+
+    // Finds each object to which a list of values refers.
+    fn find_all(&mut self, graph: &Graph, values: &[Value]) -> Result<(), OutOfMemory>
+        requires few { length (names graph.now) ≤ 2097153 }
+        requires scanned { Scanned graph.now self.old.marks self.old.found.items self.old.blocks }
+        requires reached { (b : Name) → stands_in b values.now ≡ true → reachable graph.now b ≡ true }
+        ensures scanned { OnOk result (Scanned graph.now self.new.marks self.new.found.items self.new.blocks) }
+        ensures finds { OnOk result (Finds graph.now self.old.marks self.new.marks self.old.found.items self.new.found.items values.now) }
+    {
+        for value in values {
+            if let Value::Ref(name) = *value {
+                self.find(graph, name)?;
+            }
+        }
+        Ok(())
+    }
+}
+
+impl Graph {
+    /// The same number as `reach_blocks`, by one scan: each object that can be reached is found
+    /// once, and its fields are looked through once.
+    pub fn count_live(&self) -> Result<u64, OutOfMemory>
+        ensures { IfOk result (λ k. k ≡ live_blocks self.now) }
+    {
+        self.count_names();
+        let mut scan = self.scan_registers()?;
+        let mut next = 0;
+        while next < scan.found.len() {
+            let name = scan.found[next];
+            scan.find_all(self, self.cells(name))?;
+            next += 1;
+        }
+        Ok(scan.blocks)
+    }
+
+    // A scan that has found what stands in registers.
+    fn scan_registers(&self) -> Result<Scan, OutOfMemory>
+        requires { length (names self.now) ≤ 2097153 }
+        ensures scanned { IfOk result (λ s. Scanned self.now s.marks s.found.items s.blocks) }
+        ensures registers { IfOk result (λ s. HasRegisters self.now s.marks) }
+    {
+        let mut scan = Scan {
+            marks: self.no_marks()?,
+            found: Vec::new(self.alloc()),
+            blocks: u64::from(REGISTER_BLOCKS) * self.mutators().len() as u64,
+        };
+        for mutator in self.mutators() {
+            scan.find_all(self, mutator.registers())?;
+        }
+        Ok(scan)
+    }
+
+    // How many objects there are.
+    fn count_names(&self) -> u64
+        ensures value { result ≡ length (names self.now) }
+        ensures few { result ≤ 2097153 }
+    {
+        let mut count = 1;
+        for mutator in self.mutators() {
+            count += mutator.count() as u64;
+        }
+        count
+    }
+}
