@@ -9,7 +9,7 @@ use Rattle.never_heap.specs.Cycles.{before_start, after_start, graph_at}
 use Rattle.never_heap.specs.Given.{given}
 use Rattle.never_heap.specs.Licensed.{IsLicensedItem, LicensedFrom, Licensed}
 use Rattle.never_heap.specs.RightWork.{IsRightWork, RightWork}
-use Rattle.never_heap.specs.Runs.{taken_by, taken_in}
+use Rattle.never_heap.specs.Taken.{taken_by, taken_in}
 use Rattle.never_heap.proofs.Growing.{taken_append, starts_append}
 
 -- right work

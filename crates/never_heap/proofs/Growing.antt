@@ -4,7 +4,8 @@ use Rattle.block_store.specs.declared.Config.{Config}
 use Rattle.never_heap.specs.declared.Entry.{Entry}
 use Rattle.never_heap.specs.Graphs.{Graph, start_graph}
 use Rattle.never_heap.specs.Histories.{HistoryItem, Started, Did, after, replay_from, IsAnswered, Legal, LegalFrom, replay, part, starts_in, work_in}
-use Rattle.never_heap.specs.Runs.{FullsExactly, NoWork, taken_by, taken_in}
+use Rattle.never_heap.specs.PlainRuns.{FullsExactly, NoWork}
+use Rattle.never_heap.specs.Taken.{taken_by, taken_in}
 
 -- replay goes on by the item
 pub replay_more : (g : Graph) (h : List HistoryItem) (i : HistoryItem) → replay_from g (h ++ i ∷ []) ≡ after (replay_from g h) i

@@ -14,7 +14,7 @@ use Rattle.never_heap.specs.Marks.{Marked, has_place, has_mark}
 use Rattle.never_heap.specs.Reach.{names, in_round, refers, stands_in, reachable}
 use Rattle.never_heap.specs.Scans.{marked_weight, Scanned, Finds, HasRegisters}
 use Rattle.never_heap.proofs.Naming.{one_name, same_itself, any_place, place_of_name, stands_at}
-use Rattle.never_heap.proofs.Once.{one_more_weight}
+use Rattle.never_heap.proofs.Once.{same_turned, one_more_weight}
 use Rattle.never_heap.proofs.Reaching.{reached_by, reachable_closed, reachable_least, in_register, field_there}
 use Rattle.never_heap.proofs.Rounds.{both_true, mark_place}
 use Rattle.never_heap.proofs.Stepping.{has_field}
@@ -35,15 +35,6 @@ weight_low m (x ∷ xs) =
 
 pub found_few : (g : Graph) (m : Marked) (found : List Name) (blocks : ℕ) → Scanned g m found blocks → length found ≤ length (names g)
 found_few g m found blocks s = let low = weight_low m (names g) in omega (arith, s.once)
-
-same_turned : (a b : Name) → same_name a b ≡ same_name b a
-same_turned a b = elim (cases_Bool (same_name a b)) [
-      inl e ↦ e ∙ sym (subst (λ (x : Name). same_name x a ≡ true) (one_name a b e) (same_itself a))
-      | inr e ↦ e ∙ elim (cases_Bool (same_name b a)) [
-          inl f ↦ absurd (both_ways (same_name a b) e (subst (λ (x : Name). same_name a x ≡ true) (sym (one_name b a f)) (same_itself a)))
-          | inr f ↦ sym f
-        ]
-    ]
 
 -- ---- one name
 
@@ -81,6 +72,9 @@ module _ (g : Graph) (old new : Marked) (found : List Name) (blocks : ℕ) (a : 
         yes false true = refl
         yes false false = refl
 
+    turned : (b : Name) → has_mark new b ≡ (has_mark old b || same_name b a)
+    turned b = adds b ∙ ap (λ (x : Bool). has_mark old b || x) (same_turned a b)
+
     pub scanned_more : (k : ℕ) → reachable g a ≡ true → k ≡ object_blocks (object_of g a) → k ≤ 21845 → Scanned g new (found ++ a ∷ []) (blocks + k)
     scanned_more k reached is low = record {
       places = λ b. places b ∙ s.places b;
@@ -90,8 +84,8 @@ module _ (g : Graph) (old new : Marked) (found : List Name) (blocks : ℕ) (a : 
       ];
       listed = λ b. list_any-append (same_name b) found (a ∷ []) ∙ ap (λ (x : Bool). x || (same_name b a || false)) (s.listed b) ∙ last (has_mark old b) (same_name b a)
           ∙ ap (λ (x : Bool). has_mark old b || x) (same_turned b a) ∙ sym (adds b);
-      once = (let more = one_more_weight (λ _. 1) a (has_mark old) (has_mark new) free adds g has_it in let long = length_push found a in let was = s.once in omega arith);
-      sum = (let more = one_more_weight (λ (b : Name). object_blocks (object_of g b)) a (has_mark old) (has_mark new) free adds g has_it in let was = s.sum in omega arith);
+      once = (let more = one_more_weight (λ _. 1) a (has_mark old) (has_mark new) free turned g has_it in let long = length_push found a in let was = s.once in omega arith);
+      sum = (let more = one_more_weight (λ (b : Name). object_blocks (object_of g b)) a (has_mark old) (has_mark new) free turned g has_it in let was = s.sum in omega arith);
       small = (let long = length_push found a in let was = s.small in omega arith);
     }
       where

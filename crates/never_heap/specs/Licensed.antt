@@ -1,10 +1,10 @@
 -- When an allocation may be refused.
-use Rattle.std.specs.Prelude.{◌-◌, ◌<◌, ◌≡◌, max, List, [], ◌∷◌, ◌++◌}
+use Rattle.std.specs.Prelude.{ℕ, ◌-◌, ◌<◌, ◌≤◌, ◌≡◌, max, false, List, [], ◌∷◌, ◌++◌}
 use Rattle.block_store.specs.declared.Config.{Config}
 use Rattle.never_heap.specs.declared.Reply.{Reply}
 use Rattle.never_heap.specs.declared.Reply.TheVariants.{Full}
 use Rattle.never_heap.specs.Cycles.{graph_at}
-use Rattle.never_heap.specs.Histories.{HistoryItem, Started, Did, starts_in}
+use Rattle.never_heap.specs.Histories.{HistoryItem, Started, Did, is_full, starts_in}
 use Rattle.never_heap.specs.LiveBlocks.{live_blocks}
 
 -- after these items a full of cycle c names the cycle before the present one, or the first, and more than L blocks were live at its start
@@ -23,3 +23,13 @@ LicensedFrom config past (i ∷ is) = IsLicensedItem config past i × LicensedFr
 -- each full of the history is licensed by the items before it
 abbrev pub Licensed : Config → List HistoryItem → Type 0
 Licensed config h = LicensedFrom config [] h
+
+-- each cycle of the history began with no more than L live blocks
+abbrev pub StartsSmall : Config → List HistoryItem → Type 0
+StartsSmall config h = (z : ℕ) → 1 ≤ z → z ≤ starts_in h → live_blocks (graph_at config h z) ≤ config.live
+
+-- no entry is answered full
+abbrev pub NoFulls : List HistoryItem → Type 0
+NoFulls [] = Unit {0}
+NoFulls (Started ∷ h) = NoFulls h
+NoFulls (Did e ∷ h) = (is_full e.reply ≡ false) × NoFulls h

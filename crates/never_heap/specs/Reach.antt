@@ -38,6 +38,10 @@ in_round g (suc j) a = in_round g j a || list_any (λ (b : Name). in_round g j b
 unfoldable pub reachable : Graph → Name → Bool
 reachable g a = in_round g (length (names g)) a
 
+-- whether a name is one of these
+abbrev pub is_among : List Name → Name → Bool
+is_among ss a = list_any (λ (s : Name). same_name a s) ss
+
 -- a set that has each name in a register, and each name in a field of an object that it has
 pub record IsClosed (g : Graph) (s : Name → Bool) : Type 0 where
   pub registers : (t r : ℕ) (a : Name) → register_of g t r ≡ Ref a → s a ≡ true

@@ -3,6 +3,7 @@ use Rattle.std.specs.Prelude.{ℕ, ◌+◌, ◌*◌, ◌≡◌, ◌≤◌, true,
 use Rattle.std.specs.List.{list_any, sum_by}
 use Rattle.block_store.specs.declared.Name.{Name}
 use Rattle.block_store.specs.declared.Value.{Value}
+use Rattle.never_heap.specs.declared.live.Scan.{Scan}
 use Rattle.never_heap.specs.Graphs.{Graph, same_name, has_name, object_of}
 use Rattle.never_heap.specs.LiveBlocks.{object_blocks}
 use Rattle.never_heap.specs.Marks.{Marked, has_place, has_mark}
@@ -12,7 +13,8 @@ use Rattle.never_heap.specs.Reach.{names, in_round, stands_in, reachable}
 abbrev pub marked_weight : (Name → ℕ) → Graph → Marked → ℕ
 marked_weight w g m = sum_by (λ (a : Name). if has_mark m a then w a else 0) (names g)
 
--- the names found are those marked, each once, all of them can be reached, and the blocks are theirs and those of the registers
+-- The names found are those marked, each once, and all can be reached. The blocks are theirs and those of the
+-- registers.
 pub record Scanned (g : Graph) (m : Marked) (found : List Name) (blocks : ℕ) : Type 0 where
   pub places : (b : Name) → has_place m b ≡ has_name g b
   pub sound : (b : Name) → has_mark m b ≡ true → reachable g b ≡ true
@@ -30,3 +32,10 @@ pub record Finds (g : Graph) (old new : Marked) (before after : List Name) (vs :
 -- what stands in registers is marked
 abbrev pub HasRegisters : Graph → Marked → Type 0
 HasRegisters g m = (b : Name) → in_round g 0 b ≡ true → has_name g b ≡ true → has_mark m b ≡ true
+
+-- what a scan holds, and what it finds
+abbrev pub IsScanOf : Graph → Scan → Type 0
+IsScanOf g s = Scanned g s.marks s.found.items s.total
+
+abbrev pub HasFound : Graph → Scan → Scan → List Value → Type 0
+HasFound g old new vs = Finds g old.marks new.marks old.found.items new.found.items vs

@@ -1,5 +1,5 @@
 -- What one command does to the graph, and what it answers.
-use Rattle.std.specs.Prelude.{ℕ, ◌==◌, nat_lt, Bool, false, true, if◌then◌else◌, length}
+use Rattle.std.specs.Prelude.{ℕ, ◌==◌, nat_lt, Bool, false, true, Option, Some, None, if◌then◌else◌, length}
 use Rattle.block_store.specs.declared.Value.{Value}
 use Rattle.block_store.specs.declared.Value.TheVariants.{Nil, Int, Ref}
 use Rattle.block_store.specs.declared.Name.{Name}
@@ -46,10 +46,10 @@ stores_in (commands.Mov d s) q = d == q
 stores_in (commands.Get d s i) q = d == q
 stores_in _ q = false
 
--- whether a command stores in a field
-abbrev pub stores_in_field : Command → Bool
-stores_in_field (commands.Put s i v) = true
-stores_in_field _ = false
+-- the register of whose object a command, where it is not refused, stores in a field, and the field
+abbrev pub stored_at : Command → Option (ℕ × ℕ)
+stored_at (commands.Put s i v) = Some (s, i)
+stored_at _ = None
 
 -- a new object in register d
 abbrev pub made : Graph → ℕ → ℕ → Object → Graph × Reply

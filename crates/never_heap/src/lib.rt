@@ -15,6 +15,7 @@ mod marks;
 mod mutator;
 mod object;
 mod reach;
+mod run_laws;
 #[cfg(test)]
 mod tests;
 
@@ -22,10 +23,14 @@ use array_trees::blocks_of_array;
 use block_store::{Config, Name, Value};
 pub use graph::Graph;
 pub use laws::{
-    blocks_are_given, cycles_start, names_stay, reach_grows_by_new_objects, reachable_is_least,
-    runs_grow, steps_answer, steps_leave,
+    live_blocks_are_few, names_stay, reach_grows_by_new_objects, reachable_is_least, steps_answer,
+    steps_leave,
 };
 use object_lists::blocks_of_record;
+pub use run_laws::{
+    blocks_are_given, cycles_start, fulls_need_live_blocks, orders_make_one_history,
+    runs_are_items_that_may_come, runs_are_walked, runs_grow,
+};
 use std::sync::Wait;
 
 /// A thread has this many registers.

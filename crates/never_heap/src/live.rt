@@ -5,7 +5,7 @@ ghost use Rattle.block_store.specs.declared.Name.{Name};
 ghost use Rattle.block_store.specs.declared.Value.TheVariants.{Ref};
 ghost use Rattle.never_heap.specs.LiveBlocks.{live_blocks};
 ghost use Rattle.never_heap.specs.Reach.{names, stands_in, reachable};
-ghost use Rattle.never_heap.specs.Scans.{Scanned, Finds, HasRegisters};
+ghost use Rattle.never_heap.specs.Scans.{IsScanOf, HasFound, HasRegisters};
 
 use crate::Graph;
 use crate::marks::Marks;
@@ -17,33 +17,33 @@ use block_store::{Name, OutOfMemory, REGISTER_BLOCKS, Value};
 struct Scan {
     marks: Marks,
     found: Vec<Name>,
-    blocks: u64,
+    total: u64,
 }
 
 impl Scan {
     // Finds the object of a name, where it was not found before.
     fn find(&mut self, graph: &Graph, name: Name) -> Result<(), OutOfMemory>
         requires few { length (names graph.now) ≤ 2097153 }
-        requires scanned { Scanned graph.now self.old.marks self.old.found.items self.old.blocks }
+        requires scanned { IsScanOf graph.now self.old }
         requires reached { reachable graph.now name ≡ true }
-        ensures scanned { OnOk result (Scanned graph.now self.new.marks self.new.found.items self.new.blocks) }
-        ensures finds { OnOk result (Finds graph.now self.old.marks self.new.marks self.old.found.items self.new.found.items (Ref name ∷ [])) }
+        ensures scanned { OnOk result (IsScanOf graph.now self.new) }
+        ensures finds { OnOk result (HasFound graph.now self.old self.new (Ref name ∷ [])) }
     {
         if !self.marks.mark(name) {
             return Ok(());
         }
         self.found.push(name)?;
-        self.blocks += u64::from(graph.blocks_of(name));
+        self.total += u64::from(graph.blocks_of(name));
         Ok(())
     }
 
     // Finds each object to which a list of values refers.
     fn find_all(&mut self, graph: &Graph, values: &[Value]) -> Result<(), OutOfMemory>
         requires few { length (names graph.now) ≤ 2097153 }
-        requires scanned { Scanned graph.now self.old.marks self.old.found.items self.old.blocks }
+        requires scanned { IsScanOf graph.now self.old }
         requires reached { (b : Name) → stands_in b values.now ≡ true → reachable graph.now b ≡ true }
-        ensures scanned { OnOk result (Scanned graph.now self.new.marks self.new.found.items self.new.blocks) }
-        ensures finds { OnOk result (Finds graph.now self.old.marks self.new.marks self.old.found.items self.new.found.items values.now) }
+        ensures scanned { OnOk result (IsScanOf graph.now self.new) }
+        ensures finds { OnOk result (HasFound graph.now self.old self.new values.now) }
     {
         for value in values {
             if let Value::Ref(name) = *value {
@@ -68,19 +68,19 @@ impl Graph {
             scan.find_all(self, self.cells(name))?;
             next += 1;
         }
-        Ok(scan.blocks)
+        Ok(scan.total)
     }
 
     // A scan that has found what stands in registers.
     fn scan_registers(&self) -> Result<Scan, OutOfMemory>
         requires { length (names self.now) ≤ 2097153 }
-        ensures scanned { IfOk result (λ s. Scanned self.now s.marks s.found.items s.blocks) }
+        ensures scanned { IfOk result (IsScanOf self.now) }
         ensures registers { IfOk result (λ s. HasRegisters self.now s.marks) }
     {
         let mut scan = Scan {
             marks: self.no_marks()?,
             found: Vec::new(self.alloc()),
-            blocks: u64::from(REGISTER_BLOCKS) * self.mutators().len() as u64,
+            total: u64::from(REGISTER_BLOCKS) * self.mutators().len() as u64,
         };
         for mutator in self.mutators() {
             scan.find_all(self, mutator.registers())?;

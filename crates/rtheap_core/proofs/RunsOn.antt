@@ -12,7 +12,8 @@ use Rattle.never_heap.specs.declared.Reply.TheVariants as replies
 use Rattle.never_heap.specs.Graphs.{Graph, start_graph}
 use Rattle.never_heap.specs.Steps.{step, blocks_of}
 use Rattle.never_heap.specs.Histories.{Did, after, is_full, LegalFrom, IsAnswered, replay_from, part, starts_in}
-use Rattle.never_heap.specs.Runs.{FullsExactly, NoWork, IsPlainRun, opening_blocks, blocks_if_new, taken_by, taken_in}
+use Rattle.never_heap.specs.PlainRuns.{FullsExactly, NoWork, IsPlainRun, opening_blocks}
+use Rattle.never_heap.specs.Taken.{blocks_if_new, taken_by, taken_in}
 use Rattle.never_heap.proofs.Growing.{replay_more, legal_more, part_append, no_work_append, fulls_append, taken_append}
 use Rattle.rtheap_core.specs.declared.plain.PlainHeap.{PlainHeap}
 use Rattle.rtheap_core.specs.Plain.{IsPlain, ShowsPlain, Answers}

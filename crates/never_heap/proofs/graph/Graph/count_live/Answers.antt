@@ -8,19 +8,19 @@ use Rattle.never_heap.proofs.graph.Graph.count_live.Goals as goal
 pub find_all-requires-clause-reached : goal.find_all-requires-clause-reached
 find_all-requires-clause-reached c b h =
     let s = c.loop-next.scan in
-    led_reached c.args.self.now s.marks s.found.items s.blocks c.loop-next.next c.index-name.result.now c.loop-next.invariant.scanned
+    led_reached c.args.self.now s.marks s.found.items s.total c.loop-next.next c.index-name.result.now c.loop-next.invariant.scanned
       (let l = c.len.ensures in omega (arith, c.loop-next-test.true)) c.index-name.ensures b (subst (λ l. stands_in b l ≡ true) c.cells.ensures h)
 
 pub loop-next-smaller : goal.loop-next-smaller
 loop-next-smaller c =
     let s = c.loop-next.scan in
-    let few = found_few c.args.self.now s.marks s.found.items s.blocks c.loop-next.invariant.scanned in
+    let few = found_few c.args.self.now s.marks s.found.items s.total c.loop-next.invariant.scanned in
     omega (arith, c.loop-next-test.true, c.len.ensures)
 
 pub returns : goal.returns
 returns c =
     let s = c.loop-next.scan in
-    all_live c.args.self.now s.marks s.found.items s.blocks c.loop-next.next c.loop-next.invariant.scanned c.loop-next.invariant.registers c.loop-next.invariant.led
+    all_live c.args.self.now s.marks s.found.items s.total c.loop-next.next c.loop-next.invariant.scanned c.loop-next.invariant.registers c.loop-next.invariant.led
       (let l = c.len.ensures in omega (arith, c.loop-next-test.false))
 
 pub loop-next-preserved : goal.loop-next-preserved
@@ -32,6 +32,6 @@ loop-next-preserved c =
     record {
       scanned = c.in_ok-find_all.ensures.scanned;
       registers = λ b h has. finds.kept b (c.loop-next.invariant.registers b h has);
-      led = led_more g old.marks old.found.items old.blocks c.loop-next.next c.index-name.result.now c.loop-next.invariant.scanned
+      led = led_more g old.marks old.found.items old.total c.loop-next.next c.index-name.result.now c.loop-next.invariant.scanned
           (let l = c.len.ensures in omega (arith, c.loop-next-test.true)) c.index-name.ensures new.marks new.found.items c.loop-next.invariant.led finds;
     }

@@ -6,7 +6,7 @@ use Rattle.never_heap.proofs.graph.Graph.count_live.Given as goal
 
 abbrev pub invariant-loop-next : goal.invariant-loop-next
 invariant-loop-next l = record {
-  scanned : Scanned l.self l.scan.marks l.scan.found.items l.scan.blocks;
+  scanned : Scanned l.self l.scan.marks l.scan.found.items l.scan.total;
   registers : HasRegisters l.self l.scan.marks;
   led : HasLed l.self l.scan.marks l.scan.found.items l.next;
 }

@@ -1,5 +1,5 @@
 use Rattle.never_heap.proofs.Cycling.{licensed_more, right_work_more}
-use Rattle.never_heap.proofs.laws.runs_grow.Goals as goal
+use Rattle.never_heap.proofs.run_laws.runs_grow.Goals as goal
 
 pub returns-clause-licensed : goal.returns-clause-licensed
 returns-clause-licensed c = licensed_more

@@ -1,5 +1,5 @@
 use Rattle.never_heap.proofs.Cycling.{given_none, given_more, given_ended, given_past}
-use Rattle.never_heap.proofs.laws.blocks_are_given.Goals as goal
+use Rattle.never_heap.proofs.run_laws.blocks_are_given.Goals as goal
 
 pub returns-clause-start : goal.returns-clause-start
 returns-clause-start c = given_none
