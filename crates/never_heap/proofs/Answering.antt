@@ -1,5 +1,6 @@
 -- What a step answers, and which commands have blocks.
-use Rattle.std.proofs.Common.{ℕ, ◌≡◌, ◌<◌, true, false, cond, ltb, length, refl, arith}
+use Rattle.std.proofs.Common.{ℕ, ◌≡◌, ◌<◌, true, false, inl, inr, cond, ltb, length, refl, arith}
+use Rattle.std.proofs.lemmas.Bool.{cases_Bool}
 use Rattle.array_trees.specs.Trees.{leaves}
 use Rattle.array_trees.proofs.Counts.{le-tree}
 use Rattle.block_store.specs.declared.Name.{Name}
@@ -61,3 +62,9 @@ others_have_none (commands.Put s i v) e = refl
 others_have_none (commands.Len s) e = refl
 others_have_none (commands.Same a b) e = refl
 others_have_none (commands.Say s) e = refl
+
+pub blocks_make : (command : Command) → 0 < blocks_of command → makes_object command ≡ true
+blocks_make command some = elim (cases_Bool (makes_object command)) [
+  | inl y ↦ y
+  | inr n ↦ absurd (omega (arith, others_have_none command n, some))
+]

@@ -150,8 +150,8 @@ module _ (c : Config) (rate : ℕ) (traces : List (List Command)) where
   begun [] run e = absurd run.legal
   begun (i ∷ h) run e = cc
 
-  pub none_left : (h : List HistoryItem) → IsRun c rate traces h → (t : ℕ) → left_of traces h t ≡ []
-  none_left h run t =
+  pub none_left : (h : List HistoryItem) (t : ℕ) → IsRun c rate traces h → left_of traces h t ≡ []
+  none_left h t run =
       left_is (part t h) (slice_index_or traces t []) [] (append-nil (commands_in t h) ∙ run.traces_whole t)
 
   -- ---- and items that may come in turn, to the end of all traces, are a run

@@ -1,7 +1,7 @@
 -- A scan over what can be reached finds each object once.
-use Rattle.std.proofs.Common.{ℕ, zero, suc, ◌+◌, ◌*◌, ◌≡◌, ◌<◌, ◌≤◌, Bool, true, false, ◌&&◌, ◌||◌, cond, List, [], ◌∷◌, ◌++◌, length, get_or, take, ap, sym, ◌∙◌, refl, subst, arith, inl, inr, append-nil, append_assoc}
+use Rattle.std.proofs.Common.{ℕ, ◌+◌, ◌*◌, ◌≡◌, ◌<◌, ◌≤◌, Bool, true, false, ◌&&◌, ◌||◌, cond, List, [], ◌∷◌, ◌++◌, length, get_or, take, ap, sym, ◌∙◌, refl, subst, arith, inl, inr, append-nil, append_assoc}
 use Rattle.std.specs.List.{list_any, sum_by}
-use Rattle.std.proofs.lemmas.Bool.{cases_eq, cases_Bool, or_cases, or_left, or_right, and_parts, both_ways}
+use Rattle.std.proofs.lemmas.Bool.{cases_eq, cases_Bool, or_cases, or_left, or_right, both_ways}
 use Rattle.std.proofs.lemmas.List.Sums.{sum_by-cons}
 use Rattle.std.proofs.lemmas.List.Folds.{list_any-append, list_any_more, list_any_at}
 use Rattle.std.proofs.lemmas.List.{length_push, take_all, get_or_append_left, get_or_default}
@@ -11,8 +11,8 @@ use Rattle.block_store.specs.declared.Value.TheVariants.{Nil, Ref}
 use Rattle.never_heap.specs.Graphs.{Graph, Mutator, same_name, has_name, object_of}
 use Rattle.never_heap.specs.LiveBlocks.{object_blocks, live_blocks}
 use Rattle.never_heap.specs.Marks.{Marked, has_place, has_mark}
-use Rattle.never_heap.specs.Reach.{names, in_round, refers, stands_in, reachable}
-use Rattle.never_heap.specs.Scans.{marked_weight, Scanned, Finds, HasRegisters}
+use Rattle.never_heap.specs.Reach.{names, refers, stands_in, reachable}
+use Rattle.never_heap.specs.Scans.{Scanned, Finds, HasRegisters}
 use Rattle.never_heap.proofs.Naming.{one_name, same_itself, any_place, place_of_name, stands_at}
 use Rattle.never_heap.proofs.Once.{same_turned, one_more_weight}
 use Rattle.never_heap.proofs.Reaching.{reached_by, reachable_closed, reachable_least, in_register, field_there}
@@ -49,9 +49,9 @@ module _ (g : Graph) (old new : Marked) (found : List Name) (blocks : ℕ) (a : 
   -- of the values only the one name counts
   only_one : (b : Name) → stands_in b (Ref a ∷ []) ≡ true → has_name g b ≡ true → has_mark new b ≡ true
   only_one b h has = elim (or_cases (same_name a b) false h) [
-        inl e ↦ subst (λ (x : Name). has_mark new x ≡ true) (one_name a b e) (marked_here (subst (λ (x : Name). has_name g x ≡ true) (sym (one_name a b e)) has))
-        | inr e ↦ absurd (let f : false ≡ true = e in cc)
-      ]
+    | inl e ↦ subst (λ (x : Name). has_mark new x ≡ true) (one_name a b e) (marked_here (subst (λ (x : Name). has_name g x ≡ true) (sym (one_name a b e)) has))
+    | inr e ↦ absurd (let f : false ≡ true = e in cc)
+  ]
 
   pub finds_one : (more after : List Name) → after ≡ found ++ more → Finds g old new found after (Ref a ∷ [])
   finds_one more after e = record { kept = kept_one; all = only_one; behind = (more, e) }
@@ -63,9 +63,9 @@ module _ (g : Graph) (old new : Marked) (found : List Name) (blocks : ℕ) (a : 
 
     adds : (b : Name) → has_mark new b ≡ (has_mark old b || same_name a b)
     adds b = marks b ∙ elim (cases_Bool (same_name a b)) [
-          inl e ↦ ap (λ (x : Bool). has_mark old b || (same_name a b && x)) (subst (λ (x : Name). has_place old x ≡ true) (one_name a b e) place) ∙ yes (has_mark old b) (same_name a b)
-          | inr e ↦ ap (λ (x : Bool). has_mark old b || (x && has_place old b)) e ∙ ap (λ (x : Bool). has_mark old b || x) (sym e)
-        ]
+      | inl e ↦ ap (λ (x : Bool). has_mark old b || (same_name a b && x)) (subst (λ (x : Name). has_place old x ≡ true) (one_name a b e) place) ∙ yes (has_mark old b) (same_name a b)
+      | inr e ↦ ap (λ (x : Bool). has_mark old b || (x && has_place old b)) e ∙ ap (λ (x : Bool). has_mark old b || x) (sym e)
+    ]
       where
         yes : (p q : Bool) → (p || (q && true)) ≡ (p || q)
         yes true q = refl
@@ -79,7 +79,7 @@ module _ (g : Graph) (old new : Marked) (found : List Name) (blocks : ℕ) (a : 
     scanned_more k reached is low = record {
       places = λ b. places b ∙ s.places b;
       sound = λ b h. elim (or_cases (has_mark old b) (same_name a b) (sym (adds b) ∙ h)) [
-        inl before ↦ s.sound b before
+        | inl before ↦ s.sound b before
         | inr here ↦ subst (λ (x : Name). reachable g x ≡ true) (one_name a b here) reached
       ];
       listed = λ b. list_any-append (same_name b) found (a ∷ []) ∙ ap (λ (x : Bool). x || (same_name b a || false)) (s.listed b) ∙ last (has_mark old b) (same_name b a)
@@ -108,7 +108,7 @@ module _ (g : Graph) (old mid new : Marked) (xs ys zs : List Name) (vs : List Va
   finds_other none = record {
     kept = f.kept;
     all = λ b h has. elim (or_cases (stands_in b (take i vs)) (refers b (get_or vs i Nil)) (sym (list_any_more (refers b) vs i Nil here) ∙ h)) [
-      inl before ↦ f.all b before has
+      | inl before ↦ f.all b before has
       | inr now ↦ absurd (both_ways (refers b (get_or vs i Nil)) (none b) now)
     ];
     behind = f.behind;
@@ -118,7 +118,7 @@ module _ (g : Graph) (old mid new : Marked) (xs ys zs : List Name) (vs : List Va
   finds_more a is one = record {
     kept = λ b h. one.kept b (f.kept b h);
     all = λ b h has. elim (or_cases (stands_in b (take i vs)) (refers b (get_or vs i Nil)) (sym (list_any_more (refers b) vs i Nil here) ∙ h)) [
-      inl before ↦ one.kept b (f.all b before has)
+      | inl before ↦ one.kept b (f.all b before has)
       | inr now ↦ one.all b (or_left (refers b (Ref a)) false (sym (ap (refers b) is) ∙ now)) has
     ];
     behind = (f.behind.0 ++ one.behind.0, one.behind.1 ∙ ap (λ (l : List Name). l ++ one.behind.0) f.behind.1 ∙ append_assoc xs f.behind.0 one.behind.0);
@@ -157,7 +157,7 @@ module _ (g : Graph) (ms : List Mutator) (i : ℕ) (x : Mutator) (same : ms ≡ 
   pub first_more : (old new : Marked) (before after : List Name) → HasFirst g old ms i → Finds g old new before after x.registers → HasFirst g new ms (i + 1)
   first_more old new before after was f b h has = elim (or_cases (list_any (λ (y : Mutator). stands_in b y.registers) (take i ms)) (stands_in b (get_or ms i x).registers)
       (sym (list_any_more (λ (y : Mutator). stands_in b y.registers) ms i x here) ∙ h)) [
-        inl before ↦ f.kept b (was b before has)
+        | inl before ↦ f.kept b (was b before has)
         | inr now ↦ f.all b (subst (λ (y : Mutator). stands_in b y.registers ≡ true) (sym is) now) has
       ]
 
@@ -184,8 +184,8 @@ module _ (g : Graph) (m : Marked) (found : List Name) (blocks next : ℕ) (a : N
       let same : get_or after k d ≡ get_or found k d = ap (λ (l : List Name). get_or l k d) f.behind.1 ∙ get_or_append_left found f.behind.0 d k there in
       let old : stands_in b (object_of g (get_or found k d)).fields ≡ true = sym (ap (λ (x : Name). stands_in b (object_of g x).fields) same) ∙ h in
       elim (cases_eq k next) [
-        inl e ↦ (let this : get_or found k d ≡ a = ap (λ (j : ℕ). get_or found j d) e ∙ get_or_default found next d a here ∙ sym is in
-          f.all b (sym (ap (λ (x : Name). stands_in b (object_of g x).fields) this) ∙ old) has)
+        | inl e ↦ (let this : get_or found k d ≡ a = ap (λ (j : ℕ). get_or found j d) e ∙ get_or_default found next d a here ∙ sym is in
+            f.all b (sym (ap (λ (x : Name). stands_in b (object_of g x).fields) this) ∙ old) has)
         | inr ne ↦ f.kept b (was k d (omega arith) b old has)
       ]
 
@@ -202,6 +202,6 @@ module _ (g : Graph) (m : Marked) (found : List Name) (blocks next : ℕ) (s : S
   pub all_live : blocks ≡ live_blocks g
   all_live =
       let marks : (b : Name) → has_mark m b ≡ (reachable g b && has_name g b) = λ b. both_true (has_mark m b) (reachable g b) (has_name g b)
-          (λ h. (s.sound b h, sym (s.places b) ∙ mark_place m b h)) (λ h n. complete b h n) in
+      (λ h. (s.sound b h, sym (s.places b) ∙ mark_place m b h)) (λ h n. complete b h n) in
       live_of_marked g m (names g) (length (names g)) blocks refl (omega arith) marks
       (s.sum ∙ ap (λ (l : List Name). 5 * length g.mutators + marked_blocks g m l) (sym (take_all (length (names g)) (names g) (omega arith))))

@@ -13,11 +13,13 @@ left_of traces past t = drop (length (part t past)) (slice_index_or traces t [])
 -- an entry is one of its thread's next command
 abbrev pub IsNext : List (List Command) → List HistoryItem → HistoryItem → Type 0
 IsNext traces past Started = Unit {0}
-IsNext traces past (Did e) = (rest : List Command) × (left_of traces past e.thread ≡ e.command ∷ rest)
+IsNext traces past (Did e) =
+    (rest : List Command) × (left_of traces past e.thread ≡ e.command ∷ rest)
 
 -- after these items this one may come in a run
 pub record MayCome
-    (c : Config) (rate : ℕ) (traces : List (List Command)) (past : List HistoryItem) (i : HistoryItem)
+    (c : Config) (rate : ℕ) (traces : List (List Command))
+    (past : List HistoryItem) (i : HistoryItem)
     : Type 0 where
   pub first : past ≡ [] → i ≡ Started
   pub next : IsNext traces past i
@@ -26,7 +28,8 @@ pub record MayCome
   pub right_work : IsRightWork rate i
 
 -- after these items each of the others may come in its turn
-abbrev pub AllMayCome : Config → ℕ → List (List Command) → List HistoryItem → List HistoryItem → Type 0
+abbrev pub AllMayCome :
+    Config → ℕ → List (List Command) → List HistoryItem → List HistoryItem → Type 0
 AllMayCome c rate traces past [] = Unit {0}
 AllMayCome c rate traces past (i ∷ is) =
     MayCome c rate traces past i × AllMayCome c rate traces (past ++ i ∷ []) is

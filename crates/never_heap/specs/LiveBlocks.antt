@@ -18,4 +18,6 @@ object_blocks o = blocks_of_kind o.kind (length o.fields)
 
 -- five blocks for the registers of each thread, and the blocks of all reachable objects
 unfoldable pub live_blocks : Graph → ℕ
-live_blocks g = 5 * length g.mutators + sum_by (λ (a : Name). if reachable g a then object_blocks (object_of g a) else 0) (names g)
+live_blocks g =
+    5 * length g.mutators
+    + sum_by (λ (a : Name). if reachable g a then object_blocks (object_of g a) else 0) (names g)

@@ -10,7 +10,10 @@ abbrev pub item_of : HistoryItem → Item
 item_of Started = items.Start
 item_of (Did e) = items.Entry e.thread
 
--- the history has the starts and threads of the order, and its parts are the logs; there is no other thread
-pub record IsHistoryOf (order : List Item) (logs : List (List Entry)) (h : List HistoryItem) : Type 0 where
+-- the history has the starts and threads of the order, and its parts are the logs; there is no
+-- other thread
+pub record IsHistoryOf
+    (order : List Item) (logs : List (List Entry)) (h : List HistoryItem)
+    : Type 0 where
   pub items : map item_of h ≡ order
   pub logged : (t : ℕ) → part t h ≡ slice_index_or logs t []

@@ -8,7 +8,8 @@ use Rattle.never_heap.specs.Histories.{HistoryItem, Started, Did, is_full, start
 use Rattle.never_heap.specs.Steps.{blocks_of}
 use Rattle.never_heap.specs.Taken.{taken_by}
 
--- the blocks of the opening heap: five for the registers of each thread, and those of the shared array
+-- the blocks of the opening heap: five for the registers of each thread, and those of the shared
+-- array
 abbrev pub opening_blocks : Config → ℕ
 opening_blocks c = 5 * c.threads + array_blocks c.shared
 
@@ -30,7 +31,9 @@ NoWork (Did e ∷ h) = (e.work ≡ 0) × NoWork h
 
 -- It is legal, the parts are the traces, there was one start, no allocation made a unit, and a full
 -- stands exactly where the blocks ran out.
-pub record IsPlainRun (c : Config) (traces : List (List Command)) (h : List HistoryItem) : Type 0 where
+pub record IsPlainRun
+    (c : Config) (traces : List (List Command)) (h : List HistoryItem)
+    : Type 0 where
   pub legal : Legal c h
   pub traces_whole : HasTraces traces h
   pub one_start : starts_in h ≡ 1

@@ -12,8 +12,8 @@ abbrev pub IsRightWork : ℕ → HistoryItem → Type 0
 IsRightWork rate Started = Unit {0}
 IsRightWork rate (Did e) = e.work ≡ units_owed rate e.command
 
--- Each entry made the units that its command owes, whether it was answered new or full; so an entry of
--- a command that allocates nothing made none.
+-- Each entry made the units that its command owes, whether it was answered new or full; so an entry
+-- of a command that allocates nothing made none.
 abbrev pub RightWork : ℕ → List HistoryItem → Type 0
 RightWork rate [] = Unit {0}
 RightWork rate (i ∷ is) = IsRightWork rate i × RightWork rate is

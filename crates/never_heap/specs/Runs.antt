@@ -8,7 +8,9 @@ use Rattle.never_heap.specs.RightWork.{RightWork}
 
 -- The history of a job at this rate: it is legal, its parts are the traces, whole, each full is
 -- licensed, and each entry made the units that its command owes.
-pub record IsRun (c : Config) (rate : ℕ) (traces : List (List Command)) (h : List HistoryItem) : Type 0 where
+pub record IsRun
+    (c : Config) (rate : ℕ) (traces : List (List Command)) (h : List HistoryItem)
+    : Type 0 where
   pub legal : Legal c h
   pub traces_whole : HasTraces traces h
   pub licensed : Licensed c h

@@ -53,20 +53,23 @@ stored_at _ = None
 
 -- a new object in register d
 abbrev pub made : Graph → ℕ → ℕ → Object → Graph × Reply
-made g t d o = (with_register (with_object g t o) t d (Ref (next_name g t)), replies.New (next_name g t))
+made g t d o =
+    (with_register (with_object g t o) t d (Ref (next_name g t)), replies.New (next_name g t))
 
--- what is done with the object that a value refers to. The refusals are tried in this order, and leave the graph as it was
+-- What is done with the object that a value refers to. The refusals are tried in this order, and
+-- leave the graph as it was.
 abbrev pub at_object : Graph → Value → (Name → Graph × Reply) → Graph × Reply
 at_object g Nil act = (g, replies.Null)
 at_object g (Int v) act = (g, replies.Kind)
 at_object g (Ref name) act = act name
 
--- what is done with field i of the object that a value refers to. The refusals are tried in this order,
--- and leave the graph as it was
+-- What is done with field i of the object that a value refers to. The refusals are tried in this
+-- order, and leave the graph as it was.
 abbrev pub at_field : Graph → Value → ℕ → (Name → Graph × Reply) → Graph × Reply
 at_field g Nil i act = (g, replies.Null)
 at_field g (Int v) i act = (g, replies.Kind)
-at_field g (Ref name) i act = if nat_lt i (length (object_of g name).fields) then act name else (g, replies.Range)
+at_field g (Ref name) i act =
+    if nat_lt i (length (object_of g name).fields) then act name else (g, replies.Range)
 
 -- whether two values are both nil, the same number, or references to the same object
 abbrev pub same_value : Value → Value → Bool
@@ -83,9 +86,13 @@ step g t (commands.Set d v) = (with_register g t d (Int v), replies.Stored)
 step g t (commands.Nil d) = (with_register g t d Nil, replies.Stored)
 step g t (commands.Mov d s) = (with_register g t d (register_of g t s), replies.Stored)
 step g t (commands.Get d s i) =
-    at_field g (register_of g t s) i (λ name. let v = field_of (object_of g name) i in (with_register g t d v, replies.Val v))
+    at_field g (register_of g t s) i (λ name.
+    let v = field_of (object_of g name) i in (with_register g t d v, replies.Val v))
 step g t (commands.Put s i v) =
-    at_field g (register_of g t s) i (λ name. (with_field g name i (register_of g t v), replies.Stored))
-step g t (commands.Len s) = at_object g (register_of g t s) (λ name. (g, replies.Len (length (object_of g name).fields)))
-step g t (commands.Same a b) = (g, if same_value (register_of g t a) (register_of g t b) then replies.Yes else replies.No)
+    at_field g (register_of g t s) i (λ name.
+    (with_field g name i (register_of g t v), replies.Stored))
+step g t (commands.Len s) =
+    at_object g (register_of g t s) (λ name. (g, replies.Len (length (object_of g name).fields)))
+step g t (commands.Same a b) =
+    (g, if same_value (register_of g t a) (register_of g t b) then replies.Yes else replies.No)
 step g t (commands.Say s) = (g, replies.Val (register_of g t s))

@@ -1,9 +1,9 @@
-//! The heap that never frees, as a plain program: each object keeps its fields in a vector of its own.
+//! The heap that never frees, as a plain program: each object keeps its fields in a vector.
 
 ghost use Rattle.std.specs.Prelude.{◌≡◌, ◌<◌, ◌≤◌, Some, None, length, IfOk, OnErr, OnOk, option_copied, if◌then◌else◌};
 ghost use Rattle.block_store.specs.Configs.{IsInBounds};
 ghost use Rattle.never_heap.specs.Bounds.{IsCommandInRange};
-ghost use Rattle.never_heap.specs.Graphs.{start_graph, count_of, register_of, object_of, has_name, with_register, with_field, nils};
+ghost use Rattle.never_heap.specs.Graphs.{start_graph, count_of, register_of, object_of, has_name, object_named, fields_named, with_register, with_field, nils};
 ghost use Rattle.never_heap.specs.Kinds.{kind_of};
 ghost use Rattle.never_heap.specs.Steps.{step, made};
 ghost use Rattle.never_heap.specs.Finding.{found};
@@ -65,7 +65,7 @@ impl Graph {
 
     /// The fields or elements of the object of this name. `None` exactly where no object has it.
     pub fn fields(&self, name: Name) -> Option<&[Value]>
-        ensures { option_copied result ≡ (if has_name self.now name then Some (object_of self.now name).fields else None) }
+        ensures { option_copied result ≡ fields_named self.now name }
     {
         self.object(name).map(|object| object.fields())
     }
@@ -83,7 +83,7 @@ impl Graph {
 
     // The object of a name.
     pub(crate) fn object(&self, name: Name) -> Option<&Object>
-        ensures { option_copied result ≡ (if has_name self.now name then Some (object_of self.now name) else None) }
+        ensures { option_copied result ≡ object_named self.now name }
     {
         if name.serial == 0 {
             return (name.thread as usize == self.mutators.len()).then_some(&self.shared);
@@ -98,7 +98,7 @@ impl Graph {
         self.fields(name).unwrap_or(&[])
     }
 
-    // Field `i` of the object to which register `s` refers, with that object's name, or the refusal.
+    // Field `i` of the object to which register `s` refers, with its name, or the refusal.
     fn find(&self, thread: u32, s: u8, i: u64) -> Result<(Name, Value), Reply>
         requires thread { thread < length self.now.mutators }
         requires register { s < 16 }
@@ -131,7 +131,9 @@ impl Graph {
         requires register { d < 16 }
         requires fields { fields ≤ 65535 }
         requires count { count_of self.old thread < 131072 }
-        ensures made { IfOk result (λ r. let s = made self.old thread d (record { kind = kind_of kind; fields = nils fields }) in (r ≡ s.1) × (self.new ≡ s.0)) }
+        ensures made { IfOk result (λ r.
+            let s = made self.old thread d (record { kind = kind_of kind; fields = nils fields })
+            in (r ≡ s.1) × (self.new ≡ s.0)) }
         ensures unchanged { OnErr result (self.new ≡ self.old) }
     {
         let object = Object::nils(self.alloc, kind, fields)?;
@@ -211,9 +213,9 @@ impl Graph {
     }
 
     /// Does one command of a thread, and answers it; never with a full. There is the thread, the
-    /// command's registers are below 16, its numbers and indexes below 2^62, what it makes is at most
-    /// 65,535 long, and the thread has made fewer than 131,072 objects. After want of memory the
-    /// graph is as it was.
+    /// command's registers are below 16, its numbers and indexes below 2^62, what it makes is at
+    /// most 65,535 long, and the thread has made fewer than 131,072 objects. After want of memory
+    /// the graph is as it was.
     pub fn apply(&mut self, thread: u32, command: &Command) -> Result<Reply, OutOfMemory>
         requires thread { thread < length self.old.mutators }
         requires command { IsCommandInRange command.now }

@@ -16,23 +16,25 @@ ghost use Rattle.never_heap.specs.Steps.{step, blocks_of, makes_object, stores_i
 /// of an object that it has.
 pub fn reachable_is_least()
     ensures closed { (g : Graph) → IsClosed g (reachable g) }
-    ensures least { (g : Graph) (s : Name → Bool) (a : Name) → IsClosed g s → reachable g a ≡ true → s a ≡ true }
+    ensures least { (g : Graph) (s : Name → Bool) (a : Name)
+        → IsClosed g s → reachable g a ≡ true → s a ≡ true }
 {}
 
-/// Where names in a list are closed under references, and have all that stands in registers, no more
-/// blocks are live than theirs and those of the registers.
+/// Where names in a list are closed under references, and have all that stands in registers, no
+/// more blocks are live than theirs and those of the registers.
 pub fn live_blocks_are_few()
     ensures { (g : Graph) (some : List Name) → IsClosed g (is_among some)
         → live_blocks g ≤ 5 * length g.mutators + sum_by (λ a. object_blocks (object_of g a)) some }
 {}
 
-/// A step of thread `t` leaves the registers in which it does not store, all objects where it stores
-/// in no field, and else all but the one to which its register refers, of which it leaves the other
-/// fields. The threads stay, and so does how many objects each has made, but that a command that
-/// makes an object adds one for `t`, where there is such a thread. A command that is refused leaves
-/// the whole graph.
+/// A step of thread `t` leaves the registers in which it does not store, all objects where it
+/// stores in no field, and else all but the one to which its register refers, of which it leaves
+/// the other fields. The threads stay, and so does how many objects each has made, but that a
+/// command that makes an object adds one for `t`, where there is such a thread. A command that is
+/// refused leaves the whole graph.
 pub fn steps_leave()
-    ensures registers { (g : Graph) (t : ℕ) (command : Command) (u q : ℕ) → (t ≡ u → stores_in command q ≡ false)
+    ensures registers { (g : Graph) (t : ℕ) (command : Command) (u q : ℕ)
+        → (t ≡ u → stores_in command q ≡ false)
         → register_of (step g t command).0 u q ≡ register_of g u q }
     ensures objects { (g : Graph) (t : ℕ) (command : Command) (a : Name)
         → has_name g a ≡ true → stored_at command ≡ None
@@ -45,7 +47,8 @@ pub fn steps_leave()
         → field_of (object_of (step g t command).0 a) j ≡ field_of (object_of g a) j }
     ensures threads { (g : Graph) (t : ℕ) (command : Command)
         → length (step g t command).0.mutators ≡ length g.mutators }
-    ensures counts { (g : Graph) (t : ℕ) (command : Command) (u : ℕ) → (t ≡ u → makes_object command ≡ false)
+    ensures counts { (g : Graph) (t : ℕ) (command : Command) (u : ℕ)
+        → (t ≡ u → makes_object command ≡ false)
         → count_of (step g t command).0 u ≡ count_of g u }
     ensures made { (g : Graph) (t : ℕ) (command : Command)
         → makes_object command ≡ true → t < length g.mutators
@@ -72,7 +75,8 @@ pub fn reach_grows_by_new_objects()
     ensures step { (g : Graph) (t : ℕ) (command : Command) (a : Name)
         → reachable (step g t command).0 a ≡ true
         → (reachable g a ≡ true) ⊎ ((makes_object command ≡ true) × (a ≡ next_name g t)) }
-    ensures references { (c : Config) (h : List HistoryItem) → IsClosed (replay c h) (has_name (replay c h)) }
+    ensures references { (c : Config) (h : List HistoryItem)
+        → IsClosed (replay c h) (has_name (replay c h)) }
     ensures objects { (c : Config) (h : List HistoryItem) (a : Name)
         → reachable (replay c h) a ≡ true → has_name (replay c h) a ≡ true }
 {}

@@ -1,4 +1,4 @@
-//! The model that every promise is measured against: commands, replies, and a heap that never frees.
+//! The model that every promise is measured against: commands, replies, a heap that never frees.
 #![tactic(auto)]
 
 ghost use Rattle.std.specs.Prelude.{◌≡◌, ◌<◌, ◌≤◌, ◌↔◌, IsTrue, ℕ, List, [], ◌∷◌, ◌++◌, length, slice_index_or};
@@ -68,8 +68,8 @@ pub enum Command {
 }
 
 impl Command {
-    /// Whether registers are below 16, numbers and indexes below 2^62, and an object that is made is
-    /// at most 65,535 long and takes no more blocks than one object may.
+    /// Whether registers are below 16, numbers and indexes below 2^62, and an object that is made
+    /// is at most 65,535 long and takes no more blocks than one object may.
     pub fn in_bounds(&self, c: &Config) -> bool
         ensures { IsTrue result ↔ IsCommandInBounds c.now self.now }
     {
@@ -176,7 +176,8 @@ pub trait Logs {
         ensures { result ≡ unit_count self.now };
 }
 
-/// Is told of each command before its first event, outside the gate. A test makes threads meet by it.
+/// Is told of each command before its first event, outside the gate. By it a test makes threads
+/// meet.
 pub trait Pace: Sync {
     /// Before the command of this number, from 0, of a thread.
     fn before<R: Wait>(&self, rt: &R, thread: u32, command: u64);
@@ -190,10 +191,12 @@ impl Pace for NoPace {
     fn before<R: Wait>(&self, _rt: &R, _thread: u32, _command: u64) {}
 }
 
-/// Replay goes on by one item at the end, a legal history goes on by an item that is answered on its
-/// replay, and each thread's part goes on by the part of what comes.
+/// Replay goes on by one item at the end, a legal history goes on by an item that is answered on
+/// its replay, and each thread's part goes on by the part of what comes.
 pub fn histories_grow()
-    ensures replay { (c : Config) (h : List HistoryItem) (i : HistoryItem) → replay c (h ++ i ∷ []) ≡ after (replay c h) i }
-    ensures legal { (c : Config) (h : List HistoryItem) (i : HistoryItem) → Legal c h → IsAnswered (replay c h) i → Legal c (h ++ i ∷ []) }
+    ensures replay { (c : Config) (h : List HistoryItem) (i : HistoryItem)
+        → replay c (h ++ i ∷ []) ≡ after (replay c h) i }
+    ensures legal { (c : Config) (h : List HistoryItem) (i : HistoryItem)
+        → Legal c h → IsAnswered (replay c h) i → Legal c (h ++ i ∷ []) }
     ensures part { (t : ℕ) (h k : List HistoryItem) → part t (h ++ k) ≡ part t h ++ part t k }
 {}

@@ -1,12 +1,11 @@
 //! Which objects of a graph can be reached, and how many blocks they take.
 
 ghost use Rattle.std.specs.Prelude.{◌≡◌, ◌<◌, ◌≤◌, ◌+◌, ◌*◌, ◌&&◌, ◌||◌, ◌++◌, true, false, IfOk, OnOk, vec_len};
-ghost use Rattle.std.specs.List.{list_any};
 ghost use Rattle.block_store.specs.declared.Name.{Name};
 ghost use Rattle.never_heap.specs.Graphs.{has_name, object_of};
 ghost use Rattle.never_heap.specs.LiveBlocks.{live_blocks, object_blocks};
 ghost use Rattle.never_heap.specs.Marks.{has_place, has_mark};
-ghost use Rattle.never_heap.specs.Reach.{names, thread_names, in_round, stands_in, reachable};
+ghost use Rattle.never_heap.specs.Reach.{names, thread_names, in_round, leads_to, reachable, AreAllReachable};
 
 use crate::Graph;
 use crate::marks::Marks;
@@ -58,7 +57,8 @@ impl Graph {
 
     // Marks what stands in registers.
     fn mark_registers(&self, marks: &mut Marks)
-        ensures marks { (b : Name) → has_mark marks.new b ≡ (has_mark marks.old b || (in_round self.now 0 b && has_place marks.old b)) }
+        ensures marks { (b : Name) → has_mark marks.new b
+            ≡ (has_mark marks.old b || (in_round self.now 0 b && has_place marks.old b)) }
         ensures places { (b : Name) → has_place marks.new b ≡ has_place marks.old b }
     {
         for mutator in self.mutators() {
@@ -71,8 +71,10 @@ impl Graph {
     fn mark_fields(&self, list: &[Name], marks: &mut Marks) -> bool
         ensures places { (b : Name) → has_place marks.new b ≡ has_place marks.old b }
         ensures kept { (b : Name) → has_mark marks.old b ≡ true → has_mark marks.new b ≡ true }
-        ensures led { (a : Name) → list_any (λ (b : Name). has_mark marks.old b && stands_in a (object_of self.now b).fields) list.now ≡ true → has_place marks.old a ≡ true → has_mark marks.new a ≡ true }
-        ensures sound { ((b : Name) → has_mark marks.old b ≡ true → reachable self.now b ≡ true) → (b : Name) → has_mark marks.new b ≡ true → reachable self.now b ≡ true }
+        ensures led { (a : Name) → leads_to self.now (has_mark marks.old) list.now a ≡ true
+            → has_place marks.old a ≡ true → has_mark marks.new a ≡ true }
+        ensures sound { AreAllReachable self.now (has_mark marks.old)
+            → AreAllReachable self.now (has_mark marks.new) }
         ensures unchanged { result ≡ false → marks.new ≡ marks.old }
     {
         let mut is_new = false;
@@ -87,7 +89,8 @@ impl Graph {
     // Marks all objects that can be reached: what stands in registers, and then round by round.
     fn mark_reachable(&self, list: &[Name]) -> Result<Marks, OutOfMemory>
         requires { list.now ≡ names self.now }
-        ensures { IfOk result (λ m. (b : Name) → has_mark m b ≡ (reachable self.now b && has_name self.now b)) }
+        ensures { IfOk result (λ m. (b : Name)
+            → has_mark m b ≡ (reachable self.now b && has_name self.now b)) }
     {
         let mut marks = self.no_marks()?;
         self.mark_registers(&mut marks);

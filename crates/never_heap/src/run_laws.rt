@@ -68,8 +68,8 @@ pub fn runs_are_items_that_may_come()
         → IsRun c rate traces h → AllMayCome c rate traces [] h }
     ensures begun { (c : Config) (rate : ℕ) (traces : List (List Command)) (h : List HistoryItem)
         → IsRun c rate traces h → h ≢ [] }
-    ensures none_left { (c : Config) (rate : ℕ) (traces : List (List Command)) (h : List HistoryItem)
-        → IsRun c rate traces h → (t : ℕ) → left_of traces h t ≡ [] }
+    ensures none_left { (c : Config) (rate : ℕ) (traces : List (List Command))
+        (h : List HistoryItem) (t : ℕ) → IsRun c rate traces h → left_of traces h t ≡ [] }
     ensures run { (c : Config) (rate : ℕ) (traces : List (List Command)) (h : List HistoryItem)
         → h ≢ [] → AllMayCome c rate traces [] h → ((t : ℕ) → left_of traces h t ≡ [])
         → IsRun c rate traces h }
@@ -78,7 +78,8 @@ pub fn runs_are_items_that_may_come()
 /// The induction along a run. Where something holds of no item, leaves at most L blocks live, and
 /// goes on by each item that may come and is no full, it holds of each run; so no run has a full.
 pub fn runs_are_walked()
-    ensures { (c : Config) (rate : ℕ) (traces : List (List Command)) (holds : List HistoryItem → Bool)
+    ensures { (c : Config) (rate : ℕ) (traces : List (List Command))
+        (holds : List HistoryItem → Bool)
         → holds [] ≡ true
         → ((past : List HistoryItem)
         → holds past ≡ true → live_blocks (replay c past) ≤ c.live)

@@ -73,7 +73,10 @@ const LINKED: [Command; 13] = [
 #[test]
 #[tactic(auto, using(crate::proofs::Stepping::step_threads, crate::proofs::Stepping::step_count))]
 fn one_scan_counts_what_rounds_count(rt: HostRuntime) -> Result<(), OutOfMemory> {
-    let config = Config { object: 8, ..CONFIG };
+    let config = Config {
+        object: 8,
+        ..CONFIG
+    };
     let mut graph = Graph::start(rt.alloc(), &config)?;
     for command in LINKED {
         graph.apply(0, &command)?;

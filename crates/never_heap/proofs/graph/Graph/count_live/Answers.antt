@@ -1,7 +1,6 @@
-use Rattle.std.proofs.Common.{◌≡◌, ◌≤◌, ◌∙◌, ap, sym, subst, length, true, List, ℕ, arith}
-use Rattle.block_store.specs.declared.Name.{Name}
-use Rattle.never_heap.specs.Reach.{stands_in, reachable}
-use Rattle.never_heap.specs.Scans.{Scanned, Finds}
+use Rattle.std.proofs.Common.{◌≡◌, subst, true, arith}
+use Rattle.never_heap.specs.Reach.{stands_in}
+use Rattle.never_heap.specs.Scans.{Finds}
 use Rattle.never_heap.proofs.Scanning.{found_few, led_reached, led_more, all_live}
 use Rattle.never_heap.proofs.graph.Graph.count_live.Goals as goal
 
@@ -9,7 +8,7 @@ pub find_all-requires-clause-reached : goal.find_all-requires-clause-reached
 find_all-requires-clause-reached c b h =
     let s = c.loop-next.scan in
     led_reached c.args.self.now s.marks s.found.items s.total c.loop-next.next c.index-name.result.now c.loop-next.invariant.scanned
-      (let l = c.len.ensures in omega (arith, c.loop-next-test.true)) c.index-name.ensures b (subst (λ l. stands_in b l ≡ true) c.cells.ensures h)
+    (let l = c.len.ensures in omega (arith, c.loop-next-test.true)) c.index-name.ensures b (subst (λ l. stands_in b l ≡ true) c.cells.ensures h)
 
 pub loop-next-smaller : goal.loop-next-smaller
 loop-next-smaller c =
@@ -21,7 +20,7 @@ pub returns : goal.returns
 returns c =
     let s = c.loop-next.scan in
     all_live c.args.self.now s.marks s.found.items s.total c.loop-next.next c.loop-next.invariant.scanned c.loop-next.invariant.registers c.loop-next.invariant.led
-      (let l = c.len.ensures in omega (arith, c.loop-next-test.false))
+    (let l = c.len.ensures in omega (arith, c.loop-next-test.false))
 
 pub loop-next-preserved : goal.loop-next-preserved
 loop-next-preserved c =

@@ -1,4 +1,4 @@
-use Rattle.std.proofs.Common.{◌≤◌, ◌-◌, length}
+use Rattle.std.proofs.Common.{◌-◌, length}
 use Rattle.never_heap.specs.Reach.{names}
 use Rattle.never_heap.specs.Scans.{Scanned, HasRegisters}
 use Rattle.never_heap.proofs.Scanning.{HasLed}

@@ -1,8 +1,8 @@
-use Rattle.std.proofs.Common.{◌≡◌, ◌≤◌, ◌∙◌, ◌*◌, ap, sym, subst, length, true, false, List, ℕ, arith}
+use Rattle.std.proofs.Common.{◌≡◌, ◌≤◌, ◌∙◌, ◌*◌, ap, sym, subst, length, true, false, List, ℕ}
 use Rattle.block_store.specs.declared.Name.{Name}
-use Rattle.never_heap.specs.Reach.{stands_in, reachable}
+use Rattle.never_heap.specs.Reach.{stands_in}
 use Rattle.never_heap.specs.Scans.{Scanned, Finds}
-use Rattle.never_heap.proofs.Scanning.{scanned_none, register_reached, first_more, first_all}
+use Rattle.never_heap.proofs.Scanning.{scanned_none, register_reached, first_more}
 use Rattle.never_heap.proofs.graph.Graph.scan_registers.Goals as goal
 
 pub loop-mutator-init : goal.loop-mutator-init
@@ -20,7 +20,7 @@ loop-mutator-init c =
 pub find_all-requires-clause-reached : goal.find_all-requires-clause-reached
 find_all-requires-clause-reached c b h =
     register_reached c.args.self.now c.mutators-mutator-items.result.now c.loop-mutator.mutator-index c.mutator-item.result c.mutators-mutator-items.ensures.mutators c.loop-mutator-test.true
-      c.mutator-item.is b (subst (λ l. stands_in b l ≡ true) c.registers.ensures h)
+    c.mutator-item.is b (subst (λ l. stands_in b l ≡ true) c.registers.ensures h)
 
 pub loop-mutator-preserved : goal.loop-mutator-preserved
 loop-mutator-preserved c =

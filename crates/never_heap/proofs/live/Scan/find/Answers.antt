@@ -1,7 +1,5 @@
-use Rattle.std.proofs.Common.{◌≡◌, ◌≤◌, ◌+◌, ◌++◌, ◌∷◌, [], length, ap, sym, ◌∙◌, subst, refl, List, ℕ, true, arith}
+use Rattle.std.proofs.Common.{◌+◌, sym, ◌∙◌, subst, refl, List, arith}
 use Rattle.block_store.specs.declared.Name.{Name}
-use Rattle.never_heap.specs.Graphs.{object_of}
-use Rattle.never_heap.specs.LiveBlocks.{object_blocks}
 use Rattle.never_heap.specs.Scans.{Scanned}
 use Rattle.never_heap.proofs.Scanning.{scanned_more, found_few}
 use Rattle.never_heap.proofs.live.Scan.find.Goals as goal
@@ -18,5 +16,5 @@ returns-clause-scanned c =
     let g = c.args.graph.now in
     let new = c.if-not-mark.ensures.is_new refl in
     subst (λ (xs : List Name). Scanned g c.mark.new.self xs (c.args.self.now.total + c.from.result)) (sym c.in_ok-push.ensures.items)
-      (scanned_more g c.args.self.now.marks c.mark.new.self c.args.self.now.found.items c.args.self.now.total c.args.name c.requires.scanned c.if-not-mark.ensures.marks c.if-not-mark.ensures.places
-      new.0 new.1 c.from.result c.requires.reached (c.from.ensures ∙ c.blocks_of.ensures.value) (let low = c.blocks_of.ensures.few in let same = c.from.ensures in omega arith))
+    (scanned_more g c.args.self.now.marks c.mark.new.self c.args.self.now.found.items c.args.self.now.total c.args.name c.requires.scanned c.if-not-mark.ensures.marks c.if-not-mark.ensures.places
+    new.0 new.1 c.from.result c.requires.reached (c.from.ensures ∙ c.blocks_of.ensures.value) (let low = c.blocks_of.ensures.few in let same = c.from.ensures in omega arith))
