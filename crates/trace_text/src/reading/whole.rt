@@ -28,7 +28,11 @@ struct Rest<'a> {
     read: u64,
 }
 
-/// The job that an input is, or its first line that is wrong.
+/// The job that an input of at most 16,777,216 bytes is.
+///
+/// # Errors
+///
+/// `BadLine` with the first line that is wrong, and `OutOfMemory`.
 pub fn job_of(alloc: Global, input: &[u8]) -> Result<Job, TraceFault>
     requires { length input.now ≤ INPUT_LIMIT }
     ensures { MatchResult result (IsJob input.now) (IsLineFault (IsFirstBadLine input.now)) }
