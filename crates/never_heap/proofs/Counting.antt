@@ -14,7 +14,7 @@ use Rattle.never_heap.proofs.Reaching.{reachable_within}
 
 module _ (w : Name → ℕ) (s : Name) where
   -- the weight of s, at s alone
-  abbrev at : Name → ℕ
+  abbrev pub at : Name → ℕ
   at a = if same_name a s then w a else 0
 
   other : (a : Name) → same_name a s ≡ false → at a ≡ 0
@@ -62,7 +62,7 @@ module _ (w : Name → ℕ) (s : Name) where
       ]
 
   -- among the names of the first t threads too, and not at all where its thread is none of them
-  once_below : (g : Graph) (t : ℕ) → (sum_by at (names_below g t) ≤ w s) × (0 < s.serial → t ≤ s.thread → sum_by at (names_below g t) ≡ 0)
+  pub once_below : (g : Graph) (t : ℕ) → (sum_by at (names_below g t) ≤ w s) × (0 < s.serial → t ≤ s.thread → sum_by at (names_below g t) ≡ 0)
   once_below g zero = (
     (let one = weight (shared_name (length g.mutators)) in omega arith),
     λ some low. (let none = other (shared_name (length g.mutators)) (shared_not some) in omega arith),

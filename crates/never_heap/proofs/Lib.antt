@@ -21,3 +21,5 @@ pub mod Coming
 pub mod Walking
 pub mod Counting
 pub mod Opening
+pub mod Once
+pub mod Scanning

@@ -17,3 +17,4 @@ pub mod Runs
 pub mod Coming
 pub mod Jobs
 pub mod Marks
+pub mod Scans

@@ -10,6 +10,7 @@ ghost use Rattle.never_heap.specs.Histories.{HistoryItem, after, replay, part, L
 
 mod graph;
 mod laws;
+mod live;
 mod marks;
 mod mutator;
 mod object;

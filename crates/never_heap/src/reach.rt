@@ -14,7 +14,7 @@ use block_store::{Name, OutOfMemory, Width};
 
 // The blocks of the registers of this many threads.
 #[tactic(auto, using(block_store::proofs::Registers::end_by))]
-fn register_blocks(width: Width, threads: u64) -> u64
+pub(crate) fn register_blocks(width: Width, threads: u64) -> u64
     requires { threads ≤ 16 }
     ensures value { result ≡ registers_end width threads }
     ensures few { result ≤ 80 }
@@ -55,7 +55,7 @@ impl Graph {
     }
 
     // A place for each object, and no mark.
-    fn no_marks(&self) -> Result<Marks, OutOfMemory>
+    pub(crate) fn no_marks(&self) -> Result<Marks, OutOfMemory>
         ensures places { IfOk result (λ m. (b : Name) → has_place m b ≡ has_name self.now.graph b) }
         ensures marks { IfOk result (λ m. (b : Name) → has_mark m b ≡ false) }
     {
@@ -130,7 +130,7 @@ impl Graph {
     }
 
     // The blocks of the object of a name.
-    fn blocks_of(&self, name: Name) -> u32
+    pub(crate) fn blocks_of(&self, name: Name) -> u32
         requires { has_name self.now.graph name ≡ true }
         ensures value { result ≡ object_blocks self.now.width (object_of self.now.graph name) }
         ensures few { result ≤ 21845 }

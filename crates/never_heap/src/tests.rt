@@ -54,6 +54,42 @@ fn commands_are_answered(rt: HostRuntime) -> Result<(), OutOfMemory> {
         assert_eq!(rt; graph.apply(0, &command)?, reply);
     }
     assert_eq!(rt; graph.reach_blocks()?, 7);
+    assert_eq!(rt; graph.count_live()?, 7);
+    Ok(())
+}
+
+// A ring of two records with a long array beside it, a chain of two behind register 3, and what
+// registers no longer refer to.
+const LINKED: [Command; 13] = [
+    Command::New { d: 1, fields: 4 },
+    Command::New { d: 2, fields: 1 },
+    Command::Put { s: 1, i: 0, v: 2 },
+    Command::Put { s: 2, i: 0, v: 1 },
+    Command::Arr { d: 2, elements: 17 },
+    Command::Put { s: 1, i: 3, v: 2 },
+    Command::New { d: 3, fields: 1 },
+    Command::New { d: 4, fields: 7 },
+    Command::Put { s: 4, i: 6, v: 3 },
+    Command::Mov { d: 3, s: 4 },
+    Command::Nil { d: 4 },
+    Command::New { d: 5, fields: 3 },
+    Command::Nil { d: 5 },
+];
+
+#[test]
+#[tactic(auto, using(crate::proofs::Stepping::step_threads, crate::proofs::Stepping::step_count))]
+fn one_scan_counts_what_rounds_count(rt: HostRuntime) -> Result<(), OutOfMemory> {
+    let config = Config {
+        object: 8,
+        ..CONFIG
+    };
+    let mut graph = Graph::start(rt.alloc(), &config)?;
+    for command in LINKED {
+        graph.apply(0, &command)?;
+        assert_eq!(rt; graph.count_live()?, graph.reach_blocks()?);
+    }
+    // 6 at the opening, 2 and 1 of the ring, 8 of the array, 3 and 1 of the chain.
+    assert_eq!(rt; graph.count_live()?, 21);
     Ok(())
 }
 
