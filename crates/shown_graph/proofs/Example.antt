@@ -3,6 +3,7 @@ use Rattle.std.proofs.Common.{zero, suc, ◌+◌, ◌*◌, ◌≡◌, ℕ, ◌<�
 use Rattle.std.proofs.lemmas.Bool.{cases_Bool}
 use Rattle.block_store.specs.declared.Shape.TheVariants as shapes
 use Rattle.block_store.specs.declared.Value.TheVariants.{Int}
+use Rattle.block_store.specs.Owners.{owner_word}
 use Rattle.block_store.specs.Payloads.{target, reference_word, number_word}
 use Rattle.block_store.specs.Shapes.{shape_of, array_word}
 use Rattle.block_store.specs.declared.Width.TheVariants.{Four, Eight}
@@ -19,7 +20,7 @@ use Rattle.shown_graph.specs.Made.{IsMade, IsWritten, link_word}
 use Rattle.shown_graph.specs.Openings.{opening_words}
 use Rattle.shown_graph.proofs.Publish.{written_shows}
 use Rattle.shown_graph.specs.Events.{run, Guarded, opening_state}
-use Rattle.shown_graph.specs.Example.{small_config, some_events, with_record}
+use Rattle.shown_graph.specs.Example.{small_config, wide_config, some_events, with_record}
 
 -- what one event asks, and then the others
 both : {A B : Type 0} → A → B → A × B
@@ -157,3 +158,41 @@ example_made W = record {
       (record { thread = 0; serial = 1 }) Record (payloads W) (λ p. 12 + p) o
       (written W o (omega (arith, two W, ol)));
 }
+
+pub wide_root : ((opening_words wide_config).payload 1 0 ≡ 4)
+    × ((opening_words wide_config).payload 1 1 ≡ 6)
+unfolding reference_word tree tree_depth
+wide_root = (refl, refl)
+
+pub wide_root_rest : (j : ℕ) → 1 < j → j < 8 → (opening_words wide_config).payload 1 j ≡ 0
+unfolding reference_word tree tree_depth
+wide_root_rest zero low high = absurd (omega arith)
+wide_root_rest (suc zero) low high = absurd (omega arith)
+wide_root_rest (suc (suc zero)) low high = refl
+wide_root_rest (suc (suc (suc zero))) low high = refl
+wide_root_rest (suc (suc (suc (suc zero)))) low high = refl
+wide_root_rest (suc (suc (suc (suc (suc zero))))) low high = refl
+wide_root_rest (suc (suc (suc (suc (suc (suc zero)))))) low high = refl
+wide_root_rest (suc (suc (suc (suc (suc (suc (suc zero))))))) low high = refl
+wide_root_rest (suc (suc (suc (suc (suc (suc (suc (suc j)))))))) low high = absurd (omega arith)
+
+pub wide_registers : (opening_words wide_config).payload 2 0 ≡ 8
+unfolding reference_word tree tree_depth
+wide_registers = refl
+
+pub wide_rest : (j : ℕ) → 0 < j → j < 8 → (opening_words wide_config).payload 2 j ≡ 0
+unfolding reference_word tree tree_depth
+wide_rest zero low high = absurd (omega arith)
+wide_rest (suc zero) low high = refl
+wide_rest (suc (suc zero)) low high = refl
+wide_rest (suc (suc (suc zero))) low high = refl
+wide_rest (suc (suc (suc (suc zero)))) low high = refl
+wide_rest (suc (suc (suc (suc (suc zero))))) low high = refl
+wide_rest (suc (suc (suc (suc (suc (suc zero)))))) low high = refl
+wide_rest (suc (suc (suc (suc (suc (suc (suc zero))))))) low high = refl
+wide_rest (suc (suc (suc (suc (suc (suc (suc (suc j)))))))) low high = absurd (omega arith)
+
+pub wide_shared : ((opening_words wide_config).owner 4 ≡ 1099511627776)
+    × ((opening_words wide_config).shape 4 ≡ 1)
+unfolding owner_word array_word tree
+wide_shared = (refl, refl)
