@@ -44,9 +44,9 @@ pub fn opening_is_shown()
         (opening_at c.width c.threads) (opening_words c) never_late }
 {}
 
-/// Words of the opening heap of one thread and an empty shared array, in blocks of eight: the root of
-/// the register array in block 1 refers to blocks 2 and 3, register 0 in block 2 refers to block 4,
-/// and that is the shared array `1.0`.
+/// Words of the opening heap of one thread and an empty shared array, in blocks of eight: the root
+/// of the register array in block 1 refers to blocks 2 and 3, register 0 in block 2 refers to block
+/// 4, and that is the shared array `1.0`.
 pub fn a_known_opening()
     ensures root { ((opening_words wide_config).payload 1 0 ≡ 4)
         × ((opening_words wide_config).payload 1 1 ≡ 6)
