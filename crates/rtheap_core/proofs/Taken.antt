@@ -1,6 +1,6 @@
 -- How much of a source was taken where it was read to its end.
-use Rattle.std.proofs.Common.{◌≡◌, ◌≤◌, ℕ, List, [], ◌∷◌, length, drop, Option, Some, None, arith, refl, sym, ap, ◌∙◌}
-use Rattle.trace_text.specs.declared.jobs.Job.{Job}
+use Rattle.std.proofs.Common.{◌≡◌, ℕ, List, [], ◌∷◌, length, drop, Option, Some, None, arith, refl, sym, ap, ◌∙◌}
+use Rattle.trace_text.specs.Jobs.{Job}
 use Rattle.trace_text.specs.Streams.{TookAtMost}
 use Rattle.rtheap_core.specs.Exits.{IsReadAs}
 

@@ -4,9 +4,8 @@ use Rattle.std.proofs.lemmas.Bool.{cases_eq}
 use Rattle.rate_plan.specs.declared.PlanFault.{PlanFault}
 use Rattle.rate_plan.specs.declared.PlanFault.TheVariants as plans
 use Rattle.rate_plan.specs.Rates.{IsAdmitted, IsRefusal}
-use Rattle.trace_text.specs.declared.jobs.Job.{Job}
 use Rattle.trace_text.specs.declared.trace_faults.Why.{Why}
-use Rattle.trace_text.specs.Jobs.{IsJob, IsInput, input_limit}
+use Rattle.trace_text.specs.Jobs.{Job, IsJob, IsInput, input_limit}
 use Rattle.trace_text.specs.Refusals.{IsFirstBadLine}
 use Rattle.rtheap_core.specs.declared.refusal.Refusal.{Refusal}
 use Rattle.rtheap_core.specs.declared.refusal.Refusal.TheVariants.{Usage, BadLine, TooLong, LiveTooSmall, NoRate, Later, ReadFault, OutOfMemory}

@@ -4,8 +4,7 @@ use Rattle.never_heap.specs.declared.Entry.{Entry}
 use Rattle.never_heap.specs.Histories.{HistoryItem, parts, starts_in, work_in}
 use Rattle.never_heap.specs.PlainRuns.{IsPlainRun}
 use Rattle.rate_plan.specs.Rates.{IsAdmitted, IsRate}
-use Rattle.trace_text.specs.declared.jobs.Job.{Job}
-use Rattle.trace_text.specs.Jobs.{IsJobInBounds, IsInput}
+use Rattle.trace_text.specs.Jobs.{Job, IsJobInBounds, IsInput}
 use Rattle.trace_text.specs.Lines.{line_feed}
 use Rattle.trace_text.specs.Streams.{Appends, AppendsFront, IsAtEnd}
 use Rattle.trace_text.specs.Texts.{text_by_threads}

@@ -3,7 +3,7 @@ use Rattle.std.specs.Prelude.{ℕ, ◌≡◌, List, [], ◌∷◌, Option}
 use Rattle.never_heap.specs.Histories.{parts}
 use Rattle.never_heap.specs.PlainRuns.{IsPlainRun}
 use Rattle.rate_plan.specs.Rates.{IsAdmitted, IsRate}
-use Rattle.trace_text.specs.declared.jobs.Job.{Job}
+use Rattle.trace_text.specs.Jobs.{Job}
 use Rattle.rtheap_core.specs.Exits.{IsReadAs, job_of}
 use Rattle.rtheap_core.specs.PlainRuns.{PlainRun, history_of}
 use Rattle.rtheap_core.specs.Runnable.{CanRun}

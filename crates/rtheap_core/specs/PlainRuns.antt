@@ -6,7 +6,8 @@ use Rattle.never_heap.specs.declared.Command.{Command}
 use Rattle.never_heap.specs.declared.Entry.{Entry}
 use Rattle.never_heap.specs.Graphs.{start_graph}
 use Rattle.never_heap.specs.Histories.{HistoryItem, Started, Did, LegalFrom, replay_from, part}
-use Rattle.never_heap.specs.PlainRuns.{FullsExactly, NoWork, opening_blocks}
+use Rattle.array_trees.specs.Openings.{opening_blocks}
+use Rattle.never_heap.specs.PlainRuns.{FullsExactly, NoWork}
 use Rattle.never_heap.specs.Taken.{taken_in}
 use Rattle.rtheap_core.specs.declared.plain.PlainHeap.{PlainHeap}
 use Rattle.rtheap_core.specs.Plain.{IsPlain, ShowsPlain}
@@ -33,7 +34,7 @@ pub record IsRunSoFar (c : Config) (commands : List Command) (heap : PlainHeap) 
   pub others : (t : ℕ) → (t ≡ 0 → ⊥) → part t (map Did log) ≡ []
   pub legal : LegalFrom (start_graph c) (map Did log)
   pub no_work : NoWork (map Did log)
-  pub fulls : FullsExactly c.blocks (opening_blocks c) (map Did log)
-  pub given : heap.last ≡ opening_blocks c + taken_in (map Did log)
+  pub fulls : FullsExactly c (opening_blocks c) (map Did log)
+  pub given : heap.last ≡ opening_blocks c + taken_in c.width (map Did log)
   pub at : Name → ℕ → ℕ
-  pub shown : ShowsPlain heap at (replay_from (start_graph c) (map Did log))
+  pub shown : ShowsPlain c.width heap at (replay_from (start_graph c) (map Did log))

@@ -3,11 +3,10 @@ use Rattle.std.specs.Prelude.{ℕ, ◌≡◌, ◌≢◌, ◌≤◌, ◌<◌, ◌
 use Rattle.rate_plan.specs.declared.PlanFault.{PlanFault}
 use Rattle.rate_plan.specs.declared.PlanFault.TheVariants as plans
 use Rattle.rate_plan.specs.Rates.{IsAdmitted, IsRefusal}
-use Rattle.trace_text.specs.declared.jobs.Job.{Job}
 use Rattle.trace_text.specs.declared.trace_faults.TraceFault.{TraceFault}
 use Rattle.trace_text.specs.declared.trace_faults.TraceFault.TheVariants as faults
 use Rattle.trace_text.specs.Faults.{Rose}
-use Rattle.trace_text.specs.Jobs.{input_limit}
+use Rattle.trace_text.specs.Jobs.{Job, input_limit}
 use Rattle.trace_text.specs.Lines.{line_feed}
 use Rattle.trace_text.specs.Reasons.{reason_text}
 use Rattle.trace_text.specs.Refusals.{IsFirstBadLine}

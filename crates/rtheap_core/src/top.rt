@@ -3,10 +3,9 @@
 ghost use Rattle.std.specs.Prelude.{◌≡◌, ◌≢◌, ◌<◌, ◌≤◌, ◌⊎◌, ◌↔◌, List, ℕ, [], ◌∷◌, length, map, string_bytes, IsSome, Some, None, IfSome, IfOk, IfErr, OnOk};
 ghost use Rattle.rate_plan.specs.declared.PlanFault.{PlanFault};
 ghost use Rattle.rate_plan.specs.Rates.{IsAdmitted, IsRate, IsRefusal};
-ghost use Rattle.trace_text.specs.declared.jobs.Job.{Job};
 ghost use Rattle.trace_text.specs.declared.trace_faults.Why as whys;
 ghost use Rattle.trace_text.specs.Faults.{Rose};
-ghost use Rattle.trace_text.specs.Jobs.{IsInput, input_limit};
+ghost use Rattle.trace_text.specs.Jobs.{Job, IsInput, input_limit};
 ghost use Rattle.trace_text.specs.Refusals.{IsFirstBadLine};
 ghost use Rattle.trace_text.specs.Streams.{Appends, AppendsFront};
 ghost use Rattle.trace_text.specs.Texts.{run_text};

@@ -1,6 +1,6 @@
 use Rattle.std.proofs.Common.{inl, subst, sym}
 use Rattle.std.proofs.lemmas.Result.{err_from_is_err_and}
-use Rattle.trace_text.specs.declared.jobs.Job.{Job}
+use Rattle.trace_text.specs.Jobs.{Job}
 use Rattle.rate_plan.specs.Rates.{IsAdmitted}
 use Rattle.rtheap_core.specs.Exits.{IsReadAs}
 use Rattle.rtheap_core.specs.Runnable.{CanRun}
