@@ -44,7 +44,8 @@ pub record HasRoom (c : Config) (a : Name) (s : Shape) (first : ℕ) : Type 0 wh
   pub some : 1 ≤ first
   pub room : first + blocks_in c.width s ≤ c.blocks + 1
 
--- the first words of ordinal o are written, as many as count says, and no block before it is changed
+-- the first words of ordinal o are written, as many as count says, and no block before it is
+-- changed
 pub record AreLinksWritten
     (W : Width) (old new : Heap) (s : Shape) (first o count : ℕ)
     : Type 0 where

@@ -48,8 +48,8 @@ DoesStep old new command reply =
     let W = old.store.config.width in
     (at : Name → ℕ → ℕ) (g : Graph) → ShowsPlain W old at g → Answers W new g command reply
 
--- Where these blocks are left they are taken, and the reply is no full. Else it is a full of cycle 1,
--- and nothing changes.
+-- Where these blocks are left they are taken, and the reply is no full. Else it is a full of cycle
+-- 1, and nothing changes.
 pub record Takes (old new : PlainHeap) (blocks : ℕ) (reply : Reply) : Type 0 where
   pub room : old.last + blocks ≤ old.store.config.blocks
       → (is_full reply ≡ false) × (new.last ≡ old.last + blocks)

@@ -26,7 +26,9 @@ abbrev pub commands_of : List Entry → List Command
 commands_of log = map (λ (e : Entry). e.command) log
 
 -- the entries so far answer these commands, and the heap shows the graph that they leave
-pub record IsRunSoFar (c : Config) (commands : List Command) (heap : PlainHeap) (log : List Entry) : Type 0 where
+pub record IsRunSoFar
+    (c : Config) (commands : List Command) (heap : PlainHeap) (log : List Entry)
+    : Type 0 where
   pub plain : IsPlain heap
   pub config : heap.store.config ≡ c
   pub done : commands_of log ≡ commands

@@ -68,7 +68,8 @@ block_or last x (Some (payloads.Int n)) = x
 block_or last x (Some payloads.Nil) = x
 block_or last x None = x
 
--- the block at which one is after some links from block x on, where the l-th link is at payload turn l
+-- the block at which one is after some links from block x on, where the l-th link is at payload
+-- turn l
 abbrev pub walk : Heap → ℕ → ℕ → (ℕ → ℕ) → ℕ → ℕ
 walk heap last x turn zero = x
 walk heap last x turn (suc l) =

@@ -127,7 +127,8 @@ impl PlainHeap {
         }
     }
 
-    // The first block and the shape of the object to which a word refers, or the reply that refuses.
+    // The first block and the shape of the object to which a word refers, or the reply that
+    // refuses.
     fn object(&self, word: u64) -> Result<(u32, Shape), Reply>
         requires { IsPlain self.now }
         ensures block { IfOk result (λ o. IsBlock self.now.store.config o.0 × IsShape o.1) }
@@ -190,7 +191,8 @@ impl PlainHeap {
         block
     }
 
-    // The payload at which the way to element `i` of an array of `elements` goes on from this level.
+    // The payload at which the way to element `i` of an array of `elements` goes on from this
+    // level.
     fn turn(&self, elements: u32, i: u32, level: u32) -> u32
         requires few { elements ≤ 65535 }
         requires element { i < elements }
@@ -392,8 +394,10 @@ impl PlainHeap {
         requires few { blocks_in self.old.store.config.width shape ≤ 1024 }
         ensures plain { IsPlain self.new }
         ensures config { self.new.store.config ≡ self.old.store.config }
-        ensures taken { Takes self.old self.new (blocks_in self.old.store.config.width shape) result }
-        ensures answered { is_full result ≡ false → DoesStep self.old self.new (making d shape) result }
+        ensures taken { Takes self.old self.new
+            (blocks_in self.old.store.config.width shape) result }
+        ensures answered { is_full result ≡ false
+            → DoesStep self.old self.new (making d shape) result }
     {
         let blocks = blocks_of_shape(self.store.width(), shape);
         if self.last + blocks > self.store.config().blocks {
@@ -417,7 +421,8 @@ impl PlainHeap {
         requires bounds { IsCommandInBounds self.old.store.config command.now }
         ensures plain { IsPlain self.new }
         ensures config { self.new.store.config ≡ self.old.store.config }
-        ensures taken { Takes self.old self.new (blocks_of self.old.store.config.width command.now) result }
+        ensures taken { Takes self.old self.new
+            (blocks_of self.old.store.config.width command.now) result }
         ensures answered { is_full result ≡ false → DoesStep self.old self.new command.now result }
     {
         match *command {

@@ -90,7 +90,8 @@ fn run_trace(alloc: Global, config: &Config, trace: &[Command]) -> Result<Vec<En
     requires one_thread { config.now.threads ≡ 1 }
     requires room { opening_blocks config.now ≤ config.now.blocks }
     requires commands { AllByRecursion (IsCommandInBounds config.now) trace.now }
-    ensures run { IfOk result (λ log. IsPlainRun config.now (trace.now ∷ []) (history_of log.items)) }
+    ensures run { IfOk result (λ log.
+        IsPlainRun config.now (trace.now ∷ []) (history_of log.items)) }
     ensures part { IfOk result (λ log. parts 1 (history_of log.items) ≡ log.items ∷ []) }
     ensures commands { IfOk result (λ log. commands_of log.items ≡ trace.now) }
 {

@@ -212,10 +212,28 @@ end
 fn what_one_register_stores_is_seen_through_another(rt: HostRuntime) -> Result<(), Fail> {
     let text = job(
         rt.alloc(),
-        "new 1 2\nmov 2 1\nset 3 7\nput 2 1 3\nget 4 1 1\nput 1 0 2\nget 5 2 0\nsame 5 1\nput 0 0 1\n",
+        "new 1 2
+mov 2 1
+set 3 7
+put 2 1 3
+get 4 1 1
+put 1 0 2
+get 5 2 0
+same 5 1
+put 0 0 1
+",
     )?;
-    let written =
-        "0 new 0.1 work 0\n0 ok\n0 ok\n0 ok\n0 int 7\n0 ok\n0 ref 0.1\n0 yes\n0 range\nend cycles 1 work 0\n";
+    let written = "0 new 0.1 work 0
+0 ok
+0 ok
+0 ok
+0 int 7
+0 ok
+0 ref 0.1
+0 yes
+0 range
+end cycles 1 work 0
+";
     answers(&rt, rt.alloc(), "run", text.as_str(), 0, written)
 }
 

@@ -86,8 +86,8 @@ fn write_links(store: &mut Store, shape: Shape, first: u32, ordinal: u32)
     }
 }
 
-// The word of a payload: a reference to the block to which it links, or nil. `leaf` may be said where
-// the first payload of the block links to none.
+// The word of a payload: a reference to the block to which it links, or nil. `leaf` may be said
+// where the first payload of the block links to none.
 fn link_word(width: Width, shape: Shape, first: u32, ordinal: u32, payload: u32, leaf: bool) -> u64
     requires shape { IsShape shape }
     requires ordinal { ordinal < blocks_in width shape }
