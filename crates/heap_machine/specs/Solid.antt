@@ -3,8 +3,7 @@ use Rattle.std.specs.Prelude.{ℕ, ◌+◌, ◌*◌, ◌≡◌, ◌≢◌, ◌<�
 use Rattle.block_store.specs.Colours.{is_free, is_grey, black_word}
 use Rattle.block_store.specs.Heaps.{Heap}
 use Rattle.block_store.specs.Payloads.{target}
-use Rattle.block_store.specs.Places.{ColourOf, PayloadOf}
-use Rattle.block_store.specs.declared.TheConstants.{PAYLOADS}
+use Rattle.block_store.specs.Places.{Extent, ColourOf, PayloadOf}
 
 -- with these colour words, y is no Free block; 0 is no block
 abbrev pub NotFree : (ℕ → ℕ) → ℕ → Type 0
@@ -15,14 +14,14 @@ abbrev pub IsMarked : ℕ → ℕ → Type 0
 IsMarked cycle w = (is_grey w ≡ true) ⊎ (w ≡ black_word cycle)
 
 -- the root block of thread t: the first of its register array
-abbrev pub root_block : ℕ → ℕ
-root_block t = 5 * t + 1
+abbrev pub root_block : Extent → ℕ → ℕ
+root_block e t = 5 * t + 1
 
--- over the number of threads, the cycle, the colour words and the payload words
-pub record SolidOf (n cycle : ℕ) (colour : ℕ → ℕ) (payload : ℕ → ℕ → ℕ) : Type 0 where
-  pub solid : (x j : ℕ) → is_free (colour x) ≡ false → j < PAYLOADS → NotFree colour (target (payload x j))
-  pub roots : (t : ℕ) → t < n → IsMarked cycle (colour (root_block t))
+-- over the extent of the heap, the cycle, the colour words and the payload words
+pub record SolidOf (e : Extent) (cycle : ℕ) (colour : ℕ → ℕ) (payload : ℕ → ℕ → ℕ) : Type 0 where
+  pub solid : (x j : ℕ) → is_free (colour x) ≡ false → j < e.width → NotFree colour (target (payload x j))
+  pub roots : (t : ℕ) → t < e.threads → IsMarked cycle (colour (root_block e t))
 
 -- of a heap in this cycle
-abbrev pub SolidKept : ℕ → ℕ → Heap → Type 0
-SolidKept n cycle h = SolidOf n cycle (λ x. h (ColourOf x)) (λ x j. h (PayloadOf x j))
+abbrev pub SolidKept : Extent → ℕ → Heap → Type 0
+SolidKept e cycle h = SolidOf e cycle (λ x. h (ColourOf x)) (λ x j. h (PayloadOf x j))

@@ -21,11 +21,11 @@ use Rattle.heap_machine.specs.Grey.{no_grey}
 use Rattle.heap_machine.specs.Gating.{Gating, is_outside, is_inside, is_closing}
 use Rattle.heap_machine.proofs.Functions.{total_none}
 use Rattle.heap_system.specs.declared.local.Part.TheVariants.{Rest}
-use Rattle.heap_system.specs.Locals.{LocalState, at_start, command_of, decides}
+use Rattle.heap_system.specs.Locals.{LocalState, no_pass, at_start, command_of, decides}
 use Rattle.heap_system.specs.Machines.{State, no_local, local_at, event_done, has_event, word_read, entry_decided, Run, next, after_turns, starts_from, IsOpening, IsJob, opened, IsRunOf}
 use Rattle.heap_system.specs.Openings.{opening_heap, opening_phase}
-use Rattle.heap_system.specs.Pictures.{gating, loading, holding, heap_in, graph_state}
-use Rattle.heap_system.proofs.Kept.{LocalKept, loads_in, gates_in, holdings_in, Kept, IsMark, opening_low}
+use Rattle.heap_system.specs.Pictures.{gating, loading, heap_in, graph_state}
+use Rattle.heap_system.proofs.Kept.{grey_of, LocalKept, loads_in, gates_in, holdings_in, Kept, IsMark, opening_low}
 use Rattle.heap_system.proofs.Turning.{next_kept}
 use Rattle.heap_system.proofs.Grounds.{opening_grey, opening_held, opening_solid}
 use Rattle.heap_system.specs.Systems.{units_of}
@@ -73,13 +73,13 @@ module _ (c : Config) (traces : List (List Command)) (job : IsJob c traces) (s :
       ap (λ ls. get_or ls t (no_local c)) start.locals ∙ starts_at c start.rate 0 t traces (no_local c) (omega (arith, job.count)) ∙ ap (λ u. at_start c start.rate u (get_or traces t [])) e
 
   unloads : (t : ℕ) → t < c.threads → loads_in c s t ≡ unloaded
-  unloads t tl = ap (λ (l : LocalState). loading l.part) (here t tl)
+  unloads t tl = ap (λ (l : LocalState). loading c l.part) (here t tl)
 
-  outside : (t : ℕ) → t < c.threads → gates_in c s t ≡ gating Rest
-  outside t tl = ap (λ (l : LocalState). gating l.part) (here t tl)
+  outside : (t : ℕ) → t < c.threads → gates_in c s t ≡ gating c (no_pass t c.threads) Rest
+  outside t tl = ap (λ (l : LocalState). gating c l.pass l.part) (here t tl)
 
   holds : (t : ℕ) → t < c.threads → holdings_in c s t ≡ no_grey
-  holds t tl = ap (λ (l : LocalState). holding l.part) (here t tl)
+  holds t tl = ap (λ (l : LocalState). grey_of c l.part) (here t tl)
 
   outside_words : (x : ℕ) → is_block (extent c) x ≡ false → heap_in c s (ColourOf x) ≡ 0
   outside_words x out = rw out refl
@@ -155,7 +155,7 @@ turn_kept c traces job r kept t = elim (cases_lt t c.threads) [
   | inl tl ↦ next_kept c traces job.bounds job.plan r kept t tl
   | inr out ↦
       let none : has_event c t r.state ≡ false = rw (le-ltb t c.threads out) refl in
-      subst (λ x. Kept c traces (record { state = cond x (event_done c t r.state) r.state; order = r.order ++ cond x (cond (decides (local_at c r.state t).part (word_read c r.state (local_at c r.state t))) (entry_decided c t (command_of (local_at c r.state t)) (local_at c r.state t).paid r.order ∷ []) []) [] })) (sym none)
+      subst (λ x. Kept c traces (record { state = cond x (event_done c t r.state) r.state; order = r.order ++ cond x (cond (decides c (local_at c r.state t).part (word_read c r.state (local_at c r.state t))) (entry_decided c t (command_of (local_at c r.state t)) (local_at c r.state t).paid r.order ∷ []) []) [] })) (sym none)
       (subst (λ o. Kept c traces (record { state = r.state; order = o })) (sym (append-nil r.order)) kept)
 ]
 

@@ -23,7 +23,7 @@ blackens h o = turns_black (cycle_of (h Phase)) (place_of o) (h (place_of o)) (h
 
 -- whether a turn of thread t does
 abbrev pub is_unit : Config → ℕ → State → Bool
-is_unit c t s = if has_event c t s then blackens (heap_in c s) (part_want (local_at c s t).part) else false
+is_unit c t s = if has_event c t s then blackens (heap_in c s) (part_want c (local_at c s t).part) else false
 
 -- how many of the turns of thread t do, over a list of turns from a run on
 abbrev pub units_made : Config → ℕ → Run → List ℕ → ℕ

@@ -21,12 +21,12 @@ ghost use Rattle.shown_graph.specs.Openings.{opening_at, opening_last, opening_w
 ghost use Rattle.shown_graph.specs.Events.{unloaded, lates, Follows};
 ghost use Rattle.heap_machine.specs.Counts.{total};
 ghost use Rattle.heap_machine.specs.Gating.{is_inside};
-ghost use Rattle.heap_machine.specs.Grey.{GreyKept, no_grey};
+ghost use Rattle.heap_machine.specs.Grey.{GreyKept};
+ghost use Rattle.heap_machine.specs.Holdings.{holds_nothing, grey_held};
 ghost use Rattle.grey_steps.specs.Rows.{GreyState};
 ghost use Rattle.grey_steps.specs.Ends.{is_putting};
 ghost use Rattle.heap_machine.specs.Operations.{Exchange, place_of, op_at, SumFits};
-ghost use Rattle.barrier_steps.specs.declared.rows.FieldRow.{FieldRow};
-ghost use Rattle.barrier_steps.specs.Rows.{field_decided};
+ghost use Rattle.barrier_steps.specs.Rows.{FieldState, field_decided};
 ghost use Rattle.heap_system.specs.declared.local.Part.TheVariants.{Serve, Mark, Count};
 ghost use Rattle.heap_system.specs.Locals.{is_done, waits, is_rest, command_of, owed, owes, entry_of, works, part_want, PartReads};
 ghost use Rattle.heap_system.specs.Systems.{units_of, logs_of};
@@ -69,19 +69,19 @@ pub fn order_is_legal()
 pub fn logs_are_parts()
     ensures each { (c : Config) (traces : List (List Command)) (ts : List ℕ) (r : Run) → IsJob c traces → IsRunOf c traces ts r → (t : ℕ) → t < c.threads → part t r.order ≡ (local_at c r.state t).log ++ entries_waiting (replay c r.order) (local_at c r.state t) }
     ensures rest { (c : Config) (traces : List (List Command)) (ts : List ℕ) (r : Run) → IsJob c traces → IsRunOf c traces ts r → (t : ℕ) → t < c.threads → is_rest (local_at c r.state t).part ≡ true
-        → (part t r.order ≡ (local_at c r.state t).log) × (loading (local_at c r.state t).part ≡ unloaded) × (holding (local_at c r.state t).part ≡ no_grey) }
-    ensures decided { (c : Config) (traces : List (List Command)) (ts : List ℕ) (r : Run) → IsJob c traces → IsRunOf c traces ts r → (t : ℕ) → t < c.threads → (f : FieldRow) → (local_at c r.state t).part ≡ Serve f → field_decided f ≡ true
+        → (part t r.order ≡ (local_at c r.state t).log) × (loading c (local_at c r.state t).part ≡ unloaded) × (holding c (local_at c r.state t).part ≡ holds_nothing) }
+    ensures decided { (c : Config) (traces : List (List Command)) (ts : List ℕ) (r : Run) → IsJob c traces → IsRunOf c traces ts r → (t : ℕ) → t < c.threads → (f : FieldState) → (local_at c r.state t).part ≡ Serve f → field_decided f.row ≡ true
         → (y : Reply) × (part t r.order ≡ (local_at c r.state t).log ++ entry_of t (command_of (local_at c r.state t)) 0 y ∷ []) }
-    ensures undecided { (c : Config) (traces : List (List Command)) (ts : List ℕ) (r : Run) → IsJob c traces → IsRunOf c traces ts r → (t : ℕ) → t < c.threads → (f : FieldRow) → (local_at c r.state t).part ≡ Serve f → field_decided f ≡ false
+    ensures undecided { (c : Config) (traces : List (List Command)) (ts : List ℕ) (r : Run) → IsJob c traces → IsRunOf c traces ts r → (t : ℕ) → t < c.threads → (f : FieldState) → (local_at c r.state t).part ≡ Serve f → field_decided f.row ≡ false
         → part t r.order ≡ (local_at c r.state t).log }
 {}
 
 /// The grey blocks stand in the chains of the lists and of the threads' hands, or are under scan, each
 /// once. Where a thread puts its hand, its own list is empty.
 pub fn grey_blocks_stand_once()
-    ensures kept { (c : Config) (traces : List (List Command)) (ts : List ℕ) (r : Run) → IsJob c traces → IsRunOf c traces ts r → GreyKept c.threads (heap_in c r.state) (λ t. holding (local_at c r.state t).part) }
+    ensures kept { (c : Config) (traces : List (List Command)) (ts : List ℕ) (r : Run) → IsJob c traces → IsRunOf c traces ts r → GreyKept c.threads (heap_in c r.state) (λ t. grey_held (holding c (local_at c r.state t).part)) }
     ensures put { (c : Config) (traces : List (List Command)) (ts : List ℕ) (r : Run) → IsJob c traces → IsRunOf c traces ts r → (t : ℕ) → t < c.threads → (m : GreyState) → (local_at c r.state t).part ≡ Mark m → is_putting m.row ≡ true
-        → (part_want (local_at c r.state t).part ≡ Exchange (GreyList t) (holding (local_at c r.state t).part).hand) × (heap_in c r.state (GreyList t) ≡ 0) }
+        → (part_want c (local_at c r.state t).part ≡ Exchange (GreyList t) (holding c (local_at c r.state t).part).hand) × (heap_in c r.state (GreyList t) ≡ 0) }
 {}
 
 /// The works of a thread's entries, and the units that it has made for the command in hand, are the
@@ -103,7 +103,7 @@ pub fn works_are_units()
 /// The phase word counts the threads inside, at most all of them; the gate stays open, in
 /// cycle 1 and its Mark.
 pub fn threads_inside_are_counted()
-    ensures count { (c : Config) (traces : List (List Command)) (ts : List ℕ) (r : Run) → IsJob c traces → IsRunOf c traces ts r → inside_of (heap_in c r.state Phase) ≡ total c.threads (λ t. bit (is_inside (stand_of (local_at c r.state t).part))) }
+    ensures count { (c : Config) (traces : List (List Command)) (ts : List ℕ) (r : Run) → IsJob c traces → IsRunOf c traces ts r → inside_of (heap_in c r.state Phase) ≡ total c.threads (λ t. bit (is_inside (stand_of c (local_at c r.state t).part))) }
     ensures most { (c : Config) (traces : List (List Command)) (ts : List ℕ) (r : Run) → IsJob c traces → IsRunOf c traces ts r → inside_of (heap_in c r.state Phase) ≤ c.threads }
     ensures opened { (c : Config) (traces : List (List Command)) (ts : List ℕ) (r : Run) → IsJob c traces → IsRunOf c traces ts r → (is_closed (heap_in c r.state Phase) ≡ false) × (cycle_of (heap_in c r.state Phase) ≡ 1) × (is_sweep (heap_in c r.state Phase) ≡ false) }
 {}
@@ -120,7 +120,7 @@ pub fn turns_wait_at_the_gate()
 /// The next event of a thread is on a place of the heap, reads a word that its row may read, and
 /// leaves no sum or difference outside of 64 bits.
 pub fn events_are_safe()
-    ensures place { (c : Config) (traces : List (List Command)) (ts : List ℕ) (r : Run) → IsJob c traces → IsRunOf c traces ts r → (t : ℕ) → t < c.threads → in_range (extent c) (place_of (part_want (local_at c r.state t).part)) ≡ true }
+    ensures place { (c : Config) (traces : List (List Command)) (ts : List ℕ) (r : Run) → IsJob c traces → IsRunOf c traces ts r → (t : ℕ) → t < c.threads → in_range (extent c) (place_of (part_want c (local_at c r.state t).part)) ≡ true }
     ensures reads { (c : Config) (traces : List (List Command)) (ts : List ℕ) (r : Run) → IsJob c traces → IsRunOf c traces ts r → (t : ℕ) → t < c.threads → PartReads c (local_at c r.state t).part (word_read c r.state (local_at c r.state t)) }
-    ensures sums { (c : Config) (traces : List (List Command)) (ts : List ℕ) (r : Run) → IsJob c traces → IsRunOf c traces ts r → (t : ℕ) → t < c.threads → SumFits (op_at (extent c) (part_want (local_at c r.state t).part)) (word_read c r.state (local_at c r.state t)) }
+    ensures sums { (c : Config) (traces : List (List Command)) (ts : List ℕ) (r : Run) → IsJob c traces → IsRunOf c traces ts r → (t : ℕ) → t < c.threads → SumFits (op_at (extent c) (part_want c (local_at c r.state t).part)) (word_read c r.state (local_at c r.state t)) }
 {}
