@@ -11,7 +11,7 @@ ghost use Rattle.never_heap.specs.declared.Command.{Command};
 ghost use Rattle.never_heap.specs.declared.Reply.{Reply};
 ghost use Rattle.never_heap.specs.Graphs.{Graph};
 ghost use Rattle.never_heap.specs.Bounds.{IsCommandInRange};
-ghost use Rattle.never_heap.specs.Steps.{blocks_of};
+ghost use Rattle.never_heap.specs.Steps.{makes_object};
 ghost use Rattle.shown_graph.specs.Layouts.{shape_part};
 ghost use Rattle.shown_graph.specs.Words.{block_words};
 ghost use Rattle.shown_graph.specs.Shown.{heads, named, IsSized};
@@ -31,7 +31,7 @@ ghost use Rattle.barrier_steps.specs.Projection.{loading_of, event_of, after_eve
 pub fn ways_lead_to_fields()
     ensures {
         (c : Config) (f : Shape) (i : ℕ) → i < shape_length f
-        → IsWay (shape_part f) i (links_to (extent c) f i) (field_at (extent c) f i)
+        → IsWay (shape_part c.width f) i (links_to (extent c) f i) (field_at (extent c) f i)
             (ordinal_at (extent c) f i) (link_at (extent c) f i)
     }
 {}
@@ -60,7 +60,7 @@ pub fn rows_stay_in_the_heap()
 /// A part is decided exactly behind its deciding event, of which there is one at most, and it has a
 /// reply only behind it.
 pub fn rows_decide_once()
-    ensures first { (k : Command) → blocks_of k ≡ 0 → field_decided (first_row k) ≡ false }
+    ensures first { (k : Command) → makes_object k ≡ false → field_decided (first_row k) ≡ false }
     ensures after {
         (c : Config) (f : FieldState) (w : ℕ)
         → field_decided (field_got (extent c) f w).row
@@ -101,32 +101,32 @@ pub fn rows_are_events()
     ensures words {
         (c : Config) (h : Heap) (s : GraphState) (a : Name) (f : FieldState) (w : ℕ)
         → s.words ≡ block_words h → s.loads f.pass.thread ≡ loading_of (extent c) f
-        → (after_event s (event_of (extent c) a f w)).words
+        → (after_event (extent c) s (event_of (extent c) a f w)).words
             ≡ block_words (heap_after h (field_want (extent c) f))
     }
     ensures loads {
         (c : Config) (h : Heap) (s : GraphState) (a : Name) (f : FieldState) (w : ℕ)
         → FieldFits c f → FieldReads c f w → IsAtRow (extent c) s h f w
-        → (u : ℕ) → (after_event s (event_of (extent c) a f w)).loads u
+        → (u : ℕ) → (after_event (extent c) s (event_of (extent c) a f w)).loads u
             ≡ with_load s.loads f.pass.thread (loading_of (extent c) (field_got (extent c) f w)) u
     }
     ensures stays {
         (c : Config) (s : GraphState) (a : Name) (f : FieldState) (w : ℕ)
         → is_deciding f.command f.row w ≡ false
-        → (after_event s (event_of (extent c) a f w)).graph ≡ s.graph
+        → (after_event (extent c) s (event_of (extent c) a f w)).graph ≡ s.graph
     }
     ensures steps {
         (c : Config) (head : Name → ℕ) (s : GraphState) (a : Name) (f : FieldState) (w : ℕ)
         → is_row_of f.command f.row ≡ true → is_deciding f.command f.row w ≡ true
         → Shown head s.graph f w
         → s.loads f.pass.thread ≡ loading_of (extent c) f → IsInHand s a f
-        → (after_event s (event_of (extent c) a f w)).graph
+        → (after_event (extent c) s (event_of (extent c) a f w)).graph
             ≡ graph_after s.graph f.pass.thread f.command
     }
     ensures guarded {
         (c : Config) (h : Heap) (s : GraphState) (a : Name) (f : FieldState) (w : ℕ)
         → FieldFits c f → FieldReads c f w → IsAtRow (extent c) s h f w → IsInHand s a f
-        → IfSome (event_of (extent c) a f w) (Guard c.threads s)
+        → IfSome (event_of (extent c) a f w) (Guard c.width c.threads s)
     }
 {}
 
@@ -137,42 +137,42 @@ pub fn rows_read_the_graph()
     ensures reads {
         (c : Config) (m : ℕ) (kept : Name → Bool) (at : Name → ℕ → ℕ) (s : GraphState) (h : Heap)
         (f : FieldState) (w : ℕ) → c.blocks ≤ 65535 → m ≤ c.blocks
-        → Follows c.threads m (named kept) at s → FieldFits c f → IsAtRow (extent c) s h f w
+        → Follows c.width c.threads m (named kept) at s → FieldFits c f → IsAtRow (extent c) s h f w
         → field_reply f.row ≡ None → FieldReads c f w
     }
     ensures shown {
         (c : Config) (m : ℕ) (kept : Name → Bool) (at : Name → ℕ → ℕ) (s : GraphState) (h : Heap)
         (f : FieldState) (w : ℕ) → c.blocks ≤ 65535 → m ≤ c.blocks
-        → Follows c.threads m (named kept) at s → FieldFits c f → IsAtRow (extent c) s h f w
+        → Follows c.width c.threads m (named kept) at s → FieldFits c f → IsAtRow (extent c) s h f w
         → Shown (heads at) s.graph f w
     }
     ensures register {
         (c : Config) (head : Name → ℕ) (s : GraphState) (a : Name) (f : FieldState) (w : ℕ)
         → IsSized c.threads s.graph → FieldFits c f → Shown head s.graph f w → IsInHand s a f
         → is_deciding f.command f.row w ≡ true
-        → ShowsRegister (after_event s (event_of (extent c) a f w)).graph (field_got (extent c) f w)
+        → ShowsRegister (after_event (extent c) s (event_of (extent c) a f w)).graph (field_got (extent c) f w)
             (answer s.graph f.pass.thread f.command)
     }
     ensures name {
         (c : Config) (m : ℕ) (kept : Name → Bool) (at : Name → ℕ → ℕ) (s : GraphState) (h : Heap)
         (f : FieldState) (w : ℕ) (reply : Reply) → c.blocks ≤ 65535 → m ≤ c.blocks
-        → Follows c.threads m (named kept) at s → FieldFits c f → IsAtRow (extent c) s h f w
+        → Follows c.width c.threads m (named kept) at s → FieldFits c f → IsAtRow (extent c) s h f w
         → ShowsRegister s.graph f reply → NameShown (heads at) f.row reply w
     }
     ensures due {
         (c : Config) (m : ℕ) (kept : Name → Bool) (at : Name → ℕ → ℕ) (s : GraphState) (h : Heap)
         (a : Name) (f : FieldState) (w : ℕ) → c.blocks ≤ 65535 → m ≤ c.blocks
-        → Follows c.threads m (named kept) at s → FieldFits c f → IsAtRow (extent c) s h f w
+        → Follows c.width c.threads m (named kept) at s → FieldFits c f → IsAtRow (extent c) s h f w
         → IsInHand s a f → IsKnown s.graph f
-        → reply_due (after_event s (event_of (extent c) a f w)).graph (field_got (extent c) f w)
+        → reply_due (after_event (extent c) s (event_of (extent c) a f w)).graph (field_got (extent c) f w)
             ≡ (if is_deciding f.command f.row w
                then Some (answer s.graph f.pass.thread f.command) else reply_due s.graph f)
     }
     ensures known {
         (c : Config) (m : ℕ) (kept : Name → Bool) (at : Name → ℕ → ℕ) (s : GraphState) (h : Heap)
         (a : Name) (f : FieldState) (w : ℕ) → c.blocks ≤ 65535 → m ≤ c.blocks
-        → Follows c.threads m (named kept) at s → FieldFits c f → IsAtRow (extent c) s h f w
+        → Follows c.width c.threads m (named kept) at s → FieldFits c f → IsAtRow (extent c) s h f w
         → IsInHand s a f → IsKnown s.graph f
-        → IsKnown (after_event s (event_of (extent c) a f w)).graph (field_got (extent c) f w)
+        → IsKnown (after_event (extent c) s (event_of (extent c) a f w)).graph (field_got (extent c) f w)
     }
 {}

@@ -4,6 +4,7 @@ ghost use Rattle.std.specs.Prelude.{◌≡◌, ◌≢◌, ◌<◌, ◌≤◌, �
 ghost use Rattle.block_store.specs.declared.Config.{Config};
 ghost use Rattle.block_store.specs.Colours.{is_grey, black_word, white_word};
 ghost use Rattle.block_store.specs.Heaps.{Heap};
+ghost use Rattle.block_store.specs.Widths.{payloads};
 ghost use Rattle.block_store.specs.Places.{Extent, extent, in_range, GreyList, ColourOf, PayloadOf, IsBlock};
 ghost use Rattle.block_store.specs.Payloads.{target};
 ghost use Rattle.heap_machine.specs.Counts.{changed};
@@ -54,7 +55,7 @@ pub fn rows_keep_tricolour()
     ensures shade_over { (e : Extent) (p : Pass) (y : ℕ) (ws : List ℕ) → grey_over (grey_after e (shading p y) ws).row ≡ true → (grey_after e (shading p y) ws).row ≡ Shaded y }
     ensures shaded { (c : Config) (h : Heap) (hs : ℕ → TricolourHolding) (s : GreyState) (y : ℕ) → GreyFits c s → TricolourKept (extent c) s.pass.cycle h hs → hs s.pass.thread ≡ tricolour_held (holding_at (extent c) s) → s.row ≡ Shaded y → h (ColourOf y) ≢ white_word s.pass.cycle }
     ensures not_white { (c : Config) (h : Heap) (hs : ℕ → TricolourHolding) (p : Pass) (y : ℕ) (ws : List ℕ) (s : GreyState) → s ≡ grey_after (extent c) (shading p y) ws → GreyFits c s → TricolourKept (extent c) s.pass.cycle h hs → hs s.pass.thread ≡ tricolour_held (holding_at (extent c) s) → grey_over s.row ≡ true → h (ColourOf y) ≢ white_word s.pass.cycle }
-    ensures black { (c : Config) (h : Heap) (hs : ℕ → TricolourHolding) (s : GreyState) (x j : ℕ) → GreyFits c s → TricolourKept (extent c) s.pass.cycle h hs → hs s.pass.thread ≡ tricolour_held (holding_at (extent c) s) → is_blackening s.row ≡ true → (holding_at (extent c) s).scan ≡ Some x → j < (extent c).width → target (h (PayloadOf x j)) ≢ 0 → h (ColourOf (target (h (PayloadOf x j)))) ≢ white_word s.pass.cycle }
+    ensures black { (c : Config) (h : Heap) (hs : ℕ → TricolourHolding) (s : GreyState) (x j : ℕ) → GreyFits c s → TricolourKept (extent c) s.pass.cycle h hs → hs s.pass.thread ≡ tricolour_held (holding_at (extent c) s) → is_blackening s.row ≡ true → (holding_at (extent c) s).scan ≡ Some x → j < payloads c.width → target (h (PayloadOf x j)) ≢ 0 → h (ColourOf (target (h (PayloadOf x j)))) ≢ white_word s.pass.cycle }
 {}
 
 /// Each event keeps that no block that is not Free refers to a Free one, and that each root block is grey

@@ -1,6 +1,7 @@
 -- Jobs of two threads on one small heap, for the tests.
 use Rattle.std.proofs.Common.{◌<◌, ℕ, zero, suc, List, [], ◌∷◌, get_or, refl, arith}
 use Rattle.block_store.specs.declared.Config.{Config}
+use Rattle.block_store.specs.declared.Width.TheVariants.{Four}
 use Rattle.block_store.specs.Configs.{IsInBounds}
 use Rattle.array_trees.specs.Trees.{tree}
 use Rattle.rate_plan.specs.Rates.{IsAdmitted}
@@ -10,7 +11,7 @@ use Rattle.heap_system.specs.Locals.{IsTrace}
 use Rattle.heap_system.specs.Machines.{IsJob}
 
 abbrev pub config : Config
-config = record { threads = 2; blocks = 64; live = 20; object = 2; shared = 4 }
+config = record { width = Four; threads = 2; blocks = 64; live = 20; object = 2; shared = 4 }
 
 -- a trace of two commands, of one, and of none
 pub two : (a b : Command) → IsCommandInBounds config a → IsCommandInBounds config b → IsTrace config (a ∷ b ∷ [])
@@ -50,7 +51,7 @@ both xs ys px py = record {
 
 -- one thread of a heap with a long array
 abbrev pub long : Config
-long = record { threads = 1; blocks = 1024; live = 400; object = 16; shared = 1024 }
+long = record { width = Four; threads = 1; blocks = 1024; live = 400; object = 16; shared = 1024 }
 
 pub three : (a b d : Command) → IsCommandInBounds long a → IsCommandInBounds long b → IsCommandInBounds long d → IsTrace long (a ∷ b ∷ d ∷ [])
 three a b d pa pb pd = record { short = omega arith; commands = at }

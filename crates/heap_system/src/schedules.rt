@@ -7,13 +7,14 @@ ghost use Rattle.never_heap.specs.Graphs.{count_of};
 ghost use Rattle.heap_system.specs.Locals.{IsTrace};
 
 use crate::*;
-use block_store::{Config, OutOfMemory, Places};
+use block_store::{Config, OutOfMemory, Places, Width};
 use never_heap::{Command, Graph, Logs, Reply};
 use rand_core::utils::NextWord;
 use rand_pcg::Lcg64Xsh32;
 use std::alloc::Global;
 
 const THREE: Config = Config {
+    width: Width::Four,
     threads: 3,
     blocks: 64,
     live: 24,
@@ -46,7 +47,7 @@ const COMMANDS: [Command; 19] = [
 
 // The commands as a trace.
 fn trace(alloc: Global) -> Result<Vec<Command>, OutOfMemory>
-    ensures { IfOk result (λ v. IsTrace (record { threads = 3; blocks = 64; live = 24; object = 2; shared = 17 }) v.items) }
+    ensures { IfOk result (λ v. IsTrace (record { width = Four; threads = 3; blocks = 64; live = 24; object = 2; shared = 17 }) v.items) }
 {
     let mut trace = Vec::new(alloc);
     for command in &COMMANDS {
@@ -58,7 +59,7 @@ fn trace(alloc: Global) -> Result<Vec<Command>, OutOfMemory>
 }
 
 fn three_threads(alloc: Global) -> Result<System, OutOfMemory>
-    ensures { IfOk result (λ s. s.config ≡ record { threads = 3; blocks = 64; live = 24; object = 2; shared = 17 }) }
+    ensures { IfOk result (λ s. s.config ≡ record { width = Four; threads = 3; blocks = 64; live = 24; object = 2; shared = 17 }) }
 {
     let (first, second, third) = (trace(alloc)?, trace(alloc)?, trace(alloc)?);
     System::new(alloc, THREE, vec![in alloc; first, second, third]?)

@@ -3,12 +3,13 @@
 ghost use Rattle.std.specs.Prelude.{◌≡◌, ◌<◌, IfOk};
 
 use crate::*;
-use block_store::{Config, OutOfMemory, Places, Value};
+use block_store::{Config, OutOfMemory, Places, Value, Width};
 use never_heap::{Command, Logs, Reply};
 use rate_plan::plan;
 use std::alloc::Global;
 
 const ONE: Config = Config {
+    width: Width::Four,
     threads: 1,
     blocks: 64,
     live: 20,
@@ -17,6 +18,7 @@ const ONE: Config = Config {
 };
 
 const TWO: Config = Config {
+    width: Width::Four,
     threads: 2,
     blocks: 64,
     live: 20,
