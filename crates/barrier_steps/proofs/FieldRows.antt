@@ -1,43 +1,47 @@
 -- What holds of the rows: their places are in range, and a row that fits becomes one that fits.
-use Rattle.std.proofs.Common.{◌≡◌, ◌≢◌, ℕ, ◌<◌, ◌≤◌, ◌+◌, ◌*◌, ◌/◌, ◌%◌, true, IsSome, is_some, arith, refl, ap, inl, inr, leb}
+use Rattle.std.proofs.Common.{◌≡◌, ◌≢◌, ℕ, ◌<◌, ◌≤◌, ◌+◌, ◌*◌, ◌/◌, ◌%◌, Bool, true, false, cond, IsSome, is_some, arith, refl, sym, subst, ap, inl, inr, ltb, leb}
 use Rattle.std.proofs.lemmas.Bool.{cases_lt, lt-ltb, le-ltb, le-leb}
 use Rattle.std.proofs.lemmas.Nat.{mod_below}
 use Rattle.block_store.specs.declared.Config.{Config}
+use Rattle.block_store.specs.declared.TheConstants.{REGISTERS}
 use Rattle.block_store.specs.declared.Payload.{Payload}
 use Rattle.block_store.specs.declared.Payload.TheVariants as payloads
 use Rattle.block_store.specs.declared.Shape.{Shape}
 use Rattle.block_store.specs.Payloads.{target, payload_of, payload_code, IsPayload}
 use Rattle.block_store.proofs.PayloadWords.{payload-code, target-number, target-nil}
 use Rattle.block_store.specs.Places.{extent, in_range, is_block, IsBlock, PayloadOf}
+use Rattle.block_store.specs.Registers.{register_block, register_slot, registers_end}
+use Rattle.block_store.specs.Widths.{payloads}
+use Rattle.block_store.proofs.Registers.{in_array, root_end, register_some, slot_low}
 use Rattle.block_store.specs.Shapes.{IsShape}
 use Rattle.never_heap.specs.declared.Command.{Command}
 use Rattle.never_heap.specs.declared.Command.TheVariants as commands
 use Rattle.never_heap.specs.Bounds.{IsCommandInRange}
+use Rattle.never_heap.specs.Steps.{blocks_of}
 use Rattle.heap_machine.specs.Operations.{place_of, Fits}
 use Rattle.heap_machine.specs.Readings.{StoresHeld}
-use Rattle.barrier_steps.specs.declared.rows.Access.{Access}
-use Rattle.barrier_steps.specs.declared.rows.Access.TheVariants as accesses
-use Rattle.barrier_steps.specs.declared.rows.Errand.{Errand}
-use Rattle.barrier_steps.specs.declared.rows.Errand.TheVariants as errands
+use Rattle.heap_machine.specs.declared.pass.Pass.{Pass}
 use Rattle.barrier_steps.specs.declared.rows.FieldRow.{FieldRow}
 use Rattle.barrier_steps.specs.declared.rows.FieldRow.TheVariants.{StoreNumber, StoreNil, LoadMoved, StoreMoved, LoadObject, LoadShape, LoadValue, LoadLink, LoadField, LoadOwner, StoreLate, StoreField, LoadFirst, LoadSecond, LoadSaid, LoadSaidOwner, Answered}
-use Rattle.barrier_steps.specs.declared.rows.Walk.{Walk}
+use Rattle.barrier_steps.specs.declared.rows.Way.{Way}
+use Rattle.barrier_steps.specs.Operands.{to_register, from_register, other_register, field_index, number_set, is_put, is_get, goes_to_field, looks_at_object}
 use Rattle.barrier_steps.specs.Walks.{shape_length, links_to}
-use Rattle.barrier_steps.specs.Rows.{register_place, shape_in, first_row, field_want, field_got, after_object, after_shape, after_field, after_said, on_way, at_block, way_from}
-use Rattle.barrier_steps.specs.Fits.{IsThread, IsLoaded, IsWalk, IsThere, AccessFits, ErrandFits, FieldFits, FieldReads}
+use Rattle.barrier_steps.specs.Rows.{FieldState, register_place, payload_in, shape_in, first_row, at_first_row, row_want, row_got, field_want, field_got, after_object, after_shape, after_field, after_said, on_way, at_block, way_from, way_on}
+use Rattle.barrier_steps.specs.Fits.{IsThread, IsLoaded, IsWalk, IsThere, is_row_of, RowFits, FitsAt, FieldFits, ReadsAt, FieldReads}
+use Rattle.barrier_steps.proofs.Named.{to_low, from_low, other_low, number_low}
 use Rattle.barrier_steps.proofs.Walking.{link_low, field_low}
 use Rattle.barrier_steps.proofs.ReadWords.{payload_cases, shape_fits}
 
 block_in : (c : Config) (x : ℕ) → IsBlock c x → is_block (extent c) x ≡ true
 block_in c x h = let low : leb 1 x ≡ true = le-leb 1 x h.0 in rw low (le-leb x c.blocks h.1)
 
-payload_in_range : (c : Config) (x j : ℕ) → IsBlock c x → j < 4 → in_range (extent c) (PayloadOf x j) ≡ true
-payload_in_range c x j h low = let block : is_block (extent c) x ≡ true = block_in c x h in rw block (lt-ltb j 4 low)
+payload_in_range : (c : Config) (x j : ℕ) → IsBlock c x → j < payloads c.width → in_range (extent c) (PayloadOf x j) ≡ true
+payload_in_range c x j h low = let block : is_block (extent c) x ≡ true = block_in c x h in rw block (lt-ltb j (payloads c.width) low)
 
-register_in : (c : Config) (t r : ℕ) → IsThread c t → r < 16 → in_range (extent c) (register_place t r) ≡ true
+register_in : (c : Config) (t r : ℕ) → IsThread c t → r < REGISTERS → in_range (extent c) (register_place (extent c) t r) ≡ true
 register_in c t r h low =
-    let all : 5 * t + 5 ≤ c.blocks = h.registers in
-    payload_in_range c (5 * t + 2 + r / 4) (r % 4) (omega arith, omega arith) (mod_below r 4 (omega arith))
+    let last : register_block c.width t r ≤ registers_end c.width (t + 1) = omega (arith, in_array c.width t r low, root_end c.width (t + 1)) in
+    payload_in_range c (register_block c.width t r) (register_slot c.width r) (register_some c.width t r, omega (arith, h.registers, last)) (slot_low c.width r)
 
 loaded : (c : Config) (w : ℕ) → IsSome (payload_of w) × (target w ≤ c.blocks) → IsLoaded c w
 loaded c w h = record { payload = h.0; block = h.1 }
@@ -54,138 +58,219 @@ target_block : (c : Config) (w : ℕ) → IsLoaded c w → target w ≢ 0 → Is
 target_block c w h some = let high : target w ≤ c.blocks = h.block in (omega (arith, some), high)
 
 -- the place that a row wants is in range
-pub field_place : (c : Config) (row : FieldRow) → FieldFits c row → in_range (extent c) (place_of (field_want row)) ≡ true
-field_place c (StoreNumber t d v) h = register_in c t d h.0 h.1
-field_place c (StoreNil t d) h = register_in c t d h.0 h.1
-field_place c (LoadMoved t d s) h = register_in c t s h.0 h.2
-field_place c (StoreMoved t d s word) h = register_in c t d h.0 h.1
-field_place c (LoadObject t s access) h = register_in c t s h.0 h.1
-field_place c (LoadShape t s x access) h = block_in c x h.2
-field_place c (LoadValue t walk v) h = register_in c t v h.0 h.3
-field_place c (LoadLink t walk errand) h = payload_in_range c walk.block _ h.1.block (link_low walk.shape walk.index walk.level)
-field_place c (LoadField t walk d) h = payload_in_range c walk.block _ h.1.block (field_low walk.shape walk.index)
-field_place c (LoadOwner t d word) h = block_in c (target word) (target_block c word h.2 h.3)
-field_place c (StoreLate t d word value) h = register_in c t d h.0 h.1
-field_place c (StoreField t walk v word) h = payload_in_range c walk.block _ h.1.block (field_low walk.shape walk.index)
-field_place c (LoadFirst t a b) h = register_in c t a h.0 h.1
-field_place c (LoadSecond t a b word) h = register_in c t b h.0 h.2
-field_place c (LoadSaid t s) h = register_in c t s h.0 h.1
-field_place c (LoadSaidOwner t s word) h = block_in c (target word) (target_block c word h.2 h.3)
-field_place c (Answered reply) h = refl
+place_at : (c : Config) (t : ℕ) (k : Command) (row : FieldRow) → FitsAt c t k row → in_range (extent c) (place_of (row_want (extent c) t k row)) ≡ true
+place_at c t k StoreNumber f = register_in c t (to_register k) f.thread (to_low k f.command)
+place_at c t k StoreNil f = register_in c t (to_register k) f.thread (to_low k f.command)
+place_at c t k LoadMoved f = register_in c t (from_register k) f.thread (from_low k f.command)
+place_at c t k (StoreMoved word) f = register_in c t (to_register k) f.thread (to_low k f.command)
+place_at c t k LoadObject f = register_in c t (from_register k) f.thread (from_low k f.command)
+place_at c t k (LoadShape x) f = block_in c x f.row
+place_at c t k (LoadValue way) f = register_in c t (other_register k) f.thread (other_low k f.command)
+place_at c t k (LoadLink way word) f = payload_in_range c way.block _ f.row.0.block (link_low c way.shape (field_index k) way.level)
+place_at c t k (LoadField way) f = payload_in_range c way.block _ f.row.0.block (field_low c way.shape (field_index k))
+place_at c t k (LoadOwner word) f = block_in c (target word) (target_block c word f.row.0 f.row.1)
+place_at c t k (StoreLate word value) f = register_in c t (to_register k) f.thread (to_low k f.command)
+place_at c t k (StoreField way word) f = payload_in_range c way.block _ f.row.0.block (field_low c way.shape (field_index k))
+place_at c t k LoadFirst f = register_in c t (from_register k) f.thread (from_low k f.command)
+place_at c t k (LoadSecond word) f = register_in c t (other_register k) f.thread (other_low k f.command)
+place_at c t k LoadSaid f = register_in c t (from_register k) f.thread (from_low k f.command)
+place_at c t k (LoadSaidOwner word) f = block_in c (target word) (target_block c word f.row.0 f.row.1)
+place_at c t k (Answered reply) f = refl
+
+pub field_place : (c : Config) (s : FieldState) → FieldFits c s → in_range (extent c) (place_of (field_want (extent c) s)) ≡ true
+field_place c s f = place_at c s.pass.thread s.command s.row f
 
 -- no row adds or takes away
-pub field_sum : (row : FieldRow) (w : ℕ) → Fits (field_want row) w
-field_sum (StoreNumber t d v) w = tt
-field_sum (StoreNil t d) w = tt
-field_sum (LoadMoved t d s) w = tt
-field_sum (StoreMoved t d s word) w = tt
-field_sum (LoadObject t s access) w = tt
-field_sum (LoadShape t s x access) w = tt
-field_sum (LoadValue t walk v) w = tt
-field_sum (LoadLink t walk errand) w = tt
-field_sum (LoadField t walk d) w = tt
-field_sum (LoadOwner t d word) w = tt
-field_sum (StoreLate t d word value) w = tt
-field_sum (StoreField t walk v word) w = tt
-field_sum (LoadFirst t a b) w = tt
-field_sum (LoadSecond t a b word) w = tt
-field_sum (LoadSaid t s) w = tt
-field_sum (LoadSaidOwner t s word) w = tt
-field_sum (Answered reply) w = tt
+sum_at : (c : Config) (t : ℕ) (k : Command) (row : FieldRow) (w : ℕ) → Fits (row_want (extent c) t k row) w
+sum_at c t k StoreNumber w = tt
+sum_at c t k StoreNil w = tt
+sum_at c t k LoadMoved w = tt
+sum_at c t k (StoreMoved word) w = tt
+sum_at c t k LoadObject w = tt
+sum_at c t k (LoadShape x) w = tt
+sum_at c t k (LoadValue way) w = tt
+sum_at c t k (LoadLink way word) w = tt
+sum_at c t k (LoadField way) w = tt
+sum_at c t k (LoadOwner word) w = tt
+sum_at c t k (StoreLate word value) w = tt
+sum_at c t k (StoreField way word) w = tt
+sum_at c t k LoadFirst w = tt
+sum_at c t k (LoadSecond word) w = tt
+sum_at c t k LoadSaid w = tt
+sum_at c t k (LoadSaidOwner word) w = tt
+sum_at c t k (Answered reply) w = tt
+
+pub field_sum : (c : Config) (s : FieldState) (w : ℕ) → Fits (field_want (extent c) s) w
+field_sum c s w = sum_at c s.pass.thread s.command s.row w
 
 -- the first row of a command fits
-pub first_fits : (c : Config) (t : ℕ) (command : Command) → IsThread c t → IsCommandInRange command → FieldFits c (first_row t command)
-first_fits c t (commands.New d f) h r = tt
-first_fits c t (commands.Arr d e) h r = tt
-first_fits c t (commands.Set d v) h r = (h, r.0, r.1)
-first_fits c t (commands.Nil d) h r = (h, r)
-first_fits c t (commands.Mov d s) h r = (h, r.0, r.1)
-first_fits c t (commands.Get d s i) h r = (h, r.1, (r.0, r.2))
-first_fits c t (commands.Put s i v) h r = (h, r.0, (r.1, r.2))
-first_fits c t (commands.Len s) h r = (h, r, tt)
-first_fits c t (commands.Same a b) h r = (h, r.0, r.1)
-first_fits c t (commands.Say s) h r = (h, r)
+first_belongs : (k : Command) → is_row_of k (first_row k) ≡ true
+first_belongs (commands.New d f) = refl
+first_belongs _ = refl
 
-block_fits : (c : Config) (t : ℕ) (walk : Walk) (errand : Errand) → IsThread c t → IsWalk c walk → IsThere walk → ErrandFits c errand → FieldFits c (at_block t walk errand)
-block_fits c t walk (errands.Get d) h is there fits = (h, is, there, fits)
-block_fits c t walk (errands.Put v word) h is there fits = (h, is, there, fits.0, fits.1)
+first_numbers : (c : Config) (k : Command) → RowFits c k (first_row k)
+first_numbers c (commands.New d f) = tt
+first_numbers c _ = tt
 
-way_fits : (c : Config) (t : ℕ) (walk : Walk) (errand : Errand) → IsThread c t → IsWalk c walk → ErrandFits c errand → FieldFits c (on_way t walk errand)
-way_fits c t walk errand h is fits = elim (cases_lt walk.level (links_to walk.shape walk.index)) [
-  | inl less ↦ rw (lt-ltb walk.level (links_to walk.shape walk.index) less) (h, is, less, fits)
+pub first_fits : (c : Config) (p : Pass) (k : Command) → IsThread c p.thread → IsCommandInRange k → FieldFits c (at_first_row p k)
+first_fits c p k thread range = record { thread = thread; command = range; belongs = first_belongs k; row = first_numbers c k }
+
+-- a row that fits becomes one that fits: first, that the command comes to it
+either : (P : FieldRow → Type 0) (b : Bool) (p q : FieldRow) → P p → P q → P (cond b p q)
+either P true p q a c = a
+either P false p q a c = c
+
+block_belongs : (k : Command) (way : Way) (word : ℕ) → goes_to_field k ≡ true → is_row_of k (at_block k way word) ≡ true
+block_belongs (commands.Get d s i) way word is = refl
+block_belongs (commands.Put s i v) way word is = refl
+block_belongs _ way word is = absurd cc
+
+way_belongs : (c : Config) (k : Command) (way : Way) (word : ℕ) → goes_to_field k ≡ true → is_row_of k (on_way (extent c) k way word) ≡ true
+way_belongs c k way word is = either (λ row. is_row_of k row ≡ true) (ltb way.level (links_to (extent c) way.shape (field_index k))) (LoadLink way word) (at_block k way word) is (block_belongs k way word is)
+
+put_goes : (k : Command) → is_put k ≡ true → goes_to_field k ≡ true
+put_goes (commands.Put s i v) is = refl
+put_goes _ is = absurd cc
+
+shape_belongs : (c : Config) (k : Command) (x : ℕ) (f : Shape) → looks_at_object k ≡ true → is_row_of k (after_shape (extent c) k x f) ≡ true
+shape_belongs c (commands.Get d s i) x f is = either (λ row. is_row_of (commands.Get d s i) row ≡ true) (ltb i (shape_length f)) _ _ (way_belongs c (commands.Get d s i) (way_from f x) 0 refl) refl
+shape_belongs c (commands.Put s i v) x f is = either (λ row. is_row_of (commands.Put s i v) row ≡ true) (ltb i (shape_length f)) _ _ refl refl
+shape_belongs c (commands.Len s) x f is = refl
+shape_belongs c _ x f is = absurd cc
+
+object_belongs : (k : Command) (p : Payload) → looks_at_object k ≡ true → is_row_of k (after_object p) ≡ true
+object_belongs k payloads.Nil is = refl
+object_belongs k (payloads.Int v) is = refl
+object_belongs k (payloads.Block x) is = is
+
+field_belongs : (k : Command) (w : ℕ) (p : Payload) → is_get k ≡ true → is_row_of k (after_field w p) ≡ true
+field_belongs k w payloads.Nil is = is
+field_belongs k w (payloads.Int v) is = is
+field_belongs k w (payloads.Block x) is = is
+
+said_belongs : (k : Command) (w : ℕ) (p : Payload) → is_row_of k LoadSaid ≡ true → is_row_of k (after_said w p) ≡ true
+said_belongs k w payloads.Nil is = refl
+said_belongs k w (payloads.Int v) is = refl
+said_belongs k w (payloads.Block x) is = is
+
+belongs_on : (c : Config) (k : Command) (row : FieldRow) (w : ℕ) → is_row_of k row ≡ true → is_row_of k (row_got (extent c) k row w) ≡ true
+belongs_on c k StoreNumber w is = refl
+belongs_on c k StoreNil w is = refl
+belongs_on c k LoadMoved w is = is
+belongs_on c k (StoreMoved word) w is = refl
+belongs_on c k LoadObject w is = object_belongs k (payload_in w) is
+belongs_on c k (LoadShape x) w is = shape_belongs c k x (shape_in w) is
+belongs_on c k (LoadValue way) w is = way_belongs c k way w (put_goes k is)
+belongs_on c k (LoadLink way word) w is = way_belongs c k (way_on way (target w)) word is
+belongs_on c k (LoadField way) w is = field_belongs k w (payload_in w) is
+belongs_on c k (LoadOwner word) w is = is
+belongs_on c k (StoreLate word value) w is = refl
+belongs_on c k (StoreField way word) w is = refl
+belongs_on c k LoadFirst w is = is
+belongs_on c k (LoadSecond word) w is = refl
+belongs_on c k LoadSaid w is = said_belongs k w (payload_in w) is
+belongs_on c k (LoadSaidOwner word) w is = refl
+belongs_on c k (Answered reply) w is = refl
+
+-- and then its numbers
+block_fits : (c : Config) (k : Command) (way : Way) (word : ℕ) → IsWalk c (field_index k) way → IsThere c (field_index k) way → IsLoaded c word → RowFits c k (at_block k way word)
+block_fits c (commands.Put s i v) way word is there fits = (is, there, fits)
+block_fits c _ way word is there fits = (is, there)
+
+way_fits : (c : Config) (k : Command) (way : Way) (word : ℕ) → IsWalk c (field_index k) way → IsLoaded c word → RowFits c k (on_way (extent c) k way word)
+way_fits c k way word is fits = elim (cases_lt way.level (links_to (extent c) way.shape (field_index k))) [
+  | inl less ↦ rw (lt-ltb way.level (links_to (extent c) way.shape (field_index k)) less) (is, less, fits)
   | inr more ↦
-      let low : walk.level ≤ links_to walk.shape walk.index = is.level in
-      rw (le-ltb walk.level (links_to walk.shape walk.index) more) (block_fits c t walk errand h is (omega arith) fits)
+      let low : way.level ≤ links_to (extent c) way.shape (field_index k) = is.level in
+      rw (le-ltb way.level (links_to (extent c) way.shape (field_index k)) more) (block_fits c k way word is (omega arith) fits)
 ]
 
-start_is_walk : (c : Config) (s x : ℕ) (f : Shape) (i : ℕ) → s < 16 → IsBlock c x → IsShape f → i < shape_length f → IsWalk c (way_from s x f i)
-start_is_walk c s x f i source block shape index = record { source = source; shape = shape; index = index; level = omega arith; block = block }
+start_is_walk : (c : Config) (x : ℕ) (f : Shape) (i : ℕ) → IsBlock c x → IsShape f → i < shape_length f → IsWalk c i (way_from f x)
+start_is_walk c x f i block shape index = record { shape = shape; index = index; level = omega arith; block = block }
 
-shape_row_fits : (c : Config) (t s x : ℕ) (access : Access) (f : Shape) → IsThread c t → s < 16 → IsBlock c x → AccessFits access → IsShape f → FieldFits c (after_shape t s x access f)
-shape_row_fits c t s x (accesses.Get d i) f h low block fits shape = elim (cases_lt i (shape_length f)) [
-  | inl less ↦ rw (lt-ltb i (shape_length f) less) (way_fits c t (way_from s x f i) (errands.Get d) h (start_is_walk c s x f i low block shape less) fits.0)
+nil_loaded : (c : Config) → IsLoaded c 0
+nil_loaded c = let nil = held c payloads.Nil tt (omega (arith, target-nil)) in record { payload = nil.0; block = nil.1 }
+
+shape_row_fits : (c : Config) (k : Command) (x : ℕ) (f : Shape) → IsBlock c x → IsShape f → RowFits c k (after_shape (extent c) k x f)
+shape_row_fits c (commands.Get d s i) x f block shape = elim (cases_lt i (shape_length f)) [
+  | inl less ↦ rw (lt-ltb i (shape_length f) less) (way_fits c (commands.Get d s i) (way_from f x) 0 (start_is_walk c x f i block shape less) (nil_loaded c))
   | inr more ↦ rw (le-ltb i (shape_length f) more) tt
 ]
-shape_row_fits c t s x (accesses.Put i v) f h low block fits shape = elim (cases_lt i (shape_length f)) [
-  | inl less ↦ rw (lt-ltb i (shape_length f) less) (h, start_is_walk c s x f i low block shape less, refl, fits.1)
+shape_row_fits c (commands.Put s i v) x f block shape = elim (cases_lt i (shape_length f)) [
+  | inl less ↦ rw (lt-ltb i (shape_length f) less) (start_is_walk c x f i block shape less, refl)
   | inr more ↦ rw (le-ltb i (shape_length f) more) tt
 ]
-shape_row_fits c t s x accesses.Len f h low block fits shape = tt
+shape_row_fits c _ x f block shape = tt
 
--- a row that fits becomes one that fits
-pub field_fits : (c : Config) (row : FieldRow) (w : ℕ) → FieldFits c row → FieldReads c row w → FieldFits c (field_got row w)
-field_fits c (StoreNumber t d v) w h r = tt
-field_fits c (StoreNil t d) w h r = tt
-field_fits c (LoadMoved t d s) w h r = (h.0, h.1, h.2, loaded c w r.0)
-field_fits c (StoreMoved t d s word) w h r = tt
-field_fits c (LoadObject t s access) w h r =
-    payload_cases w r.0.0 (λ p. FieldFits c (after_object t s access p)) tt (λ v low. tt)
-    (λ x is some. let high : target w ≤ c.blocks = r.0.1 in (h.0, h.1, (some, omega (arith, is, high)), h.2))
-field_fits c (LoadShape t s x access) w h r = shape_row_fits c t s x access (shape_in w) h.0 h.1 h.2 h.3 (shape_fits w r.0)
-field_fits c (LoadValue t walk v) w h r = way_fits c t walk (errands.Put v w) h.0 h.1 (h.3, loaded c w r.0)
-field_fits c (LoadLink t walk errand) w h r =
-    let is = h.1 in
-    let next : IsWalk c (record walk { level = walk.level + 1; block = target w }) = record {
-      source = is.source;
+row_fits : (c : Config) (t : ℕ) (k : Command) (row : FieldRow) (w : ℕ) → RowFits c k row → ReadsAt c t k row w → RowFits c k (row_got (extent c) k row w)
+row_fits c t k StoreNumber w h r = tt
+row_fits c t k StoreNil w h r = tt
+row_fits c t k LoadMoved w h r = loaded c w r.0
+row_fits c t k (StoreMoved word) w h r = tt
+row_fits c t k LoadObject w h r =
+    payload_cases w r.0.0 (λ p. RowFits c k (after_object p)) tt (λ v low. tt)
+    (λ x is some. let high : target w ≤ c.blocks = r.0.1 in (some, omega (arith, is, high)))
+row_fits c t k (LoadShape x) w h r = shape_row_fits c k x (shape_in w) h (shape_fits w r.0)
+row_fits c t k (LoadValue way) w h r = way_fits c k way w h.0 (loaded c w r.0)
+row_fits c t k (LoadLink way word) w h r =
+    let is = h.0 in
+    let next : IsWalk c (field_index k) (way_on way (target w)) = record {
       shape = is.shape;
       index = is.index;
-      level = less_suc walk.level (links_to walk.shape walk.index) h.2;
+      level = less_suc way.level (links_to (extent c) way.shape (field_index k)) h.1;
       block = target_block c w (loaded c w r.0) r.1;
     } in
-    way_fits c t (record walk { level = walk.level + 1; block = target w }) errand h.0 next h.3
+    way_fits c k (way_on way (target w)) word next h.2
   where
     less_suc : (a b : ℕ) → a < b → a + 1 ≤ b
     less_suc a b h = omega arith
-field_fits c (LoadField t walk d) w h r =
-    payload_cases w r.0.0 (λ p. FieldFits c (after_field t d w p)) (h.0, h.3, loaded c w r.0) (λ v low. (h.0, h.3, loaded c w r.0))
-    (λ x is some. (h.0, h.3, loaded c w r.0, reference x w is some))
-field_fits c (LoadOwner t d word) w h r = (h.0, h.1, h.2)
-field_fits c (StoreLate t d word value) w h r = tt
-field_fits c (StoreField t walk v word) w h r = tt
-field_fits c (LoadFirst t a b) w h r = (h.0, h.1, h.2, loaded c w r.0)
-field_fits c (LoadSecond t a b word) w h r = tt
-field_fits c (LoadSaid t s) w h r =
-    payload_cases w r.0.0 (λ p. FieldFits c (after_said t s w p)) tt (λ v low. tt)
-    (λ x is some. (h.0, h.1, loaded c w r.0, reference x w is some))
-field_fits c (LoadSaidOwner t s word) w h r = tt
-field_fits c (Answered reply) w h r = tt
+row_fits c t k (LoadField way) w h r =
+    payload_cases w r.0.0 (λ p. RowFits c k (after_field w p)) (loaded c w r.0) (λ v low. loaded c w r.0)
+    (λ x is some. (loaded c w r.0, reference x w is some))
+row_fits c t k (LoadOwner word) w h r = h.0
+row_fits c t k (StoreLate word value) w h r = tt
+row_fits c t k (StoreField way word) w h r = tt
+row_fits c t k LoadFirst w h r = loaded c w r.0
+row_fits c t k (LoadSecond word) w h r = tt
+row_fits c t k LoadSaid w h r =
+    payload_cases w r.0.0 (λ p. RowFits c k (after_said w p)) tt (λ v low. tt)
+    (λ x is some. (loaded c w r.0, reference x w is some))
+row_fits c t k (LoadSaidOwner word) w h r = tt
+row_fits c t k (Answered reply) w h r = tt
+
+pub field_fits : (c : Config) (s : FieldState) (w : ℕ) → FieldFits c s → FieldReads c s w → FieldFits c (field_got (extent c) s w)
+field_fits c s w f r = record {
+  thread = f.thread;
+  command = f.command;
+  belongs = belongs_on c s.command s.row w f.belongs;
+  row = row_fits c s.pass.thread s.command s.row w f.row r;
+}
 
 -- what a row stores is what its place can hold
-pub stores_held : (c : Config) (row : FieldRow) → FieldFits c row → StoresHeld c (field_want row)
-stores_held c (StoreNumber t d v) h = held c (payloads.Int v) h.2 (omega (arith, target-number v))
-stores_held c (StoreNil t d) h = held c payloads.Nil tt (omega (arith, target-nil))
-stores_held c (LoadMoved t d s) h = tt
-stores_held c (StoreMoved t d s word) h = (h.3.payload, h.3.block)
-stores_held c (LoadObject t s access) h = tt
-stores_held c (LoadShape t s x access) h = tt
-stores_held c (LoadValue t walk v) h = tt
-stores_held c (LoadLink t walk errand) h = tt
-stores_held c (LoadField t walk d) h = tt
-stores_held c (LoadOwner t d word) h = tt
-stores_held c (StoreLate t d word value) h = (h.2.payload, h.2.block)
-stores_held c (StoreField t walk v word) h = (h.4.payload, h.4.block)
-stores_held c (LoadFirst t a b) h = tt
-stores_held c (LoadSecond t a b word) h = tt
-stores_held c (LoadSaid t s) h = tt
-stores_held c (LoadSaidOwner t s word) h = tt
-stores_held c (Answered reply) h = tt
+stores_at : (c : Config) (t : ℕ) (k : Command) (row : FieldRow) → FitsAt c t k row → StoresHeld c (row_want (extent c) t k row)
+stores_at c t k StoreNumber f = held c (payloads.Int (number_set k)) (number_low k f.command) (omega (arith, target-number (number_set k)))
+stores_at c t k StoreNil f = held c payloads.Nil tt (omega (arith, target-nil))
+stores_at c t k LoadMoved f = tt
+stores_at c t k (StoreMoved word) f = (f.row.payload, f.row.block)
+stores_at c t k LoadObject f = tt
+stores_at c t k (LoadShape x) f = tt
+stores_at c t k (LoadValue way) f = tt
+stores_at c t k (LoadLink way word) f = tt
+stores_at c t k (LoadField way) f = tt
+stores_at c t k (LoadOwner word) f = tt
+stores_at c t k (StoreLate word value) f = (f.row.payload, f.row.block)
+stores_at c t k (StoreField way word) f = (f.row.2.payload, f.row.2.block)
+stores_at c t k LoadFirst f = tt
+stores_at c t k (LoadSecond word) f = tt
+stores_at c t k LoadSaid f = tt
+stores_at c t k (LoadSaidOwner word) f = tt
+stores_at c t k (Answered reply) f = tt
+
+pub stores_held : (c : Config) (s : FieldState) → FieldFits c s → StoresHeld c (field_want (extent c) s)
+stores_held c s f = stores_at c s.pass.thread s.command s.row f
+
+-- the same of a part as it is seen
+pub moved_fits : (c : Config) (p : Pass) (k : Command) (row r : FieldRow) (s : FieldState) (w : ℕ) → record { pass = p; command = k; row = row } ≡ s → r ≡ (field_got (extent c) s w).row → FieldFits c s → FieldReads c s w → FitsAt c p.thread k r
+moved_fits c p k row r s w same is f reads =
+    subst (λ (x : FieldState). r ≡ (field_got (extent c) x w).row → FieldFits c x → FieldReads c x w → FitsAt c p.thread k r) same
+    (λ e g rd. subst (FitsAt c p.thread k) (sym e) (field_fits c (record { pass = p; command = k; row = row }) w g rd)) is f reads

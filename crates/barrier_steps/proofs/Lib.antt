@@ -1,4 +1,4 @@
-pub mod Blocks
+pub mod Named
 pub mod Walking
 pub mod ReadWords
 pub mod FieldRows

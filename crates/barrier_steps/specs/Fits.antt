@@ -1,78 +1,102 @@
 -- The ranges of the numbers in a row, and the words that it may read.
-use Rattle.std.specs.Prelude.{ℕ, ◌+◌, ◌*◌, ◌^◌, ◌<◌, ◌≤◌, ◌≡◌, ◌≢◌, IsSome}
+use Rattle.std.specs.Prelude.{ℕ, ◌+◌, ◌<◌, ◌≤◌, ◌≡◌, ◌≢◌, IsSome, Bool, true}
 use Rattle.block_store.specs.declared.Config.{Config}
+use Rattle.block_store.specs.declared.Shape.{Shape}
 use Rattle.block_store.specs.Payloads.{payload_of, target}
 use Rattle.block_store.specs.Places.{extent, IsBlock}
+use Rattle.block_store.specs.Registers.{registers_end}
 use Rattle.block_store.specs.Shapes.{IsShape}
+use Rattle.never_heap.specs.declared.Command.{Command}
+use Rattle.never_heap.specs.Bounds.{IsCommandInRange}
 use Rattle.heap_machine.specs.Operations.{place_of}
 use Rattle.heap_machine.specs.Readings.{CanHold}
-use Rattle.barrier_steps.specs.declared.rows.Access.{Access}
-use Rattle.barrier_steps.specs.declared.rows.Access.TheVariants as accesses
-use Rattle.barrier_steps.specs.declared.rows.Errand.{Errand}
-use Rattle.barrier_steps.specs.declared.rows.Errand.TheVariants as errands
 use Rattle.barrier_steps.specs.declared.rows.FieldRow.{FieldRow}
 use Rattle.barrier_steps.specs.declared.rows.FieldRow.TheVariants.{StoreNumber, StoreNil, LoadMoved, StoreMoved, LoadObject, LoadShape, LoadValue, LoadLink, LoadField, LoadOwner, StoreLate, StoreField, LoadFirst, LoadSecond, LoadSaid, LoadSaidOwner, Answered}
-use Rattle.barrier_steps.specs.declared.rows.Walk.{Walk}
+use Rattle.barrier_steps.specs.declared.rows.Way.{Way}
+use Rattle.barrier_steps.specs.Operands.{field_index, is_set, is_nil, is_mov, is_get, is_put, goes_to_field, looks_at_object, is_same, is_say}
 use Rattle.barrier_steps.specs.Walks.{shape_length, links_to}
-use Rattle.barrier_steps.specs.Rows.{field_want}
+use Rattle.barrier_steps.specs.Rows.{FieldState, row_want}
 
--- thread t is one of the heap's, which has at most 16, and the five blocks of its registers are in the heap
+-- thread t is one of the heap's, which has at most 16, and the blocks of its registers are in the heap
 pub record IsThread (c : Config) (t : ℕ) : Type 0 where
   pub few : c.threads ≤ 16
   pub thread : t < c.threads
-  pub registers : 5 * t + 5 ≤ c.blocks
+  pub registers : registers_end c.width (t + 1) ≤ c.blocks
 
 -- a word that a register or field can hold
 pub record IsLoaded (c : Config) (w : ℕ) : Type 0 where
   pub payload : IsSome (payload_of w)
   pub block : target w ≤ c.blocks
 
--- the way to a field that the object has, at a block of the heap
-pub record IsWalk (c : Config) (walk : Walk) : Type 0 where
-  pub source : walk.source < 16
-  pub shape : IsShape walk.shape
-  pub index : walk.index < shape_length walk.shape
-  pub level : walk.level ≤ links_to walk.shape walk.index
-  pub block : IsBlock c walk.block
+-- the way to field i, which the object has, at a block of the heap
+pub record IsWalk (c : Config) (i : ℕ) (way : Way) : Type 0 where
+  pub shape : IsShape way.shape
+  pub index : i < shape_length way.shape
+  pub level : way.level ≤ links_to (extent c) way.shape i
+  pub block : IsBlock c way.block
 
 -- the way is at its end
-abbrev pub IsThere : Walk → Type 0
-IsThere walk = walk.level ≡ links_to walk.shape walk.index
+abbrev pub IsThere : Config → ℕ → Way → Type 0
+IsThere c i way = way.level ≡ links_to (extent c) way.shape i
 
-abbrev pub AccessFits : Access → Type 0
-AccessFits (accesses.Get d i) = (d < 16) × (i < 2 ^ 62)
-AccessFits (accesses.Put i v) = (i < 2 ^ 62) × (v < 16)
-AccessFits accesses.Len = Unit {0}
+-- whether command k comes to this row
+abbrev pub is_row_of : Command → FieldRow → Bool
+is_row_of k StoreNumber = is_set k
+is_row_of k StoreNil = is_nil k
+is_row_of k LoadMoved = is_mov k
+is_row_of k (StoreMoved word) = is_mov k
+is_row_of k LoadObject = looks_at_object k
+is_row_of k (LoadShape x) = looks_at_object k
+is_row_of k (LoadValue way) = is_put k
+is_row_of k (LoadLink way word) = goes_to_field k
+is_row_of k (LoadField way) = is_get k
+is_row_of k (LoadOwner word) = is_get k
+is_row_of k (StoreLate word value) = is_get k
+is_row_of k (StoreField way word) = is_put k
+is_row_of k LoadFirst = is_same k
+is_row_of k (LoadSecond word) = is_same k
+is_row_of k LoadSaid = is_say k
+is_row_of k (LoadSaidOwner word) = is_say k
+is_row_of k (Answered reply) = true
 
-abbrev pub ErrandFits : Config → Errand → Type 0
-ErrandFits c (errands.Get d) = d < 16
-ErrandFits c (errands.Put v word) = (v < 16) × IsLoaded c word
+-- the numbers that a row of command k names are in range
+abbrev pub RowFits : Config → Command → FieldRow → Type 0
+RowFits c k StoreNumber = Unit {0}
+RowFits c k StoreNil = Unit {0}
+RowFits c k LoadMoved = Unit {0}
+RowFits c k (StoreMoved word) = IsLoaded c word
+RowFits c k LoadObject = Unit {0}
+RowFits c k (LoadShape x) = IsBlock c x
+RowFits c k (LoadValue way) = IsWalk c (field_index k) way × (way.level ≡ 0)
+RowFits c k (LoadLink way word) = IsWalk c (field_index k) way × (way.level < links_to (extent c) way.shape (field_index k)) × IsLoaded c word
+RowFits c k (LoadField way) = IsWalk c (field_index k) way × IsThere c (field_index k) way
+RowFits c k (LoadOwner word) = IsLoaded c word × (target word ≢ 0)
+RowFits c k (StoreLate word value) = IsLoaded c word
+RowFits c k (StoreField way word) = IsWalk c (field_index k) way × IsThere c (field_index k) way × IsLoaded c word
+RowFits c k LoadFirst = Unit {0}
+RowFits c k (LoadSecond word) = IsLoaded c word
+RowFits c k LoadSaid = Unit {0}
+RowFits c k (LoadSaidOwner word) = IsLoaded c word × (target word ≢ 0)
+RowFits c k (Answered reply) = Unit {0}
 
--- the numbers that a row names are in range
-abbrev pub FieldFits : Config → FieldRow → Type 0
-FieldFits c (StoreNumber t d v) = IsThread c t × (d < 16) × (v < 2 ^ 62)
-FieldFits c (StoreNil t d) = IsThread c t × (d < 16)
-FieldFits c (LoadMoved t d s) = IsThread c t × (d < 16) × (s < 16)
-FieldFits c (StoreMoved t d s word) = IsThread c t × (d < 16) × (s < 16) × IsLoaded c word
-FieldFits c (LoadObject t s access) = IsThread c t × (s < 16) × AccessFits access
-FieldFits c (LoadShape t s x access) = IsThread c t × (s < 16) × IsBlock c x × AccessFits access
-FieldFits c (LoadValue t walk v) = IsThread c t × IsWalk c walk × (walk.level ≡ 0) × (v < 16)
-FieldFits c (LoadLink t walk errand) = IsThread c t × IsWalk c walk × (walk.level < links_to walk.shape walk.index) × ErrandFits c errand
-FieldFits c (LoadField t walk d) = IsThread c t × IsWalk c walk × IsThere walk × (d < 16)
-FieldFits c (LoadOwner t d word) = IsThread c t × (d < 16) × IsLoaded c word × (target word ≢ 0)
-FieldFits c (StoreLate t d word value) = IsThread c t × (d < 16) × IsLoaded c word
-FieldFits c (StoreField t walk v word) = IsThread c t × IsWalk c walk × IsThere walk × (v < 16) × IsLoaded c word
-FieldFits c (LoadFirst t a b) = IsThread c t × (a < 16) × (b < 16)
-FieldFits c (LoadSecond t a b word) = IsThread c t × (a < 16) × (b < 16) × IsLoaded c word
-FieldFits c (LoadSaid t s) = IsThread c t × (s < 16)
-FieldFits c (LoadSaidOwner t s word) = IsThread c t × (s < 16) × IsLoaded c word × (target word ≢ 0)
-FieldFits c (Answered reply) = Unit {0}
+-- the thread is one of the heap's, the command is in range and comes to the row, and the row's numbers are in range
+pub record FitsAt (c : Config) (t : ℕ) (k : Command) (r : FieldRow) : Type 0 where
+  pub thread : IsThread c t
+  pub command : IsCommandInRange k
+  pub belongs : is_row_of k r ≡ true
+  pub row : RowFits c k r
+
+abbrev pub FieldFits : Config → FieldState → Type 0
+FieldFits c s = FitsAt c s.pass.thread s.command s.row
 
 -- a link is a reference
 abbrev pub LinkReads : FieldRow → ℕ → Type 0
-LinkReads (LoadLink t walk errand) w = target w ≢ 0
+LinkReads (LoadLink way word) w = target w ≢ 0
 LinkReads _ w = Unit {0}
 
 -- the words that a row may read: those that the wanted place can hold, and at a link a reference
-abbrev pub FieldReads : Config → FieldRow → ℕ → Type 0
-FieldReads c row w = CanHold (extent c) (place_of (field_want row)) w × LinkReads row w
+abbrev pub ReadsAt : Config → ℕ → Command → FieldRow → ℕ → Type 0
+ReadsAt c t k row w = CanHold (extent c) (place_of (row_want (extent c) t k row)) w × LinkReads row w
+
+abbrev pub FieldReads : Config → FieldState → ℕ → Type 0
+FieldReads c s w = ReadsAt c s.pass.thread s.command s.row w

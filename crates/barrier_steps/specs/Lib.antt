@@ -1,3 +1,4 @@
+pub mod Operands
 pub mod Walks
 pub mod Rows
 pub mod Fits

@@ -11,75 +11,168 @@ ghost use Rattle.never_heap.specs.declared.Command.{Command};
 ghost use Rattle.never_heap.specs.declared.Reply.{Reply};
 ghost use Rattle.never_heap.specs.Graphs.{Graph};
 ghost use Rattle.never_heap.specs.Bounds.{IsCommandInRange};
-ghost use Rattle.never_heap.specs.Steps.{blocks_of};
+ghost use Rattle.never_heap.specs.Steps.{makes_object};
 ghost use Rattle.shown_graph.specs.Layouts.{shape_part};
 ghost use Rattle.shown_graph.specs.Words.{block_words};
 ghost use Rattle.shown_graph.specs.Shown.{heads, named, IsSized};
 ghost use Rattle.shown_graph.specs.Events.{GraphState, Follows, Guard, with_load};
 ghost use Rattle.heap_machine.specs.Operations.{place_of, heap_after, Fits};
 ghost use Rattle.heap_machine.specs.Readings.{StoresHeld};
+ghost use Rattle.heap_machine.specs.declared.pass.Pass.{Pass};
 ghost use Rattle.barrier_steps.specs.declared.rows.FieldRow.{FieldRow};
 ghost use Rattle.barrier_steps.specs.Walks.{shape_length, links_to, link_at, field_at, ordinal_at};
-ghost use Rattle.barrier_steps.specs.Rows.{first_row, field_want, field_got, field_reply, field_decided};
-ghost use Rattle.barrier_steps.specs.Fits.{IsThread, FieldFits, FieldReads};
+ghost use Rattle.barrier_steps.specs.Rows.{FieldState, first_row, at_first_row, field_want, field_got, field_reply, field_decided};
+ghost use Rattle.barrier_steps.specs.Fits.{IsThread, FieldFits, FieldReads, is_row_of};
 ghost use Rattle.barrier_steps.specs.Deciding.{is_deciding};
-ghost use Rattle.barrier_steps.specs.Replies.{Asked, asked, answer, graph_after, Shown, Promises, NameShown, ShowsRegister, reply_due, IsKnown};
-ghost use Rattle.barrier_steps.specs.Projection.{thread_of, loading_of, event_of, after_event, IsAtRow, IsInHand};
+ghost use Rattle.barrier_steps.specs.Replies.{answer, graph_after, Shown, Promises, NameShown, ShowsRegister, reply_due, IsKnown};
+ghost use Rattle.barrier_steps.specs.Projection.{loading_of, event_of, after_event, IsAtRow, IsInHand};
 
 /// The links that a thread follows lead to the field, in a record and in an array.
 pub fn ways_lead_to_fields()
-    ensures { (f : Shape) (i : ℕ) → i < shape_length f → IsWay (shape_part f) i (links_to f i) (field_at f i) (ordinal_at f i) (link_at f i) }
+    ensures {
+        (c : Config) (f : Shape) (i : ℕ) → i < shape_length f
+        → IsWay (shape_part c.width f) i (links_to (extent c) f i) (field_at (extent c) f i)
+            (ordinal_at (extent c) f i) (link_at (extent c) f i)
+    }
 {}
 
 /// The first row of a command fits its heap, and a row that fits becomes one that fits. Such a row
 /// wants a place of the heap, adds and takes away nothing, and stores what the place can hold.
 pub fn rows_stay_in_the_heap()
-    ensures first { (c : Config) (t : ℕ) (command : Command) → IsThread c t → IsCommandInRange command → FieldFits c (first_row t command) }
-    ensures next { (c : Config) (row : FieldRow) (w : ℕ) → FieldFits c row → FieldReads c row w → FieldFits c (field_got row w) }
-    ensures place { (c : Config) (row : FieldRow) → FieldFits c row → in_range (extent c) (place_of (field_want row)) ≡ true }
-    ensures sum { (row : FieldRow) (w : ℕ) → Fits (field_want row) w }
-    ensures stores { (c : Config) (row : FieldRow) → FieldFits c row → StoresHeld c (field_want row) }
+    ensures first {
+        (c : Config) (p : Pass) (k : Command) → IsThread c p.thread → IsCommandInRange k
+        → FieldFits c (at_first_row p k)
+    }
+    ensures next {
+        (c : Config) (f : FieldState) (w : ℕ) → FieldFits c f → FieldReads c f w
+        → FieldFits c (field_got (extent c) f w)
+    }
+    ensures place {
+        (c : Config) (f : FieldState) → FieldFits c f
+        → in_range (extent c) (place_of (field_want (extent c) f)) ≡ true
+    }
+    ensures sum { (c : Config) (f : FieldState) (w : ℕ) → Fits (field_want (extent c) f) w }
+    ensures stores {
+        (c : Config) (f : FieldState) → FieldFits c f → StoresHeld c (field_want (extent c) f)
+    }
 {}
 
 /// A part is decided exactly behind its deciding event, of which there is one at most, and it has a
 /// reply only behind it.
 pub fn rows_decide_once()
-    ensures first { (t : ℕ) (command : Command) → blocks_of command ≡ 0 → field_decided (first_row t command) ≡ false }
-    ensures after { (row : FieldRow) (w : ℕ) → field_decided (field_got row w) ≡ (field_decided row || is_deciding row w) }
-    ensures once { (row : FieldRow) (w : ℕ) → field_decided row ≡ true → is_deciding row w ≡ false }
+    ensures first { (k : Command) → makes_object k ≡ false → field_decided (first_row k) ≡ false }
+    ensures after {
+        (c : Config) (f : FieldState) (w : ℕ)
+        → field_decided (field_got (extent c) f w).row
+            ≡ (field_decided f.row || is_deciding f.command f.row w)
+    }
+    ensures once {
+        (f : FieldState) (w : ℕ) → field_decided f.row ≡ true
+        → is_deciding f.command f.row w ≡ false
+    }
     ensures reply { (row : FieldRow) → IsSome (field_reply row) → field_decided row ≡ true }
 {}
 
-/// A row names its thread and command until it is decided. At the deciding event the command answers
-/// what its step does on the graph of which the words that were read are, and that reply is given at
-/// the end, whatever becomes of the graph, where the name of the object that it refers to is read.
+/// At the deciding event the command answers what its step does on the graph of which the words that
+/// were read are, and that reply is given at the end, whatever becomes of the graph, where the name of
+/// the object that it refers to is read.
 pub fn rows_answer_as_steps()
-    ensures first { (t : ℕ) (command : Command) → blocks_of command ≡ 0 → asked (first_row t command) ≡ Some (t, command) }
-    ensures still { (row : FieldRow) (w : ℕ) → field_decided row ≡ false → is_deciding row w ≡ false → asked (field_got row w) ≡ asked row }
-    ensures decided { (head : Name → ℕ) (g : Graph) (row : FieldRow) (w : ℕ) (q : Asked) → asked row ≡ Some q → is_deciding row w ≡ true → Shown head g row w → Promises head (field_got row w) (answer g q) }
-    ensures kept { (head : Name → ℕ) (row : FieldRow) (w : ℕ) (reply : Reply) → Promises head row reply → NameShown head row reply w → Promises head (field_got row w) reply }
-    ensures given { (head : Name → ℕ) (row : FieldRow) (q reply : Reply) → field_reply row ≡ Some q → Promises head row reply → q ≡ reply }
+    ensures decided {
+        (c : Config) (head : Name → ℕ) (g : Graph) (f : FieldState) (w : ℕ)
+        → is_row_of f.command f.row ≡ true → is_deciding f.command f.row w ≡ true
+        → Shown head g f w
+        → Promises head (field_got (extent c) f w).row (answer g f.pass.thread f.command)
+    }
+    ensures kept {
+        (c : Config) (head : Name → ℕ) (f : FieldState) (w : ℕ) (reply : Reply)
+        → Promises head f.row reply → NameShown head f.row reply w
+        → Promises head (field_got (extent c) f w).row reply
+    }
+    ensures given {
+        (head : Name → ℕ) (row : FieldRow) (q reply : Reply)
+        → field_reply row ≡ Some q → Promises head row reply → q ≡ reply
+    }
 {}
 
 /// Each row is its event on the graph and its words: the words are those that the operation leaves,
 /// what the thread has loaded is what the next row has, the graph makes the command's step at the
 /// deciding event and else stays, and the event may come where it does.
 pub fn rows_are_events()
-    ensures words { (h : Heap) (s : GraphState) (a : Name) (row : FieldRow) (w : ℕ) → s.words ≡ block_words h → s.loads (thread_of row) ≡ loading_of row → (after_event s (event_of a row w)).words ≡ block_words (heap_after h (field_want row)) }
-    ensures loads { (c : Config) (h : Heap) (s : GraphState) (a : Name) (row : FieldRow) (w : ℕ) → FieldFits c row → FieldReads c row w → IsAtRow s h row w → (u : ℕ) → (after_event s (event_of a row w)).loads u ≡ with_load s.loads (thread_of row) (loading_of (field_got row w)) u }
-    ensures stays { (s : GraphState) (a : Name) (row : FieldRow) (w : ℕ) → is_deciding row w ≡ false → (after_event s (event_of a row w)).graph ≡ s.graph }
-    ensures steps { (head : Name → ℕ) (s : GraphState) (a : Name) (row : FieldRow) (w : ℕ) (q : Asked) → asked row ≡ Some q → is_deciding row w ≡ true → Shown head s.graph row w → s.loads (thread_of row) ≡ loading_of row → IsInHand s a row → (after_event s (event_of a row w)).graph ≡ graph_after s.graph q }
-    ensures guarded { (c : Config) (h : Heap) (s : GraphState) (a : Name) (row : FieldRow) (w : ℕ) → FieldFits c row → FieldReads c row w → IsAtRow s h row w → IsInHand s a row → IfSome (event_of a row w) (Guard c.threads s) }
+    ensures words {
+        (c : Config) (h : Heap) (s : GraphState) (a : Name) (f : FieldState) (w : ℕ)
+        → s.words ≡ block_words h → s.loads f.pass.thread ≡ loading_of (extent c) f
+        → (after_event (extent c) s (event_of (extent c) a f w)).words
+            ≡ block_words (heap_after h (field_want (extent c) f))
+    }
+    ensures loads {
+        (c : Config) (h : Heap) (s : GraphState) (a : Name) (f : FieldState) (w : ℕ)
+        → FieldFits c f → FieldReads c f w → IsAtRow (extent c) s h f w
+        → (u : ℕ) → (after_event (extent c) s (event_of (extent c) a f w)).loads u
+            ≡ with_load s.loads f.pass.thread (loading_of (extent c) (field_got (extent c) f w)) u
+    }
+    ensures stays {
+        (c : Config) (s : GraphState) (a : Name) (f : FieldState) (w : ℕ)
+        → is_deciding f.command f.row w ≡ false
+        → (after_event (extent c) s (event_of (extent c) a f w)).graph ≡ s.graph
+    }
+    ensures steps {
+        (c : Config) (head : Name → ℕ) (s : GraphState) (a : Name) (f : FieldState) (w : ℕ)
+        → is_row_of f.command f.row ≡ true → is_deciding f.command f.row w ≡ true
+        → Shown head s.graph f w
+        → s.loads f.pass.thread ≡ loading_of (extent c) f → IsInHand s a f
+        → (after_event (extent c) s (event_of (extent c) a f w)).graph
+            ≡ graph_after s.graph f.pass.thread f.command
+    }
+    ensures guarded {
+        (c : Config) (h : Heap) (s : GraphState) (a : Name) (f : FieldState) (w : ℕ)
+        → FieldFits c f → FieldReads c f w → IsAtRow (extent c) s h f w → IsInHand s a f
+        → IfSome (event_of (extent c) a f w) (Guard c.width c.threads s)
+    }
 {}
 
 /// Where the words show the graph and the thread has loaded what its row names, the row reads words
 /// that its places can hold, and these are what the graph says, the name of a reply's object among
 /// them. From the deciding event on the reply that is due is the step's answer.
 pub fn rows_read_the_graph()
-    ensures reads { (c : Config) (m : ℕ) (kept : Name → Bool) (at : Name → ℕ → ℕ) (s : GraphState) (h : Heap) (row : FieldRow) (w : ℕ) → c.blocks ≤ 65535 → m ≤ c.blocks → Follows c.threads m (named kept) at s → FieldFits c row → IsAtRow s h row w → field_reply row ≡ None → FieldReads c row w }
-    ensures shown { (c : Config) (m : ℕ) (kept : Name → Bool) (at : Name → ℕ → ℕ) (s : GraphState) (h : Heap) (row : FieldRow) (w : ℕ) → c.blocks ≤ 65535 → m ≤ c.blocks → Follows c.threads m (named kept) at s → FieldFits c row → IsAtRow s h row w → Shown (heads at) s.graph row w }
-    ensures register { (c : Config) (head : Name → ℕ) (s : GraphState) (a : Name) (row : FieldRow) (w : ℕ) (q : Asked) → IsSized c.threads s.graph → FieldFits c row → Shown head s.graph row w → IsInHand s a row → asked row ≡ Some q → is_deciding row w ≡ true → ShowsRegister (after_event s (event_of a row w)).graph (field_got row w) (answer s.graph q) }
-    ensures name { (c : Config) (m : ℕ) (kept : Name → Bool) (at : Name → ℕ → ℕ) (s : GraphState) (h : Heap) (row : FieldRow) (w : ℕ) (reply : Reply) → c.blocks ≤ 65535 → m ≤ c.blocks → Follows c.threads m (named kept) at s → FieldFits c row → IsAtRow s h row w → ShowsRegister s.graph row reply → NameShown (heads at) row reply w }
-    ensures due { (c : Config) (m : ℕ) (kept : Name → Bool) (at : Name → ℕ → ℕ) (s : GraphState) (h : Heap) (a : Name) (row : FieldRow) (w : ℕ) (q : Asked) → c.blocks ≤ 65535 → m ≤ c.blocks → Follows c.threads m (named kept) at s → FieldFits c row → IsAtRow s h row w → IsInHand s a row → (field_decided row ≡ false → asked row ≡ Some q) → IsKnown s.graph row → reply_due (after_event s (event_of a row w)).graph (field_got row w) ≡ (if is_deciding row w then Some (answer s.graph q) else reply_due s.graph row) }
-    ensures known { (c : Config) (m : ℕ) (kept : Name → Bool) (at : Name → ℕ → ℕ) (s : GraphState) (h : Heap) (a : Name) (row : FieldRow) (w : ℕ) (q : Asked) → c.blocks ≤ 65535 → m ≤ c.blocks → Follows c.threads m (named kept) at s → FieldFits c row → IsAtRow s h row w → IsInHand s a row → (field_decided row ≡ false → asked row ≡ Some q) → IsKnown s.graph row → IsKnown (after_event s (event_of a row w)).graph (field_got row w) }
+    ensures reads {
+        (c : Config) (m : ℕ) (kept : Name → Bool) (at : Name → ℕ → ℕ) (s : GraphState) (h : Heap)
+        (f : FieldState) (w : ℕ) → c.blocks ≤ 65535 → m ≤ c.blocks
+        → Follows c.width c.threads m (named kept) at s → FieldFits c f → IsAtRow (extent c) s h f w
+        → field_reply f.row ≡ None → FieldReads c f w
+    }
+    ensures shown {
+        (c : Config) (m : ℕ) (kept : Name → Bool) (at : Name → ℕ → ℕ) (s : GraphState) (h : Heap)
+        (f : FieldState) (w : ℕ) → c.blocks ≤ 65535 → m ≤ c.blocks
+        → Follows c.width c.threads m (named kept) at s → FieldFits c f → IsAtRow (extent c) s h f w
+        → Shown (heads at) s.graph f w
+    }
+    ensures register {
+        (c : Config) (head : Name → ℕ) (s : GraphState) (a : Name) (f : FieldState) (w : ℕ)
+        → IsSized c.threads s.graph → FieldFits c f → Shown head s.graph f w → IsInHand s a f
+        → is_deciding f.command f.row w ≡ true
+        → ShowsRegister (after_event (extent c) s (event_of (extent c) a f w)).graph (field_got (extent c) f w)
+            (answer s.graph f.pass.thread f.command)
+    }
+    ensures name {
+        (c : Config) (m : ℕ) (kept : Name → Bool) (at : Name → ℕ → ℕ) (s : GraphState) (h : Heap)
+        (f : FieldState) (w : ℕ) (reply : Reply) → c.blocks ≤ 65535 → m ≤ c.blocks
+        → Follows c.width c.threads m (named kept) at s → FieldFits c f → IsAtRow (extent c) s h f w
+        → ShowsRegister s.graph f reply → NameShown (heads at) f.row reply w
+    }
+    ensures due {
+        (c : Config) (m : ℕ) (kept : Name → Bool) (at : Name → ℕ → ℕ) (s : GraphState) (h : Heap)
+        (a : Name) (f : FieldState) (w : ℕ) → c.blocks ≤ 65535 → m ≤ c.blocks
+        → Follows c.width c.threads m (named kept) at s → FieldFits c f → IsAtRow (extent c) s h f w
+        → IsInHand s a f → IsKnown s.graph f
+        → reply_due (after_event (extent c) s (event_of (extent c) a f w)).graph (field_got (extent c) f w)
+            ≡ (if is_deciding f.command f.row w
+               then Some (answer s.graph f.pass.thread f.command) else reply_due s.graph f)
+    }
+    ensures known {
+        (c : Config) (m : ℕ) (kept : Name → Bool) (at : Name → ℕ → ℕ) (s : GraphState) (h : Heap)
+        (a : Name) (f : FieldState) (w : ℕ) → c.blocks ≤ 65535 → m ≤ c.blocks
+        → Follows c.width c.threads m (named kept) at s → FieldFits c f → IsAtRow (extent c) s h f w
+        → IsInHand s a f → IsKnown s.graph f
+        → IsKnown (after_event (extent c) s (event_of (extent c) a f w)).graph (field_got (extent c) f w)
+    }
 {}

@@ -3,6 +3,7 @@
 #![tactic(auto)]
 
 mod laws;
+mod operands;
 mod pass;
 mod rows;
 #[cfg(test)]
@@ -14,4 +15,4 @@ pub use laws::{
     rows_stay_in_the_heap, ways_lead_to_fields,
 };
 pub use pass::FieldPass;
-pub use rows::{Access, Errand, FieldRow, Walk};
+pub use rows::{FieldRow, Way};

@@ -1,42 +1,48 @@
 //! The part of a thread's work that does a command that allocates nothing.
 
-ghost use Rattle.std.specs.Prelude.{◌≡◌, ◌+◌, ◌<◌, ◌≤◌, ◌==◌, if◌then◌else◌, IsSome};
+ghost use Rattle.std.specs.Prelude.{◌≡◌, ◌+◌, ◌<◌, ◌≤◌, ◌==◌, false, if◌then◌else◌, IsSome};
 ghost use Rattle.block_store.specs.Owners.{owner_of};
 ghost use Rattle.block_store.specs.Places.{extent, index, PayloadOf};
 ghost use Rattle.block_store.specs.Payloads as words;
 ghost use Rattle.block_store.specs.Payloads.{payload_of, payload_target};
+ghost use Rattle.block_store.specs.declared.TheConstants.{REGISTERS};
+ghost use Rattle.block_store.specs.Registers.{register_block, register_slot};
 ghost use Rattle.block_store.specs.Shapes.{IsShape, shape_of};
 ghost use Rattle.never_heap.specs.Bounds.{IsCommandInRange};
-ghost use Rattle.never_heap.specs.Steps.{blocks_of};
-ghost use Rattle.heap_machine.specs.Operations.{op_at, Exchange};
+ghost use Rattle.never_heap.specs.Steps.{makes_object};
+ghost use Rattle.heap_machine.specs.Operations.{op_at, Load, Exchange};
+ghost use Rattle.heap_machine.specs.Passes.{IsPass};
+ghost use Rattle.barrier_steps.specs.Operands as operands;
 ghost use Rattle.barrier_steps.specs.Walks;
 ghost use Rattle.barrier_steps.specs.Walks.{shape_length, links_to};
 ghost use Rattle.barrier_steps.specs.Rows;
-ghost use Rattle.barrier_steps.specs.Rows.{register_place, field_want, field_got, field_step, field_decided, field_reply};
+ghost use Rattle.barrier_steps.specs.Rows.{at_first_row, register_place, field_want, field_got, field_step, field_decided, field_reply};
 ghost use Rattle.barrier_steps.specs.Fits.{IsThread, IsWalk, FieldFits, FieldReads};
 
+use crate::operands::{field_index, from_register, number_set, other_register, to_register};
 use crate::walks::{field_at, length_of, link_at, links_to};
-use crate::{Access, Errand, FieldRow, Walk};
+use crate::{FieldRow, Way};
 use block_store::{
-    Name, Payload, PhaseWord, Places, REGISTER_BLOCKS, Shape, Value, payload_word, read_owner,
-    read_payload, read_shape,
+    Name, Payload, Places, Shape, Value, Width, payload_word, read_owner, read_payload, read_shape,
 };
-use heap_machine::{Op, Step};
+use heap_machine::{Op, Pass, Step};
 use never_heap::{Command, Reply};
 use std::marker::Model;
 
 /// A command that allocates nothing, done one event at a time while its thread is inside.
 #[derive(Drop)]
 pub struct FieldPass {
+    pass: Pass,
+    command: Command,
     row: FieldRow,
 }
 
 impl Model for FieldPass {
-    ghost use Rattle.barrier_steps.specs.declared.rows.FieldRow.{FieldRow};
+    ghost use Rattle.barrier_steps.specs.Rows.{FieldState};
 
-    ghost Value = { FieldRow };
+    ghost Value = { FieldState };
 
-    ghost view = { λ p. p.row };
+    ghost view = { λ p. record { pass = p.pass; command = p.command; row = p.row } };
 }
 
 // What a payload word holds.
@@ -83,40 +89,38 @@ fn object_in(word: u64) -> Value
 // The place of a register.
 fn register(places: &Places, thread: u32, r: u8) -> usize
     requires thread { IsThread places.now thread }
-    requires register { r < 16 }
-    ensures { result ≡ index (extent places.now) (register_place thread r) }
+    requires register { r < REGISTERS }
+    ensures { result ≡ index (extent places.now) (register_place (extent places.now) thread r) }
 {
-    let r = r as u32;
-    places.payload(REGISTER_BLOCKS * thread + 2 + r / 4, r % 4)
+    let (block, slot) = register_at(places.width(), thread, r as u32);
+    places.payload(block, slot)
+}
+
+// The block and the payload of register `r` of a thread.
+#[tactic(auto, using(block_store::proofs::Registers::block_by, block_store::proofs::Registers::slot_by))]
+fn register_at(width: Width, thread: u32, r: u32) -> (u32, u32)
+    requires thread { thread < 16 }
+    requires register { r < REGISTERS }
+    ensures block { result.0 ≡ register_block width thread r }
+    ensures slot { result.1 ≡ register_slot width r }
+{
+    let payloads = width.payloads();
+    (width.registers() * thread + 2 + r / payloads, r % payloads)
 }
 
 // The first row of a command.
-fn first_row(thread: u32, command: Command) -> FieldRow
-    requires { blocks_of command ≡ 0 }
-    ensures { result ≡ Rows.first_row thread command }
+fn first_row(command: Command) -> FieldRow
+    requires { makes_object command ≡ false }
+    ensures { result ≡ Rows.first_row command }
 {
     match command {
         Command::New { .. } | Command::Arr { .. } => unreachable!(),
-        Command::Set { d, value } => FieldRow::StoreNumber { thread, d, value },
-        Command::Nil { d } => FieldRow::StoreNil { thread, d },
-        Command::Mov { d, s } => FieldRow::LoadMoved { thread, d, s },
-        Command::Get { d, s, i } => FieldRow::LoadObject {
-            thread,
-            s,
-            access: Access::Get { d, i },
-        },
-        Command::Put { s, i, v } => FieldRow::LoadObject {
-            thread,
-            s,
-            access: Access::Put { i, v },
-        },
-        Command::Len { s } => FieldRow::LoadObject {
-            thread,
-            s,
-            access: Access::Len,
-        },
-        Command::Same { a, b } => FieldRow::LoadFirst { thread, a, b },
-        Command::Say { s } => FieldRow::LoadSaid { thread, s },
+        Command::Set { .. } => FieldRow::StoreNumber,
+        Command::Nil { .. } => FieldRow::StoreNil,
+        Command::Mov { .. } => FieldRow::LoadMoved,
+        Command::Get { .. } | Command::Put { .. } | Command::Len { .. } => FieldRow::LoadObject,
+        Command::Same { .. } => FieldRow::LoadFirst,
+        Command::Say { .. } => FieldRow::LoadSaid,
     }
 }
 
@@ -128,147 +132,114 @@ fn answered(reply: Reply) -> FieldRow
 }
 
 // After the register that refers to the object.
-fn after_object(thread: u32, s: u8, access: Access, payload: Payload) -> FieldRow
-    ensures { result ≡ Rows.after_object thread s access payload }
+fn after_object(payload: Payload) -> FieldRow
+    ensures { result ≡ Rows.after_object payload }
 {
     match payload {
         Payload::Nil => answered(Reply::Null),
         Payload::Int(_) => answered(Reply::Kind),
-        Payload::Block(block) => FieldRow::LoadShape {
-            thread,
-            s,
-            block,
-            access,
-        },
+        Payload::Block(block) => FieldRow::LoadShape { block },
     }
 }
 
 // At the block of the field.
-fn at_block(thread: u32, walk: Walk, errand: Errand) -> FieldRow
-    ensures { result ≡ Rows.at_block thread walk errand }
+fn at_block(command: Command, way: Way, word: u64) -> FieldRow
+    ensures { result ≡ Rows.at_block command way word }
 {
-    match errand {
-        Errand::Get { d } => FieldRow::LoadField { thread, walk, d },
-        Errand::Put { v, word } => FieldRow::StoreField {
-            thread,
-            walk,
-            v,
-            word,
-        },
+    use Command::*;
+
+    match command {
+        Put { .. } => FieldRow::StoreField { way, word },
+        New { .. } | Arr { .. } | Set { .. } | Nil { .. } => FieldRow::LoadField { way },
+        Mov { .. } | Get { .. } | Len { .. } | Same { .. } | Say { .. } => {
+            FieldRow::LoadField { way }
+        }
     }
 }
 
 // The next link of the way, while there is one.
-fn on_way(thread: u32, walk: Walk, errand: Errand) -> FieldRow
-    requires { IsShape walk.shape }
-    ensures { result ≡ Rows.on_way thread walk errand }
+fn on_way(places: &Places, command: Command, way: Way, word: u64) -> FieldRow
+    requires shape { IsShape way.shape }
+    requires index { operands.field_index command < shape_length way.shape }
+    ensures { result ≡ Rows.on_way (extent places.now) command way word }
 {
-    if walk.level < links_to(walk.shape, walk.index) {
-        FieldRow::LoadLink {
-            thread,
-            walk,
-            errand,
-        }
+    if way.level < links_to(places, way.shape, field_index(command, way.shape)) {
+        FieldRow::LoadLink { way, word }
     } else {
-        at_block(thread, walk, errand)
+        at_block(command, way, word)
     }
 }
 
-// The way at its first block, where the object has the field.
-fn way_from(source: u8, block: u32, shape: Shape, i: u64) -> Walk
-    requires { i < shape_length shape }
-    ensures { result ≡ Rows.way_from source block shape i }
+// The way at its first block.
+fn way_from(shape: Shape, block: u32) -> Way
+    ensures { result ≡ Rows.way_from shape block }
 {
-    Walk {
-        source,
+    Way {
         shape,
-        index: i as u32,
         level: 0,
         block,
     }
 }
 
 // After the object's shape.
-fn after_shape(thread: u32, s: u8, block: u32, access: Access, shape: Shape) -> FieldRow
+fn after_shape(places: &Places, command: Command, block: u32, shape: Shape) -> FieldRow
     requires { IsShape shape }
-    ensures { result ≡ Rows.after_shape thread s block access shape }
+    ensures { result ≡ Rows.after_shape (extent places.now) command block shape }
 {
+    use Command::*;
+
     let length = length_of(shape) as u64;
-    match access {
-        Access::Get { d, i } if i < length => {
-            on_way(thread, way_from(s, block, shape, i), Errand::Get { d })
-        }
-        Access::Put { i, v } if i < length => FieldRow::LoadValue {
-            thread,
-            walk: way_from(s, block, shape, i),
-            v,
-        },
-        Access::Get { .. } | Access::Put { .. } => answered(Reply::Range),
-        Access::Len => answered(Reply::Len(length)),
+    let way = way_from(shape, block);
+    match command {
+        Get { i, .. } if i < length => on_way(places, command, way, 0),
+        Put { i, .. } if i < length => FieldRow::LoadValue { way },
+        Get { .. } | Put { .. } => answered(Reply::Range),
+        New { .. } | Arr { .. } | Set { .. } | Nil { .. } => answered(Reply::Len(length)),
+        Mov { .. } | Len { .. } | Same { .. } | Say { .. } => answered(Reply::Len(length)),
     }
 }
 
 // After a link.
-#[tactic(auto, using(crate::proofs::Walking::links_few))]
-fn after_link(thread: u32, walk: Walk, errand: Errand, block: u32) -> FieldRow
-    requires shape { IsShape walk.shape }
-    requires index { walk.index < shape_length walk.shape }
-    requires level { walk.level < links_to walk.shape walk.index }
-    ensures { result ≡ Rows.on_way thread (record walk { level = walk.level + 1; block = block }) errand }
+fn after_link(places: &Places, command: Command, way: Way, word: u64, block: u32) -> FieldRow
+    requires shape { IsShape way.shape }
+    requires index { operands.field_index command < shape_length way.shape }
+    requires level { way.level < links_to (extent places.now) way.shape (operands.field_index command) }
+    ensures { result ≡ Rows.on_way (extent places.now) command (Rows.way_on way block) word }
 {
-    let next = Walk {
-        level: walk.level + 1,
+    let next = Way {
+        level: way.level + 1,
         block,
-        ..walk
+        ..way
     };
-    on_way(thread, next, errand)
-}
-
-// The store of `mov`.
-fn store_moved(thread: u32, d: u8, s: u8, word: u64) -> FieldRow
-    ensures { result ≡ FieldRow.StoreMoved thread d s word }
-{
-    FieldRow::StoreMoved { thread, d, s, word }
-}
-
-// The second register of `same`.
-fn load_second(thread: u32, a: u8, b: u8, word: u64) -> FieldRow
-    ensures { result ≡ FieldRow.LoadSecond thread a b word }
-{
-    FieldRow::LoadSecond { thread, a, b, word }
+    on_way(places, command, next, word)
 }
 
 // The store of a field's word, once its value is known.
-fn store_late(thread: u32, d: u8, word: u64, value: Value) -> FieldRow
-    ensures { result ≡ FieldRow.StoreLate thread d word value }
+fn store_late(word: u64, value: Value) -> FieldRow
+    ensures { result ≡ FieldRow.StoreLate word value }
 {
-    FieldRow::StoreLate {
-        thread,
-        d,
-        word,
-        value,
-    }
+    FieldRow::StoreLate { word, value }
 }
 
 // After the field that `get` loads.
-fn after_field(thread: u32, d: u8, word: u64, payload: Payload) -> FieldRow
-    ensures { result ≡ Rows.after_field thread d word payload }
+fn after_field(word: u64, payload: Payload) -> FieldRow
+    ensures { result ≡ Rows.after_field word payload }
 {
     match payload {
-        Payload::Nil => store_late(thread, d, word, Value::Nil),
-        Payload::Int(number) => store_late(thread, d, word, Value::Int(number)),
-        Payload::Block(_) => FieldRow::LoadOwner { thread, d, word },
+        Payload::Nil => store_late(word, Value::Nil),
+        Payload::Int(number) => store_late(word, Value::Int(number)),
+        Payload::Block(_) => FieldRow::LoadOwner { word },
     }
 }
 
 // After the register that `say` shows.
-fn after_said(thread: u32, s: u8, word: u64, payload: Payload) -> FieldRow
-    ensures { result ≡ Rows.after_said thread s word payload }
+fn after_said(word: u64, payload: Payload) -> FieldRow
+    ensures { result ≡ Rows.after_said word payload }
 {
     match payload {
         Payload::Nil => answered(Reply::Val(Value::Nil)),
         Payload::Int(number) => answered(Reply::Val(Value::Int(number))),
-        Payload::Block(_) => FieldRow::LoadSaidOwner { thread, s, word },
+        Payload::Block(_) => FieldRow::LoadSaidOwner { word },
     }
 }
 
@@ -283,166 +254,135 @@ fn after_both(first: u64, second: u64) -> FieldRow
     }
 }
 
-// The row after a row that read this word.
-fn after(row: FieldRow, _places: &Places, read: u64) -> FieldRow
-    requires fits { FieldFits _places.now row }
-    requires word { FieldReads _places.now row read }
-    ensures { result ≡ field_got row read }
+// The place of the next link on a way to the field of a command.
+fn link(places: &Places, command: Command, way: Way) -> usize
+    requires walk { IsWalk places.now (operands.field_index command) way }
+    ensures { result ≡ index (extent places.now) (PayloadOf way.block (Walks.link_at (extent places.now) way.shape (operands.field_index command) way.level)) }
 {
-    use FieldRow::*;
-
-    match row {
-        StoreNumber { .. } | StoreNil { .. } | StoreMoved { .. } | StoreField { .. } => {
-            answered(Reply::Stored)
-        }
-        LoadMoved { thread, d, s } => store_moved(thread, d, s, read),
-        LoadObject { thread, s, access } => after_object(thread, s, access, payload_in(read)),
-        LoadShape {
-            thread,
-            s,
-            block,
-            access,
-        } => after_shape(thread, s, block, access, shape_in(read)),
-        LoadValue { thread, walk, v } => on_way(thread, walk, Errand::Put { v, word: read }),
-        LoadLink {
-            thread,
-            walk,
-            errand,
-        } => after_link(thread, walk, errand, target(read)),
-        LoadField { thread, d, .. } => after_field(thread, d, read, payload_in(read)),
-        LoadOwner { thread, d, word } => store_late(thread, d, word, object_in(read)),
-        StoreLate { value, .. } => answered(Reply::Val(value)),
-        LoadFirst { thread, a, b } => load_second(thread, a, b, read),
-        LoadSecond { word, .. } => after_both(word, read),
-        LoadSaid { thread, s } => after_said(thread, s, read, payload_in(read)),
-        LoadSaidOwner { .. } => answered(Reply::Val(object_in(read))),
-        Answered { reply } => answered(reply),
-    }
+    places.payload(way.block, link_at(places, way, field_index(command, way.shape)))
 }
 
-fn load(place: usize) -> Op
-    ensures { result ≡ Op.Load place }
+// The place of that field, at its block.
+fn field(places: &Places, command: Command, way: Way) -> usize
+    requires walk { IsWalk places.now (operands.field_index command) way }
+    ensures { result ≡ index (extent places.now) (PayloadOf way.block (Walks.field_at (extent places.now) way.shape (operands.field_index command))) }
 {
-    Op::Load { place }
-}
-
-fn exchange(place: usize, new: u64) -> Op
-    ensures { result ≡ Op.Exchange place new }
-{
-    Op::Exchange { place, new }
-}
-
-// A store in a register.
-fn store(places: &Places, thread: u32, d: u8, word: u64) -> Op
-    requires thread { IsThread places.now thread }
-    requires register { d < 16 }
-    ensures { result ≡ op_at (extent places.now) (Exchange (register_place thread d) word) }
-{
-    exchange(register(places, thread, d), word)
-}
-
-// The place of the next link on a way.
-fn link(places: &Places, walk: Walk) -> usize
-    requires walk { IsWalk places.now walk }
-    ensures { result ≡ index (extent places.now) (PayloadOf walk.block (Walks.link_at walk.shape walk.index walk.level)) }
-{
-    places.payload(walk.block, link_at(walk))
-}
-
-// The place of a field, at its block.
-fn field(places: &Places, walk: Walk) -> usize
-    requires walk { IsWalk places.now walk }
-    ensures { result ≡ index (extent places.now) (PayloadOf walk.block (Walks.field_at walk.shape walk.index)) }
-{
-    places.payload(walk.block, field_at(walk))
-}
-
-// The operation of a row.
-fn want(row: FieldRow, places: &Places) -> Op
-    requires { FieldFits places.now row }
-    ensures { result ≡ op_at (extent places.now) (field_want row) }
-{
-    use FieldRow::*;
-
-    match row {
-        StoreNumber { thread, d, value } => {
-            store(places, thread, d, payload_word(Payload::Int(value)))
-        }
-        StoreNil { thread, d } => store(places, thread, d, payload_word(Payload::Nil)),
-        LoadMoved { thread, s, .. } => load(register(places, thread, s)),
-        StoreMoved {
-            thread,
-            d,
-            word,
-            ..
-        } => store(places, thread, d, word),
-        LoadObject { thread, s, .. } => load(register(places, thread, s)),
-        LoadShape { block, .. } => load(places.shape(block)),
-        LoadValue { thread, v, .. } => load(register(places, thread, v)),
-        LoadLink { walk, .. } => load(link(places, walk)),
-        LoadField { walk, .. } => load(field(places, walk)),
-        LoadOwner { word, .. } => load(places.owner(target(word))),
-        StoreLate {
-            thread,
-            d,
-            word,
-            ..
-        } => store(places, thread, d, word),
-        StoreField { walk, word, .. } => exchange(field(places, walk), word),
-        LoadFirst { thread, a, .. } => load(register(places, thread, a)),
-        LoadSecond { thread, b, .. } => load(register(places, thread, b)),
-        LoadSaid { thread, s } => load(register(places, thread, s)),
-        LoadSaidOwner { word, .. } => load(places.owner(target(word))),
-        Answered { .. } => load(places.phase()),
-    }
+    places.payload(way.block, field_at(places, way, field_index(command, way.shape)))
 }
 
 impl FieldPass {
-    /// The part that does this command, which allocates nothing, for one of 1 to 16 threads that is
-    /// inside. The command's registers are below 16, its numbers and indexes below 2^62. The phase
-    /// word is the one with which the thread entered.
-    pub fn new(thread: u32, threads: u32, phase: PhaseWord, command: Command) -> FieldPass
-        requires thread { (thread < threads) × (threads ≤ 16) }
+    /// The part that does this command, which allocates nothing, for the thread of this pass, which is
+    /// inside. The command's registers are below 16, its numbers and indexes below 2^62.
+    pub fn new(pass: Pass, command: Command) -> FieldPass
+        requires pass { IsPass pass }
         requires range { IsCommandInRange command }
-        requires allocates { blocks_of command ≡ 0 }
-        ensures { result ≡ Rows.first_row thread command }
+        requires allocates { makes_object command ≡ false }
+        ensures { result ≡ at_first_row pass command }
     {
-        let (_threads, _phase) = (threads, phase);
         FieldPass {
-            row: first_row(thread, command),
+            pass,
+            command,
+            row: first_row(command),
         }
     }
 
     /// The operation of the next event. A part that is over wants no more than a look at the phase.
-    /// The places are those of a heap that has the row's thread and blocks.
+    /// The places are those of a heap that has the part's thread and the row's blocks.
+    #[inline(never)]
     pub fn want(&self, places: &Places) -> Op
         requires { FieldFits places.now self.now }
-        ensures { result ≡ op_at (extent places.now) (field_want self.now) }
+        ensures { result ≡ op_at (extent places.now) (field_want (extent places.now) self.now) }
     {
-        want(self.row, places)
+        use FieldRow::*;
+
+        let command = self.command;
+        match self.row {
+            StoreNumber => self.store(places, payload_word(Payload::Int(number_set(command)))),
+            StoreNil => self.store(places, payload_word(Payload::Nil)),
+            StoreMoved { word } | StoreLate { word, .. } => self.store(places, word),
+            LoadMoved | LoadObject | LoadFirst | LoadSaid => {
+                self.load(places, from_register(command))
+            }
+            LoadValue { .. } | LoadSecond { .. } => self.load(places, other_register(command)),
+            LoadShape { block } => Op::load(places.shape(block)),
+            LoadLink { way, .. } => Op::load(link(places, command, way)),
+            LoadField { way } => Op::load(field(places, command, way)),
+            StoreField { way, word } => Op::exchange(field(places, command, way), word),
+            LoadOwner { word } | LoadSaidOwner { word } => Op::load(places.owner(target(word))),
+            Answered { .. } => Op::load(places.phase()),
+        }
+    }
+
+    // A store in the command's register.
+    fn store(&self, places: &Places, word: u64) -> Op
+        requires thread { IsThread places.now self.now.pass.thread }
+        requires command { IsCommandInRange self.now.command }
+        ensures { result ≡ op_at (extent places.now) (Exchange (register_place (extent places.now) self.now.pass.thread (operands.to_register self.now.command)) word) }
+    {
+        let place = register(places, self.pass.thread, to_register(self.command));
+        Op::exchange(place, word)
+    }
+
+    // A load of a register.
+    fn load(&self, places: &Places, r: u8) -> Op
+        requires thread { IsThread places.now self.now.pass.thread }
+        requires register { r < REGISTERS }
+        ensures { result ≡ op_at (extent places.now) (Load (register_place (extent places.now) self.now.pass.thread r)) }
+    {
+        Op::load(register(places, self.pass.thread, r))
     }
 
     /// Moves on by one event, whose operation read the word: one that its place can hold, and at a
     /// link a reference. A part that is over stays as it is.
+    #[inline(never)]
     #[tactic(auto, using(crate::proofs::FieldRows::field_fits))]
     pub fn got(&mut self, places: &Places, word: u64) -> Step
         requires fits { FieldFits places.now self.old }
         requires word { FieldReads places.now self.old word }
-        ensures row { self.new ≡ field_got self.old word }
-        ensures step { result ≡ field_step self.old word }
+        ensures row { self.new ≡ field_got (extent places.now) self.old word }
+        ensures step { result ≡ field_step (extent places.now) self.old word }
         ensures fits { FieldFits places.now self.new }
     {
-        self.row = after(self.row, places, word);
+        self.row = self.after(places, word);
         match self.reply() {
             Some(_) => Step::Over,
             None => Step::Went,
         }
     }
 
+    // The row after one event, whose operation read the word.
+    fn after(&self, places: &Places, read: u64) -> FieldRow
+        requires fits { FieldFits places.now self.now }
+        requires word { FieldReads places.now self.now read }
+        ensures { result ≡ (field_got (extent places.now) self.now read).row }
+    {
+        use FieldRow::*;
+
+        let command = self.command;
+        match self.row {
+            StoreNumber | StoreNil | StoreMoved { .. } | StoreField { .. } => {
+                answered(Reply::Stored)
+            }
+            LoadMoved => StoreMoved { word: read },
+            LoadObject => after_object(payload_in(read)),
+            LoadShape { block } => after_shape(places, command, block, shape_in(read)),
+            LoadValue { way } => on_way(places, command, way, read),
+            LoadLink { way, word } => after_link(places, command, way, word, target(read)),
+            LoadField { .. } => after_field(read, payload_in(read)),
+            LoadOwner { word } => store_late(word, object_in(read)),
+            StoreLate { value, .. } => answered(Reply::Val(value)),
+            LoadFirst => LoadSecond { word: read },
+            LoadSecond { word } => after_both(word, read),
+            LoadSaid => after_said(read, payload_in(read)),
+            LoadSaidOwner { .. } => answered(Reply::Val(object_in(read))),
+            Answered { reply } => answered(reply),
+        }
+    }
+
     /// Whether the deciding event was made: the one at which the command takes its place among the
     /// commands of all threads.
     pub fn decided(&self) -> bool
-        ensures { result ≡ field_decided self.now }
+        ensures { result ≡ field_decided self.now.row }
     {
         match self.row {
             FieldRow::LoadOwner { .. }
@@ -455,7 +395,7 @@ impl FieldPass {
 
     /// The reply; `None` until the part is over.
     pub fn reply(&self) -> Option<Reply>
-        ensures { result ≡ field_reply self.now }
+        ensures { result ≡ field_reply self.now.row }
     {
         match self.row {
             FieldRow::Answered { reply } => Some(reply),

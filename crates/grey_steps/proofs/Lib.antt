@@ -3,3 +3,4 @@ pub mod Marking
 pub mod Ends
 pub mod Tricolours
 pub mod Solids
+pub mod Together

@@ -6,14 +6,16 @@ use Rattle.block_store.specs.Colours.{is_grey, white_word, black_word}
 use Rattle.block_store.proofs.ColourWords.{not_grey_white, not_grey_black}
 use Rattle.block_store.specs.Heaps.{Heap, put_at}
 use Rattle.block_store.specs.Payloads.{target}
-use Rattle.block_store.specs.Places.{GreyList, ColourOf, PayloadOf}
+use Rattle.block_store.specs.Widths.{payloads}
+use Rattle.block_store.specs.Places.{extent, GreyList, ColourOf, PayloadOf}
 use Rattle.heap_machine.specs.Counts.{changed}
 use Rattle.heap_machine.specs.Grey.{GreyHolding, no_grey, GreyKept}
+use Rattle.heap_machine.specs.Holdings.{grey_held}
 use Rattle.heap_machine.specs.Operations.{place_of, heap_after}
 use Rattle.heap_machine.proofs.GreyEvents.{own_empty, stays, lets_go, takes, puts, pops, shades, blackens}
 use Rattle.grey_steps.specs.declared.rows.GreyRow.{GreyRow}
 use Rattle.grey_steps.specs.declared.rows.GreyRow.TheVariants.{Take, Pop, ScanWord, Shade, Blacken, Put, Scanned, NothingGrey, TakeOwn, ShadeStored, PutOwn, Shaded}
-use Rattle.grey_steps.specs.Rows.{GreyState, list_of, row_want, row_got, after_word, after_take, after_scan, after_black, after_stored, shaded_hand, grey_want, grey_got, grey_holding}
+use Rattle.grey_steps.specs.Rows.{GreyState, list_of, row_want, row_got, after_word, after_take, after_scan, after_black, after_stored, shaded_hand, grey_want, grey_got, grey_holding, holding_at}
 use Rattle.grey_steps.specs.Fits.{RowFits, GreyFits}
 
 pub own_first : (t n : ℕ) → t < n → list_of t n 0 ≡ t
@@ -31,27 +33,31 @@ scans x a = record { hand = a; scan = Some x; emptied = true }
 abbrev holds : ℕ → GreyHolding
 holds a = record { hand = a; scan = None; emptied = true }
 
-word_holding : (x j a : ℕ) → grey_holding (after_word x j a) ≡ scans x a
-word_holding x j a = elim (cases_Bool (ltb (j + 1) 4)) [ inl is ↦ rw is refl | inr is ↦ rw is refl ]
+-- what it holds of the grey blocks, where a block has m payloads
+abbrev pub held_grey : ℕ → GreyRow → GreyHolding
+held_grey m r = grey_held (grey_holding m r)
 
-scan_holding : (x j a y : ℕ) → grey_holding (after_scan x j a y) ≡ scans x a
-scan_holding x j a y = elim (cases_Bool (eqb y 0)) [ inl is ↦ rw is (word_holding x j a) | inr is ↦ rw is refl ]
+word_holding : (m x j a : ℕ) → held_grey m (after_word m x j a) ≡ scans x a
+word_holding m x j a = elim (cases_Bool (ltb (j + 1) m)) [ inl is ↦ rw is refl | inr is ↦ rw is refl ]
 
-module _ (n : ℕ) (h : Heap) (hs : ℕ → GreyHolding) (k : GreyKept n h hs) (t c : ℕ) (low : t < n) where
+scan_holding : (m x j a y : ℕ) → held_grey m (after_scan m x j a y) ≡ scans x a
+scan_holding m x j a y = elim (cases_Bool (eqb y 0)) [ inl is ↦ rw is (word_holding m x j a) | inr is ↦ rw is refl ]
+
+module _ (m n : ℕ) (h : Heap) (hs : ℕ → GreyHolding) (k : GreyKept n h hs) (t c : ℕ) (low : t < n) where
   -- its own list is the first that it takes
-  took : (u : ℕ) (w : GreyHolding) → hs t ≡ grey_holding (Take u) → w.emptied ≡ true → put_at h (GreyList (list_of t n u)) 0 (GreyList t) ≡ 0
+  took : (u : ℕ) (w : GreyHolding) → hs t ≡ held_grey m (Take u) → w.emptied ≡ true → put_at h (GreyList (list_of t n u)) 0 (GreyList t) ≡ 0
   took u w e is = elim (cases_eq (list_of t n u) t) [
     | inl same ↦ rw (eq-eqb (list_of t n u) t same) refl
     | inr away ↦
         let pos : u ≡ 0 → ⊥ = λ z. away (ap (list_of t n) z ∙ own_first t n low) in
         let some : ltb 0 u ≡ true = lt-ltb 0 u (omega arith) in
-        rw (ne_eqb (list_of t n u) t away) (own_empty n h hs k t low (grey_holding (Take u)) e some)
+        rw (ne_eqb (list_of t n u) t away) (own_empty n h hs k t low (held_grey m (Take u)) e some)
   ]
 
-  takes_on : (u : ℕ) (r : GreyRow) → hs t ≡ grey_holding (Take u) → (grey_holding r).scan ≡ None → (grey_holding r).hand ≡ h (GreyList (list_of t n u)) → GreyKept n (put_at h (GreyList (list_of t n u)) 0) (changed hs t (grey_holding r))
-  takes_on u r e scan hand = takes n h hs k t low (list_of t n u) (grey_holding (Take u)) (grey_holding r) (list_low t n u low) e refl refl scan hand (took u (grey_holding r) e)
+  takes_on : (u : ℕ) (r : GreyRow) → hs t ≡ held_grey m (Take u) → (held_grey m r).scan ≡ None → (held_grey m r).hand ≡ h (GreyList (list_of t n u)) → GreyKept n (put_at h (GreyList (list_of t n u)) 0) (changed hs t (held_grey m r))
+  takes_on u r e scan hand = takes n h hs k t low (list_of t n u) (held_grey m (Take u)) (held_grey m r) (list_low t n u low) e refl refl scan hand (took u (held_grey m r) e)
 
-  take_step : (u : ℕ) → hs t ≡ grey_holding (Take u) → GreyKept n (put_at h (GreyList (list_of t n u)) 0) (changed hs t (grey_holding (after_take n u (h (GreyList (list_of t n u))))))
+  take_step : (u : ℕ) → hs t ≡ held_grey m (Take u) → GreyKept n (put_at h (GreyList (list_of t n u)) 0) (changed hs t (held_grey m (after_take n u (h (GreyList (list_of t n u))))))
   take_step u e = elim (cases_Bool (eqb (h (GreyList (list_of t n u))) 0)) [
     | inl none ↦
         let z = sym (eqb-true (h (GreyList (list_of t n u))) 0 none) in
@@ -65,13 +71,13 @@ module _ (n : ℕ) (h : Heap) (hs : ℕ → GreyHolding) (k : GreyKept n h hs) (
   white_is_not_grey : (y : ℕ) → eqb (h (ColourOf y)) (white_word c) ≡ true → is_grey (h (ColourOf y)) ≡ false
   white_is_not_grey y is = ap is_grey (eqb-true (h (ColourOf y)) (white_word c) is) ∙ not_grey_white c
 
-  shade_step : (x j y a : ℕ) → (y ≡ 0 → ⊥) → hs t ≡ scans x a → GreyKept n (heap_after h (row_want t n c (Shade x j y a))) (changed hs t (grey_holding (after_word x j (shaded_hand c y a (h (ColourOf y))))))
-  shade_step x j y a ne e = rw (word_holding x j (shaded_hand c y a (h (ColourOf y)))) (elim (cases_Bool (eqb (h (ColourOf y)) (white_word c))) [
+  shade_step : (x j y a : ℕ) → (y ≡ 0 → ⊥) → hs t ≡ scans x a → GreyKept n (heap_after h (row_want t n c (Shade x j y a))) (changed hs t (held_grey m (after_word m x j (shaded_hand c y a (h (ColourOf y))))))
+  shade_step x j y a ne e = rw (word_holding m x j (shaded_hand c y a (h (ColourOf y)))) (elim (cases_Bool (eqb (h (ColourOf y)) (white_word c))) [
     | inl is ↦ rw is (shades n h hs k t low (Some x) y a ne (white_is_not_grey y is) e)
     | inr is ↦ rw is (stays n h hs k t low (scans x a) e)
   ])
 
-  stored_step : (y a : ℕ) → (y ≡ 0 → ⊥) → hs t ≡ holds a → GreyKept n (heap_after h (row_want t n c (ShadeStored y a))) (changed hs t (grey_holding (after_stored y (shaded_hand c y a (h (ColourOf y))))))
+  stored_step : (y a : ℕ) → (y ≡ 0 → ⊥) → hs t ≡ holds a → GreyKept n (heap_after h (row_want t n c (ShadeStored y a))) (changed hs t (held_grey m (after_stored y (shaded_hand c y a (h (ColourOf y))))))
   stored_step y a ne e = elim (cases_Bool (eqb (h (ColourOf y)) (white_word c))) [
     | inl is ↦ (let g = shades n h hs k t low None y a ne (white_is_not_grey y is) e in rw (is, ne_eqb y 0 ne) g)
     | inr is ↦ elim (cases_eq a 0) [
@@ -80,7 +86,7 @@ module _ (n : ℕ) (h : Heap) (hs : ℕ → GreyHolding) (k : GreyKept n h hs) (
     ]
   ]
 
-  black_step : (x a : ℕ) → hs t ≡ scans x a → GreyKept n (put_at h (ColourOf x) (black_word c)) (changed hs t (grey_holding (after_black a)))
+  black_step : (x a : ℕ) → hs t ≡ scans x a → GreyKept n (put_at h (ColourOf x) (black_word c)) (changed hs t (held_grey m (after_black a)))
   black_step x a e = elim (cases_eq a 0) [
     | inl z ↦ (let g = blackens n h hs k t low x a (black_word c) no_grey (not_grey_black c) e refl (sym z) in rw (eq-eqb a 0 z) g)
     | inr nz ↦ (let g = blackens n h hs k t low x a (black_word c) (holds a) (not_grey_black c) e refl refl in rw (ne_eqb a 0 nz) g)
@@ -89,10 +95,10 @@ module _ (n : ℕ) (h : Heap) (hs : ℕ → GreyHolding) (k : GreyKept n h hs) (
   own_step : (y : ℕ) → hs t ≡ no_grey → GreyKept n (put_at h (GreyList t) 0) (changed hs t (holds (h (GreyList t))))
   own_step y e = takes n h hs k t low t no_grey (holds (h (GreyList t))) low e refl refl refl refl (λ _. rw (eq-eqb t t refl) refl)
 
-  row_keeps : (g : Config) (r : GreyRow) → RowFits g r → hs t ≡ grey_holding r → GreyKept n (heap_after h (row_want t n c r)) (changed hs t (grey_holding (row_got n c r (h (place_of (row_want t n c r))))))
+  row_keeps : (g : Config) (r : GreyRow) → RowFits g r → hs t ≡ held_grey m r → GreyKept n (heap_after h (row_want t n c r)) (changed hs t (held_grey m (row_got m n c r (h (place_of (row_want t n c r))))))
   row_keeps g (Take u) f e = take_step u e
   row_keeps g (Pop a) f e = pops n h hs k t low a (λ z. omega (arith, f.0)) e
-  row_keeps g (ScanWord x j a) f e = rw (scan_holding x j a (target (h (PayloadOf x j)))) (stays n h hs k t low (scans x a) e)
+  row_keeps g (ScanWord x j a) f e = rw (scan_holding m x j a (target (h (PayloadOf x j)))) (stays n h hs k t low (scans x a) e)
   row_keeps g (Shade x j y a) f e = shade_step x j y a (λ z. omega (arith, f.2.0)) e
   row_keeps g (Blacken x a) f e = black_step x a e
   row_keeps g (Put a) f e = puts n h hs k t low a e
@@ -103,7 +109,7 @@ module _ (n : ℕ) (h : Heap) (hs : ℕ → GreyHolding) (k : GreyKept n h hs) (
   row_keeps g (PutOwn y a) f e = puts n h hs k t low a e
   row_keeps g (Shaded y) f e = stays n h hs k t low no_grey e
 
-pub keeps : (c : Config) (h : Heap) (hs : ℕ → GreyHolding) (s : GreyState) → GreyFits c s → GreyKept c.threads h hs → hs s.thread ≡ grey_holding s.row → GreyKept c.threads (heap_after h (grey_want s)) (changed hs s.thread (grey_holding (grey_got s (h (place_of (grey_want s)))).row))
+pub keeps : (c : Config) (h : Heap) (hs : ℕ → GreyHolding) (s : GreyState) → GreyFits c s → GreyKept c.threads h hs → hs s.pass.thread ≡ grey_held (holding_at (extent c) s) → GreyKept c.threads (heap_after h (grey_want s)) (changed hs s.pass.thread (grey_held (holding_at (extent c) (grey_got (extent c) s (h (place_of (grey_want s)))))))
 keeps c h hs s f k e =
-    let old : GreyKept s.threads h hs = subst (λ n. GreyKept n h hs) (sym f.threads) k in
-    subst (λ n. GreyKept n (heap_after h (grey_want s)) (changed hs s.thread (grey_holding (grey_got s (h (place_of (grey_want s)))).row))) f.threads (row_keeps s.threads h hs old s.thread s.cycle f.thread c s.row f.row e)
+    let old : GreyKept s.pass.threads h hs = subst (λ n. GreyKept n h hs) (sym f.threads) k in
+    subst (λ n. GreyKept n (heap_after h (grey_want s)) (changed hs s.pass.thread (grey_held (holding_at (extent c) (grey_got (extent c) s (h (place_of (grey_want s)))))))) f.threads (row_keeps (payloads c.width) s.pass.threads h hs old s.pass.thread s.pass.cycle f.thread c s.row f.row e)

@@ -5,15 +5,17 @@ use Rattle.block_store.specs.declared.Config.{Config}
 use Rattle.block_store.specs.Colours.{kind, is_free, is_grey, grey_word, white_word, black_word}
 use Rattle.block_store.proofs.ColourWords.{not_free_black, not_free_white, not_free_grey, grey_grey}
 use Rattle.block_store.specs.Heaps.{Heap, put_at}
-use Rattle.block_store.specs.Places.{GreyList, ColourOf}
+use Rattle.block_store.specs.Widths.{payloads}
+use Rattle.block_store.specs.Places.{Extent, extent, GreyList, ColourOf}
 use Rattle.heap_machine.specs.Grey.{GreyHolding, GreyKept}
+use Rattle.heap_machine.specs.Holdings.{grey_held}
 use Rattle.heap_machine.specs.Operations.{heap_after}
 use Rattle.heap_machine.specs.Solid.{SolidKept}
 use Rattle.heap_machine.proofs.GreyBlocks.{scan_is_grey}
 use Rattle.heap_machine.proofs.Solids.{solid_colour, solid_place}
 use Rattle.grey_steps.specs.declared.rows.GreyRow.{GreyRow}
 use Rattle.grey_steps.specs.declared.rows.GreyRow.TheVariants.{Take, Pop, ScanWord, Shade, Blacken, Put, Scanned, NothingGrey, TakeOwn, ShadeStored, PutOwn, Shaded}
-use Rattle.grey_steps.specs.Rows.{GreyState, list_of, row_want, grey_want, grey_holding}
+use Rattle.grey_steps.specs.Rows.{GreyState, list_of, row_want, grey_want, grey_holding, holding_at}
 use Rattle.grey_steps.specs.Fits.{GreyFits}
 
 grey_or_free : (w : ℕ) → is_grey w ≡ true → is_free w ≡ true → ⊥
@@ -22,36 +24,35 @@ grey_or_free w g f = omega (arith, eqb-true (kind w) 3 g, eqb-true (kind w) 0 f)
 white_or_free : (c w : ℕ) → eqb w (white_word c) ≡ true → is_free w ≡ true → ⊥
 white_or_free c w is free = let q : true ≡ false = sym free ∙ ap is_free (eqb-true w (white_word c) is) ∙ not_free_white c in cc
 
-module _ (n c : ℕ) (h : Heap) (hs : ℕ → GreyHolding) (grey : GreyKept n h hs) (t : ℕ) (low : t < n) (k : SolidKept n c h) where
+module _ (e : Extent) (n c : ℕ) (h : Heap) (hs : ℕ → GreyHolding) (grey : GreyKept e.threads h hs) (t : ℕ) (low : t < e.threads) (k : SolidKept e c h) where
   -- a white block becomes grey
-  greys : (y a : ℕ) → SolidKept n c (heap_after h (row_want t n c (ShadeStored y a)))
+  greys : (y a : ℕ) → SolidKept e c (heap_after h (row_want t n c (ShadeStored y a)))
   greys y a = elim (cases_Bool (eqb (h (ColourOf y)) (white_word c))) [
-    | inl is ↦ rw is (solid_colour n c h y (grey_word a) (not_free_grey a) (λ free. absurd (white_or_free c (h (ColourOf y)) is free)) (λ u l e. inl (grey_grey a)) k)
+    | inl is ↦ rw is (solid_colour e c h y (grey_word a) (not_free_grey a) (λ free. absurd (white_or_free c (h (ColourOf y)) is free)) (λ u l q. inl (grey_grey a)) k)
     | inr is ↦ rw is k
   ]
 
   -- the block under scan becomes black
-  blackens : (x a : ℕ) → hs t ≡ grey_holding (Blacken x a) → SolidKept n c (put_at h (ColourOf x) (black_word c))
-  blackens x a e =
-      let is : is_grey (h (ColourOf x)) ≡ true = scan_is_grey n h hs grey t x low (ap (λ (w : GreyHolding). w.scan) e) in
-      solid_colour n c h x (black_word c) (not_free_black c) (λ free. absurd (grey_or_free (h (ColourOf x)) is free)) (λ u l q. inr refl) k
+  blackens : (x a : ℕ) → hs t ≡ grey_held (grey_holding (payloads e.width) (Blacken x a)) → SolidKept e c (put_at h (ColourOf x) (black_word c))
+  blackens x a is_held =
+      let is : is_grey (h (ColourOf x)) ≡ true = scan_is_grey e.threads h hs grey t x low (ap (λ (w : GreyHolding). w.scan) is_held) in
+      solid_colour e c h x (black_word c) (not_free_black c) (λ free. absurd (grey_or_free (h (ColourOf x)) is free)) (λ u l q. inr refl) k
 
-  row_keeps : (r : GreyRow) → hs t ≡ grey_holding r → SolidKept n c (heap_after h (row_want t n c r))
-  row_keeps (Take u) e = solid_place n c h (GreyList (list_of t n u)) 0 refl k
-  row_keeps (Pop a) e = k
-  row_keeps (ScanWord x j a) e = k
-  row_keeps (Shade x j y a) e = greys y a
-  row_keeps (Blacken x a) e = blackens x a e
-  row_keeps (Put a) e = solid_place n c h (GreyList t) a refl k
-  row_keeps Scanned e = k
-  row_keeps NothingGrey e = k
-  row_keeps (TakeOwn y) e = solid_place n c h (GreyList t) 0 refl k
-  row_keeps (ShadeStored y a) e = greys y a
-  row_keeps (PutOwn y a) e = solid_place n c h (GreyList t) a refl k
-  row_keeps (Shaded y) e = k
+  row_keeps : (r : GreyRow) → hs t ≡ grey_held (grey_holding (payloads e.width) r) → SolidKept e c (heap_after h (row_want t n c r))
+  row_keeps (Take u) is_held = solid_place e c h (GreyList (list_of t n u)) 0 refl k
+  row_keeps (Pop a) is_held = k
+  row_keeps (ScanWord x j a) is_held = k
+  row_keeps (Shade x j y a) is_held = greys y a
+  row_keeps (Blacken x a) is_held = blackens x a is_held
+  row_keeps (Put a) is_held = solid_place e c h (GreyList t) a refl k
+  row_keeps Scanned is_held = k
+  row_keeps NothingGrey is_held = k
+  row_keeps (TakeOwn y) is_held = solid_place e c h (GreyList t) 0 refl k
+  row_keeps (ShadeStored y a) is_held = greys y a
+  row_keeps (PutOwn y a) is_held = solid_place e c h (GreyList t) a refl k
+  row_keeps (Shaded y) is_held = k
 
-pub keeps_solid : (c : Config) (h : Heap) (hs : ℕ → GreyHolding) (s : GreyState) → GreyFits c s → GreyKept c.threads h hs → hs s.thread ≡ grey_holding s.row → SolidKept c.threads s.cycle h → SolidKept c.threads s.cycle (heap_after h (grey_want s))
-keeps_solid c h hs s f grey e k =
-    let old : GreyKept s.threads h hs = subst (λ n. GreyKept n h hs) (sym f.threads) grey in
-    let solid : SolidKept s.threads s.cycle h = subst (λ n. SolidKept n s.cycle h) (sym f.threads) k in
-    subst (λ n. SolidKept n s.cycle (heap_after h (grey_want s))) f.threads (row_keeps s.threads s.cycle h hs old s.thread f.thread solid s.row e)
+pub keeps_solid : (c : Config) (h : Heap) (hs : ℕ → GreyHolding) (s : GreyState) → GreyFits c s → GreyKept c.threads h hs → hs s.pass.thread ≡ grey_held (holding_at (extent c) s) → SolidKept (extent c) s.pass.cycle h → SolidKept (extent c) s.pass.cycle (heap_after h (grey_want s))
+keeps_solid c h hs s f grey is_held k =
+    let low : s.pass.thread < c.threads = subst (λ n. s.pass.thread < n) f.threads f.thread in
+    row_keeps (extent c) s.pass.threads s.pass.cycle h hs grey s.pass.thread low k s.row is_held

@@ -1,5 +1,6 @@
 -- Which event is a unit of marking, and what was read where a part has found nothing.
 use Rattle.std.specs.Prelude.{ℕ, zero, suc, ◌==◌, ◌&&◌, Bool, true, false, List, [], ◌∷◌}
+use Rattle.block_store.specs.Places.{Extent}
 use Rattle.grey_steps.specs.declared.rows.GreyRow.{GreyRow}
 use Rattle.grey_steps.specs.declared.rows.GreyRow.TheVariants.{Blacken, Put, PutOwn}
 use Rattle.grey_steps.specs.Rows.{GreyState, grey_got}
@@ -16,9 +17,9 @@ is_putting (PutOwn y hand) = true
 is_putting _ = false
 
 -- the state after events that read these words, in this order
-abbrev pub grey_after : GreyState → List ℕ → GreyState
-grey_after s [] = s
-grey_after s (w ∷ ws) = grey_after (grey_got s w) ws
+abbrev pub grey_after : Extent → GreyState → List ℕ → GreyState
+grey_after e s [] = s
+grey_after e s (w ∷ ws) = grey_after e (grey_got e s w) ws
 
 -- the first n words are there, and each is 0
 abbrev pub begins_with_zeros : ℕ → List ℕ → Bool

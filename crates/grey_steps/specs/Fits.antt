@@ -1,7 +1,7 @@
 -- The ranges of the numbers in a row, and the words that it may read.
 use Rattle.std.specs.Prelude.{ℕ, ◌<◌, ◌≤◌, ◌≡◌}
 use Rattle.block_store.specs.declared.Config.{Config}
-use Rattle.block_store.specs.declared.TheConstants.{PAYLOADS}
+use Rattle.block_store.specs.Widths.{payloads}
 use Rattle.block_store.specs.Places.{extent, IsBlock}
 use Rattle.heap_machine.specs.Operations.{place_of}
 use Rattle.heap_machine.specs.Readings.{CanHold}
@@ -13,8 +13,8 @@ use Rattle.grey_steps.specs.Rows.{GreyState, grey_want}
 abbrev pub RowFits : Config → GreyRow → Type 0
 RowFits c (Take u) = u < c.threads
 RowFits c (Pop hand) = IsBlock c hand
-RowFits c (ScanWord x j hand) = IsBlock c x × (j < PAYLOADS) × (hand ≤ c.blocks)
-RowFits c (Shade x j y hand) = IsBlock c x × (j < PAYLOADS) × IsBlock c y × (hand ≤ c.blocks)
+RowFits c (ScanWord x j hand) = IsBlock c x × (j < payloads c.width) × (hand ≤ c.blocks)
+RowFits c (Shade x j y hand) = IsBlock c x × (j < payloads c.width) × IsBlock c y × (hand ≤ c.blocks)
 RowFits c (Blacken x hand) = IsBlock c x × (hand ≤ c.blocks)
 RowFits c (Put hand) = IsBlock c hand
 RowFits c Scanned = Unit {0}
@@ -26,10 +26,10 @@ RowFits c (Shaded y) = IsBlock c y
 
 -- the heap has the state's threads, at most 16, of which this is one, and at most 65,535 blocks; the row's numbers are in range
 pub record GreyFits (c : Config) (s : GreyState) : Type 0 where
-  pub threads : s.threads ≡ c.threads
-  pub few : s.threads ≤ 16
+  pub threads : s.pass.threads ≡ c.threads
+  pub few : s.pass.threads ≤ 16
   pub blocks : c.blocks ≤ 65535
-  pub thread : s.thread < s.threads
+  pub thread : s.pass.thread < s.pass.threads
   pub row : RowFits c s.row
 
 -- the words that a row may read: those that the wanted place can hold

@@ -1,21 +1,20 @@
 -- Marking, as rows of one event each: a thread scans one grey block, or makes one block grey to which a command is about to store a reference. What each row wants, and what it becomes on the word that it read.
-use Rattle.std.specs.Prelude.{ℕ, ◌+◌, ◌%◌, ◌==◌, nat_lt, Bool, true, false, if◌then◌else◌, Some, None}
+use Rattle.std.specs.Prelude.{ℕ, ◌+◌, ◌%◌, ◌==◌, nat_lt, Bool, true, false, if◌then◌else◌, Some}
 use Rattle.block_store.specs.Colours.{link, grey_word, black_word, white_word}
 use Rattle.block_store.specs.Payloads.{target}
-use Rattle.block_store.specs.Places.{Phase, GreyList, ColourOf, PayloadOf}
-use Rattle.block_store.specs.declared.TheConstants.{PAYLOADS}
-use Rattle.heap_machine.specs.Grey.{GreyHolding, no_grey}
+use Rattle.block_store.specs.Widths.{payloads}
+use Rattle.block_store.specs.Places.{Extent, Phase, GreyList, ColourOf, PayloadOf}
+use Rattle.heap_machine.specs.Holdings.{Holding, holds_nothing}
 use Rattle.heap_machine.specs.Operations.{Operation, Load, Exchange, CompareExchange}
+use Rattle.heap_machine.specs.declared.pass.Pass.{Pass}
 use Rattle.heap_machine.specs.declared.Step.{Step}
 use Rattle.heap_machine.specs.declared.Step.TheVariants.{Went, Over}
 use Rattle.grey_steps.specs.declared.rows.GreyRow.{GreyRow}
 use Rattle.grey_steps.specs.declared.rows.GreyRow.TheVariants.{Take, Pop, ScanWord, Shade, Blacken, Put, Scanned, NothingGrey, TakeOwn, ShadeStored, PutOwn, Shaded}
 
--- a thread that marks: its number, the number of all threads, the cycle in whose colours it marks, and its row
+-- a thread that marks: its pass, in the colours of whose cycle it marks, and its row
 pub record GreyState : Type 0 where
-  pub thread : ℕ
-  pub threads : ℕ
-  pub cycle : ℕ
+  pub pass : Pass
   pub row : GreyRow
 
 -- the list that thread t of n takes as the u-th, from 0: the first is its own
@@ -41,13 +40,13 @@ row_want t n c (Shaded y) = Load Phase
 abbrev pub after_take : ℕ → ℕ → ℕ → GreyRow
 after_take n u w = if w == 0 then (if nat_lt (u + 1) n then Take (u + 1) else NothingGrey) else Pop w
 
--- after payload j of block x was dealt with
-abbrev pub after_word : ℕ → ℕ → ℕ → GreyRow
-after_word x j hand = if nat_lt (j + 1) PAYLOADS then ScanWord x (j + 1) hand else Blacken x hand
+-- after payload j of block x was dealt with, of as many as a block has
+abbrev pub after_word : ℕ → ℕ → ℕ → ℕ → GreyRow
+after_word width x j hand = if nat_lt (j + 1) width then ScanWord x (j + 1) hand else Blacken x hand
 
 -- after payload j of block x, which refers to block y, or to none where y is 0
-abbrev pub after_scan : ℕ → ℕ → ℕ → ℕ → GreyRow
-after_scan x j hand y = if y == 0 then after_word x j hand else Shade x j y hand
+abbrev pub after_scan : ℕ → ℕ → ℕ → ℕ → ℕ → GreyRow
+after_scan width x j hand y = if y == 0 then after_word width x j hand else Shade x j y hand
 
 -- the hand after block y, whose colour was w, was to become grey: only a white block did
 abbrev pub shaded_hand : ℕ → ℕ → ℕ → ℕ → ℕ
@@ -61,26 +60,26 @@ after_black hand = if hand == 0 then Scanned else Put hand
 abbrev pub after_stored : ℕ → ℕ → GreyRow
 after_stored y hand = if hand == 0 then Shaded y else PutOwn y hand
 
--- the row after it, where it read w
-abbrev pub row_got : ℕ → ℕ → GreyRow → ℕ → GreyRow
-row_got n c (Take u) w = after_take n u w
-row_got n c (Pop hand) w = ScanWord hand 0 (link w)
-row_got n c (ScanWord x j hand) w = after_scan x j hand (target w)
-row_got n c (Shade x j y hand) w = after_word x j (shaded_hand c y hand w)
-row_got n c (Blacken x hand) w = after_black hand
-row_got n c (Put hand) w = Scanned
-row_got n c Scanned w = Scanned
-row_got n c NothingGrey w = NothingGrey
-row_got n c (TakeOwn y) w = ShadeStored y w
-row_got n c (ShadeStored y hand) w = after_stored y (shaded_hand c y hand w)
-row_got n c (PutOwn y hand) w = Shaded y
-row_got n c (Shaded y) w = Shaded y
+-- the row after it, where it read w and a block has this many payloads
+abbrev pub row_got : ℕ → ℕ → ℕ → GreyRow → ℕ → GreyRow
+row_got width n c (Take u) w = after_take n u w
+row_got width n c (Pop hand) w = ScanWord hand 0 (link w)
+row_got width n c (ScanWord x j hand) w = after_scan width x j hand (target w)
+row_got width n c (Shade x j y hand) w = after_word width x j (shaded_hand c y hand w)
+row_got width n c (Blacken x hand) w = after_black hand
+row_got width n c (Put hand) w = Scanned
+row_got width n c Scanned w = Scanned
+row_got width n c NothingGrey w = NothingGrey
+row_got width n c (TakeOwn y) w = ShadeStored y w
+row_got width n c (ShadeStored y hand) w = after_stored y (shaded_hand c y hand w)
+row_got width n c (PutOwn y hand) w = Shaded y
+row_got width n c (Shaded y) w = Shaded y
 
 abbrev pub grey_want : GreyState → Operation
-grey_want s = row_want s.thread s.threads s.cycle s.row
+grey_want s = row_want s.pass.thread s.pass.threads s.pass.cycle s.row
 
-abbrev pub grey_got : GreyState → ℕ → GreyState
-grey_got s w = record { thread = s.thread; threads = s.threads; cycle = s.cycle; row = row_got s.threads s.cycle s.row w }
+abbrev pub grey_got : Extent → GreyState → ℕ → GreyState
+grey_got e s w = record { pass = s.pass; row = row_got (payloads e.width) s.pass.threads s.pass.cycle s.row w }
 
 -- the ends
 abbrev pub grey_over : GreyRow → Bool
@@ -90,8 +89,8 @@ grey_over (Shaded y) = true
 grey_over _ = false
 
 -- no row waits, and the event that leads to an end is the last
-abbrev pub grey_step : GreyState → ℕ → Step
-grey_step s w = if grey_over (grey_got s w).row then Over else Went
+abbrev pub grey_step : Extent → GreyState → ℕ → Step
+grey_step e s w = if grey_over (grey_got e s w).row then Over else Went
 
 -- the rows behind the event that makes a block black
 abbrev pub grey_unit : GreyRow → Bool
@@ -104,24 +103,28 @@ abbrev pub grey_nothing : GreyRow → Bool
 grey_nothing NothingGrey = true
 grey_nothing _ = false
 
--- the first states: thread t of n scans one grey block; it makes block y grey
-abbrev pub scanning : ℕ → ℕ → ℕ → GreyState
-scanning t n c = record { thread = t; threads = n; cycle = c; row = Take 0 }
+-- the first states: the thread of this pass scans one grey block; it makes block y grey
+abbrev pub scanning : Pass → GreyState
+scanning p = record { pass = p; row = Take 0 }
 
-abbrev pub shading : ℕ → ℕ → ℕ → ℕ → GreyState
-shading t n c y = record { thread = t; threads = n; cycle = c; row = TakeOwn y }
+abbrev pub shading : Pass → ℕ → GreyState
+shading p y = record { pass = p; row = TakeOwn y }
 
--- what the thread holds before the event of a row: its own list is the first that it takes
-abbrev pub grey_holding : GreyRow → GreyHolding
-grey_holding (Take u) = record { hand = 0; scan = None; emptied = nat_lt 0 u }
-grey_holding (Pop hand) = record { hand = hand; scan = None; emptied = true }
-grey_holding (ScanWord x j hand) = record { hand = hand; scan = Some x; emptied = true }
-grey_holding (Shade x j y hand) = record { hand = hand; scan = Some x; emptied = true }
-grey_holding (Blacken x hand) = record { hand = hand; scan = Some x; emptied = true }
-grey_holding (Put hand) = record { hand = hand; scan = None; emptied = true }
-grey_holding Scanned = no_grey
-grey_holding NothingGrey = no_grey
-grey_holding (TakeOwn y) = no_grey
-grey_holding (ShadeStored y hand) = record { hand = hand; scan = None; emptied = true }
-grey_holding (PutOwn y hand) = record { hand = hand; scan = None; emptied = true }
-grey_holding (Shaded y) = no_grey
+-- what the thread holds before the event of a row, where a block has this many payloads. Its own list is the first that it takes; and from the event that made a block grey before a
+-- store, or found it not white, the barrier of that block is over
+abbrev pub grey_holding : ℕ → GreyRow → Holding
+grey_holding width (Take u) = record holds_nothing { emptied = nat_lt 0 u }
+grey_holding width (Pop hand) = record holds_nothing { hand = hand; emptied = true }
+grey_holding width (ScanWord x j hand) = record holds_nothing { hand = hand; emptied = true; scan = Some x; dealt = j }
+grey_holding width (Shade x j y hand) = record holds_nothing { hand = hand; emptied = true; scan = Some x; dealt = j; found = y }
+grey_holding width (Blacken x hand) = record holds_nothing { hand = hand; emptied = true; scan = Some x; dealt = width }
+grey_holding width (Put hand) = record holds_nothing { hand = hand; emptied = true }
+grey_holding width Scanned = holds_nothing
+grey_holding width NothingGrey = holds_nothing
+grey_holding width (TakeOwn y) = holds_nothing
+grey_holding width (ShadeStored y hand) = record holds_nothing { hand = hand; emptied = true }
+grey_holding width (PutOwn y hand) = record holds_nothing { hand = hand; emptied = true; shaded = y }
+grey_holding width (Shaded y) = record holds_nothing { shaded = y }
+
+abbrev pub holding_at : Extent → GreyState → Holding
+holding_at e s = grey_holding (payloads e.width) s.row

@@ -2,29 +2,31 @@
 
 ghost use Rattle.std.specs.Prelude.{◌≡◌, ◌≢◌, ◌<◌, ◌≤◌, ◌||◌, ℕ, List, length, true, false, Some};
 ghost use Rattle.block_store.specs.declared.Config.{Config};
-ghost use Rattle.block_store.specs.declared.TheConstants.{PAYLOADS};
 ghost use Rattle.block_store.specs.Colours.{is_grey, black_word, white_word};
 ghost use Rattle.block_store.specs.Heaps.{Heap};
-ghost use Rattle.block_store.specs.Places.{extent, in_range, GreyList, ColourOf, PayloadOf, IsBlock};
+ghost use Rattle.block_store.specs.Widths.{payloads};
+ghost use Rattle.block_store.specs.Places.{Extent, extent, in_range, GreyList, ColourOf, PayloadOf, IsBlock};
 ghost use Rattle.block_store.specs.Payloads.{target};
 ghost use Rattle.heap_machine.specs.Counts.{changed};
 ghost use Rattle.heap_machine.specs.Grey.{GreyHolding, no_grey, GreyKept};
 ghost use Rattle.heap_machine.specs.Tricolour.{TricolourHolding, no_tricolour, TricolourKept};
 ghost use Rattle.heap_machine.specs.Solid.{SolidKept};
+ghost use Rattle.heap_machine.specs.Holdings.{Holding, grey_held, tricolour_held};
+ghost use Rattle.heap_machine.specs.HeapKept.{HeapKept};
+ghost use Rattle.heap_machine.specs.declared.pass.Pass.{Pass};
 ghost use Rattle.heap_machine.specs.Operations.{Exchange, place_of, heap_after, Fits};
 ghost use Rattle.heap_machine.specs.Readings.{StoresHeld};
-ghost use Rattle.grey_steps.specs.Rows.{GreyState, list_of, grey_want, grey_got, grey_over, grey_unit, grey_nothing, grey_holding, scanning, shading};
+ghost use Rattle.grey_steps.specs.Rows.{GreyState, list_of, grey_want, grey_got, grey_over, grey_unit, grey_nothing, holding_at, scanning, shading};
 ghost use Rattle.grey_steps.specs.Fits.{GreyFits, GreyReads};
-ghost use Rattle.grey_steps.specs.TricolourHoldings.{tricolour_holding};
 ghost use Rattle.grey_steps.specs.declared.rows.GreyRow.TheVariants.{Shaded};
 ghost use Rattle.grey_steps.specs.Ends.{is_blackening, is_putting, grey_after, begins_with_zeros};
 
 /// The first states fit their heap, and a state that fits becomes one that fits. Such a state wants a
 /// place of the heap, adds and takes away nothing, and stores what the place can hold.
 pub fn rows_stay_in_the_heap()
-    ensures scan { (c : Config) (t cycle : ℕ) → c.threads ≤ 16 → c.blocks ≤ 65535 → t < c.threads → GreyFits c (scanning t c.threads cycle) }
-    ensures shade { (c : Config) (t cycle x : ℕ) → c.threads ≤ 16 → c.blocks ≤ 65535 → t < c.threads → IsBlock c x → GreyFits c (shading t c.threads cycle x) }
-    ensures next { (c : Config) (s : GreyState) (w : ℕ) → GreyFits c s → GreyReads c s w → GreyFits c (grey_got s w) }
+    ensures scan { (c : Config) (p : Pass) → p.threads ≡ c.threads → p.threads ≤ 16 → c.blocks ≤ 65535 → p.thread < p.threads → GreyFits c (scanning p) }
+    ensures shade { (c : Config) (p : Pass) (x : ℕ) → p.threads ≡ c.threads → p.threads ≤ 16 → c.blocks ≤ 65535 → p.thread < p.threads → IsBlock c x → GreyFits c (shading p x) }
+    ensures next { (c : Config) (s : GreyState) (w : ℕ) → GreyFits c s → GreyReads c s w → GreyFits c (grey_got (extent c) s w) }
     ensures place { (c : Config) (s : GreyState) → GreyFits c s → in_range (extent c) (place_of (grey_want s)) ≡ true }
     ensures sum { (s : GreyState) (w : ℕ) → Fits (grey_want s) w }
     ensures stores { (c : Config) (s : GreyState) → GreyFits c s → StoresHeld c (grey_want s) }
@@ -34,11 +36,11 @@ pub fn rows_stay_in_the_heap()
 /// they held. A part begins and ends with nothing in hand, and where it puts a list, the list there is
 /// empty.
 pub fn rows_keep_grey()
-    ensures kept { (c : Config) (h : Heap) (hs : ℕ → GreyHolding) (s : GreyState) → GreyFits c s → GreyKept c.threads h hs → hs s.thread ≡ grey_holding s.row → GreyKept c.threads (heap_after h (grey_want s)) (changed hs s.thread (grey_holding (grey_got s (h (place_of (grey_want s)))).row)) }
-    ensures scan { (t n cycle : ℕ) → grey_holding (scanning t n cycle).row ≡ no_grey }
-    ensures shade { (t n cycle x : ℕ) → grey_holding (shading t n cycle x).row ≡ no_grey }
-    ensures over { (s : GreyState) → grey_over s.row ≡ true → grey_holding s.row ≡ no_grey }
-    ensures put { (c : Config) (h : Heap) (hs : ℕ → GreyHolding) (s : GreyState) → GreyFits c s → GreyKept c.threads h hs → hs s.thread ≡ grey_holding s.row → is_putting s.row ≡ true → (grey_want s ≡ Exchange (GreyList s.thread) (grey_holding s.row).hand) × (h (GreyList s.thread) ≡ 0) }
+    ensures kept { (c : Config) (h : Heap) (hs : ℕ → GreyHolding) (s : GreyState) → GreyFits c s → GreyKept c.threads h hs → hs s.pass.thread ≡ grey_held (holding_at (extent c) s) → GreyKept c.threads (heap_after h (grey_want s)) (changed hs s.pass.thread (grey_held (holding_at (extent c) (grey_got (extent c) s (h (place_of (grey_want s))))))) }
+    ensures scan { (e : Extent) (p : Pass) → grey_held (holding_at e (scanning p)) ≡ no_grey }
+    ensures shade { (e : Extent) (p : Pass) (x : ℕ) → grey_held (holding_at e (shading p x)) ≡ no_grey }
+    ensures over { (e : Extent) (s : GreyState) → grey_over s.row ≡ true → grey_held (holding_at e s) ≡ no_grey }
+    ensures put { (c : Config) (h : Heap) (hs : ℕ → GreyHolding) (s : GreyState) → GreyFits c s → GreyKept c.threads h hs → hs s.pass.thread ≡ grey_held (holding_at (extent c) s) → is_putting s.row ≡ true → (grey_want s ≡ Exchange (GreyList s.pass.thread) (holding_at (extent c) s).hand) × (h (GreyList s.pass.thread) ≡ 0) }
 {}
 
 /// Each event keeps the tricolour rule in the colours of its pass's cycle, while the other threads hold
@@ -46,39 +48,64 @@ pub fn rows_keep_grey()
 /// end that this block is not white, until its caller lets it go. Where a block becomes black none of
 /// its payloads refers to a white one.
 pub fn rows_keep_tricolour()
-    ensures kept { (c : Config) (h : Heap) (hs : ℕ → TricolourHolding) (s : GreyState) → GreyFits c s → TricolourKept c.threads s.cycle h hs → hs s.thread ≡ tricolour_holding s.row → TricolourKept c.threads s.cycle (heap_after h (grey_want s)) (changed hs s.thread (tricolour_holding (grey_got s (h (place_of (grey_want s)))).row)) }
-    ensures scan { (t n cycle : ℕ) → tricolour_holding (scanning t n cycle).row ≡ no_tricolour }
-    ensures shade { (t n cycle y : ℕ) → tricolour_holding (shading t n cycle y).row ≡ no_tricolour }
-    ensures scan_over { (t n cycle : ℕ) (ws : List ℕ) → grey_over (grey_after (scanning t n cycle) ws).row ≡ true → tricolour_holding (grey_after (scanning t n cycle) ws).row ≡ no_tricolour }
-    ensures shade_over { (t n cycle y : ℕ) (ws : List ℕ) → grey_over (grey_after (shading t n cycle y) ws).row ≡ true → (grey_after (shading t n cycle y) ws).row ≡ Shaded y }
-    ensures shaded { (c : Config) (h : Heap) (hs : ℕ → TricolourHolding) (s : GreyState) (y : ℕ) → GreyFits c s → TricolourKept c.threads s.cycle h hs → hs s.thread ≡ tricolour_holding s.row → s.row ≡ Shaded y → h (ColourOf y) ≢ white_word s.cycle }
-    ensures not_white { (c : Config) (h : Heap) (hs : ℕ → TricolourHolding) (t n cycle y : ℕ) (ws : List ℕ) (s : GreyState) → s ≡ grey_after (shading t n cycle y) ws → GreyFits c s → TricolourKept c.threads s.cycle h hs → hs s.thread ≡ tricolour_holding s.row → grey_over s.row ≡ true → h (ColourOf y) ≢ white_word s.cycle }
-    ensures black { (c : Config) (h : Heap) (hs : ℕ → TricolourHolding) (s : GreyState) (x j : ℕ) → GreyFits c s → TricolourKept c.threads s.cycle h hs → hs s.thread ≡ tricolour_holding s.row → is_blackening s.row ≡ true → (grey_holding s.row).scan ≡ Some x → j < PAYLOADS → target (h (PayloadOf x j)) ≢ 0 → h (ColourOf (target (h (PayloadOf x j)))) ≢ white_word s.cycle }
+    ensures kept { (c : Config) (h : Heap) (hs : ℕ → TricolourHolding) (s : GreyState) → GreyFits c s → TricolourKept (extent c) s.pass.cycle h hs → hs s.pass.thread ≡ tricolour_held (holding_at (extent c) s) → TricolourKept (extent c) s.pass.cycle (heap_after h (grey_want s)) (changed hs s.pass.thread (tricolour_held (holding_at (extent c) (grey_got (extent c) s (h (place_of (grey_want s))))))) }
+    ensures scan { (e : Extent) (p : Pass) → tricolour_held (holding_at e (scanning p)) ≡ no_tricolour }
+    ensures shade { (e : Extent) (p : Pass) (y : ℕ) → tricolour_held (holding_at e (shading p y)) ≡ no_tricolour }
+    ensures scan_over { (e : Extent) (p : Pass) (ws : List ℕ) → grey_over (grey_after e (scanning p) ws).row ≡ true → tricolour_held (holding_at e (grey_after e (scanning p) ws)) ≡ no_tricolour }
+    ensures shade_over { (e : Extent) (p : Pass) (y : ℕ) (ws : List ℕ) → grey_over (grey_after e (shading p y) ws).row ≡ true → (grey_after e (shading p y) ws).row ≡ Shaded y }
+    ensures shaded { (c : Config) (h : Heap) (hs : ℕ → TricolourHolding) (s : GreyState) (y : ℕ) → GreyFits c s → TricolourKept (extent c) s.pass.cycle h hs → hs s.pass.thread ≡ tricolour_held (holding_at (extent c) s) → s.row ≡ Shaded y → h (ColourOf y) ≢ white_word s.pass.cycle }
+    ensures not_white { (c : Config) (h : Heap) (hs : ℕ → TricolourHolding) (p : Pass) (y : ℕ) (ws : List ℕ) (s : GreyState) → s ≡ grey_after (extent c) (shading p y) ws → GreyFits c s → TricolourKept (extent c) s.pass.cycle h hs → hs s.pass.thread ≡ tricolour_held (holding_at (extent c) s) → grey_over s.row ≡ true → h (ColourOf y) ≢ white_word s.pass.cycle }
+    ensures black { (c : Config) (h : Heap) (hs : ℕ → TricolourHolding) (s : GreyState) (x j : ℕ) → GreyFits c s → TricolourKept (extent c) s.pass.cycle h hs → hs s.pass.thread ≡ tricolour_held (holding_at (extent c) s) → is_blackening s.row ≡ true → (holding_at (extent c) s).scan ≡ Some x → j < payloads c.width → target (h (PayloadOf x j)) ≢ 0 → h (ColourOf (target (h (PayloadOf x j)))) ≢ white_word s.pass.cycle }
 {}
 
 /// Each event keeps that no block that is not Free refers to a Free one, and that each root block is grey
 /// or black.
 pub fn rows_keep_solid()
-    ensures { (c : Config) (h : Heap) (hs : ℕ → GreyHolding) (s : GreyState) → GreyFits c s → GreyKept c.threads h hs → hs s.thread ≡ grey_holding s.row → SolidKept c.threads s.cycle h → SolidKept c.threads s.cycle (heap_after h (grey_want s)) }
+    ensures { (c : Config) (h : Heap) (hs : ℕ → GreyHolding) (s : GreyState) → GreyFits c s → GreyKept c.threads h hs → hs s.pass.thread ≡ grey_held (holding_at (extent c) s) → SolidKept (extent c) s.pass.cycle h → SolidKept (extent c) s.pass.cycle (heap_after h (grey_want s)) }
 {}
 
 /// A part is a unit exactly behind the event that makes the block under scan black, of which there is
 /// one at most. That block was grey.
 pub fn a_unit_is_a_blackening()
-    ensures scan { (t n cycle : ℕ) → grey_unit (scanning t n cycle).row ≡ false }
-    ensures shade { (t n cycle x : ℕ) → grey_unit (shading t n cycle x).row ≡ false }
-    ensures after { (s : GreyState) (w : ℕ) → grey_unit (grey_got s w).row ≡ (grey_unit s.row || is_blackening s.row) }
+    ensures scan { (p : Pass) → grey_unit (scanning p).row ≡ false }
+    ensures shade { (p : Pass) (x : ℕ) → grey_unit (shading p x).row ≡ false }
+    ensures after { (e : Extent) (s : GreyState) (w : ℕ) → grey_unit (grey_got e s w).row ≡ (grey_unit s.row || is_blackening s.row) }
     ensures once { (s : GreyState) → grey_unit s.row ≡ true → is_blackening s.row ≡ false }
-    ensures event { (s : GreyState) → is_blackening s.row ≡ true → (x : ℕ) × ((grey_holding s.row).scan ≡ Some x) × (grey_want s ≡ Exchange (ColourOf x) (black_word s.cycle)) }
-    ensures grey { (c : Config) (h : Heap) (hs : ℕ → GreyHolding) (s : GreyState) (x : ℕ) → GreyFits c s → GreyKept c.threads h hs → hs s.thread ≡ grey_holding s.row → is_blackening s.row ≡ true → (grey_holding s.row).scan ≡ Some x → (is_grey (h (ColourOf x)) ≡ true) × (heap_after h (grey_want s) (ColourOf x) ≡ black_word s.cycle) }
+    ensures event { (e : Extent) (s : GreyState) → is_blackening s.row ≡ true → (x : ℕ) × ((holding_at e s).scan ≡ Some x) × (grey_want s ≡ Exchange (ColourOf x) (black_word s.pass.cycle)) }
+    ensures grey { (c : Config) (h : Heap) (hs : ℕ → GreyHolding) (s : GreyState) (x : ℕ) → GreyFits c s → GreyKept c.threads h hs → hs s.pass.thread ≡ grey_held (holding_at (extent c) s) → is_blackening s.row ≡ true → (holding_at (extent c) s).scan ≡ Some x → (is_grey (h (ColourOf x)) ≡ true) × (heap_after h (grey_want s) (ColourOf x) ≡ black_word s.pass.cycle) }
 {}
 
 /// A scan has found nothing exactly where its events read as many zeros as there are threads. They
 /// took the list of each thread, their own first. A shading never finds nothing, and makes no unit.
 pub fn nothing_is_each_list_empty()
-    ensures zeros { (t n cycle : ℕ) (ws : List ℕ) → t < n → grey_nothing (grey_after (scanning t n cycle) ws).row ≡ begins_with_zeros n ws }
-    ensures taken { (t n cycle : ℕ) (ws : List ℕ) → length ws < n → begins_with_zeros (length ws) ws ≡ true → grey_want (grey_after (scanning t n cycle) ws) ≡ Exchange (GreyList (list_of t n (length ws))) 0 }
+    ensures zeros {
+        (e : Extent) (p : Pass) (ws : List ℕ) → p.thread < p.threads
+        → grey_nothing (grey_after e (scanning p) ws).row ≡ begins_with_zeros p.threads ws
+    }
+    ensures taken {
+        (e : Extent) (p : Pass) (ws : List ℕ)
+        → length ws < p.threads → begins_with_zeros (length ws) ws ≡ true
+        → grey_want (grey_after e (scanning p) ws)
+            ≡ Exchange (GreyList (list_of p.thread p.threads (length ws))) 0
+    }
     ensures own { (t n : ℕ) → t < n → list_of t n 0 ≡ t }
     ensures each { (t n v : ℕ) → t < n → v < n → (u : ℕ) × (u < n) × (list_of t n u ≡ v) }
-    ensures shade { (t n cycle x : ℕ) (ws : List ℕ) → (grey_nothing (grey_after (shading t n cycle x) ws).row ≡ false) × (grey_unit (grey_after (shading t n cycle x) ws).row ≡ false) }
+    ensures shade {
+        (e : Extent) (p : Pass) (x : ℕ) (ws : List ℕ)
+        → (grey_nothing (grey_after e (shading p x) ws).row ≡ false)
+            × (grey_unit (grey_after e (shading p x) ws).row ≡ false)
+    }
+{}
+
+/// Each event keeps all rules of the heap at once, while the other threads hold what they held.
+pub fn rows_keep_the_heap()
+    ensures {
+        (c : Config) (h : Heap) (hs : ℕ → Holding) (s : GreyState)
+        → GreyFits c s
+        → HeapKept (extent c) s.pass.cycle h hs
+        → hs s.pass.thread ≡ holding_at (extent c) s
+        → HeapKept (extent c) s.pass.cycle (heap_after h (grey_want s))
+            (changed hs s.pass.thread
+                (holding_at (extent c) (grey_got (extent c) s (h (place_of (grey_want s))))))
+    }
 {}

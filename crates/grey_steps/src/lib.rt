@@ -11,7 +11,7 @@ mod tests;
 
 pub use laws::{
     a_unit_is_a_blackening, nothing_is_each_list_empty, rows_keep_grey, rows_keep_solid,
-    rows_keep_tricolour, rows_stay_in_the_heap,
+    rows_keep_the_heap, rows_keep_tricolour, rows_stay_in_the_heap,
 };
 pub use pass::GreyPass;
 pub use rows::GreyRow;

@@ -7,24 +7,23 @@ ghost use Rattle.block_store.specs.Payloads as words;
 ghost use Rattle.block_store.specs.Payloads.{payload_of, payload_target};
 ghost use Rattle.block_store.specs.Places.{extent, ColourOf, IsBlock};
 ghost use Rattle.heap_machine.specs.Operations.{op_at, CompareExchange};
+ghost use Rattle.heap_machine.specs.Passes.{IsPass};
 ghost use Rattle.grey_steps.specs.Rows;
 ghost use Rattle.grey_steps.specs.Rows.{GreyState, grey_want, grey_got, grey_step, grey_unit, grey_nothing, grey_over, scanning, shading};
 ghost use Rattle.grey_steps.specs.Fits.{GreyFits, GreyReads};
 
 use crate::GreyRow;
 use block_store::{
-    Colour, PAYLOADS, Payload, Places, black, colour_word, read_colour, read_payload, white,
+    Colour, Payload, Places, black, colour_word, read_colour, read_payload, white,
 };
-use heap_machine::{Op, Step};
+use heap_machine::{Op, Pass, Step};
 use std::marker::Model;
 
 /// Marking, done one event at a time while its thread is inside: a grey list is taken, one block of
 /// it is scanned and the rest put back; or one block is made grey.
 #[derive(Drop)]
 pub struct GreyPass {
-    thread: u32,
-    threads: u32,
-    cycle: u64,
+    pass: Pass,
     row: GreyRow,
 }
 
@@ -33,7 +32,7 @@ impl Model for GreyPass {
 
     ghost Value = { GreyState };
 
-    ghost view = { λ p. record { thread = p.thread; threads = p.threads; cycle = p.cycle; row = p.row } };
+    ghost view = { λ p. record { pass = p.pass; row = p.row } };
 }
 
 // The block to which a payload word refers, or 0.
@@ -90,11 +89,11 @@ fn begin(block: u32, hand: u32) -> GreyRow
 }
 
 // After payload j was dealt with.
-fn after_word(block: u32, j: u32, hand: u32) -> GreyRow
-    requires { j < PAYLOADS }
-    ensures { result ≡ Rows.after_word block j hand }
+fn after_word(width: u32, block: u32, j: u32, hand: u32) -> GreyRow
+    requires { j < width }
+    ensures { result ≡ Rows.after_word width block j hand }
 {
-    if j + 1 < PAYLOADS {
+    if j + 1 < width {
         GreyRow::ScanWord {
             block,
             j: j + 1,
@@ -106,12 +105,12 @@ fn after_word(block: u32, j: u32, hand: u32) -> GreyRow
 }
 
 // After payload j, which refers to this block, or to none where it is 0.
-fn after_scan(block: u32, j: u32, hand: u32, target: u32) -> GreyRow
-    requires { j < PAYLOADS }
-    ensures { result ≡ Rows.after_scan block j hand target }
+fn after_scan(width: u32, block: u32, j: u32, hand: u32, target: u32) -> GreyRow
+    requires { j < width }
+    ensures { result ≡ Rows.after_scan width block j hand target }
 {
     if target == 0 {
-        after_word(block, j, hand)
+        after_word(width, block, j, hand)
     } else {
         GreyRow::Shade {
             block,
@@ -166,61 +165,38 @@ fn after_own(target: u32, head: u64) -> GreyRow
     }
 }
 
-fn load(place: usize) -> Op
-    ensures { result ≡ Op.Load place }
-{
-    Op::Load { place }
-}
-
-fn exchange(place: usize, new: u64) -> Op
-    ensures { result ≡ Op.Exchange place new }
-{
-    Op::Exchange { place, new }
-}
-
 // A white block becomes grey, in front of the hand.
 fn shading(places: &Places, cycle: u64, target: u32, hand: u32) -> Op
     requires target { IsBlock places.now target }
     requires hand { hand ≤ 65535 }
     ensures { result ≡ op_at (extent places.now) (CompareExchange (ColourOf target) (white_word cycle) (grey_word hand)) }
 {
-    Op::CompareExchange {
-        place: places.colour(target),
-        old: colour_word(white(cycle)),
-        new: colour_word(Colour::Grey(hand)),
-    }
+    let grey = colour_word(Colour::Grey(hand));
+    Op::compare_exchange(places.colour(target), colour_word(white(cycle)), grey)
 }
 
 impl GreyPass {
-    /// The part that takes a grey list, scans one block of it and puts the rest back, for a thread
-    /// that is inside. `threads` is 1 to 16 and `thread` is below it. The cycle, 1 to 2^54 − 2, is
-    /// that of the phase word with which the thread entered.
-    pub fn scan(thread: u32, threads: u32, cycle: u64) -> GreyPass
-        requires thread { (thread < threads) × (threads ≤ 16) }
-        requires cycle { (1 ≤ cycle) × (cycle ≤ 2 ^ 54 - 2) }
-        ensures { result ≡ scanning thread threads cycle }
+    /// The part that takes a grey list, scans one block of it and puts the rest back, for the thread
+    /// of this pass, which is inside.
+    pub fn scan(pass: Pass) -> GreyPass
+        requires { IsPass pass }
+        ensures { result ≡ scanning pass }
     {
         GreyPass {
-            thread,
-            threads,
-            cycle,
+            pass,
             row: GreyRow::Take { u: 0 },
         }
     }
 
     /// The part that takes the thread's own list, makes this block grey where it is white, in front
-    /// of that list, and puts the list back; an empty list is not put. `block` is 1 to 65,535;
-    /// `thread`, `threads` and `cycle` are as for `scan`.
-    pub fn shade(thread: u32, threads: u32, cycle: u64, block: u32) -> GreyPass
-        requires thread { (thread < threads) × (threads ≤ 16) }
-        requires cycle { (1 ≤ cycle) × (cycle ≤ 2 ^ 54 - 2) }
+    /// of that list, and puts the list back; an empty list is not put. `block` is 1 to 65,535.
+    pub fn shade(pass: Pass, block: u32) -> GreyPass
+        requires pass { IsPass pass }
         requires block { (1 ≤ block) × (block ≤ 65535) }
-        ensures { result ≡ shading thread threads cycle block }
+        ensures { result ≡ shading pass block }
     {
         GreyPass {
-            thread,
-            threads,
-            cycle,
+            pass,
             row: GreyRow::TakeOwn { target: block },
         }
     }
@@ -228,34 +204,36 @@ impl GreyPass {
     /// The operation of the next event. A part that is over wants no more than a look at the phase.
     /// The places are those of a heap that has the part's threads and its row's blocks, the same heap
     /// at all calls of one part.
+    #[inline(never)]
     pub fn want(&self, places: &Places) -> Op
         requires { GreyFits places.now self.now }
         ensures { result ≡ op_at (extent places.now) (grey_want self.now) }
     {
         use GreyRow::*;
 
-        let (thread, cycle) = (self.thread, self.cycle);
+        let (thread, cycle) = (self.pass.thread, self.pass.cycle);
         match self.row {
-            Take { u } => exchange(places.grey_list(list_of(thread, self.threads, u)), 0),
-            Pop { hand } => load(places.colour(hand)),
-            ScanWord { block, j, .. } => load(places.payload(block, j)),
+            Take { u } => Op::exchange(places.grey_list(list_of(thread, self.pass.threads, u)), 0),
+            Pop { hand } => Op::load(places.colour(hand)),
+            ScanWord { block, j, .. } => Op::load(places.payload(block, j)),
             Shade { target, hand, .. } | ShadeStored { target, hand } => {
                 shading(places, cycle, target, hand)
             }
-            Blacken { block, .. } => exchange(places.colour(block), colour_word(black(cycle))),
-            Put { hand } | PutOwn { hand, .. } => exchange(places.grey_list(thread), hand as u64),
-            TakeOwn { .. } => exchange(places.grey_list(thread), 0),
-            Scanned | NothingGrey | Shaded { .. } => load(places.phase()),
+            Blacken { block, .. } => Op::exchange(places.colour(block), colour_word(black(cycle))),
+            Put { hand } | PutOwn { hand, .. } => Op::exchange(places.grey_list(thread), hand as u64),
+            TakeOwn { .. } => Op::exchange(places.grey_list(thread), 0),
+            Scanned | NothingGrey | Shaded { .. } => Op::load(places.phase()),
         }
     }
 
     /// Moves on by one event, whose operation read the word: one that its place can hold. The places
     /// are those that `want` was given. A part that is over stays as it is.
+    #[inline(never)]
     pub fn got(&mut self, places: &Places, word: u64) -> Step
         requires fits { GreyFits places.now self.old }
         requires word { GreyReads places.now self.old word }
-        ensures state { self.new ≡ grey_got self.old word }
-        ensures step { result ≡ grey_step self.old word }
+        ensures state { self.new ≡ grey_got (extent places.now) self.old word }
+        ensures step { result ≡ grey_step (extent places.now) self.old word }
         ensures fits { GreyFits places.now self.new }
     {
         self.row = self.after(places, word);
@@ -277,24 +255,25 @@ impl GreyPass {
     }
 
     // The row after one event, whose operation read the word.
-    fn after(&self, _places: &Places, read: u64) -> GreyRow
-        requires fits { GreyFits _places.now self.now }
-        requires word { GreyReads _places.now self.now read }
-        ensures { result ≡ (grey_got self.now read).row }
+    fn after(&self, places: &Places, read: u64) -> GreyRow
+        requires fits { GreyFits places.now self.now }
+        requires word { GreyReads places.now self.now read }
+        ensures { result ≡ (grey_got (extent places.now) self.now read).row }
     {
         use GreyRow::*;
 
-        let cycle = self.cycle;
+        let cycle = self.pass.cycle;
+        let width = places.width().payloads();
         match self.row {
-            Take { u } => after_take(self.threads, u, read),
+            Take { u } => after_take(self.pass.threads, u, read),
             Pop { hand } => begin(hand, link_in(read)),
-            ScanWord { block, j, hand } => after_scan(block, j, hand, target_of(read)),
+            ScanWord { block, j, hand } => after_scan(width, block, j, hand, target_of(read)),
             Shade {
                 block,
                 j,
                 target,
                 hand,
-            } => after_word(block, j, shaded_hand(cycle, target, hand, read)),
+            } => after_word(width, block, j, shaded_hand(cycle, target, hand, read)),
             Blacken { hand, .. } => after_black(hand),
             Put { .. } | Scanned => Scanned,
             NothingGrey => NothingGrey,

@@ -2,7 +2,7 @@
 
 /// The next event of marking, or how the part ended. A `hand` is the first block of a list that the
 /// thread has taken, or 0, which it is not where it is popped or put. A `block` or `target` is 1 to
-/// the number of blocks, and `j` is 0 to 3.
+/// the number of blocks, and `j` is below the number of payloads.
 #[derive(Clone, Copy, Debug, PartialEq, Eq)]
 pub enum GreyRow {
     /// Scan: takes the grey list of thread `(thread + u) mod threads`, so its own first; `u` lists, fewer

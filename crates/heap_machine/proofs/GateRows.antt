@@ -11,7 +11,7 @@ use Rattle.heap_machine.specs.Gates.{gate_want, gate_got, is_of_pass, is_empty, 
 use Rattle.heap_machine.specs.Turning.{turns_over}
 use Rattle.heap_machine.specs.declared.gate.GateRow.{GateRow}
 use Rattle.heap_machine.specs.declared.gate.GateRow.TheVariants.{Look, Enter, Entered, Leave, Left, CloseLook, Close, CheckList, SetCursor, Flip, Reopen, TurnedOver, KeptOut}
-use Rattle.heap_machine.specs.declared.gate.IdlePass.{IdlePass}
+use Rattle.heap_machine.specs.declared.pass.Pass.{Pass}
 use Rattle.heap_machine.proofs.Gatings.{close_parts, open_parts}
 
 -- each row is on a place of the heap
@@ -47,7 +47,7 @@ gate_fits c Leave w f h = tt
 gate_fits c Left w f h = tt
 gate_fits c (CloseLook p) w f h =
     either GateFits (is_of_pass p w) (cond (is_empty w) (Close p w) KeptOut) KeptOut (λ of. either GateFits (is_empty w) (Close p w) KeptOut (λ is. (f, record { word = h; pass = of; empty = is })) tt) tt
-gate_fits c (Close p seen) w f h = either GateFits (eqb w seen) (CheckList p 0) KeptOut (λ _. (f.0, omega (arith, f.0.thread))) tt
+gate_fits c (Close p seen) w f h = either GateFits (eqb w seen) (CheckList p 0) KeptOut (λ _. (f.0, omega (arith, f.0.pass.thread))) tt
 gate_fits c (CheckList p u) w f h =
     either GateFits (eqb w 0) (cond (ltb (u + 1) p.threads) (CheckList p (u + 1)) (SetCursor p)) (Reopen p) (λ _. either GateFits (ltb (u + 1) p.threads) (CheckList p (u + 1)) (SetCursor p) (λ less. (f.0, ltb-true _ _ less)) f.0) f.0
 gate_fits c (SetCursor p) w f h = f
@@ -103,12 +103,12 @@ closed_held w h =
     let y : cycle_of (closed_word w) ≡ cycle_of w = e.3 in
     record { inside = rw i h.inside; cycle = rw y h.cycle }
 
-open_held : (p : IdlePass) (s : Bool) → IsIdle p → IsPhaseWord (open_word p.cycle s)
+open_held : (p : Pass) (s : Bool) → IsIdle p → IsPhaseWord (open_word p.cycle s)
 open_held p s f =
     let e = open_parts p.cycle s in
     let i : inside_of (open_word p.cycle s) ≡ 0 = e.0 in
     let y : cycle_of (open_word p.cycle s) ≡ p.cycle = e.3 in
-    let low : p.cycle < 2 ^ 54 - 1 = omega (arith, f.last) in
+    let low : p.cycle < 2 ^ 54 - 1 = omega (arith, f.pass.last) in
     record { inside = rw i (omega arith); cycle = rw y low }
 
 -- what a part that turns the phase over stores is what its place can hold

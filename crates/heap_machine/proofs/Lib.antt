@@ -10,3 +10,4 @@ pub mod GreyLost
 pub mod Held
 pub mod Tricolours
 pub mod Solids
+pub mod Keeping

@@ -4,10 +4,12 @@ use Rattle.std.proofs.lemmas.Bool.{cases_eq, cases_Bool, and_parts}
 use Rattle.block_store.specs.Colours.{is_free}
 use Rattle.block_store.specs.Heaps.{Heap, put_at}
 use Rattle.block_store.specs.Payloads.{target}
-use Rattle.block_store.specs.Places.{Place, Phase, Cursor, FreeCount, GreyList, FreeList, ColourOf, OwnerOf, ShapeOf, PayloadOf}
+use Rattle.block_store.specs.Registers.{root_block}
+use Rattle.block_store.specs.Widths.{payloads}
+use Rattle.block_store.specs.Places.{Extent, Place, Phase, Cursor, FreeCount, GreyList, FreeList, ColourOf, OwnerOf, ShapeOf, PayloadOf}
 use Rattle.heap_machine.specs.Operations.{Operation, Load, Exchange, CompareExchange, FetchAdd, FetchSub, place_of, heap_after}
 use Rattle.heap_machine.specs.Tricolour.{is_of_tricolour}
-use Rattle.heap_machine.specs.Solid.{NotFree, IsMarked, root_block, SolidKept}
+use Rattle.heap_machine.specs.Solid.{NotFree, IsMarked, SolidKept}
 use Rattle.heap_machine.proofs.Tricolours.{colours}
 
 -- block x gets colour v
@@ -17,11 +19,11 @@ put_colour P h x v y new old = elim (cases_eq x y) [ inl e ↦ rw (eq-eqb x y e)
 still : (h : Heap) (x v y : ℕ) → is_free v ≡ false → NotFree (colours h) y → NotFree (colours (put_at h (ColourOf x) v)) y
 still h x v y ok k ne = put_colour (λ w. is_free w ≡ false) h x v y (λ _. ok) (k ne)
 
-pub solid_colour : (n cycle : ℕ) (h : Heap) (x v : ℕ) → is_free v ≡ false
-    → (is_free (h (ColourOf x)) ≡ true → (j : ℕ) → j < 4 → NotFree (colours h) (target (h (PayloadOf x j))))
-    → ((t : ℕ) → t < n → x ≡ root_block t → IsMarked cycle v)
-    → SolidKept n cycle h → SolidKept n cycle (put_at h (ColourOf x) v)
-solid_colour n cycle h x v ok all marked k = record {
+pub solid_colour : (ex : Extent) (cycle : ℕ) (h : Heap) (x v : ℕ) → is_free v ≡ false
+    → (is_free (h (ColourOf x)) ≡ true → (j : ℕ) → j < payloads ex.width → NotFree (colours h) (target (h (PayloadOf x j))))
+    → ((t : ℕ) → t < ex.threads → x ≡ root_block ex.width t → IsMarked cycle v)
+    → SolidKept ex cycle h → SolidKept ex cycle (put_at h (ColourOf x) v)
+solid_colour ex cycle h x v ok all marked k = record {
   solid = λ y j is low. still h x v (target (h (PayloadOf y j))) ok (elim (cases_eq x y) [
     | inl e ↦ subst (λ z. NotFree (colours h) (target (h (PayloadOf z j)))) e (elim (cases_Bool (is_free (h (ColourOf x)))) [
       | inl free ↦ all free j low
@@ -29,12 +31,12 @@ solid_colour n cycle h x v ok all marked k = record {
     ])
     | inr away ↦ k.solid y j (let q : cond (eqb x y) v (h (ColourOf y)) ≡ h (ColourOf y) = rw (ne_eqb x y away) refl in ap is_free (sym q) ∙ is) low
   ]);
-  roots = λ t low. put_colour (IsMarked cycle) h x v (root_block t) (marked t low) (k.roots t low);
+  roots = λ t low. put_colour (IsMarked cycle) h x v (root_block ex.width t) (marked t low) (k.roots t low);
 }
 
 -- payload j of block x becomes w
-pub solid_payload : (n cycle : ℕ) (h : Heap) (x j w : ℕ) → (is_free (h (ColourOf x)) ≡ false → NotFree (colours h) (target w)) → SolidKept n cycle h → SolidKept n cycle (put_at h (PayloadOf x j) w)
-solid_payload n cycle h x j w ok k = record {
+pub solid_payload : (ex : Extent) (cycle : ℕ) (h : Heap) (x j w : ℕ) → (is_free (h (ColourOf x)) ≡ false → NotFree (colours h) (target w)) → SolidKept ex cycle h → SolidKept ex cycle (put_at h (PayloadOf x j) w)
+solid_payload ex cycle h x j w ok k = record {
   solid = λ y i is low. elim (cases_Bool (eqb x y && eqb j i)) [
     | inl hit ↦
         let parts = and_parts (eqb x y) (eqb j i) hit in
@@ -45,23 +47,23 @@ solid_payload n cycle h x j w ok k = record {
 }
 
 -- a write of any other place
-pub solid_place : (n cycle : ℕ) (h : Heap) (p : Place) (v : ℕ) → is_of_tricolour p ≡ false → SolidKept n cycle h → SolidKept n cycle (put_at h p v)
-solid_place n cycle h Phase v away k = k
-solid_place n cycle h Cursor v away k = k
-solid_place n cycle h FreeCount v away k = k
-solid_place n cycle h (GreyList t) v away k = k
-solid_place n cycle h (FreeList t) v away k = k
-solid_place n cycle h (ColourOf x) v away k = absurd (let z : true ≡ false = away in cc)
-solid_place n cycle h (OwnerOf x) v away k = k
-solid_place n cycle h (ShapeOf x) v away k = k
-solid_place n cycle h (PayloadOf x j) v away k = absurd (let z : true ≡ false = away in cc)
+pub solid_place : (ex : Extent) (cycle : ℕ) (h : Heap) (p : Place) (v : ℕ) → is_of_tricolour p ≡ false → SolidKept ex cycle h → SolidKept ex cycle (put_at h p v)
+solid_place ex cycle h Phase v away k = k
+solid_place ex cycle h Cursor v away k = k
+solid_place ex cycle h FreeCount v away k = k
+solid_place ex cycle h (GreyList t) v away k = k
+solid_place ex cycle h (FreeList t) v away k = k
+solid_place ex cycle h (ColourOf x) v away k = absurd (let z : true ≡ false = away in cc)
+solid_place ex cycle h (OwnerOf x) v away k = k
+solid_place ex cycle h (ShapeOf x) v away k = k
+solid_place ex cycle h (PayloadOf x j) v away k = absurd (let z : true ≡ false = away in cc)
 
-pub solid_other : (n cycle : ℕ) (h : Heap) (o : Operation) → is_of_tricolour (place_of o) ≡ false → SolidKept n cycle h → SolidKept n cycle (heap_after h o)
-solid_other n cycle h (Load p) away k = k
-solid_other n cycle h (Exchange p v) away k = solid_place n cycle h p v away k
-solid_other n cycle h (CompareExchange p old v) away k = elim (cases_Bool (eqb (h p) old)) [
-  | inl is ↦ rw is (solid_place n cycle h p v away k)
+pub solid_other : (ex : Extent) (cycle : ℕ) (h : Heap) (o : Operation) → is_of_tricolour (place_of o) ≡ false → SolidKept ex cycle h → SolidKept ex cycle (heap_after h o)
+solid_other ex cycle h (Load p) away k = k
+solid_other ex cycle h (Exchange p v) away k = solid_place ex cycle h p v away k
+solid_other ex cycle h (CompareExchange p old v) away k = elim (cases_Bool (eqb (h p) old)) [
+  | inl is ↦ rw is (solid_place ex cycle h p v away k)
   | inr is ↦ rw is k
 ]
-solid_other n cycle h (FetchAdd p v) away k = solid_place n cycle h p (h p + v) away k
-solid_other n cycle h (FetchSub p v) away k = solid_place n cycle h p (h p - v) away k
+solid_other ex cycle h (FetchAdd p v) away k = solid_place ex cycle h p (h p + v) away k
+solid_other ex cycle h (FetchSub p v) away k = solid_place ex cycle h p (h p - v) away k

@@ -11,7 +11,7 @@ use Rattle.heap_machine.specs.Gates.{gate_want, gate_got, is_of_pass, is_empty, 
 use Rattle.heap_machine.specs.Turning.{turns_over, in_pass, turning_gating, lists_read, CanClose, gate_after}
 use Rattle.heap_machine.specs.declared.gate.GateRow.{GateRow}
 use Rattle.heap_machine.specs.declared.gate.GateRow.TheVariants.{Enter, Leave, CloseLook, Close, CheckList, SetCursor, Flip, Reopen, TurnedOver, KeptOut}
-use Rattle.heap_machine.specs.declared.gate.IdlePass.{IdlePass}
+use Rattle.heap_machine.specs.declared.pass.Pass.{Pass}
 use Rattle.heap_machine.proofs.Gatings.{open_parts, closed_phase, gate_closes, gate_closing, gate_opens, gate_stays}
 
 same_phase : (a b : Bool) → cond a b (not b) ≡ true → b ≡ a
@@ -20,7 +20,7 @@ same_phase false true e = cc
 same_phase false false e = refl
 
 -- a word of the pass says its cycle and phase
-of_pass : (p : IdlePass) (w : ℕ) → is_of_pass p w ≡ true → (p.cycle ≡ cycle_of w) × (p.sweep ≡ is_sweep w)
+of_pass : (p : Pass) (w : ℕ) → is_of_pass p w ≡ true → (p.cycle ≡ cycle_of w) × (p.sweep ≡ is_sweep w)
 of_pass p w e =
     let parts = and_parts (eqb (cycle_of w) p.cycle) (cond (is_sweep w) p.sweep (not p.sweep)) e in
     (sym (eqb-true _ _ parts.0), same_phase (is_sweep w) p.sweep parts.1)
@@ -43,13 +43,13 @@ either P false p q h k = k
 abbrev IsOut : GateRow → Type 0
 IsOut r = (turning_gating r).stand ≡ Outside
 
-looks_out : (p : IdlePass) (w : ℕ) → IsOut (look_to_close p w)
+looks_out : (p : Pass) (w : ℕ) → IsOut (look_to_close p w)
 looks_out p w = either IsOut (is_of_pass p w) (cond (is_empty w) (Close p w) KeptOut) KeptOut (either IsOut (is_empty w) (Close p w) KeptOut refl refl) refl
 
 abbrev IsAt : Gating → GateRow → Type 0
 IsAt g r = turning_gating r ≡ g
 
-checks_closing : (p : IdlePass) (u w : ℕ) → IsAt (in_pass p Closing) (list_checked p u w)
+checks_closing : (p : Pass) (u w : ℕ) → IsAt (in_pass p Closing) (list_checked p u w)
 checks_closing p u w =
     either (IsAt (in_pass p Closing)) (eqb w 0) (cond (ltb (u + 1) p.threads) (CheckList p (u + 1)) (SetCursor p)) (Reopen p) (either (IsAt (in_pass p Closing)) (ltb (u + 1) p.threads) (CheckList p (u + 1)) (SetCursor p) refl refl) refl
 
@@ -61,12 +61,12 @@ module _ (n : ℕ) (h : Heap) (gs : ℕ → Gating) (k : GateOf n (h Phase) gs) 
       gate_stays n (h Phase) gs k t tl (turning_gating r') same (λ e. (let z : true ≡ false = sym (ap is_outside out') ∙ e in cc))
 
   -- the thread that has closed the gate goes on
-  stays_closing : (p : IdlePass) (r r' : GateRow) → IsAt (in_pass p Closing) r → IsAt (in_pass p Closing) r' → gs t ≡ turning_gating r → GateOf n (h Phase) (changed gs t (turning_gating r'))
+  stays_closing : (p : Pass) (r r' : GateRow) → IsAt (in_pass p Closing) r → IsAt (in_pass p Closing) r' → gs t ≡ turning_gating r → GateOf n (h Phase) (changed gs t (turning_gating r'))
   stays_closing p r r' at at' is =
       let same : turning_gating r' ≡ gs t = at' ∙ sym at ∙ sym is in
       gate_stays n (h Phase) gs k t tl (turning_gating r') (ap (λ (g : Gating). g.stand) same) (λ _. (ap (λ (g : Gating). g.cycle) same, ap (λ (g : Gating). g.sweep) same))
 
-  closes : (p : IdlePass) (seen : ℕ) → SeenEmpty p seen → gs t ≡ in_pass p Outside → GateOf n (cond (eqb (h Phase) seen) (put_at h Phase (closed_word seen)) h Phase) (changed gs t (turning_gating (cond (eqb (h Phase) seen) (CheckList p 0) KeptOut)))
+  closes : (p : Pass) (seen : ℕ) → SeenEmpty p seen → gs t ≡ in_pass p Outside → GateOf n (cond (eqb (h Phase) seen) (put_at h Phase (closed_word seen)) h Phase) (changed gs t (turning_gating (cond (eqb (h Phase) seen) (CheckList p 0) KeptOut)))
   closes p seen f is = elim (cases_Bool (eqb (h Phase) seen)) [
     | inl won ↦
         let e : h Phase ≡ seen = eqb-true _ _ won in
@@ -89,7 +89,7 @@ module _ (n : ℕ) (h : Heap) (gs : ℕ → Gating) (k : GateOf n (h Phase) gs) 
   turning_kept _ e f is = absurd cc
 
   -- the thread that has closed the gate has the cycle and phase of the word
-  closing_pass : (p : IdlePass) → gs t ≡ in_pass p Closing → (p.cycle ≡ cycle_of (h Phase)) × (p.sweep ≡ is_sweep (h Phase))
+  closing_pass : (p : Pass) → gs t ≡ in_pass p Closing → (p.cycle ≡ cycle_of (h Phase)) × (p.sweep ≡ is_sweep (h Phase))
   closing_pass p is =
       let of = k.passes t tl (ap (λ (g : Gating). is_outside g.stand) is) in
       (sym (ap (λ (g : Gating). g.cycle) is) ∙ of.0, sym (ap (λ (g : Gating). g.sweep) is) ∙ of.1)
@@ -112,7 +112,7 @@ module _ (n : ℕ) (h : Heap) (gs : ℕ → Gating) (k : GateOf n (h Phase) gs) 
   turning_cycle (Reopen p) e f is = (let parts = open_parts p.cycle false in let of = closing_pass p is in parts.3 ∙ of.0)
   turning_cycle _ e f is = refl
 
-  pub turning_phase : (r : GateRow) → turns_over r ≡ true → GateFits r → gs t ≡ turning_gating r → ((p : IdlePass) → r ≡ Flip p → ⊥) → is_sweep (heap_after h (gate_want r) Phase) ≡ is_sweep (h Phase)
+  pub turning_phase : (r : GateRow) → turns_over r ≡ true → GateFits r → gs t ≡ turning_gating r → ((p : Pass) → r ≡ Flip p → ⊥) → is_sweep (heap_after h (gate_want r) Phase) ≡ is_sweep (h Phase)
   turning_phase (Enter seen) e f is other = absurd cc
   turning_phase Leave e f is other = absurd cc
   turning_phase (Close p seen) e f is other = (let none = empty_gate seen f.1.empty in let same = close_phase seen none.1 in same.1)
@@ -120,14 +120,14 @@ module _ (n : ℕ) (h : Heap) (gs : ℕ → Gating) (k : GateOf n (h Phase) gs) 
   turning_phase (Reopen p) e f is other = (let parts = open_parts p.cycle false in let of = closing_pass p is in parts.1 ∙ sym f.mark ∙ of.1)
   turning_phase _ e f is other = refl
 
-  pub flip_phase : (p : IdlePass) → GateFits (Flip p) → gs t ≡ turning_gating (Flip p) → (is_sweep (h Phase) ≡ false) × (is_sweep (heap_after h (gate_want (Flip p)) Phase) ≡ true) × (inside_of (h Phase) ≡ 0) × ((u : ℕ) → u < n → (t ≡ u → ⊥) → (gs u).stand ≡ Outside)
+  pub flip_phase : (p : Pass) → GateFits (Flip p) → gs t ≡ turning_gating (Flip p) → (is_sweep (h Phase) ≡ false) × (is_sweep (heap_after h (gate_want (Flip p)) Phase) ≡ true) × (inside_of (h Phase) ≡ 0) × ((u : ℕ) → u < n → (t ≡ u → ⊥) → (gs u).stand ≡ Outside)
   flip_phase p f is =
       let parts = open_parts p.cycle true in
       let of = closing_pass p is in
       let closing = gate_closing n (h Phase) gs k t tl (ap (λ (g : Gating). g.stand) is) in
       (sym of.1 ∙ f.mark, parts.1, closing.1, closing.2)
 
-module _ (p : IdlePass) where
+module _ (p : Pass) where
   -- a part that is over, or opens the gate, does not flip any more
   no_flip_over : (ws : List ℕ) → gate_after TurnedOver ws ≡ Flip p → ⊥
   no_flip_over [] e = cc
@@ -234,7 +234,7 @@ module _ (p : IdlePass) where
   -- with 0 read from each list it sets the cursor
   zeros_read : IsIdle p → gate_after (CheckList p 0) (replicate p.threads 0) ≡ SetCursor p
   zeros_read f =
-      let split : suc (p.threads - 1) ≡ p.threads = omega (arith, f.thread) in
+      let split : suc (p.threads - 1) ≡ p.threads = omega (arith, f.pass.thread) in
       subst (λ n. gate_after (CheckList p 0) (replicate n 0) ≡ SetCursor p) split (all_zeros (p.threads - 1) 0 (omega arith))
 
   pub sets_cursor : (v : ℕ) → IsIdle p → CanClose p v → gate_want (gate_after (CloseLook p) (v ∷ v ∷ replicate p.threads 0)) ≡ Exchange Cursor 1
@@ -253,7 +253,7 @@ module _ (p : IdlePass) where
   from_close v [] f can e = absurd cc
   from_close v (w ∷ ws) f can e = elim (cases_Bool (eqb w v)) [
     | inl won ↦
-        let split : suc (p.threads - 1) ≡ p.threads = omega (arith, f.thread) in
+        let split : suc (p.threads - 1) ≡ p.threads = omega (arith, f.pass.thread) in
         let z : w ≡ v = eqb-true w v won in
         let is : gate_got (Close p v) w ≡ CheckList p 0 = rw won refl in
         let rest = from_list (p.threads - 1) 0 ws (omega arith) (went (Close p v) (CheckList p 0) w ws IsFlip is e) in
@@ -273,7 +273,7 @@ module _ (p : IdlePass) where
   ]
 
 -- the lists that are read are empty after a list was looked at
-list_empty : (p : IdlePass) (list : ℕ → ℕ) (u : ℕ) → u < p.threads → ((v : ℕ) → v < u → list v ≡ 0) → (v : ℕ) → v < lists_read (list_checked p u (list u)) → list v ≡ 0
+list_empty : (p : Pass) (list : ℕ → ℕ) (u : ℕ) → u < p.threads → ((v : ℕ) → v < u → list v ≡ 0) → (v : ℕ) → v < lists_read (list_checked p u (list u)) → list v ≡ 0
 list_empty p list u low empty v below = elim (cases_Bool (eqb (list u) 0)) [
   | inl none ↦
       let z : list u ≡ 0 = eqb-true _ _ none in
@@ -290,10 +290,10 @@ list_empty p list u low empty v below = elim (cases_Bool (eqb (list u) 0)) [
 abbrev ReadNone : GateRow → Type 0
 ReadNone r = lists_read r ≡ 0
 
-close_look_read : (p : IdlePass) (w : ℕ) → ReadNone (look_to_close p w)
+close_look_read : (p : Pass) (w : ℕ) → ReadNone (look_to_close p w)
 close_look_read p w = either ReadNone (is_of_pass p w) (cond (is_empty w) (Close p w) KeptOut) KeptOut (either ReadNone (is_empty w) (Close p w) KeptOut refl refl) refl
 
-close_read : (p : IdlePass) (seen w : ℕ) → ReadNone (gate_got (Close p seen) w)
+close_read : (p : Pass) (seen w : ℕ) → ReadNone (gate_got (Close p seen) w)
 close_read p seen w = either ReadNone (eqb w seen) (CheckList p 0) KeptOut refl refl
 
 none_below : (r : GateRow) (v : ℕ) → ReadNone r → v < lists_read r → ⊥

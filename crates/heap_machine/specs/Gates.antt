@@ -7,11 +7,18 @@ use Rattle.block_store.specs.declared.PhaseWord.{PhaseWord}
 use Rattle.heap_machine.specs.Operations.{Operation, Load, Exchange, CompareExchange, FetchSub}
 use Rattle.heap_machine.specs.Readings.{IsPhaseWord}
 use Rattle.heap_machine.specs.Gating.{closed_word, open_word}
+use Rattle.heap_machine.specs.Passes.{IsPass}
 use Rattle.heap_machine.specs.declared.gate.GateRow.{GateRow}
 use Rattle.heap_machine.specs.declared.gate.GateRow.TheVariants.{Look, Enter, Entered, Leave, Left, CloseLook, Close, CheckList, SetCursor, Flip, Reopen, TurnedOver, KeptOut}
-use Rattle.heap_machine.specs.declared.gate.IdlePass.{IdlePass}
+use Rattle.heap_machine.specs.declared.pass.Pass.{Pass}
 use Rattle.heap_machine.specs.declared.Step.{Step}
 use Rattle.heap_machine.specs.declared.Step.TheVariants.{Went, Waited, Over, WaitedOver}
+
+-- the rows of a part on its way in: it looks, or goes in
+abbrev pub is_going_in : GateRow → Bool
+is_going_in Look = true
+is_going_in (Enter seen) = true
+is_going_in _ = false
 
 -- the operation of a row. A part that is over would look once more
 abbrev pub gate_want : GateRow → Operation
@@ -30,7 +37,7 @@ gate_want TurnedOver = Load Phase
 gate_want KeptOut = Load Phase
 
 -- the word w says the cycle and phase of the pass
-abbrev pub is_of_pass : IdlePass → ℕ → Bool
+abbrev pub is_of_pass : Pass → ℕ → Bool
 is_of_pass p w = (cycle_of w == p.cycle) && (if is_sweep w then p.sweep else not p.sweep)
 
 -- the gate is open, and nobody is inside
@@ -38,11 +45,11 @@ abbrev pub is_empty : ℕ → Bool
 is_empty w = not (is_closed w) && (inside_of w == 0)
 
 -- after the look whether the gate can be closed
-abbrev pub look_to_close : IdlePass → ℕ → GateRow
+abbrev pub look_to_close : Pass → ℕ → GateRow
 look_to_close p w = if is_of_pass p w then (if is_empty w then Close p w else KeptOut) else KeptOut
 
 -- after list u was looked at
-abbrev pub list_checked : IdlePass → ℕ → ℕ → GateRow
+abbrev pub list_checked : Pass → ℕ → ℕ → GateRow
 list_checked p u w = if w == 0 then (if nat_lt (u + 1) p.threads then CheckList p (u + 1) else SetCursor p) else Reopen p
 
 -- the row after it, where it read w
@@ -102,16 +109,13 @@ pub record SeenOpen (seen : ℕ) : Type 0 where
   pub word : IsPhaseWord seen
   pub opened : is_closed seen ≡ false
 
--- the numbers of a pass are in range, and it was a Mark pass
-pub record IsIdle (p : IdlePass) : Type 0 where
-  pub thread : p.thread < p.threads
-  pub few : p.threads ≤ 16
-  pub first : 1 ≤ p.cycle
-  pub last : p.cycle ≤ 2 ^ 54 - 2
+-- a pass that found nothing to do, and was a Mark pass
+pub record IsIdle (p : Pass) : Type 0 where
+  pub pass : IsPass p
   pub mark : p.sweep ≡ false
 
 -- the word seen was that of an open gate with nobody inside, in the cycle and phase of the pass
-pub record SeenEmpty (p : IdlePass) (seen : ℕ) : Type 0 where
+pub record SeenEmpty (p : Pass) (seen : ℕ) : Type 0 where
   pub word : IsPhaseWord seen
   pub pass : is_of_pass p seen ≡ true
   pub empty : is_empty seen ≡ true

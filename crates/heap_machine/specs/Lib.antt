@@ -1,5 +1,6 @@
 pub mod Operations
 pub mod Readings
+pub mod Passes
 pub mod Gates
 pub mod Turning
 pub mod Counts
@@ -8,3 +9,5 @@ pub mod Gating
 pub mod Grey
 pub mod Tricolour
 pub mod Solid
+pub mod Holdings
+pub mod HeapKept

@@ -2,8 +2,8 @@
 use Rattle.std.specs.Prelude.{ℕ, ◌+◌, ◌-◌, ◌^◌, ◌<◌, ◌≤◌, ◌==◌, cond, List, slice_index, slice_set}
 use Rattle.block_store.specs.Places.{Extent, Place, index}
 use Rattle.block_store.specs.Heaps.{Heap, put_at}
-use Rattle.heap_machine.specs.declared.Op.{Op}
-use Rattle.heap_machine.specs.declared.Op.TheVariants as ops
+use Rattle.heap_machine.specs.declared.op.Op.{Op}
+use Rattle.heap_machine.specs.declared.op.Op.TheVariants as ops
 
 -- an operation on a place
 pub data Operation : Type 0 where

@@ -4,7 +4,7 @@ use Rattle.heap_machine.specs.Gates.{gate_got, is_of_pass, is_empty}
 use Rattle.heap_machine.specs.Gating.{Stand, Outside, Closing, Gating}
 use Rattle.heap_machine.specs.declared.gate.GateRow.{GateRow}
 use Rattle.heap_machine.specs.declared.gate.GateRow.TheVariants.{Look, Enter, Entered, Leave, Left, CloseLook, Close, CheckList, SetCursor, Flip, Reopen}
-use Rattle.heap_machine.specs.declared.gate.IdlePass.{IdlePass}
+use Rattle.heap_machine.specs.declared.pass.Pass.{Pass}
 
 -- the rows of a part that turns the phase over, and not of one that goes in or out
 abbrev pub turns_over : GateRow → Bool
@@ -16,7 +16,7 @@ turns_over Left = false
 turns_over _ = true
 
 -- a thread that stands there, with the cycle and phase of the pass
-abbrev pub in_pass : IdlePass → Stand → Gating
+abbrev pub in_pass : Pass → Stand → Gating
 in_pass p s = record { stand = s; cycle = p.cycle; sweep = p.sweep }
 
 -- where the thread of such a part stands before the event of a row: it has closed the gate until it opens it again
@@ -37,7 +37,7 @@ lists_read (Flip p) = p.threads
 lists_read _ = 0
 
 -- the gate can be closed for the pass: the word says its cycle and phase, and is that of an open gate with nobody inside
-pub record CanClose (p : IdlePass) (w : ℕ) : Type 0 where
+pub record CanClose (p : Pass) (w : ℕ) : Type 0 where
   pub pass : is_of_pass p w ≡ true
   pub empty : is_empty w ≡ true
 

@@ -1,14 +1,15 @@
 //! The gate: a thread goes in where the gate is not closed, and is counted in the phase word while
 //! it is inside. A thread outside closes it where nobody is inside, to turn the phase over.
 
-ghost use Rattle.std.specs.Prelude.{◌+◌, false, ◌≡◌, ◌<◌, ◌≤◌, ◌-◌, ◌^◌, IfSome};
+ghost use Rattle.std.specs.Prelude.{◌+◌, false, true, ◌≡◌, ◌<◌, ◌≤◌, ◌-◌, ◌^◌, IfSome};
 ghost use Rattle.block_store.specs.Places.{extent};
 ghost use Rattle.heap_machine.specs.Operations.{op_at, place_of};
+ghost use Rattle.heap_machine.specs.Passes.{IsPass};
 ghost use Rattle.heap_machine.specs.Readings.{CanHold, IsPhaseWord};
-ghost use Rattle.heap_machine.specs.Gates.{gate_want, gate_got, gate_step, gate_entered, gate_started, GateFits, GateAt, SeenOpen};
+ghost use Rattle.heap_machine.specs.Gates.{gate_want, gate_got, gate_step, gate_entered, gate_started, is_going_in, GateFits, GateAt, SeenOpen};
 
 use crate::turnover::{check, close, flip, list_checked, look_to_close, reopen, tried_to_close};
-use crate::{Op, Step};
+use crate::{Op, Pass, Step};
 use block_store::{PhaseWord, Places, read_phase};
 use std::marker::Model;
 
@@ -26,31 +27,21 @@ pub enum GateRow {
     /// Is over: the thread went out.
     Left,
     /// Looks whether the gate can be closed: in the pass's cycle and phase, open, with nobody inside.
-    CloseLook { pass: IdlePass },
+    CloseLook { pass: Pass },
     /// Closes the gate, where the phase word is still the one that was seen.
-    Close { pass: IdlePass, seen: u64 },
+    Close { pass: Pass, seen: u64 },
     /// Looks whether grey list `u` is empty, while the gate is closed.
-    CheckList { pass: IdlePass, u: u32 },
+    CheckList { pass: Pass, u: u32 },
     /// Each grey list was empty: puts the sweep cursor on the first block.
-    SetCursor { pass: IdlePass },
+    SetCursor { pass: Pass },
     /// Begins Sweep in the pass's cycle, and opens the gate.
-    Flip { pass: IdlePass },
+    Flip { pass: Pass },
     /// A grey list was not empty: opens the gate again, in Mark.
-    Reopen { pass: IdlePass },
+    Reopen { pass: Pass },
     /// Is over: the gate was closed, and is open again.
     TurnedOver,
     /// Is over: the gate was not closed.
     KeptOut,
-}
-
-/// A pass that found nothing to do: its thread, below the number of all threads, which is 1 to 16;
-/// its cycle, 1 to 2^54 − 2; and whether its phase was Sweep, and not Mark.
-#[derive(Clone, Copy, Debug, PartialEq, Eq)]
-pub struct IdlePass {
-    pub thread: u32,
-    pub threads: u32,
-    pub cycle: u64,
-    pub sweep: bool,
 }
 
 /// A part of a thread's work at the gate.
@@ -76,39 +67,7 @@ fn entering(place: usize, seen: u64) -> Op
     requires { SeenOpen seen }
     ensures { result ≡ Op.CompareExchange place seen (seen + 1) }
 {
-    Op::CompareExchange {
-        place,
-        old: seen,
-        new: seen + 1,
-    }
-}
-
-// After the gate was looked at.
-fn looked(word: u64) -> (GateRow, Step)
-    requires { IsPhaseWord word }
-    ensures row { result.0 ≡ gate_got GateRow.Look word }
-    ensures step { result.1 ≡ gate_step GateRow.Look word }
-    ensures fits { GateFits result.0 }
-{
-    if read_phase(word).closed {
-        (GateRow::Look, Step::Waited)
-    } else {
-        (GateRow::Enter { seen: word }, Step::Went)
-    }
-}
-
-// After the phase word was to be counted up.
-fn tried(seen: u64, word: u64) -> (GateRow, Step)
-    requires { SeenOpen seen }
-    ensures row { result.0 ≡ gate_got (GateRow.Enter seen) word }
-    ensures step { result.1 ≡ gate_step (GateRow.Enter seen) word }
-    ensures fits { GateFits result.0 }
-{
-    if word == seen {
-        (GateRow::Entered { seen }, Step::Over)
-    } else {
-        (GateRow::Look, Step::Waited)
-    }
+    Op::compare_exchange(place, seen, seen + 1)
 }
 
 impl Gate {
@@ -128,24 +87,16 @@ impl Gate {
         }
     }
 
-    /// The part that closes the gate after a Mark pass of that cycle found nothing to do, and changes
-    /// the phase: to Sweep where each grey list is empty, else it opens the gate again in Mark. It is
-    /// over at once where the phase word says another cycle or phase than the pass had, the gate is
-    /// closed, somebody is inside, or another thread changes the phase word first. The threads are 1
-    /// to 16, the thread is below them, and the cycle is 1 to 2^54 − 2. `sweep` says that it was a
-    /// Sweep pass, which is not built yet: it has to be false.
-    pub fn turn_over(thread: u32, threads: u32, cycle: u64, sweep: bool) -> Gate
-        requires thread { (thread < threads) × (threads ≤ 16) }
-        requires cycle { (1 ≤ cycle) × (cycle ≤ 2 ^ 54 - 2) }
-        requires mark { sweep ≡ false }
-        ensures { result ≡ GateRow.CloseLook (record { thread = thread; threads = threads; cycle = cycle; sweep = sweep }) }
+    /// The part that closes the gate after this pass found nothing to do, and changes the phase: to
+    /// Sweep where each grey list is empty, else it opens the gate again in Mark. It is over at once
+    /// where the phase word says another cycle or phase than the pass had, the gate is closed, somebody
+    /// is inside, or another thread changes the phase word first. A Sweep pass cannot be turned over
+    /// yet: `sweep` has to be false.
+    pub fn turn_over(pass: Pass) -> Gate
+        requires pass { IsPass pass }
+        requires mark { pass.sweep ≡ false }
+        ensures { result ≡ GateRow.CloseLook pass }
     {
-        let pass = IdlePass {
-            thread,
-            threads,
-            cycle,
-            sweep,
-        };
         Gate {
             row: GateRow::CloseLook { pass },
         }
@@ -162,16 +113,13 @@ impl Gate {
         let place = places.phase();
         match self.row {
             Look | Entered { seen: _ } | Left | CloseLook { pass: _ } | TurnedOver | KeptOut => {
-                Op::Load { place }
+                Op::load(place)
             }
             Enter { seen } => entering(place, seen),
             Leave => Op::FetchSub { place, by: 1 },
             Close { pass: _, seen } => close(place, seen),
             CheckList { pass: _, u } => check(places, u),
-            SetCursor { pass: _ } => Op::Exchange {
-                place: places.cursor(),
-                new: 1,
-            },
+            SetCursor { pass: _ } => Op::exchange(places.cursor(), 1),
             Flip { pass } => flip(place, pass),
             Reopen { pass } => reopen(place, pass),
         }
@@ -191,20 +139,121 @@ impl Gate {
         use GateRow::*;
 
         let _places = places;
-        let (row, step) = match self.row {
-            Look => looked(word),
-            Enter { seen } => tried(seen, word),
-            Entered { seen } => (Entered { seen }, Step::Over),
-            Leave | Left => (Left, Step::Over),
-            CloseLook { pass } => look_to_close(pass, word),
-            Close { pass, seen } => tried_to_close(pass, seen, word),
-            CheckList { pass, u } => list_checked(pass, u, word),
-            SetCursor { pass } => (Flip { pass }, Step::Went),
-            Flip { pass: _ } | Reopen { pass: _ } | TurnedOver => (TurnedOver, Step::Over),
-            KeptOut => (KeptOut, Step::Over),
-        };
+        match self.row {
+            Look => self.looked(word),
+            Enter { seen } => self.tried(seen, word),
+            Entered { seen: _ } | Left | TurnedOver | KeptOut => Step::Over,
+            Leave => self.goes(Left, Step::Over),
+            CloseLook { pass } => self.goes_by(look_to_close(pass, word)),
+            Close { pass, seen } => self.goes_by(tried_to_close(pass, seen, word)),
+            CheckList { pass, u } => self.goes_by(list_checked(pass, u, word)),
+            SetCursor { pass } => self.goes(Flip { pass }, Step::Went),
+            Flip { pass: _ } | Reopen { pass: _ } => self.goes(TurnedOver, Step::Over),
+        }
+    }
+
+    // Goes on to this row.
+    fn goes(&mut self, row: GateRow, step: Step) -> Step
+        requires { GateFits row }
+        ensures row { self.new ≡ row }
+        ensures step { result ≡ step }
+    {
         self.row = row;
         step
+    }
+
+    // Goes on to this row.
+    fn goes_by(&mut self, next: (GateRow, Step)) -> Step
+        requires { GateFits next.0 }
+        ensures row { self.new ≡ next.0 }
+        ensures step { result ≡ next.1 }
+    {
+        let (row, step) = next;
+        self.row = row;
+        step
+    }
+
+    // After the gate was looked at.
+    fn looked(&mut self, word: u64) -> Step
+        requires row { self.old ≡ GateRow.Look }
+        requires word { IsPhaseWord word }
+        ensures row { self.new ≡ gate_got GateRow.Look word }
+        ensures step { result ≡ gate_step GateRow.Look word }
+    {
+        if read_phase(word).closed {
+            Step::Waited
+        } else {
+            self.row = GateRow::Enter { seen: word };
+            Step::Went
+        }
+    }
+
+    // After the phase word was to be counted up.
+    fn tried(&mut self, seen: u64, word: u64) -> Step
+        requires row { self.old ≡ GateRow.Enter seen }
+        ensures row { self.new ≡ gate_got (GateRow.Enter seen) word }
+        ensures step { result ≡ gate_step (GateRow.Enter seen) word }
+    {
+        if word == seen {
+            self.row = GateRow::Entered { seen };
+            Step::Over
+        } else {
+            self.row = GateRow::Look;
+            Step::Waited
+        }
+    }
+
+    /// The part that goes in, after its first look read the word.
+    pub fn after_look(word: u64) -> Gate
+        requires { IsPhaseWord word }
+        ensures { result ≡ gate_got GateRow.Look word }
+    {
+        if read_phase(word).closed {
+            Gate { row: GateRow::Look }
+        } else {
+            Gate {
+                row: GateRow::Enter { seen: word },
+            }
+        }
+    }
+
+    /// What this first look was.
+    pub fn look_step(word: u64) -> Step
+        requires { IsPhaseWord word }
+        ensures { result ≡ gate_step GateRow.Look word }
+    {
+        if read_phase(word).closed {
+            Step::Waited
+        } else {
+            Step::Went
+        }
+    }
+
+    /// `want`, of a part on its way in.
+    pub fn want_in(&self, places: &Places) -> Op
+        requires { is_going_in self.now ≡ true }
+        ensures { result ≡ op_at (extent places.now) (gate_want self.now) }
+    {
+        let place = places.phase();
+        match self.row {
+            GateRow::Look => Op::load(place),
+            GateRow::Enter { seen } => entering(place, seen),
+            _ => unreachable!(),
+        }
+    }
+
+    /// `got`, of a part on its way in.
+    pub fn got_in(&mut self, word: u64) -> Step
+        requires way { is_going_in self.old ≡ true }
+        requires word { IsPhaseWord word }
+        ensures row { self.new ≡ gate_got self.old word }
+        ensures step { result ≡ gate_step self.old word }
+    {
+        match self.row {
+            GateRow::Look => self.looked(word),
+            GateRow::Enter { seen } => self.tried(seen, word),
+            _ => unreachable!(),
+        }
     }
 
     /// What the phase word said when the thread entered; `None` until a part that goes in is over.

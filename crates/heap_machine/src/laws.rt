@@ -3,7 +3,6 @@
 
 ghost use Rattle.std.specs.Prelude.{◌≡◌, ◌≢◌, ◌<◌, ◌≤◌, ◌+◌, ◌-◌, ℕ, List, [], ◌∷◌, ◌++◌, replicate, length, slice_index, true, false, None, Some};
 ghost use Rattle.block_store.specs.declared.Config.{Config};
-ghost use Rattle.block_store.specs.declared.TheConstants.{PAYLOADS};
 ghost use Rattle.block_store.specs.Places.{Extent, Place, extent, Phase, Cursor, GreyList, ColourOf, PayloadOf, in_range, words_count};
 ghost use Rattle.block_store.specs.Colours.{link, is_free, is_grey, white_word, black_word};
 ghost use Rattle.block_store.specs.Payloads.{target};
@@ -15,12 +14,16 @@ ghost use Rattle.heap_machine.specs.Counts.{changed, times, total};
 ghost use Rattle.heap_machine.specs.Chains.{Chain};
 ghost use Rattle.heap_machine.specs.Grey.{GreyHolding, no_grey, GreyKept, is_of_grey};
 ghost use Rattle.heap_machine.specs.Tricolour.{TricolourHolding, no_tricolour, NotWhite, TricolourKept, Tricolour, is_of_tricolour};
-ghost use Rattle.heap_machine.specs.Solid.{NotFree, IsMarked, root_block, SolidKept};
+ghost use Rattle.heap_machine.specs.Solid.{NotFree, IsMarked, SolidKept};
+ghost use Rattle.block_store.specs.Registers.{root_block};
+ghost use Rattle.block_store.specs.Widths.{payloads};
+ghost use Rattle.heap_machine.specs.Holdings.{Holding};
+ghost use Rattle.heap_machine.specs.HeapKept.{HeapKept, is_ruled, CanColour, CanRefer};
 ghost use Rattle.heap_machine.specs.Gating.{Gating, GateOf, Outside, Inside, Closing, is_outside, closed_word, open_word};
 ghost use Rattle.heap_machine.specs.Gates.{gate_want, gate_got, GateFits, GateAt, IsIdle};
 ghost use Rattle.heap_machine.specs.Turning.{turns_over, turning_gating, lists_read, gate_after, CanClose};
 ghost use Rattle.heap_machine.specs.declared.gate.GateRow.{GateRow};
-ghost use Rattle.heap_machine.specs.declared.gate.IdlePass.{IdlePass};
+ghost use Rattle.heap_machine.specs.declared.pass.Pass.{Pass};
 
 /// One operation on the list of words is that operation on one place of the heap, and reads the word
 /// of that place.
@@ -73,8 +76,8 @@ pub fn turn_over_keeps_the_gate()
 /// Sweep, with nobody inside and each other thread outside. None changes the cycle.
 pub fn only_the_flip_turns_the_phase()
     ensures cycle { (n : ℕ) (h : Heap) (gs : ℕ → Gating) → GateOf n (h Phase) gs → (t : ℕ) → t < n → (r : GateRow) → turns_over r ≡ true → GateFits r → gs t ≡ turning_gating r → cycle_of (heap_after h (gate_want r) Phase) ≡ cycle_of (h Phase) }
-    ensures phase { (n : ℕ) (h : Heap) (gs : ℕ → Gating) → GateOf n (h Phase) gs → (t : ℕ) → t < n → (r : GateRow) → turns_over r ≡ true → GateFits r → gs t ≡ turning_gating r → ((p : IdlePass) → r ≢ GateRow.Flip p) → is_sweep (heap_after h (gate_want r) Phase) ≡ is_sweep (h Phase) }
-    ensures flip { (n : ℕ) (h : Heap) (gs : ℕ → Gating) → GateOf n (h Phase) gs → (t : ℕ) → t < n → (p : IdlePass) → GateFits (GateRow.Flip p) → gs t ≡ turning_gating (GateRow.Flip p) → (is_sweep (h Phase) ≡ false) × (is_sweep (heap_after h (gate_want (GateRow.Flip p)) Phase) ≡ true) × (inside_of (h Phase) ≡ 0) × ((u : ℕ) → u < n → (t ≡ u → ⊥) → (gs u).stand ≡ Outside) }
+    ensures phase { (n : ℕ) (h : Heap) (gs : ℕ → Gating) → GateOf n (h Phase) gs → (t : ℕ) → t < n → (r : GateRow) → turns_over r ≡ true → GateFits r → gs t ≡ turning_gating r → ((p : Pass) → r ≢ GateRow.Flip p) → is_sweep (heap_after h (gate_want r) Phase) ≡ is_sweep (h Phase) }
+    ensures flip { (n : ℕ) (h : Heap) (gs : ℕ → Gating) → GateOf n (h Phase) gs → (t : ℕ) → t < n → (p : Pass) → GateFits (GateRow.Flip p) → gs t ≡ turning_gating (GateRow.Flip p) → (is_sweep (h Phase) ≡ false) × (is_sweep (heap_after h (gate_want (GateRow.Flip p)) Phase) ≡ true) × (inside_of (h Phase) ≡ 0) × ((u : ℕ) → u < n → (t ≡ u → ⊥) → (gs u).stand ≡ Outside) }
 {}
 
 /// A part that turns the phase over comes to the flip exactly where it read 0 from the grey list of
@@ -82,11 +85,11 @@ pub fn only_the_flip_turns_the_phase()
 /// closed it; and behind the lists it set the cursor to 1. At the first list that is not empty it opens
 /// the gate again. All of this is of a Mark pass.
 pub fn turn_over_checks_every_list()
-    ensures flips { (p : IdlePass) (v x : ℕ) → IsIdle p → CanClose p v → gate_after (GateRow.CloseLook p) (v ∷ v ∷ (replicate p.threads 0 ++ x ∷ [])) ≡ GateRow.Flip p }
-    ensures only { (p : IdlePass) (ws : List ℕ) → IsIdle p → gate_after (GateRow.CloseLook p) ws ≡ GateRow.Flip p → (v : ℕ) × (x : ℕ) × (ws ≡ v ∷ v ∷ (replicate p.threads 0 ++ x ∷ [])) × CanClose p v }
-    ensures each { (p : IdlePass) (v u : ℕ) → IsIdle p → CanClose p v → u < p.threads → gate_want (gate_after (GateRow.CloseLook p) (v ∷ v ∷ replicate u 0)) ≡ Load (GreyList u) }
-    ensures cursor { (p : IdlePass) (v : ℕ) → IsIdle p → CanClose p v → gate_want (gate_after (GateRow.CloseLook p) (v ∷ v ∷ replicate p.threads 0)) ≡ Exchange Cursor 1 }
-    ensures reopens { (p : IdlePass) (v u w : ℕ) → IsIdle p → CanClose p v → u < p.threads → w ≢ 0 → gate_after (GateRow.CloseLook p) (v ∷ v ∷ (replicate u 0 ++ w ∷ [])) ≡ GateRow.Reopen p }
+    ensures flips { (p : Pass) (v x : ℕ) → IsIdle p → CanClose p v → gate_after (GateRow.CloseLook p) (v ∷ v ∷ (replicate p.threads 0 ++ x ∷ [])) ≡ GateRow.Flip p }
+    ensures only { (p : Pass) (ws : List ℕ) → IsIdle p → gate_after (GateRow.CloseLook p) ws ≡ GateRow.Flip p → (v : ℕ) × (x : ℕ) × (ws ≡ v ∷ v ∷ (replicate p.threads 0 ++ x ∷ [])) × CanClose p v }
+    ensures each { (p : Pass) (v u : ℕ) → IsIdle p → CanClose p v → u < p.threads → gate_want (gate_after (GateRow.CloseLook p) (v ∷ v ∷ replicate u 0)) ≡ Load (GreyList u) }
+    ensures cursor { (p : Pass) (v : ℕ) → IsIdle p → CanClose p v → gate_want (gate_after (GateRow.CloseLook p) (v ∷ v ∷ replicate p.threads 0)) ≡ Exchange Cursor 1 }
+    ensures reopens { (p : Pass) (v u w : ℕ) → IsIdle p → CanClose p v → u < p.threads → w ≢ 0 → gate_after (GateRow.CloseLook p) (v ∷ v ∷ (replicate u 0 ++ w ∷ [])) ≡ GateRow.Reopen p }
 {}
 
 /// Where the grey lists that such a part has read 0 since it closed the gate are empty, those of its next
@@ -146,10 +149,10 @@ pub fn lists_are_lost_at_a_put()
 /// refers to a white block; what it has shaded before a store is not white. So it is while the phase is
 /// Mark, in the cycle of the phase word.
 pub fn black_blocks_refer_to_none_white()
-    ensures black { (n cycle : ℕ) (h : Heap) (hs : ℕ → TricolourHolding) → TricolourKept n cycle h hs → (x j : ℕ) → h (ColourOf x) ≡ black_word cycle → j < PAYLOADS → target (h (PayloadOf x j)) ≢ 0 → h (ColourOf (target (h (PayloadOf x j)))) ≢ white_word cycle }
-    ensures mark { (n : ℕ) (h : Heap) (hs : ℕ → TricolourHolding) → Tricolour n h hs → is_sweep (h Phase) ≡ false → (x j : ℕ) → h (ColourOf x) ≡ black_word (cycle_of (h Phase)) → j < PAYLOADS → target (h (PayloadOf x j)) ≢ 0 → h (ColourOf (target (h (PayloadOf x j)))) ≢ white_word (cycle_of (h Phase)) }
-    ensures scanned { (n cycle : ℕ) (h : Heap) (hs : ℕ → TricolourHolding) → TricolourKept n cycle h hs → (t j : ℕ) → t < n → j < (hs t).dealt → target (h (PayloadOf (hs t).scan j)) ≢ 0 → h (ColourOf (target (h (PayloadOf (hs t).scan j)))) ≢ white_word cycle }
-    ensures shaded { (n cycle : ℕ) (h : Heap) (hs : ℕ → TricolourHolding) → TricolourKept n cycle h hs → (t : ℕ) → t < n → (hs t).shaded ≢ 0 → h (ColourOf (hs t).shaded) ≢ white_word cycle }
+    ensures black { (e : Extent) (cycle : ℕ) (h : Heap) (hs : ℕ → TricolourHolding) → TricolourKept e cycle h hs → (x j : ℕ) → h (ColourOf x) ≡ black_word cycle → j < payloads e.width → target (h (PayloadOf x j)) ≢ 0 → h (ColourOf (target (h (PayloadOf x j)))) ≢ white_word cycle }
+    ensures mark { (e : Extent) (h : Heap) (hs : ℕ → TricolourHolding) → Tricolour e h hs → is_sweep (h Phase) ≡ false → (x j : ℕ) → h (ColourOf x) ≡ black_word (cycle_of (h Phase)) → j < payloads e.width → target (h (PayloadOf x j)) ≢ 0 → h (ColourOf (target (h (PayloadOf x j)))) ≢ white_word (cycle_of (h Phase)) }
+    ensures scanned { (e : Extent) (cycle : ℕ) (h : Heap) (hs : ℕ → TricolourHolding) → TricolourKept e cycle h hs → (t j : ℕ) → t < e.threads → j < (hs t).dealt → target (h (PayloadOf (hs t).scan j)) ≢ 0 → h (ColourOf (target (h (PayloadOf (hs t).scan j)))) ≢ white_word cycle }
+    ensures shaded { (e : Extent) (cycle : ℕ) (h : Heap) (hs : ℕ → TricolourHolding) → TricolourKept e cycle h hs → (t : ℕ) → t < e.threads → (hs t).shaded ≢ 0 → h (ColourOf (hs t).shaded) ≢ white_word cycle }
 {}
 
 /// What keeps the tricolour rule: an operation on a word that is neither a colour nor a payload; a
@@ -158,18 +161,18 @@ pub fn black_blocks_refer_to_none_white()
 /// what it holds keeps it too. It holds where no block is black and no thread holds anything, as at the
 /// opening and at the start of a cycle.
 pub fn what_keeps_tricolour()
-    ensures place { (n cycle : ℕ) (h : Heap) (hs : ℕ → TricolourHolding) (o : Operation) → is_of_tricolour (place_of o) ≡ false → TricolourKept n cycle h hs → TricolourKept n cycle (heap_after h o) hs }
-    ensures colour { (n cycle : ℕ) (h : Heap) (hs : ℕ → TricolourHolding) (x v : ℕ) → v ≢ white_word cycle → (v ≡ black_word cycle → (j : ℕ) → j < PAYLOADS → NotWhite cycle (λ y. h (ColourOf y)) (target (h (PayloadOf x j)))) → TricolourKept n cycle h hs → TricolourKept n cycle (put_at h (ColourOf x) v) hs }
-    ensures payload { (n cycle : ℕ) (h : Heap) (hs : ℕ → TricolourHolding) (x j w : ℕ) → NotWhite cycle (λ y. h (ColourOf y)) (target w) → TricolourKept n cycle h hs → TricolourKept n cycle (put_at h (PayloadOf x j) w) hs }
-    ensures store { (n cycle : ℕ) (h : Heap) (hs : ℕ → TricolourHolding) (t x j w : ℕ) → t < n → target w ≡ (hs t).shaded → TricolourKept n cycle h hs → TricolourKept n cycle (put_at h (PayloadOf x j) w) hs }
-    ensures lets_go { (n cycle : ℕ) (h : Heap) (hs : ℕ → TricolourHolding) (t : ℕ) → TricolourKept n cycle h hs → TricolourKept n cycle h (changed hs t no_tricolour) }
-    ensures begins { (n cycle : ℕ) (h : Heap) (hs : ℕ → TricolourHolding) → ((x : ℕ) → h (ColourOf x) ≢ black_word cycle) → ((t : ℕ) → t < n → hs t ≡ no_tricolour) → TricolourKept n cycle h hs }
+    ensures place { (e : Extent) (cycle : ℕ) (h : Heap) (hs : ℕ → TricolourHolding) (o : Operation) → is_of_tricolour (place_of o) ≡ false → TricolourKept e cycle h hs → TricolourKept e cycle (heap_after h o) hs }
+    ensures colour { (e : Extent) (cycle : ℕ) (h : Heap) (hs : ℕ → TricolourHolding) (x v : ℕ) → v ≢ white_word cycle → (v ≡ black_word cycle → (j : ℕ) → j < payloads e.width → NotWhite cycle (λ y. h (ColourOf y)) (target (h (PayloadOf x j)))) → TricolourKept e cycle h hs → TricolourKept e cycle (put_at h (ColourOf x) v) hs }
+    ensures payload { (e : Extent) (cycle : ℕ) (h : Heap) (hs : ℕ → TricolourHolding) (x j w : ℕ) → NotWhite cycle (λ y. h (ColourOf y)) (target w) → TricolourKept e cycle h hs → TricolourKept e cycle (put_at h (PayloadOf x j) w) hs }
+    ensures store { (e : Extent) (cycle : ℕ) (h : Heap) (hs : ℕ → TricolourHolding) (t x j w : ℕ) → t < e.threads → target w ≡ (hs t).shaded → TricolourKept e cycle h hs → TricolourKept e cycle (put_at h (PayloadOf x j) w) hs }
+    ensures lets_go { (e : Extent) (cycle : ℕ) (h : Heap) (hs : ℕ → TricolourHolding) (t : ℕ) → TricolourKept e cycle h hs → TricolourKept e cycle h (changed hs t no_tricolour) }
+    ensures begins { (e : Extent) (cycle : ℕ) (h : Heap) (hs : ℕ → TricolourHolding) → ((x : ℕ) → h (ColourOf x) ≢ black_word cycle) → ((t : ℕ) → t < e.threads → hs t ≡ no_tricolour) → TricolourKept e cycle h hs }
 {}
 
 /// Where a payload that refers to a white block is stored in a black one, the tricolour rule is broken:
 /// so a block is shaded before a store in a black block.
 pub fn unshaded_stores_break_tricolour()
-    ensures { (n cycle : ℕ) (h : Heap) (hs : ℕ → TricolourHolding) (x j w : ℕ) → h (ColourOf x) ≡ black_word cycle → j < PAYLOADS → target w ≢ 0 → h (ColourOf (target w)) ≡ white_word cycle → TricolourKept n cycle (put_at h (PayloadOf x j) w) hs → ⊥ }
+    ensures { (e : Extent) (cycle : ℕ) (h : Heap) (hs : ℕ → TricolourHolding) (x j w : ℕ) → h (ColourOf x) ≡ black_word cycle → j < payloads e.width → target w ≢ 0 → h (ColourOf (target w)) ≡ white_word cycle → TricolourKept e cycle (put_at h (PayloadOf x j) w) hs → ⊥ }
 {}
 
 /// What keeps that no block that is not Free refers to a Free one, and that each root block is grey or
@@ -177,7 +180,29 @@ pub fn unshaded_stores_break_tricolour()
 /// block that was not Free or refers to no Free one, and grey or black on a root block; and a payload
 /// that refers to no Free block, or is one of a Free block.
 pub fn what_keeps_solid()
-    ensures place { (n cycle : ℕ) (h : Heap) (o : Operation) → is_of_tricolour (place_of o) ≡ false → SolidKept n cycle h → SolidKept n cycle (heap_after h o) }
-    ensures colour { (n cycle : ℕ) (h : Heap) (x v : ℕ) → is_free v ≡ false → (is_free (h (ColourOf x)) ≡ true → (j : ℕ) → j < PAYLOADS → NotFree (λ y. h (ColourOf y)) (target (h (PayloadOf x j)))) → ((t : ℕ) → t < n → x ≡ root_block t → IsMarked cycle v) → SolidKept n cycle h → SolidKept n cycle (put_at h (ColourOf x) v) }
-    ensures payload { (n cycle : ℕ) (h : Heap) (x j w : ℕ) → (is_free (h (ColourOf x)) ≡ false → NotFree (λ y. h (ColourOf y)) (target w)) → SolidKept n cycle h → SolidKept n cycle (put_at h (PayloadOf x j) w) }
+    ensures place { (e : Extent) (cycle : ℕ) (h : Heap) (o : Operation) → is_of_tricolour (place_of o) ≡ false → SolidKept e cycle h → SolidKept e cycle (heap_after h o) }
+    ensures colour { (e : Extent) (cycle : ℕ) (h : Heap) (x v : ℕ) → is_free v ≡ false → (is_free (h (ColourOf x)) ≡ true → (j : ℕ) → j < payloads e.width → NotFree (λ y. h (ColourOf y)) (target (h (PayloadOf x j)))) → ((t : ℕ) → t < e.threads → x ≡ root_block e.width t → IsMarked cycle v) → SolidKept e cycle h → SolidKept e cycle (put_at h (ColourOf x) v) }
+    ensures payload { (e : Extent) (cycle : ℕ) (h : Heap) (x j w : ℕ) → (is_free (h (ColourOf x)) ≡ false → NotFree (λ y. h (ColourOf y)) (target w)) → SolidKept e cycle h → SolidKept e cycle (put_at h (PayloadOf x j) w) }
+{}
+
+/// What keeps all rules at once: an operation on a word of which no rule speaks; a colour that is
+/// neither grey nor Free nor white, on a block that was not grey, black only where no payload of the
+/// block refers to a white one, on a block that was not Free or refers to no Free one, and black on a
+/// root block; and a payload that refers to no white and to no Free block.
+pub fn what_keeps_the_heap()
+    ensures place {
+        (e : Extent) (cycle : ℕ) (h : Heap) (hs : ℕ → Holding) (o : Operation)
+        → is_ruled (place_of o) ≡ false
+        → HeapKept e cycle h hs → HeapKept e cycle (heap_after h o) hs
+    }
+    ensures colour {
+        (e : Extent) (cycle : ℕ) (h : Heap) (hs : ℕ → Holding) (x v : ℕ)
+        → CanColour e cycle h x v
+        → HeapKept e cycle h hs → HeapKept e cycle (put_at h (ColourOf x) v) hs
+    }
+    ensures payload {
+        (e : Extent) (cycle : ℕ) (h : Heap) (hs : ℕ → Holding) (x j w : ℕ)
+        → CanRefer cycle h (target w)
+        → HeapKept e cycle h hs → HeapKept e cycle (put_at h (PayloadOf x j) w) hs
+    }
 {}

@@ -6,35 +6,24 @@
 
 mod gate;
 mod laws;
+mod op;
+mod pass;
 #[cfg(test)]
 mod tests;
 mod turnover;
 mod words;
 
-pub use gate::{Gate, GateRow, IdlePass};
+pub use gate::{Gate, GateRow};
 pub use laws::{
     black_blocks_refer_to_none_white, chains_are_lists, checked_lists_are_empty, gate_counts,
     gate_rows_stay_in_the_heap, grey_blocks_stand_once, lists_are_lost_at_a_put,
     only_the_flip_turns_the_phase, operations_are_of_places, other_writes_keep_grey,
     stores_are_held, turn_over_checks_every_list, turn_over_keeps_the_gate,
-    unshaded_stores_break_tricolour, what_keeps_solid, what_keeps_tricolour,
+    unshaded_stores_break_tricolour, what_keeps_solid, what_keeps_the_heap, what_keeps_tricolour,
 };
+pub use op::Op;
+pub use pass::Pass;
 pub use words::Words;
-
-/// One atomic operation on one word.
-#[derive(Clone, Copy, Debug, PartialEq, Eq)]
-pub enum Op {
-    /// Reads the word.
-    Load { place: usize },
-    /// Puts a new word in its place.
-    Exchange { place: usize, new: u64 },
-    /// Puts a new word in its place where it is still the old one.
-    CompareExchange { place: usize, old: u64, new: u64 },
-    /// Adds to the word.
-    FetchAdd { place: usize, by: u64 },
-    /// Takes away from the word.
-    FetchSub { place: usize, by: u64 },
-}
 
 /// What an event was to the part of a thread's work that made it.
 #[derive(Clone, Copy, Debug, PartialEq, Eq)]

@@ -1,9 +1,9 @@
 //! Operations and the gate on a few words.
 
-ghost use Rattle.std.specs.Prelude.{◌≡◌, ◌<◌, ◌%◌};
+ghost use Rattle.std.specs.Prelude.{◌≡◌, ◌<◌, ◌%◌, false};
 
 use crate::*;
-use block_store::{Config, OutOfMemory, Places};
+use block_store::{Config, OutOfMemory, Places, Width};
 
 #[test]
 fn operations_answer_the_word_before(rt: HostRuntime) -> Result<(), OutOfMemory> {
@@ -38,6 +38,7 @@ fn operations_answer_the_word_before(rt: HostRuntime) -> Result<(), OutOfMemory>
 #[tactic(auto, unfolding(block_store::specs::Phases::inside_of, block_store::specs::Phases::cycle_of))]
 fn a_thread_goes_in_and_out(rt: HostRuntime) {
     let places = Places::new(&Config {
+        width: Width::Four,
         threads: 1,
         blocks: 64,
         live: 20,
@@ -64,11 +65,24 @@ fn a_thread_goes_in_and_out(rt: HostRuntime) {
     assert_eq!(rt; out.got(&places, 1025), Step::Over);
 }
 
+// A Mark pass of cycle 1, of two threads.
+fn pass(thread: u32) -> Pass
+    ensures { result ≡ record { thread = thread; threads = 2; cycle = 1; sweep = false } }
+{
+    Pass {
+        thread,
+        threads: 2,
+        cycle: 1,
+        sweep: false,
+    }
+}
+
 // The places of two threads, whose grey lists are words 3 and 4.
 fn places() -> Places
     ensures { (result.threads ≡ 2) × (result.blocks ≡ 64) }
 {
     Places::new(&Config {
+        width: Width::Four,
         threads: 2,
         blocks: 64,
         live: 20,
@@ -81,7 +95,7 @@ fn places() -> Places
 #[tactic(auto, unfolding(block_store::specs::Phases::inside_of, block_store::specs::Phases::cycle_of))]
 fn a_turn_over_that_finds_nothing_flips(rt: HostRuntime) {
     let places = places();
-    let mut gate = Gate::turn_over(1, 2, 1, false);
+    let mut gate = Gate::turn_over(pass(1));
     assert_eq!(rt; gate.want(&places), Op::Load { place: 0 });
     assert_eq!(rt; gate.got(&places, 1024), Step::Went);
     assert_eq!(rt;
@@ -115,7 +129,7 @@ fn a_turn_over_that_finds_nothing_flips(rt: HostRuntime) {
 #[tactic(auto, unfolding(block_store::specs::Phases::inside_of, block_store::specs::Phases::cycle_of))]
 fn a_turn_over_that_finds_a_grey_block_reopens(rt: HostRuntime) {
     let places = places();
-    let mut gate = Gate::turn_over(0, 2, 1, false);
+    let mut gate = Gate::turn_over(pass(0));
     assert_eq!(rt; gate.got(&places, 1024), Step::Went);
     assert_eq!(rt; gate.got(&places, 1024), Step::Went);
     assert_eq!(rt; gate.got(&places, 0), Step::Went);
@@ -136,7 +150,7 @@ fn a_turn_over_that_finds_a_grey_block_reopens(rt: HostRuntime) {
 fn close_look(word: u64) -> Step
     requires { (word % 256 < 255) × (word < 4096) }
 {
-    Gate::turn_over(0, 2, 1, false).got(&places(), word)
+    Gate::turn_over(pass(0)).got(&places(), word)
 }
 
 #[test]
@@ -150,7 +164,7 @@ fn a_turn_over_waits_where_the_gate_is_in_use(rt: HostRuntime) {
     assert_eq!(rt; close_look(2048), Step::Over);
     assert_eq!(rt; close_look(2049), Step::Over);
     let places = places();
-    let mut lost = Gate::turn_over(0, 2, 1, false);
+    let mut lost = Gate::turn_over(pass(0));
     assert_eq!(rt; lost.got(&places, 1024), Step::Went);
     assert_eq!(rt; lost.got(&places, 1025), Step::WaitedOver);
     assert_eq!(rt; lost.want(&places), Op::Load { place: 0 });

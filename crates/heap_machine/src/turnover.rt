@@ -7,8 +7,8 @@ ghost use Rattle.heap_machine.specs.Readings.{IsPhaseWord};
 ghost use Rattle.heap_machine.specs.Gating.{closed_word, open_word};
 ghost use Rattle.heap_machine.specs.Gates.{gate_got, gate_step, GateFits, IsIdle, SeenEmpty};
 
-use crate::gate::{GateRow, IdlePass};
-use crate::{Op, Step};
+use crate::gate::GateRow;
+use crate::{Op, Pass, Step};
 use block_store::{PhaseWord, Places, phase_word, read_phase};
 
 // Closes the gate, where the phase word is still the one that was seen.
@@ -16,14 +16,11 @@ pub fn close(place: usize, seen: u64) -> Op
     requires { IsPhaseWord seen }
     ensures { result ≡ Op.CompareExchange place seen (closed_word seen) }
 {
-    Op::CompareExchange {
-        place,
-        old: seen,
-        new: phase_word(PhaseWord {
-            closed: true,
-            ..read_phase(seen)
-        }),
-    }
+    let closed = PhaseWord {
+        closed: true,
+        ..read_phase(seen)
+    };
+    Op::compare_exchange(place, seen, phase_word(closed))
 }
 
 // Looks at a grey list.
@@ -31,29 +28,25 @@ pub fn check(places: &Places, u: u32) -> Op
     requires { u < places.now.threads }
     ensures { result ≡ op_at (extent places.now) (Load (GreyList u)) }
 {
-    Op::Load {
-        place: places.grey_list(u),
-    }
+    Op::load(places.grey_list(u))
 }
 
 // Opens the gate, with nobody inside.
-fn open(place: usize, pass: IdlePass, sweep: bool) -> Op
+fn open(place: usize, pass: Pass, sweep: bool) -> Op
     requires { IsIdle pass }
     ensures { result ≡ Op.Exchange place (open_word pass.cycle sweep) }
 {
-    Op::Exchange {
-        place,
-        new: phase_word(PhaseWord {
-            inside: 0,
-            sweep,
-            closed: false,
-            cycle: pass.cycle,
-        }),
-    }
+    let opened = PhaseWord {
+        inside: 0,
+        sweep,
+        closed: false,
+        cycle: pass.cycle,
+    };
+    Op::exchange(place, phase_word(opened))
 }
 
 // Opens the gate in Sweep.
-pub fn flip(place: usize, pass: IdlePass) -> Op
+pub fn flip(place: usize, pass: Pass) -> Op
     requires { IsIdle pass }
     ensures { result ≡ Op.Exchange place (open_word pass.cycle true) }
 {
@@ -61,7 +54,7 @@ pub fn flip(place: usize, pass: IdlePass) -> Op
 }
 
 // Opens the gate in Mark.
-pub fn reopen(place: usize, pass: IdlePass) -> Op
+pub fn reopen(place: usize, pass: Pass) -> Op
     requires { IsIdle pass }
     ensures { result ≡ Op.Exchange place (open_word pass.cycle false) }
 {
@@ -69,7 +62,7 @@ pub fn reopen(place: usize, pass: IdlePass) -> Op
 }
 
 // After the look whether the gate can be closed.
-pub fn look_to_close(pass: IdlePass, word: u64) -> (GateRow, Step)
+pub fn look_to_close(pass: Pass, word: u64) -> (GateRow, Step)
     requires pass { IsIdle pass }
     requires word { IsPhaseWord word }
     ensures row { result.0 ≡ gate_got (GateRow.CloseLook pass) word }
@@ -87,7 +80,7 @@ pub fn look_to_close(pass: IdlePass, word: u64) -> (GateRow, Step)
 }
 
 // After the gate was to be closed.
-pub fn tried_to_close(pass: IdlePass, seen: u64, word: u64) -> (GateRow, Step)
+pub fn tried_to_close(pass: Pass, seen: u64, word: u64) -> (GateRow, Step)
     requires pass { IsIdle pass }
     requires seen { SeenEmpty pass seen }
     ensures row { result.0 ≡ gate_got (GateRow.Close pass seen) word }
@@ -102,7 +95,7 @@ pub fn tried_to_close(pass: IdlePass, seen: u64, word: u64) -> (GateRow, Step)
 }
 
 // After grey list u was looked at.
-pub fn list_checked(pass: IdlePass, u: u32, word: u64) -> (GateRow, Step)
+pub fn list_checked(pass: Pass, u: u32, word: u64) -> (GateRow, Step)
     requires pass { IsIdle pass }
     requires list { u < pass.threads }
     ensures row { result.0 ≡ gate_got (GateRow.CheckList pass u) word }

@@ -8,6 +8,8 @@ use Rattle.block_store.specs.Colours.{is_free}
 use Rattle.block_store.specs.Phases.{bit, phase_of, inside_of, is_closed, is_sweep, cycle_of}
 use Rattle.block_store.specs.Places.{Phase, FreeCount, ColourOf, extent, in_range, words_count}
 use Rattle.block_store.proofs.PhaseWords.{phase-more, phase-less}
+use Rattle.block_store.proofs.Registers.{end_more}
+use Rattle.block_store.specs.Widths.{payloads}
 use Rattle.block_store.specs.declared.PhaseWord.{PhaseWord}
 use Rattle.never_heap.specs.declared.Command.{Command}
 use Rattle.never_heap.specs.declared.Command.TheVariants as commands
@@ -17,9 +19,10 @@ use Rattle.never_heap.specs.declared.Reply.TheVariants.{Full}
 use Rattle.never_heap.specs.Bounds.{IsCommandInBounds}
 use Rattle.never_heap.specs.Graphs.{Graph, start_graph}
 use Rattle.never_heap.specs.Histories.{HistoryItem, replay, part, Legal, starts_in, work_in}
-use Rattle.never_heap.specs.Steps.{step, blocks_of}
+use Rattle.never_heap.specs.Steps.{step, makes_object}
 use Rattle.shown_graph.specs.Shown.{every_name}
-use Rattle.shown_graph.specs.Openings.{opening_at, opening_last}
+use Rattle.shown_graph.specs.Openings.{opening_at}
+use Rattle.array_trees.specs.Openings.{opening_blocks}
 use Rattle.shown_graph.specs.Events.{Loading, unloaded, with_load, Follows}
 use Rattle.heap_machine.specs.Counts.{changed}
 use Rattle.heap_machine.specs.Gates.{gate_want, gate_got, gate_entered, SeenOpen}
@@ -34,7 +37,9 @@ use Rattle.heap_machine.proofs.GateRows.{gate_place}
 use Rattle.heap_machine.proofs.Functions.{funext}
 use Rattle.heap_machine.proofs.GreyBlocks.{kept_other}
 use Rattle.heap_machine.proofs.Held.{held_put, held_after}
-use Rattle.grey_steps.specs.Rows.{GreyState, grey_want, grey_got, grey_over, grey_unit, grey_holding, scanning}
+use Rattle.heap_machine.specs.Holdings.{Holding, grey_held}
+use Rattle.heap_machine.specs.declared.pass.Pass.{Pass}
+use Rattle.grey_steps.specs.Rows.{GreyState, grey_want, grey_got, grey_over, grey_unit, holding_at, scanning}
 use Rattle.grey_steps.specs.Ends.{is_blackening}
 use Rattle.grey_steps.specs.Fits.{GreyFits, GreyReads}
 use Rattle.grey_steps.proofs.Ends.{unit_after, unit_once, over_holds_none}
@@ -44,29 +49,17 @@ use Rattle.barrier_steps.specs.declared.rows.FieldRow.{FieldRow}
 use Rattle.barrier_steps.specs.declared.rows.FieldRow.TheVariants as rows
 use Rattle.barrier_steps.specs.Deciding.{is_deciding}
 use Rattle.barrier_steps.specs.Fits.{IsThread, FieldFits, FieldReads}
-use Rattle.barrier_steps.specs.Projection.{thread_of, loading_of}
-use Rattle.barrier_steps.specs.Replies.{asked, reply_due, IsKnown}
+use Rattle.barrier_steps.specs.Projection.{row_loading, loading_of}
+use Rattle.barrier_steps.specs.Replies.{due_at, reply_due, IsKnown}
 use Rattle.barrier_steps.proofs.Decisions.{first_undecided}
 use Rattle.barrier_steps.proofs.Dues.{none_due}
-use Rattle.barrier_steps.proofs.Promising.{first_asked}
-use Rattle.barrier_steps.specs.Rows.{field_decided, payload_in, shape_in, first_row, field_want, field_got, field_reply, after_object, at_block, on_way, way_from, after_shape, after_field, after_said}
-use Rattle.barrier_steps.specs.Walks.{shape_length, links_to}
-use Rattle.barrier_steps.specs.declared.rows.Access.{Access}
-use Rattle.barrier_steps.specs.declared.rows.Access.TheVariants as accesses
-use Rattle.barrier_steps.specs.declared.rows.Errand.{Errand}
-use Rattle.barrier_steps.specs.declared.rows.Errand.TheVariants as errands
-use Rattle.barrier_steps.specs.declared.rows.Walk.{Walk}
-use Rattle.block_store.specs.declared.Payload.{Payload}
-use Rattle.block_store.specs.declared.Payload.TheVariants as payloads
-use Rattle.block_store.specs.declared.Shape.{Shape}
-use Rattle.block_store.specs.Payloads.{target}
+use Rattle.barrier_steps.specs.Rows.{FieldState, field_decided, first_row, row_want, field_want, field_got, field_reply}
 use Rattle.shown_graph.specs.Words.{block_words}
 use Rattle.rate_plan.specs.Rates.{IsAdmitted}
-use Rattle.barrier_steps.proofs.Blocks.{record_has_blocks, array_has_blocks}
 use Rattle.barrier_steps.proofs.FieldRows.{field_fits, field_sum, field_place, stores_held}
 use Rattle.heap_system.specs.declared.local.Part.{Part}
 use Rattle.heap_system.specs.declared.local.Part.TheVariants.{Rest, Enter, Serve, Mark, Count, Again, Leave}
-use Rattle.heap_system.specs.Locals.{LocalState, command_of, owed, first_part, if_entered, if_replied, part_want, part_got, part_reply, decides, makes_unit, finds_nothing, paid_got, waived_got, entry_of, entries_of, works, unit_to_come, PartFits, IsLocal, PartReads}
+use Rattle.heap_system.specs.Locals.{LocalState, command_of, owed, pass_by, first_part, if_entered, pass_got, if_replied, part_entered, part_want, part_got, part_reply, decides, makes_unit, finds_nothing, paid_got, waived_got, entry_of, entries_of, works, unit_to_come, PartFits, IsLocal, PartReads}
 use Rattle.heap_system.specs.Machines.{State, Run, local_at, reply_decided}
 use Rattle.heap_system.specs.Systems.{logs_of, units_of}
 use Rattle.heap_system.specs.Units.{IsWithin}
@@ -75,19 +68,24 @@ use Rattle.heap_system.proofs.Marks.{mark_phase, mark_words, mark_solid}
 use Rattle.heap_system.proofs.Paying.{first_part_fits, first_part_pays, going_at}
 use Rattle.heap_system.proofs.Moves.{state, graph_after, FieldStep, field_reads, field_moves, load_self, undecided}
 
--- a row of thread t in command k that is not over
-pub record RowKept (g : Graph) (t : ℕ) (k : Command) (f : FieldRow) : Type 0 where
-  pub serves : blocks_of k ≡ 0
-  pub thread : thread_of f ≡ t
-  pub asks : field_decided f ≡ false → asked f ≡ Some (t, k)
-  pub known : IsKnown g f
-  pub going : field_reply f ≡ None
+-- what a thread holds of the grey blocks
+abbrev pub grey_of : Config → Part → GreyHolding
+grey_of c p = grey_held (holding c p)
 
--- a Mark pass of thread t in the colours of cycle 1, for an allocation
-pub record MarkKept (t : ℕ) (k : Command) (m : GreyState) : Type 0 where
-  pub allocates : blocks_of k ≡ 0 → ⊥
-  pub thread : m.thread ≡ t
-  pub cycle : m.cycle ≡ 1
+-- a thread in command k, in this pass, that is not over
+pub record RowKept (g : Graph) (t : ℕ) (pass : Pass) (k : Command) (f : FieldState) : Type 0 where
+  pub serves : makes_object k ≡ false
+  pub passes : f.pass ≡ pass
+  pub thread : f.pass.thread ≡ t
+  pub command : f.command ≡ k
+  pub known : IsKnown g f
+  pub going : field_reply f.row ≡ None
+
+-- a Mark pass of thread t for an allocation
+pub record MarkKept (t : ℕ) (pass : Pass) (k : Command) (m : GreyState) : Type 0 where
+  pub allocates : makes_object k ≡ true
+  pub passes : m.pass ≡ pass
+  pub thread : m.pass.thread ≡ t
 
 -- a part on its way in is not over
 abbrev pub IsEntering : GateRow → Type 0
@@ -95,14 +93,14 @@ IsEntering gates.Look = Unit {0}
 IsEntering (gates.Enter seen) = Unit {0}
 IsEntering _ = ⊥
 
-abbrev pub PartKept : Graph → ℕ → Command → Part → Type 0
-PartKept g t k Rest = Unit {0}
-PartKept g t k (Enter a) = IsEntering a
-PartKept g t k (Serve f) = RowKept g t k f
-PartKept g t k (Mark m) = MarkKept t k m
-PartKept g t k Count = blocks_of k ≡ 0 → ⊥
-PartKept g t k Again = blocks_of k ≡ 0 → ⊥
-PartKept g t k Leave = Unit {0}
+abbrev pub PartKept : Graph → ℕ → Pass → Command → Part → Type 0
+PartKept g t pass k Rest = Unit {0}
+PartKept g t pass k (Enter a) = IsEntering a
+PartKept g t pass k (Serve f) = RowKept g t pass k f
+PartKept g t pass k (Mark m) = MarkKept t pass k m
+PartKept g t pass k Count = makes_object k ≡ true
+PartKept g t pass k Again = makes_object k ≡ true
+PartKept g t pass k Leave = Unit {0}
 
 -- between two commands nothing is paid or waived; in front of the look at the free count nothing is owed
 abbrev pub IsSettled : ℕ → ℕ → Bool → Part → Type 0
@@ -120,9 +118,9 @@ pub record LocalKept (c : Config) (given : List Command) (g : Graph) (order : Li
   pub thread : l.thread ≡ t
   pub trace : l.trace ≡ given
   pub fits : IsLocal l
-  pub stands : PartKept g t (command_of l) l.part
+  pub stands : PartKept g t l.pass (command_of l) l.part
   pub settled : IsSettled (owed l) l.paid l.waived l.part
-  pub within : IsWithin l.rate (part t order)
+  pub within : IsWithin c.width l.rate (part t order)
   pub told : part t order ≡ l.log ++ entries_waiting g l
   pub said : map (λ (e : Entry). e.command) l.log ≡ take (length l.log) l.trace
 
@@ -134,24 +132,24 @@ pub record IsMark (w : ℕ) : Type 0 where
 
 -- the blocks of the opening's arrays are not Free
 abbrev pub IsSolid : Config → Heap → Type 0
-IsSolid c h = (x : ℕ) → 1 ≤ x → x ≤ opening_last c → is_free (h (ColourOf x)) ≡ false
+IsSolid c h = (x : ℕ) → 1 ≤ x → x ≤ opening_blocks c → is_free (h (ColourOf x)) ≡ false
 
 -- what thread t has loaded, where it stands, and what it holds
 abbrev pub loads_in : Config → State → ℕ → Loading
-loads_in c s = λ t. loading (local_at c s t).part
+loads_in c s = λ t. loading c (local_at c s t).part
 
 abbrev pub gates_in : Config → State → ℕ → Gating
-gates_in c s = λ t. gating (local_at c s t).part
+gates_in c s = λ t. gating c (local_at c s t).pass (local_at c s t).part
 
 abbrev pub holdings_in : Config → State → ℕ → GreyHolding
-holdings_in c s = λ t. holding (local_at c s t).part
+holdings_in c s = λ t. grey_of c (local_at c s t).part
 
 pub record Kept (c : Config) (traces : List (List Command)) (r : Run) : Type 0 where
   pub long : length r.state.words ≡ words_count (extent c)
   pub threads : length r.state.locals ≡ c.threads
   pub gate : GateOf c.threads (heap_in c r.state Phase) (gates_in c r.state)
   pub phase : IsMark (heap_in c r.state Phase)
-  pub shown : Follows c.threads (opening_last c) (every_name (start_graph c)) (opening_at c.threads) (graph_state c r)
+  pub shown : Follows c.width c.threads (opening_blocks c) (every_name (start_graph c)) (opening_at c.width c.threads) (graph_state c r)
   pub locals : (t : ℕ) → t < c.threads → LocalKept c (get_or traces t []) (replay c r.order) r.order t (local_at c r.state t)
   pub legal : Legal c r.order
   pub foreign : (u : ℕ) → c.threads ≤ u → part u r.order ≡ []
@@ -162,164 +160,118 @@ pub record Kept (c : Config) (traces : List (List Command)) (r : Run) : Type 0 w
 
 -- the graph after an event of thread t, by whether it decides command k: an allocation is refused, and leaves it
 abbrev pub graph_decided : Graph → ℕ → Command → Bool → Graph
-graph_decided g t k b = cond (b && eqb (blocks_of k) 0) (step g t k).0 g
+graph_decided g t k b = cond (b && not (makes_object k)) (step g t k).0 g
 
--- one event of thread t in command k: the heap after it, whether it decides, the part after it, the reply that it brings, and whether it makes a unit or finds nothing. Before it a
+-- one event of thread t in command k: the heap after it, whether it decides, the pass and the part after it, the reply that it brings, and whether it makes a unit or finds nothing. Before it a
 -- reply was decided or none, and so many units were made of those due, or the rest was waived.
-pub record EventKept (c : Config) (g : Graph) (new : Heap) (gs : ℕ → Gating) (ls : ℕ → Loading) (hs : ℕ → GreyHolding) (t : ℕ) (k : Command) (done all due paid : ℕ) (waived : Bool) (before : Option Reply) (b : Bool) (p : Part) (reply : Option Reply)
+pub record EventKept (c : Config) (g : Graph) (new : Heap) (gs : ℕ → Gating) (ls : ℕ → Loading) (hs : ℕ → GreyHolding) (t : ℕ) (k : Command) (done all due paid : ℕ) (waived : Bool) (before : Option Reply) (b : Bool) (pass : Pass) (p : Part) (reply : Option Reply)
     (unit nothing : Bool) : Type 0 where
-  pub gate : GateOf c.threads (new Phase) (changed gs t (gating p))
+  pub gate : GateOf c.threads (new Phase) (changed gs t (gating c pass p))
   pub phase : IsMark (new Phase)
-  pub shown : Follows c.threads (opening_last c) (every_name (start_graph c)) (opening_at c.threads) (state (graph_decided g t k b) new (with_load ls t (loading p)))
-  pub part : PartKept (graph_decided g t k b) t k p
+  pub shown : Follows c.width c.threads (opening_blocks c) (every_name (start_graph c)) (opening_at c.width c.threads) (state (graph_decided g t k b) new (with_load ls t (loading c p)))
+  pub part : PartKept (graph_decided g t k b) t pass k p
   pub fits : PartFits c done all p
   pub over : (r : Reply) → reply ≡ Some r → p ≡ Leave
   pub told : entries_of t k paid before ++ cond b (entry_of t k paid (reply_decided g t k) ∷ []) [] ≡ entries_of t k paid reply ++ entries_of t k (paid_got reply unit paid) (waiting (graph_decided g t k b) p)
-  pub grey : GreyKept c.threads new (changed hs t (holding p))
+  pub grey : GreyKept c.threads new (changed hs t (grey_of c p))
   pub held : IsHeld c new
   pub solid : IsSolid c new
-  pub low : paid_got reply unit paid + unit_to_come p ≤ due
+  pub low : paid_got reply unit paid + unit_to_come c p ≤ due
   pub settled : IsSettled due (paid_got reply unit paid) (waived_got reply nothing waived) p
   pub counted : works (cond b (entry_of t k paid (reply_decided g t k) ∷ []) []) ≡ works (entries_of t k paid reply)
 
 -- the first row of a command
-first_thread : (t : ℕ) (k : Command) → blocks_of k ≡ 0 → thread_of (first_row t k) ≡ t
-first_thread t (commands.New d f) z = absurd (record_has_blocks d f z)
-first_thread t (commands.Arr d e) z = absurd (array_has_blocks d e z)
-first_thread t _ z = refl
+first_unloaded : (c : Config) (k : Command) → row_loading (extent c) k (first_row k) ≡ unloaded
+first_unloaded c (commands.New d f) = refl
+first_unloaded c _ = refl
 
-first_unloaded : (t : ℕ) (k : Command) → loading_of (first_row t k) ≡ unloaded
-first_unloaded t (commands.New d f) = refl
-first_unloaded t _ = refl
-
-not_over : (f : FieldRow) → field_decided f ≡ false → field_reply f ≡ None
+not_over : (r : FieldRow) → field_decided r ≡ false → field_reply r ≡ None
 not_over (rows.Answered reply) e = absurd cc
 not_over _ e = refl
 
 -- a row of a command leaves the phase word
-field_phase : (h : Heap) (f : FieldRow) → heap_after h (field_want f) Phase ≡ h Phase
-field_phase h (rows.StoreNumber t d v) = refl
-field_phase h (rows.StoreNil t d) = refl
-field_phase h (rows.LoadMoved t d s) = refl
-field_phase h (rows.StoreMoved t d s word) = refl
-field_phase h (rows.LoadObject t s access) = refl
-field_phase h (rows.LoadShape t s x access) = refl
-field_phase h (rows.LoadValue t walk v) = refl
-field_phase h (rows.LoadLink t walk errand) = refl
-field_phase h (rows.LoadField t walk d) = refl
-field_phase h (rows.LoadOwner t d word) = refl
-field_phase h (rows.StoreLate t d word value) = refl
-field_phase h (rows.StoreField t walk v word) = refl
-field_phase h (rows.LoadFirst t a b) = refl
-field_phase h (rows.LoadSecond t a b word) = refl
-field_phase h (rows.LoadSaid t s) = refl
-field_phase h (rows.LoadSaidOwner t s word) = refl
-field_phase h (rows.Answered reply) = refl
+row_phase : (c : Config) (h : Heap) (t : ℕ) (k : Command) (r : FieldRow) → heap_after h (row_want (extent c) t k r) Phase ≡ h Phase
+row_phase c h t k rows.StoreNumber = refl
+row_phase c h t k rows.StoreNil = refl
+row_phase c h t k rows.LoadMoved = refl
+row_phase c h t k (rows.StoreMoved word) = refl
+row_phase c h t k rows.LoadObject = refl
+row_phase c h t k (rows.LoadShape x) = refl
+row_phase c h t k (rows.LoadValue way) = refl
+row_phase c h t k (rows.LoadLink way word) = refl
+row_phase c h t k (rows.LoadField way) = refl
+row_phase c h t k (rows.LoadOwner word) = refl
+row_phase c h t k (rows.StoreLate word value) = refl
+row_phase c h t k (rows.StoreField way word) = refl
+row_phase c h t k rows.LoadFirst = refl
+row_phase c h t k (rows.LoadSecond word) = refl
+row_phase c h t k rows.LoadSaid = refl
+row_phase c h t k (rows.LoadSaidOwner word) = refl
+row_phase c h t k (rows.Answered reply) = refl
+
+pub field_phase : (c : Config) (h : Heap) (f : FieldState) → heap_after h (field_want (extent c) f) Phase ≡ h Phase
+field_phase c h f = row_phase c h f.pass.thread f.command f.row
 
 -- a command that allocates nothing writes no colour and no grey list
-pub field_colour : (h : Heap) (f : FieldRow) (x : ℕ) → heap_after h (field_want f) (ColourOf x) ≡ h (ColourOf x)
-field_colour h (rows.StoreNumber t d v) x = refl
-field_colour h (rows.StoreNil t d) x = refl
-field_colour h (rows.LoadMoved t d s) x = refl
-field_colour h (rows.StoreMoved t d s word) x = refl
-field_colour h (rows.LoadObject t s access) x = refl
-field_colour h (rows.LoadShape t s y access) x = refl
-field_colour h (rows.LoadValue t walk v) x = refl
-field_colour h (rows.LoadLink t walk errand) x = refl
-field_colour h (rows.LoadField t walk d) x = refl
-field_colour h (rows.LoadOwner t d word) x = refl
-field_colour h (rows.StoreLate t d word value) x = refl
-field_colour h (rows.StoreField t walk v word) x = refl
-field_colour h (rows.LoadFirst t a b) x = refl
-field_colour h (rows.LoadSecond t a b word) x = refl
-field_colour h (rows.LoadSaid t s) x = refl
-field_colour h (rows.LoadSaidOwner t s word) x = refl
-field_colour h (rows.Answered reply) x = refl
+row_colour : (c : Config) (h : Heap) (t : ℕ) (k : Command) (r : FieldRow) (y : ℕ) → heap_after h (row_want (extent c) t k r) (ColourOf y) ≡ h (ColourOf y)
+row_colour c h t k rows.StoreNumber y = refl
+row_colour c h t k rows.StoreNil y = refl
+row_colour c h t k rows.LoadMoved y = refl
+row_colour c h t k (rows.StoreMoved word) y = refl
+row_colour c h t k rows.LoadObject y = refl
+row_colour c h t k (rows.LoadShape x) y = refl
+row_colour c h t k (rows.LoadValue way) y = refl
+row_colour c h t k (rows.LoadLink way word) y = refl
+row_colour c h t k (rows.LoadField way) y = refl
+row_colour c h t k (rows.LoadOwner word) y = refl
+row_colour c h t k (rows.StoreLate word value) y = refl
+row_colour c h t k (rows.StoreField way word) y = refl
+row_colour c h t k rows.LoadFirst y = refl
+row_colour c h t k (rows.LoadSecond word) y = refl
+row_colour c h t k rows.LoadSaid y = refl
+row_colour c h t k (rows.LoadSaidOwner word) y = refl
+row_colour c h t k (rows.Answered reply) y = refl
 
-field_other : (f : FieldRow) → is_of_grey (place_of (field_want f)) ≡ false
-field_other (rows.StoreNumber t d v) = refl
-field_other (rows.StoreNil t d) = refl
-field_other (rows.LoadMoved t d s) = refl
-field_other (rows.StoreMoved t d s word) = refl
-field_other (rows.LoadObject t s access) = refl
-field_other (rows.LoadShape t s y access) = refl
-field_other (rows.LoadValue t walk v) = refl
-field_other (rows.LoadLink t walk errand) = refl
-field_other (rows.LoadField t walk d) = refl
-field_other (rows.LoadOwner t d word) = refl
-field_other (rows.StoreLate t d word value) = refl
-field_other (rows.StoreField t walk v word) = refl
-field_other (rows.LoadFirst t a b) = refl
-field_other (rows.LoadSecond t a b word) = refl
-field_other (rows.LoadSaid t s) = refl
-field_other (rows.LoadSaidOwner t s word) = refl
-field_other (rows.Answered reply) = refl
+pub field_colour : (c : Config) (h : Heap) (f : FieldState) (y : ℕ) → heap_after h (field_want (extent c) f) (ColourOf y) ≡ h (ColourOf y)
+field_colour c h f y = row_colour c h f.pass.thread f.command f.row y
+
+row_other : (c : Config) (t : ℕ) (k : Command) (r : FieldRow) → is_of_grey (place_of (row_want (extent c) t k r)) ≡ false
+row_other c t k rows.StoreNumber = refl
+row_other c t k rows.StoreNil = refl
+row_other c t k rows.LoadMoved = refl
+row_other c t k (rows.StoreMoved word) = refl
+row_other c t k rows.LoadObject = refl
+row_other c t k (rows.LoadShape x) = refl
+row_other c t k (rows.LoadValue way) = refl
+row_other c t k (rows.LoadLink way word) = refl
+row_other c t k (rows.LoadField way) = refl
+row_other c t k (rows.LoadOwner word) = refl
+row_other c t k (rows.StoreLate word value) = refl
+row_other c t k (rows.StoreField way word) = refl
+row_other c t k rows.LoadFirst = refl
+row_other c t k (rows.LoadSecond word) = refl
+row_other c t k rows.LoadSaid = refl
+row_other c t k (rows.LoadSaidOwner word) = refl
+row_other c t k (rows.Answered reply) = refl
+
+field_other : (c : Config) (f : FieldState) → is_of_grey (place_of (field_want (extent c) f)) ≡ false
+field_other c f = row_other c f.pass.thread f.command f.row
 
 -- a reply that is there is the one that was decided
-reply_waits : (g : Graph) (f : FieldRow) (r : Reply) → field_reply f ≡ Some r → reply_due g f ≡ Some r
-reply_waits g (rows.Answered reply) r e = e
-reply_waits g _ r e = absurd cc
+row_waits : (g : Graph) (t : ℕ) (k : Command) (r : FieldRow) (y : Reply) → field_reply r ≡ Some y → due_at g t k r ≡ Some y
+row_waits g t k (rows.Answered reply) y e = e
+row_waits g t k _ y e = absurd cc
+
+reply_waits : (g : Graph) (f : FieldState) (y : Reply) → field_reply f.row ≡ Some y → reply_due g f ≡ Some y
+reply_waits g f y e = row_waits g f.pass.thread f.command f.row y e
 
 -- and a row with a reply has nothing loaded
-reply_unloads : (f : FieldRow) (r : Reply) → field_reply f ≡ Some r → loading_of f ≡ unloaded
-reply_unloads (rows.Answered reply) r e = refl
-reply_unloads _ r e = absurd cc
+row_unloads : (c : Config) (k : Command) (r : FieldRow) (y : Reply) → field_reply r ≡ Some y → row_loading (extent c) k r ≡ unloaded
+row_unloads c k (rows.Answered reply) y e = refl
+row_unloads c k _ y e = absurd cc
 
--- the thread of a row is that of the next
-way_thread : (t : ℕ) (walk : Walk) (errand : Errand) → thread_of (on_way t walk errand) ≡ t
-way_thread t walk errand = elim (cases_Bool (ltb walk.level (links_to walk.shape walk.index))) [
-  | inl e ↦ rw e refl
-  | inr e ↦ rw e (here errand)
-]
-  where
-    here : (e : Errand) → thread_of (at_block t walk e) ≡ t
-    here (errands.Get d) = refl
-    here (errands.Put v word) = refl
-
-object_thread : (t s : ℕ) (access : Access) (p : Payload) → field_reply (after_object t s access p) ≡ None → thread_of (after_object t s access p) ≡ t
-object_thread t s access payloads.Nil e = absurd cc
-object_thread t s access (payloads.Int n) e = absurd cc
-object_thread t s access (payloads.Block x) e = refl
-
-shape_thread : (t s x : ℕ) (access : Access) (f : Shape) → field_reply (after_shape t s x access f) ≡ None → thread_of (after_shape t s x access f) ≡ t
-shape_thread t s x (accesses.Get d i) f = elim (cases_Bool (ltb i (shape_length f))) [
-  | inl e ↦ rw e (λ _. way_thread t (way_from s x f i) (errands.Get d))
-  | inr e ↦ rw e (λ z. absurd cc)
-]
-shape_thread t s x (accesses.Put i v) f = elim (cases_Bool (ltb i (shape_length f))) [
-  | inl e ↦ rw e (λ _. refl)
-  | inr e ↦ rw e (λ z. absurd cc)
-]
-shape_thread t s x accesses.Len f = λ e. absurd cc
-
-loaded_thread : (t d w : ℕ) (p : Payload) → thread_of (after_field t d w p) ≡ t
-loaded_thread t d w payloads.Nil = refl
-loaded_thread t d w (payloads.Int n) = refl
-loaded_thread t d w (payloads.Block x) = refl
-
-said_thread : (t s w : ℕ) (p : Payload) → field_reply (after_said t s w p) ≡ None → thread_of (after_said t s w p) ≡ t
-said_thread t s w payloads.Nil e = absurd cc
-said_thread t s w (payloads.Int n) e = absurd cc
-said_thread t s w (payloads.Block x) e = refl
-
-same_thread : (f : FieldRow) (w : ℕ) → field_reply (field_got f w) ≡ None → thread_of (field_got f w) ≡ thread_of f
-same_thread (rows.StoreNumber t d v) w e = absurd cc
-same_thread (rows.StoreNil t d) w e = absurd cc
-same_thread (rows.LoadMoved t d s) w e = refl
-same_thread (rows.StoreMoved t d s word) w e = absurd cc
-same_thread (rows.LoadObject t s access) w e = object_thread t s access (payload_in w) e
-same_thread (rows.LoadShape t s x access) w e = shape_thread t s x access (shape_in w) e
-same_thread (rows.LoadValue t walk v) w e = way_thread t walk (errands.Put v w)
-same_thread (rows.LoadLink t walk errand) w e = way_thread t (record walk { level = walk.level + 1; block = target w }) errand
-same_thread (rows.LoadField t walk d) w e = loaded_thread t d w (payload_in w)
-same_thread (rows.LoadOwner t d word) w e = refl
-same_thread (rows.StoreLate t d word value) w e = absurd cc
-same_thread (rows.StoreField t walk v word) w e = absurd cc
-same_thread (rows.LoadFirst t a b) w e = refl
-same_thread (rows.LoadSecond t a b word) w e = absurd cc
-same_thread (rows.LoadSaid t s) w e = said_thread t s w (payload_in w) e
-same_thread (rows.LoadSaidOwner t s word) w e = absurd cc
-same_thread (rows.Answered reply) w e = absurd cc
+reply_unloads : (c : Config) (f : FieldState) (y : Reply) → field_reply f.row ≡ Some y → loading_of (extent c) f ≡ unloaded
+reply_unloads c f y e = row_unloads c f.command f.row y e
 
 -- what is decided is told once
 tell : (t : ℕ) (k : Command) (paid : ℕ) (before : Option Reply) (b : Bool) (r : Reply) → (b ≡ true → before ≡ None) → entries_of t k paid before ++ cond b (entry_of t k paid r ∷ []) [] ≡ entries_of t k paid (cond b (Some r) before)
@@ -327,12 +279,12 @@ tell t k paid before true r none = ap (λ o. entries_of t k paid o ++ entry_of t
 tell t k paid before false r none = append-nil (entries_of t k paid before)
 
 -- a command that allocates nothing is decided as its step, with no work
-served_graph : (g : Graph) (t : ℕ) (k : Command) (b : Bool) → blocks_of k ≡ 0 → graph_decided g t k b ≡ graph_after g t k b
-served_graph g t k true z = ap (λ x. cond x (step g t k).0 g) (eq-eqb (blocks_of k) 0 z)
+served_graph : (g : Graph) (t : ℕ) (k : Command) (b : Bool) → makes_object k ≡ false → graph_decided g t k b ≡ graph_after g t k b
+served_graph g t k true z = ap (λ x. cond (not x) (step g t k).0 g) z
 served_graph g t k false z = refl
 
-pub served_reply : (g : Graph) (t : ℕ) (k : Command) → blocks_of k ≡ 0 → reply_decided g t k ≡ (step g t k).1
-served_reply g t k z = ap (λ x. cond x (step g t k).1 (Full 1)) (eq-eqb (blocks_of k) 0 z)
+pub served_reply : (g : Graph) (t : ℕ) (k : Command) → makes_object k ≡ false → reply_decided g t k ≡ (step g t k).1
+served_reply g t k z = ap (λ x. cond x (Full 1) (step g t k).1) z
 
 no_works : (t : ℕ) (k : Command) (paid : ℕ) (r : Reply) (b : Bool) → paid ≡ 0 → works (cond b (entry_of t k paid r ∷ []) []) ≡ 0
 no_works t k paid r true z = omega (arith, z)
@@ -343,12 +295,12 @@ no_work t k paid None z = refl
 no_work t k paid (Some r) z = omega (arith, z)
 
 -- an allocation is refused
-refused_graph : (g : Graph) (t : ℕ) (k : Command) (b : Bool) → (blocks_of k ≡ 0 → ⊥) → graph_decided g t k b ≡ g
-refused_graph g t k true n = ap (λ x. cond x (step g t k).0 g) (ne_eqb (blocks_of k) 0 n)
+refused_graph : (g : Graph) (t : ℕ) (k : Command) (b : Bool) → makes_object k ≡ true → graph_decided g t k b ≡ g
+refused_graph g t k true n = ap (λ x. cond (not x) (step g t k).0 g) n
 refused_graph g t k false n = refl
 
-pub refused_reply : (g : Graph) (t : ℕ) (k : Command) → (blocks_of k ≡ 0 → ⊥) → reply_decided g t k ≡ Full 1
-refused_reply g t k n = ap (λ x. cond x (step g t k).1 (Full 1)) (ne_eqb (blocks_of k) 0 n)
+pub refused_reply : (g : Graph) (t : ℕ) (k : Command) → makes_object k ≡ true → reply_decided g t k ≡ Full 1
+refused_reply g t k n = ap (λ x. cond x (Full 1) (step g t k).1) n
 
 -- what a thread holds stays
 holding_self : (hs : ℕ → GreyHolding) (t : ℕ) (w : GreyHolding) → hs t ≡ w → changed hs t w ≡ hs
@@ -361,8 +313,8 @@ phase_word : (n w : ℕ) (gs : ℕ → Gating) → n ≤ 16 → GateOf n w gs �
 phase_word n w gs few gate mark = record { inside = omega (arith, inside_most n w gs gate); cycle = omega (arith, mark.cycle) }
 
 -- the unit of a Mark pass is paid once
-units_paid : (m : GreyState) (w paid due : ℕ) → paid + bit (not (grey_unit m.row)) ≤ due → cond (is_blackening m.row) (paid + 1) paid + bit (not (grey_unit (grey_got m w).row)) ≤ due
-units_paid m w paid due low = by (grey_unit m.row) (grey_unit (grey_got m w).row) (is_blackening m.row) low (unit_after m w) (unit_once m)
+units_paid : (c : Config) (m : GreyState) (w paid due : ℕ) → paid + bit (not (grey_unit m.row)) ≤ due → cond (is_blackening m.row) (paid + 1) paid + bit (not (grey_unit (grey_got (extent c) m w).row)) ≤ due
+units_paid c m w paid due low = by (grey_unit m.row) (grey_unit (grey_got (extent c) m w).row) (is_blackening m.row) low (unit_after (extent c) m w) (unit_once m)
   where
     by : (a b u : Bool) → paid + bit (not a) ≤ due → b ≡ (a || u) → (a ≡ true → u ≡ false) → cond u (paid + 1) paid + bit (not b) ≤ due
     by true b true l e once = absurd (let z : true ≡ false = once refl in cc)
@@ -376,39 +328,39 @@ units_paid m w paid due low = by (grey_unit m.row) (grey_unit (grey_got m w).row
 mark_moves : (v w : ℕ) → is_closed v ≡ is_closed w → cycle_of v ≡ cycle_of w → is_sweep v ≡ is_sweep w → IsMark w → IsMark v
 mark_moves v w a b d m = record { opened = a ∙ m.opened; cycle = b ∙ m.cycle; sweep = d ∙ m.sweep }
 
-pub opening_low : (c : Config) → IsAdmitted c → opening_last c ≤ c.blocks
+pub opening_low : (c : Config) → IsAdmitted c → opening_blocks c ≤ c.blocks
 opening_low c plan = omega (arith, plan.opens, plan.room)
 
 pub is_thread : (c : Config) → IsInBounds c → IsAdmitted c → (t : ℕ) → t < c.threads → IsThread c t
-is_thread c bounds plan t tl = record { few = bounds.threads; thread = tl; registers = omega (arith, plan.opens, plan.room) }
+is_thread c bounds plan t tl = record { few = bounds.threads; thread = tl; registers = omega (arith, end_more c.width (t + 1) c.threads (omega arith), plan.opens, plan.room) }
 
 -- a word that counts one inside is not 0
 inside_low : (w : ℕ) → 1 ≤ inside_of w → 1 ≤ w
 unfolding inside_of
 inside_low w h = omega arith
 
-module _ (c : Config) (bounds : IsInBounds c) (plan : IsAdmitted c) (g : Graph) (h : Heap) (gs : ℕ → Gating) (ls : ℕ → Loading) (hs : ℕ → GreyHolding) (t : ℕ) (tl : t < c.threads) (k : Command) (inside : IsCommandInBounds c k) (done all due paid : ℕ) (waived : Bool)
-    (gate : GateOf c.threads (h Phase) gs) (phase : IsMark (h Phase)) (shown : Follows c.threads (opening_last c) (every_name (start_graph c)) (opening_at c.threads) (state g h ls))
+module _ (c : Config) (bounds : IsInBounds c) (plan : IsAdmitted c) (g : Graph) (h : Heap) (gs : ℕ → Gating) (ls : ℕ → Loading) (hs : ℕ → GreyHolding) (t : ℕ) (tl : t < c.threads) (pass : Pass) (k : Command) (inside : IsCommandInBounds c k) (done all due paid : ℕ) (waived : Bool)
+    (gate : GateOf c.threads (h Phase) gs) (phase : IsMark (h Phase)) (shown : Follows c.width c.threads (opening_blocks c) (every_name (start_graph c)) (opening_at c.width c.threads) (state g h ls))
     (grey : GreyKept c.threads h hs) (held : IsHeld c h) (solid : IsSolid c h) where
   phase_is : IsPhaseWord (h Phase)
   phase_is = phase_word c.threads (h Phase) gs bounds.threads gate phase
 
-  abbrev Event : Heap → Option Reply → Bool → Part → Option Reply → Bool → Bool → Type 0
-  Event new before b p reply unit nothing = EventKept c g new gs ls hs t k done all due paid waived before b p reply unit nothing
+  abbrev Event : Heap → Option Reply → Bool → Pass → Part → Option Reply → Bool → Bool → Type 0
+  Event new before b q p reply unit nothing = EventKept c g new gs ls hs t k done all due paid waived before b q p reply unit nothing
 
   abbrev more : Bool
   more = not waived && ltb paid due
 
   -- an event that leaves the graph and what was loaded, where nothing is
-  still : (new : Heap) (p : Part) → block_words new ≡ block_words h → ls t ≡ unloaded → loading p ≡ unloaded → Follows c.threads (opening_last c) (every_name (start_graph c)) (opening_at c.threads) (state g new (with_load ls t (loading p)))
+  still : (new : Heap) (p : Part) → block_words new ≡ block_words h → ls t ≡ unloaded → loading c p ≡ unloaded → Follows c.width c.threads (opening_blocks c) (every_name (start_graph c)) (opening_at c.width c.threads) (state g new (with_load ls t (loading c p)))
   still new p words is e =
-      subst (λ s. Follows c.threads (opening_last c) (every_name (start_graph c)) (opening_at c.threads) s)
+      subst (λ s. Follows c.width c.threads (opening_blocks c) (every_name (start_graph c)) (opening_at c.width c.threads) s)
       (ap (λ w. record { graph = g; words = w; loads = ls }) (sym words) ∙ ap (λ l. state g new l) (sym (ap (λ l. with_load ls t l) e ∙ load_self ls t unloaded is))) shown
 
   -- an event at the gate
-  gate_event : (v : ℕ) (p : Part) → GateOf c.threads v (changed gs t (gating p)) → IsMark v → ls t ≡ unloaded → loading p ≡ unloaded → hs t ≡ no_grey → holding p ≡ no_grey → waiting g p ≡ None
-      → PartKept g t k p → PartFits c done all p → paid + unit_to_come p ≤ due → IsSettled due paid waived p → Event (put_at h Phase v) None false p None false false
-  gate_event v p new mark is unl empty holds waits kept fits low settled = record {
+  gate_event : (v : ℕ) (q : Pass) (p : Part) → GateOf c.threads v (changed gs t (gating c q p)) → IsMark v → ls t ≡ unloaded → loading c p ≡ unloaded → hs t ≡ no_grey → grey_of c p ≡ no_grey → waiting g p ≡ None
+      → PartKept g t q k p → PartFits c done all p → paid + unit_to_come c p ≤ due → IsSettled due paid waived p → Event (put_at h Phase v) None false q p None false false
+  gate_event v q p new mark is unl empty holds waits kept fits low settled = record {
     gate = new;
     phase = mark;
     shown = still (put_at h Phase v) p refl is unl;
@@ -417,7 +369,7 @@ module _ (c : Config) (bounds : IsInBounds c) (plan : IsAdmitted c) (g : Graph) 
     over = λ r e. absurd cc;
     told = sym (ap (entries_of t k paid) waits);
     grey = subst (λ x. GreyKept c.threads (put_at h Phase v) x) (sym (ap (changed hs t) holds ∙ holding_self hs t no_grey empty)) grey;
-    held = held_put c h Phase v (phase_word c.threads v (changed gs t (gating p)) bounds.threads new mark) held;
+    held = held_put c h Phase v (phase_word c.threads v (changed gs t (gating c q p)) bounds.threads new mark) held;
     solid = solid;
     low = low;
     settled = settled;
@@ -425,8 +377,8 @@ module _ (c : Config) (bounds : IsInBounds c) (plan : IsAdmitted c) (g : Graph) 
   }
 
   -- and one that only looks
-  look_at : (p : Part) → GateOf c.threads (h Phase) (changed gs t (gating p)) → ls t ≡ unloaded → loading p ≡ unloaded → hs t ≡ no_grey → holding p ≡ no_grey → waiting g p ≡ None
-      → PartKept g t k p → PartFits c done all p → paid + unit_to_come p ≤ due → IsSettled due paid waived p → Event h None false p None false false
+  look_at : (p : Part) → GateOf c.threads (h Phase) (changed gs t (gating c pass p)) → ls t ≡ unloaded → loading c p ≡ unloaded → hs t ≡ no_grey → grey_of c p ≡ no_grey → waiting g p ≡ None
+      → PartKept g t pass k p → PartFits c done all p → paid + unit_to_come c p ≤ due → IsSettled due paid waived p → Event h None false pass p None false false
   look_at p new is unl empty holds waits kept fits low settled = record {
     gate = new;
     phase = phase;
@@ -444,43 +396,43 @@ module _ (c : Config) (bounds : IsInBounds c) (plan : IsAdmitted c) (g : Graph) 
   }
 
   -- on the way in
-  look_event : (gs t).stand ≡ Outside → ls t ≡ unloaded → hs t ≡ no_grey → done < all → paid ≤ due → Event h None false (if_entered (gate_entered (gate_got gates.Look (h Phase))) t c.threads k more (gate_got gates.Look (h Phase))) None false false
+  look_event : (gs t).stand ≡ Outside → ls t ≡ unloaded → hs t ≡ no_grey → done < all → paid ≤ due → Event h None false (pass_got (gate_entered (gate_got gates.Look (h Phase))) t c.threads pass) (if_entered (gate_entered (gate_got gates.Look (h Phase))) t c.threads k more (gate_got gates.Look (h Phase))) None false false
   look_event out is empty low pays = rw phase.opened (look_at (Enter (gates.Enter (h Phase))) (gate_stays c.threads (h Phase) gs gate t tl _ (sym out) (λ e. absurd cc)) is refl empty refl refl tt (record { word = phase_is; opened = phase.opened }, refl, low) (omega (arith, pays)) tt)
 
-  -- the part of a thread that has entered
-  pub record EnteredKept (p : Part) : Type 0 where
-    pub gates : gating p ≡ gating Count
-    pub loads : loading p ≡ unloaded
-    pub holds : holding p ≡ no_grey
+  -- the part of a thread that has entered, in its pass
+  pub record EnteredKept (q : Pass) (p : Part) : Type 0 where
+    pub gates : gating c q p ≡ gating c q Count
+    pub loads : loading c p ≡ unloaded
+    pub holds : grey_of c p ≡ no_grey
     pub waits : waiting g p ≡ None
-    pub stands : PartKept g t k p
+    pub stands : PartKept g t q k p
     pub settled : IsSettled due paid waived p
 
-  entered_kept : EnteredKept (first_part t c.threads k more 1)
-  entered_kept = elim (cases_eq (blocks_of k) 0) [
-    | inl z ↦
-        let first = first_undecided t k z in
-        let none = none_due g (first_row t k) first in
-        rw (eq-eqb (blocks_of k) 0 z) (record {
+  entered_kept : (q : Pass) → q.thread ≡ t → EnteredKept q (first_part q k more)
+  entered_kept q own = elim (cases_Bool (makes_object k)) [
+    | inl n ↦ rw n (by more n refl)
+    | inr z ↦
+        let first = first_undecided k z in
+        let none = none_due g q.thread k (first_row k) first in
+        rw z (record {
           gates = refl;
-          loads = first_unloaded t k;
+          loads = first_unloaded c k;
           holds = refl;
           waits = none.0;
-          stands = record { serves = z; thread = first_thread t k z; asks = λ _. first_asked t k z; known = none.1; going = not_over (first_row t k) first };
+          stands = record { serves = z; passes = refl; thread = own; command = refl; known = none.1; going = not_over (first_row k) first };
           settled = tt;
         })
-    | inr n ↦ rw (ne_eqb (blocks_of k) 0 n) (by more n refl)
   ]
     where
-      by : (b : Bool) → (blocks_of k ≡ 0 → ⊥) → more ≡ b → EnteredKept (cond b (Mark (scanning t c.threads 1)) Count)
-      by true n e = record { gates = refl; loads = refl; holds = refl; waits = refl; stands = record { allocates = n; thread = refl; cycle = refl }; settled = tt }
+      by : (b : Bool) → makes_object k ≡ true → more ≡ b → EnteredKept q (cond b (Mark (scanning q)) Count)
+      by true n e = record { gates = refl; loads = refl; holds = refl; waits = refl; stands = record { allocates = n; passes = refl; thread = own }; settled = tt }
       by false n e = record { gates = refl; loads = refl; holds = refl; waits = refl; stands = n; settled = e }
 
   more_due : more ≡ true → paid < due
   more_due e = ltb-true paid due (and_parts (not waived) (ltb paid due) e).1
 
   enter_event : (seen : ℕ) → SeenOpen seen → (gs t).stand ≡ Outside → ls t ≡ unloaded → hs t ≡ no_grey → done < all → paid ≤ due
-      → Event (heap_after h (gate_want (gates.Enter seen))) None false (if_entered (gate_entered (gate_got (gates.Enter seen) (h Phase))) t c.threads k more (gate_got (gates.Enter seen) (h Phase))) None false false
+      → Event (heap_after h (gate_want (gates.Enter seen))) None false (pass_got (gate_entered (gate_got (gates.Enter seen) (h Phase))) t c.threads pass) (if_entered (gate_entered (gate_got (gates.Enter seen) (h Phase))) t c.threads k more (gate_got (gates.Enter seen) (h Phase))) None false false
   enter_event seen fit out is empty low pays = elim (cases_Bool (eqb (h Phase) seen)) [
     | inl e ↦ rw e (won (eqb-true (h Phase) seen e))
     | inr e ↦ rw e (look_at (Enter gates.Look) (gate_stays c.threads (h Phase) gs gate t tl _ (sym out) (λ e. absurd cc)) is refl empty refl refl tt (tt, refl, low) (omega (arith, pays)) tt)
@@ -489,90 +441,90 @@ module _ (c : Config) (bounds : IsInBounds c) (plan : IsAdmitted c) (g : Graph) 
       more_inside : phase_of (h Phase + 1) ≡ record (phase_of (h Phase)) { inside = inside_of (h Phase) + 1 }
       more_inside = phase-more (h Phase) phase_is.inside
 
-      cycle_is : h Phase ≡ seen → cycle_of seen ≡ 1
-      cycle_is e = ap cycle_of (sym e) ∙ phase.cycle
+      cycle_is : h Phase ≡ seen → cycle_of seen ≡ cycle_of (h Phase)
+      cycle_is e = ap cycle_of (sym e)
 
-      first : ℕ → Part
-      first cycle = first_part t c.threads k more cycle
+      sweep_is : h Phase ≡ seen → is_sweep seen ≡ is_sweep (h Phase)
+      sweep_is e = ap is_sweep (sym e)
 
-      won : h Phase ≡ seen → Event (put_at h Phase (seen + 1)) None false (first_part t c.threads k more (cycle_of seen)) None false false
+      won : h Phase ≡ seen → Event (put_at h Phase (seen + 1)) None false (pass_by t c.threads (phase_of seen)) (first_part (pass_by t c.threads (phase_of seen)) k more) None false false
       won e =
-          subst (λ x. Event (put_at h Phase (x + 1)) None false (first_part t c.threads k more (cycle_of seen)) None false false) e
-          (subst (λ x. Event (put_at h Phase (h Phase + 1)) None false (first_part t c.threads k more x) None false false) (sym (cycle_is e))
-          (gate_event (h Phase + 1) (first_part t c.threads k more 1)
-          (subst (λ x. GateOf c.threads (h Phase + 1) (changed gs t x)) (sym entered_kept.gates) (gate_enters c.threads (h Phase) gs gate t tl (gating Count) (omega (arith, bounds.threads)) phase.opened out refl (sym phase.cycle) (sym phase.sweep)))
+          let kept = entered_kept (pass_by t c.threads (phase_of seen)) refl in
+          subst (λ x. Event (put_at h Phase (x + 1)) None false (pass_by t c.threads (phase_of seen)) (first_part (pass_by t c.threads (phase_of seen)) k more) None false false) e
+          (gate_event (h Phase + 1) (pass_by t c.threads (phase_of seen)) (first_part (pass_by t c.threads (phase_of seen)) k more)
+          (subst (λ x. GateOf c.threads (h Phase + 1) (changed gs t x)) (sym kept.gates) (gate_enters c.threads (h Phase) gs gate t tl (gating c (pass_by t c.threads (phase_of seen)) Count) (omega (arith, bounds.threads)) phase.opened out refl (cycle_is e) (sweep_is e)))
           (mark_moves (h Phase + 1) (h Phase) (ap (λ (p : PhaseWord). p.closed) more_inside) (ap (λ (p : PhaseWord). p.cycle) more_inside) (ap (λ (p : PhaseWord). p.sweep) more_inside) phase)
-          is entered_kept.loads empty entered_kept.holds entered_kept.waits entered_kept.stands
-          (first_part_fits c done all t k more 1 (is_thread c bounds plan t tl) bounds.blocks inside low)
-          (first_part_pays t c.threads k more 1 paid due pays more_due)
-          entered_kept.settled))
+          is kept.loads empty kept.holds kept.waits kept.stands
+          (first_part_fits c done all (pass_by t c.threads (phase_of seen)) k more refl (is_thread c bounds plan t tl) bounds.blocks inside low)
+          (first_part_pays c (pass_by t c.threads (phase_of seen)) k more paid due pays more_due)
+          kept.settled)
 
   -- on the way out, at rest or to come in again
-  leave_event : (p : Part) → (gs t).stand ≡ Inside → gating p ≡ gating Rest → ls t ≡ unloaded → loading p ≡ unloaded → hs t ≡ no_grey → holding p ≡ no_grey → waiting g p ≡ None
-      → PartKept g t k p → PartFits c done all p → paid + unit_to_come p ≤ due → IsSettled due paid waived p → Event (heap_after h (gate_want gates.Leave)) None false p None false false
+  leave_event : (p : Part) → (gs t).stand ≡ Inside → gating c pass p ≡ gating c pass Rest → ls t ≡ unloaded → loading c p ≡ unloaded → hs t ≡ no_grey → grey_of c p ≡ no_grey → waiting g p ≡ None
+      → PartKept g t pass k p → PartFits c done all p → paid + unit_to_come c p ≤ due → IsSettled due paid waived p → Event (heap_after h (gate_want gates.Leave)) None false pass p None false false
   leave_event p is out unl loads empty holds waits kept fits low settled =
       let some : 1 ≤ inside_of (h Phase) = inside_some c.threads (h Phase) gs gate t tl is in
       let less = phase-less (h Phase) some in
-      gate_event (h Phase - 1) p
-      (subst (λ x. GateOf c.threads (h Phase - 1) (changed gs t x)) (sym out) (gate_leaves c.threads (h Phase) gs gate t tl (gating Rest) is refl))
+      gate_event (h Phase - 1) pass p
+      (subst (λ x. GateOf c.threads (h Phase - 1) (changed gs t x)) (sym out) (gate_leaves c.threads (h Phase) gs gate t tl (gating c pass Rest) is refl))
       (mark_moves (h Phase - 1) (h Phase) (ap (λ (p : PhaseWord). p.closed) less) (ap (λ (p : PhaseWord). p.cycle) less) (ap (λ (p : PhaseWord). p.sweep) less) phase)
       unl loads empty holds waits kept fits low settled
 
   -- inside, where the phase word stays
-  stays : (new : Heap) (p q : Part) → new Phase ≡ h Phase → gs t ≡ gating q → stand_of q ≡ Inside → stand_of p ≡ Inside → GateOf c.threads (new Phase) (changed gs t (gating p))
-  stays new p q same stands from to = subst (λ w. GateOf c.threads w (changed gs t (gating p))) (sym same)
-      (gate_stays c.threads (h Phase) gs gate t tl (gating p) (to ∙ sym (ap (λ (x : Gating). x.stand) stands ∙ from)) (λ _. (sym (ap (λ (x : Gating). x.cycle) stands), sym (ap (λ (x : Gating). x.sweep) stands))))
+  stays : (new : Heap) (p q : Part) → new Phase ≡ h Phase → gs t ≡ gating c pass q → stand_of c q ≡ Inside → stand_of c p ≡ Inside → GateOf c.threads (new Phase) (changed gs t (gating c pass p))
+  stays new p q same stands from to = subst (λ w. GateOf c.threads w (changed gs t (gating c pass p))) (sym same)
+      (gate_stays c.threads (h Phase) gs gate t tl (gating c pass p) (to ∙ sym (ap (λ (x : Gating). x.stand) stands ∙ from)) (λ _. (sym (ap (λ (x : Gating). x.cycle) stands), sym (ap (λ (x : Gating). x.sweep) stands))))
 
   -- in a Mark pass
-  module _ (m : GreyState) (is : ls t ≡ unloaded) (stands : gs t ≡ gating (Mark m)) (holds : hs t ≡ grey_holding m.row) (kept : MarkKept t k m) (fits : GreyFits c m) (low : done < all) (pays : paid + unit_to_come (Mark m) ≤ due) where
+  module _ (m : GreyState) (is : ls t ≡ unloaded) (stands : gs t ≡ gating c pass (Mark m)) (holds : hs t ≡ grey_held (holding_at (extent c) m)) (kept : MarkKept t pass k m) (fits : GreyFits c m) (low : done < all) (pays : paid + unit_to_come c (Mark m) ≤ due) where
     abbrev mark_word : ℕ
     mark_word = h (place_of (grey_want m))
 
     pub mark_reads : GreyReads c m (h (place_of (grey_want m)))
     mark_reads = held (place_of (grey_want m)) (marks.place_fits c m fits)
 
-    mark_kept : GreyKept c.threads (heap_after h (grey_want m)) (changed hs t (grey_holding (grey_got m mark_word).row))
-    mark_kept = subst (λ x. GreyKept c.threads (heap_after h (grey_want m)) (changed hs x (grey_holding (grey_got m mark_word).row))) kept.thread (keeps c h hs m fits grey (ap hs kept.thread ∙ holds))
+    mark_kept : GreyKept c.threads (heap_after h (grey_want m)) (changed hs t (grey_held (holding_at (extent c) (grey_got (extent c) m mark_word))))
+    mark_kept = subst (λ x. GreyKept c.threads (heap_after h (grey_want m)) (changed hs x (grey_held (holding_at (extent c) (grey_got (extent c) m mark_word))))) kept.thread (keeps c h hs m fits grey (ap hs kept.thread ∙ holds))
 
-    mark_event : (b : Bool) → grey_over (grey_got m mark_word).row ≡ b
-        → Event (heap_after h (grey_want m)) None false (cond b Again (Mark (grey_got m mark_word))) None (makes_unit (Mark m) mark_word) (finds_nothing (Mark m) mark_word)
+    mark_event : (b : Bool) → grey_over (grey_got (extent c) m mark_word).row ≡ b
+        → Event (heap_after h (grey_want m)) None false pass (cond b Again (Mark (grey_got (extent c) m mark_word))) None (makes_unit c (Mark m) mark_word) (finds_nothing c (Mark m) mark_word)
     mark_event true e = record {
-      gate = stays (heap_after h (grey_want m)) Again (Mark m) (mark_phase h m.thread m.threads m.cycle m.row) stands refl refl;
-      phase = subst (λ w. IsMark w) (sym (mark_phase h m.thread m.threads m.cycle m.row)) phase;
-      shown = still (heap_after h (grey_want m)) Again (mark_words h m.thread m.threads m.cycle m.row) is refl;
+      gate = stays (heap_after h (grey_want m)) Again (Mark m) (mark_phase h m.pass.thread m.pass.threads m.pass.cycle m.row) stands refl refl;
+      phase = subst (λ w. IsMark w) (sym (mark_phase h m.pass.thread m.pass.threads m.pass.cycle m.row)) phase;
+      shown = still (heap_after h (grey_want m)) Again (mark_words h m.pass.thread m.pass.threads m.pass.cycle m.row) is refl;
       part = kept.allocates;
       fits = low;
       over = λ r z. absurd cc;
       told = refl;
-      grey = subst (λ x. GreyKept c.threads (heap_after h (grey_want m)) (changed hs t x)) (over_holds_none (grey_got m mark_word).row e) mark_kept;
+      grey = subst (λ x. GreyKept c.threads (heap_after h (grey_want m)) (changed hs t x)) (over_holds_none (payloads c.width) (grey_got (extent c) m mark_word).row e) mark_kept;
       held = held_after c h (grey_want m) (marks.stores_held c m fits) held;
-      solid = λ x some last. mark_solid h m.thread m.threads m.cycle m.row x (solid x some last);
-      low = omega (arith, units_paid m mark_word paid due pays);
+      solid = λ x some last. mark_solid h m.pass.thread m.pass.threads m.pass.cycle m.row x (solid x some last);
+      low = omega (arith, units_paid c m mark_word paid due pays);
       settled = tt;
       counted = refl;
     }
     mark_event false e = record {
-      gate = stays (heap_after h (grey_want m)) (Mark (grey_got m mark_word)) (Mark m) (mark_phase h m.thread m.threads m.cycle m.row) stands refl refl;
-      phase = subst (λ w. IsMark w) (sym (mark_phase h m.thread m.threads m.cycle m.row)) phase;
-      shown = still (heap_after h (grey_want m)) (Mark (grey_got m mark_word)) (mark_words h m.thread m.threads m.cycle m.row) is refl;
-      part = record { allocates = kept.allocates; thread = kept.thread; cycle = kept.cycle };
+      gate = stays (heap_after h (grey_want m)) (Mark (grey_got (extent c) m mark_word)) (Mark m) (mark_phase h m.pass.thread m.pass.threads m.pass.cycle m.row) stands refl refl;
+      phase = subst (λ w. IsMark w) (sym (mark_phase h m.pass.thread m.pass.threads m.pass.cycle m.row)) phase;
+      shown = still (heap_after h (grey_want m)) (Mark (grey_got (extent c) m mark_word)) (mark_words h m.pass.thread m.pass.threads m.pass.cycle m.row) is refl;
+      part = record { allocates = kept.allocates; passes = kept.passes; thread = kept.thread };
       fits = (marks.next_fits c m mark_word fits mark_reads, low);
       over = λ r z. absurd cc;
       told = refl;
       grey = mark_kept;
       held = held_after c h (grey_want m) (marks.stores_held c m fits) held;
-      solid = λ x some last. mark_solid h m.thread m.threads m.cycle m.row x (solid x some last);
-      low = units_paid m mark_word paid due pays;
+      solid = λ x some last. mark_solid h m.pass.thread m.pass.threads m.pass.cycle m.row x (solid x some last);
+      low = units_paid c m mark_word paid due pays;
       settled = tt;
       counted = refl;
     }
 
   -- an allocation is answered full, and leaves the graph
-  count_event : ls t ≡ unloaded → gs t ≡ gating Count → hs t ≡ no_grey → (blocks_of k ≡ 0 → ⊥) → Event h None true Leave (Some (Full 1)) false false
+  count_event : ls t ≡ unloaded → gs t ≡ gating c pass Count → hs t ≡ no_grey → makes_object k ≡ true → Event h None true pass Leave (Some (Full 1)) false false
   count_event is stands empty allocates = record {
     gate = stays h Leave Count refl stands refl refl;
     phase = phase;
-    shown = subst (λ x. Follows c.threads (opening_last c) (every_name (start_graph c)) (opening_at c.threads) (state x h (with_load ls t unloaded))) (sym (refused_graph g t k true allocates)) (still h Leave refl is refl);
+    shown = subst (λ x. Follows c.width c.threads (opening_blocks c) (every_name (start_graph c)) (opening_at c.width c.threads) (state x h (with_load ls t unloaded))) (sym (refused_graph g t k true allocates)) (still h Leave refl is refl);
     part = tt;
     fits = tt;
     over = λ r e. refl;
@@ -586,67 +538,67 @@ module _ (c : Config) (bounds : IsInBounds c) (plan : IsAdmitted c) (g : Graph) 
   }
 
   -- in a command
-  module _ (f : FieldRow) (is : ls t ≡ loading_of f) (stands : (gs t) ≡ gating (Serve f)) (empty : hs t ≡ no_grey) (kept : RowKept g t k f) (fits : FieldFits c f) (low : done < all) (unpaid : paid ≡ 0) where
-    pub reads : FieldReads c f (h (place_of (field_want f)))
-    reads = field_reads c bounds (opening_last c) (opening_low c plan) (every_name (start_graph c)) (opening_at c.threads) g h ls shown t f fits kept.thread is kept.going
+  module _ (f : FieldState) (is : ls t ≡ loading_of (extent c) f) (stands : gs t ≡ gating c pass (Serve f)) (empty : hs t ≡ no_grey) (kept : RowKept g t pass k f) (fits : FieldFits c f) (low : done < all) (unpaid : paid ≡ 0) where
+    pub reads : FieldReads c f (h (place_of (field_want (extent c) f)))
+    reads = field_reads c bounds (opening_blocks c) (opening_low c plan) (every_name (start_graph c)) (opening_at c.width c.threads) g h ls shown t f fits kept.thread is kept.going
 
-    moves : FieldStep c.threads (opening_last c) (every_name (start_graph c)) (opening_at c.threads) g (heap_after h (field_want f)) ls t k (reply_due g f) (is_deciding f (h (place_of (field_want f)))) (field_got f (h (place_of (field_want f))))
-    moves = field_moves c bounds (opening_last c) (opening_low c plan) (every_name (start_graph c)) (opening_at c.threads) g h ls shown t f fits kept.thread is kept.going k kept.asks kept.known
+    moves : FieldStep c (opening_blocks c) (every_name (start_graph c)) (opening_at c.width c.threads) g (heap_after h (field_want (extent c) f)) ls t k (reply_due g f) (is_deciding f.command f.row (h (place_of (field_want (extent c) f)))) (field_got (extent c) f (h (place_of (field_want (extent c) f))))
+    moves = field_moves c bounds (opening_blocks c) (opening_low c plan) (every_name (start_graph c)) (opening_at c.width c.threads) g h ls shown t k f fits kept.thread kept.command is kept.going kept.known
 
     abbrev row_decides : Bool
-    row_decides = is_deciding f (h (place_of (field_want f)))
+    row_decides = is_deciding f.command f.row (h (place_of (field_want (extent c) f)))
 
     graph_is : graph_decided g t k row_decides ≡ graph_after g t k row_decides
     graph_is = served_graph g t k row_decides kept.serves
 
     told_is : entries_of t k paid (reply_due g f) ++ cond row_decides (entry_of t k paid (reply_decided g t k) ∷ []) []
-        ≡ entries_of t k paid (reply_due (graph_decided g t k row_decides) (field_got f (h (place_of (field_want f)))))
+        ≡ entries_of t k paid (reply_due (graph_decided g t k row_decides) (field_got (extent c) f (h (place_of (field_want (extent c) f)))))
     told_is =
         ap (λ r. entries_of t k paid (reply_due g f) ++ cond row_decides (entry_of t k paid r ∷ []) []) (served_reply g t k kept.serves)
-        ∙ tell t k paid (reply_due g f) row_decides (step g t k).1 (λ e. (none_due g f (undecided f (h (place_of (field_want f))) e)).0) ∙ ap (entries_of t k paid) (sym moves.reply)
-        ∙ sym (ap (λ x. entries_of t k paid (reply_due x (field_got f (h (place_of (field_want f)))))) graph_is)
+        ∙ tell t k paid (reply_due g f) row_decides (step g t k).1 (λ e. (none_due g f.pass.thread f.command f.row (undecided f.command f.row (h (place_of (field_want (extent c) f))) e)).0) ∙ ap (entries_of t k paid) (sym moves.reply)
+        ∙ sym (ap (λ x. entries_of t k paid (reply_due x (field_got (extent c) f (h (place_of (field_want (extent c) f)))))) graph_is)
 
-    row_grey : (p : Part) → holding p ≡ no_grey → GreyKept c.threads (heap_after h (field_want f)) (changed hs t (holding p))
-    row_grey p e = subst (λ x. GreyKept c.threads (heap_after h (field_want f)) x) (sym (ap (changed hs t) e ∙ holding_self hs t no_grey empty)) (kept_other c.threads h hs (field_want f) (field_other f) grey)
+    row_grey : (p : Part) → grey_of c p ≡ no_grey → GreyKept c.threads (heap_after h (field_want (extent c) f)) (changed hs t (grey_of c p))
+    row_grey p e = subst (λ x. GreyKept c.threads (heap_after h (field_want (extent c) f)) x) (sym (ap (changed hs t) e ∙ holding_self hs t no_grey empty)) (kept_other c.threads h hs (field_want (extent c) f) (field_other c f) grey)
 
-    row_solid : IsSolid c (heap_after h (field_want f))
-    row_solid x some last = ap is_free (field_colour h f x) ∙ solid x some last
+    row_solid : IsSolid c (heap_after h (field_want (extent c) f))
+    row_solid x some last = ap is_free (field_colour c h f x) ∙ solid x some last
 
-    row_shown : (l : Loading) → loading_of (field_got f (h (place_of (field_want f)))) ≡ l
-        → Follows c.threads (opening_last c) (every_name (start_graph c)) (opening_at c.threads) (state (graph_decided g t k row_decides) (heap_after h (field_want f)) (with_load ls t l))
-    row_shown l e = subst (λ x. Follows c.threads (opening_last c) (every_name (start_graph c)) (opening_at c.threads) (state x (heap_after h (field_want f)) (with_load ls t l))) (sym graph_is)
-        (subst (λ x. Follows c.threads (opening_last c) (every_name (start_graph c)) (opening_at c.threads) (state (graph_after g t k row_decides) (heap_after h (field_want f)) (with_load ls t x))) e moves.follows)
+    row_shown : (l : Loading) → loading_of (extent c) (field_got (extent c) f (h (place_of (field_want (extent c) f)))) ≡ l
+        → Follows c.width c.threads (opening_blocks c) (every_name (start_graph c)) (opening_at c.width c.threads) (state (graph_decided g t k row_decides) (heap_after h (field_want (extent c) f)) (with_load ls t l))
+    row_shown l e = subst (λ x. Follows c.width c.threads (opening_blocks c) (every_name (start_graph c)) (opening_at c.width c.threads) (state x (heap_after h (field_want (extent c) f)) (with_load ls t l))) (sym graph_is)
+        (subst (λ x. Follows c.width c.threads (opening_blocks c) (every_name (start_graph c)) (opening_at c.width c.threads) (state (graph_after g t k row_decides) (heap_after h (field_want (extent c) f)) (with_load ls t x))) e moves.follows)
 
     counted_is : (o : Option Reply) → works (cond row_decides (entry_of t k paid (reply_decided g t k) ∷ []) []) ≡ works (entries_of t k paid o)
     counted_is o = no_works t k paid (reply_decided g t k) row_decides unpaid ∙ sym (no_work t k paid o unpaid)
 
-    pub serve_event : (o : Option Reply) → field_reply (field_got f (h (place_of (field_want f)))) ≡ o
-        → Event (heap_after h (field_want f)) (reply_due g f) row_decides (if_replied o (field_got f (h (place_of (field_want f))))) o false false
+    pub serve_event : (o : Option Reply) → field_reply (field_got (extent c) f (h (place_of (field_want (extent c) f)))).row ≡ o
+        → Event (heap_after h (field_want (extent c) f)) (reply_due g f) row_decides pass (if_replied o (field_got (extent c) f (h (place_of (field_want (extent c) f))))) o false false
     serve_event None e = record {
-      gate = stays (heap_after h (field_want f)) (Serve (field_got f (h (place_of (field_want f))))) (Serve f) (field_phase h f) stands refl refl;
-      phase = subst (λ w. IsMark w) (sym (field_phase h f)) phase;
-      shown = row_shown (loading_of (field_got f (h (place_of (field_want f))))) refl;
-      part = record { serves = kept.serves; thread = same_thread f (h (place_of (field_want f))) e ∙ kept.thread; asks = moves.asks; known = subst (λ x. IsKnown x (field_got f (h (place_of (field_want f))))) (sym graph_is) moves.known; going = e };
-      fits = (field_fits c f (h (place_of (field_want f))) fits reads, low);
+      gate = stays (heap_after h (field_want (extent c) f)) (Serve (field_got (extent c) f (h (place_of (field_want (extent c) f))))) (Serve f) (field_phase c h f) stands refl refl;
+      phase = subst (λ w. IsMark w) (sym (field_phase c h f)) phase;
+      shown = row_shown (loading_of (extent c) (field_got (extent c) f (h (place_of (field_want (extent c) f))))) refl;
+      part = record { serves = kept.serves; passes = kept.passes; thread = kept.thread; command = kept.command; known = subst (λ x. IsKnown x (field_got (extent c) f (h (place_of (field_want (extent c) f))))) (sym graph_is) moves.known; going = e };
+      fits = (field_fits c f (h (place_of (field_want (extent c) f))) fits reads, low);
       over = λ r z. absurd cc;
       told = told_is;
-      grey = row_grey (Serve (field_got f (h (place_of (field_want f))))) refl;
-      held = held_after c h (field_want f) (stores_held c f fits) held;
+      grey = row_grey (Serve (field_got (extent c) f (h (place_of (field_want (extent c) f))))) refl;
+      held = held_after c h (field_want (extent c) f) (stores_held c f fits) held;
       solid = row_solid;
       low = omega (arith, unpaid);
       settled = tt;
       counted = counted_is None;
     }
     serve_event (Some r) e = record {
-      gate = stays (heap_after h (field_want f)) Leave (Serve f) (field_phase h f) stands refl refl;
-      phase = subst (λ w. IsMark w) (sym (field_phase h f)) phase;
-      shown = row_shown unloaded (reply_unloads (field_got f (h (place_of (field_want f)))) r e);
+      gate = stays (heap_after h (field_want (extent c) f)) Leave (Serve f) (field_phase c h f) stands refl refl;
+      phase = subst (λ w. IsMark w) (sym (field_phase c h f)) phase;
+      shown = row_shown unloaded (reply_unloads c (field_got (extent c) f (h (place_of (field_want (extent c) f)))) r e);
       part = tt;
       fits = tt;
       over = λ r z. refl;
-      told = told_is ∙ ap (entries_of t k paid) (reply_waits (graph_decided g t k row_decides) (field_got f (h (place_of (field_want f)))) r e);
+      told = told_is ∙ ap (entries_of t k paid) (reply_waits (graph_decided g t k row_decides) (field_got (extent c) f (h (place_of (field_want (extent c) f)))) r e);
       grey = row_grey Leave refl;
-      held = held_after c h (field_want f) (stores_held c f fits) held;
+      held = held_after c h (field_want (extent c) f) (stores_held c f fits) held;
       solid = row_solid;
       low = omega arith;
       settled = (refl, refl);
@@ -654,14 +606,14 @@ module _ (c : Config) (bounds : IsInBounds c) (plan : IsAdmitted c) (g : Graph) 
     }
 
   -- the event of each part
-  pub part_event : (p : Part) → gs t ≡ gating p → ls t ≡ loading p → hs t ≡ holding p → PartKept g t k p → PartFits c done all p → paid + unit_to_come p ≤ due → IsSettled due paid waived p → (blocks_of k ≡ 0 → paid ≡ 0) → (p ≡ Rest → done < all)
-      → Event (heap_after h (part_want p)) (waiting g p) (decides p (h (place_of (part_want p)))) (part_got t c.threads k more p (h (place_of (part_want p)))) (part_reply p (h (place_of (part_want p)))) (makes_unit p (h (place_of (part_want p)))) (finds_nothing p (h (place_of (part_want p))))
+  pub part_event : (p : Part) → gs t ≡ gating c pass p → ls t ≡ loading c p → hs t ≡ grey_of c p → PartKept g t pass k p → PartFits c done all p → paid + unit_to_come c p ≤ due → IsSettled due paid waived p → (makes_object k ≡ false → paid ≡ 0) → (p ≡ Rest → done < all)
+      → Event (heap_after h (part_want c p)) (waiting g p) (decides c p (h (place_of (part_want c p)))) (pass_got (part_entered c p (h (place_of (part_want c p)))) t c.threads pass) (part_got c t k more p (h (place_of (part_want c p)))) (part_reply c p (h (place_of (part_want c p)))) (makes_unit c p (h (place_of (part_want c p)))) (finds_nothing c p (h (place_of (part_want c p))))
   part_event Rest stands is empty kept fits pays settled served low = look_event (ap (λ (x : Gating). x.stand) stands) is empty (low refl) (omega (arith, pays))
   part_event (Enter gates.Look) stands is empty kept fits pays settled served low = look_event (ap (λ (x : Gating). x.stand) stands) is empty fits.2 (omega (arith, pays))
   part_event (Enter (gates.Enter seen)) stands is empty kept fits pays settled served low = enter_event seen fits.0 (ap (λ (x : Gating). x.stand) stands) is empty fits.2 (omega (arith, pays))
   part_event (Enter _) stands is empty kept fits pays settled served low = absurd kept
-  part_event (Serve f) stands is empty kept fits pays settled served low = serve_event f is stands empty kept fits.0 fits.1 (served kept.serves) (field_reply (field_got f (h (place_of (field_want f))))) refl
-  part_event (Mark m) stands is empty kept fits pays settled served low = mark_event m is stands empty kept fits.0 fits.1 pays (grey_over (grey_got m (h (place_of (grey_want m)))).row) refl
+  part_event (Serve f) stands is empty kept fits pays settled served low = serve_event f is stands empty kept fits.0 fits.1 (served kept.serves) (field_reply (field_got (extent c) f (h (place_of (field_want (extent c) f)))).row) refl
+  part_event (Mark m) stands is empty kept fits pays settled served low = mark_event m is stands empty kept fits.0 fits.1 pays (grey_over (grey_got (extent c) m (h (place_of (grey_want m)))).row) refl
   part_event Count stands is empty kept fits pays settled served low = count_event is stands empty kept
   part_event Again stands is empty kept fits pays settled served low = leave_event (Enter gates.Look) (ap (λ (x : Gating). x.stand) stands) refl is refl empty refl refl tt (tt, refl, fits) pays tt
   part_event Leave stands is empty kept fits pays settled served low = leave_event Rest (ap (λ (x : Gating). x.stand) stands) refl is refl empty refl refl tt tt pays settled
@@ -671,30 +623,30 @@ module _ (c : Config) (bounds : IsInBounds c) (plan : IsAdmitted c) (g : Graph) 
   began = omega (arith, phase.cycle)
 
   -- and the word that it reads is one that it may read
-  pub part_reads : (p : Part) → ls t ≡ loading p → PartKept g t k p → PartFits c done all p → PartReads c p (h (place_of (part_want p)))
+  pub part_reads : (p : Part) → ls t ≡ loading c p → PartKept g t pass k p → PartFits c done all p → PartReads c p (h (place_of (part_want c p)))
   part_reads Rest is kept fits = (phase_is, began)
   part_reads (Enter gates.Look) is kept fits = (phase_is, began)
   part_reads (Enter (gates.Enter seen)) is kept fits = (phase_is, began)
   part_reads (Enter _) is kept fits = absurd kept
-  part_reads (Serve f) is kept fits = field_reads c bounds (opening_last c) (opening_low c plan) (every_name (start_graph c)) (opening_at c.threads) g h ls shown t f fits.0 kept.thread is kept.going
+  part_reads (Serve f) is kept fits = field_reads c bounds (opening_blocks c) (opening_low c plan) (every_name (start_graph c)) (opening_at c.width c.threads) g h ls shown t f fits.0 kept.thread is kept.going
   part_reads (Mark m) is kept fits = held (place_of (grey_want m)) (marks.place_fits c m fits.0)
   part_reads Count is kept fits = held FreeCount refl
   part_reads Again is kept fits = phase_is
   part_reads Leave is kept fits = phase_is
 
   -- no sum or difference leaves 64 bits
-  pub part_sum : (p : Part) → gs t ≡ gating p → PartKept g t k p → Fits (part_want p) (h (place_of (part_want p)))
+  pub part_sum : (p : Part) → gs t ≡ gating c pass p → PartKept g t pass k p → Fits (part_want c p) (h (place_of (part_want c p)))
   part_sum Rest stands kept = tt
   part_sum (Enter gates.Look) stands kept = tt
   part_sum (Enter (gates.Enter seen)) stands kept = tt
   part_sum (Enter _) stands kept = absurd kept
-  part_sum (Serve f) stands kept = field_sum f (h (place_of (field_want f)))
+  part_sum (Serve f) stands kept = field_sum c f (h (place_of (field_want (extent c) f)))
   part_sum (Mark m) stands kept = marks.sum_fits m (h (place_of (grey_want m)))
   part_sum Count stands kept = tt
   part_sum Again stands kept = inside_low (h Phase) (inside_some c.threads (h Phase) gs gate t tl (ap (λ (x : Gating). x.stand) stands))
   part_sum Leave stands kept = inside_low (h Phase) (inside_some c.threads (h Phase) gs gate t tl (ap (λ (x : Gating). x.stand) stands))
 
-pub part_place : (c : Config) (done all : ℕ) (p : Part) → PartFits c done all p → in_range (extent c) (place_of (part_want p)) ≡ true
+pub part_place : (c : Config) (done all : ℕ) (p : Part) → PartFits c done all p → in_range (extent c) (place_of (part_want c p)) ≡ true
 part_place c done all Rest fits = refl
 part_place c done all (Enter a) fits = gate_place c a fits.0 (going_at c a fits.1)
 part_place c done all (Serve f) fits = field_place c f fits.0

@@ -5,19 +5,23 @@ use Rattle.block_store.specs.declared.Config.{Config}
 use Rattle.block_store.specs.Colours.{is_grey, grey_word, black_word, white_word}
 use Rattle.block_store.specs.Heaps.{Heap, put_at}
 use Rattle.block_store.specs.Phases.{bit, cycle_of}
-use Rattle.block_store.specs.Places.{Phase, ColourOf}
+use Rattle.block_store.specs.Widths.{payloads}
+use Rattle.block_store.specs.Places.{extent, Phase, ColourOf}
 use Rattle.block_store.proofs.ColourWords.{not_grey_black, not_grey_white}
 use Rattle.never_heap.specs.declared.Command.{Command}
 use Rattle.never_heap.specs.declared.Reply.{Reply}
 use Rattle.never_heap.specs.Histories.{part, replay}
 use Rattle.heap_machine.specs.Gates.{gate_want}
+use Rattle.heap_machine.specs.Gating.{is_outside}
 use Rattle.heap_machine.specs.Grey.{GreyHolding, GreyKept}
+use Rattle.heap_machine.specs.declared.pass.Pass.{Pass}
 use Rattle.heap_machine.specs.Operations.{place_of}
 use Rattle.heap_machine.specs.declared.gate.GateRow.{GateRow}
 use Rattle.heap_machine.specs.declared.gate.GateRow.TheVariants as gates
 use Rattle.barrier_steps.specs.declared.rows.FieldRow.{FieldRow}
 use Rattle.barrier_steps.specs.declared.rows.FieldRow.TheVariants as rows
-use Rattle.barrier_steps.specs.Rows.{field_want, field_got, field_reply}
+use Rattle.barrier_steps.specs.Rows as fields
+use Rattle.barrier_steps.specs.Rows.{field_got, field_reply}
 use Rattle.grey_steps.specs.declared.rows.GreyRow.{GreyRow}
 use Rattle.grey_steps.specs.declared.rows.GreyRow.TheVariants as marks
 use Rattle.grey_steps.specs.Rows.{row_want, grey_holding}
@@ -27,10 +31,10 @@ use Rattle.heap_system.specs.declared.local.Part.{Part}
 use Rattle.heap_system.specs.declared.local.Part.TheVariants.{Rest, Enter, Serve, Mark, Count, Again, Leave}
 use Rattle.heap_system.specs.Locals.{LocalState, command_of, is_done, part_want, part_reply, makes_unit, paid_got, entry_of, entries_of, works, decides, PartFits}
 use Rattle.heap_system.specs.Machines.{Run, IsJob, IsRunOf, local_at, word_read, event_done, has_event, reply_decided, entry_decided, next, after_turns, opened}
-use Rattle.heap_system.specs.Pictures.{heap_in, holding}
+use Rattle.heap_system.specs.Pictures.{heap_in, stand_of}
 use Rattle.heap_system.specs.Units.{blackens, is_unit, units_made}
 use Rattle.heap_system.proofs.Paying.{works_append}
-use Rattle.heap_system.proofs.Kept.{PartKept, Kept, holdings_in}
+use Rattle.heap_system.proofs.Kept.{grey_of, PartKept, Kept, holdings_in}
 use Rattle.heap_system.proofs.Turning.{order_after, part_grows, part_stays, local_new, fits, word_is, event}
 use Rattle.heap_system.proofs.Always.{here, opening_kept, turn_kept}
 
@@ -40,24 +44,24 @@ gate_blackens h gates.Look = refl
 gate_blackens h (gates.Enter seen) = refl
 gate_blackens h _ = refl
 
-field_blackens : (h : Heap) (f : FieldRow) → blackens h (field_want f) ≡ false
-field_blackens h (rows.StoreNumber t d v) = refl
-field_blackens h (rows.StoreNil t d) = refl
-field_blackens h (rows.LoadMoved t d s) = refl
-field_blackens h (rows.StoreMoved t d s word) = refl
-field_blackens h (rows.LoadObject t s access) = refl
-field_blackens h (rows.LoadShape t s x access) = refl
-field_blackens h (rows.LoadValue t walk v) = refl
-field_blackens h (rows.LoadLink t walk errand) = refl
-field_blackens h (rows.LoadField t walk d) = refl
-field_blackens h (rows.LoadOwner t d word) = refl
-field_blackens h (rows.StoreLate t d word value) = refl
-field_blackens h (rows.StoreField t walk v word) = refl
-field_blackens h (rows.LoadFirst t a b) = refl
-field_blackens h (rows.LoadSecond t a b word) = refl
-field_blackens h (rows.LoadSaid t s) = refl
-field_blackens h (rows.LoadSaidOwner t s word) = refl
-field_blackens h (rows.Answered reply) = refl
+field_blackens : (c : Config) (h : Heap) (t : ℕ) (k : Command) (r : FieldRow) → blackens h (fields.row_want (extent c) t k r) ≡ false
+field_blackens c h t k rows.StoreNumber = refl
+field_blackens c h t k rows.StoreNil = refl
+field_blackens c h t k rows.LoadMoved = refl
+field_blackens c h t k (rows.StoreMoved word) = refl
+field_blackens c h t k rows.LoadObject = refl
+field_blackens c h t k (rows.LoadShape x) = refl
+field_blackens c h t k (rows.LoadValue way) = refl
+field_blackens c h t k (rows.LoadLink way word) = refl
+field_blackens c h t k (rows.LoadField way) = refl
+field_blackens c h t k (rows.LoadOwner word) = refl
+field_blackens c h t k (rows.StoreLate word value) = refl
+field_blackens c h t k (rows.StoreField way word) = refl
+field_blackens c h t k rows.LoadFirst = refl
+field_blackens c h t k (rows.LoadSecond word) = refl
+field_blackens c h t k rows.LoadSaid = refl
+field_blackens c h t k (rows.LoadSaidOwner word) = refl
+field_blackens c h t k (rows.Answered reply) = refl
 
 -- no word is grey and black
 both : (a b : Bool) → (b ≡ true → a ≡ false) → (a && b) ≡ false
@@ -76,30 +80,31 @@ shade_blackens h c d y hand = elim (cases_eq (h (ColourOf y)) (white_word c)) [
 ]
 
 -- and that at the event that makes the block under scan black, which is grey
-row_blackens : (h : Heap) (t n c : ℕ) (r : GreyRow) → c ≡ cycle_of (h Phase) → ((x : ℕ) → is_blackening r ≡ true → (grey_holding r).scan ≡ Some x → is_grey (h (ColourOf x)) ≡ true) → blackens h (row_want t n c r) ≡ is_blackening r
-row_blackens h t n c (marks.Take u) same grey = refl
-row_blackens h t n c (marks.Pop hand) same grey = never_both (cycle_of (h Phase)) (h (ColourOf hand))
-row_blackens h t n c (marks.ScanWord x j hand) same grey = refl
-row_blackens h t n c (marks.Shade x j y hand) same grey = shade_blackens h c (cycle_of (h Phase)) y hand
-row_blackens h t n c (marks.Blacken x hand) same grey = rw (grey x refl refl, eq-eqb x x refl) (eq-eqb (black_word c) (black_word (cycle_of (h Phase))) (ap black_word same))
-row_blackens h t n c (marks.Put hand) same grey = refl
-row_blackens h t n c marks.Scanned same grey = refl
-row_blackens h t n c marks.NothingGrey same grey = refl
-row_blackens h t n c (marks.TakeOwn y) same grey = refl
-row_blackens h t n c (marks.ShadeStored y hand) same grey = shade_blackens h c (cycle_of (h Phase)) y hand
-row_blackens h t n c (marks.PutOwn y hand) same grey = refl
-row_blackens h t n c (marks.Shaded y) same grey = refl
+row_blackens : (m : ℕ) (h : Heap) (t n c : ℕ) (r : GreyRow) → c ≡ cycle_of (h Phase) → ((x : ℕ) → is_blackening r ≡ true → (grey_holding m r).scan ≡ Some x → is_grey (h (ColourOf x)) ≡ true) → blackens h (row_want t n c r) ≡ is_blackening r
+row_blackens m h t n c (marks.Take u) same grey = refl
+row_blackens m h t n c (marks.Pop hand) same grey = never_both (cycle_of (h Phase)) (h (ColourOf hand))
+row_blackens m h t n c (marks.ScanWord x j hand) same grey = refl
+row_blackens m h t n c (marks.Shade x j y hand) same grey = shade_blackens h c (cycle_of (h Phase)) y hand
+row_blackens m h t n c (marks.Blacken x hand) same grey = rw (grey x refl refl, eq-eqb x x refl) (eq-eqb (black_word c) (black_word (cycle_of (h Phase))) (ap black_word same))
+row_blackens m h t n c (marks.Put hand) same grey = refl
+row_blackens m h t n c marks.Scanned same grey = refl
+row_blackens m h t n c marks.NothingGrey same grey = refl
+row_blackens m h t n c (marks.TakeOwn y) same grey = refl
+row_blackens m h t n c (marks.ShadeStored y hand) same grey = shade_blackens h c (cycle_of (h Phase)) y hand
+row_blackens m h t n c (marks.PutOwn y hand) same grey = refl
+row_blackens m h t n c (marks.Shaded y) same grey = refl
 
 -- the events of a thread that are units
-part_blackens : (c : Config) (h : Heap) (hs : ℕ → GreyHolding) (t done all : ℕ) (g : _) (k : Command) (p : Part) (w : ℕ) → GreyKept c.threads h hs → hs t ≡ holding p → cycle_of (h Phase) ≡ 1 → PartKept g t k p → PartFits c done all p → blackens h (part_want p) ≡ makes_unit p w
-part_blackens c h hs t done all g k Rest w grey is one stands inside = refl
-part_blackens c h hs t done all g k (Enter a) w grey is one stands inside = gate_blackens h a
-part_blackens c h hs t done all g k (Serve f) w grey is one stands inside = field_blackens h f
-part_blackens c h hs t done all g k (Mark m) w grey is one stands inside =
-    row_blackens h m.thread m.threads m.cycle m.row (stands.cycle ∙ sym one) (λ x b scan. (unit_grey c h hs m x inside.0 grey (ap hs stands.thread ∙ is) b scan).0)
-part_blackens c h hs t done all g k Count w grey is one stands inside = refl
-part_blackens c h hs t done all g k Again w grey is one stands inside = refl
-part_blackens c h hs t done all g k Leave w grey is one stands inside = refl
+part_blackens : (c : Config) (h : Heap) (hs : ℕ → GreyHolding) (t done all : ℕ) (g : _) (pass : Pass) (k : Command) (p : Part) (w : ℕ) → GreyKept c.threads h hs → hs t ≡ grey_of c p → (is_outside (stand_of c p) ≡ false → pass.cycle ≡ cycle_of (h Phase)) → PartKept g t pass k p → PartFits c done all p
+    → blackens h (part_want c p) ≡ makes_unit c p w
+part_blackens c h hs t done all g pass k Rest w grey is one stands inside = refl
+part_blackens c h hs t done all g pass k (Enter a) w grey is one stands inside = gate_blackens h a
+part_blackens c h hs t done all g pass k (Serve f) w grey is one stands inside = field_blackens c h f.pass.thread f.command f.row
+part_blackens c h hs t done all g pass k (Mark m) w grey is one stands inside =
+    row_blackens (payloads c.width) h m.pass.thread m.pass.threads m.pass.cycle m.row (ap (λ (x : Pass). x.cycle) stands.passes ∙ one refl) (λ x b scan. (unit_grey c h hs m x inside.0 grey (ap hs stands.thread ∙ is) b scan).0)
+part_blackens c h hs t done all g pass k Count w grey is one stands inside = refl
+part_blackens c h hs t done all g pass k Again w grey is one stands inside = refl
+part_blackens c h hs t done all g pass k Leave w grey is one stands inside = refl
 
 -- what is in the log and what is paid grow by the unit
 replied_sum : (t : ℕ) (k : Command) (paid : ℕ) (o : Option Reply) → works (entries_of t k paid o) + paid_got o false paid ≡ paid
@@ -110,14 +115,14 @@ unit_sum : (paid : ℕ) (b : Bool) → 0 + cond b (paid + 1) paid ≡ paid + bit
 unit_sum paid true = omega arith
 unit_sum paid false = omega arith
 
-part_sums : (t : ℕ) (k : Command) (paid : ℕ) (p : Part) (w : ℕ) → works (entries_of t k paid (part_reply p w)) + paid_got (part_reply p w) (makes_unit p w) paid ≡ paid + bit (makes_unit p w)
-part_sums t k paid Rest w = omega arith
-part_sums t k paid (Enter a) w = omega arith
-part_sums t k paid (Serve f) w = omega (arith, replied_sum t k paid (field_reply (field_got f w)))
-part_sums t k paid (Mark m) w = unit_sum paid (is_blackening m.row)
-part_sums t k paid Count w = omega arith
-part_sums t k paid Again w = omega arith
-part_sums t k paid Leave w = omega arith
+part_sums : (c : Config) (t : ℕ) (k : Command) (paid : ℕ) (p : Part) (w : ℕ) → works (entries_of t k paid (part_reply c p w)) + paid_got (part_reply c p w) (makes_unit c p w) paid ≡ paid + bit (makes_unit c p w)
+part_sums c t k paid Rest w = omega arith
+part_sums c t k paid (Enter a) w = omega arith
+part_sums c t k paid (Serve f) w = omega (arith, replied_sum t k paid (field_reply (field_got (extent c) f w).row))
+part_sums c t k paid (Mark m) w = unit_sum paid (is_blackening m.row)
+part_sums c t k paid Count w = omega arith
+part_sums c t k paid Again w = omega arith
+part_sums c t k paid Leave w = omega arith
 
 -- the works of thread t's entries, and its units for the command in hand
 abbrev pub made_by : Config → ℕ → Run → ℕ
@@ -131,24 +136,24 @@ cond_yes b x y e = rw e refl
 
 module _ (c : Config) (traces : List (List Command)) (job : IsJob c traces) (r : Run) (kept : Kept c traces r) (u : ℕ) (ul : u < c.threads) (going : is_done (local_at c r.state u) ≡ false) where
   abbrev word_here : ℕ
-  word_here = heap_in c r.state (place_of (part_want (local_at c r.state u).part))
+  word_here = heap_in c r.state (place_of (part_want c (local_at c r.state u).part))
 
   abbrev deciding : Bool
-  deciding = decides (local_at c r.state u).part word_here
+  deciding = decides c (local_at c r.state u).part word_here
 
   abbrev after : Run
   after = record { state = event_done c u r.state; order = order_after c r.order u (command_of (local_at c r.state u)) (local_at c r.state u).paid deciding }
 
-  own_makes : made_by c u after ≡ made_by c u r + bit (blackens (heap_in c r.state) (part_want (local_at c r.state u).part))
+  own_makes : made_by c u after ≡ made_by c u r + bit (blackens (heap_in c r.state) (part_want c (local_at c r.state u).part))
   own_makes =
       let l = local_at c r.state u in
       let parts : works (part u after.order) ≡ works (part u r.order) + works (cond deciding (entry_of u (command_of l) l.paid (reply_decided (replay c r.order) u (command_of l)) ∷ []) []) =
       ap works (part_grows c r.order u (command_of l) l.paid deciding) ∙ works_append (part u r.order) (cond deciding (entry_of u (command_of l) l.paid (reply_decided (replay c r.order) u (command_of l)) ∷ []) []) in
-      let paid : (local_at c after.state u).paid ≡ paid_got (part_reply l.part word_here) (makes_unit l.part word_here) l.paid =
+      let paid : (local_at c after.state u).paid ≡ paid_got (part_reply c l.part word_here) (makes_unit c l.part word_here) l.paid =
       ap (λ (x : LocalState). x.paid) (local_new c traces job.bounds job.plan r kept u ul going u ∙ cond_yes _ _ _ (eq-eqb u u refl)) in
-      let unit : bit (blackens (heap_in c r.state) (part_want l.part)) ≡ bit (makes_unit l.part word_here) =
-      ap bit (part_blackens c (heap_in c r.state) (holdings_in c r.state) u _ _ (replay c r.order) (command_of l) l.part word_here kept.grey refl kept.phase.cycle (kept.locals u ul).stands (fits c traces job.bounds job.plan r kept u ul)) in
-      omega (arith, parts, paid, unit, (event c traces job.bounds job.plan r kept u ul going).counted, part_sums u (command_of l) l.paid l.part word_here)
+      let unit : bit (blackens (heap_in c r.state) (part_want c l.part)) ≡ bit (makes_unit c l.part word_here) =
+      ap bit (part_blackens c (heap_in c r.state) (holdings_in c r.state) u _ _ (replay c r.order) l.pass (command_of l) l.part word_here kept.grey refl (λ out. (kept.gate.passes u ul out).0) (kept.locals u ul).stands (fits c traces job.bounds job.plan r kept u ul)) in
+      omega (arith, parts, paid, unit, (event c traces job.bounds job.plan r kept u ul going).counted, part_sums c u (command_of l) l.paid l.part word_here)
 
   other_makes : (t : ℕ) → (u ≡ t → ⊥) → made_by c t after ≡ made_by c t r
   other_makes t n =
@@ -162,13 +167,13 @@ module _ (c : Config) (traces : List (List Command)) (job : IsJob c traces) (r :
   -- the run after the turn
   next_is : next c u r ≡ after
   next_is =
-      ap (λ b. let x : Run = record { state = cond b (event_done c u r.state) r.state; order = r.order ++ cond b (cond (decides (local_at c r.state u).part (word_read c r.state (local_at c r.state u))) (entry_decided c u (command_of (local_at c r.state u)) (local_at c r.state u).paid r.order ∷ []) []) [] } in x) some
-      ∙ ap (λ w. let x : Run = record { state = event_done c u r.state; order = r.order ++ cond (decides (local_at c r.state u).part w) (entry_decided c u (command_of (local_at c r.state u)) (local_at c r.state u).paid r.order ∷ []) [] } in x) (word_is c traces job.bounds job.plan r kept u ul)
+      ap (λ b. let x : Run = record { state = cond b (event_done c u r.state) r.state; order = r.order ++ cond b (cond (decides c (local_at c r.state u).part (word_read c r.state (local_at c r.state u))) (entry_decided c u (command_of (local_at c r.state u)) (local_at c r.state u).paid r.order ∷ []) []) [] } in x) some
+      ∙ ap (λ w. let x : Run = record { state = event_done c u r.state; order = r.order ++ cond (decides c (local_at c r.state u).part w) (entry_decided c u (command_of (local_at c r.state u)) (local_at c r.state u).paid r.order ∷ []) [] } in x) (word_is c traces job.bounds job.plan r kept u ul)
 
   event_makes : (t : ℕ) → made_by c t (next c u r) ≡ made_by c t r + cond (eqb u t) (bit (is_unit c t r.state)) 0
   event_makes t = ap (made_by c t) next_is ∙ elim (cases_eq u t) [
     | inl e ↦ rw (eq-eqb u t e) (subst (λ v. made_by c v after ≡ made_by c v r + bit (is_unit c v r.state)) e
-        (own_makes ∙ ap (λ b. made_by c u r + bit (cond b (blackens (heap_in c r.state) (part_want (local_at c r.state u).part)) false)) (sym some)))
+        (own_makes ∙ ap (λ b. made_by c u r + bit (cond b (blackens (heap_in c r.state) (part_want c (local_at c r.state u).part)) false)) (sym some)))
     | inr n ↦ rw (ne_eqb u t n) (omega (arith, other_makes t n))
   ]
 
@@ -176,11 +181,11 @@ module _ (c : Config) (traces : List (List Command)) (job : IsJob c traces) (r :
 idle_makes : (c : Config) (t u : ℕ) (r : Run) → has_event c u r.state ≡ false → made_by c t (next c u r) ≡ made_by c t r + cond (eqb u t) (bit (is_unit c t r.state)) 0
 idle_makes c t u r none =
     let same : next c u r ≡ r =
-    ap (λ b. let x : Run = record { state = cond b (event_done c u r.state) r.state; order = r.order ++ cond b (cond (decides (local_at c r.state u).part (word_read c r.state (local_at c r.state u))) (entry_decided c u (command_of (local_at c r.state u)) (local_at c r.state u).paid r.order ∷ []) []) [] } in x) none
+    ap (λ b. let x : Run = record { state = cond b (event_done c u r.state) r.state; order = r.order ++ cond b (cond (decides c (local_at c r.state u).part (word_read c r.state (local_at c r.state u))) (entry_decided c u (command_of (local_at c r.state u)) (local_at c r.state u).paid r.order ∷ []) []) [] } in x) none
     ∙ ap (λ o. let x : Run = record { state = r.state; order = o } in x) (append-nil r.order) in
     ap (made_by c t) same ∙ elim (cases_eq u t) [
       | inl e ↦
-          let no_unit : bit (is_unit c t r.state) ≡ 0 = ap (λ b. bit (cond b (blackens (heap_in c r.state) (part_want (local_at c r.state t).part)) false)) (sym (ap (λ v. has_event c v r.state) e) ∙ none) in
+          let no_unit : bit (is_unit c t r.state) ≡ 0 = ap (λ b. bit (cond b (blackens (heap_in c r.state) (part_want c (local_at c r.state t).part)) false)) (sym (ap (λ v. has_event c v r.state) e) ∙ none) in
           rw (eq-eqb u t e) (omega (arith, no_unit))
       | inr n ↦ rw (ne_eqb u t n) (omega arith)
     ]

@@ -2,202 +2,221 @@
 use Rattle.std.proofs.Common.{◌≡◌, ℕ, ◌+◌, ◌%◌, ◌<◌, Bool, true, false, cond, eqb, ltb, ne_eqb, eq-eqb, lt-ltb, le-ltb, ◌⊎◌, inl, inr, Option, Some, None, List, [], ◌∷◌, ◌++◌, append_assoc, append-nil, refl, sym, ap, ◌∙◌, subst, arith}
 use Rattle.std.proofs.lemmas.Bool.{cases_Bool, cases_eq, cases_lt}
 use Rattle.block_store.specs.declared.Config.{Config}
+use Rattle.block_store.specs.declared.TheConstants.{REGISTERS}
 use Rattle.block_store.specs.declared.Name.{Name}
 use Rattle.block_store.specs.declared.Payload.{Payload}
 use Rattle.block_store.specs.declared.Payload.TheVariants as payloads
 use Rattle.block_store.specs.declared.Shape.{Shape}
 use Rattle.block_store.specs.Configs.{IsInBounds}
 use Rattle.rate_plan.specs.Rates.{IsAdmitted}
+use Rattle.block_store.specs.Registers.{register_block, register_slot}
 use Rattle.block_store.specs.Heaps.{Heap, put_at}
 use Rattle.block_store.specs.Payloads.{target}
-use Rattle.block_store.specs.Places.{Phase, PayloadOf}
+use Rattle.block_store.specs.Places.{extent, Phase, PayloadOf}
+use Rattle.barrier_steps.specs.Deciding.{is_deciding}
 use Rattle.never_heap.specs.declared.Command.{Command}
 use Rattle.never_heap.specs.declared.Command.TheVariants as commands
 use Rattle.never_heap.specs.Graphs.{Graph, start_graph, object_of}
 use Rattle.never_heap.specs.Histories.{HistoryItem, Did, part, replay}
-use Rattle.never_heap.specs.Steps.{blocks_of}
+use Rattle.never_heap.specs.Steps.{makes_object}
 use Rattle.never_heap.proofs.Growing.{part_append}
-use Rattle.shown_graph.specs.Words.{BlockWords, block_words, register_block, value_word}
+use Rattle.shown_graph.specs.Words.{BlockWords, block_words, value_word}
 use Rattle.shown_graph.specs.Shown.{Shows, IsValueOf, every_name, heads}
-use Rattle.shown_graph.specs.Openings.{opening_at, opening_last}
+use Rattle.shown_graph.specs.Openings.{opening_at}
+use Rattle.array_trees.specs.Openings.{opening_blocks}
 use Rattle.shown_graph.specs.Events.{ObjectLoad, ObjectIs, LoadIs, object_in, is_late, lates}
-use Rattle.shown_graph.proofs.Registering.{register_low}
+use Rattle.block_store.proofs.Registers.{register_low, own_array}
 use Rattle.shown_graph.proofs.Stores.{register_apart}
 use Rattle.heap_machine.specs.Operations.{heap_after, place_of}
 use Rattle.heap_machine.specs.declared.gate.GateRow.TheVariants as gates
 use Rattle.grey_steps.specs.Rows.{GreyState, grey_got, grey_over, scanning}
 use Rattle.heap_system.proofs.Marks.{mark_words}
-use Rattle.barrier_steps.specs.declared.rows.Access.{Access}
-use Rattle.barrier_steps.specs.declared.rows.Access.TheVariants as accesses
-use Rattle.barrier_steps.specs.declared.rows.Errand.{Errand}
-use Rattle.barrier_steps.specs.declared.rows.Errand.TheVariants as errands
 use Rattle.barrier_steps.specs.declared.rows.FieldRow.{FieldRow}
 use Rattle.barrier_steps.specs.declared.rows.FieldRow.TheVariants as rows
-use Rattle.barrier_steps.specs.declared.rows.Walk.{Walk}
-use Rattle.barrier_steps.specs.Fits.{FieldFits}
-use Rattle.barrier_steps.specs.Rows.{first_row, field_want, field_got, field_reply, after_object, after_shape, after_said, on_way, payload_in, shape_in, way_from}
+use Rattle.barrier_steps.specs.declared.rows.Way.{Way}
+use Rattle.barrier_steps.specs.Fits.{FitsAt, FieldFits}
+use Rattle.barrier_steps.specs.Operands.{to_register, field_index}
+use Rattle.barrier_steps.specs.Rows.{FieldState, first_row, row_want, row_got, field_want, field_got, field_reply, after_object, after_shape, after_said, at_block, on_way, payload_in, shape_in, way_from, way_on}
+use Rattle.barrier_steps.proofs.Named.{to_low}
 use Rattle.barrier_steps.specs.Walks.{links_to, shape_length}
 use Rattle.heap_system.specs.declared.local.Part.{Part}
 use Rattle.heap_system.specs.declared.local.Part.TheVariants.{Rest, Enter, Serve, Mark, Count, Again, Leave}
-use Rattle.heap_system.specs.Locals.{LocalState, owes, first_part, if_replied, if_entered, if_marked, part_want, part_got, decides, is_done, command_of, entry_of, PartFits}
+use Rattle.heap_system.specs.Locals.{LocalState, owes, pass_by, first_part, if_replied, if_entered, if_marked, part_want, part_got, decides, is_done, command_of, entry_of, PartFits}
 use Rattle.heap_system.specs.Machines.{Run, State, IsJob, IsRunOf, local_at, word_read, event_done, has_event, reply_decided, entry_decided, next, after_turns, opened, IsOpening}
 use Rattle.heap_system.specs.Pictures.{loading, heap_in, IsOlder}
-use Rattle.barrier_steps.specs.Projection.{thread_of, loading_of, walk_load}
+use Rattle.barrier_steps.specs.Projection.{row_loading, loading_of, object_on}
+use Rattle.heap_machine.specs.declared.pass.Pass.{Pass}
 use Rattle.heap_system.proofs.Kept.{PartKept, Kept, loads_in}
 use Rattle.heap_system.proofs.Always.{here, opening_kept, turn_kept}
 use Rattle.heap_system.proofs.Turning.{local_new, heap_new, fits, word_is}
 
--- the part that a row leads to
-abbrev led : FieldRow → Part
-led f = if_replied (field_reply f) f
-
 -- whether the word of register q is older than the graph, by where its thread is
-abbrev late_in : Part → ℕ → Bool
-late_in p q = is_late (loading p).value q
+abbrev late_in : Config → Part → ℕ → Bool
+late_in c p q = is_late (loading c p).value q
+
+abbrev late_at : Config → Command → FieldRow → ℕ → Bool
+late_at c k r q = is_late (row_loading (extent c) k r).value q
+
+-- the part that a row leads to is late where the row is
+led_late : (c : Config) (f : FieldState) (q : ℕ) → late_in c (if_replied (field_reply f.row) f) q ≡ true → late_at c f.command f.row q ≡ true
+led_late c f q = by (field_reply f.row)
+  where
+    by : (o : Option _) → late_in c (if_replied o f) q ≡ true → late_at c f.command f.row q ≡ true
+    by None e = e
+    by (Some y) e = absurd cc
 
 -- rows after which no register is late
-object_quiet : (t s : ℕ) (access : Access) (y : Payload) (q : ℕ) → late_in (led (after_object t s access y)) q ≡ false
-object_quiet t s access payloads.Nil q = refl
-object_quiet t s access (payloads.Int v) q = refl
-object_quiet t s access (payloads.Block x) q = refl
+object_quiet : (c : Config) (k : Command) (y : Payload) (q : ℕ) → late_at c k (after_object y) q ≡ false
+object_quiet c k payloads.Nil q = refl
+object_quiet c k (payloads.Int v) q = refl
+object_quiet c k (payloads.Block x) q = refl
 
-said_quiet : (t s w : ℕ) (y : Payload) (q : ℕ) → late_in (led (after_said t s w y)) q ≡ false
-said_quiet t s w payloads.Nil q = refl
-said_quiet t s w (payloads.Int v) q = refl
-said_quiet t s w (payloads.Block x) q = refl
+said_quiet : (c : Config) (k : Command) (w : ℕ) (y : Payload) (q : ℕ) → late_at c k (after_said w y) q ≡ false
+said_quiet c k w payloads.Nil q = refl
+said_quiet c k w (payloads.Int v) q = refl
+said_quiet c k w (payloads.Block x) q = refl
 
-way_quiet : (t : ℕ) (walk : Walk) (errand : Errand) (q : ℕ) → late_in (led (on_way t walk errand)) q ≡ false
-way_quiet t walk (errands.Get d) q = elim (cases_Bool (ltb walk.level (links_to walk.shape walk.index))) [
+carried_quiet : (c : Config) (k : Command) (way : Way) (word q : ℕ) → late_at c k (rows.LoadLink way word) q ≡ false
+carried_quiet c (commands.Put s i v) way word q = refl
+carried_quiet c _ way word q = refl
+
+block_quiet : (c : Config) (k : Command) (way : Way) (word q : ℕ) → late_at c k (at_block k way word) q ≡ false
+block_quiet c (commands.Put s i v) way word q = refl
+block_quiet c _ way word q = refl
+
+way_quiet : (c : Config) (k : Command) (way : Way) (word q : ℕ) → late_at c k (on_way (extent c) k way word) q ≡ false
+way_quiet c k way word q = elim (cases_Bool (ltb way.level (links_to (extent c) way.shape (field_index k)))) [
+  | inl e ↦ rw e (carried_quiet c k way word q)
+  | inr e ↦ rw e (block_quiet c k way word q)
+]
+
+shape_quiet : (c : Config) (k : Command) (x : ℕ) (f : Shape) (q : ℕ) → late_at c k (after_shape (extent c) k x f) q ≡ false
+shape_quiet c (commands.Get d s i) x f q = elim (cases_Bool (ltb i (shape_length f))) [
+  | inl e ↦ rw e (way_quiet c (commands.Get d s i) (way_from f x) 0 q)
+  | inr e ↦ rw e refl
+]
+shape_quiet c (commands.Put s i v) x f q = elim (cases_Bool (ltb i (shape_length f))) [
   | inl e ↦ rw e refl
   | inr e ↦ rw e refl
 ]
-way_quiet t walk (errands.Put v word) q = elim (cases_Bool (ltb walk.level (links_to walk.shape walk.index))) [
-  | inl e ↦ rw e refl
-  | inr e ↦ rw e refl
-]
+shape_quiet c _ x f q = refl
 
-shape_quiet : (t s x : ℕ) (access : Access) (f : Shape) (q : ℕ) → late_in (led (after_shape t s x access f)) q ≡ false
-shape_quiet t s x (accesses.Get d i) f q = elim (cases_Bool (ltb i (shape_length f))) [
-  | inl e ↦ rw e (way_quiet t (way_from s x f i) (errands.Get d) q)
-  | inr e ↦ rw e refl
-]
-shape_quiet t s x (accesses.Put i v) f q = elim (cases_Bool (ltb i (shape_length f))) [
-  | inl e ↦ rw e refl
-  | inr e ↦ rw e refl
-]
-shape_quiet t s x accesses.Len f q = refl
-
-first_quiet : (t : ℕ) (k : Command) (q : ℕ) → late_in (Serve (first_row t k)) q ≡ false
-first_quiet t (commands.New d f) q = refl
-first_quiet t (commands.Arr d e) q = refl
-first_quiet t (commands.Set d v) q = refl
-first_quiet t (commands.Nil d) q = refl
-first_quiet t (commands.Mov d s) q = refl
-first_quiet t (commands.Get d s i) q = refl
-first_quiet t (commands.Put s i v) q = refl
-first_quiet t (commands.Len s) q = refl
-first_quiet t (commands.Same a b) q = refl
-first_quiet t (commands.Say s) q = refl
+first_quiet : (c : Config) (k : Command) (q : ℕ) → late_at c k (first_row k) q ≡ false
+first_quiet c (commands.New d f) q = refl
+first_quiet c _ q = refl
 
 no_way : {P : Type 0} (b : Bool) → b ≡ false → b ≡ true → P
 no_way b e f = let z : true ≡ false = sym f ∙ e in absurd cc
 
 -- an event after which a register is late only reads; it decides, or the register was late before
-pub record Lately (h : Heap) (p : Part) (w q : ℕ) : Type 0 where
-  pub reads : heap_after h (part_want p) ≡ h
-  pub how : ((decides p w ≡ true) × (late_in p q ≡ false)) ⊎ ((decides p w ≡ false) × (late_in p q ≡ true))
+pub record Lately (c : Config) (h : Heap) (p : Part) (w q : ℕ) : Type 0 where
+  pub reads : heap_after h (part_want c p) ≡ h
+  pub how : ((decides c p w ≡ true) × (late_in c p q ≡ false)) ⊎ ((decides c p w ≡ false) × (late_in c p q ≡ true))
 
-field_lately : (h : Heap) (f : FieldRow) (w q : ℕ) → late_in (led (field_got f w)) q ≡ true → Lately h (Serve f) w q
-field_lately h (rows.StoreNumber t d v) w q e = absurd cc
-field_lately h (rows.StoreNil t d) w q e = absurd cc
-field_lately h (rows.LoadMoved t d s) w q e = absurd cc
-field_lately h (rows.StoreMoved t d s word) w q e = absurd cc
-field_lately h (rows.LoadObject t s access) w q e = no_way _ (object_quiet t s access (payload_in w) q) e
-field_lately h (rows.LoadShape t s x access) w q e = no_way _ (shape_quiet t s x access (shape_in w) q) e
-field_lately h (rows.LoadValue t walk v) w q e = no_way _ (way_quiet t walk (errands.Put v w) q) e
-field_lately h (rows.LoadLink t walk errand) w q e = no_way _ (way_quiet t (record walk { level = walk.level + 1; block = target w }) errand q) e
-field_lately h (rows.LoadField t walk d) w q e = record { reads = refl; how = inl (refl, refl) }
-field_lately h (rows.LoadOwner t d word) w q e = record { reads = refl; how = inr (refl, e) }
-field_lately h (rows.StoreLate t d word value) w q e = absurd cc
-field_lately h (rows.StoreField t walk v word) w q e = absurd cc
-field_lately h (rows.LoadFirst t a b) w q e = absurd cc
-field_lately h (rows.LoadSecond t a b word) w q e = absurd cc
-field_lately h (rows.LoadSaid t s) w q e = no_way _ (said_quiet t s w (payload_in w) q) e
-field_lately h (rows.LoadSaidOwner t s word) w q e = absurd cc
-field_lately h (rows.Answered reply) w q e = absurd cc
+record LatelyAt (c : Config) (h : Heap) (t : ℕ) (k : Command) (r : FieldRow) (w q : ℕ) : Type 0 where
+  pub reads : heap_after h (row_want (extent c) t k r) ≡ h
+  pub how : ((is_deciding k r w ≡ true) × (late_at c k r q ≡ false)) ⊎ ((is_deciding k r w ≡ false) × (late_at c k r q ≡ true))
 
-begun_quiet : (t n : ℕ) (k : Command) (more : Bool) (cycle q : ℕ) → late_in (first_part t n k more cycle) q ≡ false
-begun_quiet t n k more cycle q = elim (cases_Bool (eqb (blocks_of k) 0)) [
-  | inl e ↦ rw e (first_quiet t k q)
-  | inr e ↦ rw e (by more)
+row_lately : (c : Config) (h : Heap) (t : ℕ) (k : Command) (r : FieldRow) (w q : ℕ) → late_at c k (row_got (extent c) k r w) q ≡ true → LatelyAt c h t k r w q
+row_lately c h t k rows.StoreNumber w q e = absurd cc
+row_lately c h t k rows.StoreNil w q e = absurd cc
+row_lately c h t k rows.LoadMoved w q e = absurd cc
+row_lately c h t k (rows.StoreMoved word) w q e = absurd cc
+row_lately c h t k rows.LoadObject w q e = no_way _ (object_quiet c k (payload_in w) q) e
+row_lately c h t k (rows.LoadShape x) w q e = no_way _ (shape_quiet c k x (shape_in w) q) e
+row_lately c h t k (rows.LoadValue way) w q e = no_way _ (way_quiet c k way w q) e
+row_lately c h t k (rows.LoadLink way word) w q e = no_way _ (way_quiet c k (way_on way (target w)) word q) e
+row_lately c h t k (rows.LoadField way) w q e = record { reads = refl; how = inl (refl, refl) }
+row_lately c h t k (rows.LoadOwner word) w q e = record { reads = refl; how = inr (refl, e) }
+row_lately c h t k (rows.StoreLate word value) w q e = absurd cc
+row_lately c h t k (rows.StoreField way word) w q e = absurd cc
+row_lately c h t k rows.LoadFirst w q e = absurd cc
+row_lately c h t k (rows.LoadSecond word) w q e = absurd cc
+row_lately c h t k rows.LoadSaid w q e = no_way _ (said_quiet c k w (payload_in w) q) e
+row_lately c h t k (rows.LoadSaidOwner word) w q e = absurd cc
+row_lately c h t k (rows.Answered reply) w q e = absurd cc
+
+field_lately : (c : Config) (h : Heap) (f : FieldState) (w q : ℕ) → late_in c (if_replied (field_reply (field_got (extent c) f w).row) (field_got (extent c) f w)) q ≡ true → Lately c h (Serve f) w q
+field_lately c h f w q e =
+    let l : LatelyAt c h f.pass.thread f.command f.row w q = row_lately c h f.pass.thread f.command f.row w q (led_late c (field_got (extent c) f w) q e) in
+    record { reads = l.reads; how = l.how }
+
+begun_quiet : (c : Config) (p : Pass) (k : Command) (more : Bool) (q : ℕ) → late_in c (first_part p k more) q ≡ false
+begun_quiet c p k more q = elim (cases_Bool (makes_object k)) [
+  | inl e ↦ rw e (by more)
+  | inr e ↦ rw e (first_quiet c k q)
 ]
   where
-    by : (b : Bool) → late_in (cond b (Mark (scanning t n cycle)) Count) q ≡ false
+    by : (b : Bool) → late_in c (cond b (Mark (scanning p)) Count) q ≡ false
     by true = refl
     by false = refl
 
-entered_quiet : (o : Option _) (t n : ℕ) (k : Command) (more : Bool) (g : _) (q : ℕ) → late_in (if_entered o t n k more g) q ≡ false
-entered_quiet None t n k more g q = refl
-entered_quiet (Some x) t n k more g q = begun_quiet t n k more x.cycle q
+entered_quiet : (c : Config) (o : Option _) (t n : ℕ) (k : Command) (more : Bool) (g : _) (q : ℕ) → late_in c (if_entered o t n k more g) q ≡ false
+entered_quiet c None t n k more g q = refl
+entered_quiet c (Some x) t n k more g q = begun_quiet c (pass_by t n x) k more q
 
-marked_quiet : (m : GreyState) (q : ℕ) → late_in (if_marked m) q ≡ false
-marked_quiet m q = by (grey_over m.row)
+marked_quiet : (c : Config) (m : GreyState) (q : ℕ) → late_in c (if_marked m) q ≡ false
+marked_quiet c m q = by (grey_over m.row)
   where
-    by : (b : Bool) → late_in (cond b Again (Mark m)) q ≡ false
+    by : (b : Bool) → late_in c (cond b Again (Mark m)) q ≡ false
     by true = refl
     by false = refl
 
-pub part_lately : (h : Heap) (t n : ℕ) (k : Command) (more : Bool) (p : Part) (w q : ℕ) → late_in (part_got t n k more p w) q ≡ true → Lately h p w q
-part_lately h t n k more Rest w q e = no_way _ (entered_quiet _ t n k more _ q) e
-part_lately h t n k more (Enter g) w q e = no_way _ (entered_quiet _ t n k more _ q) e
-part_lately h t n k more (Serve f) w q e = field_lately h f w q e
-part_lately h t n k more (Mark m) w q e = no_way _ (marked_quiet (grey_got m w) q) e
-part_lately h t n k more Count w q e = absurd cc
-part_lately h t n k more Again w q e = absurd cc
-part_lately h t n k more Leave w q e = absurd cc
+pub part_lately : (c : Config) (h : Heap) (t : ℕ) (k : Command) (more : Bool) (p : Part) (w q : ℕ) → late_in c (part_got c t k more p w) q ≡ true → Lately c h p w q
+part_lately c h t k more Rest w q e = no_way _ (entered_quiet c _ t c.threads k more _ q) e
+part_lately c h t k more (Enter g) w q e = no_way _ (entered_quiet c _ t c.threads k more _ q) e
+part_lately c h t k more (Serve f) w q e = field_lately c h f w q e
+part_lately c h t k more (Mark m) w q e = no_way _ (marked_quiet c (grey_got (extent c) m w) q) e
+part_lately c h t k more Count w q e = absurd cc
+part_lately c h t k more Again w q e = absurd cc
+part_lately c h t k more Leave w q e = absurd cc
 
 -- another thread's event leaves a register's word
-module _ (c : Config) (g : Graph) (m : ℕ) (K : Name → Type 0) (at : Name → ℕ → ℕ) (words : BlockWords) (late : ℕ → ℕ → Bool) (shows : Shows c.threads m K g at words late) (u q : ℕ) (ul : u < c.threads) (ql : q < 16) (h : Heap) (t : ℕ) (tl : t < c.threads) (other : t ≡ u → ⊥) where
-  object_apart : (l : ObjectLoad) → ObjectIs g at t l → l.block ≡ register_block u q → ⊥
+module _ (c : Config) (g : Graph) (m : ℕ) (K : Name → Type 0) (at : Name → ℕ → ℕ) (words : BlockWords) (late : ℕ → ℕ → Bool) (shows : Shows c.width c.threads m K g at words late) (u q : ℕ) (ul : u < c.threads) (ql : q < REGISTERS) (h : Heap) (t : ℕ) (tl : t < c.threads) (other : t ≡ u → ⊥) where
+  object_apart : (l : ObjectLoad) → ObjectIs c.width g at t l → l.block ≡ register_block c.width u q → ⊥
   object_apart l o e =
-      register_apart c.threads m K (object_of g) at shows.placed (register_block u q) (register_low c.threads u q ul ql) o.name l.ordinal
+      register_apart c.width c.threads m K (object_of g) at shows.placed (register_block c.width u q) (register_low c.width c.threads u q ul ql) o.name l.ordinal
       (subst (λ v. IsValueOf K v) o.refers (shows.closed.registers t l.source tl o.source)) o.ordinal (sym e ∙ o.block)
 
-  stays_at : (x j v : ℕ) → (x ≡ register_block u q → ⊥) → put_at h (PayloadOf x j) v (PayloadOf (register_block u q) (q % 4)) ≡ h (PayloadOf (register_block u q) (q % 4))
-  stays_at x j v n = rw (ne_eqb x (register_block u q) n) refl
+  stays_at : (x j v : ℕ) → (x ≡ register_block c.width u q → ⊥) → put_at h (PayloadOf x j) v (PayloadOf (register_block c.width u q) (register_slot c.width q)) ≡ h (PayloadOf (register_block c.width u q) (register_slot c.width q))
+  stays_at x j v n = rw (ne_eqb x (register_block c.width u q) n) refl
 
-  register_other : (s d : ℕ) → s ≡ t → d < 16 → register_block s d ≡ register_block u q → ⊥
-  register_other s d e dl f = other (omega arith)
+  register_other : (s d : ℕ) → s ≡ t → d < REGISTERS → register_block c.width s d ≡ register_block c.width u q → ⊥
+  register_other s d e dl f = other (sym e ∙ own_array c.width s d u q dl ql f)
 
-  field_frame : (f : FieldRow) → thread_of f ≡ t → FieldFits c f → LoadIs g at t (loading_of f) → heap_after h (field_want f) (PayloadOf (register_block u q) (q % 4)) ≡ h (PayloadOf (register_block u q) (q % 4))
-  field_frame (rows.StoreNumber s d v) e inside loads = stays_at _ _ _ (register_other s d e inside.1)
-  field_frame (rows.StoreNil s d) e inside loads = stays_at _ _ _ (register_other s d e inside.1)
-  field_frame (rows.LoadMoved s d r) e inside loads = refl
-  field_frame (rows.StoreMoved s d r word) e inside loads = stays_at _ _ _ (register_other s d e inside.1)
-  field_frame (rows.LoadObject s r access) e inside loads = refl
-  field_frame (rows.LoadShape s r x access) e inside loads = refl
-  field_frame (rows.LoadValue s walk v) e inside loads = refl
-  field_frame (rows.LoadLink s walk errand) e inside loads = refl
-  field_frame (rows.LoadField s walk d) e inside loads = refl
-  field_frame (rows.LoadOwner s d word) e inside loads = refl
-  field_frame (rows.StoreLate s d word value) e inside loads = stays_at _ _ _ (register_other s d e inside.1)
-  field_frame (rows.StoreField s walk v word) e inside loads = stays_at _ _ _ (object_apart (object_in (walk_load walk)) loads.object)
-  field_frame (rows.LoadFirst s a b) e inside loads = refl
-  field_frame (rows.LoadSecond s a b word) e inside loads = refl
-  field_frame (rows.LoadSaid s r) e inside loads = refl
-  field_frame (rows.LoadSaidOwner s r word) e inside loads = refl
-  field_frame (rows.Answered reply) e inside loads = refl
+  row_frame : (k : Command) (r : FieldRow) → FitsAt c t k r → LoadIs c.width g at t (row_loading (extent c) k r) → heap_after h (row_want (extent c) t k r) (PayloadOf (register_block c.width u q) (register_slot c.width q)) ≡ h (PayloadOf (register_block c.width u q) (register_slot c.width q))
+  row_frame k rows.StoreNumber fits loads = stays_at _ _ _ (register_other t (to_register k) refl (to_low k fits.command))
+  row_frame k rows.StoreNil fits loads = stays_at _ _ _ (register_other t (to_register k) refl (to_low k fits.command))
+  row_frame k rows.LoadMoved fits loads = refl
+  row_frame k (rows.StoreMoved word) fits loads = stays_at _ _ _ (register_other t (to_register k) refl (to_low k fits.command))
+  row_frame k rows.LoadObject fits loads = refl
+  row_frame k (rows.LoadShape x) fits loads = refl
+  row_frame k (rows.LoadValue way) fits loads = refl
+  row_frame k (rows.LoadLink way word) fits loads = refl
+  row_frame k (rows.LoadField way) fits loads = refl
+  row_frame k (rows.LoadOwner word) fits loads = refl
+  row_frame k (rows.StoreLate word value) fits loads = stays_at _ _ _ (register_other t (to_register k) refl (to_low k fits.command))
+  row_frame k (rows.StoreField way word) fits loads = stays_at _ _ _ (object_apart (object_in (object_on (extent c) k way)) loads.object)
+  row_frame k rows.LoadFirst fits loads = refl
+  row_frame k (rows.LoadSecond word) fits loads = refl
+  row_frame k rows.LoadSaid fits loads = refl
+  row_frame k (rows.LoadSaidOwner word) fits loads = refl
+  row_frame k (rows.Answered reply) fits loads = refl
 
-  pub part_frame : (k : Command) (done all : ℕ) (p : Part) → PartKept g t k p → PartFits c done all p → LoadIs g at t (loading p) → heap_after h (part_want p) (PayloadOf (register_block u q) (q % 4)) ≡ h (PayloadOf (register_block u q) (q % 4))
-  part_frame k done all Rest stands fits loads = refl
-  part_frame k done all (Enter gates.Look) stands fits loads = refl
-  part_frame k done all (Enter (gates.Enter seen)) stands fits loads = elim (cases_Bool (eqb (h Phase) seen)) [ inl e ↦ rw e refl | inr e ↦ rw e refl ]
-  part_frame k done all (Enter _) stands fits loads = absurd stands
-  part_frame k done all (Serve f) stands fits loads = field_frame f stands.thread fits.0 loads
-  part_frame k done all (Mark m) stands fits loads = ap (λ (w : BlockWords). w.payload (register_block u q) (q % 4)) (mark_words h m.thread m.threads m.cycle m.row)
-  part_frame k done all Count stands fits loads = refl
-  part_frame k done all Again stands fits loads = refl
-  part_frame k done all Leave stands fits loads = refl
+  field_frame : (f : FieldState) → f.pass.thread ≡ t → FieldFits c f → LoadIs c.width g at t (loading_of (extent c) f) → heap_after h (field_want (extent c) f) (PayloadOf (register_block c.width u q) (register_slot c.width q)) ≡ h (PayloadOf (register_block c.width u q) (register_slot c.width q))
+  field_frame f e fits loads =
+      ap (λ s. heap_after h (row_want (extent c) s f.command f.row) (PayloadOf (register_block c.width u q) (register_slot c.width q))) e ∙ row_frame f.command f.row (subst (λ s. FitsAt c s f.command f.row) e fits) loads
+
+  pub part_frame : (pass : Pass) (k : Command) (done all : ℕ) (p : Part) → PartKept g t pass k p → PartFits c done all p → LoadIs c.width g at t (loading c p) → heap_after h (part_want c p) (PayloadOf (register_block c.width u q) (register_slot c.width q)) ≡ h (PayloadOf (register_block c.width u q) (register_slot c.width q))
+  part_frame pass k done all Rest stands fits loads = refl
+  part_frame pass k done all (Enter gates.Look) stands fits loads = refl
+  part_frame pass k done all (Enter (gates.Enter seen)) stands fits loads = elim (cases_Bool (eqb (h Phase) seen)) [ inl e ↦ rw e refl | inr e ↦ rw e refl ]
+  part_frame pass k done all (Enter _) stands fits loads = absurd stands
+  part_frame pass k done all (Serve f) stands fits loads = field_frame f stands.thread fits.0 loads
+  part_frame pass k done all (Mark m) stands fits loads = ap (λ (w : BlockWords). w.payload (register_block c.width u q) (register_slot c.width q)) (mark_words h m.pass.thread m.pass.threads m.pass.cycle m.row)
+  part_frame pass k done all Count stands fits loads = refl
+  part_frame pass k done all Again stands fits loads = refl
+  part_frame pass k done all Leave stands fits loads = refl
 
 cond_no : {A : Type 0} (b : Bool) (x y : A) → b ≡ false → cond b x y ≡ y
 cond_no b x y e = rw e refl
@@ -207,7 +226,7 @@ cond_yes b x y e = rw e refl
 
 -- every late register has its older word
 abbrev pub AllOlder : Config → Run → Type 0
-AllOlder c r = (u q : ℕ) → u < c.threads → q < 16 → late_in (local_at c r.state u).part q ≡ true → IsOlder c r u q
+AllOlder c r = (u q : ℕ) → u < c.threads → q < REGISTERS → late_in c (local_at c r.state u).part q ≡ true → IsOlder c r u q
 
 others_none : (c : Config) (order : List HistoryItem) (t u : ℕ) (k : Command) (work : ℕ) (b : Bool) → (t ≡ u → ⊥) → part u (cond b (entry_decided c t k work order ∷ []) []) ≡ []
 others_none c order t u k work true n = ap (λ x. cond x (entry_of t k work (reply_decided (replay c order) t k) ∷ []) []) (ne_eqb t u n)
@@ -215,18 +234,18 @@ others_none c order t u k work false n = refl
 
 module _ (c : Config) (traces : List (List Command)) (bounds : IsInBounds c) (plan : IsAdmitted c) (r : Run) (kept : Kept c traces r) (t : ℕ) (tl : t < c.threads) (going : is_done (local_at c r.state t) ≡ false) (all : AllOlder c r) where
   abbrev word_here : ℕ
-  word_here = heap_in c r.state (place_of (part_want (local_at c r.state t).part))
+  word_here = heap_in c r.state (place_of (part_want c (local_at c r.state t).part))
 
   abbrev deciding : Bool
-  deciding = decides (local_at c r.state t).part word_here
+  deciding = decides c (local_at c r.state t).part word_here
 
   abbrev after : Run
   after = record { state = event_done c t r.state; order = r.order ++ cond deciding (entry_decided c t (command_of (local_at c r.state t)) (local_at c r.state t).paid r.order ∷ []) [] }
 
-  older_other : (u q : ℕ) → u < c.threads → q < 16 → (t ≡ u → ⊥) → late_in (local_at c (event_done c t r.state) u).part q ≡ true → IsOlder c after u q
+  older_other : (u q : ℕ) → u < c.threads → q < REGISTERS → (t ≡ u → ⊥) → late_in c (local_at c (event_done c t r.state) u).part q ≡ true → IsOlder c after u q
   older_other u q ul ql n late =
       let same : local_at c (event_done c t r.state) u ≡ local_at c r.state u = local_new c traces bounds plan r kept t tl going u ∙ cond_no _ _ _ (ne_eqb t u n) in
-      let o : IsOlder c r u q = all u q ul ql (sym (ap (λ (l : LocalState). late_in l.part q) same) ∙ late) in
+      let o : IsOlder c r u q = all u q ul ql (sym (ap (λ (l : LocalState). late_in c l.part q) same) ∙ late) in
       record {
         before = o.before;
         entry = o.entry;
@@ -234,17 +253,17 @@ module _ (c : Config) (traces : List (List Command)) (bounds : IsInBounds c) (pl
         split = ap (λ x. x ++ cond deciding (entry_decided c t (command_of (local_at c r.state t)) (local_at c r.state t).paid r.order ∷ []) []) o.split ∙ append_assoc o.before (Did o.entry ∷ o.behind) _;
         own = o.own;
         others = part_append u o.behind _ ∙ ap (λ x. x ++ part u (cond deciding (entry_decided c t (command_of (local_at c r.state t)) (local_at c r.state t).paid r.order ∷ []) [])) o.others ∙ others_none c r.order t u _ _ deciding n;
-        word = ap (λ h. h (PayloadOf (register_block u q) (q % 4))) (heap_new c traces bounds plan r kept t tl going)
-            ∙ part_frame c (replay c r.order) (opening_last c) (every_name (start_graph c)) (opening_at c.threads) (block_words (heap_in c r.state)) (lates (loads_in c r.state)) kept.shown.shows u q ul ql (heap_in c r.state) t tl n
-            (command_of (local_at c r.state t)) _ _ (local_at c r.state t).part (kept.locals t tl).stands (fits c traces bounds plan r kept t tl) (kept.shown.loads t tl)
+        word = ap (λ h. h (PayloadOf (register_block c.width u q) (register_slot c.width q))) (heap_new c traces bounds plan r kept t tl going)
+            ∙ part_frame c (replay c r.order) (opening_blocks c) (every_name (start_graph c)) (opening_at c.width c.threads) (block_words (heap_in c r.state)) (lates (loads_in c r.state)) kept.shown.shows u q ul ql (heap_in c r.state) t tl n
+            (local_at c r.state t).pass (command_of (local_at c r.state t)) _ _ (local_at c r.state t).part (kept.locals t tl).stands (fits c traces bounds plan r kept t tl) (kept.shown.loads t tl)
             ∙ o.word;
       }
 
-  older_self : (q : ℕ) → q < 16 → late_in (local_at c (event_done c t r.state) t).part q ≡ true → IsOlder c after t q
+  older_self : (q : ℕ) → q < REGISTERS → late_in c (local_at c (event_done c t r.state) t).part q ≡ true → IsOlder c after t q
   older_self q ql late =
       let same = local_new c traces bounds plan r kept t tl going t ∙ cond_yes _ _ _ (eq-eqb t t refl) in
-      let l : Lately (heap_in c r.state) (local_at c r.state t).part word_here q = part_lately (heap_in c r.state) t c.threads (command_of (local_at c r.state t)) (owes (local_at c r.state t)) (local_at c r.state t).part word_here q (sym (ap (λ (l : LocalState). late_in l.part q) same) ∙ late) in
-      let still = ap (λ h. h (PayloadOf (register_block t q) (q % 4))) (heap_new c traces bounds plan r kept t tl going ∙ l.reads) in
+      let l : Lately c (heap_in c r.state) (local_at c r.state t).part word_here q = part_lately c (heap_in c r.state) t (command_of (local_at c r.state t)) (owes (local_at c r.state t)) (local_at c r.state t).part word_here q (sym (ap (λ (l : LocalState). late_in c l.part q) same) ∙ late) in
+      let still = ap (λ h. h (PayloadOf (register_block c.width t q) (register_slot c.width q))) (heap_new c traces bounds plan r kept t tl going ∙ l.reads) in
       elim l.how [
         | inl d ↦
             let shown = kept.shown.shows.registers.holds t q tl ql in
@@ -255,7 +274,7 @@ module _ (c : Config) (traces : List (List Command)) (bounds : IsInBounds c) (pl
               split = ap (λ x. r.order ++ cond x (entry_decided c t (command_of (local_at c r.state t)) (local_at c r.state t).paid r.order ∷ []) []) d.0;
               own = refl;
               others = refl;
-              word = still ∙ shown.reads ∙ ap (value_word (heads (opening_at c.threads))) (shown.now d.1);
+              word = still ∙ shown.reads ∙ ap (value_word (heads (opening_at c.width c.threads))) (shown.now d.1);
             }
         | inr d ↦
             let o : IsOlder c r t q = all t q tl ql d.1 in
@@ -272,7 +291,7 @@ module _ (c : Config) (traces : List (List Command)) (bounds : IsInBounds c) (pl
 
   event_older : AllOlder c after
   event_older u q ul ql late = elim (cases_eq t u) [
-    | inl e ↦ subst (λ v. late_in (local_at c (event_done c t r.state) v).part q ≡ true → IsOlder c after v q) e (older_self q ql) late
+    | inl e ↦ subst (λ v. late_in c (local_at c (event_done c t r.state) v).part q ≡ true → IsOlder c after v q) e (older_self q ql) late
     | inr n ↦ older_other u q ul ql n late
   ]
 
@@ -282,8 +301,8 @@ turn_older c traces job r kept t all = elim (cases_lt t c.threads) [
     | inl done ↦ nothing (rw (lt-ltb t c.threads tl, done) refl)
     | inr going ↦
         let some : has_event c t r.state ≡ true = rw (lt-ltb t c.threads tl, going) refl in
-        subst (λ x. AllOlder c (record { state = cond x (event_done c t r.state) r.state; order = r.order ++ cond x (cond (decides (local_at c r.state t).part (word_read c r.state (local_at c r.state t))) (entry_decided c t (command_of (local_at c r.state t)) (local_at c r.state t).paid r.order ∷ []) []) [] })) (sym some)
-        (subst (λ w. AllOlder c (record { state = event_done c t r.state; order = r.order ++ cond (decides (local_at c r.state t).part w) (entry_decided c t (command_of (local_at c r.state t)) (local_at c r.state t).paid r.order ∷ []) [] })) (sym (word_is c traces job.bounds job.plan r kept t tl))
+        subst (λ x. AllOlder c (record { state = cond x (event_done c t r.state) r.state; order = r.order ++ cond x (cond (decides c (local_at c r.state t).part (word_read c r.state (local_at c r.state t))) (entry_decided c t (command_of (local_at c r.state t)) (local_at c r.state t).paid r.order ∷ []) []) [] })) (sym some)
+        (subst (λ w. AllOlder c (record { state = event_done c t r.state; order = r.order ++ cond (decides c (local_at c r.state t).part w) (entry_decided c t (command_of (local_at c r.state t)) (local_at c r.state t).paid r.order ∷ []) [] })) (sym (word_is c traces job.bounds job.plan r kept t tl))
         (event_older c traces job.bounds job.plan r kept t tl going all))
   ]
   | inr out ↦ nothing (rw (le-ltb t c.threads out) refl)
@@ -291,7 +310,7 @@ turn_older c traces job r kept t all = elim (cases_lt t c.threads) [
   where
     nothing : has_event c t r.state ≡ false → AllOlder c (next c t r)
     nothing none =
-        subst (λ x. AllOlder c (record { state = cond x (event_done c t r.state) r.state; order = r.order ++ cond x (cond (decides (local_at c r.state t).part (word_read c r.state (local_at c r.state t))) (entry_decided c t (command_of (local_at c r.state t)) (local_at c r.state t).paid r.order ∷ []) []) [] })) (sym none)
+        subst (λ x. AllOlder c (record { state = cond x (event_done c t r.state) r.state; order = r.order ++ cond x (cond (decides c (local_at c r.state t).part (word_read c r.state (local_at c r.state t))) (entry_decided c t (command_of (local_at c r.state t)) (local_at c r.state t).paid r.order ∷ []) []) [] })) (sym none)
         (subst (λ o. AllOlder c (record { state = r.state; order = o })) (sym (append-nil r.order)) all)
 
 turns_older : (c : Config) (traces : List (List Command)) → IsJob c traces → (ts : List ℕ) (r : Run) → Kept c traces r → AllOlder c r → AllOlder c (after_turns c r ts)
@@ -299,7 +318,7 @@ turns_older c traces job [] r kept all = all
 turns_older c traces job (t ∷ ts) r kept all = turns_older c traces job ts (next c t r) (turn_kept c traces job r kept t) (turn_older c traces job r kept t all)
 
 opened_older : (c : Config) (traces : List (List Command)) → IsJob c traces → (s : State) → IsOpening c traces s → AllOlder c (opened s)
-opened_older c traces job s start u q ul ql late = let z : true ≡ false = sym late ∙ ap (λ (l : LocalState). late_in l.part q) (here c traces job s start u ul) in absurd cc
+opened_older c traces job s start u q ul ql late = let z : true ≡ false = sym late ∙ ap (λ (l : LocalState). late_in c l.part q) (here c traces job s start u ul) in absurd cc
 
 -- every run
 pub run_older : (c : Config) (traces : List (List Command)) (ts : List ℕ) (r : Run) → IsJob c traces → IsRunOf c traces ts r → AllOlder c r

@@ -14,9 +14,14 @@ use Rattle.never_heap.specs.declared.Command.TheVariants as commands
 use Rattle.never_heap.specs.declared.Entry.{Entry}
 use Rattle.never_heap.specs.declared.Reply.{Reply}
 use Rattle.never_heap.specs.Bounds.{IsCommandInBounds}
-use Rattle.never_heap.specs.Steps.{blocks_of}
+use Rattle.never_heap.specs.RightWork.{units_owed}
+use Rattle.never_heap.specs.Steps.{blocks_of, makes_object}
+use Rattle.block_store.proofs.Registers.{end_more}
 use Rattle.never_heap.proofs.Ranges as ranges
-use Rattle.heap_machine.specs.Gates.{gate_got, gate_entered, GateFits, GateAt}
+use Rattle.block_store.specs.Places.{Extent}
+use Rattle.block_store.specs.Registers.{registers_end}
+use Rattle.heap_machine.specs.Gates.{gate_got, gate_entered, is_going_in, GateFits, GateAt}
+use Rattle.heap_machine.specs.declared.pass.Pass.{Pass}
 use Rattle.heap_machine.specs.Readings.{IsPhaseWord}
 use Rattle.heap_machine.specs.declared.gate.GateRow.{GateRow}
 use Rattle.heap_machine.specs.declared.gate.GateRow.TheVariants as gates
@@ -27,15 +32,15 @@ use Rattle.grey_steps.specs.Ends.{is_blackening}
 use Rattle.grey_steps.proofs.Ends.{unit_after, unit_once}
 use Rattle.heap_system.specs.declared.local.Local.TheInside.{Inside}
 use Rattle.heap_system.specs.declared.local.Part.{Part}
-use Rattle.heap_system.specs.declared.local.Part.TheVariants.{Mark, Count, Leave}
-use Rattle.heap_system.specs.Locals.{goes_in, LocalState, IsLocal, PartFits, command_of, owed, owes, first_part, if_entered, unit_to_come, works, entry_of}
+use Rattle.heap_system.specs.declared.local.Part.TheVariants.{Enter, Mark, Count, Leave}
+use Rattle.heap_system.specs.Locals.{LocalState, IsLocal, PartFits, command_of, owed, owes, pass_by, first_part, if_entered, unit_to_come, works, entry_of}
 
 -- what is seen of a thread
 abbrev pub view_of : Inside → LocalState
-view_of l = record { config = l.config; rate = l.rate; thread = l.thread; trace = l.trace.items; log = l.log.items; paid = l.paid; waived = l.waived; part = l.part }
+view_of l = record { config = l.config; rate = l.rate; thread = l.thread; trace = l.trace.items; log = l.log.items; paid = l.paid; waived = l.waived; pass = l.pass; part = l.part }
 
 -- an object takes no more blocks than one object may
-blocks_low : (c : Config) (k : Command) → IsCommandInBounds c k → blocks_of k ≤ c.object
+blocks_low : (c : Config) (k : Command) → IsCommandInBounds c k → blocks_of c.width k ≤ c.object
 blocks_low c (commands.New d f) h = h.2
 blocks_low c (commands.Arr d e) h = h.2
 blocks_low c (commands.Set d v) h = omega arith
@@ -60,9 +65,9 @@ rate_low c rate bounds plan is = let s = small c rate plan is in omega (arith, b
 -- the units owed are at most those of the largest object
 pub owed_low : (l : LocalState) → IsLocal l → owed l ≤ l.rate * l.config.object
 owed_low l k =
-    let low : blocks_of (command_of l) ≤ l.config.object = blocks_low l.config (command_of l) (bounds_at l.config l.trace (length l.log) k.trace.commands) in
-    let more : blocks_of (command_of l) * l.rate ≤ l.config.object * l.rate = mul-le-mul_right l.rate low in
-    omega (arith, mul_comm l.rate (blocks_of (command_of l)), mul_comm l.rate l.config.object)
+    let low : blocks_of l.config.width (command_of l) ≤ l.config.object = blocks_low l.config (command_of l) (bounds_at l.config l.trace (length l.log) k.trace.commands) in
+    let more : blocks_of l.config.width (command_of l) * l.rate ≤ l.config.object * l.rate = mul-le-mul_right l.rate low in
+    omega (arith, mul_comm l.rate (blocks_of l.config.width (command_of l)), mul_comm l.rate l.config.object)
 
 -- and these are few
 pub units_low : (l : LocalState) → IsLocal l → l.rate * l.config.object ≤ 134215680
@@ -72,26 +77,26 @@ units_low l k =
     omega (arith, k.bounds.object)
 
 -- the first part of a command that its thread has entered for
-pub first_part_fits : (c : Config) (done all t : ℕ) (k : Command) (more : Bool) (cycle : ℕ) → IsThread c t → c.blocks ≤ 65535 → IsCommandInBounds c k → done < all → PartFits c done all (first_part t c.threads k more cycle)
-first_part_fits c done all t k more cycle thread blocks inside low = elim (cases_Bool (eqb (blocks_of k) 0)) [
-  | inl e ↦ rw e (first_fits c t k thread (ranges.in_range c k inside), low)
-  | inr e ↦ rw e (here more)
+pub first_part_fits : (c : Config) (done all : ℕ) (p : Pass) (k : Command) (more : Bool) → p.threads ≡ c.threads → IsThread c p.thread → c.blocks ≤ 65535 → IsCommandInBounds c k → done < all → PartFits c done all (first_part p k more)
+first_part_fits c done all p k more same thread blocks inside low = elim (cases_Bool (makes_object k)) [
+  | inl e ↦ rw e (here more)
+  | inr e ↦ rw e (first_fits c p k thread (ranges.in_range c k inside), low)
 ]
   where
-    here : (b : Bool) → PartFits c done all (cond b (Mark (scanning t c.threads cycle)) Count)
-    here true = (record { threads = refl; few = thread.few; blocks = blocks; thread = thread.thread; row = omega (arith, thread.thread) }, low)
+    here : (b : Bool) → PartFits c done all (cond b (Mark (scanning p)) Count)
+    here true = (record { threads = same; few = omega (arith, same, thread.few); blocks = blocks; thread = omega (arith, same, thread.thread); row = omega (arith, thread.thread) }, low)
     here false = low
 
-pub opening_room : (c : Config) → IsAdmitted c → 5 * c.threads ≤ c.blocks
+pub opening_room : (c : Config) → IsAdmitted c → registers_end c.width c.threads ≤ c.blocks
 opening_room c plan = omega (arith, plan.opens, plan.room)
 
-pub first_part_pays : (t n : ℕ) (k : Command) (more : Bool) (cycle paid due : ℕ) → paid ≤ due → (more ≡ true → paid < due) → paid + unit_to_come (first_part t n k more cycle) ≤ due
-first_part_pays t n k more cycle paid due low some = elim (cases_Bool (eqb (blocks_of k) 0)) [
-  | inl e ↦ rw e (omega arith)
-  | inr e ↦ rw e (here more some)
+pub first_part_pays : (c : Config) (p : Pass) (k : Command) (more : Bool) (paid due : ℕ) → paid ≤ due → (more ≡ true → paid < due) → paid + unit_to_come c (first_part p k more) ≤ due
+first_part_pays c p k more paid due low some = elim (cases_Bool (makes_object k)) [
+  | inl e ↦ rw e (here more some)
+  | inr e ↦ rw e (omega arith)
 ]
   where
-    here : (b : Bool) → (b ≡ true → paid < due) → paid + unit_to_come (cond b (Mark (scanning t n cycle)) Count) ≤ due
+    here : (b : Bool) → (b ≡ true → paid < due) → paid + unit_to_come c (cond b (Mark (scanning p)) Count) ≤ due
     here true f = omega (arith, f refl)
     here false f = omega arith
 
@@ -101,66 +106,50 @@ new_unit true b u e once = ap (λ x. x && not true) e ∙ sym (once refl)
 new_unit false true u e once = e
 new_unit false false u e once = e
 
-pub unit_is_new : (m : GreyState) (w : ℕ) → (grey_unit (grey_got m w).row && not (grey_unit m.row)) ≡ is_blackening m.row
-unit_is_new m w = new_unit (grey_unit m.row) (grey_unit (grey_got m w).row) (is_blackening m.row) (unit_after m w) (unit_once m)
+pub unit_is_new : (e : Extent) (m : GreyState) (w : ℕ) → (grey_unit (grey_got e m w).row && not (grey_unit m.row)) ≡ is_blackening m.row
+unit_is_new e m w = new_unit (grey_unit m.row) (grey_unit (grey_got e m w).row) (is_blackening m.row) (unit_after e m w) (unit_once m)
 
 owes_some : (l : LocalState) → owes l ≡ true → l.paid < owed l
 owes_some l e = ltb-true l.paid (owed l) (and_parts (not l.waived) (ltb l.paid (owed l)) e).1
 
 -- a part on its way in fits each heap
 abbrev pub IsOnWay : GateRow → Type 0
-IsOnWay g = GateFits g × (goes_in g ≡ true)
+IsOnWay g = GateFits g × (is_going_in g ≡ true)
 
-pub going_at : (c : Config) (g : GateRow) → goes_in g ≡ true → GateAt c g
+pub going_at : (c : Config) (g : GateRow) → is_going_in g ≡ true → GateAt c g
 going_at c gates.Look e = tt
 going_at c (gates.Enter seen) e = tt
 going_at c _ e = absurd cc
 
 entered_fits : (c : Config) (done all t : ℕ) (k : Command) (more : Bool) (o : Option PhaseWord) (g : GateRow) → IsThread c t → c.blocks ≤ 65535 → IsCommandInBounds c k → done < all → (o ≡ None → IsOnWay g) → PartFits c done all (if_entered o t c.threads k more g)
 entered_fits c done all t k more None g thread blocks inside low fits = (let f = fits refl in (f.0, f.1, low))
-entered_fits c done all t k more (Some p) g thread blocks inside low fits = first_part_fits c done all t k more p.cycle thread blocks inside low
+entered_fits c done all t k more (Some p) g thread blocks inside low fits = first_part_fits c done all (pass_by t c.threads p) k more refl thread blocks inside low
 
-entered_pays : (t n : ℕ) (k : Command) (more : Bool) (o : Option PhaseWord) (g : GateRow) (paid due : ℕ) → paid ≤ due → (more ≡ true → paid < due) → paid + unit_to_come (if_entered o t n k more g) ≤ due
-entered_pays t n k more None g paid due low some = omega arith
-entered_pays t n k more (Some p) g paid due low some = first_part_pays t n k more p.cycle paid due low some
+entered_pays : (c : Config) (t n : ℕ) (k : Command) (more : Bool) (o : Option PhaseWord) (g : GateRow) (paid due : ℕ) → paid ≤ due → (more ≡ true → paid < due) → paid + unit_to_come c (if_entered o t n k more g) ≤ due
+entered_pays c t n k more None g paid due low some = omega arith
+entered_pays c t n k more (Some p) g paid due low some = first_part_pays c (pass_by t n p) k more paid due low some
 
 -- a thread with another part
 abbrev pub with_part : LocalState → Part → LocalState
 with_part l p = record l { part = p }
 
 pub thread_is : (l : LocalState) → IsLocal l → IsThread l.config l.thread
-thread_is l k = record { few = k.bounds.threads; thread = k.thread; registers = omega (arith, opening_room l.config k.plan, k.thread) }
+thread_is l k = record { few = k.bounds.threads; thread = k.thread; registers = omega (arith, opening_room l.config k.plan, end_more l.config.width (l.thread + 1) l.config.threads (omega (arith, k.thread))) }
 
-pub other_part : (l : LocalState) (p : Part) → IsLocal l → PartFits l.config (length l.log) (length l.trace) p → l.paid + unit_to_come p ≤ owed l → IsLocal (with_part l p)
+pub other_part : (l : LocalState) (p : Part) → IsLocal l → PartFits l.config (length l.log) (length l.trace) p → l.paid + unit_to_come l.config p ≤ owed l → IsLocal (with_part l p)
 other_part l p k fits pays = record { bounds = k.bounds; plan = k.plan; rate = k.rate; thread = k.thread; trace = k.trace; log = k.log; part = fits; paid = pays; worked = k.worked }
 
 pub entered_local : (l : LocalState) (o : Option PhaseWord) (g : GateRow) → IsLocal l → length l.log < length l.trace → (o ≡ None → IsOnWay g) → IsLocal (with_part l (if_entered o l.thread l.config.threads (command_of l) (owes l) g))
 entered_local l o g k low fits = other_part l (if_entered o l.thread l.config.threads (command_of l) (owes l) g) k
     (entered_fits l.config (length l.log) (length l.trace) l.thread (command_of l) (owes l) o g (thread_is l k) k.bounds.blocks (bounds_at l.config l.trace (length l.log) k.trace.commands) low fits)
-    (entered_pays l.thread l.config.threads (command_of l) (owes l) o g l.paid (owed l) (omega (arith, k.paid)) (owes_some l))
+    (entered_pays l.config l.thread l.config.threads (command_of l) (owes l) o g l.paid (owed l) (omega (arith, k.paid)) (owes_some l))
 
--- a gate that is not passed yet
-looked_fits : (w : ℕ) (b : Bool) → is_closed w ≡ b → IsPhaseWord w → IsOnWay (cond b gates.Look (gates.Enter w))
-looked_fits w true e word = (tt, refl)
-looked_fits w false e word = (record { word = word; opened = e }, refl)
-
-tried_fits : (seen : ℕ) (b : Bool) → gate_entered (cond b (gates.Entered seen) gates.Look) ≡ None → IsOnWay (cond b (gates.Entered seen) gates.Look)
-tried_fits seen true e = absurd cc
-tried_fits seen false e = (tt, refl)
-
-pub waiting_fits : (g : GateRow) (w : ℕ) → IsPhaseWord w → goes_in g ≡ true → gate_entered (gate_got g w) ≡ None → IsOnWay (gate_got g w)
-waiting_fits gates.Look w word out e = looked_fits w (is_closed w) refl word
-waiting_fits (gates.Enter seen) w word out e = tried_fits seen (eqb w seen) e
-waiting_fits _ w word out e = absurd cc
-
-pub entered_whole : (l now : LocalState) (o : Option PhaseWord) (g : GateRow) (p : Part) → l ≡ now → IsLocal l → length now.log < length now.trace → (o ≡ None → IsOnWay g)
-    → p ≡ if_entered o now.thread now.config.threads (command_of now) (owes now) g → IsLocal (with_part l p)
-entered_whole l now o g p is k low fits at =
-    subst (λ x. IsLocal (with_part l x)) (sym (at ∙ ap (λ (x : LocalState). if_entered o x.thread x.config.threads (command_of x) (owes x) g) (sym is)))
-    (entered_local l o g k (subst (λ (x : LocalState). length x.log < length x.trace) (sym is) low) fits)
+-- a thread on its way in has a command
+pub on_way_low : (l : LocalState) (g : GateRow) → IsLocal l → l.part ≡ Enter g → length l.log < length l.trace
+on_way_low l g k e = (subst (λ (p : Part). PartFits l.config (length l.log) (length l.trace) p) e k.part).2
 
 -- the cycle of the word by which a thread enters is that of the word that it read
-pub entered_cycle : (g : GateRow) (w : ℕ) → goes_in g ≡ true → IfSome (gate_entered (gate_got g w)) (λ p. p.cycle ≡ cycle_of w)
+pub entered_cycle : (g : GateRow) (w : ℕ) → is_going_in g ≡ true → IfSome (gate_entered (gate_got g w)) (λ p. p.cycle ≡ cycle_of w)
 entered_cycle gates.Look w e = elim (cases_Bool (is_closed w)) [ inl c ↦ rw c tt | inr c ↦ rw c tt ]
 entered_cycle (gates.Enter seen) w e = elim (cases_Bool (eqb w seen)) [
   | inl c ↦ rw c (ap cycle_of (sym (eqb-true w seen c)))
@@ -189,7 +178,7 @@ works_at xs i d low = let e : i + 1 ≡ suc i = omega arith in ap (λ n. works (
 
 -- a thread with its command in the log
 pub answered_local : (l : LocalState) (reply : Reply) → IsLocal l → length l.log < length l.trace
-    → IsLocal (record { config = l.config; rate = l.rate; thread = l.thread; trace = l.trace; log = l.log ++ entry_of l.thread (command_of l) l.paid reply ∷ []; paid = 0; waived = false; part = Leave })
+    → IsLocal (record { config = l.config; rate = l.rate; thread = l.thread; trace = l.trace; log = l.log ++ entry_of l.thread (command_of l) l.paid reply ∷ []; paid = 0; waived = false; pass = l.pass; part = Leave })
 answered_local l reply k low = record {
   bounds = k.bounds;
   plan = k.plan;
@@ -211,14 +200,19 @@ answered_local l reply k low = record {
     most : owed l ≤ l.rate * l.config.object
     most = owed_low l k
 
+-- the same in any pass
+pub answered_in : (l : LocalState) (pass : Pass) (reply : Reply) → IsLocal l → length l.log < length l.trace
+    → IsLocal (record { config = l.config; rate = l.rate; thread = l.thread; trace = l.trace; log = l.log ++ entry_of l.thread (command_of l) l.paid reply ∷ []; paid = 0; waived = false; pass = pass; part = Leave })
+answered_in l pass reply k low = (let is = answered_local l reply k low in record { bounds = is.bounds; plan = is.plan; rate = is.rate; thread = is.thread; trace = is.trace; log = is.log; part = is.part; paid = is.paid; worked = is.worked })
+
 pub answered_with : (l : LocalState) (reply : Reply) (log : List Entry) (k : Command) → IsLocal l → length l.log < length l.trace → log ≡ l.log ++ entry_of l.thread k l.paid reply ∷ [] → k ≡ command_of l
-    → IsLocal (record { config = l.config; rate = l.rate; thread = l.thread; trace = l.trace; log = log; paid = 0; waived = false; part = Leave })
+    → IsLocal (record { config = l.config; rate = l.rate; thread = l.thread; trace = l.trace; log = log; paid = 0; waived = false; pass = l.pass; part = Leave })
 answered_with l reply log k inside low is e =
-    subst (λ x. IsLocal (record { config = l.config; rate = l.rate; thread = l.thread; trace = l.trace; log = x; paid = 0; waived = false; part = Leave }))
+    subst (λ x. IsLocal (record { config = l.config; rate = l.rate; thread = l.thread; trace = l.trace; log = x; paid = 0; waived = false; pass = l.pass; part = Leave }))
     (sym (is ∙ ap (λ y. l.log ++ entry_of l.thread y l.paid reply ∷ []) e)) (answered_local l reply inside low)
 
 -- the units owed fit
-pub product_low : (l : LocalState) (n : ℕ) → IsLocal l → n ≡ blocks_of (command_of l) → l.rate * n ≤ 134215680
+pub product_low : (l : LocalState) (n : ℕ) → IsLocal l → n ≡ blocks_of l.config.width (command_of l) → l.rate * n ≤ 134215680
 product_low l n k e = let due : l.rate * n ≡ owed l = ap (λ x. l.rate * x) e in omega (arith, owed_low l k, units_low l k)
 
 pub paid_low : (l : LocalState) → IsLocal l → l.paid ≤ 134215680
@@ -228,3 +222,13 @@ pub worked_low : (l : LocalState) → IsLocal l → works l.log ≤ 2 ^ 45
 worked_low l k =
     let a : length l.log * (l.rate * l.config.object) ≤ 131072 * (l.rate * l.config.object) = mul-le-mul_right (l.rate * l.config.object) (omega (arith, k.log, k.trace.short)) in
     omega (arith, k.worked, units_low l k)
+
+-- a thread in the first part of a pass that begins
+pub entered_in : (l : LocalState) (phase : PhaseWord) (g : GateRow) (pass : Pass) (p : Part) → pass ≡ pass_by l.thread l.config.threads phase → p ≡ first_part pass (command_of l) (owes l) → IsLocal l → l.part ≡ Enter g
+    → IsLocal (record { config = l.config; rate = l.rate; thread = l.thread; trace = l.trace; log = l.log; paid = l.paid; waived = l.waived; pass = pass; part = p })
+entered_in l phase g pass p same is k at =
+    let low : length l.log < length l.trace = on_way_low l g k at in
+    let new : IsLocal (with_part l (first_part (pass_by l.thread l.config.threads phase) (command_of l) (owes l))) = entered_local l (Some phase) g k low (λ e. absurd cc) in
+    let part : first_part (pass_by l.thread l.config.threads phase) (command_of l) (owes l) ≡ p = sym (is ∙ ap (λ x. first_part x (command_of l) (owes l)) same) in
+    let all : IsLocal (with_part l p) = subst (λ x. IsLocal (with_part l x)) part new in
+    record { bounds = all.bounds; plan = all.plan; rate = all.rate; thread = all.thread; trace = all.trace; log = all.log; part = all.part; paid = all.paid; worked = all.worked }

@@ -9,7 +9,7 @@ use Rattle.never_heap.specs.declared.Command.{Command}
 use Rattle.never_heap.specs.declared.Entry.{Entry}
 use Rattle.never_heap.specs.Histories.{HistoryItem, replay, part, parts_from}
 use Rattle.heap_machine.specs.Operations.{op_at, op_place, words_after, SumFits}
-use Rattle.heap_machine.specs.declared.Op.{Op}
+use Rattle.heap_machine.specs.declared.op.Op.{Op}
 use Rattle.heap_system.specs.declared.local.Part.{Part}
 use Rattle.heap_system.specs.declared.local.Part.TheVariants.{Rest, Enter, Serve, Mark, Count, Again, Leave}
 use Rattle.heap_system.specs.declared.Turn.{Turn}
@@ -41,9 +41,9 @@ one_rate c p q a b = let low = a.least q b.some b.enough in let high = b.least p
 pub record TurnFacts (c : Config) (s : State) (t : ℕ) (l : LocalState) : Type 0 where
   pub same : l ≡ local_at c s t
   pub config : l.config ≡ c
-  pub cell : op_place (op_at (extent l.config) (part_want l.part)) < length s.words
-  pub sums : SumFits (op_at (extent l.config) (part_want l.part)) (get_or s.words (op_place (op_at (extent l.config) (part_want l.part))) 0)
-  pub reads : PartReads l.config l.part (get_or s.words (op_place (op_at (extent l.config) (part_want l.part))) 0)
+  pub cell : op_place (op_at (extent l.config) (part_want l.config l.part)) < length s.words
+  pub sums : SumFits (op_at (extent l.config) (part_want l.config l.part)) (get_or s.words (op_place (op_at (extent l.config) (part_want l.config l.part))) 0)
+  pub reads : PartReads l.config l.part (get_or s.words (op_place (op_at (extent l.config) (part_want l.config l.part))) 0)
 
 pub turn_facts : (c : Config) (s : State) (t : ℕ) (l : LocalState) → IsReached c s → t < c.threads → l ≡ get_or s.locals t l → TurnFacts c s t l
 turn_facts c s t l k tl is =
@@ -95,7 +95,7 @@ pub record TurnMade (c : Config) (s : State) (t : ℕ) (ws : List ℕ) (l : Loca
   pub reached : IsReached c (record { words = ws; locals = set s.locals t l })
   pub answered : a ≡ answer c t s
 
-module _ (c : Config) (s : State) (t : ℕ) (l : LocalState) (k : IsReached c s) (tl : t < c.threads) (is : l ≡ get_or s.locals t l) (op : Op) (wants : op ≡ op_at (extent l.config) (part_want l.part)) where
+module _ (c : Config) (s : State) (t : ℕ) (l : LocalState) (k : IsReached c s) (tl : t < c.threads) (is : l ≡ get_or s.locals t l) (op : Op) (wants : op ≡ op_at (extent l.config) (part_want l.config l.part)) where
   pub cell_here : op_place op < length s.words
   cell_here = rw wants (turn_facts c s t l k tl is).cell
 
@@ -107,24 +107,24 @@ module _ (c : Config) (s : State) (t : ℕ) (l : LocalState) (k : IsReached c s)
     reads_here = rw (read, wants) (turn_facts c s t l k tl is).reads
 
     word_is : word ≡ word_read c s (local_at c s t)
-    word_is = let f = turn_facts c s t l k tl is in read ∙ ap (λ o. get_or s.words (op_place o) 0) wants ∙ ap (λ x. get_or s.words (op_place (op_at (extent x) (part_want l.part))) 0) f.config ∙ ap (λ (x : LocalState). get_or s.words (op_place (op_at (extent c) (part_want x.part))) 0) f.same
+    word_is = let f = turn_facts c s t l k tl is in read ∙ ap (λ o. get_or s.words (op_place o) 0) wants ∙ ap (λ (x : Config). get_or s.words (op_place (op_at (extent x) (part_want x l.part))) 0) f.config ∙ ap (λ (x : LocalState). get_or s.words (op_place (op_at (extent c) (part_want c x.part))) 0) f.same
 
-    pub turn_made : (going : is_done l ≡ false) (ws : List ℕ) (new : LocalState) (a : Turn) → ws ≡ words_after op s.words → new ≡ local_got l word → a ≡ turn_of (part_step l.part word) → TurnMade c s t ws new a
+    pub turn_made : (going : is_done l ≡ false) (ws : List ℕ) (new : LocalState) (a : Turn) → ws ≡ words_after op s.words → new ≡ local_got l word → a ≡ turn_of (part_step l.config l.part word) → TurnMade c s t ws new a
     turn_made going ws new a acts gets answers =
         let f = turn_facts c s t l k tl is in
         let undone : is_done (local_at c s t) ≡ false = ap is_done (sym f.same) ∙ going in
         let some : has_event c t s ≡ true = rw (lt-ltb t c.threads tl, undone) refl in
-        let words : ws ≡ words_after (op_at (extent c) (part_want (local_at c s t).part)) s.words =
-        acts ∙ ap (λ o. words_after o s.words) wants ∙ ap (λ x. words_after (op_at (extent x) (part_want l.part)) s.words) f.config ∙ ap (λ (x : LocalState). words_after (op_at (extent c) (part_want x.part)) s.words) f.same in
+        let words : ws ≡ words_after (op_at (extent c) (part_want c (local_at c s t).part)) s.words =
+        acts ∙ ap (λ o. words_after o s.words) wants ∙ ap (λ (x : Config). words_after (op_at (extent x) (part_want x l.part)) s.words) f.config ∙ ap (λ (x : LocalState). words_after (op_at (extent c) (part_want c x.part)) s.words) f.same in
         let moved : new ≡ local_got (local_at c s t) (word_read c s (local_at c s t)) = gets ∙ ap (λ x. local_got x word) f.same ∙ ap (local_got (local_at c s t)) word_is in
         let state : record { words = ws; locals = set s.locals t new } ≡ turned c t s =
         ap (λ w. let x : State = record { words = w; locals = set s.locals t new } in x) words
-        ∙ ap (λ y. let x : State = record { words = words_after (op_at (extent c) (part_want (local_at c s t).part)) s.words; locals = set s.locals t y } in x) moved
+        ∙ ap (λ y. let x : State = record { words = words_after (op_at (extent c) (part_want c (local_at c s t).part)) s.words; locals = set s.locals t y } in x) moved
         ∙ sym (ap (λ b. cond b (event_done c t s) s) some) in
         record {
           state = state;
           reached = subst (λ x. IsReached c x) (sym state) (turned_reached c s t k);
-          answered = answers ∙ ap (λ x. turn_of (part_step l.part x)) word_is ∙ ap (λ (x : LocalState). turn_of (part_step x.part (word_read c s (local_at c s t)))) f.same ∙ rw undone refl;
+          answered = answers ∙ ap (λ x. turn_of (part_step l.config l.part x)) word_is ∙ ap (λ (x : Config). turn_of (part_step x l.part (word_read c s (local_at c s t)))) f.config ∙ ap (λ (x : LocalState). turn_of (part_step c x.part (word_read c s (local_at c s t)))) f.same ∙ rw undone refl;
         }
 
 -- a thread that is done is at rest, with its whole trace in its log

@@ -2,24 +2,24 @@
 use Rattle.std.proofs.Common.{◌≤◌, ◌≡◌, ℕ, ◌<◌, true, false, List, ◌++◌, ◌∷◌, [], append-nil, length, sym, ap, ◌∙◌, ◌*◌, subst, arith}
 use Rattle.block_store.specs.declared.Name.{Name}
 use Rattle.block_store.specs.Colours.{is_free}
-use Rattle.block_store.specs.Places.{GreyList, ColourOf}
+use Rattle.block_store.specs.Places.{extent, GreyList, ColourOf}
 use Rattle.shown_graph.specs.Layouts.{object_blocks}
 use Rattle.block_store.specs.declared.Config.{Config}
 use Rattle.never_heap.specs.declared.Command.{Command}
 use Rattle.never_heap.specs.declared.Reply.{Reply}
 use Rattle.never_heap.specs.Graphs.{start_graph, has_name, object_of}
 use Rattle.never_heap.specs.Histories.{replay, part}
-use Rattle.never_heap.specs.Steps.{blocks_of}
+use Rattle.never_heap.specs.Steps.{blocks_of, makes_object}
+use Rattle.never_heap.proofs.Answering.{makers_have_blocks, others_have_none}
 use Rattle.rate_plan.specs.Rates.{IsRate}
 use Rattle.shown_graph.specs.Openings.{opening_at}
 use Rattle.shown_graph.specs.Events.{unloaded}
-use Rattle.heap_machine.specs.Grey.{no_grey}
+use Rattle.heap_machine.specs.Holdings.{holds_nothing}
 use Rattle.heap_machine.specs.Operations.{Exchange}
-use Rattle.grey_steps.specs.Rows.{GreyState, grey_holding}
+use Rattle.grey_steps.specs.Rows.{GreyState, holding_at}
 use Rattle.grey_steps.specs.Ends.{is_putting}
 use Rattle.grey_steps.proofs.Ends.{put_on_empty}
-use Rattle.barrier_steps.specs.declared.rows.FieldRow.{FieldRow}
-use Rattle.barrier_steps.specs.Rows.{field_decided}
+use Rattle.barrier_steps.specs.Rows.{FieldState, field_decided}
 use Rattle.barrier_steps.proofs.Dues.{none_due, some_due}
 use Rattle.heap_system.specs.declared.local.Part.{Part}
 use Rattle.heap_system.specs.declared.local.Part.TheVariants.{Rest, Serve, Mark, Count}
@@ -27,7 +27,7 @@ use Rattle.heap_system.specs.Locals.{part_want, PartFits, is_rest, command_of, o
 use Rattle.heap_system.specs.Machines.{Run, local_at}
 use Rattle.heap_system.specs.Units.{IsWithin}
 use Rattle.heap_system.specs.Pictures.{holding, loading, waiting, heap_in}
-use Rattle.heap_system.proofs.Kept.{Kept, PartKept, RowKept, MarkKept, IsSettled, holdings_in}
+use Rattle.heap_system.proofs.Kept.{grey_of, Kept, PartKept, RowKept, MarkKept, IsSettled, holdings_in}
 use Rattle.heap_system.proofs.Reached.{rest_is, one_rate}
 
 module _ (c : Config) (traces : List (List Command)) (r : Run) (k : Kept c traces r) (t : ℕ) (tl : t < c.threads) where
@@ -37,24 +37,24 @@ module _ (c : Config) (traces : List (List Command)) (r : Run) (k : Kept c trace
       (k.locals t tl).told ∙ ap (λ u. (local_at c r.state t).log ++ entries_of u (command_of (local_at c r.state t)) (local_at c r.state t).paid (waiting (replay c r.order) (local_at c r.state t).part)) (k.locals t tl).thread
       ∙ ap (λ x. (local_at c r.state t).log ++ entries_of t (command_of (local_at c r.state t)) (local_at c r.state t).paid (waiting (replay c r.order) x)) is
 
-  pub rest_told : is_rest (local_at c r.state t).part ≡ true → (part t r.order ≡ (local_at c r.state t).log) × (loading (local_at c r.state t).part ≡ unloaded) × (holding (local_at c r.state t).part ≡ no_grey)
-  rest_told e = let is = rest_is (local_at c r.state t).part e in (told_at Rest is ∙ append-nil (local_at c r.state t).log, ap loading is, ap holding is)
+  pub rest_told : is_rest (local_at c r.state t).part ≡ true → (part t r.order ≡ (local_at c r.state t).log) × (loading c (local_at c r.state t).part ≡ unloaded) × (holding c (local_at c r.state t).part ≡ holds_nothing)
+  rest_told e = let is = rest_is (local_at c r.state t).part e in (told_at Rest is ∙ append-nil (local_at c r.state t).log, ap (loading c) is, ap (holding c) is)
 
   -- a command that allocates nothing has made no unit
-  unpaid : (f : FieldRow) → (local_at c r.state t).part ≡ Serve f → (local_at c r.state t).paid ≡ 0
+  unpaid : (f : FieldState) → (local_at c r.state t).part ≡ Serve f → (local_at c r.state t).paid ≡ 0
   unpaid f is =
-      let row : RowKept (replay c r.order) t (command_of (local_at c r.state t)) f = subst (λ p. PartKept (replay c r.order) t (command_of (local_at c r.state t)) p) is (k.locals t tl).stands in
-      let none : owed (local_at c r.state t) ≡ (local_at c r.state t).rate * 0 = ap (λ n. (local_at c r.state t).rate * n) row.serves in
+      let row : RowKept (replay c r.order) t (local_at c r.state t).pass (command_of (local_at c r.state t)) f = subst (λ p. PartKept (replay c r.order) t (local_at c r.state t).pass (command_of (local_at c r.state t)) p) is (k.locals t tl).stands in
+      let none : owed (local_at c r.state t) ≡ (local_at c r.state t).rate * 0 = ap (λ n. (local_at c r.state t).rate * n) (others_have_none (local_at c r.state t).config.width (command_of (local_at c r.state t)) row.serves) in
       omega (arith, (k.locals t tl).fits.paid, none)
 
-  pub decided_told : (f : FieldRow) → (local_at c r.state t).part ≡ Serve f → field_decided f ≡ true → (y : Reply) × (part t r.order ≡ (local_at c r.state t).log ++ entry_of t (command_of (local_at c r.state t)) 0 y ∷ [])
+  pub decided_told : (f : FieldState) → (local_at c r.state t).part ≡ Serve f → field_decided f.row ≡ true → (y : Reply) × (part t r.order ≡ (local_at c r.state t).log ++ entry_of t (command_of (local_at c r.state t)) 0 y ∷ [])
   decided_told f is e =
-      let y = some_due (replay c r.order) f e in
+      let y = some_due (replay c r.order) f.pass.thread f.command f.row e in
       (y.0, told_at (Serve f) is ∙ ap (λ o. (local_at c r.state t).log ++ entries_of t (command_of (local_at c r.state t)) (local_at c r.state t).paid o) y.1 ∙ ap (λ n. (local_at c r.state t).log ++ entry_of t (command_of (local_at c r.state t)) n y.0 ∷ []) (unpaid f is))
 
-  pub undecided_told : (f : FieldRow) → (local_at c r.state t).part ≡ Serve f → field_decided f ≡ false → part t r.order ≡ (local_at c r.state t).log
+  pub undecided_told : (f : FieldState) → (local_at c r.state t).part ≡ Serve f → field_decided f.row ≡ false → part t r.order ≡ (local_at c r.state t).log
   undecided_told f is e =
-      told_at (Serve f) is ∙ ap (λ o. (local_at c r.state t).log ++ entries_of t (command_of (local_at c r.state t)) (local_at c r.state t).paid o) (none_due (replay c r.order) f e).0 ∙ append-nil (local_at c r.state t).log
+      told_at (Serve f) is ∙ ap (λ o. (local_at c r.state t).log ++ entries_of t (command_of (local_at c r.state t)) (local_at c r.state t).paid o) (none_due (replay c r.order) f.pass.thread f.command f.row e).0 ∙ append-nil (local_at c r.state t).log
 
   -- what is said of the units
   pub paid_low : (local_at c r.state t).paid ≤ owed (local_at c r.state t)
@@ -63,30 +63,30 @@ module _ (c : Config) (traces : List (List Command)) (r : Run) (k : Kept c trace
   pub rest_settled : is_rest (local_at c r.state t).part ≡ true → ((local_at c r.state t).paid ≡ 0) × ((local_at c r.state t).waived ≡ false)
   rest_settled e = subst (λ p. IsSettled (owed (local_at c r.state t)) (local_at c r.state t).paid (local_at c r.state t).waived p) (rest_is (local_at c r.state t).part e) (k.locals t tl).settled
 
-  pub count_settled : (local_at c r.state t).part ≡ Count → (0 < blocks_of (command_of (local_at c r.state t))) × (owes (local_at c r.state t) ≡ false)
+  pub count_settled : (local_at c r.state t).part ≡ Count → (0 < blocks_of c.width (command_of (local_at c r.state t))) × (owes (local_at c r.state t) ≡ false)
   count_settled is =
-      let some : blocks_of (command_of (local_at c r.state t)) ≡ 0 → ⊥ = subst (λ p. PartKept (replay c r.order) t (command_of (local_at c r.state t)) p) is (k.locals t tl).stands in
-      (omega (arith, some), subst (λ p. IsSettled (owed (local_at c r.state t)) (local_at c r.state t).paid (local_at c r.state t).waived p) is (k.locals t tl).settled)
+      let some : makes_object (command_of (local_at c r.state t)) ≡ true = subst (λ p. PartKept (replay c r.order) t (local_at c r.state t).pass (command_of (local_at c r.state t)) p) is (k.locals t tl).stands in
+      (makers_have_blocks c.width (command_of (local_at c r.state t)) some, subst (λ p. IsSettled (owed (local_at c r.state t)) (local_at c r.state t).paid (local_at c r.state t).waived p) is (k.locals t tl).settled)
 
   pub rate_is : IsRate c (local_at c r.state t).rate
   rate_is = subst (λ x. IsRate x (local_at c r.state t).rate) (k.locals t tl).config (k.locals t tl).fits.rate
 
-  pub entries_within : (rate : ℕ) → IsRate c rate → IsWithin rate (part t r.order)
-  entries_within rate is = subst (λ n. IsWithin n (part t r.order)) (one_rate c (local_at c r.state t).rate rate rate_is is) (k.locals t tl).within
+  pub entries_within : (rate : ℕ) → IsRate c rate → IsWithin c.width rate (part t r.order)
+  entries_within rate is = subst (λ n. IsWithin c.width n (part t r.order)) (one_rate c (local_at c r.state t).rate rate rate_is is) (k.locals t tl).within
 
   -- where it puts its hand, its list is empty
   pub put_empty : (m : GreyState) → (local_at c r.state t).part ≡ Mark m → is_putting m.row ≡ true
-      → (part_want (local_at c r.state t).part ≡ Exchange (GreyList t) (holding (local_at c r.state t).part).hand) × (heap_in c r.state (GreyList t) ≡ 0)
+      → (part_want c (local_at c r.state t).part ≡ Exchange (GreyList t) (holding c (local_at c r.state t).part).hand) × (heap_in c r.state (GreyList t) ≡ 0)
   put_empty m is putting =
-      let stands : MarkKept t (command_of (local_at c r.state t)) m = subst (λ p. PartKept (replay c r.order) t (command_of (local_at c r.state t)) p) is (k.locals t tl).stands in
+      let stands : MarkKept t (local_at c r.state t).pass (command_of (local_at c r.state t)) m = subst (λ p. PartKept (replay c r.order) t (local_at c r.state t).pass (command_of (local_at c r.state t)) p) is (k.locals t tl).stands in
       let fits : PartFits c (length (local_at c r.state t).log) (length (local_at c r.state t).trace) (Mark m) =
       subst (λ p. PartFits c (length (local_at c r.state t).log) (length (local_at c r.state t).trace) p) is (subst (λ x. PartFits x (length (local_at c r.state t).log) (length (local_at c r.state t).trace) (local_at c r.state t).part) (k.locals t tl).config (k.locals t tl).fits.part) in
-      let e = put_on_empty c (heap_in c r.state) (holdings_in c r.state) m fits.0 k.grey (ap (holdings_in c r.state) stands.thread ∙ ap holding is) putting in (
-        ap part_want is ∙ e.0 ∙ ap (λ u. Exchange (GreyList u) (grey_holding m.row).hand) stands.thread ∙ sym (ap (λ p. Exchange (GreyList t) (holding p).hand) is),
+      let e = put_on_empty c (heap_in c r.state) (holdings_in c r.state) m fits.0 k.grey (ap (holdings_in c r.state) stands.thread ∙ ap (grey_of c) is) putting in (
+        ap (part_want c) is ∙ e.0 ∙ ap (λ u. Exchange (GreyList u) (holding_at (extent c) m).hand) stands.thread ∙ sym (ap (λ p. Exchange (GreyList t) (holding c p).hand) is),
         subst (λ u. heap_in c r.state (GreyList u) ≡ 0) stands.thread e.1,
       )
 
 -- no block of an object is Free
-pub not_free : (c : Config) (traces : List (List Command)) (r : Run) → Kept c traces r → (a : Name) (o : ℕ) → has_name (start_graph c) a ≡ true → o < object_blocks (object_of (replay c r.order) a)
-    → is_free (heap_in c r.state (ColourOf (opening_at c.threads a o))) ≡ false
-not_free c traces r k a o ka ol = k.solid (opening_at c.threads a o) (omega (arith, k.shown.shows.placed.behind a o ka ol)) (k.shown.shows.placed.within a o ka ol)
+pub not_free : (c : Config) (traces : List (List Command)) (r : Run) → Kept c traces r → (a : Name) (o : ℕ) → has_name (start_graph c) a ≡ true → o < object_blocks c.width (object_of (replay c r.order) a)
+    → is_free (heap_in c r.state (ColourOf (opening_at c.width c.threads a o))) ≡ false
+not_free c traces r k a o ka ol = k.solid (opening_at c.width c.threads a o) (omega (arith, k.shown.shows.placed.behind a o ka ol)) (k.shown.shows.placed.within a o ka ol)

@@ -1,7 +1,8 @@
 -- A turn keeps what every list of turns keeps.
-use Rattle.std.proofs.Common.{zero, suc, ◌*◌, ◌≡◌, ℕ, ◌+◌, ◌<◌, ◌≤◌, Bool, true, false, cond, eqb, lt-ltb, eq-eqb, ne_eqb, ◌&&◌, Option, Some, None, List, [], ◌∷◌, ◌++◌, length, get_or, append_assoc, append-nil, length-append, length-set, set, refl, sym, ap, ◌∙◌, subst, arith, inl, inr, All, map, take}
+use Rattle.std.proofs.Common.{zero, suc, ◌*◌, ◌≡◌, ℕ, ◌+◌, ◌<◌, ◌≤◌, Bool, true, false, not, cond, eqb, lt-ltb, eq-eqb, ne_eqb, ◌&&◌, Option, Some, None, List, [], ◌∷◌, ◌++◌, length, get_or, append_assoc, append-nil, length-append, length-set, set, refl, sym, ap, ◌∙◌, subst, arith, inl, inr, All, map, take}
 use Rattle.std.proofs.lemmas.Bool.{cases_Bool, cases_eq}
 use Rattle.block_store.specs.declared.Config.{Config}
+use Rattle.block_store.specs.declared.Width.{Width}
 use Rattle.block_store.specs.Configs.{IsInBounds}
 use Rattle.block_store.specs.Heaps.{Heap}
 use Rattle.block_store.specs.Places.{Phase, extent, in_range}
@@ -14,13 +15,16 @@ use Rattle.never_heap.specs.Graphs.{Graph, start_graph, register_of}
 use Rattle.never_heap.specs.declared.Reply.TheVariants.{Full}
 use Rattle.never_heap.specs.Bounds.{IsCommandInBounds}
 use Rattle.never_heap.specs.Histories.{HistoryItem, is_full, replay, part, Legal, starts_in, work_in}
-use Rattle.never_heap.specs.Steps.{step, blocks_of}
+use Rattle.never_heap.specs.RightWork.{units_owed}
+use Rattle.never_heap.specs.Steps.{step, makes_object}
+use Rattle.never_heap.proofs.Answering.{others_have_none}
 use Rattle.never_heap.proofs.Growing.{replay_more, legal_history_more, part_append, starts_append, work_append}
 use Rattle.std.proofs.Math.Seq.{take-suc}
 use Rattle.std.proofs.lemmas.List.{map-append}
 use Rattle.never_heap.proofs.GraphMoves.{get_or_set}
 use Rattle.shown_graph.specs.Shown.{every_name}
-use Rattle.shown_graph.specs.Openings.{opening_at, opening_last}
+use Rattle.shown_graph.specs.Openings.{opening_at}
+use Rattle.array_trees.specs.Openings.{opening_blocks}
 use Rattle.shown_graph.specs.Events.{Loading, with_load, Follows}
 use Rattle.heap_machine.specs.Counts.{changed}
 use Rattle.heap_machine.specs.Gating.{Gating, GateOf}
@@ -33,22 +37,24 @@ use Rattle.barrier_steps.specs.declared.rows.FieldRow.{FieldRow}
 use Rattle.barrier_steps.specs.declared.rows.FieldRow.TheVariants as rows
 use Rattle.heap_system.specs.declared.local.Part.{Part}
 use Rattle.heap_system.specs.declared.local.Part.TheVariants.{Rest, Enter, Serve, Mark, Count, Again, Leave}
-use Rattle.heap_system.specs.Locals.{LocalState, command_of, owed, owes, is_rest, is_done, part_want, part_got, part_reply, decides, makes_unit, finds_nothing, paid_got, waived_got, entry_of, entries_of, works, local_got, IsLocal, PartFits, PartReads}
+use Rattle.heap_system.specs.Locals.{LocalState, command_of, owed, owes, is_rest, is_done, part_want, part_got, part_reply, decides, part_entered, pass_got, makes_unit, finds_nothing, paid_got, waived_got, entry_of, entries_of, works, local_got, unit_to_come, IsLocal, PartFits, PartReads}
 use Rattle.heap_system.specs.Systems.{logs_of, units_of}
 use Rattle.heap_system.specs.Machines.{reply_decided, no_local, local_at, word_read, event_done, has_event, entry_decided, Run, next}
 use Rattle.heap_system.specs.Units.{IsWithin}
-use Rattle.heap_system.specs.Pictures.{gating, loading, holding, waiting, heap_in}
-use Rattle.barrier_steps.specs.Projection.{thread_of}
-use Rattle.barrier_steps.specs.Replies.{reply_due, IsKnown}
-use Rattle.heap_system.proofs.Paying.{bounds_at, works_append, answered_local}
+use Rattle.heap_system.specs.Pictures.{gating, loading, waiting, heap_in}
+use Rattle.barrier_steps.specs.Operands.{to_register, from_register}
+use Rattle.barrier_steps.specs.Replies.{due_at, KnownAt, reply_due, IsKnown}
+use Rattle.barrier_steps.specs.Rows.{FieldState}
+use Rattle.heap_machine.specs.declared.pass.Pass.{Pass}
+use Rattle.heap_system.proofs.Paying.{bounds_at, works_append, answered_in}
 use Rattle.heap_system.proofs.Moves.{state}
 use Rattle.heap_system.proofs.Steady.{never_full, register_stays}
-use Rattle.heap_system.proofs.Kept.{PartKept, LocalKept, IsSolid, loads_in, gates_in, holdings_in, Kept, EventKept, graph_decided, served_reply, refused_reply, part_event, part_reads, part_sum, part_place, IsMark}
+use Rattle.heap_system.proofs.Kept.{grey_of, PartKept, LocalKept, IsSolid, loads_in, gates_in, holdings_in, Kept, EventKept, graph_decided, served_reply, refused_reply, part_event, part_reads, part_sum, part_place, IsMark}
 
 -- an entry that is answered full changes nothing
-after_decided : (g new : Graph) (r : Reply) (x : Bool) → is_full r ≡ false → cond (is_full (cond x r (Full 1))) g new ≡ cond x new g
-after_decided g new r true e = ap (λ b. cond b g new) e
-after_decided g new r false e = refl
+after_decided : (g new : Graph) (r : Reply) (x : Bool) → is_full r ≡ false → cond (is_full (cond x (Full 1) r)) g new ≡ cond (not x) new g
+after_decided g new r true e = refl
+after_decided g new r false e = ap (λ b. cond b g new) e
 
 -- the order with an entry more, or as it was
 module _ (c : Config) (order : List HistoryItem) (t : ℕ) (k : Command) (work : ℕ) where
@@ -59,7 +65,7 @@ module _ (c : Config) (order : List HistoryItem) (t : ℕ) (k : Command) (work :
   entry_here = entry_of t k work (reply_decided (replay c order) t k)
 
   graph_grows : (b : Bool) → replay c (order_after b) ≡ graph_decided (replay c order) t k b
-  graph_grows true = replay_more (start_graph c) order (entry_decided c t k work order) ∙ after_decided (replay c order) (step (replay c order) t k).0 (step (replay c order) t k).1 (eqb (blocks_of k) 0) (never_full (replay c order) t k)
+  graph_grows true = replay_more (start_graph c) order (entry_decided c t k work order) ∙ after_decided (replay c order) (step (replay c order) t k).0 (step (replay c order) t k).1 (makes_object k) (never_full (replay c order) t k)
   graph_grows false = ap (replay c) (append-nil order)
 
   pub part_grows : (b : Bool) → part t (order_after b) ≡ part t order ++ cond b (entry_of t k work (reply_decided (replay c order) t k) ∷ []) []
@@ -71,14 +77,14 @@ module _ (c : Config) (order : List HistoryItem) (t : ℕ) (k : Command) (work :
   part_stays false u other = ap (part u) (append-nil order)
 
   legal_grows : (b : Bool) → Legal c order → Legal c (order_after b)
-  legal_grows true legal = legal_history_more c order (entry_decided c t k work order) legal (elim (cases_eq (blocks_of k) 0) [
-    | inl z ↦ inl (served_reply (replay c order) t k z)
-    | inr n ↦ inr (ap is_full (refused_reply (replay c order) t k n), omega arith)
+  legal_grows true legal = legal_history_more c order (entry_decided c t k work order) legal (elim (cases_Bool (makes_object k)) [
+    | inl n ↦ inr (ap is_full (refused_reply (replay c order) t k n), n)
+    | inr z ↦ inl (served_reply (replay c order) t k z)
   ])
   legal_grows false legal = subst (λ o. Legal c o) (sym (append-nil order)) legal
 
   registers_stay : (b : Bool) (u q : ℕ) → t < length (replay c order).mutators → (t ≡ u → ⊥) → register_of (graph_decided (replay c order) t k b) u q ≡ register_of (replay c order) u q
-  registers_stay b u q there other = by (b && eqb (blocks_of k) 0)
+  registers_stay b u q there other = by (b && not (makes_object k))
     where
       by : (x : Bool) → register_of (cond x (step (replay c order) t k).0 (replay c order)) u q ≡ register_of (replay c order) u q
       by true = register_stays (replay c order) t u q k there other
@@ -108,26 +114,29 @@ said_more log trace e k is following low said =
     ∙ sym (take-suc trace (length log) (commands.Nil 0) low) ∙ sym (ap (λ n. take n trace) longer)
 
 -- the other threads' rows say the same of a graph in which their registers are the same
-field_stays : (g new : Graph) (u : ℕ) (f : FieldRow) → thread_of f ≡ u → ((q : ℕ) → register_of new u q ≡ register_of g u q) → (IsKnown g f → IsKnown new f) × (reply_due new f ≡ reply_due g f)
-field_stays g new u (rows.LoadOwner t d word) e same = (λ x. x, rw (e, same d) refl)
-field_stays g new u (rows.StoreLate t d word value) e same = let s : register_of new t d ≡ register_of g t d = rw e (same d) in (λ x. x ∙ sym s, rw s refl)
-field_stays g new u (rows.LoadSaidOwner t s word) e same = (λ x. x, rw (e, same s) refl)
-field_stays g new u _ e same = (λ x. x, refl)
+row_stays : (g new : Graph) (u : ℕ) (k : Command) (r : FieldRow) → ((q : ℕ) → register_of new u q ≡ register_of g u q) → (KnownAt g u k r → KnownAt new u k r) × (due_at new u k r ≡ due_at g u k r)
+row_stays g new u k (rows.LoadOwner word) same = (λ x. x, rw (same (to_register k)) refl)
+row_stays g new u k (rows.StoreLate word value) same = (let s : register_of new u (to_register k) ≡ register_of g u (to_register k) = same (to_register k) in (λ x. x ∙ sym s, rw s refl))
+row_stays g new u k (rows.LoadSaidOwner word) same = (λ x. x, rw (same (from_register k)) refl)
+row_stays g new u k _ same = (λ x. x, refl)
 
-part_kept_stays : (g new : Graph) (u : ℕ) (k : Command) (p : Part) → PartKept g u k p → ((q : ℕ) → register_of new u q ≡ register_of g u q) → PartKept new u k p × (waiting new p ≡ waiting g p)
-part_kept_stays g new u k Rest kept same = (tt, refl)
-part_kept_stays g new u k (Enter a) kept same = (kept, refl)
-part_kept_stays g new u k (Serve f) kept same =
+field_stays : (g new : Graph) (u : ℕ) (f : FieldState) → f.pass.thread ≡ u → ((q : ℕ) → register_of new u q ≡ register_of g u q) → (IsKnown g f → IsKnown new f) × (reply_due new f ≡ reply_due g f)
+field_stays g new u f e same = row_stays g new f.pass.thread f.command f.row (subst (λ v. (q : ℕ) → register_of new v q ≡ register_of g v q) (sym e) same)
+
+part_kept_stays : (g new : Graph) (u : ℕ) (pass : Pass) (k : Command) (p : Part) → PartKept g u pass k p → ((q : ℕ) → register_of new u q ≡ register_of g u q) → PartKept new u pass k p × (waiting new p ≡ waiting g p)
+part_kept_stays g new u pass k Rest kept same = (tt, refl)
+part_kept_stays g new u pass k (Enter a) kept same = (kept, refl)
+part_kept_stays g new u pass k (Serve f) kept same =
     let s = field_stays g new u f kept.thread same in
-    (record { serves = kept.serves; thread = kept.thread; asks = kept.asks; known = s.0 kept.known; going = kept.going }, s.1)
-part_kept_stays g new u k (Mark m) kept same = (kept, refl)
-part_kept_stays g new u k Count kept same = (kept, refl)
-part_kept_stays g new u k Again kept same = (kept, refl)
-part_kept_stays g new u k Leave kept same = (tt, refl)
+    (record { serves = kept.serves; passes = kept.passes; thread = kept.thread; command = kept.command; known = s.0 kept.known; going = kept.going }, s.1)
+part_kept_stays g new u pass k (Mark m) kept same = (kept, refl)
+part_kept_stays g new u pass k Count kept same = (kept, refl)
+part_kept_stays g new u pass k Again kept same = (kept, refl)
+part_kept_stays g new u pass k Leave kept same = (tt, refl)
 
 local_stays : (c : Config) (given : List Command) (g new : Graph) (order later : List HistoryItem) (u : ℕ) (l : LocalState) → LocalKept c given g order u l → ((q : ℕ) → register_of new u q ≡ register_of g u q) → part u later ≡ part u order → LocalKept c given new later u l
 local_stays c given g new order later u l kept same more =
-    let s = part_kept_stays g new u (command_of l) l.part kept.stands same in
+    let s = part_kept_stays g new u l.pass (command_of l) l.part kept.stands same in
     record {
       config = kept.config;
       thread = kept.thread;
@@ -135,25 +144,25 @@ local_stays c given g new order later u l kept same more =
       fits = kept.fits;
       stands = s.0;
       settled = kept.settled;
-      within = subst (λ x. IsWithin l.rate x) (sym more) kept.within;
+      within = subst (λ x. IsWithin c.width l.rate x) (sym more) kept.within;
       told = more ∙ kept.told ∙ sym (ap (λ o. l.log ++ entries_of l.thread (command_of l) l.paid o) s.1);
       said = kept.said;
     }
 
 -- one entry more, or none
-within_more : (rate : ℕ) (es : List Entry) (e : Entry) (b : Bool) → IsWithin rate es → e.work ≤ rate * blocks_of e.command → IsWithin rate (es ++ cond b (e ∷ []) [])
-within_more rate [] e true k low = (low, tt)
-within_more rate [] e false k low = tt
-within_more rate (x ∷ es) e b k low = (k.0, within_more rate es e b k.1 low)
+within_more : (w : Width) (rate : ℕ) (es : List Entry) (e : Entry) (b : Bool) → IsWithin w rate es → e.work ≤ units_owed w rate e.command → IsWithin w rate (es ++ cond b (e ∷ []) [])
+within_more w rate [] e true k low = (low, tt)
+within_more w rate [] e false k low = tt
+within_more w rate (x ∷ es) e b k low = (k.0, within_more w rate es e b k.1 low)
 
 -- the thread itself, by whether its event brought a reply
-module _ (c : Config) (given : List Command) (g : Graph) (order later : List HistoryItem) (t : ℕ) (l : LocalState) (new : Heap) (gs : ℕ → Gating) (ls : ℕ → Loading) (hs : ℕ → GreyHolding) (b : Bool) (p : Part) (unit nothing : Bool) (kept : LocalKept c given g order t l)
+module _ (c : Config) (given : List Command) (g : Graph) (order later : List HistoryItem) (t : ℕ) (l : LocalState) (new : Heap) (gs : ℕ → Gating) (ls : ℕ → Loading) (hs : ℕ → GreyHolding) (b : Bool) (pass : Pass) (p : Part) (unit nothing : Bool) (kept : LocalKept c given g order t l)
     (more : part t later ≡ part t order ++ cond b (entry_of t (command_of l) l.paid (reply_decided g t (command_of l)) ∷ []) []) where
   abbrev Event : Option Reply → Type 0
-  Event o = EventKept c g new gs ls hs t (command_of l) (length l.log) (length l.trace) (owed l) l.paid l.waived (waiting g l.part) b p o unit nothing
+  Event o = EventKept c g new gs ls hs t (command_of l) (length l.log) (length l.trace) (owed l) l.paid l.waived (waiting g l.part) b pass p o unit nothing
 
   abbrev after_part : List Entry → ℕ → Bool → Part → LocalState
-  after_part log paid waived q = record { config = l.config; rate = l.rate; thread = t; trace = l.trace; log = log; paid = paid; waived = waived; part = q }
+  after_part log paid waived q = record { config = l.config; rate = l.rate; thread = t; trace = l.trace; log = log; paid = paid; waived = waived; pass = pass; part = q }
 
   -- what the order tells
   told_so : (o : Option Reply) → Event o → part t later ≡ l.log ++ (entries_of t (command_of l) l.paid o ++ entries_of t (command_of l) (paid_got o unit l.paid) (waiting (graph_decided g t (command_of l) b) p))
@@ -162,8 +171,8 @@ module _ (c : Config) (given : List Command) (g : Graph) (order later : List His
       ∙ append_assoc l.log _ _ ∙ ap (λ x. l.log ++ x) event.told
 
   -- and no entry has more work than it owes
-  within_so : IsWithin l.rate (part t later)
-  within_so = subst (λ x. IsWithin l.rate x) (sym more) (within_more l.rate (part t order) (entry_of t (command_of l) l.paid (reply_decided g t (command_of l))) b kept.within (omega (arith, kept.fits.paid)))
+  within_so : IsWithin c.width l.rate (part t later)
+  within_so = subst (λ x. IsWithin c.width l.rate x) (sym more) (within_more c.width l.rate (part t order) (entry_of t (command_of l) l.paid (reply_decided g t (command_of l))) b kept.within (subst (λ (x : Config). l.paid ≤ units_owed x.width l.rate (command_of l)) kept.config (omega (arith, kept.fits.paid))))
 
   none_moves : Event None → LocalKept c given (graph_decided g t (command_of l) b) later t (after_part l.log (paid_got None unit l.paid) (waived_got None nothing l.waived) p)
   none_moves event = record {
@@ -178,7 +187,7 @@ module _ (c : Config) (given : List Command) (g : Graph) (order later : List His
       trace = kept.fits.trace;
       log = kept.fits.log;
       part = subst (λ x. PartFits x (length l.log) (length l.trace) p) (sym kept.config) event.fits;
-      paid = event.low;
+      paid = subst (λ x. paid_got None unit l.paid + unit_to_come x p ≤ owed l) (sym kept.config) event.low;
       worked = kept.fits.worked;
     };
     stands = event.part;
@@ -195,7 +204,7 @@ module _ (c : Config) (given : List Command) (g : Graph) (order later : List His
         config = kept.config;
         thread = refl;
         trace = kept.trace;
-        fits = subst (λ u. IsLocal (record { config = l.config; rate = l.rate; thread = u; trace = l.trace; log = l.log ++ entry_of u (command_of l) l.paid r ∷ []; paid = 0; waived = false; part = Leave })) kept.thread (answered_local l r kept.fits low);
+        fits = subst (λ u. IsLocal (record { config = l.config; rate = l.rate; thread = u; trace = l.trace; log = l.log ++ entry_of u (command_of l) l.paid r ∷ []; paid = 0; waived = false; pass = pass; part = Leave })) kept.thread (answered_in l pass r kept.fits low);
         stands = tt;
         settled = (refl, refl);
         within = within_so;
@@ -209,20 +218,21 @@ module _ (c : Config) (given : List Command) (g : Graph) (order later : List His
   local_moves None event low = subst (λ x. LocalKept c given (graph_decided g t (command_of l) b) later t (after_part x (paid_got None unit l.paid) (waived_got None nothing l.waived) p)) (sym (append-nil l.log)) (none_moves event)
   local_moves (Some r) event low = subst (λ x. LocalKept c given (graph_decided g t (command_of l) b) later t (after_part (l.log ++ entry_of t (command_of l) l.paid r ∷ []) 0 false x)) (sym (event.over r refl)) (some_moves r (low r refl) event)
 
--- a thread with its event done, by its number, the number of all threads, and the word that it read
-abbrev pub moved_on : LocalState → ℕ → ℕ → ℕ → LocalState
-moved_on l t n w = record {
+-- a thread with its event done, by its number, its configuration, and the word that it read
+abbrev pub moved_on : LocalState → ℕ → Config → ℕ → LocalState
+moved_on l t c w = record {
   config = l.config;
   rate = l.rate;
   thread = t;
   trace = l.trace;
-  log = l.log ++ entries_of t (command_of l) l.paid (part_reply l.part w);
-  paid = paid_got (part_reply l.part w) (makes_unit l.part w) l.paid;
-  waived = waived_got (part_reply l.part w) (finds_nothing l.part w) l.waived;
-  part = part_got t n (command_of l) (owes l) l.part w;
+  log = l.log ++ entries_of t (command_of l) l.paid (part_reply c l.part w);
+  paid = paid_got (part_reply c l.part w) (makes_unit c l.part w) l.paid;
+  waived = waived_got (part_reply c l.part w) (finds_nothing c l.part w) l.waived;
+  pass = pass_got (part_entered c l.part w) t c.threads l.pass;
+  part = part_got c t (command_of l) (owes l) l.part w;
 }
 
-reply_low : (c : Config) (done all : ℕ) (p : Part) (w : ℕ) (r : Reply) → PartFits c done all p → part_reply p w ≡ Some r → done < all
+reply_low : (c : Config) (done all : ℕ) (p : Part) (w : ℕ) (r : Reply) → PartFits c done all p → part_reply c p w ≡ Some r → done < all
 reply_low c done all Rest w r fits e = absurd cc
 reply_low c done all (Enter a) w r fits e = absurd cc
 reply_low c done all (Serve f) w r fits e = fits.1
@@ -251,88 +261,94 @@ module _ (c : Config) (traces : List (List Command)) (bounds : IsInBounds c) (pl
   pub inside : IsCommandInBounds c (command_of (local_at c r.state t))
   inside = bounds_at c (local_at c r.state t).trace (length (local_at c r.state t).log) (subst (λ x. All (IsCommandInBounds x) (local_at c r.state t).trace) (kept.locals t tl).config (kept.locals t tl).fits.trace.commands)
 
-  pub unpaid : blocks_of (command_of (local_at c r.state t)) ≡ 0 → (local_at c r.state t).paid ≡ 0
+  pub unpaid : makes_object (command_of (local_at c r.state t)) ≡ false → (local_at c r.state t).paid ≡ 0
   unpaid z =
-      let none : owed (local_at c r.state t) ≡ (local_at c r.state t).rate * 0 = ap (λ n. (local_at c r.state t).rate * n) z in
+      let none : owed (local_at c r.state t) ≡ (local_at c r.state t).rate * 0 = ap (λ n. (local_at c r.state t).rate * n) (others_have_none (local_at c r.state t).config.width (command_of (local_at c r.state t)) z) in
       omega (arith, (kept.locals t tl).fits.paid, none)
 
   -- the place of the next event, and the word that is read there
-  pub place : in_range (extent c) (place_of (part_want (local_at c r.state t).part)) ≡ true
+  pub place : in_range (extent c) (place_of (part_want c (local_at c r.state t).part)) ≡ true
   place = part_place c _ _ (local_at c r.state t).part fits
 
-  pub word_is : word_read c r.state (local_at c r.state t) ≡ heap_in c r.state (place_of (part_want (local_at c r.state t).part))
-  word_is = word_before (extent c) r.state.words (part_want (local_at c r.state t).part) place
+  pub word_is : word_read c r.state (local_at c r.state t) ≡ heap_in c r.state (place_of (part_want c (local_at c r.state t).part))
+  word_is = word_before (extent c) r.state.words (part_want c (local_at c r.state t).part) place
 
-  pub cell : op_place (op_at (extent c) (part_want (local_at c r.state t).part)) < length r.state.words
-  cell = op_place_below (extent c) r.state.words (part_want (local_at c r.state t).part) place (omega (arith, kept.long))
+  pub cell : op_place (op_at (extent c) (part_want c (local_at c r.state t).part)) < length r.state.words
+  cell = op_place_below (extent c) r.state.words (part_want c (local_at c r.state t).part) place (omega (arith, kept.long))
 
   pub reads : PartReads c (local_at c r.state t).part (word_read c r.state (local_at c r.state t))
   reads = subst (λ w. PartReads c (local_at c r.state t).part w) (sym word_is)
-      (part_reads c bounds plan (replay c r.order) (heap_in c r.state) (gates_in c r.state) (loads_in c r.state) (holdings_in c r.state) t tl (command_of (local_at c r.state t)) inside (length (local_at c r.state t).log) (length (local_at c r.state t).trace) (owed (local_at c r.state t)) (local_at c r.state t).paid (local_at c r.state t).waived
+      (part_reads c bounds plan (replay c r.order) (heap_in c r.state) (gates_in c r.state) (loads_in c r.state) (holdings_in c r.state) t tl (local_at c r.state t).pass (command_of (local_at c r.state t)) inside (length (local_at c r.state t).log) (length (local_at c r.state t).trace) (owed (local_at c r.state t)) (local_at c r.state t).paid (local_at c r.state t).waived
       kept.gate kept.phase kept.shown kept.grey kept.held kept.solid (local_at c r.state t).part refl (kept.locals t tl).stands fits)
 
-  pub sums : SumFits (op_at (extent c) (part_want (local_at c r.state t).part)) (word_read c r.state (local_at c r.state t))
-  sums = subst (λ w. SumFits (op_at (extent c) (part_want (local_at c r.state t).part)) w) (sym word_is) (sum_fits (extent c) (part_want (local_at c r.state t).part) _
-      (part_sum c bounds plan (replay c r.order) (heap_in c r.state) (gates_in c r.state) (loads_in c r.state) (holdings_in c r.state) t tl (command_of (local_at c r.state t)) inside (length (local_at c r.state t).log) (length (local_at c r.state t).trace) (owed (local_at c r.state t)) (local_at c r.state t).paid (local_at c r.state t).waived
+  pub sums : SumFits (op_at (extent c) (part_want c (local_at c r.state t).part)) (word_read c r.state (local_at c r.state t))
+  sums = subst (λ w. SumFits (op_at (extent c) (part_want c (local_at c r.state t).part)) w) (sym word_is) (sum_fits (extent c) (part_want c (local_at c r.state t).part) _
+      (part_sum c bounds plan (replay c r.order) (heap_in c r.state) (gates_in c r.state) (loads_in c r.state) (holdings_in c r.state) t tl (local_at c r.state t).pass (command_of (local_at c r.state t)) inside (length (local_at c r.state t).log) (length (local_at c r.state t).trace) (owed (local_at c r.state t)) (local_at c r.state t).paid (local_at c r.state t).waived
       kept.gate kept.phase kept.shown kept.grey kept.held kept.solid (local_at c r.state t).part refl (kept.locals t tl).stands))
 
+  pays : (local_at c r.state t).paid + unit_to_come c (local_at c r.state t).part ≤ owed (local_at c r.state t)
+  pays = subst (λ (x : Config). (local_at c r.state t).paid + unit_to_come x (local_at c r.state t).part ≤ owed (local_at c r.state t)) (kept.locals t tl).config (kept.locals t tl).fits.paid
+
   abbrev reply_here : Option Reply
-  reply_here = part_reply (local_at c r.state t).part (heap_in c r.state (place_of (part_want (local_at c r.state t).part)))
+  reply_here = part_reply c (local_at c r.state t).part (heap_in c r.state (place_of (part_want c (local_at c r.state t).part)))
 
   abbrev decides_here : Bool
-  decides_here = decides (local_at c r.state t).part (heap_in c r.state (place_of (part_want (local_at c r.state t).part)))
+  decides_here = decides c (local_at c r.state t).part (heap_in c r.state (place_of (part_want c (local_at c r.state t).part)))
 
   abbrev makes_here : Bool
-  makes_here = makes_unit (local_at c r.state t).part (heap_in c r.state (place_of (part_want (local_at c r.state t).part)))
+  makes_here = makes_unit c (local_at c r.state t).part (heap_in c r.state (place_of (part_want c (local_at c r.state t).part)))
 
   abbrev finds_here : Bool
-  finds_here = finds_nothing (local_at c r.state t).part (heap_in c r.state (place_of (part_want (local_at c r.state t).part)))
+  finds_here = finds_nothing c (local_at c r.state t).part (heap_in c r.state (place_of (part_want c (local_at c r.state t).part)))
+
+  abbrev new_pass : Pass
+  new_pass = pass_got (part_entered c (local_at c r.state t).part (heap_in c r.state (place_of (part_want c (local_at c r.state t).part)))) t c.threads (local_at c r.state t).pass
 
   abbrev new_heap : Heap
-  new_heap = heap_after (heap_in c r.state) (part_want (local_at c r.state t).part)
+  new_heap = heap_after (heap_in c r.state) (part_want c (local_at c r.state t).part)
 
   abbrev new_part : Part
-  new_part = part_got t c.threads (command_of (local_at c r.state t)) (owes (local_at c r.state t)) (local_at c r.state t).part (heap_in c r.state (place_of (part_want (local_at c r.state t).part)))
+  new_part = part_got c t (command_of (local_at c r.state t)) (owes (local_at c r.state t)) (local_at c r.state t).part (heap_in c r.state (place_of (part_want c (local_at c r.state t).part)))
 
   module _ (going : is_done (local_at c r.state t) ≡ false) where
     pub event : EventKept c (replay c r.order) new_heap (gates_in c r.state) (loads_in c r.state) (holdings_in c r.state) t (command_of (local_at c r.state t)) (length (local_at c r.state t).log) (length (local_at c r.state t).trace) (owed (local_at c r.state t)) (local_at c r.state t).paid (local_at c r.state t).waived
-        (waiting (replay c r.order) (local_at c r.state t).part) decides_here new_part reply_here makes_here finds_here
-    event = part_event c bounds plan (replay c r.order) (heap_in c r.state) (gates_in c r.state) (loads_in c r.state) (holdings_in c r.state) t tl (command_of (local_at c r.state t)) inside (length (local_at c r.state t).log) (length (local_at c r.state t).trace) (owed (local_at c r.state t)) (local_at c r.state t).paid (local_at c r.state t).waived
-        kept.gate kept.phase kept.shown kept.grey kept.held kept.solid (local_at c r.state t).part refl refl refl (kept.locals t tl).stands fits (kept.locals t tl).fits.paid (kept.locals t tl).settled unpaid
+        (waiting (replay c r.order) (local_at c r.state t).part) decides_here new_pass new_part reply_here makes_here finds_here
+    event = part_event c bounds plan (replay c r.order) (heap_in c r.state) (gates_in c r.state) (loads_in c r.state) (holdings_in c r.state) t tl (local_at c r.state t).pass (command_of (local_at c r.state t)) inside (length (local_at c r.state t).log) (length (local_at c r.state t).trace) (owed (local_at c r.state t)) (local_at c r.state t).paid (local_at c r.state t).waived
+        kept.gate kept.phase kept.shown kept.grey kept.held kept.solid (local_at c r.state t).part refl refl refl (kept.locals t tl).stands fits pays (kept.locals t tl).settled unpaid
         (rest_low (local_at c r.state t) (kept.locals t tl).fits.log going)
 
-    moved : LocalKept c (get_or traces t []) (graph_decided (replay c r.order) t (command_of (local_at c r.state t)) decides_here) (order_after c r.order t (command_of (local_at c r.state t)) (local_at c r.state t).paid decides_here) t (moved_on (local_at c r.state t) t c.threads (heap_in c r.state (place_of (part_want (local_at c r.state t).part))))
-    moved = local_moves c (get_or traces t []) (replay c r.order) r.order (order_after c r.order t (command_of (local_at c r.state t)) (local_at c r.state t).paid decides_here) t (local_at c r.state t) new_heap (gates_in c r.state) (loads_in c r.state) (holdings_in c r.state) decides_here new_part makes_here finds_here
+    moved : LocalKept c (get_or traces t []) (graph_decided (replay c r.order) t (command_of (local_at c r.state t)) decides_here) (order_after c r.order t (command_of (local_at c r.state t)) (local_at c r.state t).paid decides_here) t (moved_on (local_at c r.state t) t c (heap_in c r.state (place_of (part_want c (local_at c r.state t).part))))
+    moved = local_moves c (get_or traces t []) (replay c r.order) r.order (order_after c r.order t (command_of (local_at c r.state t)) (local_at c r.state t).paid decides_here) t (local_at c r.state t) new_heap (gates_in c r.state) (loads_in c r.state) (holdings_in c r.state) decides_here new_pass new_part makes_here finds_here
         (kept.locals t tl) (part_grows c r.order t (command_of (local_at c r.state t)) (local_at c r.state t).paid decides_here) reply_here event (λ x e. reply_low c _ _ (local_at c r.state t).part _ x fits e)
 
-    moved_is : local_got (local_at c r.state t) (word_read c r.state (local_at c r.state t)) ≡ moved_on (local_at c r.state t) t c.threads (heap_in c r.state (place_of (part_want (local_at c r.state t).part)))
+    moved_is : local_got (local_at c r.state t) (word_read c r.state (local_at c r.state t)) ≡ moved_on (local_at c r.state t) t c (heap_in c r.state (place_of (part_want c (local_at c r.state t).part)))
     moved_is =
-        ap (moved_on (local_at c r.state t) (local_at c r.state t).thread (local_at c r.state t).config.threads) word_is
-        ∙ ap (λ u. moved_on (local_at c r.state t) u (local_at c r.state t).config.threads (heap_in c r.state (place_of (part_want (local_at c r.state t).part)))) (kept.locals t tl).thread
-        ∙ ap (λ (x : Config). moved_on (local_at c r.state t) t x.threads (heap_in c r.state (place_of (part_want (local_at c r.state t).part)))) (kept.locals t tl).config
+        ap (moved_on (local_at c r.state t) (local_at c r.state t).thread (local_at c r.state t).config) word_is
+        ∙ ap (λ u. moved_on (local_at c r.state t) u (local_at c r.state t).config (heap_in c r.state (place_of (part_want c (local_at c r.state t).part)))) (kept.locals t tl).thread
+        ∙ ap (λ (x : Config). moved_on (local_at c r.state t) t x (heap_in c r.state (place_of (part_want c (local_at c r.state t).part)))) (kept.locals t tl).config
 
-    pub local_new : (u : ℕ) → local_at c (event_done c t r.state) u ≡ cond (eqb t u) (moved_on (local_at c r.state t) t c.threads (heap_in c r.state (place_of (part_want (local_at c r.state t).part)))) (local_at c r.state u)
+    pub local_new : (u : ℕ) → local_at c (event_done c t r.state) u ≡ cond (eqb t u) (moved_on (local_at c r.state t) t c (heap_in c r.state (place_of (part_want c (local_at c r.state t).part)))) (local_at c r.state u)
     local_new u = get_or_set r.state.locals t u (local_got (local_at c r.state t) (word_read c r.state (local_at c r.state t))) (no_local c) (omega (arith, kept.threads)) ∙ ap (λ l. cond (eqb t u) l (local_at c r.state u)) moved_is
 
     cond_of : {A B : Type 0} (f : A → B) (b : Bool) (x y : A) → f (cond b x y) ≡ cond b (f x) (f y)
     cond_of f true x y = refl
     cond_of f false x y = refl
 
-    gates_new : gates_in c (event_done c t r.state) ≡ changed (gates_in c r.state) t (gating new_part)
-    gates_new = funext _ _ (λ u. ap (λ (l : LocalState). gating l.part) (local_new u) ∙ cond_of (λ (l : LocalState). gating l.part) (eqb t u) _ (local_at c r.state u))
+    gates_new : gates_in c (event_done c t r.state) ≡ changed (gates_in c r.state) t (gating c new_pass new_part)
+    gates_new = funext _ _ (λ u. ap (λ (l : LocalState). gating c l.pass l.part) (local_new u) ∙ cond_of (λ (l : LocalState). gating c l.pass l.part) (eqb t u) _ (local_at c r.state u))
 
-    holdings_new : holdings_in c (event_done c t r.state) ≡ changed (holdings_in c r.state) t (holding new_part)
-    holdings_new = funext _ _ (λ u. ap (λ (l : LocalState). holding l.part) (local_new u) ∙ cond_of (λ (l : LocalState). holding l.part) (eqb t u) _ (local_at c r.state u))
+    holdings_new : holdings_in c (event_done c t r.state) ≡ changed (holdings_in c r.state) t (grey_of c new_part)
+    holdings_new = funext _ _ (λ u. ap (λ (l : LocalState). grey_of c l.part) (local_new u) ∙ cond_of (λ (l : LocalState). grey_of c l.part) (eqb t u) _ (local_at c r.state u))
 
     logs_new : units_of (logs_of (event_done c t r.state)) ≡ units_of (logs_of r.state) + works (entries_of t (command_of (local_at c r.state t)) (local_at c r.state t).paid reply_here)
     logs_new = units_grow r.state.locals t (local_got (local_at c r.state t) (word_read c r.state (local_at c r.state t))) (no_local c) (entries_of t (command_of (local_at c r.state t)) (local_at c r.state t).paid reply_here) (omega (arith, kept.threads))
         (ap (λ (x : LocalState). x.log) moved_is)
 
-    loads_new : loads_in c (event_done c t r.state) ≡ with_load (loads_in c r.state) t (loading new_part)
-    loads_new = funext _ _ (λ u. ap (λ (l : LocalState). loading l.part) (local_new u) ∙ cond_of (λ (l : LocalState). loading l.part) (eqb t u) _ (local_at c r.state u))
+    loads_new : loads_in c (event_done c t r.state) ≡ with_load (loads_in c r.state) t (loading c new_part)
+    loads_new = funext _ _ (λ u. ap (λ (l : LocalState). loading c l.part) (local_new u) ∙ cond_of (λ (l : LocalState). loading c l.part) (eqb t u) _ (local_at c r.state u))
 
     pub heap_new : heap_in c (event_done c t r.state) ≡ new_heap
-    heap_new = heap_of-after (extent c) r.state.words (part_want (local_at c r.state t).part) place (omega (arith, kept.long))
+    heap_new = heap_of-after (extent c) r.state.words (part_want c (local_at c r.state t).part) place (omega (arith, kept.long))
 
     graph_new : replay c (order_after c r.order t (command_of (local_at c r.state t)) (local_at c r.state t).paid decides_here) ≡ graph_decided (replay c r.order) t (command_of (local_at c r.state t)) decides_here
     graph_new = graph_grows c r.order t (command_of (local_at c r.state t)) (local_at c r.state t).paid decides_here
@@ -340,13 +356,13 @@ module _ (c : Config) (traces : List (List Command)) (bounds : IsInBounds c) (pl
     -- after the event
     pub event_kept : Kept c traces (record { state = event_done c t r.state; order = order_after c r.order t (command_of (local_at c r.state t)) (local_at c r.state t).paid decides_here })
     event_kept = record {
-      long = length-after (extent c) r.state.words (part_want (local_at c r.state t).part) ∙ kept.long;
+      long = length-after (extent c) r.state.words (part_want c (local_at c r.state t).part) ∙ kept.long;
       threads = length-set r.state.locals t _ ∙ kept.threads;
       gate = subst (λ x. GateOf c.threads (x Phase) (gates_in c (event_done c t r.state))) (sym heap_new) (subst (λ gs. GateOf c.threads (new_heap Phase) gs) (sym gates_new) event.gate);
       phase = subst (λ x. IsMark (x Phase)) (sym heap_new) event.phase;
-      shown = subst (λ s. Follows c.threads (opening_last c) (every_name (start_graph c)) (opening_at c.threads) s)
-          (ap (λ x. state x new_heap (with_load (loads_in c r.state) t (loading new_part))) (sym graph_new)
-          ∙ ap (λ x. state (replay c (order_after c r.order t (command_of (local_at c r.state t)) (local_at c r.state t).paid decides_here)) x (with_load (loads_in c r.state) t (loading new_part))) (sym heap_new)
+      shown = subst (λ s. Follows c.width c.threads (opening_blocks c) (every_name (start_graph c)) (opening_at c.width c.threads) s)
+          (ap (λ x. state x new_heap (with_load (loads_in c r.state) t (loading c new_part))) (sym graph_new)
+          ∙ ap (λ x. state (replay c (order_after c r.order t (command_of (local_at c r.state t)) (local_at c r.state t).paid decides_here)) x (with_load (loads_in c r.state) t (loading c new_part))) (sym heap_new)
           ∙ ap (λ x. state (replay c (order_after c r.order t (command_of (local_at c r.state t)) (local_at c r.state t).paid decides_here)) (heap_in c (event_done c t r.state)) x) (sym loads_new)) event.shown;
       locals = each;
       legal = legal_grows c r.order t (command_of (local_at c r.state t)) (local_at c r.state t).paid decides_here kept.legal;
@@ -367,7 +383,7 @@ module _ (c : Config) (traces : List (List Command)) (bounds : IsInBounds c) (pl
         each u ul = subst (λ x. LocalKept c (get_or traces u []) x (order_after c r.order t (command_of (local_at c r.state t)) (local_at c r.state t).paid decides_here) u (local_at c (event_done c t r.state) u)) (sym graph_new)
             (subst (λ x. LocalKept c (get_or traces u []) (graph_decided (replay c r.order) t (command_of (local_at c r.state t)) decides_here) (order_after c r.order t (command_of (local_at c r.state t)) (local_at c r.state t).paid decides_here) u x) (sym (local_new u))
             (elim (cases_eq t u) [
-              | inl e ↦ rw (eq-eqb t u e) (subst (λ v. LocalKept c (get_or traces v []) (graph_decided (replay c r.order) t (command_of (local_at c r.state t)) decides_here) (order_after c r.order t (command_of (local_at c r.state t)) (local_at c r.state t).paid decides_here) v (moved_on (local_at c r.state t) t c.threads (heap_in c r.state (place_of (part_want (local_at c r.state t).part))))) e moved)
+              | inl e ↦ rw (eq-eqb t u e) (subst (λ v. LocalKept c (get_or traces v []) (graph_decided (replay c r.order) t (command_of (local_at c r.state t)) decides_here) (order_after c r.order t (command_of (local_at c r.state t)) (local_at c r.state t).paid decides_here) v (moved_on (local_at c r.state t) t c (heap_in c r.state (place_of (part_want c (local_at c r.state t).part))))) e moved)
               | inr n ↦ rw (ne_eqb t u n) (local_stays c (get_or traces u []) (replay c r.order) (graph_decided (replay c r.order) t (command_of (local_at c r.state t)) decides_here) r.order (order_after c r.order t (command_of (local_at c r.state t)) (local_at c r.state t).paid decides_here) u (local_at c r.state u) (kept.locals u ul)
                   (λ q. registers_stay c r.order t (command_of (local_at c r.state t)) (local_at c r.state t).paid decides_here u q there n) (part_stays c r.order t (command_of (local_at c r.state t)) (local_at c r.state t).paid decides_here u n))
             ]))
@@ -377,10 +393,10 @@ module _ (c : Config) (traces : List (List Command)) (bounds : IsInBounds c) (pl
   next_kept = elim (cases_Bool (is_done (local_at c r.state t))) [
     | inl done ↦
         let none : has_event c t r.state ≡ false = rw (lt-ltb t c.threads tl, done) refl in
-        subst (λ x. Kept c traces (record { state = cond x (event_done c t r.state) r.state; order = r.order ++ cond x (cond (decides (local_at c r.state t).part (word_read c r.state (local_at c r.state t))) (entry_decided c t (command_of (local_at c r.state t)) (local_at c r.state t).paid r.order ∷ []) []) [] })) (sym none)
+        subst (λ x. Kept c traces (record { state = cond x (event_done c t r.state) r.state; order = r.order ++ cond x (cond (decides c (local_at c r.state t).part (word_read c r.state (local_at c r.state t))) (entry_decided c t (command_of (local_at c r.state t)) (local_at c r.state t).paid r.order ∷ []) []) [] })) (sym none)
         (subst (λ o. Kept c traces (record { state = r.state; order = o })) (sym (append-nil r.order)) kept)
     | inr going ↦
         let some : has_event c t r.state ≡ true = rw (lt-ltb t c.threads tl, going) refl in
-        subst (λ x. Kept c traces (record { state = cond x (event_done c t r.state) r.state; order = r.order ++ cond x (cond (decides (local_at c r.state t).part (word_read c r.state (local_at c r.state t))) (entry_decided c t (command_of (local_at c r.state t)) (local_at c r.state t).paid r.order ∷ []) []) [] })) (sym some)
-        (subst (λ w. Kept c traces (record { state = event_done c t r.state; order = r.order ++ cond (decides (local_at c r.state t).part w) (entry_decided c t (command_of (local_at c r.state t)) (local_at c r.state t).paid r.order ∷ []) [] })) (sym word_is) (event_kept going))
+        subst (λ x. Kept c traces (record { state = cond x (event_done c t r.state) r.state; order = r.order ++ cond x (cond (decides c (local_at c r.state t).part (word_read c r.state (local_at c r.state t))) (entry_decided c t (command_of (local_at c r.state t)) (local_at c r.state t).paid r.order ∷ []) []) [] })) (sym some)
+        (subst (λ w. Kept c traces (record { state = event_done c t r.state; order = r.order ++ cond (decides c (local_at c r.state t).part w) (entry_decided c t (command_of (local_at c r.state t)) (local_at c r.state t).paid r.order ∷ []) [] })) (sym word_is) (event_kept going))
   ]

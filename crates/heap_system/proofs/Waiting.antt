@@ -3,6 +3,7 @@ use Rattle.std.proofs.Common.{◌≡◌, ℕ, Bool, true, false, cond, eqb, ltb,
 use Rattle.std.proofs.lemmas.Bool.{cases_Bool}
 use Rattle.block_store.specs.declared.Config.{Config}
 use Rattle.block_store.specs.Phases.{is_closed}
+use Rattle.block_store.specs.Places.{extent}
 use Rattle.never_heap.specs.declared.Reply.{Reply}
 use Rattle.heap_machine.specs.Gates.{is_of_pass, is_empty}
 use Rattle.heap_machine.specs.declared.gate.GateRow.TheVariants as gates
@@ -23,29 +24,29 @@ marks : (b : Bool) → turn_of (cond b Over Went) ≡ turns.Went
 marks true = refl
 marks false = refl
 
-pub part_waits : (p : Part) (w : ℕ) → turn_of (part_step p w) ≡ cond (waits p w) turns.Waited turns.Went
-part_waits Rest w = elim (cases_Bool (is_closed w)) [ inl e ↦ rw e refl | inr e ↦ rw e refl ]
-part_waits (Enter gates.Look) w = elim (cases_Bool (is_closed w)) [ inl e ↦ rw e refl | inr e ↦ rw e refl ]
-part_waits (Enter (gates.Enter seen)) w = elim (cases_Bool (eqb w seen)) [ inl e ↦ rw e refl | inr e ↦ rw e refl ]
-part_waits (Enter (gates.Entered seen)) w = refl
-part_waits (Enter gates.Leave) w = refl
-part_waits (Enter gates.Left) w = refl
-part_waits (Enter (gates.CloseLook p)) w = elim (cases_Bool (is_of_pass p w)) [
+pub part_waits : (c : Config) (p : Part) (w : ℕ) → turn_of (part_step c p w) ≡ cond (waits p w) turns.Waited turns.Went
+part_waits c Rest w = elim (cases_Bool (is_closed w)) [ inl e ↦ rw e refl | inr e ↦ rw e refl ]
+part_waits c (Enter gates.Look) w = elim (cases_Bool (is_closed w)) [ inl e ↦ rw e refl | inr e ↦ rw e refl ]
+part_waits c (Enter (gates.Enter seen)) w = elim (cases_Bool (eqb w seen)) [ inl e ↦ rw e refl | inr e ↦ rw e refl ]
+part_waits c (Enter (gates.Entered seen)) w = refl
+part_waits c (Enter gates.Leave) w = refl
+part_waits c (Enter gates.Left) w = refl
+part_waits c (Enter (gates.CloseLook p)) w = elim (cases_Bool (is_of_pass p w)) [
   | inl of ↦ elim (cases_Bool (is_empty w)) [ inl e ↦ rw (of, e) refl | inr e ↦ rw (of, e) refl ]
   | inr other ↦ rw other refl
 ]
-part_waits (Enter (gates.Close p seen)) w = elim (cases_Bool (eqb w seen)) [ inl e ↦ rw e refl | inr e ↦ rw e refl ]
-part_waits (Enter (gates.CheckList p u)) w = refl
-part_waits (Enter (gates.SetCursor p)) w = refl
-part_waits (Enter (gates.Flip p)) w = refl
-part_waits (Enter (gates.Reopen p)) w = refl
-part_waits (Enter gates.TurnedOver) w = refl
-part_waits (Enter gates.KeptOut) w = refl
-part_waits (Serve f) w = serves (field_reply (field_got f w))
-part_waits (Mark g) w = marks (grey_over (grey_got g w).row)
-part_waits Count w = refl
-part_waits Again w = refl
-part_waits Leave w = refl
+part_waits c (Enter (gates.Close p seen)) w = elim (cases_Bool (eqb w seen)) [ inl e ↦ rw e refl | inr e ↦ rw e refl ]
+part_waits c (Enter (gates.CheckList p u)) w = refl
+part_waits c (Enter (gates.SetCursor p)) w = refl
+part_waits c (Enter (gates.Flip p)) w = refl
+part_waits c (Enter (gates.Reopen p)) w = refl
+part_waits c (Enter gates.TurnedOver) w = refl
+part_waits c (Enter gates.KeptOut) w = refl
+part_waits c (Serve f) w = serves (field_reply (field_got (extent c) f w).row)
+part_waits c (Mark g) w = marks (grey_over (grey_got (extent c) g w).row)
+part_waits c Count w = refl
+part_waits c Again w = refl
+part_waits c Leave w = refl
 
 pub done_stays : (c : Config) (t : ℕ) (s : State) → is_done (local_at c s t) ≡ true → turned c t s ≡ s
 done_stays c t s e = elim (cases_Bool (ltb t c.threads)) [

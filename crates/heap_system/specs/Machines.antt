@@ -10,12 +10,12 @@ use Rattle.never_heap.specs.declared.Reply.{Reply}
 use Rattle.never_heap.specs.declared.Reply.TheVariants.{Full}
 use Rattle.never_heap.specs.Graphs.{Graph}
 use Rattle.never_heap.specs.Histories.{HistoryItem, Started, Did, replay}
-use Rattle.never_heap.specs.Steps.{step, blocks_of}
+use Rattle.never_heap.specs.Steps.{step, makes_object}
 use Rattle.heap_machine.specs.Operations.{op_at, op_place, words_after}
 use Rattle.heap_system.specs.declared.local.Part.TheVariants.{Leave}
 use Rattle.heap_system.specs.declared.Turn.{Turn}
 use Rattle.heap_system.specs.declared.Turn.TheVariants.{Done}
-use Rattle.heap_system.specs.Locals.{LocalState, command_of, is_done, part_want, part_step, decides, turn_of, local_got, entry_of, at_start, IsTrace}
+use Rattle.heap_system.specs.Locals.{LocalState, command_of, is_done, part_want, part_step, decides, turn_of, local_got, entry_of, no_pass, at_start, IsTrace}
 use Rattle.heap_system.specs.Openings.{opening_heap}
 
 -- the list of words, and the threads by their numbers
@@ -25,19 +25,19 @@ pub record State : Type 0 where
 
 -- a thread that there is not
 abbrev pub no_local : Config → LocalState
-no_local c = record { config = c; rate = 0; thread = c.threads; trace = []; log = []; paid = 0; waived = false; part = Leave }
+no_local c = record { config = c; rate = 0; thread = c.threads; trace = []; log = []; paid = 0; waived = false; pass = no_pass c.threads c.threads; part = Leave }
 
 abbrev pub local_at : Config → State → ℕ → LocalState
 local_at c s t = slice_index_or s.locals t (no_local c)
 
 -- the word at the place of the thread's next event
 abbrev pub word_read : Config → State → LocalState → ℕ
-word_read c s l = slice_index s.words (op_place (op_at (extent c) (part_want l.part)))
+word_read c s l = slice_index s.words (op_place (op_at (extent c) (part_want c l.part)))
 
 -- the state after the event of thread t: one operation on one word, and the thread moves on by one row
 abbrev pub event_done : Config → ℕ → State → State
 event_done c t s = record {
-  words = words_after (op_at (extent c) (part_want (local_at c s t).part)) s.words;
+  words = words_after (op_at (extent c) (part_want c (local_at c s t).part)) s.words;
   locals = slice_set s.locals t (local_got (local_at c s t) (word_read c s (local_at c s t)));
 }
 
@@ -50,11 +50,11 @@ turned c t s = if has_event c t s then event_done c t s else s
 
 -- what the turn answers
 abbrev pub answer : Config → ℕ → State → Turn
-answer c t s = if is_done (local_at c s t) then Done else turn_of (part_step (local_at c s t).part (word_read c s (local_at c s t)))
+answer c t s = if is_done (local_at c s t) then Done else turn_of (part_step c (local_at c s t).part (word_read c s (local_at c s t)))
 
 -- the reply with which a command is decided: an allocation is answered full, and any other command as the heap that never frees answers it there
 abbrev pub reply_decided : Graph → ℕ → Command → Reply
-reply_decided g t k = if blocks_of k == 0 then (step g t k).1 else Full 1
+reply_decided g t k = if makes_object k then Full 1 else (step g t k).1
 
 -- the command of thread t takes its place in an order, with the units made for it
 abbrev pub entry_decided : Config → ℕ → Command → ℕ → List HistoryItem → HistoryItem
@@ -64,7 +64,7 @@ entry_decided c t k work order = Did (entry_of t k work (reply_decided (replay c
 abbrev pub decided : Config → ℕ → State → List HistoryItem → List HistoryItem
 decided c t s order =
     if has_event c t s
-    then (if decides (local_at c s t).part (word_read c s (local_at c s t)) then entry_decided c t (command_of (local_at c s t)) (local_at c s t).paid order ∷ [] else [])
+    then (if decides c (local_at c s t).part (word_read c s (local_at c s t)) then entry_decided c t (command_of (local_at c s t)) (local_at c s t).paid order ∷ [] else [])
     else []
 
 -- a state with the order that led to it, the oldest item first

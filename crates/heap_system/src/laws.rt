@@ -3,6 +3,7 @@
 
 ghost use Rattle.std.specs.Prelude.{◌+◌, ◌≡◌, ◌<◌, ◌≤◌, ◌++◌, ◌∷◌, [], ℕ, List, true, false, if◌then◌else◌, slice_index_or};
 ghost use Rattle.block_store.specs.declared.Config.{Config};
+ghost use Rattle.block_store.specs.declared.TheConstants.{REGISTERS};
 ghost use Rattle.block_store.specs.Heaps.{heap_of};
 ghost use Rattle.block_store.specs.Phases.{bit, inside_of, is_closed, is_sweep, cycle_of};
 ghost use Rattle.block_store.specs.Places.{Place, Phase, GreyList, ColourOf, extent, in_range};
@@ -17,16 +18,17 @@ ghost use Rattle.never_heap.specs.Graphs.{start_graph, has_name, object_of};
 ghost use Rattle.never_heap.specs.Histories.{replay, part, Legal, starts_in, work_in};
 ghost use Rattle.shown_graph.specs.Words.{block_words, Agrees};
 ghost use Rattle.shown_graph.specs.Shown.{every_name, Shows};
-ghost use Rattle.shown_graph.specs.Openings.{opening_at, opening_last, opening_words};
+ghost use Rattle.shown_graph.specs.Openings.{opening_at, opening_words};
+ghost use Rattle.array_trees.specs.Openings.{opening_blocks};
 ghost use Rattle.shown_graph.specs.Events.{unloaded, lates, Follows};
 ghost use Rattle.heap_machine.specs.Counts.{total};
 ghost use Rattle.heap_machine.specs.Gating.{is_inside};
-ghost use Rattle.heap_machine.specs.Grey.{GreyKept, no_grey};
+ghost use Rattle.heap_machine.specs.Grey.{GreyKept};
+ghost use Rattle.heap_machine.specs.Holdings.{holds_nothing, grey_held};
 ghost use Rattle.grey_steps.specs.Rows.{GreyState};
 ghost use Rattle.grey_steps.specs.Ends.{is_putting};
 ghost use Rattle.heap_machine.specs.Operations.{Exchange, place_of, op_at, SumFits};
-ghost use Rattle.barrier_steps.specs.declared.rows.FieldRow.{FieldRow};
-ghost use Rattle.barrier_steps.specs.Rows.{field_decided};
+ghost use Rattle.barrier_steps.specs.Rows.{FieldState, field_decided};
 ghost use Rattle.heap_system.specs.declared.local.Part.TheVariants.{Serve, Mark, Count};
 ghost use Rattle.heap_system.specs.Locals.{is_done, waits, is_rest, command_of, owed, owes, entry_of, works, part_want, PartReads};
 ghost use Rattle.heap_system.specs.Systems.{units_of, logs_of};
@@ -39,7 +41,7 @@ ghost use Rattle.heap_system.specs.Pictures.{stand_of, holding, loading, heap_in
 /// The words of an opening are those of the start graph, up to the last block of the shared array.
 pub fn opening_shows_the_start()
     ensures { (c : Config) (ws : List ℕ) → IsAdmitted c → ((p : Place) → in_range (extent c) p ≡ true → heap_of (extent c) ws p ≡ opening_heap c p)
-        → (x : ℕ) → 0 < x → x ≤ opening_last c → Agrees (opening_words c) (block_words (heap_of (extent c) ws)) x }
+        → (x : ℕ) → 0 < x → x ≤ opening_blocks c → Agrees c.width (opening_words c) (block_words (heap_of (extent c) ws)) x }
 {}
 
 /// The words show the replay of the order. Between the load of the field and the store of a `get`, its
@@ -47,12 +49,12 @@ pub fn opening_shows_the_start()
 /// graph, and no block of an object is Free.
 pub fn words_show_the_order()
     ensures words { (c : Config) (traces : List (List Command)) (ts : List ℕ) (r : Run) → IsJob c traces → IsRunOf c traces ts r
-        → Shows c.threads (opening_last c) (every_name (start_graph c)) (replay c r.order) (opening_at c.threads) (block_words (heap_in c r.state)) (lates (graph_state c r).loads) }
-    ensures free { (c : Config) (traces : List (List Command)) (ts : List ℕ) (r : Run) → IsJob c traces → IsRunOf c traces ts r → (a : Name) (o : ℕ) → has_name (start_graph c) a ≡ true → o < object_blocks (object_of (replay c r.order) a)
-        → is_free (heap_in c r.state (ColourOf (opening_at c.threads a o))) ≡ false }
-    ensures older { (c : Config) (traces : List (List Command)) (ts : List ℕ) (r : Run) → IsJob c traces → IsRunOf c traces ts r → (t q : ℕ) → t < c.threads → q < 16 → lates (graph_state c r).loads t q ≡ true → IsOlder c r t q }
+        → Shows c.width c.threads (opening_blocks c) (every_name (start_graph c)) (replay c r.order) (opening_at c.width c.threads) (block_words (heap_in c r.state)) (lates (graph_state c r).loads) }
+    ensures free { (c : Config) (traces : List (List Command)) (ts : List ℕ) (r : Run) → IsJob c traces → IsRunOf c traces ts r → (a : Name) (o : ℕ) → has_name (start_graph c) a ≡ true → o < object_blocks c.width (object_of (replay c r.order) a)
+        → is_free (heap_in c r.state (ColourOf (opening_at c.width c.threads a o))) ≡ false }
+    ensures older { (c : Config) (traces : List (List Command)) (ts : List ℕ) (r : Run) → IsJob c traces → IsRunOf c traces ts r → (t q : ℕ) → t < c.threads → q < REGISTERS → lates (graph_state c r).loads t q ≡ true → IsOlder c r t q }
     ensures loads { (c : Config) (traces : List (List Command)) (ts : List ℕ) (r : Run) → IsJob c traces → IsRunOf c traces ts r
-        → Follows c.threads (opening_last c) (every_name (start_graph c)) (opening_at c.threads) (graph_state c r) }
+        → Follows c.width c.threads (opening_blocks c) (every_name (start_graph c)) (opening_at c.width c.threads) (graph_state c r) }
 {}
 
 /// The order is legal: each command is answered as the heap that never frees answers it there, or it
@@ -69,19 +71,19 @@ pub fn order_is_legal()
 pub fn logs_are_parts()
     ensures each { (c : Config) (traces : List (List Command)) (ts : List ℕ) (r : Run) → IsJob c traces → IsRunOf c traces ts r → (t : ℕ) → t < c.threads → part t r.order ≡ (local_at c r.state t).log ++ entries_waiting (replay c r.order) (local_at c r.state t) }
     ensures rest { (c : Config) (traces : List (List Command)) (ts : List ℕ) (r : Run) → IsJob c traces → IsRunOf c traces ts r → (t : ℕ) → t < c.threads → is_rest (local_at c r.state t).part ≡ true
-        → (part t r.order ≡ (local_at c r.state t).log) × (loading (local_at c r.state t).part ≡ unloaded) × (holding (local_at c r.state t).part ≡ no_grey) }
-    ensures decided { (c : Config) (traces : List (List Command)) (ts : List ℕ) (r : Run) → IsJob c traces → IsRunOf c traces ts r → (t : ℕ) → t < c.threads → (f : FieldRow) → (local_at c r.state t).part ≡ Serve f → field_decided f ≡ true
+        → (part t r.order ≡ (local_at c r.state t).log) × (loading c (local_at c r.state t).part ≡ unloaded) × (holding c (local_at c r.state t).part ≡ holds_nothing) }
+    ensures decided { (c : Config) (traces : List (List Command)) (ts : List ℕ) (r : Run) → IsJob c traces → IsRunOf c traces ts r → (t : ℕ) → t < c.threads → (f : FieldState) → (local_at c r.state t).part ≡ Serve f → field_decided f.row ≡ true
         → (y : Reply) × (part t r.order ≡ (local_at c r.state t).log ++ entry_of t (command_of (local_at c r.state t)) 0 y ∷ []) }
-    ensures undecided { (c : Config) (traces : List (List Command)) (ts : List ℕ) (r : Run) → IsJob c traces → IsRunOf c traces ts r → (t : ℕ) → t < c.threads → (f : FieldRow) → (local_at c r.state t).part ≡ Serve f → field_decided f ≡ false
+    ensures undecided { (c : Config) (traces : List (List Command)) (ts : List ℕ) (r : Run) → IsJob c traces → IsRunOf c traces ts r → (t : ℕ) → t < c.threads → (f : FieldState) → (local_at c r.state t).part ≡ Serve f → field_decided f.row ≡ false
         → part t r.order ≡ (local_at c r.state t).log }
 {}
 
 /// The grey blocks stand in the chains of the lists and of the threads' hands, or are under scan, each
 /// once. Where a thread puts its hand, its own list is empty.
 pub fn grey_blocks_stand_once()
-    ensures kept { (c : Config) (traces : List (List Command)) (ts : List ℕ) (r : Run) → IsJob c traces → IsRunOf c traces ts r → GreyKept c.threads (heap_in c r.state) (λ t. holding (local_at c r.state t).part) }
+    ensures kept { (c : Config) (traces : List (List Command)) (ts : List ℕ) (r : Run) → IsJob c traces → IsRunOf c traces ts r → GreyKept c.threads (heap_in c r.state) (λ t. grey_held (holding c (local_at c r.state t).part)) }
     ensures put { (c : Config) (traces : List (List Command)) (ts : List ℕ) (r : Run) → IsJob c traces → IsRunOf c traces ts r → (t : ℕ) → t < c.threads → (m : GreyState) → (local_at c r.state t).part ≡ Mark m → is_putting m.row ≡ true
-        → (part_want (local_at c r.state t).part ≡ Exchange (GreyList t) (holding (local_at c r.state t).part).hand) × (heap_in c r.state (GreyList t) ≡ 0) }
+        → (part_want c (local_at c r.state t).part ≡ Exchange (GreyList t) (holding c (local_at c r.state t).part).hand) × (heap_in c r.state (GreyList t) ≡ 0) }
 {}
 
 /// The works of a thread's entries, and the units that it has made for the command in hand, are the
@@ -92,18 +94,18 @@ pub fn works_are_units()
     ensures made { (c : Config) (traces : List (List Command)) (ts : List ℕ) (r : Run) → IsJob c traces → (is : IsRunOf c traces ts r) → (t : ℕ) → t < c.threads
         → works (part t r.order) + (local_at c r.state t).paid ≡ units_made c t (opened is.first) ts }
     ensures owed { (c : Config) (traces : List (List Command)) (ts : List ℕ) (r : Run) → IsJob c traces → IsRunOf c traces ts r → (t : ℕ) → t < c.threads → (local_at c r.state t).paid ≤ owed (local_at c r.state t) }
-    ensures entries { (c : Config) (traces : List (List Command)) (ts : List ℕ) (r : Run) → IsJob c traces → IsRunOf c traces ts r → (t : ℕ) → t < c.threads → (rate : ℕ) → IsRate c rate → IsWithin rate (part t r.order) }
+    ensures entries { (c : Config) (traces : List (List Command)) (ts : List ℕ) (r : Run) → IsJob c traces → IsRunOf c traces ts r → (t : ℕ) → t < c.threads → (rate : ℕ) → IsRate c rate → IsWithin c.width rate (part t r.order) }
     ensures rest { (c : Config) (traces : List (List Command)) (ts : List ℕ) (r : Run) → IsJob c traces → IsRunOf c traces ts r → (t : ℕ) → t < c.threads → is_rest (local_at c r.state t).part ≡ true
         → ((local_at c r.state t).paid ≡ 0) × ((local_at c r.state t).waived ≡ false) }
     ensures paid { (c : Config) (traces : List (List Command)) (ts : List ℕ) (r : Run) → IsJob c traces → IsRunOf c traces ts r → (t : ℕ) → t < c.threads → (local_at c r.state t).part ≡ Count
-        → (0 < blocks_of (command_of (local_at c r.state t))) × (owes (local_at c r.state t) ≡ false) }
+        → (0 < blocks_of c.width (command_of (local_at c r.state t))) × (owes (local_at c r.state t) ≡ false) }
     ensures rate { (c : Config) (traces : List (List Command)) (ts : List ℕ) (r : Run) → IsJob c traces → IsRunOf c traces ts r → (t : ℕ) → t < c.threads → IsRate c (local_at c r.state t).rate }
 {}
 
 /// The phase word counts the threads inside, at most all of them; the gate stays open, in
 /// cycle 1 and its Mark.
 pub fn threads_inside_are_counted()
-    ensures count { (c : Config) (traces : List (List Command)) (ts : List ℕ) (r : Run) → IsJob c traces → IsRunOf c traces ts r → inside_of (heap_in c r.state Phase) ≡ total c.threads (λ t. bit (is_inside (stand_of (local_at c r.state t).part))) }
+    ensures count { (c : Config) (traces : List (List Command)) (ts : List ℕ) (r : Run) → IsJob c traces → IsRunOf c traces ts r → inside_of (heap_in c r.state Phase) ≡ total c.threads (λ t. bit (is_inside (stand_of c (local_at c r.state t).part))) }
     ensures most { (c : Config) (traces : List (List Command)) (ts : List ℕ) (r : Run) → IsJob c traces → IsRunOf c traces ts r → inside_of (heap_in c r.state Phase) ≤ c.threads }
     ensures opened { (c : Config) (traces : List (List Command)) (ts : List ℕ) (r : Run) → IsJob c traces → IsRunOf c traces ts r → (is_closed (heap_in c r.state Phase) ≡ false) × (cycle_of (heap_in c r.state Phase) ≡ 1) × (is_sweep (heap_in c r.state Phase) ≡ false) }
 {}
@@ -120,7 +122,7 @@ pub fn turns_wait_at_the_gate()
 /// The next event of a thread is on a place of the heap, reads a word that its row may read, and
 /// leaves no sum or difference outside of 64 bits.
 pub fn events_are_safe()
-    ensures place { (c : Config) (traces : List (List Command)) (ts : List ℕ) (r : Run) → IsJob c traces → IsRunOf c traces ts r → (t : ℕ) → t < c.threads → in_range (extent c) (place_of (part_want (local_at c r.state t).part)) ≡ true }
+    ensures place { (c : Config) (traces : List (List Command)) (ts : List ℕ) (r : Run) → IsJob c traces → IsRunOf c traces ts r → (t : ℕ) → t < c.threads → in_range (extent c) (place_of (part_want c (local_at c r.state t).part)) ≡ true }
     ensures reads { (c : Config) (traces : List (List Command)) (ts : List ℕ) (r : Run) → IsJob c traces → IsRunOf c traces ts r → (t : ℕ) → t < c.threads → PartReads c (local_at c r.state t).part (word_read c r.state (local_at c r.state t)) }
-    ensures sums { (c : Config) (traces : List (List Command)) (ts : List ℕ) (r : Run) → IsJob c traces → IsRunOf c traces ts r → (t : ℕ) → t < c.threads → SumFits (op_at (extent c) (part_want (local_at c r.state t).part)) (word_read c r.state (local_at c r.state t)) }
+    ensures sums { (c : Config) (traces : List (List Command)) (ts : List ℕ) (r : Run) → IsJob c traces → IsRunOf c traces ts r → (t : ℕ) → t < c.threads → SumFits (op_at (extent c) (part_want c (local_at c r.state t).part)) (word_read c r.state (local_at c r.state t)) }
 {}

@@ -1,31 +1,23 @@
 //! One thread's whole state, one event at a time.
 
-ghost use Rattle.std.specs.Prelude.{◌≡◌, ◌≤◌, ◌<◌, ◌+◌, ◌^◌, ◌-◌, ◌++◌, ◌∷◌, ◌&&◌, ◌||◌, [], true, false, not, if◌then◌else◌, length, IfOk, None, IfSome};
+ghost use Rattle.std.specs.Prelude.{◌≡◌, ◌≤◌, ◌<◌, ◌+◌, ◌^◌, ◌-◌, ◌++◌, ◌∷◌, [], false, if◌then◌else◌, length, IfOk};
 ghost use Rattle.block_store.specs.Configs.{IsInBounds};
-ghost use Rattle.block_store.specs.Phases.{bit, cycle_of};
-ghost use Rattle.block_store.specs.Places.{extent, Phase};
+ghost use Rattle.block_store.specs.Places.{extent};
 ghost use Rattle.rate_plan.specs.Rates.{IsRate, IsAdmitted};
-ghost use Rattle.never_heap.specs.Bounds.{IsCommandInRange};
-ghost use Rattle.never_heap.specs.Steps.{blocks_of, length_made};
+ghost use Rattle.never_heap.specs.Steps.{makes_object};
 ghost use Rattle.heap_machine.specs.Operations.{op_at};
-ghost use Rattle.heap_machine.specs.Readings.{CanHold};
-ghost use Rattle.heap_machine.specs.Gates.{gate_got, gate_step, gate_entered, GateFits};
-ghost use Rattle.grey_steps.specs.Rows.{grey_got, grey_step, grey_unit, grey_nothing, grey_over};
-ghost use Rattle.grey_steps.specs.Fits.{GreyFits, GreyReads};
-ghost use Rattle.barrier_steps.specs.Rows.{field_got, field_step, field_reply};
-ghost use Rattle.barrier_steps.specs.Fits.{FieldFits, FieldReads};
-ghost use Rattle.heap_system.specs.Locals.{goes_in, IsTrace, PartReads, is_done, is_rest, part_want, part_step, local_got, at_start, turn_of, is_last, first_part, if_entered, if_replied, if_marked, command_of, owed, owes, paid_got, waived_got, works, entry_of, entries_of};
+ghost use Rattle.heap_machine.specs.Passes.{IsPass};
+ghost use Rattle.heap_system.specs.Locals.{IsTrace, PartReads, is_done, is_rest, part_want, part_step, local_got, at_start, turn_of, is_last, pass_by, first_part, command_of, owes, works, entry_of};
 
 use crate::Turn;
 use barrier_steps::FieldPass;
 use block_store::{Config, OutOfMemory, PhaseWord, Places};
 use grey_steps::GreyPass;
-use heap_machine::{Gate, Op, Step};
+use heap_machine::{Gate, Op, Pass, Step};
 use never_heap::{Command, Entry, Reply};
 use rate_plan::plan;
 use std::alloc::Global;
 use std::marker::Model;
-use std::mem;
 
 /// The part of its work at which a thread is.
 #[derive(Drop)]
@@ -61,6 +53,8 @@ pub struct Local {
     paid: u64,
     // Whether the rest of them is waived.
     waived: bool,
+    // The pass of the last entry at the gate.
+    pass: Pass,
     part: Part,
 }
 
@@ -71,9 +65,9 @@ impl Model for Local {
 
     ghost Value = { LocalState };
 
-    ghost view = { λ l. record { config = l.config; rate = l.rate; thread = l.thread; trace = l.trace.items; log = l.log.items; paid = l.paid; waived = l.waived; part = l.part } };
+    ghost view = { λ l. record { config = l.config; rate = l.rate; thread = l.thread; trace = l.trace.items; log = l.log.items; paid = l.paid; waived = l.waived; pass = l.pass; part = l.part } };
 
-    ghost invariant = { λ l. IsLocal (record { config = l.config; rate = l.rate; thread = l.thread; trace = l.trace.items; log = l.log.items; paid = l.paid; waived = l.waived; part = l.part }) × (length l.trace.items ≤ vec_capacity l.log) };
+    ghost invariant = { λ l. IsLocal (record { config = l.config; rate = l.rate; thread = l.thread; trace = l.trace.items; log = l.log.items; paid = l.paid; waived = l.waived; pass = l.pass; part = l.part }) × (length l.trace.items ≤ vec_capacity l.log) };
 }
 
 // What a turn answers after this step of a part.
@@ -102,6 +96,13 @@ fn counted(paid: u64, unit: bool) -> u64
     ensures { result ≡ (if unit then paid + 1 else paid) }
 {
     if unit { paid + 1 } else { paid }
+}
+
+// Whether the command makes an object.
+fn makes_object(command: Command) -> bool
+    ensures { result ≡ makes_object command }
+{
+    matches!(command, Command::New { .. } | Command::Arr { .. })
 }
 
 // The sum of the works of the entries.
@@ -148,6 +149,12 @@ impl Local {
             log,
             paid: 0,
             waived: false,
+            pass: Pass {
+                thread,
+                threads: c.threads,
+                cycle: 0,
+                sweep: false,
+            },
             part: Part::Rest,
         })
     }
@@ -196,82 +203,119 @@ impl Local {
     }
 
     /// The operation of the thread's next event. The thread is not done.
+    #[inline(always)]
     #[tactic(auto, using(crate::proofs::Paying::going_at))]
     pub fn want(&self) -> Op
         requires { is_done self.now ≡ false }
-        ensures { result ≡ op_at (extent self.now.config) (part_want self.now.part) }
+        ensures { result ≡ op_at (extent self.now.config) (part_want self.now.config self.now.part) }
     {
         let places = Places::new(&self.config);
         match &self.part {
-            Part::Rest => Gate::enter().want(&places),
-            Part::Enter(gate) => gate.want(&places),
+            Part::Rest => Op::load(places.phase()),
+            Part::Enter(gate) => gate.want_in(&places),
             Part::Serve(pass) => pass.want(&places),
             Part::Mark(pass) => pass.want(&places),
-            Part::Count => Op::Load {
-                place: places.free_count(),
+            Part::Count => Op::load(places.free_count()),
+            Part::Again | Part::Leave => Op::FetchSub {
+                place: places.phase(),
+                by: 1,
             },
-            Part::Again | Part::Leave => Gate::leave().want(&places),
         }
     }
 
     /// Moves on by one event, whose operation read the word. The thread is not done, and the word is
     /// one that its row may read: on the way in a phase word of cycle 1 or later.
+    // Before a method is called on `self` the part is put at rest, so that it may be any; and no arm
+    // makes a part, a gate or a pass before it puts it in its place.
+    #[inline(always)]
     #[tactic(auto, using(crate::proofs::Paying::unit_is_new))]
     pub fn got(&mut self, word: u64) -> Turn
         requires open { is_done self.old ≡ false }
         requires word { PartReads self.old.config self.old.part word }
         ensures local { self.new ≡ local_got self.old word }
-        ensures turn { result ≡ turn_of (part_step self.old.part word) }
+        ensures turn { result ≡ turn_of (part_step self.old.config self.old.part word) }
     {
         let places = Places::new(&self.config);
-        match mem::replace(&mut self.part, Part::Rest) {
-            Part::Rest => self.enter(Gate::enter(), &places, word),
-            Part::Enter(gate) => self.enter(gate, &places, word),
-            Part::Serve(pass) => self.serve(pass, &places, word),
-            Part::Mark(pass) => self.mark(pass, &places, word),
+        match &mut self.part {
+            Part::Rest => {
+                self.part = Part::Enter(Gate::after_look(word));
+                turn_after(Gate::look_step(word))
+            }
+            Part::Enter(gate) => {
+                let turn = turn_after(gate.got_in(word));
+                match gate.entered() {
+                    Some(phase) => {
+                        self.part = Part::Rest;
+                        self.pass = self.pass_by(phase);
+                        self.part = self.first_part(self.pass);
+                        turn
+                    }
+                    None => turn,
+                }
+            }
+            Part::Serve(pass) => {
+                let turn = turn_after(pass.got(&places, word));
+                match pass.reply() {
+                    Some(reply) => {
+                        self.part = Part::Rest;
+                        self.answer(reply);
+                        turn
+                    }
+                    None => turn,
+                }
+            }
+            Part::Mark(pass) => {
+                let unit = pass.unit();
+                let step = pass.got(&places, word);
+                self.paid = counted(self.paid, pass.unit() && !unit);
+                self.waived = pass.nothing() || self.waived;
+                if is_last(step) {
+                    self.part = Part::Again;
+                    turn_after(step)
+                } else {
+                    turn_after(step)
+                }
+            }
             Part::Count => {
                 self.answer(Reply::Full(1));
                 Turn::Went
             }
             Part::Again => {
                 self.part = Part::Enter(Gate::enter());
-                turn_after(Gate::leave().got(&places, word))
+                Turn::Went
             }
-            Part::Leave => turn_after(Gate::leave().got(&places, word)),
+            Part::Leave => {
+                self.part = Part::Rest;
+                Turn::Went
+            }
         }
     }
 
-    // On the way in.
-    #[tactic(auto, using(crate::proofs::Paying::going_at))]
-    fn enter(&mut self, mut gate: Gate, places: &Places, word: u64) -> Turn
-        requires places { places.now ≡ self.old.config }
-        requires out { goes_in gate ≡ true }
-        requires command { length self.old.log < length self.old.trace }
-        requires word { CanHold (extent places.now) Phase word }
-        requires cycle { 1 ≤ cycle_of word }
-        ensures local { self.new ≡ record self.old { part = if_entered (gate_entered (gate_got gate word)) self.old.thread self.old.config.threads (command_of self.old) (owes self.old) (gate_got gate word) } }
-        ensures turn { result ≡ turn_of (gate_step gate word) }
+    // The pass that begins by this phase word.
+    fn pass_by(&self, phase: PhaseWord) -> Pass
+        requires { (1 ≤ phase.cycle) × (phase.cycle ≤ 2 ^ 54 - 2) }
+        ensures is { result ≡ pass_by self.now.thread self.now.config.threads phase }
+        ensures fits { IsPass result }
     {
-        let turn = turn_after(gate.got(places, word));
-        self.part = match gate.entered() {
-            Some(phase) => self.first_part(phase),
-            None => Part::Enter(gate),
-        };
-        turn
+        Pass {
+            thread: self.thread,
+            threads: self.config.threads,
+            cycle: phase.cycle,
+            sweep: phase.sweep,
+        }
     }
 
-    // What the thread does that has entered by this phase word.
-    fn first_part(&self, phase: PhaseWord) -> Part
+    // What the thread does in a pass that begins.
+    fn first_part(&self, pass: Pass) -> Part
         requires command { length self.now.log < length self.now.trace }
-        requires cycle { (1 ≤ phase.cycle) × (phase.cycle ≤ 2 ^ 54 - 2) }
-        ensures { result ≡ first_part self.now.thread self.now.config.threads (command_of self.now) (owes self.now) phase.cycle }
+        requires pass { IsPass pass }
+        ensures { result ≡ first_part pass (command_of self.now) (owes self.now) }
     {
         let command = self.trace[self.log.len()];
-        let threads = self.config.threads;
-        if command.blocks() == 0 {
-            Part::Serve(FieldPass::new(self.thread, threads, phase, command))
+        if !makes_object(command) {
+            Part::Serve(FieldPass::new(pass, command))
         } else if self.owes(&command) {
-            Part::Mark(GreyPass::scan(self.thread, threads, phase.cycle))
+            Part::Mark(GreyPass::scan(pass))
         } else {
             Part::Count
         }
@@ -283,42 +327,7 @@ impl Local {
         requires there { length self.now.log < length self.now.trace }
         ensures { result ≡ owes self.now }
     {
-        !self.waived && self.paid < self.rate * u64::from(command.blocks())
-    }
-
-    // In a command.
-    fn serve(&mut self, mut pass: FieldPass, places: &Places, word: u64) -> Turn
-        requires places { places.now ≡ self.old.config }
-        requires fits { FieldFits self.old.config pass }
-        requires command { length self.old.log < length self.old.trace }
-        requires word { FieldReads places.now pass word }
-        ensures local { self.new ≡ record self.old { part = if_replied (field_reply (field_got pass word)) (field_got pass word); log = self.old.log ++ entries_of self.old.thread (command_of self.old) self.old.paid (field_reply (field_got pass word)); paid = paid_got (field_reply (field_got pass word)) false self.old.paid; waived = waived_got (field_reply (field_got pass word)) false self.old.waived } }
-        ensures turn { result ≡ turn_of (field_step pass word) }
-    {
-        let turn = turn_after(pass.got(places, word));
-        match pass.reply() {
-            Some(reply) => self.answer(reply),
-            None => self.part = Part::Serve(pass),
-        }
-        turn
-    }
-
-    // In a Mark pass.
-    fn mark(&mut self, mut pass: GreyPass, places: &Places, word: u64) -> Turn
-        requires places { places.now ≡ self.old.config }
-        requires fits { GreyFits self.old.config pass }
-        requires command { length self.old.log < length self.old.trace }
-        requires paid { self.old.paid + bit (not (grey_unit pass.row)) ≤ owed self.old }
-        requires word { GreyReads places.now pass word }
-        ensures local { self.new ≡ record self.old { part = if_marked (grey_got pass word); paid = (if grey_unit (grey_got pass word).row && not (grey_unit pass.row) then self.old.paid + 1 else self.old.paid); waived = grey_nothing (grey_got pass word).row || self.old.waived } }
-        ensures turn { result ≡ turn_of (grey_step pass word) }
-    {
-        let unit = pass.unit();
-        let step = pass.got(places, word);
-        self.paid = counted(self.paid, pass.unit() && !unit);
-        self.waived = pass.nothing() || self.waived;
-        self.part = marking(pass, is_last(step));
-        turn_after(step)
+        !self.waived && self.paid < self.rate * u64::from(command.blocks(self.config.width))
     }
 
     // The command in hand is done.
@@ -337,11 +346,4 @@ impl Local {
         self.waived = false;
         self.part = Part::Leave;
     }
-}
-
-// A Mark pass that is over has the thread go out and in again.
-fn marking(pass: GreyPass, over: bool) -> Part
-    ensures { result ≡ (if over then Part.Again else Part.Mark pass) }
-{
-    if over { Part::Again } else { Part::Mark(pass) }
 }

@@ -1,5 +1,9 @@
-use Rattle.barrier_steps.proofs.Promising.{promised, kept, given, first_asked, still_asked}
+use Rattle.barrier_steps.proofs.Promising.{promised, kept, given}
 use Rattle.barrier_steps.proofs.laws.rows_answer_as_steps.Goals as goal
 
 pub returns : goal.returns
-returns c = record { first = first_asked; still = still_asked; decided = promised; kept = kept; given = given }
+returns c = record {
+  decided = λ c head g f w. promised c head g f.pass.thread f.command f.row w;
+  kept = λ c head f w reply. kept c head f.command f.row w reply;
+  given = given;
+}

@@ -7,10 +7,10 @@ use Rattle.grey_steps.proofs.laws.rows_keep_tricolour.Goals as goal
 pub returns : goal.returns
 returns c = record {
   kept = keeps_tricolour;
-  scan = λ t n cycle. refl;
-  shade = λ t n cycle y. refl;
+  scan = λ e p. refl;
+  shade = λ e p y. refl;
   scan_over = scan_over_none;
-  shade_over = λ t n cycle y ws. shade_is_over y (shading t n cycle y) refl ws;
+  shade_over = λ e p y ws. shade_is_over e y (shading p y) refl ws;
   shaded = shaded_dark;
   not_white = shade_dark;
   black = blackened_whole;

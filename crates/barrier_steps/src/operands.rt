@@ -1,0 +1,93 @@
+//! What a command names.
+
+ghost use Rattle.std.specs.Prelude.{◌≡◌, ◌<◌, ◌^◌};
+ghost use Rattle.block_store.specs.Shapes.{IsShape};
+ghost use Rattle.never_heap.specs.Bounds.{IsCommandInRange};
+ghost use Rattle.barrier_steps.specs.Operands;
+ghost use Rattle.barrier_steps.specs.Walks.{shape_length};
+
+use block_store::Shape;
+use never_heap::Command;
+
+// The register that becomes something.
+pub(crate) fn to_register(command: Command) -> u8
+    requires { IsCommandInRange command }
+    ensures is { result ≡ Operands.to_register command }
+    ensures low { result < 16 }
+{
+    use Command::*;
+
+    match command {
+        Set { d, .. } | Nil { d } | Mov { d, .. } | Get { d, .. } => d,
+        New { .. } | Arr { .. } | Put { .. } | Len { .. } | Same { .. } | Say { .. } => 0,
+    }
+}
+
+// The register that is read first.
+pub(crate) fn from_register(command: Command) -> u8
+    requires { IsCommandInRange command }
+    ensures is { result ≡ Operands.from_register command }
+    ensures low { result < 16 }
+{
+    use Command::*;
+
+    match command {
+        Mov { s, .. } | Get { s, .. } | Put { s, .. } | Len { s } | Say { s } => s,
+        Same { a, .. } => a,
+        New { .. } | Arr { .. } | Set { .. } | Nil { .. } => 0,
+    }
+}
+
+// The other register that is read.
+pub(crate) fn other_register(command: Command) -> u8
+    requires { IsCommandInRange command }
+    ensures is { result ≡ Operands.other_register command }
+    ensures low { result < 16 }
+{
+    use Command::*;
+
+    match command {
+        Put { v, .. } => v,
+        Same { b, .. } => b,
+        New { .. } | Arr { .. } | Set { .. } | Nil { .. } => 0,
+        Mov { .. } | Get { .. } | Len { .. } | Say { .. } => 0,
+    }
+}
+
+// The number that a register becomes.
+pub(crate) fn number_set(command: Command) -> u64
+    requires { IsCommandInRange command }
+    ensures is { result ≡ Operands.number_set command }
+    ensures low { result < 2 ^ 62 }
+{
+    use Command::*;
+
+    match command {
+        Set { value, .. } => value,
+        New { .. } | Arr { .. } | Nil { .. } | Mov { .. } | Get { .. } => 0,
+        Put { .. } | Len { .. } | Same { .. } | Say { .. } => 0,
+    }
+}
+
+// The number of the field, which an object of this shape has.
+pub(crate) fn field_index(command: Command, shape: Shape) -> u32
+    requires shape { IsShape shape }
+    requires within { Operands.field_index command < shape_length shape }
+    ensures { result ≡ Operands.field_index command }
+{
+    let _shape = shape;
+    index_named(command) as u32
+}
+
+// The number of the field; the object may lack it.
+fn index_named(command: Command) -> u64
+    ensures { result ≡ Operands.field_index command }
+{
+    use Command::*;
+
+    match command {
+        Get { i, .. } | Put { i, .. } => i,
+        New { .. } | Arr { .. } | Set { .. } | Nil { .. } => 0,
+        Mov { .. } | Len { .. } | Same { .. } | Say { .. } => 0,
+    }
+}

@@ -1,0 +1,5 @@
+use Rattle.grey_steps.proofs.Together.{keeps_heap}
+use Rattle.grey_steps.proofs.laws.rows_keep_the_heap.Goals as goal
+
+pub returns : goal.returns
+returns c = keeps_heap
