@@ -1,0 +1,4 @@
+pub mod Goodness
+pub mod Telling
+pub mod Followed
+pub mod Judging
