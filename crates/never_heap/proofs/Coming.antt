@@ -4,6 +4,7 @@ use Rattle.std.proofs.lemmas.Bool.{cases_eq}
 use Rattle.std.proofs.Math.Seq.{drop-append_seam}
 use Rattle.std.proofs.lemmas.List.{map-append}
 use Rattle.block_store.specs.declared.Config.{Config}
+use Rattle.block_store.specs.declared.Width.{Width}
 use Rattle.never_heap.specs.declared.Command.{Command}
 use Rattle.never_heap.specs.declared.Entry.{Entry}
 use Rattle.never_heap.specs.Graphs.{Graph, start_graph}
@@ -114,10 +115,10 @@ licensed_at c before (x ∷ past) i rest l =
     subst (λ (p : List HistoryItem). IsLicensedItem c p i) (append_assoc before (x ∷ []) past)
     (licensed_at c (before ++ x ∷ []) past i rest l.1)
 
-work_at : (rate : ℕ) (past : List HistoryItem) (i : HistoryItem) (rest : List HistoryItem)
-    → RightWork rate (past ++ i ∷ rest) → IsRightWork rate i
-work_at rate [] i rest l = l.0
-work_at rate (x ∷ past) i rest l = work_at rate past i rest l.1
+work_at : (w : Width) (rate : ℕ) (past : List HistoryItem) (i : HistoryItem) (rest : List HistoryItem)
+    → RightWork w rate (past ++ i ∷ rest) → IsRightWork w rate i
+work_at w rate [] i rest l = l.0
+work_at w rate (x ∷ past) i rest l = work_at w rate past i rest l.1
 
 first_at : (c : Config) (past : List HistoryItem) (i : HistoryItem) (rest : List HistoryItem)
     → Legal c (past ++ i ∷ rest) → past ≡ [] → i ≡ Started
@@ -133,7 +134,7 @@ module _ (c : Config) (rate : ℕ) (traces : List (List Command)) where
     next = next_is traces past i rest run.traces_whole;
     answered = legal_at (start_graph c) past i rest (legal_from c (past ++ i ∷ rest) run.legal);
     licensed = licensed_at c [] past i rest run.licensed;
-    right_work = work_at rate past i rest run.right_work;
+    right_work = work_at c.width rate past i rest run.right_work;
   }
 
   come_from : (past h : List HistoryItem) → IsRun c rate traces (past ++ h) → AllMayCome c rate traces past h
@@ -159,7 +160,7 @@ module _ (c : Config) (rate : ℕ) (traces : List (List Command)) where
   record Goes (past h : List HistoryItem) : Type 0 where
     legal : LegalFrom (replay c past) h
     licensed : LicensedFrom c past h
-    right_work : RightWork rate h
+    right_work : RightWork c.width rate h
     begins : AllBegin traces (past ++ h)
 
   goes : (past h : List HistoryItem) → AllBegin traces past → AllMayCome c rate traces past h → Goes past h

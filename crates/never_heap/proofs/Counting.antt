@@ -1,11 +1,13 @@
 -- Each name stands once among the names of a graph, so the blocks of what can be reached are no more than those of any closed list of names.
-use Rattle.std.proofs.Common.{◌≡◌, ◌≢◌, ℕ, zero, suc, ne_eqb, ◌+◌, ◌*◌, ◌<◌, ◌≤◌, ◌==◌, ◌&&◌, ◌||◌, ◌⊎◌, inl, inr, if◌then◌else◌, cond, Bool, true, false, List, [], ◌∷◌, length, sym, refl, ap, ◌∙◌, subst, arith}
+use Rattle.std.proofs.Common.{◌≡◌, ◌≢◌, ℕ, zero, suc, ne_eqb, ◌+◌, ◌<◌, ◌≤◌, ◌==◌, ◌&&◌, ◌||◌, ◌⊎◌, inl, inr, if◌then◌else◌, cond, Bool, true, false, List, [], ◌∷◌, length, sym, refl, ap, ◌∙◌, subst, arith}
 use Rattle.std.proofs.lemmas.Bool.{cases_eq, cases_Bool}
 use Rattle.std.proofs.lemmas.List.Sums.{sum_by-append, sum_by-le-sum_by}
 use Rattle.std.specs.List.{sum_by}
 use Rattle.block_store.specs.declared.Name.{Name}
+use Rattle.block_store.specs.declared.Width.{Width}
+use Rattle.block_store.specs.Registers.{registers_end}
 use Rattle.never_heap.specs.Graphs.{Graph, same_name, shared_name, count_of, object_of}
-use Rattle.never_heap.specs.LiveBlocks.{live_blocks, object_blocks}
+use Rattle.never_heap.specs.LiveBlocks.{live_of, live_blocks, object_blocks}
 use Rattle.never_heap.specs.Reach.{is_among, IsClosed, names, names_below, thread_names, reachable}
 use Rattle.never_heap.proofs.Naming.{one_name}
 use Rattle.never_heap.proofs.Reaching.{reachable_within}
@@ -126,10 +128,12 @@ imp_le : (b c : Bool) (n : ℕ) → (b ≡ true → c ≡ true) → cond b n 0 �
 imp_le true c n f = subst (λ (d : Bool). n ≤ cond d n 0) (sym (f refl)) (omega arith)
 imp_le false c n f = omega arith
 
-pub within : (g : Graph) (ss : List Name) → IsClosed g (is_among ss) → live_blocks g ≤ 5 * length g.mutators + sum_by (λ (a : Name). object_blocks (object_of g a)) ss
+pub within : (w : Width) (g : Graph) (some : List Name) → IsClosed g (is_among some)
+    → live_blocks w g ≤ registers_end w (length g.mutators) + sum_by (λ (a : Name). object_blocks w (object_of g a)) some
 unfolding live_blocks
-within g ss closed =
-    let w : Name → ℕ = λ a. object_blocks (object_of g a) in
-    let low = sum_by-le-sum_by (λ (a : Name). if reachable g a then w a else 0) (among w ss) (names g) (λ a. imp_le (reachable g a) (is_among ss a) (w a) (reachable_within g (is_among ss) a closed)) in
-    let all = among_all w g ss in
+within w g some closed =
+    let of : Name → ℕ = λ a. object_blocks w (object_of g a) in
+    let low = sum_by-le-sum_by (live_of w g) (among of some) (names g)
+    (λ a. imp_le (reachable g a) (is_among some a) (of a) (reachable_within g (is_among some) a closed)) in
+    let all = among_all of g some in
     omega arith

@@ -20,5 +20,6 @@ pub mod Ordering
 pub mod Coming
 pub mod Walking
 pub mod Counting
+pub mod Opening
 pub mod Once
 pub mod Scanning

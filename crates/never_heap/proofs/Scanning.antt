@@ -6,6 +6,9 @@ use Rattle.std.proofs.lemmas.List.Sums.{sum_by-cons}
 use Rattle.std.proofs.lemmas.List.Folds.{list_any-append, list_any_more, list_any_at}
 use Rattle.std.proofs.lemmas.List.{length_push, take_all, get_or_append_left, get_or_default}
 use Rattle.block_store.specs.declared.Name.{Name}
+use Rattle.block_store.specs.declared.Width.{Width}
+use Rattle.block_store.specs.Registers.{registers_end}
+use Rattle.block_store.proofs.Registers.{end_few}
 use Rattle.block_store.specs.declared.Value.{Value}
 use Rattle.block_store.specs.declared.Value.TheVariants.{Nil, Ref}
 use Rattle.never_heap.specs.Graphs.{Graph, Mutator, same_name, has_name, object_of}
@@ -33,12 +36,12 @@ weight_low m (x ∷ xs) =
     low true = omega arith
     low false = omega arith
 
-pub found_few : (g : Graph) (m : Marked) (found : List Name) (blocks : ℕ) → Scanned g m found blocks → length found ≤ length (names g)
-found_few g m found blocks s = let low = weight_low m (names g) in omega (arith, s.once)
+pub found_few : (w : Width) (g : Graph) (m : Marked) (found : List Name) (blocks : ℕ) → Scanned w g m found blocks → length found ≤ length (names g)
+found_few w g m found blocks s = let low = weight_low m (names g) in omega (arith, s.once)
 
 -- ---- one name
 
-module _ (g : Graph) (old new : Marked) (found : List Name) (blocks : ℕ) (a : Name) (s : Scanned g old found blocks)
+module _ (w : Width) (g : Graph) (old new : Marked) (found : List Name) (blocks : ℕ) (a : Name) (s : Scanned w g old found blocks)
     (marks : (b : Name) → has_mark new b ≡ (has_mark old b || (same_name a b && has_place old b))) (places : (b : Name) → has_place new b ≡ has_place old b) where
   kept_one : (b : Name) → has_mark old b ≡ true → has_mark new b ≡ true
   kept_one b h = marks b ∙ or_left (has_mark old b) (same_name a b && has_place old b) h
@@ -75,7 +78,7 @@ module _ (g : Graph) (old new : Marked) (found : List Name) (blocks : ℕ) (a : 
     turned : (b : Name) → has_mark new b ≡ (has_mark old b || same_name b a)
     turned b = adds b ∙ ap (λ (x : Bool). has_mark old b || x) (same_turned a b)
 
-    pub scanned_more : (k : ℕ) → reachable g a ≡ true → k ≡ object_blocks (object_of g a) → k ≤ 21845 → Scanned g new (found ++ a ∷ []) (blocks + k)
+    pub scanned_more : (k : ℕ) → reachable g a ≡ true → k ≡ object_blocks w (object_of g a) → k ≤ 21845 → Scanned w g new (found ++ a ∷ []) (blocks + k)
     scanned_more k reached is low = record {
       places = λ b. places b ∙ s.places b;
       sound = λ b h. elim (or_cases (has_mark old b) (same_name a b) (sym (adds b) ∙ h)) [
@@ -85,7 +88,7 @@ module _ (g : Graph) (old new : Marked) (found : List Name) (blocks : ℕ) (a : 
       listed = λ b. list_any-append (same_name b) found (a ∷ []) ∙ ap (λ (x : Bool). x || (same_name b a || false)) (s.listed b) ∙ last (has_mark old b) (same_name b a)
           ∙ ap (λ (x : Bool). has_mark old b || x) (same_turned b a) ∙ sym (adds b);
       once = (let more = one_more_weight (λ _. 1) a (has_mark old) (has_mark new) free turned g has_it in let long = length_push found a in let was = s.once in omega arith);
-      sum = (let more = one_more_weight (λ (b : Name). object_blocks (object_of g b)) a (has_mark old) (has_mark new) free turned g has_it in let was = s.sum in omega arith);
+      sum = (let more = one_more_weight (λ (b : Name). object_blocks w (object_of g b)) a (has_mark old) (has_mark new) free turned g has_it in let was = s.sum in omega arith);
       small = (let long = length_push found a in let was = s.small in omega arith);
     }
       where
@@ -134,15 +137,15 @@ unmarked_weight w m (x ∷ xs) none =
     let rest = unmarked_weight w m xs none in
     omega arith
 
-pub scanned_none : (g : Graph) (m : Marked) (blocks : ℕ) → ((b : Name) → has_place m b ≡ has_name g b) → ((b : Name) → has_mark m b ≡ false)
-    → blocks ≡ 5 * length g.mutators → length g.mutators ≤ 16 → Scanned g m [] blocks
-scanned_none g m blocks places none is few = record {
+pub scanned_none : (w : Width) (g : Graph) (m : Marked) (blocks : ℕ) → ((b : Name) → has_place m b ≡ has_name g b) → ((b : Name) → has_mark m b ≡ false)
+    → blocks ≡ registers_end w (length g.mutators) → length g.mutators ≤ 16 → Scanned w g m [] blocks
+scanned_none w g m blocks places none is few = record {
   places = places;
   sound = λ b h. absurd (both_ways (has_mark m b) (none b) h);
   listed = λ b. sym (none b);
   once = sym (unmarked_weight (λ _. 1) m (names g) none);
-  sum = (let sum = unmarked_weight (λ (a : Name). object_blocks (object_of g a)) m (names g) none in omega arith);
-  small = omega arith;
+  sum = (let sum = unmarked_weight (λ (a : Name). object_blocks w (object_of g a)) m (names g) none in omega arith);
+  small = (let low = end_few w (length g.mutators) few in omega arith);
 }
 
 -- what stands in the registers of the first threads is marked
@@ -171,7 +174,7 @@ first_all g m ms i same all was b h has =
 abbrev pub HasLed : Graph → Marked → List Name → ℕ → Type 0
 HasLed g m found next = (k : ℕ) (d : Name) → k < next → (b : Name) → stands_in b (object_of g (get_or found k d)).fields ≡ true → has_name g b ≡ true → has_mark m b ≡ true
 
-module _ (g : Graph) (m : Marked) (found : List Name) (blocks next : ℕ) (a : Name) (s : Scanned g m found blocks) (here : next < length found) (is : a ≡ get_or found next a) where
+module _ (w : Width) (g : Graph) (m : Marked) (found : List Name) (blocks next : ℕ) (a : Name) (s : Scanned w g m found blocks) (here : next < length found) (is : a ≡ get_or found next a) where
   pub led_reached : (b : Name) → stands_in b (object_of g a).fields ≡ true → reachable g b ≡ true
   led_reached b h =
       let among : list_any (same_name a) found ≡ true = list_any_at (same_name a) found next a here (subst (λ (x : Name). same_name a x ≡ true) is (same_itself a)) in
@@ -190,7 +193,7 @@ module _ (g : Graph) (m : Marked) (found : List Name) (blocks next : ℕ) (a : N
       ]
 
 -- where all that was found was looked through, all that can be reached is marked
-module _ (g : Graph) (m : Marked) (found : List Name) (blocks next : ℕ) (s : Scanned g m found blocks) (registers : HasRegisters g m) (led : HasLed g m found next) (all : length found ≤ next) where
+module _ (w : Width) (g : Graph) (m : Marked) (found : List Name) (blocks next : ℕ) (s : Scanned w g m found blocks) (registers : HasRegisters g m) (led : HasLed g m found next) (all : length found ≤ next) where
   complete : (b : Name) → reachable g b ≡ true → has_name g b ≡ true → has_mark m b ≡ true
   complete = reachable_least g (λ a. has_name g a ≡ true → has_mark m a ≡ true)
       (λ t r a e has. registers a (in_register g t r a e) has)
@@ -199,9 +202,9 @@ module _ (g : Graph) (m : Marked) (found : List Name) (blocks next : ℕ) (s : S
       let place = any_place (same_name c) found c (s.listed c ∙ f there) in
       led place.0 c (omega (arith, place.1)) a (subst (λ (x : Name). stands_in a (object_of g x).fields ≡ true) (one_name c (get_or found place.0 c) place.2) (stands_at a (object_of g c).fields i e)) has)
 
-  pub all_live : blocks ≡ live_blocks g
+  pub all_live : blocks ≡ live_blocks w g
   all_live =
       let marks : (b : Name) → has_mark m b ≡ (reachable g b && has_name g b) = λ b. both_true (has_mark m b) (reachable g b) (has_name g b)
       (λ h. (s.sound b h, sym (s.places b) ∙ mark_place m b h)) (λ h n. complete b h n) in
-      live_of_marked g m (names g) (length (names g)) blocks refl (omega arith) marks
-      (s.sum ∙ ap (λ (l : List Name). 5 * length g.mutators + marked_blocks g m l) (sym (take_all (length (names g)) (names g) (omega arith))))
+      live_of_marked w g m (names g) (length (names g)) blocks refl (omega arith) marks
+      (s.sum ∙ ap (λ (l : List Name). registers_end w (length g.mutators) + marked_blocks w g m l) (sym (take_all (length (names g)) (names g) (omega arith))))

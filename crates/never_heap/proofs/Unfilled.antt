@@ -15,9 +15,9 @@ not_full c past k (Full z) s few l =
     let low : 1 ≤ z = rw l.0 (omega arith) in
     let high : z ≤ starts_in past = rw l.0 (omega (arith, s)) in
     let all : starts_in (past ++ k) ≡ starts_in past + starts_in k = starts_append past k in
-    let small : live_blocks (graph_at c (past ++ k) z) ≤ c.live = few z low (omega (arith, high, all)) in
+    let small : live_blocks c.width (graph_at c (past ++ k) z) ≤ c.live = few z low (omega (arith, high, all)) in
     let same : graph_at c (past ++ k) z ≡ graph_at c past z = graph_at_more c past k z low high in
-    let small_past : live_blocks (graph_at c past z) ≤ c.live = subst (λ g. live_blocks g ≤ c.live) same small in
+    let small_past : live_blocks c.width (graph_at c past z) ≤ c.live = subst (λ g. live_blocks c.width g ≤ c.live) same small in
     absurd (omega (arith, l.1, small_past))
 not_full c past k (New n) s few l = refl
 not_full c past k Stored s few l = refl

@@ -21,24 +21,24 @@ module _ (c : Config) (rate : ℕ) (traces : List (List Command)) where
   no_full past Started some small l = tt
   no_full past (Did e) some small l = not_full c past [] e.reply some (subst (StartsSmall c) (sym (append-nil past)) small) l
 
-  small_more : (past : List HistoryItem) (i : HistoryItem) → live_blocks (replay c past) ≤ c.live
+  small_more : (past : List HistoryItem) (i : HistoryItem) → live_blocks c.width (replay c past) ≤ c.live
       → StartsSmall c past → StartsSmall c (past ++ i ∷ [])
   small_more past Started now small z some low = elim (cases_eq z (starts_in past + 1)) [
-    | inl e ↦ subst (λ (g : Graph). live_blocks g ≤ c.live)
+    | inl e ↦ subst (λ (g : Graph). live_blocks c.width g ≤ c.live)
         (sym (ap (graph_at c (past ++ Started ∷ [])) e ∙ graph_at_next c past [])) now
     | inr ne ↦ (let few : z ≤ starts_in past = omega (arith, starts_append past (Started ∷ [])) in
-        subst (λ (g : Graph). live_blocks g ≤ c.live) (sym (graph_at_more c past (Started ∷ []) z some few)) (small z some few))
+        subst (λ (g : Graph). live_blocks c.width g ≤ c.live) (sym (graph_at_more c past (Started ∷ []) z some few)) (small z some few))
   ]
   small_more past (Did e) now small z some low =
       let few : z ≤ starts_in past = omega (arith, starts_append past (Did e ∷ [])) in
-      subst (λ (g : Graph). live_blocks g ≤ c.live) (sym (graph_at_more c past (Did e ∷ []) z some few)) (small z some few)
+      subst (λ (g : Graph). live_blocks c.width g ≤ c.live) (sym (graph_at_more c past (Did e ∷ []) z some few)) (small z some few)
 
   module _ (Inv : List HistoryItem → Type 0)
-      (within : (past : List HistoryItem) → Inv past → live_blocks (replay c past) ≤ c.live)
+      (within : (past : List HistoryItem) → Inv past → live_blocks c.width (replay c past) ≤ c.live)
       (step : (past : List HistoryItem) (i : HistoryItem)
       → MayCome c rate traces past i → IsNoFull i → Inv past → Inv (past ++ i ∷ [])) where
     go : (past h : List HistoryItem) → past ≢ [] → 1 ≤ starts_in past → StartsSmall c past → Inv past
-        → LegalFrom (replay c past) h → LicensedFrom c past h → RightWork rate h
+        → LegalFrom (replay c past) h → LicensedFrom c past h → RightWork c.width rate h
         → ((t : ℕ) → commands_in t (past ++ h) ≡ slice_index_or traces t []) → Inv (past ++ h)
     go past [] begun some small inv legal licensed work whole = subst Inv (sym (append-nil past)) inv
     go past (i ∷ h) begun some small inv legal licensed work whole =

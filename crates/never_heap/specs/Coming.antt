@@ -25,7 +25,7 @@ pub record MayCome
   pub next : IsNext traces past i
   pub answered : IsAnswered (replay c past) i
   pub licensed : IsLicensedItem c past i
-  pub right_work : IsRightWork rate i
+  pub right_work : IsRightWork c.width rate i
 
 -- after these items each of the others may come in its turn
 abbrev pub AllMayCome :

@@ -1,6 +1,7 @@
 -- The object graph of a heap that never frees.
 use Rattle.std.specs.Prelude.{ℕ, ◌≡◌, ◌+◌, ◌-◌, ◌==◌, ◌&&◌, nat_le, Bool, Option, Some, None, if◌then◌else◌, List, [], ◌∷◌, ◌++◌, length, replicate, slice_set, slice_index_or}
 use Rattle.block_store.specs.declared.Config.{Config}
+use Rattle.block_store.specs.declared.Width.{Width}
 use Rattle.block_store.specs.declared.Name.{Name}
 use Rattle.block_store.specs.declared.Value.{Value}
 use Rattle.block_store.specs.declared.Value.TheVariants.{Nil, Ref}
@@ -25,6 +26,14 @@ pub record Graph : Type 0 where
   pub shared : Object
   pub mutators : List Mutator
 
+-- a graph whose objects lie in blocks of this width
+pub record WideGraph : Type 0 where
+  pub width : Width
+  pub graph : Graph
+
+abbrev pub with_graph : WideGraph → Graph → WideGraph
+with_graph w g = record w { graph = g }
+
 abbrev pub no_object : Object
 no_object = record { kind = Record; fields = [] }
 
@@ -38,6 +47,10 @@ shared_name n = record { thread = n; serial = 0 }
 abbrev pub nils : ℕ → List Value
 nils n = replicate n Nil
 
+-- a new object: nothing but nils
+abbrev pub nil_object : ObjectKind → ℕ → Object
+nil_object kind n = record { kind = kind; fields = nils n }
+
 -- a thread before its first command: register 0 refers to the shared array, and the others are nil
 abbrev pub start_mutator : ℕ → Mutator
 start_mutator n = record { registers = Ref (shared_name n) ∷ nils 15; objects = [] }
@@ -45,7 +58,7 @@ start_mutator n = record { registers = Ref (shared_name n) ∷ nils 15; objects 
 -- the opening graph: one object, the shared array, of nils
 abbrev pub start_graph : Config → Graph
 start_graph c = record {
-  shared = record { kind = Array; fields = nils c.shared };
+  shared = nil_object Array c.shared;
   mutators = replicate c.threads (start_mutator c.threads);
 }
 

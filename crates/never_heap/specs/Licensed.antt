@@ -11,7 +11,8 @@ use Rattle.never_heap.specs.LiveBlocks.{live_blocks}
 -- more than L blocks were live at its start.
 abbrev pub IsLicensedReply : Config → List HistoryItem → Reply → Type 0
 IsLicensedReply config past (Full c) =
-    (c ≡ max 1 (starts_in past - 1)) × (config.live < live_blocks (graph_at config past c))
+    (c ≡ max 1 (starts_in past - 1))
+    × (config.live < live_blocks config.width (graph_at config past c))
 IsLicensedReply config past _ = Unit {0}
 
 abbrev pub IsLicensedItem : Config → List HistoryItem → HistoryItem → Type 0
@@ -30,7 +31,7 @@ Licensed config h = LicensedFrom config [] h
 -- each cycle of the history began with no more than L live blocks
 abbrev pub StartsSmall : Config → List HistoryItem → Type 0
 StartsSmall config h =
-    (z : ℕ) → 1 ≤ z → z ≤ starts_in h → live_blocks (graph_at config h z) ≤ config.live
+    (z : ℕ) → 1 ≤ z → z ≤ starts_in h → live_blocks config.width (graph_at config h z) ≤ config.live
 
 -- no entry is answered full
 abbrev pub NoFulls : List HistoryItem → Type 0

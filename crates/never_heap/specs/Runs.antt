@@ -14,4 +14,4 @@ pub record IsRun
   pub legal : Legal c h
   pub traces_whole : HasTraces traces h
   pub licensed : Licensed c h
-  pub right_work : RightWork rate h
+  pub right_work : RightWork c.width rate h

@@ -1,5 +1,6 @@
 -- What one command does to the graph, and what it answers.
 use Rattle.std.specs.Prelude.{ℕ, ◌==◌, nat_lt, Bool, false, true, Option, Some, None, if◌then◌else◌, length}
+use Rattle.block_store.specs.declared.Width.{Width}
 use Rattle.block_store.specs.declared.Value.{Value}
 use Rattle.block_store.specs.declared.Value.TheVariants.{Nil, Int, Ref}
 use Rattle.block_store.specs.declared.Name.{Name}
@@ -9,7 +10,7 @@ use Rattle.never_heap.specs.declared.Command.{Command}
 use Rattle.never_heap.specs.declared.Command.TheVariants as commands
 use Rattle.never_heap.specs.declared.Reply.{Reply}
 use Rattle.never_heap.specs.declared.Reply.TheVariants as replies
-use Rattle.never_heap.specs.Graphs.{Graph, Object, Record, Array, nils, same_name, register_of, object_of, field_of, with_register, with_field, with_object, next_name}
+use Rattle.never_heap.specs.Graphs.{Graph, Object, Record, Array, nil_object, same_name, register_of, object_of, field_of, with_register, with_field, with_object, next_name}
 
 -- how long the object is that a command makes; 0 for a command that makes none
 abbrev pub length_made : Command → ℕ
@@ -17,18 +18,18 @@ length_made (commands.New d f) = f
 length_made (commands.Arr d e) = e
 length_made _ = 0
 
--- the blocks that a command allocates
-abbrev pub blocks_of : Command → ℕ
-blocks_of (commands.New d f) = record_blocks f
-blocks_of (commands.Arr d e) = array_blocks e
-blocks_of (commands.Set d v) = 0
-blocks_of (commands.Nil d) = 0
-blocks_of (commands.Mov d s) = 0
-blocks_of (commands.Get d s i) = 0
-blocks_of (commands.Put s i v) = 0
-blocks_of (commands.Len s) = 0
-blocks_of (commands.Same a b) = 0
-blocks_of (commands.Say s) = 0
+-- the blocks of this width that a command allocates
+abbrev pub blocks_of : Width → Command → ℕ
+blocks_of w (commands.New d f) = record_blocks w f
+blocks_of w (commands.Arr d e) = array_blocks w e
+blocks_of w (commands.Set d v) = 0
+blocks_of w (commands.Nil d) = 0
+blocks_of w (commands.Mov d s) = 0
+blocks_of w (commands.Get d s i) = 0
+blocks_of w (commands.Put s i v) = 0
+blocks_of w (commands.Len s) = 0
+blocks_of w (commands.Same a b) = 0
+blocks_of w (commands.Say s) = 0
 
 -- whether a command makes an object
 abbrev pub makes_object : Command → Bool
@@ -80,8 +81,8 @@ same_value _ _ = false
 
 -- the graph after a command of thread t, and the reply
 abbrev pub step : Graph → ℕ → Command → Graph × Reply
-step g t (commands.New d f) = made g t d (record { kind = Record; fields = nils f })
-step g t (commands.Arr d e) = made g t d (record { kind = Array; fields = nils e })
+step g t (commands.New d f) = made g t d (nil_object Record f)
+step g t (commands.Arr d e) = made g t d (nil_object Array e)
 step g t (commands.Set d v) = (with_register g t d (Int v), replies.Stored)
 step g t (commands.Nil d) = (with_register g t d Nil, replies.Stored)
 step g t (commands.Mov d s) = (with_register g t d (register_of g t s), replies.Stored)

@@ -1,5 +1,6 @@
--- The blocks that a history took.
+-- The blocks of this width that a history took.
 use Rattle.std.specs.Prelude.{ℕ, ◌+◌, List, [], ◌∷◌}
+use Rattle.block_store.specs.declared.Width.{Width}
 use Rattle.never_heap.specs.declared.Entry.{Entry}
 use Rattle.never_heap.specs.declared.Reply.{Reply}
 use Rattle.never_heap.specs.declared.Reply.TheVariants.{New}
@@ -12,11 +13,11 @@ blocks_if_new (New name) k = k
 blocks_if_new _ k = 0
 
 -- an entry took the blocks of its command, where it was answered new
-abbrev pub taken_by : Entry → ℕ
-taken_by e = blocks_if_new e.reply (blocks_of e.command)
+abbrev pub taken_by : Width → Entry → ℕ
+taken_by w e = blocks_if_new e.reply (blocks_of w e.command)
 
 -- all entries together
-abbrev pub taken_in : List HistoryItem → ℕ
-taken_in [] = 0
-taken_in (Started ∷ h) = taken_in h
-taken_in (Did e ∷ h) = taken_by e + taken_in h
+abbrev pub taken_in : Width → List HistoryItem → ℕ
+taken_in w [] = 0
+taken_in w (Started ∷ h) = taken_in w h
+taken_in w (Did e ∷ h) = taken_by w e + taken_in w h

@@ -1,12 +1,16 @@
 //! Laws of the graph and of its steps, for the proofs of the crates above.
 
-ghost use Rattle.std.specs.Prelude.{◌≡◌, ◌<◌, ◌≤◌, ◌+◌, ◌*◌, ◌⊎◌, ℕ, Bool, true, false, Some, None, length, List};
+ghost use Rattle.std.specs.Prelude.{◌≡◌, ◌<◌, ◌≤◌, ◌+◌, ◌⊎◌, ℕ, Bool, true, false, Some, None, length, List};
 ghost use Rattle.std.specs.List.{sum_by};
 ghost use Rattle.block_store.specs.declared.Config.{Config};
 ghost use Rattle.block_store.specs.declared.Name.{Name};
+ghost use Rattle.block_store.specs.declared.Width.{Width};
+ghost use Rattle.block_store.specs.Configs.{IsInBounds};
+ghost use Rattle.block_store.specs.Registers.{registers_end};
+ghost use Rattle.array_trees.specs.Openings.{opening_blocks};
 ghost use Rattle.block_store.specs.declared.Value.TheVariants.{Ref};
 ghost use Rattle.never_heap.specs.declared.Command.{Command};
-ghost use Rattle.never_heap.specs.Graphs.{Graph, SameShape, register_of, object_of, field_of, count_of, has_name, next_name};
+ghost use Rattle.never_heap.specs.Graphs.{Graph, SameShape, start_graph, register_of, object_of, field_of, count_of, has_name, next_name};
 ghost use Rattle.never_heap.specs.Histories.{HistoryItem, is_full, is_refusal, replay, replay_from};
 ghost use Rattle.never_heap.specs.LiveBlocks.{live_blocks, object_blocks};
 ghost use Rattle.never_heap.specs.Reach.{reachable, is_among, IsClosed};
@@ -23,8 +27,14 @@ pub fn reachable_is_least()
 /// Where names in a list are closed under references, and have all that stands in registers, no
 /// more blocks are live than theirs and those of the registers.
 pub fn live_blocks_are_few()
-    ensures { (g : Graph) (some : List Name) → IsClosed g (is_among some)
-        → live_blocks g ≤ 5 * length g.mutators + sum_by (λ a. object_blocks (object_of g a)) some }
+    ensures { (w : Width) (g : Graph) (some : List Name) → IsClosed g (is_among some)
+        → live_blocks w g ≤
+        registers_end w (length g.mutators) + sum_by (λ a. object_blocks w (object_of g a)) some }
+{}
+
+/// The opening heap has as many live blocks as it has blocks.
+pub fn opening_blocks_are_live()
+    ensures { (c : Config) → IsInBounds c → live_blocks c.width (start_graph c) ≡ opening_blocks c }
 {}
 
 /// A step of thread `t` leaves the registers in which it does not store, all objects where it
@@ -84,6 +94,8 @@ pub fn reach_grows_by_new_objects()
 /// No step answers with a full, and the commands that make an object are those that have blocks.
 pub fn steps_answer()
     ensures full { (g : Graph) (t : ℕ) (command : Command) → is_full (step g t command).1 ≡ false }
-    ensures makers { (command : Command) → makes_object command ≡ true → 0 < blocks_of command }
-    ensures others { (command : Command) → makes_object command ≡ false → blocks_of command ≡ 0 }
+    ensures makers { (w : Width) (command : Command)
+        → makes_object command ≡ true → 0 < blocks_of w command }
+    ensures others { (w : Width) (command : Command)
+        → makes_object command ≡ false → blocks_of w command ≡ 0 }
 {}

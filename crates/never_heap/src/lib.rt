@@ -20,11 +20,11 @@ mod run_laws;
 mod tests;
 
 use array_trees::blocks_of_array;
-use block_store::{Config, Name, Value};
+use block_store::{Config, Name, Value, Width};
 pub use graph::Graph;
 pub use laws::{
-    live_blocks_are_few, names_stay, reach_grows_by_new_objects, reachable_is_least, steps_answer,
-    steps_leave,
+    live_blocks_are_few, names_stay, opening_blocks_are_live, reach_grows_by_new_objects,
+    reachable_is_least, steps_answer, steps_leave,
 };
 use object_lists::blocks_of_record;
 pub use run_laws::{
@@ -75,10 +75,14 @@ impl Command {
     {
         match *self {
             Command::New { d, fields } => {
-                d < REGISTERS && fields <= MOST_FIELDS && blocks_of_record(fields) <= c.object
+                d < REGISTERS
+                    && fields <= MOST_FIELDS
+                    && blocks_of_record(c.width, fields) <= c.object
             }
             Command::Arr { d, elements } => {
-                d < REGISTERS && elements <= MOST_FIELDS && blocks_of_array(elements) <= c.object
+                d < REGISTERS
+                    && elements <= MOST_FIELDS
+                    && blocks_of_array(c.width, elements) <= c.object
             }
             Command::Set { d, value } => d < REGISTERS && value < NUMBERS,
             Command::Nil { d } => d < REGISTERS,
@@ -90,15 +94,15 @@ impl Command {
         }
     }
 
-    /// How many blocks the command allocates; 0 for one that makes no object. An object is at most
-    /// 65,535 long.
-    pub fn blocks(&self) -> u32
+    /// How many blocks of this width the command allocates; 0 for one that makes no object. An
+    /// object is at most 65,535 long.
+    pub fn blocks(&self, width: Width) -> u32
         requires { length_made self.now ≤ 65535 }
-        ensures { result ≡ blocks_of self.now }
+        ensures { result ≡ blocks_of width self.now }
     {
         match *self {
-            Command::New { fields, .. } => blocks_of_record(fields),
-            Command::Arr { elements, .. } => blocks_of_array(elements),
+            Command::New { fields, .. } => blocks_of_record(width, fields),
+            Command::Arr { elements, .. } => blocks_of_array(width, elements),
             _ => 0,
         }
     }

@@ -9,7 +9,8 @@ ghost use Rattle.never_heap.specs.Scans.{IsScanOf, HasFound, HasRegisters};
 
 use crate::Graph;
 use crate::marks::Marks;
-use block_store::{Name, OutOfMemory, REGISTER_BLOCKS, Value};
+use crate::reach::register_blocks;
+use block_store::{Name, OutOfMemory, Value};
 
 /// A scan over the objects that can be reached: those found so far, each once, and their blocks
 /// with those of the registers.
@@ -23,11 +24,11 @@ struct Scan {
 impl Scan {
     // Finds the object of a name, where it was not found before.
     fn find(&mut self, graph: &Graph, name: Name) -> Result<(), OutOfMemory>
-        requires few { length (names graph.now) ≤ 2097153 }
+        requires few { length (names graph.now.graph) ≤ 2097153 }
         requires scanned { IsScanOf graph.now self.old }
-        requires reached { reachable graph.now name ≡ true }
+        requires reached { reachable graph.now.graph name ≡ true }
         ensures scanned { OnOk result (IsScanOf graph.now self.new) }
-        ensures finds { OnOk result (HasFound graph.now self.old self.new (Ref name ∷ [])) }
+        ensures finds { OnOk result (HasFound graph.now.graph self.old self.new (Ref name ∷ [])) }
     {
         if !self.marks.mark(name) {
             return Ok(());
@@ -39,11 +40,12 @@ impl Scan {
 
     // Finds each object to which a list of values refers.
     fn find_all(&mut self, graph: &Graph, values: &[Value]) -> Result<(), OutOfMemory>
-        requires few { length (names graph.now) ≤ 2097153 }
+        requires few { length (names graph.now.graph) ≤ 2097153 }
         requires scanned { IsScanOf graph.now self.old }
-        requires reached { (b : Name) → stands_in b values.now ≡ true → reachable graph.now b ≡ true }
+        requires reached { (b : Name)
+            → stands_in b values.now ≡ true → reachable graph.now.graph b ≡ true }
         ensures scanned { OnOk result (IsScanOf graph.now self.new) }
-        ensures finds { OnOk result (HasFound graph.now self.old self.new values.now) }
+        ensures finds { OnOk result (HasFound graph.now.graph self.old self.new values.now) }
     {
         for value in values {
             if let Value::Ref(name) = *value {
@@ -58,7 +60,7 @@ impl Graph {
     /// The same number as `reach_blocks`, by one scan: each object that can be reached is found
     /// once, and its fields are looked through once.
     pub fn count_live(&self) -> Result<u64, OutOfMemory>
-        ensures { IfOk result (λ k. k ≡ live_blocks self.now) }
+        ensures { IfOk result (λ k. k ≡ live_blocks self.now.width self.now.graph) }
     {
         self.count_names();
         let mut scan = self.scan_registers()?;
@@ -73,14 +75,14 @@ impl Graph {
 
     // A scan that has found what stands in registers.
     fn scan_registers(&self) -> Result<Scan, OutOfMemory>
-        requires { length (names self.now) ≤ 2097153 }
+        requires { length (names self.now.graph) ≤ 2097153 }
         ensures scanned { IfOk result (IsScanOf self.now) }
-        ensures registers { IfOk result (λ s. HasRegisters self.now s.marks) }
+        ensures registers { IfOk result (λ s. HasRegisters self.now.graph s.marks) }
     {
         let mut scan = Scan {
             marks: self.no_marks()?,
             found: Vec::new(self.alloc()),
-            total: u64::from(REGISTER_BLOCKS) * self.mutators().len() as u64,
+            total: register_blocks(self.width(), self.mutators().len() as u64),
         };
         for mutator in self.mutators() {
             scan.find_all(self, mutator.registers())?;
@@ -90,7 +92,7 @@ impl Graph {
 
     // How many objects there are.
     fn count_names(&self) -> u64
-        ensures value { result ≡ length (names self.now) }
+        ensures value { result ≡ length (names self.now.graph) }
         ensures few { result ≤ 2097153 }
     {
         let mut count = 1;

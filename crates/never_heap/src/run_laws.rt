@@ -2,6 +2,7 @@
 
 ghost use Rattle.std.specs.Prelude.{◌≡◌, ◌≢◌, ◌<◌, ◌≤◌, ◌+◌, ℕ, Bool, true, List, [], ◌∷◌, ◌++◌};
 ghost use Rattle.block_store.specs.declared.Config.{Config};
+ghost use Rattle.block_store.specs.declared.Width.{Width};
 ghost use Rattle.never_heap.specs.declared.Command.{Command};
 ghost use Rattle.never_heap.specs.declared.Entry.{Entry};
 ghost use Rattle.never_heap.specs.declared.Item.{Item};
@@ -20,8 +21,8 @@ ghost use Rattle.never_heap.specs.Taken.{taken_by};
 pub fn runs_grow()
     ensures licensed { (c : Config) (h : List HistoryItem) (i : HistoryItem)
         → Licensed c h → IsLicensedItem c h i → Licensed c (h ++ i ∷ []) }
-    ensures work { (rate : ℕ) (h : List HistoryItem) (i : HistoryItem)
-        → RightWork rate h → IsRightWork rate i → RightWork rate (h ++ i ∷ []) }
+    ensures work { (w : Width) (rate : ℕ) (h : List HistoryItem) (i : HistoryItem)
+        → RightWork w rate h → IsRightWork w rate i → RightWork w rate (h ++ i ∷ []) }
 {}
 
 /// The graph at the start of a cycle stays as the history goes on, and a start is at the graph that
@@ -36,13 +37,14 @@ pub fn cycles_start()
 /// What was given in a cycle: nothing at its start, more by each entry that takes blocks, and the
 /// same for ever from the next start on.
 pub fn blocks_are_given()
-    ensures start { (h : List HistoryItem) → given (h ++ Started ∷ []) (starts_in h + 1) ≡ 0 }
-    ensures entry { (h : List HistoryItem) (e : Entry) → 1 ≤ starts_in h
-        → given (h ++ Did e ∷ []) (starts_in h) ≡ given h (starts_in h) + taken_by e }
-    ensures end { (h : List HistoryItem) → 1 ≤ starts_in h
-        → given (h ++ Started ∷ []) (starts_in h) ≡ given h (starts_in h) }
-    ensures past { (h k : List HistoryItem) (z : ℕ)
-        → 1 ≤ z → z < starts_in h → given (h ++ k) z ≡ given h z }
+    ensures start { (w : Width) (h : List HistoryItem)
+        → given w (h ++ Started ∷ []) (starts_in h + 1) ≡ 0 }
+    ensures entry { (w : Width) (h : List HistoryItem) (e : Entry) → 1 ≤ starts_in h
+        → given w (h ++ Did e ∷ []) (starts_in h) ≡ given w h (starts_in h) + taken_by w e }
+    ensures end { (w : Width) (h : List HistoryItem) → 1 ≤ starts_in h
+        → given w (h ++ Started ∷ []) (starts_in h) ≡ given w h (starts_in h) }
+    ensures past { (w : Width) (h k : List HistoryItem) (z : ℕ)
+        → 1 ≤ z → z < starts_in h → given w (h ++ k) z ≡ given w h z }
 {}
 
 /// A legal history whose fulls are licensed has none, where each of its cycles began with at most L
@@ -82,7 +84,7 @@ pub fn runs_are_walked()
         (holds : List HistoryItem → Bool)
         → holds [] ≡ true
         → ((past : List HistoryItem)
-        → holds past ≡ true → live_blocks (replay c past) ≤ c.live)
+        → holds past ≡ true → live_blocks c.width (replay c past) ≤ c.live)
         → ((past : List HistoryItem) (i : HistoryItem)
         → MayCome c rate traces past i → IsNoFull i
         → holds past ≡ true → holds (past ++ i ∷ []) ≡ true)

@@ -2,9 +2,12 @@
 use Rattle.std.proofs.Common.{◌≡◌, ℕ, zero, suc, ◌+◌, ◌-◌, ◌*◌, ◌/◌, ◌%◌, ◌<◌, ◌≤◌, refl, sym, ap, subst, arith, inl, inr}
 use Rattle.std.proofs.lemmas.Bool.{cases_lt, lt-ltb, le-ltb}
 use Rattle.std.proofs.lemmas.Nat.{div-add-mod', div-mul-add, mod-mul-add, mod_below, le-div}
+use Rattle.block_store.specs.declared.Width.{Width}
+use Rattle.block_store.specs.declared.Width.TheVariants.{Four, Eight}
+use Rattle.block_store.specs.Widths.{payloads}
 use Rattle.object_lists.specs.Parts.{Link, Field, Blank, link_below, field_below}
 use Rattle.object_lists.specs.Layouts.{IsLayout, IsWay}
-use Rattle.object_lists.specs.Records.{list_blocks, list_part, list_spot}
+use Rattle.object_lists.specs.Records.{list_blocks, list_part, list_spot, record_blocks, record_part, record_spot}
 use Rattle.object_lists.proofs.PartLemmas.{field_below-in, link_below-in, field_below-field, link_below-link, field_below-link, link_below-field}
 
 module _ (k f : ℕ) (some : 0 < k) where
@@ -89,3 +92,13 @@ module _ (k f : ℕ) (some : 0 < k) where
         link_below-in (l + 1) (list_blocks k f) (omega arith);
     ends = list_fields i h;
   }
+
+-- by the width: its blocks have one payload more than fields
+pub record_layout : (w : Width) (f : ℕ) → IsLayout (payloads w) f (record_blocks w f) (record_part w f) (record_spot w)
+record_layout Four f = list_layout 3 f (omega arith)
+record_layout Eight f = list_layout 7 f (omega arith)
+
+pub record_way : (w : Width) (f i : ℕ) → i < f
+    → IsWay (record_part w f) i (record_spot w i).0 (record_spot w i).1 (λ l. l) (λ l. 0)
+record_way Four f i h = list_way 3 f (omega arith) i h
+record_way Eight f i h = list_way 7 f (omega arith) i h

@@ -1,6 +1,7 @@
 -- Names, kept values, and their words.
 use Rattle.std.proofs.Common.{◌≡◌, ℕ, ◌<◌, ◌≤◌, inl, inr, true, false, eqb, refl, sym, ap, ◌∙◌, subst, arith}
 use Rattle.std.proofs.lemmas.Bool.{cases_Bool, eqb-true, and_parts}
+use Rattle.block_store.specs.declared.Width.{Width}
 use Rattle.block_store.specs.declared.Name.{Name}
 use Rattle.block_store.specs.declared.Value.{Value}
 use Rattle.block_store.specs.declared.Value.TheVariants.{Nil, Int, Ref}
@@ -54,9 +55,9 @@ word_stays K head other (Int n) same k = refl
 word_stays K head other (Ref a) same k = ap (λ x. value_word (λ b. x) (Ref a)) (same a k)
 
 -- two blocks of kept objects that are one are of one name and one ordinal, since their owner words are one
-pub apart : (K : Name → Type 0) (object : Name → Object) (at : Name → ℕ → ℕ) (w : BlockWords) → Numbered K object → Written K object at w
-    → (a b : Name) (o p : ℕ) → K a → K b → o < object_blocks (object a) → p < object_blocks (object b) → at a o ≡ at b p → (same_name a b ≡ true) × (o ≡ p)
-apart K object at w numbered written a b o p ka kb ol pl e =
+pub apart : (W : Width) (K : Name → Type 0) (object : Name → Object) (at : Name → ℕ → ℕ) (w : BlockWords) → Numbered W K object → Written W K object at w
+    → (a b : Name) (o p : ℕ) → K a → K b → o < object_blocks W (object a) → p < object_blocks W (object b) → at a o ≡ at b p → (same_name a b ≡ true) × (o ≡ p)
+apart W K object at w numbered written a b o p ka kb ol pl e =
     let one = one_owner a.thread a.serial o b.thread b.serial p
     (omega (arith, numbered.serials a ka)) (omega (arith, numbered.ordinals a ka)) (omega (arith, numbered.serials b kb)) (omega (arith, numbered.ordinals b kb))
     (sym (written.blocks a o ka ol).owned ∙ ap w.owner e ∙ (written.blocks b p kb pl).owned) in

@@ -1,7 +1,7 @@
 //! Reading a job from a source.
 
 ghost use Rattle.std.specs.Prelude.{◌≡◌, ◌+◌, ◌<◌, ◌≤◌, ◌⊎◌, ℕ, List, Some, [], drop, length, Err, IfOk, IfSome, OnOk, MatchResult, IsErrOf};
-ghost use Rattle.trace_text.specs.declared.jobs.Job as jobs;
+ghost use Rattle.trace_text.specs.Jobs as jobs;
 ghost use Rattle.trace_text.specs.declared.trace_faults.Why as whys;
 ghost use Rattle.trace_text.specs.declared.trace_faults.TraceFault.TheVariants as faults;
 ghost use Rattle.trace_text.specs.Jobs.{input_limit, IsJobInBounds, IsJob, IsInput};

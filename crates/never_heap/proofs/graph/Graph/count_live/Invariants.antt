@@ -6,10 +6,10 @@ use Rattle.never_heap.proofs.graph.Graph.count_live.Given as goal
 
 abbrev pub invariant-loop-next : goal.invariant-loop-next
 invariant-loop-next l = record {
-  scanned : Scanned l.self l.scan.marks l.scan.found.items l.scan.total;
-  registers : HasRegisters l.self l.scan.marks;
-  led : HasLed l.self l.scan.marks l.scan.found.items l.next;
+  scanned : Scanned l.self.width l.self.graph l.scan.marks l.scan.found.items l.scan.total;
+  registers : HasRegisters l.self.graph l.scan.marks;
+  led : HasLed l.self.graph l.scan.marks l.scan.found.items l.next;
 }
 
 abbrev pub decreases-loop-next : goal.decreases-loop-next
-decreases-loop-next l = length (names l.self) - l.next
+decreases-loop-next l = length (names l.self.graph) - l.next

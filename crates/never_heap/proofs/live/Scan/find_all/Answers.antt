@@ -7,7 +7,7 @@ use Rattle.never_heap.proofs.live.Scan.find_all.Goals.{in-Ref+in_ok-find, in_def
 
 pub loop-value-preserved : goal.loop-value-preserved
 loop-value-preserved c =
-    let g = c.args.graph.now in
+    let g = c.args.graph.now.graph in
     let old = c.args.self.now in
     let mid = c.loop-value.self in
     elim c.match-value.branch [
