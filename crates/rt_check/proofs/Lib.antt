@@ -2,3 +2,5 @@ pub mod Goodness
 pub mod Telling
 pub mod Followed
 pub mod Judging
+pub mod Parting
+pub mod Following

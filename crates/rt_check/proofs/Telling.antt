@@ -104,12 +104,12 @@ full_cycle past = max 1 (starts_in past - 1)
 
 -- so many blocks were live at its start that a full is licensed
 abbrev pub Allows : Config → List HistoryItem → Type 0
-Allows c past = c.live < live_blocks (graph_at c past (full_cycle past))
+Allows c past = c.live < live_blocks c.width (graph_at c past (full_cycle past))
 
 full_is : (c : Config) (past : List HistoryItem) (r : Reply) → is_full r ≡ true → IsLicensedReply c past r
     → (r ≡ replies.Full (full_cycle past)) × Allows c past
 full_is c past (replies.Full z) f l =
-    (ap replies.Full l.0, subst (λ (k : ℕ). c.live < live_blocks (graph_at c past k)) l.0 l.1)
+    (ap replies.Full l.0, subst (λ (k : ℕ). c.live < live_blocks c.width (graph_at c past k)) l.0 l.1)
 full_is c past (replies.New name) f l = absurd (no f)
 full_is c past replies.Stored f l = absurd (no f)
 full_is c past (replies.Val v) f l = absurd (no f)
@@ -120,7 +120,7 @@ full_is c past replies.Null f l = absurd (no f)
 full_is c past replies.Kind f l = absurd (no f)
 full_is c past replies.Range f l = absurd (no f)
 
-same_entry : (e f : Entry) → e.thread ≡ f.thread → e.command ≡ f.command → e.reply ≡ f.reply → e.work ≡ f.work → e ≡ f
+pub same_entry : (e f : Entry) → e.thread ≡ f.thread → e.command ≡ f.command → e.reply ≡ f.reply → e.work ≡ f.work → e ≡ f
 same_entry e f t k r w = λ i. record { thread = t i; command = k i; reply = r i; work = w i }
 
 module _ (c : Config) (rate : ℕ) (traces : List (List Command)) (past : List HistoryItem) where
@@ -130,7 +130,7 @@ module _ (c : Config) (rate : ℕ) (traces : List (List Command)) (past : List H
     thread = t;
     command = command;
     reply = (step (replay c past) t command).1;
-    work = units_owed rate command;
+    work = units_owed c.width rate command;
   }
 
   abbrev pub filled : ℕ → Command → Entry
@@ -138,7 +138,7 @@ module _ (c : Config) (rate : ℕ) (traces : List (List Command)) (past : List H
     thread = t;
     command = command;
     reply = replies.Full (full_cycle past);
-    work = units_owed rate command;
+    work = units_owed c.width rate command;
   }
 
   -- what an entry is whose line begins with a thread's number
@@ -158,13 +158,16 @@ module _ (c : Config) (rate : ℕ) (traces : List (List Command)) (past : List H
     head_same : (a b : Command) (xs ys : List Command) → a ∷ xs ≡ b ∷ ys → a ≡ b
     head_same a b xs ys e = cc
 
+    pub thread_of : (t : ℕ) → Begins line (Some t) → (e : Entry) → IsGood c rate traces past line (Did e) → e.thread ≡ t
+    thread_of t begins e good = same_Some e.thread t (begins_one line (Some e.thread) (Some t) (entry_tells e good) begins)
+
     pub candidate : (t : ℕ) (command : Command) (rest : List Command) → Begins line (Some t) → left_of traces past t ≡ command ∷ rest
         → (e : Entry) → IsGood c rate traces past line (Did e) → IsOne t command e
     candidate t command rest begins left e good =
-        let thread : e.thread ≡ t = same_Some e.thread t (begins_one line (Some e.thread) (Some t) (entry_tells e good) begins) in
+        let thread : e.thread ≡ t = thread_of t begins e good in
         let next = good.may_come.next in
         let told : e.command ≡ command = head_same e.command command next.0 rest (sym next.1 ∙ ap (left_of traces past) thread ∙ left) in
-        let work : e.work ≡ units_owed rate command = good.may_come.right_work ∙ ap (units_owed rate) told in
+        let work : e.work ≡ units_owed c.width rate command = good.may_come.right_work ∙ ap (units_owed c.width rate) told in
         elim good.may_come.answered [
           | inl is ↦ inl (same_entry e (stepped t command) thread told (is ∙ (λ i. (step (replay c past) (thread i) (told i)).1)) work)
           | inr is ↦ (let full = full_is c past e.reply is.0 good.may_come.licensed in
@@ -184,8 +187,8 @@ module _ (c : Config) (rate : ℕ) (traces : List (List Command)) (past : List H
     texts_differ t command s makes same =
         let g : Graph = replay c past in
         let new = maker_answers g t command makes in
-        let e = append_cancel_left (decimal t) (32 ∷ reply_text (step g t command).1 (units_owed rate command)) (32 ∷ reply_text (replies.Full (full_cycle past)) (units_owed rate command)) same in
-        let f = ap (λ (r : Reply). get_or (32 ∷ reply_text r (units_owed rate command)) 1 0) new in
+        let e = append_cancel_left (decimal t) (32 ∷ reply_text (step g t command).1 (units_owed c.width rate command)) (32 ∷ reply_text (replies.Full (full_cycle past)) (units_owed c.width rate command)) same in
+        let f = ap (λ (r : Reply). get_or (32 ∷ reply_text r (units_owed c.width rate command)) 1 0) new in
         let h = ap (λ (l : List ℕ). get_or l 1 0) e in
         let k : 110 ≡ 102 = sym f ∙ h in
         absurd (omega arith)

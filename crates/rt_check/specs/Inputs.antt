@@ -4,9 +4,8 @@ use Rattle.std.specs.Str.{bytes_eq}
 use Rattle.never_heap.specs.Histories.{HistoryItem}
 use Rattle.never_heap.specs.Runs.{IsRun}
 use Rattle.rate_plan.specs.Rates.{IsRate}
-use Rattle.trace_text.specs.declared.jobs.Job.{Job}
 use Rattle.trace_text.specs.declared.trace_faults.Why.{Why}
-use Rattle.trace_text.specs.Jobs.{IsJob, input_limit}
+use Rattle.trace_text.specs.Jobs.{Job, IsJob, input_limit}
 use Rattle.trace_text.specs.Lines.{lines_of}
 use Rattle.trace_text.specs.Orders.{order_lines}
 use Rattle.trace_text.specs.Refusals.{IsFirstBadLine}

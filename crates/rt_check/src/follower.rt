@@ -1,13 +1,13 @@
 //! Follows an order, one line at a time, on a heap that never frees.
 
-ghost use Rattle.std.specs.Prelude.{◌≡◌, ◌+◌, ◌-◌, ◌^◌, ◌<◌, ◌≤◌, ◌↔◌, ◌++◌, ◌∷◌, true, max, ℕ, List, [], length, slice_set, slice_index_or, Some, None, IfOk, MatchOption};
-ghost use Rattle.never_heap.specs.Histories.{HistoryItem, Did};
-ghost use Rattle.never_heap.specs.Steps.{makes_object};
-ghost use Rattle.never_heap.specs.declared.Command.{Command};
+ghost use Rattle.std.specs.Prelude.{◌≡◌, ◌+◌, ◌-◌, ◌^◌, ◌<◌, ◌≤◌, ◌↔◌, ◌++◌, ◌∷◌, true, false, max, ℕ, List, [], length, slice_set, slice_index_or, Some, None, IfOk, MatchOption};
+ghost use Rattle.never_heap.specs.Histories.{HistoryItem};
+ghost use Rattle.never_heap.specs.Bounds.{IsCommandInRange};
+ghost use Rattle.never_heap.specs.Graphs.{count_of};
 ghost use Rattle.trace_text.specs.Jobs.{IsJobInBounds};
 ghost use Rattle.trace_text.specs.Lines.{line_feed};
-ghost use Rattle.trace_text.specs.Orders.{item_text};
-ghost use Rattle.rt_check.specs.Standing.{Stands, Says, HasFollowed, Begins, rest_of};
+ghost use Rattle.trace_text.specs.Orders.{entry_text};
+ghost use Rattle.rt_check.specs.Standing.{Stands, Says, HasFollowed, HasNext, Begins, CanCount, Counted, IsFullHere, entry_here, graph_here, rest_of};
 
 use block_store::{Config, OutOfMemory};
 use never_heap::{Command, Entry, Graph, Reply};
@@ -46,7 +46,7 @@ impl Follower {
     {
         Ok(Follower {
             graph: Graph::start(alloc, &job.config)?,
-            done: vec![in alloc; 0; job.traces.len()]?,
+            done: vec![in alloc; 0; job.config.threads as usize]?,
             live: Vec::new(alloc),
             work: 0,
         })
@@ -99,11 +99,12 @@ impl Follower {
 
     // Whether no command is left.
     fn is_done(&self, job: &Job) -> bool
-        requires { length self.now.done.items ≡ length job.now.traces }
+        requires job { IsJobInBounds job.now }
+        requires rows { length self.now.done.items ≡ job.now.config.threads }
         ensures { result ≡ true ↔ ((t : ℕ) → rest_of job.now.traces self.now.done.items t ≡ []) }
     {
-        for t in 0..job.traces.len() {
-            if self.done[t] < job.traces.trace(t).len() {
+        for t in 0..self.done.len() {
+            if self.done[t] < job.trace(t).len() {
                 return false;
             }
         }
@@ -112,15 +113,16 @@ impl Follower {
 
     // The next command of a thread, where it has one left.
     fn command(&self, job: &Job, thread: u64) -> Option<Command>
-        requires { length self.now.done.items ≡ length job.now.traces }
+        requires job { IsJobInBounds job.now }
+        requires rows { length self.now.done.items ≡ job.now.config.threads }
         ensures { MatchOption result (rest_of job.now.traces self.now.done.items thread ≡ [])
-            (λ command. (rest : List Command) × (rest_of job.now.traces self.now.done.items thread ≡ command ∷ rest)) }
+            (HasNext job.now.traces self.now thread) }
     {
-        if thread >= job.traces.len() as u64 {
+        if thread >= self.done.len() as u64 {
             return None;
         }
         let thread = thread as usize;
-        job.traces.trace(thread).get(self.done[thread]).copied()
+        job.trace(thread).get(self.done[thread]).copied()
     }
 
     // A line that begins with the number of a thread.
@@ -145,22 +147,88 @@ impl Follower {
         let Some(command) = self.command(job, thread) else {
             return Ok(Verdict::Bad);
         };
-        let mut entry = Entry {
+        self.answered(job, rate, thread, command, line, buffer)
+    }
+
+    // A line that begins with the number of a thread whose next command this is.
+    fn answered(
+        &mut self,
+        job: &Job,
+        rate: u64,
+        thread: u64,
+        command: Command,
+        line: &[u8],
+        buffer: &mut LineBuffer,
+    ) -> Result<Verdict, OutOfMemory>
+        requires job { IsJobInBounds job.now }
+        requires rate { rate ≤ 131070 }
+        requires stands { HasFollowed job.now.config self.old }
+        requires number { Begins line.now (Some thread) }
+        requires begun { 1 ≤ length self.old.live.items }
+        requires left { HasNext job.now.traces self.old thread command }
+        ensures { (past : List HistoryItem) → Stands job.now.config past self.old
+            → IfOk result (λ v. Says job.now.config rate job.now.traces past line.now v self.new) }
+    {
+        let entry = Entry {
             thread: thread as u32,
             command,
             reply: Reply::Full(self.full_cycle()),
-            work: rate * u64::from(command.blocks()),
+            work: rate * u64::from(command.blocks(job.config.width)),
         };
-        if self.may_be_full(&job.config, &command) && is_entry(&entry, line, buffer) {
-            self.count(&entry);
+        if self.takes_full(&job.config, &entry, line, buffer) {
             return Ok(Verdict::Good);
         }
-        entry.reply = self.graph.apply(entry.thread, &command)?;
+        if self.takes_step(&entry, line, buffer)? {
+            return Ok(Verdict::Good);
+        }
+        Ok(Verdict::Bad)
+    }
+
+    // Whether a line is this entry, which is answered full, and it may be; then the entry is counted.
+    fn takes_full(
+        &mut self,
+        config: &Config,
+        entry: &Entry,
+        line: &[u8],
+        buffer: &mut LineBuffer,
+    ) -> bool
+        requires begun { 1 ≤ length self.old.live.items }
+        requires room { CanCount self.old entry.now }
+        ensures taken { result ≡ true → IsFullHere config.now self.old entry.now.command
+            × (line.now ≡ entry_text entry.now) × Counted self.old self.new self.old.graph entry.now }
+        ensures left { result ≡ false → (self.new ≡ self.old)
+            × (IsFullHere config.now self.old entry.now.command → line.now ≡ entry_text entry.now → ⊥) }
+    {
+        if !self.may_be_full(config, &entry.command) || !is_entry(entry, line, buffer) {
+            return false;
+        }
+        self.count(entry);
+        true
+    }
+
+    // Whether a line is this entry with the reply of the heap; then the entry is counted.
+    fn takes_step(
+        &mut self,
+        entry: &Entry,
+        line: &[u8],
+        buffer: &mut LineBuffer,
+    ) -> Result<bool, OutOfMemory>
+        requires thread { entry.now.thread < length self.old.graph.graph.mutators }
+        requires command { IsCommandInRange entry.now.command }
+        requires made { count_of self.old.graph.graph entry.now.thread < 131072 }
+        requires room { CanCount self.old entry.now }
+        ensures taken { IfOk result (λ b. b ≡ true → (line.now ≡ entry_text (entry_here self.old entry.now))
+            × Counted self.old self.new (graph_here self.old entry.now) entry.now) }
+        ensures left { IfOk result (λ b. b ≡ false
+            → line.now ≡ entry_text (entry_here self.old entry.now) → ⊥) }
+    {
+        let reply = self.graph.apply(entry.thread, &entry.command)?;
+        let entry = Entry { reply, ..*entry };
         if !is_entry(&entry, line, buffer) {
-            return Ok(Verdict::Bad);
+            return Ok(false);
         }
         self.count(&entry);
-        Ok(Verdict::Good)
+        Ok(true)
     }
 
     // The cycle that a full names: the one before the present one, or the first.
@@ -174,8 +242,7 @@ impl Follower {
     // live at the start of the cycle that the full names.
     fn may_be_full(&self, config: &Config, command: &Command) -> bool
         requires { 1 ≤ length self.now.live.items }
-        ensures { result ≡ true ↔ ((makes_object command.now ≡ true)
-            × (config.now.live < slice_index_or self.now.live.items (max 1 (length self.now.live.items - 1) - 1) 0)) }
+        ensures { result ≡ true ↔ IsFullHere config.now self.now command.now }
     {
         let makes = matches!(*command, Command::New { .. } | Command::Arr { .. });
         makes && self.live[self.full_cycle() as usize - 1] > u64::from(config.live)
@@ -183,14 +250,8 @@ impl Follower {
 
     // Counts an entry.
     fn count(&mut self, entry: &Entry)
-        requires thread { entry.now.thread < length self.old.done.items }
-        requires done { slice_index_or self.old.done.items entry.now.thread 0 < 2 ^ 32 }
-        requires work { self.old.work + entry.now.work < 2 ^ 64 }
-        ensures graph { self.new.graph ≡ self.old.graph }
-        ensures done { self.new.done.items ≡ slice_set self.old.done.items entry.now.thread
-            (slice_index_or self.old.done.items entry.now.thread 0 + 1) }
-        ensures live { self.new.live ≡ self.old.live }
-        ensures work { self.new.work ≡ self.old.work + entry.now.work }
+        requires { CanCount self.old entry.now }
+        ensures { Counted self.old self.new self.old.graph entry.now }
     {
         self.done[entry.thread as usize] += 1;
         self.work += entry.work;
@@ -199,7 +260,7 @@ impl Follower {
 
 // Whether a line is that of an entry.
 fn is_entry(entry: &Entry, line: &[u8], buffer: &mut LineBuffer) -> bool
-    ensures { (starts : ℕ) → result ≡ true ↔ (line.now ≡ item_text starts (Did entry.now)) }
+    ensures { result ≡ true ↔ (line.now ≡ entry_text entry.now) }
 {
     fill_entry(buffer, entry);
     is_line(buffer, line)

@@ -10,12 +10,20 @@ pub(crate) fn parted(input: &[u8]) -> (&[u8], &[u8])
     ensures job { result.0.now ≡ job_part input.now }
     ensures order { result.1.now ≡ order_part input.now }
 {
+    let order = order_of(input);
+    input.split_at(input.len() - order.len())
+}
+
+/// The bytes behind the first line that is `end`.
+fn order_of(input: &[u8]) -> &[u8]
+    ensures { result.now ≡ order_part input.now }
+{
     let mut rest = input;
     while let Some((line, after)) = first_line(rest) {
-        rest = after;
         if line == b"end".as_slice() {
-            break;
+            return after;
         }
+        rest = after;
     }
-    input.split_at(input.len() - rest.len())
+    rest
 }

@@ -1,6 +1,6 @@
 //! Goes through the lines of an order.
 
-ghost use Rattle.std.specs.Prelude.{◌≡◌, ◌≤◌, length, IfOk};
+ghost use Rattle.std.specs.Prelude.{◌≡◌, ◌≢◌, ◌+◌, ◌^◌, ◌<◌, ◌≤◌, [], length, IfOk, MatchOption};
 ghost use Rattle.trace_text.specs.Jobs.{IsJobInBounds};
 ghost use Rattle.trace_text.specs.Lines.{lines_of};
 ghost use Rattle.rt_check.specs.Good.{IsFound};
@@ -28,12 +28,25 @@ pub(crate) fn first_bad(
     let mut read = 0;
     while let Some((line, after)) = first_line(rest) {
         match follower.next(job, rate, line, &mut buffer)? {
-            Verdict::Good => rest = after,
-            Verdict::Last if after.is_empty() => return Ok(None),
-            Verdict::Last => return Ok(Some(read + 2)),
+            Verdict::Good => {}
+            Verdict::Last => return Ok(behind_last(after, read)),
             Verdict::Bad => return Ok(Some(read + 1)),
         }
+        rest = after;
         read += 1;
     }
     Ok(Some(read + 1))
+}
+
+/// The number of the line behind that of the totals, where there is one: no line is good there. So
+/// many lines stand before that of the totals.
+fn behind_last(after: &[u8], read: u64) -> Option<u64>
+    requires { read < 2 ^ 32 }
+    ensures { MatchOption result (lines_of after.now ≡ [])
+        (λ n. (n ≡ read + 2) × (lines_of after.now ≢ [])) }
+{
+    if first_line(after).is_none() {
+        return None;
+    }
+    Some(read + 2)
 }

@@ -3,7 +3,7 @@
 ghost use Rattle.std.specs.Prelude.{◌≡◌, ◌≢◌, ◌<◌, ◌≤◌, ◌⊎◌, ◌↔◌, ℕ, List, [], length, map, string_bytes, Option, Some, None, IfSome, OnOk, IfErr, MatchResult};
 ghost use Rattle.rate_plan.specs.declared.PlanFault.{PlanFault};
 ghost use Rattle.rate_plan.specs.Rates.{IsRefusal};
-ghost use Rattle.trace_text.specs.declared.jobs.Job.{Job};
+ghost use Rattle.trace_text.specs.Jobs.{Job};
 ghost use Rattle.trace_text.specs.declared.trace_faults.Why as whys;
 ghost use Rattle.trace_text.specs.Faults.{Rose};
 ghost use Rattle.trace_text.specs.Streams.{Appends, AppendsFront};

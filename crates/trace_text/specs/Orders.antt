@@ -1,14 +1,19 @@
 -- The text of a history in order: a line for each item, and the totals.
 use Rattle.std.specs.Prelude.{ℕ, ◌+◌, List, [], ◌∷◌, ◌++◌, codes, decimal}
 use Rattle.std.specs.List.{flat_map}
+use Rattle.never_heap.specs.declared.Entry.{Entry}
 use Rattle.never_heap.specs.Histories.{HistoryItem, Started, Did, starts_in, work_in}
 use Rattle.trace_text.specs.Lines.{line_feed, space}
 use Rattle.trace_text.specs.Texts.{reply_text}
 
--- an item's line, without its line feed, where so many starts stand before it
+-- an entry's line, without its line feed
+abbrev pub entry_text : Entry → List ℕ
+entry_text e = decimal e.thread ++ (space ∷ reply_text e.reply e.work)
+
+-- an item's line, where so many starts stand before it
 abbrev pub item_text : ℕ → HistoryItem → List ℕ
 item_text starts Started = codes "start " ++ decimal (starts + 1)
-item_text starts (Did e) = decimal e.thread ++ (space ∷ reply_text e.reply e.work)
+item_text starts (Did e) = entry_text e
 
 -- the last line
 abbrev pub end_text : List HistoryItem → List ℕ

@@ -10,7 +10,7 @@ no e = cc
 pub returns-then-index-trace : goal.returns-then-index-trace
 returns-then-index-trace c =
     let t : ℕ = c.loop-t.t in
-    let there : t < length c.args.self.now.done.items = omega (arith, c.loop-t-test.true, c.len-t-end.ensures, c.requires) in
+    let there : t < length c.args.self.now.done.items = omega (arith, c.loop-t-test.true, c.len-t-end.ensures) in
     let here : c.index.result.now ≡ get_or c.args.self.now.done.items t 0 = c.index.ensures ∙ get_or_default c.args.self.now.done.items t c.index.result.now 0 there in
     let few : get_or c.args.self.now.done.items t 0 < length (get_or c.args.job.now.traces t []) =
         subst (λ (n : ℕ). n < length (get_or c.args.job.now.traces t [])) here

@@ -1,7 +1,9 @@
-use Rattle.std.proofs.Common.{◌≡◌, ◌≢◌, ◌+◌, ◌<◌, ◌≤◌, ◌==◌, length, ap, sym, refl, ◌∙◌, true, false, ℕ, List, [], arith, eq-eqb}
+use Rattle.std.proofs.Common.{◌≡◌, ◌≢◌, ◌+◌, ◌<◌, ◌≤◌, ◌==◌, ◌++◌, ◌∷◌, length, ap, sym, refl, ◌∙◌, true, false, ℕ, List, [], arith, eq-eqb}
 use Rattle.std.proofs.lemmas.Bool.{both_ways, eqb-true}
 use Rattle.std.proofs.lemmas.Bool.Decides.{nat_tests}
+use Rattle.block_store.specs.declared.Width.{Width}
 use Rattle.never_heap.specs.Histories.{HistoryItem, Started, starts_in}
+use Rattle.never_heap.specs.LiveBlocks.{live_blocks}
 use Rattle.trace_text.specs.Orders.{item_text, end_text}
 use Rattle.trace_text.specs.Texts.{start_line, totals_line}
 use Rattle.rt_check.specs.Good.{IsLast}
@@ -17,7 +19,7 @@ returns-then-is_line c rate past s =
     let text = (c.is_line.ensures (item_text (starts_in past) Started) (c.fill_start.ensures.text ∙ ap (λ (n : ℕ). start_line (n + 1)) starts)).0 c.if-is_line.true in (
       Started,
       start_good c.args.job.now.config rate c.args.job.now.traces past c.args.line.now refl text,
-      stands_start c.args.job.now.config past c.args.self.now _ s refl refl (let a = c.in_ok-push.ensures.items in let b = c.in_ok-count_live.ensures in rw b at a) refl,
+      stands_start c.args.job.now.config past c.args.self.now _ s refl refl refl (c.in_ok-push.ensures.items ∙ ap (λ (n : ℕ). c.args.self.now.live.items ++ n ∷ []) (c.in_ok-count_live.ensures ∙ ap (λ (w : Width). live_blocks w c.args.self.now.graph.graph) s.width)) refl,
     )
 
 pub returns-then-is_done : goal.returns-then-is_done
