@@ -1,5 +1,5 @@
 -- What stands after an item that was followed.
-use Rattle.std.proofs.Common.{◌≡◌, ◌≢◌, ℕ, suc, ◌+◌, ◌-◌, ◌*◌, ◌^◌, ◌<◌, ◌≤◌, inl, inr, Bool, true, false, max, cond, List, [], ◌∷◌, ◌++◌, length, set, take, drop, drop-cons, slice_index_or, get_or, sym, refl, ap, ◌∙◌, subst, append-nil, length-append, length-set, eq-eqb, ne_eqb, arith}
+use Rattle.std.proofs.Common.{◌≡◌, ◌≢◌, ℕ, suc, ◌+◌, ◌^◌, ◌<◌, ◌≤◌, inl, inr, Bool, true, false, cond, List, [], ◌∷◌, ◌++◌, length, set, take, drop, drop-cons, get_or, sym, refl, ap, ◌∙◌, subst, append-nil, length-append, length-set, eq-eqb, ne_eqb, arith}
 use Rattle.std.specs.Str.{bytes_eq}
 use Rattle.std.proofs.Math.Seq.{take-append_seam}
 use Rattle.std.proofs.lemmas.Slice.Eq.{bytes_eq-Decides}
@@ -10,10 +10,9 @@ use Rattle.never_heap.specs.declared.Command.{Command}
 use Rattle.never_heap.specs.declared.Entry.{Entry}
 use Rattle.never_heap.specs.Cycles.{graph_at}
 use Rattle.never_heap.specs.Graphs.{Graph, start_graph, count_of}
-use Rattle.never_heap.specs.Histories.{HistoryItem, Started, Did, is_full, after, part, replay, starts_in, work_in}
+use Rattle.never_heap.specs.Histories.{HistoryItem, Started, Did, is_full, after, part, starts_in}
 use Rattle.never_heap.specs.LiveBlocks.{live_blocks}
 use Rattle.never_heap.specs.Steps.{step}
-use Rattle.never_heap.proofs.Coming.{no_end}
 use Rattle.never_heap.proofs.Cycling.{graph_at_more, graph_at_next}
 use Rattle.never_heap.proofs.Growing.{replay_more, part_append, starts_append, work_append}
 use Rattle.never_heap.proofs.Starting.{threads_of_start, count_of_start}

@@ -1,14 +1,14 @@
 -- The lines that are good to the end are those of a run in order.
-use Rattle.std.proofs.Common.{◌≡◌, ◌≢◌, ℕ, ◌+◌, ◌⊎◌, inl, inr, ◌↔◌, List, [], ◌∷◌, ◌++◌, length, slice_index_or, sym, refl, ap, ◌∙◌, subst, append_assoc, append-nil, arith}
+use Rattle.std.proofs.Common.{◌≡◌, ◌≢◌, ℕ, ◌+◌, inl, inr, ◌↔◌, List, [], ◌∷◌, ◌++◌, sym, refl, ap, ◌∙◌, subst, append_assoc, append-nil, arith}
 use Rattle.block_store.specs.declared.Config.{Config}
 use Rattle.never_heap.specs.declared.Command.{Command}
 use Rattle.never_heap.specs.Coming.{left_of, AllMayCome}
 use Rattle.never_heap.specs.Histories.{HistoryItem, Started, Did, starts_in}
 use Rattle.never_heap.specs.Runs.{IsRun}
-use Rattle.never_heap.proofs.Coming.{no_end, all_come, begun, none_left, made}
+use Rattle.never_heap.proofs.Coming.{all_come, begun, none_left, made}
 use Rattle.never_heap.proofs.Growing.{starts_append}
 use Rattle.trace_text.specs.Orders.{item_text, end_text, lines_from, order_lines}
-use Rattle.rt_check.specs.Good.{IsGood, IsLast, AreGood}
+use Rattle.rt_check.specs.Good.{AreGood}
 
 -- the lines of an item and those behind it
 one_line : (s : ℕ) (i : HistoryItem) (h : List HistoryItem)

@@ -1,6 +1,5 @@
 -- Which lines are good or bad, by what the follower looks at.
-use Rattle.std.proofs.Common.{◌≡◌, ◌≢◌, ℕ, zero, suc, ◌+◌, ◌-◌, ◌*◌, ◌^◌, ◌<◌, ◌≤◌, ◌⊎◌, inl, inr, Bool, true, false, max, cond, List, [], ◌∷◌, ◌++◌, length, set, drop, slice_index_or, get_or, codes, decimal, Option, Some, None, sym, refl, ap, ◌∙◌, subst, arith}
-use Rattle.std.proofs.lemmas.Bool.{cases_lt, both_ways}
+use Rattle.std.proofs.Common.{◌≡◌, ◌≢◌, ℕ, zero, suc, ◌-◌, ◌*◌, ◌^◌, ◌<◌, ◌≤◌, inl, inr, Bool, true, false, max, cond, List, [], ◌∷◌, ◌++◌, length, drop, get_or, Some, None, sym, refl, ap, ◌∙◌, subst, arith}
 use Rattle.std.proofs.lemmas.Nat.{mul-le}
 use Rattle.std.specs.List.{AllByRecursion}
 use Rattle.block_store.specs.declared.Config.{Config}
@@ -11,10 +10,10 @@ use Rattle.never_heap.specs.declared.Reply.{Reply}
 use Rattle.never_heap.specs.declared.Reply.TheVariants as replies
 use Rattle.never_heap.specs.Bounds.{IsCommandInBounds}
 use Rattle.never_heap.specs.Jobs.{IsTraceInBounds}
-use Rattle.never_heap.specs.Coming.{left_of, MayCome}
+use Rattle.never_heap.specs.Coming.{left_of}
 use Rattle.never_heap.specs.Cycles.{graph_at}
-use Rattle.never_heap.specs.Graphs.{Graph, WideGraph}
-use Rattle.never_heap.specs.Histories.{HistoryItem, Started, Did, is_full, after, part, replay, starts_in}
+use Rattle.never_heap.specs.Graphs.{WideGraph}
+use Rattle.never_heap.specs.Histories.{HistoryItem, Started, Did, is_full, after, replay, starts_in}
 use Rattle.never_heap.specs.Licensed.{IsLicensedReply}
 use Rattle.never_heap.specs.LiveBlocks.{live_blocks}
 use Rattle.never_heap.specs.RightWork.{units_owed}
@@ -26,7 +25,7 @@ use Rattle.rt_check.specs.declared.follower.Follower.{Follower}
 use Rattle.rt_check.specs.Good.{IsGood, IsLast, IsBad}
 use Rattle.rt_check.specs.Standing.{Stands, HasNext, Begins, Counted, IsFullHere, entry_here, graph_here, rest_of}
 use Rattle.rt_check.proofs.Telling.{begins_one, begins_as, end_begins, full_cycle, Allows, stepped, filled, same_entry, thread_low, candidate, thread_of, no_entry, no_start}
-use Rattle.rt_check.proofs.Followed.{stands_start, stands_entry}
+use Rattle.rt_check.proofs.Followed.{stands_entry}
 
 -- ---- what a job holds
 
@@ -274,7 +273,7 @@ module _ (job : Job) (rate : ℕ) (past : List HistoryItem) (f : Follower) (line
     none_taken begins full_no step_no = command_bad job.config rate job.traces past line t command next.0 left few begins
         (λ text. step_no (text ∙ ap entry_text (sym step_entry)))
         (λ makes allows text. full_no (subst (λ (k : Command). makes_object k ≡ true) (sym told) makes, subst (λ (n : ℕ). job.config.live < n) (sym live_is) allows)
-          (text ∙ ap entry_text (sym full_entry)))
+        (text ∙ ap entry_text (sym full_entry)))
 
 -- the work of an entry, over a configuration that is the job's
 pub work_is : (k c : Config) (rate n blocks : ℕ) (command : Command) → k ≡ c → n ≡ blocks → blocks ≡ blocks_of k.width command

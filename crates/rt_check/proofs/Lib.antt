@@ -4,3 +4,5 @@ pub mod Followed
 pub mod Judging
 pub mod Parting
 pub mod Following
+pub mod OneAnswer
+pub mod Causes

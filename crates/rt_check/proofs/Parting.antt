@@ -1,12 +1,12 @@
 -- Where an input is parted.
-use Rattle.std.proofs.Common.{◌≡◌, ℕ, zero, suc, ◌+◌, ◌-◌, ◌<◌, ◌≤◌, inl, inr, Bool, true, false, cond, List, [], ◌∷◌, length, take, drop, codes, Option, Some, None, sym, refl, ap, ◌∙◌, subst, length-drop, arith}
+use Rattle.std.proofs.Common.{◌≡◌, ℕ, ◌+◌, ◌-◌, inl, inr, Bool, true, false, cond, List, [], ◌∷◌, length, take, drop, codes, Some, None, sym, refl, ap, ◌∙◌, length-drop, arith}
 use Rattle.std.specs.Str.{bytes_eq}
 use Rattle.std.proofs.lemmas.Bool.{cases_lt}
 use Rattle.std.proofs.lemmas.List.{drop_all, drop-drop, take_all}
 use Rattle.std.proofs.lemmas.Option.{same_Some}
 use Rattle.trace_text.specs.Lines.{lines_of}
 use Rattle.trace_text.specs.Reading.{parted}
-use Rattle.rt_check.specs.Inputs.{job_length, job_part, order_part}
+use Rattle.rt_check.specs.Inputs.{job_length, order_part}
 
 -- the bytes that are left stand behind lines of which none is `end`
 pub record Passed (input rest : List ℕ) : Type 0 where
@@ -44,7 +44,7 @@ module _ (input rest line after : List ℕ) (p : Passed input rest) (lines : par
   pub ended : bytes_eq line (codes "end") ≡ true → after ≡ order_part input
   ended is =
       let last : job_length (lines_of rest) ≡ length line + 1 =
-          ap job_length first_is ∙ ap (λ (b : Bool). cond b (length line + 1) ((length line + 1) + job_length (lines_of after))) is in
+      ap job_length first_is ∙ ap (λ (b : Bool). cond b (length line + 1) ((length line + 1) + job_length (lines_of after))) is in
       behind ∙ ap (λ (n : ℕ). drop n input) (let was = p.count in let e : p.bytes + (length line + 1) ≡ job_length (lines_of input) = omega arith in e)
 
 pub never_ended : (input rest : List ℕ) → Passed input rest → parted (lines_of rest) ≡ None → rest ≡ order_part input
@@ -57,7 +57,7 @@ pub parts : (input : List ℕ) (n : ℕ) → (take (length input - length (drop 
 parts input n = elim (cases_lt n (length input)) [
   | inl l ↦ (let e : length input - length (drop n input) ≡ n = omega (arith, length-drop n input) in (ap (λ (k : ℕ). take k input) e, ap (λ (k : ℕ). drop k input) e))
   | inr l ↦ (let e : length input - length (drop n input) ≡ length input = omega (arith, length-drop n input) in (
-      ap (λ (k : ℕ). take k input) e ∙ take_all (length input) input (omega arith) ∙ sym (take_all n input l),
-      ap (λ (k : ℕ). drop k input) e ∙ drop_all (length input) input (omega arith) ∙ sym (drop_all n input l),
-    ))
+    ap (λ (k : ℕ). take k input) e ∙ take_all (length input) input (omega arith) ∙ sym (take_all n input l),
+    ap (λ (k : ℕ). drop k input) e ∙ drop_all (length input) input (omega arith) ∙ sym (drop_all n input l),
+  ))
 ]

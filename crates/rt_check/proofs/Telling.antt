@@ -1,5 +1,5 @@
 -- A line tells its item.
-use Rattle.std.proofs.Common.{◌≡◌, ◌≢◌, ℕ, zero, suc, ◌+◌, ◌-◌, ◌*◌, ◌^◌, ◌<◌, ◌≤◌, ◌⊎◌, inl, inr, eqb, Bool, true, false, max, List, [], ◌∷◌, ◌++◌, length, drop, slice_index_or, get_or, codes, decimal, Option, Some, None, sym, refl, ap, ◌∙◌, subst, append-nil, arith}
+use Rattle.std.proofs.Common.{◌≡◌, ℕ, zero, suc, ◌+◌, ◌-◌, ◌^◌, ◌<◌, ◌≤◌, ◌⊎◌, inl, inr, eqb, true, false, max, List, [], ◌∷◌, ◌++◌, length, drop, get_or, codes, decimal, Option, Some, None, sym, refl, ap, ◌∙◌, subst, arith}
 use Rattle.std.specs.Str.Parse.{AllDigits}
 use Rattle.std.proofs.lemmas.Bool.{cases_lt}
 use Rattle.std.proofs.lemmas.Bool.Decides.{nat_tests}
@@ -8,13 +8,12 @@ use Rattle.std.proofs.lemmas.List.{append_cancel_left, get_or_past}
 use Rattle.std.proofs.lemmas.Option.{same_Some}
 use Rattle.std.proofs.lemmas.Str.Parse.{digit_from_value}
 use Rattle.block_store.specs.declared.Config.{Config}
-use Rattle.block_store.specs.declared.Name.{Name}
 use Rattle.never_heap.specs.declared.Command.{Command}
 use Rattle.never_heap.specs.declared.Command.TheVariants as commands
 use Rattle.never_heap.specs.declared.Entry.{Entry}
 use Rattle.never_heap.specs.declared.Reply.{Reply}
 use Rattle.never_heap.specs.declared.Reply.TheVariants as replies
-use Rattle.never_heap.specs.Coming.{left_of, IsNext, MayCome}
+use Rattle.never_heap.specs.Coming.{left_of}
 use Rattle.never_heap.specs.Graphs.{Graph, next_name}
 use Rattle.never_heap.specs.Cycles.{graph_at}
 use Rattle.never_heap.specs.Histories.{HistoryItem, Started, Did, is_full, part, replay, starts_in, work_in}

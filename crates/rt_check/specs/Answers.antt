@@ -58,17 +58,23 @@ abbrev pub refusal_of_plan : PlanFault → Refusal
 refusal_of_plan plans.LiveTooSmall = LiveTooSmall
 refusal_of_plan plans.NoRate = NoRate
 
--- the answer that bytes have, by what they are
+-- the answer that an order has whose job this is
+abbrev pub IsAnswerOf : List ℕ → Job → Option Refusal → Type 0
+IsAnswerOf bytes job None = IsOrderOf bytes job
+IsAnswerOf bytes job (Some Usage) = ⊥
+IsAnswerOf bytes job (Some TooLong) = ⊥
+IsAnswerOf bytes job (Some (BadLine line why)) = ⊥
+IsAnswerOf bytes job (Some LiveTooSmall) = IsRefusal job.config plans.LiveTooSmall
+IsAnswerOf bytes job (Some NoRate) = IsRefusal job.config plans.NoRate
+IsAnswerOf bytes job (Some ReadFault) = ⊥
+IsAnswerOf bytes job (Some OutOfMemory) = ⊥
+IsAnswerOf bytes job (Some (BadOrder n)) = IsBadAt bytes job n
+
+-- the answer that bytes have
 abbrev pub IsAnswerTo : List ℕ → Option Refusal → Type 0
-IsAnswerTo bytes None = (job : Job) × HasJob bytes job × IsOrderOf bytes job
-IsAnswerTo bytes (Some Usage) = ⊥
 IsAnswerTo bytes (Some TooLong) = IsTooLong bytes
 IsAnswerTo bytes (Some (BadLine line why)) = HasBadLine bytes line why
-IsAnswerTo bytes (Some LiveTooSmall) = (job : Job) × HasJob bytes job × IsRefusal job.config plans.LiveTooSmall
-IsAnswerTo bytes (Some NoRate) = (job : Job) × HasJob bytes job × IsRefusal job.config plans.NoRate
-IsAnswerTo bytes (Some ReadFault) = ⊥
-IsAnswerTo bytes (Some OutOfMemory) = ⊥
-IsAnswerTo bytes (Some (BadOrder n)) = (job : Job) × HasJob bytes job × IsBadAt bytes job n
+IsAnswerTo bytes a = (job : Job) × HasJob bytes job × IsAnswerOf bytes job a
 
 -- the source was read to its end, or to the first byte too many
 abbrev pub IsReadThrough : List ℕ → Option (List ℕ) → Type 0
@@ -80,27 +86,22 @@ IsReadThrough bytes left_now =
 abbrev pub IsAnswered : Option Refusal → Option (List ℕ) → Option (List ℕ) → Type 0
 IsAnswered a left left_now = IfSome left (λ bytes. IsAnswerTo bytes a × IsReadThrough bytes left_now)
 
--- what caused an answer, by what the source had left and its count of faults before and now
-abbrev pub IsCause : Option (List ℕ) → Option (List ℕ) → ℕ → ℕ → Option Refusal → Type 0
-IsCause left left_now before now (Some Usage) = (left_now ≡ left) × (now ≡ before)
-IsCause left left_now before now (Some ReadFault) = Rose before now
-IsCause left left_now before now (Some OutOfMemory) =
-    TookAtMost (check_limit + 1) left left_now × (now ≡ before)
-IsCause left left_now before now a = IsAnswered a left left_now × (now ≡ before)
+-- what caused an answer, by the words, and by what the source had left and its count of faults before and now
+abbrev pub IsCause : List (List ℕ) → Option (List ℕ) → Option (List ℕ) → ℕ → ℕ → Option Refusal → Type 0
+IsCause words left left_now before now (Some Usage) = (words ≢ []) × (left_now ≡ left) × (now ≡ before)
+IsCause words left left_now before now (Some ReadFault) = (words ≡ []) × Rose before now
+IsCause words left left_now before now (Some OutOfMemory) =
+    (words ≡ []) × TookAtMost (check_limit + 1) left left_now × (now ≡ before)
+IsCause words left left_now before now a =
+    (words ≡ []) × IsAnswered a left left_now × (now ≡ before)
 
--- with words the answer is the usage, and it is with words alone
-abbrev pub IsByWords : List (List ℕ) → Option Refusal → Type 0
-IsByWords words (Some Usage) = words ≢ []
-IsByWords words a = words ≡ []
-
--- A call's answer: by the words, with its cause, and its line was appended, or a front of it.
+-- A call's answer: it has its cause, and its line was appended, or a front of it.
 pub record IsAnswer
     (words : List (List ℕ)) (left left_now held held_now : Option (List ℕ))
     (before now status due : ℕ) : Type 0 where
   pub answer : Option Refusal
   pub is_due : due ≡ status_of answer
-  pub by_words : IsByWords words answer
-  pub cause : IsCause left left_now before now answer
+  pub cause : IsCause words left left_now before now answer
   pub line : status ≢ 6 → Appends held held_now (answer_line answer)
   pub front : status ≡ 6 → AppendsFront held held_now (answer_line answer)
 

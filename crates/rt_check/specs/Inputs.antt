@@ -3,7 +3,7 @@ use Rattle.std.specs.Prelude.{ℕ, ◌+◌, ◌≤◌, ◌<◌, ◌≡◌, ◌�
 use Rattle.std.specs.Str.{bytes_eq}
 use Rattle.never_heap.specs.Histories.{HistoryItem}
 use Rattle.never_heap.specs.Runs.{IsRun}
-use Rattle.rate_plan.specs.Rates.{IsRate}
+use Rattle.rate_plan.specs.Rates.{IsAdmitted, IsRate}
 use Rattle.trace_text.specs.declared.trace_faults.Why.{Why}
 use Rattle.trace_text.specs.Jobs.{Job, IsJob, input_limit}
 use Rattle.trace_text.specs.Lines.{lines_of}
@@ -47,16 +47,18 @@ pub record HasJob (bytes : List ℕ) (job : Job) : Type 0 where
   pub short : IsShort bytes
   pub is_job : IsJob (job_part bytes) job
 
--- the lines of the order are the text in order of a run of the job
+-- the job has a rate, and the lines of the order are the text in order of a run of it
 pub record IsOrderOf (bytes : List ℕ) (job : Job) : Type 0 where
+  pub admitted : IsAdmitted job.config
   pub rate : ℕ
   pub is_rate : IsRate job.config rate
   pub history : List HistoryItem
   pub is_run : IsRun job.config rate job.traces history
   pub lines : lines_of (order_part bytes) ≡ order_lines history
 
--- the order's n-th line is the first that is not good
+-- the job has a rate, and the order's n-th line is the first that is not good
 pub record IsBadAt (bytes : List ℕ) (job : Job) (n : ℕ) : Type 0 where
+  pub admitted : IsAdmitted job.config
   pub rate : ℕ
   pub is_rate : IsRate job.config rate
   pub first_bad : FirstBad job.config rate job.traces [] (lines_of (order_part bytes)) n

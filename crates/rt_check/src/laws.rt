@@ -1,11 +1,13 @@
 //! Laws of the definitions.
 
-ghost use Rattle.std.specs.Prelude.{◌≡◌, ◌≤◌, ◌↔◌, ℕ, List, [], length};
+ghost use Rattle.std.specs.Prelude.{◌≡◌, ◌≤◌, ◌↔◌, ℕ, List, [], length, Option};
 ghost use Rattle.block_store.specs.declared.Config.{Config};
 ghost use Rattle.never_heap.specs.declared.Command.{Command};
 ghost use Rattle.never_heap.specs.Histories.{HistoryItem};
 ghost use Rattle.never_heap.specs.Runs.{IsRun};
 ghost use Rattle.trace_text.specs.Orders.{order_lines};
+ghost use Rattle.rt_check.specs.declared.refusal.Refusal.{Refusal};
+ghost use Rattle.rt_check.specs.Answers.{IsAnswerTo};
 ghost use Rattle.rt_check.specs.Good.{IsGood, AreGood, FirstBad};
 
 /// The lines that are good to the end are those of a run in order. With at most 16 threads, as a job
@@ -22,4 +24,10 @@ pub fn good_orders_are_runs()
         → length traces ≤ 16 → AreGood c rate traces [] lines → FirstBad c rate traces [] lines n → ⊥ }
     ensures first { (c : Config) (rate : ℕ) (traces : List (List Command)) (lines : List (List ℕ)) (m n : ℕ)
         → length traces ≤ 16 → FirstBad c rate traces [] lines m → FirstBad c rate traces [] lines n → m ≡ n }
+{}
+
+/// Bytes have one answer at most.
+pub fn answers_are_one()
+    ensures { (bytes : List ℕ) (a b : Option Refusal)
+        → IsAnswerTo bytes a → IsAnswerTo bytes b → a ≡ b }
 {}

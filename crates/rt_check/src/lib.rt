@@ -8,6 +8,6 @@ mod lines;
 mod refusal;
 mod top;
 
-pub use laws::good_orders_are_runs;
+pub use laws::{answers_are_one, good_orders_are_runs};
 pub use refusal::Refusal;
 pub use top::{CheckExit, check};

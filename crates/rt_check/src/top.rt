@@ -7,13 +7,13 @@ ghost use Rattle.trace_text.specs.Jobs.{Job};
 ghost use Rattle.trace_text.specs.declared.trace_faults.Why as whys;
 ghost use Rattle.trace_text.specs.Faults.{Rose};
 ghost use Rattle.trace_text.specs.Streams.{Appends, AppendsFront};
-ghost use Rattle.rt_check.specs.Answers.{IsAnswer, IsAnswerTo, IsCause, IsByWords, IsDue, IsDueOrFails, answer_line, status_of, IsJudged, refused_by};
+ghost use Rattle.rt_check.specs.Answers.{IsAnswer, IsAnswerTo, IsCause, IsDue, IsDueOrFails, answer_line, status_of, IsJudged, refused_by};
 ghost use Rattle.rt_check.specs.Inputs.{IsTooLong, HasBadLine, HasJob, IsOrderOf, IsBadAt};
 
 use crate::input::parted;
 use crate::lines::first_bad;
 use crate::refusal::{Refusal, line_of, status_of};
-use rate_plan::plan;
+use rate_plan::{one_rate, plan};
 use std::alloc::Global;
 use trace_text::{INPUT_LIMIT, Sink, Source, input_of, job_of};
 
@@ -58,16 +58,24 @@ pub fn check<S: Source, K: Sink>(
     ensures complete { map (λ w. string_bytes w) words.now ≡ []
         → IfSome (S.left source.old) (λ bytes. (a : Option Refusal) → IsAnswerTo bytes a → IsDueOrFails (status_of a) result.due) }
 {
-    let answer = match words {
-        [] => judged(alloc, source).err(),
-        _ => Some(Refusal::Usage),
-    };
+    let answer = answer_of(alloc, words, source);
     told(answer, sink)
+}
+
+/// The answer: why the order is not accepted, if it is not.
+fn answer_of<S: Source>(alloc: Global, words: &[String], source: &mut S) -> Option<Refusal>
+    ensures { IsCause (map (λ w. string_bytes w) words.now) (S.left source.old) (S.left source.new)
+        (S.faults source.old) (S.faults source.new) result }
+{
+    if !words.is_empty() {
+        return Some(Refusal::Usage);
+    }
+    judged(alloc, source).err()
 }
 
 /// Reads the input and looks at it.
 fn judged<S: Source>(alloc: Global, source: &mut S) -> Result<(), Refusal>
-    ensures { IsCause (S.left source.old) (S.left source.new) (S.faults source.old) (S.faults source.new) (refused_by result) }
+    ensures { IsCause [] (S.left source.old) (S.left source.new) (S.faults source.old) (S.faults source.new) (refused_by result) }
 {
     let input = input_of(alloc, source, CHECK_LIMIT)?;
     if input.len() > CHECK_LIMIT {
@@ -87,6 +95,7 @@ fn judged_bytes(alloc: Global, input: &[u8]) -> Result<(), Refusal>
     }
     let job = job_of(alloc, job)?;
     let rate = plan(&job.config)?;
+    one_rate();
     match first_bad(alloc, &job, rate, order)? {
         None => Ok(()),
         Some(line) => Err(Refusal::BadOrder { line }),

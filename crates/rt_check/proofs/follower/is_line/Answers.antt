@@ -1,4 +1,4 @@
-use Rattle.std.proofs.Common.{◌∙◌, sym, ap, length}
+use Rattle.std.proofs.Common.{◌∙◌}
 use Rattle.rt_check.proofs.Followed.{line_is}
 use Rattle.rt_check.proofs.follower.is_line.Goals as goal
 

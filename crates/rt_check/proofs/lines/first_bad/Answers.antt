@@ -1,4 +1,4 @@
-use Rattle.std.proofs.Common.{◌∙◌, ap, sym, subst, arith}
+use Rattle.std.proofs.Common.{subst, arith}
 use Rattle.trace_text.specs.Lines.{lines_of}
 use Rattle.rt_check.specs.declared.follower.Verdict.{Verdict}
 use Rattle.rt_check.specs.Standing.{Says}
