@@ -74,11 +74,11 @@ module _ (c : Config) (rate : ℕ) (traces : List (List Command)) where
   pub walk_all : (Inv : List HistoryItem → Type 0)
       → ((past : List HistoryItem) → Inv past → live_blocks c.width (replay c past) ≤ c.live)
       → ((past : List HistoryItem) (i : HistoryItem)
-          → MayCome c rate traces past i → IsNoFull i → Inv past → Inv (past ++ i ∷ []))
+      → MayCome c rate traces past i → IsNoFull i → Inv past → Inv (past ++ i ∷ []))
       → (h : List HistoryItem) → Inv [] → IsRun c rate traces h → Inv h × NoFulls h
   walk_all Inv within step h inv run =
       let Both : List HistoryItem → Type 0 = λ past. Inv past × StartsSmall c past in
       let both = walk Both (λ past b. within past b.0)
-        (λ past i may no b. (step past i may no b.0, small_more past i (within past b.0) b.1))
-        h (inv, no_starts) run in
+      (λ past i may no b. (step past i may no b.0, small_more past i (within past b.0) b.1))
+      h (inv, no_starts) run in
       (both.0, none_full c h run.legal run.licensed both.1)

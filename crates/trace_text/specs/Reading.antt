@@ -40,7 +40,7 @@ digits_on n (b ∷ bs) = if is_digit b then digits_on (10 * n + (b - 48)) bs els
 unfoldable pub number_at : List ℕ → Option ℕ
 number_at piece =
     if length piece == 0 || nat_lt 19 (length piece)
-      || (nat_lt 1 (length piece) && slice_index piece 0 == 48)
+    || (nat_lt 1 (length piece) && slice_index piece 0 == 48)
     then None else digits_on 0 piece
 
 -- that no piece is left

@@ -140,9 +140,11 @@ word_fault c b (Some word) pieces =
     ∷ (list_any (λ piece. not (is_number piece)) pieces, whys.Number)
     ∷ (is_out_of_turn c b word numbers, whys.Order)
     ∷ (any_operand is_high_register (operands word) numbers, whys.Register)
-    ∷ (any_operand (is_too_large c) (operands word) numbers
-        || (is_command word && nat_le 131072 b.commands),
-      whys.Size)
+    ∷ (
+      any_operand (is_too_large c) (operands word) numbers
+          || (is_command word && nat_le 131072 b.commands),
+      whys.Size,
+    )
     ∷ [])
 
 -- what is wrong with a line behind the header

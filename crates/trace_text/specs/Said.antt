@@ -76,18 +76,18 @@ on_three ns line = Err whys.Count
 unfoldable pub told_at : Place → Word → List ℕ → Result Line Why
 told_at p words.Thread ns =
     on_one ns (λ t.
-      if not (t == p.threads) || p.threads == p.config.threads
-      then Err whys.Order else Ok (Thread t))
+    if not (t == p.threads) || p.threads == p.config.threads
+    then Err whys.Order else Ok (Thread t))
 told_at p words.End ns =
     on_none ns (if not (p.threads == p.config.threads) then Err whys.Order else Ok End)
 told_at p words.New ns =
     on_two ns (λ d f. checked (nat_lt 15 d)
-      (p.full || nat_lt 65535 f || nat_lt p.config.object (record_blocks p.config.width f))
-      (Told (commands.New d f)))
+    (p.full || nat_lt 65535 f || nat_lt p.config.object (record_blocks p.config.width f))
+    (Told (commands.New d f)))
 told_at p words.Arr ns =
     on_two ns (λ d e. checked (nat_lt 15 d)
-      (p.full || nat_lt 65535 e || nat_lt p.config.object (array_blocks p.config.width e))
-      (Told (commands.Arr d e)))
+    (p.full || nat_lt 65535 e || nat_lt p.config.object (array_blocks p.config.width e))
+    (Told (commands.Arr d e)))
 told_at p words.Set ns =
     on_two ns (λ d v. checked (nat_lt 15 d) (p.full || nat_le (2 ^ 62) v) (Told (commands.Set d v)))
 told_at p words.Nil ns =
@@ -96,10 +96,10 @@ told_at p words.Mov ns =
     on_two ns (λ d s. checked (nat_lt 15 d || nat_lt 15 s) p.full (Told (commands.Mov d s)))
 told_at p words.Get ns =
     on_three ns (λ d s i. checked (nat_lt 15 d || nat_lt 15 s)
-      (p.full || nat_le (2 ^ 62) i) (Told (commands.Get d s i)))
+    (p.full || nat_le (2 ^ 62) i) (Told (commands.Get d s i)))
 told_at p words.Put ns =
     on_three ns (λ s i v. checked (nat_lt 15 s || nat_lt 15 v)
-      (p.full || nat_le (2 ^ 62) i) (Told (commands.Put s i v)))
+    (p.full || nat_le (2 ^ 62) i) (Told (commands.Put s i v)))
 told_at p words.Len ns =
     on_one ns (λ s. checked (nat_lt 15 s) p.full (Told (commands.Len s)))
 told_at p words.Same ns =

@@ -45,7 +45,12 @@ impl MemSink {
     /// The calls whose numbers, from 0, stand in `fail` fail.
     pub fn new(alloc: Global, room: usize, fail: Vec<u64>) -> Result<MemSink, OutOfMemory>
         ensures { IfOk result (λ sink. sink ≡ record {
-            held = []; room = room; fail = fail.items; calls = 0; faults = 0 }) }
+          held = [];
+          room = room;
+          fail = fail.items;
+          calls = 0;
+          faults = 0;
+        }) }
     {
         let bytes = Vec::with_capacity(alloc, room)?;
         Ok(MemSink {

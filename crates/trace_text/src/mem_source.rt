@@ -45,7 +45,12 @@ impl MemSource {
     pub fn new(bytes: Vec<u8>, most: usize, fail: Vec<u64>) -> MemSource
         requires { 1 ≤ most }
         ensures { result ≡ record {
-            left = bytes.items; most = most; fail = fail.items; calls = 0; faults = 0 } }
+          left = bytes.items;
+          most = most;
+          fail = fail.items;
+          calls = 0;
+          faults = 0;
+        } }
     {
         MemSource {
             bytes,

@@ -45,8 +45,7 @@ fn expect_job(rt: &impl Abort, job: &Job, trace: &[Command]) {
 
 #[test]
 fn a_job_is_read_in_any_pieces(rt: HostRuntime) -> Result<(), Fail> {
-    let text =
-        b"rtheap 1 threads 1 blocks 64 live 20 object 2 shared 0
+    let text = b"rtheap 1 threads 1 blocks 64 live 20 object 2 shared 0
 thread 0
 new 1 2
 put 1 1 1
@@ -101,8 +100,7 @@ fn expect_fault(
 
 #[test]
 fn all_commands_of_two_threads_are_read(rt: HostRuntime) -> Result<(), Fail> {
-    let text =
-        b"rtheap 1 threads 2 blocks 64 live 20 object 2 shared 4
+    let text = b"rtheap 1 threads 2 blocks 64 live 20 object 2 shared 4
 thread 0
 new 1 6
 arr 15 4
@@ -183,8 +181,7 @@ fn a_thread_has_so_many_commands(rt: HostRuntime) -> Result<(), Fail> {
 
 #[test]
 fn a_job_of_wide_blocks_is_read_and_written(rt: HostRuntime) -> Result<(), Fail> {
-    let text =
-        b"rtheap 2 threads 1 blocks 64 live 20 object 2 shared 0
+    let text = b"rtheap 2 threads 1 blocks 64 live 20 object 2 shared 0
 thread 0
 new 1 14
 arr 2 8
@@ -211,8 +208,7 @@ end
 
 #[test]
 fn four_threads_are_read(rt: HostRuntime) -> Result<(), Fail> {
-    let text =
-        b"rtheap 1 threads 4 blocks 4096 live 2000 object 16 shared 16
+    let text = b"rtheap 1 threads 4 blocks 4096 live 2000 object 16 shared 16
 thread 0
 thread 1
 len 0
