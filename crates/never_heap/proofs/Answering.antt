@@ -43,7 +43,7 @@ step_not_full g t (commands.Put s i v) = field_not_full g (register_of g t s) i 
 step_not_full g t (commands.Len s) = object_not_full g (register_of g t s) _ (λ a. refl)
 step_not_full g t (commands.Same a b) =
     elim (same_value (register_of g t a) (register_of g t b)) as
-        (λ k. is_full (cond k replies.Yes replies.No) ≡ false) [ true ↦ refl | false ↦ refl ]
+    (λ k. is_full (cond k replies.Yes replies.No) ≡ false) [ true ↦ refl | false ↦ refl ]
 step_not_full g t (commands.Say s) = refl
 
 -- a command that makes an object has a block at least, and any other has none

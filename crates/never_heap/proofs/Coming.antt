@@ -44,9 +44,9 @@ begins_entry p e trace rest next was =
     let long : length (p ++ e ∷ []) ≡ suc (length p) = length-append p (e ∷ []) ∙ omega arith in
     (λ i. map-append f p (e ∷ []) i ++ drop (long i) trace)
     ∙ ap (λ (l : List Command). (map f p ++ e.command ∷ []) ++ l)
-        (drop_one (length p) trace e.command rest next)
+    (drop_one (length p) trace e.command rest next)
     ∙ append_assoc (map f p) (e.command ∷ []) rest
-        ∙ ap (λ (l : List Command). map f p ++ l) (sym next) ∙ was
+    ∙ ap (λ (l : List Command). map f p ++ l) (sym next) ∙ was
 
 part_entry : (t : ℕ) (e : Entry) → e.thread ≡ t → part t (Did e ∷ []) ≡ e ∷ []
 part_entry t e is = rw (eq-eqb e.thread t is)
@@ -62,7 +62,7 @@ begin_more traces past Started next was t =
 begin_more traces past (Did e) next was t = elim (cases_eq e.thread t) [
   | inl is ↦ subst (λ (p : List Entry). Begins p (slice_index_or traces t []))
       (sym (part_append t past (Did e ∷ [])
-          ∙ ap (λ (l : List Entry). part t past ++ l) (part_entry t e is)))
+      ∙ ap (λ (l : List Entry). part t past ++ l) (part_entry t e is)))
       (begins_entry (part t past) e (slice_index_or traces t []) next.0
       (subst (λ (u : ℕ). left_of traces past u ≡ e.command ∷ next.0) is next.1) (was t))
   | inr ne ↦ subst (λ (p : List Entry). Begins p (slice_index_or traces t []))
@@ -94,7 +94,7 @@ next_is traces past (Did e) h whole =
     part_append t past (Did e ∷ h)
     ∙ ap (λ (l : List Entry). part t past ++ l)
     (part_append t (Did e ∷ []) h
-        ∙ ap (λ (l : List Entry). l ++ part t h) (part_entry t e refl)) in (
+    ∙ ap (λ (l : List Entry). l ++ part t h) (part_entry t e refl)) in (
       rest,
       left_is (part t past) (slice_index_or traces t []) (e.command ∷ rest)
           (sym (map-append f (part t past) (e ∷ part t h)) ∙ ap (map f) (sym parts) ∙ whole t),
@@ -163,7 +163,7 @@ module _ (c : Config) (rate : ℕ) (traces : List (List Command)) where
   pub none_left : (h : List HistoryItem) (t : ℕ) → IsRun c rate traces h → left_of traces h t ≡ []
   none_left h t run =
       left_is (part t h) (slice_index_or traces t []) []
-          (append-nil (commands_in t h) ∙ run.traces_whole t)
+      (append-nil (commands_in t h) ∙ run.traces_whole t)
 
   -- ---- and items that may come in turn, to the end of all traces, are a run
 
@@ -184,8 +184,10 @@ module _ (c : Config) (rate : ℕ) (traces : List (List Command)) where
   goes past (i ∷ h) begins all =
       let rest = goes (past ++ i ∷ []) h (begin_more traces past i all.0.next begins) all.1 in
       record {
-        legal = (all.0.answered,
-            subst (λ (g : Graph). LegalFrom g h) (replay_more (start_graph c) past i) rest.legal);
+        legal = (
+          all.0.answered,
+          subst (λ (g : Graph). LegalFrom g h) (replay_more (start_graph c) past i) rest.legal,
+        );
         licensed = (all.0.licensed, rest.licensed);
         right_work = (all.0.right_work, rest.right_work);
         begins = subst (AllBegin traces) (append_assoc past (i ∷ []) h) rest.begins;

@@ -43,7 +43,7 @@ module _ (w : Name → ℕ) (s : Name) where
   none_here t (suc k) h =
       let before : sum_by at (thread_names t k) ≡ 0 = none_here t k (less h) in
       let last : at (record { thread = t; serial = k + 1 }) ≡ 0 =
-          other (record { thread = t; serial = k + 1 }) (apart t k (differs h)) in
+      other (record { thread = t; serial = k + 1 }) (apart t k (differs h)) in
       sum_by-append at (thread_names t k) (record { thread = t; serial = k + 1 } ∷ []) ∙ omega arith
     where
       less : (t ≢ s.thread) ⊎ ((suc k < s.serial) ⊎ (s.serial ≡ 0))
@@ -63,8 +63,8 @@ module _ (w : Name → ℕ) (s : Name) where
   once_here t zero = omega arith
   once_here t (suc k) =
       let sum : sum_by at (thread_names t (suc k))
-          ≡ sum_by at (thread_names t k) + (0 + at (record { thread = t; serial = k + 1 })) =
-          sum_by-append at (thread_names t k) (record { thread = t; serial = k + 1 } ∷ []) in
+      ≡ sum_by at (thread_names t k) + (0 + at (record { thread = t; serial = k + 1 })) =
+      sum_by-append at (thread_names t k) (record { thread = t; serial = k + 1 } ∷ []) in
       elim (cases_eq (k + 1) s.serial) [
         | inl e ↦ (let before = none_here t k (inr (inl (omega arith))) in
             let last = weight (record { thread = t; serial = k + 1 }) in omega arith)
@@ -91,8 +91,8 @@ module _ (w : Name → ℕ) (s : Name) where
       let before = once_below g t in
       let here = once_here t (count_of g t) in
       let sum : sum_by at (names_below g (suc t))
-          ≡ sum_by at (names_below g t) + sum_by at (thread_names t (count_of g t)) =
-          sum_by-append at (names_below g t) (thread_names t (count_of g t)) in (
+      ≡ sum_by at (names_below g t) + sum_by at (thread_names t (count_of g t)) =
+      sum_by-append at (names_below g t) (thread_names t (count_of g t)) in (
         elim (cases_eq s.serial 0) [
           | inl e ↦ (let none = none_here t (count_of g t) (inr (inr e)) in let low = before.0 in
               omega arith)
@@ -141,15 +141,15 @@ among_all w g (s ∷ ss) =
     both (x ∷ xs) =
         let rest = both xs in
         let here : among w (s ∷ ss) x ≤ at w s x + among w ss x =
-            either_le (same_name x s) (is_among ss x) (w x) in
+        either_le (same_name x s) (is_among ss x) (w x) in
         let a : sum_by (among w (s ∷ ss)) (x ∷ xs)
-            ≡ sum_by (among w (s ∷ ss)) xs + among w (s ∷ ss) x = one (among w (s ∷ ss)) x xs in
+        ≡ sum_by (among w (s ∷ ss)) xs + among w (s ∷ ss) x = one (among w (s ∷ ss)) x xs in
         let b : sum_by (at w s) (x ∷ xs) ≡ sum_by (at w s) xs + at w s x = one (at w s) x xs in
         let c : sum_by (among w ss) (x ∷ xs) ≡ sum_by (among w ss) xs + among w ss x =
-            one (among w ss) x xs in
+        one (among w ss) x xs in
         sums (sum_by (among w (s ∷ ss)) (x ∷ xs)) (sum_by (among w (s ∷ ss)) xs)
-            (among w (s ∷ ss) x) (sum_by (at w s) (x ∷ xs)) (sum_by (at w s) xs) (at w s x)
-            (sum_by (among w ss) (x ∷ xs)) (sum_by (among w ss) xs) (among w ss x) a b c here rest
+        (among w (s ∷ ss) x) (sum_by (at w s) (x ∷ xs)) (sum_by (at w s) xs) (at w s x)
+        (sum_by (among w ss) (x ∷ xs)) (sum_by (among w ss) xs) (among w ss x) a b c here rest
 
 imp_le : (b c : Bool) (n : ℕ) → (b ≡ true → c ≡ true) → cond b n 0 ≤ cond c n 0
 imp_le true c n f = subst (λ (d : Bool). n ≤ cond d n 0) (sym (f refl)) (omega arith)
@@ -157,12 +157,12 @@ imp_le false c n f = omega arith
 
 pub within : (w : Width) (g : Graph) (some : List Name) → IsClosed g (is_among some)
     → live_blocks w g ≤ registers_end w (length g.mutators) + sum_by
-        (λ (a : Name). object_blocks w (object_of g a)) some
+    (λ (a : Name). object_blocks w (object_of g a)) some
 unfolding live_blocks
 within w g some closed =
     let of : Name → ℕ = λ a. object_blocks w (object_of g a) in
     let low = sum_by-le-sum_by (live_of w g) (among of some) (names g)
     (λ a. imp_le (reachable g a) (is_among some a) (of a)
-        (reachable_within g (is_among some) a closed)) in
+    (reachable_within g (is_among some) a closed)) in
     let all = among_all of g some in
     omega arith

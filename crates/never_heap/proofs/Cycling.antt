@@ -27,9 +27,11 @@ right_work_more w rate h i r v = right_work_append w rate h (i ∷ []) r (v, tt)
 licensed_from : (c : Config) (past h : List HistoryItem) (i : HistoryItem) → LicensedFrom c past h
     → IsLicensedItem c (past ++ h) i → LicensedFrom c past (h ++ i ∷ [])
 licensed_from c past [] i l v = (subst (λ k. IsLicensedItem c k i) (append-nil past) v, tt)
-licensed_from c past (x ∷ h) i l v =
-    (l.0, licensed_from c (past ++ x ∷ []) h i l.1
-    (subst (λ k. IsLicensedItem c k i) (sym (append_assoc past (x ∷ []) h)) v))
+licensed_from c past (x ∷ h) i l v = (
+  l.0,
+  licensed_from c (past ++ x ∷ []) h i l.1
+      (subst (λ k. IsLicensedItem c k i) (sym (append_assoc past (x ∷ []) h)) v),
+)
 
 pub licensed_more : (c : Config) (h : List HistoryItem) (i : HistoryItem) → Licensed c h
     → IsLicensedItem c h i → Licensed c (h ++ i ∷ [])
@@ -95,8 +97,11 @@ starts_after : (c : ℕ) (h : List HistoryItem) → 1 ≤ c → c ≤ starts_in 
 starts_after c [] l m = absurd (omega arith)
 starts_after c (Started ∷ h) l m = elim (cases_eq c 1) [
   | inl e ↦ omega (arith, ap starts_in (after_this c h e))
-  | inr n ↦ omega (arith, ap starts_in (after_later c h n),
-      starts_after (c - 1) h (omega arith) (omega arith))
+  | inr n ↦ omega (
+    arith,
+    ap starts_in (after_later c h n),
+    starts_after (c - 1) h (omega arith) (omega arith),
+  )
 ]
 starts_after c (Did e ∷ h) l m = starts_after c h l m
 
@@ -115,7 +120,7 @@ pub given_past : (w : Width) (h k : List HistoryItem) (c : ℕ) → 1 ≤ c → 
 given_past w h k c l m =
     ap (λ t. taken_in w (before_start 1 t)) (after_more c h k l (omega arith))
     ∙ ap (taken_in w) (before_more 1 (after_start c h) k (omega arith)
-        (omega (arith, starts_after c h l (omega arith))))
+    (omega (arith, starts_after c h l (omega arith))))
 
 -- in the present cycle an entry gives the blocks that it took
 pub given_more : (w : Width) (h : List HistoryItem) (e : Entry) → 1 ≤ starts_in h
@@ -125,7 +130,7 @@ given_more w h e l =
     let rest : List HistoryItem = after_start c h in
     let none : starts_in rest ≡ 0 = omega (arith, starts_after c h l (omega arith)) in
     let last : starts_in (rest ++ Did e ∷ []) ≡ 0 =
-        omega (arith, starts_append rest (Did e ∷ [])) in
+    omega (arith, starts_append rest (Did e ∷ [])) in
     ap (λ t. taken_in w (before_start 1 t)) (after_more c h (Did e ∷ []) l (omega arith))
     ∙ ap (taken_in w) (before_none (rest ++ Did e ∷ []) last)
     ∙ taken_append w rest (Did e ∷ []) ∙ ap (λ n. taken_in w rest + n) (add-zero (taken_by w e))

@@ -51,13 +51,13 @@ module _ (g : Graph) (t : ℕ) (m : Mutator) (h : t < length g.mutators)
   pub object_with_mutator : (a : Name) → object_of (with_mutator g t m) a ≡ object_of g a
   object_with_mutator a =
       ap (λ n. object_from g.shared n (mutator_at (with_mutator g t m) a.thread).objects a)
-          (length-set g.mutators t m)
+      (length-set g.mutators t m)
       ∙ ap (λ os. object_from g.shared (length g.mutators) os a) (objects_with g t a.thread m h e)
 
   pub has_name_with_mutator : (a : Name) → has_name (with_mutator g t m) a ≡ has_name g a
   has_name_with_mutator a =
       ap (λ n. name_from n (length (mutator_at (with_mutator g t m) a.thread).objects) a)
-          (length-set g.mutators t m)
+      (length-set g.mutators t m)
       ∙ ap (λ os. name_from (length g.mutators) (length os) a) (objects_with g t a.thread m h e)
 
 -- registers after a register store
@@ -65,18 +65,20 @@ pub register_with_register : (g : Graph) (t r u q : ℕ) (v : Value) → t < len
     → r < length (mutator_at g t).registers
     → register_of (with_register g t r v) u q ≡ cond (eqb t u && eqb r q) v (register_of g u q)
 register_with_register g t r u q v h k =
-    let m : Mutator = record { registers = set (mutator_at g t).registers r v;
-        objects = (mutator_at g t).objects } in
+    let m : Mutator = record {
+      registers = set (mutator_at g t).registers r v;
+      objects = (mutator_at g t).objects;
+    } in
     elim (cases_eq t u) [
       | inl same ↦
           ap (λ (x : Mutator). get_or x.registers q Nil)
-              (mutator_with g t u m h ∙ ap (λ b. cond b m (mutator_at g u)) (eq-eqb t u same))
+          (mutator_with g t u m h ∙ ap (λ b. cond b m (mutator_at g u)) (eq-eqb t u same))
           ∙ get_or_set (mutator_at g t).registers r q v Nil k
           ∙ ap (λ w. cond (eqb r q) v (register_of g w q)) same
           ∙ sym (ap (λ b. cond (b && eqb r q) v (register_of g u q)) (eq-eqb t u same))
       | inr other ↦
           ap (λ (x : Mutator). get_or x.registers q Nil)
-              (mutator_with g t u m h ∙ ap (λ b. cond b m (mutator_at g u)) (ne_eqb t u other))
+          (mutator_with g t u m h ∙ ap (λ b. cond b m (mutator_at g u)) (ne_eqb t u other))
           ∙ sym (ap (λ b. cond (b && eqb r q) v (register_of g u q)) (ne_eqb t u other))
     ]
 
@@ -104,13 +106,15 @@ has_name_with_register g t r v a h = has_name_with_mutator g t _ h refl a
 pub sixteen_with_register : (g : Graph) (t r u : ℕ) (v : Value) → t < length g.mutators
     → length (mutator_at (with_register g t r v) u).registers ≡ length (mutator_at g u).registers
 sixteen_with_register g t r u v h =
-    let m : Mutator = record { registers = set (mutator_at g t).registers r v;
-        objects = (mutator_at g t).objects } in
+    let m : Mutator = record {
+      registers = set (mutator_at g t).registers r v;
+      objects = (mutator_at g t).objects;
+    } in
     elim (cases_eq t u) [
       | inl same ↦ ap (λ (x : Mutator). length x.registers)
           (mutator_with g t u m h ∙ ap (λ b. cond b m (mutator_at g u)) (eq-eqb t u same))
           ∙ length-set (mutator_at g t).registers r v
-              ∙ ap (λ w. length (mutator_at g w).registers) same
+          ∙ ap (λ w. length (mutator_at g w).registers) same
       | inr other ↦ ap (λ (x : Mutator). length x.registers)
           (mutator_with g t u m h ∙ ap (λ b. cond b m (mutator_at g u)) (ne_eqb t u other))
     ]

@@ -60,13 +60,16 @@ no_work_append (Did e ∷ h) k w v = (w.0, no_work_append h k w.1 v)
 
 pub fulls_append : (c : Config) (used : ℕ) (h k : List HistoryItem)
     → FullsExactly c used h → FullsExactly c (used + taken_in c.width h) k
-        → FullsExactly c used (h ++ k)
+    → FullsExactly c used (h ++ k)
 fulls_append c used [] k f g = subst (λ u. FullsExactly c u k) (add-zero used) g
 fulls_append c used (Started ∷ h) k f g = fulls_append c used h k f g
-fulls_append c used (Did e ∷ h) k f g =
-    (f.0, f.1, fulls_append c (used + taken_by c.width e) h k f.2
-        (subst (λ u. FullsExactly c u k)
-        (sym (add_assoc used (taken_by c.width e) (taken_in c.width h))) g))
+fulls_append c used (Did e ∷ h) k f g = (
+  f.0,
+  f.1,
+  fulls_append c (used + taken_by c.width e) h k f.2
+      (subst (λ u. FullsExactly c u k)
+      (sym (add_assoc used (taken_by c.width e) (taken_in c.width h))) g),
+)
 
 pub taken_append : (w : Width) (h k : List HistoryItem)
     → taken_in w (h ++ k) ≡ taken_in w h + taken_in w k

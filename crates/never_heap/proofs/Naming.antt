@@ -27,7 +27,7 @@ one_name a b h =
     let t : a.thread ≡ b.thread = eqb-true a.thread b.thread parts.0 in
     let s : a.serial ≡ b.serial = eqb-true a.serial b.serial parts.1 in
     ap (λ (k : ℕ). let n : Name = record { thread = k; serial = a.serial } in n) t
-        ∙ ap (λ (k : ℕ). let n : Name = record { thread = b.thread; serial = k } in n) s
+    ∙ ap (λ (k : ℕ). let n : Name = record { thread = b.thread; serial = k } in n) s
 
 pub same_itself : (a : Name) → same_name a a ≡ true
 same_itself a = same_from a a refl refl
@@ -57,8 +57,11 @@ place_of_name a vs h = let p = any_place (refers a) vs Nil h in
 pub length_of_thread : (t k : ℕ) → length (thread_names t k) ≡ k
 length_of_thread t zero = refl
 length_of_thread t (suc k) =
-    omega (arith, length_push (thread_names t k) (record { thread = t; serial = k + 1 }),
-    length_of_thread t k)
+    omega (
+      arith,
+      length_push (thread_names t k) (record { thread = t; serial = k + 1 }),
+      length_of_thread t k,
+    )
 
 -- the names of a thread, by their places
 pub name_of_place : (t k i : ℕ) (d : Name) → i < k
@@ -68,7 +71,7 @@ name_of_place t (suc k) i d h = elim (cases_eq i k) [
   | inl e ↦ ap (λ j. get_or (thread_names t k ++ record { thread = t; serial = k + 1 } ∷ []) j d)
       (e ∙ sym (length_of_thread t k))
       ∙ get_or_push (thread_names t k) (record { thread = t; serial = k + 1 }) d
-          (length (thread_names t k)) refl
+      (length (thread_names t k)) refl
       ∙ ap (λ (j : ℕ). let n : Name = record { thread = t; serial = j + 1 } in n) (sym e)
   | inr n ↦ get_or_append_left (thread_names t k) (record { thread = t; serial = k + 1 } ∷ []) d i
       (omega (arith, length_of_thread t k)) ∙ name_of_place t k i d (omega arith)
@@ -94,10 +97,10 @@ any_threads : (g : Graph) (p : Name → Bool) (u t s : ℕ) → t < u → s < co
 any_threads g p zero t s l m h = absurd (omega arith)
 any_threads g p (suc u) t s l m h =
     list_any-append p (names_below g u) (thread_names u (count_of g u)) ∙ elim (cases_eq t u) [
-  | inl e ↦ or_right _ _ (subst (λ k. list_any p (thread_names k (count_of g k)) ≡ true) e
-      (any_of_thread p t (count_of g t) s m h))
-  | inr n ↦ or_left _ _ (any_threads g p u t s (omega arith) m h)
-]
+      | inl e ↦ or_right _ _ (subst (λ k. list_any p (thread_names k (count_of g k)) ≡ true) e
+          (any_of_thread p t (count_of g t) s m h))
+      | inr n ↦ or_left _ _ (any_threads g p u t s (omega arith) m h)
+    ]
 
 -- a test that a name of the graph passes, passes among its names
 pub any_of_names : (g : Graph) (p : Name → Bool) (a : Name) → has_name g a ≡ true → p a ≡ true
@@ -105,18 +108,18 @@ pub any_of_names : (g : Graph) (p : Name → Bool) (a : Name) → has_name g a �
 any_of_names g p a has h = elim (cases_eq a.serial 0) [
   | inl z ↦
       let here : a ≡ shared_name (length g.mutators) =
-          one_name a (shared_name (length g.mutators))
-          (same_from a (shared_name (length g.mutators)) (name_of_shared g a z has) z) in
+      one_name a (shared_name (length g.mutators))
+      (same_from a (shared_name (length g.mutators)) (name_of_shared g a z has) z) in
       any_shared g p (length g.mutators) (subst (λ n. p n ≡ true) here h)
   | inr n ↦
       let few : a.serial ≤ count_of g a.thread = name_of_thread g a n has in
       let there : a.thread < length g.mutators = thread_of_name g a n has in
       let back : a.serial ≡ (a.serial - 1) + 1 = omega arith in
       let here : a ≡ record { thread = a.thread; serial = (a.serial - 1) + 1 } =
-          one_name a (record { thread = a.thread; serial = (a.serial - 1) + 1 })
-          (same_from a (record { thread = a.thread; serial = (a.serial - 1) + 1 }) refl back) in
+      one_name a (record { thread = a.thread; serial = (a.serial - 1) + 1 })
+      (same_from a (record { thread = a.thread; serial = (a.serial - 1) + 1 }) refl back) in
       any_threads g p (length g.mutators) a.thread (a.serial - 1) there (omega arith)
-          (subst (λ n. p n ≡ true) here h)
+      (subst (λ n. p n ≡ true) here h)
 ]
 
 -- one more name of a thread, and one more thread
@@ -134,10 +137,10 @@ pub names_step : (g : Graph) (t n : ℕ) (m : Mutator) (ms : List Mutator) (old 
     → old ≡ names_below g t → new ≡ old ++ thread_names t n → new ≡ names_below g (t + 1)
 names_step g t n m ms old new there is same count before after =
     let here : n ≡ count_of g t =
-        count ∙ ap (λ (k : Mutator). length k.objects)
-        (is ∙ get_or_default ms t m no_mutator there ∙ ap (λ xs. get_or xs t no_mutator) same) in
+    count ∙ ap (λ (k : Mutator). length k.objects)
+    (is ∙ get_or_default ms t m no_mutator there ∙ ap (λ xs. get_or xs t no_mutator) same) in
     after ∙ ap (λ xs. xs ++ thread_names t n) before
-        ∙ ap (λ k. names_below g t ++ thread_names t k) here ∙ sym (names_below_more g t)
+    ∙ ap (λ k. names_below g t ++ thread_names t k) here ∙ sym (names_below_more g t)
 
 -- how many names there are with those of the next thread
 pub count_step : (g : Graph) (t n : ℕ) (m : Mutator) (ms : List Mutator) → t < length ms
@@ -145,6 +148,6 @@ pub count_step : (g : Graph) (t n : ℕ) (m : Mutator) (ms : List Mutator) → t
     → length (names_below g (t + 1)) ≡ length (names_below g t) + n
 count_step g t n m ms there is same count =
     ap length (sym (names_step g t n m ms (names_below g t)
-        (names_below g t ++ thread_names t n) there is same count refl refl))
+    (names_below g t ++ thread_names t n) there is same count refl refl))
     ∙ length-append (names_below g t) (thread_names t n)
-        ∙ ap (λ k. length (names_below g t) + k) (length_of_thread t n)
+    ∙ ap (λ k. length (names_below g t) + k) (length_of_thread t n)

@@ -25,7 +25,7 @@ module _ (w : Name → ℕ) (s : Name) where
   there [] h = absurd (let e : false ≡ true = h in cc)
   there (x ∷ xs) h =
       let sum : sum_by (at w s) (x ∷ xs) ≡ at w s x + sum_by (at w s) xs =
-          sum_by-cons (at w s) x xs in
+      sum_by-cons (at w s) x xs in
       elim (cases_Bool (same_name x s)) [
         | inl e ↦ (let here : at w s x ≡ w s = ap (λ (b : Bool). cond b (w x) 0) e
             ∙ ap w (one_name x s e) in omega arith)
@@ -65,7 +65,7 @@ module _ (w : Name → ℕ) (s : Name) where
         let all : sum_by f (x ∷ xs) ≡ f x + sum_by f xs = sum_by-cons f x xs in
         let old : sum_by h (x ∷ xs) ≡ h x + sum_by h xs = sum_by-cons h x xs in
         let one : sum_by (at w s) (x ∷ xs) ≡ at w s x + sum_by (at w s) xs =
-            sum_by-cons (at w s) x xs in
+        sum_by-cons (at w s) x xs in
         let rest = sums xs in
         let here = at_one x in
         omega arith

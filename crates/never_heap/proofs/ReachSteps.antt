@@ -43,18 +43,20 @@ first_or_nil v (suc r) = inr (nil_of 15 r)
 
 register_cases : (g : Graph) (t d u q : ℕ) (v : Value) → t < length g.mutators
     → (register_of (with_register g t d v) u q ≡ v) ⊎
-        (register_of (with_register g t d v) u q ≡ register_of g u q)
+    (register_of (with_register g t d v) u q ≡ register_of g u q)
 register_cases g t d u q v there =
-    let m : Mutator = record { registers = set (mutator_at g t).registers d v;
-        objects = (mutator_at g t).objects } in
+    let m : Mutator = record {
+      registers = set (mutator_at g t).registers d v;
+      objects = (mutator_at g t).objects;
+    } in
     elim (cases_eq t u) [
       | inr other ↦ inr (ap (λ (x : Mutator). get_or x.registers q Nil)
           (mutator_with g t u m there ∙ ap (λ b. cond b m (mutator_at g u)) (ne_eqb t u other)))
       | inl same ↦
           let here : register_of (with_register g t d v) u q ≡ get_or m.registers q Nil =
           ap (λ (x : Mutator). get_or x.registers q Nil)
-              (mutator_with g t u m there
-              ∙ ap (λ b. cond b m (mutator_at g u)) (eq-eqb t u same)) in
+          (mutator_with g t u m there
+          ∙ ap (λ b. cond b m (mutator_at g u)) (eq-eqb t u same)) in
           elim (set_cases (mutator_at g t).registers d q v) [
             | inl new ↦ inl (here ∙ new)
             | inr old ↦ inr (here ∙ old ∙ ap (λ k. register_of g k q) same)
@@ -65,7 +67,7 @@ register_cases g t d u q v there =
 -- a closed set had
 module _ (g : Graph) (t : ℕ) (new : Bool) (there : t < length g.mutators) (P : Name → Type 0)
     (registers : (u r : ℕ) (a : Name) → register_of g u r ≡ Ref a → P a)
-        (fields : (b a : Name) (i : ℕ) → P b → field_of (object_of g b) i ≡ Ref a → P a) where
+    (fields : (b a : Name) (i : ℕ) → P b → field_of (object_of g b) i ≡ Ref a → P a) where
   -- the name of the object that the change makes
   Fresh : Graph → Type 0
   Fresh h = (d : ℕ) (o : Object) → new ≡ true
@@ -91,12 +93,12 @@ module _ (g : Graph) (t : ℕ) (new : Bool) (there : t < length g.mutators) (P :
   registers_after _ (make d o n f y) fresh u r a e =
       elim (register_cases (with_object g t o) t d u r (Ref (next_name g t))
       (omega (arith, with_object_threads g t o))) [
-    | inl now ↦ let same : next_name g t ≡ a =
-        (let both : Ref (next_name g t) ≡ Ref a = sym now ∙ e in cc) in
-        subst P same (fresh d o y refl)
-    | inr before ↦ registers u r a
-        (sym (before ∙ ap (λ rs. get_or rs r Nil) (registers_with_object g t o there u)) ∙ e)
-  ]
+        | inl now ↦ let same : next_name g t ≡ a =
+            (let both : Ref (next_name g t) ≡ Ref a = sym now ∙ e in cc) in
+            subst P same (fresh d o y refl)
+        | inr before ↦ registers u r a
+            (sym (before ∙ ap (λ rs. get_or rs r Nil) (registers_with_object g t o there u)) ∙ e)
+      ]
 
   fields_after : (h : Graph) → Change g t new h → (b a : Name) (i : ℕ) → P b
       → field_of (object_of h b) i ≡ Ref a → P a
@@ -107,17 +109,17 @@ module _ (g : Graph) (t : ℕ) (new : Bool) (there : t < length g.mutators) (P :
   fields_after _ (put s j v c h l) b a i p e =
       let w : Value = register_of g t v in
       let now : object_of (with_field g c j w) b
-          ≡ cond (same_name c b) (set_field (object_of g c) j w) (object_of g b) =
-          object_with_field g c j w (has_field g c j l) b in
+      ≡ cond (same_name c b) (set_field (object_of g c) j w) (object_of g b) =
+      object_with_field g c j w (has_field g c j l) b in
       elim (cases_Bool (same_name c b)) [
         | inr other ↦ fields b a i p
             (sym (ap (λ (o : Object). field_of o i)
             (now ∙ ap (λ k. cond k (set_field (object_of g c) j w) (object_of g b)) other)) ∙ e)
         | inl same ↦
             let here : field_of (object_of (with_field g c j w) b) i
-                ≡ get_or (set (object_of g c).fields j w) i Nil =
+            ≡ get_or (set (object_of g c).fields j w) i Nil =
             ap (λ (o : Object). field_of o i)
-                (now ∙ ap (λ k. cond k (set_field (object_of g c) j w) (object_of g b)) same) in
+            (now ∙ ap (λ k. cond k (set_field (object_of g c) j w) (object_of g b)) same) in
             elim (set_cases (object_of g c).fields j i w) [
               | inl put_there ↦ registers t v a (sym (here ∙ put_there) ∙ e)
               | inr before ↦ fields b a i p
@@ -127,19 +129,19 @@ module _ (g : Graph) (t : ℕ) (new : Bool) (there : t < length g.mutators) (P :
       ]
   fields_after _ (make d o n f y) b a i p e =
       let now : object_of (with_register (with_object g t o) t d (Ref (next_name g t))) b
-          ≡ cond (same_name (next_name g t) b) o (object_of g b) =
+      ≡ cond (same_name (next_name g t) b) o (object_of g b) =
       object_with_register (with_object g t o) t d (Ref (next_name g t)) b
-          (omega (arith, with_object_threads g t o)) ∙ object_with_object g t o there b in
+      (omega (arith, with_object_threads g t o)) ∙ object_with_object g t o there b in
       elim (cases_Bool (same_name (next_name g t) b)) [
         | inr other ↦ fields b a i p
             (sym (ap (λ (x : Object). field_of x i)
             (now ∙ ap (λ k. cond k o (object_of g b)) other)) ∙ e)
         | inl same ↦
             let blank : field_of (object_of
-                (with_register (with_object g t o) t d (Ref (next_name g t))) b) i
-                ≡ get_or (nils n) i Nil =
+            (with_register (with_object g t o) t d (Ref (next_name g t))) b) i
+            ≡ get_or (nils n) i Nil =
             ap (λ (x : Object). field_of x i) (now ∙ ap (λ k. cond k o (object_of g b)) same)
-                ∙ ap (λ fs. get_or fs i Nil) f in
+            ∙ ap (λ fs. get_or fs i Nil) f in
             let nothing : get_or (nils n) i Nil ≡ Nil = nil_of n i in
             absurd (let both : Nil ≡ Ref a = sym (blank ∙ nothing) ∙ e in cc)
       ]
@@ -162,7 +164,7 @@ unfolding Fresh
 reached_here g t new h there c a r =
     let P : Name → Type 0 = λ b. (reachable g b ≡ true) ⊎ ((new ≡ true) × (b ≡ next_name g t)) in
     let registers : (u q : ℕ) (b : Name) → register_of g u q ≡ Ref b → P b =
-        λ u q b e. inl ((reachable_closed g).registers u q b e) in
+    λ u q b e. inl ((reachable_closed g).registers u q b e) in
     reachable_least h P
     (registers_after g t new there P registers (old_fields g t new) h c (λ d o y e. inr (y, refl)))
     (fields_after g t new there P registers (old_fields g t new) h c) a r
@@ -185,18 +187,18 @@ unfolding Fresh
 sound_here g t new h there c sound =
     let P : Name → Type 0 = λ b. has_name h b ≡ true in
     let registers : (u q : ℕ) (b : Name) → register_of g u q ≡ Ref b → P b =
-        λ u q b e. names_of_change g t new h c b (sound.registers u q b e) in
+    λ u q b e. names_of_change g t new h c b (sound.registers u q b e) in
     let fields : (b a : Name) (i : ℕ) → P b → field_of (object_of g b) i ≡ Ref a → P a =
     λ b a i p e. names_of_change g t new h c a
-        (sound.fields b a i (has_field g b i (field_there g b a i e)) e) in
+    (sound.fields b a i (has_field g b i (field_there g b a i e)) e) in
     record {
       registers = registers_after g t new there P registers fields h c (λ d o y e.
           ap (λ (k : Graph). has_name k (next_name g t)) e
           ∙ has_name_with_register (with_object g t o) t d (Ref (next_name g t)) (next_name g t)
-              (omega (arith, with_object_threads g t o))
+          (omega (arith, with_object_threads g t o))
           ∙ has_name_with_object g t o there (next_name g t)
-              ∙ or_left (same_name (next_name g t) (next_name g t)) (has_name g (next_name g t))
-              (same_itself (next_name g t)));
+          ∙ or_left (same_name (next_name g t) (next_name g t)) (has_name g (next_name g t))
+          (same_itself (next_name g t)));
       fields = fields_after g t new there P registers fields h c;
     }
 
@@ -220,8 +222,8 @@ start_registers c t r a e = elim (cases_lt t c.threads) [
       absurd cc
   | inl there ↦
       let here : register_of (start_graph c) t r
-          ≡ get_or (Ref (shared_name c.threads) ∷ nils 15) r Nil =
-          ap (λ (m : Mutator). get_or m.registers r Nil) (start_at c t there) in
+      ≡ get_or (Ref (shared_name c.threads) ∷ nils 15) r Nil =
+      ap (λ (m : Mutator). get_or m.registers r Nil) (start_at c t there) in
       let two = first_or_nil (Ref (shared_name c.threads)) r in
       elim two [
         | inl shared ↦ let same : shared_name c.threads ≡ a =

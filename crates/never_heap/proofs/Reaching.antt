@@ -93,23 +93,26 @@ module _ (g : Graph) where
       → in_round g j a ≡ true) → Ended j
   unfolding Ended
   ended_from j f a h = elim
-      (or_cases (in_round g j a) (list_any (leads g j a) (names g)) h) [ inl before ↦
-      before | inr new ↦ f a new ]
+      (or_cases (in_round g j a) (list_any (leads g j a) (names g)) h) [
+        | inl before ↦
+            before
+        | inr new ↦ f a new
+      ]
 
   ended_next : (j : ℕ) → Ended j → Ended (suc j)
   unfolding Ended
   ended_next j ended = ended_from (suc j)
       (λ a h. or_right (in_round g j a) _ (any_more (leads g (suc j) a) (leads g j a) (names g)
       (λ b l. let parts = and_parts (in_round g (suc j) b)
-          (stands_in a (object_of g b).fields) l in and_from _ _ (ended b parts.0) parts.1) h))
+      (stands_in a (object_of g b).fields) l in and_from _ _ (ended b parts.0) parts.1) h))
 
   -- each round has ended, or has one name more than the number of the round
   ended_or_more : (j : ℕ) → Ended j ⊎ (j + 1 ≤ count_by (in_round g j) (names g))
   ended_or_more zero = elim (cases_eq (count_by (in_round g 0) (names g)) 0) [
     | inl none ↦ inl (ended_from 0 (λ a h.
         let one : list_any (in_round g 0) (names g) ≡ true =
-            any_more (leads g 0 a) (in_round g 0) (names g)
-            (λ b l. (and_parts (in_round g 0 b) (stands_in a (object_of g b).fields) l).0) h in
+        any_more (leads g 0 a) (in_round g 0) (names g)
+        (λ b l. (and_parts (in_round g 0 b) (stands_in a (object_of g b).fields) l).0) h in
         absurd (omega (arith, any_counted (in_round g 0) (names g) one))))
     | inr some ↦ inr (omega arith)
   ]
@@ -117,11 +120,11 @@ module _ (g : Graph) where
     | inl ended ↦ inl (ended_next j ended)
     | inr more ↦ elim (cases_lt (count_by (in_round g j) (names g))
         (count_by (in_round g (suc j)) (names g))) [
-      | inl l ↦ inr (omega arith)
-      | inr l ↦ inl (ended_from (suc j) (λ a h. or_right (in_round g j a) _
-          (count_same (in_round g j) (in_round g (suc j))
+          | inl l ↦ inr (omega arith)
+          | inr l ↦ inl (ended_from (suc j) (λ a h. or_right (in_round g j a) _
+              (count_same (in_round g j) (in_round g (suc j))
               (λ b. stands_in a (object_of g b).fields) (names g) (round_next j) l h)))
-    ]
+        ]
   ]
 
   all_ended : Ended (length (names g))
@@ -161,34 +164,34 @@ module _ (g : Graph) where
     fields = λ b a i h e.
         let has : has_name g b ≡ true = has_field g b i (field_there b a i e) in
         let here : leads g (length (names g)) a b ≡ true =
-            and_from _ _ h (stands_at a (object_of g b).fields i e) in
+        and_from _ _ h (stands_at a (object_of g b).fields i e) in
         all_ended a (or_right (in_round g (length (names g)) a) _
-            (any_of_names g (leads g (length (names g)) a) b has here));
+        (any_of_names g (leads g (length (names g)) a) b has here));
   }
 
   -- and what is closed has it
   round_least : (P : Name → Type 0) → ((t r : ℕ) (a : Name) → register_of g t r ≡ Ref a → P a)
       → ((b a : Name) (i : ℕ) → P b → field_of (object_of g b) i ≡ Ref a → P a)
-          → (j : ℕ) (a : Name) → in_round g j a ≡ true → P a
+      → (j : ℕ) (a : Name) → in_round g j a ≡ true → P a
   round_least P registers fields zero a h =
       let t = any_place (λ (m : Mutator). stands_in a m.registers) g.mutators no_mutator h in
       let r = place_of_name a (mutator_at g t.0).registers t.2 in
       registers t.0 r.0 a r.2
   round_least P registers fields (suc j) a h =
       elim (or_cases (in_round g j a) (list_any (leads g j a) (names g)) h) [
-    | inl before ↦ round_least P registers fields j a before
-    | inr new ↦
-        let k = any_place (leads g j a) (names g) (record { thread = 0; serial = 0 }) new in
-        let b : Name = get_or (names g) k.0 (record { thread = 0; serial = 0 }) in
-        let parts = and_parts (in_round g j b) (stands_in a (object_of g b).fields) k.2 in
-        let i = place_of_name a (object_of g b).fields parts.1 in
-        fields b a i.0 (round_least P registers fields j b parts.0) i.2
-  ]
+        | inl before ↦ round_least P registers fields j a before
+        | inr new ↦
+            let k = any_place (leads g j a) (names g) (record { thread = 0; serial = 0 }) new in
+            let b : Name = get_or (names g) k.0 (record { thread = 0; serial = 0 }) in
+            let parts = and_parts (in_round g j b) (stands_in a (object_of g b).fields) k.2 in
+            let i = place_of_name a (object_of g b).fields parts.1 in
+            fields b a i.0 (round_least P registers fields j b parts.0) i.2
+      ]
 
   pub reachable_least : (P : Name → Type 0)
       → ((t r : ℕ) (a : Name) → register_of g t r ≡ Ref a → P a)
       → ((b a : Name) (i : ℕ) → P b → field_of (object_of g b) i ≡ Ref a → P a) → (a : Name)
-          → reachable g a ≡ true → P a
+      → reachable g a ≡ true → P a
   unfolding reachable
   reachable_least P registers fields a h = round_least P registers fields (length (names g)) a h
 

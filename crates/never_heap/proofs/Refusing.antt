@@ -22,8 +22,11 @@ field_leaves g Nil i act f = λ y. refl
 field_leaves g (Int n) i act f = λ y. refl
 field_leaves g (Ref a) i act f =
     elim (ltb i (length (object_of g a).fields)) as
-        (λ b. Leaves g (cond b (act a) (g, replies.Range))) [ true ↦
-        λ y. absurd (both_ways (is_refusal (act a).1) (f a) y) | false ↦ λ y. refl ]
+    (λ b. Leaves g (cond b (act a) (g, replies.Range))) [
+      | true ↦
+          λ y. absurd (both_ways (is_refusal (act a).1) (f a) y)
+      | false ↦ λ y. refl
+    ]
 
 object_leaves : (g : Graph) (v : Value) (act : Name → Graph × Reply)
     → ((a : Name) → (act a).0 ≡ g) → Leaves g (at_object g v act)

@@ -59,10 +59,10 @@ module _ (g : Graph) (old mid : Marked) (is_new : Bool) (xs : List Name) (i : �
     kept = s.kept;
     led = λ a h p. elim (or_cases (list_any (leads g old a) (take i xs)) (leads g old a x)
         (sym (one_more a) ∙ h)) [
-      | inl before ↦ s.led a before p
-      | inr last ↦ absurd (both_ways (has_mark mid x) unmarked
-          (s.kept x (and_parts (has_mark old x) (stands_in a (object_of g x).fields) last).0))
-    ];
+          | inl before ↦ s.led a before p
+          | inr last ↦ absurd (both_ways (has_mark mid x) unmarked
+              (s.kept x (and_parts (has_mark old x) (stands_in a (object_of g x).fields) last).0))
+        ];
     sound = s.sound;
     unchanged = s.unchanged;
   }
@@ -71,7 +71,7 @@ module _ (g : Graph) (old mid : Marked) (is_new : Bool) (xs : List Name) (i : �
   pub rounded_more : (new : Marked) (more : Bool) (vs : List Value) → has_mark mid x ≡ true
       → vs ≡ (object_of g x).fields
       → ((b : Name) → has_mark new b ≡ (has_mark mid b || (stands_in b vs && has_place mid b)))
-          → ((b : Name) → has_place new b ≡ has_place mid b) → (more ≡ false → new ≡ mid)
+      → ((b : Name) → has_place new b ≡ has_place mid b) → (more ≡ false → new ≡ mid)
       → Rounded g old new (is_new || more) (take (i + 1) xs)
   rounded_more new more vs marked fields marks places unchanged = record {
     places = λ b. places b ∙ s.places b;
@@ -79,23 +79,23 @@ module _ (g : Graph) (old mid : Marked) (is_new : Bool) (xs : List Name) (i : �
         (s.kept b h);
     led = λ a h p. elim (or_cases (list_any (leads g old a) (take i xs)) (leads g old a x)
         (sym (one_more a) ∙ h)) [
-      | inl before ↦ marks a ∙ or_left (has_mark mid a) (stands_in a vs && has_place mid a)
-          (s.led a before p)
-      | inr last ↦ marks a ∙ or_right (has_mark mid a) (stands_in a vs && has_place mid a)
-          (and_from (stands_in a vs) (has_place mid a)
+          | inl before ↦ marks a ∙ or_left (has_mark mid a) (stands_in a vs && has_place mid a)
+              (s.led a before p)
+          | inr last ↦ marks a ∙ or_right (has_mark mid a) (stands_in a vs && has_place mid a)
+              (and_from (stands_in a vs) (has_place mid a)
               (ap (stands_in a) fields ∙ (and_parts (has_mark old x)
               (stands_in a (object_of g x).fields) last).1) (s.places a ∙ p))
-    ];
+        ];
     sound = λ before a h. elim
         (or_cases (has_mark mid a) (stands_in a vs && has_place mid a) (sym (marks a) ∙ h)) [
-      | inl was ↦ s.sound before a was
-      | inr last ↦
-          let stands : stands_in a (object_of g x).fields ≡ true =
+          | inl was ↦ s.sound before a was
+          | inr last ↦
+              let stands : stands_in a (object_of g x).fields ≡ true =
               sym (ap (stands_in a) fields)
               ∙ (and_parts (stands_in a vs) (has_place mid a) last).0 in
-          let place = place_of_name a (object_of g x).fields stands in
-          (reachable_closed g).fields x a place.0 (s.sound before x marked) place.2
-    ];
+              let place = place_of_name a (object_of g x).fields stands in
+              (reachable_closed g).fields x a place.0 (s.sound before x marked) place.2
+        ];
     unchanged = λ e. let parts = or_parts is_new more e in unchanged parts.1 ∙ s.unchanged parts.0;
   }
 
@@ -110,17 +110,17 @@ pub mark_place : (m : Marked) (b : Name) → has_mark m b ≡ true → has_place
 mark_place m b h = elim (cases_eq b.serial 0) [
   | inl z ↦
       let here : (eqb b.thread (length m.rows) && m.shared) ≡ true =
-          sym (ap (λ k. cond k (eqb b.thread (length m.rows) && m.shared)
-          (get_or (get_or m.rows b.thread []) (b.serial - 1) false)) (eq-eqb b.serial 0 z)) ∙ h in
+      sym (ap (λ k. cond k (eqb b.thread (length m.rows) && m.shared)
+      (get_or (get_or m.rows b.thread []) (b.serial - 1) false)) (eq-eqb b.serial 0 z)) ∙ h in
       ap (λ k. cond k (eqb b.thread (length m.rows))
-          (leb b.serial (length (get_or m.rows b.thread [])))) (eq-eqb b.serial 0 z)
-          ∙ (and_parts (eqb b.thread (length m.rows)) m.shared here).0
+      (leb b.serial (length (get_or m.rows b.thread [])))) (eq-eqb b.serial 0 z)
+      ∙ (and_parts (eqb b.thread (length m.rows)) m.shared here).0
   | inr n ↦
       let here : get_or (get_or m.rows b.thread []) (b.serial - 1) false ≡ true =
-          sym (ap (λ k. cond k (eqb b.thread (length m.rows) && m.shared)
-          (get_or (get_or m.rows b.thread []) (b.serial - 1) false)) (ne_eqb b.serial 0 n)) ∙ h in
+      sym (ap (λ k. cond k (eqb b.thread (length m.rows) && m.shared)
+      (get_or (get_or m.rows b.thread []) (b.serial - 1) false)) (ne_eqb b.serial 0 n)) ∙ h in
       ap (λ k. cond k (eqb b.thread (length m.rows))
-          (leb b.serial (length (get_or m.rows b.thread [])))) (ne_eqb b.serial 0 n)
+      (leb b.serial (length (get_or m.rows b.thread [])))) (ne_eqb b.serial 0 n)
       ∙ elim (cases_lt (b.serial - 1) (length (get_or m.rows b.thread []))) [
         | inl l ↦ le-leb b.serial (length (get_or m.rows b.thread [])) (omega arith)
         | inr l ↦ absurd (both_ways (get_or (get_or m.rows b.thread []) (b.serial - 1) false)
@@ -132,11 +132,11 @@ mark_place m b h = elim (cases_eq b.serial 0) [
 pub first_round : (g : Graph) (none m : Marked) → ((b : Name) → has_place none b ≡ has_name g b)
     → ((b : Name) → has_mark none b ≡ false)
     → ((b : Name) → has_mark m b ≡ (has_mark none b || (in_round g 0 b && has_place none b)))
-        → ((b : Name) → has_place m b ≡ has_place none b) → MarksRound g m 0
+    → ((b : Name) → has_place m b ≡ has_place none b) → MarksRound g m 0
 first_round g none m places empty marks kept =
     let all : (b : Name) → has_mark m b ≡ (in_round g 0 b && has_name g b) =
-        λ b. marks b ∙ ap (λ x. x || (in_round g 0 b && has_place none b)) (empty b)
-        ∙ ap (λ x. in_round g 0 b && x) (places b) in
+    λ b. marks b ∙ ap (λ x. x || (in_round g 0 b && has_place none b)) (empty b)
+    ∙ ap (λ x. in_round g 0 b && x) (places b) in
     record {
       places = λ b. kept b ∙ places b;
       sound = λ b h. reached_by g 0 b
@@ -153,14 +153,14 @@ next_round g old new is_new j before r = record {
   round = λ b h n. elim (or_cases (in_round g j b)
       (list_any (λ (a : Name). in_round g j a && stands_in b (object_of g a).fields) (names g))
       (sym (ap (λ k. in_round g k b) (add-one j)) ∙ h)) [
-    | inl was ↦ r.kept b (before.round b was n)
-    | inr new_one ↦ r.led b (any_more _ (leads g old b) (names g) (λ a l.
-        let parts = and_parts (in_round g j a) (stands_in b (object_of g a).fields) l in
-        let place = place_of_name b (object_of g a).fields parts.1 in
-        and_from (has_mark old a) (stands_in b (object_of g a).fields)
+        | inl was ↦ r.kept b (before.round b was n)
+        | inr new_one ↦ r.led b (any_more _ (leads g old b) (names g) (λ a l.
+            let parts = and_parts (in_round g j a) (stands_in b (object_of g a).fields) l in
+            let place = place_of_name b (object_of g a).fields parts.1 in
+            and_from (has_mark old a) (stands_in b (object_of g a).fields)
             (before.round a parts.0 (has_field g a place.0 place.1)) parts.1) new_one)
             (before.places b ∙ n)
-  ];
+      ];
 }
 
 pub both_true : (p q r : Bool) → (p ≡ true → (q ≡ true) × (r ≡ true))
@@ -191,8 +191,8 @@ no_more_rounds g old new is_new j before r ended b =
     let there : has_name g c ≡ true = has_field g c i (field_there g c a i e) in
     let marked : has_mark old c ≡ true = sym (ap (λ x. has_mark x c) same) ∙ f there in
     r.led a (any_of_names g (leads g old a) c there
-        (and_from (has_mark old c) (stands_in a (object_of g c).fields) marked
-        (stands_at a (object_of g c).fields i e))) (before.places a ∙ m))
+    (and_from (has_mark old c) (stands_in a (object_of g c).fields) marked
+    (stands_at a (object_of g c).fields i e))) (before.places a ∙ m))
     b h n)
 
 -- a round over a list that has all names

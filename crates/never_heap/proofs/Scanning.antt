@@ -46,7 +46,7 @@ found_few w g m found blocks s = let low = weight_low m (names g) in omega (arit
 module _ (w : Width) (g : Graph) (old new : Marked) (found : List Name) (blocks : ℕ) (a : Name)
     (s : Scanned w g old found blocks)
     (marks : (b : Name) → has_mark new b ≡ (has_mark old b || (same_name a b && has_place old b)))
-        (places : (b : Name) → has_place new b ≡ has_place old b) where
+    (places : (b : Name) → has_place new b ≡ has_place old b) where
   kept_one : (b : Name) → has_mark old b ≡ true → has_mark new b ≡ true
   kept_one b h = marks b ∙ or_left (has_mark old b) (same_name a b && has_place old b) h
 
@@ -132,9 +132,9 @@ module _ (g : Graph) (old mid new : Marked) (xs ys zs : List Name) (vs : List Va
     kept = f.kept;
     all = λ b h has. elim (or_cases (stands_in b (take i vs)) (refers b (get_or vs i Nil))
         (sym (list_any_more (refers b) vs i Nil here) ∙ h)) [
-      | inl before ↦ f.all b before has
-      | inr now ↦ absurd (both_ways (refers b (get_or vs i Nil)) (none b) now)
-    ];
+          | inl before ↦ f.all b before has
+          | inr now ↦ absurd (both_ways (refers b (get_or vs i Nil)) (none b) now)
+        ];
     behind = f.behind;
   }
 
@@ -144,12 +144,15 @@ module _ (g : Graph) (old mid new : Marked) (xs ys zs : List Name) (vs : List Va
     kept = λ b h. one.kept b (f.kept b h);
     all = λ b h has. elim (or_cases (stands_in b (take i vs)) (refers b (get_or vs i Nil))
         (sym (list_any_more (refers b) vs i Nil here) ∙ h)) [
-      | inl before ↦ one.kept b (f.all b before has)
-      | inr now ↦ one.all b (or_left (refers b (Ref a)) false (sym (ap (refers b) is) ∙ now)) has
-    ];
-    behind = (f.behind.0 ++ one.behind.0, one.behind.1
-        ∙ ap (λ (l : List Name). l ++ one.behind.0) f.behind.1
-        ∙ append_assoc xs f.behind.0 one.behind.0);
+          | inl before ↦ one.kept b (f.all b before has)
+          | inr now ↦ one.all b (or_left (refers b (Ref a)) false (sym (ap (refers b) is) ∙ now)) has
+        ];
+    behind = (
+      f.behind.0 ++ one.behind.0,
+      one.behind.1
+          ∙ ap (λ (l : List Name). l ++ one.behind.0) f.behind.1
+          ∙ append_assoc xs f.behind.0 one.behind.0,
+    );
   }
 
 -- ---- registers
@@ -167,7 +170,7 @@ unmarked_weight w m (x ∷ xs) none =
 pub scanned_none : (w : Width) (g : Graph) (m : Marked) (blocks : ℕ)
     → ((b : Name) → has_place m b ≡ has_name g b) → ((b : Name) → has_mark m b ≡ false)
     → blocks ≡ registers_end w (length g.mutators) → length g.mutators ≤ 16
-        → Scanned w g m [] blocks
+    → Scanned w g m [] blocks
 scanned_none w g m blocks places none is few = record {
   places = places;
   sound = λ b h. absurd (both_ways (has_mark m b) (none b) h);
@@ -191,7 +194,7 @@ module _ (g : Graph) (ms : List Mutator) (i : ℕ) (x : Mutator) (same : ms ≡ 
       (subst (λ (l : List Mutator). list_any (λ (y : Mutator). stands_in b y.registers) l
       ≡ true) same
       (list_any_at (λ (y : Mutator). stands_in b y.registers) ms i x here
-          (subst (λ (y : Mutator). stands_in b y.registers ≡ true) is h)))
+      (subst (λ (y : Mutator). stands_in b y.registers ≡ true) is h)))
 
   pub first_more : (old new : Marked) (before after : List Name) → HasFirst g old ms i
       → Finds g old new before after x.registers → HasFirst g new ms (i + 1)
@@ -208,7 +211,7 @@ pub first_all : (g : Graph) (m : Marked) (ms : List Mutator) (i : ℕ) → ms �
     → length ms ≤ i → HasFirst g m ms i → HasRegisters g m
 first_all g m ms i same all was b h has =
     was b (subst (λ (l : List Mutator). list_any (λ (y : Mutator). stands_in b y.registers) l
-        ≡ true) (sym (take_all i ms all ∙ same)) h) has
+    ≡ true) (sym (take_all i ms all ∙ same)) h) has
 
 -- ---- what was found leads to what is found
 
@@ -224,8 +227,8 @@ module _ (w : Width) (g : Graph) (m : Marked) (found : List Name) (blocks next :
   pub led_reached : (b : Name) → stands_in b (object_of g a).fields ≡ true → reachable g b ≡ true
   led_reached b h =
       let among : list_any (same_name a) found ≡ true =
-          list_any_at (same_name a) found next a here
-          (subst (λ (x : Name). same_name a x ≡ true) is (same_itself a)) in
+      list_any_at (same_name a) found next a here
+      (subst (λ (x : Name). same_name a x ≡ true) is (same_itself a)) in
       let place = place_of_name b (object_of g a).fields h in
       (reachable_closed g).fields a b place.0 (s.sound a (sym (s.listed a) ∙ among)) place.2
 
@@ -234,10 +237,10 @@ module _ (w : Width) (g : Graph) (m : Marked) (found : List Name) (blocks next :
   led_more new after was f k d low b h has =
       let there : k < length found = omega arith in
       let same : get_or after k d ≡ get_or found k d =
-          ap (λ (l : List Name). get_or l k d) f.behind.1
-          ∙ get_or_append_left found f.behind.0 d k there in
+      ap (λ (l : List Name). get_or l k d) f.behind.1
+      ∙ get_or_append_left found f.behind.0 d k there in
       let old : stands_in b (object_of g (get_or found k d)).fields ≡ true =
-          sym (ap (λ (x : Name). stands_in b (object_of g x).fields) same) ∙ h in
+      sym (ap (λ (x : Name). stands_in b (object_of g x).fields) same) ∙ h in
       elim (cases_eq k next) [
         | inl e ↦ (let this : get_or found k d ≡ a = ap (λ (j : ℕ). get_or found j d) e
             ∙ get_or_default found next d a here ∙ sym is in
@@ -256,15 +259,15 @@ module _ (w : Width) (g : Graph) (m : Marked) (found : List Name) (blocks next :
       let there : has_name g c ≡ true = has_field g c i (field_there g c a i e) in
       let place = any_place (same_name c) found c (s.listed c ∙ f there) in
       led place.0 c (omega (arith, place.1)) a
-          (subst (λ (x : Name). stands_in a (object_of g x).fields ≡ true)
-          (one_name c (get_or found place.0 c) place.2)
-          (stands_at a (object_of g c).fields i e)) has)
+      (subst (λ (x : Name). stands_in a (object_of g x).fields ≡ true)
+      (one_name c (get_or found place.0 c) place.2)
+      (stands_at a (object_of g c).fields i e)) has)
 
   pub all_live : blocks ≡ live_blocks w g
   all_live =
       let marks : (b : Name) → has_mark m b ≡ (reachable g b && has_name g b) =
-          λ b. both_true (has_mark m b) (reachable g b) (has_name g b)
+      λ b. both_true (has_mark m b) (reachable g b) (has_name g b)
       (λ h. (s.sound b h, sym (s.places b) ∙ mark_place m b h)) (λ h n. complete b h n) in
       live_of_marked w g m (names g) (length (names g)) blocks refl (omega arith) marks
       (s.sum ∙ ap (λ (l : List Name). registers_end w (length g.mutators) + marked_blocks w g m l)
-          (sym (take_all (length (names g)) (names g) (omega arith))))
+      (sym (take_all (length (names g)) (names g) (omega arith))))

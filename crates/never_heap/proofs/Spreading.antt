@@ -50,7 +50,7 @@ module _ (old mid new : Marked) (is_new : Bool) (vs : List Value) (i : ℕ)
     marks = λ b. s.marks b ∙ no_more (has_mark old b) (stands_in b (take i vs)) (has_place old b)
         (refers b (get_or vs i Nil)) (none b)
         ∙ ap (λ q. has_mark old b || (q && has_place old b))
-            (sym (list_any_more (refers b) vs i Nil here));
+        (sym (list_any_more (refers b) vs i Nil here));
     places = s.places;
     unchanged = s.unchanged;
   }
@@ -58,16 +58,16 @@ module _ (old mid new : Marked) (is_new : Bool) (vs : List Value) (i : ℕ)
   pub spread_more : (a : Name) (more : Bool) → Spread old mid is_new (take i vs)
       → get_or vs i Nil ≡ Ref a
       → ((b : Name) → has_mark new b ≡ (has_mark mid b || (same_name a b && has_place mid b)))
-          → ((b : Name) → has_place new b ≡ has_place mid b) → (more ≡ false → new ≡ mid)
+      → ((b : Name) → has_place new b ≡ has_place mid b) → (more ≡ false → new ≡ mid)
       → Spread old new (is_new || more) (take (i + 1) vs)
   spread_more a more s is marks places unchanged = record {
     marks = λ b. marks b ∙ ap (λ x. x || (same_name a b && has_place mid b)) (s.marks b)
         ∙ or_more (has_mark old b) (stands_in b (take i vs)) (has_place old b) (same_name a b)
-            (has_place mid b) (λ _. s.places b)
+        (has_place mid b) (λ _. s.places b)
         ∙ ap (λ q. has_mark old b || ((stands_in b (take i vs) || q) && has_place old b))
-            (sym (ap (refers b) is))
+        (sym (ap (refers b) is))
         ∙ ap (λ q. has_mark old b || (q && has_place old b))
-            (sym (list_any_more (refers b) vs i Nil here));
+        (sym (list_any_more (refers b) vs i Nil here));
     places = λ b. places b ∙ s.places b;
     unchanged = λ e. let parts = or_parts is_new more e in unchanged parts.1 ∙ s.unchanged parts.0;
   }
@@ -100,7 +100,7 @@ both_more false false p r q e = ap (λ k. r && k) e
 
 pub grown_more : (old mid new : Marked) (f h k : Name → Bool) → Grown old mid f
     → ((b : Name) → has_mark new b ≡ (has_mark mid b || (h b && has_place mid b)))
-        → ((b : Name) → has_place new b ≡ has_place mid b)
+    → ((b : Name) → has_place new b ≡ has_place mid b)
     → ((b : Name) → k b ≡ (f b || h b)) → Grown old new k
 grown_more old mid new f h k s marks places both = record {
   marks = λ b. marks b ∙ ap (λ x. x || (h b && has_place mid b)) (s.marks b)
@@ -140,5 +140,5 @@ unmarked ms m rows shared b = elim (cases_eq b.serial 0) [
   | inr n ↦ ap (λ k. cond k (eqb b.thread (length m.rows) && m.shared)
       (get_or (get_or m.rows b.thread []) (b.serial - 1) false)) (ne_eqb b.serial 0 n)
       ∙ ap (λ rs. get_or (get_or rs b.thread []) (b.serial - 1) false) rows
-          ∙ false_row ms b.thread (b.serial - 1)
+      ∙ false_row ms b.thread (b.serial - 1)
 ]

@@ -39,9 +39,9 @@ pub object_of_start : (c : Config) (a : Name) → has_name (start_graph c) a ≡
 object_of_start c a h =
     let p = name_of_start c a h in
     at_zero (start_graph c).shared (length (start_graph c).mutators)
-        (mutator_at (start_graph c) a.thread).objects a p.1
+    (mutator_at (start_graph c) a.thread).objects a p.1
     ∙ ap (λ b. cond b (start_graph c).shared no_object)
-        (eq-eqb a.thread (length (start_graph c).mutators) (p.0 ∙ sym (threads_of_start c)))
+    (eq-eqb a.thread (length (start_graph c).mutators) (p.0 ∙ sym (threads_of_start c)))
 
 pub has_shared : (c : Config) → has_name (start_graph c) (shared_name c.threads) ≡ true
 has_shared c = eq-eqb c.threads (length (start_graph c).mutators) (sym (threads_of_start c))

@@ -35,22 +35,26 @@ change_past g t new _ l (put s i v a e k) = let nil : register_of g t s ≡ Nil 
     past_register g t s l in absurd cc
 change_past g t new _ l (make d o n e y) =
     ap (λ (k : Graph). with_register k t d (Ref (next_name g t))) (past_with g t _ l)
-        ∙ past_with g t _ l
+    ∙ past_with g t _ l
 
 -- the next name is new
 pub next_is_new : (g : Graph) (t : ℕ) → has_name g (next_name g t) ≡ false
 next_is_new g t =
     ap (λ b. cond b (eqb t (length g.mutators)) (leb (count_of g t + 1) (count_of g t)))
-        (ne_eqb (count_of g t + 1) 0 (λ e. absurd (omega arith)))
+    (ne_eqb (count_of g t + 1) 0 (λ e. absurd (omega arith)))
     ∙ lt-leb (count_of g t + 1) (count_of g t) (omega arith)
 
 same_shape : (o p : Object) → p ≡ o → SameShape o p
-same_shape o p e = record { kind = ap (λ (x : Object). x.kind) e;
-    size = ap (λ (x : Object). length x.fields) e }
+same_shape o p e = record {
+  kind = ap (λ (x : Object). x.kind) e;
+  size = ap (λ (x : Object). length x.fields) e;
+}
 
 shape_set : (o p : Object) (i : ℕ) (v : Value) → p ≡ set_field o i v → SameShape o p
-shape_set o p i v e = record { kind = ap (λ (x : Object). x.kind) e;
-    size = ap (λ (x : Object). length x.fields) e ∙ length-set o.fields i v }
+shape_set o p i v e = record {
+  kind = ap (λ (x : Object). x.kind) e;
+  size = ap (λ (x : Object). length x.fields) e ∙ length-set o.fields i v;
+}
 
 module _ (g : Graph) (t : ℕ) (new : Bool) (there : t < length g.mutators) where
   names_here : (h : Graph) → Change g t new h → (a : Name) → has_name g a ≡ true
@@ -61,9 +65,9 @@ module _ (g : Graph) (t : ℕ) (new : Bool) (there : t < length g.mutators) wher
       has_name_with_field g b i (register_of g t v) (has_field g b i l) a ∙ has
   names_here _ (make d o n e y) a has =
       has_name_with_register (with_object g t o) t d (Ref (next_name g t)) a
-          (omega (arith, with_object_threads g t o))
+      (omega (arith, with_object_threads g t o))
       ∙ has_name_with_object g t o there a
-          ∙ or_right (same_name (next_name g t) a) (has_name g a) has
+      ∙ or_right (same_name (next_name g t) a) (has_name g a) has
 
   shape_here : (h : Graph) → Change g t new h → (a : Name) → has_name g a ≡ true
       → SameShape (object_of g a) (object_of h a)
@@ -74,7 +78,7 @@ module _ (g : Graph) (t : ℕ) (new : Bool) (there : t < length g.mutators) wher
     | inl y ↦ subst (λ (x : Name). SameShape (object_of g x)
         (object_of (with_field g b i (register_of g t v)) a)) (one_name b a y)
         (shape_set (object_of g b) (object_of (with_field g b i (register_of g t v)) a) i
-            (register_of g t v) (object_with_field g b i (register_of g t v) (has_field g b i l) a
+        (register_of g t v) (object_with_field g b i (register_of g t v) (has_field g b i l) a
         ∙ ap (λ k. cond k (set_field (object_of g b) i (register_of g t v)) (object_of g a)) y))
     | inr n ↦ same_shape (object_of g a) _
         (object_with_field g b i (register_of g t v) (has_field g b i l) a
@@ -155,15 +159,17 @@ other_register : (g : Graph) (t d u q : ℕ) (v : Value) → (t ≡ u → eqb d 
 other_register g t d u q v f = elim (cases_lt t (length g.mutators)) [
   | inr past ↦ ap (λ k. register_of k u q) (past_with g t _ past)
   | inl there ↦
-      let m : Mutator = record { registers = set (mutator_at g t).registers d v;
-          objects = (mutator_at g t).objects } in
+      let m : Mutator = record {
+        registers = set (mutator_at g t).registers d v;
+        objects = (mutator_at g t).objects;
+      } in
       elim (cases_eq t u) [
         | inl same ↦
             ap (λ (x : Mutator). get_or x.registers q Nil)
-                (mutator_with g t u m there
-                ∙ ap (λ b. cond b m (mutator_at g u)) (eq-eqb t u same))
+            (mutator_with g t u m there
+            ∙ ap (λ b. cond b m (mutator_at g u)) (eq-eqb t u same))
             ∙ get_or-set_other (mutator_at g t).registers d q v Nil
-                (λ e. eqb-false d q (f same) (sym e)) ∙ ap (λ k. register_of g k q) same
+            (λ e. eqb-false d q (f same) (sym e)) ∙ ap (λ k. register_of g k q) same
         | inr other ↦ ap (λ (x : Mutator). get_or x.registers q Nil)
             (mutator_with g t u m there ∙ ap (λ b. cond b m (mutator_at g u)) (ne_eqb t u other))
       ]
@@ -174,9 +180,9 @@ made_register : (g : Graph) (t d u q : ℕ) (o : Object) → (t ≡ u → eqb d 
 made_register g t d u q o f =
     other_register (with_object g t o) t d u q (Ref (next_name g t)) f
     ∙ elim (cases_lt t (length g.mutators)) [
-  | inl there ↦ ap (λ rs. get_or rs q Nil) (registers_with_object g t o there u)
-  | inr past ↦ ap (λ k. register_of k u q) (past_with g t _ past)
-]
+      | inl there ↦ ap (λ rs. get_or rs q Nil) (registers_with_object g t o there u)
+      | inr past ↦ ap (λ k. register_of k u q) (past_with g t _ past)
+    ]
 
 field_keeps : (P : Graph → Type 0) (g : Graph) (i : ℕ) (v : Value) (act : Name → Graph × Reply)
     → P g → ((a : Name) → v ≡ Ref a → i < length (object_of g a).fields → P (act a).0)
@@ -205,11 +211,11 @@ step_register g t (commands.Nil d) u q n = other_register g t d u q Nil n
 step_register g t (commands.Mov d s) u q n = other_register g t d u q (register_of g t s) n
 step_register g t (commands.Get d s i) u q n =
     field_keeps (λ k. register_of k u q ≡ register_of g u q) g i (register_of g t s) _ refl
-        (λ a e l. other_register g t d u q _ n)
+    (λ a e l. other_register g t d u q _ n)
 step_register g t (commands.Put s i v) u q n =
     field_keeps (λ k. register_of k u q ≡ register_of g u q) g i (register_of g t s) _ refl
     (λ a e l. ap (λ rs. get_or rs q Nil)
-        (registers_with_field g a i (register_of g t v) (has_field g a i l) u))
+    (registers_with_field g a i (register_of g t v) (has_field g a i l) u))
 step_register g t (commands.Len s) u q n =
     object_keeps (λ k. register_of k u q ≡ register_of g u q) g (register_of g t s) _ refl
     (λ a. refl)
@@ -229,13 +235,13 @@ made_object : (g : Graph) (t d : ℕ) (o : Object) (a : Name) → has_name g a �
 made_object g t d o a has =
     register_object (with_object g t o) t d (Ref (next_name g t)) a
     ∙ elim (cases_lt t (length g.mutators)) [
-  | inr past ↦ ap (λ k. object_of k a) (past_with g t _ past)
-  | inl there ↦ elim (cases_Bool (same_name (next_name g t) a)) [
-    | inl same ↦ absurd (both_ways (has_name g (next_name g t)) (next_is_new g t)
-        (ap (has_name g) (one_name (next_name g t) a same) ∙ has))
-    | inr other ↦ object_with_object g t o there a ∙ ap (λ k. cond k o (object_of g a)) other
-  ]
-]
+      | inr past ↦ ap (λ k. object_of k a) (past_with g t _ past)
+      | inl there ↦ elim (cases_Bool (same_name (next_name g t) a)) [
+        | inl same ↦ absurd (both_ways (has_name g (next_name g t)) (next_is_new g t)
+            (ap (has_name g) (one_name (next_name g t) a same) ∙ has))
+        | inr other ↦ object_with_object g t o there a ∙ ap (λ k. cond k o (object_of g a)) other
+      ]
+    ]
 
 pub step_object : (g : Graph) (t : ℕ) (command : Command) (a : Name) → has_name g a ≡ true
     → stored_at command ≡ None → object_of (step g t command).0 a ≡ object_of g a
@@ -259,10 +265,10 @@ pub put_other : (g : Graph) (t s i v : ℕ) (a : Name) → (register_of g t s �
 put_other g t s i v a n =
     field_keeps (λ k. object_of k a ≡ object_of g a) g i (register_of g t s) _ refl
     (λ b e l. elim (cases_Bool (same_name b a)) [
-  | inl same ↦ absurd (n (e ∙ ap Ref (one_name b a same)))
-  | inr other ↦ object_with_field g b i (register_of g t v) (has_field g b i l) a
-      ∙ ap (λ k. cond k (set_field (object_of g b) i (register_of g t v)) (object_of g a)) other
-])
+      | inl same ↦ absurd (n (e ∙ ap Ref (one_name b a same)))
+      | inr other ↦ object_with_field g b i (register_of g t v) (has_field g b i l) a
+          ∙ ap (λ k. cond k (set_field (object_of g b) i (register_of g t v)) (object_of g a)) other
+    ])
 
 -- and the fields of another place
 other_field : (o : Object) (i j : ℕ) (v : Value) → (i ≡ j → ⊥)
@@ -279,7 +285,7 @@ put_field g t s i v a j n =
       | inl same ↦ ap (λ k. field_of
           (cond k (set_field (object_of g b) i (register_of g t v)) (object_of g a)) j) same
           ∙ other_field (object_of g b) i j (register_of g t v) n
-              ∙ ap (λ k. field_of (object_of g k) j) (one_name b a same)
+          ∙ ap (λ k. field_of (object_of g k) j) (one_name b a same)
       | inr other ↦ ap (λ k. field_of
           (cond k (set_field (object_of g b) i (register_of g t v)) (object_of g a)) j) other
     ])

@@ -21,8 +21,8 @@ has_field g a i h = elim (cases_eq a.serial 0) [
     | inl e ↦ rw (eq-eqb a.serial 0 z, eq-eqb a.thread (length g.mutators) e) refl
     | inr n ↦
         let none : object_of g a ≡ no_object =
-            at_zero g.shared (length g.mutators) (mutator_at g a.thread).objects a z
-            ∙ ap (λ b. cond b g.shared no_object) (ne_eqb a.thread (length g.mutators) n) in
+        at_zero g.shared (length g.mutators) (mutator_at g a.thread).objects a z
+        ∙ ap (λ b. cond b g.shared no_object) (ne_eqb a.thread (length g.mutators) n) in
         let few : length (object_of g a).fields ≡ 0 = ap (λ (o : Object). length o.fields) none in
         absurd (omega arith)
   ]
@@ -30,8 +30,8 @@ has_field g a i h = elim (cases_eq a.serial 0) [
     | inl l ↦ rw (ne_eqb a.serial 0 n) (le-leb a.serial (count_of g a.thread) (omega arith))
     | inr l ↦
         let none : object_of g a ≡ no_object =
-            at_serial g.shared (length g.mutators) (mutator_at g a.thread).objects a n
-            ∙ get_or_past (mutator_at g a.thread).objects (a.serial - 1) no_object l in
+        at_serial g.shared (length g.mutators) (mutator_at g a.thread).objects a n
+        ∙ get_or_past (mutator_at g a.thread).objects (a.serial - 1) no_object l in
         let few : length (object_of g a).fields ≡ 0 = ap (λ (o : Object). length o.fields) none in
         absurd (omega arith)
   ]
@@ -58,18 +58,18 @@ pub data Change (g : Graph) (t : ℕ) (new : Bool) : Graph → Type 0 where
 
 at_field_changes : (g : Graph) (t : ℕ) (new : Bool) (i : ℕ) (v : Value) (act : Name → Graph × Reply)
     → ((a : Name) → v ≡ Ref a → i < length (object_of g a).fields → Change g t new (act a).0)
-        → Change g t new (at_field g v i act).0
+    → Change g t new (at_field g v i act).0
 at_field_changes g t new i Nil act h = none
 at_field_changes g t new i (Int n) act h = none
 at_field_changes g t new i (Ref a) act h =
     elim (cases_Bool (ltb i (length (object_of g a).fields))) [
-  | inl y ↦ subst (λ b. Change g t new
-      (cond b (act a) (g, Rattle.never_heap.specs.declared.Reply.TheVariants.Range)).0) (sym y)
-      (h a refl (ltb-true i _ y))
-  | inr n ↦ subst (λ b. Change g t new
-      (cond b (act a) (g, Rattle.never_heap.specs.declared.Reply.TheVariants.Range)).0)
-      (sym n) none
-]
+      | inl y ↦ subst (λ b. Change g t new
+          (cond b (act a) (g, Rattle.never_heap.specs.declared.Reply.TheVariants.Range)).0) (sym y)
+          (h a refl (ltb-true i _ y))
+      | inr n ↦ subst (λ b. Change g t new
+          (cond b (act a) (g, Rattle.never_heap.specs.declared.Reply.TheVariants.Range)).0)
+          (sym n) none
+    ]
 
 at_object_changes : (g : Graph) (t : ℕ) (new : Bool) (v : Value) (act : Name → Graph × Reply)
     → ((a : Name) → (act a).0 ≡ g) → Change g t new (at_object g v act).0
@@ -121,9 +121,9 @@ pub made_count : (g : Graph) (t d : ℕ) (o : Object) → t < length g.mutators
     → count_of (made g t d o).0 t ≡ count_of g t + 1
 made_count g t d o there =
     count_with_register (with_object g t o) t d t (Ref (next_name g t))
-        (omega (arith, with_object_threads g t o))
+    (omega (arith, with_object_threads g t o))
     ∙ count_with_object g t o there t
-        ∙ ap (λ b. cond b (count_of g t + 1) (count_of g t)) (eq-eqb t t refl)
+    ∙ ap (λ b. cond b (count_of g t + 1) (count_of g t)) (eq-eqb t t refl)
 
 -- the thread makes one object at most
 pub count_of_change : (g : Graph) (t : ℕ) (new : Bool) (h : Graph) → t < length g.mutators
@@ -143,10 +143,10 @@ count_stays g t u new _ there other (put s i v a e l) =
     count_with_field g a i (register_of g t v) (has_field g a i l) u
 count_stays g t u new _ there other (make d o n e y) =
     count_with_register (with_object g t o) t d u (Ref (next_name g t))
-        (omega (arith, with_object_threads g t o))
+    (omega (arith, with_object_threads g t o))
     ∙ count_with_object g t o there u
-        ∙ ap (λ b. cond b (count_of g t + 1) (count_of g u))
-        (ne_eqb t u (λ same. both_ways new (other same) y))
+    ∙ ap (λ b. cond b (count_of g t + 1) (count_of g u))
+    (ne_eqb t u (λ same. both_ways new (other same) y))
 
 pub count_of_other : (g : Graph) (t u : ℕ) (new : Bool) (h : Graph) → t < length g.mutators
     → (t ≡ u → ⊥) → Change g t new h → count_of h u ≡ count_of g u

@@ -25,8 +25,8 @@ sum_same : {X : Type 0} (f h : X → ℕ) (xs : List X) → All (λ x. f x ≡ h
 sum_same f h [] all = refl
 sum_same f h (x ∷ xs) all =
     sum_by-cons f x xs ∙ ap (λ k. k + sum_by f xs) (all 0 x (omega arith))
-        ∙ ap (λ k. h x + k) (sum_same f h xs (λ k d l. all (suc k) d (omega arith)))
-        ∙ sym (sum_by-cons h x xs)
+    ∙ ap (λ k. h x + k) (sum_same f h xs (λ k d l. all (suc k) d (omega arith)))
+    ∙ sym (sum_by-cons h x xs)
 
 has_serial : (g : Graph) (t s : ℕ) → s < count_of g t
     → has_name g (record { thread = t; serial = s + 1 }) ≡ true
@@ -37,7 +37,7 @@ has_serial g t s l = ap (λ b. cond b (eqb t (length g.mutators)) (leb (s + 1) (
 all_named : (g : Graph) (u : ℕ) → All (λ (a : Name). has_name g a ≡ true) (names_below g u)
 all_named g zero = λ k d l. let first : k ≡ 0 = omega arith in
     ap (λ j. has_name g (get_or (shared_name (length g.mutators) ∷ []) j d)) first
-        ∙ eq-eqb (length g.mutators) (length g.mutators) refl
+    ∙ eq-eqb (length g.mutators) (length g.mutators) refl
 all_named g (suc u) = All-append (λ (a : Name). has_name g a ≡ true) (names_below g u)
     (thread_names u (count_of g u)) (all_named g u)
     (λ k d l. let few : k < count_of g u = omega (arith, length_of_thread u (count_of g u)) in
@@ -55,14 +55,14 @@ pub live_of_marked : (w : Width) (g : Graph) (m : Marked) (xs : List Name) (i k 
     → xs ≡ names g → length xs ≤ i
     → ((b : Name) → has_mark m b ≡ (reachable g b && has_name g b))
     → k ≡ registers_end w (length g.mutators) + marked_blocks w g m (take i xs)
-        → k ≡ live_blocks w g
+    → k ≡ live_blocks w g
 unfolding live_blocks
 live_of_marked w g m xs i k e l marks sum =
     let of : Name → ℕ = λ a. object_blocks w (object_of g a) in
     let base : ℕ = registers_end w (length g.mutators) in
     sum ∙ ap (λ ys. base + marked_blocks w g m ys) (take_all i xs l ∙ e)
     ∙ ap (λ s. base + s) (sum_same (λ (a : Name). cond (has_mark m a) (of a) 0) (live_of w g)
-        (names g)
+    (names g)
     (λ j d h. let a : Name = get_or (names g) j d in
     marked_same (reachable g a) (has_name g a) (has_mark m a) (of a)
-        (all_named g (length g.mutators) j d h) (marks a)))
+    (all_named g (length g.mutators) j d h) (marks a)))

@@ -17,10 +17,10 @@ not_full c past k (Full z) s few l =
     let high : z ≤ starts_in past = rw l.0 (omega (arith, s)) in
     let all : starts_in (past ++ k) ≡ starts_in past + starts_in k = starts_append past k in
     let small : live_blocks c.width (graph_at c (past ++ k) z) ≤ c.live =
-        few z low (omega (arith, high, all)) in
+    few z low (omega (arith, high, all)) in
     let same : graph_at c (past ++ k) z ≡ graph_at c past z = graph_at_more c past k z low high in
     let small_past : live_blocks c.width (graph_at c past z) ≤ c.live =
-        subst (λ g. live_blocks c.width g ≤ c.live) same small in
+    subst (λ g. live_blocks c.width g ≤ c.live) same small in
     absurd (omega (arith, l.1, small_past))
 not_full c past k (New n) s few l = refl
 not_full c past k Stored s few l = refl
@@ -37,12 +37,12 @@ none_from : (c : Config) (past h : List HistoryItem) → 1 ≤ starts_in past
 none_from c past [] s few l = tt
 none_from c past (Started ∷ h) s few l =
     let all : starts_in (past ++ Started ∷ []) ≡ starts_in past + starts_in (Started ∷ []) =
-        starts_append past (Started ∷ []) in
+    starts_append past (Started ∷ []) in
     none_from c (past ++ Started ∷ []) h (omega (arith, s, all))
-        (subst (λ k. StartsSmall c k) (sym (append_assoc past (Started ∷ []) h)) few) l.1
+    (subst (λ k. StartsSmall c k) (sym (append_assoc past (Started ∷ []) h)) few) l.1
 none_from c past (Did e ∷ h) s few l =
     let all : starts_in (past ++ Did e ∷ []) ≡ starts_in past + starts_in (Did e ∷ []) =
-        starts_append past (Did e ∷ []) in (
+    starts_append past (Did e ∷ []) in (
       not_full c past (Did e ∷ h) e.reply s few l.0,
       none_from c (past ++ Did e ∷ []) h (omega (arith, s, all))
           (subst (λ k. StartsSmall c k) (sym (append_assoc past (Did e ∷ []) h)) few) l.1,

@@ -32,12 +32,12 @@ module _ (c : Config) (rate : ℕ) (traces : List (List Command)) where
         (sym (ap (graph_at c (past ++ Started ∷ [])) e ∙ graph_at_next c past [])) now
     | inr ne ↦ (let few : z ≤ starts_in past = omega (arith, starts_append past (Started ∷ [])) in
         subst (λ (g : Graph). live_blocks c.width g ≤ c.live)
-            (sym (graph_at_more c past (Started ∷ []) z some few)) (small z some few))
+        (sym (graph_at_more c past (Started ∷ []) z some few)) (small z some few))
   ]
   small_more past (Did e) now small z some low =
       let few : z ≤ starts_in past = omega (arith, starts_append past (Did e ∷ [])) in
       subst (λ (g : Graph). live_blocks c.width g ≤ c.live)
-          (sym (graph_at_more c past (Did e ∷ []) z some few)) (small z some few)
+      (sym (graph_at_more c past (Did e ∷ []) z some few)) (small z some few)
 
   module _ (Inv : List HistoryItem → Type 0)
       (within : (past : List HistoryItem) → Inv past → live_blocks c.width (replay c past) ≤ c.live)
@@ -73,7 +73,7 @@ module _ (c : Config) (rate : ℕ) (traces : List (List Command)) where
         record { first = λ _. refl; next = tt; answered = tt; licensed = tt; right_work = tt } in
         go (Started ∷ []) h (λ e. cc) (omega arith)
         (small_more [] Started (within [] inv) (λ z some low. absurd (omega arith)))
-            (step [] Started first tt inv)
+        (step [] Started first tt inv)
         run.legal run.licensed.1 run.right_work.1 run.traces_whole
 
   -- and no such run has a full

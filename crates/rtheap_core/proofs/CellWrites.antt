@@ -20,10 +20,10 @@ pub written_at : (inside seen : Cells) (p : Place) (k v : ℕ) → inside ≡ se
     → length inside.words ≡ words_count (extent inside.config)
     → in_range (extent seen.config) p ≡ true → k ≡ index (extent inside.config) p
     → heap_in (record { config = inside.config; words = set inside.words k v })
-        ≡ put_at (heap_in seen) p v
+    ≡ put_at (heap_in seen) p v
 written_at inside seen p k v same size there e =
     ap (λ i. heap_in (record { config = inside.config; words = set inside.words i v })) e
     ∙ heap_of-put (extent inside.config) inside.words p v
-        (subst (λ (s : Cells). in_range (extent s.config) p ≡ true) (sym same) there)
-        (omega arith)
+    (subst (λ (s : Cells). in_range (extent s.config) p ≡ true) (sym same) there)
+    (omega arith)
     ∙ ap (λ (s : Cells). put_at (heap_in s) p v) same

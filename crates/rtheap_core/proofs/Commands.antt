@@ -51,16 +51,16 @@ module _ (W : Width) (h : PlainHeap) (at : Name → ℕ → ℕ) (g : Graph)
   pub shows_register : (new : PlainHeap) (d word : ℕ) (v : Value) → d < 16
       → word ≡ value_word (heads at) v → IsValueOf (every_name g) v
       → heap_in new.store ≡ put_at (heap_in h.store) (register_at W d) word → new.last ≡ h.last
-          → new.made ≡ h.made → ShowsPlain W new at (with_register g 0 d v)
+      → new.made ≡ h.made → ShowsPlain W new at (with_register g 0 d v)
   shows_register new d word v small reads kept e n m = record {
     shows = subst (λ l. Shows W 1 l (every_name (with_register g 0 d v))
         (with_register g 0 d v) at (block_words (heap_in new.store)) never_late) (sym n)
         (subst (λ (q : Heap). Shows W 1 h.last (every_name (with_register g 0 d v))
-            (with_register g 0 d v) at (block_words q) never_late)
+        (with_register g 0 d v) at (block_words q) never_late)
         (sym (e ∙ ap (put_at (heap_in h.store) (register_at W d)) reads))
         (every_register_store W 1 h.last g at
-            (block_words (heap_in h.store)) never_late sh.shows never_late 0 d v
-            (omega arith) small kept (λ u q f k. f)));
+        (block_words (heap_in h.store)) never_late sh.shows never_late 0 d v
+        (omega arith) small kept (λ u q f k. f)));
     made = ap length (objects_with g 0 0 _ there refl) ∙ sh.made ∙ sym m;
   }
 
@@ -73,24 +73,33 @@ module _ (W : Width) (h : PlainHeap) (at : Name → ℕ → ℕ) (g : Graph)
       → new.last ≡ h.last → new.made ≡ h.made
       → Answers W new g (commands.Set d v) replies.Stored
   set_answers new d v small low e n m =
-      record { at = at; same = refl;
-      shown = shows_register new d (number_word v) (values.Int v) small refl low e n m }
+      record {
+        at = at;
+        same = refl;
+        shown = shows_register new d (number_word v) (values.Int v) small refl low e n m;
+      }
 
   pub nil_answers : (new : PlainHeap) (d : ℕ) → d < 16
       → heap_in new.store ≡ put_at (heap_in h.store) (register_at W d) 0 → new.last ≡ h.last
       → new.made ≡ h.made → Answers W new g (commands.Nil d) replies.Stored
   nil_answers new d small e n m =
-      record { at = at; same = refl;
-      shown = shows_register new d 0 values.Nil small refl tt e n m }
+      record {
+        at = at;
+        same = refl;
+        shown = shows_register new d 0 values.Nil small refl tt e n m;
+      }
 
   pub mov_answers : (new : PlainHeap) (d s word : ℕ) → d < 16 → s < 16
       → word ≡ heap_in h.store (register_at W s)
       → heap_in new.store ≡ put_at (heap_in h.store) (register_at W d) word
       → new.last ≡ h.last → new.made ≡ h.made → Answers W new g (commands.Mov d s) replies.Stored
   mov_answers new d s word small from w e n m =
-      record { at = at; same = refl;
-      shown = shows_register new d word (register_of g 0 s) small (w ∙ register_word s from)
-      (register_kept s from) e n m }
+      record {
+        at = at;
+        same = refl;
+        shown = shows_register new d word (register_of g 0 s) small (w ∙ register_word s from)
+            (register_kept s from) e n m;
+      }
 
   pub say_answers : (s word : ℕ) (value : Value) → IsPlain h → s < 16
       → word ≡ heap_in h.store (register_at W s) → value ≡ value_in (heap_in h.store) h.last word
@@ -115,10 +124,10 @@ module _ (W : Width) (h : PlainHeap) (at : Name → ℕ → ℕ) (g : Graph)
       → HasObject g (register_of g 0 s) o → Answers W h g (commands.Len s) (replies.Len n)
   len_found s o n is found =
       let took : at_object g (register_of g 0 s)
-          (λ name. (g, replies.Len (length (object_of g name).fields)))
-          ≡ (g, replies.Len (length (object_of g found.name).fields)) =
-          ap (λ v. at_object g v (λ name.
-          (g, replies.Len (length (object_of g name).fields)))) found.refers in
+      (λ name. (g, replies.Len (length (object_of g name).fields)))
+      ≡ (g, replies.Len (length (object_of g found.name).fields)) =
+      ap (λ v. at_object g v (λ name.
+      (g, replies.Len (length (object_of g name).fields)))) found.refers in
       record {
         at = at;
         same = ap replies.Len (is ∙ found.size) ∙ sym (ap (λ (p : Graph × Reply). p.1) took);
@@ -129,8 +138,11 @@ module _ (W : Width) (h : PlainHeap) (at : Name → ℕ → ℕ) (g : Graph)
       → Answers W h g (commands.Len s) reply
   len_refused s reply r =
       let took = r (λ name. (g, replies.Len (length (object_of g name).fields))) in
-      record { at = at; same = sym (ap (λ (p : Graph × Reply). p.1) took);
-          shown = subst (λ (p : Graph × Reply). ShowsPlain W h at p.0) (sym took) sh }
+      record {
+        at = at;
+        same = sym (ap (λ (p : Graph × Reply). p.1) took);
+        shown = subst (λ (p : Graph × Reply). ShowsPlain W h at p.0) (sym took) sh;
+      }
 
   -- what is found of field i of the object in a register
   pub field_found : (s i : ℕ) (r : Result (ℕ × ℕ) Reply) → IsPlain h → s < 16
@@ -150,21 +162,23 @@ module _ (W : Width) (h : PlainHeap) (at : Name → ℕ → ℕ) (g : Graph)
   pub get_found : (new : PlainHeap) (d s i : ℕ) (spot : ℕ × ℕ) (word : ℕ) (value : Value)
       → IsPlain h → d < 16 → HasField W at g (register_of g 0 s) i spot
       → word ≡ heap_in h.store (PayloadOf spot.0 spot.1)
-          → value ≡ value_in (heap_in h.store) h.last word
+      → value ≡ value_in (heap_in h.store) h.last word
       → heap_in new.store ≡ put_at (heap_in h.store) (register_at W d) word → new.last ≡ h.last
-          → new.made ≡ h.made → Answers W new g (commands.Get d s i) (replies.Val value)
+      → new.made ≡ h.made → Answers W new g (commands.Get d s i) (replies.Val value)
   get_found new d s i spot word value plain small f w is e n m =
       let kept : IsValueOf (every_name g) (field_of (object_of g f.name) i) =
-          sh.shows.closed.fields f.name i f.there in
+      sh.shows.closed.fields f.name i f.there in
       let reads : word ≡ value_word (heads at) (field_of (object_of g f.name) i) =
       w ∙ ap (λ x. heap_in h.store (PayloadOf x spot.1)) f.block
-          ∙ ap (λ j. heap_in h.store
-          (PayloadOf (at f.name (object_spot W (object_of g f.name) i).0) j)) f.payload
+      ∙ ap (λ j. heap_in h.store
+      (PayloadOf (at f.name (object_spot W (object_of g f.name) i).0) j)) f.payload
       ∙ field_read W 1 h.last (every_name g) g at
-          (block_words (heap_in h.store)) never_late sh.shows f.name i f.there f.within in
+      (block_words (heap_in h.store)) never_late sh.shows f.name i f.there f.within in
       let took = step_at (register_of g 0 s) i f.name
-          (λ name. (with_register g 0 d (field_of (object_of g name) i),
-          replies.Val (field_of (object_of g name) i))) f.refers f.within in
+      (λ name. (
+        with_register g 0 d (field_of (object_of g name) i),
+        replies.Val (field_of (object_of g name) i),
+      )) f.refers f.within in
       record {
         at = at;
         same = ap replies.Val (is
@@ -177,28 +191,33 @@ module _ (W : Width) (h : PlainHeap) (at : Name → ℕ → ℕ) (g : Graph)
   pub get_refused : (new : PlainHeap) (d s i : ℕ) (reply : Reply) → new ≡ h
       → RefusesField g (register_of g 0 s) i reply → Answers W new g (commands.Get d s i) reply
   get_refused new d s i reply e r =
-      let took = r (λ name. (with_register g 0 d (field_of (object_of g name) i),
-          replies.Val (field_of (object_of g name) i))) in
-      record { at = at; same = sym (ap (λ (p : Graph × Reply). p.1) took);
-          shown = subst (λ (p : Graph × Reply). ShowsPlain W new at p.0) (sym took)
-          (stays new e) }
+      let took = r (λ name. (
+        with_register g 0 d (field_of (object_of g name) i),
+        replies.Val (field_of (object_of g name) i),
+      )) in
+      record {
+        at = at;
+        same = sym (ap (λ (p : Graph × Reply). p.1) took);
+        shown = subst (λ (p : Graph × Reply). ShowsPlain W new at p.0) (sym took)
+            (stays new e);
+      }
 
   pub put_found : (new : PlainHeap) (s i v : ℕ) (spot : ℕ × ℕ) (word : ℕ) → v < 16
       → HasField W at g (register_of g 0 s) i spot → word ≡ heap_in h.store (register_at W v)
       → heap_in new.store ≡ put_at (heap_in h.store) (PayloadOf spot.0 spot.1) word
-          → new.last ≡ h.last → new.made ≡ h.made
-          → Answers W new g (commands.Put s i v) replies.Stored
+      → new.last ≡ h.last → new.made ≡ h.made
+      → Answers W new g (commands.Put s i v) replies.Stored
   put_found new s i v spot word small f w e n m =
       let a = f.name in
       let x = at a (object_spot W (object_of g a) i).0 in
       let j = (object_spot W (object_of g a) i).1 in
       let took = step_at (register_of g 0 s) i a
-          (λ name. (with_field g name i (register_of g 0 v), replies.Stored)) f.refers f.within in
+      (λ name. (with_field g name i (register_of g 0 v), replies.Stored)) f.refers f.within in
       let stored : heap_in new.store
-          ≡ put_at (heap_in h.store) (PayloadOf x j) (value_word (heads at) (register_of g 0 v)) =
+      ≡ put_at (heap_in h.store) (PayloadOf x j) (value_word (heads at) (register_of g 0 v)) =
       e ∙ ap (λ y. put_at (heap_in h.store) (PayloadOf y spot.1) word) f.block
-          ∙ ap (λ k. put_at (heap_in h.store) (PayloadOf x k) word) f.payload
-          ∙ ap (put_at (heap_in h.store) (PayloadOf x j)) (w ∙ register_word v small) in
+      ∙ ap (λ k. put_at (heap_in h.store) (PayloadOf x k) word) f.payload
+      ∙ ap (put_at (heap_in h.store) (PayloadOf x j)) (w ∙ register_word v small) in
       record {
         at = at;
         same = sym (ap (λ (p : Graph × Reply). p.1) took);
@@ -207,12 +226,12 @@ module _ (W : Width) (h : PlainHeap) (at : Name → ℕ → ℕ) (g : Graph)
               (with_field g a i (register_of g 0 v)) at
               (block_words (heap_in new.store)) never_late) (sym n)
               (subst (λ (q : Heap). Shows W 1 h.last
-                  (every_name (with_field g a i (register_of g 0 v)))
-                  (with_field g a i (register_of g 0 v)) at (block_words q) never_late)
-                  (sym stored)
+              (every_name (with_field g a i (register_of g 0 v)))
+              (with_field g a i (register_of g 0 v)) at (block_words q) never_late)
+              (sym stored)
               (every_field_store W 1 h.last g at
-                  (block_words (heap_in h.store)) never_late sh.shows a i
-                  (register_of g 0 v) f.there f.within (register_kept v small)));
+              (block_words (heap_in h.store)) never_late sh.shows a i
+              (register_of g 0 v) f.there f.within (register_kept v small)));
           made = count_with_field g a i (register_of g 0 v) f.there 0 ∙ sh.made ∙ sym m;
         });
       }
@@ -221,9 +240,12 @@ module _ (W : Width) (h : PlainHeap) (at : Name → ℕ → ℕ) (g : Graph)
       → RefusesField g (register_of g 0 s) i reply → Answers W new g (commands.Put s i v) reply
   put_refused new s i v reply e r =
       let took = r (λ name. (with_field g name i (register_of g 0 v), replies.Stored)) in
-      record { at = at; same = sym (ap (λ (p : Graph × Reply). p.1) took);
-          shown = subst (λ (p : Graph × Reply). ShowsPlain W new at p.0) (sym took)
-          (stays new e) }
+      record {
+        at = at;
+        same = sym (ap (λ (p : Graph × Reply). p.1) took);
+        shown = subst (λ (p : Graph × Reply). ShowsPlain W new at p.0) (sym took)
+            (stays new e);
+      }
 
   same_self_value : (v : Value) → same_value v v ≡ true
   same_self_value values.Nil = refl
@@ -248,9 +270,9 @@ module _ (W : Width) (h : PlainHeap) (at : Name → ℕ → ℕ) (g : Graph)
       → Answers W h g (commands.Same a b) replies.Yes
   same_found a b v u la lb ev eu e =
       let one : register_of g 0 a ≡ register_of g 0 b =
-          one_value W 1 h.last (every_name g) g at
-          (block_words (heap_in h.store)) never_late sh.shows (register_of g 0 a)
-          (register_of g 0 b) (register_kept a la) (register_kept b lb)
+      one_value W 1 h.last (every_name g) g at
+      (block_words (heap_in h.store)) never_late sh.shows (register_of g 0 a)
+      (register_of g 0 b) (register_kept a la) (register_kept b lb)
       (sym (register_word a la) ∙ sym ev ∙ e ∙ eu ∙ register_word b lb) in
       record {
         at = at;

@@ -19,12 +19,12 @@ text_of_run : (source : Sides) (run : PlainRun) → HasRun source run
     → run_text (run.log ∷ []) 1 0 ≡ text_by_threads run.config.threads (history_of run.log)
 text_of_run source run r =
     ap (λ ls. run_text ls 1 0)
-        (sym (ap (λ n. parts n (history_of run.log)) r.runnable.one_thread ∙ r.part))
+    (sym (ap (λ n. parts n (history_of run.log)) r.runnable.one_thread ∙ r.part))
     ∙ ap (λ k. run_text (parts run.config.threads (history_of run.log)) k 0)
-        (sym r.is_run.one_start)
+    (sym r.is_run.one_start)
     ∙ ap (λ k. run_text (parts run.config.threads (history_of run.log))
-        (starts_in (history_of run.log)) k)
-        (sym (sum_of_none (history_of run.log) r.is_run.no_work))
+    (starts_in (history_of run.log)) k)
+    (sym (sum_of_none (history_of run.log) r.is_run.no_work))
 
 pub headline_of : (source sink : Sides) (status : ℕ) (run : PlainRun) → HasRun source run
     → IsWritten sink status (run_text (run.log ∷ []) 1 0) → Headline source sink status (Ran run)

@@ -54,10 +54,10 @@ module _ (W : Width) (h new : PlainHeap) (w : Heap) (at : Name → ℕ → ℕ) 
     (s : Shape) (plain : IsPlain h) (wide : h.store.config.width ≡ W) (small : d < 16)
     (few : blocks_in W s ≤ 1024) (sh : ShowsPlain W h at g)
     (room : h.last + blocks_in W s ≤ h.store.config.blocks)
-        (written : AreBlocksWritten W (heap_in h.store) w
-        (record { thread = 0; serial = h.made + 1 }) s (h.last + 1) (blocks_in W s))
+    (written : AreBlocksWritten W (heap_in h.store) w
+    (record { thread = 0; serial = h.made + 1 }) s (h.last + 1) (blocks_in W s))
     (e : heap_in new.store ≡ put_at w (register_at W d) (reference_word (h.last + 1)))
-        (n : new.last ≡ h.last + blocks_in W s) (m : new.made ≡ h.made + 1) where
+    (n : new.last ≡ h.last + blocks_in W s) (m : new.made ≡ h.made + 1) where
   abbrev block_of : ℕ → ℕ
   block_of o = h.last + 1 + o
 
@@ -72,8 +72,8 @@ module _ (W : Width) (h new : PlainHeap) (w : Heap) (at : Name → ℕ → ℕ) 
   shows_old : Shows W 1 (h.last + blocks_in W s) (every_name g) g at (block_words w) never_late
   shows_old = later_last W 1 h.last (every_name g) g at (block_words w) never_late
       (words_behind W 1 h.last (every_name g) g at
-          (block_words (heap_in h.store)) never_late sh.shows (block_words w)
-          (omega (arith, behind)) (λ x some low. written.before x (omega arith)))
+      (block_words (heap_in h.store)) never_late sh.shows (block_words w)
+      (omega (arith, behind)) (λ x some low. written.before x (omega arith)))
       (h.last + blocks_in W s) (omega arith)
 
   is_made : IsMade W 1 (h.last + blocks_in W s) g (block_words w) 0 (kind_of s)
@@ -88,7 +88,7 @@ module _ (W : Width) (h new : PlainHeap) (w : Heap) (at : Name → ℕ → ℕ) 
     blocks = λ o ol. written_shows W (λ a. 0) (block_words w) (next_name g 0) (kind_of s)
         (length_of s) block_of o
         (subst (λ c. IsWritten W (block_words w) (record { thread = 0; serial = c + 1 })
-            (kind_of s) (length_of s) block_of o) (sym sh.made) (written.blocks o ol));
+        (kind_of s) (length_of s) block_of o) (sym sh.made) (written.blocks o ol));
   }
 
   -- an allocation for which there are blocks
@@ -99,11 +99,11 @@ module _ (W : Width) (h new : PlainHeap) (w : Heap) (at : Name → ℕ → ℕ) 
       let after = with_register grown 0 d (values.Ref (next_name g 0)) in
       let first : h.last + 1 + 0 ≡ h.last + 1 = omega arith in
       let stored : Shows W 1 (h.last + blocks_in W s) (every_name after) after
-          (with_blocks at (next_name g 0) block_of)
-          (block_words (put_at w (register_at W d)
-          (reference_word (h.last + 1 + 0)))) never_late =
+      (with_blocks at (next_name g 0) block_of)
+      (block_words (put_at w (register_at W d)
+      (reference_word (h.last + 1 + 0)))) never_late =
       every_new W 1 (h.last + blocks_in W s) g at (block_words w) never_late shows_old 0 d
-          (kind_of s) (length_of s) block_of is_made small in
+      (kind_of s) (length_of s) block_of is_made small in
       let more : 0 < length grown.mutators = rw length-set there in
       record {
         at = with_blocks at (next_name g 0) block_of;
@@ -111,15 +111,15 @@ module _ (W : Width) (h new : PlainHeap) (w : Heap) (at : Name → ℕ → ℕ) 
             ∙ sym (ap (λ (p : Graph × Reply). p.1) (step_making g d s));
         shown = subst (λ (p : Graph × Reply). ShowsPlain W new
             (with_blocks at (next_name g 0) block_of) p.0) (sym (step_making g d s)) (record {
-          shows = subst (λ l. Shows W 1 l (every_name after) after
-              (with_blocks at (next_name g 0) block_of)
-              (block_words (heap_in new.store)) never_late) (sym n)
-              (subst (λ (q : Heap). Shows W 1 (h.last + blocks_in W s) (every_name after) after
+              shows = subst (λ l. Shows W 1 l (every_name after) after
+                  (with_blocks at (next_name g 0) block_of)
+                  (block_words (heap_in new.store)) never_late) (sym n)
+                  (subst (λ (q : Heap). Shows W 1 (h.last + blocks_in W s) (every_name after) after
                   (with_blocks at (next_name g 0) block_of) (block_words q) never_late)
-              (sym (e ∙ ap (λ x. put_at w (register_at W d) (reference_word x))
+                  (sym (e ∙ ap (λ x. put_at w (register_at W d) (reference_word x))
                   (sym first))) stored);
-          made = ap length (objects_with grown 0 0 _ more refl)
-              ∙ count_with_object g 0 (new_object (kind_of s) (length_of s)) there 0
-              ∙ ap (λ k. k + 1) sh.made ∙ sym m;
-        });
+              made = ap length (objects_with grown 0 0 _ more refl)
+                  ∙ count_with_object g 0 (new_object (kind_of s) (length_of s)) there 0
+                  ∙ ap (λ k. k + 1) sh.made ∙ sym m;
+            });
       }

@@ -59,19 +59,19 @@ part_none w e start size zero o j is = field_none ((o - start 0) * w + j) e
 part_none w e start size (suc h) o j is = elim (cases_Bool (ltb o (start h))) [
   | inl inner ↦
       let first = ap (λ t. link_in
-          (cond t (link_below (start h + ((o - start (suc h)) * w + 0)) (start h + size h))
-          (part_from w e start size h o 0))) inner in
+      (cond t (link_below (start h + ((o - start (suc h)) * w + 0)) (start h + size h))
+      (part_from w e start size h o 0))) inner in
       ap (λ t. link_in (cond t (link_below (start h + ((o - start (suc h)) * w + j))
-          (start h + size h)) (part_from w e start size h o j))) inner
+      (start h + size h)) (part_from w e start size h o j))) inner
       ∙ below_none (start h + ((o - start (suc h)) * w + 0))
-          (start h + ((o - start (suc h)) * w + j)) (start h + size h) (omega arith)
-          (sym first ∙ is)
+      (start h + ((o - start (suc h)) * w + j)) (start h + size h) (omega arith)
+      (sym first ∙ is)
   | inr out ↦
       let first = ap (λ t. link_in
-          (cond t (link_below (start h + ((o - start (suc h)) * w + 0)) (start h + size h))
-          (part_from w e start size h o 0))) out in
+      (cond t (link_below (start h + ((o - start (suc h)) * w + 0)) (start h + size h))
+      (part_from w e start size h o 0))) out in
       ap (λ t. link_in (cond t (link_below (start h + ((o - start (suc h)) * w + j))
-          (start h + size h)) (part_from w e start size h o j))) out
+      (start h + size h)) (part_from w e start size h o j))) out
       ∙ part_none w e start size h o j (sym first ∙ is)
 ]
 
@@ -85,19 +85,23 @@ leaf_links W (shapes.List f) o (suc j) l e =
     (lt-ltb j (room W) (omega arith)) ∙ field_none (o * room W + j) f
 leaf_links W (shapes.Tree n) o j l e =
     ap (λ t. link_in (cond t (part_from (payloads W) n (level_start (payloads W) n)
-        (level_size (payloads W) n) (tree_depth (payloads W) n) o j) Blank))
-        (lt-ltb j (payloads W) l)
+    (level_size (payloads W) n) (tree_depth (payloads W) n) o j) Blank))
+    (lt-ltb j (payloads W) l)
     ∙ part_none (payloads W) n (level_start (payloads W) n) (level_size (payloads W) n)
-        (tree_depth (payloads W) n) o j
+    (tree_depth (payloads W) n) o j
     (sym (ap (λ t. link_in (cond t
-        (part_from (payloads W) n (level_start (payloads W) n) (level_size (payloads W) n)
-        (tree_depth (payloads W) n) o 0) Blank)) (lt-ltb 0 (payloads W) (omega arith))) ∙ e)
+    (part_from (payloads W) n (level_start (payloads W) n) (level_size (payloads W) n)
+    (tree_depth (payloads W) n) o 0) Blank)) (lt-ltb 0 (payloads W) (omega arith))) ∙ e)
 
 pub agrees_still : (W : Width) (u v w : BlockWords) (x : ℕ) → Agrees W u v x → Agrees W v w x
     → Agrees W u w x
 agrees_still W u v w x a b =
-    record { owners = b.owners ∙ a.owners; shapes = b.shapes
-    ∙ a.shapes; payloads = λ j l. b.payloads j l ∙ a.payloads j l }
+    record {
+      owners = b.owners ∙ a.owners;
+      shapes = b.shapes
+          ∙ a.shapes;
+      payloads = λ j l. b.payloads j l ∙ a.payloads j l;
+    }
 
 agrees_self : (W : Width) (u : BlockWords) (x : ℕ) → Agrees W u u x
 agrees_self W u x = record { owners = refl; shapes = refl; payloads = λ j l. refl }
@@ -106,13 +110,20 @@ agrees_self W u x = record { owners = refl; shapes = refl; payloads = λ j l. re
 pub agrees_payload : (W : Width) (h : Heap) (x j v y : ℕ) → (x ≡ y → ⊥)
     → Agrees W (block_words h) (block_words (put_at h (PayloadOf x j) v)) y
 agrees_payload W h x j v y n =
-    record { owners = refl; shapes = refl;
-    payloads = λ k l. ap (λ b. cond (b && eqb j k) v (h (PayloadOf y k))) (ne_eqb x y n) }
+    record {
+      owners = refl;
+      shapes = refl;
+      payloads = λ k l. ap (λ b. cond (b && eqb j k) v (h (PayloadOf y k))) (ne_eqb x y n);
+    }
 
 pub no_links : (W : Width) (h : Heap) (s : Shape) (first o : ℕ) → AreLinksWritten W h h s first o 0
 no_links W h s first o =
-    record { links = λ j l. absurd (omega arith); owner = refl; shape = refl;
-    before = λ x l. agrees_self W (block_words h) x }
+    record {
+      links = λ j l. absurd (omega arith);
+      owner = refl;
+      shape = refl;
+      before = λ x l. agrees_self W (block_words h) x;
+    }
 
 links_put : (W : Width) (z h : Heap) (s : Shape) (first o j v : ℕ)
     → AreLinksWritten W z h s first o j → v ≡ new_word W s first o j
@@ -148,8 +159,8 @@ shape_is_kind (shapes.Tree e) = refl
 
 block_put : (W : Width) (z new : Heap) (a : Name) (s : Shape) (first o : ℕ)
     → AreLinksWritten W (put_at (put_at z (OwnerOf (first + o)) (owner_word a.thread a.serial o))
-        (ShapeOf (first + o)) (shape_code s)) new s first o (payloads W)
-        → IsBlockWritten W z new a s first o
+    (ShapeOf (first + o)) (shape_code s)) new s first o (payloads W)
+    → IsBlockWritten W z new a s first o
 block_put W z new a s first o w = record {
   block = record {
     owned = w.owner ∙ ap (λ b. cond b (owner_word a.thread a.serial o) (z (OwnerOf (first + o))))
@@ -161,8 +172,8 @@ block_put W z new a s first o w = record {
   before = λ x l.
       let n : eqb (first + o) x ≡ false = ne_eqb (first + o) x (λ e. absurd (omega arith)) in
       let b : Agrees W (block_words
-          (put_at (put_at z (OwnerOf (first + o)) (owner_word a.thread a.serial o))
-          (ShapeOf (first + o)) (shape_code s))) (block_words new) x = w.before x l in
+      (put_at (put_at z (OwnerOf (first + o)) (owner_word a.thread a.serial o))
+      (ShapeOf (first + o)) (shape_code s))) (block_words new) x = w.before x l in
       record {
         owners = b.owners ∙ ap (λ t. cond t (owner_word a.thread a.serial o) (z (OwnerOf x))) n;
         shapes = b.shapes ∙ ap (λ t. cond t (shape_code s) (z (ShapeOf x))) n;
@@ -177,21 +188,27 @@ pub block_written : (W : Width) (z b c new : Heap) (a : Name) (s : Shape) (first
     → AreLinksWritten W c new s first o (payloads W) → IsBlockWritten W z new a s first o
 block_written W z b c new a s first o eb ec w =
     block_put W z new a s first o
-        (subst (λ (q : Heap). AreLinksWritten W q new s first o (payloads W))
-        (ec ∙ ap (λ (q : Heap). put_at q (ShapeOf (first + o)) (shape_code s)) eb) w)
+    (subst (λ (q : Heap). AreLinksWritten W q new s first o (payloads W))
+    (ec ∙ ap (λ (q : Heap). put_at q (ShapeOf (first + o)) (shape_code s)) eb) w)
 
 written_still : (W : Width) (u v : BlockWords) (a : Name) (k : ObjectKind) (n : ℕ)
     (block_of : ℕ → ℕ) (o : ℕ) → IsWritten W u a k n block_of o → Agrees W u v (block_of o)
     → IsWritten W v a k n block_of o
 written_still W u v a k n block_of o w s =
-    record { owned = s.owners ∙ w.owned; shaped = s.shapes
-    ∙ w.shaped; links = λ j l. s.payloads j l ∙ w.links j l }
+    record {
+      owned = s.owners ∙ w.owned;
+      shaped = s.shapes
+          ∙ w.shaped;
+      links = λ j l. s.payloads j l ∙ w.links j l;
+    }
 
 pub no_blocks : (W : Width) (h : Heap) (a : Name) (s : Shape) (first : ℕ)
     → AreBlocksWritten W h h a s first 0
 no_blocks W h a s first =
-    record { blocks = λ o l. absurd (omega arith);
-    before = λ x l. agrees_self W (block_words h) x }
+    record {
+      blocks = λ o l. absurd (omega arith);
+      before = λ x l. agrees_self W (block_words h) x;
+    }
 
 -- one more block
 pub blocks_more : (W : Width) (z h new : Heap) (a : Name) (s : Shape) (first count : ℕ)
@@ -204,7 +221,7 @@ blocks_more W z h new a s first count w b = record {
     | inr other ↦
         let low : o < count = omega arith in
         written_still W (block_words h) (block_words new) a (kind_of s) (length_of s)
-            (λ q. first + q) o (w.blocks o low) (b.before (first + o) (omega arith))
+        (λ q. first + q) o (w.blocks o low) (b.before (first + o) (omega arith))
   ];
   before = λ x l. agrees_still W (block_words z) (block_words h) (block_words new) x
       (w.before x l) (b.before x (omega arith));

@@ -82,9 +82,9 @@ module _ (W : Width) (heap : Heap) (last : ℕ) (g : Graph) (at : Name → ℕ �
       → reference_at heap last (at a 0) ≡ values.Ref a
   reference_shown a h =
       ap (λ b. cond b (reference_of (owner_of (heap (OwnerOf (at a 0))))) values.Nil)
-          (le-leb (at a 0) last (head_given a h))
+      (le-leb (at a 0) last (head_given a h))
       ∙ ap reference_of (owner_read W 1 last (every_name g) g at
-          (block_words heap) never_late shows a 0 h (first_there a h))
+      (block_words heap) never_late shows a 0 h (first_there a h))
 
   -- a payload of the value's word shows the value
   payload_shown : (v : Value) → IsValueOf (every_name g) v
@@ -97,9 +97,9 @@ module _ (W : Width) (heap : Heap) (last : ℕ) (g : Graph) (at : Name → ℕ �
       → IsValueOf (every_name g) v → value_in heap last word ≡ v
   value_shown word v e k =
       ap (λ w. value_of_payload heap last (payload_of w)) e
-          ∙ ap (value_of_payload heap last)
-          (value_read W 1 last (every_name g) g at (block_words heap) never_late shows v few k)
-          ∙ payload_shown v k
+      ∙ ap (value_of_payload heap last)
+      (value_read W 1 last (every_name g) g at (block_words heap) never_late shows v few k)
+      ∙ payload_shown v k
 
   -- what is found of the object of a value
   abbrev object_reply : Value → Result (ℕ × Shape) Reply
@@ -114,25 +114,28 @@ module _ (W : Width) (heap : Heap) (last : ℕ) (g : Graph) (at : Name → ℕ �
   object_payload (values.Int n) k = refl
   object_payload (values.Ref a) k =
       ap (λ b. cond b (with_shape (at a 0) (shape_of (heap (ShapeOf (at a 0)))))
-          (Err replies.Null)) (le-leb (at a 0) last (head_given a k))
+      (Err replies.Null)) (le-leb (at a 0) last (head_given a k))
       ∙ ap (with_shape (at a 0))
-          (length_read W 1 last (every_name g) g at (block_words heap) never_late shows a 0 k
-          (first_there a k))
+      (length_read W 1 last (every_name g) g at (block_words heap) never_late shows a 0 k
+      (first_there a k))
 
   object_shown : (word : ℕ) (v : Value) → word ≡ value_word (heads at) v
       → IsValueOf (every_name g) v → object_in heap last word ≡ object_reply v
   object_shown word v e k =
       ap (λ w. object_of_payload heap last (payload_of w)) e
-          ∙ ap (object_of_payload heap last)
-          (value_read W 1 last (every_name g) g at (block_words heap) never_late shows v few k)
-          ∙ object_payload v k
+      ∙ ap (object_of_payload heap last)
+      (value_read W 1 last (every_name g) g at (block_words heap) never_late shows v few k)
+      ∙ object_payload v k
 
   found_object : (v : Value) → MatchResult (object_reply v) (HasObject g v) (Refuses g v)
   found_object values.Nil = λ act. refl
   found_object (values.Int n) = λ act. refl
   found_object (values.Ref a) =
-      record { name = a; refers = refl;
-      size = length_of_kind (object_of g a).kind (length (object_of g a).fields) }
+      record {
+        name = a;
+        refers = refl;
+        size = length_of_kind (object_of g a).kind (length (object_of g a).fields);
+      }
 
   -- the object to which a word refers, or the refusal
   pub looked_object : (word : ℕ) (v : Value) (r : Result (ℕ × Shape) Reply)
@@ -151,20 +154,20 @@ module _ (W : Width) (heap : Heap) (last : ℕ) (g : Graph) (at : Name → ℕ �
         let before : walk heap last (at a 0) turn l ≡ at a (way l) = walked l (omega arith) in
         let under : l < steps = omega arith in
         let onward = (object_layout W (object_of g a)).onward (way l) (turn l) (way (l + 1))
-            (is.links l under) in
+        (is.links l under) in
         let there : at a (way (l + 1)) ≤ last = shows.placed.within a (way (l + 1)) h onward.2 in
         let some : 1 ≤ at a (way (l + 1)) =
-            omega (arith, shows.placed.behind a (way (l + 1)) h onward.2) in
+        omega (arith, shows.placed.behind a (way (l + 1)) h onward.2) in
         let word : heap (PayloadOf (at a (way l)) (turn l))
-            ≡ reference_word (at a (way (l + 1))) =
-            link_read W 1 last (every_name g) g at (block_words heap) never_late shows a (way l)
-            (turn l) (way (l + 1)) h (is.links l under) in
+        ≡ reference_word (at a (way (l + 1))) =
+        link_read W 1 last (every_name g) g at (block_words heap) never_late shows a (way l)
+        (turn l) (way (l + 1)) h (is.links l under) in
         ap (λ x. block_or last x (payload_of (heap (PayloadOf x (turn l))))) before
         ∙ ap (λ w. block_or last (at a (way l)) (payload_of w)) word
         ∙ ap (block_or last (at a (way l)))
-            (payload-code (words.Block (at a (way (l + 1)))) (some, omega arith))
+        (payload-code (words.Block (at a (way (l + 1)))) (some, omega arith))
         ∙ ap (λ b. cond b (at a (way (l + 1))) (at a (way l)))
-            (le-leb (at a (way (l + 1))) last there)
+        (le-leb (at a (way (l + 1))) last there)
         ∙ ap (λ k. at a (way k)) (add-one l)
 
     pub walked_to : i < length (object_of g a).fields
@@ -183,9 +186,9 @@ module _ (W : Width) (heap : Heap) (last : ℕ) (g : Graph) (at : Name → ℕ �
       let k = (object_of g a).kind in
       let n = length (object_of g a).fields in
       let end = walked_to a i h (steps_of W k n i) (end_of W k n i) (way_of W k n i)
-          (turn_of W k n i) (is_way W k n i within) within in
+      (turn_of W k n i) (is_way W k n i within) within in
       subst (λ (p : ℕ × ℕ). HasField W at g (values.Ref a) i p)
-          (sym (spot_is W heap last (at a 0) k n i)) (record {
+      (sym (spot_is W heap last (at a 0) k n i)) (record {
         name = a;
         refers = refl;
         there = h;
@@ -201,11 +204,11 @@ module _ (W : Width) (heap : Heap) (last : ℕ) (g : Graph) (at : Name → ℕ �
   found_field (values.Int n) i k = λ act. refl
   found_field (values.Ref a) i k =
       let spot = spot_of W heap last (at a 0)
-          (kind_shape (object_of g a).kind (length (object_of g a).fields)) i in
+      (kind_shape (object_of g a).kind (length (object_of g a).fields)) i in
       subst (λ l. MatchResult (cond (ltb i l) (Ok spot) (Err replies.Range))
-          (HasField W at g (values.Ref a) i) (RefusesField g (values.Ref a) i))
-          (sym (length_of_kind (object_of g a).kind (length (object_of g a).fields)))
-          (elim (cases_Bool (ltb i (length (object_of g a).fields))) [
+      (HasField W at g (values.Ref a) i) (RefusesField g (values.Ref a) i))
+      (sym (length_of_kind (object_of g a).kind (length (object_of g a).fields)))
+      (elim (cases_Bool (ltb i (length (object_of g a).fields))) [
         | inl more ↦ subst (λ b. MatchResult (cond b (Ok spot) (Err replies.Range))
             (HasField W at g (values.Ref a) i) (RefusesField g (values.Ref a) i)) (sym more)
             (has_field a i k (ltb-true i _ more))
@@ -221,5 +224,5 @@ module _ (W : Width) (heap : Heap) (last : ℕ) (g : Graph) (at : Name → ℕ �
       → MatchResult r (HasField W at g v i) (RefusesField g v i)
   looked_field word i v r e k is =
       subst (λ (q : Result (ℕ × ℕ) Reply). MatchResult q (HasField W at g v i)
-          (RefusesField g v i)) (sym
-          (is ∙ ap (λ o. spot_in W heap last o i) (object_shown word v e k))) (found_field v i k)
+      (RefusesField g v i)) (sym
+      (is ∙ ap (λ o. spot_in W heap last o i) (object_shown word v e k))) (found_field v i k)

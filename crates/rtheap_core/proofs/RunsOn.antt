@@ -74,7 +74,7 @@ true≢false e = cc
 adds_full : (c : Config) (used : ℕ) (at : Name → ℕ → ℕ) (g : Graph) (h new : PlainHeap)
     (command : Command) (reply : Reply)
     → used ≤ c.blocks → c.blocks < used + blocks_of c.width command → h.last ≡ used
-        → reply ≡ replies.Full 1 → new ≡ h
+    → reply ≡ replies.Full 1 → new ≡ h
     → ShowsPlain c.width h at g → Adds c used g new (entry_of command reply)
 adds_full c used at g h new command reply low lack n e same sh =
     let k : ℕ = blocks_of c.width command in
@@ -94,7 +94,7 @@ adds_full c used at g h new command reply low lack n e same sh =
 adds_new : (c : Config) (used : ℕ) (g : Graph) (h new : PlainHeap) (command : Command)
     (reply : Reply)
     → used + blocks_of c.width command ≤ c.blocks → h.last ≡ used → is_full reply ≡ false
-        → new.last ≡ h.last + blocks_of c.width command
+    → new.last ≡ h.last + blocks_of c.width command
     → Answers c.width new g command reply → Adds c used g new (entry_of command reply)
 adds_new c used g h new command reply fit n f nn a = record {
   answered = inl a.same;
@@ -109,9 +109,9 @@ adds_new c used g h new command reply fit n f nn a = record {
 adds : (c : Config) (used : ℕ) (at : Name → ℕ → ℕ) (g : Graph) (h new : PlainHeap)
     (command : Command) (reply : Reply)
     → h.store.config ≡ c → used ≤ c.blocks → h.last ≡ used → ShowsPlain c.width h at g
-        → Takes h new (blocks_of c.width command) reply
+    → Takes h new (blocks_of c.width command) reply
     → (is_full reply ≡ false → Answers c.width new g command reply)
-        → Adds c used g new (entry_of command reply)
+    → Adds c used g new (entry_of command reply)
 adds c used at g h new command reply same low n sh takes answered =
     let m : h.store.config.blocks ≡ c.blocks = ap (λ (k : Config). k.blocks) same in
     elim (cases_lt c.blocks (h.last + blocks_of c.width command)) [
@@ -126,12 +126,12 @@ goes_on : (c : Config) (commands : List Command) (h new : PlainHeap) (log : List
     (command : Command) (reply : Reply) → IsRunSoFar c commands h log → IsPlain new
     → new.store.config ≡ c
     → Adds c (opening_blocks c + taken_in c.width (map Did log))
-        (replay_from (start_graph c) (map Did log)) new (entry_of command reply)
-        → IsRunSoFar c (commands ++ command ∷ []) new (log ++ entry_of command reply ∷ [])
+    (replay_from (start_graph c) (map Did log)) new (entry_of command reply)
+    → IsRunSoFar c (commands ++ command ∷ []) new (log ++ entry_of command reply ∷ [])
 goes_on c commands h new log command reply run plain config a =
     let e : Entry = entry_of command reply in
     let longer : map Did log ++ Did e ∷ [] ≡ map Did (log ++ e ∷ []) =
-        sym (map-append Did log (e ∷ [])) in
+    sym (map-append Did log (e ∷ [])) in
     record {
       plain = plain;
       config = config;
@@ -164,24 +164,24 @@ goes_on c commands h new log command reply run plain config a =
 pub run_goes_on : (c : Config) (commands : List Command) (h new : PlainHeap) (log : List Entry)
     (command : Command) (reply : Reply)
     → IsRunSoFar c commands h log → IsPlain new → new.store.config ≡ h.store.config
-        → Takes h new (blocks_of h.store.config.width command) reply
+    → Takes h new (blocks_of h.store.config.width command) reply
     → (is_full reply ≡ false → DoesStep h new command reply)
-        → IsRunSoFar c (commands ++ command ∷ []) new (log ++ entry_of command reply ∷ [])
+    → IsRunSoFar c (commands ++ command ∷ []) new (log ++ entry_of command reply ∷ [])
 run_goes_on c commands h new log command reply run plain config takes answered =
     let blocks : h.store.config.blocks ≡ c.blocks = ap (λ (k : Config). k.blocks) run.config in
     let wide : h.store.config.width ≡ c.width = ap (λ (k : Config). k.width) run.config in
     let up : h.last ≤ h.store.config.blocks = run.plain.within in
     let g : Graph = replay_from (start_graph c) (map Did log) in
     let does : is_full reply ≡ false → ShowsPlain c.width h run.at g
-        → Answers c.width new g command reply =
+    → Answers c.width new g command reply =
     λ f. subst (λ (W : Width). ShowsPlain W h run.at g → Answers W new g command reply) wide
-        (answered f run.at g) in
+    (answered f run.at g) in
     goes_on c commands h new log command reply run plain (config ∙ run.config)
     (adds c (opening_blocks c + taken_in c.width
-        (map Did log)) run.at g h new command reply run.config
-        (omega (arith, run.given)) run.given run.shown
+    (map Did log)) run.at g h new command reply run.config
+    (omega (arith, run.given)) run.given run.shown
     (subst (λ (W : Width). Takes h new (blocks_of W command) reply) wide takes)
-        (λ f. does f run.shown))
+    (λ f. does f run.shown))
 
 -- before the first command
 pub run_starts : (c : Config) (at : Name → ℕ → ℕ) (h : PlainHeap) (log : List Entry) → IsPlain h
@@ -189,18 +189,18 @@ pub run_starts : (c : Config) (at : Name → ℕ → ℕ) (h : PlainHeap) (log :
     → log ≡ [] → IsRunSoFar c [] h log
 run_starts c at h log plain config next shown e =
     subst (λ (es : List Entry). IsRunSoFar c [] h es) (sym e) (record {
-  plain = plain;
-  config = config;
-  done = refl;
-  thread = refl;
-  others = λ t n. refl;
-  legal = tt;
-  no_work = tt;
-  fulls = tt;
-  given = omega arith;
-  at = at;
-  shown = shown;
-})
+      plain = plain;
+      config = config;
+      done = refl;
+      thread = refl;
+      others = λ t n. refl;
+      legal = tt;
+      no_work = tt;
+      fulls = tt;
+      given = omega arith;
+      at = at;
+      shown = shown;
+    })
 
 starts_of_entries : (log : List Entry) → starts_in (map Did log) ≡ 0
 starts_of_entries [] = refl

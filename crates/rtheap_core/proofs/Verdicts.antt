@@ -54,7 +54,7 @@ refused_as words bytes source due OutOfMemory asked e c = Fails (inr e)
 verdict : (words : List (List ℕ)) (bytes : List ℕ) (source sink : Sides) (status due : ℕ)
     → Ask words
     → (due ≡ 0 → IsJobWith (λ job. IsAdmitted job.config × (AskForRun words → CanRun job))
-        (told source bytes))
+    (told source bytes))
     → (due ≢ 0 → Refused words (told source bytes) sink status due) → Verdict words bytes due
 verdict words bytes source sink status due asked done refused = elim (cases_eq due 0) [
   | inl e ↦ let d = done e in Done d.0 d.1.input d.2.0 d.2.1 e
@@ -143,7 +143,7 @@ not_two_words words a b = let e = sym a ∙ b in cc
 done_as : (words : List (List ℕ)) (source sink : Sides) (status due : ℕ) (run : Option RunEnd)
     → Ask words
     → IfSome run (λ end. Headline source sink status end)
-        → (AskForRun words × (due ≡ 0) → IsSome run)
+    → (AskForRun words × (due ≡ 0) → IsSome run)
     → (AskForPlan words → due ≡ 0 → Planned source sink status)
     → due ≡ 0 → IsJobWith (λ job. IsAdmitted job.config × (AskForRun words → CanRun job)) source
 done_as words source sink status due (Some e) (inl ask) headline some planned zero =
@@ -152,7 +152,7 @@ done_as words source sink status due None (inl ask) headline some planned zero =
     let e : false ≡ true = some (ask, zero) in cc
 done_as words source sink status due run (inr ask) headline some planned zero =
     let p = planned ask zero in
-        (p.job, p.read, (p.admitted, λ other. absurd (not_two_words words other ask)))
+    (p.job, p.read, (p.admitted, λ other. absurd (not_two_words words other ask)))
 
 -- without a fault of a stream the call is done, or memory ran out
 unfailed : (due status : ℕ) (P Q : Type 0) → (due ≡ 5 → P) → (status ≡ 6 → Q)
@@ -169,13 +169,13 @@ module _ (laws : Laws) (c : Call) (done : IsCarriedOut c) where
       → Verdict c.words bytes c.exit.due
   verdict_of asked bytes e =
       let same : c.source ≡ told c.source bytes =
-          ap (λ (o : Option (List ℕ)). let s : Sides = record c.source { bytes = o } in s) e in
+      ap (λ (o : Option (List ℕ)). let s : Sides = record c.source { bytes = o } in s) e in
       verdict c.words bytes c.source c.sink c.exit.status c.exit.due asked
       (subst (λ (s : Sides). c.exit.due ≡ 0
-          → IsJobWith (λ job. IsAdmitted job.config × (AskForRun c.words → CanRun job)) s) same
+      → IsJobWith (λ job. IsAdmitted job.config × (AskForRun c.words → CanRun job)) s) same
       (done_as c.words c.source c.sink c.exit.status c.exit.due c.exit.run asked done.headline done.run.1 done.planned))
       (subst (λ (s : Sides). c.exit.due ≢ 0
-          → Refused c.words s c.sink c.exit.status c.exit.due) same done.refused)
+      → Refused c.words s c.sink c.exit.status c.exit.due) same done.refused)
 
   due_for : (k : ℕ) (P : List ℕ → Type 0)
       → ((bytes : List ℕ) → c.source.bytes ≡ Some bytes → P bytes → IsDueOrFails k c.exit.due)

@@ -25,11 +25,13 @@ pub front_in_turn : (a b c : Option (List ℕ)) (xs ys : List ℕ) → Appends a
 front_in_turn None b c xs ys h i = tt
 front_in_turn (Some before) b c xs ys h i =
     let P : Option (List ℕ) → Type 0 =
-        λ o. IfSome o (λ bytes. (k : ℕ) × (c ≡ Some (bytes ++ take k ys))) in
-    let at_b : (k : ℕ) × (c ≡ Some ((before ++ xs) ++ take k ys)) = subst P h i in
-    (length xs + at_b.0, at_b.1
-        ∙ ap Some (append_assoc before xs (take at_b.0 ys)
-        ∙ ap (λ zs. before ++ zs) (sym (take-append-add xs ys at_b.0))))
+    λ o. IfSome o (λ bytes. (k : ℕ) × (c ≡ Some (bytes ++ take k ys))) in
+    let at_b : (k : ℕ) × (c ≡ Some ((before ++ xs) ++ take k ys)) = subst P h i in (
+      length xs + at_b.0,
+      at_b.1
+          ∙ ap Some (append_assoc before xs (take at_b.0 ys)
+          ∙ ap (λ zs. before ++ zs) (sym (take-append-add xs ys at_b.0))),
+    )
 
 -- the whole of a text is a front of it and more
 pub front_of_more : (a b : Option (List ℕ)) (xs ys : List ℕ) → Appends a b xs
@@ -58,16 +60,16 @@ keeps_known (Some before) (Some bs) h = ap Some (h ∙ sym (append-nil before))
 pub written_more : (a b c : Option (List ℕ)) (text : List ℕ) (done k : ℕ)
     → Appends a b (take done text)
     → known.Appends b c (take k (take (length text - done) (drop done text)))
-        → Appends a c (take (done + k) text)
+    → Appends a c (take (done + k) text)
 written_more a b c text done k before h =
     let rest : take (length text - done) (drop done text) ≡ drop done text = take_rest text done in
     let P : List ℕ → Type 0 = λ ys. Appends b c (take k ys) in
     let more : Appends b c (take k (drop done text)) =
-        subst P rest (appends_known b c
-        (take k (take (length text - done) (drop done text))) h) in
+    subst P rest (appends_known b c
+    (take k (take (length text - done) (drop done text))) h) in
     let Q : List ℕ → Type 0 = λ ys. Appends a c ys in
     subst Q (sym (take-add done k text))
-        (appends_in_turn a b c (take done text) (take k (drop done text)) before more)
+    (appends_in_turn a b c (take done text) (take k (drop done text)) before more)
 
 pub kept_more : (a b c : Option (List ℕ)) (text : List ℕ) → Appends a b text → known.Keeps b c
     → Appends a c text
@@ -95,7 +97,7 @@ module _ {X : Type 0} (f : X → List ℕ) where
       → flat_map f (take (i + 1) xs) ≡ flat_map f (take i xs) ++ f (get_or xs i d)
   lines_next xs i d lt =
       ap (flat_map f) (ap (λ n. take n xs) (add-one i) ∙ take-suc xs i d lt)
-          ∙ flat_map-append f (take i xs) (get_or xs i d ∷ [])
+      ∙ flat_map-append f (take i xs) (get_or xs i d ∷ [])
       ∙ ap (λ zs. flat_map f (take i xs) ++ zs) (append-nil (f (get_or xs i d)))
 
   -- the lines up to a place, and a front of the line there
@@ -106,9 +108,9 @@ module _ {X : Type 0} (f : X → List ℕ) where
       let P : List ℕ → Type 0 = λ text. AppendsFront a c text in
       let whole : flat_map f (take (i + 1) xs) ++ flat_map f (drop (i + 1) xs) ≡ flat_map f xs =
       sym (flat_map-append f (take (i + 1) xs) (drop (i + 1) xs))
-          ∙ ap (flat_map f) (take-append-drop (i + 1) xs) in
+      ∙ ap (flat_map f) (take-append-drop (i + 1) xs) in
       let so_far : AppendsFront a c (flat_map f (take (i + 1) xs)) =
-          subst P (sym (lines_next xs i d lt)) (front_in_turn a b c _ _ before h) in
+      subst P (sym (lines_next xs i d lt)) (front_in_turn a b c _ _ before h) in
       subst P whole (front_longer a c _ _ so_far)
 
   -- the lines up to a place at the end or past it

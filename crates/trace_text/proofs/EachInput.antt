@@ -39,8 +39,10 @@ behind_last bytes c done read (ps ∷ others) begun last =
     bad bytes _ _ (is_too_long c done bytes read (ps ∷ others) begun last ps others refl)
 
 none_so_far : (c : Config) (lines : Lines) → IsSoFar c lines [] lines
-none_so_far c lines = record { text = refl;
-    in_bounds = record { few = omega arith; commands = tt } }
+none_so_far c lines = record {
+  text = refl;
+  in_bounds = record { few = omega arith; commands = tt };
+}
 
 -- behind a trace
 behind_trace : (bytes : List ℕ) (c : Config) (done : List (List Command)) (read : ℕ)
@@ -56,34 +58,34 @@ behind_line : (bytes : List ℕ) (c : Config) (ps : List (List ℕ)) (others : L
     (done : List (List Command)) (read : ℕ) (left : Lines) (trace : List Command)
     (said : Result Line Why) → Follows bytes c others
     → IsBegun c done bytes read left → length done < c.threads
-        → IsSoFar c left trace (ps ∷ others)
-        → line_at (place c (length done + 1) (length trace)) ps ≡ said → Outcome bytes
+    → IsSoFar c left trace (ps ∷ others)
+    → line_at (place c (length done + 1) (length trace)) ps ≡ said → Outcome bytes
 behind_line bytes c ps others done read left trace (Err why) follows begun more so_far is =
     bad bytes _ why (goes_wrong c done bytes read left begun more _ why
-        (trace_is_bad c (length done + 1) left trace
-        (ps ∷ others) so_far ps others refl why is read))
+    (trace_is_bad c (length done + 1) left trace
+    (ps ∷ others) so_far ps others refl why is read))
 behind_line bytes c ps others done read left trace (Ok (Told x)) follows begun more so_far is =
     follows done read left (trace ++ x ∷ []) begun more
-        (trace_goes_on c (length done + 1) left trace (ps ∷ others) so_far ps others refl x is)
+    (trace_goes_on c (length done + 1) left trace (ps ∷ others) so_far ps others refl x is)
 behind_line bytes c ps others done read left trace (Ok (Thread n)) follows begun more so_far is =
     behind_trace bytes c (done ++ trace ∷ []) _ others follows
-        (goes_on c done bytes read left begun more trace others
-        (trace_stops c (length done + 1) left trace (ps ∷ others) so_far ps others refl
-        (Thread n) is refl))
+    (goes_on c done bytes read left begun more trace others
+    (trace_stops c (length done + 1) left trace (ps ∷ others) so_far ps others refl
+    (Thread n) is refl))
 behind_line bytes c ps others done read left trace (Ok End) follows begun more so_far is =
     behind_trace bytes c (done ++ trace ∷ []) _ others follows
-        (goes_on c done bytes read left begun more trace others
-        (trace_stops c (length done + 1) left trace
-        (ps ∷ others) so_far ps others refl End is refl))
+    (goes_on c done bytes read left begun more trace others
+    (trace_stops c (length done + 1) left trace
+    (ps ∷ others) so_far ps others refl End is refl))
 
 follow : (bytes : List ℕ) (c : Config) (others : Lines) → Follows bytes c others
 follow bytes c [] = λ done read left trace begun more so_far.
     bad bytes _ _ (goes_wrong c done bytes read left begun more _ _
-        (trace_ends c (length done + 1) left trace [] so_far refl read))
+    (trace_ends c (length done + 1) left trace [] so_far refl read))
 follow bytes c (ps ∷ others) = λ done read left trace begun more so_far.
     behind_line bytes c ps others done read left trace
-        (line_at (place c (length done + 1) (length trace)) ps)
-        (follow bytes c others) begun more so_far refl
+    (line_at (place c (length done + 1) (length trace)) ps)
+    (follow bytes c others) begun more so_far refl
 
 behind_thread : (bytes : List ℕ) (c : Config) (ps qs : List (List ℕ)) (more : Lines)
     (said : Result Line Why) → pieced bytes ≡ ps ∷ qs ∷ more → header_at ps ≡ Ok c
@@ -92,7 +94,7 @@ behind_thread bytes c ps qs more (Err why) text is said =
     bad bytes 2 why (bad_thread bytes ps (qs ∷ more) c text is qs more why refl said)
 behind_thread bytes c ps qs more (Ok l) text is said =
     follow bytes c more [] 2 more [] (opens bytes ps (qs ∷ more) c text is qs more l refl said)
-        (omega (arith, (header_sound ps c is).fits.some_thread)) (none_so_far c more)
+    (omega (arith, (header_sound ps c is).fits.some_thread)) (none_so_far c more)
 
 behind_header : (bytes : List ℕ) (ps : List (List ℕ)) (others : Lines) (named : Result Config Why)
     → pieced bytes ≡ ps ∷ others → header_at ps ≡ named → Outcome bytes

@@ -72,10 +72,13 @@ whatever (Err e) P h = tt
 ended_few : (old new : Option (List ℕ)) (input : List ℕ) → length input ≤ 16777216
     → HasRead old input new → TookAtMost 16777217 old new
 ended_few None new input short read = tt
-ended_few (Some bytes) new input short read =
-    (length input, omega arith, read.2
-        ∙ ap Some (sym (ap (drop (length input)) read.1
-        ∙ drop_at input read.0 (length input) refl)))
+ended_few (Some bytes) new input short read = (
+  length input,
+  omega arith,
+  read.2
+      ∙ ap Some (sym (ap (drop (length input)) read.1
+      ∙ drop_at input read.0 (length input) refl)),
+)
 
 ends_by : (r : Result Job TraceFault) (input : List ℕ) (old new : Option (List ℕ))
     → Answers r input → IsAtEnd old new → TookAtMost 16777217 old new → StopsAt r old new
@@ -100,8 +103,14 @@ pub known : (r : Result Job TraceFault) (old new : Option (List ℕ)) (input : L
     → Answers r input → length input ≤ 16777216 → HasRead old input new → IsAtEnd old new
     → Known r old
 known r None new input is short read ended =
-    record { job = whatever r _ (λ job. tt); complete = tt; long = tt; too_long = λ e. tt;
-    wrong = tt; bad_line = λ line why e. tt }
+    record {
+      job = whatever r _ (λ job. tt);
+      complete = tt;
+      long = tt;
+      too_long = λ e. tt;
+      wrong = tt;
+      bad_line = λ line why e. tt;
+    }
 known r (Some bytes) new input is short read ended =
     let same = all_read bytes input new read ended in
     let told : Answers r bytes = subst (Answers r) (sym same) is in
@@ -137,8 +146,14 @@ more_told bytes input new len read =
 pub known_long : (old new : Option (List ℕ)) (input : List ℕ) → length input ≡ 16777217
     → HasRead old input new → Known (Err TooLong) old
 known_long None new input len read =
-    record { job = tt; complete = tt; long = tt; too_long = λ e. tt; wrong = tt;
-    bad_line = λ line why e. tt }
+    record {
+      job = tt;
+      complete = tt;
+      long = tt;
+      too_long = λ e. tt;
+      wrong = tt;
+      bad_line = λ line why e. tt;
+    }
 known_long (Some bytes) new input len read =
     let more = more_told bytes input new len read in
     record {

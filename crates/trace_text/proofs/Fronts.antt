@@ -20,11 +20,11 @@ reads_on None mid new front more k h a = tt
 reads_on (Some bytes) mid new front more k h a =
     let rest : List ℕ = h.0 in
     let added : Adds k rest front more new =
-        subst (λ (m : Option (List ℕ)). IfSome m (λ b. Adds k b front more new)) h.2 a in
+    subst (λ (m : Option (List ℕ)). IfSome m (λ b. Adds k b front more new)) h.2 a in
     let parts : front ++ rest ≡ more ++ drop k rest =
     ap (λ (r : List ℕ). front ++ r) (sym (take-append-drop k rest))
-        ∙ sym (append_assoc front (take k rest) (drop k rest))
-        ∙ ap (λ (m : List ℕ). m ++ drop k rest) (sym added.added) in
+    ∙ sym (append_assoc front (take k rest) (drop k rest))
+    ∙ ap (λ (m : List ℕ). m ++ drop k rest) (sym added.added) in
     (drop k rest, h.1 ∙ parts, added.rest)
 
 pub tells_on : (old mid new : Option (List ℕ)) (front : List ℕ) → HasRead old front mid
@@ -63,9 +63,9 @@ took_on : (old mid new : Option (List ℕ)) (front : List ℕ) (room most : ℕ)
 took_on None mid new front room most few h t = tt
 took_on (Some bytes) mid new front room most few h t =
     let taken : TookAtMost room (Some h.0) new =
-        subst (λ (m : Option (List ℕ)). TookAtMost room m new) h.2 t in
+    subst (λ (m : Option (List ℕ)). TookAtMost room m new) h.2 t in
     let past : drop (taken.0 + length front) bytes ≡ drop taken.0 h.0 =
-        ap (drop (taken.0 + length front)) h.1 ∙ drop_past front h.0 taken.0 in
+    ap (drop (taken.0 + length front)) h.1 ∙ drop_past front h.0 taken.0 in
     (taken.0 + length front, omega (arith, taken.1), taken.2 ∙ ap Some (sym past))
 
 -- the same behind a front

@@ -27,8 +27,14 @@ ranged_config w n m l o s = do
   live ← bounded_at 0 65535 l
   object ← bounded_at 1 1024 o
   shared ← bounded_at 0 1024 s
-  Ok (record { width = w; threads = threads; blocks = blocks; live = live; object = object;
-      shared = shared })
+  Ok (record {
+    width = w;
+    threads = threads;
+    blocks = blocks;
+    live = live;
+    object = object;
+    shared = shared;
+  })
 
 abbrev out : Bool → ℕ → Result ℕ Why
 out t n = cond t (Err whys.Size) (Ok n)
@@ -48,8 +54,8 @@ five_ranges w false false false false false n m l o s = refl
 five_numbers : (a b d e f : Option ℕ) (g : ℕ → ℕ → ℕ → ℕ → ℕ → Result Config Why)
     → reason (ok_or a whys.Number >>= λ n. ok_or b whys.Number >>= λ m. ok_or d whys.Number >>= λ l. ok_or e whys.Number >>= λ o. ok_or f whys.Number >>= λ s. g n m l o s)
     ≡ cond (not (is_some a && is_some b && is_some d && is_some e && is_some f))
-        (Some whys.Number) (reason
-        (g (unwrap_or a 0) (unwrap_or b 0) (unwrap_or d 0) (unwrap_or e 0) (unwrap_or f 0)))
+    (Some whys.Number) (reason
+    (g (unwrap_or a 0) (unwrap_or b 0) (unwrap_or d 0) (unwrap_or e 0) (unwrap_or f 0)))
 five_numbers None b d e f g = refl
 five_numbers (Some n) None d e f g = refl
 five_numbers (Some n) (Some m) None e f g = refl
@@ -74,10 +80,10 @@ labels_agree (Some p) =
     let o = unwrap_or e 0 in
     let s = unwrap_or f 0 in
     let ranges = five_ranges p.0 (is_outside 1 16 n) (is_outside 1 65535 m) (is_outside 0 65535 l)
-        (is_outside 1 1024 o) (is_outside 0 1024 s) n m l o s in
+    (is_outside 1 1024 o) (is_outside 0 1024 s) n m l o s in
     sym (five_numbers a b d e f (ranged_config p.0)
-        ∙ ap (cond (not (is_some a && is_some b && is_some d && is_some e && is_some f))
-        (Some whys.Number)) ranges)
+    ∙ ap (cond (not (is_some a && is_some b && is_some d && is_some e && is_some f))
+    (Some whys.Number)) ranges)
 
 -- a header says something exactly where nothing is wrong with it
 pub header_agrees : (ps : List (List ℕ)) → header_fault ps ≡ reason (header_at ps)
@@ -142,16 +148,30 @@ same_config w n m l o s nn mm ll oo ss a b d e f = rw (a, b, d, e, f) refl
 
 said : (ps : List (List ℕ)) (p : Labels) (n m l o s : ℕ) → labels_at ps ≡ Some p
     → IsRanged 1 16 p.1 n → IsRanged 1 65535 p.2 m → IsRanged 0 65535 p.3 l
-        → IsRanged 1 1024 p.4 o → IsRanged 0 1024 p.5 s
-    → SaysHeader ps (record { width = p.0; threads = n; blocks = m; live = l; object = o;
-        shared = s })
+    → IsRanged 1 1024 p.4 o → IsRanged 0 1024 p.5 s
+    → SaysHeader ps (record {
+      width = p.0;
+      threads = n;
+      blocks = m;
+      live = l;
+      object = o;
+      shared = s;
+    })
 unfolding config_of
 said ps p n m l o s is a b d f g =
     record {
       text = placed ps p.0 p.1 p.2 p.3 p.4 p.5 n m l o s
           (labels_sound ps p is) a.text b.text d.text f.text g.text;
-      fits = record { some_thread = a.low; threads = a.high; some_block = b.low; blocks = b.high;
-          live = d.high; some_object = f.low; object = f.high; shared = g.high };
+      fits = record {
+        some_thread = a.low;
+        threads = a.high;
+        some_block = b.low;
+        blocks = b.high;
+        live = d.high;
+        some_object = f.low;
+        object = f.high;
+        shared = g.high;
+      };
       config = ap numbers_config is
           ∙ same_config p.0 _ _ _ _ _ n m l o s a.value b.value d.value f.value g.value;
     }
@@ -172,8 +192,8 @@ header_sound ps c e =
     bind_ok (bounded_at 0 1024 s) _ c r9 (λ ss is_ss r10.
     subst (SaysHeader ps) (same_Ok _ c r10)
     (said ps p nn mm ll oo ss (from_option (labels_at ps) whys.Header p is_p)
-        (ranged 1 16 p.1 n nn is_n is_nn) (ranged 1 65535 p.2 m mm is_m is_mm)
-        (ranged 0 65535 p.3 l ll is_l is_ll)
+    (ranged 1 16 p.1 n nn is_n is_nn) (ranged 1 65535 p.2 m mm is_m is_mm)
+    (ranged 0 65535 p.3 l ll is_l is_ll)
     (ranged 1 1024 p.4 o oo is_o is_oo) (ranged 0 1024 p.5 s ss is_s is_ss)))))))))))))
 
 pub header_complete : (c : Config) → IsInBounds c → header_at (header c) ≡ Ok c

@@ -61,7 +61,7 @@ unfolding labelled_at
 labelled_sound label ps x e =
     let a = bind_some (behind_at label ps) parted x e in
     behind_sound label ps a.at a.first
-        ∙ ap (λ (r : List (List ℕ)). label ∷ r) (parted_some a.at x.0 x.1 a.second)
+    ∙ ap (λ (r : List (List ℕ)). label ∷ r) (parted_some a.at x.0 x.1 a.second)
 
 labelled_complete : (label piece : List ℕ) (rest : List (List ℕ))
     → labelled_at label (label ∷ piece ∷ rest) ≡ Some (piece, rest)
@@ -72,12 +72,12 @@ width_sound : (piece : List ℕ) (w : Width) → width_at piece ≡ Some w → p
 width_sound piece w e = elim (cases_Bool (bytes_eq piece (codes "1"))) [
   | inl one ↦ (bytes_eq-Decides piece (codes "1")).0 one
       ∙ ap version (same_Some Four w
-          (subst (λ b. cond b (Some Four) (cond (bytes_eq piece (codes "2")) (Some Eight) None)
-          ≡ Some w) one e))
+      (subst (λ b. cond b (Some Four) (cond (bytes_eq piece (codes "2")) (Some Eight) None)
+      ≡ Some w) one e))
   | inr not ↦
       let t = then_some (bytes_eq piece (codes "2")) (Some Eight) w
-          (subst (λ b. cond b (Some Four) (cond (bytes_eq piece (codes "2")) (Some Eight) None)
-          ≡ Some w) not e) in
+      (subst (λ b. cond b (Some Four) (cond (bytes_eq piece (codes "2")) (Some Eight) None)
+      ≡ Some w) not e) in
       (bytes_eq-Decides piece (codes "2")).0 t.0 ∙ ap version (same_Some Eight w t.1)
 ]
 
@@ -89,7 +89,7 @@ version_sound (p ∷ ps) x e =
     let a = bind_some (width_at p) (λ w. Some (w, ps)) x e in
     let same : (a.at, ps) ≡ x = same_Some (a.at, ps) x a.second in
     ap (λ (q : List ℕ). q ∷ ps) (width_sound p a.at a.first)
-        ∙ ap (λ (y : Width × List (List ℕ)). version y.0 ∷ y.1) same
+    ∙ ap (λ (y : Width × List (List ℕ)). version y.0 ∷ y.1) same
 
 -- the pieces of a header of this width with these five pieces behind its labels
 abbrev pub labels : Width → List ℕ → List ℕ → List ℕ → List ℕ → List ℕ → List (List ℕ)
@@ -109,44 +109,44 @@ pub labels_sound : (ps : List (List ℕ)) (x : Labels) → labels_at ps ≡ Some
 unfolding labels_at
 labels_sound ps x e =
     bind_then (behind_at (codes "rtheap") ps)
-        (λ a. version_at a >>= λ b. labelled_at (codes "threads") b.1 >>= λ n. labelled_at
-        (codes "blocks") n.1 >>= λ m. labelled_at (codes "live") m.1 >>= λ l. labelled_at
-        (codes "object") l.1 >>= λ o. labelled_at
-        (codes "shared") o.1 >>= λ s. no_more_of s.1 >>= λ z. Some
-        (b.0, n.0, m.0, l.0, o.0, s.0)) x e (λ a is_a r0.
+    (λ a. version_at a >>= λ b. labelled_at (codes "threads") b.1 >>= λ n. labelled_at
+    (codes "blocks") n.1 >>= λ m. labelled_at (codes "live") m.1 >>= λ l. labelled_at
+    (codes "object") l.1 >>= λ o. labelled_at
+    (codes "shared") o.1 >>= λ s. no_more_of s.1 >>= λ z. Some
+    (b.0, n.0, m.0, l.0, o.0, s.0)) x e (λ a is_a r0.
     bind_then (version_at a) (λ b. labelled_at (codes "threads") b.1 >>= λ n. labelled_at
-        (codes "blocks") n.1 >>= λ m. labelled_at (codes "live") m.1 >>= λ l. labelled_at
-        (codes "object") l.1 >>= λ o. labelled_at
-        (codes "shared") o.1 >>= λ s. no_more_of s.1 >>= λ z. Some
-        (b.0, n.0, m.0, l.0, o.0, s.0)) x r0 (λ b is_b r1.
+    (codes "blocks") n.1 >>= λ m. labelled_at (codes "live") m.1 >>= λ l. labelled_at
+    (codes "object") l.1 >>= λ o. labelled_at
+    (codes "shared") o.1 >>= λ s. no_more_of s.1 >>= λ z. Some
+    (b.0, n.0, m.0, l.0, o.0, s.0)) x r0 (λ b is_b r1.
     bind_then (labelled_at (codes "threads") b.1)
-        (λ n. labelled_at (codes "blocks") n.1 >>= λ m. labelled_at
-        (codes "live") m.1 >>= λ l. labelled_at (codes "object") l.1 >>= λ o. labelled_at
-        (codes "shared") o.1 >>= λ s. no_more_of s.1 >>= λ z. Some
-        (b.0, n.0, m.0, l.0, o.0, s.0)) x r1 (λ n is_n r2.
+    (λ n. labelled_at (codes "blocks") n.1 >>= λ m. labelled_at
+    (codes "live") m.1 >>= λ l. labelled_at (codes "object") l.1 >>= λ o. labelled_at
+    (codes "shared") o.1 >>= λ s. no_more_of s.1 >>= λ z. Some
+    (b.0, n.0, m.0, l.0, o.0, s.0)) x r1 (λ n is_n r2.
     bind_then (labelled_at (codes "blocks") n.1)
-        (λ m. labelled_at (codes "live") m.1 >>= λ l. labelled_at
-        (codes "object") l.1 >>= λ o. labelled_at
-        (codes "shared") o.1 >>= λ s. no_more_of s.1 >>= λ z. Some
-        (b.0, n.0, m.0, l.0, o.0, s.0)) x r2 (λ m is_m r3.
+    (λ m. labelled_at (codes "live") m.1 >>= λ l. labelled_at
+    (codes "object") l.1 >>= λ o. labelled_at
+    (codes "shared") o.1 >>= λ s. no_more_of s.1 >>= λ z. Some
+    (b.0, n.0, m.0, l.0, o.0, s.0)) x r2 (λ m is_m r3.
     bind_then (labelled_at (codes "live") m.1)
-        (λ l. labelled_at (codes "object") l.1 >>= λ o. labelled_at
-        (codes "shared") o.1 >>= λ s. no_more_of s.1 >>= λ z. Some
-        (b.0, n.0, m.0, l.0, o.0, s.0)) x r3 (λ l is_l r4.
+    (λ l. labelled_at (codes "object") l.1 >>= λ o. labelled_at
+    (codes "shared") o.1 >>= λ s. no_more_of s.1 >>= λ z. Some
+    (b.0, n.0, m.0, l.0, o.0, s.0)) x r3 (λ l is_l r4.
     bind_then (labelled_at (codes "object") l.1)
-        (λ o. labelled_at (codes "shared") o.1 >>= λ s. no_more_of s.1 >>= λ z. Some
-        (b.0, n.0, m.0, l.0, o.0, s.0)) x r4 (λ o is_o r5.
+    (λ o. labelled_at (codes "shared") o.1 >>= λ s. no_more_of s.1 >>= λ z. Some
+    (b.0, n.0, m.0, l.0, o.0, s.0)) x r4 (λ o is_o r5.
     bind_then (labelled_at (codes "shared") o.1)
-        (λ s. no_more_of s.1 >>= λ z. Some (b.0, n.0, m.0, l.0, o.0, s.0)) x r5 (λ s is_s r6.
+    (λ s. no_more_of s.1 >>= λ z. Some (b.0, n.0, m.0, l.0, o.0, s.0)) x r5 (λ s is_s r6.
     bind_then (no_more_of s.1) (λ z. Some (b.0, n.0, m.0, l.0, o.0, s.0)) x r6 (λ z is_z r7.
     (subst (λ (y : Labels). ps ≡ labels y.0 y.1 y.2 y.3 y.4 y.5)
-        (same_Some (b.0, n.0, m.0, l.0, o.0, s.0) x r7)
+    (same_Some (b.0, n.0, m.0, l.0, o.0, s.0) x r7)
     (joined b.0 n.0 m.0 l.0 o.0 s.0 ps a b.1 n.1 m.1 l.1 o.1 s.1
-        (behind_sound (codes "rtheap") ps a is_a) (version_sound a b is_b)
-        (labelled_sound (codes "threads") b.1 n is_n)
+    (behind_sound (codes "rtheap") ps a is_a) (version_sound a b is_b)
+    (labelled_sound (codes "threads") b.1 n is_n)
     (labelled_sound (codes "blocks") n.1 m is_m) (labelled_sound (codes "live") m.1 l is_l)
-        (labelled_sound (codes "object") l.1 o is_o) (labelled_sound (codes "shared") o.1 s is_s)
-        (none_sound s.1 z is_z)))))))))))
+    (labelled_sound (codes "object") l.1 o is_o) (labelled_sound (codes "shared") o.1 s is_s)
+    (none_sound s.1 z is_z)))))))))))
 
 pub labels_complete : (w : Width) (n m l b s : List ℕ)
     → labels_at (labels w n m l b s) ≡ Some (w, n, m, l, b, s)

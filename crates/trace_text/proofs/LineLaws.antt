@@ -189,7 +189,7 @@ first_test false why r o e = e
 counted : (n m : Bool) (ns : List ℕ) (f : List ℕ → Result Line Why) (o : Option Why)
     → (n ≡ true → reason (f ns) ≡ o)
     → reason ((cond n (cond m (Err whys.Number) (Ok ns)) (Err whys.Count)) >>= f)
-        ≡ cond (not n) (Some whys.Count) (cond m (Some whys.Number) o)
+    ≡ cond (not n) (Some whys.Count) (cond m (Some whys.Number) o)
 counted false m ns f o h = refl
 counted true true ns f o h = refl
 counted true false ns f o h = h refl
@@ -202,8 +202,8 @@ turn_agree c t k w ps =
     first_test (is_command w && eqb t 0) whys.Order _ _
     (rw (values_are ps, count_length ps n)
     (counted (count_is n ps) (list_any (λ piece. not (is_number piece)) ps) (map value_of ps)
-        (told_at (place c t k) w) _
-        (λ h. told_agree c t k w (map value_of ps) (count_map value_of n ps ∙ h))))
+    (told_at (place c t k) w) _
+    (λ h. told_agree c t k w (map value_of ps) (count_map value_of n ps ∙ h))))
 
 named_agree : (c : Config) (t k : ℕ) (o : Option Word) (ps : List (List ℕ))
     → reason (ok_or o whys.Word >>= λ w. in_turn (place c t k) w ps)
@@ -289,84 +289,108 @@ told_sound c t k words.Thread ns l e =
     let p = in_order (not (eqb n t) || eqb t c.threads) (Thread n) l f in
     let turn = thread_turn n t c.threads p.0 in
     says c t k words.Thread (Thread n) l
-        (n ∷ []) p.1 record { text = refl; fits = turn; command = λ _. inl (ap Thread turn.0) })
+    (n ∷ []) p.1 record { text = refl; fits = turn; command = λ _. inl (ap Thread turn.0) })
 told_sound c t k words.End ns l e =
     from_none (Says c t k words.End l) ns _ l e (λ f.
     let p = in_order (not (eqb t c.threads)) End l f in
-    says c t k words.End End l [] p.1 record { text = refl; fits = end_turn t c.threads p.0;
-        command = λ _. inr refl })
+    says c t k words.End End l [] p.1 record {
+      text = refl;
+      fits = end_turn t c.threads p.0;
+      command = λ _. inr refl;
+    })
 told_sound c t k words.New ns l e =
     from_two (Says c t k words.New l) ns _ l e (λ d n f.
     let p = passed (ltb 15 d)
-        (leb 131072 k || ltb 65535 n || ltb c.object (record_blocks c.width n))
-        (Told (commands.New d n)) l f in
+    (leb 131072 k || ltb 65535 n || ltb c.object (record_blocks c.width n))
+    (Told (commands.New d n)) l f in
     let b = few_blocks n (record_blocks c.width n) c.object k p.1 in
     says c t k words.New (Told (commands.New d n)) l
-        (d ∷ n ∷ []) p.2 record { text = refl; fits = ((low d p.0, b.0, b.1), b.2);
-        command = λ h. absurd cc })
+    (d ∷ n ∷ []) p.2 record {
+      text = refl;
+      fits = ((low d p.0, b.0, b.1), b.2);
+      command = λ h. absurd cc;
+    })
 told_sound c t k words.Arr ns l e =
     from_two (Says c t k words.Arr l) ns _ l e (λ d n f.
     let p = passed (ltb 15 d)
-        (leb 131072 k || ltb 65535 n || ltb c.object (array_blocks c.width n))
-        (Told (commands.Arr d n)) l f in
+    (leb 131072 k || ltb 65535 n || ltb c.object (array_blocks c.width n))
+    (Told (commands.Arr d n)) l f in
     let b = few_blocks n (array_blocks c.width n) c.object k p.1 in
     says c t k words.Arr (Told (commands.Arr d n)) l
-        (d ∷ n ∷ []) p.2 record { text = refl; fits = ((low d p.0, b.0, b.1), b.2);
-        command = λ h. absurd cc })
+    (d ∷ n ∷ []) p.2 record {
+      text = refl;
+      fits = ((low d p.0, b.0, b.1), b.2);
+      command = λ h. absurd cc;
+    })
 told_sound c t k words.Set ns l e =
     from_two (Says c t k words.Set l) ns _ l e (λ d n f.
     let p = passed (ltb 15 d) (leb 131072 k || leb (2 ^ 62) n) (Told (commands.Set d n)) l f in
     let b = few_numbers n k p.1 in
     says c t k words.Set (Told (commands.Set d n)) l
-        (d ∷ n ∷ []) p.2 record { text = refl; fits = ((low d p.0, b.0), b.1);
-        command = λ h. absurd cc })
+    (d ∷ n ∷ []) p.2 record {
+      text = refl;
+      fits = ((low d p.0, b.0), b.1);
+      command = λ h. absurd cc;
+    })
 told_sound c t k words.Nil ns l e =
     from_one (Says c t k words.Nil l) ns _ l e (λ d f.
     let p = passed (ltb 15 d) (leb 131072 k) (Told (commands.Nil d)) l f in
     says c t k words.Nil (Told (commands.Nil d)) l
-        (d ∷ []) p.2 record { text = refl; fits = one_low d k p.0 p.1; command = λ h. absurd cc })
+    (d ∷ []) p.2 record { text = refl; fits = one_low d k p.0 p.1; command = λ h. absurd cc })
 told_sound c t k words.Mov ns l e =
     from_two (Says c t k words.Mov l) ns _ l e (λ d s f.
     let p = passed (ltb 15 d || ltb 15 s) (leb 131072 k) (Told (commands.Mov d s)) l f in
     let b = two_low d s k p.0 p.1 in
     says c t k words.Mov (Told (commands.Mov d s)) l
-        (d ∷ s ∷ []) p.2 record { text = refl; fits = ((b.0, b.1), b.2);
-        command = λ h. absurd cc })
+    (d ∷ s ∷ []) p.2 record {
+      text = refl;
+      fits = ((b.0, b.1), b.2);
+      command = λ h. absurd cc;
+    })
 told_sound c t k words.Get ns l e =
     from_three (Says c t k words.Get l) ns _ l e (λ d s i f.
     let p = passed (ltb 15 d || ltb 15 s) (leb 131072 k || leb (2 ^ 62) i)
-        (Told (commands.Get d s i)) l f in
+    (Told (commands.Get d s i)) l f in
     let r = both_low d s p.0 in
     let b = few_numbers i k p.1 in
     says c t k words.Get (Told (commands.Get d s i)) l
-        (d ∷ s ∷ i ∷ []) p.2 record { text = refl; fits = ((r.0, r.1, b.0), b.1);
-        command = λ h. absurd cc })
+    (d ∷ s ∷ i ∷ []) p.2 record {
+      text = refl;
+      fits = ((r.0, r.1, b.0), b.1);
+      command = λ h. absurd cc;
+    })
 told_sound c t k words.Put ns l e =
     from_three (Says c t k words.Put l) ns _ l e (λ s i v f.
     let p = passed (ltb 15 s || ltb 15 v) (leb 131072 k || leb (2 ^ 62) i)
-        (Told (commands.Put s i v)) l f in
+    (Told (commands.Put s i v)) l f in
     let r = both_low s v p.0 in
     let b = few_numbers i k p.1 in
     says c t k words.Put (Told (commands.Put s i v)) l
-        (s ∷ i ∷ v ∷ []) p.2 record { text = refl; fits = ((r.0, b.0, r.1), b.1);
-        command = λ h. absurd cc })
+    (s ∷ i ∷ v ∷ []) p.2 record {
+      text = refl;
+      fits = ((r.0, b.0, r.1), b.1);
+      command = λ h. absurd cc;
+    })
 told_sound c t k words.Len ns l e =
     from_one (Says c t k words.Len l) ns _ l e (λ s f.
     let p = passed (ltb 15 s) (leb 131072 k) (Told (commands.Len s)) l f in
     says c t k words.Len (Told (commands.Len s)) l
-        (s ∷ []) p.2 record { text = refl; fits = one_low s k p.0 p.1; command = λ h. absurd cc })
+    (s ∷ []) p.2 record { text = refl; fits = one_low s k p.0 p.1; command = λ h. absurd cc })
 told_sound c t k words.Same ns l e =
     from_two (Says c t k words.Same l) ns _ l e (λ a b f.
     let p = passed (ltb 15 a || ltb 15 b) (leb 131072 k) (Told (commands.Same a b)) l f in
     let r = two_low a b k p.0 p.1 in
     says c t k words.Same (Told (commands.Same a b)) l
-        (a ∷ b ∷ []) p.2 record { text = refl; fits = ((r.0, r.1), r.2);
-        command = λ h. absurd cc })
+    (a ∷ b ∷ []) p.2 record {
+      text = refl;
+      fits = ((r.0, r.1), r.2);
+      command = λ h. absurd cc;
+    })
 told_sound c t k words.Say ns l e =
     from_one (Says c t k words.Say l) ns _ l e (λ s f.
     let p = passed (ltb 15 s) (leb 131072 k) (Told (commands.Say s)) l f in
     says c t k words.Say (Told (commands.Say s)) l
-        (s ∷ []) p.2 record { text = refl; fits = one_low s k p.0 p.1; command = λ h. absurd cc })
+    (s ∷ []) p.2 record { text = refl; fits = one_low s k p.0 p.1; command = λ h. absurd cc })
 
 -- the same for what follows from two steps
 pub bind_ok : {A B P : Type 0} (r : Result A Why) (f : A → Result B Why) (y : B)
@@ -398,7 +422,7 @@ turn_sound : (c : Config) (t k : ℕ) (w : Word) (first : List ℕ) (ps : List (
 unfolding operands_at
 turn_sound c t k w first ps l named e =
     let told = not_refused (is_command w && eqb t 0)
-        (numbers_at (length (operands w)) ps >>= told_at (place c t k) w) l e in
+    (numbers_at (length (operands w)) ps >>= told_at (place c t k) w) l e in
     bind_ok (numbers_at (length (operands w)) ps) (told_at (place c t k) w) l told.1 (λ ns are says.
     let s = told_sound c t k w ns l says in
     record {
@@ -416,7 +440,7 @@ line_sound c t k [] l e = absurd cc
 line_sound c t k (first ∷ ps) l e =
     bind_ok (ok_or (word_at first) whys.Word) (λ w. in_turn (place c t k) w ps) l e (λ w is told.
     turn_sound c t k w first ps l
-        (word_sound first w (from_option (word_at first) whys.Word w is)) told)
+    (word_sound first w (from_option (word_at first) whys.Word w is)) told)
 
 -- ---- what is written is read again
 
@@ -559,7 +583,11 @@ unfolding line_at operands_at
 line_complete c t k l le f turn =
     let w = written l in
     let behind : (is_command (line_word l) && eqb t 0) ≡ false =
-        ap (λ (x : Bool). x && eqb t 0) (told_word l) ∙ turn in
-    rw (w.text, word_complete (line_word l), behind,
-        numbers_complete (length (operands (line_word l))) (line_numbers l) w.count
-        (small c t k l le f)) (told_complete c t k l f)
+    ap (λ (x : Bool). x && eqb t 0) (told_word l) ∙ turn in
+    rw (
+      w.text,
+      word_complete (line_word l),
+      behind,
+      numbers_complete (length (operands (line_word l))) (line_numbers l) w.count
+          (small c t k l le f),
+    ) (told_complete c t k l f)

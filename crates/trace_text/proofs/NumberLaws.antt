@@ -46,8 +46,10 @@ digits_sound n m (b ∷ bs) e =
     let t = then_some (is_digit b) (digits_on (10 * n + (b - 48)) bs) m e in
     let next : 10 * n + (b - 48) ≡ n * 10 + digit_value b = omega (arith, digit_is b t.0) in
     let rest = digits_sound (10 * n + (b - 48)) m bs t.1 in
-    record { digits = (digit_below b t.0, rest.digits);
-        value = sym (ap (λ k. digits_value_after 10 k bs) next) ∙ rest.value }
+    record {
+      digits = (digit_below b t.0, rest.digits);
+      value = sym (ap (λ k. digits_value_after 10 k bs) next) ∙ rest.value;
+    }
 
 pub digits_complete : (n : ℕ) (bs : List ℕ) → AllDigits 10 bs
     → digits_on n bs ≡ Some (digits_value_after 10 n bs)
@@ -69,8 +71,11 @@ pub record HasForm (piece : List ℕ) : Type 0 where
   pub no_zero : get_or piece 0 0 ≡ 48 → length piece ≡ 1
 
 form_sound : (piece : List ℕ) → has_bad_form piece ≡ false → HasForm piece
-form_sound piece e = record { some = grind (arith, nat_tests); few = grind (arith, nat_tests);
-    no_zero = λ z. grind (arith, nat_tests) }
+form_sound piece e = record {
+  some = grind (arith, nat_tests);
+  few = grind (arith, nat_tests);
+  no_zero = λ z. grind (arith, nat_tests);
+}
 
 form_complete : (piece : List ℕ) → 0 < length piece → length piece ≤ 19
     → (get_or piece 0 0 ≡ 48 → length piece ≡ 1) → has_bad_form piece ≡ false
@@ -84,10 +89,10 @@ number_sound piece n e =
     let form = form_sound piece t.0 in
     let spelled = digits_sound 0 n piece t.1 in
     let below : digits_value 10 piece < 10 ^ length piece =
-        digits_value-lt 10 piece spelled.digits in
+    digits_value-lt 10 piece spelled.digits in
     let most : 10 ^ length piece ≤ 10 ^ 19 = pow-le-pow_right (omega arith) form.few in
     let same : decimal (digits_value 10 piece) ≡ piece =
-        decimal-digits_value own piece spelled.digits form.some form.no_zero (omega arith) in
+    decimal-digits_value own piece spelled.digits form.some form.no_zero (omega arith) in
     let value : digits_value 10 piece ≡ n = spelled.value in
     (sym same ∙ ap decimal value, omega arith)
 
@@ -101,5 +106,5 @@ unfolding number_at
 number_complete n lt =
     let spelled = decimal_is_IsNumeral n (omega arith) in
     let form = form_complete (decimal n) spelled.0.0
-        (length-decimal-le 19 n (omega arith) lt (omega arith)) (no_zero_in_front n lt) in
+    (length-decimal-le 19 n (omega arith) lt (omega arith)) (no_zero_in_front n lt) in
     rw form (digits_complete 0 (decimal n) spelled.0.1 ∙ ap Some spelled.1)

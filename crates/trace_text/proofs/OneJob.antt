@@ -74,12 +74,12 @@ no_command : (t : ℕ) (traces : List (List Command)) (x : Command) (more : List
 no_command t [] x more e =
     let head : (codes "end" ∷ []) ≡ command_line x = same_first _ _ _ _ e in
     let tells : false ≡ true =
-        ap (λ (ps : List (List ℕ)). commands_word (named ps)) head ∙ command_named x in
+    ap (λ (ps : List (List ℕ)). commands_word (named ps)) head ∙ command_named x in
     absurd cc
 no_command t (trace ∷ traces) x more e =
     let head : (codes "thread" ∷ decimal t ∷ []) ≡ command_line x = same_first _ _ _ _ e in
     let tells : false ≡ true =
-        ap (λ (ps : List (List ℕ)). commands_word (named ps)) head ∙ command_named x in
+    ap (λ (ps : List (List ℕ)). commands_word (named ps)) head ∙ command_named x in
     absurd cc
 
 abbrev AllFit : Config → List Command → Type 0
@@ -91,7 +91,7 @@ AllTracesFit c traces = AllByRecursion (IsTraceInBounds c) traces
 same_rest : (c : Config) (t : ℕ) (traces others : List (List Command))
     → (tail_lines t traces ≡ tail_lines t others → traces ≡ others)
     → (xs ys : List Command) → AllFit c xs → AllFit c ys
-        → rest_lines t xs traces ≡ rest_lines t ys others → (xs ≡ ys) × (traces ≡ others)
+    → rest_lines t xs traces ≡ rest_lines t ys others → (xs ≡ ys) × (traces ≡ others)
 same_rest c t traces others same [] [] p q e = (refl, same e)
 same_rest c t traces others same [] (y ∷ ys) p q e =
     absurd (no_command t traces y (rest_lines t ys others) e)
@@ -127,9 +127,9 @@ same_tail c t (trace ∷ traces) (other ∷ others) p q e =
     let both = sym (parted_tail t trace traces) ∙ e ∙ parted_tail t other others in
     let rest : rest_lines (t + 1) trace traces ≡ rest_lines (t + 1) other others = cc both in
     let same = same_rest c (t + 1) traces others
-        (same_tail c (t + 1) traces others p.1 q.1) trace other p.0.commands q.0.commands rest in
+    (same_tail c (t + 1) traces others p.1 q.1) trace other p.0.commands q.0.commands rest in
     ap (λ (z : List Command). z ∷ traces) same.0
-        ∙ ap (λ (zs : List (List Command)). other ∷ zs) same.1
+    ∙ ap (λ (zs : List (List Command)). other ∷ zs) same.1
 
 same_header : (c k : Config) → IsInBounds c → IsInBounds k → header c ≡ header k → c ≡ k
 same_header c k p q e = same_Ok c k
@@ -141,11 +141,11 @@ made c traces = record { config = c; traces = traces }
 pub one_job : (bytes : List ℕ) (job other : Job) → IsJob bytes job → IsJob bytes other → job ≡ other
 one_job bytes job other p q =
     let lines : job_lines job.config job.traces ≡ job_lines other.config other.traces =
-        sym p.lines ∙ q.lines in
+    sym p.lines ∙ q.lines in
     let head : header job.config ≡ header other.config = cc in
     let tail : tail_lines 0 job.traces ≡ tail_lines 0 other.traces = cc in
     let config = same_header job.config other.config p.in_bounds.config q.in_bounds.config head in
     let traces = same_tail job.config 0 job.traces other.traces p.in_bounds.each
-        (subst (λ (c : Config). AllTracesFit c other.traces)
-        (sym config) q.in_bounds.each) tail in
+    (subst (λ (c : Config). AllTracesFit c other.traces)
+    (sym config) q.in_bounds.each) tail in
     ap (λ c. made c job.traces) config ∙ ap (made other.config) traces

@@ -82,8 +82,11 @@ commands_lead c t k (x ∷ trace) some le few fit =
     let own = quiet_line c t k (Told x) (omega arith) (fit.0, omega arith) (told_behind t some) in
     let more = commands_lead c t (k + 1) trace some le (omega arith) fit.1 in
     record {
-      quiet = (own, subst (λ (b : Before). IsQuiet c b (map command_line trace))
-          (sym (after_command t k x)) more.quiet);
+      quiet = (
+        own,
+        subst (λ (b : Before). IsQuiet c b (map command_line trace))
+            (sym (after_command t k x)) more.quiet,
+      );
       after = ap (λ (b : Before). after_lines b (map command_line trace)) (after_command t k x)
           ∙ more.after ∙ ap (prior t) (omega arith);
     }
@@ -91,17 +94,19 @@ commands_lead c t k (x ∷ trace) some le few fit =
 pub thread_leads : (c : Config) (t k : ℕ) → t < c.threads → t < 10 ^ 19
     → LeadsOn c t k ((codes "thread" ∷ decimal t ∷ []) ∷ []) (t + 1) 0
 thread_leads c t k lt le =
-    record { quiet = (quiet_line c t k (Thread t) le (refl, λ e. omega arith) refl, tt);
-    after = refl }
+    record {
+      quiet = (quiet_line c t k (Thread t) le (refl, λ e. omega arith) refl, tt);
+      after = refl;
+    }
 
 pub trace_leads : (c : Config) (t k : ℕ) (trace : List Command) → t < c.threads → t < 16
     → IsTraceInBounds c trace → LeadsOn c t k (trace_lines t trace) (t + 1) (length trace)
 trace_leads c t k trace lt le fits =
     let begins = thread_leads c t k lt (omega arith) in
     let more = commands_lead c (t + 1) 0 trace (omega arith) (omega arith)
-        (omega (arith, fits.few)) fits.commands in
+    (omega (arith, fits.few)) fits.commands in
     let both = in_turn c t k ((codes "thread" ∷ decimal t ∷ []) ∷ []) (map command_line trace)
-        (t + 1) 0 (t + 1) (0 + length trace) begins more in
+    (t + 1) 0 (t + 1) (0 + length trace) begins more in
     record { quiet = both.quiet; after = both.after ∙ ap (prior (t + 1)) (omega arith) }
 
 -- the lines of some traces lead on to n threads, with how many commands the last of them has
@@ -113,14 +118,21 @@ pub traces_lead : (c : Config) (t k : ℕ) (traces : List (List Command)) (n : �
     → n ≡ t + length traces → n ≤ c.threads → c.threads ≤ 16
     → AllByRecursion (IsTraceInBounds c) traces → LeadsThrough c t k traces n
 traces_lead c t k [] n is le few fit =
-    record { last = k; leads = record { quiet = tt;
-    after = ap (λ (m : ℕ). prior m k) (omega arith) } }
+    record {
+      last = k;
+      leads = record {
+        quiet = tt;
+        after = ap (λ (m : ℕ). prior m k) (omega arith);
+      };
+    }
 traces_lead c t k (trace ∷ traces) n is le few fit =
     let first = trace_leads c t k trace (omega arith) (omega arith) fit.0 in
     let more = traces_lead c (t + 1) (length trace) traces n (omega arith) le few fit.1 in
-    record { last = more.last;
-        leads = in_turn c t k (trace_lines t trace) (traces_lines (t + 1) traces) (t + 1)
-        (length trace) n more.last first more.leads }
+    record {
+      last = more.last;
+      leads = in_turn c t k (trace_lines t trace) (traces_lines (t + 1) traces) (t + 1)
+          (length trace) n more.last first more.leads;
+    }
 
 pub end_is_quiet : (c : Config) (t k : ℕ) → t ≡ c.threads → t ≤ 16
     → later_fault c (prior t k) (codes "end" ∷ []) ≡ None

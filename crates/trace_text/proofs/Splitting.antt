@@ -58,8 +58,8 @@ pub position_none : (p : ℕ → Bool) (bs : List ℕ) → position p bs ≡ Non
     → p (get_or bs k 0) ≡ false
 position_none p bs e k lt =
     let past : length bs ≤ position_or_len p bs =
-        ltb-false _ _ (none_past (ltb (position_or_len p bs) (length bs))
-        (position_or_len p bs) e) in
+    ltb-false _ _ (none_past (ltb (position_or_len p bs) (length bs))
+    (position_or_len p bs) e) in
     fails_before_first p bs k 0 (omega arith)
 
 -- the line that is parted from the others

@@ -18,10 +18,10 @@ traces_lines-append s [] ys = let same : s ≡ s + 0 = omega arith in ap (λ t. 
 traces_lines-append s (x ∷ xs) ys =
     let place : (s + 1) + length xs ≡ s + length (x ∷ xs) = omega arith in
     ap (λ ls. trace_lines s x ++ ls)
-        (traces_lines-append (s + 1) xs ys
-        ∙ ap (λ t. traces_lines (s + 1) xs ++ traces_lines t ys) place)
+    (traces_lines-append (s + 1) xs ys
+    ∙ ap (λ t. traces_lines (s + 1) xs ++ traces_lines t ys) place)
     ∙ sym (append_assoc (trace_lines s x) (traces_lines (s + 1) xs)
-        (traces_lines (s + length (x ∷ xs)) ys))
+    (traces_lines (s + length (x ∷ xs)) ys))
 
 abbrev pub trace_text : ℕ → List Command → List ℕ
 trace_text t trace = flat_map line_text (trace_lines t trace)
@@ -46,11 +46,11 @@ module _ (xs : List (List Command)) (i : ℕ) (d : List Command) (lt : i < lengt
       ≡ traces_text 0 (take i xs) ++ trace_text i (get_or xs i d)
   text_next =
       let cut : take (i + 1) xs ≡ take i xs ++ get_or xs i d ∷ [] =
-          ap (λ n. take n xs) (add-one i) ∙ take-suc xs i d lt in
+      ap (λ n. take n xs) (add-one i) ∙ take-suc xs i d lt in
       let place : 0 + length (take i xs) ≡ i = omega (arith, length-take i xs) in
       ap (traces_text 0) cut ∙ traces_text-append 0 (take i xs) (get_or xs i d ∷ [])
       ∙ ap (λ text. traces_text 0 (take i xs) ++ text)
-          (traces_text-one (0 + length (take i xs)) i (get_or xs i d) place)
+      (traces_text-one (0 + length (take i xs)) i (get_or xs i d) place)
 
   -- the traces before a thread, and then its own
   pub traces_more : (a b c : Option (List ℕ)) → Appends a b (traces_text 0 (take i xs))
@@ -65,11 +65,11 @@ module _ (xs : List (List Command)) (i : ℕ) (d : List Command) (lt : i < lengt
   traces_front a b c before h =
       let P : List ℕ → Type 0 = λ text. AppendsFront a c text in
       let whole : traces_text 0 (take (i + 1) xs) ++ traces_text (0 + length (take (i + 1) xs))
-          (drop (i + 1) xs) ≡ traces_text 0 xs =
+      (drop (i + 1) xs) ≡ traces_text 0 xs =
       sym (traces_text-append 0 (take (i + 1) xs) (drop (i + 1) xs))
-          ∙ ap (traces_text 0) (take-append-drop (i + 1) xs) in
+      ∙ ap (traces_text 0) (take-append-drop (i + 1) xs) in
       let so_far : AppendsFront a c (traces_text 0 (take (i + 1) xs)) =
-          subst P (sym text_next) (front_in_turn a b c _ _ before h) in
+      subst P (sym text_next) (front_in_turn a b c _ _ before h) in
       subst P whole (front_longer a c _ _ so_far)
 
 -- the traces of all threads
@@ -86,9 +86,9 @@ module _ (job : Job) where
       (header job.config) ++ traces_text 0 job.traces) ++ codes "end\n"
   parts =
       ap (λ text. line_text (header job.config) ++ text)
-          (flat_map-append line_text (traces_lines 0 job.traces) ((codes "end" ∷ []) ∷ []))
+      (flat_map-append line_text (traces_lines 0 job.traces) ((codes "end" ∷ []) ∷ []))
       ∙ sym (append_assoc (line_text (header job.config)) (traces_text 0 job.traces)
-          (codes "end\n"))
+      (codes "end\n"))
 
   -- a front of the first line
   pub first_front : (a b : Option (List ℕ)) → AppendsFront a b (line_text (header job.config))
@@ -102,8 +102,8 @@ module _ (job : Job) where
   middle_front a b c before h =
       let P : List ℕ → Type 0 = λ text. AppendsFront a c text in
       subst P (sym parts) (front_longer a c _ (codes "end\n")
-          (front_in_turn a b c (line_text (header job.config))
-          (traces_text 0 job.traces) before h))
+      (front_in_turn a b c (line_text (header job.config))
+      (traces_text 0 job.traces) before h))
 
   -- all but the last line, and a front of it
   pub last_front : (a b c d : Option (List ℕ)) → Appends a b (line_text (header job.config))
@@ -112,7 +112,7 @@ module _ (job : Job) where
   last_front a b c d first before h =
       let P : List ℕ → Type 0 = λ text. AppendsFront a d text in
       let so_far = appends_in_turn a b c (line_text (header job.config))
-          (traces_text 0 job.traces) first before in
+      (traces_text 0 job.traces) first before in
       subst P (sym parts) (front_in_turn a c d _ (codes "end\n") so_far h)
 
   -- all lines
@@ -122,5 +122,5 @@ module _ (job : Job) where
   all_lines a b c d first before h =
       let P : List ℕ → Type 0 = λ text. Appends a d text in
       let so_far = appends_in_turn a b c (line_text (header job.config))
-          (traces_text 0 job.traces) first before in
+      (traces_text 0 job.traces) first before in
       subst P (sym parts) (appends_in_turn a c d _ (codes "end\n") so_far h)

@@ -44,15 +44,15 @@ commands_snoc (y ∷ trace) x others =
 traces_snoc : (t : ℕ) (done : List (List Command)) (trace : List Command) (others : Lines) (n : ℕ)
     → n ≡ t + length done
     → traces_lines t done ++ (trace_lines n trace ++ others)
-        ≡ traces_lines t (done ++ trace ∷ []) ++ others
+    ≡ traces_lines t (done ++ trace ∷ []) ++ others
 traces_snoc t [] trace others n is =
     let same : n ≡ t = omega arith in
     ap (λ (m : ℕ). trace_lines m trace ++ others) same
-        ∙ ap (λ (ls : Lines). ls ++ others) (sym (append-nil (trace_lines t trace)))
+    ∙ ap (λ (ls : Lines). ls ++ others) (sym (append-nil (trace_lines t trace)))
 traces_snoc t (first ∷ done) trace others n is =
     append_assoc (trace_lines t first) (traces_lines (t + 1) done) (trace_lines n trace ++ others)
     ∙ ap (λ (ls : Lines). trace_lines t first ++ ls)
-        (traces_snoc (t + 1) done trace others n (omega arith))
+    (traces_snoc (t + 1) done trace others n (omega arith))
     ∙ sym (append_assoc (trace_lines t first) (traces_lines (t + 1) (done ++ trace ∷ [])) others)
 
 length_commands : (trace : List Command) → length (map command_line trace) ≡ length trace
@@ -65,9 +65,12 @@ lines_snoc : (t : ℕ) (done : List (List Command)) (trace : List Command)
 lines_snoc t [] trace = omega
     (arith, length_commands trace, ap length (append-nil (trace_lines t trace)))
 lines_snoc t (first ∷ done) trace =
-    omega (arith, lines_snoc (t + 1) done trace,
-        length-append (trace_lines t first) (traces_lines (t + 1) (done ++ trace ∷ [])),
-        length-append (trace_lines t first) (traces_lines (t + 1) done))
+    omega (
+      arith,
+      lines_snoc (t + 1) done trace,
+      length-append (trace_lines t first) (traces_lines (t + 1) (done ++ trace ∷ [])),
+      length-append (trace_lines t first) (traces_lines (t + 1) done),
+    )
 
 -- ---- one line of a trace
 
@@ -82,20 +85,26 @@ next_is : (c : Config) (t k : ℕ) (ps : List (List ℕ)) (l : Line) → line_at
 next_is c t k ps (Thread n) e told =
     let s = line_sound c t k ps (Thread n) e in
     s.text ∙ ap (λ (m : ℕ). codes "thread" ∷ decimal m ∷ []) s.fits.0
-        ∙ sym (ap (λ (b : Bool). cond b (codes "end" ∷ []) (codes "thread" ∷ decimal t ∷ []))
-        (ne_eqb t c.threads s.fits.1))
+    ∙ sym (ap (λ (b : Bool). cond b (codes "end" ∷ []) (codes "thread" ∷ decimal t ∷ []))
+    (ne_eqb t c.threads s.fits.1))
 next_is c t k ps End e told =
     let s = line_sound c t k ps End e in
     s.text ∙ sym (ap (λ (b : Bool). cond b (codes "end" ∷ []) (codes "thread" ∷ decimal t ∷ []))
-        (eq-eqb t c.threads s.fits))
+    (eq-eqb t c.threads s.fits))
 next_is c t k ps (Told x) e told = absurd cc
 
 module _ (c : Config) (t : ℕ) (lines : Lines) (trace : List Command) (left : Lines)
     (so_far : IsSoFar c lines trace left) where
   pub trace_ends : left ≡ [] → (read : ℕ)
       → IsBadTrace c t lines read (read + length trace + 1) whys.End
-  trace_ends e read = record { trace = trace; others = left; text = so_far.text;
-      in_bounds = so_far.in_bounds; place = refl; fault = rw e refl }
+  trace_ends e read = record {
+    trace = trace;
+    others = left;
+    text = so_far.text;
+    in_bounds = so_far.in_bounds;
+    place = refl;
+    fault = rw e refl;
+  }
 
   module _ (ps : List (List ℕ)) (others : Lines) (parts : left ≡ ps ∷ others) where
     pub trace_goes_on : (x : Command) → line_at (place c t (length trace)) ps ≡ Ok (Told x)
@@ -138,14 +147,20 @@ module _ (c : Config) (t : ℕ) (lines : Lines) (trace : List Command) (left : L
 -- ---- the opening
 
 pub no_header : (bytes : List ℕ) → pieced bytes ≡ [] → IsFirstBadLine bytes 1 whys.Header
-no_header bytes e = record { some = omega arith; before = λ i lt. absurd (omega arith);
-    fault = ap (λ (ls : Lines). fault_at ls 0) e }
+no_header bytes e = record {
+  some = omega arith;
+  before = λ i lt. absurd (omega arith);
+  fault = ap (λ (ls : Lines). fault_at ls 0) e;
+}
 
 pub bad_header : (bytes : List ℕ) (ps : List (List ℕ)) (others : Lines) (why : Why)
     → pieced bytes ≡ ps ∷ others → header_at ps ≡ Err why → IsFirstBadLine bytes 1 why
 bad_header bytes ps others why e bad =
-    record { some = omega arith; before = λ i lt. absurd (omega arith);
-        fault = ap (λ (ls : Lines). fault_at ls 0) e ∙ header_agrees ps ∙ ap reason bad }
+    record {
+      some = omega arith;
+      before = λ i lt. absurd (omega arith);
+      fault = ap (λ (ls : Lines). fault_at ls 0) e ∙ header_agrees ps ∙ ap reason bad;
+    }
 
 module _ (bytes : List ℕ) (ps : List (List ℕ)) (others : Lines) (c : Config)
     (text : pieced bytes ≡ ps ∷ others) (said : header_at ps ≡ Ok c) where
@@ -161,15 +176,18 @@ module _ (bytes : List ℕ) (ps : List (List ℕ)) (others : Lines) (c : Config)
       → line_at (place c 0 0) qs ≡ Err why → IsFirstBadLine bytes 2 why
   bad_thread qs more why e bad =
       first_bad c (header_sound ps c said).fits [] others tt bytes 2 why nothing_before begins
-          (omega arith) refl (ap (next_fault c nothing_before) e ∙ line_agrees c 0 0 qs
-          ∙ ap reason bad)
+      (omega arith) refl (ap (next_fault c nothing_before) e ∙ line_agrees c 0 0 qs
+      ∙ ap reason bad)
 
   pub opens : (qs : List (List ℕ)) (more : Lines) (l : Line) → others ≡ qs ∷ more
       → line_at (place c 0 0) qs ≡ Ok l → IsBegun c [] bytes 2 more
   opens qs more l e is =
       let not_told : is_told l ≡ false =
-          elim ((line_sound c 0 0 qs l is).opens refl) [ inl h ↦ ap is_told h | inr h ↦
-          ap is_told h ] in
+      elim ((line_sound c 0 0 qs l is).opens refl) [
+        | inl h ↦ ap is_told h
+        | inr h ↦
+            ap is_told h
+      ] in
       record {
         config = (header_sound ps c said).fits;
         threads = omega arith;
@@ -208,16 +226,16 @@ module _ (c : Config) (done : List (List Command)) (bytes : List ℕ) (read : �
         (traces_lines 0 done ++ (trace_lines (length done) trace ++ others))
     text_on trace others e =
         begun.text ∙ ap (λ (p : List (List ℕ)). header c ∷ (traces_lines 0 done ++ p ∷ left))
-            (thread_next c (length done) more)
+        (thread_next c (length done) more)
         ∙ ap (λ (ls : Lines). header c ∷
-            (traces_lines 0 done ++ (codes "thread" ∷ decimal (length done) ∷ []) ∷ ls)) e
+        (traces_lines 0 done ++ (codes "thread" ∷ decimal (length done) ∷ []) ∷ ls)) e
 
     pub goes_on : (trace : List Command) (others : Lines)
         → IsTrace c (length done + 1) left trace others
         → IsBegun c (done ++ trace ∷ []) bytes (read + length trace + 1) others
     goes_on trace others is =
         let count : length (done ++ trace ∷ []) ≡ length done + 1 =
-            omega (arith, length-append done (trace ∷ [])) in
+        omega (arith, length-append done (trace ∷ [])) in
         record {
           config = begun.config;
           threads = omega (arith, count);
@@ -226,7 +244,7 @@ module _ (c : Config) (done : List (List Command)) (bytes : List ℕ) (read : �
               (traces_snoc 0 done trace (next_line c (length done + 1) ∷ others) (length done)
               (omega arith))
               ∙ ap (λ (n : ℕ). header c ∷
-                  (traces_lines 0 (done ++ trace ∷ []) ++ next_line c n ∷ others)) (sym count);
+              (traces_lines 0 (done ++ trace ∷ []) ++ next_line c n ∷ others)) (sym count);
           traces = all_snoc (IsTraceInBounds c) done trace begun.traces is.in_bounds;
           place = omega (arith, begun.place, lines_snoc 0 done trace);
         }
@@ -235,19 +253,23 @@ module _ (c : Config) (done : List (List Command)) (bytes : List ℕ) (read : �
         → IsFirstBadLine bytes line why
     goes_wrong line why bad =
         let own = trace_leads c (length done) through.last bad.trace more
-            (omega (arith, begun.config.threads)) bad.in_bounds in
+        (omega (arith, begun.config.threads)) bad.in_bounds in
         let all = in_turn c 0 0 (traces_lines 0 done) (trace_lines (length done) bad.trace)
-            (length done) through.last (length done + 1) (length bad.trace) through.leads own in
+        (length done) through.last (length done + 1) (length bad.trace) through.leads own in
         let ls = traces_lines 0 done ++ trace_lines (length done) bad.trace in
         first_bad c begun.config ls bad.others all.quiet bytes line why
-            (prior (length done + 1) (length bad.trace))
+        (prior (length done + 1) (length bad.trace))
         (text_on bad.trace bad.others bad.text
-            ∙ ap (λ (more' : Lines). header c ∷ more')
-            (sym (append_assoc (traces_lines 0 done)
-            (trace_lines (length done) bad.trace) bad.others)))
-        (omega (arith, bad.place, begun.place,
-            length-append (traces_lines 0 done) (trace_lines (length done) bad.trace),
-            length_commands bad.trace))
+        ∙ ap (λ (more' : Lines). header c ∷ more')
+        (sym (append_assoc (traces_lines 0 done)
+        (trace_lines (length done) bad.trace) bad.others)))
+        (omega (
+          arith,
+          bad.place,
+          begun.place,
+          length-append (traces_lines 0 done) (trace_lines (length done) bad.trace),
+          length_commands bad.trace,
+        ))
         all.after bad.fault
 
   module _ (last : length done ≡ c.threads) where
@@ -268,25 +290,29 @@ module _ (c : Config) (done : List (List Command)) (bytes : List ℕ) (read : �
         → left ≡ ps ∷ others → IsFirstBadLine bytes (read + 1) whys.End
     end_leads t ps others e =
         let ls = traces_lines 0 done ++ (codes "end" ∷ []) ∷ [] in
-        let own : IsQuiet c (prior (length done) t.last) ((codes "end" ∷ []) ∷ []) =
-            (end_is_quiet c (length done) t.last last (omega (arith, begun.config.threads)),
-            tt) in
+        let own : IsQuiet c (prior (length done) t.last) ((codes "end" ∷ []) ∷ []) = (
+          end_is_quiet c (length done) t.last last (omega (arith, begun.config.threads)),
+          tt,
+        ) in
         let quiet : IsQuiet c nothing_before ls =
-            quiet_append c nothing_before (traces_lines 0 done)
-            ((codes "end" ∷ []) ∷ []) t.leads.quiet
-            (subst (λ (b : Before). IsQuiet c b ((codes "end" ∷ []) ∷ []))
-            (sym t.leads.after) own) in
+        quiet_append c nothing_before (traces_lines 0 done)
+        ((codes "end" ∷ []) ∷ []) t.leads.quiet
+        (subst (λ (b : Before). IsQuiet c b ((codes "end" ∷ []) ∷ []))
+        (sym t.leads.after) own) in
         let after : after_lines nothing_before ls
-            ≡ record { threads = length done; commands = t.last; ended = true } =
-            after_append nothing_before (traces_lines 0 done) ((codes "end" ∷ []) ∷ [])
-            ∙ ap (λ (b : Before). after_lines b ((codes "end" ∷ []) ∷ [])) t.leads.after in
+        ≡ record { threads = length done; commands = t.last; ended = true } =
+        after_append nothing_before (traces_lines 0 done) ((codes "end" ∷ []) ∷ [])
+        ∙ ap (λ (b : Before). after_lines b ((codes "end" ∷ []) ∷ [])) t.leads.after in
         first_bad c begun.config ls left quiet bytes (read + 1) whys.End
-            (record { threads = length done; commands = t.last; ended = true })
+        (record { threads = length done; commands = t.last; ended = true })
         (text_end ∙ ap (λ (more' : Lines). header c ∷ more')
-            (sym (append_assoc (traces_lines 0 done) ((codes "end" ∷ []) ∷ []) left)))
+        (sym (append_assoc (traces_lines 0 done) ((codes "end" ∷ []) ∷ []) left)))
         (omega (arith, begun.place, length-append (traces_lines 0 done) ((codes "end" ∷ []) ∷ [])))
-        after (ap (next_fault c (record { threads = length done; commands = t.last;
-            ended = true })) e ∙ behind_end c (length done) t.last ps)
+        after (ap (next_fault c (record {
+          threads = length done;
+          commands = t.last;
+          ended = true;
+        })) e ∙ behind_end c (length done) t.last ps)
 
     pub is_too_long : (ps : List (List ℕ)) (others : Lines) → left ≡ ps ∷ others
         → IsFirstBadLine bytes (read + 1) whys.End
@@ -303,21 +329,23 @@ job_quiet : (c : Config) (traces : List (List Command)) (i : ℕ)
 job_quiet c traces zero b = header_quiet c b.config
 job_quiet c traces (suc i) b =
     let t = traces_lead c 0 0 traces (length traces) (omega arith)
-        (omega (arith, b.threads)) b.config.threads b.each in
+    (omega (arith, b.threads)) b.config.threads b.each in
     let ls = traces_lines 0 traces ++ (codes "end" ∷ []) ∷ [] in
-    let own : IsQuiet c (prior (length traces) t.last) ((codes "end" ∷ []) ∷ []) =
-        (end_is_quiet c (length traces) t.last b.threads
-        (omega (arith, b.threads, b.config.threads)), tt) in
+    let own : IsQuiet c (prior (length traces) t.last) ((codes "end" ∷ []) ∷ []) = (
+      end_is_quiet c (length traces) t.last b.threads
+          (omega (arith, b.threads, b.config.threads)),
+      tt,
+    ) in
     let quiet : IsQuiet c nothing_before ls =
-        quiet_append c nothing_before (traces_lines 0 traces)
-        ((codes "end" ∷ []) ∷ []) t.leads.quiet
-        (subst (λ (p : Before). IsQuiet c p ((codes "end" ∷ []) ∷ [])) (sym t.leads.after) own) in
+    quiet_append c nothing_before (traces_lines 0 traces)
+    ((codes "end" ∷ []) ∷ []) t.leads.quiet
+    (subst (λ (p : Before). IsQuiet c p ((codes "end" ∷ []) ∷ [])) (sym t.leads.after) own) in
     let after : after_lines nothing_before ls
-        ≡ record { threads = length traces; commands = t.last; ended = true } =
-        after_append nothing_before (traces_lines 0 traces) ((codes "end" ∷ []) ∷ [])
-        ∙ ap (λ (p : Before). after_lines p ((codes "end" ∷ []) ∷ [])) t.leads.after in
+    ≡ record { threads = length traces; commands = t.last; ended = true } =
+    after_append nothing_before (traces_lines 0 traces) ((codes "end" ∷ []) ∷ [])
+    ∙ ap (λ (p : Before). after_lines p ((codes "end" ∷ []) ∷ [])) t.leads.after in
     ap (λ (d : Config). next_fault d (after_lines nothing_before (take i ls)) (drop i ls))
-        (header_config c b.config)
+    (header_config c b.config)
     ∙ all_quiet c nothing_before ls i quiet (ap (λ (p : Before). p.ended) after)
 
 -- no bytes are both a job and have a bad line
@@ -325,8 +353,8 @@ pub apart : (bytes : List ℕ) (job : Job) (line : ℕ) (why : Why) → IsJob by
     → IsFirstBadLine bytes line why → ⊥
 apart bytes job line why is bad =
     let none : fault_at (pieced bytes) (line - 1) ≡ None =
-        ap (λ (ls : Lines). fault_at ls (line - 1)) is.lines
-        ∙ job_quiet job.config job.traces (line - 1) is.in_bounds in
+    ap (λ (ls : Lines). fault_at ls (line - 1)) is.lines
+    ∙ job_quiet job.config job.traces (line - 1) is.in_bounds in
     let fault = bad.fault in
     absurd cc
 
@@ -334,7 +362,7 @@ not_below : (bytes : List ℕ) (line other : ℕ) (why reason : Why) → IsFirst
     → IsFirstBadLine bytes other reason → line < other → ⊥
 not_below bytes line other why reason p q lt =
     let none : fault_at (pieced bytes) (line - 1) ≡ None =
-        q.before (line - 1) (omega (arith, p.some)) in
+    q.before (line - 1) (omega (arith, p.some)) in
     let fault = p.fault in
     absurd cc
 
@@ -346,10 +374,15 @@ one_first bytes line other why reason p q =
     let low : line < other → ⊥ = not_below bytes line other why reason p q in
     let high : other < line → ⊥ = not_below bytes other line reason why q p in
     let same : line ≡ other =
-        elim (cases_eq line other) [ inl e ↦ e | inr ne ↦
-        absurd (apart_order line other low high ne) ] in
-    (same, same_Some why reason
-        (sym p.fault ∙ ap (λ (n : ℕ). fault_at (pieced bytes) (n - 1)) same ∙ q.fault))
+    elim (cases_eq line other) [
+      | inl e ↦ e
+      | inr ne ↦
+          absurd (apart_order line other low high ne)
+    ] in (
+      same,
+      same_Some why reason
+          (sym p.fault ∙ ap (λ (n : ℕ). fault_at (pieced bytes) (n - 1)) same ∙ q.fault),
+    )
 
 -- ---- as a loop reads
 
@@ -382,7 +415,7 @@ module _ (c : Config) (done : List (List Command)) (n : ℕ) (bytes : List ℕ) 
       → IsBegun c (done ++ trace ∷ []) bytes now others
   next_begun more trace others now is e =
       let on = goes_on c done bytes read left begun (omega (arith, count, more)) trace others
-          (subst (λ (m : ℕ). IsTrace c (m + 1) left trace others) count is) in
+      (subst (λ (m : ℕ). IsTrace c (m + 1) left trace others) count is) in
       subst (λ (m : ℕ). IsBegun c (done ++ trace ∷ []) bytes m others) (sym e) on
 
   next_bad : n < c.threads → (line : ℕ) (why : Why) → IsBadTrace c (n + 1) left read line why

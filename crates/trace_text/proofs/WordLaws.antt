@@ -99,7 +99,7 @@ count_length (x ∷ xs) (suc k) = suc_eqb (length xs) k ∙ count_length xs k
 one_value : (o : Option ℕ) (ns : List ℕ) (t : Bool) (r : Result (List ℕ) Why)
     → r ≡ cond t (Err whys.Number) (Ok ns)
     → (ok_or o whys.Number >>= λ n. r >>= λ ms. Ok (n ∷ ms))
-        ≡ cond (not (is_some o) || t) (Err whys.Number) (Ok (unwrap_or o 0 ∷ ns))
+    ≡ cond (not (is_some o) || t) (Err whys.Number) (Ok (unwrap_or o 0 ∷ ns))
 one_value None ns t r e = refl
 one_value (Some n) ns true r e = rw e refl
 one_value (Some n) ns false r e = rw e refl
@@ -136,7 +136,7 @@ values_next (Some n) (Err why) p ps ns first others e = absurd cc
 values_next (Some n) (Ok ms) p ps ns first others e =
     let is : n ∷ ms ≡ ns = same_Ok (n ∷ ms) ns e in
     ap (λ (q : List ℕ). q ∷ ps) (first n refl)
-        ∙ ap (λ (qs : List (List ℕ)). decimal n ∷ qs) (others ms refl) ∙ ap (map decimal) is
+    ∙ ap (λ (qs : List (List ℕ)). decimal n ∷ qs) (others ms refl) ∙ ap (map decimal) is
 
 pub values_sound : (ps : List (List ℕ)) (ns : List ℕ) → values_at ps ≡ Ok ns → ps ≡ map decimal ns
 values_sound [] ns e = ap (map decimal) (same_Ok [] ns e)

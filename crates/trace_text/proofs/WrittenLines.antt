@@ -36,14 +36,24 @@ record Begins (bytes first : List ℕ) (others : List (List ℕ)) (more : List (
   rest : map pieces_of lines ≡ more
 
 at_feed : (rest : List ℕ) → Begins (10 ∷ rest) [] [] (pieced rest)
-at_feed rest = record { line = []; lines = lines_of rest; parted = refl; pieces = refl;
-    rest = refl }
+at_feed rest = record {
+  line = [];
+  lines = lines_of rest;
+  parted = refl;
+  pieces = refl;
+  rest = refl;
+}
 
 at_space : (bytes first : List ℕ) (others : List (List ℕ)) (more : List (List (List ℕ)))
     → Begins bytes first others more → Begins (32 ∷ bytes) [] (first ∷ others) more
 at_space bytes first others more h =
-    record { line = 32 ∷ h.line; lines = h.lines; parted = ap (onto_first 32) h.parted;
-        pieces = ap (λ ps. [] ∷ ps) h.pieces; rest = h.rest }
+    record {
+      line = 32 ∷ h.line;
+      lines = h.lines;
+      parted = ap (onto_first 32) h.parted;
+      pieces = ap (λ ps. [] ∷ ps) h.pieces;
+      rest = h.rest;
+    }
 
 at_byte : (b : ℕ) (bytes first : List ℕ) (others : List (List ℕ)) (more : List (List (List ℕ)))
     → 32 < b → Begins bytes first others more → Begins (b ∷ bytes) (b ∷ first) others more
@@ -72,7 +82,7 @@ at_piece [] bytes first others more is h = h
 at_piece (b ∷ bs) bytes first others more is h =
     let a = above b bs is in
     at_byte b (bs ++ bytes) (bs ++ first) others more a.first
-        (at_piece bs bytes first others more a.others h)
+    (at_piece bs bytes first others more a.others h)
 
 -- ---- lines
 
@@ -93,8 +103,14 @@ seen_as : (bytes as_bytes first as_first : List ℕ) (others : List (List ℕ))
     (more : List (List (List ℕ))) → bytes ≡ as_bytes → first ≡ as_first
     → Begins bytes first others more → Begins as_bytes as_first others more
 seen_as bytes as_bytes first as_first others more e f h =
-    record { line = h.line; lines = h.lines; parted = ap lines_of (sym e)
-        ∙ h.parted; pieces = h.pieces ∙ ap (λ p. p ∷ others) f; rest = h.rest }
+    record {
+      line = h.line;
+      lines = h.lines;
+      parted = ap lines_of (sym e)
+          ∙ h.parted;
+      pieces = h.pieces ∙ ap (λ p. p ∷ others) f;
+      rest = h.rest;
+    }
 
 line_begins : (piece : List ℕ) (pieces : List (List ℕ)) (rest : List ℕ) → IsLine (piece ∷ pieces)
     → Begins (line_text (piece ∷ pieces) ++ rest) piece pieces (pieced rest)
@@ -110,15 +126,15 @@ line_begins piece (next ∷ pieces) rest is =
     let h = at_piece piece (32 ∷ bytes) [] (next ∷ pieces) (pieced rest) own.0 spaced in
     let joined : List ℕ = 32 ∷ join_with_byte 32 (next ∷ pieces) in
     let text : (piece ++ joined) ++ 10 ∷ [] ++ rest ≡ piece ++ 32 ∷ bytes =
-        ap (λ l. l ++ rest) (append_assoc piece joined (10 ∷ []))
-        ∙ append_assoc piece (joined ++ 10 ∷ []) rest in
+    ap (λ l. l ++ rest) (append_assoc piece joined (10 ∷ []))
+    ∙ append_assoc piece (joined ++ 10 ∷ []) rest in
     seen_as _ _ _ _ (next ∷ pieces) (pieced rest) (sym text) (append-nil piece) h
 
 pieced_first : (bytes first : List ℕ) (others : List (List ℕ)) (more : List (List (List ℕ)))
     → Begins bytes first others more → pieced bytes ≡ (first ∷ others) ∷ more
 pieced_first bytes first others more h =
     ap (map pieces_of) h.parted ∙ ap (λ ps. ps ∷ map pieces_of h.lines) h.pieces
-        ∙ ap (λ ls. (first ∷ others) ∷ ls) h.rest
+    ∙ ap (λ ls. (first ∷ others) ∷ ls) h.rest
 
 lines_again : (lines : List (List (List ℕ))) → AllByRecursion IsLine lines
     → pieced (flat_map line_text lines) ≡ lines
@@ -126,7 +142,7 @@ lines_again [] are = refl
 lines_again ([] ∷ lines) are = absurd are.0
 lines_again ((piece ∷ pieces) ∷ lines) are =
     pieced_first _ piece pieces _ (line_begins piece pieces (flat_map line_text lines) are.0)
-        ∙ ap (λ ls. (piece ∷ pieces) ∷ ls) (lines_again lines are.1)
+    ∙ ap (λ ls. (piece ∷ pieces) ∷ ls) (lines_again lines are.1)
 
 -- ---- the lines of a job
 
@@ -196,8 +212,8 @@ threads_lines : (c : Config) (t : ℕ) (traces : List (List Command)) → t + le
 threads_lines c t [] few b = tt
 threads_lines c t (trace ∷ traces) few b =
     all_append (trace_lines t trace) (traces_lines (t + 1) traces)
-        (thread_line t (omega arith), commands_lines c trace b.0.commands)
-        (threads_lines c (t + 1) traces (omega arith) b.1)
+    (thread_line t (omega arith), commands_lines c trace b.0.commands)
+    (threads_lines c (t + 1) traces (omega arith) b.1)
 
 -- the text of a job is that job
 pub text_is_job : (job : Job) → IsJobInBounds job → IsJob (job_text job) job
@@ -205,9 +221,10 @@ text_is_job job b =
     let few : 0 + length job.traces ≤ 16 = omega (arith, b.threads, b.config.threads) in
     let threads = threads_lines job.config 0 job.traces few b.each in
     let last : AllByRecursion IsLine ((codes "end" ∷ []) ∷ []) = (refl, tt) in
-    let are : AllByRecursion IsLine (job_lines job.config job.traces) =
-    (header_line job.config b.config,
-        all_append (traces_lines 0 job.traces) ((codes "end" ∷ []) ∷ []) threads last) in
+    let are : AllByRecursion IsLine (job_lines job.config job.traces) = (
+      header_line job.config b.config,
+      all_append (traces_lines 0 job.traces) ((codes "end" ∷ []) ∷ []) threads last,
+    ) in
     record { in_bounds = b; lines = lines_again (job_lines job.config job.traces) are }
 
 pub text_is_input : (job : Job) → IsJobInBounds job → length (job_text job) ≤ 16777216

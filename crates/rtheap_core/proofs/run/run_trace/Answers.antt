@@ -19,18 +19,18 @@ loop-command-preserved c =
     let below : i < length trace = omega arith in
     let command : Command = get_or trace i (commands.New 0 0) in
     subst (λ (es : List Entry). IsRunSoFar c.args.config.now
-        (take (i + 1) trace) c.step-reply.new.self es) (sym c.in_ok-push.ensures.items)
+    (take (i + 1) trace) c.step-reply.new.self es) (sym c.in_ok-push.ensures.items)
     (subst (λ (cs : List Command). IsRunSoFar c.args.config.now cs c.step-reply.new.self
-        (c.loop-command.log.items ++ entry_of command c.step-reply.result ∷ []))
-        (sym (take_more trace i (commands.New 0 0) below))
+    (c.loop-command.log.items ++ entry_of command c.step-reply.result ∷ []))
+    (sym (take_more trace i (commands.New 0 0) below))
     (run_goes_on c.args.config.now
-        (take i trace) c.loop-command.heap c.step-reply.new.self c.loop-command.log.items command c.step-reply.result c.loop-command.invariant
+    (take i trace) c.loop-command.heap c.step-reply.new.self c.loop-command.log.items command c.step-reply.result c.loop-command.invariant
     c.step-reply.ensures.plain c.step-reply.ensures.config c.step-reply.ensures.taken c.step-reply.ensures.answered))
 
 pub returns : goal.returns
 returns c =
     let run = subst (λ
-        (cs : List Command). IsRunSoFar c.args.config.now cs c.loop-command.heap c.loop-command.log.items) (take_all c.loop-command.command-index c.args.trace.now (omega arith)) c.loop-command.invariant in
+    (cs : List Command). IsRunSoFar c.args.config.now cs c.loop-command.heap c.loop-command.log.items) (take_all c.loop-command.command-index c.args.trace.now (omega arith)) c.loop-command.invariant in
     record {
       run = run_ends c.args.config.now c.args.trace.now c.loop-command.heap c.loop-command.log.items run;
       part = ap (λ (es : List Entry). es ∷ []) run.thread;

@@ -11,7 +11,7 @@ returns-in-Ok-clause-headline g c =
     let source = sides g.S.Source.left g.S.Source.faults c.args.source.now c.ran.new.source in
     let sink = sides g.K.Sink.held g.K.Sink.faults c.args.sink.now c.written.new.sink in
     subst (λ (o : Option RunEnd). IfSome o
-        (λ end. Headline source sink c.written.result.status end)) (sym c.written.ensures.run)
+    (λ end. Headline source sink c.written.result.status end)) (sym c.written.ensures.run)
     (headline_of source sink c.written.result.status c.in-Ok.run' c.in-Ok.ensures.ran c.written.ensures.text)
 
 pub returns-in-None-clause-refused : goal.returns-in-None-clause-refused

@@ -17,7 +17,7 @@ pub returns-in_err-run-clause-refused : goal.returns-in_err-run-clause-refused
 returns-in_err-run-clause-refused g c =
     let p = err_from_is_err_and c.from_residual-in_err-run.result c.from_residual-in_err-run.ensures.1 in
     let few = few_taken
-        (sides g.S.Source.left g.S.Source.faults c.args.source.now c.planned_job.new.source) _ c.in_ok-job.ensures.read in
+    (sides g.S.Source.left g.S.Source.faults c.args.source.now c.planned_job.new.source) _ c.in_ok-job.ensures.read in
     rw (p.1, p.2) (λ words asked. (inl asked, few, c.in_ok-job.ensures.still))
 
 pub returns-clause-ran : goal.returns-clause-ran

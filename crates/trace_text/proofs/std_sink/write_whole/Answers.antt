@@ -14,6 +14,8 @@ loop-preserved g c =
             written = written_more _ _ _ c.args.piece.now c.loop.done w.in-Ok.count at.written w.in-Ok.ensures.bytes;
           })
       | in-Err w ↦ rw w.done-is
-          (record { within = at.within;
-          written = kept_more _ _ _ _ at.written w.in-Err.ensures.bytes })
+          (record {
+            within = at.within;
+            written = kept_more _ _ _ _ at.written w.in-Err.ensures.bytes;
+          })
     ]

@@ -13,7 +13,7 @@ loop-name-preserved c =
           rounded_as c.args.self.now.graph c.args.marks.now _ c.if-has.marks _ c.if-has.is_new _ w.marks-is w.is_new-is
           (rounded_more c.args.self.now.graph c.args.marks.now c.loop-name.marks c.loop-name.is_new c.args.list.now c.loop-name.name-index name none c.loop-name-test.true refl c.loop-name.invariant
           w.spread-is_new.new.self w.spread-is_new.result w.cells.result.now
-              (sym c.has.ensures ∙ w.if-has.true) w.cells.ensures
+          (sym c.has.ensures ∙ w.if-has.true) w.cells.ensures
           w.spread-is_new.ensures.marks w.spread-is_new.ensures.places w.spread-is_new.ensures.unchanged)
       | else-has w ↦
           rounded_as c.args.self.now.graph c.args.marks.now _ c.if-has.marks _ c.if-has.is_new _ w.marks-is w.is_new-is

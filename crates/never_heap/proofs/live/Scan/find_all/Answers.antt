@@ -20,7 +20,7 @@ loop-value-preserved c =
         scanned = c.loop-value.invariant.scanned;
         finds = finds_other g old.marks mid.marks mid.marks old.found.items mid.found.items mid.found.items c.args.values.now c.loop-value.value-index c.loop-value-test.true
             c.loop-value.invariant.finds
-                (λ a. no_reference a
-                (get_or c.args.values.now c.loop-value.value-index Nil) w.in_default.not-Ref);
+            (λ a. no_reference a
+            (get_or c.args.values.now c.loop-value.value-index Nil) w.in_default.not-Ref);
       })
     ]

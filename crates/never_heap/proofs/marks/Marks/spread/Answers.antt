@@ -12,5 +12,5 @@ loop-value-preserved c = elim c.match-value.branch [
   | in_default w ↦ spread_as c.args.self.now _ c.match-value.self _ c.match-value.is_new _ w.self-is w.is_new-is
       (spread_other c.args.self.now c.loop-value.self c.loop-value.self c.loop-value.is_new c.args.values.now c.loop-value.value-index c.loop-value-test.true
       c.loop-value.invariant (λ a. no_reference a
-          (get_or c.args.values.now c.loop-value.value-index Nil) w.in_default.not-Ref))
+      (get_or c.args.values.now c.loop-value.value-index Nil) w.in_default.not-Ref))
 ]

@@ -12,6 +12,6 @@ loop-payload-preserved c = record {
       (heap_in c.loop-payload.store)
       (heap_in c.set_payload.new.self) c.args.shape c.args.first c.args.ordinal c.loop-payload.payload c.link_word-word.result
       c.loop-payload.invariant.written
-          (subst (λ (W : Width). c.link_word-word.result
-          ≡ new_word W c.args.shape c.args.first c.args.ordinal c.loop-payload.payload) c.width-width.ensures c.link_word-word.ensures) c.set_payload.ensures.heap;
+      (subst (λ (W : Width). c.link_word-word.result
+      ≡ new_word W c.args.shape c.args.first c.args.ordinal c.loop-payload.payload) c.width-width.ensures c.link_word-word.ensures) c.set_payload.ensures.heap;
 }

@@ -13,6 +13,6 @@ loop-ordinal-preserved c = record {
       (heap_in c.write_block.new.store) c.args.name c.args.shape c.args.first c.loop-ordinal.ordinal
       c.loop-ordinal.invariant.written
       (subst (λ (k : Config). IsBlockWritten k.width (heap_in c.loop-ordinal.store)
-          (heap_in c.write_block.new.store) c.args.name c.args.shape c.args.first c.loop-ordinal.ordinal)
+      (heap_in c.write_block.new.store) c.args.name c.args.shape c.args.first c.loop-ordinal.ordinal)
       c.loop-ordinal.invariant.config c.write_block.ensures.written);
 }

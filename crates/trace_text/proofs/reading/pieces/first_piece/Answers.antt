@@ -7,7 +7,7 @@ use Rattle.trace_text.proofs.reading.pieces.first_piece.Goals as goal
 pub returns-in-Some : goal.returns-in-Some
 returns-in-Some c =
     let place = position-Some (λ b. b == 32) c.args.line.now c.in-Some.end 0
-        (sym c.index_of.ensures ∙ c.in-Some.is) in
+    (sym c.index_of.ensures ∙ c.in-Some.is) in
     rw (take_rest c.args.line.now (c.in-Some.end + 1), add-one)
     (pieces_at c.args.line.now c.in-Some.end place.0 place.1 place.2)
 
