@@ -259,7 +259,10 @@ fn link(places: &Places, command: Command, way: Way) -> usize
     requires walk { IsWalk places.now (operands.field_index command) way }
     ensures { result ≡ index (extent places.now) (PayloadOf way.block (Walks.link_at (extent places.now) way.shape (operands.field_index command) way.level)) }
 {
-    places.payload(way.block, link_at(places, way, field_index(command, way.shape)))
+    places.payload(
+        way.block,
+        link_at(places, way, field_index(command, way.shape)),
+    )
 }
 
 // The place of that field, at its block.
@@ -267,7 +270,10 @@ fn field(places: &Places, command: Command, way: Way) -> usize
     requires walk { IsWalk places.now (operands.field_index command) way }
     ensures { result ≡ index (extent places.now) (PayloadOf way.block (Walks.field_at (extent places.now) way.shape (operands.field_index command))) }
 {
-    places.payload(way.block, field_at(places, way, field_index(command, way.shape)))
+    places.payload(
+        way.block,
+        field_at(places, way, field_index(command, way.shape)),
+    )
 }
 
 impl FieldPass {

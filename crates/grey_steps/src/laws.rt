@@ -78,34 +78,26 @@ pub fn a_unit_is_a_blackening()
 /// A scan has found nothing exactly where its events read as many zeros as there are threads. They
 /// took the list of each thread, their own first. A shading never finds nothing, and makes no unit.
 pub fn nothing_is_each_list_empty()
-    ensures zeros {
-        (e : Extent) (p : Pass) (ws : List ℕ) → p.thread < p.threads
-        → grey_nothing (grey_after e (scanning p) ws).row ≡ begins_with_zeros p.threads ws
-    }
-    ensures taken {
-        (e : Extent) (p : Pass) (ws : List ℕ)
+    ensures zeros { (e : Extent) (p : Pass) (ws : List ℕ) → p.thread < p.threads
+        → grey_nothing (grey_after e (scanning p) ws).row ≡ begins_with_zeros p.threads ws }
+    ensures taken { (e : Extent) (p : Pass) (ws : List ℕ)
         → length ws < p.threads → begins_with_zeros (length ws) ws ≡ true
         → grey_want (grey_after e (scanning p) ws)
-            ≡ Exchange (GreyList (list_of p.thread p.threads (length ws))) 0
-    }
+        ≡ Exchange (GreyList (list_of p.thread p.threads (length ws))) 0 }
     ensures own { (t n : ℕ) → t < n → list_of t n 0 ≡ t }
     ensures each { (t n v : ℕ) → t < n → v < n → (u : ℕ) × (u < n) × (list_of t n u ≡ v) }
-    ensures shade {
-        (e : Extent) (p : Pass) (x : ℕ) (ws : List ℕ)
+    ensures shade { (e : Extent) (p : Pass) (x : ℕ) (ws : List ℕ)
         → (grey_nothing (grey_after e (shading p x) ws).row ≡ false)
-            × (grey_unit (grey_after e (shading p x) ws).row ≡ false)
-    }
+        × (grey_unit (grey_after e (shading p x) ws).row ≡ false) }
 {}
 
 /// Each event keeps all rules of the heap at once, while the other threads hold what they held.
 pub fn rows_keep_the_heap()
-    ensures {
-        (c : Config) (h : Heap) (hs : ℕ → Holding) (s : GreyState)
+    ensures { (c : Config) (h : Heap) (hs : ℕ → Holding) (s : GreyState)
         → GreyFits c s
         → HeapKept (extent c) s.pass.cycle h hs
         → hs s.pass.thread ≡ holding_at (extent c) s
         → HeapKept (extent c) s.pass.cycle (heap_after h (grey_want s))
-            (changed hs s.pass.thread
-                (holding_at (extent c) (grey_got (extent c) s (h (place_of (grey_want s))))))
-    }
+        (changed hs s.pass.thread
+        (holding_at (extent c) (grey_got (extent c) s (h (place_of (grey_want s)))))) }
 {}

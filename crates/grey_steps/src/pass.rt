@@ -13,9 +13,7 @@ ghost use Rattle.grey_steps.specs.Rows.{GreyState, grey_want, grey_got, grey_ste
 ghost use Rattle.grey_steps.specs.Fits.{GreyFits, GreyReads};
 
 use crate::GreyRow;
-use block_store::{
-    Colour, Payload, Places, black, colour_word, read_colour, read_payload, white,
-};
+use block_store::{Colour, Payload, Places, black, colour_word, read_colour, read_payload, white};
 use heap_machine::{Op, Pass, Step};
 use std::marker::Model;
 
@@ -220,7 +218,10 @@ impl GreyPass {
                 shading(places, cycle, target, hand)
             }
             Blacken { block, .. } => Op::exchange(places.colour(block), colour_word(black(cycle))),
-            Put { hand } | PutOwn { hand, .. } => Op::exchange(places.grey_list(thread), hand as u64),
+            Put { hand } | PutOwn { hand, .. } => Op::exchange(
+                places.grey_list(thread),
+                hand as u64,
+            ),
             TakeOwn { .. } => Op::exchange(places.grey_list(thread), 0),
             Scanned | NothingGrey | Shaded { .. } => Op::load(places.phase()),
         }

@@ -190,19 +190,13 @@ pub fn what_keeps_solid()
 /// block refers to a white one, on a block that was not Free or refers to no Free one, and black on a
 /// root block; and a payload that refers to no white and to no Free block.
 pub fn what_keeps_the_heap()
-    ensures place {
-        (e : Extent) (cycle : ℕ) (h : Heap) (hs : ℕ → Holding) (o : Operation)
+    ensures place { (e : Extent) (cycle : ℕ) (h : Heap) (hs : ℕ → Holding) (o : Operation)
         → is_ruled (place_of o) ≡ false
-        → HeapKept e cycle h hs → HeapKept e cycle (heap_after h o) hs
-    }
-    ensures colour {
-        (e : Extent) (cycle : ℕ) (h : Heap) (hs : ℕ → Holding) (x v : ℕ)
+        → HeapKept e cycle h hs → HeapKept e cycle (heap_after h o) hs }
+    ensures colour { (e : Extent) (cycle : ℕ) (h : Heap) (hs : ℕ → Holding) (x v : ℕ)
         → CanColour e cycle h x v
-        → HeapKept e cycle h hs → HeapKept e cycle (put_at h (ColourOf x) v) hs
-    }
-    ensures payload {
-        (e : Extent) (cycle : ℕ) (h : Heap) (hs : ℕ → Holding) (x j w : ℕ)
+        → HeapKept e cycle h hs → HeapKept e cycle (put_at h (ColourOf x) v) hs }
+    ensures payload { (e : Extent) (cycle : ℕ) (h : Heap) (hs : ℕ → Holding) (x j w : ℕ)
         → CanRefer cycle h (target w)
-        → HeapKept e cycle h hs → HeapKept e cycle (put_at h (PayloadOf x j) w) hs
-    }
+        → HeapKept e cycle h hs → HeapKept e cycle (put_at h (PayloadOf x j) w) hs }
 {}
