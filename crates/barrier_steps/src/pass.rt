@@ -257,7 +257,9 @@ fn after_both(first: u64, second: u64) -> FieldRow
 // The place of the next link on a way to the field of a command.
 fn link(places: &Places, command: Command, way: Way) -> usize
     requires walk { IsWalk places.now (operands.field_index command) way }
-    ensures { result ≡ index (extent places.now) (PayloadOf way.block (Walks.link_at (extent places.now) way.shape (operands.field_index command) way.level)) }
+    ensures { result
+        ≡ index (extent places.now) (PayloadOf way.block (Walks.link_at (extent places.now)
+        way.shape (operands.field_index command) way.level)) }
 {
     places.payload(
         way.block,
@@ -268,7 +270,9 @@ fn link(places: &Places, command: Command, way: Way) -> usize
 // The place of that field, at its block.
 fn field(places: &Places, command: Command, way: Way) -> usize
     requires walk { IsWalk places.now (operands.field_index command) way }
-    ensures { result ≡ index (extent places.now) (PayloadOf way.block (Walks.field_at (extent places.now) way.shape (operands.field_index command))) }
+    ensures { result
+        ≡ index (extent places.now) (PayloadOf way.block (Walks.field_at (extent places.now)
+        way.shape (operands.field_index command))) }
 {
     places.payload(
         way.block,
@@ -323,7 +327,9 @@ impl FieldPass {
     fn store(&self, places: &Places, word: u64) -> Op
         requires thread { IsThread places.now self.now.pass.thread }
         requires command { IsCommandInRange self.now.command }
-        ensures { result ≡ op_at (extent places.now) (Exchange (register_place (extent places.now) self.now.pass.thread (operands.to_register self.now.command)) word) }
+        ensures { result
+            ≡ op_at (extent places.now) (Exchange (register_place (extent places.now)
+            self.now.pass.thread (operands.to_register self.now.command)) word) }
     {
         let place = register(places, self.pass.thread, to_register(self.command));
         Op::exchange(place, word)
@@ -333,7 +339,9 @@ impl FieldPass {
     fn load(&self, places: &Places, r: u8) -> Op
         requires thread { IsThread places.now self.now.pass.thread }
         requires register { r < REGISTERS }
-        ensures { result ≡ op_at (extent places.now) (Load (register_place (extent places.now) self.now.pass.thread r)) }
+        ensures { result
+            ≡ op_at (extent places.now) (Load (register_place (extent places.now)
+            self.now.pass.thread r)) }
     {
         Op::load(register(places, self.pass.thread, r))
     }

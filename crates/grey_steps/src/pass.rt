@@ -167,7 +167,9 @@ fn after_own(target: u32, head: u64) -> GreyRow
 fn shading(places: &Places, cycle: u64, target: u32, hand: u32) -> Op
     requires target { IsBlock places.now target }
     requires hand { hand ≤ 65535 }
-    ensures { result ≡ op_at (extent places.now) (CompareExchange (ColourOf target) (white_word cycle) (grey_word hand)) }
+    ensures { result
+        ≡ op_at (extent places.now) (CompareExchange (ColourOf target) (white_word cycle)
+        (grey_word hand)) }
 {
     let grey = colour_word(Colour::Grey(hand));
     Op::compare_exchange(places.colour(target), colour_word(white(cycle)), grey)

@@ -100,13 +100,13 @@ is_done l = is_rest l.part && (length l.log == length l.trace)
 abbrev pub pass_by : ℕ → ℕ → PhaseWord → Pass
 pass_by t n p = record { thread = t; threads = n; cycle = p.cycle; sweep = p.sweep }
 
--- what a thread does in a pass that begins: a command that allocates nothing at once; for an allocation a Mark pass, and where it owes no more the
--- look at how many blocks are free
+-- what a thread does in a pass that begins: a Mark pass where units are owed; where none are, the look at how many blocks
+-- are free for an allocation, and any other command at once
 abbrev pub first_part : Pass → Command → Bool → Part
 first_part p k more =
-    if makes_object k
-    then (if more then Mark (scanning p) else Count)
-    else Serve (at_first_row p k)
+    if more
+    then Mark (scanning p)
+    else (if makes_object k then Count else Serve (at_first_row p k))
 
 abbrev pub if_entered : Option PhaseWord → ℕ → ℕ → Command → Bool → GateRow → Part
 if_entered None t n k more g = Enter g
@@ -135,27 +135,36 @@ part_got c t k more Count w = Leave
 part_got c t k more Again w = Enter gates.Look
 part_got c t k more Leave w = Rest
 
--- what an event is: its step; the phase word by which the thread went in; the reply that it brings, at the last event before the thread goes out; whether it decides the command, makes a
--- unit, or leads to where nothing was found
+-- how an event decides the command: not; as the heap that never frees answers it there; or it is refused with this reply
+pub data Verdict : Type 0 where
+  Open : Verdict
+  AsStep : Verdict
+  Refused : (reply : Reply) → Verdict
+
+abbrev pub if_decides : Bool → Verdict
+if_decides b = if b then AsStep else Open
+
+-- what an event is: its step; the phase word by which the thread went in; the reply that it brings, at the last event before the thread goes out; its verdict on the command; whether it
+-- makes a unit, or leads to where nothing was found
 pub record Effect : Type 0 where
   pub step : Step
   pub entered : Option PhaseWord
   pub reply : Option Reply
-  pub decides : Bool
+  pub verdict : Verdict
   pub unit : Bool
   pub nothing : Bool
 
 -- what most are: no more than a step
 abbrev pub plain : Step → Effect
-plain s = record { step = s; entered = None; reply = None; decides = false; unit = false; nothing = false }
+plain s = record { step = s; entered = None; reply = None; verdict = Open; unit = false; nothing = false }
 
 -- what the event of each part is that reads w. An allocation is answered full, whatever the free count was; a unit is the event that makes the block under scan black
 abbrev pub effect : Config → Part → ℕ → Effect
 effect c Rest w = record (plain (gate_step gates.Look w)) { entered = gate_entered (gate_got gates.Look w) }
 effect c (Enter g) w = record (plain (gate_step g w)) { entered = gate_entered (gate_got g w) }
-effect c (Serve f) w = record (plain (field_step (extent c) f w)) { reply = field_reply (field_got (extent c) f w).row; decides = is_deciding f.command f.row w }
+effect c (Serve f) w = record (plain (field_step (extent c) f w)) { reply = field_reply (field_got (extent c) f w).row; verdict = if_decides (is_deciding f.command f.row w) }
 effect c (Mark m) w = record (plain (grey_step (extent c) m w)) { unit = is_blackening m.row; nothing = grey_nothing (grey_got (extent c) m w).row }
-effect c Count w = record (plain steps.Over) { reply = Some (replies.Full 1); decides = true }
+effect c Count w = record (plain steps.Over) { reply = Some (replies.Full 1); verdict = Refused (replies.Full 1) }
 effect c Again w = plain (gate_step gates.Leave w)
 effect c Leave w = plain (gate_step gates.Leave w)
 
@@ -168,8 +177,8 @@ part_entered c p w = (effect c p w).entered
 abbrev pub part_reply : Config → Part → ℕ → Option Reply
 part_reply c p w = (effect c p w).reply
 
-abbrev pub decides : Config → Part → ℕ → Bool
-decides c p w = (effect c p w).decides
+abbrev pub verdict : Config → Part → ℕ → Verdict
+verdict c p w = (effect c p w).verdict
 
 abbrev pub makes_unit : Config → Part → ℕ → Bool
 makes_unit c p w = (effect c p w).unit

@@ -6,16 +6,13 @@ use Rattle.block_store.specs.Heaps.{heap_of}
 use Rattle.block_store.specs.Places.{Place, extent, in_range, words_count}
 use Rattle.rate_plan.specs.Rates.{IsRate, IsAdmitted}
 use Rattle.never_heap.specs.declared.Command.{Command}
-use Rattle.never_heap.specs.declared.Reply.{Reply}
-use Rattle.never_heap.specs.declared.Reply.TheVariants.{Full}
-use Rattle.never_heap.specs.Graphs.{Graph}
 use Rattle.never_heap.specs.Histories.{HistoryItem, Started, Did, replay}
-use Rattle.never_heap.specs.Steps.{step, makes_object}
+use Rattle.never_heap.specs.Steps.{step}
 use Rattle.heap_machine.specs.Operations.{op_at, op_place, words_after}
 use Rattle.heap_system.specs.declared.local.Part.TheVariants.{Leave}
 use Rattle.heap_system.specs.declared.Turn.{Turn}
 use Rattle.heap_system.specs.declared.Turn.TheVariants.{Done}
-use Rattle.heap_system.specs.Locals.{LocalState, command_of, is_done, part_want, part_step, decides, turn_of, local_got, entry_of, no_pass, at_start, IsTrace}
+use Rattle.heap_system.specs.Locals.{LocalState, command_of, is_done, part_want, part_step, Verdict, Open, AsStep, Refused, verdict, turn_of, local_got, entry_of, no_pass, at_start, IsTrace}
 use Rattle.heap_system.specs.Openings.{opening_heap}
 
 -- the list of words, and the threads by their numbers
@@ -52,19 +49,17 @@ turned c t s = if has_event c t s then event_done c t s else s
 abbrev pub answer : Config → ℕ → State → Turn
 answer c t s = if is_done (local_at c s t) then Done else turn_of (part_step c (local_at c s t).part (word_read c s (local_at c s t)))
 
--- the reply with which a command is decided: an allocation is answered full, and any other command as the heap that never frees answers it there
-abbrev pub reply_decided : Graph → ℕ → Command → Reply
-reply_decided g t k = if makes_object k then Full 1 else (step g t k).1
+-- what an event of thread t adds to an order: its command takes its place there, with the units made for it, where the event decides it
+abbrev pub entries_by : Config → ℕ → Command → ℕ → List HistoryItem → Verdict → List HistoryItem
+entries_by c t k work order Open = []
+entries_by c t k work order AsStep = Did (entry_of t k work (step (replay c order) t k).1) ∷ []
+entries_by c t k work order (Refused reply) = Did (entry_of t k work reply) ∷ []
 
--- the command of thread t takes its place in an order, with the units made for it
-abbrev pub entry_decided : Config → ℕ → Command → ℕ → List HistoryItem → HistoryItem
-entry_decided c t k work order = Did (entry_of t k work (reply_decided (replay c order) t k))
-
--- what a turn of thread t adds to an order: an entry, where its event decides a command
+-- what a turn of thread t adds
 abbrev pub decided : Config → ℕ → State → List HistoryItem → List HistoryItem
 decided c t s order =
     if has_event c t s
-    then (if decides c (local_at c s t).part (word_read c s (local_at c s t)) then entry_decided c t (command_of (local_at c s t)) (local_at c s t).paid order ∷ [] else [])
+    then entries_by c t (command_of (local_at c s t)) (local_at c s t).paid order (verdict c (local_at c s t).part (word_read c s (local_at c s t)))
     else []
 
 -- a state with the order that led to it, the oldest item first
@@ -109,3 +104,14 @@ pub record IsRunOf (c : Config) (traces : List (List Command)) (ts : List ℕ) (
   pub first : State
   pub opening : IsOpening c traces first
   pub turns : r ≡ after_turns c (opened first) ts
+
+-- a run of some job by some list of turns
+pub record IsAfterTurns (c : Config) (r : Run) : Type 0 where
+  pub traces : List (List Command)
+  pub job : IsJob c traces
+  pub turns : List ℕ
+  pub by_turns : IsRunOf c traces turns r
+
+-- thread t after a run
+abbrev pub local_in : Config → Run → ℕ → LocalState
+local_in c r t = local_at c r.state t

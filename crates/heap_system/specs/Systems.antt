@@ -43,7 +43,8 @@ units_of [] = 0
 units_of (log ∷ logs) = works log + units_of logs
 
 -- The logs are the parts of the order of some list of turns after which all threads are done. The order is legal, its parts are
--- the traces, whole, it has one start, and its work is that of the logs. The works of each log are the turns of its thread that made a grey block black.
+-- the traces, whole, it has one start, and its work is that of the logs. The works of each log are the units that the turns
+-- of its thread made.
 pub record IsFinished (c : Config) (traces : List (List Command)) (logs : List (List Entry)) : Type 0 where
   pub turns : List ℕ
   pub run : Run

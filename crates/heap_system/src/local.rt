@@ -26,10 +26,9 @@ pub enum Part {
     Rest,
     /// On its way in.
     Enter(Gate),
-    /// Inside, in a command that allocates nothing.
+    /// Inside, in a command that makes no object and owes no more.
     Serve(FieldPass),
-    /// Inside, in an allocation that owes units, of which it makes one at most: none where nothing is
-    /// grey.
+    /// Inside, in a command that owes units, of which it makes one at most: none where nothing is grey.
     Mark(GreyPass),
     /// Inside, in an allocation that owes no more: it looks how many blocks are free.
     Count,
@@ -312,12 +311,12 @@ impl Local {
         ensures { result ≡ first_part pass (command_of self.now) (owes self.now) }
     {
         let command = self.trace[self.log.len()];
-        if !makes_object(command) {
-            Part::Serve(FieldPass::new(pass, command))
-        } else if self.owes(&command) {
+        if self.owes(&command) {
             Part::Mark(GreyPass::scan(pass))
-        } else {
+        } else if makes_object(command) {
             Part::Count
+        } else {
+            Part::Serve(FieldPass::new(pass, command))
         }
     }
 
@@ -333,7 +332,15 @@ impl Local {
     // The command in hand is done.
     fn answer(&mut self, reply: Reply)
         requires command { length self.old.log < length self.old.trace }
-        ensures { self.new ≡ record self.old { part = Part.Leave; log = self.old.log ++ entry_of self.old.thread (command_of self.old) self.old.paid reply ∷ []; paid = 0; waived = false } }
+        ensures { self.new
+            ≡ record self.old {
+              part = Part.Leave;
+              log = self.old.log ++ entry_of
+                  self.old.thread (command_of self.old) self.old.paid reply ∷ [];
+              paid = 0;
+              waived
+                  = false;
+            } }
     {
         let command = self.trace[self.log.len()];
         self.log.push_reserved(Entry {

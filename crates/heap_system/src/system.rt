@@ -65,10 +65,12 @@ pub struct Unfinished {
 
 // The least thread that is not done.
 fn first_undone(locals: &[Local]) -> Option<usize>
-    ensures none { IfNone result ((t : ℕ) (d : LocalState) → t < length locals.now → is_done (slice_index_or locals.now t d) ≡ true) }
+    ensures none { IfNone result ((t : ℕ) (d : LocalState) → t < length locals.now → is_done (slice_index_or
+        locals.now t d) ≡ true) }
     ensures there { IfSome result (λ t. t < length locals.now) }
     ensures undone { IfSome result (λ t. (d : LocalState) → is_done (slice_index_or locals.now t d) ≡ false) }
-    ensures least { IfSome result (λ t. (u : ℕ) (d : LocalState) → u < t → is_done (slice_index_or locals.now u d) ≡ true) }
+    ensures least { IfSome result (λ t. (u : ℕ) (d : LocalState) → u < t → is_done (slice_index_or locals.now u
+        d) ≡ true) }
 {
     locals.iter().position(|local| !local.done())
 }
@@ -146,7 +148,8 @@ impl System {
     /// The system, unchanged, where a thread is not done, with the least such thread.
     pub fn finish(self) -> Result<Finished, Unfinished>
         ensures done { IfOk result (λ f. AllDone self.config self.state) }
-        ensures finished { IfOk result (λ f. (f.config ≡ self.config) × (f.logs ≡ logs_of self.state) × IsFinished self.config (traces_of self.state) f.logs) }
+        ensures finished { IfOk result (λ f. (f.config ≡ self.config) × (f.logs ≡ logs_of self.state) × IsFinished
+            self.config (traces_of self.state) f.logs) }
         ensures unchanged { IfErr result (λ u. u.system ≡ self) }
         ensures least { IfErr result (λ u. IsLeastUndone self.config self.state u.thread) }
     {

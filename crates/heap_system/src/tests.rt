@@ -10,7 +10,8 @@ use std::alloc::Global;
 
 // A heap of one thread with an empty shared array.
 fn one(width: Width) -> Config
-    ensures { result ≡ record { width = width; threads = 1; blocks = 64; live = 20; object = 2; shared = 0 } }
+    ensures { result
+        ≡ record { width = width; threads = 1; blocks = 64; live = 20; object = 2; shared = 0 } }
 {
     Config {
         width,
@@ -24,7 +25,8 @@ fn one(width: Width) -> Config
 
 // A heap of two threads with a shared array of four elements.
 fn two(width: Width) -> Config
-    ensures { result ≡ record { width = width; threads = 2; blocks = 64; live = 20; object = 2; shared = 4 } }
+    ensures { result
+        ≡ record { width = width; threads = 2; blocks = 64; live = 20; object = 2; shared = 4 } }
 {
     Config {
         width,
