@@ -203,7 +203,8 @@ fn after_shape(places: &Places, command: Command, block: u32, shape: Shape) -> F
 fn after_link(places: &Places, command: Command, way: Way, word: u64, block: u32) -> FieldRow
     requires shape { IsShape way.shape }
     requires index { operands.field_index command < shape_length way.shape }
-    requires level { way.level < links_to (extent places.now) way.shape (operands.field_index command) }
+    requires level { way.level < links_to (extent places.now) way.shape
+        (operands.field_index command) }
     ensures { result ≡ Rows.on_way (extent places.now) command (Rows.way_on way block) word }
 {
     let next = Way {
@@ -281,8 +282,8 @@ fn field(places: &Places, command: Command, way: Way) -> usize
 }
 
 impl FieldPass {
-    /// The part that does this command, which allocates nothing, for the thread of this pass, which is
-    /// inside. The command's registers are below 16, its numbers and indexes below 2^62.
+    /// The part that does this command, which allocates nothing, for the thread of this pass, which
+    /// is inside. The command's registers are below 16, its numbers and indexes below 2^62.
     pub fn new(pass: Pass, command: Command) -> FieldPass
         requires pass { IsPass pass }
         requires range { IsCommandInRange command }

@@ -1,5 +1,5 @@
-//! Commands done by hand on the words of a heap with one thread. Its register 0 refers to an array of
-//! five elements, in blocks 6 to 8, and register 1 to a record of one field, in block 9.
+//! Commands done by hand on the words of a heap with one thread. Its register 0 refers to an array
+//! of five elements, in blocks 6 to 8, and register 1 to a record of one field, in block 9.
 
 use crate::*;
 use block_store::{Config, Name, Places, Value, Width};

@@ -176,8 +176,8 @@ fn shading(places: &Places, cycle: u64, target: u32, hand: u32) -> Op
 }
 
 impl GreyPass {
-    /// The part that takes a grey list, scans one block of it and puts the rest back, for the thread
-    /// of this pass, which is inside.
+    /// The part that takes a grey list, scans one block of it and puts the rest back, for the
+    /// thread of this pass, which is inside.
     pub fn scan(pass: Pass) -> GreyPass
         requires { IsPass pass }
         ensures { result ≡ scanning pass }
@@ -202,8 +202,8 @@ impl GreyPass {
     }
 
     /// The operation of the next event. A part that is over wants no more than a look at the phase.
-    /// The places are those of a heap that has the part's threads and its row's blocks, the same heap
-    /// at all calls of one part.
+    /// The places are those of a heap that has the part's threads and its row's blocks, the same
+    /// heap at all calls of one part.
     #[inline(never)]
     pub fn want(&self, places: &Places) -> Op
         requires { GreyFits places.now self.now }
@@ -229,8 +229,8 @@ impl GreyPass {
         }
     }
 
-    /// Moves on by one event, whose operation read the word: one that its place can hold. The places
-    /// are those that `want` was given. A part that is over stays as it is.
+    /// Moves on by one event, whose operation read the word: one that its place can hold. The
+    /// places are those that `want` was given. A part that is over stays as it is.
     #[inline(never)]
     pub fn got(&mut self, places: &Places, word: u64) -> Step
         requires fits { GreyFits places.now self.old }

@@ -1,5 +1,5 @@
-//! Scans and shades done by hand on the words of a heap with two threads. In cycle 1 the word of a white
-//! block is 1, and that of a black one 2.
+//! Scans and shades done by hand on the words of a heap with two threads. In cycle 1 the word of a
+//! white block is 1, and that of a black one 2.
 
 ghost use Rattle.std.specs.Prelude.{◌≡◌, false};
 
@@ -28,8 +28,8 @@ fn pass(thread: u32) -> Pass
     }
 }
 
-// The other thread's list is 11 and 6. Block 11 holds nil, a number, a reference to block 13, which is
-// white, and one to block 12, which is black.
+// The other thread's list is 11 and 6. Block 11 holds nil, a number, a reference to block 13, which
+// is white, and one to block 12, which is black.
 #[test]
 #[tactic(auto, unfolding(block_store::specs::Payloads::payload_of, block_store::specs::Payloads::target, block_store::specs::Colours::colour_of, block_store::specs::Colours::link, block_store::specs::Colours::grey_word, block_store::specs::Colours::black_word, block_store::specs::Colours::white_word, crate::specs::Rows::list_of))]
 fn a_block_is_scanned(rt: HostRuntime) {

@@ -1,5 +1,5 @@
-//! What holds after every list of turns, for the proofs above: each law is the contract of a function
-//! that does nothing.
+//! What holds after every list of turns, for the proofs above: each law is the contract of a
+//! function that does nothing.
 
 ghost use Rattle.std.specs.Prelude.{◌+◌, ◌≡◌, ◌<◌, ◌≤◌, ◌++◌, ◌∷◌, [], ℕ, List, true, false, if◌then◌else◌, slice_index_or};
 ghost use Rattle.block_store.specs.declared.Config.{Config};
@@ -46,9 +46,9 @@ pub fn opening_shows_the_start()
         → Agrees c.width (opening_words c) (block_words (heap_of (extent c) ws)) x }
 {}
 
-/// The words show the replay of the order. Between the load of the field and the store of a `get`, its
-/// register's word is still that of the value that it had before. What a thread has loaded is of that
-/// graph, and no block of an object is Free.
+/// The words show the replay of the order. Between the load of the field and the store of a `get`,
+/// its register's word is still that of the value that it had before. What a thread has loaded is
+/// of that graph, and no block of an object is Free.
 pub fn words_show_the_order()
     ensures words { (c : Config) (r : Run) → IsAfterTurns c r
         → Shows c.width c.threads (opening_blocks c) (every_name (start_graph c))
@@ -66,18 +66,18 @@ pub fn words_show_the_order()
         (opening_at c.width c.threads) (graph_state c r) }
 {}
 
-/// The order is legal: each command is answered as the heap that never frees answers it there, or it
-/// allocates and is answered full. That the threads answer this is `logs_are_parts`. It has one start,
-/// and its work is that of the logs.
+/// The order is legal: each command is answered as the heap that never frees answers it there, or
+/// it allocates and is answered full. That the threads answer this is `logs_are_parts`. It has one
+/// start, and its work is that of the logs.
 pub fn order_is_legal()
     ensures legal { (c : Config) (r : Run) → IsAfterTurns c r → Legal c r.order }
     ensures counts { (c : Config) (r : Run) → IsAfterTurns c r
         → (starts_in r.order ≡ 1) × (work_in r.order ≡ units_of (logs_of r.state)) }
 {}
 
-/// A thread's log is its part of the order, reply for reply. Between the deciding event of a command
-/// and its last event inside, the order has one entry more, with the reply that the log will have. A
-/// thread at rest holds nothing.
+/// A thread's log is its part of the order, reply for reply. Between the deciding event of a
+/// command and its last event inside, the order has one entry more, with the reply that the log
+/// will have. A thread at rest holds nothing.
 pub fn logs_are_parts()
     ensures each { (c : Config) (r : Run) → IsAfterTurns c r → (t : ℕ) → t < c.threads
         → part t r.order
@@ -97,11 +97,12 @@ pub fn logs_are_parts()
         → part t r.order ≡ (local_in c r t).log }
 {}
 
-/// The grey blocks stand in the chains of the lists and of the threads' hands, or are under scan, each
-/// once. Where a thread puts its hand, its own list is empty.
+/// The grey blocks stand in the chains of the lists and of the threads' hands, or are under scan,
+/// each once. Where a thread puts its hand, its own list is empty.
 pub fn grey_blocks_stand_once()
     ensures kept { (c : Config) (r : Run) → IsAfterTurns c r
-        → GreyKept c.threads (heap_in c r.state) (λ t. grey_held (holding c (local_in c r t).part)) }
+        → GreyKept c.threads (heap_in c r.state)
+        (λ t. grey_held (holding c (local_in c r t).part)) }
     ensures put { (c : Config) (r : Run) → IsAfterTurns c r → (t : ℕ) → t < c.threads
         → (m : GreyState) → (local_in c r t).part ≡ Mark m → is_putting m.row ≡ true
         → (part_want c (local_in c r t).part
@@ -110,9 +111,10 @@ pub fn grey_blocks_stand_once()
 {}
 
 /// The works of a thread's entries, and the units that it has made for the command in hand, are its
-/// turns that are units, which are those at which it makes a grey block black. It has made no more for any command than it owes, which is
-/// the rate times the blocks, and none at rest; and an allocation is decided where it has made all, or
-/// the rest is waived. It is waived only where a pass is just over that read 0 from each list.
+/// turns that are units, which are those at which it makes a grey block black. It has made no more
+/// for any command than it owes, which is the rate times the blocks, and none at rest; and an
+/// allocation is decided where it has made all, or the rest is waived. It is waived only where a
+/// pass is just over that read 0 from each list.
 pub fn works_are_units()
     ensures made { (c : Config) (r : Run) → (is : IsAfterTurns c r) → (t : ℕ) → t < c.threads
         → works (part t r.order) + (local_in c r t).paid
@@ -152,9 +154,9 @@ pub fn threads_inside_are_counted()
 {}
 
 /// A turn waits exactly where it looks at a closed gate, where another thread changed the phase
-/// word since the look, and where it would close the gate in its pass's cycle and phase but finds it
-/// closed or somebody inside. It answers that a thread is done exactly where it is, and then changes
-/// nothing.
+/// word since the look, and where it would close the gate in its pass's cycle and phase but finds
+/// it closed or somebody inside. It answers that a thread is done exactly where it is, and then
+/// changes nothing.
 pub fn turns_wait_at_the_gate()
     ensures waits { (c : Config) (t : ℕ) (s : State) → is_done (local_at c s t) ≡ false
         → answer c t s

@@ -88,7 +88,8 @@ fn model_reply(
 ) -> Result<Option<Reply>, OutOfMemory>
     requires thread { thread < length graph.old.graph.mutators }
     requires counts { (u : ℕ) → count_of graph.old.graph u < 131072 }
-    ensures threads { OnOk result (length graph.new.graph.mutators ≡ length graph.old.graph.mutators) }
+    ensures threads { OnOk result (length graph.new.graph.mutators
+        ≡ length graph.old.graph.mutators) }
     ensures counts { OnOk result ((k u : ℕ) → ((v : ℕ) → count_of graph.old.graph v ≤ k) → count_of
         graph.new.graph u ≤ k + 1) }
 {
