@@ -11,7 +11,6 @@ ghost use Rattle.block_store.specs.Shapes.{IsShape, shape_of};
 ghost use Rattle.never_heap.specs.Bounds.{IsCommandInRange};
 ghost use Rattle.never_heap.specs.Steps.{makes_object};
 ghost use Rattle.heap_machine.specs.Operations.{op_at, Load, Exchange};
-ghost use Rattle.heap_machine.specs.Passes.{IsPass};
 ghost use Rattle.barrier_steps.specs.Operands as operands;
 ghost use Rattle.barrier_steps.specs.Walks;
 ghost use Rattle.barrier_steps.specs.Walks.{shape_length, links_to};
@@ -23,7 +22,8 @@ use crate::operands::{field_index, from_register, number_set, other_register, to
 use crate::walks::{field_at, length_of, link_at, links_to};
 use crate::{FieldRow, Way};
 use block_store::{
-    Name, Payload, Places, Shape, Value, Width, payload_word, read_owner, read_payload, read_shape,
+    Name, Payload, PhaseWord, Places, Shape, Value, Width, payload_word, read_owner, read_payload,
+    read_shape,
 };
 use heap_machine::{Op, Pass, Step};
 use never_heap::{Command, Reply};
@@ -282,10 +282,35 @@ fn field(places: &Places, command: Command, way: Way) -> usize
 }
 
 impl FieldPass {
-    /// The part that does this command, which allocates nothing, for the thread of this pass, which
-    /// is inside. The command's registers are below 16, its numbers and indexes below 2^62.
-    pub fn new(pass: Pass, command: Command) -> FieldPass
-        requires pass { IsPass pass }
+    /// The part that does this command, which allocates nothing, for one of 1 to 16 threads that is
+    /// inside. The command's registers are below 16, its numbers and indexes below 2^62. The phase
+    /// word is the one with which the thread entered.
+    pub fn new(thread: u32, threads: u32, phase: PhaseWord, command: Command) -> FieldPass
+        requires thread { (thread < threads) × (threads ≤ 16) }
+        requires range { IsCommandInRange command }
+        requires allocates { makes_object command ≡ false }
+        ensures { result
+            ≡ at_first_row
+            (record {
+              thread = thread;
+              threads = threads;
+              cycle = phase.cycle;
+              sweep
+                  = phase.sweep;
+            }) command }
+    {
+        let pass = Pass {
+            thread,
+            threads,
+            cycle: phase.cycle,
+            sweep: phase.sweep,
+        };
+        FieldPass::new_in(pass, command)
+    }
+
+    /// The same in this pass of a thread.
+    pub fn new_in(pass: Pass, command: Command) -> FieldPass
+        requires thread { (pass.thread < pass.threads) × (pass.threads ≤ 16) }
         requires range { IsCommandInRange command }
         requires allocates { makes_object command ≡ false }
         ensures { result ≡ at_first_row pass command }

@@ -93,11 +93,20 @@ impl Gate {
     /// once where the phase word says another cycle or phase than the pass had, the gate is closed,
     /// somebody is inside, or another thread changes the phase word first. A Sweep pass cannot be
     /// turned over yet: `sweep` has to be false.
-    pub fn turn_over(pass: Pass) -> Gate
-        requires pass { IsPass pass }
-        requires mark { pass.sweep ≡ false }
-        ensures { result ≡ GateRow.CloseLook pass }
+    pub fn turn_over(thread: u32, threads: u32, cycle: u64, sweep: bool) -> Gate
+        requires thread { (thread < threads) × (threads ≤ 16) }
+        requires cycle { (1 ≤ cycle) × (cycle ≤ 2 ^ 54 - 2) }
+        requires mark { sweep ≡ false }
+        ensures { result
+            ≡ GateRow.CloseLook
+            (record { thread = thread; threads = threads; cycle = cycle; sweep = sweep }) }
     {
+        let pass = Pass {
+            thread,
+            threads,
+            cycle,
+            sweep,
+        };
         Gate {
             row: GateRow::CloseLook { pass },
         }

@@ -335,11 +335,11 @@ impl Local {
     {
         let command = self.trace[self.log.len()];
         if self.owes(&command) {
-            Part::Mark(GreyPass::scan(pass))
+            Part::Mark(GreyPass::scan_in(pass))
         } else if makes_object(command) {
             Part::Count
         } else {
-            Part::Serve(FieldPass::new(pass, command))
+            Part::Serve(FieldPass::new_in(pass, command))
         }
     }
 
