@@ -4,7 +4,8 @@
 
 ghost use Rattle.std.specs.Prelude.{◌≡◌, ◌<◌, ◌≤◌, ◌+◌, ℕ, length, IfOk, OnOk};
 ghost use Rattle.never_heap.specs.Graphs.{count_of};
-ghost use Rattle.heap_system.specs.Locals.{IsTrace};
+ghost use Rattle.std.specs.List.{All};
+ghost use Rattle.never_heap.specs.Bounds.{IsCommandInBounds};
 
 use crate::*;
 use block_store::{Config, OutOfMemory, Places, Width};
@@ -47,14 +48,14 @@ const COMMANDS: [Command; 19] = [
 
 // The commands as a trace.
 fn trace(alloc: Global) -> Result<Vec<Command>, OutOfMemory>
-    ensures { IfOk result (λ v. IsTrace (record {
+    ensures { IfOk result (λ v. (length v.items ≤ 131072) × All (IsCommandInBounds (record {
       width = Width.Four;
       threads = 3;
       blocks = 64;
       live = 24;
       object = 2;
       shared = 17;
-    }) v.items) }
+    })) v.items) }
 {
     let mut trace = Vec::new(alloc);
     for command in &COMMANDS {
