@@ -56,6 +56,11 @@ pub(crate) fn field_at(places: &Places, way: Way, index: u32) -> u32
 {
     match way.shape {
         Shape::List(_) => walk_of(places.width(), index).1,
-        Shape::Tree(elements) => path_of(places.width(), elements, index, depth_of(places.width(), elements)),
+        Shape::Tree(elements) => path_of(
+            places.width(),
+            elements,
+            index,
+            depth_of(places.width(), elements),
+        ),
     }
 }

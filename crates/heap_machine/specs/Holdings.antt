@@ -1,10 +1,13 @@
--- What a thread holds before its next event, in one record; each rule on the heap reads its part of it.
+-- What a thread holds before its next event, in one record; each rule on the heap reads its part of
+-- it.
 use Rattle.std.specs.Prelude.{ℕ, Bool, false, Option, Some, None}
 use Rattle.heap_machine.specs.Grey.{GreyHolding}
 use Rattle.heap_machine.specs.Tricolour.{TricolourHolding}
 
--- the first block of the list in its hand, or 0; the block that it scans, and how many of its payloads are dealt with; the block that it has found in the next
--- one and not yet shaded, or 0; whether it knows its own list to be empty; and the block whose barrier is over, so that a reference to it may be stored, or 0
+-- the first block of the list in its hand, or 0; the block that it scans, and how many of its
+-- payloads are dealt with; the block that it has found in the next one and not yet shaded, or 0;
+-- whether it knows its own list to be empty; and the block whose barrier is over, so that a
+-- reference to it may be stored, or 0
 pub record Holding : Type 0 where
   pub hand : ℕ
   pub scan : Option ℕ
@@ -27,4 +30,9 @@ grey_held w = record { hand = w.hand; scan = w.scan; emptied = w.emptied }
 
 -- the part that the tricolour rule reads
 abbrev pub tricolour_held : Holding → TricolourHolding
-tricolour_held w = record { scan = block_or_zero w.scan; dealt = w.dealt; found = w.found; shaded = w.shaded }
+tricolour_held w = record {
+  scan = block_or_zero w.scan;
+  dealt = w.dealt;
+  found = w.found;
+  shaded = w.shaded;
+}
