@@ -1,0 +1,6 @@
+pub mod Colouring
+pub mod Building
+pub mod States
+pub mod Events
+pub mod Kept
+pub mod Openings
