@@ -10,3 +10,5 @@ pub mod Commands
 pub mod Builders
 pub mod Publishing
 pub mod Steps
+pub mod Opening
+pub mod Showing

@@ -4,3 +4,4 @@ pub mod States
 pub mod Events
 pub mod Kept
 pub mod Openings
+pub mod Reached
