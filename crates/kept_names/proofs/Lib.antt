@@ -12,3 +12,4 @@ pub mod Publishing
 pub mod Steps
 pub mod Opening
 pub mod Showing
+pub mod Example

@@ -5,3 +5,4 @@ pub mod Events
 pub mod Kept
 pub mod Openings
 pub mod Reached
+pub mod Example

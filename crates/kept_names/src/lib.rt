@@ -7,10 +7,12 @@ ghost use Rattle.std.specs.Prelude.{◌≡◌, ◌<◌, ◌≤◌, ◌⊎◌, �
 ghost use Rattle.block_store.specs.declared.Config.{Config};
 ghost use Rattle.block_store.specs.declared.Name.{Name};
 ghost use Rattle.block_store.specs.Colours.{is_free, is_grey, black_word};
+ghost use Rattle.block_store.specs.declared.Value.TheVariants.{Ref};
+ghost use Rattle.block_store.specs.declared.Width.{Width};
 ghost use Rattle.block_store.specs.Configs.{IsInBounds};
 ghost use Rattle.block_store.specs.Widths.{payloads};
 ghost use Rattle.array_trees.specs.Openings.{opening_blocks};
-ghost use Rattle.never_heap.specs.Graphs.{next_name};
+ghost use Rattle.never_heap.specs.Graphs.{next_name, register_of};
 ghost use Rattle.never_heap.specs.Histories.{Legal, replay};
 ghost use Rattle.shown_graph.specs.Events.{lates};
 ghost use Rattle.shown_graph.specs.Shown.{Shows};
@@ -22,6 +24,7 @@ ghost use Rattle.kept_names.specs.Events.KeptEvent.{Flip, Start, WriteColour};
 ghost use Rattle.kept_names.specs.Kept.{IsKept};
 ghost use Rattle.kept_names.specs.Openings.{OpeningColours, opening_kept};
 ghost use Rattle.kept_names.specs.Reached.{Reached, IsReachedBlock, IsReachedOrMade, IsColouredOf};
+ghost use Rattle.kept_names.specs.Example.{one_thread, first_colours, some_events, array_name, record_name, example_start, example_end};
 
 /// Each event that may come keeps it, and so does each list of them.
 pub fn events_are_kept()
@@ -99,4 +102,18 @@ pub fn sweeping_spares_what_is_reached()
 pub fn marked_blocks_were_reached_or_made()
     ensures { (c : Config) (s : KeptState) (x : ℕ) → IsKept c s → IsDark s.cycle (s.colour x)
         → IsReachedOrMade c s x ⊎ IsBuilt c.width c.threads s.builds x }
+{}
+
+/// The conditions of these laws are met in blocks of either width: over a cycle of one thread that
+/// gives up an array and builds a record in its block, the words go on showing what is reached.
+pub fn the_example_runs()
+    ensures bounds { (W : Width) → IsInBounds (one_thread W) }
+    ensures room { (W : Width) → opening_blocks (one_thread W) ≤ (one_thread W).blocks }
+    ensures colours { (W : Width) → OpeningColours (one_thread W) (first_colours W) }
+    ensures events { (W : Width) → Guarded (one_thread W) (example_start W) (some_events W) }
+    ensures cycle { (W : Width) → (example_end W).cycle ≡ 2 }
+    ensures refers { (W : Width)
+        → register_of (example_end W).seen.graph 0 1 ≡ Ref record_name }
+    ensures keeps { (W : Width) → Kept (example_end W) record_name }
+    ensures loses { (W : Width) → (example_end W).kept array_name ≡ false }
 {}
