@@ -14,7 +14,8 @@ use Rattle.kept_names.proofs.Builders.{reserves, collects_block, owner_written, 
 use Rattle.kept_names.proofs.Publishing.{publishes}
 
 module _ (c : Config) (inside : IsInBounds c) where
-  pub step_kept : (s : KeptState) (e : KeptEvent) → IsKept c s → Guard c s e → IsKept c (apply c s e)
+  pub step_kept : (s : KeptState) (e : KeptEvent) → IsKept c s → Guard c s e
+      → IsKept c (apply c s e)
   step_kept s (Serve e) k q = serves c s k e q
   step_kept s (Decide e entry) k q = decides c s k e entry q
   step_kept s (Answer entry) k q = answers c s k entry q
@@ -31,10 +32,12 @@ module _ (c : Config) (inside : IsInBounds c) where
   step_kept s (Collect t x) k q = collects_block c s k t q.0 x q.1 q.2
   step_kept s (WriteOwner t o) k q = owner_written c s k t q.building o q.all q.next q.once q.step
   step_kept s (WriteShape t o) k q = shape_written c s k t q.building o q.all q.next q.once q.step
-  step_kept s (WritePayload t o j) k q = payload_written c s k t q.0.building o q.0.all q.0.next q.0.once j q.0.step
+  step_kept s (WritePayload t o j) k q = payload_written c s k t q.0.building o q.0.all q.0.next
+      q.0.once j q.0.step
   step_kept s (WriteColour t o) k q = colour_written c s k t q.building o q.all q.next q.once q.step
   step_kept s (Publish t d work) k q = publishes c inside s k t d work q.0 q.1 q.2 q.3 q.4
 
-  pub run_kept : (es : List KeptEvent) (s : KeptState) → IsKept c s → Guarded c s es → IsKept c (run c s es)
+  pub run_kept : (es : List KeptEvent) (s : KeptState) → IsKept c s → Guarded c s es
+      → IsKept c (run c s es)
   run_kept [] s k q = k
   run_kept (e ∷ es) s k q = run_kept es (apply c s e) (step_kept s e k q.0) q.1
