@@ -27,6 +27,11 @@ use Rattle.kept_names.specs.Openings.{OpeningColours}
 use Rattle.kept_names.specs.Example.{one_thread, first_colours, mark_events, build_events, start_events, command_events, some_events, array_name, record_name, example_start, example_end}
 use Rattle.kept_names.proofs.Colours.{changed_else}
 
+-- one guard after another
+infixr 5 ◌▸◌
+◌▸◌ : {A B : Type 0} → A → B → A × B
+a ▸ b = (a, b)
+
 -- one list of events after another
 guarded_on : (c : Config) (s : KeptState) (es fs : List KeptEvent) → Guarded c s es
     → Guarded c (run c s es) fs → Guarded c s (es ++ fs)
@@ -56,8 +61,8 @@ held_once builds b o is all apart ol u p d un builds_it pl lo e = only_zero
       refl,
       two (λ o. b.held o ≡ b.held p → o ≡ p)
           (two (λ p. b.held 0 ≡ b.held p → 0 ≡ p) (λ _. refl) (λ h. absurd (apart h)) p pl2)
-          (two (λ p. b.held 1 ≡ b.held p → 1 ≡ p) (λ h. absurd (apart (sym h))) (λ _. refl) p pl2) o
-          ol held,
+          (two (λ p. b.held 1 ≡ b.held p → 1 ≡ p) (λ h. absurd (apart (sym h))) (λ _. refl) p pl2) o ol
+          held,
     ))) u un builds_it
 
 -- colours that were written one after another, the last one first
@@ -176,74 +181,32 @@ marked W = run (one_thread W) (example_start W) (mark_events W)
 marking : (W : Width) → Guarded (one_thread W) (example_start W) (mark_events W)
 unfolding target reference_word number_word owner_word kind grey_word free_word black_word
     white_word tree tree_depth record_word
-marking Four = (
-  ((omega arith, omega arith, refl, tt), inl refl, refl),
-  (
-    (refl, refl, omega arith),
-    (
-      (refl, omega arith, (λ e. omega arith), refl),
-      (
-        (refl, refl, omega arith),
-        (
-          (refl, omega arith, (λ e. omega arith), refl),
-          (
-            (refl, refl, omega arith),
-            (
-              (refl, omega arith, (λ e. omega arith), refl),
-              (
-                (refl, refl, omega arith),
-                (
-                  (refl, omega arith, (λ e. omega arith), refl),
-                  (
-                    (refl, refl),
-                    (
-                      (refl, refl),
-                      (
-                        (refl, refl),
-                        (
-                          (refl, refl),
-                          (
-                            (refl, refl),
-                            tt,
-                          ),
-                        ),
-                      ),
-                    ),
-                  ),
-                ),
-              ),
-            ),
-          ),
-        ),
-      ),
-    ),
-  ),
-)
-marking Eight = (
-  ((omega arith, omega arith, refl, tt), inl refl, refl),
-  (
-    (refl, refl, omega arith),
-    (
-      (refl, omega arith, (λ e. omega arith), refl),
-      (
-        (refl, refl, omega arith),
-        (
-          (refl, omega arith, (λ e. omega arith), refl),
-          (
-            (refl, refl),
-            (
-              (refl, refl),
-              (
-                (refl, refl),
-                tt,
-              ),
-            ),
-          ),
-        ),
-      ),
-    ),
-  ),
-)
+marking Four =
+    ((omega arith, omega arith, refl, tt), inl refl, refl)
+    ▸ (refl, refl, omega arith)
+    ▸ (refl, omega arith, (λ e. omega arith), refl)
+    ▸ (refl, refl, omega arith)
+    ▸ (refl, omega arith, (λ e. omega arith), refl)
+    ▸ (refl, refl, omega arith)
+    ▸ (refl, omega arith, (λ e. omega arith), refl)
+    ▸ (refl, refl, omega arith)
+    ▸ (refl, omega arith, (λ e. omega arith), refl)
+    ▸ (refl, refl)
+    ▸ (refl, refl)
+    ▸ (refl, refl)
+    ▸ (refl, refl)
+    ▸ (refl, refl)
+    ▸ tt
+marking Eight =
+    ((omega arith, omega arith, refl, tt), inl refl, refl)
+    ▸ (refl, refl, omega arith)
+    ▸ (refl, omega arith, (λ e. omega arith), refl)
+    ▸ (refl, refl, omega arith)
+    ▸ (refl, omega arith, (λ e. omega arith), refl)
+    ▸ (refl, refl)
+    ▸ (refl, refl)
+    ▸ (refl, refl)
+    ▸ tt
 
 abbrev marks : Width → List (ℕ × ℕ)
 marks Four = (5, black_word 1) ∷ (4, black_word 1) ∷ (3, black_word 1) ∷ (2, black_word 1) ∷
@@ -347,271 +310,58 @@ writing W s o words is all blocks apart next step ol = record {
 building : (W : Width) → Guarded (one_thread W) (marked W) (build_events W)
 unfolding target reference_word number_word owner_word kind grey_word free_word black_word
     white_word tree tree_depth record_word
-building Four = (
-  (refl, alone_first Four, none_grey Four, tricolour Four),
-  (
-    (refl, refl),
-    (
-      (omega arith, refl, omega arith, omega arith),
-      (
-        ((omega arith, refl), omega arith, (omega arith, omega arith, refl)),
-        (
-          ((omega arith, refl), omega arith, (omega arith, omega arith, refl)),
-          (
-            writing Four _ 1 0 refl refl refl (λ e. omega arith) refl refl (omega arith),
-            (
-              writing Four _ 1 1 refl refl refl (λ e. omega arith) refl refl (omega arith),
-              (
-                (
-                  writing Four _ 1 2 refl refl refl (λ e. omega arith) refl refl
-                      (omega arith),
-                  omega arith,
-                ),
-                (
-                  (
-                    writing Four _ 1 3 refl refl refl (λ e. omega arith) refl refl
-                        (omega arith),
-                    omega arith,
-                  ),
-                  (
-                    (
-                      writing Four _ 1 4 refl refl refl (λ e. omega arith) refl refl
-                          (omega arith),
-                      omega arith,
-                    ),
-                    (
-                      (
-                        writing Four _ 1 5 refl refl refl (λ e. omega arith) refl refl
-                            (omega arith),
-                        omega arith,
-                      ),
-                      (
-                        writing Four _ 1 6 refl refl refl (λ e. omega arith) refl refl
-                            (omega arith),
-                        (
-                          writing Four _ 0 0 refl refl refl (λ e. omega arith) refl refl
-                              (omega arith),
-                          (
-                            writing Four _ 0 1 refl refl refl (λ e. omega arith) refl refl
-                                (omega arith),
-                            (
-                              (
-                                writing Four _ 0 2 refl refl refl (λ e. omega arith) refl refl
-                                    (omega arith),
-                                omega arith,
-                              ),
-                              (
-                                (
-                                  writing Four _ 0 3 refl refl refl (λ e. omega arith) refl refl
-                                      (omega arith),
-                                  omega arith,
-                                ),
-                                (
-                                  (
-                                    writing Four _ 0 4 refl refl refl (λ e. omega arith) refl refl
-                                        (omega arith),
-                                    omega arith,
-                                  ),
-                                  (
-                                    (
-                                      writing Four _ 0 5 refl refl refl (λ e. omega arith) refl refl
-                                          (omega arith),
-                                      omega arith,
-                                    ),
-                                    (
-                                      writing Four _ 0 6 refl refl refl (λ e. omega arith) refl refl
-                                          (omega arith),
-                                      (
-                                        ((omega arith, refl), refl, refl, omega arith, refl),
-                                        tt,
-                                      ),
-                                    ),
-                                  ),
-                                ),
-                              ),
-                            ),
-                          ),
-                        ),
-                      ),
-                    ),
-                  ),
-                ),
-              ),
-            ),
-          ),
-        ),
-      ),
-    ),
-  ),
-)
-building Eight = (
-  (refl, alone_first Eight, none_grey Eight, tricolour Eight),
-  (
-    (refl, refl),
-    (
-      (omega arith, refl, omega arith, omega arith),
-      (
-        ((omega arith, refl), omega arith, (omega arith, omega arith, refl)),
-        (
-          ((omega arith, refl), omega arith, (omega arith, omega arith, refl)),
-          (
-            writing Eight _ 1 0 refl refl refl (λ e. omega arith) refl refl (omega arith),
-            (
-              writing Eight _ 1 1 refl refl refl (λ e. omega arith) refl refl (omega arith),
-              (
-                (
-                  writing Eight _ 1 2 refl refl refl (λ e. omega arith) refl refl
-                      (omega arith),
-                  omega arith,
-                ),
-                (
-                  (
-                    writing Eight _ 1 3 refl refl refl (λ e. omega arith) refl refl
-                        (omega arith),
-                    omega arith,
-                  ),
-                  (
-                    (
-                      writing Eight _ 1 4 refl refl refl (λ e. omega arith) refl refl
-                          (omega arith),
-                      omega arith,
-                    ),
-                    (
-                      (
-                        writing Eight _ 1 5 refl refl refl (λ e. omega arith) refl refl
-                            (omega arith),
-                        omega arith,
-                      ),
-                      (
-                        (
-                          writing Eight _ 1 6 refl refl refl (λ e. omega arith) refl refl
-                              (omega arith),
-                          omega arith,
-                        ),
-                        (
-                          (
-                            writing Eight _ 1 7 refl refl refl (λ e. omega arith) refl refl
-                                (omega arith),
-                            omega arith,
-                          ),
-                          (
-                            (
-                              writing Eight _ 1 8 refl refl refl (λ e. omega arith) refl refl
-                                  (omega arith),
-                              omega arith,
-                            ),
-                            (
-                              (
-                                writing Eight _ 1 9 refl refl refl (λ e. omega arith) refl refl
-                                    (omega arith),
-                                omega arith,
-                              ),
-                              (
-                                writing Eight _ 1 10 refl refl refl (λ e. omega arith) refl refl
-                                    (omega arith),
-                                (
-                                  writing Eight _ 0 0 refl refl refl (λ e. omega arith) refl refl
-                                      (omega arith),
-                                  (
-                                    writing Eight _ 0 1 refl refl refl (λ e. omega arith) refl refl
-                                        (omega arith),
-                                    (
-                                      (
-                                        writing Eight _ 0 2 refl refl refl
-                                            (λ e. omega arith) refl refl (omega arith),
-                                        omega arith,
-                                      ),
-                                      (
-                                        (
-                                          writing Eight _ 0 3 refl refl refl
-                                              (λ e. omega arith) refl refl
-                                              (omega arith),
-                                          omega arith,
-                                        ),
-                                        (
-                                          (
-                                            writing Eight _ 0 4 refl refl refl
-                                                (λ e. omega arith) refl refl
-                                                (omega arith),
-                                            omega arith,
-                                          ),
-                                          (
-                                            (
-                                              writing Eight _ 0 5 refl refl refl
-                                                  (λ e. omega arith) refl refl
-                                                  (omega arith),
-                                              omega arith,
-                                            ),
-                                            (
-                                              (
-                                                writing Eight _ 0 6 refl refl refl
-                                                    (λ e. omega arith) refl refl
-                                                    (omega arith),
-                                                omega arith,
-                                              ),
-                                              (
-                                                (
-                                                  writing Eight _ 0 7 refl refl refl
-                                                      (λ e. omega arith) refl refl
-                                                      (omega arith),
-                                                  omega arith,
-                                                ),
-                                                (
-                                                  (
-                                                    writing Eight _ 0 8 refl refl refl
-                                                        (λ e. omega arith) refl refl
-                                                        (omega arith),
-                                                    omega arith,
-                                                  ),
-                                                  (
-                                                    (
-                                                      writing Eight _ 0 9 refl refl refl
-                                                          (λ e. omega arith) refl refl
-                                                          (omega arith),
-                                                      omega arith,
-                                                    ),
-                                                    (
-                                                      writing Eight _ 0 10 refl refl refl
-                                                          (λ e. omega arith) refl refl
-                                                          (omega arith),
-                                                      (
-                                                        (
-                                                          (omega arith, refl),
-                                                          refl,
-                                                          refl,
-                                                          omega
-                                                              arith,
-                                                          refl,
-                                                        ),
-                                                        tt,
-                                                      ),
-                                                    ),
-                                                  ),
-                                                ),
-                                              ),
-                                            ),
-                                          ),
-                                        ),
-                                      ),
-                                    ),
-                                  ),
-                                ),
-                              ),
-                            ),
-                          ),
-                        ),
-                      ),
-                    ),
-                  ),
-                ),
-              ),
-            ),
-          ),
-        ),
-      ),
-    ),
-  ),
-)
+building Four =
+    (refl, alone_first Four, none_grey Four, tricolour Four)
+    ▸ (refl, refl)
+    ▸ (omega arith, refl, omega arith, omega arith)
+    ▸ ((omega arith, refl), omega arith, (omega arith, omega arith, refl))
+    ▸ ((omega arith, refl), omega arith, (omega arith, omega arith, refl))
+    ▸ writing Four _ 1 0 refl refl refl (λ e. omega arith) refl refl (omega arith)
+    ▸ writing Four _ 1 1 refl refl refl (λ e. omega arith) refl refl (omega arith)
+    ▸ (writing Four _ 1 2 refl refl refl (λ e. omega arith) refl refl (omega arith), omega arith)
+    ▸ (writing Four _ 1 3 refl refl refl (λ e. omega arith) refl refl (omega arith), omega arith)
+    ▸ (writing Four _ 1 4 refl refl refl (λ e. omega arith) refl refl (omega arith), omega arith)
+    ▸ (writing Four _ 1 5 refl refl refl (λ e. omega arith) refl refl (omega arith), omega arith)
+    ▸ writing Four _ 1 6 refl refl refl (λ e. omega arith) refl refl (omega arith)
+    ▸ writing Four _ 0 0 refl refl refl (λ e. omega arith) refl refl (omega arith)
+    ▸ writing Four _ 0 1 refl refl refl (λ e. omega arith) refl refl (omega arith)
+    ▸ (writing Four _ 0 2 refl refl refl (λ e. omega arith) refl refl (omega arith), omega arith)
+    ▸ (writing Four _ 0 3 refl refl refl (λ e. omega arith) refl refl (omega arith), omega arith)
+    ▸ (writing Four _ 0 4 refl refl refl (λ e. omega arith) refl refl (omega arith), omega arith)
+    ▸ (writing Four _ 0 5 refl refl refl (λ e. omega arith) refl refl (omega arith), omega arith)
+    ▸ writing Four _ 0 6 refl refl refl (λ e. omega arith) refl refl (omega arith)
+    ▸ ((omega arith, refl), refl, refl, omega arith, refl)
+    ▸ tt
+building Eight =
+    (refl, alone_first Eight, none_grey Eight, tricolour Eight)
+    ▸ (refl, refl)
+    ▸ (omega arith, refl, omega arith, omega arith)
+    ▸ ((omega arith, refl), omega arith, (omega arith, omega arith, refl))
+    ▸ ((omega arith, refl), omega arith, (omega arith, omega arith, refl))
+    ▸ writing Eight _ 1 0 refl refl refl (λ e. omega arith) refl refl (omega arith)
+    ▸ writing Eight _ 1 1 refl refl refl (λ e. omega arith) refl refl (omega arith)
+    ▸ (writing Eight _ 1 2 refl refl refl (λ e. omega arith) refl refl (omega arith), omega arith)
+    ▸ (writing Eight _ 1 3 refl refl refl (λ e. omega arith) refl refl (omega arith), omega arith)
+    ▸ (writing Eight _ 1 4 refl refl refl (λ e. omega arith) refl refl (omega arith), omega arith)
+    ▸ (writing Eight _ 1 5 refl refl refl (λ e. omega arith) refl refl (omega arith), omega arith)
+    ▸ (writing Eight _ 1 6 refl refl refl (λ e. omega arith) refl refl (omega arith), omega arith)
+    ▸ (writing Eight _ 1 7 refl refl refl (λ e. omega arith) refl refl (omega arith), omega arith)
+    ▸ (writing Eight _ 1 8 refl refl refl (λ e. omega arith) refl refl (omega arith), omega arith)
+    ▸ (writing Eight _ 1 9 refl refl refl (λ e. omega arith) refl refl (omega arith), omega arith)
+    ▸ writing Eight _ 1 10 refl refl refl (λ e. omega arith) refl refl (omega arith)
+    ▸ writing Eight _ 0 0 refl refl refl (λ e. omega arith) refl refl (omega arith)
+    ▸ writing Eight _ 0 1 refl refl refl (λ e. omega arith) refl refl (omega arith)
+    ▸ (writing Eight _ 0 2 refl refl refl (λ e. omega arith) refl refl (omega arith), omega arith)
+    ▸ (writing Eight _ 0 3 refl refl refl (λ e. omega arith) refl refl (omega arith), omega arith)
+    ▸ (writing Eight _ 0 4 refl refl refl (λ e. omega arith) refl refl (omega arith), omega arith)
+    ▸ (writing Eight _ 0 5 refl refl refl (λ e. omega arith) refl refl (omega arith), omega arith)
+    ▸ (writing Eight _ 0 6 refl refl refl (λ e. omega arith) refl refl (omega arith), omega arith)
+    ▸ (writing Eight _ 0 7 refl refl refl (λ e. omega arith) refl refl (omega arith), omega arith)
+    ▸ (writing Eight _ 0 8 refl refl refl (λ e. omega arith) refl refl (omega arith), omega arith)
+    ▸ (writing Eight _ 0 9 refl refl refl (λ e. omega arith) refl refl (omega arith), omega arith)
+    ▸ writing Eight _ 0 10 refl refl refl (λ e. omega arith) refl refl (omega arith)
+    ▸ ((omega arith, refl), refl, refl, omega arith, refl)
+    ▸ tt
 
 abbrev built : Width → KeptState
 built W = run (one_thread W) (marked W) (build_events W)
@@ -661,51 +411,39 @@ alone_last Eight = record {
 }
 
 starting : (W : Width) → Guarded (one_thread W) (built W) start_events
-starting Four = (
-  (refl, omega arith),
-  (
-    (refl, alone_last Four, none_white Four, only_zero (λ t. (shaded Four).shaded t ≡ true) refl),
-    tt,
-  ),
-)
-starting Eight = (
-  (refl, omega arith),
-  (
-    (
-      refl,
-      alone_last Eight,
-      none_white Eight,
-      only_zero (λ t. (shaded Eight).shaded t ≡ true)
-          refl,
-    ),
-    tt,
-  ),
-)
+starting Four = (refl, omega arith) ▸ (
+  refl,
+  alone_last Four,
+  none_white Four,
+  only_zero
+      (λ t. (shaded Four).shaded t ≡ true) refl,
+) ▸ tt
+starting Eight = (refl, omega arith) ▸ (
+  refl,
+  alone_last Eight,
+  none_white Eight,
+  only_zero
+      (λ t. (shaded Eight).shaded t ≡ true) refl,
+) ▸ tt
 
 commanding : (W : Width) → Guarded (one_thread W) (run (one_thread W) (built W) start_events)
     command_events
 unfolding target reference_word number_word owner_word kind grey_word free_word black_word
     white_word tree tree_depth record_word
-commanding Four = (
-  ((omega arith, omega arith, refl), refl),
-  (
-    (refl, omega arith, refl, (λ e. omega arith), refl),
-    (
-      ((omega arith, omega arith, refl, refl), inl refl, refl),
-      ((inl refl, refl), ((inr (refl, refl), refl), tt)),
-    ),
-  ),
-)
-commanding Eight = (
-  ((omega arith, omega arith, refl), refl),
-  (
-    (refl, omega arith, refl, (λ e. omega arith), refl),
-    (
-      ((omega arith, omega arith, refl, refl), inl refl, refl),
-      ((inl refl, refl), ((inr (refl, refl), refl), tt)),
-    ),
-  ),
-)
+commanding Four =
+    ((omega arith, omega arith, refl), refl)
+    ▸ (refl, omega arith, refl, (λ e. omega arith), refl)
+    ▸ ((omega arith, omega arith, refl, refl), inl refl, refl)
+    ▸ (inl refl, refl)
+    ▸ (inr (refl, refl), refl)
+    ▸ tt
+commanding Eight =
+    ((omega arith, omega arith, refl), refl)
+    ▸ (refl, omega arith, refl, (λ e. omega arith), refl)
+    ▸ ((omega arith, omega arith, refl, refl), inl refl, refl)
+    ▸ (inl refl, refl)
+    ▸ (inr (refl, refl), refl)
+    ▸ tt
 
 pub example_runs : (W : Width) → Guarded (one_thread W) (example_start W) (some_events W)
 example_runs W = guarded_on (one_thread W) (example_start W) (mark_events W)
