@@ -5,7 +5,8 @@ use Rattle.block_store.specs.declared.Config.{Config}
 use Rattle.block_store.specs.declared.Name.{Name}
 use Rattle.block_store.specs.declared.Width.{Width}
 use Rattle.block_store.specs.Colours.{is_free, black_word}
-use Rattle.block_store.specs.Registers.{root_block, registers_end}
+use Rattle.block_store.specs.Registers.{root_block, register_block, register_slot, registers_end}
+use Rattle.block_store.proofs.Registers.{register_low, register_some, slot_low}
 use Rattle.block_store.specs.Widths.{payloads}
 use Rattle.block_store.proofs.ColourWords.{not_free_black}
 use Rattle.never_heap.specs.Graphs.{Graph, ObjectKind, next_name}
@@ -26,6 +27,7 @@ use Rattle.kept_names.proofs.Colours.{differ, changed_case, changed_here, change
 use Rattle.kept_names.proofs.Holding.{some_case, build_rewritten, build_recoloured}
 use Rattle.kept_names.proofs.Building.{other_owner, other_shape, begins, collects, in_hand, writes_owner, writes_shape, writes_payload, writes_colour}
 use Rattle.kept_names.proofs.Referring.{refers_same, refers_link, behind_roots}
+use Rattle.kept_names.proofs.Older.{older_words}
 use Rattle.kept_names.proofs.Standing.{shown, build_of, title_of, once_not_held}
 
 -- other words at blocks that are not dark
@@ -111,12 +113,17 @@ module _ (c : Config) (s : KeptState) (k : IsKept c s) where
       → ((d : Build) (o : ℕ) → s.builds t ≡ Some d → d.left ≤ o → o < build_blocks W d
       → (b.left ≤ o) × (o < build_blocks W b) × (d.held o ≡ b.held o))
       → Shows W n m (Kept s) g s.at u (lates s.seen.loads)
+      → ((x j : ℕ) → 0 < x → x ≤ registers_end W n → j < payloads W
+      → u.payload x j ≡ w.payload x j)
       → (s.sweep ≡ true → SweepColours W n s.cycle (Kept s) (sizes c s) s.at s.colour u.payload
       s.shaded)
       → IsKept c (with_build (with_words s u) t b)
-  rebuilt t b u title new others more shows sweeping = record {
+  rebuilt t b u title new others more shows registers sweeping = record {
     ordered = k.ordered;
     follows = record { shows = shows; loads = k.follows.loads };
+    older = λ v r vn rl late. older_words c s.order w (Kept s) s.at v r (k.older v r vn rl late) u
+        (registers (register_block W v r) (register_slot W r) (register_some W v r)
+        (register_low W n v r vn rl) (slot_low W r));
     known = k.known;
     named = k.named;
     painted = painted_built W n s.cycle (Known s) (Kept s) (sizes c s) s.at s.colour
@@ -135,7 +142,7 @@ module _ (c : Config) (s : KeptState) (k : IsKept c s) where
       (begins W n m s.cycle s.colour w (next_name g t) kind size q.3 q.2)
       (λ v d vn _ is. build_of c s k v d vn is)
       (λ d o is. (let z : None ≡ Some d = sym q.1 ∙ is in cc))
-      (shown c s k) k.sweeping
+      (shown c s k) (λ x j some low jl. refl) k.sweeping
 
   -- an object's block that thread t has in hand
   module _ (t : ℕ) (building : IsBuilding c s t) where
@@ -159,7 +166,7 @@ module _ (c : Config) (s : KeptState) (k : IsKept c s) where
         (λ d o is lo hi. absurd
         (none_written (subst (λ (b : Build). b.left ≤ o) (same_build d is) lo)
         (subst (λ b. o < build_blocks W b) (same_build d is) hi)))
-        (shown c s k) k.sweeping
+        (shown c s k) (λ x j some low jl. refl) k.sweeping
       where
         early : (own.collected ≡ build_blocks W own)
             ⊎ ((own.left ≡ build_blocks W own) × (own.step ≡ 0)) → own.left ≡ build_blocks W own
@@ -210,6 +217,7 @@ module _ (c : Config) (s : KeptState) (k : IsKept c s) where
           (words_change W n m (Kept s) g s.at w (lates s.seen.loads) (shown c s k) u
           (λ x j some low jl. (same x (λ e. omega (arith, hand_behind))).payloads j jl)
           (λ a p ka pl. same (s.at a p) (λ e. hand_not_kept a p ka pl e)))
+          (λ x j some low jl. (same x (λ e. omega (arith, hand_behind))).payloads j jl)
           (λ sweep. sweep_same W n s.cycle (Kept s) (sizes c s) s.at s.colour w.payload u.payload
           s.shaded
           (λ x j d jl. (same x (λ e. differ _ (subst (λ z. is_free (s.colour z) ≡ true) e hand_free)
@@ -262,6 +270,7 @@ module _ (c : Config) (s : KeptState) (k : IsKept c s) where
           record {
             ordered = k.ordered;
             follows = k.follows;
+            older = k.older;
             known = k.known;
             named = k.named;
             painted = painted_at W n s.cycle (Known s) (Kept s) (sizes c s) s.at s.colour

@@ -27,12 +27,13 @@ use Rattle.block_store.specs.declared.Width.{Width}
 use Rattle.kept_names.specs.Building.{Build, IsBuild, IsBuilt}
 use Rattle.kept_names.specs.Colouring.{IfRefers, IsBlockOf, Belongs, SweepColours}
 use Rattle.kept_names.specs.States.{KeptState, sizes, Known, Kept, IsKeptBlock}
-use Rattle.kept_names.specs.Events.{apply, served, Guard}
+use Rattle.kept_names.specs.Events.{apply, served, leaves_graph, Guard}
 use Rattle.kept_names.specs.Events.KeptEvent.{Serve, Decide, Answer}
-use Rattle.kept_names.specs.Kept.{IsOrdered, IsPainted, IsKept}
-use Rattle.kept_names.proofs.Colours.{payload_written}
+use Rattle.kept_names.specs.Kept.{IsOrdered, IsOlder, IsPainted, IsKept}
+use Rattle.kept_names.proofs.Colours.{differ, payload_written}
 use Rattle.kept_names.proofs.Holding.{some_case, some_more, build_rewritten}
 use Rattle.kept_names.proofs.Referring.{refers_value, refers_more}
+use Rattle.kept_names.proofs.Older.{older_served, older_decided, older_answered}
 use Rattle.kept_names.proofs.Standing.{shown, build_of, belongs_not_held, kept_black, loaded_kept, value_is}
 
 -- a decided command is the order's last item
@@ -175,13 +176,16 @@ module _ (c : Config) (s : KeptState) (k : IsKept c s) where
   -- so it keeps everything, if it keeps the order
   moved : (now : GraphState) (order : List HistoryItem) → Moves now.graph now.words
       → Follows W n m (Kept s) s.at now → IsOrdered c now.graph order s.cycle (Known s)
+      → ((u r : ℕ) → u < n → r < REGISTERS → lates now.loads u r ≡ true
+      → IsOlder c order now.words (Kept s) s.at u r)
       → IsKept c (record s { seen = now; order = order })
-  moved now order m follows ordered =
+  moved now order m follows ordered older =
       let same : sizes c s ≡ (λ a. object_blocks W (object_of now.graph a)) = λ i a. sym
       (m.blocks a) i in
       record {
         ordered = ordered;
         follows = follows;
+        older = older;
         known = k.known;
         named = λ a la. m.names a ∙ k.named a la;
         painted = subst (λ f. IsPainted W n s.cycle (Known s) (Kept s) f s.at s.colour
@@ -203,16 +207,30 @@ module _ (c : Config) (s : KeptState) (k : IsKept c s) where
       → Follows W n m (Kept s) s.at (served c s e)
   follows_on e q = step_follows W n m (Kept s) s.at s.seen e q k.follows
 
+  graph_left : (e : Event) → leaves_graph e ≡ true → (served c s e).graph ≡ g
+  graph_left (ReadObject t r) is = refl
+  graph_left (ReadValue t r) is = refl
+  graph_left (ReadShape t f) is = refl
+  graph_left (ReadLink t j p) is = refl
+  graph_left (ReadField t d a i j) is = absurd (differ false is refl)
+  graph_left (StoreLate t) is = refl
+  graph_left (StoreValue t d) is = absurd (differ false is refl)
+  graph_left (StoreConstant t d v) is = absurd (differ false is refl)
+  graph_left (StoreField t a i j) is = absurd (differ false is refl)
+  graph_left (Finish t) is = refl
+
   pub serves : (e : Event) → Guard c s (Serve e) → IsKept c (apply c s (Serve e))
   serves e q = moved (served c s e) s.order (served_moves e q.0) (follows_on e q.0)
-      (subst (λ (g : Graph). IsOrdered c g s.order s.cycle (Known s)) (sym q.1) k.ordered)
+      (subst (λ (g : Graph). IsOrdered c g s.order s.cycle (Known s)) (sym (graph_left e q.1))
+      k.ordered) (older_served c s k e q.0 q.1)
 
   pub decides : (e : Event) (entry : Entry) → Guard c s (Decide e entry)
       → IsKept c (apply c s (Decide e entry))
   decides e entry q = moved (served c s e) (s.order ++ Did entry ∷ []) (served_moves e q.0)
       (follows_on e q.0) (entered c g (served c s e).graph s.order s.cycle
-      (Known s) entry q.1 q.2 k.ordered)
+      (Known s) entry q.1.2 q.3 k.ordered) (older_decided c s k e entry q.0 q.1 q.2)
 
   pub answers : (entry : Entry) → Guard c s (Answer entry) → IsKept c (apply c s (Answer entry))
   answers entry q = moved s.seen (s.order ++ Did entry ∷ []) (still w unwritten) k.follows
-      (entered c g g s.order s.cycle (Known s) entry q.0 (sym q.1) k.ordered)
+      (entered c g g s.order s.cycle (Known s) entry q.0.2 (sym q.1) k.ordered)
+      (older_answered c s k entry q.0)

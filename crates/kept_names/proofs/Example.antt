@@ -10,7 +10,8 @@ use Rattle.block_store.specs.Configs.{IsInBounds}
 use Rattle.block_store.specs.Owners.{owner_word}
 use Rattle.block_store.specs.Payloads.{target, reference_word, number_word}
 use Rattle.block_store.specs.Registers.{root_block}
-use Rattle.block_store.specs.Shapes.{record_word}
+use Rattle.block_store.specs.declared.Shape.TheVariants as shapes
+use Rattle.block_store.specs.Shapes.{record_word, shape_of}
 use Rattle.block_store.proofs.ColourWords.{free-black, free-white}
 use Rattle.array_trees.specs.Levels.{tree_depth}
 use Rattle.array_trees.specs.Openings.{opening_blocks}
@@ -143,13 +144,13 @@ bounds W = record {
 
 pub room : (W : Width) → opening_blocks (one_thread W) ≤ 20
 unfolding target reference_word number_word owner_word kind grey_word free_word black_word
-    white_word tree tree_depth record_word
+    white_word tree tree_depth record_word shape_of
 room Four = omega arith
 room Eight = omega arith
 
 pub first_are : (W : Width) → OpeningColours (one_thread W) (first_colours W)
 unfolding target reference_word number_word owner_word kind grey_word free_word black_word
-    white_word tree tree_depth record_word
+    white_word tree tree_depth record_word shape_of
 first_are Four = record {
   roots = only_zero (λ t. is_grey (first_colours Four (root_block Four t)) ≡ true) refl;
   none = refl;
@@ -180,9 +181,9 @@ marked W = run (one_thread W) (example_start W) (mark_events W)
 
 marking : (W : Width) → Guarded (one_thread W) (example_start W) (mark_events W)
 unfolding target reference_word number_word owner_word kind grey_word free_word black_word
-    white_word tree tree_depth record_word
+    white_word tree tree_depth record_word shape_of
 marking Four =
-    ((omega arith, omega arith, refl, tt), inl refl, refl)
+    ((omega arith, omega arith, refl, tt), (omega arith, refl, inl refl), refl, refl)
     ▸ (refl, refl, omega arith)
     ▸ (refl, omega arith, (λ e. omega arith), refl)
     ▸ (refl, refl, omega arith)
@@ -198,7 +199,7 @@ marking Four =
     ▸ (refl, refl)
     ▸ tt
 marking Eight =
-    ((omega arith, omega arith, refl, tt), inl refl, refl)
+    ((omega arith, omega arith, refl, tt), (omega arith, refl, inl refl), refl, refl)
     ▸ (refl, refl, omega arith)
     ▸ (refl, omega arith, (λ e. omega arith), refl)
     ▸ (refl, refl, omega arith)
@@ -217,13 +218,13 @@ marks Eight = (3, black_word 1) ∷ (2, black_word 1) ∷ (1, black_word 1) ∷ 
 
 marked_far : (W : Width) (x : ℕ) → 9 ≤ x → (marked W).colour x ≡ free_word 0
 unfolding target reference_word number_word owner_word kind grey_word free_word black_word
-    white_word tree tree_depth record_word
+    white_word tree tree_depth record_word shape_of
 marked_far Four x m = far (marks Four) (first_colours Four) 9 x refl m ∙ first_far Four x m
 marked_far Eight x m = far (marks Eight) (first_colours Eight) 9 x refl m ∙ first_far Eight x m
 
 none_grey : (W : Width) (x : ℕ) → is_grey ((marked W).colour x) ≡ false
 unfolding target reference_word number_word owner_word kind grey_word free_word black_word
-    white_word tree tree_depth record_word
+    white_word tree tree_depth record_word shape_of
 none_grey Four = nine (λ x. is_grey ((marked Four).colour x) ≡ false) refl refl refl refl refl refl
     refl refl refl (λ x m. ap is_grey (marked_far Four x m))
 none_grey Eight = nine (λ x. is_grey ((marked Eight).colour x) ≡ false) refl refl refl refl refl
@@ -231,7 +232,7 @@ none_grey Eight = nine (λ x. is_grey ((marked Eight).colour x) ≡ false) refl 
 
 tricolour : (W : Width) → IsTricolour W 1 (marked W).colour (marked W).seen.words.payload
 unfolding target reference_word number_word owner_word kind grey_word free_word black_word
-    white_word tree tree_depth record_word
+    white_word tree tree_depth record_word shape_of
 tricolour Four x j = nine (λ x. (j : ℕ) → (marked Four).colour x ≡ black_word 1 → j < 4
     → IfRefers (λ y. (marked Four).colour y ≢ white_word 1) ((marked Four).seen.words.payload x j))
     (λ j b. absurd (omega (arith, b)))
@@ -309,7 +310,7 @@ writing W s o words is all blocks apart next step ol = record {
 
 building : (W : Width) → Guarded (one_thread W) (marked W) (build_events W)
 unfolding target reference_word number_word owner_word kind grey_word free_word black_word
-    white_word tree tree_depth record_word
+    white_word tree tree_depth record_word shape_of
 building Four =
     (refl, alone_first Four, none_grey Four, tricolour Four)
     ▸ (refl, refl)
@@ -381,14 +382,14 @@ built_marks Eight = (1, grey_word 0) ∷ (4, black_word 1) ∷ (5, black_word 1)
 
 shaded_far : (W : Width) (x : ℕ) → 9 ≤ x → (shaded W).colour x ≡ free_word 0
 unfolding target reference_word number_word owner_word kind grey_word free_word black_word
-    white_word tree tree_depth record_word
+    white_word tree tree_depth record_word shape_of
 shaded_far Four x m = far (built_marks Four) (first_colours Four) 9 x refl m ∙ first_far Four x m
 shaded_far Eight x m = far (built_marks Eight) (first_colours Eight) 9 x refl m
     ∙ first_far Eight x m
 
 none_white : (W : Width) (x : ℕ) → (shaded W).colour x ≢ white_word 1
 unfolding target reference_word number_word owner_word kind grey_word free_word black_word
-    white_word tree tree_depth record_word
+    white_word tree tree_depth record_word shape_of
 none_white Four = nine (λ x. (shaded Four).colour x ≢ white_word 1) (λ e. omega (arith, e))
     (λ e. omega (arith, e)) (λ e. omega (arith, e)) (λ e. omega (arith, e)) (λ e. omega (arith, e))
     (λ e. omega (arith, e)) (λ e. omega (arith, e)) (λ e. omega (arith, e)) (λ e. omega (arith, e))
@@ -427,30 +428,61 @@ starting Eight = (refl, omega arith) ▸ (
 ) ▸ tt
 
 commanding : (W : Width) → Guarded (one_thread W) (run (one_thread W) (built W) start_events)
-    command_events
+    (command_events W)
 unfolding target reference_word number_word owner_word kind grey_word free_word black_word
-    white_word tree tree_depth record_word
+    white_word tree tree_depth record_word shape_of
 commanding Four =
     ((omega arith, omega arith, refl), refl)
     ▸ (refl, omega arith, refl, (λ e. omega arith), refl)
-    ▸ ((omega arith, omega arith, refl, refl), inl refl, refl)
-    ▸ (inl refl, refl)
-    ▸ (inr (refl, refl), refl)
+    ▸ ((omega arith, omega arith, refl, refl), (omega arith, refl, inl refl), refl, refl)
+    ▸ ((omega arith, omega arith, refl, (λ e. omega arith)), refl)
+    ▸ ((omega arith, refl, refl), refl)
+    ▸ (
+      (
+        omega arith,
+        omega arith,
+        refl,
+        record
+            { object = refl; refers = refl; shape = shapes.List 4; read = refl; field = refl },
+      ),
+      (omega arith, refl, inl refl),
+      refl,
+      refl,
+    )
+    ▸ ((omega arith, refl, refl), refl)
+    ▸ ((omega arith, refl, inl refl), refl)
+    ▸ ((omega arith, refl, inr (refl, refl)), refl)
     ▸ tt
 commanding Eight =
     ((omega arith, omega arith, refl), refl)
     ▸ (refl, omega arith, refl, (λ e. omega arith), refl)
-    ▸ ((omega arith, omega arith, refl, refl), inl refl, refl)
-    ▸ (inl refl, refl)
-    ▸ (inr (refl, refl), refl)
+    ▸ ((omega arith, omega arith, refl, refl), (omega arith, refl, inl refl), refl, refl)
+    ▸ ((omega arith, omega arith, refl, (λ e. omega arith)), refl)
+    ▸ ((omega arith, refl, refl), refl)
+    ▸ (
+      (
+        omega arith,
+        omega arith,
+        refl,
+        record
+            { object = refl; refers = refl; shape = shapes.List 8; read = refl; field = refl },
+      ),
+      (omega arith, refl, inl refl),
+      refl,
+      refl,
+    )
+    ▸ ((omega arith, refl, refl), refl)
+    ▸ ((omega arith, refl, inl refl), refl)
+    ▸ ((omega arith, refl, inr (refl, refl)), refl)
     ▸ tt
 
 pub example_runs : (W : Width) → Guarded (one_thread W) (example_start W) (some_events W)
 example_runs W = guarded_on (one_thread W) (example_start W) (mark_events W)
-    (build_events W ++ (start_events ++ command_events)) (marking W)
-    (guarded_on (one_thread W) (marked W) (build_events W) (start_events ++ command_events)
+    (build_events W ++ (start_events ++ command_events W)) (marking W)
+    (guarded_on (one_thread W) (marked W) (build_events W) (start_events ++ command_events W)
     (building W)
-    (guarded_on (one_thread W) (built W) start_events command_events (starting W) (commanding W)))
+    (guarded_on (one_thread W) (built W) start_events (command_events W) (starting W)
+    (commanding W)))
 
 pub example_cycle : (W : Width) → (example_end W).cycle ≡ 2
 example_cycle Four = refl

@@ -6,6 +6,7 @@ pub mod Standing
 pub mod Painting
 pub mod Closing
 pub mod Turning
+pub mod Older
 pub mod Commands
 pub mod Builders
 pub mod Publishing

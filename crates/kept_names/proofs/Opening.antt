@@ -110,6 +110,7 @@ module _ (c : Config) (inside : IsInBounds c) (room : opening_blocks c ≤ c.blo
       since = λ a h. inl h;
     };
     follows = record { shows = shown_start; loads = λ t tn. record { object = tt; value = tt } };
+    older = λ t r tn rl late. absurd (differ false late refl);
     known = λ a h. h;
     named = reached_name;
     painted = record {

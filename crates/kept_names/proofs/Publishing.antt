@@ -25,7 +25,7 @@ use Rattle.shown_graph.specs.Layouts.{object_blocks, kind_shape}
 use Rattle.shown_graph.specs.Made.{new_object, with_blocks, and_name, IsMade, IsWritten}
 use Rattle.shown_graph.specs.Words.{BlockWords, value_word, with_payload}
 use Rattle.shown_graph.specs.Shown.{IsValueOf, heads, Shows}
-use Rattle.shown_graph.specs.Events.{Loading, unloaded, lates, ObjectIs, ValueIs, LoadIs}
+use Rattle.shown_graph.specs.Events.{is_late, Loading, unloaded, lates, ObjectIs, ValueIs, LoadIs}
 use Rattle.shown_graph.proofs.Blocks.{other_block}
 use Rattle.shown_graph.proofs.Names.{same_is, same_self, not_next, word_stays}
 use Rattle.shown_graph.proofs.ObjectLayouts.{layout_laws}
@@ -37,10 +37,11 @@ use Rattle.kept_names.specs.Colouring.{changed, NotRoot, Belongs, SweepColours}
 use Rattle.kept_names.specs.States.{KeptState, sizes, Known, Kept, IsKnownBlock, with_name}
 use Rattle.kept_names.specs.Events.{apply, build_at, made_entry, making, published, IsBuilding, HasAll}
 use Rattle.kept_names.specs.Events.KeptEvent.{Publish}
-use Rattle.kept_names.specs.Kept.{IsOrdered, IsKept}
+use Rattle.kept_names.specs.Kept.{IsOrdered, IsOlder, IsKept}
 use Rattle.kept_names.proofs.Colours.{differ, changed_case, changed_else, black_solid, payload_written}
 use Rattle.kept_names.proofs.Holding.{some_case, some_more, not_held_array, build_rewritten}
 use Rattle.kept_names.proofs.Referring.{refers_block, behind_roots}
+use Rattle.kept_names.proofs.Older.{older_words, older_item, older_names, not_own, other_register}
 use Rattle.kept_names.proofs.Standing.{shown, build_of, title_of}
 use Rattle.kept_names.proofs.Commands.{entered}
 
@@ -390,10 +391,27 @@ module _ (c : Config) (inside : IsInBounds c) (s : KeptState) (k : IsKept c s) (
   all_kept mark a (inl is) = or_left _ _ is
   all_kept mark a (inr ka) = or_right _ _ ((k.marking mark).all a ka)
 
+  -- a register of another thread that is late has its older value
+  older_now : (u r : ℕ) → u < n → r < REGISTERS → lates s.seen.loads u r ≡ true
+      → IsOlder c (s.order ++ Did (made_entry s t d work) ∷ []) words More placed u r
+  older_now u r un rl is = elim (cases_eq t u) [
+    | inl e ↦ absurd (differ _ is (ap (λ v. lates s.seen.loads v r) (sym e)
+        ∙ ap (λ (l : Loading). is_late l.value r) idle))
+    | inr ne ↦
+        older_names c (s.order ++ Did (made_entry s t d work) ∷ []) words (Kept s) s.at u r
+        (older_words c (s.order ++ Did (made_entry s t d work) ∷ []) w (Kept s) s.at u r
+        (older_item c s.order w (Kept s) s.at u r (k.older u r un rl is)
+        (Did (made_entry s t d work)) (not_own u (made_entry s t d work) ne)) words
+        (other_register c s k t d (reference_word (own.held 0)) u r small rl ne)) More placed
+        (λ a ka. or_right _ _ ka)
+        (λ a ka. ap (λ (f : ℕ → ℕ). f 0) (place_old a (kept_name a ka)))
+  ]
+
   pub publishes : IsKept c (apply c s (Publish t d work))
   publishes = record {
     ordered = ordered;
     follows = record { shows = shown_new; loads = loads_now };
+    older = older_now;
     known = λ a h. more_known a (or_cases _ _ h);
     named = λ a h. names_known a (or_cases _ _ h);
     painted = record {

@@ -167,6 +167,7 @@ module _ (c : Config) (s : KeptState) (k : IsKept c s) where
   recoloured x v shaded fits arrays solid marked dark away sweeping = record {
     ordered = k.ordered;
     follows = k.follows;
+    older = k.older;
     known = k.known;
     named = k.named;
     painted = painted_at W n s.cycle (Known s) (Kept s) (sizes c s) s.at s.colour
@@ -190,6 +191,7 @@ module _ (c : Config) (s : KeptState) (k : IsKept c s) where
   scanned t y is = record {
     ordered = k.ordered;
     follows = k.follows;
+    older = k.older;
     known = k.known;
     named = k.named;
     painted = k.painted;

@@ -87,6 +87,7 @@ module _ (c : Config) (s : KeptState) (k : IsKept c s) where
         → IsTricolour W s.cycle s.colour w.payload → IsKept c (apply c s Flip)
     flips mark none tricolour = record {
       ordered = k.ordered;
+      older = λ t r tn rl is. absurd (differ _ is (no_late t r tn rl));
       follows = record {
         shows = fewer_names W n m (Kept s) g s.at w late (shown c s k) Fewer
             (λ a la. (down a la).0) closed no_late;
@@ -177,6 +178,7 @@ module _ (c : Config) (s : KeptState) (k : IsKept c s) where
             (k.ordered.replayed ∙ sym (graph_at_next c s.order [])
             ∙ ap (λ z. graph_at c (s.order ++ Started ∷ []) (z + 1)) k.ordered.started) ra);
       };
+      older = λ t r tn rl is. absurd (differ _ is (no_late t r tn rl));
       follows = record {
         shows = fewer_names W n m (Kept s) g s.at w late (shown c s k)
             (λ a. reachable g a ≡ true) reached_kept reached_closed no_late;

@@ -1,7 +1,7 @@
 -- The events that the rules see which need the graph, and when each may come. A guard says what
 -- the gate, the rules on grey and Free blocks, the sweep's claims and a thread's own row say at
 -- that event.
-use Rattle.std.specs.Prelude.{ℕ, suc, ◌+◌, ◌<◌, ◌≤◌, ◌≡◌, ◌≢◌, ◌==◌, ◌&&◌, true, false, Some, None, List, [], ◌∷◌, ◌++◌}
+use Rattle.std.specs.Prelude.{ℕ, suc, ◌+◌, ◌<◌, ◌≤◌, ◌≡◌, ◌≢◌, ◌==◌, ◌&&◌, Bool, true, false, Some, None, List, [], ◌∷◌, ◌++◌}
 use Rattle.block_store.specs.declared.Config.{Config}
 use Rattle.block_store.specs.declared.TheConstants.{REGISTERS}
 use Rattle.block_store.specs.declared.Value.TheVariants.{Ref}
@@ -20,7 +20,8 @@ use Rattle.shown_graph.specs.Layouts.{layout_blocks}
 use Rattle.shown_graph.specs.Made.{new_object, with_blocks}
 use Rattle.shown_graph.specs.Words.{BlockWords, with_payload, with_register_word}
 use Rattle.shown_graph.specs.Events as commanded
-use Rattle.shown_graph.specs.Events.{GraphState, Event, HasValue, unloaded, value_at}
+use Rattle.shown_graph.specs.Events.{GraphState, Event, HasValue, IsPrompt, unloaded, value_at}
+use Rattle.shown_graph.specs.Events.Event.{ReadObject, ReadValue, ReadShape, ReadLink, ReadField, StoreLate, StoreValue, StoreConstant, StoreField, Finish}
 use Rattle.kept_names.specs.Building.{Build, build_in, build_blocks, build_owner, build_shape, build_payload, with_owner, with_shape, IsHeldOnce}
 use Rattle.kept_names.specs.Colouring.{changed, IsTricolour}
 use Rattle.kept_names.specs.States.{KeptState, with_name}
@@ -61,6 +62,26 @@ pub data KeptEvent : Type 0 where
   WriteColour : (t o : ℕ) → KeptEvent
   -- register d refers to the object, and its command is decided, with this much work
   Publish : (t d work : ℕ) → KeptEvent
+
+-- whose event of a command it is, and whether it leaves the graph as it is
+abbrev pub event_thread : Event → ℕ
+event_thread (ReadObject t r) = t
+event_thread (ReadValue t r) = t
+event_thread (ReadShape t f) = t
+event_thread (ReadLink t j p) = t
+event_thread (ReadField t d a i j) = t
+event_thread (StoreLate t) = t
+event_thread (StoreValue t d) = t
+event_thread (StoreConstant t d v) = t
+event_thread (StoreField t a i j) = t
+event_thread (Finish t) = t
+
+abbrev pub leaves_graph : Event → Bool
+leaves_graph (ReadField t d a i j) = false
+leaves_graph (StoreValue t d) = false
+leaves_graph (StoreConstant t d v) = false
+leaves_graph (StoreField t a i j) = false
+leaves_graph _ = true
 
 -- what an event of a command makes of the graph, the words and the loads
 abbrev pub served : Config → KeptState → Event → GraphState
@@ -213,15 +234,22 @@ abbrev pub IsFreeBlock : Config → KeptState → ℕ → Type 0
 IsFreeBlock c s x =
     (registers_end c.width c.threads < x) × (x ≤ c.blocks) × (is_free (s.colour x) ≡ true)
 
+-- a command of a thread that has no store to come is answered as the graph says, or full
+abbrev pub MayDecide : Config → KeptState → Entry → Type 0
+MayDecide c s entry =
+    (entry.thread < c.threads) × IsPrompt (s.seen.loads entry.thread)
+    × IsAnswered s.seen.graph (Did entry)
+
 -- when an event may come
 abbrev pub Guard : Config → KeptState → KeptEvent → Type 0
 Guard c s (Serve e) =
-    commanded.Guard c.width c.threads s.seen e × ((served c s e).graph ≡ s.seen.graph)
+    commanded.Guard c.width c.threads s.seen e × (leaves_graph e ≡ true)
 Guard c s (Decide e entry) =
-    commanded.Guard c.width c.threads s.seen e × IsAnswered s.seen.graph (Did entry)
+    commanded.Guard c.width c.threads s.seen e × MayDecide c s entry
+    × (entry.thread ≡ event_thread e)
     × ((served c s e).graph ≡ after s.seen.graph (Did entry))
 Guard c s (Answer entry) =
-    IsAnswered s.seen.graph (Did entry) × (after s.seen.graph (Did entry) ≡ s.seen.graph)
+    MayDecide c s entry × (after s.seen.graph (Did entry) ≡ s.seen.graph)
 Guard c s (ReadWord t x j) =
     (s.sweep ≡ false) × (is_grey (s.colour x) ≡ true) × (j < payloads c.width)
 Guard c s (ShadeRead t a) =

@@ -4,6 +4,7 @@
 use Rattle.std.specs.Prelude.{ℕ, ◌+◌, ◌==◌, nat_le, if◌then◌else◌, List, [], ◌∷◌, ◌++◌}
 use Rattle.block_store.specs.declared.Config.{Config}
 use Rattle.block_store.specs.declared.Name.{Name}
+use Rattle.block_store.specs.declared.Shape.TheVariants as shapes
 use Rattle.block_store.specs.declared.Value.TheVariants.{Nil}
 use Rattle.block_store.specs.declared.Width.{Width}
 use Rattle.block_store.specs.declared.Width.TheVariants.{Four, Eight}
@@ -16,7 +17,7 @@ use Rattle.never_heap.specs.declared.Entry.{Entry}
 use Rattle.never_heap.specs.declared.Reply.{Reply}
 use Rattle.never_heap.specs.declared.Reply.TheVariants as replies
 use Rattle.never_heap.specs.Graphs.{Record}
-use Rattle.shown_graph.specs.Events.Event.{ReadValue, StoreValue, StoreConstant}
+use Rattle.shown_graph.specs.Events.Event.{ReadObject, ReadValue, ReadShape, ReadField, StoreLate, StoreValue, StoreConstant}
 use Rattle.kept_names.specs.Events.{KeptEvent, run}
 use Rattle.kept_names.specs.Openings.{opening_kept}
 use Rattle.kept_names.specs.States.{KeptState}
@@ -80,24 +81,27 @@ build_events W =
 abbrev pub start_events : List KeptEvent
 start_events = ShadeRoot 0 0 ∷ Start ∷ []
 
--- `mov 1 0` shades the record, and two commands are refused
-abbrev pub command_events : List KeptEvent
-command_events =
-    Serve (ReadValue 0 0) ∷ ShadeLoaded 0 0
-    ∷ Decide (StoreValue 0 1) (unpaid (commands.Mov 1 0) replies.Stored)
-    ∷ Answer (unpaid (commands.Len 3) replies.Null)
-    ∷ Answer (unpaid (commands.New 2 1) (replies.Full 1)) ∷ []
-
-abbrev pub some_events : Width → List KeptEvent
-some_events W =
-    mark_events W ++ (build_events W ++ (start_events ++ command_events))
-
 -- the array's name, and the record's
 abbrev pub array_name : Name
 array_name = record { thread = 1; serial = 0 }
 
 abbrev pub record_name : Name
 record_name = record { thread = 0; serial = 1 }
+
+-- `mov 1 0` shades the record, `get 2 0 0` reads its first field, and two commands are refused
+abbrev pub command_events : Width → List KeptEvent
+command_events W =
+    Serve (ReadValue 0 0) ∷ ShadeLoaded 0 0
+    ∷ Decide (StoreValue 0 1) (unpaid (commands.Mov 1 0) replies.Stored)
+    ∷ Serve (ReadObject 0 0) ∷ Serve (ReadShape 0 (shapes.List (payloads W)))
+    ∷ Decide (ReadField 0 2 record_name 0 1) (unpaid (commands.Get 2 0 0) (replies.Val Nil))
+    ∷ Serve (StoreLate 0)
+    ∷ Answer (unpaid (commands.Len 3) replies.Null)
+    ∷ Answer (unpaid (commands.New 2 1) (replies.Full 1)) ∷ []
+
+abbrev pub some_events : Width → List KeptEvent
+some_events W =
+    mark_events W ++ (build_events W ++ (start_events ++ command_events W))
 
 abbrev pub example_start : Width → KeptState
 example_start W = opening_kept (one_thread W) (first_colours W)

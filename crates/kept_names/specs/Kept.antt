@@ -1,14 +1,18 @@
 -- What every event keeps.
-use Rattle.std.specs.Prelude.{ℕ, ◌<◌, ◌≤◌, ◌≡◌, ◌≢◌, ◌⊎◌, true, false, IfSome, List}
+use Rattle.std.specs.Prelude.{ℕ, ◌<◌, ◌≤◌, ◌≡◌, ◌≢◌, ◌⊎◌, true, false, IfSome, List, [], ◌∷◌, ◌++◌}
 use Rattle.block_store.specs.declared.Config.{Config}
 use Rattle.block_store.specs.declared.Name.{Name}
+use Rattle.block_store.specs.declared.TheConstants.{REGISTERS}
 use Rattle.block_store.specs.declared.Width.{Width}
 use Rattle.block_store.specs.Colours.{is_free}
-use Rattle.never_heap.specs.Graphs.{Graph, has_name, next_name}
-use Rattle.never_heap.specs.Histories.{HistoryItem, Legal, replay, starts_in}
+use Rattle.never_heap.specs.declared.Entry.{Entry}
+use Rattle.never_heap.specs.Graphs.{Graph, has_name, next_name, register_of}
+use Rattle.never_heap.specs.Histories.{HistoryItem, Did, Legal, part, replay, starts_in}
 use Rattle.never_heap.specs.Cycles.{graph_at}
 use Rattle.never_heap.specs.Reach.{reachable}
-use Rattle.shown_graph.specs.Events.{Follows}
+use Rattle.shown_graph.specs.Events.{Follows, lates, register_word_in}
+use Rattle.shown_graph.specs.Shown.{IsValueOf, heads}
+use Rattle.shown_graph.specs.Words.{BlockWords, value_word}
 use Rattle.kept_names.specs.Building.{IsBuild, IsBuilt}
 use Rattle.kept_names.specs.Colouring.{IsDark, IsColoured, IsRegisterBlock, Belongs, MarkColours, SweepColours}
 use Rattle.kept_names.specs.States.{KeptState, sizes, Known, Kept, IsKnownBlock}
@@ -35,10 +39,27 @@ pub record IsPainted (W : Width) (n cycle : ℕ) (Known Kept : Name → Type 0) 
   pub solid : (a : Name) (o : ℕ) → Kept a → o < blocks a → is_free (colour (at a o)) ≡ false
   pub marked : (x : ℕ) → IsDark cycle (colour x) → Belongs W n Known blocks at x ⊎ Built x
 
+-- Register r of thread t has the word that it had before the last command of the thread was
+-- decided: the order is what was before that command, its entry, and entries of other threads.
+pub record IsOlder (c : Config) (order : List HistoryItem) (w : BlockWords) (Kept : Name → Type 0)
+    (at : Name → ℕ → ℕ) (t r : ℕ) : Type 0 where
+  pub before : List HistoryItem
+  pub entry : Entry
+  pub behind : List HistoryItem
+  pub split : order ≡ before ++ Did entry ∷ behind
+  pub own : entry.thread ≡ t
+  pub others : part t behind ≡ []
+  pub kept : IsValueOf Kept (register_of (replay c before) t r)
+  pub word : register_word_in c.width w t r
+      ≡ value_word (heads at) (register_of (replay c before) t r)
+
 pub record IsKept (c : Config) (s : KeptState) : Type 0 where
   pub ordered : IsOrdered c s.seen.graph s.order s.cycle (Known s)
   -- the words show the kept names, and what is loaded is of them
   pub follows : Follows c.width c.threads c.blocks (Kept s) s.at s.seen
+  -- a late register has its older value
+  pub older : (t r : ℕ) → t < c.threads → r < REGISTERS → lates s.seen.loads t r ≡ true
+      → IsOlder c s.order s.seen.words (Kept s) s.at t r
   pub known : (a : Name) → Kept s a → Known s a
   pub named : (a : Name) → Known s a → has_name s.seen.graph a ≡ true
   pub painted : IsPainted c.width c.threads s.cycle (Known s) (Kept s) (sizes c s) s.at s.colour

@@ -7,6 +7,7 @@ ghost use Rattle.std.specs.Prelude.{◌≡◌, ◌<◌, ◌≤◌, ◌⊎◌, �
 ghost use Rattle.block_store.specs.declared.Config.{Config};
 ghost use Rattle.block_store.specs.declared.Name.{Name};
 ghost use Rattle.block_store.specs.Colours.{is_free, is_grey, black_word};
+ghost use Rattle.block_store.specs.declared.TheConstants.{REGISTERS};
 ghost use Rattle.block_store.specs.declared.Value.TheVariants.{Ref};
 ghost use Rattle.block_store.specs.declared.Width.{Width};
 ghost use Rattle.block_store.specs.Configs.{IsInBounds};
@@ -21,7 +22,7 @@ ghost use Rattle.kept_names.specs.Colouring.{IfRefers, IsDark, IsShadedRoot};
 ghost use Rattle.kept_names.specs.States.{KeptState, Kept};
 ghost use Rattle.kept_names.specs.Events.{KeptEvent, apply, Guard, run, Guarded, build_at, held_at};
 ghost use Rattle.kept_names.specs.Events.KeptEvent.{Flip, Start, WriteColour};
-ghost use Rattle.kept_names.specs.Kept.{IsKept};
+ghost use Rattle.kept_names.specs.Kept.{IsKept, IsOlder};
 ghost use Rattle.kept_names.specs.Openings.{OpeningColours, opening_kept};
 ghost use Rattle.kept_names.specs.Reached.{Reached, IsReachedBlock, IsReachedOrMade, IsColouredOf};
 ghost use Rattle.kept_names.specs.Example.{one_thread, first_colours, some_events, array_name, record_name, example_start, example_end};
@@ -45,7 +46,8 @@ pub fn openings_are_kept()
 
 /// The graph is the replay of the order, which is legal. All that it reaches is kept, and the words
 /// show what is kept; a register alone is late whose thread has loaded a value for it that is still
-/// to be stored. No block that the graph reaches is Free, or held by a builder.
+/// to be stored, and it has the value from before that command. No block that the graph reaches is
+/// Free, or held by a builder.
 pub fn words_show_what_is_reached()
     ensures legal { (c : Config) (s : KeptState) → IsKept c s → Legal c s.order }
     ensures graph { (c : Config) (s : KeptState) → IsKept c s → s.seen.graph ≡ replay c s.order }
@@ -54,6 +56,9 @@ pub fn words_show_what_is_reached()
     ensures words { (c : Config) (s : KeptState) → IsKept c s
         → Shows c.width c.threads c.blocks (Kept s) s.seen.graph s.at s.seen.words
         (lates s.seen.loads) }
+    ensures older { (c : Config) (s : KeptState) (t r : ℕ) → IsKept c s → t < c.threads
+        → r < REGISTERS → lates s.seen.loads t r ≡ true
+        → IsOlder c s.order s.seen.words (Kept s) s.at t r }
     ensures solid { (c : Config) (s : KeptState) (x : ℕ) → IsKept c s → IsReachedBlock c s x
         → is_free (s.colour x) ≡ false }
     ensures not_held { (c : Config) (s : KeptState) (x t : ℕ) (b : Build) → IsKept c s

@@ -29,7 +29,7 @@ use Rattle.shown_graph.proofs.Opening.{opening_shows}
 use Rattle.shown_graph.proofs.Reading.{length_read, link_read, register_read}
 use Rattle.shown_graph.proofs.Stores.{register_store, register_late, late_store, field_store, more_late, register_same, register_new, object_same, changed_object, register_kept}
 
-prompt_register : (v : Option ValueLoad) (r : ℕ) → (value_in v).late ≡ false → is_late v r ≡ false
+pub prompt_register : (v : Option ValueLoad) (r : ℕ) → (value_in v).late ≡ false → is_late v r ≡ false
 prompt_register None r h = refl
 prompt_register (Some v) r h = rw h refl
 
