@@ -13,11 +13,13 @@ use Rattle.array_trees.specs.Trees.{blocks_over, leaves, tree_within, tree, IsTr
 -- how std rounds up
 pub div-over : (x y : ℕ) → 0 < y → x / y + min 1 (x % y) ≡ blocks_over y x
 div-over x y some =
-    let both : (x ≤ (x / y + min 1 (x % y)) * y) × ((x / y + min 1 (x % y)) * y < x + y) = div_ceil_times x y some in
+    let both : (x ≤ (x / y + min 1 (x % y)) * y) × ((x / y + min 1 (x % y)) * y < x + y) =
+    div_ceil_times x y some in
     ceiling_of x y (x / y + min 1 (x % y)) some both.0 both.1
   where
     ceiling_of : (x y z : ℕ) → 0 < y → x ≤ z * y → z * y < x + y → z ≡ blocks_over y x
-    ceiling_of x y z some low high = sym (div-eq_of_lt-le {k = z} y {m = x + (y - 1)} (omega arith) (omega arith))
+    ceiling_of x y z some low high =
+        sym (div-eq_of_lt-le {k = z} y {m = x + (y - 1)} (omega arith) (omega arith))
 
 -- a level of more than one block has fewer blocks over it
 pub over_less : (w q : ℕ) → 1 < w → 1 < q → blocks_over w q < q
@@ -26,7 +28,8 @@ over_less (suc zero) q hw hq = absurd (omega arith)
 over_less (suc (suc v)) zero hw hq = absurd (omega arith)
 over_less (suc (suc v)) (suc zero) hw hq = absurd (omega arith)
 over_less (suc (suc v)) (suc (suc p)) hw hq =
-    div_below (suc (suc p) + (suc (suc v) - 1)) (suc (suc v)) (suc (suc p)) (omega arith) (omega arith)
+    div_below (suc (suc p) + (suc (suc v) - 1)) (suc (suc v)) (suc (suc p)) (omega arith)
+    (omega arith)
 
 -- and at least one
 pub over_some : (w q : ℕ) → 1 < w → 0 < q → 0 < blocks_over w q
@@ -35,14 +38,16 @@ over_some w q hw hq =
     omega arith
 
 -- the bound on the number of levels may be any that is large enough
-pub tree_bound : (w n m q : ℕ) → 1 < w → q ≤ suc n → q ≤ suc m → tree_within w n q ≡ tree_within w m q
+pub tree_bound : (w n m q : ℕ) → 1 < w → q ≤ suc n → q ≤ suc m
+    → tree_within w n q ≡ tree_within w m q
 tree_bound w zero zero q hw hn hm = refl
 tree_bound w zero (suc m) q hw hn hm = rw (le-ltb 1 q hn) refl
 tree_bound w (suc n) zero q hw hn hm = rw (le-ltb 1 q hm) refl
 tree_bound w (suc n) (suc m) q hw hn hm = elim (cases_lt 1 q) [
   | inl some ↦
       let less : blocks_over w q < q = over_less w q hw some in
-      rw (lt-ltb 1 q some) (ap (λ t. q + t) (tree_bound w n m (blocks_over w q) hw (omega arith) (omega arith)))
+      rw (lt-ltb 1 q some) (ap (λ t. q + t)
+      (tree_bound w n m (blocks_over w q) hw (omega arith) (omega arith)))
   | inr few ↦ rw (le-ltb 1 q few) refl
 ]
 
@@ -61,7 +66,9 @@ unfolding tree
 tree-more w zero hw hq = absurd (omega arith)
 tree-more w (suc n) hw hq =
     let less : blocks_over w (suc n) < suc n = over_less w (suc n) hw hq in
-    rw (lt-ltb 1 (suc n) hq) (ap (λ t. suc n + t) (tree_bound w n (blocks_over w (suc n)) (blocks_over w (suc n)) hw (omega arith) (omega arith)))
+    rw (lt-ltb 1 (suc n) hq) (ap (λ t. suc n + t)
+    (tree_bound w n (blocks_over w (suc n)) (blocks_over w (suc n)) hw (omega arith)
+    (omega arith)))
 
 pub tree_is : (w : ℕ) → 1 < w → IsTree w
 tree_is w hw = record { one = tree-one w; more = λ q hq. tree-more w q hw hq }
@@ -111,14 +118,16 @@ tree_few Four e few =
     let third : 3 * tree 4 (leaves 4 e) < 4 * 4 ^ 7 =
     few_within 7 (leaves 4 e) (omega arith) (omega arith) in
     omega arith
-tree_few Eight e few = omega (arith, twice_within (leaves 8 e) (leaves 8 e) (omega arith) (omega arith))
+tree_few Eight e few = omega
+    (arith, twice_within (leaves 8 e) (leaves 8 e) (omega arith) (omega arith))
 
 pub few_shared : (w : Width) (e : ℕ) → e ≤ 1024 → array_blocks w e ≤ 341
 few_shared Four e few =
     let third : 3 * tree 4 (leaves 4 e) < 4 * 4 ^ 4 =
     few_within 4 (leaves 4 e) (omega arith) (omega arith) in
     omega arith
-few_shared Eight e few = omega (arith, twice_within (leaves 8 e) (leaves 8 e) (omega arith) (omega arith))
+few_shared Eight e few =
+    omega (arith, twice_within (leaves 8 e) (leaves 8 e) (omega arith) (omega arith))
 
 -- by the width
 pub many : (w : Width) → 1 < payloads w

@@ -98,15 +98,20 @@ level-closed v q zero = sym (rw (pow-zero (suc v)) (omega arith))
 level-closed v q (suc h) =
     let some : 1 ≤ suc v ^ h = one-le-pow h (suc v) (omega arith) in
     let power : suc v ^ suc h ≡ suc v ^ h * suc v = pow-suc (suc v) h in
-    ap (λ x. blocks_over (suc v) x) (level-closed v q h) ∙ round_up v q (suc v ^ h) (suc v ^ suc h) some power
+    ap (λ x. blocks_over (suc v) x) (level-closed v q h)
+    ∙ round_up v q (suc v ^ h) (suc v ^ suc h) some power
   where
-    round_up : (v q p s : ℕ) → 1 ≤ p → s ≡ p * suc v → blocks_over (suc v) (blocks_over p q) ≡ blocks_over s q
+    round_up : (v q p s : ℕ) → 1 ≤ p → s ≡ p * suc v
+        → blocks_over (suc v) (blocks_over p q) ≡ blocks_over s q
     round_up v q p s some power =
         let less : suc v - 1 ≡ v = omega arith in
-        let inner : (q + (p - 1) + v * p) / p ≡ (q + (p - 1)) / p + v = add-mul-div_right (q + (p - 1)) v {z = p} some in
-        let both : (q + (p - 1) + v * p) / p / suc v ≡ (q + (p - 1) + v * p) / (p * suc v) = div-div-eq-div-mul (q + (p - 1) + v * p) p (suc v) in
+        let inner : (q + (p - 1) + v * p) / p ≡ (q + (p - 1)) / p + v =
+        add-mul-div_right (q + (p - 1)) v {z = p} some in
+        let both : (q + (p - 1) + v * p) / p / suc v ≡ (q + (p - 1) + v * p) / (p * suc v) =
+        div-div-eq-div-mul (q + (p - 1) + v * p) p (suc v) in
         let sum : q + (p - 1) + v * p ≡ q + (s - 1) = omega arith in
-        ap (λ x. ((q + (p - 1)) / p + x) / suc v) less ∙ ap (λ x. x / suc v) (sym inner) ∙ both ∙ ap (λ x. x / (p * suc v)) sum ∙ ap (λ x. (q + (s - 1)) / x) (sym power)
+        ap (λ x. ((q + (p - 1)) / p + x) / suc v) less ∙ ap (λ x. x / suc v) (sym inner) ∙ both
+        ∙ ap (λ x. x / (p * suc v)) sum ∙ ap (λ x. (q + (s - 1)) / x) (sym power)
 
 -- the same where the width is no successor
 level-rounded : (w q h : ℕ) → 1 < w → level w q h ≡ blocks_over (w ^ h) q
@@ -120,7 +125,8 @@ pub level-power : (w : Width) (e h q n p : ℕ) → e ≤ 65535 → h ≤ array_
 level-power w e h q n p few deep leaf is at =
     let power : 0 < payloads w ^ h = (power_few w e h few deep).0 in
     let some : 0 < p = omega arith in
-    at ∙ div-over q p some ∙ ap (λ x. blocks_over x q) is ∙ ap (λ x. blocks_over (payloads w ^ h) x) leaf
+    at ∙ div-over q p some ∙ ap (λ x. blocks_over x q) is
+    ∙ ap (λ x. blocks_over (payloads w ^ h) x) leaf
     ∙ sym (level-rounded (payloads w) (leaves (payloads w) e) h (many w))
 
 -- the payload of a path by one power

@@ -33,8 +33,8 @@ level_size w e h = level w (leaves w e) h
 abbrev pub level_start : ℕ → ℕ → ℕ → ℕ
 level_start w e h = tree w (level_size w e h) - level_size w e h
 
--- What stands at payload j of block o, which is in the level that is h levels above the leaves or in
--- one below. Of a level that is h levels above the leaves, `start h` is the first ordinal and
+-- What stands at payload j of block o, which is in the level that is h levels above the leaves or
+-- in one below. Of a level that is h levels above the leaves, `start h` is the first ordinal and
 -- `size h` the number of blocks. Block r of a level has as children the blocks r * w + j of the
 -- level below, as far as they exist.
 abbrev pub part_from : ℕ → ℕ → (ℕ → ℕ) → (ℕ → ℕ) → ℕ → ℕ → ℕ → Part
@@ -51,9 +51,9 @@ tree_part w e o j =
     then part_from w e (level_start w e) (level_size w e) (tree_depth w e) o j
     else Blank
 
--- What `tree_part` is: the ordinals go level by level from the root, block r of a level that has one
--- below it refers to the blocks r * w to r * w + w - 1 of that level, as far as they exist, and a
--- leaf r has the elements of these numbers.
+-- What `tree_part` is: the ordinals go level by level from the root, block r of a level that has
+-- one below it refers to the blocks r * w to r * w + w - 1 of that level, as far as they exist,
+-- and a leaf r has the elements of these numbers.
 pub record IsByLevels (w e : ℕ) : Type 0 where
   pub root : level_start w e (tree_depth w e) ≡ 0
   pub next : (h : ℕ) → h < tree_depth w e

@@ -144,3 +144,32 @@ pub block_is : (w : Width) (x : ℕ) → 1 ≤ x
     → x ≡ root_block w (register_thread w x) + register_ordinal w x
 block_is Four x h = omega arith
 block_is Eight x h = omega arith
+
+-- the root is the block of ordinal 0
+pub root_thread : (w : Width) (t : ℕ) → register_thread w (root_block w t) ≡ t
+root_thread Four t = omega arith
+root_thread Eight t = omega arith
+
+pub root_ordinal : (w : Width) (t : ℕ) → register_ordinal w (root_block w t) ≡ 0
+root_ordinal Four t = omega arith
+root_ordinal Eight t = omega arith
+
+pub root_is : (w : Width) (x : ℕ) → 1 ≤ x → register_ordinal w x ≡ 0
+    → x ≡ root_block w (register_thread w x)
+root_is Four x h e = omega arith
+root_is Eight x h e = omega arith
+
+pub root_in : (w : Width) (n t : ℕ) → t < n → root_block w t ≤ registers_end w n
+root_in Four n t h = omega arith
+root_in Eight n t h = omega arith
+
+-- the ordinal of a register's block, behind the root
+pub register_ordinal_of : (w : Width) (t r : ℕ) → r < REGISTERS
+    → register_ordinal w (register_block w t r) ≡ 1 + r / payloads w
+register_ordinal_of Four t r h = omega arith
+register_ordinal_of Eight t r h = omega arith
+
+pub register_thread_of : (w : Width) (t r : ℕ) → r < REGISTERS
+    → register_thread w (register_block w t r) ≡ t
+register_thread_of Four t r h = omega arith
+register_thread_of Eight t r h = omega arith

@@ -17,7 +17,8 @@ layout_laws W Record n = record_layout W n
 layout_laws W Array n = tree_layout (payloads W) n (many W)
 
 pub object_layout : (W : Width) (o : Object)
-    → IsLayout (payloads W) (length o.fields) (object_blocks W o) (object_part W o) (object_spot W o)
+    → IsLayout (payloads W) (length o.fields) (object_blocks W o) (object_part W o)
+    (object_spot W o)
 object_layout W o = layout_laws W o.kind (length o.fields)
 
 pub few_fields : (W : Width) (k : ObjectKind) (n : ℕ) → layout_blocks W k n ≤ 1024 → n ≤ 65535

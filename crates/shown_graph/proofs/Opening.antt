@@ -39,11 +39,14 @@ in_shared x l a b d h k = rw (lt-leb x l h, le-leb x b k) refl
 
 -- the word of a link that there may be
 link_word_below : (head : Name → ℕ) (block_of : ℕ → ℕ) (field : ℕ → Value) (o n : ℕ)
-    → part_word head block_of field (link_below o n) ≡ cond (ltb o n) (reference_word (block_of o)) 0
-link_word_below head block_of field o n = elim (cases_Bool (ltb o n)) [ inl e ↦ rw e refl | inr e ↦ rw e refl ]
+    → part_word head block_of field (link_below o n)
+    ≡ cond (ltb o n) (reference_word (block_of o)) 0
+link_word_below head block_of field o n =
+    elim (cases_Bool (ltb o n)) [ inl e ↦ rw e refl | inr e ↦ rw e refl ]
 
 module _ (c : Config) (inside : IsInBounds c) where
-  shared_is : (a : Name) → has_name (start_graph c) a ≡ true → object_of (start_graph c) a ≡ new_object Array c.shared
+  shared_is : (a : Name) → has_name (start_graph c) a ≡ true
+      → object_of (start_graph c) a ≡ new_object Array c.shared
   shared_is a h = object_of_start c a h
 
   ordinal_is : (e o : ℕ) → e + 1 + o - (e + 1) ≡ o
@@ -53,37 +56,51 @@ module _ (c : Config) (inside : IsInBounds c) where
   shared_at : (o a d : ℕ) → o < array_blocks c.width c.shared
       → cond (leb (registers_end c.width c.threads + 1 + o) (registers_end c.width c.threads)) a
       (cond (leb (registers_end c.width c.threads + 1 + o) (opening_blocks c)) d 0) ≡ d
-  shared_at o a d ol = in_shared (registers_end c.width c.threads + 1 + o) (registers_end c.width c.threads) a (opening_blocks c) d (omega arith) (omega arith)
+  shared_at o a d ol = in_shared (registers_end c.width c.threads + 1 + o)
+      (registers_end c.width c.threads) a (opening_blocks c) d (omega arith) (omega arith)
 
-  shared_shows : (a : Name) (o : ℕ) → a.thread ≡ c.threads → a.serial ≡ 0 → o < array_blocks c.width c.shared
-      → BlockShows c.width (heads (opening_at c.width c.threads)) (opening_words c) a (new_object Array c.shared) (opening_at c.width c.threads a) o
+  shared_shows : (a : Name) (o : ℕ) → a.thread ≡ c.threads → a.serial ≡ 0
+      → o < array_blocks c.width c.shared
+      → BlockShows c.width (heads (opening_at c.width c.threads)) (opening_words c) a
+      (new_object Array c.shared) (opening_at c.width c.threads a) o
   shared_shows a o t s ol = record {
     owned = shared_at o _ _ ol
-        ∙ ap (λ k. owner_word c.threads 0 k) (ordinal_is (registers_end c.width c.threads) o) ∙ ap (λ k. owner_word k 0 o) (sym t) ∙ ap (λ k. owner_word a.thread k o) (sym s);
+        ∙ ap (λ k. owner_word c.threads 0 k) (ordinal_is (registers_end c.width c.threads) o)
+        ∙ ap (λ k. owner_word k 0 o) (sym t) ∙ ap (λ k. owner_word a.thread k o) (sym s);
     shaped = shared_at o _ _ ol ∙ sym (ap array_word (length-replicate c.shared Nil));
     words = λ j jl. shared_at o _ _ ol
-        ∙ ap (λ k. shared_word c k j) (ordinal_is (registers_end c.width c.threads) o) ∙ shared_part (array_part c.width c.shared o j)
-        ∙ sym (ap (λ l. part_word (heads (opening_at c.width c.threads)) (opening_at c.width c.threads a) (field_of (new_object Array c.shared)) (array_part c.width l o j)) (length-replicate c.shared Nil));
+        ∙ ap (λ k. shared_word c k j) (ordinal_is (registers_end c.width c.threads) o)
+        ∙ shared_part (array_part c.width c.shared o j)
+        ∙ sym (ap (λ l. part_word (heads (opening_at c.width c.threads))
+        (opening_at c.width c.threads a) (field_of (new_object Array c.shared))
+        (array_part c.width l o j)) (length-replicate c.shared Nil));
   }
     where
-      shared_part : (p : Part) → part_word (shared_block c) (opening_at c.width c.threads (shared_name c.threads)) (λ i. Nil) p
-          ≡ part_word (heads (opening_at c.width c.threads)) (opening_at c.width c.threads a) (field_of (new_object Array c.shared)) p
+      shared_part : (p : Part) → part_word (shared_block c)
+          (opening_at c.width c.threads (shared_name c.threads)) (λ i. Nil) p
+          ≡ part_word (heads (opening_at c.width c.threads)) (opening_at c.width c.threads a)
+          (field_of (new_object Array c.shared)) p
       shared_part (Link q) = refl
-      shared_part (Field i) = sym (ap (value_word (heads (opening_at c.width c.threads))) (field_of_new Array c.shared i))
+      shared_part (Field i) = sym
+          (ap (value_word (heads (opening_at c.width c.threads))) (field_of_new Array c.shared i))
       shared_part Blank = refl
 
-  start_kept : (t r : ℕ) → t < c.threads → r < REGISTERS → IsValueOf (every_name (start_graph c)) (register_of (start_graph c) t r)
-  start_kept t r tn rl = subst (λ v. IsValueOf (every_name (start_graph c)) v) (sym (register_of_start c t r tn rl)) (elim (cases_eq r 0) [
-    | inl e ↦ rw (eq-eqb r 0 e) (has_shared c)
-    | inr ne ↦ rw (ne_eqb r 0 ne) tt
-  ])
+  start_kept : (t r : ℕ) → t < c.threads → r < REGISTERS
+      → IsValueOf (every_name (start_graph c)) (register_of (start_graph c) t r)
+  start_kept t r tn rl = subst (λ v. IsValueOf (every_name (start_graph c)) v)
+      (sym (register_of_start c t r tn rl)) (elim (cases_eq r 0) [
+        | inl e ↦ rw (eq-eqb r 0 e) (has_shared c)
+        | inr ne ↦ rw (ne_eqb r 0 ne) tt
+      ])
 
   -- the words of the register array of thread t
   array_at : (t o j : ℕ) → t < c.threads → o < register_blocks c.width
       → (opening_words c).payload (root_block c.width t + o) j ≡ register_word c t o j
   array_at t o j tn ol =
-      in_registers (root_block c.width t + o) (registers_end c.width c.threads) _ (opening_blocks c) _ (omega (arith, root_low c.width c.threads t tn))
-      ∙ ap (λ k. register_word c k (register_ordinal c.width (root_block c.width t + o)) j) (thread_of c.width t o ol)
+      in_registers (root_block c.width t + o) (registers_end c.width c.threads) _
+      (opening_blocks c) _ (omega (arith, root_low c.width c.threads t tn))
+      ∙ ap (λ k. register_word c k (register_ordinal c.width (root_block c.width t + o)) j)
+      (thread_of c.width t o ol)
       ∙ ap (λ k. register_word c t k j) (ordinal_of c.width t o ol)
 
   -- a register's word
@@ -97,31 +114,43 @@ module _ (c : Config) (inside : IsInBounds c) where
       let low : (array_spot c.width REGISTERS r).0 < register_blocks c.width =
       subst (λ b. (array_spot c.width REGISTERS r).0 < b) (sym (array_of c.width)) place.1 in
       let spot = spot_of c.width t r in
-      let first : registers_end c.width c.threads + 1 ≡ registers_end c.width c.threads + 1 + 0 = omega arith in
+      let first : registers_end c.width c.threads + 1 ≡ registers_end c.width c.threads + 1 + 0 =
+      omega arith in
       ap (λ x. (opening_words c).payload x (register_slot c.width r)) spot.0
-      ∙ ap (λ j. (opening_words c).payload (root_block c.width t + (array_spot c.width REGISTERS r).0) j) spot.1
+      ∙ ap (λ j. (opening_words c).payload
+      (root_block c.width t + (array_spot c.width REGISTERS r).0) j) spot.1
       ∙ array_at t (array_spot c.width REGISTERS r).0 (array_spot c.width REGISTERS r).1 tn low
-      ∙ ap (part_word (shared_block c) (λ p. root_block c.width t + p) (register_of (start_graph c) t)) field
+      ∙ ap (part_word (shared_block c) (λ p. root_block c.width t + p)
+      (register_of (start_graph c) t)) field
       ∙ ap (λ x. value_word (λ a. x) (register_of (start_graph c) t r)) first
 
   root_reads : (t j : ℕ) → t < c.threads → j < payloads c.width
       → (opening_words c).payload (root_block c.width t) j ≡ root_word c.width t j
   root_reads t j tn jl =
       let block : root_block c.width t ≡ root_block c.width t + 0 = omega arith in
-      ap (λ x. (opening_words c).payload x j) block ∙ array_at t 0 j tn (omega (arith, (arrays_small c.width).0))
-      ∙ ap (part_word (shared_block c) (λ p. root_block c.width t + p) (register_of (start_graph c) t)) (root_of c.width j jl)
-      ∙ link_word_below (shared_block c) (λ p. root_block c.width t + p) (register_of (start_graph c) t) (1 + j) (register_blocks c.width)
+      ap (λ x. (opening_words c).payload x j) block
+      ∙ array_at t 0 j tn (omega (arith, (arrays_small c.width).0))
+      ∙ ap (part_word (shared_block c) (λ p. root_block c.width t + p)
+      (register_of (start_graph c) t)) (root_of c.width j jl)
+      ∙ link_word_below (shared_block c) (λ p. root_block c.width t + p)
+      (register_of (start_graph c) t) (1 + j) (register_blocks c.width)
 
-  few_ordinals : (a : Name) → has_name (start_graph c) a ≡ true → object_blocks c.width (object_of (start_graph c) a) ≡ array_blocks c.width c.shared
-  few_ordinals a h = ap (object_blocks c.width) (shared_is a h) ∙ blocks_of_new c.width Array c.shared
+  few_ordinals : (a : Name) → has_name (start_graph c) a ≡ true
+      → object_blocks c.width (object_of (start_graph c) a) ≡ array_blocks c.width c.shared
+  few_ordinals a h = ap (object_blocks c.width) (shared_is a h)
+      ∙ blocks_of_new c.width Array c.shared
 
   -- The opening words show the start graph, all of whose names are kept.
-  pub opening_shows : Shows c.width c.threads (opening_blocks c) (every_name (start_graph c)) (start_graph c) (opening_at c.width c.threads) (opening_words c) never_late
+  pub opening_shows : Shows c.width c.threads (opening_blocks c) (every_name (start_graph c))
+      (start_graph c) (opening_at c.width c.threads) (opening_words c) never_late
   opening_shows = record {
     sized = record { threads = threads_of_start c; sixteen = sixteen_of_start c };
     names = λ a h. h;
     closed = record {
-      fields = λ a i h. subst (λ (x : Object). IsValueOf (every_name (start_graph c)) (field_of x i)) (sym (shared_is a h)) (subst (λ v. IsValueOf (every_name (start_graph c)) v) (sym (field_of_new Array c.shared i)) tt);
+      fields = λ a i h. subst (λ (x : Object). IsValueOf (every_name (start_graph c))
+          (field_of x i)) (sym (shared_is a h))
+          (subst (λ v. IsValueOf (every_name (start_graph c)) v)
+          (sym (field_of_new Array c.shared i)) tt);
       registers = start_kept;
     };
     numbered = record {
@@ -136,7 +165,8 @@ module _ (c : Config) (inside : IsInBounds c) where
     written = record {
       blocks = λ a o h ol.
           let low : o < array_blocks c.width c.shared = subst (λ b. o < b) (few_ordinals a h) ol in
-          subst (λ (x : Object). BlockShows c.width (heads (opening_at c.width c.threads)) (opening_words c) a x (opening_at c.width c.threads a) o) (sym (shared_is a h))
+          subst (λ (x : Object). BlockShows c.width (heads (opening_at c.width c.threads))
+          (opening_words c) a x (opening_at c.width c.threads a) o) (sym (shared_is a h))
           (shared_shows a o (name_of_start c a h).0 (name_of_start c a h).1 low);
     };
     registers = record {

@@ -6,6 +6,7 @@ use Rattle.block_store.specs.declared.Name.{Name}
 use Rattle.block_store.specs.declared.Shape.TheVariants as shapes
 use Rattle.block_store.specs.declared.Value.TheVariants.{Int}
 use Rattle.block_store.specs.declared.Width.{Width}
+use Rattle.block_store.specs.declared.Width.TheVariants.{Eight}
 use Rattle.block_store.specs.Widths.{payloads}
 use Rattle.block_store.specs.Owners.{owner_word}
 use Rattle.block_store.specs.Payloads.{reference_word}
@@ -22,6 +23,16 @@ small_config W = record {
   live = 15;
   object = 3;
   shared = 4;
+}
+
+abbrev pub wide_config : Config
+wide_config = record {
+  width = Eight;
+  threads = 1;
+  blocks = 64;
+  live = 20;
+  object = 2;
+  shared = 0;
 }
 
 abbrev pub shared_array : Name

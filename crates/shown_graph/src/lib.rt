@@ -28,7 +28,7 @@ ghost use Rattle.shown_graph.specs.Made.{new_object, with_blocks, and_name, IsMa
 ghost use Rattle.shown_graph.specs.Snapshots.{Snapshot, IsShown, IsRegister, IsKeptValue, word_of, IsBlockOf, IsMadeIn, referred_new, CatchesUp, FallsBehind};
 ghost use Rattle.shown_graph.specs.Openings.{opening_at, opening_words};
 ghost use Rattle.shown_graph.specs.Events.{ObjectLoad, ValueLoad, GraphState, Event, run, Guarded, ObjectIs, ValueIs, Follows, opening_state};
-ghost use Rattle.shown_graph.specs.Example.{small_config, some_events, with_record};
+ghost use Rattle.shown_graph.specs.Example.{small_config, wide_config, some_events, with_record};
 ghost use Rattle.shown_graph.specs.Read.{value_payload};
 
 /// Objects of each kind and length have a layout in blocks of either width.
@@ -42,6 +42,19 @@ pub fn opening_is_shown()
     ensures { (c : Config) → IsInBounds c
         → Shows c.width c.threads (opening_blocks c) (every_name (start_graph c)) (start_graph c)
         (opening_at c.width c.threads) (opening_words c) never_late }
+{}
+
+/// Words of the opening heap of one thread and an empty shared array, in blocks of eight: the root
+/// of the register array in block 1 refers to blocks 2 and 3, register 0 in block 2 refers to block
+/// 4, and that is the shared array `1.0`.
+pub fn a_known_opening()
+    ensures root { ((opening_words wide_config).payload 1 0 ≡ 4)
+        × ((opening_words wide_config).payload 1 1 ≡ 6)
+        × ((j : ℕ) → 1 < j → j < 8 → (opening_words wide_config).payload 1 j ≡ 0) }
+    ensures registers { ((opening_words wide_config).payload 2 0 ≡ 8)
+        × ((j : ℕ) → 0 < j → j < 8 → (opening_words wide_config).payload 2 j ≡ 0) }
+    ensures shared { ((opening_words wide_config).owner 4 ≡ 1099511627776)
+        × ((opening_words wide_config).shape 4 ≡ 1) }
 {}
 
 /// A store of a kept value in a register, and in a field of a kept object. A register may take its
@@ -153,7 +166,8 @@ pub fn loads_are_read()
         → owner_of (s.words.owner (target v.word))
         ≡ Some (record { thread = a.thread; serial = a.serial; ordinal = 0 }) }
     ensures length { (W : Width) (t : ℕ) (at : Name → ℕ → ℕ) (g : Graph) (l : ObjectLoad)
-        (f : Shape) (a : Name) → ObjectIs W g at t l → l.shape ≡ Some f → register_of g t l.source ≡ Ref a
+        (f : Shape) (a : Name) → ObjectIs W g at t l → l.shape ≡ Some f
+        → register_of g t l.source ≡ Ref a
         → f ≡ kind_shape (object_of g a).kind (length (object_of g a).fields) }
 {}
 

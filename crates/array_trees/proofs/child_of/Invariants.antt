@@ -10,5 +10,7 @@ invariant-loop-height l = record {
   deep : l.height ≤ array_depth l.width l.e;
   start : l.start ≡ level_start (payloads l.width) l.e l.height;
   inside : l.start ≤ l.ordinal;
-  part : link_in (part_from (payloads l.width) l.e (level_start (payloads l.width) l.e) (level_size (payloads l.width) l.e) l.height l.ordinal l.j) ≡ link_in (array_part l.width l.e l.ordinal l.j);
+  part : link_in (part_from (payloads l.width) l.e (level_start (payloads l.width) l.e)
+      (level_size (payloads l.width) l.e) l.height l.ordinal l.j)
+      ≡ link_in (array_part l.width l.e l.ordinal l.j);
 }

@@ -14,7 +14,8 @@ returns c = record {
       value_read s.width s.threads s.last (named s.kept) s.graph s.at s.words s.late shows v few
       value;
   one_value = λ s v u shows kv ku e.
-      one_value s.width s.threads s.last (named s.kept) s.graph s.at s.words s.late shows v u kv ku e;
+      one_value s.width s.threads s.last
+      (named s.kept) s.graph s.at s.words s.late shows v u kv ku e;
   register = λ s t r shows there now.
       register_read s.width s.threads s.last (named s.kept) s.graph s.at s.words s.late shows t r
       there.0 there.1 now;
