@@ -30,7 +30,7 @@ use Rattle.shown_graph.proofs.Opening.{opening_shows}
 use Rattle.shown_graph.proofs.Reading.{length_read, link_read, register_read}
 use Rattle.shown_graph.proofs.Stores.{register_store, register_late, late_store, field_store, more_late, register_same, register_new, object_same, changed_object, register_kept}
 
-prompt_register : (v : Option ValueLoad) (r : ℕ) → (value_in v).late ≡ false → is_late v r ≡ false
+pub prompt_register : (v : Option ValueLoad) (r : ℕ) → (value_in v).late ≡ false → is_late v r ≡ false
 prompt_register None r h = refl
 prompt_register (Some v) r h = rw h refl
 
@@ -40,13 +40,13 @@ other_register None r h = refl
 other_register (Some v) r h =
     elim (cases_Bool v.late) [ inl e ↦ rw (e, ne_eqb v.origin r h) refl | inr e ↦ rw e refl ]
 
-load_here : (ls : ℕ → Loading) (t u : ℕ) (l : Loading) → t ≡ u → with_load ls t l u ≡ l
+pub load_here : (ls : ℕ → Loading) (t u : ℕ) (l : Loading) → t ≡ u → with_load ls t l u ≡ l
 load_here ls t u l e = ap (λ b. cond b l (ls u)) (eq-eqb t u e)
 
-load_other : (ls : ℕ → Loading) (t u : ℕ) (l : Loading) → (t ≡ u → ⊥) → with_load ls t l u ≡ ls u
+pub load_other : (ls : ℕ → Loading) (t u : ℕ) (l : Loading) → (t ≡ u → ⊥) → with_load ls t l u ≡ ls u
 load_other ls t u l n = ap (λ b. cond b l (ls u)) (ne_eqb t u n)
 
-each_load : (P : ℕ → Loading → Type 0) (ls : ℕ → Loading) (t : ℕ) (l : Loading) (u : ℕ) → P t l
+pub each_load : (P : ℕ → Loading → Type 0) (ls : ℕ → Loading) (t : ℕ) (l : Loading) (u : ℕ) → P t l
     → ((t ≡ u → ⊥) → P u (ls u)) → P u (with_load ls t l u)
 each_load P ls t l u here others = elim (cases_eq t u) [
   | inl e ↦ subst (λ x. P u x) (sym (load_here ls t u l e)) (subst (λ x. P x l) e here)
@@ -73,13 +73,13 @@ same_late ls t o u q e = elim (cases_eq t u) [
       (sym (load_other ls t u (record { object = o; value = (ls t).value }) other)) ∙ e
 ]
 
-some_map : {A : Type 0} (P Q : A → Type 0) (o : Option A) → ((x : A) → P x → Q x) → IfSome o P
+pub some_map : {A : Type 0} (P Q : A → Type 0) (o : Option A) → ((x : A) → P x → Q x) → IfSome o P
     → IfSome o Q
 some_map P Q None f k = tt
 some_map P Q (Some x) f k = f x k
 
 -- what was loaded stays of the graph, while the thread's registers and the sizes of objects stay
-load_stays : (W : Width) (g h : Graph) (at : Name → ℕ → ℕ) (t : ℕ) (l : Loading)
+pub load_stays : (W : Width) (g h : Graph) (at : Name → ℕ → ℕ) (t : ℕ) (l : Loading)
     → ((r : ℕ) → register_of h t r ≡ register_of g t r)
     → ((a : Name) → ((object_of h a).kind ≡ (object_of g a).kind)
     × (length (object_of h a).fields ≡ length (object_of g a).fields)) → LoadIs W g at t l
@@ -110,7 +110,7 @@ load_stays W g h at t l same sizes k = record {
 }
 
 -- a word that refers to a block is of a reference
-refers_to : (head : Name → ℕ) (v : Value) (word : ℕ) → word ≡ value_word head v → target word ≢ 0
+pub refers_to : (head : Name → ℕ) (v : Value) (word : ℕ) → word ≡ value_word head v → target word ≢ 0
     → (a : Name) × (v ≡ Ref a) × (target word ≡ head a)
 refers_to head Nil word e h = absurd (h (ap target e ∙ target-nil))
 refers_to head (Int k) word e h = absurd (h (ap target e ∙ target-number k))
@@ -121,13 +121,13 @@ shape_part-kind : (W : Width) (k : ObjectKind) (n o j : ℕ)
 shape_part-kind W Record n o j = refl
 shape_part-kind W Array n o j = refl
 
-constant_word : (head : Name → ℕ) (v : Value) → IsConstant v
+pub constant_word : (head : Name → ℕ) (v : Value) → IsConstant v
     → value_word (λ a. 0) v ≡ value_word head v
 constant_word head Nil c = refl
 constant_word head (Int k) c = refl
 constant_word head (Ref a) c = absurd c
 
-constant_kept : (K : Name → Type 0) (v : Value) → IsConstant v → IsValueOf K v
+pub constant_kept : (K : Name → Type 0) (v : Value) → IsConstant v → IsValueOf K v
 constant_kept K Nil c = tt
 constant_kept K (Int k) c = c
 constant_kept K (Ref a) c = absurd c
@@ -135,14 +135,14 @@ constant_kept K (Ref a) c = absurd c
 module _ (W : Width) (n m : ℕ) (K : Name → Type 0) (at : Name → ℕ → ℕ) (s : GraphState)
     (k : Follows W n m K at s) where
   -- what the thread has loaded
-  object_is : (t : ℕ) → t < n → HasObject s t → ObjectIs W s.graph at t (object_at s t)
+  pub object_is : (t : ℕ) → t < n → HasObject s t → ObjectIs W s.graph at t (object_at s t)
   object_is t tn has = subst (λ o. IfSome o (λ l. ObjectIs W s.graph at t l)) has
       (k.loads t tn).object
 
-  value_is : (t : ℕ) → t < n → HasValue s t → ValueIs s.graph at t (value_at s t)
+  pub value_is : (t : ℕ) → t < n → HasValue s t → ValueIs s.graph at t (value_at s t)
   value_is t tn has = subst (λ o. IfSome o (λ l. ValueIs s.graph at t l)) has (k.loads t tn).value
 
-  kept_object : (t : ℕ) (tn : t < n) (l : ObjectLoad) (i : ObjectIs W s.graph at t l) → K i.name
+  pub kept_object : (t : ℕ) (tn : t < n) (l : ObjectLoad) (i : ObjectIs W s.graph at t l) → K i.name
   kept_object t tn l i = subst (λ v. IsValueOf K v) i.refers
       (k.shows.closed.registers t l.source tn i.source)
 
@@ -292,7 +292,7 @@ module _ (W : Width) (n m : ℕ) (K : Name → Type 0) (at : Name → ℕ → �
   }
 
   -- the block at which the thread is has field i at this payload
-  at_field : (t : ℕ) (a : Name) (i j : ℕ) → t < n → IsAtField W s t a i j
+  pub at_field : (t : ℕ) (a : Name) (i j : ℕ) → t < n → IsAtField W s t a i j
       → K a × ((object_at s t).block ≡ at a (object_at s t).ordinal)
       × ((object_at s t).ordinal < object_blocks W (object_of s.graph a))
       × (object_part W (object_of s.graph a) (object_at s t).ordinal j ≡ Field i)

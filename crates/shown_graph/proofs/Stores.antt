@@ -272,7 +272,7 @@ module _ (W : Width) (n m : ℕ) (K : Name → Type 0) (g : Graph) (at : Name �
         ≡ cond (same_name a b) (set_field (object_of g a) i v) (object_of g b)
     changed_object b = object_with_field g a i v (shows.names a ka) b
 
-    blocks_same : (b : Name) → object_blocks W (object_of (with_field g a i v) b)
+    pub blocks_same : (b : Name) → object_blocks W (object_of (with_field g a i v) b)
         ≡ object_blocks W (object_of g b)
     blocks_same b = ap (object_blocks W) (changed_object b) ∙ elim (cases_Bool (same_name a b)) [
       | inl same ↦ ap (λ t. object_blocks W
