@@ -39,6 +39,6 @@ fn words_of(rt: &HostRuntime) -> Result<Vec<String>, AllocError> {
     match env::args(rt) {
         Ok(args) => args.skip(1).collect(rt.alloc()),
         Err(e) if e.kind() == ErrorKind::OutOfMemory => Err(AllocError),
-        Err(_) => vec![in rt.alloc(); String::new(rt.alloc())],
+        Err(_) => vec![in rt.alloc(); String::new(rt.alloc())].map_err(|_| AllocError),
     }
 }
