@@ -6,7 +6,7 @@ use Rattle.never_heap.specs.declared.Command.{Command}
 use Rattle.never_heap.specs.Graphs.{Graph, start_graph}
 use Rattle.never_heap.specs.Cycles.{graph_at}
 use Rattle.never_heap.specs.Histories.{HistoryItem, Started, Did, replay, LegalFrom, starts_in}
-use Rattle.never_heap.specs.Licensed.{IsLicensedItem, LicensedFrom, StartsSmall}
+use Rattle.never_heap.specs.Licensed.{IsLicensedItem, LicensedFrom, StartsSmall, NoFulls}
 use Rattle.never_heap.specs.LiveBlocks.{live_blocks}
 use Rattle.never_heap.specs.RightWork.{RightWork}
 use Rattle.never_heap.specs.Runs.{IsRun}
@@ -14,7 +14,7 @@ use Rattle.never_heap.specs.Coming.{MayCome, IsNoFull}
 use Rattle.never_heap.proofs.Growing.{replay_more, starts_append}
 use Rattle.never_heap.proofs.Cycling.{graph_at_more, graph_at_next}
 use Rattle.never_heap.proofs.Coming.{next_is, commands_in, no_end}
-use Rattle.never_heap.proofs.Unfilled.{not_full}
+use Rattle.never_heap.proofs.Unfilled.{not_full, none_full}
 
 module _ (c : Config) (rate : ℕ) (traces : List (List Command)) where
   no_full : (past : List HistoryItem) (i : HistoryItem) → 1 ≤ starts_in past → StartsSmall c past → IsLicensedItem c past i → IsNoFull i
@@ -66,3 +66,19 @@ module _ (c : Config) (rate : ℕ) (traces : List (List Command)) where
         go (Started ∷ []) h (λ e. cc) (omega arith)
         (small_more [] Started (within [] inv) (λ z some low. absurd (omega arith))) (step [] Started first tt inv)
         run.legal run.licensed.1 run.right_work.1 run.traces_whole
+
+  -- and no such run has a full
+  no_starts : StartsSmall c []
+  no_starts z some low = absurd (omega arith)
+
+  pub walk_all : (Inv : List HistoryItem → Type 0)
+      → ((past : List HistoryItem) → Inv past → live_blocks c.width (replay c past) ≤ c.live)
+      → ((past : List HistoryItem) (i : HistoryItem)
+      → MayCome c rate traces past i → IsNoFull i → Inv past → Inv (past ++ i ∷ []))
+      → (h : List HistoryItem) → Inv [] → IsRun c rate traces h → Inv h × NoFulls h
+  walk_all Inv within step h inv run =
+      let Both : List HistoryItem → Type 0 = λ past. Inv past × StartsSmall c past in
+      let both = walk Both (λ past b. within past b.0)
+      (λ past i may no b. (step past i may no b.0, small_more past i (within past b.0) b.1))
+      h (inv, no_starts) run in
+      (both.0, none_full c h run.legal run.licensed both.1)

@@ -9,3 +9,4 @@ pub mod RunsOn
 pub mod Headlines
 pub mod Verdicts
 pub mod Taken
+pub mod RegisterPlaces

@@ -39,7 +39,8 @@ digits_on n (b ∷ bs) = if is_digit b then digits_on (10 * n + (b - 48)) bs els
 -- 1 to 19 digits, with a 0 in front only in the number 0
 unfoldable pub number_at : List ℕ → Option ℕ
 number_at piece =
-    if length piece == 0 || nat_lt 19 (length piece) || (nat_lt 1 (length piece) && slice_index piece 0 == 48)
+    if length piece == 0 || nat_lt 19 (length piece)
+    || (nat_lt 1 (length piece) && slice_index piece 0 == 48)
     then None else digits_on 0 piece
 
 -- that no piece is left

@@ -90,7 +90,8 @@ abbrev pub after_word : Before → Option Word → Before
 after_word b None = b
 after_word b (Some Thread) = record { threads = b.threads + 1; commands = 0; ended = b.ended }
 after_word b (Some End) = record { threads = b.threads; commands = b.commands; ended = true }
-after_word b (Some word) = record { threads = b.threads; commands = b.commands + 1; ended = b.ended }
+after_word b (Some word) =
+    record { threads = b.threads; commands = b.commands + 1; ended = b.ended }
 
 -- the same with one more line
 abbrev pub after_line : Before → List (List ℕ) → Before
@@ -123,7 +124,8 @@ is_too_large c OfNumber n = nat_le (2 ^ 62) n
 
 -- a thread that is not the next, or is one too many, and an end before the last thread
 abbrev pub is_out_of_turn : Config → Before → Word → List ℕ → Bool
-is_out_of_turn c b Thread numbers = any_operand (λ _ t. not (t == b.threads)) (operands Thread) numbers || b.threads == c.threads
+is_out_of_turn c b Thread numbers =
+    any_operand (λ _ t. not (t == b.threads)) (operands Thread) numbers || b.threads == c.threads
 is_out_of_turn c b End numbers = not (b.threads == c.threads)
 is_out_of_turn c b word numbers = false
 
@@ -138,15 +140,21 @@ word_fault c b (Some word) pieces =
     ∷ (list_any (λ piece. not (is_number piece)) pieces, whys.Number)
     ∷ (is_out_of_turn c b word numbers, whys.Order)
     ∷ (any_operand is_high_register (operands word) numbers, whys.Register)
-    ∷ (any_operand (is_too_large c) (operands word) numbers || (is_command word && nat_le 131072 b.commands), whys.Size)
+    ∷ (
+      any_operand (is_too_large c) (operands word) numbers
+          || (is_command word && nat_le 131072 b.commands),
+      whys.Size,
+    )
     ∷ [])
 
 -- what is wrong with a line behind the header
 unfoldable pub later_fault : Config → Before → List (List ℕ) → Option Why
 later_fault c b [] = if b.ended then Some whys.End else Some whys.Word
-later_fault c b (first ∷ pieces) = if b.ended then Some whys.End else word_fault c b (word_at first) pieces
+later_fault c b (first ∷ pieces) =
+    if b.ended then Some whys.End else word_fault c b (word_at first) pieces
 
--- what is wrong with the first of the lines that are left; where none is left, one of them should have been the end
+-- what is wrong with the first of the lines that are left; where none is left, one of them should
+-- have been the end
 abbrev pub next_fault : Config → Before → List (List (List ℕ)) → Option Why
 next_fault c b [] = if b.ended then None else Some whys.End
 next_fault c b (line ∷ lines) = later_fault c b line
@@ -157,7 +165,8 @@ next_fault c b (line ∷ lines) = later_fault c b line
 abbrev pub fault_at : List (List (List ℕ)) → ℕ → Option Why
 fault_at [] i = Some whys.Header
 fault_at (header ∷ lines) zero = header_fault header
-fault_at (header ∷ lines) (suc i) = next_fault (config_of header) (after_lines nothing_before (take i lines)) (drop i lines)
+fault_at (header ∷ lines) (suc i) =
+    next_fault (config_of header) (after_lines nothing_before (take i lines)) (drop i lines)
 
 -- the line with this number, counted from 1, is the first with something wrong
 pub record IsFirstBadLine (bytes : List ℕ) (line : ℕ) (why : Why) : Type 0 where

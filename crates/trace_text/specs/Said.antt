@@ -52,7 +52,8 @@ numbers_at n pieces = if count_is n pieces then values_at pieces else Err whys.C
 
 -- what is said, where the registers and sizes are in their ranges
 abbrev pub checked : Bool → Bool → Line → Result Line Why
-checked register size line = if register then Err whys.Register else if size then Err whys.Size else Ok line
+checked register size line =
+    if register then Err whys.Register else if size then Err whys.Size else Ok line
 
 -- behind no number, one, two or three
 abbrev pub on_none : List ℕ → Result Line Why → Result Line Why
@@ -73,18 +74,38 @@ on_three ns line = Err whys.Count
 
 -- what a word and the numbers behind it say
 unfoldable pub told_at : Place → Word → List ℕ → Result Line Why
-told_at p words.Thread ns = on_one ns (λ t. if not (t == p.threads) || p.threads == p.config.threads then Err whys.Order else Ok (Thread t))
-told_at p words.End ns = on_none ns (if not (p.threads == p.config.threads) then Err whys.Order else Ok End)
-told_at p words.New ns = on_two ns (λ d f. checked (nat_lt 15 d) (p.full || nat_lt 65535 f || nat_lt p.config.object (record_blocks p.config.width f)) (Told (commands.New d f)))
-told_at p words.Arr ns = on_two ns (λ d e. checked (nat_lt 15 d) (p.full || nat_lt 65535 e || nat_lt p.config.object (array_blocks p.config.width e)) (Told (commands.Arr d e)))
-told_at p words.Set ns = on_two ns (λ d v. checked (nat_lt 15 d) (p.full || nat_le (2 ^ 62) v) (Told (commands.Set d v)))
-told_at p words.Nil ns = on_one ns (λ d. checked (nat_lt 15 d) p.full (Told (commands.Nil d)))
-told_at p words.Mov ns = on_two ns (λ d s. checked (nat_lt 15 d || nat_lt 15 s) p.full (Told (commands.Mov d s)))
-told_at p words.Get ns = on_three ns (λ d s i. checked (nat_lt 15 d || nat_lt 15 s) (p.full || nat_le (2 ^ 62) i) (Told (commands.Get d s i)))
-told_at p words.Put ns = on_three ns (λ s i v. checked (nat_lt 15 s || nat_lt 15 v) (p.full || nat_le (2 ^ 62) i) (Told (commands.Put s i v)))
-told_at p words.Len ns = on_one ns (λ s. checked (nat_lt 15 s) p.full (Told (commands.Len s)))
-told_at p words.Same ns = on_two ns (λ a b. checked (nat_lt 15 a || nat_lt 15 b) p.full (Told (commands.Same a b)))
-told_at p words.Say ns = on_one ns (λ s. checked (nat_lt 15 s) p.full (Told (commands.Say s)))
+told_at p words.Thread ns =
+    on_one ns (λ t.
+    if not (t == p.threads) || p.threads == p.config.threads
+    then Err whys.Order else Ok (Thread t))
+told_at p words.End ns =
+    on_none ns (if not (p.threads == p.config.threads) then Err whys.Order else Ok End)
+told_at p words.New ns =
+    on_two ns (λ d f. checked (nat_lt 15 d)
+    (p.full || nat_lt 65535 f || nat_lt p.config.object (record_blocks p.config.width f))
+    (Told (commands.New d f)))
+told_at p words.Arr ns =
+    on_two ns (λ d e. checked (nat_lt 15 d)
+    (p.full || nat_lt 65535 e || nat_lt p.config.object (array_blocks p.config.width e))
+    (Told (commands.Arr d e)))
+told_at p words.Set ns =
+    on_two ns (λ d v. checked (nat_lt 15 d) (p.full || nat_le (2 ^ 62) v) (Told (commands.Set d v)))
+told_at p words.Nil ns =
+    on_one ns (λ d. checked (nat_lt 15 d) p.full (Told (commands.Nil d)))
+told_at p words.Mov ns =
+    on_two ns (λ d s. checked (nat_lt 15 d || nat_lt 15 s) p.full (Told (commands.Mov d s)))
+told_at p words.Get ns =
+    on_three ns (λ d s i. checked (nat_lt 15 d || nat_lt 15 s)
+    (p.full || nat_le (2 ^ 62) i) (Told (commands.Get d s i)))
+told_at p words.Put ns =
+    on_three ns (λ s i v. checked (nat_lt 15 s || nat_lt 15 v)
+    (p.full || nat_le (2 ^ 62) i) (Told (commands.Put s i v)))
+told_at p words.Len ns =
+    on_one ns (λ s. checked (nat_lt 15 s) p.full (Told (commands.Len s)))
+told_at p words.Same ns =
+    on_two ns (λ a b. checked (nat_lt 15 a || nat_lt 15 b) p.full (Told (commands.Same a b)))
+told_at p words.Say ns =
+    on_one ns (λ s. checked (nat_lt 15 s) p.full (Told (commands.Say s)))
 
 -- what a word and the pieces behind it say
 unfoldable pub operands_at : Place → Word → List (List ℕ) → Result Line Why
@@ -92,7 +113,8 @@ operands_at p word pieces = numbers_at (length (operands word)) pieces >>= told_
 
 -- the same, where a command comes only behind a thread
 abbrev pub in_turn : Place → Word → List (List ℕ) → Result Line Why
-in_turn p word pieces = if is_command word && p.threads == 0 then Err whys.Order else operands_at p word pieces
+in_turn p word pieces =
+    if is_command word && p.threads == 0 then Err whys.Order else operands_at p word pieces
 
 -- what a line says
 unfoldable pub line_at : Place → List (List ℕ) → Result Line Why

@@ -1,7 +1,8 @@
 -- Bytes that a source gives and a sink takes. Where a stream tells nothing, nothing is said.
 use Rattle.std.specs.Prelude.{ℕ, ◌≤◌, ◌≡◌, List, [], ◌++◌, length, take, drop, Option, Some, IfSome, IsSome}
 
--- of the bytes that were left, the first k are now the first k of the piece, and the others are left
+-- of the bytes that were left, the first k are now the first k of the piece, and the others are
+-- left
 pub record GivesFirst (k : ℕ) (piece bytes : List ℕ) (left : Option (List ℕ)) : Type 0 where
   pub within : k ≤ length bytes
   pub given : take k piece ≡ take k bytes

@@ -26,7 +26,8 @@ is_command Thread = false
 is_command End = false
 is_command w = true
 
--- what an operand is: the number of a thread or of a register, how many fields or elements an object has, or a number or index
+-- what an operand is: the number of a thread or of a register, how many fields or elements an
+-- object has, or a number or index
 pub data Operand : Type 0 where
   OfThread : Operand
   OfRegister : Operand

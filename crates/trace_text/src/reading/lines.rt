@@ -70,7 +70,8 @@ pub fn line_of(place: &Place, line: &[u8]) -> Result<Line, Why>
 
 #[tactic(auto, unfolding(crate::specs::Said::operands_at, crate::specs::Said::told_at))]
 fn thread_of(place: &Place, operands: Option<&[u8]>) -> Result<Line, Why>
-    ensures { result ≡ operands_at place.now words.Thread (pieces_left (option_copied operands.entry)) }
+    ensures { result ≡
+        operands_at place.now words.Thread (pieces_left (option_copied operands.entry)) }
 {
     let thread = one_number(operands)?;
     if thread != u64::from(place.threads) || place.threads == place.config.threads {
@@ -81,7 +82,8 @@ fn thread_of(place: &Place, operands: Option<&[u8]>) -> Result<Line, Why>
 
 #[tactic(auto, unfolding(crate::specs::Said::operands_at, crate::specs::Said::told_at))]
 fn end_of(place: &Place, operands: Option<&[u8]>) -> Result<Line, Why>
-    ensures { result ≡ operands_at place.now words.End (pieces_left (option_copied operands.entry)) }
+    ensures { result ≡
+        operands_at place.now words.End (pieces_left (option_copied operands.entry)) }
 {
     no_number(operands)?;
     if place.threads != place.config.threads {
@@ -92,7 +94,8 @@ fn end_of(place: &Place, operands: Option<&[u8]>) -> Result<Line, Why>
 
 #[tactic(auto, unfolding(crate::specs::Said::operands_at, crate::specs::Said::told_at))]
 fn new_of(place: &Place, operands: Option<&[u8]>) -> Result<Line, Why>
-    ensures { result ≡ operands_at place.now words.New (pieces_left (option_copied operands.entry)) }
+    ensures { result ≡
+        operands_at place.now words.New (pieces_left (option_copied operands.entry)) }
 {
     let (d, fields) = two_numbers(operands)?;
     if d > LAST_REGISTER {
@@ -110,7 +113,8 @@ fn new_of(place: &Place, operands: Option<&[u8]>) -> Result<Line, Why>
 
 #[tactic(auto, unfolding(crate::specs::Said::operands_at, crate::specs::Said::told_at))]
 fn arr_of(place: &Place, operands: Option<&[u8]>) -> Result<Line, Why>
-    ensures { result ≡ operands_at place.now words.Arr (pieces_left (option_copied operands.entry)) }
+    ensures { result ≡
+        operands_at place.now words.Arr (pieces_left (option_copied operands.entry)) }
 {
     let (d, elements) = two_numbers(operands)?;
     if d > LAST_REGISTER {
@@ -131,7 +135,8 @@ fn arr_of(place: &Place, operands: Option<&[u8]>) -> Result<Line, Why>
 
 #[tactic(auto, unfolding(crate::specs::Said::operands_at, crate::specs::Said::told_at))]
 fn set_of(place: &Place, operands: Option<&[u8]>) -> Result<Line, Why>
-    ensures { result ≡ operands_at place.now words.Set (pieces_left (option_copied operands.entry)) }
+    ensures { result ≡
+        operands_at place.now words.Set (pieces_left (option_copied operands.entry)) }
 {
     let (d, value) = two_numbers(operands)?;
     if d > LAST_REGISTER {
@@ -145,7 +150,8 @@ fn set_of(place: &Place, operands: Option<&[u8]>) -> Result<Line, Why>
 
 #[tactic(auto, unfolding(crate::specs::Said::operands_at, crate::specs::Said::told_at))]
 fn nil_of(place: &Place, operands: Option<&[u8]>) -> Result<Line, Why>
-    ensures { result ≡ operands_at place.now words.Nil (pieces_left (option_copied operands.entry)) }
+    ensures { result ≡
+        operands_at place.now words.Nil (pieces_left (option_copied operands.entry)) }
 {
     let d = one_number(operands)?;
     if d > LAST_REGISTER {
@@ -159,7 +165,8 @@ fn nil_of(place: &Place, operands: Option<&[u8]>) -> Result<Line, Why>
 
 #[tactic(auto, unfolding(crate::specs::Said::operands_at, crate::specs::Said::told_at))]
 fn mov_of(place: &Place, operands: Option<&[u8]>) -> Result<Line, Why>
-    ensures { result ≡ operands_at place.now words.Mov (pieces_left (option_copied operands.entry)) }
+    ensures { result ≡
+        operands_at place.now words.Mov (pieces_left (option_copied operands.entry)) }
 {
     let (d, s) = two_numbers(operands)?;
     if d > LAST_REGISTER || s > LAST_REGISTER {
@@ -176,7 +183,8 @@ fn mov_of(place: &Place, operands: Option<&[u8]>) -> Result<Line, Why>
 
 #[tactic(auto, unfolding(crate::specs::Said::operands_at, crate::specs::Said::told_at))]
 fn get_of(place: &Place, operands: Option<&[u8]>) -> Result<Line, Why>
-    ensures { result ≡ operands_at place.now words.Get (pieces_left (option_copied operands.entry)) }
+    ensures { result ≡
+        operands_at place.now words.Get (pieces_left (option_copied operands.entry)) }
 {
     let (d, s, i) = three_numbers(operands)?;
     if d > LAST_REGISTER || s > LAST_REGISTER {
@@ -194,7 +202,8 @@ fn get_of(place: &Place, operands: Option<&[u8]>) -> Result<Line, Why>
 
 #[tactic(auto, unfolding(crate::specs::Said::operands_at, crate::specs::Said::told_at))]
 fn put_of(place: &Place, operands: Option<&[u8]>) -> Result<Line, Why>
-    ensures { result ≡ operands_at place.now words.Put (pieces_left (option_copied operands.entry)) }
+    ensures { result ≡
+        operands_at place.now words.Put (pieces_left (option_copied operands.entry)) }
 {
     let (s, i, v) = three_numbers(operands)?;
     if s > LAST_REGISTER || v > LAST_REGISTER {
@@ -212,7 +221,8 @@ fn put_of(place: &Place, operands: Option<&[u8]>) -> Result<Line, Why>
 
 #[tactic(auto, unfolding(crate::specs::Said::operands_at, crate::specs::Said::told_at))]
 fn len_of(place: &Place, operands: Option<&[u8]>) -> Result<Line, Why>
-    ensures { result ≡ operands_at place.now words.Len (pieces_left (option_copied operands.entry)) }
+    ensures { result ≡
+        operands_at place.now words.Len (pieces_left (option_copied operands.entry)) }
 {
     let s = one_number(operands)?;
     if s > LAST_REGISTER {
@@ -226,7 +236,8 @@ fn len_of(place: &Place, operands: Option<&[u8]>) -> Result<Line, Why>
 
 #[tactic(auto, unfolding(crate::specs::Said::operands_at, crate::specs::Said::told_at))]
 fn same_of(place: &Place, operands: Option<&[u8]>) -> Result<Line, Why>
-    ensures { result ≡ operands_at place.now words.Same (pieces_left (option_copied operands.entry)) }
+    ensures { result ≡
+        operands_at place.now words.Same (pieces_left (option_copied operands.entry)) }
 {
     let (a, b) = two_numbers(operands)?;
     if a > LAST_REGISTER || b > LAST_REGISTER {
@@ -243,7 +254,8 @@ fn same_of(place: &Place, operands: Option<&[u8]>) -> Result<Line, Why>
 
 #[tactic(auto, unfolding(crate::specs::Said::operands_at, crate::specs::Said::told_at))]
 fn say_of(place: &Place, operands: Option<&[u8]>) -> Result<Line, Why>
-    ensures { result ≡ operands_at place.now words.Say (pieces_left (option_copied operands.entry)) }
+    ensures { result ≡
+        operands_at place.now words.Say (pieces_left (option_copied operands.entry)) }
 {
     let s = one_number(operands)?;
     if s > LAST_REGISTER {
@@ -274,7 +286,8 @@ fn one_number(pieces: Option<&[u8]>) -> Result<u64, Why>
 /// The numbers that the two pieces spell.
 #[tactic(auto, using(crate::proofs::Numbers::two_is))]
 fn two_numbers(pieces: Option<&[u8]>) -> Result<(u64, u64), Why>
-    ensures { Tells (λ n. n.0 ∷ n.1 ∷ []) result (numbers_at 2 (pieces_left (option_copied pieces.entry))) }
+    ensures { Tells (λ n. n.0 ∷ n.1 ∷ []) result
+        (numbers_at 2 (pieces_left (option_copied pieces.entry))) }
 {
     let (first, second) = two_pieces(pieces).ok_or(Why::Count)?;
     Ok((spelled(first)?, spelled(second)?))
@@ -283,7 +296,8 @@ fn two_numbers(pieces: Option<&[u8]>) -> Result<(u64, u64), Why>
 /// The numbers that the three pieces spell.
 #[tactic(auto, using(crate::proofs::Numbers::three_is))]
 fn three_numbers(pieces: Option<&[u8]>) -> Result<(u64, u64, u64), Why>
-    ensures { Tells (λ n. n.0 ∷ n.1 ∷ n.2 ∷ []) result (numbers_at 3 (pieces_left (option_copied pieces.entry))) }
+    ensures { Tells (λ n. n.0 ∷ n.1 ∷ n.2 ∷ []) result
+        (numbers_at 3 (pieces_left (option_copied pieces.entry))) }
 {
     let (first, second, third) = three_pieces(pieces).ok_or(Why::Count)?;
     Ok((spelled(first)?, spelled(second)?, spelled(third)?))

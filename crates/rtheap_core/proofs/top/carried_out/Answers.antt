@@ -1,14 +1,17 @@
-use Rattle.std.proofs.Common.{Option, [], ◌∷◌, IfSome, map, string_bytes, subst, sym, refl}
+use Rattle.std.proofs.Common.{Option, IfSome, map, string_bytes, subst, sym, refl}
 use Rattle.rtheap_core.specs.declared.exit.RunEnd.{RunEnd}
 use Rattle.rtheap_core.specs.declared.refusal.Refusal.TheVariants.{Usage}
-use Rattle.rtheap_core.specs.Exits.{Headline, run_of}
+use Rattle.rtheap_core.specs.Exits.{Headline}
+use Rattle.rtheap_core.specs.Sides.{sides}
 use Rattle.rtheap_core.proofs.Headlines.{headline_of}
 use Rattle.rtheap_core.proofs.top.carried_out.Goals as goal
 
 pub returns-in-Ok-clause-headline : goal.returns-in-Ok-clause-headline
 returns-in-Ok-clause-headline g c =
-    subst (λ (o : Option RunEnd). IfSome o (λ end. Headline (g.S.Source.left c.args.source.now) (g.S.Source.left c.ran.new.source) (g.K.Sink.held c.args.sink.now) (g.K.Sink.held c.written.new.sink) c.written.result.status (run_of end) ((run_of end).log ∷ []) 1 0)) (sym c.written.ensures.run)
-    (headline_of (g.S.Source.left c.args.source.now) (g.S.Source.left c.ran.new.source) (g.K.Sink.held c.args.sink.now) (g.K.Sink.held c.written.new.sink) c.written.result.status c.in-Ok.run' c.in-Ok.ensures.ran c.written.ensures.text)
+    let source = sides g.S.Source.left g.S.Source.faults c.args.source.now c.ran.new.source in
+    let sink = sides g.K.Sink.held g.K.Sink.faults c.args.sink.now c.written.new.sink in
+    subst (λ (o : Option RunEnd). IfSome o (λ end. Headline source sink c.written.result.status end)) (sym c.written.ensures.run)
+    (headline_of source sink c.written.result.status c.in-Ok.run' c.in-Ok.ensures.ran c.written.ensures.text)
 
 pub returns-in-None-clause-refused : goal.returns-in-None-clause-refused
 returns-in-None-clause-refused g c = λ _. record {
