@@ -1,4 +1,5 @@
-//! Checks a printed order of a job against a heap that never frees, and says whether it is accepted.
+//! Checks a printed order of a job against a heap that never frees, and says whether it is
+//! accepted.
 #![tactic(auto)]
 
 use rt_check::check;

@@ -17,7 +17,7 @@ use Rattle.never_heap.specs.Histories.{HistoryItem, Started, Did, is_full, after
 use Rattle.never_heap.specs.Licensed.{IsLicensedReply}
 use Rattle.never_heap.specs.LiveBlocks.{live_blocks}
 use Rattle.never_heap.specs.RightWork.{units_owed}
-use Rattle.never_heap.specs.Steps.{step, blocks_of, makes_object, length_made}
+use Rattle.never_heap.specs.Steps.{step, blocks_of, makes_object}
 use Rattle.never_heap.proofs.Answering.{step_not_full}
 use Rattle.trace_text.specs.Jobs.{Job, IsJobInBounds}
 use Rattle.trace_text.specs.Orders.{entry_text, item_text, end_text}
@@ -40,12 +40,6 @@ all_or P [] d n all none = none
 all_or P (x ∷ xs) d zero all none = all.0
 all_or P (x ∷ xs) d (suc n) all none = all_or P xs d n all.1 none
 
-drop_few : (xs : List Command) (n : ℕ) (x : Command) (rest : List Command) → drop n xs ≡ x ∷ rest → n < length xs
-drop_few [] zero x rest e = absurd cc
-drop_few [] (suc n) x rest e = absurd cc
-drop_few (y ∷ xs) zero x rest e = omega arith
-drop_few (y ∷ xs) (suc n) x rest e = let l = drop_few xs n x rest e in omega arith
-
 module _ (job : Job) (b : IsJobInBounds job) (t n : ℕ) (command : Command) (rest : List Command) (next : drop n (get_or job.traces t []) ≡ command ∷ rest) where
   none_in_bounds : IsTraceInBounds job.config []
   none_in_bounds = record { few = omega arith; commands = tt }
@@ -54,24 +48,6 @@ module _ (job : Job) (b : IsJobInBounds job) (t n : ℕ) (command : Command) (re
   command_in_bounds =
       all_at (IsCommandInBounds job.config) (get_or job.traces t []) n command rest
       (all_or (IsTraceInBounds job.config) job.traces [] t b.each none_in_bounds).commands next
-
-  pub done_few : n < 131072
-  done_few =
-      let all : length (get_or job.traces t []) ≤ 131072 = (all_or (IsTraceInBounds job.config) job.traces [] t b.each none_in_bounds).few in
-      let low = drop_few (get_or job.traces t []) n command rest next in
-      omega arith
-
-pub made_short : (c : Config) (command : Command) → IsCommandInBounds c command → length_made command ≤ 65535
-made_short c (commands.New d f) b = b.1
-made_short c (commands.Arr d e) b = b.1
-made_short c (commands.Set d v) b = omega arith
-made_short c (commands.Nil d) b = omega arith
-made_short c (commands.Mov d s) b = omega arith
-made_short c (commands.Get d s i) b = omega arith
-made_short c (commands.Put s i v) b = omega arith
-made_short c (commands.Len s) b = omega arith
-made_short c (commands.Same x y) b = omega arith
-made_short c (commands.Say s) b = omega arith
 
 blocks_few : (c : Config) (command : Command) → IsCommandInBounds c command → blocks_of c.width command ≤ c.object
 blocks_few c (commands.New d f) b = b.2
@@ -113,8 +89,8 @@ module _ (c : Config) (traces : List (List Command)) (past : List HistoryItem) (
 -- ---- the start of a cycle and the totals
 
 module _ (c : Config) (rate : ℕ) (traces : List (List Command)) (past : List HistoryItem) (line : List ℕ) where
-  pub start_good : past ≡ past → line ≡ item_text (starts_in past) Started → IsGood c rate traces past line Started
-  start_good _ text = record {
+  pub start_good : line ≡ item_text (starts_in past) Started → IsGood c rate traces past line Started
+  start_good text = record {
     may_come = record { first = λ _. refl; next = tt; answered = tt; licensed = tt; right_work = tt };
     text = text;
   }

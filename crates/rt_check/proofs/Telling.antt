@@ -84,6 +84,10 @@ thread_low traces past t command rest next = elim (cases_lt t (length traces)) [
 no : false ≡ true → ⊥
 no e = cc
 
+-- codes of letters that differ
+differ : (m n : ℕ) → m ≡ n → m < n → ⊥
+differ m n e l = omega arith
+
 maker_answers : (g : Graph) (t : ℕ) (command : Command) → makes_object command ≡ true
     → (step g t command).1 ≡ replies.New (next_name g t)
 maker_answers g t (commands.New d f) m = refl
@@ -189,8 +193,7 @@ module _ (c : Config) (rate : ℕ) (traces : List (List Command)) (past : List H
         let e = append_cancel_left (decimal t) (32 ∷ reply_text (step g t command).1 (units_owed c.width rate command)) (32 ∷ reply_text (replies.Full (full_cycle past)) (units_owed c.width rate command)) same in
         let f = ap (λ (r : Reply). get_or (32 ∷ reply_text r (units_owed c.width rate command)) 1 0) new in
         let h = ap (λ (l : List ℕ). get_or l 1 0) e in
-        let k : 110 ≡ 102 = sym f ∙ h in
-        absurd (omega arith)
+        differ 102 110 (sym h ∙ f) (omega arith)
 
     pub one : (i j : HistoryItem) → IsGood c rate traces past line i → IsGood c rate traces past line j → i ≡ j
     one Started Started a b = refl
@@ -217,8 +220,7 @@ module _ (c : Config) (rate : ℕ) (traces : List (List Command)) (past : List H
     pub no_item : IsLast traces past line → (i : HistoryItem) → IsGood c rate traces past line i → ⊥
     no_item last Started good =
         let h = ap (λ (l : List ℕ). get_or l 0 0) (sym last.text ∙ good.text) in
-        let k : 101 ≡ 115 = h in
-        absurd (omega arith)
+        differ 101 115 h (omega arith)
     no_item last (Did e) good = no_entry (begins_as line (end_text past) None last.text (end_begins past)) e good
 
 -- ---- all lines

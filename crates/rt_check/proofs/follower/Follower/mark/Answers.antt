@@ -16,7 +16,7 @@ returns-then-is_line c rate past s =
     let starts : c.len.result ≡ starts_in past = omega (arith, c.len.ensures, s.starts) in
     let text = (c.is_line.ensures (item_text (starts_in past) Started) (c.fill_start.ensures.text ∙ ap (λ (n : ℕ). start_line (n + 1)) starts)).0 c.if-is_line.true in (
       Started,
-      start_good c.args.job.now.config rate c.args.job.now.traces past c.args.line.now refl text,
+      start_good c.args.job.now.config rate c.args.job.now.traces past c.args.line.now text,
       stands_start c.args.job.now.config past c.args.self.now _ s refl refl refl (c.in_ok-push.ensures.items ∙ ap (λ (n : ℕ). c.args.self.now.live.items ++ n ∷ []) (c.in_ok-count_live.ensures ∙ ap (λ (w : Width). live_blocks w c.args.self.now.graph.graph) s.width)) refl,
     )
 
