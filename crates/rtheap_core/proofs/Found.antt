@@ -18,7 +18,8 @@ pub record HasObject (g : Graph) (v : Value) (o : ℕ × Shape) : Type 0 where
   pub size : length_of o.1 ≡ length (object_of g name).fields
 
 -- the value refers to an object that has a field i, which is at this block and payload
-pub record HasField (W : Width) (at : Name → ℕ → ℕ) (g : Graph) (v : Value) (i : ℕ) (spot : ℕ × ℕ) : Type 0 where
+pub record HasField (W : Width) (at : Name → ℕ → ℕ) (g : Graph) (v : Value) (i : ℕ) (spot : ℕ × ℕ)
+    : Type 0 where
   pub name : Name
   pub refers : v ≡ Ref name
   pub there : has_name g name ≡ true

@@ -15,11 +15,16 @@ sum_of_none (Started ∷ h) n = sum_of_none h n
 sum_of_none (Did e ∷ h) n = let later : work_in h ≡ 0 = sum_of_none h n.1 in omega (arith, n.0)
 
 -- the text of the history is that of the log
-text_of_run : (source : Sides) (run : PlainRun) → HasRun source run → run_text (run.log ∷ []) 1 0 ≡ text_by_threads run.config.threads (history_of run.log)
+text_of_run : (source : Sides) (run : PlainRun) → HasRun source run
+    → run_text (run.log ∷ []) 1 0 ≡ text_by_threads run.config.threads (history_of run.log)
 text_of_run source run r =
-    ap (λ ls. run_text ls 1 0) (sym (ap (λ n. parts n (history_of run.log)) r.runnable.one_thread ∙ r.part))
-    ∙ ap (λ k. run_text (parts run.config.threads (history_of run.log)) k 0) (sym r.is_run.one_start)
-    ∙ ap (λ k. run_text (parts run.config.threads (history_of run.log)) (starts_in (history_of run.log)) k) (sym (sum_of_none (history_of run.log) r.is_run.no_work))
+    ap (λ ls. run_text ls 1 0)
+    (sym (ap (λ n. parts n (history_of run.log)) r.runnable.one_thread ∙ r.part))
+    ∙ ap (λ k. run_text (parts run.config.threads (history_of run.log)) k 0)
+    (sym r.is_run.one_start)
+    ∙ ap (λ k. run_text (parts run.config.threads (history_of run.log))
+    (starts_in (history_of run.log)) k)
+    (sym (sum_of_none (history_of run.log) r.is_run.no_work))
 
 pub headline_of : (source sink : Sides) (status : ℕ) (run : PlainRun) → HasRun source run
     → IsWritten sink status (run_text (run.log ∷ []) 1 0) → Headline source sink status (Ran run)

@@ -54,17 +54,23 @@ end_of : Width → ObjectKind → ℕ → ℕ → ℕ
 end_of W Record n i = 1 + i % room W
 end_of W Array n i = array_turn W n i (array_depth W n)
 
-is_way : (W : Width) (k : ObjectKind) (n i : ℕ) → i < n → IsWay (layout_part W k n) i (steps_of W k n i) (end_of W k n i) (way_of W k n i) (turn_of W k n i)
+is_way : (W : Width) (k : ObjectKind) (n i : ℕ) → i < n
+    → IsWay (layout_part W k n) i (steps_of W k n i) (end_of W k n i) (way_of W k n i)
+    (turn_of W k n i)
 unfolding turn_of steps_of way_of end_of
 is_way W Record n i h = record_way W n i h
 is_way W Array n i h = tree_is_way (payloads W) n (many W) i h
 
-spot_is : (W : Width) (heap : Heap) (last x : ℕ) (k : ObjectKind) (n i : ℕ) → spot_of W heap last x (kind_shape k n) i ≡ (walk heap last x (turn_of W k n i) (steps_of W k n i), end_of W k n i)
+spot_is : (W : Width) (heap : Heap) (last x : ℕ) (k : ObjectKind) (n i : ℕ)
+    → spot_of W heap last x (kind_shape k n) i
+    ≡ (walk heap last x (turn_of W k n i) (steps_of W k n i), end_of W k n i)
 unfolding turn_of steps_of end_of
 spot_is W heap last x Record n i = refl
 spot_is W heap last x Array n i = refl
 
-module _ (W : Width) (heap : Heap) (last : ℕ) (g : Graph) (at : Name → ℕ → ℕ) (shows : Shows W 1 last (every_name g) g at (block_words heap) never_late) (few : last ≤ 65535) where
+module _ (W : Width) (heap : Heap) (last : ℕ) (g : Graph) (at : Name → ℕ → ℕ)
+    (shows : Shows W 1 last (every_name g) g at (block_words heap) never_late)
+    (few : last ≤ 65535) where
   -- the first block of an object
   first_there : (a : Name) → has_name g a ≡ true → 0 < object_blocks W (object_of g a)
   first_there a h = (object_layout W (object_of g a)).first
@@ -72,76 +78,117 @@ module _ (W : Width) (heap : Heap) (last : ℕ) (g : Graph) (at : Name → ℕ �
   head_given : (a : Name) → has_name g a ≡ true → at a 0 ≤ last
   head_given a h = shows.placed.within a 0 h (first_there a h)
 
-  reference_shown : (a : Name) → has_name g a ≡ true → reference_at heap last (at a 0) ≡ values.Ref a
+  reference_shown : (a : Name) → has_name g a ≡ true
+      → reference_at heap last (at a 0) ≡ values.Ref a
   reference_shown a h =
-      ap (λ b. cond b (reference_of (owner_of (heap (OwnerOf (at a 0))))) values.Nil) (le-leb (at a 0) last (head_given a h))
-      ∙ ap reference_of (owner_read W 1 last (every_name g) g at (block_words heap) never_late shows a 0 h (first_there a h))
+      ap (λ b. cond b (reference_of (owner_of (heap (OwnerOf (at a 0))))) values.Nil)
+      (le-leb (at a 0) last (head_given a h))
+      ∙ ap reference_of (owner_read W 1 last (every_name g) g at
+      (block_words heap) never_late shows a 0 h (first_there a h))
 
   -- a payload of the value's word shows the value
-  payload_shown : (v : Value) → IsValueOf (every_name g) v → value_of_payload heap last (Some (value_payload (heads at) v)) ≡ v
+  payload_shown : (v : Value) → IsValueOf (every_name g) v
+      → value_of_payload heap last (Some (value_payload (heads at) v)) ≡ v
   payload_shown values.Nil k = refl
   payload_shown (values.Int n) k = refl
   payload_shown (values.Ref a) k = reference_shown a k
 
-  pub value_shown : (word : ℕ) (v : Value) → word ≡ value_word (heads at) v → IsValueOf (every_name g) v → value_in heap last word ≡ v
+  pub value_shown : (word : ℕ) (v : Value) → word ≡ value_word (heads at) v
+      → IsValueOf (every_name g) v → value_in heap last word ≡ v
   value_shown word v e k =
-      ap (λ w. value_of_payload heap last (payload_of w)) e ∙ ap (value_of_payload heap last) (value_read W 1 last (every_name g) g at (block_words heap) never_late shows v few k) ∙ payload_shown v k
+      ap (λ w. value_of_payload heap last (payload_of w)) e
+      ∙ ap (value_of_payload heap last)
+      (value_read W 1 last (every_name g) g at (block_words heap) never_late shows v few k)
+      ∙ payload_shown v k
 
   -- what is found of the object of a value
   abbrev object_reply : Value → Result (ℕ × Shape) Reply
   object_reply values.Nil = Err replies.Null
   object_reply (values.Int n) = Err replies.Kind
-  object_reply (values.Ref a) = Ok (at a 0, kind_shape (object_of g a).kind (length (object_of g a).fields))
+  object_reply (values.Ref a) =
+      Ok (at a 0, kind_shape (object_of g a).kind (length (object_of g a).fields))
 
-  object_payload : (v : Value) → IsValueOf (every_name g) v → object_of_payload heap last (Some (value_payload (heads at) v)) ≡ object_reply v
+  object_payload : (v : Value) → IsValueOf (every_name g) v
+      → object_of_payload heap last (Some (value_payload (heads at) v)) ≡ object_reply v
   object_payload values.Nil k = refl
   object_payload (values.Int n) k = refl
   object_payload (values.Ref a) k =
-      ap (λ b. cond b (with_shape (at a 0) (shape_of (heap (ShapeOf (at a 0))))) (Err replies.Null)) (le-leb (at a 0) last (head_given a k))
-      ∙ ap (with_shape (at a 0)) (length_read W 1 last (every_name g) g at (block_words heap) never_late shows a 0 k (first_there a k))
+      ap (λ b. cond b (with_shape (at a 0) (shape_of (heap (ShapeOf (at a 0)))))
+      (Err replies.Null)) (le-leb (at a 0) last (head_given a k))
+      ∙ ap (with_shape (at a 0))
+      (length_read W 1 last (every_name g) g at (block_words heap) never_late shows a 0 k
+      (first_there a k))
 
-  object_shown : (word : ℕ) (v : Value) → word ≡ value_word (heads at) v → IsValueOf (every_name g) v → object_in heap last word ≡ object_reply v
+  object_shown : (word : ℕ) (v : Value) → word ≡ value_word (heads at) v
+      → IsValueOf (every_name g) v → object_in heap last word ≡ object_reply v
   object_shown word v e k =
-      ap (λ w. object_of_payload heap last (payload_of w)) e ∙ ap (object_of_payload heap last) (value_read W 1 last (every_name g) g at (block_words heap) never_late shows v few k) ∙ object_payload v k
+      ap (λ w. object_of_payload heap last (payload_of w)) e
+      ∙ ap (object_of_payload heap last)
+      (value_read W 1 last (every_name g) g at (block_words heap) never_late shows v few k)
+      ∙ object_payload v k
 
   found_object : (v : Value) → MatchResult (object_reply v) (HasObject g v) (Refuses g v)
   found_object values.Nil = λ act. refl
   found_object (values.Int n) = λ act. refl
-  found_object (values.Ref a) = record { name = a; refers = refl; size = length_of_kind (object_of g a).kind (length (object_of g a).fields) }
+  found_object (values.Ref a) =
+      record {
+        name = a;
+        refers = refl;
+        size = length_of_kind (object_of g a).kind (length (object_of g a).fields);
+      }
 
   -- the object to which a word refers, or the refusal
-  pub looked_object : (word : ℕ) (v : Value) (r : Result (ℕ × Shape) Reply) → word ≡ value_word (heads at) v → IsValueOf (every_name g) v → r ≡ object_in heap last word → MatchResult r (HasObject g v) (Refuses g v)
-  looked_object word v r e k is = subst (λ (q : Result (ℕ × Shape) Reply). MatchResult q (HasObject g v) (Refuses g v)) (sym (is ∙ object_shown word v e k)) (found_object v)
+  pub looked_object : (word : ℕ) (v : Value) (r : Result (ℕ × Shape) Reply)
+      → word ≡ value_word (heads at) v → IsValueOf (every_name g) v → r ≡ object_in heap last word
+      → MatchResult r (HasObject g v) (Refuses g v)
+  looked_object word v r e k is =
+      subst (λ (q : Result (ℕ × Shape) Reply). MatchResult q (HasObject g v) (Refuses g v))
+      (sym (is ∙ object_shown word v e k)) (found_object v)
 
-  module _ (a : Name) (i : ℕ) (h : has_name g a ≡ true) (steps last_turn : ℕ) (way turn : ℕ → ℕ) (is : IsWay (object_part W (object_of g a)) i steps last_turn way turn) where
+  module _ (a : Name) (i : ℕ) (h : has_name g a ≡ true) (steps last_turn : ℕ) (way turn : ℕ → ℕ)
+      (is : IsWay (object_part W (object_of g a)) i steps last_turn way turn) where
     -- the walk follows the way
     walked : (l : ℕ) → l ≤ steps → walk heap last (at a 0) turn l ≡ at a (way l)
     walked zero low = ap (at a) (sym is.starts)
     walked (suc l) low =
         let before : walk heap last (at a 0) turn l ≡ at a (way l) = walked l (omega arith) in
         let under : l < steps = omega arith in
-        let onward = (object_layout W (object_of g a)).onward (way l) (turn l) (way (l + 1)) (is.links l under) in
+        let onward = (object_layout W (object_of g a)).onward (way l) (turn l) (way (l + 1))
+        (is.links l under) in
         let there : at a (way (l + 1)) ≤ last = shows.placed.within a (way (l + 1)) h onward.2 in
-        let some : 1 ≤ at a (way (l + 1)) = omega (arith, shows.placed.behind a (way (l + 1)) h onward.2) in
-        let word : heap (PayloadOf (at a (way l)) (turn l)) ≡ reference_word (at a (way (l + 1))) = link_read W 1 last (every_name g) g at (block_words heap) never_late shows a (way l) (turn l) (way (l + 1)) h (is.links l under) in
+        let some : 1 ≤ at a (way (l + 1)) =
+        omega (arith, shows.placed.behind a (way (l + 1)) h onward.2) in
+        let word : heap (PayloadOf (at a (way l)) (turn l))
+        ≡ reference_word (at a (way (l + 1))) =
+        link_read W 1 last (every_name g) g at (block_words heap) never_late shows a (way l)
+        (turn l) (way (l + 1)) h (is.links l under) in
         ap (λ x. block_or last x (payload_of (heap (PayloadOf x (turn l))))) before
         ∙ ap (λ w. block_or last (at a (way l)) (payload_of w)) word
-        ∙ ap (block_or last (at a (way l))) (payload-code (words.Block (at a (way (l + 1)))) (some, omega arith))
-        ∙ ap (λ b. cond b (at a (way (l + 1))) (at a (way l))) (le-leb (at a (way (l + 1))) last there)
+        ∙ ap (block_or last (at a (way l)))
+        (payload-code (words.Block (at a (way (l + 1)))) (some, omega arith))
+        ∙ ap (λ b. cond b (at a (way (l + 1))) (at a (way l)))
+        (le-leb (at a (way (l + 1))) last there)
         ∙ ap (λ k. at a (way k)) (add-one l)
 
-    pub walked_to : i < length (object_of g a).fields → (walk heap last (at a 0) turn steps ≡ at a (object_spot W (object_of g a) i).0) × (last_turn ≡ (object_spot W (object_of g a) i).1)
+    pub walked_to : i < length (object_of g a).fields
+        → (walk heap last (at a 0) turn steps ≡ at a (object_spot W (object_of g a) i).0)
+        × (last_turn ≡ (object_spot W (object_of g a) i).1)
     walked_to within =
         let end = (object_layout W (object_of g a)).spots _ _ i is.ends in
         (walked steps (omega arith) ∙ ap (at a) end.3, end.4)
 
   -- a field that is there
-  has_field : (a : Name) (i : ℕ) → has_name g a ≡ true → i < length (object_of g a).fields → HasField W at g (values.Ref a) i (spot_of W heap last (at a 0) (kind_shape (object_of g a).kind (length (object_of g a).fields)) i)
+  has_field : (a : Name) (i : ℕ) → has_name g a ≡ true → i < length (object_of g a).fields
+      → HasField W at g (values.Ref a) i
+      (spot_of W heap last (at a 0)
+      (kind_shape (object_of g a).kind (length (object_of g a).fields)) i)
   has_field a i h within =
       let k = (object_of g a).kind in
       let n = length (object_of g a).fields in
-      let end = walked_to a i h (steps_of W k n i) (end_of W k n i) (way_of W k n i) (turn_of W k n i) (is_way W k n i within) within in
-      subst (λ (p : ℕ × ℕ). HasField W at g (values.Ref a) i p) (sym (spot_is W heap last (at a 0) k n i)) (record {
+      let end = walked_to a i h (steps_of W k n i) (end_of W k n i) (way_of W k n i)
+      (turn_of W k n i) (is_way W k n i within) within in
+      subst (λ (p : ℕ × ℕ). HasField W at g (values.Ref a) i p)
+      (sym (spot_is W heap last (at a 0) k n i)) (record {
         name = a;
         refers = refl;
         there = h;
@@ -150,17 +197,32 @@ module _ (W : Width) (heap : Heap) (last : ℕ) (g : Graph) (at : Name → ℕ �
         payload = end.1;
       })
 
-  found_field : (v : Value) (i : ℕ) → IsValueOf (every_name g) v → MatchResult (spot_in W heap last (object_reply v) i) (HasField W at g v i) (RefusesField g v i)
+  found_field : (v : Value) (i : ℕ) → IsValueOf (every_name g) v
+      → MatchResult (spot_in W heap last (object_reply v) i) (HasField W at g v i)
+      (RefusesField g v i)
   found_field values.Nil i k = λ act. refl
   found_field (values.Int n) i k = λ act. refl
   found_field (values.Ref a) i k =
-      let spot = spot_of W heap last (at a 0) (kind_shape (object_of g a).kind (length (object_of g a).fields)) i in
-      subst (λ l. MatchResult (cond (ltb i l) (Ok spot) (Err replies.Range)) (HasField W at g (values.Ref a) i) (RefusesField g (values.Ref a) i)) (sym (length_of_kind (object_of g a).kind (length (object_of g a).fields))) (elim (cases_Bool (ltb i (length (object_of g a).fields))) [
-        | inl more ↦ subst (λ b. MatchResult (cond b (Ok spot) (Err replies.Range)) (HasField W at g (values.Ref a) i) (RefusesField g (values.Ref a) i)) (sym more) (has_field a i k (ltb-true i _ more))
-        | inr less ↦ subst (λ b. MatchResult (cond b (Ok spot) (Err replies.Range)) (HasField W at g (values.Ref a) i) (RefusesField g (values.Ref a) i)) (sym less) (λ act. ap (λ b. cond b (act a) (g, replies.Range)) less)
+      let spot = spot_of W heap last (at a 0)
+      (kind_shape (object_of g a).kind (length (object_of g a).fields)) i in
+      subst (λ l. MatchResult (cond (ltb i l) (Ok spot) (Err replies.Range))
+      (HasField W at g (values.Ref a) i) (RefusesField g (values.Ref a) i))
+      (sym (length_of_kind (object_of g a).kind (length (object_of g a).fields)))
+      (elim (cases_Bool (ltb i (length (object_of g a).fields))) [
+        | inl more ↦ subst (λ b. MatchResult (cond b (Ok spot) (Err replies.Range))
+            (HasField W at g (values.Ref a) i) (RefusesField g (values.Ref a) i)) (sym more)
+            (has_field a i k (ltb-true i _ more))
+        | inr less ↦ subst (λ b. MatchResult (cond b (Ok spot) (Err replies.Range))
+            (HasField W at g (values.Ref a) i) (RefusesField g (values.Ref a) i)) (sym less)
+            (λ act. ap (λ b. cond b (act a) (g, replies.Range)) less)
       ])
 
   -- the field of what a word shows, or the refusal
-  pub looked_field : (word i : ℕ) (v : Value) (r : Result (ℕ × ℕ) Reply) → word ≡ value_word (heads at) v → IsValueOf (every_name g) v → r ≡ spot_in W heap last (object_in heap last word) i → MatchResult r (HasField W at g v i) (RefusesField g v i)
+  pub looked_field : (word i : ℕ) (v : Value) (r : Result (ℕ × ℕ) Reply)
+      → word ≡ value_word (heads at) v → IsValueOf (every_name g) v
+      → r ≡ spot_in W heap last (object_in heap last word) i
+      → MatchResult r (HasField W at g v i) (RefusesField g v i)
   looked_field word i v r e k is =
-      subst (λ (q : Result (ℕ × ℕ) Reply). MatchResult q (HasField W at g v i) (RefusesField g v i)) (sym (is ∙ ap (λ o. spot_in W heap last o i) (object_shown word v e k))) (found_field v i k)
+      subst (λ (q : Result (ℕ × ℕ) Reply). MatchResult q (HasField W at g v i)
+      (RefusesField g v i)) (sym
+      (is ∙ ap (λ o. spot_in W heap last o i) (object_shown word v e k))) (found_field v i k)

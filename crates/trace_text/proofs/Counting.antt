@@ -13,7 +13,8 @@ onto_has : (b : ℕ) (pieces : List (List ℕ)) → HasFirst (onto_first b piece
 onto_has b [] = record { first = b ∷ []; others = []; is = refl }
 onto_has b (p ∷ ps) = record { first = b ∷ p; others = ps; is = refl }
 
-either_has : (t : Bool) (b : ℕ) (pieces : List (List ℕ)) → HasFirst (cond t ([] ∷ pieces) (onto_first b pieces))
+either_has : (t : Bool) (b : ℕ) (pieces : List (List ℕ))
+    → HasFirst (cond t ([] ∷ pieces) (onto_first b pieces))
 either_has true b pieces = record { first = []; others = pieces; is = refl }
 either_has false b pieces = onto_has b pieces
 

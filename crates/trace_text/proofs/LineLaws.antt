@@ -1,4 +1,5 @@
--- What a line says is what is written so, what is written is read again, and what says nothing has the reason of the first test that holds.
+-- What a line says is what is written so, what is written is read again, and what says nothing
+-- has the reason of the first test that holds.
 use Rattle.std.proofs.Common.{◌≡◌, ◌≢◌, ℕ, ◌^◌, ◌<◌, ◌≤◌, Bool, true, false, cond, leb, ltb, eqb, not, ◌&&◌, ◌||◌, List, [], ◌∷◌, map, length, decimal, Option, Some, None, Result, Ok, Err, refl, sym, ap, subst, ◌∙◌, ◌⊎◌, inl, inr, arith}
 use Rattle.std.specs.List.{list_any}
 use Rattle.std.specs.Option.{ok_or}
@@ -45,35 +46,41 @@ at_one P [] h go = absurd cc
 at_one P (a ∷ []) h go = go a
 at_one P (a ∷ b ∷ ns) h go = absurd cc
 
-at_two : (P : List ℕ → Type 0) (ns : List ℕ) → count_is 2 ns ≡ true → ((a b : ℕ) → P (a ∷ b ∷ [])) → P ns
+at_two : (P : List ℕ → Type 0) (ns : List ℕ) → count_is 2 ns ≡ true → ((a b : ℕ) → P (a ∷ b ∷ []))
+    → P ns
 at_two P [] h go = absurd cc
 at_two P (a ∷ []) h go = absurd cc
 at_two P (a ∷ b ∷ []) h go = go a b
 at_two P (a ∷ b ∷ d ∷ ns) h go = absurd cc
 
-at_three : (P : List ℕ → Type 0) (ns : List ℕ) → count_is 3 ns ≡ true → ((a b d : ℕ) → P (a ∷ b ∷ d ∷ [])) → P ns
+at_three : (P : List ℕ → Type 0) (ns : List ℕ) → count_is 3 ns ≡ true
+    → ((a b d : ℕ) → P (a ∷ b ∷ d ∷ [])) → P ns
 at_three P [] h go = absurd cc
 at_three P (a ∷ []) h go = absurd cc
 at_three P (a ∷ b ∷ []) h go = absurd cc
 at_three P (a ∷ b ∷ d ∷ []) h go = go a b d
 at_three P (a ∷ b ∷ d ∷ e ∷ ns) h go = absurd cc
 
-from_none : (P : List ℕ → Type 0) (ns : List ℕ) (f : Result Line Why) (l : Line) → on_none ns f ≡ Ok l → (f ≡ Ok l → P []) → P ns
+from_none : (P : List ℕ → Type 0) (ns : List ℕ) (f : Result Line Why) (l : Line)
+    → on_none ns f ≡ Ok l → (f ≡ Ok l → P []) → P ns
 from_none P [] f l e go = go e
 from_none P (a ∷ ns) f l e go = absurd cc
 
-from_one : (P : List ℕ → Type 0) (ns : List ℕ) (f : ℕ → Result Line Why) (l : Line) → on_one ns f ≡ Ok l → ((a : ℕ) → f a ≡ Ok l → P (a ∷ [])) → P ns
+from_one : (P : List ℕ → Type 0) (ns : List ℕ) (f : ℕ → Result Line Why) (l : Line)
+    → on_one ns f ≡ Ok l → ((a : ℕ) → f a ≡ Ok l → P (a ∷ [])) → P ns
 from_one P [] f l e go = absurd cc
 from_one P (a ∷ []) f l e go = go a e
 from_one P (a ∷ b ∷ ns) f l e go = absurd cc
 
-from_two : (P : List ℕ → Type 0) (ns : List ℕ) (f : ℕ → ℕ → Result Line Why) (l : Line) → on_two ns f ≡ Ok l → ((a b : ℕ) → f a b ≡ Ok l → P (a ∷ b ∷ [])) → P ns
+from_two : (P : List ℕ → Type 0) (ns : List ℕ) (f : ℕ → ℕ → Result Line Why) (l : Line)
+    → on_two ns f ≡ Ok l → ((a b : ℕ) → f a b ≡ Ok l → P (a ∷ b ∷ [])) → P ns
 from_two P [] f l e go = absurd cc
 from_two P (a ∷ []) f l e go = absurd cc
 from_two P (a ∷ b ∷ []) f l e go = go a b e
 from_two P (a ∷ b ∷ d ∷ ns) f l e go = absurd cc
 
-from_three : (P : List ℕ → Type 0) (ns : List ℕ) (f : ℕ → ℕ → ℕ → Result Line Why) (l : Line) → on_three ns f ≡ Ok l → ((a b d : ℕ) → f a b d ≡ Ok l → P (a ∷ b ∷ d ∷ [])) → P ns
+from_three : (P : List ℕ → Type 0) (ns : List ℕ) (f : ℕ → ℕ → ℕ → Result Line Why) (l : Line)
+    → on_three ns f ≡ Ok l → ((a b d : ℕ) → f a b d ≡ Ok l → P (a ∷ b ∷ d ∷ [])) → P ns
 from_three P [] f l e go = absurd cc
 from_three P (a ∷ []) f l e go = absurd cc
 from_three P (a ∷ b ∷ []) f l e go = absurd cc
@@ -82,15 +89,20 @@ from_three P (a ∷ b ∷ d ∷ g ∷ ns) f l e go = absurd cc
 
 -- ---- the tests of a word's numbers
 
-checks_are : (r s : Bool) (l : Line) → reason (checked r s l) ≡ first_of ((r, whys.Register) ∷ (s, whys.Size) ∷ [])
+checks_are : (r s : Bool) (l : Line)
+    → reason (checked r s l) ≡ first_of ((r, whys.Register) ∷ (s, whys.Size) ∷ [])
 checks_are true s l = refl
 checks_are false true l = refl
 checks_are false false l = refl
 
-checks : (r r' s s' : Bool) (l : Line) → r ≡ r' → s ≡ s' → reason (checked r s l) ≡ first_of ((r', whys.Register) ∷ (s', whys.Size) ∷ [])
-checks r r' s s' l e f = checks_are r s l ∙ ap (λ (x : Bool). first_of ((x, whys.Register) ∷ (s, whys.Size) ∷ [])) e ∙ ap (λ (x : Bool). first_of ((r', whys.Register) ∷ (x, whys.Size) ∷ [])) f
+checks : (r r' s s' : Bool) (l : Line) → r ≡ r' → s ≡ s'
+    → reason (checked r s l) ≡ first_of ((r', whys.Register) ∷ (s', whys.Size) ∷ [])
+checks r r' s s' l e f =
+    checks_are r s l ∙ ap (λ (x : Bool). first_of ((x, whys.Register) ∷ (s, whys.Size) ∷ [])) e
+    ∙ ap (λ (x : Bool). first_of ((r', whys.Register) ∷ (x, whys.Size) ∷ [])) f
 
-turns : (x x' : Bool) (l : Line) → x ≡ x' → reason (cond x (Err whys.Order) (Ok l)) ≡ cond x' (Some whys.Order) None
+turns : (x x' : Bool) (l : Line) → x ≡ x'
+    → reason (cond x (Err whys.Order) (Ok l)) ≡ cond x' (Some whys.Order) None
 turns true x' l e = ap (λ (y : Bool). cond y (Some whys.Order) None) e
 turns false x' l e = ap (λ (y : Bool). cond y (Some whys.Order) None) e
 
@@ -126,45 +138,82 @@ Agrees c t k w ns =
     ∷ (any_operand (is_too_large c) (operands w) ns || (is_command w && leb 131072 k), whys.Size)
     ∷ [])
 
-told_agree : (c : Config) (t k : ℕ) (w : Word) (ns : List ℕ) → count_is (length (operands w)) ns ≡ true → Agrees c t k w ns
+told_agree : (c : Config) (t k : ℕ) (w : Word) (ns : List ℕ)
+    → count_is (length (operands w)) ns ≡ true → Agrees c t k w ns
 unfolding told_at
-told_agree c t k words.Thread ns h = at_one (Agrees c t k words.Thread) ns h (λ n. turns _ _ (Thread n) (or_turn (not (eqb n t)) (eqb t c.threads)))
+told_agree c t k words.Thread ns h =
+    at_one (Agrees c t k words.Thread) ns h
+    (λ n. turns _ _ (Thread n) (or_turn (not (eqb n t)) (eqb t c.threads)))
 told_agree c t k words.End ns h = at_none (Agrees c t k words.End) ns h (turns _ _ End refl)
-told_agree c t k words.New ns h = at_two (Agrees c t k words.New) ns h (λ d f. checks _ _ _ _ (Told (commands.New d f)) (or_false (ltb 15 d)) (full_both (leb 131072 k) (ltb 65535 f) (ltb c.object (record_blocks c.width f))))
-told_agree c t k words.Arr ns h = at_two (Agrees c t k words.Arr) ns h (λ d e. checks _ _ _ _ (Told (commands.Arr d e)) (or_false (ltb 15 d)) (full_both (leb 131072 k) (ltb 65535 e) (ltb c.object (array_blocks c.width e))))
-told_agree c t k words.Set ns h = at_two (Agrees c t k words.Set) ns h (λ d v. checks _ _ _ _ (Told (commands.Set d v)) (or_false (ltb 15 d)) (full_last (leb 131072 k) (leb (2 ^ 62) v)))
-told_agree c t k words.Nil ns h = at_one (Agrees c t k words.Nil) ns h (λ d. checks _ _ _ _ (Told (commands.Nil d)) (or_false (ltb 15 d)) refl)
-told_agree c t k words.Mov ns h = at_two (Agrees c t k words.Mov) ns h (λ d s. checks _ _ _ _ (Told (commands.Mov d s)) (two_or_false (ltb 15 d) (ltb 15 s)) refl)
-told_agree c t k words.Get ns h = at_three (Agrees c t k words.Get) ns h (λ d s i. checks _ _ _ _ (Told (commands.Get d s i)) (two_or_false (ltb 15 d) (ltb 15 s)) (full_last (leb 131072 k) (leb (2 ^ 62) i)))
-told_agree c t k words.Put ns h = at_three (Agrees c t k words.Put) ns h (λ s i v. checks _ _ _ _ (Told (commands.Put s i v)) (two_or_false (ltb 15 s) (ltb 15 v)) (full_last (leb 131072 k) (leb (2 ^ 62) i)))
-told_agree c t k words.Len ns h = at_one (Agrees c t k words.Len) ns h (λ s. checks _ _ _ _ (Told (commands.Len s)) (or_false (ltb 15 s)) refl)
-told_agree c t k words.Same ns h = at_two (Agrees c t k words.Same) ns h (λ a b. checks _ _ _ _ (Told (commands.Same a b)) (two_or_false (ltb 15 a) (ltb 15 b)) refl)
-told_agree c t k words.Say ns h = at_one (Agrees c t k words.Say) ns h (λ s. checks _ _ _ _ (Told (commands.Say s)) (or_false (ltb 15 s)) refl)
+told_agree c t k words.New ns h =
+    at_two (Agrees c t k words.New) ns h
+    (λ d f. checks _ _ _ _ (Told (commands.New d f)) (or_false (ltb 15 d))
+    (full_both (leb 131072 k) (ltb 65535 f) (ltb c.object (record_blocks c.width f))))
+told_agree c t k words.Arr ns h =
+    at_two (Agrees c t k words.Arr) ns h
+    (λ d e. checks _ _ _ _ (Told (commands.Arr d e)) (or_false (ltb 15 d))
+    (full_both (leb 131072 k) (ltb 65535 e) (ltb c.object (array_blocks c.width e))))
+told_agree c t k words.Set ns h =
+    at_two (Agrees c t k words.Set) ns h
+    (λ d v. checks _ _ _ _ (Told (commands.Set d v)) (or_false (ltb 15 d))
+    (full_last (leb 131072 k) (leb (2 ^ 62) v)))
+told_agree c t k words.Nil ns h =
+    at_one (Agrees c t k words.Nil) ns h
+    (λ d. checks _ _ _ _ (Told (commands.Nil d)) (or_false (ltb 15 d)) refl)
+told_agree c t k words.Mov ns h =
+    at_two (Agrees c t k words.Mov) ns h
+    (λ d s. checks _ _ _ _ (Told (commands.Mov d s)) (two_or_false (ltb 15 d) (ltb 15 s)) refl)
+told_agree c t k words.Get ns h =
+    at_three (Agrees c t k words.Get) ns h
+    (λ d s i. checks _ _ _ _ (Told (commands.Get d s i)) (two_or_false (ltb 15 d) (ltb 15 s))
+    (full_last (leb 131072 k) (leb (2 ^ 62) i)))
+told_agree c t k words.Put ns h =
+    at_three (Agrees c t k words.Put) ns h
+    (λ s i v. checks _ _ _ _ (Told (commands.Put s i v)) (two_or_false (ltb 15 s) (ltb 15 v))
+    (full_last (leb 131072 k) (leb (2 ^ 62) i)))
+told_agree c t k words.Len ns h =
+    at_one (Agrees c t k words.Len) ns h
+    (λ s. checks _ _ _ _ (Told (commands.Len s)) (or_false (ltb 15 s)) refl)
+told_agree c t k words.Same ns h =
+    at_two (Agrees c t k words.Same) ns h
+    (λ a b. checks _ _ _ _ (Told (commands.Same a b)) (two_or_false (ltb 15 a) (ltb 15 b)) refl)
+told_agree c t k words.Say ns h =
+    at_one (Agrees c t k words.Say) ns h
+    (λ s. checks _ _ _ _ (Told (commands.Say s)) (or_false (ltb 15 s)) refl)
 
-first_test : (x : Bool) (why : Why) (r : Result Line Why) (o : Option Why) → reason r ≡ o → reason (cond x (Err why) r) ≡ cond x (Some why) o
+first_test : (x : Bool) (why : Why) (r : Result Line Why) (o : Option Why) → reason r ≡ o
+    → reason (cond x (Err why) r) ≡ cond x (Some why) o
 first_test true why r o e = refl
 first_test false why r o e = e
 
-counted : (n m : Bool) (ns : List ℕ) (f : List ℕ → Result Line Why) (o : Option Why) → (n ≡ true → reason (f ns) ≡ o)
-    → reason ((cond n (cond m (Err whys.Number) (Ok ns)) (Err whys.Count)) >>= f) ≡ cond (not n) (Some whys.Count) (cond m (Some whys.Number) o)
+counted : (n m : Bool) (ns : List ℕ) (f : List ℕ → Result Line Why) (o : Option Why)
+    → (n ≡ true → reason (f ns) ≡ o)
+    → reason ((cond n (cond m (Err whys.Number) (Ok ns)) (Err whys.Count)) >>= f)
+    ≡ cond (not n) (Some whys.Count) (cond m (Some whys.Number) o)
 counted false m ns f o h = refl
 counted true true ns f o h = refl
 counted true false ns f o h = h refl
 
-turn_agree : (c : Config) (t k : ℕ) (w : Word) (ps : List (List ℕ)) → reason (in_turn (place c t k) w ps) ≡ word_fault c (prior t k) (Some w) ps
+turn_agree : (c : Config) (t k : ℕ) (w : Word) (ps : List (List ℕ))
+    → reason (in_turn (place c t k) w ps) ≡ word_fault c (prior t k) (Some w) ps
 unfolding operands_at numbers_at
 turn_agree c t k w ps =
     let n = length (operands w) in
     first_test (is_command w && eqb t 0) whys.Order _ _
     (rw (values_are ps, count_length ps n)
-    (counted (count_is n ps) (list_any (λ piece. not (is_number piece)) ps) (map value_of ps) (told_at (place c t k) w) _ (λ h. told_agree c t k w (map value_of ps) (count_map value_of n ps ∙ h))))
+    (counted (count_is n ps) (list_any (λ piece. not (is_number piece)) ps) (map value_of ps)
+    (told_at (place c t k) w) _
+    (λ h. told_agree c t k w (map value_of ps) (count_map value_of n ps ∙ h))))
 
-named_agree : (c : Config) (t k : ℕ) (o : Option Word) (ps : List (List ℕ)) → reason (ok_or o whys.Word >>= λ w. in_turn (place c t k) w ps) ≡ word_fault c (prior t k) o ps
+named_agree : (c : Config) (t k : ℕ) (o : Option Word) (ps : List (List ℕ))
+    → reason (ok_or o whys.Word >>= λ w. in_turn (place c t k) w ps)
+    ≡ word_fault c (prior t k) o ps
 named_agree c t k None ps = refl
 named_agree c t k (Some w) ps = turn_agree c t k w ps
 
 -- a line says something exactly where nothing is wrong with it
-pub line_agrees : (c : Config) (t k : ℕ) (ps : List (List ℕ)) → later_fault c (prior t k) ps ≡ reason (line_at (place c t k) ps)
+pub line_agrees : (c : Config) (t k : ℕ) (ps : List (List ℕ))
+    → later_fault c (prior t k) ps ≡ reason (line_at (place c t k) ps)
 unfolding later_fault line_at
 line_agrees c t k [] = refl
 line_agrees c t k (first ∷ ps) = sym (named_agree c t k (word_at first) ps)
@@ -204,14 +253,17 @@ in_order false x l e = (refl, same_Ok x l e)
 one_low : (a k : ℕ) → ltb 15 a ≡ false → leb 131072 k ≡ false → (a < 16) × (k < 131072)
 one_low a k r s = (grind (arith, nat_tests), grind (arith, nat_tests))
 
-two_low : (a b k : ℕ) → (ltb 15 a || ltb 15 b) ≡ false → leb 131072 k ≡ false → (a < 16) × (b < 16) × (k < 131072)
+two_low : (a b k : ℕ) → (ltb 15 a || ltb 15 b) ≡ false → leb 131072 k ≡ false
+    → (a < 16) × (b < 16) × (k < 131072)
 two_low a b k r s = (grind (arith, nat_tests), grind (arith, nat_tests), grind (arith, nat_tests))
 
 few_numbers : (n k : ℕ) → (leb 131072 k || leb (2 ^ 62) n) ≡ false → (n < 2 ^ 62) × (k < 131072)
 few_numbers n k s = (grind (arith, nat_tests), grind (arith, nat_tests))
 
-few_blocks : (n blocks most k : ℕ) → (leb 131072 k || ltb 65535 n || ltb most blocks) ≡ false → (n ≤ 65535) × (blocks ≤ most) × (k < 131072)
-few_blocks n blocks most k s = (grind (arith, nat_tests), grind (arith, nat_tests), grind (arith, nat_tests))
+few_blocks : (n blocks most k : ℕ) → (leb 131072 k || ltb 65535 n || ltb most blocks) ≡ false
+    → (n ≤ 65535) × (blocks ≤ most) × (k < 131072)
+few_blocks n blocks most k s =
+    (grind (arith, nat_tests), grind (arith, nat_tests), grind (arith, nat_tests))
 
 low : (a : ℕ) → ltb 15 a ≡ false → a < 16
 low a r = grind (arith, nat_tests)
@@ -219,7 +271,8 @@ low a r = grind (arith, nat_tests)
 both_low : (a b : ℕ) → (ltb 15 a || ltb 15 b) ≡ false → (a < 16) × (b < 16)
 both_low a b r = (grind (arith, nat_tests), grind (arith, nat_tests))
 
-abbrev says : (c : Config) (t k : ℕ) (w : Word) (x l : Line) (ns : List ℕ) → x ≡ l → Says c t k w x ns → Says c t k w l ns
+abbrev says : (c : Config) (t k : ℕ) (w : Word) (x l : Line) (ns : List ℕ) → x ≡ l
+    → Says c t k w x ns → Says c t k w l ns
 says c t k w x l ns e s = subst (λ (y : Line). Says c t k w y ns) e s
 
 thread_turn : (n t m : ℕ) → (not (eqb n t) || eqb t m) ≡ false → (n ≡ t) × (t ≢ m)
@@ -228,69 +281,120 @@ thread_turn n t m r = (grind (arith, nat_tests), λ e. grind (arith, nat_tests, 
 end_turn : (t m : ℕ) → not (eqb t m) ≡ false → t ≡ m
 end_turn t m r = grind (arith, nat_tests)
 
-told_sound : (c : Config) (t k : ℕ) (w : Word) (ns : List ℕ) (l : Line) → told_at (place c t k) w ns ≡ Ok l → Says c t k w l ns
+told_sound : (c : Config) (t k : ℕ) (w : Word) (ns : List ℕ) (l : Line)
+    → told_at (place c t k) w ns ≡ Ok l → Says c t k w l ns
 unfolding told_at
 told_sound c t k words.Thread ns l e =
     from_one (Says c t k words.Thread l) ns _ l e (λ n f.
     let p = in_order (not (eqb n t) || eqb t c.threads) (Thread n) l f in
     let turn = thread_turn n t c.threads p.0 in
-    says c t k words.Thread (Thread n) l (n ∷ []) p.1 record { text = refl; fits = turn; command = λ _. inl (ap Thread turn.0) })
+    says c t k words.Thread (Thread n) l
+    (n ∷ []) p.1 record { text = refl; fits = turn; command = λ _. inl (ap Thread turn.0) })
 told_sound c t k words.End ns l e =
     from_none (Says c t k words.End l) ns _ l e (λ f.
     let p = in_order (not (eqb t c.threads)) End l f in
-    says c t k words.End End l [] p.1 record { text = refl; fits = end_turn t c.threads p.0; command = λ _. inr refl })
+    says c t k words.End End l [] p.1 record {
+      text = refl;
+      fits = end_turn t c.threads p.0;
+      command = λ _. inr refl;
+    })
 told_sound c t k words.New ns l e =
     from_two (Says c t k words.New l) ns _ l e (λ d n f.
-    let p = passed (ltb 15 d) (leb 131072 k || ltb 65535 n || ltb c.object (record_blocks c.width n)) (Told (commands.New d n)) l f in
+    let p = passed (ltb 15 d)
+    (leb 131072 k || ltb 65535 n || ltb c.object (record_blocks c.width n))
+    (Told (commands.New d n)) l f in
     let b = few_blocks n (record_blocks c.width n) c.object k p.1 in
-    says c t k words.New (Told (commands.New d n)) l (d ∷ n ∷ []) p.2 record { text = refl; fits = ((low d p.0, b.0, b.1), b.2); command = λ h. absurd cc })
+    says c t k words.New (Told (commands.New d n)) l
+    (d ∷ n ∷ []) p.2 record {
+      text = refl;
+      fits = ((low d p.0, b.0, b.1), b.2);
+      command = λ h. absurd cc;
+    })
 told_sound c t k words.Arr ns l e =
     from_two (Says c t k words.Arr l) ns _ l e (λ d n f.
-    let p = passed (ltb 15 d) (leb 131072 k || ltb 65535 n || ltb c.object (array_blocks c.width n)) (Told (commands.Arr d n)) l f in
+    let p = passed (ltb 15 d)
+    (leb 131072 k || ltb 65535 n || ltb c.object (array_blocks c.width n))
+    (Told (commands.Arr d n)) l f in
     let b = few_blocks n (array_blocks c.width n) c.object k p.1 in
-    says c t k words.Arr (Told (commands.Arr d n)) l (d ∷ n ∷ []) p.2 record { text = refl; fits = ((low d p.0, b.0, b.1), b.2); command = λ h. absurd cc })
+    says c t k words.Arr (Told (commands.Arr d n)) l
+    (d ∷ n ∷ []) p.2 record {
+      text = refl;
+      fits = ((low d p.0, b.0, b.1), b.2);
+      command = λ h. absurd cc;
+    })
 told_sound c t k words.Set ns l e =
     from_two (Says c t k words.Set l) ns _ l e (λ d n f.
     let p = passed (ltb 15 d) (leb 131072 k || leb (2 ^ 62) n) (Told (commands.Set d n)) l f in
     let b = few_numbers n k p.1 in
-    says c t k words.Set (Told (commands.Set d n)) l (d ∷ n ∷ []) p.2 record { text = refl; fits = ((low d p.0, b.0), b.1); command = λ h. absurd cc })
+    says c t k words.Set (Told (commands.Set d n)) l
+    (d ∷ n ∷ []) p.2 record {
+      text = refl;
+      fits = ((low d p.0, b.0), b.1);
+      command = λ h. absurd cc;
+    })
 told_sound c t k words.Nil ns l e =
     from_one (Says c t k words.Nil l) ns _ l e (λ d f.
     let p = passed (ltb 15 d) (leb 131072 k) (Told (commands.Nil d)) l f in
-    says c t k words.Nil (Told (commands.Nil d)) l (d ∷ []) p.2 record { text = refl; fits = one_low d k p.0 p.1; command = λ h. absurd cc })
+    says c t k words.Nil (Told (commands.Nil d)) l
+    (d ∷ []) p.2 record { text = refl; fits = one_low d k p.0 p.1; command = λ h. absurd cc })
 told_sound c t k words.Mov ns l e =
     from_two (Says c t k words.Mov l) ns _ l e (λ d s f.
     let p = passed (ltb 15 d || ltb 15 s) (leb 131072 k) (Told (commands.Mov d s)) l f in
     let b = two_low d s k p.0 p.1 in
-    says c t k words.Mov (Told (commands.Mov d s)) l (d ∷ s ∷ []) p.2 record { text = refl; fits = ((b.0, b.1), b.2); command = λ h. absurd cc })
+    says c t k words.Mov (Told (commands.Mov d s)) l
+    (d ∷ s ∷ []) p.2 record {
+      text = refl;
+      fits = ((b.0, b.1), b.2);
+      command = λ h. absurd cc;
+    })
 told_sound c t k words.Get ns l e =
     from_three (Says c t k words.Get l) ns _ l e (λ d s i f.
-    let p = passed (ltb 15 d || ltb 15 s) (leb 131072 k || leb (2 ^ 62) i) (Told (commands.Get d s i)) l f in
+    let p = passed (ltb 15 d || ltb 15 s) (leb 131072 k || leb (2 ^ 62) i)
+    (Told (commands.Get d s i)) l f in
     let r = both_low d s p.0 in
     let b = few_numbers i k p.1 in
-    says c t k words.Get (Told (commands.Get d s i)) l (d ∷ s ∷ i ∷ []) p.2 record { text = refl; fits = ((r.0, r.1, b.0), b.1); command = λ h. absurd cc })
+    says c t k words.Get (Told (commands.Get d s i)) l
+    (d ∷ s ∷ i ∷ []) p.2 record {
+      text = refl;
+      fits = ((r.0, r.1, b.0), b.1);
+      command = λ h. absurd cc;
+    })
 told_sound c t k words.Put ns l e =
     from_three (Says c t k words.Put l) ns _ l e (λ s i v f.
-    let p = passed (ltb 15 s || ltb 15 v) (leb 131072 k || leb (2 ^ 62) i) (Told (commands.Put s i v)) l f in
+    let p = passed (ltb 15 s || ltb 15 v) (leb 131072 k || leb (2 ^ 62) i)
+    (Told (commands.Put s i v)) l f in
     let r = both_low s v p.0 in
     let b = few_numbers i k p.1 in
-    says c t k words.Put (Told (commands.Put s i v)) l (s ∷ i ∷ v ∷ []) p.2 record { text = refl; fits = ((r.0, b.0, r.1), b.1); command = λ h. absurd cc })
+    says c t k words.Put (Told (commands.Put s i v)) l
+    (s ∷ i ∷ v ∷ []) p.2 record {
+      text = refl;
+      fits = ((r.0, b.0, r.1), b.1);
+      command = λ h. absurd cc;
+    })
 told_sound c t k words.Len ns l e =
     from_one (Says c t k words.Len l) ns _ l e (λ s f.
     let p = passed (ltb 15 s) (leb 131072 k) (Told (commands.Len s)) l f in
-    says c t k words.Len (Told (commands.Len s)) l (s ∷ []) p.2 record { text = refl; fits = one_low s k p.0 p.1; command = λ h. absurd cc })
+    says c t k words.Len (Told (commands.Len s)) l
+    (s ∷ []) p.2 record { text = refl; fits = one_low s k p.0 p.1; command = λ h. absurd cc })
 told_sound c t k words.Same ns l e =
     from_two (Says c t k words.Same l) ns _ l e (λ a b f.
     let p = passed (ltb 15 a || ltb 15 b) (leb 131072 k) (Told (commands.Same a b)) l f in
     let r = two_low a b k p.0 p.1 in
-    says c t k words.Same (Told (commands.Same a b)) l (a ∷ b ∷ []) p.2 record { text = refl; fits = ((r.0, r.1), r.2); command = λ h. absurd cc })
+    says c t k words.Same (Told (commands.Same a b)) l
+    (a ∷ b ∷ []) p.2 record {
+      text = refl;
+      fits = ((r.0, r.1), r.2);
+      command = λ h. absurd cc;
+    })
 told_sound c t k words.Say ns l e =
     from_one (Says c t k words.Say l) ns _ l e (λ s f.
     let p = passed (ltb 15 s) (leb 131072 k) (Told (commands.Say s)) l f in
-    says c t k words.Say (Told (commands.Say s)) l (s ∷ []) p.2 record { text = refl; fits = one_low s k p.0 p.1; command = λ h. absurd cc })
+    says c t k words.Say (Told (commands.Say s)) l
+    (s ∷ []) p.2 record { text = refl; fits = one_low s k p.0 p.1; command = λ h. absurd cc })
 
 -- the same for what follows from two steps
-pub bind_ok : {A B P : Type 0} (r : Result A Why) (f : A → Result B Why) (y : B) → (r >>= f) ≡ Ok y → ((x : A) → r ≡ Ok x → f x ≡ Ok y → P) → P
+pub bind_ok : {A B P : Type 0} (r : Result A Why) (f : A → Result B Why) (y : B)
+    → (r >>= f) ≡ Ok y → ((x : A) → r ≡ Ok x → f x ≡ Ok y → P) → P
 bind_ok (Err why) f y e go = absurd cc
 bind_ok (Ok x) f y e go = go x refl e
 
@@ -304,7 +408,8 @@ pub record SaysLine (c : Config) (t k : ℕ) (ps : List (List ℕ)) (l : Line) :
   pub fits : Fits c t k l
   pub opens : t ≡ 0 → (l ≡ Thread t) ⊎ (l ≡ End)
 
-not_refused : (x : Bool) (r : Result Line Why) (l : Line) → cond x (Err whys.Order) r ≡ Ok l → (x ≡ false) × (r ≡ Ok l)
+not_refused : (x : Bool) (r : Result Line Why) (l : Line) → cond x (Err whys.Order) r ≡ Ok l
+    → (x ≡ false) × (r ≡ Ok l)
 not_refused true r l e = absurd cc
 not_refused false r l e = (refl, e)
 
@@ -312,24 +417,30 @@ no_command : (x : Bool) (t : ℕ) → (x && eqb t 0) ≡ false → t ≡ 0 → x
 no_command true t e z = let is : eqb t 0 ≡ true = eq-eqb t 0 z in absurd cc
 no_command false t e z = refl
 
-turn_sound : (c : Config) (t k : ℕ) (w : Word) (first : List ℕ) (ps : List (List ℕ)) (l : Line) → first ≡ word_text w → in_turn (place c t k) w ps ≡ Ok l → SaysLine c t k (first ∷ ps) l
+turn_sound : (c : Config) (t k : ℕ) (w : Word) (first : List ℕ) (ps : List (List ℕ)) (l : Line)
+    → first ≡ word_text w → in_turn (place c t k) w ps ≡ Ok l → SaysLine c t k (first ∷ ps) l
 unfolding operands_at
 turn_sound c t k w first ps l named e =
-    let told = not_refused (is_command w && eqb t 0) (numbers_at (length (operands w)) ps >>= told_at (place c t k) w) l e in
+    let told = not_refused (is_command w && eqb t 0)
+    (numbers_at (length (operands w)) ps >>= told_at (place c t k) w) l e in
     bind_ok (numbers_at (length (operands w)) ps) (told_at (place c t k) w) l told.1 (λ ns are says.
     let s = told_sound c t k w ns l says in
     record {
-      text = ap (λ (p : List ℕ). p ∷ ps) named ∙ ap (λ (qs : List (List ℕ)). word_text w ∷ qs) (numbers_sound (length (operands w)) ps ns are) ∙ s.text;
+      text = ap (λ (p : List ℕ). p ∷ ps) named
+          ∙ ap (λ (qs : List (List ℕ)). word_text w ∷ qs)
+          (numbers_sound (length (operands w)) ps ns are) ∙ s.text;
       fits = s.fits;
       opens = λ z. s.command (no_command (is_command w) t told.0 z);
     })
 
-pub line_sound : (c : Config) (t k : ℕ) (ps : List (List ℕ)) (l : Line) → line_at (place c t k) ps ≡ Ok l → SaysLine c t k ps l
+pub line_sound : (c : Config) (t k : ℕ) (ps : List (List ℕ)) (l : Line)
+    → line_at (place c t k) ps ≡ Ok l → SaysLine c t k ps l
 unfolding line_at
 line_sound c t k [] l e = absurd cc
 line_sound c t k (first ∷ ps) l e =
     bind_ok (ok_or (word_at first) whys.Word) (λ w. in_turn (place c t k) w ps) l e (λ w is told.
-    turn_sound c t k w first ps l (word_sound first w (from_option (word_at first) whys.Word w is)) told)
+    turn_sound c t k w first ps l
+    (word_sound first w (from_option (word_at first) whys.Word w is)) told)
 
 -- ---- what is written is read again
 
@@ -388,8 +499,10 @@ small c t k (Told (commands.Arr d e)) le f = (omega (arith, f.0.0), (omega (arit
 small c t k (Told (commands.Set d v)) le f = (omega (arith, f.0.0), (omega (arith, f.0.1), tt))
 small c t k (Told (commands.Nil d)) le f = (omega (arith, f.0), tt)
 small c t k (Told (commands.Mov d s)) le f = (omega (arith, f.0.0), (omega (arith, f.0.1), tt))
-small c t k (Told (commands.Get d s i)) le f = (omega (arith, f.0.0), (omega (arith, f.0.1), (omega (arith, f.0.2), tt)))
-small c t k (Told (commands.Put s i v)) le f = (omega (arith, f.0.0), (omega (arith, f.0.1), (omega (arith, f.0.2), tt)))
+small c t k (Told (commands.Get d s i)) le f =
+    (omega (arith, f.0.0), (omega (arith, f.0.1), (omega (arith, f.0.2), tt)))
+small c t k (Told (commands.Put s i v)) le f =
+    (omega (arith, f.0.0), (omega (arith, f.0.1), (omega (arith, f.0.2), tt)))
 small c t k (Told (commands.Len s)) le f = (omega (arith, f.0), tt)
 small c t k (Told (commands.Same a b)) le f = (omega (arith, f.0.0), (omega (arith, f.0.1), tt))
 small c t k (Told (commands.Say s)) le f = (omega (arith, f.0), tt)
@@ -407,28 +520,43 @@ is_few : (k : ℕ) → k < 131072 → leb 131072 k ≡ false
 is_few k h = grind (arith, nat_tests)
 
 is_small : (n k : ℕ) → n < 2 ^ 62 → k < 131072 → (leb 131072 k || leb (2 ^ 62) n) ≡ false
-is_small n k h i = let big : leb (2 ^ 62) n ≡ false = grind (arith, nat_tests) in rw (is_few k i) big
+is_small n k h i = let big : leb (2 ^ 62) n ≡ false = grind (arith, nat_tests) in
+    rw (is_few k i) big
 
-has_room : (n blocks most k : ℕ) → n ≤ 65535 → blocks ≤ most → k < 131072 → (leb 131072 k || ltb 65535 n || ltb most blocks) ≡ false
+has_room : (n blocks most k : ℕ) → n ≤ 65535 → blocks ≤ most → k < 131072
+    → (leb 131072 k || ltb 65535 n || ltb most blocks) ≡ false
 has_room n blocks most k h i j =
     let long : ltb 65535 n ≡ false = grind (arith, nat_tests) in
     let large : ltb most blocks ≡ false = grind (arith, nat_tests) in
     rw (is_few k j, long) large
 
-told_complete : (c : Config) (t k : ℕ) (l : Line) → Fits c t k l → told_at (place c t k) (line_word l) (line_numbers l) ≡ Ok l
+told_complete : (c : Config) (t k : ℕ) (l : Line) → Fits c t k l
+    → told_at (place c t k) (line_word l) (line_numbers l) ≡ Ok l
 unfolding told_at
 told_complete c t k (Thread n) f = rw (eq-eqb n t f.0, ne_eqb t c.threads f.1) refl
 told_complete c t k End f = rw (eq-eqb t c.threads f) refl
-told_complete c t k (Told (commands.New d n)) f = passes _ _ (Told (commands.New d n)) (is_low d f.0.0) (has_room n (record_blocks c.width n) c.object k f.0.1 f.0.2 f.1)
-told_complete c t k (Told (commands.Arr d n)) f = passes _ _ (Told (commands.Arr d n)) (is_low d f.0.0) (has_room n (array_blocks c.width n) c.object k f.0.1 f.0.2 f.1)
-told_complete c t k (Told (commands.Set d v)) f = passes _ _ (Told (commands.Set d v)) (is_low d f.0.0) (is_small v k f.0.1 f.1)
-told_complete c t k (Told (commands.Nil d)) f = passes _ _ (Told (commands.Nil d)) (is_low d f.0) (is_few k f.1)
-told_complete c t k (Told (commands.Mov d s)) f = passes _ _ (Told (commands.Mov d s)) (are_low d s f.0.0 f.0.1) (is_few k f.1)
-told_complete c t k (Told (commands.Get d s i)) f = passes _ _ (Told (commands.Get d s i)) (are_low d s f.0.0 f.0.1) (is_small i k f.0.2 f.1)
-told_complete c t k (Told (commands.Put s i v)) f = passes _ _ (Told (commands.Put s i v)) (are_low s v f.0.0 f.0.2) (is_small i k f.0.1 f.1)
-told_complete c t k (Told (commands.Len s)) f = passes _ _ (Told (commands.Len s)) (is_low s f.0) (is_few k f.1)
-told_complete c t k (Told (commands.Same a b)) f = passes _ _ (Told (commands.Same a b)) (are_low a b f.0.0 f.0.1) (is_few k f.1)
-told_complete c t k (Told (commands.Say s)) f = passes _ _ (Told (commands.Say s)) (is_low s f.0) (is_few k f.1)
+told_complete c t k (Told (commands.New d n)) f =
+    passes _ _ (Told (commands.New d n)) (is_low d f.0.0)
+    (has_room n (record_blocks c.width n) c.object k f.0.1 f.0.2 f.1)
+told_complete c t k (Told (commands.Arr d n)) f =
+    passes _ _ (Told (commands.Arr d n)) (is_low d f.0.0)
+    (has_room n (array_blocks c.width n) c.object k f.0.1 f.0.2 f.1)
+told_complete c t k (Told (commands.Set d v)) f =
+    passes _ _ (Told (commands.Set d v)) (is_low d f.0.0) (is_small v k f.0.1 f.1)
+told_complete c t k (Told (commands.Nil d)) f =
+    passes _ _ (Told (commands.Nil d)) (is_low d f.0) (is_few k f.1)
+told_complete c t k (Told (commands.Mov d s)) f =
+    passes _ _ (Told (commands.Mov d s)) (are_low d s f.0.0 f.0.1) (is_few k f.1)
+told_complete c t k (Told (commands.Get d s i)) f =
+    passes _ _ (Told (commands.Get d s i)) (are_low d s f.0.0 f.0.1) (is_small i k f.0.2 f.1)
+told_complete c t k (Told (commands.Put s i v)) f =
+    passes _ _ (Told (commands.Put s i v)) (are_low s v f.0.0 f.0.2) (is_small i k f.0.1 f.1)
+told_complete c t k (Told (commands.Len s)) f =
+    passes _ _ (Told (commands.Len s)) (is_low s f.0) (is_few k f.1)
+told_complete c t k (Told (commands.Same a b)) f =
+    passes _ _ (Told (commands.Same a b)) (are_low a b f.0.0 f.0.1) (is_few k f.1)
+told_complete c t k (Told (commands.Say s)) f =
+    passes _ _ (Told (commands.Say s)) (is_low s f.0) (is_few k f.1)
 
 abbrev pub is_told : Line → Bool
 is_told (Thread t) = false
@@ -449,9 +577,17 @@ told_word (Told (commands.Len s)) = refl
 told_word (Told (commands.Same a b)) = refl
 told_word (Told (commands.Say s)) = refl
 
-pub line_complete : (c : Config) (t k : ℕ) (l : Line) → t < 10 ^ 19 → Fits c t k l → (is_told l && eqb t 0) ≡ false → line_at (place c t k) (line_text l) ≡ Ok l
+pub line_complete : (c : Config) (t k : ℕ) (l : Line) → t < 10 ^ 19 → Fits c t k l
+    → (is_told l && eqb t 0) ≡ false → line_at (place c t k) (line_text l) ≡ Ok l
 unfolding line_at operands_at
 line_complete c t k l le f turn =
     let w = written l in
-    let behind : (is_command (line_word l) && eqb t 0) ≡ false = ap (λ (x : Bool). x && eqb t 0) (told_word l) ∙ turn in
-    rw (w.text, word_complete (line_word l), behind, numbers_complete (length (operands (line_word l))) (line_numbers l) w.count (small c t k l le f)) (told_complete c t k l f)
+    let behind : (is_command (line_word l) && eqb t 0) ≡ false =
+    ap (λ (x : Bool). x && eqb t 0) (told_word l) ∙ turn in
+    rw (
+      w.text,
+      word_complete (line_word l),
+      behind,
+      numbers_complete (length (operands (line_word l))) (line_numbers l) w.count
+          (small c t k l le f),
+    ) (told_complete c t k l f)

@@ -27,7 +27,8 @@ is_piece [] = true
 is_piece (b ∷ bs) = ltb 32 b && is_piece bs
 
 -- the first line of these bytes has these pieces, and the others these
-record Begins (bytes first : List ℕ) (others : List (List ℕ)) (more : List (List (List ℕ))) : Type 0 where
+record Begins (bytes first : List ℕ) (others : List (List ℕ)) (more : List (List (List ℕ)))
+    : Type 0 where
   line : List ℕ
   lines : List (List ℕ)
   parted : lines_of bytes ≡ line ∷ lines
@@ -35,13 +36,27 @@ record Begins (bytes first : List ℕ) (others : List (List ℕ)) (more : List (
   rest : map pieces_of lines ≡ more
 
 at_feed : (rest : List ℕ) → Begins (10 ∷ rest) [] [] (pieced rest)
-at_feed rest = record { line = []; lines = lines_of rest; parted = refl; pieces = refl; rest = refl }
+at_feed rest = record {
+  line = [];
+  lines = lines_of rest;
+  parted = refl;
+  pieces = refl;
+  rest = refl;
+}
 
-at_space : (bytes first : List ℕ) (others : List (List ℕ)) (more : List (List (List ℕ))) → Begins bytes first others more → Begins (32 ∷ bytes) [] (first ∷ others) more
+at_space : (bytes first : List ℕ) (others : List (List ℕ)) (more : List (List (List ℕ)))
+    → Begins bytes first others more → Begins (32 ∷ bytes) [] (first ∷ others) more
 at_space bytes first others more h =
-    record { line = 32 ∷ h.line; lines = h.lines; parted = ap (onto_first 32) h.parted; pieces = ap (λ ps. [] ∷ ps) h.pieces; rest = h.rest }
+    record {
+      line = 32 ∷ h.line;
+      lines = h.lines;
+      parted = ap (onto_first 32) h.parted;
+      pieces = ap (λ ps. [] ∷ ps) h.pieces;
+      rest = h.rest;
+    }
 
-at_byte : (b : ℕ) (bytes first : List ℕ) (others : List (List ℕ)) (more : List (List (List ℕ))) → 32 < b → Begins bytes first others more → Begins (b ∷ bytes) (b ∷ first) others more
+at_byte : (b : ℕ) (bytes first : List ℕ) (others : List (List ℕ)) (more : List (List (List ℕ)))
+    → 32 < b → Begins bytes first others more → Begins (b ∷ bytes) (b ∷ first) others more
 at_byte b bytes first others more above h =
     let no_feed : eqb b 10 ≡ false = grind (arith, nat_tests) in
     let no_space : eqb b 32 ≡ false = grind (arith, nat_tests) in
@@ -60,11 +75,14 @@ record Above (b : ℕ) (bs : List ℕ) : Type 0 where
 above : (b : ℕ) (bs : List ℕ) → is_piece (b ∷ bs) ≡ true → Above b bs
 above b bs e = record { first = grind (arith, nat_tests); others = grind (arith, nat_tests) }
 
-at_piece : (piece bytes first : List ℕ) (others : List (List ℕ)) (more : List (List (List ℕ))) → is_piece piece ≡ true → Begins bytes first others more → Begins (piece ++ bytes) (piece ++ first) others more
+at_piece : (piece bytes first : List ℕ) (others : List (List ℕ)) (more : List (List (List ℕ)))
+    → is_piece piece ≡ true → Begins bytes first others more
+    → Begins (piece ++ bytes) (piece ++ first) others more
 at_piece [] bytes first others more is h = h
 at_piece (b ∷ bs) bytes first others more is h =
     let a = above b bs is in
-    at_byte b (bs ++ bytes) (bs ++ first) others more a.first (at_piece bs bytes first others more a.others h)
+    at_byte b (bs ++ bytes) (bs ++ first) others more a.first
+    (at_piece bs bytes first others more a.others h)
 
 -- ---- lines
 
@@ -81,11 +99,21 @@ both : (a b : Bool) → (a && b) ≡ true → (a ≡ true) × (b ≡ true)
 both true b e = (refl, e)
 both false b e = absurd cc
 
-seen_as : (bytes as_bytes first as_first : List ℕ) (others : List (List ℕ)) (more : List (List (List ℕ))) → bytes ≡ as_bytes → first ≡ as_first → Begins bytes first others more → Begins as_bytes as_first others more
+seen_as : (bytes as_bytes first as_first : List ℕ) (others : List (List ℕ))
+    (more : List (List (List ℕ))) → bytes ≡ as_bytes → first ≡ as_first
+    → Begins bytes first others more → Begins as_bytes as_first others more
 seen_as bytes as_bytes first as_first others more e f h =
-    record { line = h.line; lines = h.lines; parted = ap lines_of (sym e) ∙ h.parted; pieces = h.pieces ∙ ap (λ p. p ∷ others) f; rest = h.rest }
+    record {
+      line = h.line;
+      lines = h.lines;
+      parted = ap lines_of (sym e)
+          ∙ h.parted;
+      pieces = h.pieces ∙ ap (λ p. p ∷ others) f;
+      rest = h.rest;
+    }
 
-line_begins : (piece : List ℕ) (pieces : List (List ℕ)) (rest : List ℕ) → IsLine (piece ∷ pieces) → Begins (line_text (piece ∷ pieces) ++ rest) piece pieces (pieced rest)
+line_begins : (piece : List ℕ) (pieces : List (List ℕ)) (rest : List ℕ) → IsLine (piece ∷ pieces)
+    → Begins (line_text (piece ∷ pieces) ++ rest) piece pieces (pieced rest)
 line_begins piece [] rest is =
     let own = both (is_piece piece) true is in
     let h = at_piece piece (10 ∷ rest) [] [] (pieced rest) own.0 (at_feed rest) in
@@ -97,18 +125,24 @@ line_begins piece (next ∷ pieces) rest is =
     let spaced = at_space bytes next pieces (pieced rest) behind in
     let h = at_piece piece (32 ∷ bytes) [] (next ∷ pieces) (pieced rest) own.0 spaced in
     let joined : List ℕ = 32 ∷ join_with_byte 32 (next ∷ pieces) in
-    let text : (piece ++ joined) ++ 10 ∷ [] ++ rest ≡ piece ++ 32 ∷ bytes = ap (λ l. l ++ rest) (append_assoc piece joined (10 ∷ [])) ∙ append_assoc piece (joined ++ 10 ∷ []) rest in
+    let text : (piece ++ joined) ++ 10 ∷ [] ++ rest ≡ piece ++ 32 ∷ bytes =
+    ap (λ l. l ++ rest) (append_assoc piece joined (10 ∷ []))
+    ∙ append_assoc piece (joined ++ 10 ∷ []) rest in
     seen_as _ _ _ _ (next ∷ pieces) (pieced rest) (sym text) (append-nil piece) h
 
-pieced_first : (bytes first : List ℕ) (others : List (List ℕ)) (more : List (List (List ℕ))) → Begins bytes first others more → pieced bytes ≡ (first ∷ others) ∷ more
+pieced_first : (bytes first : List ℕ) (others : List (List ℕ)) (more : List (List (List ℕ)))
+    → Begins bytes first others more → pieced bytes ≡ (first ∷ others) ∷ more
 pieced_first bytes first others more h =
-    ap (map pieces_of) h.parted ∙ ap (λ ps. ps ∷ map pieces_of h.lines) h.pieces ∙ ap (λ ls. (first ∷ others) ∷ ls) h.rest
+    ap (map pieces_of) h.parted ∙ ap (λ ps. ps ∷ map pieces_of h.lines) h.pieces
+    ∙ ap (λ ls. (first ∷ others) ∷ ls) h.rest
 
-lines_again : (lines : List (List (List ℕ))) → AllByRecursion IsLine lines → pieced (flat_map line_text lines) ≡ lines
+lines_again : (lines : List (List (List ℕ))) → AllByRecursion IsLine lines
+    → pieced (flat_map line_text lines) ≡ lines
 lines_again [] are = refl
 lines_again ([] ∷ lines) are = absurd are.0
 lines_again ((piece ∷ pieces) ∷ lines) are =
-    pieced_first _ piece pieces _ (line_begins piece pieces (flat_map line_text lines) are.0) ∙ ap (λ ls. (piece ∷ pieces) ∷ ls) (lines_again lines are.1)
+    pieced_first _ piece pieces _ (line_begins piece pieces (flat_map line_text lines) are.0)
+    ∙ ap (λ ls. (piece ∷ pieces) ∷ ls) (lines_again lines are.1)
 
 -- ---- the lines of a job
 
@@ -120,7 +154,8 @@ digits_piece (b ∷ bs) digits =
     rw above (digits_piece bs digits.1)
 
 number_piece : (n : ℕ) → n < 2 ^ 64 → is_piece (decimal n) ≡ true
-number_piece n fits = let numeral = decimal_is_IsNumeral n fits in digits_piece (decimal n) numeral.0.1
+number_piece n fits = let numeral = decimal_is_IsNumeral n fits in
+    digits_piece (decimal n) numeral.0.1
 
 version_piece : (w : Width) → is_piece (version w) ≡ true
 version_piece Four = refl
@@ -161,19 +196,24 @@ a_line c (Len s) b = rw (register s b) refl
 a_line c (Same a z) b = rw (register a b.0, register z b.1) refl
 a_line c (Say s) b = rw (register s b) refl
 
-commands_lines : (c : Config) (trace : List Command) → AllByRecursion (IsCommandInBounds c) trace → AllByRecursion IsLine (map command_line trace)
+commands_lines : (c : Config) (trace : List Command) → AllByRecursion (IsCommandInBounds c) trace
+    → AllByRecursion IsLine (map command_line trace)
 commands_lines c [] b = tt
 commands_lines c (x ∷ trace) b = (a_line c x b.0, commands_lines c trace b.1)
 
-all_append : (xs ys : List (List (List ℕ))) → AllByRecursion IsLine xs → AllByRecursion IsLine ys → AllByRecursion IsLine (xs ++ ys)
+all_append : (xs ys : List (List (List ℕ))) → AllByRecursion IsLine xs → AllByRecursion IsLine ys
+    → AllByRecursion IsLine (xs ++ ys)
 all_append [] ys p q = q
 all_append (x ∷ xs) ys p q = (p.0, all_append xs ys p.1 q)
 
-threads_lines : (c : Config) (t : ℕ) (traces : List (List Command)) → t + length traces ≤ 16 → AllByRecursion (IsTraceInBounds c) traces
+threads_lines : (c : Config) (t : ℕ) (traces : List (List Command)) → t + length traces ≤ 16
+    → AllByRecursion (IsTraceInBounds c) traces
     → AllByRecursion IsLine (traces_lines t traces)
 threads_lines c t [] few b = tt
 threads_lines c t (trace ∷ traces) few b =
-    all_append (trace_lines t trace) (traces_lines (t + 1) traces) (thread_line t (omega arith), commands_lines c trace b.0.commands) (threads_lines c (t + 1) traces (omega arith) b.1)
+    all_append (trace_lines t trace) (traces_lines (t + 1) traces)
+    (thread_line t (omega arith), commands_lines c trace b.0.commands)
+    (threads_lines c (t + 1) traces (omega arith) b.1)
 
 -- the text of a job is that job
 pub text_is_job : (job : Job) → IsJobInBounds job → IsJob (job_text job) job
@@ -181,9 +221,12 @@ text_is_job job b =
     let few : 0 + length job.traces ≤ 16 = omega (arith, b.threads, b.config.threads) in
     let threads = threads_lines job.config 0 job.traces few b.each in
     let last : AllByRecursion IsLine ((codes "end" ∷ []) ∷ []) = (refl, tt) in
-    let are : AllByRecursion IsLine (job_lines job.config job.traces) =
-    (header_line job.config b.config, all_append (traces_lines 0 job.traces) ((codes "end" ∷ []) ∷ []) threads last) in
+    let are : AllByRecursion IsLine (job_lines job.config job.traces) = (
+      header_line job.config b.config,
+      all_append (traces_lines 0 job.traces) ((codes "end" ∷ []) ∷ []) threads last,
+    ) in
     record { in_bounds = b; lines = lines_again (job_lines job.config job.traces) are }
 
-pub text_is_input : (job : Job) → IsJobInBounds job → length (job_text job) ≤ 16777216 → IsInput (job_text job) job
+pub text_is_input : (job : Job) → IsJobInBounds job → length (job_text job) ≤ 16777216
+    → IsInput (job_text job) job
 text_is_input job b short = record { within = short; is_job = text_is_job job b }

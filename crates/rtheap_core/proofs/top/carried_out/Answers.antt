@@ -10,7 +10,8 @@ pub returns-in-Ok-clause-headline : goal.returns-in-Ok-clause-headline
 returns-in-Ok-clause-headline g c =
     let source = sides g.S.Source.left g.S.Source.faults c.args.source.now c.ran.new.source in
     let sink = sides g.K.Sink.held g.K.Sink.faults c.args.sink.now c.written.new.sink in
-    subst (λ (o : Option RunEnd). IfSome o (λ end. Headline source sink c.written.result.status end)) (sym c.written.ensures.run)
+    subst (λ (o : Option RunEnd). IfSome o
+    (λ end. Headline source sink c.written.result.status end)) (sym c.written.ensures.run)
     (headline_of source sink c.written.result.status c.in-Ok.run' c.in-Ok.ensures.ran c.written.ensures.text)
 
 pub returns-in-None-clause-refused : goal.returns-in-None-clause-refused
@@ -26,7 +27,8 @@ pub returns-in-Err-clause-refused : goal.returns-in-Err-clause-refused
 returns-in-Err-clause-refused g c = λ _. record {
   refusal = c.in-Err.refusal;
   is_due = c.refused-in-Err.ensures.due;
-  cause = c.in-Err.ensures.refused (map (λ w. string_bytes w) c.args.words.now) (rw c.in-Some-Run.field-0-is at c.in-Some-Run.ensures);
+  cause = c.in-Err.ensures.refused (map (λ w. string_bytes w) c.args.words.now)
+      (rw c.in-Some-Run.field-0-is at c.in-Some-Run.ensures);
   line = c.refused-in-Err.ensures.line;
   front = c.refused-in-Err.ensures.front;
 }
@@ -35,7 +37,8 @@ pub returns-in-Err-rated-clause-refused : goal.returns-in-Err-rated-clause-refus
 returns-in-Err-rated-clause-refused g c = λ _. record {
   refusal = c.in-Err-rated.refusal;
   is_due = c.refused-in-Err-rated.ensures.due;
-  cause = c.in-Err-rated.ensures.refused (map (λ w. string_bytes w) c.args.words.now) (rw c.in-Some-Plan.field-0-is at c.in-Some-Plan.ensures);
+  cause = c.in-Err-rated.ensures.refused (map (λ w. string_bytes w) c.args.words.now)
+      (rw c.in-Some-Plan.field-0-is at c.in-Some-Plan.ensures);
   line = c.refused-in-Err-rated.ensures.line;
   front = c.refused-in-Err-rated.ensures.front;
 }

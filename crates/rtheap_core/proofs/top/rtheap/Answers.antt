@@ -18,7 +18,10 @@ returns g c =
         write_fault = e.write_fault;
         write_fault_told = e.write_fault_told;
       };
-      complete = completes (record { apart = c.inputs_are_told_apart.ensures.apart; one = c.jobs_are_one.ensures }) _ (record {
+      complete = completes (record {
+        apart = c.inputs_are_told_apart.ensures.apart;
+        one = c.jobs_are_one.ensures;
+      }) _ (record {
         headline = e.headline;
         planned = e.planned;
         run = e.run;

@@ -7,4 +7,6 @@ use Rattle.rtheap_core.proofs.plain.PlainHeap.nil.Goals as goal
 pub returns-clause-answered : goal.returns-clause-answered
 returns-clause-answered c = λ at g sh.
     nil_answers c.args.self.now.store.config.width c.args.self.now at g sh c.set_register.new.self c.args.d c.requires.into
-    (c.set_register.ensures.heap ∙ ap (put_at (heap_in c.args.self.now.store) (register_at c.args.self.now.store.config.width c.args.d)) c.payload_word.ensures) c.set_register.ensures.counts.0 c.set_register.ensures.counts.1
+    (c.set_register.ensures.heap
+    ∙ ap (put_at (heap_in c.args.self.now.store)
+    (register_at c.args.self.now.store.config.width c.args.d)) c.payload_word.ensures) c.set_register.ensures.counts.0 c.set_register.ensures.counts.1
