@@ -24,14 +24,17 @@ line_then : (past : List HistoryItem) (i : HistoryItem) (h : List HistoryItem)
     → lines_after past (i ∷ h) ≡ item_text (starts_in past) i ∷ lines_after (past ++ i ∷ []) h
 line_then past i h =
     ap (λ (ls : List (List ℕ)). ls ++ end_text (past ++ i ∷ h) ∷ []) (one_line (starts_in past) i h)
-    ∙ ap (λ (n : ℕ). item_text (starts_in past) i ∷ (lines_from n h ++ end_text (past ++ i ∷ h) ∷ []))
+    ∙ ap (λ (n : ℕ). item_text (starts_in past) i ∷
+    (lines_from n h ++ end_text (past ++ i ∷ h) ∷ []))
     (sym (starts_append past (i ∷ [])))
     ∙ ap (λ (p : List HistoryItem). item_text (starts_in past) i
-    ∷ (lines_from (starts_in (past ++ i ∷ [])) h ++ end_text p ∷ [])) (sym (append_assoc past (i ∷ []) h))
+    ∷ (lines_from (starts_in (past ++ i ∷ [])) h ++ end_text p ∷ []))
+    (sym (append_assoc past (i ∷ []) h))
 
 module _ (c : Config) (rate : ℕ) (traces : List (List Command)) where
   -- what good lines are, after these items
-  record Goes (past : List HistoryItem) (lines : List (List ℕ)) (h : List HistoryItem) : Type 0 where
+  record Goes (past : List HistoryItem) (lines : List (List ℕ)) (h : List HistoryItem)
+      : Type 0 where
     come : AllMayCome c rate traces past h
     begun : past ++ h ≢ []
     none : (t : ℕ) → left_of traces (past ++ h) t ≡ []
@@ -45,7 +48,8 @@ module _ (c : Config) (rate : ℕ) (traces : List (List Command)) where
     record {
       come = tt;
       begun = subst (λ (p : List HistoryItem). p ≢ []) (sym (append-nil past)) last.0.begun;
-      none = λ t. ap (λ (p : List HistoryItem). left_of traces p t) (append-nil past) ∙ last.0.no_command t;
+      none = λ t. ap (λ (p : List HistoryItem). left_of traces p t) (append-nil past)
+          ∙ last.0.no_command t;
       text = λ i. (last.0.text ∙ ap end_text (sym (append-nil past))) i ∷ last.1 i;
     },
   )
@@ -64,11 +68,13 @@ module _ (c : Config) (rate : ℕ) (traces : List (List Command)) where
       )
 
   backward : (past h : List HistoryItem) → AllMayCome c rate traces past h → past ++ h ≢ []
-      → ((t : ℕ) → left_of traces (past ++ h) t ≡ []) → AreGood c rate traces past (lines_after past h)
+      → ((t : ℕ) → left_of traces (past ++ h) t ≡ [])
+      → AreGood c rate traces past (lines_after past h)
   backward past [] come begun none = inl (
     record {
       begun = subst (λ (p : List HistoryItem). p ≢ []) (append-nil past) begun;
-      no_command = λ t. ap (λ (p : List HistoryItem). left_of traces p t) (sym (append-nil past)) ∙ none t;
+      no_command = λ t. ap (λ (p : List HistoryItem). left_of traces p t) (sym (append-nil past))
+          ∙ none t;
       text = ap end_text (append-nil past);
     },
     refl,
@@ -78,7 +84,8 @@ module _ (c : Config) (rate : ℕ) (traces : List (List Command)) where
       subst (AreGood c rate traces past) (sym (line_then past i h)) (inr (
         i,
         record { may_come = come.0; text = refl },
-        backward (past ++ i ∷ []) h come.1 (subst (λ (p : List HistoryItem). p ≢ []) (sym same) begun)
+        backward (past ++ i ∷ []) h come.1
+            (subst (λ (p : List HistoryItem). p ≢ []) (sym same) begun)
             (λ t. ap (λ (p : List HistoryItem). left_of traces p t) same ∙ none t),
       ))
 
@@ -88,11 +95,14 @@ module _ (c : Config) (rate : ℕ) (traces : List (List Command)) where
       let f = forward [] ls good in
       (f.0, made c rate traces f.0 f.1.begun f.1.come f.1.none, f.1.text)
 
-  pub of_run : (h : List HistoryItem) → IsRun c rate traces h → AreGood c rate traces [] (order_lines h)
-  of_run h run = backward [] h (all_come c rate traces h run) (begun c rate traces h run) (λ t. none_left c rate traces h t run)
+  pub of_run : (h : List HistoryItem) → IsRun c rate traces h
+      → AreGood c rate traces [] (order_lines h)
+  of_run h run = backward [] h (all_come c rate traces h run) (begun c rate traces h run)
+      (λ t. none_left c rate traces h t run)
 
 pub law : (c : Config) (rate : ℕ) (traces : List (List Command)) (ls : List (List ℕ))
-    → AreGood c rate traces [] ls ↔ ((h : List HistoryItem) × IsRun c rate traces h × (ls ≡ order_lines h))
+    → AreGood c rate traces [] ls ↔
+    ((h : List HistoryItem) × IsRun c rate traces h × (ls ≡ order_lines h))
 law c rate traces ls = (
   to_run c rate traces ls,
   λ r. subst (AreGood c rate traces []) (sym r.2) (of_run c rate traces r.0 r.1),

@@ -16,25 +16,31 @@ use Rattle.rt_check.proofs.Goodness.{law}
 use Rattle.rt_check.proofs.Telling as telling
 
 one_rate : (c : Config) (p q : ℕ) → IsRate c p → IsRate c q → p ≡ q
-one_rate c p q a b = let f = a.least q b.some b.enough in let h = b.least p a.some a.enough in omega arith
+one_rate c p q a b = let f = a.least q b.some b.enough in let h = b.least p a.some a.enough in
+    omega arith
 
 -- ---- of one job
 
 module _ (bytes : List ℕ) (job : Job) (few : length job.traces ≤ 16) where
-  are_good : (o : IsOrderOf bytes job) → AreGood job.config o.rate job.traces [] (lines_of (order_part bytes))
-  are_good o = (law job.config o.rate job.traces (lines_of (order_part bytes))).1 (o.history, o.is_run, o.lines)
+  are_good : (o : IsOrderOf bytes job)
+      → AreGood job.config o.rate job.traces [] (lines_of (order_part bytes))
+  are_good o = (law job.config o.rate job.traces (lines_of (order_part bytes))).1
+      (o.history, o.is_run, o.lines)
 
   order_not_bad : (n : ℕ) → IsOrderOf bytes job → IsBadAt bytes job n → ⊥
   order_not_bad n o b =
       let same = one_rate job.config b.rate o.rate b.is_rate o.is_rate in
       telling.apart job.config o.rate job.traces few [] (lines_of (order_part bytes)) n (are_good o)
-      (subst (λ (r : ℕ). FirstBad job.config r job.traces [] (lines_of (order_part bytes)) n) same b.first_bad)
+      (subst (λ (r : ℕ). FirstBad job.config r job.traces []
+      (lines_of (order_part bytes)) n) same b.first_bad)
 
   bad_once : (m n : ℕ) → IsBadAt bytes job m → IsBadAt bytes job n → m ≡ n
   bad_once m n a b =
       let same = one_rate job.config b.rate a.rate b.is_rate a.is_rate in
-      telling.first job.config a.rate job.traces few [] (lines_of (order_part bytes)) m n a.first_bad
-      (subst (λ (r : ℕ). FirstBad job.config r job.traces [] (lines_of (order_part bytes)) n) same b.first_bad)
+      telling.first job.config a.rate job.traces few []
+      (lines_of (order_part bytes)) m n a.first_bad
+      (subst (λ (r : ℕ). FirstBad job.config r job.traces []
+      (lines_of (order_part bytes)) n) same b.first_bad)
 
   not_small : IsAdmitted job.config → IsAnswerOf bytes job (Some LiveTooSmall) → ⊥
   not_small a r = let o = a.opens in omega arith
@@ -53,7 +59,8 @@ module _ (bytes : List ℕ) (job : Job) (few : length job.traces ≤ 16) where
   same_none (Some OutOfMemory) o p = absurd p
   same_none (Some (BadOrder n)) o p = absurd (order_not_bad n o p)
 
-  same_small : (b : Option Refusal) → IsAnswerOf bytes job (Some LiveTooSmall) → IsAnswerOf bytes job b → Some LiveTooSmall ≡ b
+  same_small : (b : Option Refusal) → IsAnswerOf bytes job (Some LiveTooSmall)
+      → IsAnswerOf bytes job b → Some LiveTooSmall ≡ b
   same_small None a p = absurd (not_small p.admitted a)
   same_small (Some Usage) a p = absurd p
   same_small (Some TooLong) a p = absurd p
@@ -64,7 +71,8 @@ module _ (bytes : List ℕ) (job : Job) (few : length job.traces ≤ 16) where
   same_small (Some OutOfMemory) a p = absurd p
   same_small (Some (BadOrder n)) a p = absurd (not_small p.admitted a)
 
-  same_rateless : (b : Option Refusal) → IsAnswerOf bytes job (Some NoRate) → IsAnswerOf bytes job b → Some NoRate ≡ b
+  same_rateless : (b : Option Refusal) → IsAnswerOf bytes job (Some NoRate)
+      → IsAnswerOf bytes job b → Some NoRate ≡ b
   same_rateless None a p = absurd (not_rateless p.admitted a)
   same_rateless (Some Usage) a p = absurd p
   same_rateless (Some TooLong) a p = absurd p
@@ -75,7 +83,8 @@ module _ (bytes : List ℕ) (job : Job) (few : length job.traces ≤ 16) where
   same_rateless (Some OutOfMemory) a p = absurd p
   same_rateless (Some (BadOrder n)) a p = absurd (not_rateless p.admitted a)
 
-  same_bad : (m : ℕ) (b : Option Refusal) → IsBadAt bytes job m → IsAnswerOf bytes job b → Some (BadOrder m) ≡ b
+  same_bad : (m : ℕ) (b : Option Refusal) → IsBadAt bytes job m → IsAnswerOf bytes job b
+      → Some (BadOrder m) ≡ b
   same_bad m None a p = absurd (order_not_bad m p a)
   same_bad m (Some Usage) a p = absurd p
   same_bad m (Some TooLong) a p = absurd p
@@ -109,7 +118,8 @@ OfJob bytes a = (job : Job) × HasJob bytes job × IsAnswerOf bytes job a
 -- too long, a bad line, or the answer of a job
 data Kind (bytes : List ℕ) (a : Option Refusal) : Type 0 where
   Long : (IsTooLong bytes) → (a ≡ Some TooLong) → Kind bytes a
-  Wrong : (line : ℕ) (why : Why) → HasBadLine bytes line why → (a ≡ Some (BadLine line why)) → Kind bytes a
+  Wrong : (line : ℕ) (why : Why) → HasBadLine bytes line why → (a ≡ Some (BadLine line why))
+      → Kind bytes a
   Judged : OfJob bytes a → Kind bytes a
 
 kind_of : (bytes : List ℕ) (a : Option Refusal) → IsAnswerTo bytes a → Kind bytes a
@@ -124,12 +134,14 @@ kind_of bytes (Some OutOfMemory) p = Judged p
 kind_of bytes (Some (BadOrder n)) p = Judged p
 
 threads_few : (bytes : List ℕ) (job : Job) → HasJob bytes job → length job.traces ≤ 16
-threads_few bytes job h = let l = h.is_job.in_bounds.threads in let b = h.is_job.in_bounds.config in omega arith
+threads_few bytes job h = let l = h.is_job.in_bounds.threads in
+    let b = h.is_job.in_bounds.config in omega arith
 
 of_one_job : (bytes : List ℕ) (a b : Option Refusal) → OfJob bytes a → OfJob bytes b → a ≡ b
 of_one_job bytes a b p q =
     let same : q.0 ≡ p.0 = one_job (job_part bytes) q.0 p.0 q.1.is_job p.1.is_job in
-    same_of bytes p.0 (threads_few bytes p.0 p.1) a b p.2 (subst (λ (j : Job). IsAnswerOf bytes j b) same q.2)
+    same_of bytes p.0 (threads_few bytes p.0 p.1) a b p.2
+    (subst (λ (j : Job). IsAnswerOf bytes j b) same q.2)
 
 same_kind : (bytes : List ℕ) (a b : Option Refusal) → Kind bytes a → Kind bytes b → a ≡ b
 same_kind bytes a b (Long l e) (Long m f) = e ∙ sym f
@@ -139,10 +151,13 @@ same_kind bytes a b (Wrong line why h e) (Long l f) = absurd (long_or_short byte
 same_kind bytes a b (Wrong line why h e) (Wrong other reason k f) =
     let one = one_first (job_part bytes) line other why reason h.first k.first in
     e ∙ (λ i. Some (BadLine (one.0 i) (one.1 i))) ∙ sym f
-same_kind bytes a b (Wrong line why h e) (Judged j) = absurd (apart (job_part bytes) j.0 line why j.1.is_job h.first)
+same_kind bytes a b (Wrong line why h e) (Judged j) =
+    absurd (apart (job_part bytes) j.0 line why j.1.is_job h.first)
 same_kind bytes a b (Judged j) (Long l f) = absurd (long_or_short bytes l j.1.short)
-same_kind bytes a b (Judged j) (Wrong line why h f) = absurd (apart (job_part bytes) j.0 line why j.1.is_job h.first)
+same_kind bytes a b (Judged j) (Wrong line why h f) =
+    absurd (apart (job_part bytes) j.0 line why j.1.is_job h.first)
 same_kind bytes a b (Judged j) (Judged k) = of_one_job bytes a b j k
 
-pub one_answer : (bytes : List ℕ) (a b : Option Refusal) → IsAnswerTo bytes a → IsAnswerTo bytes b → a ≡ b
+pub one_answer : (bytes : List ℕ) (a b : Option Refusal) → IsAnswerTo bytes a → IsAnswerTo bytes b
+    → a ≡ b
 one_answer bytes a b p q = same_kind bytes a b (kind_of bytes a p) (kind_of bytes b q)

@@ -84,11 +84,14 @@ IsReadThrough bytes left_now =
 
 -- the answer is that to the bytes that the source told, and they were read
 abbrev pub IsAnswered : Option Refusal → Option (List ℕ) → Option (List ℕ) → Type 0
-IsAnswered a left left_now = IfSome left (λ bytes. IsAnswerTo bytes a × IsReadThrough bytes left_now)
+IsAnswered a left left_now =
+    IfSome left (λ bytes. IsAnswerTo bytes a × IsReadThrough bytes left_now)
 
--- what caused an answer, by the words, and by what the source had left and its count of faults before and now
-abbrev pub IsCause : List (List ℕ) → Option (List ℕ) → Option (List ℕ) → ℕ → ℕ → Option Refusal → Type 0
-IsCause words left left_now before now (Some Usage) = (words ≢ []) × (left_now ≡ left) × (now ≡ before)
+-- what caused an answer: the words, or what the source had left and its count of faults before and now
+abbrev pub IsCause :
+    List (List ℕ) → Option (List ℕ) → Option (List ℕ) → ℕ → ℕ → Option Refusal → Type 0
+IsCause words left left_now before now (Some Usage) =
+    (words ≢ []) × (left_now ≡ left) × (now ≡ before)
 IsCause words left left_now before now (Some ReadFault) = (words ≡ []) × Rose before now
 IsCause words left left_now before now (Some OutOfMemory) =
     (words ≡ []) × TookAtMost (check_limit + 1) left left_now × (now ≡ before)

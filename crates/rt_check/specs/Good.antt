@@ -14,7 +14,8 @@ pub record IsGood
   pub text : line ≡ item_text (starts_in past) i
 
 -- after these items the line is good as the last: no command is left, and the line has the totals
-pub record IsLast (traces : List (List Command)) (past : List HistoryItem) (line : List ℕ) : Type 0 where
+pub record IsLast
+    (traces : List (List Command)) (past : List HistoryItem) (line : List ℕ) : Type 0 where
   pub begun : past ≢ []
   pub no_command : (t : ℕ) → left_of traces past t ≡ []
   pub text : line ≡ end_text past
@@ -24,16 +25,18 @@ abbrev pub AreGood : Config → ℕ → List (List Command) → List HistoryItem
 AreGood c rate traces past [] = ⊥
 AreGood c rate traces past (l ∷ ls) =
     (IsLast traces past l × (ls ≡ []))
-    ⊎ ((i : HistoryItem) × IsGood c rate traces past l i × AreGood c rate traces (past ++ i ∷ []) ls)
+    ⊎ ((i : HistoryItem) × IsGood c rate traces past l i
+    × AreGood c rate traces (past ++ i ∷ []) ls)
 
--- The line is neither.
+-- the line is good in neither way
 abbrev pub IsBad : Config → ℕ → List (List Command) → List HistoryItem → List ℕ → Type 0
 IsBad c rate traces past l =
     (IsLast traces past l → ⊥) × ((i : HistoryItem) → IsGood c rate traces past l i → ⊥)
 
 -- After these items the n-th line, counted from 1, is the first that is not good. Behind the line of
--- the totals none is good. Where all are good and none is that line, n is one more than there are.
-abbrev pub FirstBad : Config → ℕ → List (List Command) → List HistoryItem → List (List ℕ) → ℕ → Type 0
+-- the totals none is. Where all are good and none is that line, n is one more than there are.
+abbrev pub FirstBad :
+    Config → ℕ → List (List Command) → List HistoryItem → List (List ℕ) → ℕ → Type 0
 FirstBad c rate traces past [] n = n ≡ 1
 FirstBad c rate traces past (l ∷ ls) n =
     ((n ≡ 1) × IsBad c rate traces past l)

@@ -18,7 +18,8 @@ check_limit = 67108864
 -- how many bytes the lines up to and with the first that is `end` have, each with a line feed
 abbrev pub job_length : List (List ℕ) → ℕ
 job_length [] = 0
-job_length (l ∷ ls) = if bytes_eq l (codes "end") then length l + 1 else (length l + 1) + job_length ls
+job_length (l ∷ ls) =
+    if bytes_eq l (codes "end") then length l + 1 else (length l + 1) + job_length ls
 
 -- the bytes of the job are those; all bytes, where no line is `end`
 abbrev pub job_part : List ℕ → List ℕ

@@ -15,8 +15,8 @@ use Rattle.rt_check.specs.declared.follower.Verdict.{Verdict}
 use Rattle.rt_check.specs.declared.follower.Verdict.TheVariants.{Good, Last, Bad}
 use Rattle.rt_check.specs.Good.{IsGood, IsLast, IsBad}
 
--- The follower has the graph that the items leave, how many entries each thread has, how many blocks were
--- live at each start, and the sum of the works.
+-- The follower has the graph that the items leave, how many entries each thread has, how many blocks
+-- were live at each start, and the sum of the works.
 pub record Stands (c : Config) (past : List HistoryItem) (f : Follower) : Type 0 where
   pub width : f.graph.width ≡ c.width
   pub graph : f.graph.graph ≡ replay c past
@@ -26,7 +26,8 @@ pub record Stands (c : Config) (past : List HistoryItem) (f : Follower) : Type 0
   pub made : (t : ℕ) → count_of f.graph.graph t ≤ length (part t past)
   pub starts : length f.live.items ≡ starts_in past
   pub begun : past ≢ [] → 1 ≤ starts_in past
-  pub live : (z : ℕ) → z < starts_in past → slice_index_or f.live.items z 0 ≡ live_blocks c.width (graph_at c past (z + 1))
+  pub live : (z : ℕ) → z < starts_in past
+      → slice_index_or f.live.items z 0 ≡ live_blocks c.width (graph_at c past (z + 1))
   pub work : f.work ≡ work_in past
   pub small : f.work ≤ length past * 2 ^ 32
 
@@ -57,8 +58,8 @@ abbrev pub HasNext : List (List Command) → Follower → ℕ → Command → Ty
 HasNext traces f t command =
     (rest : List Command) × (rest_of traces f.done.items t ≡ command ∷ rest)
 
--- a full is licensed here: the command makes an object, and at the start of the cycle before the present
--- one, or of the first, more blocks were live than may be
+-- a full is licensed here: the command makes an object, and at the start of the cycle before the
+-- present one, or of the first, more blocks were live than may be
 abbrev pub IsFullHere : Config → Follower → Command → Type 0
 IsFullHere c f command =
     (makes_object command ≡ true)
@@ -80,6 +81,7 @@ pub record CanCount (f : Follower) (e : Entry) : Type 0 where
 -- the entry was counted, and the graph is this
 pub record Counted (old new : Follower) (graph : WideGraph) (e : Entry) : Type 0 where
   pub graph_is : new.graph ≡ graph
-  pub done : new.done.items ≡ slice_set old.done.items e.thread (slice_index_or old.done.items e.thread 0 + 1)
+  pub done : new.done.items
+      ≡ slice_set old.done.items e.thread (slice_index_or old.done.items e.thread 0 + 1)
   pub live : new.live.items ≡ old.live.items
   pub work : new.work ≡ old.work + e.work

@@ -7,7 +7,8 @@ ghost use Rattle.never_heap.specs.Graphs.{count_of};
 ghost use Rattle.trace_text.specs.Jobs.{IsJobInBounds};
 ghost use Rattle.trace_text.specs.Lines.{line_feed};
 ghost use Rattle.trace_text.specs.Orders.{entry_text};
-ghost use Rattle.rt_check.specs.Standing.{Stands, Says, HasFollowed, HasNext, Begins, CanCount, Counted, IsFullHere, entry_here, graph_here, rest_of};
+ghost use Rattle.rt_check.specs.Standing.{Stands, Says, HasFollowed, HasNext, Begins, CanCount};
+ghost use Rattle.rt_check.specs.Standing.{Counted, IsFullHere, entry_here, graph_here, rest_of};
 
 use block_store::{Config, OutOfMemory};
 use never_heap::{Command, Entry, Graph, Reply};
@@ -184,7 +185,8 @@ impl Follower {
         Ok(Verdict::Bad)
     }
 
-    // Whether a line is this entry, which is answered full, and it may be; then the entry is counted.
+    // Whether a line is this entry, which is answered full, and it may be so answered; then the
+    // entry is counted.
     fn takes_full(
         &mut self,
         config: &Config,
@@ -195,9 +197,11 @@ impl Follower {
         requires begun { 1 ≤ length self.old.live.items }
         requires room { CanCount self.old entry.now }
         ensures taken { result ≡ true → IsFullHere config.now self.old entry.now.command
-            × (line.now ≡ entry_text entry.now) × Counted self.old self.new self.old.graph entry.now }
+            × (line.now ≡ entry_text entry.now)
+            × Counted self.old self.new self.old.graph entry.now }
         ensures left { result ≡ false → (self.new ≡ self.old)
-            × (IsFullHere config.now self.old entry.now.command → line.now ≡ entry_text entry.now → ⊥) }
+            × (IsFullHere config.now self.old entry.now.command
+            → line.now ≡ entry_text entry.now → ⊥) }
     {
         if !self.may_be_full(config, &entry.command) || !is_entry(entry, line, buffer) {
             return false;
@@ -217,7 +221,8 @@ impl Follower {
         requires command { IsCommandInRange entry.now.command }
         requires made { count_of self.old.graph.graph entry.now.thread < 131072 }
         requires room { CanCount self.old entry.now }
-        ensures taken { IfOk result (λ b. b ≡ true → (line.now ≡ entry_text (entry_here self.old entry.now))
+        ensures taken { IfOk result (λ b. b ≡ true
+            → (line.now ≡ entry_text (entry_here self.old entry.now))
             × Counted self.old self.new (graph_here self.old entry.now) entry.now) }
         ensures left { IfOk result (λ b. b ≡ false
             → line.now ≡ entry_text (entry_here self.old entry.now) → ⊥) }
@@ -238,8 +243,8 @@ impl Follower {
         (self.live.len() as u64).saturating_sub(1).max(1)
     }
 
-    // Whether a command may be answered full here: it makes an object, and more blocks than may be were
-    // live at the start of the cycle that the full names.
+    // Whether a command may be answered full here: it makes an object, and more blocks than may be
+    // were live at the start of the cycle that the full names.
     fn may_be_full(&self, config: &Config, command: &Command) -> bool
         requires { 1 ≤ length self.now.live.items }
         ensures { result ≡ true ↔ IsFullHere config.now self.now command.now }
@@ -268,7 +273,8 @@ fn is_entry(entry: &Entry, line: &[u8], buffer: &mut LineBuffer) -> bool
 
 // Whether a line is the one in the buffer, which has a line feed.
 fn is_line(buffer: &LineBuffer, line: &[u8]) -> bool
-    ensures { (text : List ℕ) → buffer.now ≡ text ++ line_feed ∷ [] → (result ≡ true ↔ (line.now ≡ text)) }
+    ensures { (text : List ℕ) → buffer.now ≡ text ++ line_feed ∷ []
+        → (result ≡ true ↔ (line.now ≡ text)) }
 {
     let made = buffer.bytes();
     made.len() == line.len() + 1 && &made[..line.len()] == line

@@ -10,9 +10,9 @@ ghost use Rattle.rt_check.specs.declared.refusal.Refusal.{Refusal};
 ghost use Rattle.rt_check.specs.Answers.{IsAnswerTo};
 ghost use Rattle.rt_check.specs.Good.{IsGood, AreGood, FirstBad};
 
-/// The lines that are good to the end are those of a run in order. With at most 16 threads, as a job
-/// has, a line is good as one item at most, lines are good to the end or one of them is the first that is not, never both, and there is one
-/// such line at most.
+/// The lines that are good to the end are those of a run in order. With at most 16 threads, as a
+/// job has, a line is good as one item at most, lines are good to the end or one of them is the first
+/// that is not, never both, and there is one such line at most.
 pub fn good_orders_are_runs()
     ensures runs { (c : Config) (rate : ℕ) (traces : List (List Command)) (lines : List (List ℕ))
         → AreGood c rate traces [] lines
@@ -20,10 +20,12 @@ pub fn good_orders_are_runs()
     ensures one { (c : Config) (rate : ℕ) (traces : List (List Command)) (past : List HistoryItem)
         (line : List ℕ) (i j : HistoryItem) → length traces ≤ 16
         → IsGood c rate traces past line i → IsGood c rate traces past line j → i ≡ j }
-    ensures apart { (c : Config) (rate : ℕ) (traces : List (List Command)) (lines : List (List ℕ)) (n : ℕ)
-        → length traces ≤ 16 → AreGood c rate traces [] lines → FirstBad c rate traces [] lines n → ⊥ }
-    ensures first { (c : Config) (rate : ℕ) (traces : List (List Command)) (lines : List (List ℕ)) (m n : ℕ)
-        → length traces ≤ 16 → FirstBad c rate traces [] lines m → FirstBad c rate traces [] lines n → m ≡ n }
+    ensures apart { (c : Config) (rate : ℕ) (traces : List (List Command)) (lines : List (List ℕ))
+        (n : ℕ) → length traces ≤ 16
+        → AreGood c rate traces [] lines → FirstBad c rate traces [] lines n → ⊥ }
+    ensures first { (c : Config) (rate : ℕ) (traces : List (List Command)) (lines : List (List ℕ))
+        (m n : ℕ) → length traces ≤ 16
+        → FirstBad c rate traces [] lines m → FirstBad c rate traces [] lines n → m ≡ n }
 {}
 
 /// Bytes have one answer at most.

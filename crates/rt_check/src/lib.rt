@@ -6,6 +6,8 @@ mod input;
 mod laws;
 mod lines;
 mod refusal;
+#[cfg(test)]
+mod tests;
 mod top;
 
 pub use laws::{answers_are_one, good_orders_are_runs};

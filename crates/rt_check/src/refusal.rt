@@ -2,8 +2,8 @@
 
 ghost use Rattle.std.specs.Prelude.{◌≡◌, ◌≤◌, ◌++◌, length, Option};
 ghost use Rattle.rt_check.specs.declared.refusal.Refusal.TheVariants as refusals;
-ghost use Rattle.rt_check.specs.Answers.{refusal_status, refusal_text, status_of, answer_line, answer_text, refusal_of, refusal_of_plan};
-ghost use Rattle.trace_text.specs.Reasons.{reason_text};
+ghost use Rattle.rt_check.specs.Answers.{refusal_status, refusal_text, status_of, answer_line};
+ghost use Rattle.rt_check.specs.Answers.{answer_text, refusal_of, refusal_of_plan};
 
 use block_store::OutOfMemory;
 use rate_plan::PlanFault;
@@ -54,7 +54,7 @@ impl Refusal {
             Refusal::Usage => line.prepend(b"usage"),
             Refusal::TooLong => line.prepend(b"input too long"),
             Refusal::BadLine { line: number, why } => {
-                line.prepend(why_bytes(why));
+                line.prepend(why.text().as_bytes());
                 line.prepend(b": ");
                 line.prepend_number(number);
                 line.prepend(b"line ");
@@ -93,23 +93,6 @@ pub(crate) fn status_of(answer: Option<Refusal>) -> u8
     match answer {
         None => 0,
         Some(refusal) => refusal.status(),
-    }
-}
-
-/// The reason as it is written.
-fn why_bytes(why: Why) -> &'static [u8]
-    ensures text { result.now ≡ reason_text why }
-    ensures length { length result.now ≤ 8 }
-{
-    match why {
-        Why::Header => b"header",
-        Why::Word => b"word",
-        Why::Number => b"number",
-        Why::Count => b"count",
-        Why::Register => b"register",
-        Why::Size => b"size",
-        Why::Order => b"order",
-        Why::End => b"end",
     }
 }
 

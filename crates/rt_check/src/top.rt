@@ -1,14 +1,11 @@
 //! The top call.
 
-ghost use Rattle.std.specs.Prelude.{◌≡◌, ◌≢◌, ◌<◌, ◌≤◌, ◌⊎◌, ◌↔◌, ℕ, List, [], length, map, string_bytes, Option, Some, None, IfSome, OnOk, IfErr, MatchResult};
-ghost use Rattle.rate_plan.specs.declared.PlanFault.{PlanFault};
-ghost use Rattle.rate_plan.specs.Rates.{IsRefusal};
-ghost use Rattle.trace_text.specs.Jobs.{Job};
-ghost use Rattle.trace_text.specs.declared.trace_faults.Why as whys;
+ghost use Rattle.std.specs.Prelude.{◌≡◌, ◌≢◌, ◌<◌, ◌≤◌, ◌⊎◌, ◌↔◌, [], length, map, string_bytes};
+ghost use Rattle.std.specs.Prelude.{Option, IfSome};
 ghost use Rattle.trace_text.specs.Faults.{Rose};
 ghost use Rattle.trace_text.specs.Streams.{Appends, AppendsFront};
-ghost use Rattle.rt_check.specs.Answers.{IsAnswer, IsAnswerTo, IsCause, IsDue, IsDueOrFails, answer_line, status_of, IsJudged, refused_by};
-ghost use Rattle.rt_check.specs.Inputs.{IsTooLong, HasBadLine, HasJob, IsOrderOf, IsBadAt};
+ghost use Rattle.rt_check.specs.Answers.{IsAnswer, IsAnswerTo, IsCause, IsDue, IsDueOrFails};
+ghost use Rattle.rt_check.specs.Answers.{answer_line, status_of, IsJudged, refused_by};
 
 use crate::input::parted;
 use crate::lines::first_bad;
@@ -32,9 +29,10 @@ pub struct CheckExit {
     pub due: u8,
 }
 
-/// Checks an order, such as a run prints, against the heap that never frees. The source gives a job's
-/// text and, behind its line `end`, the lines of the order; one line is written that says whether the
-/// order is accepted. Words are refused with the line `rt_check: usage`.
+/// Checks an order against a heap that never frees. The source gives a job's text and, behind its
+/// line `end`, the lines of the order; one line is written that says whether the order is that of a
+/// run of the job, or which of its lines is the first that is not good. Words are refused with the
+/// line `rt_check: usage`.
 pub fn check<S: Source, K: Sink>(
     alloc: Global,
     words: &[String],
@@ -42,8 +40,9 @@ pub fn check<S: Source, K: Sink>(
     sink: &mut K,
 ) -> CheckExit
     // The answer, its cause and its line; and there is no other status.
-    ensures answered { IsAnswer (map (λ w. string_bytes w) words.now) (S.left source.old) (S.left source.new)
-        (K.held sink.old) (K.held sink.new) (S.faults source.old) (S.faults source.new) result.status result.due }
+    ensures answered { IsAnswer (map (λ w. string_bytes w) words.now)
+        (S.left source.old) (S.left source.new) (K.held sink.old) (K.held sink.new)
+        (S.faults source.old) (S.faults source.new) result.status result.due }
     ensures any_due { IsDue result.due }
     ensures any_status { (result.status ≡ result.due) ⊎ (result.status ≡ 6) }
     ensures usage { (result.due ≡ 2) ↔ (map (λ w. string_bytes w) words.now ≢ []) }
@@ -54,9 +53,10 @@ pub fn check<S: Source, K: Sink>(
     ensures write_fault { result.status ≡ 6 → Rose (K.faults sink.old) (K.faults sink.new) }
     ensures write_fault_told { K.faults sink.old < K.faults sink.new → result.status ≡ 6 }
 
-    // Bytes that are known have one answer, unless the source fails or the answer is want of memory.
+    // Known bytes get the answer that they have, unless the source fails or it is want of memory.
     ensures complete { map (λ w. string_bytes w) words.now ≡ []
-        → IfSome (S.left source.old) (λ bytes. (a : Option Refusal) → IsAnswerTo bytes a → IsDueOrFails (status_of a) result.due) }
+        → IfSome (S.left source.old) (λ bytes. (a : Option Refusal) → IsAnswerTo bytes a
+        → IsDueOrFails (status_of a) result.due) }
 {
     let answer = answer_of(alloc, words, source);
     told(answer, sink)
@@ -75,7 +75,8 @@ fn answer_of<S: Source>(alloc: Global, words: &[String], source: &mut S) -> Opti
 
 /// Reads the input and looks at it.
 fn judged<S: Source>(alloc: Global, source: &mut S) -> Result<(), Refusal>
-    ensures { IsCause [] (S.left source.old) (S.left source.new) (S.faults source.old) (S.faults source.new) (refused_by result) }
+    ensures { IsCause [] (S.left source.old) (S.left source.new)
+        (S.faults source.old) (S.faults source.new) (refused_by result) }
 {
     let input = input_of(alloc, source, CHECK_LIMIT)?;
     if input.len() > CHECK_LIMIT {
@@ -106,8 +107,10 @@ fn judged_bytes(alloc: Global, input: &[u8]) -> Result<(), Refusal>
 fn told<K: Sink>(answer: Option<Refusal>, sink: &mut K) -> CheckExit
     ensures due { result.due ≡ status_of answer }
     ensures status { (result.status ≡ result.due) ⊎ (result.status ≡ 6) }
-    ensures line { result.status ≢ 6 → Appends (K.held sink.old) (K.held sink.new) (answer_line answer) }
-    ensures front { result.status ≡ 6 → AppendsFront (K.held sink.old) (K.held sink.new) (answer_line answer) }
+    ensures line { result.status ≢ 6
+        → Appends (K.held sink.old) (K.held sink.new) (answer_line answer) }
+    ensures front { result.status ≡ 6
+        → AppendsFront (K.held sink.old) (K.held sink.new) (answer_line answer) }
     ensures still { result.status ≢ 6 → K.faults sink.new ≡ K.faults sink.old }
     ensures rose { result.status ≡ 6 → Rose (K.faults sink.old) (K.faults sink.new) }
 {

@@ -1,9 +1,8 @@
--- The text of a history in order: a line for each item, and the totals.
+-- The text of a history in order: a line for each item, and one of the totals.
 use Rattle.std.specs.Prelude.{ℕ, ◌+◌, List, [], ◌∷◌, ◌++◌, codes, decimal}
-use Rattle.std.specs.List.{flat_map}
 use Rattle.never_heap.specs.declared.Entry.{Entry}
 use Rattle.never_heap.specs.Histories.{HistoryItem, Started, Did, starts_in, work_in}
-use Rattle.trace_text.specs.Lines.{line_feed, space}
+use Rattle.trace_text.specs.Lines.{space}
 use Rattle.trace_text.specs.Texts.{reply_text}
 
 -- an entry's line, without its line feed
@@ -25,10 +24,6 @@ lines_from starts [] = []
 lines_from starts (Started ∷ h) = item_text starts Started ∷ lines_from (starts + 1) h
 lines_from starts (Did e ∷ h) = item_text starts (Did e) ∷ lines_from starts h
 
--- the lines of a history in order
+-- the text of a history in order, as lines
 abbrev pub order_lines : List HistoryItem → List (List ℕ)
 order_lines h = lines_from 0 h ++ end_text h ∷ []
-
--- its text in order
-abbrev pub text_in_order : List HistoryItem → List ℕ
-text_in_order h = flat_map (λ (l : List ℕ). l ++ line_feed ∷ []) (order_lines h)

@@ -20,12 +20,17 @@ returns-in-None c =
     let job = c.in_ok-job.job in
     let rate = c.in_ok-rate.rate in
     let same = ap (λ (j : Job). j.config) c.job.view_is in
-    let found = subst (IsFound job.config rate job.traces (lines_of c.parted.result.1.now)) c.in-None.is c.in_ok-first_bad.ensures in
+    let found = subst (IsFound job.config rate job.traces
+    (lines_of c.parted.result.1.now)) c.in-None.is c.in_ok-first_bad.ensures in
     let run = to_run job.config rate job.traces (lines_of c.parted.result.1.now) found in
     inl (
       job,
       record {
-        short = record { whole = c.requires; job = subst (λ (b : List ℕ). length b ≤ 16777216) c.parted.ensures.job c.if-job-gt-INPUT_LIMIT.false };
+        short = record {
+          whole = c.requires;
+          job = subst
+              (λ (b : List ℕ). length b ≤ 16777216) c.parted.ensures.job c.if-job-gt-INPUT_LIMIT.false;
+        };
         is_job = subst (λ (b : List ℕ). IsJob b job) c.parted.ensures.job c.in_ok-job.ensures;
       },
       record {
