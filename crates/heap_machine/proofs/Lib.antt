@@ -11,3 +11,6 @@ pub mod Held
 pub mod Tricolours
 pub mod Solids
 pub mod Keeping
+pub mod FreeBlocks
+pub mod Sweeping
+pub mod Reusing

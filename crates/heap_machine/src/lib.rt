@@ -8,6 +8,7 @@ mod gate;
 mod laws;
 mod op;
 mod pass;
+mod reuse;
 #[cfg(test)]
 mod tests;
 mod turnover;
@@ -23,6 +24,10 @@ pub use laws::{
 };
 pub use op::Op;
 pub use pass::Pass;
+pub use reuse::{
+    free_blocks_stand_once, sweep_claims_do_not_overlap, what_keeps_free_blocks, what_keeps_reuse,
+    what_keeps_the_sweep,
+};
 pub use words::Words;
 
 /// What an event was to the part of a thread's work that made it.
