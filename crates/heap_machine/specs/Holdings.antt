@@ -1,17 +1,20 @@
--- What a thread holds before its next event, in one record; each rule on the heap reads its part of it.
+-- What a thread holds before its next event, in one record; each rule on the heap reads its part
+-- of it.
 use Rattle.std.specs.Prelude.{ℕ, Bool, false, List, [], Option, Some, None}
 use Rattle.heap_machine.specs.FreeBlocks.{FreeHolding}
 use Rattle.heap_machine.specs.Grey.{GreyHolding}
 use Rattle.heap_machine.specs.Sweeping.{SweepHolding}
 use Rattle.heap_machine.specs.Tricolour.{TricolourHolding}
 
--- the first block of the list in its hand, or 0; the block that it scans, and how many of its payloads are dealt with; the block that it has found in the next
--- one and not yet shaded, or 0; whether it knows its own list to be empty; and the block whose barrier is over, so that a reference to it may be stored, or 0.
--- Then of the Free blocks: the first block of the free list in its hand, or 0; whether it knows its
--- own free list to be empty; the blocks that it has collected to build with and not yet coloured;
--- how many it has reserved and not yet coloured; and how many it has freed and not yet credited.
--- And of the sweep: the blocks from low on below high, which it has claimed and not yet passed; and
--- the one of them that it is about to free, or 0
+-- the first block of the list in its hand, or 0; the block that it scans, and how many of its
+-- payloads are dealt with; the block that it has found in the next one and not yet shaded, or 0;
+-- whether it knows its own list to be empty; and the block whose barrier is over, so that a
+-- reference to it may be stored, or 0. Then of the Free blocks: the first block of the free list
+-- in its hand, or 0; whether it knows its own free list to be empty; the blocks that it has
+-- collected to build with and not yet coloured; how many it has reserved and not yet coloured;
+-- and how many it has freed and not yet credited. And of the sweep: the blocks from low on below
+-- high, which it has claimed and not yet passed; and the one of them that it is about to free, or
+-- 0
 pub record Holding : Type 0 where
   pub hand : ℕ
   pub scan : Option ℕ

@@ -6,6 +6,8 @@
 mod laws;
 mod pass;
 mod rows;
+#[cfg(test)]
+mod tests;
 
 pub use laws::{
     a_unit_is_a_passed_block, only_white_blocks_are_freed, passed_blocks_are_those_claimed,
