@@ -14,3 +14,5 @@ pub mod Keeping
 pub mod FreeBlocks
 pub mod Sweeping
 pub mod Reusing
+pub mod GateReuse
+pub mod Opening

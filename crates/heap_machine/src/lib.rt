@@ -25,8 +25,8 @@ pub use laws::{
 pub use op::Op;
 pub use pass::Pass;
 pub use reuse::{
-    free_blocks_stand_once, sweep_claims_do_not_overlap, what_keeps_free_blocks, what_keeps_reuse,
-    what_keeps_the_sweep,
+    free_blocks_stand_at_the_opening, free_blocks_stand_once, gate_rows_keep_reuse,
+    sweep_claims_do_not_overlap, what_keeps_free_blocks, what_keeps_reuse, what_keeps_the_sweep,
 };
 pub use words::Words;
 

@@ -4,14 +4,19 @@
 ghost use Rattle.std.specs.Prelude.{◌≡◌, ◌≢◌, ◌<◌, ◌≤◌, ◌+◌, ◌==◌, ◌&&◌, ℕ, suc, Bool, List, length, true, false};
 ghost use Rattle.block_store.specs.Places.{Extent, Phase, Cursor, FreeCount, FreeList, ColourOf, is_block};
 ghost use Rattle.block_store.specs.Colours.{link, is_free, free_word, white_word};
-ghost use Rattle.block_store.specs.Phases.{bit, is_sweep, cycle_of};
+ghost use Rattle.block_store.specs.Phases.{bit, inside_of, is_sweep, cycle_of};
 ghost use Rattle.block_store.specs.Heaps.{Heap, put_at};
 ghost use Rattle.heap_machine.specs.Operations.{Operation, place_of, heap_after};
 ghost use Rattle.heap_machine.specs.Counts.{changed, times, total};
-ghost use Rattle.heap_machine.specs.FreeBlocks.{FreeHolding, FreeKept, count_free, is_of_free};
+ghost use Rattle.heap_machine.specs.FreeBlocks.{FreeHolding, no_free, FreeFrom, FreeKept, count_free, is_of_free};
 ghost use Rattle.heap_machine.specs.Sweeping.{SweepHolding, no_claim, rest_of, has_claimed, claims, SweepKept, is_of_sweep};
 ghost use Rattle.heap_machine.specs.Holdings.{Holding, free_held, sweep_held};
 ghost use Rattle.heap_machine.specs.ReuseKept.{ReuseKept, is_of_reuse};
+ghost use Rattle.heap_machine.specs.Gates.{gate_want, GateFits};
+ghost use Rattle.heap_machine.specs.Gating.{Gating, GateOf, is_closing};
+ghost use Rattle.heap_machine.specs.Turning.{turns_over, turning_gating};
+ghost use Rattle.heap_machine.specs.declared.gate.GateRow.{GateRow};
+ghost use Rattle.heap_machine.specs.declared.pass.Pass.{Pass};
 
 /// Each Free block of the heap stands in one place: in the chain of one free list, in the chain
 /// of the hand of one thread, or among the blocks that one thread has collected and not yet
@@ -54,6 +59,12 @@ pub fn free_blocks_stand_once()
     ensures empty { (e : Extent) (h : Heap) (fs : ℕ → FreeHolding) → FreeKept e h fs → (t : ℕ)
         → t < e.threads
         → (fs t).emptied ≡ true → h (FreeList t) ≡ 0 }
+{}
+
+/// So it is in a heap that nobody has used yet: its last blocks are Free, in one ascending list.
+pub fn free_blocks_stand_at_the_opening()
+    ensures { (e : Extent) (h : Heap) (fs : ℕ → FreeHolding) (a : ℕ) → FreeFrom e h a
+        → ((t : ℕ) → t < e.threads → fs t ≡ no_free) → FreeKept e h fs }
 {}
 
 /// What keeps that each Free block stands in one place and is counted, while the other threads
@@ -165,11 +176,15 @@ pub fn what_keeps_the_sweep()
         → ((t : ℕ) → t < e.threads → cs t ≡ no_claim) → is_sweep (h Phase) ≡ false
         → (1 ≤ v) × (v ≤ e.blocks + 1)
         → SweepKept e (put_at h Cursor v) cs }
+    ensures begins { (e : Extent) (h : Heap) (cs : ℕ → SweepHolding)
+        → ((t : ℕ) → t < e.threads → cs t ≡ no_claim) → is_sweep (h Phase) ≡ false
+        → (1 ≤ h Cursor) × (h Cursor ≤ e.blocks + 1)
+        → SweepKept e h cs }
     ensures claims { (e : Extent) (h : Heap) (cs : ℕ → SweepHolding) → SweepKept e h cs
         → (t : ℕ) → t < e.threads → (old : SweepHolding) → cs t ≡ old
         → (high : ℕ) → h Cursor < high → high ≤ e.blocks + 1 → old ≡ no_claim
         → SweepKept e (put_at h Cursor high)
-            (changed cs t (record { low = h Cursor; high = high; doomed = 0 })) }
+        (changed cs t (record { low = h Cursor; high = high; doomed = 0 })) }
     ensures dooms { (e : Extent) (h : Heap) (cs : ℕ → SweepHolding) → SweepKept e h cs
         → (t : ℕ) → t < e.threads → (old : SweepHolding) → cs t ≡ old
         → (x : ℕ) → is_sweep (h Phase) ≡ true → old.low ≤ x → x < old.high
@@ -215,4 +230,21 @@ pub fn what_keeps_reuse()
         → (v : ℕ) → ((t : ℕ) → t < e.threads → sweep_held (hs t) ≡ no_claim)
         → is_sweep (h Phase) ≡ false → (1 ≤ v) × (v ≤ e.blocks + 1)
         → ReuseKept e (put_at h Cursor v) hs }
+{}
+
+/// The events of the gate keep both rules: to go in and out, where the phase word counts a thread
+/// inside; and to close the gate and turn the phase over, where nothing is claimed while it is
+/// closed, and the cursor is at the first block before the flip.
+pub fn gate_rows_keep_reuse()
+    ensures passes { (e : Extent) (h : Heap) (hs : ℕ → Holding) → ReuseKept e h hs
+        → (r : GateRow) → turns_over r ≡ false → GateFits r
+        → (r ≡ GateRow.Leave → 1 ≤ inside_of (h Phase))
+        → ReuseKept e (heap_after h (gate_want r)) hs }
+    ensures turns { (e : Extent) (h : Heap) (hs : ℕ → Holding) → ReuseKept e h hs
+        → (gs : ℕ → Gating) → GateOf e.threads (h Phase) gs → (t : ℕ) → t < e.threads
+        → (r : GateRow) → turns_over r ≡ true → GateFits r → gs t ≡ turning_gating r
+        → (is_closing (turning_gating r).stand ≡ true
+        → (u : ℕ) → u < e.threads → sweep_held (hs u) ≡ no_claim)
+        → ((p : Pass) → r ≡ GateRow.Flip p → h Cursor ≡ 1)
+        → ReuseKept e (heap_after h (gate_want r)) hs }
 {}

@@ -1,51 +1,13 @@
 -- Which block is freed, and what the events of the sweep leave as it was.
-use Rattle.std.proofs.Common.{
-  ◌≡◌,
-  ℕ,
-  ◌<◌,
-  ◌≤◌,
-  ◌+◌,
-  ◌⊎◌,
-  ⊎_elim,
-  true,
-  false,
-  is_some,
-  refl,
-  arith,
-  subst,
-  sym,
-  ap,
-  ◌∙◌,
-  inl,
-  inr,
-  eqb,
-  eq-eqb,
-  ne_eqb,
-}
+use Rattle.std.proofs.Common.{◌≡◌, ℕ, ◌<◌, ◌≤◌, ◌+◌, ◌⊎◌, ⊎_elim, true, false, is_some, refl, arith, subst, sym, ap, ◌∙◌, inl, inr, eqb, eq-eqb, ne_eqb}
 use Rattle.std.proofs.lemmas.Bool.{cases_Bool, cases_eq}
 use Rattle.block_store.specs.declared.Config.{Config}
 use Rattle.block_store.specs.declared.Colour.TheVariants.{Free}
 use Rattle.block_store.specs.Colours.{is_free, is_grey, white_word, free_word}
-use Rattle.block_store.proofs.ColourWords.{
-  colour-code,
-  link-free,
-  not_grey_white,
-  not_grey_free,
-  free_free,
-}
+use Rattle.block_store.proofs.ColourWords.{colour-code, link-free, not_grey_white, not_grey_free, free_free}
 use Rattle.block_store.specs.Heaps.{Heap, put_at}
 use Rattle.block_store.specs.Phases.{is_sweep, cycle_of}
-use Rattle.block_store.specs.Places.{
-  Extent,
-  extent,
-  Place,
-  Phase,
-  Cursor,
-  FreeCount,
-  FreeList,
-  ColourOf,
-  same_place,
-}
+use Rattle.block_store.specs.Places.{Extent, extent, Place, Phase, Cursor, FreeCount, FreeList, ColourOf, same_place}
 use Rattle.block_store.proofs.Indexes.{one_place}
 use Rattle.heap_machine.specs.Counts.{changed}
 use Rattle.heap_machine.specs.Grey.{GreyHolding, no_grey, GreyKept}
@@ -59,17 +21,7 @@ use Rattle.heap_machine.proofs.GreyEvents.{stays}
 use Rattle.heap_machine.proofs.Held.{held_put, held_after}
 use Rattle.heap_machine.proofs.Keeping.{part_changed}
 use Rattle.sweep_steps.specs.declared.rows.SweepRow.{SweepRow}
-use Rattle.sweep_steps.specs.declared.rows.SweepRow.TheVariants.{
-  ReadCursor,
-  ClaimRange,
-  PassBlock,
-  TakeFree,
-  FreeBlock,
-  PutFree,
-  Credit,
-  Swept,
-  NothingLeft,
-}
+use Rattle.sweep_steps.specs.declared.rows.SweepRow.TheVariants.{ReadCursor, ClaimRange, PassBlock, TakeFree, FreeBlock, PutFree, Credit, Swept, NothingLeft}
 use Rattle.sweep_steps.specs.Rows.{SweepState, row_want, sweep_want, sweep_got, sweep_holding}
 use Rattle.sweep_steps.specs.Ends.{is_freeing, is_unswept}
 use Rattle.sweep_steps.specs.Fits.{RowFits, SweepFits, IsSweeping}

@@ -1,82 +1,13 @@
 -- Which events are units, and which blocks a part claims and passes.
-use Rattle.std.proofs.Common.{
-  ◌≡◌,
-  ℕ,
-  suc,
-  ◌<◌,
-  ◌≤◌,
-  ◌+◌,
-  ◌-◌,
-  ◌||◌,
-  ◌++◌,
-  Bool,
-  true,
-  false,
-  is_some,
-  List,
-  [],
-  ◌∷◌,
-  length,
-  Option,
-  Some,
-  None,
-  cond,
-  refl,
-  arith,
-  subst,
-  sym,
-  ap,
-  ◌∙◌,
-  inl,
-  inr,
-  eqb,
-  ltb,
-  ne_eqb,
-  ltb-true,
-  ltb-false,
-  append-nil,
-}
+use Rattle.std.proofs.Common.{◌≡◌, ℕ, suc, ◌<◌, ◌≤◌, ◌+◌, ◌-◌, ◌||◌, ◌++◌, Bool, true, false, is_some, List, [], ◌∷◌, length, Option, Some, None, cond, refl, arith, subst, sym, ap, ◌∙◌, inl, inr, eqb, ltb, ne_eqb, ltb-true, ltb-false, append-nil}
 use Rattle.std.proofs.lemmas.List.{append_assoc}
 use Rattle.std.proofs.lemmas.Bool.{cases_Bool, lt-ltb}
 use Rattle.block_store.specs.declared.Config.{Config}
 use Rattle.block_store.specs.Colours.{white_word}
 use Rattle.sweep_steps.specs.declared.rows.SweepRow.{SweepRow}
-use Rattle.sweep_steps.specs.declared.rows.SweepRow.TheVariants.{
-  ReadCursor,
-  ClaimRange,
-  PassBlock,
-  TakeFree,
-  FreeBlock,
-  PutFree,
-  Credit,
-  Swept,
-  NothingLeft,
-}
-use Rattle.sweep_steps.specs.Rows.{
-  SweepState,
-  row_got,
-  after_range,
-  next_block,
-  before_free,
-  range_end,
-  sweep_got,
-  sweep_over,
-  sweep_unit,
-  sweep_passed,
-  sweep_nothing,
-  sweeping,
-}
-use Rattle.sweep_steps.specs.Ends.{
-  row_passes,
-  row_claims,
-  is_reading,
-  blocks_from,
-  blocks_left,
-  sweep_after,
-  with_first,
-  blocks_passed,
-  blocks_claimed,
-}
+use Rattle.sweep_steps.specs.declared.rows.SweepRow.TheVariants.{ReadCursor, ClaimRange, PassBlock, TakeFree, FreeBlock, PutFree, Credit, Swept, NothingLeft}
+use Rattle.sweep_steps.specs.Rows.{SweepState, row_got, after_range, next_block, before_free, range_end, sweep_got, sweep_over, sweep_unit, sweep_passed, sweep_nothing, sweeping}
+use Rattle.sweep_steps.specs.Ends.{row_passes, row_claims, is_reading, blocks_from, blocks_left, sweep_after, with_first, blocks_passed, blocks_claimed}
 use Rattle.sweep_steps.specs.Fits.{IsLeft, RowFits, SweepFits}
 
 -- what is so of both rows of a choice

@@ -1,5 +1,5 @@
-//! Sweeps done by hand on the words of a heap. In cycle 1 the word of a white block is 1, and that of a
-//! black one 2.
+//! Sweeps done by hand on the words of a heap. In cycle 1 the word of a white block is 1, and
+//! that of a black one 2.
 
 ghost use Rattle.std.specs.Prelude.{◌≡◌};
 
@@ -66,8 +66,8 @@ fn a_range_is_passed(rt: HostRuntime) {
     assert!(rt; !sweep.nothing());
 }
 
-// The last three blocks, of which the first and the last are white. The thread's own free list begins
-// with block 9.
+// The last three blocks, of which the first and the last are white. The thread's own free list
+// begins with block 9.
 #[test]
 #[tactic(auto, unfolding(block_store::specs::Colours::colour_of, block_store::specs::Colours::link, block_store::specs::Colours::white_word, block_store::specs::Colours::free_word))]
 fn white_blocks_are_freed(rt: HostRuntime) {
