@@ -1,4 +1,5 @@
--- At which event a command that allocates nothing takes its place among the commands of all threads.
+-- At which event a command that allocates nothing takes its place among the commands of all
+-- threads.
 use Rattle.std.specs.Prelude.{ℕ, nat_lt, Bool, true, false, not}
 use Rattle.block_store.specs.declared.Payload.{Payload}
 use Rattle.block_store.specs.declared.Payload.TheVariants as payloads
@@ -21,8 +22,9 @@ length_decides (commands.Get d s i) n = not (nat_lt i n)
 length_decides (commands.Put s i v) n = not (nat_lt i n)
 length_decides _ n = true
 
--- whether the event of a row of command k that reads w is the deciding one: the store of `set`, `nil`, `mov` and `put`, the load of
--- the field of `get`, of the second register of `same`, of the register of `say`, of the shape of `len`; or the one that shows a refusal
+-- whether the event of a row of command k that reads w is the deciding one: the store of `set`,
+-- `nil`, `mov` and `put`, the load of the field of `get`, of the second register of `same`, of the
+-- register of `say`, of the shape of `len`; or the one that shows a refusal
 abbrev pub is_deciding : Command → FieldRow → ℕ → Bool
 is_deciding k StoreNumber w = true
 is_deciding k StoreNil w = true

@@ -1,4 +1,5 @@
--- The commands that allocate nothing, as rows of one event each: what each row wants, and what it becomes on the word that it read.
+-- The commands that allocate nothing, as rows of one event each: what each row wants, and what it
+-- becomes on the word that it read.
 use Rattle.std.specs.Prelude.{ℕ, ◌+◌, ◌==◌, nat_lt, Bool, true, false, if◌then◌else◌, Option, Some, None}
 use Rattle.block_store.specs.declared.Owner.{Owner}
 use Rattle.block_store.specs.declared.Payload.{Payload}
@@ -76,20 +77,24 @@ first_row (commands.Say s) = LoadSaid
 abbrev pub at_first_row : Pass → Command → FieldState
 at_first_row p k = record { pass = p; command = k; row = first_row k }
 
--- the operation of a row of thread t in command k. A part that is over would look at the phase once more
+-- the operation of a row of thread t in command k. A part that is over would look at the phase once
+-- more
 abbrev pub row_want : Extent → ℕ → Command → FieldRow → Operation
-row_want e t k StoreNumber = Exchange (register_place e t (to_register k)) (number_word (number_set k))
+row_want e t k StoreNumber = Exchange (register_place e t (to_register k))
+    (number_word (number_set k))
 row_want e t k StoreNil = Exchange (register_place e t (to_register k)) 0
 row_want e t k LoadMoved = Load (register_place e t (from_register k))
 row_want e t k (StoreMoved word) = Exchange (register_place e t (to_register k)) word
 row_want e t k LoadObject = Load (register_place e t (from_register k))
 row_want e t k (LoadShape x) = Load (ShapeOf x)
 row_want e t k (LoadValue way) = Load (register_place e t (other_register k))
-row_want e t k (LoadLink way word) = Load (PayloadOf way.block (link_at e way.shape (field_index k) way.level))
+row_want e t k (LoadLink way word) = Load (PayloadOf way.block
+    (link_at e way.shape (field_index k) way.level))
 row_want e t k (LoadField way) = Load (PayloadOf way.block (field_at e way.shape (field_index k)))
 row_want e t k (LoadOwner word) = Load (OwnerOf (target word))
 row_want e t k (StoreLate word value) = Exchange (register_place e t (to_register k)) word
-row_want e t k (StoreField way word) = Exchange (PayloadOf way.block (field_at e way.shape (field_index k))) word
+row_want e t k (StoreField way word) = Exchange
+    (PayloadOf way.block (field_at e way.shape (field_index k))) word
 row_want e t k LoadFirst = Load (register_place e t (from_register k))
 row_want e t k (LoadSecond word) = Load (register_place e t (other_register k))
 row_want e t k LoadSaid = Load (register_place e t (from_register k))
@@ -109,7 +114,8 @@ at_block _ way word = LoadField way
 
 -- the next link of the way, while there is one
 abbrev pub on_way : Extent → Command → Way → ℕ → FieldRow
-on_way e k way word = if nat_lt way.level (links_to e way.shape (field_index k)) then LoadLink way word else at_block k way word
+on_way e k way word = if nat_lt way.level (links_to e way.shape (field_index k))
+    then LoadLink way word else at_block k way word
 
 -- the way at its first block
 abbrev pub way_from : Shape → ℕ → Way
@@ -121,8 +127,10 @@ way_on way x = record { shape = way.shape; level = way.level + 1; block = x }
 
 -- after the object's shape: an index that is not below its length is answered range
 abbrev pub after_shape : Extent → Command → ℕ → Shape → FieldRow
-after_shape e (commands.Get d s i) x f = if nat_lt i (shape_length f) then on_way e (commands.Get d s i) (way_from f x) 0 else Answered replies.Range
-after_shape e (commands.Put s i v) x f = if nat_lt i (shape_length f) then LoadValue (way_from f x) else Answered replies.Range
+after_shape e (commands.Get d s i) x f = if nat_lt i (shape_length f)
+    then on_way e (commands.Get d s i) (way_from f x) 0 else Answered replies.Range
+after_shape e (commands.Put s i v) x f = if nat_lt i (shape_length f) then LoadValue (way_from f x)
+    else Answered replies.Range
 after_shape e _ x f = Answered (replies.Len (shape_length f))
 
 -- after the field that `get` loads: its word is then stored, once its value is known

@@ -1,4 +1,5 @@
--- The way from the first block of an object to one of its fields: how many links there are, and where each stands.
+-- The way from the first block of an object to one of its fields: how many links there are, and
+-- where each stands.
 use Rattle.std.specs.Prelude.{ℕ}
 use Rattle.block_store.specs.Places.{Extent}
 use Rattle.block_store.specs.declared.Shape.{Shape}
@@ -11,7 +12,8 @@ abbrev pub shape_length : Shape → ℕ
 shape_length (shapes.List f) = f
 shape_length (shapes.Tree e) = e
 
--- how many links lead to field i: in a record one for each block before it, in an array one for each level above the leaves
+-- how many links lead to field i: in a record one for each block before it, in an array one for
+-- each level above the leaves
 abbrev pub links_to : Extent → Shape → ℕ → ℕ
 links_to e (shapes.List f) i = (record_spot e.width i).0
 links_to e (shapes.Tree n) i = array_depth e.width n

@@ -14,8 +14,8 @@ pub struct Way {
     pub block: u32,
 }
 
-/// The next event of a command that allocates nothing, or its reply. A row has what was loaded for the
-/// command and is still needed: blocks, the object's shape, words of values.
+/// The next event of a command that allocates nothing, or its reply. A row has what was loaded for
+/// the command and is still needed: blocks, the object's shape, words of values.
 #[derive(Clone, Copy, Debug, PartialEq, Eq)]
 pub enum FieldRow {
     /// `set`: stores the number in its register.
@@ -32,8 +32,8 @@ pub enum FieldRow {
     LoadShape { block: u32 },
     /// `put`: loads the register whose word it stores.
     LoadValue { way: Way },
-    /// `get` and `put`: loads the next link on the way to the field. Of `put` the word is the one that
-    /// it stores, and of `get` it is 0.
+    /// `get` and `put`: loads the next link on the way to the field. Of `put` the word is the one
+    /// that it stores, and of `get` it is 0.
     LoadLink { way: Way, word: u64 },
     /// `get`: loads the field.
     LoadField { way: Way },

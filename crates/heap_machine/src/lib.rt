@@ -1,7 +1,8 @@
-//! The shared words of a heap: one atomic operation on one of them, and the part of a thread's
-//! work that goes in and out at the gate, or closes it and turns the phase over, one operation at
-//! a time. And the rules that every part of a thread's work keeps: where grey blocks stand, that
-//! no black block refers to a white one, and that only Free blocks refer to Free ones.
+//! The shared words of a heap: one atomic operation on one of them, and the part of a thread's work
+//! that goes in and out at the gate, or closes it and turns the phase over, one operation at a
+//! time. And the rules that every part of a thread's work keeps: where grey blocks stand, that no
+//! black block refers to a white one, that only Free blocks refer to Free ones, where Free blocks
+//! stand, and what of them the sweep has claimed and passed.
 #![tactic(auto)]
 
 mod gate;

@@ -23,8 +23,8 @@ use Rattle.heap_machine.specs.Grey.{no_grey}
 use Rattle.heap_machine.specs.Gating.{Gating, is_outside, is_inside, is_closing}
 use Rattle.heap_machine.proofs.Functions.{total_none}
 use Rattle.heap_system.specs.declared.local.Part.TheVariants.{Rest}
-use Rattle.heap_system.specs.Locals.{LocalState, no_pass, at_start, command_of, decides}
-use Rattle.heap_system.specs.Machines.{State, no_local, local_at, event_done, has_event, word_read, entry_decided, Run, next, after_turns, starts_from, IsOpening, IsJob, opened, IsRunOf}
+use Rattle.heap_system.specs.Locals.{LocalState, no_pass, at_start, command_of, verdict}
+use Rattle.heap_system.specs.Machines.{State, no_local, local_at, event_done, has_event, word_read, entries_by, Run, next, after_turns, starts_from, IsOpening, IsJob, opened, IsRunOf}
 use Rattle.heap_system.specs.Openings.{opening_heap, opening_phase}
 use Rattle.heap_system.specs.Pictures.{gating, loading, heap_in, graph_state}
 use Rattle.heap_system.proofs.Kept.{grey_of, LocalKept, loads_in, gates_in, holdings_in, Kept, IsMark, opening_low}
@@ -157,7 +157,7 @@ turn_kept c traces job r kept t = elim (cases_lt t c.threads) [
   | inl tl ↦ next_kept c traces job.bounds job.plan r kept t tl
   | inr out ↦
       let none : has_event c t r.state ≡ false = rw (le-ltb t c.threads out) refl in
-      subst (λ x. Kept c traces (record { state = cond x (event_done c t r.state) r.state; order = r.order ++ cond x (cond (decides c (local_at c r.state t).part (word_read c r.state (local_at c r.state t))) (entry_decided c t (command_of (local_at c r.state t)) (local_at c r.state t).paid r.order ∷ []) []) [] })) (sym none)
+      subst (λ x. Kept c traces (record { state = cond x (event_done c t r.state) r.state; order = r.order ++ cond x (entries_by c t (command_of (local_at c r.state t)) (local_at c r.state t).paid r.order (verdict c (local_at c r.state t).part (word_read c r.state (local_at c r.state t)))) [] })) (sym none)
       (subst (λ o. Kept c traces (record { state = r.state; order = o })) (sym (append-nil r.order)) kept)
 ]
 

@@ -1,5 +1,5 @@
 -- The word of a late register is the one that it had before its command was decided.
-use Rattle.std.proofs.Common.{◌≡◌, ℕ, ◌+◌, ◌%◌, ◌<◌, Bool, true, false, cond, eqb, ltb, ne_eqb, eq-eqb, lt-ltb, le-ltb, ◌⊎◌, inl, inr, Option, Some, None, List, [], ◌∷◌, ◌++◌, append_assoc, append-nil, refl, sym, ap, ◌∙◌, subst, arith}
+use Rattle.std.proofs.Common.{◌≡◌, ℕ, ◌+◌, ◌%◌, ◌<◌, Bool, true, false, cond, eqb, ltb, ne_eqb, eq-eqb, lt-ltb, le-ltb, ◌⊎◌, inl, inr, ⊎_elim, Option, Some, None, List, [], ◌∷◌, ◌++◌, append_assoc, append-nil, refl, sym, ap, ◌∙◌, subst, arith}
 use Rattle.std.proofs.lemmas.Bool.{cases_Bool, cases_eq, cases_lt}
 use Rattle.block_store.specs.declared.Config.{Config}
 use Rattle.block_store.specs.declared.TheConstants.{REGISTERS}
@@ -13,12 +13,13 @@ use Rattle.block_store.specs.Registers.{register_block, register_slot}
 use Rattle.block_store.specs.Heaps.{Heap, put_at}
 use Rattle.block_store.specs.Payloads.{target}
 use Rattle.block_store.specs.Places.{extent, Phase, PayloadOf}
+use Rattle.barrier_steps.specs.Rows.{at_first_row}
 use Rattle.barrier_steps.specs.Deciding.{is_deciding}
 use Rattle.never_heap.specs.declared.Command.{Command}
 use Rattle.never_heap.specs.declared.Command.TheVariants as commands
 use Rattle.never_heap.specs.Graphs.{Graph, start_graph, object_of}
 use Rattle.never_heap.specs.Histories.{HistoryItem, Did, part, replay}
-use Rattle.never_heap.specs.Steps.{makes_object}
+use Rattle.never_heap.specs.Steps.{step, makes_object}
 use Rattle.never_heap.proofs.Growing.{part_append}
 use Rattle.shown_graph.specs.Words.{BlockWords, block_words, value_word}
 use Rattle.shown_graph.specs.Shown.{Shows, IsValueOf, every_name, heads}
@@ -41,8 +42,8 @@ use Rattle.barrier_steps.proofs.Named.{to_low}
 use Rattle.barrier_steps.specs.Walks.{links_to, shape_length}
 use Rattle.heap_system.specs.declared.local.Part.{Part}
 use Rattle.heap_system.specs.declared.local.Part.TheVariants.{Rest, Enter, Serve, Mark, Count, Again, Leave}
-use Rattle.heap_system.specs.Locals.{LocalState, owes, pass_by, first_part, if_replied, if_entered, if_marked, part_want, part_got, decides, is_done, command_of, entry_of, PartFits}
-use Rattle.heap_system.specs.Machines.{Run, State, IsJob, IsRunOf, local_at, word_read, event_done, has_event, reply_decided, entry_decided, next, after_turns, opened, IsOpening}
+use Rattle.heap_system.specs.Locals.{LocalState, owes, pass_by, first_part, if_replied, if_entered, if_marked, part_want, part_got, Verdict, Open, AsStep, Refused, if_decides, verdict, is_done, command_of, entry_of, PartFits}
+use Rattle.heap_system.specs.Machines.{Run, State, IsJob, IsRunOf, local_at, word_read, event_done, has_event, entries_by, next, after_turns, opened, IsOpening}
 use Rattle.heap_system.specs.Pictures.{loading, heap_in, IsOlder}
 use Rattle.barrier_steps.specs.Projection.{row_loading, loading_of, object_on}
 use Rattle.heap_machine.specs.declared.pass.Pass.{Pass}
@@ -111,7 +112,7 @@ no_way b e f = let z : true ≡ false = sym f ∙ e in absurd cc
 -- an event after which a register is late only reads; it decides, or the register was late before
 pub record Lately (c : Config) (h : Heap) (p : Part) (w q : ℕ) : Type 0 where
   pub reads : heap_after h (part_want c p) ≡ h
-  pub how : ((decides c p w ≡ true) × (late_in c p q ≡ false)) ⊎ ((decides c p w ≡ false) × (late_in c p q ≡ true))
+  pub how : ((verdict c p w ≡ AsStep) × (late_in c p q ≡ false)) ⊎ ((verdict c p w ≡ Open) × (late_in c p q ≡ true))
 
 record LatelyAt (c : Config) (h : Heap) (t : ℕ) (k : Command) (r : FieldRow) (w q : ℕ) : Type 0 where
   pub reads : heap_after h (row_want (extent c) t k r) ≡ h
@@ -139,17 +140,15 @@ row_lately c h t k (rows.Answered reply) w q e = absurd cc
 field_lately : (c : Config) (h : Heap) (f : FieldState) (w q : ℕ) → late_in c (if_replied (field_reply (field_got (extent c) f w).row) (field_got (extent c) f w)) q ≡ true → Lately c h (Serve f) w q
 field_lately c h f w q e =
     let l : LatelyAt c h f.pass.thread f.command f.row w q = row_lately c h f.pass.thread f.command f.row w q (led_late c (field_got (extent c) f w) q e) in
-    record { reads = l.reads; how = l.how }
+    record { reads = l.reads; how = ⊎_elim (λ d. inl (ap if_decides d.0, d.1)) (λ d. inr (ap if_decides d.0, d.1)) l.how }
 
 begun_quiet : (c : Config) (p : Pass) (k : Command) (more : Bool) (q : ℕ) → late_in c (first_part p k more) q ≡ false
-begun_quiet c p k more q = elim (cases_Bool (makes_object k)) [
-  | inl e ↦ rw e (by more)
-  | inr e ↦ rw e (first_quiet c k q)
-]
+begun_quiet c p k true q = refl
+begun_quiet c p k false q = here (makes_object k)
   where
-    by : (b : Bool) → late_in c (cond b (Mark (scanning p)) Count) q ≡ false
-    by true = refl
-    by false = refl
+    here : (b : Bool) → late_in c (cond b Count (Serve (at_first_row p k))) q ≡ false
+    here true = refl
+    here false = first_quiet c k q
 
 entered_quiet : (c : Config) (o : Option _) (t n : ℕ) (k : Command) (more : Bool) (g : _) (q : ℕ) → late_in c (if_entered o t n k more g) q ≡ false
 entered_quiet c None t n k more g q = refl
@@ -228,19 +227,20 @@ cond_yes b x y e = rw e refl
 abbrev pub AllOlder : Config → Run → Type 0
 AllOlder c r = (u q : ℕ) → u < c.threads → q < REGISTERS → late_in c (local_at c r.state u).part q ≡ true → IsOlder c r u q
 
-others_none : (c : Config) (order : List HistoryItem) (t u : ℕ) (k : Command) (work : ℕ) (b : Bool) → (t ≡ u → ⊥) → part u (cond b (entry_decided c t k work order ∷ []) []) ≡ []
-others_none c order t u k work true n = ap (λ x. cond x (entry_of t k work (reply_decided (replay c order) t k) ∷ []) []) (ne_eqb t u n)
-others_none c order t u k work false n = refl
+others_none : (c : Config) (order : List HistoryItem) (t u : ℕ) (k : Command) (work : ℕ) (v : Verdict) → (t ≡ u → ⊥) → part u (entries_by c t k work order v) ≡ []
+others_none c order t u k work Open n = refl
+others_none c order t u k work AsStep n = ap (λ x. cond x (entry_of t k work (step (replay c order) t k).1 ∷ []) []) (ne_eqb t u n)
+others_none c order t u k work (Refused r) n = ap (λ x. cond x (entry_of t k work r ∷ []) []) (ne_eqb t u n)
 
 module _ (c : Config) (traces : List (List Command)) (bounds : IsInBounds c) (plan : IsAdmitted c) (r : Run) (kept : Kept c traces r) (t : ℕ) (tl : t < c.threads) (going : is_done (local_at c r.state t) ≡ false) (all : AllOlder c r) where
   abbrev word_here : ℕ
   word_here = heap_in c r.state (place_of (part_want c (local_at c r.state t).part))
 
-  abbrev deciding : Bool
-  deciding = decides c (local_at c r.state t).part word_here
+  abbrev deciding : Verdict
+  deciding = verdict c (local_at c r.state t).part word_here
 
   abbrev after : Run
-  after = record { state = event_done c t r.state; order = r.order ++ cond deciding (entry_decided c t (command_of (local_at c r.state t)) (local_at c r.state t).paid r.order ∷ []) [] }
+  after = record { state = event_done c t r.state; order = r.order ++ entries_by c t (command_of (local_at c r.state t)) (local_at c r.state t).paid r.order deciding }
 
   older_other : (u q : ℕ) → u < c.threads → q < REGISTERS → (t ≡ u → ⊥) → late_in c (local_at c (event_done c t r.state) u).part q ≡ true → IsOlder c after u q
   older_other u q ul ql n late =
@@ -249,10 +249,10 @@ module _ (c : Config) (traces : List (List Command)) (bounds : IsInBounds c) (pl
       record {
         before = o.before;
         entry = o.entry;
-        behind = o.behind ++ cond deciding (entry_decided c t (command_of (local_at c r.state t)) (local_at c r.state t).paid r.order ∷ []) [];
-        split = ap (λ x. x ++ cond deciding (entry_decided c t (command_of (local_at c r.state t)) (local_at c r.state t).paid r.order ∷ []) []) o.split ∙ append_assoc o.before (Did o.entry ∷ o.behind) _;
+        behind = o.behind ++ entries_by c t (command_of (local_at c r.state t)) (local_at c r.state t).paid r.order deciding;
+        split = ap (λ x. x ++ entries_by c t (command_of (local_at c r.state t)) (local_at c r.state t).paid r.order deciding) o.split ∙ append_assoc o.before (Did o.entry ∷ o.behind) _;
         own = o.own;
-        others = part_append u o.behind _ ∙ ap (λ x. x ++ part u (cond deciding (entry_decided c t (command_of (local_at c r.state t)) (local_at c r.state t).paid r.order ∷ []) [])) o.others ∙ others_none c r.order t u _ _ deciding n;
+        others = part_append u o.behind _ ∙ ap (λ x. x ++ part u (entries_by c t (command_of (local_at c r.state t)) (local_at c r.state t).paid r.order deciding)) o.others ∙ others_none c r.order t u _ _ deciding n;
         word = ap (λ h. h (PayloadOf (register_block c.width u q) (register_slot c.width q))) (heap_new c traces bounds plan r kept t tl going)
             ∙ part_frame c (replay c r.order) (opening_blocks c) (every_name (start_graph c)) (opening_at c.width c.threads) (block_words (heap_in c r.state)) (lates (loads_in c r.state)) kept.shown.shows u q ul ql (heap_in c r.state) t tl n
             (local_at c r.state t).pass (command_of (local_at c r.state t)) _ _ (local_at c r.state t).part (kept.locals t tl).stands (fits c traces bounds plan r kept t tl) (kept.shown.loads t tl)
@@ -269,9 +269,9 @@ module _ (c : Config) (traces : List (List Command)) (bounds : IsInBounds c) (pl
             let shown = kept.shown.shows.registers.holds t q tl ql in
             record {
               before = r.order;
-              entry = entry_of t (command_of (local_at c r.state t)) (local_at c r.state t).paid (reply_decided (replay c r.order) t (command_of (local_at c r.state t)));
+              entry = entry_of t (command_of (local_at c r.state t)) (local_at c r.state t).paid (step (replay c r.order) t (command_of (local_at c r.state t))).1;
               behind = [];
-              split = ap (λ x. r.order ++ cond x (entry_decided c t (command_of (local_at c r.state t)) (local_at c r.state t).paid r.order ∷ []) []) d.0;
+              split = ap (λ x. r.order ++ entries_by c t (command_of (local_at c r.state t)) (local_at c r.state t).paid r.order x) d.0;
               own = refl;
               others = refl;
               word = still ∙ shown.reads ∙ ap (value_word (heads (opening_at c.width c.threads))) (shown.now d.1);
@@ -282,7 +282,7 @@ module _ (c : Config) (traces : List (List Command)) (bounds : IsInBounds c) (pl
               before = o.before;
               entry = o.entry;
               behind = o.behind;
-              split = ap (λ x. r.order ++ cond x (entry_decided c t (command_of (local_at c r.state t)) (local_at c r.state t).paid r.order ∷ []) []) d.0 ∙ append-nil r.order ∙ o.split;
+              split = ap (λ x. r.order ++ entries_by c t (command_of (local_at c r.state t)) (local_at c r.state t).paid r.order x) d.0 ∙ append-nil r.order ∙ o.split;
               own = o.own;
               others = o.others;
               word = still ∙ o.word;
@@ -301,8 +301,8 @@ turn_older c traces job r kept t all = elim (cases_lt t c.threads) [
     | inl done ↦ nothing (rw (lt-ltb t c.threads tl, done) refl)
     | inr going ↦
         let some : has_event c t r.state ≡ true = rw (lt-ltb t c.threads tl, going) refl in
-        subst (λ x. AllOlder c (record { state = cond x (event_done c t r.state) r.state; order = r.order ++ cond x (cond (decides c (local_at c r.state t).part (word_read c r.state (local_at c r.state t))) (entry_decided c t (command_of (local_at c r.state t)) (local_at c r.state t).paid r.order ∷ []) []) [] })) (sym some)
-        (subst (λ w. AllOlder c (record { state = event_done c t r.state; order = r.order ++ cond (decides c (local_at c r.state t).part w) (entry_decided c t (command_of (local_at c r.state t)) (local_at c r.state t).paid r.order ∷ []) [] })) (sym (word_is c traces job.bounds job.plan r kept t tl))
+        subst (λ x. AllOlder c (record { state = cond x (event_done c t r.state) r.state; order = r.order ++ cond x (entries_by c t (command_of (local_at c r.state t)) (local_at c r.state t).paid r.order (verdict c (local_at c r.state t).part (word_read c r.state (local_at c r.state t)))) [] })) (sym some)
+        (subst (λ w. AllOlder c (record { state = event_done c t r.state; order = r.order ++ entries_by c t (command_of (local_at c r.state t)) (local_at c r.state t).paid r.order (verdict c (local_at c r.state t).part w) })) (sym (word_is c traces job.bounds job.plan r kept t tl))
         (event_older c traces job.bounds job.plan r kept t tl going all))
   ]
   | inr out ↦ nothing (rw (le-ltb t c.threads out) refl)
@@ -310,7 +310,7 @@ turn_older c traces job r kept t all = elim (cases_lt t c.threads) [
   where
     nothing : has_event c t r.state ≡ false → AllOlder c (next c t r)
     nothing none =
-        subst (λ x. AllOlder c (record { state = cond x (event_done c t r.state) r.state; order = r.order ++ cond x (cond (decides c (local_at c r.state t).part (word_read c r.state (local_at c r.state t))) (entry_decided c t (command_of (local_at c r.state t)) (local_at c r.state t).paid r.order ∷ []) []) [] })) (sym none)
+        subst (λ x. AllOlder c (record { state = cond x (event_done c t r.state) r.state; order = r.order ++ cond x (entries_by c t (command_of (local_at c r.state t)) (local_at c r.state t).paid r.order (verdict c (local_at c r.state t).part (word_read c r.state (local_at c r.state t)))) [] })) (sym none)
         (subst (λ o. AllOlder c (record { state = r.state; order = o })) (sym (append-nil r.order)) all)
 
 turns_older : (c : Config) (traces : List (List Command)) → IsJob c traces → (ts : List ℕ) (r : Run) → Kept c traces r → AllOlder c r → AllOlder c (after_turns c r ts)

@@ -25,6 +25,7 @@ use Rattle.heap_machine.specs.declared.pass.Pass.{Pass}
 use Rattle.heap_machine.specs.Readings.{IsPhaseWord}
 use Rattle.heap_machine.specs.declared.gate.GateRow.{GateRow}
 use Rattle.heap_machine.specs.declared.gate.GateRow.TheVariants as gates
+use Rattle.barrier_steps.specs.Rows.{at_first_row}
 use Rattle.barrier_steps.specs.Fits.{IsThread}
 use Rattle.barrier_steps.proofs.FieldRows.{first_fits}
 use Rattle.grey_steps.specs.Rows.{GreyState, grey_got, grey_unit, scanning}
@@ -32,7 +33,7 @@ use Rattle.grey_steps.specs.Ends.{is_blackening}
 use Rattle.grey_steps.proofs.Ends.{unit_after, unit_once}
 use Rattle.heap_system.specs.declared.local.Local.TheInside.{Inside}
 use Rattle.heap_system.specs.declared.local.Part.{Part}
-use Rattle.heap_system.specs.declared.local.Part.TheVariants.{Enter, Mark, Count, Leave}
+use Rattle.heap_system.specs.declared.local.Part.TheVariants.{Enter, Serve, Mark, Count, Leave}
 use Rattle.heap_system.specs.Locals.{LocalState, IsLocal, PartFits, command_of, owed, owes, pass_by, first_part, if_entered, unit_to_come, works, entry_of}
 
 -- what is seen of a thread
@@ -78,27 +79,23 @@ units_low l k =
 
 -- the first part of a command that its thread has entered for
 pub first_part_fits : (c : Config) (done all : ℕ) (p : Pass) (k : Command) (more : Bool) → p.threads ≡ c.threads → IsThread c p.thread → c.blocks ≤ 65535 → IsCommandInBounds c k → done < all → PartFits c done all (first_part p k more)
-first_part_fits c done all p k more same thread blocks inside low = elim (cases_Bool (makes_object k)) [
-  | inl e ↦ rw e (here more)
-  | inr e ↦ rw e (first_fits c p k thread (ranges.in_range c k inside), low)
-]
+first_part_fits c done all p k true same thread blocks inside low = (record { threads = same; few = omega (arith, same, thread.few); blocks = blocks; thread = omega (arith, same, thread.thread); row = omega (arith, thread.thread) }, low)
+first_part_fits c done all p k false same thread blocks inside low = here (makes_object k)
   where
-    here : (b : Bool) → PartFits c done all (cond b (Mark (scanning p)) Count)
-    here true = (record { threads = same; few = omega (arith, same, thread.few); blocks = blocks; thread = omega (arith, same, thread.thread); row = omega (arith, thread.thread) }, low)
-    here false = low
+    here : (b : Bool) → PartFits c done all (cond b Count (Serve (at_first_row p k)))
+    here true = low
+    here false = (first_fits c p k thread (ranges.in_range c k inside), low)
 
 pub opening_room : (c : Config) → IsAdmitted c → registers_end c.width c.threads ≤ c.blocks
 opening_room c plan = omega (arith, plan.opens, plan.room)
 
 pub first_part_pays : (c : Config) (p : Pass) (k : Command) (more : Bool) (paid due : ℕ) → paid ≤ due → (more ≡ true → paid < due) → paid + unit_to_come c (first_part p k more) ≤ due
-first_part_pays c p k more paid due low some = elim (cases_Bool (makes_object k)) [
-  | inl e ↦ rw e (here more some)
-  | inr e ↦ rw e (omega arith)
-]
+first_part_pays c p k true paid due low some = omega (arith, some refl)
+first_part_pays c p k false paid due low some = here (makes_object k)
   where
-    here : (b : Bool) → (b ≡ true → paid < due) → paid + unit_to_come c (cond b (Mark (scanning p)) Count) ≤ due
-    here true f = omega (arith, f refl)
-    here false f = omega arith
+    here : (b : Bool) → paid + unit_to_come c (cond b Count (Serve (at_first_row p k))) ≤ due
+    here true = omega arith
+    here false = omega arith
 
 -- a unit is new behind the event that makes the block under scan black
 new_unit : (a b u : Bool) → b ≡ (a || u) → (a ≡ true → u ≡ false) → (b && not a) ≡ u

@@ -78,7 +78,7 @@ module _ (c : Config) (traces : List (List Command)) (r : Run) (k : Kept c trace
   pub put_empty : (m : GreyState) → (local_at c r.state t).part ≡ Mark m → is_putting m.row ≡ true
       → (part_want c (local_at c r.state t).part ≡ Exchange (GreyList t) (holding c (local_at c r.state t).part).hand) × (heap_in c r.state (GreyList t) ≡ 0)
   put_empty m is putting =
-      let stands : MarkKept t (local_at c r.state t).pass (command_of (local_at c r.state t)) m = subst (λ p. PartKept (replay c r.order) t (local_at c r.state t).pass (command_of (local_at c r.state t)) p) is (k.locals t tl).stands in
+      let stands : MarkKept t (local_at c r.state t).pass m = subst (λ p. PartKept (replay c r.order) t (local_at c r.state t).pass (command_of (local_at c r.state t)) p) is (k.locals t tl).stands in
       let fits : PartFits c (length (local_at c r.state t).log) (length (local_at c r.state t).trace) (Mark m) =
       subst (λ p. PartFits c (length (local_at c r.state t).log) (length (local_at c r.state t).trace) p) is (subst (λ x. PartFits x (length (local_at c r.state t).log) (length (local_at c r.state t).trace) (local_at c r.state t).part) (k.locals t tl).config (k.locals t tl).fits.part) in
       let e = put_on_empty c (heap_in c r.state) (holdings_in c r.state) m fits.0 k.grey (ap (holdings_in c r.state) stands.thread ∙ ap (grey_of c) is) putting in (

@@ -26,8 +26,8 @@ pub use system::{Finished, System, Unfinished};
 pub enum Turn {
     /// An event that did not wait.
     Went,
-    /// An event that waited: the gate was closed, or another thread changed the phase word first. The
-    /// thread looks again.
+    /// An event that waited: the gate was closed, or another thread changed the phase word first.
+    /// The thread looks again.
     Waited,
     /// Nothing: the thread was done.
     Done,

@@ -47,7 +47,14 @@ const COMMANDS: [Command; 19] = [
 
 // The commands as a trace.
 fn trace(alloc: Global) -> Result<Vec<Command>, OutOfMemory>
-    ensures { IfOk result (λ v. IsTrace (record { width = Width.Four; threads = 3; blocks = 64; live = 24; object = 2; shared = 17 }) v.items) }
+    ensures { IfOk result (λ v. IsTrace (record {
+      width = Width.Four;
+      threads = 3;
+      blocks = 64;
+      live = 24;
+      object = 2;
+      shared = 17;
+    }) v.items) }
 {
     let mut trace = Vec::new(alloc);
     for command in &COMMANDS {
@@ -59,7 +66,15 @@ fn trace(alloc: Global) -> Result<Vec<Command>, OutOfMemory>
 }
 
 fn three_threads(alloc: Global) -> Result<System, OutOfMemory>
-    ensures { IfOk result (λ s. s.config ≡ record { width = Width.Four; threads = 3; blocks = 64; live = 24; object = 2; shared = 17 }) }
+    ensures { IfOk result (λ s. s.config ≡ record {
+      width = Width.Four;
+      threads = 3;
+      blocks = 64;
+      live =
+          24;
+      object = 2;
+      shared = 17;
+    }) }
 {
     let (first, second, third) = (trace(alloc)?, trace(alloc)?, trace(alloc)?);
     System::new(alloc, THREE, vec![in alloc; first, second, third]?)
@@ -73,8 +88,10 @@ fn model_reply(
 ) -> Result<Option<Reply>, OutOfMemory>
     requires thread { thread < length graph.old.graph.mutators }
     requires counts { (u : ℕ) → count_of graph.old.graph u < 131072 }
-    ensures threads { OnOk result (length graph.new.graph.mutators ≡ length graph.old.graph.mutators) }
-    ensures counts { OnOk result ((k u : ℕ) → ((v : ℕ) → count_of graph.old.graph v ≤ k) → count_of graph.new.graph u ≤ k + 1) }
+    ensures threads { OnOk result (length graph.new.graph.mutators
+        ≡ length graph.old.graph.mutators) }
+    ensures counts { OnOk result ((k u : ℕ) → ((v : ℕ) → count_of graph.old.graph v ≤ k) → count_of
+        graph.new.graph u ≤ k + 1) }
 {
     if !command.in_bounds(&THREE) {
         Ok(None)

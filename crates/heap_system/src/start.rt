@@ -34,7 +34,9 @@ pub fn opening(alloc: Global, c: &Config) -> Result<Words, OutOfMemory>
     requires bounds { IsInBounds c.now }
     requires plan { IsAdmitted c.now }
     ensures count { IfOk result (λ w. length w ≡ words_count (extent c.now)) }
-    ensures words { IfOk result (λ w. (p : Place) → in_range (extent c.now) p ≡ true → heap_of (extent c.now) w p ≡ opening_heap c.now p) }
+    ensures words { IfOk result (λ w. (p : Place) → in_range (extent c.now) p ≡ true
+        → heap_of (extent c.now) w
+        p ≡ opening_heap c.now p) }
 {
     let count = Places::new(c).words();
     let mut words = Words::zeroed(alloc, count)?;
