@@ -16,3 +16,4 @@ pub mod Sweeping
 pub mod Reusing
 pub mod GateReuse
 pub mod Opening
+pub mod FreeLost

@@ -125,6 +125,16 @@ pub fn what_keeps_free_blocks()
         (changed fs t (record old { held = xs; reserved = reserved })) }
 {}
 
+/// Where a thread puts its hand in its own free list and that list is not empty, not every Free block
+/// stands in one place any more: the blocks of that list are lost.
+pub fn free_lists_are_lost_at_a_put()
+    ensures { (e : Extent) (h : Heap) (fs : ℕ → FreeHolding) → FreeKept e h fs
+        → (t : ℕ) → t < e.threads → h (FreeList t) ≢ 0
+        → FreeKept e (put_at h (FreeList t) (fs t).hand)
+        (changed fs t (record (fs t) { hand = 0; emptied = false }))
+        → ⊥ }
+{}
+
 /// No block is claimed by two threads, and those that are claimed are below the cursor. While the
 /// phase is Sweep no block that was passed is white: one below the cursor that nobody has
 /// claimed. So where the cursor is behind the last block and nothing is claimed, no block is

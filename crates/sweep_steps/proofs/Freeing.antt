@@ -192,3 +192,10 @@ pub keeps_words : (c : Config) (h : Heap) (hs : ℕ → Holding) (s : SweepState
     → IsHeld c (heap_after h (sweep_want s))
 keeps_words c h hs s f k e g =
     row_words c h hs k s.thread s.cycle s.owed f.thread f.few s.row f.row e g
+
+-- the phase word stays
+pub keeps_sweeping : (h : Heap) (s : SweepState) (w : ℕ) → IsSweeping h s
+    → IsSweeping (heap_after h (sweep_want s)) (sweep_got s w)
+keeps_sweeping h s w k =
+    let same : heap_after h (sweep_want s) Phase ≡ h Phase = leaves_others h s Phase refl in
+    record { phase = ap is_sweep same ∙ k.phase; cycle = ap cycle_of same ∙ k.cycle }
