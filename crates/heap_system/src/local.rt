@@ -185,7 +185,6 @@ impl Local {
     pub fn thread(&self) -> u32
         ensures { result ≡ self.now.thread }
     {
-        let _part = &self.part;
         self.thread
     }
 
