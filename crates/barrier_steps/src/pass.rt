@@ -92,20 +92,8 @@ fn register(places: &Places, thread: u32, r: u8) -> usize
     requires register { r < REGISTERS }
     ensures { result ≡ index (extent places.now) (register_place (extent places.now) thread r) }
 {
-    let (block, slot) = register_at(places.width(), thread, r as u32);
+    let (block, slot) = places.width().register(thread, r as u32);
     places.payload(block, slot)
-}
-
-// The block and the payload of register `r` of a thread.
-#[tactic(auto, using(block_store::proofs::Registers::block_by, block_store::proofs::Registers::slot_by))]
-fn register_at(width: Width, thread: u32, r: u32) -> (u32, u32)
-    requires thread { thread < 16 }
-    requires register { r < REGISTERS }
-    ensures block { result.0 ≡ register_block width thread r }
-    ensures slot { result.1 ≡ register_slot width r }
-{
-    let payloads = width.payloads();
-    (width.registers() * thread + 2 + r / payloads, r % payloads)
 }
 
 // The first row of a command.

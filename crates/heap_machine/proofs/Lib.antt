@@ -17,3 +17,4 @@ pub mod Reusing
 pub mod GateReuse
 pub mod Opening
 pub mod FreeLost
+pub mod Phasing

@@ -27,8 +27,8 @@ pub use op::Op;
 pub use pass::Pass;
 pub use reuse::{
     free_blocks_stand_at_the_opening, free_blocks_stand_once, free_lists_are_lost_at_a_put,
-    gate_rows_keep_reuse, sweep_claims_do_not_overlap, what_keeps_free_blocks, what_keeps_reuse,
-    what_keeps_the_sweep,
+    gate_rows_keep_reuse, rules_hold_by_the_phase, sweep_claims_do_not_overlap,
+    what_keeps_free_blocks, what_keeps_reuse, what_keeps_the_sweep,
 };
 pub use words::Words;
 

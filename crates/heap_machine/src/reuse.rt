@@ -10,7 +10,10 @@ ghost use Rattle.heap_machine.specs.Operations.{Operation, place_of, heap_after}
 ghost use Rattle.heap_machine.specs.Counts.{changed, times, total};
 ghost use Rattle.heap_machine.specs.FreeBlocks.{FreeHolding, no_free, FreeFrom, FreeKept, count_free, is_of_free};
 ghost use Rattle.heap_machine.specs.Sweeping.{SweepHolding, no_claim, rest_of, has_claimed, claims, SweepKept, is_of_sweep};
-ghost use Rattle.heap_machine.specs.Holdings.{Holding, free_held, sweep_held};
+ghost use Rattle.heap_machine.specs.Grey.{GreyKept};
+ghost use Rattle.heap_machine.specs.HeapKept.{HeapKept};
+ghost use Rattle.heap_machine.specs.Holdings.{Holding, grey_held, free_held, sweep_held};
+ghost use Rattle.heap_machine.specs.PhaseKept.{PhaseKept};
 ghost use Rattle.heap_machine.specs.ReuseKept.{ReuseKept, is_of_reuse};
 ghost use Rattle.heap_machine.specs.Gates.{gate_want, GateFits};
 ghost use Rattle.heap_machine.specs.Gating.{Gating, GateOf, is_closing};
@@ -257,4 +260,25 @@ pub fn gate_rows_keep_reuse()
         → (u : ℕ) → u < e.threads → sweep_held (hs u) ≡ no_claim)
         → ((p : Pass) → r ≡ GateRow.Flip p → h Cursor ≡ 1)
         → ReuseKept e (heap_after h (gate_want r)) hs }
+{}
+
+/// What a heap keeps in each phase: while the phase is Mark it is what marking keeps in the cycle of
+/// the phase word, with both rules on reuse; in Sweep it is where grey blocks stand, with these. A
+/// phase word of the same phase and cycle keeps it, and so does one that turns to Sweep where nothing
+/// is claimed and the cursor is at the first block.
+pub fn rules_hold_by_the_phase()
+    ensures mark { (e : Extent) (h : Heap) (hs : ℕ → Holding) → PhaseKept e h hs
+        → is_sweep (h Phase) ≡ false → HeapKept e (cycle_of (h Phase)) h hs }
+    ensures marks { (e : Extent) (h : Heap) (hs : ℕ → Holding)
+        → (cycle : ℕ) → cycle_of (h Phase) ≡ cycle
+        → HeapKept e cycle h hs → ReuseKept e h hs → PhaseKept e h hs }
+    ensures sweeps { (e : Extent) (h : Heap) (hs : ℕ → Holding) → is_sweep (h Phase) ≡ true
+        → GreyKept e.threads h (λ t. grey_held (hs t)) → ReuseKept e h hs → PhaseKept e h hs }
+    ensures phase { (e : Extent) (h : Heap) (hs : ℕ → Holding) → PhaseKept e h hs
+        → (v : ℕ) → cycle_of v ≡ cycle_of (h Phase) → is_sweep v ≡ is_sweep (h Phase)
+        → PhaseKept e (put_at h Phase v) hs }
+    ensures flips { (e : Extent) (h : Heap) (hs : ℕ → Holding) → PhaseKept e h hs
+        → (v : ℕ) → is_sweep v ≡ true → h Cursor ≡ 1
+        → ((t : ℕ) → t < e.threads → sweep_held (hs t) ≡ no_claim)
+        → PhaseKept e (put_at h Phase v) hs }
 {}

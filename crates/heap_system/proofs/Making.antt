@@ -111,7 +111,7 @@ pub unit_blackens : (c : Config) (traces : List (List Command)) → IsJob c trac
 unit_blackens c traces job r kept t tl =
     let l = local_at c r.state t in
     ap (λ b. cond (has_event c t r.state) b false)
-    (sym (part_blackens c (heap_in c r.state) (holdings_in c r.state) t _ _ (replay c r.order) l.pass (command_of l) l.part (word_read c r.state l) kept.grey refl (λ out. (kept.gate.passes t tl out).0) (kept.locals t tl).stands (fits c traces job.bounds job.plan r kept t tl)))
+    (sym (part_blackens c (heap_in c r.state) (holdings_in c r.state) t _ _ (replay c r.order) l.pass (command_of l) l.part (word_read c r.state l) kept.grey refl (λ out. (kept.gate.passes t tl out).0) (kept.locals t tl).stands (fits c traces job.bounds.config job.plan r kept t tl)))
 
 -- what is in the log and what is paid grow by the unit
 replied_sum : (t : ℕ) (k : Command) (paid : ℕ) (o : Option Reply) → works (entries_of t k paid o) + paid_got o false paid ≡ paid
@@ -157,13 +157,13 @@ module _ (c : Config) (traces : List (List Command)) (job : IsJob c traces) (r :
       let parts : works (part u after.order) ≡ works (part u r.order) + works (told_by (replay c r.order) u (command_of l) l.paid deciding) =
       ap works (part_grows c r.order u (command_of l) l.paid deciding) ∙ works_append (part u r.order) (told_by (replay c r.order) u (command_of l) l.paid deciding) in
       let paid : (local_at c after.state u).paid ≡ paid_got (part_reply c l.part word_here) (makes_unit c l.part word_here) l.paid =
-      ap (λ (x : LocalState). x.paid) (local_new c traces job.bounds job.plan r kept u ul going u ∙ cond_yes _ _ _ (eq-eqb u u refl)) in
-      omega (arith, parts, paid, (event c traces job.bounds job.plan r kept u ul going).counted, part_sums c u (command_of l) l.paid l.part word_here)
+      ap (λ (x : LocalState). x.paid) (local_new c traces job.bounds.config job.plan r kept u ul going u ∙ cond_yes _ _ _ (eq-eqb u u refl)) in
+      omega (arith, parts, paid, (event c traces job.bounds.config job.plan r kept u ul going).counted, part_sums c u (command_of l) l.paid l.part word_here)
 
   other_makes : (t : ℕ) → (u ≡ t → ⊥) → made_by c t after ≡ made_by c t r
   other_makes t n =
       let parts : works (part t after.order) ≡ works (part t r.order) = ap works (part_stays c r.order u (command_of (local_at c r.state u)) (local_at c r.state u).paid deciding t n) in
-      let paid : (local_at c after.state t).paid ≡ (local_at c r.state t).paid = ap (λ (x : LocalState). x.paid) (local_new c traces job.bounds job.plan r kept u ul going t ∙ cond_no _ _ _ (ne_eqb u t n)) in
+      let paid : (local_at c after.state t).paid ≡ (local_at c r.state t).paid = ap (λ (x : LocalState). x.paid) (local_new c traces job.bounds.config job.plan r kept u ul going t ∙ cond_no _ _ _ (ne_eqb u t n)) in
       omega (arith, parts, paid)
 
   some : has_event c u r.state ≡ true
@@ -173,12 +173,12 @@ module _ (c : Config) (traces : List (List Command)) (job : IsJob c traces) (r :
   next_is : next c u r ≡ after
   next_is =
       ap (λ b. let x : Run = record { state = cond b (event_done c u r.state) r.state; order = r.order ++ cond b (entries_by c u (command_of (local_at c r.state u)) (local_at c r.state u).paid r.order (verdict c (local_at c r.state u).part (word_read c r.state (local_at c r.state u)))) [] } in x) some
-      ∙ ap (λ w. let x : Run = record { state = event_done c u r.state; order = r.order ++ entries_by c u (command_of (local_at c r.state u)) (local_at c r.state u).paid r.order (verdict c (local_at c r.state u).part w) } in x) (word_is c traces job.bounds job.plan r kept u ul)
+      ∙ ap (λ w. let x : Run = record { state = event_done c u r.state; order = r.order ++ entries_by c u (command_of (local_at c r.state u)) (local_at c r.state u).paid r.order (verdict c (local_at c r.state u).part w) } in x) (word_is c traces job.bounds.config job.plan r kept u ul)
 
   event_makes : (t : ℕ) → made_by c t (next c u r) ≡ made_by c t r + cond (eqb u t) (bit (is_unit c t r.state)) 0
   event_makes t = ap (made_by c t) next_is ∙ elim (cases_eq u t) [
     | inl e ↦ rw (eq-eqb u t e) (subst (λ v. made_by c v after ≡ made_by c v r + bit (is_unit c v r.state)) e
-        (own_makes ∙ ap (λ w. made_by c u r + bit (makes_unit c (local_at c r.state u).part w)) (sym (word_is c traces job.bounds job.plan r kept u ul))
+        (own_makes ∙ ap (λ w. made_by c u r + bit (makes_unit c (local_at c r.state u).part w)) (sym (word_is c traces job.bounds.config job.plan r kept u ul))
         ∙ ap (λ b. made_by c u r + bit (cond b (makes_unit c (local_at c r.state u).part (word_read c r.state (local_at c r.state u))) false)) (sym some)))
     | inr n ↦ rw (ne_eqb u t n) (omega (arith, other_makes t n))
   ]

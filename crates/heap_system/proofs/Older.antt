@@ -302,8 +302,8 @@ turn_older c traces job r kept t all = elim (cases_lt t c.threads) [
     | inr going ↦
         let some : has_event c t r.state ≡ true = rw (lt-ltb t c.threads tl, going) refl in
         subst (λ x. AllOlder c (record { state = cond x (event_done c t r.state) r.state; order = r.order ++ cond x (entries_by c t (command_of (local_at c r.state t)) (local_at c r.state t).paid r.order (verdict c (local_at c r.state t).part (word_read c r.state (local_at c r.state t)))) [] })) (sym some)
-        (subst (λ w. AllOlder c (record { state = event_done c t r.state; order = r.order ++ entries_by c t (command_of (local_at c r.state t)) (local_at c r.state t).paid r.order (verdict c (local_at c r.state t).part w) })) (sym (word_is c traces job.bounds job.plan r kept t tl))
-        (event_older c traces job.bounds job.plan r kept t tl going all))
+        (subst (λ w. AllOlder c (record { state = event_done c t r.state; order = r.order ++ entries_by c t (command_of (local_at c r.state t)) (local_at c r.state t).paid r.order (verdict c (local_at c r.state t).part w) })) (sym (word_is c traces job.bounds.config job.plan r kept t tl))
+        (event_older c traces job.bounds.config job.plan r kept t tl going all))
   ]
   | inr out ↦ nothing (rw (le-ltb t c.threads out) refl)
 ]

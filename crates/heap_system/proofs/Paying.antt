@@ -13,7 +13,11 @@ use Rattle.never_heap.specs.declared.Command.{Command}
 use Rattle.never_heap.specs.declared.Command.TheVariants as commands
 use Rattle.never_heap.specs.declared.Entry.{Entry}
 use Rattle.never_heap.specs.declared.Reply.{Reply}
+use Rattle.std.specs.List.{AllByRecursion}
+use Rattle.std.proofs.lemmas.List.Elements.{All-from_recursion}
 use Rattle.never_heap.specs.Bounds.{IsCommandInBounds}
+use Rattle.never_heap.specs.Jobs.{IsTraceInBounds}
+use Rattle.heap_system.specs.Machines.{IsJob}
 use Rattle.never_heap.specs.RightWork.{units_owed}
 use Rattle.never_heap.specs.Steps.{blocks_of, makes_object}
 use Rattle.block_store.proofs.Registers.{end_more}
@@ -53,10 +57,14 @@ blocks_low c (commands.Len s) h = omega arith
 blocks_low c (commands.Same a b) h = omega arith
 blocks_low c (commands.Say s) h = omega arith
 
+-- the trace of a thread of a job
+pub each_at : (c : Config) (traces : List (List Command)) → IsJob c traces → (t : ℕ) → t < c.threads → IsTraceInBounds c (get_or traces t [])
+each_at c traces job t tl = All-from_recursion (IsTraceInBounds c) traces job.bounds.each t [] (omega (arith, job.bounds.threads))
+
 -- the command at any place of a trace is in bounds, and so is what stands for none
-pub bounds_at : (c : Config) (ks : List Command) (i : ℕ) → All (IsCommandInBounds c) ks → IsCommandInBounds c (get_or ks i (commands.Nil 0))
+pub bounds_at : (c : Config) (ks : List Command) (i : ℕ) → AllByRecursion (IsCommandInBounds c) ks → IsCommandInBounds c (get_or ks i (commands.Nil 0))
 bounds_at c ks i all = elim (cases_lt i (length ks)) [
-  | inl low ↦ all i (commands.Nil 0) low
+  | inl low ↦ All-from_recursion (IsCommandInBounds c) ks all i (commands.Nil 0) low
   | inr out ↦ subst (λ k. IsCommandInBounds c k) (sym (get_or_past ks i (commands.Nil 0) out)) (omega arith)
 ]
 
@@ -217,7 +225,7 @@ paid_low l k = omega (arith, k.paid, owed_low l k, units_low l k)
 
 pub worked_low : (l : LocalState) → IsLocal l → works l.log ≤ 2 ^ 45
 worked_low l k =
-    let a : length l.log * (l.rate * l.config.object) ≤ 131072 * (l.rate * l.config.object) = mul-le-mul_right (l.rate * l.config.object) (omega (arith, k.log, k.trace.short)) in
+    let a : length l.log * (l.rate * l.config.object) ≤ 131072 * (l.rate * l.config.object) = mul-le-mul_right (l.rate * l.config.object) (omega (arith, k.log, k.trace.few)) in
     omega (arith, k.worked, units_low l k)
 
 -- a thread in the first part of a pass that begins

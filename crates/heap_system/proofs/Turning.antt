@@ -13,6 +13,7 @@ use Rattle.never_heap.specs.declared.Entry.{Entry}
 use Rattle.never_heap.specs.declared.Reply.{Reply}
 use Rattle.never_heap.specs.Graphs.{Graph, start_graph, register_of}
 use Rattle.never_heap.specs.declared.Reply.TheVariants.{Full}
+use Rattle.std.specs.List.{AllByRecursion}
 use Rattle.never_heap.specs.Bounds.{IsCommandInBounds}
 use Rattle.never_heap.specs.Histories.{HistoryItem, Did, replay, part, Legal, starts_in, work_in}
 use Rattle.never_heap.specs.RightWork.{units_owed}
@@ -262,7 +263,7 @@ module _ (c : Config) (traces : List (List Command)) (bounds : IsInBounds c) (pl
   fits = subst (λ x. PartFits x (length (local_at c r.state t).log) (length (local_at c r.state t).trace) (local_at c r.state t).part) (kept.locals t tl).config (kept.locals t tl).fits.part
 
   pub inside : IsCommandInBounds c (command_of (local_at c r.state t))
-  inside = bounds_at c (local_at c r.state t).trace (length (local_at c r.state t).log) (subst (λ x. All (IsCommandInBounds x) (local_at c r.state t).trace) (kept.locals t tl).config (kept.locals t tl).fits.trace.commands)
+  inside = bounds_at c (local_at c r.state t).trace (length (local_at c r.state t).log) (subst (λ x. AllByRecursion (IsCommandInBounds x) (local_at c r.state t).trace) (kept.locals t tl).config (kept.locals t tl).fits.trace.commands)
 
   pub unpaid : makes_object (command_of (local_at c r.state t)) ≡ false → (local_at c r.state t).paid ≡ 0
   unpaid z =

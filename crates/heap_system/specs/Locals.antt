@@ -12,7 +12,7 @@ use Rattle.never_heap.specs.declared.Command.TheVariants as commands
 use Rattle.never_heap.specs.declared.Entry.{Entry}
 use Rattle.never_heap.specs.declared.Reply.{Reply}
 use Rattle.never_heap.specs.declared.Reply.TheVariants as replies
-use Rattle.never_heap.specs.Bounds.{IsCommandInBounds}
+use Rattle.never_heap.specs.Jobs.{IsTraceInBounds}
 use Rattle.never_heap.specs.RightWork.{units_owed}
 use Rattle.never_heap.specs.Steps.{makes_object}
 use Rattle.heap_machine.specs.Operations.{Operation, Load}
@@ -282,11 +282,6 @@ local_got l w = record {
   part = part_got l.config l.thread (command_of l) (owes l) l.part w;
 }
 
--- at most 131,072 commands, each in bounds
-pub record IsTrace (c : Config) (trace : List Command) : Type 0 where
-  pub short : length trace ≤ 131072
-  pub commands : All (IsCommandInBounds c) trace
-
 -- the numbers of a row are in range, and a thread that has begun a command has one
 abbrev pub PartFits : Config → ℕ → ℕ → Part → Type 0
 PartFits c done all Rest = Unit {0}
@@ -312,7 +307,7 @@ pub record IsLocal (l : LocalState) : Type 0 where
   pub plan : IsAdmitted l.config
   pub rate : IsRate l.config l.rate
   pub thread : l.thread < l.config.threads
-  pub trace : IsTrace l.config l.trace
+  pub trace : IsTraceInBounds l.config l.trace
   pub log : length l.log ≤ length l.trace
   pub part : PartFits l.config (length l.log) (length l.trace) l.part
   pub paid : l.paid + unit_to_come l.config l.part ≤ owed l

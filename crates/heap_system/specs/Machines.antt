@@ -2,7 +2,6 @@
 -- turns has: its commands and starts as they were decided.
 use Rattle.std.specs.Prelude.{ℕ, ◌+◌, ◌==◌, ◌++◌, ◌<◌, ◌≡◌, true, false, not, nat_lt, if◌then◌else◌, Bool, List, [], ◌∷◌, length, slice_index, slice_index_or, slice_set}
 use Rattle.block_store.specs.declared.Config.{Config}
-use Rattle.block_store.specs.Configs.{IsInBounds}
 use Rattle.block_store.specs.Heaps.{heap_of}
 use Rattle.block_store.specs.Places.{Place, extent, in_range, words_count}
 use Rattle.rate_plan.specs.Rates.{IsRate, IsAdmitted}
@@ -13,7 +12,8 @@ use Rattle.heap_machine.specs.Operations.{op_at, op_place, words_after}
 use Rattle.heap_system.specs.declared.local.Part.TheVariants.{Leave}
 use Rattle.heap_system.specs.declared.Turn.{Turn}
 use Rattle.heap_system.specs.declared.Turn.TheVariants.{Done}
-use Rattle.heap_system.specs.Locals.{LocalState, command_of, is_done, part_want, part_step, Verdict, Open, AsStep, Refused, verdict, turn_of, local_got, entry_of, no_pass, at_start, IsTrace}
+use Rattle.never_heap.specs.Jobs.{IsJobInBounds}
+use Rattle.heap_system.specs.Locals.{LocalState, command_of, is_done, part_want, part_step, Verdict, Open, AsStep, Refused, verdict, turn_of, local_got, entry_of, no_pass, at_start}
 use Rattle.heap_system.specs.Openings.{opening_heap}
 
 -- the list of words, and the threads by their numbers
@@ -104,12 +104,10 @@ pub record IsOpening (c : Config) (traces : List (List Command)) (s : State) : T
       → heap_of (extent c) s.words p ≡ opening_heap c p
   pub locals : s.locals ≡ starts_from c rate 0 traces
 
--- a configuration that has a rate, with a trace for each thread
+-- a job in bounds whose configuration has a rate
 pub record IsJob (c : Config) (traces : List (List Command)) : Type 0 where
-  pub bounds : IsInBounds c
+  pub bounds : IsJobInBounds c traces
   pub plan : IsAdmitted c
-  pub count : length traces ≡ c.threads
-  pub each : (t : ℕ) → t < c.threads → IsTrace c (slice_index_or traces t [])
 
 -- the order begins with the start of cycle 1
 abbrev pub opened : State → Run

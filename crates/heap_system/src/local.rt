@@ -7,7 +7,8 @@ ghost use Rattle.rate_plan.specs.Rates.{IsRate, IsAdmitted};
 ghost use Rattle.never_heap.specs.Steps.{makes_object};
 ghost use Rattle.heap_machine.specs.Operations.{op_at};
 ghost use Rattle.heap_machine.specs.Passes.{IsPass};
-ghost use Rattle.heap_system.specs.Locals.{IsTrace, PartReads, is_done, is_rest, part_want, part_step, local_got, at_start, turn_of, is_last, pass_by, first_part, command_of, owes, works, entry_of};
+ghost use Rattle.never_heap.specs.Jobs.{IsTraceInBounds};
+ghost use Rattle.heap_system.specs.Locals.{PartReads, is_done, is_rest, part_want, part_step, local_got, at_start, turn_of, is_last, pass_by, first_part, command_of, owes, works, entry_of};
 
 use crate::Turn;
 use barrier_steps::FieldPass;
@@ -154,7 +155,7 @@ impl Local {
         requires bounds { IsInBounds c.now }
         requires plan { IsAdmitted c.now }
         requires thread { thread < c.now.threads }
-        requires trace { IsTrace c.now trace.items }
+        requires trace { IsTraceInBounds c.now trace.items }
         ensures { IfOk result (λ l. IsRate c.now l.rate
             × (l ≡ at_start c.now l.rate thread trace.items)) }
     {
@@ -184,7 +185,6 @@ impl Local {
     pub fn thread(&self) -> u32
         ensures { result ≡ self.now.thread }
     {
-        let _part = &self.part;
         self.thread
     }
 

@@ -14,18 +14,20 @@ use Rattle.heap_machine.specs.Grey.{GreyHolding, no_grey, GreyKept}
 use Rattle.heap_machine.specs.Holdings.{Holding, grey_held, free_held}
 use Rattle.heap_machine.specs.Operations.{Exchange, CompareExchange, FetchAdd, place_of, heap_after}
 use Rattle.heap_machine.specs.Readings.{IsHeld}
+use Rattle.heap_machine.specs.PhaseKept.{PhaseKept}
 use Rattle.heap_machine.specs.ReuseKept.{ReuseKept}
 use Rattle.heap_machine.proofs.FreeBlocks.{free_few}
 use Rattle.heap_machine.proofs.GreyBlocks.{kept_other, kept_other_colour}
 use Rattle.heap_machine.proofs.GreyEvents.{stays}
 use Rattle.heap_machine.proofs.Held.{held_put, held_after}
 use Rattle.heap_machine.proofs.Keeping.{part_changed}
+use Rattle.heap_machine.proofs.Phasing.{from_sweep}
 use Rattle.sweep_steps.specs.declared.rows.SweepRow.{SweepRow}
 use Rattle.sweep_steps.specs.declared.rows.SweepRow.TheVariants.{ReadCursor, ClaimRange, PassBlock, TakeFree, FreeBlock, PutFree, Credit, Swept, NothingLeft}
 use Rattle.sweep_steps.specs.Rows.{SweepState, row_want, sweep_want, sweep_got, sweep_holding}
 use Rattle.sweep_steps.specs.Ends.{is_freeing, is_unswept}
 use Rattle.sweep_steps.specs.Fits.{RowFits, SweepFits, IsSweeping}
-use Rattle.sweep_steps.proofs.Keeping.{doomed_white}
+use Rattle.sweep_steps.proofs.Keeping.{doomed_white, keeps_reuse}
 
 -- what the thread holds of the grey blocks
 none_grey : (r : SweepRow) → grey_held (sweep_holding r) ≡ no_grey
@@ -199,3 +201,16 @@ pub keeps_sweeping : (h : Heap) (s : SweepState) (w : ℕ) → IsSweeping h s
 keeps_sweeping h s w k =
     let same : heap_after h (sweep_want s) Phase ≡ h Phase = leaves_others h s Phase refl in
     record { phase = ap is_sweep same ∙ k.phase; cycle = ap cycle_of same ∙ k.cycle }
+
+-- all that is kept in Sweep
+pub keeps_phase : (c : Config) (h : Heap) (hs : ℕ → Holding) (s : SweepState) → SweepFits c s
+    → IsSweeping h s
+    → PhaseKept (extent c) h hs → hs s.thread ≡ sweep_holding s.row
+    → PhaseKept (extent c) (heap_after h (sweep_want s))
+    (changed hs s.thread (sweep_holding (sweep_got s (h (place_of (sweep_want s)))).row))
+keeps_phase c h hs s f is k e =
+    let w = h (place_of (sweep_want s)) in
+    from_sweep (extent c) (heap_after h (sweep_want s))
+    (changed hs s.thread (sweep_holding (sweep_got s w).row))
+    (keeps_sweeping h s w is).phase (keeps_grey c h hs s f is k.reuse e k.grey)
+    (keeps_reuse c h hs s f is k.reuse e)

@@ -11,6 +11,7 @@ ghost use Rattle.heap_machine.specs.Grey.{GreyKept};
 ghost use Rattle.heap_machine.specs.Holdings.{Holding, holds_nothing, grey_held};
 ghost use Rattle.heap_machine.specs.Operations.{Exchange, place_of, heap_after, Fits};
 ghost use Rattle.heap_machine.specs.Readings.{IsHeld};
+ghost use Rattle.heap_machine.specs.PhaseKept.{PhaseKept};
 ghost use Rattle.heap_machine.specs.ReuseKept.{ReuseKept};
 ghost use Rattle.sweep_steps.specs.Rows.{SweepState, sweep_want, sweep_got, sweep_over, sweep_unit, sweep_passed, sweep_nothing, sweeping, sweep_holding};
 ghost use Rattle.sweep_steps.specs.Ends.{is_reading, is_freeing, is_putting, is_unswept, row_passes, blocks_from, blocks_left, blocks_passed, blocks_claimed, sweep_after};
@@ -50,6 +51,16 @@ pub fn rows_keep_reuse()
         → is_putting s.row ≡ true
         → (sweep_want s ≡ Exchange (FreeList s.thread) (sweep_holding s.row).free_hand)
         × (h (FreeList s.thread) ≡ 0) }
+{}
+
+/// Each event keeps all rules of the heap at once, while the other threads hold what they held and
+/// the phase is Sweep, in the cycle of the part.
+pub fn rows_keep_the_heap()
+    ensures { (c : Config) (h : Heap) (hs : ℕ → Holding) (s : SweepState)
+        → SweepFits c s → IsSweeping h s
+        → PhaseKept (extent c) h hs → hs s.thread ≡ sweep_holding s.row
+        → PhaseKept (extent c) (heap_after h (sweep_want s))
+        (changed hs s.thread (sweep_holding (sweep_got s (h (place_of (sweep_want s)))).row)) }
 {}
 
 /// Where each word of the heap is one that its place can hold, it is so behind each event. The free
