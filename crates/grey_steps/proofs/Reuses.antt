@@ -13,15 +13,19 @@ use Rattle.heap_machine.specs.Counts.{changed}
 use Rattle.heap_machine.specs.FreeBlocks.{no_free}
 use Rattle.heap_machine.specs.Grey.{GreyHolding, GreyKept}
 use Rattle.heap_machine.specs.Holdings.{Holding, grey_held, free_held, sweep_held}
-use Rattle.heap_machine.specs.Operations.{Exchange, place_of, heap_after}
+use Rattle.heap_machine.specs.Operations.{Exchange, CompareExchange, place_of, heap_after}
+use Rattle.heap_machine.specs.HeapKept.{HeapKept}
+use Rattle.heap_machine.specs.PhaseKept.{PhaseKept}
 use Rattle.heap_machine.specs.ReuseKept.{ReuseKept}
 use Rattle.heap_machine.specs.Sweeping.{no_claim}
 use Rattle.heap_machine.proofs.GreyBlocks.{scan_is_grey}
+use Rattle.heap_machine.proofs.Phasing.{in_mark, from_mark}
 use Rattle.heap_machine.proofs.Reusing.{reuse_stays, reuse_other, reuse_colour}
 use Rattle.grey_steps.specs.declared.rows.GreyRow.{GreyRow}
 use Rattle.grey_steps.specs.declared.rows.GreyRow.TheVariants.{Take, Pop, ScanWord, Shade, Blacken, Put, Scanned, NothingGrey, TakeOwn, ShadeStored, PutOwn, Shaded}
 use Rattle.grey_steps.specs.Rows.{GreyState, list_of, row_want, grey_want, grey_got, grey_holding, holding_at}
 use Rattle.grey_steps.specs.Fits.{GreyFits}
+use Rattle.grey_steps.proofs.Together.{keeps_heap}
 
 -- marking holds nothing of either rule
 none_free : (m : ℕ) (r : GreyRow) → free_held (grey_holding m r) ≡ no_free
@@ -115,3 +119,43 @@ keeps_reuse c h hs s f mark grey k is =
     s.pass.thread (grey_holding m next) low
     (ap free_held is ∙ none_free m s.row ∙ sym (none_free m next))
     (ap sweep_held is ∙ none_claimed m s.row ∙ sym (none_claimed m next))
+
+-- no event of marking writes the phase word
+shade_leaves : (h : Heap) (y old v : ℕ)
+    → heap_after h (CompareExchange (ColourOf y) old v) Phase ≡ h Phase
+shade_leaves h y old v = elim (cases_Bool (eqb (h (ColourOf y)) old)) [
+  | inl is ↦ rw is refl
+  | inr is ↦ rw is refl
+]
+
+leaves_phase : (h : Heap) (t n c : ℕ) (r : GreyRow)
+    → heap_after h (row_want t n c r) Phase ≡ h Phase
+leaves_phase h t n c (Take u) = refl
+leaves_phase h t n c (Pop a) = refl
+leaves_phase h t n c (ScanWord x j a) = refl
+leaves_phase h t n c (Shade x j y a) = shade_leaves h y (white_word c) (grey_word a)
+leaves_phase h t n c (Blacken x a) = refl
+leaves_phase h t n c (Put a) = refl
+leaves_phase h t n c Scanned = refl
+leaves_phase h t n c NothingGrey = refl
+leaves_phase h t n c (TakeOwn y) = refl
+leaves_phase h t n c (ShadeStored y a) = shade_leaves h y (white_word c) (grey_word a)
+leaves_phase h t n c (PutOwn y a) = refl
+leaves_phase h t n c (Shaded y) = refl
+
+-- all that is kept in Mark
+pub keeps_phase : (c : Config) (h : Heap) (hs : ℕ → Holding) (s : GreyState) → GreyFits c s
+    → is_sweep (h Phase) ≡ false → cycle_of (h Phase) ≡ s.pass.cycle
+    → PhaseKept (extent c) h hs → hs s.pass.thread ≡ holding_at (extent c) s
+    → PhaseKept (extent c) (heap_after h (grey_want s))
+    (changed hs s.pass.thread
+    (holding_at (extent c) (grey_got (extent c) s (h (place_of (grey_want s))))))
+keeps_phase c h hs s f mark cycle k is =
+    let next : Holding = holding_at (extent c)
+    (grey_got (extent c) s (h (place_of (grey_want s)))) in
+    let same = leaves_phase h s.pass.thread s.pass.threads s.pass.cycle s.row in
+    let old : HeapKept (extent c) s.pass.cycle h hs =
+    subst (λ y. HeapKept (extent c) y h hs) cycle (in_mark (extent c) h hs k mark) in
+    from_mark (extent c) (heap_after h (grey_want s)) (changed hs s.pass.thread next) s.pass.cycle
+    (ap cycle_of same ∙ cycle)
+    (keeps_heap c h hs s f old is) (keeps_reuse c h hs s f mark k.grey k.reuse is)
