@@ -30,7 +30,7 @@ use Rattle.heap_system.specs.Pictures.{gating, loading, heap_in, graph_state}
 use Rattle.heap_system.proofs.Paying.{each_at}
 use Rattle.heap_system.proofs.Kept.{grey_of, LocalKept, loads_in, gates_in, holdings_in, Kept, IsMark, opening_low}
 use Rattle.heap_system.proofs.Turning.{next_kept}
-use Rattle.heap_system.proofs.Grounds.{opening_grey, opening_held, opening_solid}
+use Rattle.heap_system.proofs.Grounds.{opening_grey, opening_held, opening_taken}
 use Rattle.heap_system.specs.Systems.{units_of}
 
 pub length_starts : (c : Config) (rate t : ℕ) (traces : List (List Command)) → length (starts_from c rate t traces) ≡ length traces
@@ -146,9 +146,11 @@ module _ (c : Config) (traces : List (List Command)) (job : IsJob c traces) (s :
     locals = λ t tl. subst (λ l. LocalKept c (get_or traces t []) (start_graph c) (Started ∷ []) t l) (sym (here t tl)) (local_start t tl);
     legal = tt;
     foreign = λ u ul. refl;
-    grey = opening_grey c job.bounds.config job.plan (heap_in c s) start.words outside_words (holdings_in c s) holds;
-    held = opening_held c job.bounds.config job.plan (heap_in c s) start.words (record { inside = omega (arith, phase.0); cycle = omega (arith, phase.1.cycle) });
-    solid = opening_solid c job.bounds.config job.plan (heap_in c s) start.words;
+    rules = record {
+      grey = opening_grey c job.bounds.config job.plan (heap_in c s) start.words outside_words (holdings_in c s) holds;
+      held = opening_held c job.bounds.config job.plan (heap_in c s) start.words (record { inside = omega (arith, phase.0); cycle = omega (arith, phase.1.cycle) });
+      taken = opening_taken c job.bounds.config job.plan (heap_in c s) start.words;
+    };
     counts = (refl, sym (ap (λ ls. units_of (map (λ (l : LocalState). l.log) ls)) start.locals ∙ units_start c start.rate 0 traces));
   }
 

@@ -134,7 +134,6 @@ impl System {
         ensures same { result.now ≡ self.now.config }
         ensures reached { IsReached self.now.config self.now.state }
     {
-        let _words = &self.words;
         &self.config
     }
 
@@ -185,7 +184,6 @@ impl Finished {
     pub fn config(&self) -> &Config
         ensures { result.now ≡ self.now.config }
     {
-        let _locals = &self.locals;
         &self.config
     }
 }
@@ -218,7 +216,6 @@ impl Logs for Finished {
     }
 
     fn cycles(&self) -> u64 {
-        let _locals = &self.locals;
         1
     }
 
