@@ -6,7 +6,7 @@ use Rattle.block_store.specs.Payloads.{target}
 use Rattle.block_store.specs.Places.{Extent, Place, ColourOf, PayloadOf}
 use Rattle.heap_machine.specs.Counts.{changed}
 use Rattle.heap_machine.specs.Grey.{is_of_grey}
-use Rattle.heap_machine.specs.HeapKept.{HeapKept, IsMarking, is_ruled, CanColour, CanRefer}
+use Rattle.heap_machine.specs.HeapKept.{HeapKept, is_ruled, CanColour, CanRefer}
 use Rattle.heap_machine.specs.Holdings.{Holding, grey_held, tricolour_held}
 use Rattle.heap_machine.specs.Operations.{Operation, Exchange, place_of, heap_after}
 use Rattle.heap_machine.specs.Tricolour.{is_of_tricolour}
@@ -26,25 +26,25 @@ neither : (a b : Bool) → (a || b) ≡ false → (a ≡ false) × (b ≡ false)
 neither true b e = absurd cc
 neither false b e = (refl, e)
 
-pub heap_other : (e : Extent) (c : ℕ) (h : Heap) (hs : ℕ → Holding) (o : Operation) → is_ruled (place_of o) ≡ false → (IsMarking (heap_after h o) → IsMarking h) → HeapKept e c h hs → HeapKept e c (heap_after h o) hs
-heap_other e c h hs o away stays k =
+pub heap_other : (e : Extent) (c : ℕ) (h : Heap) (hs : ℕ → Holding) (o : Operation) → is_ruled (place_of o) ≡ false → HeapKept e c h hs → HeapKept e c (heap_after h o) hs
+heap_other e c h hs o away k =
     let n = neither (is_of_grey (place_of o)) (is_of_tricolour (place_of o)) away in
     record {
       grey = kept_other e.threads h (λ t. grey_held (hs t)) o n.0 k.grey;
-      tricolour = λ m. tricolour_other e c h (λ t. tricolour_held (hs t)) o n.1 (k.tricolour (stays m));
-      solid = λ m. solid_other e c h o n.1 (k.solid (stays m));
+      tricolour = tricolour_other e c h (λ t. tricolour_held (hs t)) o n.1 k.tricolour;
+      solid = solid_other e c h o n.1 k.solid;
     }
 
 pub heap_colour : (e : Extent) (c : ℕ) (h : Heap) (hs : ℕ → Holding) (x v : ℕ) → CanColour e c h x v → HeapKept e c h hs → HeapKept e c (put_at h (ColourOf x) v) hs
 heap_colour e c h hs x v can k = record {
   grey = kept_other_colour e.threads h (λ t. grey_held (hs t)) x v can.was can.not_grey k.grey;
-  tricolour = λ m. kept_colour e c h (λ t. tricolour_held (hs t)) x v can.not_white can.dark (k.tricolour m);
-  solid = λ m. solid_colour e c h x v can.not_free can.solid can.root (k.solid m);
+  tricolour = kept_colour e c h (λ t. tricolour_held (hs t)) x v can.not_white can.dark k.tricolour;
+  solid = solid_colour e c h x v can.not_free can.solid can.root k.solid;
 }
 
 pub heap_payload : (e : Extent) (c : ℕ) (h : Heap) (hs : ℕ → Holding) (x j w : ℕ) → CanRefer c h (target w) → HeapKept e c h hs → HeapKept e c (put_at h (PayloadOf x j) w) hs
 heap_payload e c h hs x j w can k = record {
   grey = kept_other e.threads h (λ t. grey_held (hs t)) (Exchange (PayloadOf x j) w) refl k.grey;
-  tricolour = λ m. kept_payload c h x j w can.dark e (λ t. tricolour_held (hs t)) (k.tricolour m);
-  solid = λ m. solid_payload e c h x j w (λ _. can.solid) (k.solid m);
+  tricolour = kept_payload c h x j w can.dark e (λ t. tricolour_held (hs t)) k.tricolour;
+  solid = solid_payload e c h x j w (λ _. can.solid) k.solid;
 }

@@ -1,26 +1,20 @@
--- What a heap keeps under all that its threads hold: one field for each rule. Some rules are of
--- marking alone.
+-- What a heap keeps under all that its threads hold: one field for each rule.
 use Rattle.std.specs.Prelude.{ℕ, ◌≡◌, ◌≢◌, ◌<◌, ◌||◌, Bool, true, false}
 use Rattle.block_store.specs.Colours.{is_free, is_grey, white_word, black_word}
 use Rattle.block_store.specs.Heaps.{Heap}
 use Rattle.block_store.specs.Payloads.{target}
 use Rattle.block_store.specs.Registers.{root_block}
 use Rattle.block_store.specs.Widths.{payloads}
-use Rattle.block_store.specs.Phases.{is_sweep}
-use Rattle.block_store.specs.Places.{Extent, Place, Phase, ColourOf, PayloadOf}
+use Rattle.block_store.specs.Places.{Extent, Place, ColourOf, PayloadOf}
 use Rattle.heap_machine.specs.Grey.{GreyKept, is_of_grey}
 use Rattle.heap_machine.specs.Holdings.{Holding, grey_held, tricolour_held}
 use Rattle.heap_machine.specs.Solid.{NotFree, IsMarked, SolidKept}
 use Rattle.heap_machine.specs.Tricolour.{NotWhite, TricolourKept, is_of_tricolour}
 
--- the phase is Mark
-abbrev pub IsMarking : Heap → Type 0
-IsMarking h = is_sweep (h Phase) ≡ false
-
 pub record HeapKept (e : Extent) (cycle : ℕ) (h : Heap) (hs : ℕ → Holding) : Type 0 where
   pub grey : GreyKept e.threads h (λ t. grey_held (hs t))
-  pub tricolour : IsMarking h → TricolourKept e cycle h (λ t. tricolour_held (hs t))
-  pub solid : IsMarking h → SolidKept e cycle h
+  pub tricolour : TricolourKept e cycle h (λ t. tricolour_held (hs t))
+  pub solid : SolidKept e cycle h
 
 -- the places whose words some rule speaks of
 abbrev pub is_ruled : Place → Bool

@@ -18,7 +18,7 @@ ghost use Rattle.heap_machine.specs.Solid.{NotFree, IsMarked, SolidKept};
 ghost use Rattle.block_store.specs.Registers.{root_block};
 ghost use Rattle.block_store.specs.Widths.{payloads};
 ghost use Rattle.heap_machine.specs.Holdings.{Holding};
-ghost use Rattle.heap_machine.specs.HeapKept.{HeapKept, IsMarking, is_ruled, CanColour, CanRefer};
+ghost use Rattle.heap_machine.specs.HeapKept.{HeapKept, is_ruled, CanColour, CanRefer};
 ghost use Rattle.heap_machine.specs.Gating.{Gating, GateOf, Outside, Inside, Closing, is_outside, closed_word, open_word};
 ghost use Rattle.heap_machine.specs.Gates.{gate_want, gate_got, GateFits, GateAt, IsIdle};
 ghost use Rattle.heap_machine.specs.Turning.{turns_over, turning_gating, lists_read, gate_after, CanClose};
@@ -319,15 +319,13 @@ pub fn what_keeps_solid()
         → SolidKept e cycle h → SolidKept e cycle (put_at h (PayloadOf x j) w) }
 {}
 
-/// What keeps all rules at once: an operation on a word of which no rule speaks, and which does not
-/// make the phase Mark; a colour that is
+/// What keeps all rules at once: an operation on a word of which no rule speaks; a colour that is
 /// neither grey nor Free nor white, on a block that was not grey, black only where no payload of
 /// the block refers to a white one, on a block that was not Free or refers to no Free one, and
 /// black on a root block; and a payload that refers to no white and to no Free block.
 pub fn what_keeps_the_heap()
     ensures place { (e : Extent) (cycle : ℕ) (h : Heap) (hs : ℕ → Holding) (o : Operation)
         → is_ruled (place_of o) ≡ false
-        → (IsMarking (heap_after h o) → IsMarking h)
         → HeapKept e cycle h hs → HeapKept e cycle (heap_after h o) hs }
     ensures colour { (e : Extent) (cycle : ℕ) (h : Heap) (hs : ℕ → Holding) (x v : ℕ)
         → CanColour e cycle h x v

@@ -65,8 +65,7 @@ use Rattle.heap_system.specs.Machines.{State, Run, local_at}
 use Rattle.heap_system.specs.Systems.{logs_of, units_of}
 use Rattle.heap_system.specs.Units.{IsWithin}
 use Rattle.heap_system.specs.Pictures.{gating, stand_of, holding, loading, waiting, entries_waiting, heap_in, graph_state}
-use Rattle.grey_steps.proofs.Together.{mark_phase}
-use Rattle.heap_system.proofs.Marks.{mark_words, mark_solid}
+use Rattle.heap_system.proofs.Marks.{mark_phase, mark_words, mark_solid}
 use Rattle.heap_system.proofs.Paying.{first_part_fits, first_part_pays, going_at}
 use Rattle.heap_system.proofs.Moves.{state, graph_after, FieldStep, field_reads, field_moves, load_self, undecided}
 

@@ -1,15 +1,29 @@
--- What an event of a Mark pass leaves: the words that show the graph, and the blocks that are not Free.
+-- What an event of a Mark pass leaves: the phase, the words that show the graph, and the blocks that are not Free.
 use Rattle.std.proofs.Common.{◌≡◌, ℕ, false, cond, eqb, refl, inl, inr}
 use Rattle.std.proofs.lemmas.Bool.{cases_Bool}
 use Rattle.block_store.specs.Colours.{is_free, grey_word, black_word, white_word}
 use Rattle.block_store.specs.Heaps.{Heap, put_at}
-use Rattle.block_store.specs.Places.{ColourOf}
+use Rattle.block_store.specs.Places.{Phase, ColourOf}
 use Rattle.block_store.proofs.ColourWords.{not_free_black, not_free_grey}
 use Rattle.shown_graph.specs.Words.{block_words}
 use Rattle.heap_machine.specs.Operations.{heap_after}
 use Rattle.grey_steps.specs.declared.rows.GreyRow.{GreyRow}
 use Rattle.grey_steps.specs.declared.rows.GreyRow.TheVariants as rows
 use Rattle.grey_steps.specs.Rows.{row_want}
+
+pub mark_phase : (h : Heap) (t n c : ℕ) (r : GreyRow) → heap_after h (row_want t n c r) Phase ≡ h Phase
+mark_phase h t n c (rows.Take u) = refl
+mark_phase h t n c (rows.Pop hand) = refl
+mark_phase h t n c (rows.ScanWord x j hand) = refl
+mark_phase h t n c (rows.Shade x j y hand) = elim (cases_Bool (eqb (h (ColourOf y)) (white_word c))) [ inl e ↦ rw e refl | inr e ↦ rw e refl ]
+mark_phase h t n c (rows.Blacken x hand) = refl
+mark_phase h t n c (rows.Put hand) = refl
+mark_phase h t n c rows.Scanned = refl
+mark_phase h t n c rows.NothingGrey = refl
+mark_phase h t n c (rows.TakeOwn y) = refl
+mark_phase h t n c (rows.ShadeStored y hand) = elim (cases_Bool (eqb (h (ColourOf y)) (white_word c))) [ inl e ↦ rw e refl | inr e ↦ rw e refl ]
+mark_phase h t n c (rows.PutOwn y hand) = refl
+mark_phase h t n c (rows.Shaded y) = refl
 
 pub mark_words : (h : Heap) (t n c : ℕ) (r : GreyRow) → block_words (heap_after h (row_want t n c r)) ≡ block_words h
 mark_words h t n c (rows.Take u) = refl
