@@ -3,6 +3,7 @@ use Rattle.std.specs.Prelude.{ℕ, zero, suc, ◌+◌, ◌-◌, ◌<◌, ◌≤�
 use Rattle.std.specs.Option.{unwrap_or}
 use Rattle.std.specs.List.{list_any}
 use Rattle.block_store.specs.declared.Config.{Config}
+use Rattle.block_store.specs.declared.TheConstants.{REGISTERS}
 use Rattle.block_store.specs.declared.Width.TheVariants.{Four}
 use Rattle.object_lists.specs.Records.{record_blocks}
 use Rattle.array_trees.specs.Trees.{array_blocks}
@@ -109,9 +110,9 @@ any_operand test [] numbers = false
 any_operand test (o ∷ os) [] = false
 any_operand test (o ∷ os) (n ∷ numbers) = test o n || any_operand test os numbers
 
--- a register above 15
+-- a number that no register has
 abbrev pub is_high_register : Operand → ℕ → Bool
-is_high_register OfRegister n = nat_lt 15 n
+is_high_register OfRegister n = nat_le REGISTERS n
 is_high_register o n = false
 
 -- an object that is too long or has too many blocks, or a number that is too large

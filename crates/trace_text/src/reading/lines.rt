@@ -1,23 +1,18 @@
 //! The lines behind the header.
 
-ghost use Rattle.std.specs.Prelude.{◌≡◌, ◌∷◌, []};
+ghost use Rattle.std.specs.Prelude.{◌≡◌, ◌<◌, ◌∷◌, [], IfOk};
 ghost use Rattle.std.specs.Option.{option_copied};
 ghost use Rattle.trace_text.specs.Lines.{pieces_of};
 ghost use Rattle.trace_text.specs.Reading.{pieces_left};
-ghost use Rattle.trace_text.specs.Said.{Tells, spelled, numbers_at, operands_at, line_at};
+ghost use Rattle.trace_text.specs.Said.{Tells, HasRegisters, spelled, numbers_at, register_at, length_at, fitted, operands_at, line_at};
 ghost use Rattle.trace_text.specs.declared.reading.words.Word.TheVariants as words;
 
 use crate::reading::numbers::number_of;
 use crate::reading::pieces::{first_piece, no_more, one_piece, three_pieces, two_pieces};
 use crate::reading::words::{Word, word_of};
 use crate::trace_faults::Why;
-use array_trees::blocks_of_array;
-use block_store::Config;
-use never_heap::{Command, MOST_FIELDS, NUMBERS};
-use object_lists::blocks_of_record;
-
-/// The number of the last register.
-const LAST_REGISTER: u64 = 15;
+use block_store::{Config, REGISTERS};
+use never_heap::Command;
 
 /// What a line behind the header says.
 #[derive(Clone, Copy, Debug, PartialEq, Eq)]
@@ -98,17 +93,9 @@ fn new_of(place: &Place, operands: Option<&[u8]>) -> Result<Line, Why>
         operands_at place.now words.New (pieces_left (option_copied operands.entry)) }
 {
     let (d, fields) = two_numbers(operands)?;
-    if d > LAST_REGISTER {
-        return Err(Why::Register);
-    }
-    if place.full || fields > u64::from(MOST_FIELDS) {
-        return Err(Why::Size);
-    }
-    let fields = fields as u32;
-    if blocks_of_record(place.config.width, fields) > place.config.object {
-        return Err(Why::Size);
-    }
-    Ok(Line::Told(Command::New { d: d as u8, fields }))
+    let d = register(d)?;
+    let fields = length(fields)?;
+    told(place, Command::New { d, fields })
 }
 
 #[tactic(auto, unfolding(crate::specs::Said::operands_at, crate::specs::Said::told_at))]
@@ -117,20 +104,9 @@ fn arr_of(place: &Place, operands: Option<&[u8]>) -> Result<Line, Why>
         operands_at place.now words.Arr (pieces_left (option_copied operands.entry)) }
 {
     let (d, elements) = two_numbers(operands)?;
-    if d > LAST_REGISTER {
-        return Err(Why::Register);
-    }
-    if place.full || elements > u64::from(MOST_FIELDS) {
-        return Err(Why::Size);
-    }
-    let elements = elements as u32;
-    if blocks_of_array(place.config.width, elements) > place.config.object {
-        return Err(Why::Size);
-    }
-    Ok(Line::Told(Command::Arr {
-        d: d as u8,
-        elements,
-    }))
+    let d = register(d)?;
+    let elements = length(elements)?;
+    told(place, Command::Arr { d, elements })
 }
 
 #[tactic(auto, unfolding(crate::specs::Said::operands_at, crate::specs::Said::told_at))]
@@ -139,13 +115,8 @@ fn set_of(place: &Place, operands: Option<&[u8]>) -> Result<Line, Why>
         operands_at place.now words.Set (pieces_left (option_copied operands.entry)) }
 {
     let (d, value) = two_numbers(operands)?;
-    if d > LAST_REGISTER {
-        return Err(Why::Register);
-    }
-    if place.full || value >= NUMBERS {
-        return Err(Why::Size);
-    }
-    Ok(Line::Told(Command::Set { d: d as u8, value }))
+    let d = register(d)?;
+    told(place, Command::Set { d, value })
 }
 
 #[tactic(auto, unfolding(crate::specs::Said::operands_at, crate::specs::Said::told_at))]
@@ -154,13 +125,8 @@ fn nil_of(place: &Place, operands: Option<&[u8]>) -> Result<Line, Why>
         operands_at place.now words.Nil (pieces_left (option_copied operands.entry)) }
 {
     let d = one_number(operands)?;
-    if d > LAST_REGISTER {
-        return Err(Why::Register);
-    }
-    if place.full {
-        return Err(Why::Size);
-    }
-    Ok(Line::Told(Command::Nil { d: d as u8 }))
+    let d = register(d)?;
+    told(place, Command::Nil { d })
 }
 
 #[tactic(auto, unfolding(crate::specs::Said::operands_at, crate::specs::Said::told_at))]
@@ -169,16 +135,9 @@ fn mov_of(place: &Place, operands: Option<&[u8]>) -> Result<Line, Why>
         operands_at place.now words.Mov (pieces_left (option_copied operands.entry)) }
 {
     let (d, s) = two_numbers(operands)?;
-    if d > LAST_REGISTER || s > LAST_REGISTER {
-        return Err(Why::Register);
-    }
-    if place.full {
-        return Err(Why::Size);
-    }
-    Ok(Line::Told(Command::Mov {
-        d: d as u8,
-        s: s as u8,
-    }))
+    let d = register(d)?;
+    let s = register(s)?;
+    told(place, Command::Mov { d, s })
 }
 
 #[tactic(auto, unfolding(crate::specs::Said::operands_at, crate::specs::Said::told_at))]
@@ -187,17 +146,9 @@ fn get_of(place: &Place, operands: Option<&[u8]>) -> Result<Line, Why>
         operands_at place.now words.Get (pieces_left (option_copied operands.entry)) }
 {
     let (d, s, i) = three_numbers(operands)?;
-    if d > LAST_REGISTER || s > LAST_REGISTER {
-        return Err(Why::Register);
-    }
-    if place.full || i >= NUMBERS {
-        return Err(Why::Size);
-    }
-    Ok(Line::Told(Command::Get {
-        d: d as u8,
-        s: s as u8,
-        i,
-    }))
+    let d = register(d)?;
+    let s = register(s)?;
+    told(place, Command::Get { d, s, i })
 }
 
 #[tactic(auto, unfolding(crate::specs::Said::operands_at, crate::specs::Said::told_at))]
@@ -206,17 +157,9 @@ fn put_of(place: &Place, operands: Option<&[u8]>) -> Result<Line, Why>
         operands_at place.now words.Put (pieces_left (option_copied operands.entry)) }
 {
     let (s, i, v) = three_numbers(operands)?;
-    if s > LAST_REGISTER || v > LAST_REGISTER {
-        return Err(Why::Register);
-    }
-    if place.full || i >= NUMBERS {
-        return Err(Why::Size);
-    }
-    Ok(Line::Told(Command::Put {
-        s: s as u8,
-        i,
-        v: v as u8,
-    }))
+    let s = register(s)?;
+    let v = register(v)?;
+    told(place, Command::Put { s, i, v })
 }
 
 #[tactic(auto, unfolding(crate::specs::Said::operands_at, crate::specs::Said::told_at))]
@@ -225,13 +168,8 @@ fn len_of(place: &Place, operands: Option<&[u8]>) -> Result<Line, Why>
         operands_at place.now words.Len (pieces_left (option_copied operands.entry)) }
 {
     let s = one_number(operands)?;
-    if s > LAST_REGISTER {
-        return Err(Why::Register);
-    }
-    if place.full {
-        return Err(Why::Size);
-    }
-    Ok(Line::Told(Command::Len { s: s as u8 }))
+    let s = register(s)?;
+    told(place, Command::Len { s })
 }
 
 #[tactic(auto, unfolding(crate::specs::Said::operands_at, crate::specs::Said::told_at))]
@@ -240,16 +178,9 @@ fn same_of(place: &Place, operands: Option<&[u8]>) -> Result<Line, Why>
         operands_at place.now words.Same (pieces_left (option_copied operands.entry)) }
 {
     let (a, b) = two_numbers(operands)?;
-    if a > LAST_REGISTER || b > LAST_REGISTER {
-        return Err(Why::Register);
-    }
-    if place.full {
-        return Err(Why::Size);
-    }
-    Ok(Line::Told(Command::Same {
-        a: a as u8,
-        b: b as u8,
-    }))
+    let a = register(a)?;
+    let b = register(b)?;
+    told(place, Command::Same { a, b })
 }
 
 #[tactic(auto, unfolding(crate::specs::Said::operands_at, crate::specs::Said::told_at))]
@@ -258,13 +189,42 @@ fn say_of(place: &Place, operands: Option<&[u8]>) -> Result<Line, Why>
         operands_at place.now words.Say (pieces_left (option_copied operands.entry)) }
 {
     let s = one_number(operands)?;
-    if s > LAST_REGISTER {
-        return Err(Why::Register);
-    }
-    if place.full {
+    let s = register(s)?;
+    told(place, Command::Say { s })
+}
+
+/// The command, where its sizes are in their ranges and the thread may have one more.
+#[tactic(auto, using(crate::proofs::Sizes::told_is))]
+fn told(place: &Place, command: Command) -> Result<Line, Why>
+    requires { HasRegisters command }
+    ensures { result ≡ fitted place.now command }
+{
+    let fits = command.in_bounds(&place.config);
+    if !fits || place.full {
         return Err(Why::Size);
     }
-    Ok(Line::Told(Command::Say { s: s as u8 }))
+    Ok(Line::Told(command))
+}
+
+/// The register of a number.
+fn register(number: u64) -> Result<u8, Why>
+    ensures at { result ≡ register_at number }
+    ensures low { IfOk result (λ r. r < REGISTERS) }
+{
+    if number >= u64::from(REGISTERS) {
+        return Err(Why::Register);
+    }
+    Ok(number as u8)
+}
+
+/// The length that a number is.
+fn length(number: u64) -> Result<u32, Why>
+    ensures { result ≡ length_at number }
+{
+    if number > u64::from(u32::MAX) {
+        return Err(Why::Size);
+    }
+    Ok(number as u32)
 }
 
 /// That no piece is left.
