@@ -204,10 +204,10 @@ fn after_link(places: &Places, command: Command, way: Way, word: u64, block: u32
 }
 
 // The store of a field's word, once its value is known.
-fn store_late(word: u64, value: Value) -> FieldRow
-    ensures { result ≡ FieldRow.StoreLate word value }
+fn store_pending(word: u64, value: Value) -> FieldRow
+    ensures { result ≡ FieldRow.StorePending word value }
 {
-    FieldRow::StoreLate { word, value }
+    FieldRow::StorePending { word, value }
 }
 
 // After the field that `get` loads.
@@ -215,8 +215,8 @@ fn after_field(word: u64, payload: Payload) -> FieldRow
     ensures { result ≡ Rows.after_field word payload }
 {
     match payload {
-        Payload::Nil => store_late(word, Value::Nil),
-        Payload::Int(number) => store_late(word, Value::Int(number)),
+        Payload::Nil => store_pending(word, Value::Nil),
+        Payload::Int(number) => store_pending(word, Value::Int(number)),
         Payload::Block(_) => FieldRow::LoadOwner { word },
     }
 }
@@ -323,7 +323,7 @@ impl FieldPass {
         match self.row {
             StoreNumber => self.store(places, payload_word(Payload::Int(number_set(command)))),
             StoreNil => self.store(places, payload_word(Payload::Nil)),
-            StoreMoved { word } | StoreLate { word, .. } => self.store(places, word),
+            StoreMoved { word } | StorePending { word, .. } => self.store(places, word),
             LoadMoved | LoadObject | LoadFirst | LoadSaid => {
                 self.load(places, from_register(command))
             }
@@ -397,8 +397,8 @@ impl FieldPass {
             LoadValue { way } => on_way(places, command, way, read),
             LoadLink { way, word } => after_link(places, command, way, word, target(read)),
             LoadField { .. } => after_field(read, payload_in(read)),
-            LoadOwner { word } => store_late(word, object_in(read)),
-            StoreLate { value, .. } => answered(Reply::Val(value)),
+            LoadOwner { word } => store_pending(word, object_in(read)),
+            StorePending { value, .. } => answered(Reply::Val(value)),
             LoadFirst => LoadSecond { word: read },
             LoadSecond { word } => after_both(word, read),
             LoadSaid => after_said(read, payload_in(read)),
@@ -414,7 +414,7 @@ impl FieldPass {
     {
         match self.row {
             FieldRow::LoadOwner { .. }
-            | FieldRow::StoreLate { .. }
+            | FieldRow::StorePending { .. }
             | FieldRow::LoadSaidOwner { .. }
             | FieldRow::Answered { .. } => true,
             _ => false,

@@ -13,12 +13,12 @@ use Rattle.never_heap.specs.declared.Command.{Command}
 use Rattle.never_heap.specs.Graphs.{start_graph}
 use Rattle.never_heap.specs.Histories.{Started}
 use Rattle.shown_graph.specs.Words.{block_words, Agrees}
-use Rattle.shown_graph.specs.Shown.{Shows, every_name, never_late}
+use Rattle.shown_graph.specs.Shown.{Shows, every_name, none_pending}
 use Rattle.shown_graph.specs.Openings.{opening_at, opening_words}
 use Rattle.array_trees.specs.Openings.{opening_blocks}
-use Rattle.shown_graph.specs.Events.{unloaded, lates, LoadIs, Follows}
+use Rattle.shown_graph.specs.Events.{unloaded, pending_registers, LoadIs, Follows}
 use Rattle.shown_graph.proofs.Opening.{opening_shows}
-use Rattle.shown_graph.proofs.Stores.{words_change, more_late}
+use Rattle.shown_graph.proofs.Stores.{words_change, more_pending}
 use Rattle.heap_machine.specs.Grey.{no_grey}
 use Rattle.heap_machine.specs.Gating.{Gating, is_outside, is_inside, is_closing}
 use Rattle.heap_machine.proofs.Functions.{total_none}
@@ -93,14 +93,14 @@ module _ (c : Config) (traces : List (List Command)) (job : IsJob c traces) (s :
   agrees : (x : ℕ) → 0 < x → x ≤ opening_blocks c → Agrees c.width (opening_words c) (block_words (heap_in c s)) x
   agrees = opening_agrees c s.words job.plan start.words
 
-  shows : Shows c.width c.threads (opening_blocks c) (every_name (start_graph c)) (start_graph c) (opening_at c.width c.threads) (block_words (heap_in c s)) (lates (loads_in c s))
+  shows : Shows c.width c.threads (opening_blocks c) (every_name (start_graph c)) (start_graph c) (opening_at c.width c.threads) (block_words (heap_in c s)) (pending_registers (loads_in c s))
   shows =
       let first = opening_shows c job.bounds.config in
-      more_late c.width c.threads (opening_blocks c) (every_name (start_graph c)) (start_graph c) (opening_at c.width c.threads) (block_words (heap_in c s)) never_late
-      (words_change c.width c.threads (opening_blocks c) (every_name (start_graph c)) (start_graph c) (opening_at c.width c.threads) (opening_words c) never_late first (block_words (heap_in c s))
+      more_pending c.width c.threads (opening_blocks c) (every_name (start_graph c)) (start_graph c) (opening_at c.width c.threads) (block_words (heap_in c s)) none_pending
+      (words_change c.width c.threads (opening_blocks c) (every_name (start_graph c)) (start_graph c) (opening_at c.width c.threads) (opening_words c) none_pending first (block_words (heap_in c s))
       (λ x j pos low jl. (agrees x pos (omega arith)).payloads j jl)
       (λ a o ka ol. agrees (opening_at c.width c.threads a o) (omega arith) (first.placed.within a o ka ol)))
-      (lates (loads_in c s)) (λ t r tl rl e. refl)
+      (pending_registers (loads_in c s)) (λ t r tl rl e. refl)
 
   follows : Follows c.width c.threads (opening_blocks c) (every_name (start_graph c)) (opening_at c.width c.threads) (graph_state c (opened s))
   follows = record {

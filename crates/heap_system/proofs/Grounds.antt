@@ -154,7 +154,7 @@ module _ (c : Config) (bounds : IsInBounds c) (plan : IsAdmitted c) where
     where
       by : (p : Part) → array_part c.width e o j ≡ p → CanHold (extent c) (PayloadOf x j) (part_word head (λ p. first + p) field p)
       by (Link q) is = let within = ((tree_layout (payloads c.width) e (many c.width)).onward o j q is).2 in block_held x j (first + q) (omega arith) (omega arith)
-      by (Field i) is = fields i ((tree_layout (payloads c.width) e (many c.width)).spots o j i is).0
+      by (Field i) is = fields i ((tree_layout (payloads c.width) e (many c.width)).slots o j i is).0
       by Blank is = nothing_held x j
 
   abbrev shared_first : ℕ

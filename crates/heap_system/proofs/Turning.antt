@@ -119,7 +119,7 @@ said_more log trace e k is following low said =
 -- the other threads' rows say the same of a graph in which their registers are the same
 row_stays : (g new : Graph) (u : ℕ) (k : Command) (r : FieldRow) → ((q : ℕ) → register_of new u q ≡ register_of g u q) → (KnownAt g u k r → KnownAt new u k r) × (due_at new u k r ≡ due_at g u k r)
 row_stays g new u k (rows.LoadOwner word) same = (λ x. x, rw (same (to_register k)) refl)
-row_stays g new u k (rows.StoreLate word value) same = (let s : register_of new u (to_register k) ≡ register_of g u (to_register k) = same (to_register k) in (λ x. x ∙ sym s, rw s refl))
+row_stays g new u k (rows.StorePending word value) same = (let s : register_of new u (to_register k) ≡ register_of g u (to_register k) = same (to_register k) in (λ x. x ∙ sym s, rw s refl))
 row_stays g new u k (rows.LoadSaidOwner word) same = (λ x. x, rw (same (from_register k)) refl)
 row_stays g new u k _ same = (λ x. x, refl)
 

@@ -20,7 +20,7 @@ ghost use Rattle.shown_graph.specs.Words.{block_words, Agrees};
 ghost use Rattle.shown_graph.specs.Shown.{every_name, Shows};
 ghost use Rattle.shown_graph.specs.Openings.{opening_at, opening_words};
 ghost use Rattle.array_trees.specs.Openings.{opening_blocks};
-ghost use Rattle.shown_graph.specs.Events.{unloaded, lates, Follows};
+ghost use Rattle.shown_graph.specs.Events.{unloaded, pending_registers, Follows};
 ghost use Rattle.heap_machine.specs.Counts.{total};
 ghost use Rattle.heap_machine.specs.Gating.{is_inside};
 ghost use Rattle.heap_machine.specs.Grey.{GreyKept};
@@ -56,14 +56,14 @@ pub fn words_show_the_order()
     ensures words { (c : Config) (r : Run) → IsAfterTurns c r
         → Shows c.width c.threads (opening_blocks c) (every_name (start_graph c))
         (replay c r.order) (opening_at c.width c.threads) (block_words (heap_in c r.state))
-        (lates (graph_state c r).loads) }
+        (pending_registers (graph_state c r).loads) }
     ensures free { (c : Config) (r : Run) → IsAfterTurns c r
         → (a : Name) (o : ℕ) → has_name (start_graph c) a ≡ true
         → o < object_blocks c.width (object_of (replay c r.order) a)
         → is_free (heap_in c r.state (ColourOf (opening_at c.width c.threads a o))) ≡ false }
     ensures older { (c : Config) (r : Run) → IsAfterTurns c r
         → (t q : ℕ) → t < c.threads → q < REGISTERS
-        → lates (graph_state c r).loads t q ≡ true → IsOlder c r t q }
+        → pending_registers (graph_state c r).loads t q ≡ true → IsOlder c r t q }
     ensures loads { (c : Config) (r : Run) → IsAfterTurns c r
         → Follows c.width c.threads (opening_blocks c) (every_name (start_graph c))
         (opening_at c.width c.threads) (graph_state c r) }

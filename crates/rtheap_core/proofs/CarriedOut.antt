@@ -2,7 +2,7 @@
 use Rattle.std.proofs.Common.{ℕ, ◌≡◌, ◌≢◌, ◌<◌, ◌⊎◌, ◌↔◌, inl, inr, List, [], ◌∷◌, Option, Some, None, IfSome, IsSome, refl, sym, ◌∙◌, subst, arith}
 use Rattle.std.proofs.lemmas.Bool.{cases_eq}
 use Rattle.trace_text.specs.Faults.{Rose}
-use Rattle.trace_text.specs.Streams.{Appends, AppendsFront}
+use Rattle.trace_text.specs.Streams.{Appends, AppendsPrefix}
 use Rattle.trace_text.specs.Texts.{run_text}
 use Rattle.rtheap_core.specs.declared.exit.RunEnd.{RunEnd}
 use Rattle.rtheap_core.specs.declared.exit.RunEnd.TheVariants.{Ran}
@@ -117,7 +117,7 @@ not_some o e s =
 pub refusal_is_carried_out : (c : Call) (r : Refusal) → c.exit.due ≡ status_of r
     → c.exit.run ≡ None → IsCause c.words c.source r
     → (c.exit.status ≢ 6 → Appends c.sink.bytes c.sink.bytes_now (refusal_line r))
-    → (c.exit.status ≡ 6 → AppendsFront c.sink.bytes c.sink.bytes_now (refusal_line r))
+    → (c.exit.status ≡ 6 → AppendsPrefix c.sink.bytes c.sink.bytes_now (refusal_line r))
     → IsTold c → IsCarriedOut c
 refusal_is_carried_out c r due is cause line front t =
     let usage = usage_is c.words c.source r cause in
@@ -128,7 +128,7 @@ refusal_is_carried_out c r due is cause line front t =
       any_due = subst IsDue (sym due) (is_due r);
       any_status = t.status;
       refused = λ _.
-          record { refusal = r; is_due = due; cause = cause; line = line; front = front };
+          record { refusal = r; is_due = due; cause = cause; line = line; prefix = front };
       usage = (λ e. usage.0 (sym due ∙ e), λ n. due ∙ usage.1 n);
       read_fault = λ e. fault_rose c.words c.source r cause (sym due ∙ e);
       read_fault_told = λ more. due ∙ fault_is c.words c.source r cause more;

@@ -3,7 +3,7 @@
 ghost use Rattle.std.specs.Prelude.{◌≡◌, ◌≢◌, ◌<◌, ◌≤◌, ◌⊎◌, ◌↔◌, List, ℕ, [], ◌∷◌, length, map, string_bytes, IsSome, Some, None, IfSome, IfOk, IfErr, OnOk};
 ghost use Rattle.rate_plan.specs.Rates.{IsAdmitted, IsRate};
 ghost use Rattle.trace_text.specs.Faults.{Rose};
-ghost use Rattle.trace_text.specs.Streams.{Appends, AppendsFront};
+ghost use Rattle.trace_text.specs.Streams.{Appends, AppendsPrefix};
 ghost use Rattle.trace_text.specs.Texts.{run_text};
 ghost use Rattle.rtheap_core.specs.declared.exit.RunEnd.{RunEnd};
 ghost use Rattle.rtheap_core.specs.declared.exit.RunEnd.TheVariants as ends;
@@ -176,8 +176,8 @@ fn refused<K: Sink>(refusal: Refusal, sink: &mut K) -> Exit
     ensures status { (result.status ≡ result.due) ⊎ (result.status ≡ 6) }
     ensures line { result.status ≢ 6
         → Appends (K.held sink.old) (K.held sink.new) (refusal_line refusal) }
-    ensures front { result.status ≡ 6
-        → AppendsFront (K.held sink.old) (K.held sink.new) (refusal_line refusal) }
+    ensures prefix { result.status ≡ 6
+        → AppendsPrefix (K.held sink.old) (K.held sink.new) (refusal_line refusal) }
     ensures still { result.status ≢ 6 → K.faults sink.new ≡ K.faults sink.old }
     ensures rose { result.status ≡ 6 → Rose (K.faults sink.old) (K.faults sink.new) }
 {
@@ -191,7 +191,7 @@ fn told<K: Sink>(line: &LineBuffer, due: u8, sink: &mut K) -> Exit
     ensures run { result.run ≡ None }
     ensures status { (result.status ≡ due) ⊎ (result.status ≡ 6) }
     ensures line { result.status ≢ 6 → Appends (K.held sink.old) (K.held sink.new) line.now }
-    ensures front { result.status ≡ 6 → AppendsFront (K.held sink.old) (K.held sink.new) line.now }
+    ensures prefix { result.status ≡ 6 → AppendsPrefix (K.held sink.old) (K.held sink.new) line.now }
     ensures still { result.status ≢ 6 → K.faults sink.new ≡ K.faults sink.old }
     ensures rose { result.status ≡ 6 → Rose (K.faults sink.old) (K.faults sink.new) }
 {

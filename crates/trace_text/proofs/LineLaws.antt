@@ -213,7 +213,7 @@ turn_agree c t k w ps =
     let n = length (operands w) in
     first_test (is_command w && eqb t 0) whys.Order _ _
     (rw (values_are ps, count_length ps n)
-    (counted (count_is n ps) (list_any (λ piece. not (is_number piece)) ps) (map value_of ps)
+    (counted (count_is n ps) (list_any (λ token. not (is_number token)) ps) (map value_of ps)
     (told_at (place c t k) w) _
     (λ h. told_agree c t k w (map value_of ps) (count_map value_of n ps ∙ h))))
 

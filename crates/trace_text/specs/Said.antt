@@ -1,4 +1,4 @@
--- What a line says, by its pieces, or the reason why it says nothing.
+-- What a line says, by its tokens, or the reason why it says nothing.
 use Rattle.std.specs.Prelude.{ℕ, zero, suc, ◌≡◌, ◌==◌, ◌<◌, ◌^◌, nat_le, nat_lt, Bool, true, false, not, ◌&&◌, ◌||◌, List, [], ◌∷◌, length, Result, Ok, Err, if◌then◌else◌}
 use Rattle.std.specs.Option.{ok_or}
 use Rattle.block_store.specs.declared.Config.{Config}
@@ -29,9 +29,9 @@ abbrev pub Tells : {X Y : Type 0} → (X → Y) → Result X Why → Result Y Wh
 Tells view (Ok x) read = read ≡ Ok (view x)
 Tells view (Err why) read = read ≡ Err why
 
--- the number of a piece
+-- the number of a token
 abbrev pub spelled : List ℕ → Result ℕ Why
-spelled piece = ok_or (number_at piece) whys.Number
+spelled token = ok_or (number_at token) whys.Number
 
 -- there are this many
 abbrev pub count_is : {A : Type 0} → ℕ → List A → Bool
@@ -40,17 +40,17 @@ count_is zero (x ∷ xs) = false
 count_is (suc n) [] = false
 count_is (suc n) (x ∷ xs) = count_is n xs
 
--- the numbers of pieces
+-- the numbers of tokens
 abbrev pub values_at : List (List ℕ) → Result (List ℕ) Why
 values_at [] = Ok []
-values_at (piece ∷ pieces) = do
-  n ← spelled piece
-  ns ← values_at pieces
+values_at (token ∷ tokens) = do
+  n ← spelled token
+  ns ← values_at tokens
   Ok (n ∷ ns)
 
--- the numbers of this many pieces
+-- the numbers of this many tokens
 unfoldable pub numbers_at : ℕ → List (List ℕ) → Result (List ℕ) Why
-numbers_at n pieces = if count_is n pieces then values_at pieces else Err whys.Count
+numbers_at n tokens = if count_is n tokens then values_at tokens else Err whys.Count
 
 -- the registers of a command are registers
 abbrev pub HasRegisters : Command → Type 0
@@ -137,14 +137,14 @@ told_at p words.Same ns =
 told_at p words.Say ns =
     on_one ns (λ s. register_at s >>= λ s. fitted p (commands.Say s))
 
--- what a word and the pieces behind it say
+-- what a word and the tokens behind it say
 unfoldable pub operands_at : Place → Word → List (List ℕ) → Result Line Why
-operands_at p word pieces = numbers_at (length (operands word)) pieces >>= told_at p word
+operands_at p word tokens = numbers_at (length (operands word)) tokens >>= told_at p word
 
 -- the same, where a command comes only behind a thread
 abbrev pub in_turn : Place → Word → List (List ℕ) → Result Line Why
-in_turn p word pieces =
-    if is_command word && p.threads == 0 then Err whys.Order else operands_at p word pieces
+in_turn p word tokens =
+    if is_command word && p.threads == 0 then Err whys.Order else operands_at p word tokens
 
 -- what a line says
 unfoldable pub line_at : Place → List (List ℕ) → Result Line Why
@@ -160,19 +160,19 @@ bounded_at least most n = if nat_lt n least || nat_lt most n then Err whys.Size 
 -- the configuration that a header names
 unfoldable pub header_at : List (List ℕ) → Result Config Why
 header_at line = do
-  pieces ← ok_or (labels_at line) whys.Header
-  threads ← spelled pieces.1
-  blocks ← spelled pieces.2
-  live ← spelled pieces.3
-  object ← spelled pieces.4
-  shared ← spelled pieces.5
+  tokens ← ok_or (labels_at line) whys.Header
+  threads ← spelled tokens.1
+  blocks ← spelled tokens.2
+  live ← spelled tokens.3
+  object ← spelled tokens.4
+  shared ← spelled tokens.5
   threads ← bounded_at 1 16 threads
   blocks ← bounded_at 1 65535 blocks
   live ← bounded_at 0 65535 live
   object ← bounded_at 1 1024 object
   shared ← bounded_at 0 1024 shared
   Ok (record {
-    width = pieces.0;
+    width = tokens.0;
     threads = threads;
     blocks = blocks;
     live = live;

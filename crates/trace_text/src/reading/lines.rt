@@ -2,13 +2,13 @@
 
 ghost use Rattle.std.specs.Prelude.{◌≡◌, ◌<◌, ◌∷◌, [], IfOk};
 ghost use Rattle.std.specs.Option.{option_copied};
-ghost use Rattle.trace_text.specs.Lines.{pieces_of};
-ghost use Rattle.trace_text.specs.Reading.{pieces_left};
+ghost use Rattle.trace_text.specs.Lines.{tokens_of};
+ghost use Rattle.trace_text.specs.Reading.{tokens_left};
 ghost use Rattle.trace_text.specs.Said.{Tells, HasRegisters, spelled, numbers_at, register_at, length_at, fitted, operands_at, line_at};
 ghost use Rattle.trace_text.specs.declared.reading.words.Word.TheVariants as words;
 
 use crate::reading::numbers::number_of;
-use crate::reading::pieces::{first_piece, no_more, one_piece, three_pieces, two_pieces};
+use crate::reading::tokens::{first_token, no_more, one_token, three_tokens, two_tokens};
 use crate::reading::words::{Word, word_of};
 use crate::trace_faults::Why;
 use block_store::{Config, REGISTERS};
@@ -40,9 +40,9 @@ pub struct Place {
 /// their ranges.
 #[tactic(auto, unfolding(crate::specs::Said::line_at))]
 pub fn line_of(place: &Place, line: &[u8]) -> Result<Line, Why>
-    ensures { result ≡ line_at place.now (pieces_of line.now) }
+    ensures { result ≡ line_at place.now (tokens_of line.now) }
 {
-    let (first, operands) = first_piece(line);
+    let (first, operands) = first_token(line);
     let word = word_of(first).ok_or(Why::Word)?;
     if word.is_command() && place.threads == 0 {
         return Err(Why::Order);
@@ -66,7 +66,7 @@ pub fn line_of(place: &Place, line: &[u8]) -> Result<Line, Why>
 #[tactic(auto, unfolding(crate::specs::Said::operands_at, crate::specs::Said::told_at))]
 fn thread_of(place: &Place, operands: Option<&[u8]>) -> Result<Line, Why>
     ensures { result ≡
-        operands_at place.now words.Thread (pieces_left (option_copied operands.entry)) }
+        operands_at place.now words.Thread (tokens_left (option_copied operands.entry)) }
 {
     let thread = one_number(operands)?;
     if thread != u64::from(place.threads) || place.threads == place.config.threads {
@@ -78,7 +78,7 @@ fn thread_of(place: &Place, operands: Option<&[u8]>) -> Result<Line, Why>
 #[tactic(auto, unfolding(crate::specs::Said::operands_at, crate::specs::Said::told_at))]
 fn end_of(place: &Place, operands: Option<&[u8]>) -> Result<Line, Why>
     ensures { result ≡
-        operands_at place.now words.End (pieces_left (option_copied operands.entry)) }
+        operands_at place.now words.End (tokens_left (option_copied operands.entry)) }
 {
     no_number(operands)?;
     if place.threads != place.config.threads {
@@ -90,7 +90,7 @@ fn end_of(place: &Place, operands: Option<&[u8]>) -> Result<Line, Why>
 #[tactic(auto, unfolding(crate::specs::Said::operands_at, crate::specs::Said::told_at))]
 fn new_of(place: &Place, operands: Option<&[u8]>) -> Result<Line, Why>
     ensures { result ≡
-        operands_at place.now words.New (pieces_left (option_copied operands.entry)) }
+        operands_at place.now words.New (tokens_left (option_copied operands.entry)) }
 {
     let (d, fields) = two_numbers(operands)?;
     let d = register(d)?;
@@ -101,7 +101,7 @@ fn new_of(place: &Place, operands: Option<&[u8]>) -> Result<Line, Why>
 #[tactic(auto, unfolding(crate::specs::Said::operands_at, crate::specs::Said::told_at))]
 fn arr_of(place: &Place, operands: Option<&[u8]>) -> Result<Line, Why>
     ensures { result ≡
-        operands_at place.now words.Arr (pieces_left (option_copied operands.entry)) }
+        operands_at place.now words.Arr (tokens_left (option_copied operands.entry)) }
 {
     let (d, elements) = two_numbers(operands)?;
     let d = register(d)?;
@@ -112,7 +112,7 @@ fn arr_of(place: &Place, operands: Option<&[u8]>) -> Result<Line, Why>
 #[tactic(auto, unfolding(crate::specs::Said::operands_at, crate::specs::Said::told_at))]
 fn set_of(place: &Place, operands: Option<&[u8]>) -> Result<Line, Why>
     ensures { result ≡
-        operands_at place.now words.Set (pieces_left (option_copied operands.entry)) }
+        operands_at place.now words.Set (tokens_left (option_copied operands.entry)) }
 {
     let (d, value) = two_numbers(operands)?;
     let d = register(d)?;
@@ -122,7 +122,7 @@ fn set_of(place: &Place, operands: Option<&[u8]>) -> Result<Line, Why>
 #[tactic(auto, unfolding(crate::specs::Said::operands_at, crate::specs::Said::told_at))]
 fn nil_of(place: &Place, operands: Option<&[u8]>) -> Result<Line, Why>
     ensures { result ≡
-        operands_at place.now words.Nil (pieces_left (option_copied operands.entry)) }
+        operands_at place.now words.Nil (tokens_left (option_copied operands.entry)) }
 {
     let d = one_number(operands)?;
     let d = register(d)?;
@@ -132,7 +132,7 @@ fn nil_of(place: &Place, operands: Option<&[u8]>) -> Result<Line, Why>
 #[tactic(auto, unfolding(crate::specs::Said::operands_at, crate::specs::Said::told_at))]
 fn mov_of(place: &Place, operands: Option<&[u8]>) -> Result<Line, Why>
     ensures { result ≡
-        operands_at place.now words.Mov (pieces_left (option_copied operands.entry)) }
+        operands_at place.now words.Mov (tokens_left (option_copied operands.entry)) }
 {
     let (d, s) = two_numbers(operands)?;
     let d = register(d)?;
@@ -143,7 +143,7 @@ fn mov_of(place: &Place, operands: Option<&[u8]>) -> Result<Line, Why>
 #[tactic(auto, unfolding(crate::specs::Said::operands_at, crate::specs::Said::told_at))]
 fn get_of(place: &Place, operands: Option<&[u8]>) -> Result<Line, Why>
     ensures { result ≡
-        operands_at place.now words.Get (pieces_left (option_copied operands.entry)) }
+        operands_at place.now words.Get (tokens_left (option_copied operands.entry)) }
 {
     let (d, s, i) = three_numbers(operands)?;
     let d = register(d)?;
@@ -154,7 +154,7 @@ fn get_of(place: &Place, operands: Option<&[u8]>) -> Result<Line, Why>
 #[tactic(auto, unfolding(crate::specs::Said::operands_at, crate::specs::Said::told_at))]
 fn put_of(place: &Place, operands: Option<&[u8]>) -> Result<Line, Why>
     ensures { result ≡
-        operands_at place.now words.Put (pieces_left (option_copied operands.entry)) }
+        operands_at place.now words.Put (tokens_left (option_copied operands.entry)) }
 {
     let (s, i, v) = three_numbers(operands)?;
     let s = register(s)?;
@@ -165,7 +165,7 @@ fn put_of(place: &Place, operands: Option<&[u8]>) -> Result<Line, Why>
 #[tactic(auto, unfolding(crate::specs::Said::operands_at, crate::specs::Said::told_at))]
 fn len_of(place: &Place, operands: Option<&[u8]>) -> Result<Line, Why>
     ensures { result ≡
-        operands_at place.now words.Len (pieces_left (option_copied operands.entry)) }
+        operands_at place.now words.Len (tokens_left (option_copied operands.entry)) }
 {
     let s = one_number(operands)?;
     let s = register(s)?;
@@ -175,7 +175,7 @@ fn len_of(place: &Place, operands: Option<&[u8]>) -> Result<Line, Why>
 #[tactic(auto, unfolding(crate::specs::Said::operands_at, crate::specs::Said::told_at))]
 fn same_of(place: &Place, operands: Option<&[u8]>) -> Result<Line, Why>
     ensures { result ≡
-        operands_at place.now words.Same (pieces_left (option_copied operands.entry)) }
+        operands_at place.now words.Same (tokens_left (option_copied operands.entry)) }
 {
     let (a, b) = two_numbers(operands)?;
     let a = register(a)?;
@@ -186,7 +186,7 @@ fn same_of(place: &Place, operands: Option<&[u8]>) -> Result<Line, Why>
 #[tactic(auto, unfolding(crate::specs::Said::operands_at, crate::specs::Said::told_at))]
 fn say_of(place: &Place, operands: Option<&[u8]>) -> Result<Line, Why>
     ensures { result ≡
-        operands_at place.now words.Say (pieces_left (option_copied operands.entry)) }
+        operands_at place.now words.Say (tokens_left (option_copied operands.entry)) }
 {
     let s = one_number(operands)?;
     let s = register(s)?;
@@ -227,45 +227,45 @@ fn length(number: u64) -> Result<u32, Why>
     Ok(number as u32)
 }
 
-/// That no piece is left.
+/// That no token is left.
 #[tactic(auto, using(crate::proofs::Numbers::none_is))]
-fn no_number(pieces: Option<&[u8]>) -> Result<(), Why>
-    ensures { Tells (λ _. []) result (numbers_at 0 (pieces_left (option_copied pieces.entry))) }
+fn no_number(tokens: Option<&[u8]>) -> Result<(), Why>
+    ensures { Tells (λ _. []) result (numbers_at 0 (tokens_left (option_copied tokens.entry))) }
 {
-    no_more(pieces).ok_or(Why::Count)
+    no_more(tokens).ok_or(Why::Count)
 }
 
-/// The number that the one piece spells.
+/// The number that the one token spells.
 #[tactic(auto, using(crate::proofs::Numbers::one_is))]
-fn one_number(pieces: Option<&[u8]>) -> Result<u64, Why>
-    ensures { Tells (λ n. n ∷ []) result (numbers_at 1 (pieces_left (option_copied pieces.entry))) }
+fn one_number(tokens: Option<&[u8]>) -> Result<u64, Why>
+    ensures { Tells (λ n. n ∷ []) result (numbers_at 1 (tokens_left (option_copied tokens.entry))) }
 {
-    spelled(one_piece(pieces).ok_or(Why::Count)?)
+    spelled(one_token(tokens).ok_or(Why::Count)?)
 }
 
-/// The numbers that the two pieces spell.
+/// The numbers that the two tokens spell.
 #[tactic(auto, using(crate::proofs::Numbers::two_is))]
-fn two_numbers(pieces: Option<&[u8]>) -> Result<(u64, u64), Why>
+fn two_numbers(tokens: Option<&[u8]>) -> Result<(u64, u64), Why>
     ensures { Tells (λ n. n.0 ∷ n.1 ∷ []) result
-        (numbers_at 2 (pieces_left (option_copied pieces.entry))) }
+        (numbers_at 2 (tokens_left (option_copied tokens.entry))) }
 {
-    let (first, second) = two_pieces(pieces).ok_or(Why::Count)?;
+    let (first, second) = two_tokens(tokens).ok_or(Why::Count)?;
     Ok((spelled(first)?, spelled(second)?))
 }
 
-/// The numbers that the three pieces spell.
+/// The numbers that the three tokens spell.
 #[tactic(auto, using(crate::proofs::Numbers::three_is))]
-fn three_numbers(pieces: Option<&[u8]>) -> Result<(u64, u64, u64), Why>
+fn three_numbers(tokens: Option<&[u8]>) -> Result<(u64, u64, u64), Why>
     ensures { Tells (λ n. n.0 ∷ n.1 ∷ n.2 ∷ []) result
-        (numbers_at 3 (pieces_left (option_copied pieces.entry))) }
+        (numbers_at 3 (tokens_left (option_copied tokens.entry))) }
 {
-    let (first, second, third) = three_pieces(pieces).ok_or(Why::Count)?;
+    let (first, second, third) = three_tokens(tokens).ok_or(Why::Count)?;
     Ok((spelled(first)?, spelled(second)?, spelled(third)?))
 }
 
-/// The number that a piece spells.
-pub fn spelled(piece: &[u8]) -> Result<u64, Why>
-    ensures { result ≡ spelled piece.now }
+/// The number that a token spells.
+pub fn spelled(token: &[u8]) -> Result<u64, Why>
+    ensures { result ≡ spelled token.now }
 {
-    number_of(piece).ok_or(Why::Number)
+    number_of(token).ok_or(Why::Number)
 }

@@ -18,7 +18,7 @@ returns-in-None g c =
     let r = c.refused.ensures in
     record {
       done = refusal_is_carried_out _ Usage r.due r.run
-          (c.in-None.ensures, refl, refl) r.line r.front
+          (c.in-None.ensures, refl, refl) r.line r.prefix
           record { status = r.status; still = r.still; rose = r.rose };
     }
 
@@ -28,7 +28,7 @@ returns-in-Err g c =
     record {
       done = refusal_is_carried_out _ c.in-Err.refusal r.due r.run
           (c.in-Err.ensures.refused (map (λ w. string_bytes w) c.args.words.now)
-          (rw c.in-Some-Run.field-0-is at c.in-Some-Run.ensures)) r.line r.front
+          (rw c.in-Some-Run.field-0-is at c.in-Some-Run.ensures)) r.line r.prefix
           record { status = r.status; still = r.still; rose = r.rose };
     }
 
@@ -38,6 +38,6 @@ returns-in-Err-rated g c =
     record {
       done = refusal_is_carried_out _ c.in-Err-rated.refusal r.due r.run
           (c.in-Err-rated.ensures.refused (map (λ w. string_bytes w) c.args.words.now)
-          (rw c.in-Some-Plan.field-0-is at c.in-Some-Plan.ensures)) r.line r.front
+          (rw c.in-Some-Plan.field-0-is at c.in-Some-Plan.ensures)) r.line r.prefix
           record { status = r.status; still = r.still; rose = r.rose };
     }
