@@ -29,15 +29,19 @@ depth_is_within w (suc n) q hw hn hq = elim (cases_lt 1 q) [
   | inl some ↦
       let less : blocks_over w q < q = over_less w q hw some in
       let above = depth_is_within w n (blocks_over w q) hw (omega arith) (over_some w q hw hq) in
-      let root : level w q (suc (depth_within w n (blocks_over w q))) ≡ 1 = level-suc w q (depth_within w n (blocks_over w q)) ∙ above.0 in
-      let more : (h : ℕ) → h < suc (depth_within w n (blocks_over w q)) → 1 < level w q h = λ h low. more_levels w q (depth_within w n (blocks_over w q)) some above.1 h low in
+      let root : level w q (suc (depth_within w n (blocks_over w q))) ≡ 1 =
+      level-suc w q (depth_within w n (blocks_over w q)) ∙ above.0 in
+      let more : (h : ℕ) → h < suc (depth_within w n (blocks_over w q)) → 1 < level w q h =
+      λ h low. more_levels w q (depth_within w n (blocks_over w q)) some above.1 h low in
       rw (lt-ltb 1 q some) (root, more)
   | inr few ↦ rw (le-ltb 1 q few) (omega arith, λ h low. absurd (omega arith))
 ]
   where
-    more_levels : (w q d : ℕ) → 1 < q → ((h : ℕ) → h < d → 1 < level w (blocks_over w q) h) → (h : ℕ) → h < suc d → 1 < level w q h
+    more_levels : (w q d : ℕ) → 1 < q → ((h : ℕ) → h < d → 1 < level w (blocks_over w q) h)
+        → (h : ℕ) → h < suc d → 1 < level w q h
     more_levels w q d some above zero low = some
-    more_levels w q d some above (suc h) low = subst (λ x. 1 < x) (sym (level-suc w q h)) (above h (omega arith))
+    more_levels w q d some above (suc h) low =
+        subst (λ x. 1 < x) (sym (level-suc w q h)) (above h (omega arith))
 
 pub some_leaf : (w e : ℕ) → 0 < leaves w e
 some_leaf w e = omega arith
@@ -51,16 +55,22 @@ depth_is w e hw =
 -- the blocks above have room for all blocks of a level
 over_times : (w q : ℕ) → 1 < w → q ≤ blocks_over w q * w
 over_times w q hw =
-    let less : q + (w - 1) < (q + (w - 1)) / w * w + w = lt-div-mul-add {a = q + (w - 1)} {b = w} (omega arith) in
+    let less : q + (w - 1) < (q + (w - 1)) / w * w + w =
+    lt-div-mul-add {a = q + (w - 1)} {b = w} (omega arith) in
     omega arith
 
-pub array_levels : (w e : ℕ) → 1 < w → IsLevels w e (tree_depth w e) (level_start w e) (level_size w e)
+pub array_levels : (w e : ℕ) → 1 < w
+    → IsLevels w e (tree_depth w e) (level_start w e) (level_size w e)
 array_levels w e hw = record {
   wide = hw;
   origin = subst (λ x. tree w x - x ≡ 0) (sym depth.root) (omega (arith, tree-one w));
   root = depth.root;
   joins = λ h low.
-      omega (arith, tree-more w (level_size w e h) hw (depth.more h low), le-tree w (level_size w e (suc h)) hw);
+      omega (
+        arith,
+        tree-more w (level_size w e h) hw (depth.more h low),
+        le-tree w (level_size w e (suc h)) hw,
+      );
   under = λ h low. over_times w (level_size w e h) hw;
   leaves =
       let most : blocks_over w e * w ≤ leaves w e * w = mul-le-mul_right w (omega arith) in
@@ -105,41 +115,51 @@ module _ (w e : ℕ) (hw : 1 < w) where
   tree_fields : (i : ℕ) → i < e → tree_part w e (level_start w e 0 + i / w) (i % w) ≡ Field i
   unfolding whole_part
   tree_fields i fits =
-      tree_at (level_start w e 0 + i / w) (i % w) (mod_below i w (omega arith)) ∙ way_end w e (tree_depth w e) (level_start w e) (level_size w e) levels i fits
+      tree_at (level_start w e 0 + i / w) (i % w) (mod_below i w (omega arith))
+      ∙ way_end w e (tree_depth w e) (level_start w e) (level_size w e) levels i fits
 
   tree_spots : (o j i : ℕ) → tree_part w e o j ≡ Field i
-      → (i < e) × (o < tree w (leaves w e)) × (j < w) × (o ≡ level_start w e 0 + i / w) × (j ≡ i % w)
+      → (i < e) × (o < tree w (leaves w e)) × (j < w) × (o ≡ level_start w e 0 + i / w)
+      × (j ≡ i % w)
   unfolding whole_part
   tree_spots o j i at =
       let inside = tree_field o j i at in
       let (fits, low, row, column) =
-      spots_from w e (tree_depth w e) (level_start w e) (level_size w e) levels (tree_depth w e) o j i (omega arith) (from_root o) inside.0 inside.1 in
+      spots_from w e (tree_depth w e) (level_start w e) (level_size w e) levels
+      (tree_depth w e) o j i (omega arith) (from_root o) inside.0 inside.1 in
       (fits, omega (arith, all_blocks, low), inside.0, row, column)
 
-  tree_onward : (o j p : ℕ) → tree_part w e o j ≡ Link p → (j < w) × (o < p) × (p < tree w (leaves w e))
+  tree_onward : (o j p : ℕ) → tree_part w e o j ≡ Link p
+      → (j < w) × (o < p) × (p < tree w (leaves w e))
   unfolding whole_part
   tree_onward o j p at =
       let inside = tree_link o j p at in
-      let both = links_onward w e (tree_depth w e) (level_start w e) (level_size w e) levels (tree_depth w e) o j p (omega arith) inside.1 in
+      let both = links_onward w e (tree_depth w e) (level_start w e) (level_size w e) levels
+      (tree_depth w e) o j p (omega arith) inside.1 in
       (inside.0, both.0, omega (arith, all_blocks, both.1))
 
   -- a link of the whole tree
-  tree_found : (p : ℕ) → (o : ℕ) × (j : ℕ) × (level_start w e (tree_depth w e) ≤ o) × (j < w) × (whole_part o j ≡ Link p)
+  tree_found : (p : ℕ) → (o : ℕ) × (j : ℕ) × (level_start w e (tree_depth w e) ≤ o) × (j < w)
+      × (whole_part o j ≡ Link p)
       → (o : ℕ) × (j : ℕ) × (tree_part w e o j ≡ Link p)
   tree_found p (o, j, from, column, at) = (o, j, tree_at o j column ∙ at)
 
-  tree_linked : (p : ℕ) → 0 < p → p < tree w (leaves w e) → (o : ℕ) × (j : ℕ) × (tree_part w e o j ≡ Link p)
+  tree_linked : (p : ℕ) → 0 < p → p < tree w (leaves w e)
+      → (o : ℕ) × (j : ℕ) × (tree_part w e o j ≡ Link p)
   unfolding whole_part
   tree_linked p low high =
-      tree_found p (linked_from w e (tree_depth w e) (level_start w e) (level_size w e) levels (tree_depth w e) p (omega arith)
+      tree_found p (linked_from w e (tree_depth w e) (level_start w e) (level_size w e) levels
+      (tree_depth w e) p (omega arith)
       (omega (arith, levels.origin, levels.root)) (omega (arith, all_blocks)))
 
-  tree_once : (o j q k p : ℕ) → tree_part w e o j ≡ Link p → tree_part w e q k ≡ Link p → (o ≡ q) × (j ≡ k)
+  tree_once : (o j q k p : ℕ) → tree_part w e o j ≡ Link p → tree_part w e q k ≡ Link p
+      → (o ≡ q) × (j ≡ k)
   unfolding whole_part
   tree_once o j q k p at bt =
       let here = tree_link o j p at in
       let there = tree_link q k p bt in
-      once_from w e (tree_depth w e) (level_start w e) (level_size w e) levels (tree_depth w e) o j q k p (omega arith)
+      once_from w e (tree_depth w e) (level_start w e) (level_size w e) levels
+      (tree_depth w e) o j q k p (omega arith)
       (from_root o) (from_root q) here.0 there.0 here.1 there.1
 
   pub tree_layout : IsLayout w e (tree w (leaves w e)) (tree_part w e) (tree_spot w e)
@@ -160,21 +180,28 @@ module _ (w e : ℕ) (hw : 1 < w) where
 
   -- a block by its number in its level
   level_links : (h r j : ℕ) → h < tree_depth w e → r < level_size w e (suc h) → j < w
-      → tree_part w e (level_start w e (suc h) + r) j ≡ link_below (level_start w e h + (r * w + j)) (level_start w e h + level_size w e h)
+      → tree_part w e (level_start w e (suc h) + r) j
+      ≡ link_below (level_start w e h + (r * w + j)) (level_start w e h + level_size w e h)
   unfolding whole_part
   level_links h r j low inside column =
-      let join : level_start w e (suc h) + level_size w e (suc h) ≡ level_start w e h = levels.joins h low in
+      let join : level_start w e (suc h) + level_size w e (suc h) ≡ level_start w e h =
+      levels.joins h low in
       let back : level_start w e (suc h) + r - level_start w e (suc h) ≡ r = omega arith in
       tree_at (level_start w e (suc h) + r) j column
-      ∙ level_from w e (tree_depth w e) (level_start w e) (level_size w e) levels (tree_depth w e) h (level_start w e (suc h) + r) j low (omega arith) (omega arith) (omega arith)
-      ∙ ap (λ x. link_below (level_start w e h + (x * w + j)) (level_start w e h + level_size w e h)) back
+      ∙ level_from w e (tree_depth w e) (level_start w e) (level_size w e) levels
+      (tree_depth w e) h (level_start w e (suc h) + r) j low (omega arith) (omega arith)
+      (omega arith)
+      ∙ ap (λ x. link_below (level_start w e h + (x * w + j))
+      (level_start w e h + level_size w e h)) back
 
-  level_elements : (r j : ℕ) → j < w → tree_part w e (level_start w e 0 + r) j ≡ field_below (r * w + j) e
+  level_elements : (r j : ℕ) → j < w
+      → tree_part w e (level_start w e 0 + r) j ≡ field_below (r * w + j) e
   unfolding whole_part
   level_elements r j column =
       let back : level_start w e 0 + r - level_start w e 0 ≡ r = omega arith in
       tree_at (level_start w e 0 + r) j column
-      ∙ leaf_from w e (tree_depth w e) (level_start w e) (level_size w e) levels (tree_depth w e) (level_start w e 0 + r) j (omega arith) (omega arith)
+      ∙ leaf_from w e (tree_depth w e) (level_start w e) (level_size w e) levels (tree_depth w e)
+      (level_start w e 0 + r) j (omega arith) (omega arith)
       ∙ ap (λ x. field_below (x * w + j) e) back
 
   pub by_levels : IsByLevels w e
@@ -188,44 +215,60 @@ module _ (w e : ℕ) (hw : 1 < w) where
 
   -- the step from a level to the next one, by the numbers of levels below them
   step_on : (i h a b : ℕ) → i < e → h < tree_depth w e → a ≡ suc h → b ≡ h
-      → tree_part w e (level_start w e a + i / w ^ (a + 1)) (i / w ^ a % w) ≡ Link (level_start w e b + i / w ^ (b + 1))
+      → tree_part w e (level_start w e a + i / w ^ (a + 1)) (i / w ^ a % w)
+      ≡ Link (level_start w e b + i / w ^ (b + 1))
   unfolding whole_part
   step_on i h a b fits low here next =
       let above : suc (suc h) ≡ a + 1 = omega arith in
       let below : suc h ≡ b + 1 = omega arith in
-      let on : tree_part w e (level_start w e (suc h) + i / w ^ suc (suc h)) (i / w ^ suc h % w) ≡ Link (level_start w e h + i / w ^ suc h) =
-      tree_at (level_start w e (suc h) + i / w ^ suc (suc h)) (i / w ^ suc h % w) (mod_below (i / w ^ suc h) w (omega arith))
+      let on : tree_part w e (level_start w e (suc h) + i / w ^ suc (suc h)) (i / w ^ suc h % w)
+      ≡ Link (level_start w e h + i / w ^ suc h) =
+      tree_at (level_start w e (suc h) + i / w ^ suc (suc h)) (i / w ^ suc h % w)
+      (mod_below (i / w ^ suc h) w (omega arith))
       ∙ way_on w e (tree_depth w e) (level_start w e) (level_size w e) levels i h fits low in
-      let from : tree_part w e (level_start w e a + i / w ^ (a + 1)) (i / w ^ a % w) ≡ Link (level_start w e h + i / w ^ suc h) =
-      subst (λ x. tree_part w e (level_start w e a + i / w ^ x) (i / w ^ a % w) ≡ Link (level_start w e h + i / w ^ suc h)) above
-      (subst (λ x. tree_part w e (level_start w e x + i / w ^ suc (suc h)) (i / w ^ x % w) ≡ Link (level_start w e h + i / w ^ suc h)) (sym here) on) in
-      subst (λ x. tree_part w e (level_start w e a + i / w ^ (a + 1)) (i / w ^ a % w) ≡ Link (level_start w e b + i / w ^ x)) below
-      (subst (λ x. tree_part w e (level_start w e a + i / w ^ (a + 1)) (i / w ^ a % w) ≡ Link (level_start w e x + i / w ^ suc h)) (sym next) from)
+      let from : tree_part w e (level_start w e a + i / w ^ (a + 1)) (i / w ^ a % w)
+      ≡ Link (level_start w e h + i / w ^ suc h) =
+      subst (λ x. tree_part w e (level_start w e a + i / w ^ x) (i / w ^ a % w)
+      ≡ Link (level_start w e h + i / w ^ suc h)) above
+      (subst (λ x. tree_part w e (level_start w e x + i / w ^ suc (suc h)) (i / w ^ x % w)
+      ≡ Link (level_start w e h + i / w ^ suc h)) (sym here) on) in
+      subst (λ x. tree_part w e (level_start w e a + i / w ^ (a + 1)) (i / w ^ a % w)
+      ≡ Link (level_start w e b + i / w ^ x)) below
+      (subst (λ x. tree_part w e (level_start w e a + i / w ^ (a + 1)) (i / w ^ a % w)
+      ≡ Link (level_start w e x + i / w ^ suc h)) (sym next) from)
 
   -- the way begins at the root
   way_starts : (i h : ℕ) → i < e → h ≡ tree_depth w e → level_start w e h + i / w ^ (h + 1) ≡ 0
   way_starts i h fits is =
       let last : i / w ^ suc (tree_depth w e) < level_size w e (tree_depth w e) =
-      in_level w e (tree_depth w e) (level_start w e) (level_size w e) levels i (tree_depth w e) fits (omega arith) in
+      in_level w e (tree_depth w e) (level_start w e) (level_size w e) levels i
+      (tree_depth w e) fits (omega arith) in
       let up : suc (tree_depth w e) ≡ tree_depth w e + 1 = omega arith in
       let lowest : i / w ^ (tree_depth w e + 1) < level_size w e (tree_depth w e) =
       subst (λ x. i / w ^ x < level_size w e (tree_depth w e)) up last in
-      subst (λ x. level_start w e x + i / w ^ (x + 1) ≡ 0) (sym is) (omega (arith, levels.origin, levels.root))
+      subst (λ x. level_start w e x + i / w ^ (x + 1) ≡ 0) (sym is)
+      (omega (arith, levels.origin, levels.root))
 
   -- and ends at the element's place
-  way_ends : (i h : ℕ) → i < e → h ≡ 0 → tree_part w e (level_start w e h + i / w ^ (h + 1)) (i / w ^ h % w) ≡ Field i
+  way_ends : (i h : ℕ) → i < e → h ≡ 0
+      → tree_part w e (level_start w e h + i / w ^ (h + 1)) (i / w ^ h % w) ≡ Field i
   way_ends i h fits is =
       let zeroth : w ^ 0 ≡ 1 = pow-zero w in
       let first : w ^ (0 + 1) ≡ w = pow_one w in
       let own : i ≡ i / w ^ 0 = subst (λ x. i ≡ i / x) (sym zeroth) (omega arith) in
-      subst (λ x. tree_part w e (level_start w e x + i / w ^ (x + 1)) (i / w ^ x % w) ≡ Field i) (sym is)
+      subst (λ x. tree_part w e (level_start w e x + i / w ^ (x + 1)) (i / w ^ x % w) ≡ Field i)
+      (sym is)
       (subst (λ x. tree_part w e (level_start w e 0 + i / x) (i / w ^ 0 % w) ≡ Field i) (sym first)
-      (subst (λ x. tree_part w e (level_start w e 0 + i / w) (x % w) ≡ Field i) own (tree_fields i fits)))
+      (subst (λ x. tree_part w e (level_start w e 0 + i / w) (x % w) ≡ Field i) own
+      (tree_fields i fits)))
 
-  pub tree_is_way : (i : ℕ) → i < e → IsWay (tree_part w e) i (tree_depth w e) (tree_turn w e i (tree_depth w e)) (tree_way w e i) (tree_turn w e i)
+  pub tree_is_way : (i : ℕ) → i < e
+      → IsWay (tree_part w e) i (tree_depth w e) (tree_turn w e i (tree_depth w e))
+      (tree_way w e i) (tree_turn w e i)
   tree_is_way i fits = record {
     starts = way_starts i (tree_depth w e - 0) fits (omega arith);
     links = λ l low.
-        step_on i (tree_depth w e - (l + 1)) (tree_depth w e - l) (tree_depth w e - (l + 1)) fits (omega arith) (omega arith) refl;
+        step_on i (tree_depth w e - (l + 1)) (tree_depth w e - l) (tree_depth w e - (l + 1)) fits
+        (omega arith) (omega arith) refl;
     ends = way_ends i (tree_depth w e - tree_depth w e) fits (omega arith);
   }

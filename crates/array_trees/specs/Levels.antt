@@ -1,5 +1,8 @@
--- How an array lies in blocks of w payload words: level by level from the root, and from left to right in each level.
+-- How an array lies in blocks of w payload words: level by level from the root, and from left to
+-- right in each level.
 use Rattle.std.specs.Prelude.{ℕ, zero, suc, ◌+◌, ◌-◌, ◌*◌, ◌/◌, ◌%◌, ◌^◌, ◌<◌, ◌≡◌, nat_lt, if◌then◌else◌}
+use Rattle.block_store.specs.declared.Width.{Width}
+use Rattle.block_store.specs.Widths.{payloads}
 use Rattle.object_lists.specs.Parts.{Part, Blank, link_below, field_below}
 use Rattle.array_trees.specs.Trees.{blocks_over, leaves, tree}
 
@@ -30,9 +33,10 @@ level_size w e h = level w (leaves w e) h
 abbrev pub level_start : ℕ → ℕ → ℕ → ℕ
 level_start w e h = tree w (level_size w e h) - level_size w e h
 
--- What stands at payload j of block o, which is in the level that is h levels above the leaves or in one below. Of a level
--- that is h levels above the leaves, `start h` is the first ordinal and `size h` the number of blocks.
--- Block r of a level has as children the blocks r * w + j of the level below, as far as they exist.
+-- What stands at payload j of block o, which is in the level that is h levels above the leaves or
+-- in one below. Of a level that is h levels above the leaves, `start h` is the first ordinal and
+-- `size h` the number of blocks. Block r of a level has as children the blocks r * w + j of the
+-- level below, as far as they exist.
 abbrev pub part_from : ℕ → ℕ → (ℕ → ℕ) → (ℕ → ℕ) → ℕ → ℕ → ℕ → Part
 part_from w e start size zero o j = field_below ((o - start 0) * w + j) e
 part_from w e start size (suc h) o j =
@@ -42,17 +46,24 @@ part_from w e start size (suc h) o j =
 
 -- what stands at payload j of block o of an array of e elements
 abbrev pub tree_part : ℕ → ℕ → ℕ → ℕ → Part
-tree_part w e o j = if nat_lt j w then part_from w e (level_start w e) (level_size w e) (tree_depth w e) o j else Blank
+tree_part w e o j =
+    if nat_lt j w
+    then part_from w e (level_start w e) (level_size w e) (tree_depth w e) o j
+    else Blank
 
--- What `tree_part` is: the ordinals go level by level from the root, block r of a level that has one below it refers to the
--- blocks r * w to r * w + w - 1 of that level, as far as they exist, and a leaf r has the elements of these numbers.
+-- What `tree_part` is: the ordinals go level by level from the root, block r of a level that has
+-- one below it refers to the blocks r * w to r * w + w - 1 of that level, as far as they exist,
+-- and a leaf r has the elements of these numbers.
 pub record IsByLevels (w e : ℕ) : Type 0 where
   pub root : level_start w e (tree_depth w e) ≡ 0
-  pub next : (h : ℕ) → h < tree_depth w e → level_start w e h ≡ level_start w e (suc h) + level_size w e (suc h)
+  pub next : (h : ℕ) → h < tree_depth w e
+      → level_start w e h ≡ level_start w e (suc h) + level_size w e (suc h)
   pub last : tree w (leaves w e) ≡ level_start w e 0 + level_size w e 0
   pub links : (h r j : ℕ) → h < tree_depth w e → r < level_size w e (suc h) → j < w
-      → tree_part w e (level_start w e (suc h) + r) j ≡ link_below (level_start w e h + (r * w + j)) (level_start w e h + level_size w e h)
-  pub elements : (r j : ℕ) → j < w → tree_part w e (level_start w e 0 + r) j ≡ field_below (r * w + j) e
+      → tree_part w e (level_start w e (suc h) + r) j
+      ≡ link_below (level_start w e h + (r * w + j)) (level_start w e h + level_size w e h)
+  pub elements : (r j : ℕ) → j < w
+      → tree_part w e (level_start w e 0 + r) j ≡ field_below (r * w + j) e
 
 -- where element i stands: its leaf, and its payload
 abbrev pub tree_spot : ℕ → ℕ → ℕ → ℕ × ℕ
@@ -66,18 +77,18 @@ tree_way w e i l = level_start w e (tree_depth w e - l) + i / w ^ (tree_depth w 
 abbrev pub tree_turn : ℕ → ℕ → ℕ → ℕ → ℕ
 tree_turn w e i l = i / w ^ (tree_depth w e - l) % w
 
--- these functions for blocks of four payload words
-abbrev pub array_part : ℕ → ℕ → ℕ → Part
-array_part e o j = tree_part 4 e o j
+-- these functions for blocks of either width
+abbrev pub array_part : Width → ℕ → ℕ → ℕ → Part
+array_part w e o j = tree_part (payloads w) e o j
 
-abbrev pub array_spot : ℕ → ℕ → ℕ × ℕ
-array_spot e i = tree_spot 4 e i
+abbrev pub array_spot : Width → ℕ → ℕ → ℕ × ℕ
+array_spot w e i = tree_spot (payloads w) e i
 
-abbrev pub array_depth : ℕ → ℕ
-array_depth e = tree_depth 4 e
+abbrev pub array_depth : Width → ℕ → ℕ
+array_depth w e = tree_depth (payloads w) e
 
-abbrev pub array_way : ℕ → ℕ → ℕ → ℕ
-array_way e i l = tree_way 4 e i l
+abbrev pub array_way : Width → ℕ → ℕ → ℕ → ℕ
+array_way w e i l = tree_way (payloads w) e i l
 
-abbrev pub array_turn : ℕ → ℕ → ℕ → ℕ
-array_turn e i l = tree_turn 4 e i l
+abbrev pub array_turn : Width → ℕ → ℕ → ℕ → ℕ
+array_turn w e i l = tree_turn (payloads w) e i l

@@ -1,5 +1,7 @@
--- How many blocks an array takes, where each has w payload words. There are four.
+-- How many blocks an array takes, where each has w payload words.
 use Rattle.std.specs.Prelude.{ℕ, zero, suc, ◌+◌, ◌-◌, ◌/◌, ◌<◌, ◌≡◌, max, nat_lt, if◌then◌else◌}
+use Rattle.block_store.specs.declared.Width.{Width}
+use Rattle.block_store.specs.Widths.{payloads}
 
 -- the level over a level of q blocks has one block per w of them
 abbrev pub blocks_over : ℕ → ℕ → ℕ
@@ -14,7 +16,8 @@ abbrev pub tree_within : ℕ → ℕ → ℕ → ℕ
 tree_within w zero q = q
 tree_within w (suc n) q = if nat_lt 1 q then q + tree_within w n (blocks_over w q) else q
 
--- A level of q blocks with all levels over it. Each has fewer blocks than the one below, so there are fewer than q.
+-- A level of q blocks with all levels over it. Each has fewer blocks than the one below, so there
+-- are fewer than q.
 unfoldable pub tree : ℕ → ℕ → ℕ
 tree w q = tree_within w q q
 
@@ -24,5 +27,5 @@ pub record IsTree (w : ℕ) : Type 0 where
   pub more : (q : ℕ) → 1 < q → tree w q ≡ q + tree w (blocks_over w q)
 
 -- the blocks of an array of e elements
-abbrev pub array_blocks : ℕ → ℕ
-array_blocks e = tree 4 (leaves 4 e)
+abbrev pub array_blocks : Width → ℕ → ℕ
+array_blocks w e = tree (payloads w) (leaves (payloads w) e)

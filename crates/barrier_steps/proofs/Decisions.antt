@@ -8,7 +8,7 @@ use Rattle.block_store.specs.declared.Shape.{Shape}
 use Rattle.block_store.specs.Places.{extent}
 use Rattle.never_heap.specs.declared.Command.{Command}
 use Rattle.never_heap.specs.declared.Command.TheVariants as commands
-use Rattle.never_heap.specs.Steps.{blocks_of}
+use Rattle.never_heap.specs.Steps.{makes_object}
 use Rattle.barrier_steps.specs.declared.rows.FieldRow.{FieldRow}
 use Rattle.barrier_steps.specs.declared.rows.FieldRow.TheVariants.{StoreNumber, StoreNil, LoadMoved, StoreMoved, LoadObject, LoadShape, LoadValue, LoadLink, LoadField, LoadOwner, StoreLate, StoreField, LoadFirst, LoadSecond, LoadSaid, LoadSaidOwner, Answered}
 use Rattle.barrier_steps.specs.declared.rows.Way.{Way}
@@ -16,7 +16,6 @@ use Rattle.barrier_steps.specs.Operands.{field_index}
 use Rattle.barrier_steps.specs.Walks.{shape_length, links_to}
 use Rattle.barrier_steps.specs.Rows.{payload_in, shape_in, first_row, row_got, field_reply, field_decided, after_object, after_shape, after_field, after_said, at_block, on_way, way_from, way_on}
 use Rattle.barrier_steps.specs.Deciding.{refers, length_decides, is_deciding}
-use Rattle.barrier_steps.proofs.Blocks.{record_has_blocks, array_has_blocks}
 
 object_decided : (p : Payload) → field_decided (after_object p) ≡ not (refers p)
 object_decided payloads.Nil = refl
@@ -84,7 +83,7 @@ pub answered_decided : (row : FieldRow) → IsSome (field_reply row) → field_d
 answered_decided (Answered reply) h = refl
 answered_decided _ h = absurd cc
 
-pub first_undecided : (k : Command) → blocks_of k ≡ 0 → field_decided (first_row k) ≡ false
-first_undecided (commands.New d f) h = absurd (record_has_blocks d f h)
-first_undecided (commands.Arr d e) h = absurd (array_has_blocks d e h)
+pub first_undecided : (k : Command) → makes_object k ≡ false → field_decided (first_row k) ≡ false
+first_undecided (commands.New d f) h = absurd cc
+first_undecided (commands.Arr d e) h = absurd cc
 first_undecided _ h = refl

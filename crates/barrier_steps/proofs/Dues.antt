@@ -61,10 +61,10 @@ still_has c g t k (LoadSaidOwner word) w reply h e = tt
 still_has c g t k (Answered given) w reply h e = tt
 still_has c g t k _ w reply h e = absurd cc
 
-module _ (c : Config) (m : ℕ) (K : Name → Type 0) (at : Name → ℕ → ℕ) (few : c.blocks ≤ 65535) (low : m ≤ c.blocks) (s : GraphState) (follows : Follows c.threads m K at s) (h : Heap) where
+module _ (c : Config) (m : ℕ) (K : Name → Type 0) (at : Name → ℕ → ℕ) (few : c.blocks ≤ 65535) (low : m ≤ c.blocks) (s : GraphState) (follows : Follows c.width c.threads m K at s) (h : Heap) where
   pub row_due : (a : Name) (t : ℕ) (k : Command) (row : FieldRow) (w : ℕ) → FitsAt c t k row → IsAt (extent c) s h t k row w → InHandAt s a t k row → KnownAt s.graph t k row
-      → (due_at (after_event s (row_event (extent c) a t k row w)).graph t k (row_got (extent c) k row w) ≡ cond (is_deciding k row w) (Some (answer s.graph t k)) (due_at s.graph t k row))
-      × KnownAt (after_event s (row_event (extent c) a t k row w)).graph t k (row_got (extent c) k row w)
+      → (due_at (after_event (extent c) s (row_event (extent c) a t k row w)).graph t k (row_got (extent c) k row w) ≡ cond (is_deciding k row w) (Some (answer s.graph t k)) (due_at s.graph t k row))
+      × KnownAt (after_event (extent c) s (row_event (extent c) a t k row w)).graph t k (row_got (extent c) k row w)
   row_due a t k row w fits is hand known = elim (cases_Bool (field_decided row)) [
     | inl d ↦
         let quiet : is_deciding k row w ≡ false = decided_once k row w d in
@@ -77,11 +77,11 @@ module _ (c : Config) (m : ℕ) (K : Name → Type 0) (at : Name → ℕ → ℕ
     | inr u ↦ elim (cases_Bool (is_deciding k row w)) [
       | inl n ↦
           let shown = row_shown c m K at few low s follows h t k row w fits is in
-          let out = promised_due (heads at) (after_event s (row_event (extent c) a t k row w)).graph t k (row_got (extent c) k row w) (answer s.graph t k) (promised c (heads at) s.graph t k row w fits.belongs n shown) (row_has c (heads at) s a t k row w follows.shows.sized fits shown hand n) in
+          let out = promised_due (heads at) (after_event (extent c) s (row_event (extent c) a t k row w)).graph t k (row_got (extent c) k row w) (answer s.graph t k) (promised c (heads at) s.graph t k row w fits.belongs n shown) (row_has c (heads at) s a t k row w follows.shows.sized fits shown hand n) in
           (out.0 ∙ ap (λ b. cond b (Some (answer s.graph t k)) (due_at s.graph t k row)) (sym n), out.1)
       | inr n ↦
           let still : (field_decided row || is_deciding k row w) ≡ false = rw (u, n) refl in
-          let out = none_due (after_event s (row_event (extent c) a t k row w)).graph t k (row_got (extent c) k row w) (decided_after c k row w ∙ still) in
+          let out = none_due (after_event (extent c) s (row_event (extent c) a t k row w)).graph t k (row_got (extent c) k row w) (decided_after c k row w ∙ still) in
           (out.0 ∙ sym (none_due s.graph t k row u).0 ∙ ap (λ b. cond b (Some (answer s.graph t k)) (due_at s.graph t k row)) (sym n), out.1)
     ]
   ]

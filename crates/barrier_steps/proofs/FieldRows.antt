@@ -3,12 +3,16 @@ use Rattle.std.proofs.Common.{◌≡◌, ◌≢◌, ℕ, ◌<◌, ◌≤◌, ◌
 use Rattle.std.proofs.lemmas.Bool.{cases_lt, lt-ltb, le-ltb, le-leb}
 use Rattle.std.proofs.lemmas.Nat.{mod_below}
 use Rattle.block_store.specs.declared.Config.{Config}
+use Rattle.block_store.specs.declared.TheConstants.{REGISTERS}
 use Rattle.block_store.specs.declared.Payload.{Payload}
 use Rattle.block_store.specs.declared.Payload.TheVariants as payloads
 use Rattle.block_store.specs.declared.Shape.{Shape}
 use Rattle.block_store.specs.Payloads.{target, payload_of, payload_code, IsPayload}
 use Rattle.block_store.proofs.PayloadWords.{payload-code, target-number, target-nil}
 use Rattle.block_store.specs.Places.{extent, in_range, is_block, IsBlock, PayloadOf}
+use Rattle.block_store.specs.Registers.{register_block, register_slot, registers_end}
+use Rattle.block_store.specs.Widths.{payloads}
+use Rattle.block_store.proofs.Registers.{in_array, root_end, register_some, slot_low}
 use Rattle.block_store.specs.Shapes.{IsShape}
 use Rattle.never_heap.specs.declared.Command.{Command}
 use Rattle.never_heap.specs.declared.Command.TheVariants as commands
@@ -31,13 +35,13 @@ use Rattle.barrier_steps.proofs.ReadWords.{payload_cases, shape_fits}
 block_in : (c : Config) (x : ℕ) → IsBlock c x → is_block (extent c) x ≡ true
 block_in c x h = let low : leb 1 x ≡ true = le-leb 1 x h.0 in rw low (le-leb x c.blocks h.1)
 
-payload_in_range : (c : Config) (x j : ℕ) → IsBlock c x → j < (extent c).width → in_range (extent c) (PayloadOf x j) ≡ true
-payload_in_range c x j h low = let block : is_block (extent c) x ≡ true = block_in c x h in rw block (lt-ltb j (extent c).width low)
+payload_in_range : (c : Config) (x j : ℕ) → IsBlock c x → j < payloads c.width → in_range (extent c) (PayloadOf x j) ≡ true
+payload_in_range c x j h low = let block : is_block (extent c) x ≡ true = block_in c x h in rw block (lt-ltb j (payloads c.width) low)
 
-register_in : (c : Config) (t r : ℕ) → IsThread c t → r < 16 → in_range (extent c) (register_place (extent c) t r) ≡ true
+register_in : (c : Config) (t r : ℕ) → IsThread c t → r < REGISTERS → in_range (extent c) (register_place (extent c) t r) ≡ true
 register_in c t r h low =
-    let all : 5 * t + 5 ≤ c.blocks = h.registers in
-    payload_in_range c (5 * t + 2 + r / 4) (r % 4) (omega arith, omega arith) (mod_below r 4 (omega arith))
+    let last : register_block c.width t r ≤ registers_end c.width (t + 1) = omega (arith, in_array c.width t r low, root_end c.width (t + 1)) in
+    payload_in_range c (register_block c.width t r) (register_slot c.width r) (register_some c.width t r, omega (arith, h.registers, last)) (slot_low c.width r)
 
 loaded : (c : Config) (w : ℕ) → IsSome (payload_of w) × (target w ≤ c.blocks) → IsLoaded c w
 loaded c w h = record { payload = h.0; block = h.1 }

@@ -1,4 +1,3 @@
-pub mod Blocks
 pub mod Named
 pub mod Walking
 pub mod ReadWords

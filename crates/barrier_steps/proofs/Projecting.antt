@@ -17,7 +17,8 @@ use Rattle.never_heap.specs.declared.Command.TheVariants as commands
 use Rattle.never_heap.specs.Graphs.{register_of}
 use Rattle.object_lists.specs.Parts.{Link, Field}
 use Rattle.shown_graph.specs.Layouts.{shape_part}
-use Rattle.shown_graph.specs.Words.{block_words, with_payload, register_block, value_word}
+use Rattle.block_store.specs.Registers.{register_block, register_slot}
+use Rattle.shown_graph.specs.Words.{block_words, with_payload, value_word}
 use Rattle.shown_graph.specs.Events as events
 use Rattle.shown_graph.specs.Events.{ObjectLoad, ValueLoad, Loading, unloaded, object_in, value_in, with_load, GraphState, Event, apply, Guard, IsPrompt, HasObject, HasValue, object_at, value_at, register_word_in, IsAtField, IsAtLink}
 use Rattle.barrier_steps.specs.declared.rows.FieldRow.{FieldRow}
@@ -36,12 +37,12 @@ use Rattle.barrier_steps.specs.Projection.{row_loading, row_event, after_event, 
 
 -- the words are those that the row's operation leaves
 pub words_moved : (c : Config) (h : Heap) (s : GraphState) (a : Name) (t : ℕ) (k : Command) (row : FieldRow) (w : ℕ) → s.words ≡ block_words h → s.loads t ≡ row_loading (extent c) k row
-    → (after_event s (row_event (extent c) a t k row w)).words ≡ block_words (heap_after h (row_want (extent c) t k row))
-words_moved c h s a t k StoreNumber w is l = ap (λ x. with_payload x (register_block t (to_register k)) (to_register k % 4) (value_word (λ b. 0) (values.Int (number_set k)))) is
-words_moved c h s a t k StoreNil w is l = ap (λ x. with_payload x (register_block t (to_register k)) (to_register k % 4) 0) is
+    → (after_event (extent c) s (row_event (extent c) a t k row w)).words ≡ block_words (heap_after h (row_want (extent c) t k row))
+words_moved c h s a t k StoreNumber w is l = ap (λ x. with_payload x (register_block c.width t (to_register k)) (register_slot c.width (to_register k)) (value_word (λ b. 0) (values.Int (number_set k)))) is
+words_moved c h s a t k StoreNil w is l = ap (λ x. with_payload x (register_block c.width t (to_register k)) (register_slot c.width (to_register k)) 0) is
 words_moved c h s a t k LoadMoved w is l = is
 words_moved c h s a t k (StoreMoved word) w is l =
-    ap (λ x. with_payload x (register_block t (to_register k)) (to_register k % 4) (value_at s t).word) is ∙ ap (λ x. with_payload (block_words h) (register_block t (to_register k)) (to_register k % 4) (value_in x.value).word) l
+    ap (λ x. with_payload x (register_block c.width t (to_register k)) (register_slot c.width (to_register k)) (value_at s t).word) is ∙ ap (λ x. with_payload (block_words h) (register_block c.width t (to_register k)) (register_slot c.width (to_register k)) (value_in x.value).word) l
 words_moved c h s a t k LoadObject w is l = elim (cases_Bool (refers (payload_in w))) [ inl e ↦ rw e is | inr e ↦ rw e is ]
 words_moved c h s a t k (LoadShape x) w is l = elim (cases_Bool (length_decides k (shape_length (shape_in w)))) [ inl e ↦ rw e is | inr e ↦ rw e is ]
 words_moved c h s a t k (LoadValue way) w is l = is
@@ -49,8 +50,8 @@ words_moved c h s a t k (LoadLink way word) w is l = is
 words_moved c h s a t k (LoadField way) w is l = is
 words_moved c h s a t k (LoadOwner word) w is l = is
 words_moved c h s a t k (StoreLate word value) w is l =
-    ap (λ x. with_payload x (register_block t (value_at s t).origin) ((value_at s t).origin % 4) (value_at s t).word) is
-    ∙ ap (λ x. with_payload (block_words h) (register_block t (value_in x.value).origin) ((value_in x.value).origin % 4) (value_in x.value).word) l
+    ap (λ x. with_payload x (register_block c.width t (value_at s t).origin) (register_slot c.width (value_at s t).origin) (value_at s t).word) is
+    ∙ ap (λ x. with_payload (block_words h) (register_block c.width t (value_in x.value).origin) (register_slot c.width (value_in x.value).origin) (value_in x.value).word) l
 words_moved c h s a t k (StoreField way word) w is l =
     ap (λ x. with_payload x (object_at s t).block (field_at (extent c) way.shape (field_index k)) (value_at s t).word) is
     ∙ ap (λ x. with_payload (block_words h) (object_in x.object).block (field_at (extent c) way.shape (field_index k)) (value_in x.value).word) l
@@ -94,18 +95,18 @@ pub payload_read : (s : GraphState) (h : Heap) (x j w : ℕ) → s.words ≡ blo
 payload_read s h x j w is reads = ap (λ b. b.payload x j) is ∙ sym reads
 
 -- a value that is read beside an object
-value_moved : (s : GraphState) (t r w u : ℕ) (o : Option ObjectLoad) (l : Loading) → (s.loads t).object ≡ o → register_word_in s.words t r ≡ w → l ≡ record { object = o; value = value_load r w }
-    → (apply s (events.ReadValue t r)).loads u ≡ with_load s.loads t l u
-value_moved s t r w u o l object word is =
-    ap (λ x. with_load s.loads t x u) (load_is (s.loads t).object o (value_load r (register_word_in s.words t r)) (value_load r w) object (ap (value_load r) word) ∙ sym is)
+value_moved : (c : Config) (s : GraphState) (t r w u : ℕ) (o : Option ObjectLoad) (l : Loading) → (s.loads t).object ≡ o → register_word_in c.width s.words t r ≡ w → l ≡ record { object = o; value = value_load r w }
+    → (apply c.width s (events.ReadValue t r)).loads u ≡ with_load s.loads t l u
+value_moved c s t r w u o l object word is =
+    ap (λ x. with_load s.loads t x u) (load_is (s.loads t).object o (value_load r (register_word_in c.width s.words t r)) (value_load r w) object (ap (value_load r) word) ∙ sym is)
 
-object_moved : (s : GraphState) (t r x u : ℕ) → (s.loads t).value ≡ None → target (register_word_in s.words t r) ≡ x
-    → (apply s (events.ReadObject t r)).loads u ≡ with_load s.loads t (record { object = object_load r x; value = None }) u
-object_moved s t r x u value block =
-    ap (λ y. with_load s.loads t y u) (load_is (object_load r (target (register_word_in s.words t r))) (object_load r x) (s.loads t).value None (ap (object_load r) block) value)
+object_moved : (c : Config) (s : GraphState) (t r x u : ℕ) → (s.loads t).value ≡ None → target (register_word_in c.width s.words t r) ≡ x
+    → (apply c.width s (events.ReadObject t r)).loads u ≡ with_load s.loads t (record { object = object_load r x; value = None }) u
+object_moved c s t r x u value block =
+    ap (λ y. with_load s.loads t y u) (load_is (object_load r (target (register_word_in c.width s.words t r))) (object_load r x) (s.loads t).value None (ap (object_load r) block) value)
 
 shape_moved : (c : Config) (s : GraphState) (t r x u i : ℕ) (f : Shape) (l : Loading) → s.loads t ≡ pair (object_load r x) None → i < shape_length f
-    → l ≡ pair (walk_load (extent c) r i (way_from f x)) None → (apply s (events.ReadShape t f)).loads u ≡ with_load s.loads t l u
+    → l ≡ pair (walk_load (extent c) r i (way_from f x)) None → (apply c.width s (events.ReadShape t f)).loads u ≡ with_load s.loads t l u
 shape_moved c s t r x u i f l loads within is =
     let start : ordinal_at (extent c) f i 0 ≡ 0 = (way_is c f i within).starts in
     let object : Some (record (object_at s t) { shape = Some f }) ≡ walk_load (extent c) r i (way_from f x) =
@@ -113,7 +114,7 @@ shape_moved c s t r x u i f l loads within is =
     ap (λ y. with_load s.loads t y u) (load_is _ (walk_load (extent c) r i (way_from f x)) (s.loads t).value None object (ap (λ y. y.value) loads) ∙ sym is)
 
 shape_case : (c : Config) (s : GraphState) (t x u : ℕ) (k : Command) (f : Shape) → looks_at_object k ≡ true → s.loads t ≡ pair (object_load (from_register k) x) None
-    → (after_event s (cond (length_decides k (shape_length f)) (Some (events.Finish t)) (Some (events.ReadShape t f)))).loads u ≡ with_load s.loads t (row_loading (extent c) k (after_shape (extent c) k x f)) u
+    → (after_event (extent c) s (cond (length_decides k (shape_length f)) (Some (events.Finish t)) (Some (events.ReadShape t f)))).loads u ≡ with_load s.loads t (row_loading (extent c) k (after_shape (extent c) k x f)) u
 shape_case c s t x u (commands.Get d r i) f looks loads = elim (cases_Bool (ltb i (shape_length f))) [
   | inl is ↦ rw is (shape_moved c s t r x u i f (row_loading (extent c) (commands.Get d r i) (on_way (extent c) (commands.Get d r i) (way_from f x) 0)) loads (ltb-true i (shape_length f) is) (way_loading c (commands.Get d r i) (way_from f x) 0))
   | inr is ↦ rw is refl
@@ -128,7 +129,7 @@ shape_case c s t x u _ f looks loads = absurd cc
 -- after a link the thread is at the next block of the way
 link_moved : (c : Config) (s : GraphState) (t w u : ℕ) (k : Command) (way : Way) (word : ℕ) → s.loads t ≡ pair (object_on (extent c) k way) (carried_load k word)
     → s.words.payload (object_at s t).block (link_at (extent c) way.shape (field_index k) way.level) ≡ w
-    → (apply s (events.ReadLink t (link_at (extent c) way.shape (field_index k) way.level) (ordinal_at (extent c) way.shape (field_index k) (way.level + 1)))).loads u
+    → (apply c.width s (events.ReadLink t (link_at (extent c) way.shape (field_index k) way.level) (ordinal_at (extent c) way.shape (field_index k) (way.level + 1)))).loads u
     ≡ with_load s.loads t (row_loading (extent c) k (on_way (extent c) k (way_on way (target w)) word)) u
 link_moved c s t w u k way word loads read =
     let next = ordinal_at (extent c) way.shape (field_index k) (way.level + 1) in
@@ -144,20 +145,20 @@ put_carries c _ way w is = absurd cc
 
 -- what the thread has loaded is what its next row has loaded
 pub loads_moved : (c : Config) (h : Heap) (s : GraphState) (a : Name) (t : ℕ) (k : Command) (row : FieldRow) (w : ℕ) → FitsAt c t k row → ReadsAt c t k row w → IsAt (extent c) s h t k row w
-    → (u : ℕ) → (after_event s (row_event (extent c) a t k row w)).loads u ≡ with_load s.loads t (row_loading (extent c) k (row_got (extent c) k row w)) u
+    → (u : ℕ) → (after_event (extent c) s (row_event (extent c) a t k row w)).loads u ≡ with_load s.loads t (row_loading (extent c) k (row_got (extent c) k row w)) u
 loads_moved c h s a t k StoreNumber w fits reads at u = refl
 loads_moved c h s a t k StoreNil w fits reads at u = refl
 loads_moved c h s a t k LoadMoved w fits reads at u =
-    value_moved s t (from_register k) w u None (row_loading (extent c) k (StoreMoved w)) (ap (λ x. x.object) at.loads) (payload_read s h _ _ w at.words at.reads) refl
+    value_moved c s t (from_register k) w u None (row_loading (extent c) k (StoreMoved w)) (ap (λ x. x.object) at.loads) (payload_read s h _ _ w at.words at.reads) refl
 loads_moved c h s a t k (StoreMoved word) w fits reads at u = refl
 loads_moved c h s a t k LoadObject w fits reads at u =
     payload_cases w reads.0.0
-    (λ p. (after_event s (cond (refers p) (Some (events.ReadObject t (from_register k))) None)).loads u ≡ with_load s.loads t (row_loading (extent c) k (after_object p)) u)
+    (λ p. (after_event (extent c) s (cond (refers p) (Some (events.ReadObject t (from_register k))) None)).loads u ≡ with_load s.loads t (row_loading (extent c) k (after_object p)) u)
     (unmoved s.loads t unloaded u at.loads) (λ v low. unmoved s.loads t unloaded u at.loads)
-    (λ x is some. object_moved s t (from_register k) x u (ap (λ y. y.value) at.loads) (ap target (payload_read s h _ _ w at.words at.reads) ∙ sym is))
+    (λ x is some. object_moved c s t (from_register k) x u (ap (λ y. y.value) at.loads) (ap target (payload_read s h _ _ w at.words at.reads) ∙ sym is))
 loads_moved c h s a t k (LoadShape x) w fits reads at u = shape_case c s t x u k (shape_in w) fits.belongs at.loads
 loads_moved c h s a t k (LoadValue way) w fits reads at u =
-    value_moved s t (other_register k) w u (object_on (extent c) k way) (row_loading (extent c) k (on_way (extent c) k way w)) (ap (λ x. x.object) at.loads) (payload_read s h _ _ w at.words at.reads) (way_loading c k way w ∙ put_carries c k way w fits.belongs)
+    value_moved c s t (other_register k) w u (object_on (extent c) k way) (row_loading (extent c) k (on_way (extent c) k way w)) (ap (λ x. x.object) at.loads) (payload_read s h _ _ w at.words at.reads) (way_loading c k way w ∙ put_carries c k way w fits.belongs)
 loads_moved c h s a t k (LoadLink way word) w fits reads at u =
     let block : (object_at s t).block ≡ way.block = ap (λ y. (object_in y.object).block) at.loads in
     let read : s.words.payload (object_at s t).block (link_at (extent c) way.shape (field_index k) way.level) ≡ w =
@@ -172,13 +173,13 @@ loads_moved c h s a t k (LoadOwner word) w fits reads at u = unmoved s.loads t (
 loads_moved c h s a t k (StoreLate word value) w fits reads at u = refl
 loads_moved c h s a t k (StoreField way word) w fits reads at u = refl
 loads_moved c h s a t k LoadFirst w fits reads at u =
-    value_moved s t (from_register k) w u None (row_loading (extent c) k (LoadSecond w)) (ap (λ x. x.object) at.loads) (payload_read s h _ _ w at.words at.reads) refl
+    value_moved c s t (from_register k) w u None (row_loading (extent c) k (LoadSecond w)) (ap (λ x. x.object) at.loads) (payload_read s h _ _ w at.words at.reads) refl
 loads_moved c h s a t k (LoadSecond word) w fits reads at u = refl
 loads_moved c h s a t k LoadSaid w fits reads at u =
     payload_cases w reads.0.0
-    (λ p. (after_event s (cond (refers p) (Some (events.ReadValue t (from_register k))) None)).loads u ≡ with_load s.loads t (row_loading (extent c) k (after_said w p)) u)
+    (λ p. (after_event (extent c) s (cond (refers p) (Some (events.ReadValue t (from_register k))) None)).loads u ≡ with_load s.loads t (row_loading (extent c) k (after_said w p)) u)
     (unmoved s.loads t unloaded u at.loads) (λ v low. unmoved s.loads t unloaded u at.loads)
-    (λ x is some. value_moved s t (from_register k) w u None (row_loading (extent c) k (LoadSaidOwner w)) (ap (λ y. y.object) at.loads) (payload_read s h _ _ w at.words at.reads) refl)
+    (λ x is some. value_moved c s t (from_register k) w u None (row_loading (extent c) k (LoadSaidOwner w)) (ap (λ y. y.object) at.loads) (payload_read s h _ _ w at.words at.reads) refl)
 loads_moved c h s a t k (LoadSaidOwner word) w fits reads at u = refl
 loads_moved c h s a t k (Answered reply) w fits reads at u = unmoved s.loads t unloaded u at.loads
 
@@ -198,22 +199,22 @@ shape_read w some = go (shape_of w) some
 
 -- a field at the end of its way
 at_field : (c : Config) (s : GraphState) (t r i : ℕ) (way : Way) (a : Name) → (s.loads t).object ≡ walk_load (extent c) r i way → IsWalk c i way → IsThere c i way → register_of s.graph t r ≡ values.Ref a
-    → IsAtField s t a i (field_at (extent c) way.shape i)
+    → IsAtField c.width s t a i (field_at (extent c) way.shape i)
 at_field c s t r i way a loads is there refers =
     let here : ObjectLoad = object_in (walk_load (extent c) r i way) in
     let load : object_at s t ≡ here = ap object_in loads in
-    let end : shape_part way.shape (ordinal_at (extent c) way.shape i way.level) (field_at (extent c) way.shape i) ≡ Field i =
-    subst (λ l. shape_part way.shape (ordinal_at (extent c) way.shape i l) (field_at (extent c) way.shape i) ≡ Field i) (sym there) (way_is c way.shape i is.index).ends in
+    let end : shape_part c.width way.shape (ordinal_at (extent c) way.shape i way.level) (field_at (extent c) way.shape i) ≡ Field i =
+    subst (λ l. shape_part c.width way.shape (ordinal_at (extent c) way.shape i l) (field_at (extent c) way.shape i) ≡ Field i) (sym there) (way_is c way.shape i is.index).ends in
     record {
       object = has_object s t here loads;
       refers = subst (λ o. register_of s.graph t o.source ≡ values.Ref a) (sym load) refers;
       shape = way.shape;
       read = ap (λ o. o.shape) load;
-      field = subst (λ o. shape_part way.shape o.ordinal (field_at (extent c) way.shape i) ≡ Field i) (sym load) end;
+      field = subst (λ o. shape_part c.width way.shape o.ordinal (field_at (extent c) way.shape i) ≡ Field i) (sym load) end;
     }
 
 at_link : (c : Config) (s : GraphState) (t r i : ℕ) (way : Way) → (s.loads t).object ≡ walk_load (extent c) r i way → IsWalk c i way → way.level < links_to (extent c) way.shape i
-    → IsAtLink s t (link_at (extent c) way.shape i way.level) (ordinal_at (extent c) way.shape i (way.level + 1))
+    → IsAtLink c.width s t (link_at (extent c) way.shape i way.level) (ordinal_at (extent c) way.shape i (way.level + 1))
 at_link c s t r i way loads is low =
     let here : ObjectLoad = object_in (walk_load (extent c) r i way) in
     let load : object_at s t ≡ here = ap object_in loads in
@@ -221,7 +222,7 @@ at_link c s t r i way loads is low =
       object = has_object s t here loads;
       shape = way.shape;
       read = ap (λ o. o.shape) load;
-      link = subst (λ o. shape_part way.shape o.ordinal (link_at (extent c) way.shape i way.level) ≡ Link (ordinal_at (extent c) way.shape i (way.level + 1))) (sym load) ((way_is c way.shape i is.index).links way.level low);
+      link = subst (λ o. shape_part c.width way.shape o.ordinal (link_at (extent c) way.shape i way.level) ≡ Link (ordinal_at (extent c) way.shape i (way.level + 1))) (sym load) ((way_is c way.shape i is.index).links way.level low);
     }
 
 -- the store of the thread is not still to come
@@ -230,15 +231,15 @@ prompt s t l e h = ap (λ x. (value_in x.value).late) e ∙ h
 
 -- the event of a row may come
 pub row_guarded : (c : Config) (h : Heap) (s : GraphState) (a : Name) (t : ℕ) (k : Command) (row : FieldRow) (w : ℕ) → FitsAt c t k row → ReadsAt c t k row w → IsAt (extent c) s h t k row w → InHandAt s a t k row
-    → IfSome (row_event (extent c) a t k row w) (Guard c.threads s)
+    → IfSome (row_event (extent c) a t k row w) (Guard c.width c.threads s)
 row_guarded c h s a t k StoreNumber w fits reads at hand = (fits.thread.thread, to_low k fits.command, prompt s t unloaded at.loads refl, number_low k fits.command)
 row_guarded c h s a t k StoreNil w fits reads at hand = (fits.thread.thread, to_low k fits.command, prompt s t unloaded at.loads refl, tt)
 row_guarded c h s a t k LoadMoved w fits reads at hand = (fits.thread.thread, from_low k fits.command, prompt s t unloaded at.loads refl)
 row_guarded c h s a t k (StoreMoved word) w fits reads at hand =
     (fits.thread.thread, to_low k fits.command, prompt s t (row_loading (extent c) k (StoreMoved word)) at.loads refl, has_value s t (value_in (value_load (from_register k) word)) (ap (λ l. l.value) at.loads))
 row_guarded c h s a t k LoadObject w fits reads at hand =
-    let word : register_word_in s.words t (from_register k) ≡ w = payload_read s h _ _ w at.words at.reads in
-    payload_cases w reads.0.0 (λ p. IfSome (cond (refers p) (Some (events.ReadObject t (from_register k))) None) (Guard c.threads s)) tt (λ v low. tt)
+    let word : register_word_in c.width s.words t (from_register k) ≡ w = payload_read s h _ _ w at.words at.reads in
+    payload_cases w reads.0.0 (λ p. IfSome (cond (refers p) (Some (events.ReadObject t (from_register k))) None) (Guard c.width c.threads s)) tt (λ v low. tt)
     (λ x is some. (fits.thread.thread, from_low k fits.command, prompt s t unloaded at.loads refl, subst (λ y. target y ≢ 0) (sym word) (reference x w is some)))
 row_guarded c h s a t k (LoadShape x) w fits reads at hand =
     let load : object_at s t ≡ object_in (object_load (from_register k) x) = ap (λ l. object_in l.object) at.loads in
@@ -264,7 +265,7 @@ row_guarded c h s a t k (StoreField way word) w fits reads at hand = (
 row_guarded c h s a t k LoadFirst w fits reads at hand = (fits.thread.thread, from_low k fits.command, prompt s t unloaded at.loads refl)
 row_guarded c h s a t k (LoadSecond word) w fits reads at hand = (fits.thread.thread, prompt s t (row_loading (extent c) k (LoadSecond word)) at.loads refl)
 row_guarded c h s a t k LoadSaid w fits reads at hand =
-    payload_cases w reads.0.0 (λ p. IfSome (cond (refers p) (Some (events.ReadValue t (from_register k))) None) (Guard c.threads s)) tt (λ v low. tt)
+    payload_cases w reads.0.0 (λ p. IfSome (cond (refers p) (Some (events.ReadValue t (from_register k))) None) (Guard c.width c.threads s)) tt (λ v low. tt)
     (λ x is some. (fits.thread.thread, from_low k fits.command, prompt s t unloaded at.loads refl))
 row_guarded c h s a t k (LoadSaidOwner word) w fits reads at hand = (fits.thread.thread, prompt s t (row_loading (extent c) k (LoadSaidOwner word)) at.loads refl)
 row_guarded c h s a t k (Answered reply) w fits reads at hand = tt

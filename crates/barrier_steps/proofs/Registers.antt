@@ -2,6 +2,7 @@
 use Rattle.std.proofs.Common.{◌≡◌, ℕ, ◌<◌, true, length, refl, sym, ap, ◌∙◌, subst, inl, inr, ltb, eq-eqb}
 use Rattle.std.proofs.lemmas.Bool.{cases_Bool}
 use Rattle.block_store.specs.declared.Config.{Config}
+use Rattle.block_store.specs.declared.TheConstants.{REGISTERS}
 use Rattle.block_store.specs.declared.Name.{Name}
 use Rattle.block_store.specs.declared.Payload.{Payload}
 use Rattle.block_store.specs.declared.Payload.TheVariants as payloads
@@ -77,7 +78,7 @@ said_row g t k reply w (payloads.Int v) e = tt
 said_row g t k reply w (payloads.Block x) e = e
 
 -- a register that was stored has the value
-stored : (n : ℕ) (g : Graph) (t d : ℕ) (v : Value) → IsSized n g → t < n → d < 16 → register_of (with_register g t d v) t d ≡ v
+stored : (n : ℕ) (g : Graph) (t d : ℕ) (v : Value) → IsSized n g → t < n → d < REGISTERS → register_of (with_register g t d v) t d ≡ v
 stored n g t d v sized tn dl =
     let threads : t < length g.mutators = subst (λ x. t < x) (sym sized.threads) tn in
     let sixteen : d < length (mutator_at g t).registers = subst (λ x. d < x) (sym (sized.sixteen t tn)) dl in
@@ -85,12 +86,12 @@ stored n g t d v sized tn dl =
 
 -- the deciding event gives such a reply
 pub row_has : (c : Config) (head : Name → ℕ) (s : GraphState) (a : Name) (t : ℕ) (k : Command) (row : FieldRow) (w : ℕ) → IsSized c.threads s.graph → FitsAt c t k row → ShownAt head s.graph t k row w → InHandAt s a t k row
-    → is_deciding k row w ≡ true → HasRegister (after_event s (row_event (extent c) a t k row w)).graph t k (row_got (extent c) k row w) (answer s.graph t k)
+    → is_deciding k row w ≡ true → HasRegister (after_event (extent c) s (row_event (extent c) a t k row w)).graph t k (row_got (extent c) k row w) (answer s.graph t k)
 row_has c head s a t k StoreNumber w sized fits h hand n = tt
 row_has c head s a t k StoreNil w sized fits h hand n = tt
 row_has c head s a t k (StoreMoved word) w sized fits h hand n = tt
-row_has c head s a t k LoadObject w sized fits h hand n = object_row (after_event s (row_event (extent c) a t k LoadObject w)).graph t k (answer s.graph t k) (payload_in w)
-row_has c head s a t k (LoadShape x) w sized fits h hand n = shape_row c (after_event s (row_event (extent c) a t k (LoadShape x) w)).graph t k (answer s.graph t k) x (shape_in w)
+row_has c head s a t k LoadObject w sized fits h hand n = object_row (after_event (extent c) s (row_event (extent c) a t k LoadObject w)).graph t k (answer s.graph t k) (payload_in w)
+row_has c head s a t k (LoadShape x) w sized fits h hand n = shape_row c (after_event (extent c) s (row_event (extent c) a t k (LoadShape x) w)).graph t k (answer s.graph t k) x (shape_in w)
 row_has c head s a t k (LoadField way) w sized fits h hand n =
     let v = field_of (object_of s.graph a) (field_index k) in
     let one : h.0.name ≡ a = one_name (register_of s.graph t (from_register k)) h.0.name a h.0.refers hand in
@@ -100,11 +101,11 @@ row_has c head s a t k (LoadField way) w sized fits h hand n =
 row_has c head s a t k (StoreField way word) w sized fits h hand n = tt
 row_has c head s a t k (LoadSecond word) w sized fits h hand n = tt
 row_has c head s a t k LoadSaid w sized fits h hand n =
-    said_row (after_event s (row_event (extent c) a t k LoadSaid w)).graph t k (answer s.graph t k) w (payload_in w)
-    (sym (say_answers s.graph t k fits.belongs) ∙ ap (λ g. replies.Val (register_of g t (from_register k))) (sym (chosen_value s (refers (payload_in w)) t (from_register k))))
+    said_row (after_event (extent c) s (row_event (extent c) a t k LoadSaid w)).graph t k (answer s.graph t k) w (payload_in w)
+    (sym (say_answers s.graph t k fits.belongs) ∙ ap (λ g. replies.Val (register_of g t (from_register k))) (sym (chosen_value c s (refers (payload_in w)) t (from_register k))))
 row_has c head s a t k _ w sized fits h hand n = absurd cc
 
 pub row_shows : (c : Config) (head : Name → ℕ) (s : GraphState) (a : Name) (t : ℕ) (k : Command) (row : FieldRow) (w : ℕ) → IsSized c.threads s.graph → FitsAt c t k row → ShownAt head s.graph t k row w → InHandAt s a t k row
-    → is_deciding k row w ≡ true → ShowsAt (after_event s (row_event (extent c) a t k row w)).graph t k (row_got (extent c) k row w) (answer s.graph t k)
+    → is_deciding k row w ≡ true → ShowsAt (after_event (extent c) s (row_event (extent c) a t k row w)).graph t k (row_got (extent c) k row w) (answer s.graph t k)
 row_shows c head s a t k row w sized fits h hand n =
-    has_shows (after_event s (row_event (extent c) a t k row w)).graph t k (row_got (extent c) k row w) (answer s.graph t k) (row_has c head s a t k row w sized fits h hand n)
+    has_shows (after_event (extent c) s (row_event (extent c) a t k row w)).graph t k (row_got (extent c) k row w) (answer s.graph t k) (row_has c head s a t k row w sized fits h hand n)

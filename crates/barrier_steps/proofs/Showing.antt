@@ -1,6 +1,7 @@
 -- Where the words show the graph, a row reads words that its places can hold, and these are what the graph says.
 use Rattle.std.proofs.Common.{◌≡◌, ◌≢◌, ℕ, ◌+◌, ◌%◌, ◌<◌, ◌≤◌, Bool, true, false, None, Some, IfSome, IsSome, is_some, length, refl, sym, ap, ◌∙◌, subst, arith}
 use Rattle.block_store.specs.declared.Config.{Config}
+use Rattle.block_store.specs.declared.TheConstants.{REGISTERS}
 use Rattle.block_store.specs.declared.Name.{Name}
 use Rattle.block_store.specs.declared.Payload.TheVariants as payloads
 use Rattle.block_store.specs.declared.Value.{Value}
@@ -17,7 +18,8 @@ use Rattle.never_heap.specs.declared.Reply.TheVariants as replies
 use Rattle.never_heap.specs.Graphs.{ObjectKind, Record, Array, object_of, field_of, register_of}
 use Rattle.object_lists.specs.Parts.{Part, Link, Field}
 use Rattle.shown_graph.specs.Layouts.{kind_shape, layout_part, object_part, shape_part}
-use Rattle.shown_graph.specs.Words.{block_words, value_word, part_word, register_block}
+use Rattle.block_store.specs.Registers.{register_block, register_slot}
+use Rattle.shown_graph.specs.Words.{block_words, value_word, part_word}
 use Rattle.shown_graph.specs.Shown.{IsValueOf, heads}
 use Rattle.shown_graph.specs.Events.{ObjectLoad, ValueLoad, Loading, GraphState, lates, is_late, object_in, value_in, ObjectIs, ValueIs, Follows}
 use Rattle.shown_graph.proofs.ObjectLayouts.{object_layout}
@@ -38,11 +40,11 @@ use Rattle.barrier_steps.proofs.Projecting.{payload_read}
 use Rattle.barrier_steps.proofs.Promising.{kind_length}
 
 -- what stands in the blocks of an object's shape is what stands in those of the object
-same_part : (k : ObjectKind) (n o j : ℕ) → shape_part (kind_shape k n) o j ≡ layout_part k n o j
-same_part Record n o j = refl
-same_part Array n o j = refl
+same_part : (c : Config) (k : ObjectKind) (n o j : ℕ) → shape_part c.width (kind_shape k n) o j ≡ layout_part c.width k n o j
+same_part c Record n o j = refl
+same_part c Array n o j = refl
 
-module _ (c : Config) (m : ℕ) (K : Name → Type 0) (at : Name → ℕ → ℕ) (few : c.blocks ≤ 65535) (low : m ≤ c.blocks) (s : GraphState) (follows : Follows c.threads m K at s) (h : Heap) where
+module _ (c : Config) (m : ℕ) (K : Name → Type 0) (at : Name → ℕ → ℕ) (few : c.blocks ≤ 65535) (low : m ≤ c.blocks) (s : GraphState) (follows : Follows c.width c.threads m K at s) (h : Heap) where
   held_word : (w : ℕ) → Type 0
   held_word w = IsSome (payload_of w) × (target w ≤ c.blocks)
 
@@ -50,48 +52,48 @@ module _ (c : Config) (m : ℕ) (K : Name → Type 0) (at : Name → ℕ → ℕ
   few_blocks = omega (arith, few, low)
 
   read_word : (v : Value) (w : ℕ) → IsValueOf K v → value_word (heads at) v ≡ w → IsWordOf (heads at) v w
-  read_word v w kept e = ap payload_of (sym e) ∙ value_read c.threads m K s.graph at s.words (lates s.loads) follows.shows v few_blocks kept
+  read_word v w kept e = ap payload_of (sym e) ∙ value_read c.width c.threads m K s.graph at s.words (lates s.loads) follows.shows v few_blocks kept
 
   -- the word of a kept value is one that a payload place can hold
   value_target : (v : Value) → IsValueOf K v → target (value_word (heads at) v) ≤ c.blocks
   value_target values.Nil kept = omega (arith, target-nil)
   value_target (values.Int n) kept = omega (arith, target-number n)
   value_target (values.Ref a) kept =
-      omega (arith, target-reference (at a 0), follows.shows.placed.within a 0 kept (object_layout (object_of s.graph a)).first, low)
+      omega (arith, target-reference (at a 0), follows.shows.placed.within a 0 kept (object_layout c.width (object_of s.graph a)).first, low)
 
   value_held : (v : Value) (w : ℕ) → IsValueOf K v → value_word (heads at) v ≡ w → IsSome (payload_of w) × (target w ≤ c.blocks)
   value_held v w kept e = (ap is_some (read_word v w kept e), subst (λ x. target x ≤ c.blocks) e (value_target v kept))
 
-  register_held : (t r w : ℕ) → t < c.threads → r < 16 → s.words.payload (register_block t r) (r % 4) ≡ w → IsSome (payload_of w) × (target w ≤ c.blocks)
+  register_held : (t r w : ℕ) → t < c.threads → r < REGISTERS → s.words.payload (register_block c.width t r) (register_slot c.width r) ≡ w → IsSome (payload_of w) × (target w ≤ c.blocks)
   register_held t r w tn rl e = let shown = follows.shows.registers.holds t r tn rl in value_held shown.value w shown.kept (sym shown.reads ∙ e)
 
-  register_shown : (t r w : ℕ) → t < c.threads → r < 16 → lates s.loads t r ≡ false → s.words.payload (register_block t r) (r % 4) ≡ w → IsWordOf (heads at) (register_of s.graph t r) w
+  register_shown : (t r w : ℕ) → t < c.threads → r < REGISTERS → lates s.loads t r ≡ false → s.words.payload (register_block c.width t r) (register_slot c.width r) ≡ w → IsWordOf (heads at) (register_of s.graph t r) w
   register_shown t r w tn rl now e =
       read_word (register_of s.graph t r) w (follows.shows.closed.registers t r tn rl)
-      (sym (register_read c.threads m K s.graph at s.words (lates s.loads) follows.shows t r tn rl now) ∙ e)
+      (sym (register_read c.width c.threads m K s.graph at s.words (lates s.loads) follows.shows t r tn rl now) ∙ e)
 
   -- the object in hand
-  object_is : (t : ℕ) (l : Loading) (o : ObjectLoad) → t < c.threads → s.loads t ≡ l → l.object ≡ Some o → ObjectIs s.graph at t o
-  object_is t l o tn e there = subst (λ x. IfSome x (λ y. ObjectIs s.graph at t y)) (ap (λ x. x.object) e ∙ there) (follows.loads t tn).object
+  object_is : (t : ℕ) (l : Loading) (o : ObjectLoad) → t < c.threads → s.loads t ≡ l → l.object ≡ Some o → ObjectIs c.width s.graph at t o
+  object_is t l o tn e there = subst (λ x. IfSome x (λ y. ObjectIs c.width s.graph at t y)) (ap (λ x. x.object) e ∙ there) (follows.loads t tn).object
 
   value_is : (t : ℕ) (l : Loading) (v : ValueLoad) → t < c.threads → s.loads t ≡ l → l.value ≡ Some v → ValueIs s.graph at t v
   value_is t l v tn e there = subst (λ x. IfSome x (λ y. ValueIs s.graph at t y)) (ap (λ x. x.value) e ∙ there) (follows.loads t tn).value
 
-  is_kept : (t r : ℕ) (a : Name) → t < c.threads → r < 16 → register_of s.graph t r ≡ values.Ref a → K a
+  is_kept : (t r : ℕ) (a : Name) → t < c.threads → r < REGISTERS → register_of s.graph t r ≡ values.Ref a → K a
   is_kept t r a tn rl e = subst (IsValueOf K) e (follows.shows.closed.registers t r tn rl)
 
   -- the shape of the object in hand
-  shape_word : (t r x w : ℕ) → ObjectIs s.graph at t (object_in (object_load r x)) → t < c.threads → r < 16 → s.words.shape x ≡ w → ShapeShown s.graph t r w
+  shape_word : (t r x w : ℕ) → ObjectIs c.width s.graph at t (object_in (object_load r x)) → t < c.threads → r < REGISTERS → s.words.shape x ≡ w → ShapeShown s.graph t r w
   shape_word t r x w is tn rl e =
       let kept = is_kept t r is.name tn rl is.refers in
       record {
         name = is.name;
         refers = is.refers;
         shape = ap shape_of (sym e ∙ ap s.words.shape is.block)
-            ∙ length_read c.threads m K s.graph at s.words (lates s.loads) follows.shows is.name 0 kept (object_layout (object_of s.graph is.name)).first;
+            ∙ length_read c.width c.threads m K s.graph at s.words (lates s.loads) follows.shows is.name 0 kept (object_layout c.width (object_of s.graph is.name)).first;
       }
 
-  module _ (t r i : ℕ) (way : Way) (is : ObjectIs s.graph at t (object_in (walk_load (extent c) r i way))) (fits : IsWalk c i way) (tn : t < c.threads) (rl : r < 16) where
+  module _ (t r i : ℕ) (way : Way) (is : ObjectIs c.width s.graph at t (object_in (walk_load (extent c) r i way))) (fits : IsWalk c i way) (tn : t < c.threads) (rl : r < REGISTERS) where
     kept : K is.name
     kept = is_kept t r is.name tn rl is.refers
 
@@ -99,10 +101,10 @@ module _ (c : Config) (m : ℕ) (K : Name → Type 0) (at : Name → ℕ → ℕ
     ordinal = ordinal_at (extent c) way.shape i way.level
 
     -- the shape that was read is the object's
-    part_is : (j : ℕ) (p : Part) → shape_part way.shape (ordinal_at (extent c) way.shape i way.level) j ≡ p → object_part (object_of s.graph is.name) (ordinal_at (extent c) way.shape i way.level) j ≡ p
+    part_is : (j : ℕ) (p : Part) → shape_part c.width way.shape (ordinal_at (extent c) way.shape i way.level) j ≡ p → object_part c.width (object_of s.graph is.name) (ordinal_at (extent c) way.shape i way.level) j ≡ p
     part_is j p e =
-        sym (ap (λ f. shape_part f (ordinal_at (extent c) way.shape i way.level) j) is.shape
-        ∙ same_part (object_of s.graph is.name).kind (length (object_of s.graph is.name).fields) (ordinal_at (extent c) way.shape i way.level) j)
+        sym (ap (λ f. shape_part c.width f (ordinal_at (extent c) way.shape i way.level) j) is.shape
+        ∙ same_part c (object_of s.graph is.name).kind (length (object_of s.graph is.name).fields) (ordinal_at (extent c) way.shape i way.level) j)
         ∙ e
 
     -- the object has the field
@@ -117,8 +119,8 @@ module _ (c : Config) (m : ℕ) (K : Name → Type 0) (at : Name → ℕ → ℕ
     field_word : (w : ℕ) → IsThere c i way → s.words.payload way.block (field_at (extent c) way.shape i) ≡ w
         → value_word (heads at) (field_of (object_of s.graph is.name) i) ≡ w
     field_word w there e =
-        let end : shape_part way.shape (ordinal_at (extent c) way.shape i way.level) (field_at (extent c) way.shape i) ≡ Field i =
-        subst (λ l. shape_part way.shape (ordinal_at (extent c) way.shape i l) (field_at (extent c) way.shape i) ≡ Field i) (sym there) (way_is c way.shape i fits.index).ends in
+        let end : shape_part c.width way.shape (ordinal_at (extent c) way.shape i way.level) (field_at (extent c) way.shape i) ≡ Field i =
+        subst (λ l. shape_part c.width way.shape (ordinal_at (extent c) way.shape i l) (field_at (extent c) way.shape i) ≡ Field i) (sym there) (way_is c way.shape i fits.index).ends in
         let block = follows.shows.written.blocks is.name (ordinal_at (extent c) way.shape i way.level) kept is.ordinal in
         sym (ap (part_word (heads at) (at is.name) (field_of (object_of s.graph is.name))) (part_is (field_at (extent c) way.shape i) (Field i) end))
         ∙ sym (block.words (field_at (extent c) way.shape i) (field_low c way.shape i))
@@ -133,11 +135,11 @@ module _ (c : Config) (m : ℕ) (K : Name → Type 0) (at : Name → ℕ → ℕ
         → (IsSome (payload_of w) × (target w ≤ c.blocks)) × (target w ≢ 0)
     link_held w less e =
         let next = ordinal_at (extent c) way.shape i (way.level + 1) in
-        let link : object_part (object_of s.graph is.name) (ordinal_at (extent c) way.shape i way.level) (link_at (extent c) way.shape i way.level) ≡ Link next =
+        let link : object_part c.width (object_of s.graph is.name) (ordinal_at (extent c) way.shape i way.level) (link_at (extent c) way.shape i way.level) ≡ Link next =
         part_is (link_at (extent c) way.shape i way.level) (Link next) ((way_is c way.shape i fits.index).links way.level less) in
-        let on = (object_layout (object_of s.graph is.name)).onward _ _ next link in
+        let on = (object_layout c.width (object_of s.graph is.name)).onward _ _ next link in
         let word : reference_word (at is.name next) ≡ w =
-        sym (link_read c.threads m K s.graph at s.words (lates s.loads) follows.shows is.name _ _ next kept link)
+        sym (link_read c.width c.threads m K s.graph at s.words (lates s.loads) follows.shows is.name _ _ next kept link)
         ∙ sym (ap (λ x. s.words.payload x (link_at (extent c) way.shape i way.level)) is.block)
         ∙ e in
         reference_held (at is.name next) w word (behind_registers (follows.shows.placed.behind is.name next kept on.2)) (omega (arith, follows.shows.placed.within is.name next kept on.2, low))
@@ -170,7 +172,7 @@ module _ (c : Config) (m : ℕ) (K : Name → Type 0) (at : Name → ℕ → ℕ
       let says : replies.Val (register_of s.graph t r) ≡ replies.Val (values.Ref to.name) = to.says in
       let refers : register_of s.graph t r ≡ values.Ref to.name = cc in
       ap is_some (ap owner_of (sym e ∙ ap s.words.owner to.block)
-      ∙ owner_read c.threads m K s.graph at s.words (lates s.loads) follows.shows to.name 0 (is_kept t r to.name tn is.origin refers) (object_layout (object_of s.graph to.name)).first)
+      ∙ owner_read c.width c.threads m K s.graph at s.words (lates s.loads) follows.shows to.name 0 (is_kept t r to.name tn is.origin refers) (object_layout c.width (object_of s.graph to.name)).first)
 
   on_time : (t r w : ℕ) (b : Bool) → ValueIs s.graph at t (record { origin = r; word = w; late = b }) → ValueIs s.graph at t (record { origin = r; word = w; late = false })
   on_time t r w b is = record { origin = is.origin; word = is.word }
@@ -180,20 +182,20 @@ module _ (c : Config) (m : ℕ) (K : Name → Type 0) (at : Name → ℕ → ℕ
   register_named t r word w reply tn is e shows a says goes =
       let values_one : replies.Val (register_of s.graph t r) ≡ replies.Val (values.Ref a) = sym shows ∙ says in
       let refers : register_of s.graph t r ≡ values.Ref a = cc in
-      ap owner_of (sym e) ∙ name_shown c.threads m K at s follows t tn (record { origin = r; word = word; late = false }) a is refers
+      ap owner_of (sym e) ∙ name_shown c.width c.threads m K at s follows t tn (record { origin = r; word = word; late = false }) a is refers
 
   owner_word_read : (x w : ℕ) → s.words ≡ block_words h → w ≡ h (OwnerOf x) → s.words.owner x ≡ w
   owner_word_read x w is reads = ap (λ b. b.owner x) is ∙ sym reads
 
-  register_at : (t r w : ℕ) → s.words ≡ block_words h → w ≡ h (register_place (extent c) t r) → s.words.payload (register_block t r) (r % 4) ≡ w
-  register_at t r w is reads = payload_read s h (register_block t r) (r % 4) w is reads
+  register_at : (t r w : ℕ) → s.words ≡ block_words h → w ≡ h (register_place (extent c) t r) → s.words.payload (register_block c.width t r) (register_slot c.width r) ≡ w
+  register_at t r w is reads = payload_read s h (register_block c.width t r) (register_slot c.width r) w is reads
 
   -- no register of the thread is late
   not_late : (t r : ℕ) (l : Loading) → s.loads t ≡ l → is_late l.value r ≡ false → lates s.loads t r ≡ false
   not_late t r l e now = ap (λ x. is_late x.value r) e ∙ now
 
   -- the object in hand on a way
-  way_object : (t : ℕ) (k : Command) (way : Way) (l : Loading) → t < c.threads → s.loads t ≡ l → l.object ≡ object_on (extent c) k way → ObjectIs s.graph at t (object_in (object_on (extent c) k way))
+  way_object : (t : ℕ) (k : Command) (way : Way) (l : Loading) → t < c.threads → s.loads t ≡ l → l.object ≡ object_on (extent c) k way → ObjectIs c.width s.graph at t (object_in (object_on (extent c) k way))
   way_object t k way l tn e there = object_is t l (object_in (object_on (extent c) k way)) tn e there
 
   -- what a row has loaded and reads is what the graph says
@@ -227,8 +229,8 @@ module _ (c : Config) (m : ℕ) (K : Name → Type 0) (at : Name → ℕ → ℕ
         first = read_word (register_of s.graph t a) word (follows.shows.closed.registers t a fits.thread.thread (from_low k fits.command)) (sym value.word);
         second = register_shown t b w fits.thread.thread (other_low k fits.command) (not_late t b _ is.loads refl) (register_at t b w is.words is.reads);
         apart = λ x y ex ey e.
-            (blocks_apart c.threads m K s.graph at s.words (lates s.loads) follows.shows x y 0 0 (is_kept t a x fits.thread.thread (from_low k fits.command) ex) (is_kept t b y fits.thread.thread (other_low k fits.command) ey)
-            (object_layout (object_of s.graph x)).first (object_layout (object_of s.graph y)).first e).0;
+            (blocks_apart c.width c.threads m K s.graph at s.words (lates s.loads) follows.shows x y 0 0 (is_kept t a x fits.thread.thread (from_low k fits.command) ex) (is_kept t b y fits.thread.thread (other_low k fits.command) ey)
+            (object_layout c.width (object_of s.graph x)).first (object_layout c.width (object_of s.graph y)).first e).0;
       }
   row_shown t k LoadSaid w fits is =
       register_shown t (from_register k) w fits.thread.thread (from_low k fits.command) (not_late t (from_register k) _ is.loads refl) (register_at t (from_register k) w is.words is.reads)

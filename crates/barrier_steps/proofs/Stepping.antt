@@ -25,23 +25,23 @@ use Rattle.barrier_steps.specs.Projection.{row_loading, row_event, after_event, 
 use Rattle.barrier_steps.proofs.Promising.{is_false, shown_length}
 
 -- a choice between two events that leave the graph
-chosen : (s : GraphState) (b : Bool) (t r : ℕ) → (after_event s (cond b (Some (events.ReadObject t r)) None)).graph ≡ s.graph
-chosen s true t r = refl
-chosen s false t r = refl
+chosen : (c : Config) (s : GraphState) (b : Bool) (t r : ℕ) → (after_event (extent c) s (cond b (Some (events.ReadObject t r)) None)).graph ≡ s.graph
+chosen c s true t r = refl
+chosen c s false t r = refl
 
-pub chosen_value : (s : GraphState) (b : Bool) (t r : ℕ) → (after_event s (cond b (Some (events.ReadValue t r)) None)).graph ≡ s.graph
-chosen_value s true t r = refl
-chosen_value s false t r = refl
+pub chosen_value : (c : Config) (s : GraphState) (b : Bool) (t r : ℕ) → (after_event (extent c) s (cond b (Some (events.ReadValue t r)) None)).graph ≡ s.graph
+chosen_value c s true t r = refl
+chosen_value c s false t r = refl
 
-chosen_shape : (s : GraphState) (w : ℕ) (b : Bool) (t : ℕ) → (after_event s (cond b (Some (events.Finish t)) (Some (events.ReadShape t (shape_in w))))).graph ≡ s.graph
-chosen_shape s w true t = refl
-chosen_shape s w false t = refl
+chosen_shape : (c : Config) (s : GraphState) (w : ℕ) (b : Bool) (t : ℕ) → (after_event (extent c) s (cond b (Some (events.Finish t)) (Some (events.ReadShape t (shape_in w))))).graph ≡ s.graph
+chosen_shape c s w true t = refl
+chosen_shape c s w false t = refl
 
 -- an event that does not decide leaves the graph
-pub graph_stays : (c : Config) (s : GraphState) (a : Name) (t : ℕ) (k : Command) (row : FieldRow) (w : ℕ) → is_deciding k row w ≡ false → (after_event s (row_event (extent c) a t k row w)).graph ≡ s.graph
+pub graph_stays : (c : Config) (s : GraphState) (a : Name) (t : ℕ) (k : Command) (row : FieldRow) (w : ℕ) → is_deciding k row w ≡ false → (after_event (extent c) s (row_event (extent c) a t k row w)).graph ≡ s.graph
 graph_stays c s a t k LoadMoved w n = refl
-graph_stays c s a t k LoadObject w n = chosen s (refers (payload_in w)) t (from_register k)
-graph_stays c s a t k (LoadShape x) w n = chosen_shape s w (length_decides k (shape_length (shape_in w))) t
+graph_stays c s a t k LoadObject w n = chosen c s (refers (payload_in w)) t (from_register k)
+graph_stays c s a t k (LoadShape x) w n = chosen_shape c s w (length_decides k (shape_length (shape_in w))) t
 graph_stays c s a t k (LoadValue way) w n = refl
 graph_stays c s a t k (LoadLink way word) w n = refl
 graph_stays c s a t k (LoadOwner word) w n = refl
@@ -124,13 +124,13 @@ say_step g t _ is = absurd cc
 
 -- the deciding event makes the step
 pub graph_steps : (c : Config) (head : Name → ℕ) (s : GraphState) (a : Name) (t : ℕ) (k : Command) (row : FieldRow) (w : ℕ) → is_row_of k row ≡ true → is_deciding k row w ≡ true → ShownAt head s.graph t k row w
-    → s.loads t ≡ row_loading (extent c) k row → InHandAt s a t k row → (after_event s (row_event (extent c) a t k row w)).graph ≡ graph_after s.graph t k
+    → s.loads t ≡ row_loading (extent c) k row → InHandAt s a t k row → (after_event (extent c) s (row_event (extent c) a t k row w)).graph ≡ graph_after s.graph t k
 graph_steps c head s a t k StoreNumber w is n h loads hand = set_step s.graph t k is
 graph_steps c head s a t k StoreNil w is n h loads hand = nil_step s.graph t k is
 graph_steps c head s a t k (StoreMoved word) w is n h loads hand =
     ap (λ l. with_register s.graph t (to_register k) (register_of s.graph t (value_in l.value).origin)) loads ∙ mov_step s.graph t k is
-graph_steps c head s a t k LoadObject w is n h loads hand = chosen s (refers (payload_in w)) t (from_register k) ∙ object_step head s.graph t w k is h n
-graph_steps c head s a t k (LoadShape x) w is n h loads hand = chosen_shape s w (length_decides k (shape_length (shape_in w))) t ∙ shape_step s.graph t w k is h n
+graph_steps c head s a t k LoadObject w is n h loads hand = chosen c s (refers (payload_in w)) t (from_register k) ∙ object_step head s.graph t w k is h n
+graph_steps c head s a t k (LoadShape x) w is n h loads hand = chosen_shape c s w (length_decides k (shape_length (shape_in w))) t ∙ shape_step s.graph t w k is h n
 graph_steps c head s a t k (LoadField way) w is n h loads hand =
     let one : h.0.name ≡ a = one_name (register_of s.graph t (from_register k)) h.0.name a h.0.refers hand in
     get_step s.graph t k a is hand (subst (λ b. field_index k < length (object_of s.graph b).fields) one h.0.within)
@@ -139,5 +139,5 @@ graph_steps c head s a t k (StoreField way word) w is n h loads hand =
     ap (λ l. with_field s.graph a (field_index k) (register_of s.graph t (value_in l.value).origin)) loads
     ∙ put_step s.graph t k a is hand (subst (λ b. field_index k < length (object_of s.graph b).fields) one h.within)
 graph_steps c head s a t k (LoadSecond word) w is n h loads hand = same_step s.graph t k is
-graph_steps c head s a t k LoadSaid w is n h loads hand = chosen_value s (refers (payload_in w)) t (from_register k) ∙ say_step s.graph t k is
+graph_steps c head s a t k LoadSaid w is n h loads hand = chosen_value c s (refers (payload_in w)) t (from_register k) ∙ say_step s.graph t k is
 graph_steps c head s a t k _ w is n h loads hand = absurd cc

@@ -1,9 +1,10 @@
 -- The ranges of the numbers in a row, and the words that it may read.
-use Rattle.std.specs.Prelude.{ℕ, ◌+◌, ◌*◌, ◌<◌, ◌≤◌, ◌≡◌, ◌≢◌, IsSome, Bool, true}
+use Rattle.std.specs.Prelude.{ℕ, ◌+◌, ◌<◌, ◌≤◌, ◌≡◌, ◌≢◌, IsSome, Bool, true}
 use Rattle.block_store.specs.declared.Config.{Config}
 use Rattle.block_store.specs.declared.Shape.{Shape}
 use Rattle.block_store.specs.Payloads.{payload_of, target}
 use Rattle.block_store.specs.Places.{extent, IsBlock}
+use Rattle.block_store.specs.Registers.{registers_end}
 use Rattle.block_store.specs.Shapes.{IsShape}
 use Rattle.never_heap.specs.declared.Command.{Command}
 use Rattle.never_heap.specs.Bounds.{IsCommandInRange}
@@ -20,7 +21,7 @@ use Rattle.barrier_steps.specs.Rows.{FieldState, row_want}
 pub record IsThread (c : Config) (t : ℕ) : Type 0 where
   pub few : c.threads ≤ 16
   pub thread : t < c.threads
-  pub registers : 5 * t + 5 ≤ c.blocks
+  pub registers : registers_end c.width (t + 1) ≤ c.blocks
 
 -- a word that a register or field can hold
 pub record IsLoaded (c : Config) (w : ℕ) : Type 0 where

@@ -79,9 +79,9 @@ row_event e a t k (LoadSaidOwner word) w = Some (events.Finish t)
 row_event e a t k (Answered reply) w = None
 
 -- the state after an event, if there is one
-abbrev pub after_event : GraphState → Option Event → GraphState
-after_event s None = s
-after_event s (Some e) = apply s e
+abbrev pub after_event : Extent → GraphState → Option Event → GraphState
+after_event e s None = s
+after_event e s (Some event) = apply e.width s event
 
 -- a is the name of the object in which a row loads or stores a field
 abbrev pub InHandAt : GraphState → Name → ℕ → Command → FieldRow → Type 0

@@ -1,5 +1,5 @@
 -- The commands that allocate nothing, as rows of one event each: what each row wants, and what it becomes on the word that it read.
-use Rattle.std.specs.Prelude.{ℕ, ◌+◌, ◌%◌, ◌==◌, nat_lt, Bool, true, false, if◌then◌else◌, Option, Some, None}
+use Rattle.std.specs.Prelude.{ℕ, ◌+◌, ◌==◌, nat_lt, Bool, true, false, if◌then◌else◌, Option, Some, None}
 use Rattle.block_store.specs.declared.Owner.{Owner}
 use Rattle.block_store.specs.declared.Payload.{Payload}
 use Rattle.block_store.specs.declared.Payload.TheVariants as payloads
@@ -15,7 +15,7 @@ use Rattle.never_heap.specs.declared.Command.{Command}
 use Rattle.never_heap.specs.declared.Command.TheVariants as commands
 use Rattle.never_heap.specs.declared.Reply.{Reply}
 use Rattle.never_heap.specs.declared.Reply.TheVariants as replies
-use Rattle.shown_graph.specs.Words.{register_block}
+use Rattle.block_store.specs.Registers.{register_block, register_slot}
 use Rattle.heap_machine.specs.Operations.{Operation, Load, Exchange}
 use Rattle.heap_machine.specs.declared.pass.Pass.{Pass}
 use Rattle.heap_machine.specs.declared.Step.{Step}
@@ -34,7 +34,7 @@ pub record FieldState : Type 0 where
 
 -- the place of register r of thread t
 abbrev pub register_place : Extent → ℕ → ℕ → Place
-register_place e t r = PayloadOf (register_block t r) (r % 4)
+register_place e t r = PayloadOf (register_block e.width t r) (register_slot e.width r)
 
 -- what a payload word holds; nil where it is the word of no payload
 abbrev pub payload_or_nil : Option Payload → Payload

@@ -1,13 +1,15 @@
 //! The part of a thread's work that does a command that allocates nothing.
 
-ghost use Rattle.std.specs.Prelude.{◌≡◌, ◌+◌, ◌<◌, ◌≤◌, ◌==◌, if◌then◌else◌, IsSome};
+ghost use Rattle.std.specs.Prelude.{◌≡◌, ◌+◌, ◌<◌, ◌≤◌, ◌==◌, false, if◌then◌else◌, IsSome};
 ghost use Rattle.block_store.specs.Owners.{owner_of};
 ghost use Rattle.block_store.specs.Places.{extent, index, PayloadOf};
 ghost use Rattle.block_store.specs.Payloads as words;
 ghost use Rattle.block_store.specs.Payloads.{payload_of, payload_target};
+ghost use Rattle.block_store.specs.declared.TheConstants.{REGISTERS};
+ghost use Rattle.block_store.specs.Registers.{register_block, register_slot};
 ghost use Rattle.block_store.specs.Shapes.{IsShape, shape_of};
 ghost use Rattle.never_heap.specs.Bounds.{IsCommandInRange};
-ghost use Rattle.never_heap.specs.Steps.{blocks_of};
+ghost use Rattle.never_heap.specs.Steps.{makes_object};
 ghost use Rattle.heap_machine.specs.Operations.{op_at, Load, Exchange};
 ghost use Rattle.heap_machine.specs.Passes.{IsPass};
 ghost use Rattle.barrier_steps.specs.Operands as operands;
@@ -21,8 +23,7 @@ use crate::operands::{field_index, from_register, number_set, other_register, to
 use crate::walks::{field_at, length_of, link_at, links_to};
 use crate::{FieldRow, Way};
 use block_store::{
-    Name, Payload, Places, REGISTER_BLOCKS, Shape, Value, payload_word, read_owner, read_payload,
-    read_shape,
+    Name, Payload, Places, Shape, Value, Width, payload_word, read_owner, read_payload, read_shape,
 };
 use heap_machine::{Op, Pass, Step};
 use never_heap::{Command, Reply};
@@ -88,16 +89,28 @@ fn object_in(word: u64) -> Value
 // The place of a register.
 fn register(places: &Places, thread: u32, r: u8) -> usize
     requires thread { IsThread places.now thread }
-    requires register { r < 16 }
+    requires register { r < REGISTERS }
     ensures { result ≡ index (extent places.now) (register_place (extent places.now) thread r) }
 {
-    let r = r as u32;
-    places.payload(REGISTER_BLOCKS * thread + 2 + r / 4, r % 4)
+    let (block, slot) = register_at(places.width(), thread, r as u32);
+    places.payload(block, slot)
+}
+
+// The block and the payload of register `r` of a thread.
+#[tactic(auto, using(block_store::proofs::Registers::block_by, block_store::proofs::Registers::slot_by))]
+fn register_at(width: Width, thread: u32, r: u32) -> (u32, u32)
+    requires thread { thread < 16 }
+    requires register { r < REGISTERS }
+    ensures block { result.0 ≡ register_block width thread r }
+    ensures slot { result.1 ≡ register_slot width r }
+{
+    let payloads = width.payloads();
+    (width.registers() * thread + 2 + r / payloads, r % payloads)
 }
 
 // The first row of a command.
 fn first_row(command: Command) -> FieldRow
-    requires { blocks_of command ≡ 0 }
+    requires { makes_object command ≡ false }
     ensures { result ≡ Rows.first_row command }
 {
     match command {
@@ -246,7 +259,10 @@ fn link(places: &Places, command: Command, way: Way) -> usize
     requires walk { IsWalk places.now (operands.field_index command) way }
     ensures { result ≡ index (extent places.now) (PayloadOf way.block (Walks.link_at (extent places.now) way.shape (operands.field_index command) way.level)) }
 {
-    places.payload(way.block, link_at(places, way, field_index(command, way.shape)))
+    places.payload(
+        way.block,
+        link_at(places, way, field_index(command, way.shape)),
+    )
 }
 
 // The place of that field, at its block.
@@ -254,7 +270,10 @@ fn field(places: &Places, command: Command, way: Way) -> usize
     requires walk { IsWalk places.now (operands.field_index command) way }
     ensures { result ≡ index (extent places.now) (PayloadOf way.block (Walks.field_at (extent places.now) way.shape (operands.field_index command))) }
 {
-    places.payload(way.block, field_at(places, way, field_index(command, way.shape)))
+    places.payload(
+        way.block,
+        field_at(places, way, field_index(command, way.shape)),
+    )
 }
 
 impl FieldPass {
@@ -263,7 +282,7 @@ impl FieldPass {
     pub fn new(pass: Pass, command: Command) -> FieldPass
         requires pass { IsPass pass }
         requires range { IsCommandInRange command }
-        requires allocates { blocks_of command ≡ 0 }
+        requires allocates { makes_object command ≡ false }
         ensures { result ≡ at_first_row pass command }
     {
         FieldPass {
@@ -313,7 +332,7 @@ impl FieldPass {
     // A load of a register.
     fn load(&self, places: &Places, r: u8) -> Op
         requires thread { IsThread places.now self.now.pass.thread }
-        requires register { r < 16 }
+        requires register { r < REGISTERS }
         ensures { result ≡ op_at (extent places.now) (Load (register_place (extent places.now) self.now.pass.thread r)) }
     {
         Op::load(register(places, self.pass.thread, r))

@@ -2,11 +2,12 @@
 //! five elements, in blocks 6 to 8, and register 1 to a record of one field, in block 9.
 
 use crate::*;
-use block_store::{Config, Name, Places, Value};
+use block_store::{Config, Name, Places, Value, Width};
 use heap_machine::{Op, Pass, Step};
 use never_heap::{Command, Reply};
 
 const SMALL: Config = Config {
+    width: Width::Four,
     threads: 1,
     blocks: 20,
     live: 10,

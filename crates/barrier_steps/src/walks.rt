@@ -3,6 +3,7 @@
 ghost use Rattle.std.specs.Prelude.{◌≡◌, ◌<◌, ◌≤◌};
 ghost use Rattle.block_store.specs.Places.{extent};
 ghost use Rattle.block_store.specs.Shapes.{IsShape};
+ghost use Rattle.block_store.specs.Widths.{payloads};
 ghost use Rattle.barrier_steps.specs.Walks;
 ghost use Rattle.barrier_steps.specs.Walks.{shape_length};
 
@@ -26,10 +27,9 @@ pub(crate) fn links_to(places: &Places, shape: Shape, index: u32) -> u32
     requires { IsShape shape }
     ensures { result ≡ Walks.links_to (extent places.now) shape index }
 {
-    let _places = places;
     match shape {
-        Shape::List(_) => walk_of(index).0,
-        Shape::Tree(elements) => depth_of(elements),
+        Shape::List(_) => walk_of(places.width(), index).0,
+        Shape::Tree(elements) => depth_of(places.width(), elements),
     }
 }
 
@@ -39,12 +39,11 @@ pub(crate) fn link_at(places: &Places, way: Way, index: u32) -> u32
     requires index { index < shape_length way.shape }
     requires level { way.level ≤ Walks.links_to (extent places.now) way.shape index }
     ensures is { result ≡ Walks.link_at (extent places.now) way.shape index way.level }
-    ensures low { result < (extent places.now).width }
+    ensures low { result < payloads places.now.width }
 {
-    let _places = places;
     match way.shape {
         Shape::List(_) => 0,
-        Shape::Tree(elements) => path_of(elements, index, way.level),
+        Shape::Tree(elements) => path_of(places.width(), elements, index, way.level),
     }
 }
 
@@ -53,11 +52,15 @@ pub(crate) fn field_at(places: &Places, way: Way, index: u32) -> u32
     requires shape { IsShape way.shape }
     requires index { index < shape_length way.shape }
     ensures is { result ≡ Walks.field_at (extent places.now) way.shape index }
-    ensures low { result < (extent places.now).width }
+    ensures low { result < payloads places.now.width }
 {
-    let _places = places;
     match way.shape {
-        Shape::List(_) => walk_of(index).1,
-        Shape::Tree(elements) => path_of(elements, index, depth_of(elements)),
+        Shape::List(_) => walk_of(places.width(), index).1,
+        Shape::Tree(elements) => path_of(
+            places.width(),
+            elements,
+            index,
+            depth_of(places.width(), elements),
+        ),
     }
 }

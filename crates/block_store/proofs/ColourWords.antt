@@ -173,21 +173,30 @@ pub unread : (w : ℕ) → colour_of w ≡ None → (c : Colour) → IsColour c 
 unread w e c h q = let r = colour-code c h in let z = ap colour_of q in cc
 
 -- what is read of a word is what it says
-shown : (w : ℕ) → IfSome (colour_of w) (λ c. IsColour c × (colour_code c ≡ w) × (colour_link c ≡ link w) × (colour_kind c ≡ kind w))
+shown : (w : ℕ) → IfSome (colour_of w)
+    (λ c. IsColour c × (colour_code c ≡ w) × (colour_link c ≡ link w) × (colour_kind c ≡ kind w))
 unfolding colour_of link kind free_word grey_word
 shown w = elim (cases_eq w 1) [
   | inl e ↦ rw e (tt, refl, refl, refl)
   | inr not_even ↦ rw (ne_eqb w 1 not_even) (elim (cases_eq w 2) [
     | inl e ↦ rw e (tt, refl, refl, refl)
-    | inr not_odd ↦ rw (ne_eqb w 2 not_odd) (elim (cases_Bool (eqb (w % 8) 0 && leb (w / 8) 65535)) [
-      | inl t ↦ (let p = and_parts (eqb (w % 8) 0) (leb (w / 8) 65535) t in let z = eqb-true (w % 8) 0 p.0 in rw t (leb-true (w / 8) 65535 p.1, omega arith, refl, sym z))
-      | inr f ↦ rw f (elim (cases_Bool (eqb (w % 8) 3 && leb (w / 8) 65535)) [
-        | inl t ↦ (let p = and_parts (eqb (w % 8) 3) (leb (w / 8) 65535) t in let z = eqb-true (w % 8) 3 p.0 in rw t (leb-true (w / 8) 65535 p.1, omega arith, refl, sym z))
-        | inr g ↦ rw g tt
-      ])
-    ])
+    | inr not_odd ↦ rw (ne_eqb w 2 not_odd)
+        (elim (cases_Bool (eqb (w % 8) 0 && leb (w / 8) 65535)) [
+          | inl t ↦ (let p = and_parts (eqb (w % 8) 0) (leb (w / 8) 65535) t in
+              let z = eqb-true (w % 8) 0 p.0 in
+              rw t (leb-true (w / 8) 65535 p.1, omega arith, refl, sym z))
+          | inr f ↦ rw f (elim (cases_Bool (eqb (w % 8) 3 && leb (w / 8) 65535)) [
+            | inl t ↦ (let p = and_parts (eqb (w % 8) 3) (leb (w / 8) 65535) t in
+                let z = eqb-true (w % 8) 3 p.0 in
+                rw t (leb-true (w / 8) 65535 p.1, omega arith, refl, sym z))
+            | inr g ↦ rw g tt
+          ])
+        ])
   ])
 ]
 
-pub reads : (w : ℕ) (c : Colour) → colour_of w ≡ Some c → IsColour c × (colour_code c ≡ w) × (colour_link c ≡ link w) × (colour_kind c ≡ kind w)
-reads w c e = subst (λ o. IfSome o (λ d. IsColour d × (colour_code d ≡ w) × (colour_link d ≡ link w) × (colour_kind d ≡ kind w))) e (shown w)
+pub reads : (w : ℕ) (c : Colour) → colour_of w ≡ Some c
+    → IsColour c × (colour_code c ≡ w) × (colour_link c ≡ link w) × (colour_kind c ≡ kind w)
+reads w c e = subst (λ o. IfSome o
+    (λ d. IsColour d × (colour_code d ≡ w) × (colour_link d ≡ link w)
+    × (colour_kind d ≡ kind w))) e (shown w)

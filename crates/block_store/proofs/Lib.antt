@@ -4,3 +4,4 @@ pub mod ShapeWords
 pub mod ColourWords
 pub mod PhaseWords
 pub mod Indexes
+pub mod Registers

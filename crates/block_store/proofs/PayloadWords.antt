@@ -62,7 +62,8 @@ pub unread : (w : ℕ) → payload_of w ≡ None → (p : Payload) → IsPayload
 unread w e p h q = let r = payload-code p h in let z = ap payload_of q in cc
 
 -- what is read of a word is what it says
-shown : (w : ℕ) → IfSome (payload_of w) (λ p. IsPayload p × (payload_code p ≡ w) × (payload_target p ≡ target w))
+shown : (w : ℕ) → IfSome (payload_of w)
+    (λ p. IsPayload p × (payload_code p ≡ w) × (payload_target p ≡ target w))
 unfolding payload_of number_word reference_word target
 shown w = elim (cases_eq w 0) [
   | inl e ↦ rw e (tt, refl, refl)
@@ -82,5 +83,7 @@ shown w = elim (cases_eq w 0) [
   ])
 ]
 
-pub reads : (w : ℕ) (p : Payload) → payload_of w ≡ Some p → IsPayload p × (payload_code p ≡ w) × (payload_target p ≡ target w)
-reads w p e = subst (λ o. IfSome o (λ q. IsPayload q × (payload_code q ≡ w) × (payload_target q ≡ target w))) e (shown w)
+pub reads : (w : ℕ) (p : Payload) → payload_of w ≡ Some p
+    → IsPayload p × (payload_code p ≡ w) × (payload_target p ≡ target w)
+reads w p e = subst (λ o. IfSome o
+    (λ q. IsPayload q × (payload_code q ≡ w) × (payload_target q ≡ target w))) e (shown w)

@@ -35,14 +35,24 @@ unfolding cycle_of phase_code
 cycle-code p low = omega (arith, bit_low p.closed, bit_low p.sweep)
 
 pub phase-code : (p : PhaseWord) → p.inside < 256 → phase_of (phase_code p) ≡ p
-phase-code p low = rw (inside-code p low, sweep-code p low, closed-code p low, cycle-code p low) refl
+phase-code p low = rw (
+  inside-code p low,
+  sweep-code p low,
+  closed-code p low,
+  cycle-code p low,
+) refl
 
 pub code-phase : (w : ℕ) → phase_code (phase_of w) ≡ w
 unfolding phase_code inside_of is_sweep is_closed cycle_of
-code-phase w = omega (arith, bit_eqb (w / 256 % 2) (omega arith), bit_eqb (w / 512 % 2) (omega arith))
+code-phase w = omega (
+  arith,
+  bit_eqb (w / 256 % 2) (omega arith),
+  bit_eqb (w / 512 % 2) (omega arith),
+)
 
 -- one thread more inside
-pub phase-more : (w : ℕ) → inside_of w < 255 → phase_of (w + 1) ≡ record (phase_of w) { inside = inside_of w + 1 }
+pub phase-more : (w : ℕ) → inside_of w < 255
+    → phase_of (w + 1) ≡ record (phase_of w) { inside = inside_of w + 1 }
 unfolding inside_of is_sweep is_closed cycle_of
 phase-more w low =
     let i : (w + 1) % 256 ≡ w % 256 + 1 = omega arith in
@@ -52,7 +62,8 @@ phase-more w low =
     rw (i, s, c, y) refl
 
 -- one thread less inside
-pub phase-less : (w : ℕ) → 0 < inside_of w → phase_of (w - 1) ≡ record (phase_of w) { inside = inside_of w - 1 }
+pub phase-less : (w : ℕ) → 0 < inside_of w
+    → phase_of (w - 1) ≡ record (phase_of w) { inside = inside_of w - 1 }
 unfolding inside_of is_sweep is_closed cycle_of
 phase-less w some =
     let i : (w - 1) % 256 ≡ w % 256 - 1 = omega arith in

@@ -1,4 +1,5 @@
--- The words of colours: eight times the link and the kind of colour, which is 0 Free, 1 Live-even, 2 Live-odd or 3 Grey.
+-- The words of colours: eight times the link and the kind of colour, which is 0 Free, 1 Live-even,
+-- 2 Live-odd or 3 Grey.
 use Rattle.std.specs.Prelude.{ℕ, ◌+◌, ◌-◌, ◌*◌, ◌/◌, ◌%◌, ◌≤◌, Bool, ◌==◌, nat_le, ◌&&◌, if◌then◌else◌, Option, Some, None}
 use Rattle.block_store.specs.declared.Colour.{Colour}
 use Rattle.block_store.specs.declared.Colour.TheVariants.{Free, Even, Odd, Grey}

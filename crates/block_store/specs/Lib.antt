@@ -1,4 +1,6 @@
 pub mod Configs
+pub mod Widths
+pub mod Registers
 pub mod Payloads
 pub mod Owners
 pub mod Shapes

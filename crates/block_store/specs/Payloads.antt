@@ -1,4 +1,5 @@
--- The words of payloads: 0 for nil, twice the block for a reference, and one more than twice the number for a number.
+-- The words of payloads: 0 for nil, twice the block for a reference, and one more than twice the
+-- number for a number.
 use Rattle.std.specs.Prelude.{ℕ, ◌+◌, ◌*◌, ◌/◌, ◌%◌, ◌^◌, ◌<◌, ◌≤◌, ◌==◌, nat_lt, nat_le, ◌&&◌, if◌then◌else◌, Option, Some, None}
 use Rattle.block_store.specs.declared.Payload.{Payload}
 use Rattle.block_store.specs.declared.Payload.TheVariants.{Nil, Int, Block}

@@ -1,4 +1,5 @@
--- The phase word: the cycle, whether the gate is closed, whether the phase is Sweep, and how many threads are inside.
+-- The phase word: the cycle, whether the gate is closed, whether the phase is Sweep, and how many
+-- threads are inside.
 use Rattle.std.specs.Prelude.{ℕ, ◌+◌, ◌*◌, ◌/◌, ◌%◌, Bool, true, false, ◌==◌}
 use Rattle.block_store.specs.declared.PhaseWord.{PhaseWord}
 
@@ -29,4 +30,9 @@ cycle_of w = w / 1024
 
 -- the four parts of a word
 abbrev pub phase_of : ℕ → PhaseWord
-phase_of w = record { inside = inside_of w; sweep = is_sweep w; closed = is_closed w; cycle = cycle_of w }
+phase_of w = record {
+  inside = inside_of w;
+  sweep = is_sweep w;
+  closed = is_closed w;
+  cycle = cycle_of w;
+}

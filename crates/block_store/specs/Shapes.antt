@@ -1,4 +1,5 @@
--- The words of shapes: twice the fields of a record, and one more than twice the elements of an array.
+-- The words of shapes: twice the fields of a record, and one more than twice the elements of an
+-- array.
 use Rattle.std.specs.Prelude.{ℕ, ◌+◌, ◌*◌, ◌/◌, ◌%◌, ◌≤◌, ◌==◌, nat_le, if◌then◌else◌, Option, Some, None}
 use Rattle.block_store.specs.declared.Shape.{Shape}
 use Rattle.block_store.specs.declared.Shape.TheVariants as shapes
@@ -24,5 +25,6 @@ shape_code (shapes.Tree e) = array_word e
 -- the shape that a word is, or none
 unfoldable pub shape_of : ℕ → Option Shape
 shape_of w =
-    if nat_le (w / 2) 65535 then (if w % 2 == 0 then Some (shapes.List (w / 2)) else Some (shapes.Tree (w / 2)))
+    if nat_le (w / 2) 65535
+    then (if w % 2 == 0 then Some (shapes.List (w / 2)) else Some (shapes.Tree (w / 2)))
     else None

@@ -25,7 +25,8 @@ pub fn colour_word(c: Colour) -> u64
 #[tactic(auto, using(crate::proofs::ColourWords::unread), unfolding(crate::specs::Colours::colour_of, crate::specs::Colours::free_word, crate::specs::Colours::grey_word, crate::specs::Colours::link, crate::specs::Colours::kind))]
 pub fn read_colour(w: u64) -> Option<Colour>
     ensures word { result ≡ colour_of w }
-    ensures found { IfSome result (λ c. IsColour c × (colour_code c ≡ w) × (colour_link c ≡ link w) × (colour_kind c ≡ kind w)) }
+    ensures found { IfSome result (λ c. IsColour c × (colour_code c ≡ w)
+        × (colour_link c ≡ link w) × (colour_kind c ≡ kind w)) }
     ensures none { IfNone result ((c : Colour) → IsColour c → colour_code c ≢ w) }
 {
     let link = w / 8;

@@ -1,4 +1,5 @@
-//! Laws of the words and places, for the proofs above: each is the contract of a function that does nothing.
+//! Laws of the words and places, for the proofs above: each is the contract of a function that does
+//! nothing.
 
 ghost use Rattle.std.specs.Prelude.{◌≢◌, ◌+◌, ◌≡◌, ◌<◌, ◌≤◌, ℕ, List, length, Some, slice_set, true};
 ghost use Rattle.block_store.specs.Payloads.{IsPayload, payload_code, payload_of};
@@ -8,6 +9,10 @@ ghost use Rattle.block_store.specs.Colours.{IsColour, colour_code, colour_of, bl
 ghost use Rattle.block_store.specs.Phases.{phase_code, phase_of};
 ghost use Rattle.block_store.specs.Places.{Extent, Place, in_range, index, words_count};
 ghost use Rattle.block_store.specs.Heaps.{heap_of, put_at};
+ghost use Rattle.block_store.specs.Widths.{payloads, register_blocks};
+ghost use Rattle.block_store.specs.Registers.{root_block, register_block, register_slot, registers_end, register_thread, register_ordinal};
+ghost use Rattle.block_store.specs.declared.TheConstants.{REGISTERS};
+ghost use Rattle.block_store.specs.declared.Width.{Width};
 ghost use Rattle.block_store.specs.declared.Payload.{Payload};
 ghost use Rattle.block_store.specs.declared.Owner.{Owner};
 ghost use Rattle.block_store.specs.declared.Shape.{Shape};
@@ -26,10 +31,12 @@ pub fn words_read_back()
 
 /// A word that reads as something is the word of it.
 pub fn words_are_written()
-    ensures payload { (w : ℕ) (p : Payload) → payload_of w ≡ Some p → IsPayload p × (payload_code p ≡ w) }
+    ensures payload { (w : ℕ) (p : Payload) → payload_of w ≡ Some p
+        → IsPayload p × (payload_code p ≡ w) }
     ensures owner { (w : ℕ) (o : Owner) → owner_of w ≡ Some o → IsOwner o × (owner_code o ≡ w) }
     ensures shape { (w : ℕ) (s : Shape) → shape_of w ≡ Some s → IsShape s × (shape_code s ≡ w) }
-    ensures colour { (w : ℕ) (c : Colour) → colour_of w ≡ Some c → IsColour c × (colour_code c ≡ w) }
+    ensures colour { (w : ℕ) (c : Colour) → colour_of w ≡ Some c
+        → IsColour c × (colour_code c ≡ w) }
     ensures phase { (w : ℕ) → phase_code (phase_of w) ≡ w }
 {}
 
@@ -42,11 +49,33 @@ pub fn colours_turn()
 
 /// Distinct places have distinct indices, and all are below the number of words.
 pub fn places_differ()
-    ensures distinct { (e : Extent) (p q : Place) → in_range e p ≡ true → in_range e q ≡ true → index e p ≡ index e q → p ≡ q }
+    ensures distinct { (e : Extent) (p q : Place) → in_range e p ≡ true → in_range e q ≡ true
+        → index e p ≡ index e q → p ≡ q }
     ensures below { (e : Extent) (p : Place) → in_range e p ≡ true → index e p < words_count e }
 {}
 
 /// A write of the word at the index of a place changes that place of the heap, and no other.
 pub fn writes_are_of_places()
-    ensures { (e : Extent) (ws : List ℕ) (p : Place) (v : ℕ) → in_range e p ≡ true → words_count e ≤ length ws → heap_of e (slice_set ws (index e p) v) ≡ put_at (heap_of e ws) p v }
+    ensures { (e : Extent) (ws : List ℕ) (p : Place) (v : ℕ) → in_range e p ≡ true
+        → words_count e ≤ length ws
+        → heap_of e (slice_set ws (index e p) v) ≡ put_at (heap_of e ws) p v }
+{}
+
+/// In blocks of either width the register arrays of threads lie one behind the other, from block 1
+/// on, and each block of them is of one thread and ordinal. Each register stands in a block of its
+/// thread's array behind the root, and distinct registers at distinct places.
+pub fn registers_are_placed()
+    ensures first { (w : Width) → root_block w 0 ≡ 1 }
+    ensures next { (w : Width) (t : ℕ) → root_block w (t + 1) ≡ root_block w t + register_blocks w }
+    ensures last { (w : Width) (n : ℕ) → root_block w n ≡ registers_end w n + 1 }
+    ensures inside { (w : Width) (t r : ℕ) → r < REGISTERS
+        → (root_block w t < register_block w t r) × (register_block w t r < root_block w (t + 1)) }
+    ensures slot { (w : Width) (r : ℕ) → register_slot w r < payloads w }
+    ensures distinct { (w : Width) (t r u q : ℕ) → r < REGISTERS → q < REGISTERS
+        → register_block w t r ≡ register_block w u q → register_slot w r ≡ register_slot w q
+        → (t ≡ u) × (r ≡ q) }
+    ensures thread { (w : Width) (t o : ℕ) → o < register_blocks w
+        → register_thread w (root_block w t + o) ≡ t }
+    ensures ordinal { (w : Width) (t o : ℕ) → o < register_blocks w
+        → register_ordinal w (root_block w t + o) ≡ o }
 {}

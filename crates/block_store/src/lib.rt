@@ -2,8 +2,9 @@
 //! of words, and the places of words.
 #![tactic(auto)]
 
-ghost use Rattle.std.specs.Prelude.{◌≡◌, ◌↔◌, IsTrue};
+ghost use Rattle.std.specs.Prelude.{◌≡◌, ◌≤◌, ◌↔◌, IsTrue};
 ghost use Rattle.block_store.specs.Configs.{IsInBounds};
+ghost use Rattle.block_store.specs.Widths.{payloads, register_blocks};
 
 mod colours;
 mod laws;
@@ -14,17 +15,50 @@ mod words;
 
 pub use colours::{black, colour_word, phase_word, read_colour, read_phase, white};
 pub use laws::{
-    colours_turn, places_differ, words_are_written, words_read_back, writes_are_of_places,
+    colours_turn, places_differ, registers_are_placed, words_are_written, words_read_back,
+    writes_are_of_places,
 };
 pub use places::Places;
 use std::alloc::{AllocError, AllocFailed};
 pub use words::{owner_word, payload_word, read_owner, read_payload, read_shape, shape_word};
 
-/// A payload word is one of this many in each block.
-pub const PAYLOADS: u32 = 4;
+/// How many registers each thread has.
+pub const REGISTERS: u32 = 16;
 
-/// The registers of a thread take this many blocks.
-pub const REGISTER_BLOCKS: u32 = 5;
+/// How wide the blocks of a heap are.
+#[derive(Clone, Copy, Debug, PartialEq, Eq)]
+pub enum Width {
+    /// Four payload words in each block.
+    Four,
+    /// Eight payload words in each block.
+    Eight,
+}
+
+impl Width {
+    /// How many payload words a block has, 4 or 8.
+    pub fn payloads(self) -> u32
+        ensures value { result ≡ payloads self }
+        ensures some { 4 ≤ result }
+        ensures few { result ≤ 8 }
+    {
+        match self {
+            Width::Four => 4,
+            Width::Eight => 8,
+        }
+    }
+
+    /// How many blocks the registers of a thread take, 5 or 3.
+    pub fn registers(self) -> u32
+        ensures value { result ≡ register_blocks self }
+        ensures some { 3 ≤ result }
+        ensures few { result ≤ 5 }
+    {
+        match self {
+            Width::Four => 5,
+            Width::Eight => 3,
+        }
+    }
+}
 
 /// Memory ran out.
 #[derive(Clone, Copy, Debug, PartialEq, Eq)]
@@ -42,9 +76,11 @@ impl<T: Drop> From<AllocFailed<T>> for OutOfMemory {
     }
 }
 
-/// The five numbers that fix a heap.
+/// What fixes a heap: the width of its blocks, and five numbers.
 #[derive(Clone, Copy, Debug, PartialEq, Eq)]
 pub struct Config {
+    /// How wide its blocks are.
+    pub width: Width,
     /// How many threads share the heap, 1 to 16.
     pub threads: u32,
     /// How many blocks the heap has, 1 to 65,535.

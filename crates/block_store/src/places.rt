@@ -3,9 +3,10 @@
 ghost use Rattle.std.specs.Prelude.{◌≡◌, ◌≤◌, ◌<◌};
 ghost use Rattle.block_store.specs.Configs.{IsInBounds};
 ghost use Rattle.block_store.specs.declared.Config.{Config};
-ghost use Rattle.block_store.specs.Places.{extent, index, words_count, IsBlock, Phase, Cursor, FreeCount, GreyList, FreeList, ColourOf, OwnerOf, ShapeOf, PayloadOf};
+ghost use Rattle.block_store.specs.Widths.{payloads};
+ghost use Rattle.block_store.specs.Places.{extent, index, block_size, words_count, IsBlock, Phase, Cursor, FreeCount, GreyList, FreeList, ColourOf, OwnerOf, ShapeOf, PayloadOf};
 
-use crate::{Config, PAYLOADS};
+use crate::{Config, Width};
 use std::marker::Model;
 
 /// Where the words of a heap lie, by its configuration.
@@ -31,6 +32,13 @@ impl Places {
         ensures { result ≡ c.now }
     {
         Places { config: *c }
+    }
+
+    /// How wide the heap's blocks are.
+    pub fn width(&self) -> Width
+        ensures { result ≡ self.now.width }
+    {
+        self.config.width
     }
 
     /// The place of the phase word.
@@ -95,10 +103,11 @@ impl Places {
         self.block(x) + 2
     }
 
-    /// The place of payload `j` of block `x`; blocks are counted from 1, payloads from 0.
+    /// The place of payload `j` of block `x`; blocks are counted from 1, payloads from 0 to
+    /// one less than the width has.
     pub fn payload(&self, x: u32, j: u32) -> usize
         requires block { IsBlock self.now x }
-        requires payload { j < PAYLOADS }
+        requires payload { j < payloads self.now.width }
         ensures { result ≡ index (extent self.now) (PayloadOf x j) }
     {
         self.block(x) + 3 + j as usize
@@ -110,16 +119,24 @@ impl Places {
     {
         let threads = self.config.threads as usize;
         let blocks = self.config.blocks as usize;
-        3 + 2 * threads + (3 + PAYLOADS as usize) * blocks
+        3 + 2 * threads + self.block_size() * blocks
     }
 
     // The place of the first word of block `x`.
     fn block(&self, x: u32) -> usize
         requires { IsBlock self.now x }
         ensures first { result ≡ index (extent self.now) (ColourOf x) }
-        ensures low { result < 500000 }
+        ensures low { result < 750000 }
     {
         let threads = self.config.threads as usize;
-        3 + 2 * threads + (3 + PAYLOADS as usize) * (x as usize - 1)
+        3 + 2 * threads + self.block_size() * (x as usize - 1)
+    }
+
+    // How many words each block has.
+    fn block_size(&self) -> usize
+        ensures value { result ≡ block_size (extent self.now) }
+        ensures few { result ≤ 11 }
+    {
+        3 + self.config.width.payloads() as usize
     }
 }

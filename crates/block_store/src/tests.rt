@@ -61,6 +61,7 @@ fn readings_of_examples(rt: HostRuntime) {
 #[test]
 fn places_of_an_example(rt: HostRuntime) {
     let config = Config {
+        width: Width::Four,
         threads: 1,
         blocks: 64,
         live: 20,
@@ -84,4 +85,30 @@ fn places_of_an_example(rt: HostRuntime) {
         [5, 6, 7, 8]
     );
     assert_eq!(rt; places.payload(64, 3), 452);
+}
+
+#[test]
+fn places_of_wide_blocks(rt: HostRuntime) {
+    let config = Config {
+        width: Width::Eight,
+        threads: 2,
+        blocks: 64,
+        live: 20,
+        object: 2,
+        shared: 0,
+    };
+    let places = Places::new(&config);
+    assert_eq!(rt; places.width(), Width::Eight);
+    assert_eq!(rt; places.words(), 711);
+    assert_eq!(rt; places.colour(2), 18);
+    assert_eq!(rt; places.payload(2, 7), 28);
+    assert_eq!(rt; places.payload(64, 7), 710);
+}
+
+#[test]
+fn two_widths(rt: HostRuntime) {
+    for (width, payloads, blocks) in [(Width::Four, 4, 5), (Width::Eight, 8, 3)] {
+        assert_eq!(rt; width.payloads(), payloads);
+        assert_eq!(rt; width.registers(), blocks);
+    }
 }

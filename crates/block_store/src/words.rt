@@ -27,7 +27,8 @@ pub fn payload_word(p: Payload) -> u64
 #[tactic(auto, using(crate::proofs::PayloadWords::unread), unfolding(crate::specs::Payloads::payload_of, crate::specs::Payloads::number_word, crate::specs::Payloads::reference_word, crate::specs::Payloads::target))]
 pub fn read_payload(w: u64) -> Option<Payload>
     ensures word { result ≡ payload_of w }
-    ensures found { IfSome result (λ p. IsPayload p × (payload_code p ≡ w) × (payload_target p ≡ target w)) }
+    ensures found { IfSome result (λ p. IsPayload p × (payload_code p ≡ w)
+        × (payload_target p ≡ target w)) }
     ensures none { IfNone result ((p : Payload) → IsPayload p → payload_code p ≢ w) }
 {
     let half = w / 2;

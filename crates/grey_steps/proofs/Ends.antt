@@ -6,6 +6,7 @@ use Rattle.block_store.specs.declared.Config.{Config}
 use Rattle.block_store.specs.Colours.{is_grey, black_word}
 use Rattle.block_store.specs.Heaps.{Heap}
 use Rattle.block_store.specs.Payloads.{target}
+use Rattle.block_store.specs.Widths.{payloads}
 use Rattle.block_store.specs.Places.{Extent, extent, GreyList, ColourOf}
 use Rattle.heap_machine.specs.Grey.{GreyHolding, no_grey, GreyKept}
 use Rattle.heap_machine.specs.Holdings.{grey_held}
@@ -52,7 +53,7 @@ shading_is_none _ is = absurd cc
 -- a shading never finds nothing, and makes no unit
 pub shading_ends : (e : Extent) (s : GreyState) → IsShading s.row → (ws : List ℕ) → (grey_nothing (grey_after e s ws).row ≡ false) × (grey_unit (grey_after e s ws).row ≡ false)
 shading_ends e s is [] = shading_is_none s.row is
-shading_ends e s is (w ∷ ws) = shading_ends e (grey_got e s w) (shading_goes_on e.width s.pass.threads s.pass.cycle s.row w is) ws
+shading_ends e s is (w ∷ ws) = shading_ends e (grey_got e s w) (shading_goes_on (payloads e.width) s.pass.threads s.pass.cycle s.row w is) ws
 
 -- a scan has no row of a shading
 abbrev IsScan : GreyRow → Type 0
@@ -71,7 +72,7 @@ scan_goes_on m n c _ w is = absurd cc
 
 pub scan_is_over : (e : Extent) (s : GreyState) → IsScan s.row → (ws : List ℕ) → is_shading (grey_after e s ws).row ≡ false
 scan_is_over e s is [] = is
-scan_is_over e s is (w ∷ ws) = scan_is_over e (grey_got e s w) (scan_goes_on e.width s.pass.threads s.pass.cycle s.row w is) ws
+scan_is_over e s is (w ∷ ws) = scan_is_over e (grey_got e s w) (scan_goes_on (payloads e.width) s.pass.threads s.pass.cycle s.row w is) ws
 
 -- the rows of the shading of block y
 abbrev Shades : ℕ → GreyRow → Type 0
@@ -97,7 +98,7 @@ shades_until y _ is over = absurd cc
 -- a shading that is over has shaded its block
 pub shade_is_over : (e : Extent) (y : ℕ) (s : GreyState) → Shades y s.row → (ws : List ℕ) → grey_over (grey_after e s ws).row ≡ true → (grey_after e s ws).row ≡ Shaded y
 shade_is_over e y s is [] over = shades_until y s.row is over
-shade_is_over e y s is (w ∷ ws) over = shade_is_over e y (grey_got e s w) (shades_on y e.width s.pass.threads s.pass.cycle s.row w is) ws over
+shade_is_over e y s is (w ∷ ws) over = shade_is_over e y (grey_got e s w) (shades_on y (payloads e.width) s.pass.threads s.pass.cycle s.row w is) ws over
 
 -- a row is a unit or is not
 abbrev IsUnit : Bool → GreyRow → Type 0
@@ -118,7 +119,7 @@ row_unit m n c (PutOwn y a) w = refl
 row_unit m n c (Shaded y) w = refl
 
 pub unit_after : (e : Extent) (s : GreyState) (w : ℕ) → grey_unit (grey_got e s w).row ≡ (grey_unit s.row || is_blackening s.row)
-unit_after e s w = row_unit e.width s.pass.threads s.pass.cycle s.row w
+unit_after e s w = row_unit (payloads e.width) s.pass.threads s.pass.cycle s.row w
 
 unit_is_over : (r : GreyRow) → grey_unit r ≡ true → is_blackening r ≡ false
 unit_is_over (Put a) e = refl
@@ -133,7 +134,7 @@ blackens m t n c (Blacken x a) e = (x, refl, refl)
 blackens m t n c _ e = absurd cc
 
 pub unit_event : (e : Extent) (s : GreyState) → is_blackening s.row ≡ true → (x : ℕ) × ((holding_at e s).scan ≡ Some x) × (grey_want s ≡ Exchange (ColourOf x) (black_word s.pass.cycle))
-unit_event e s is = blackens e.width s.pass.thread s.pass.threads s.pass.cycle s.row is
+unit_event e s is = blackens (payloads e.width) s.pass.thread s.pass.threads s.pass.cycle s.row is
 
 writes_black : (h : Heap) (o : Operation) (x v : ℕ) → o ≡ Exchange (ColourOf x) v → heap_after h o (ColourOf x) ≡ v
 writes_black h o x v e = rw e (rw (eq-eqb x x refl) refl)
@@ -168,7 +169,7 @@ over_holds_none m _ e = absurd cc
 pub put_on_empty : (c : Config) (h : Heap) (hs : ℕ → GreyHolding) (s : GreyState) → GreyFits c s → GreyKept c.threads h hs → hs s.pass.thread ≡ grey_held (holding_at (extent c) s) → is_putting s.row ≡ true
     → (grey_want s ≡ Exchange (GreyList s.pass.thread) (holding_at (extent c) s).hand) × (h (GreyList s.pass.thread) ≡ 0)
 put_on_empty c h hs s f k e is =
-    let p = put_row (extent c).width s.pass.thread s.pass.threads s.pass.cycle s.row is in
+    let p = put_row (payloads c.width) s.pass.thread s.pass.threads s.pass.cycle s.row is in
     (p.0, own_empty c.threads h hs k s.pass.thread (low_thread c s f) (grey_held (holding_at (extent c) s)) e p.1)
 
 -- each list is one of those that are taken
@@ -226,7 +227,7 @@ at p r = record { pass = p; row = r }
 module _ (e : Extent) (p : Pass) where
   after_list : (r : GreyRow) (ws : List ℕ) → HasList r → grey_nothing (grey_after e (at p r) ws).row ≡ false
   after_list r [] h = some_list r h
-  after_list r (w ∷ ws) h = after_list (row_got e.width p.threads p.cycle r w) ws (list_stays e.width p.threads p.cycle r w h)
+  after_list r (w ∷ ws) h = after_list (row_got (payloads e.width) p.threads p.cycle r w) ws (list_stays (payloads e.width) p.threads p.cycle r w h)
 
   after_nothing : (ws : List ℕ) → grey_nothing (grey_after e (at p NothingGrey) ws).row ≡ true
   after_nothing [] = refl
@@ -265,7 +266,7 @@ module _ (e : Extent) (p : Pass) where
 
   same_numbers : (r : GreyRow) (ws : List ℕ) → grey_after e (at p r) ws ≡ at p (grey_after e (at p r) ws).row
   same_numbers r [] = refl
-  same_numbers r (w ∷ ws) = same_numbers (row_got e.width p.threads p.cycle r w) ws
+  same_numbers r (w ∷ ws) = same_numbers (row_got (payloads e.width) p.threads p.cycle r w) ws
 
   pub each_is_taken : (ws : List ℕ) → length ws < p.threads → begins_with_zeros (length ws) ws ≡ true → grey_want (grey_after e (scanning p) ws) ≡ Exchange (GreyList (list_of p.thread p.threads (length ws))) 0
   each_is_taken ws low h =

@@ -6,6 +6,7 @@ use Rattle.block_store.specs.Colours.{is_grey, white_word, black_word}
 use Rattle.block_store.proofs.ColourWords.{not_grey_white, not_grey_black}
 use Rattle.block_store.specs.Heaps.{Heap, put_at}
 use Rattle.block_store.specs.Payloads.{target}
+use Rattle.block_store.specs.Widths.{payloads}
 use Rattle.block_store.specs.Places.{extent, GreyList, ColourOf, PayloadOf}
 use Rattle.heap_machine.specs.Counts.{changed}
 use Rattle.heap_machine.specs.Grey.{GreyHolding, no_grey, GreyKept}
@@ -111,4 +112,4 @@ module _ (m n : ℕ) (h : Heap) (hs : ℕ → GreyHolding) (k : GreyKept n h hs)
 pub keeps : (c : Config) (h : Heap) (hs : ℕ → GreyHolding) (s : GreyState) → GreyFits c s → GreyKept c.threads h hs → hs s.pass.thread ≡ grey_held (holding_at (extent c) s) → GreyKept c.threads (heap_after h (grey_want s)) (changed hs s.pass.thread (grey_held (holding_at (extent c) (grey_got (extent c) s (h (place_of (grey_want s)))))))
 keeps c h hs s f k e =
     let old : GreyKept s.pass.threads h hs = subst (λ n. GreyKept n h hs) (sym f.threads) k in
-    subst (λ n. GreyKept n (heap_after h (grey_want s)) (changed hs s.pass.thread (grey_held (holding_at (extent c) (grey_got (extent c) s (h (place_of (grey_want s)))))))) f.threads (row_keeps (extent c).width s.pass.threads h hs old s.pass.thread s.pass.cycle f.thread c s.row f.row e)
+    subst (λ n. GreyKept n (heap_after h (grey_want s)) (changed hs s.pass.thread (grey_held (holding_at (extent c) (grey_got (extent c) s (h (place_of (grey_want s)))))))) f.threads (row_keeps (payloads c.width) s.pass.threads h hs old s.pass.thread s.pass.cycle f.thread c s.row f.row e)

@@ -5,7 +5,9 @@ use Rattle.block_store.specs.declared.Config.{Config}
 use Rattle.block_store.specs.declared.Colour.TheVariants.{Grey}
 use Rattle.block_store.specs.Colours.{grey_word, black_word, white_word}
 use Rattle.block_store.proofs.ColourWords.{colour-code, colour-black, link-grey, link-black}
+use Rattle.block_store.proofs.Registers.{wide}
 use Rattle.block_store.specs.Payloads.{target}
+use Rattle.block_store.specs.Widths.{payloads}
 use Rattle.block_store.specs.Places.{extent, in_range, is_block, IsBlock, ColourOf}
 use Rattle.heap_machine.specs.Operations.{place_of, Fits}
 use Rattle.heap_machine.specs.declared.pass.Pass.{Pass}
@@ -29,9 +31,9 @@ block_in c x h = let low : leb 1 x ≡ true = le-leb 1 x h.0 in rw low (le-leb x
 hand_block : (c : Config) (a : ℕ) → (a ≡ 0 → ⊥) → a ≤ c.blocks → IsBlock c a
 hand_block c a ne high = (omega arith, high)
 
-word_fits : (c : Config) (x j a : ℕ) → IsBlock c x → a ≤ c.blocks → RowFits c (after_word (extent c).width x j a)
-word_fits c x j a block high = elim (cases_Bool (ltb (j + 1) 4)) [
-  | inl is ↦ rw is (block, ltb-true (j + 1) (extent c).width is, high)
+word_fits : (c : Config) (x j a : ℕ) → IsBlock c x → a ≤ c.blocks → RowFits c (after_word (payloads c.width) x j a)
+word_fits c x j a block high = elim (cases_Bool (ltb (j + 1) (payloads c.width))) [
+  | inl is ↦ rw is (block, ltb-true (j + 1) (payloads c.width) is, high)
   | inr is ↦ rw is (block, high)
 ]
 
@@ -48,7 +50,7 @@ stored_fits c y a block high = elim (cases_eq a 0) [
 ]
 
 module _ (c : Config) (t cycle : ℕ) where
-  row_fits : (r : GreyRow) (w : ℕ) → RowFits c r → CanHold (extent c) (place_of (row_want t c.threads cycle r)) w → RowFits c (row_got (extent c).width c.threads cycle r w)
+  row_fits : (r : GreyRow) (w : ℕ) → RowFits c r → CanHold (extent c) (place_of (row_want t c.threads cycle r)) w → RowFits c (row_got (payloads c.width) c.threads cycle r w)
   row_fits (Take u) w f reads = elim (cases_eq w 0) [
     | inl z ↦ elim (cases_Bool (ltb (u + 1) c.threads)) [
       | inl more ↦ rw (eq-eqb w 0 z, more) (ltb-true (u + 1) c.threads more)
@@ -56,7 +58,7 @@ module _ (c : Config) (t cycle : ℕ) where
     ]
     | inr nz ↦ rw (ne_eqb w 0 nz) (hand_block c w nz reads)
   ]
-  row_fits (Pop a) w f reads = (f, omega arith, reads.1)
+  row_fits (Pop a) w f reads = (f, omega (arith, (wide c.width).0), reads.1)
   row_fits (ScanWord x j a) w f reads = elim (cases_eq (target w) 0) [
     | inl z ↦ rw (eq-eqb (target w) 0 z) (word_fits c x j a f.0 f.2)
     | inr nz ↦ rw (ne_eqb (target w) 0 nz) (f.0, f.1, hand_block c (target w) nz reads.1, f.2)
@@ -77,7 +79,7 @@ module _ (c : Config) (t cycle : ℕ) where
   row_place : (r : GreyRow) → t < c.threads → RowFits c r → in_range (extent c) (place_of (row_want t c.threads cycle r)) ≡ true
   row_place (Take u) low f = lt-ltb (list_of t c.threads u) c.threads (list_low t c.threads u low)
   row_place (Pop a) low f = block_in c a f
-  row_place (ScanWord x j a) low f = let block : is_block (extent c) x ≡ true = block_in c x f.0 in rw block (lt-ltb j (extent c).width f.1)
+  row_place (ScanWord x j a) low f = let block : is_block (extent c) x ≡ true = block_in c x f.0 in rw block (lt-ltb j (payloads c.width) f.1)
   row_place (Shade x j y a) low f = block_in c y f.2
   row_place (Blacken x a) low f = block_in c x f.0
   row_place (Put a) low f = lt-ltb t c.threads low
@@ -130,7 +132,7 @@ next_fits c s w f reads = record {
   thread = f.thread;
   row =
       let word = subst (λ n. CanHold (extent c) (place_of (row_want s.pass.thread n s.pass.cycle s.row)) w) f.threads reads in
-      subst (λ n. RowFits c (row_got (extent c).width n s.pass.cycle s.row w)) (sym f.threads) (row_fits c s.pass.thread s.pass.cycle s.row w f.row word);
+      subst (λ n. RowFits c (row_got (payloads c.width) n s.pass.cycle s.row w)) (sym f.threads) (row_fits c s.pass.thread s.pass.cycle s.row w f.row word);
 }
 
 pub place_fits : (c : Config) (s : GreyState) → GreyFits c s → in_range (extent c) (place_of (grey_want s)) ≡ true

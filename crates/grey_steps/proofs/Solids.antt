@@ -5,6 +5,7 @@ use Rattle.block_store.specs.declared.Config.{Config}
 use Rattle.block_store.specs.Colours.{kind, is_free, is_grey, grey_word, white_word, black_word}
 use Rattle.block_store.proofs.ColourWords.{not_free_black, not_free_white, not_free_grey, grey_grey}
 use Rattle.block_store.specs.Heaps.{Heap, put_at}
+use Rattle.block_store.specs.Widths.{payloads}
 use Rattle.block_store.specs.Places.{Extent, extent, GreyList, ColourOf}
 use Rattle.heap_machine.specs.Grey.{GreyHolding, GreyKept}
 use Rattle.heap_machine.specs.Holdings.{grey_held}
@@ -32,12 +33,12 @@ module _ (e : Extent) (n c : ℕ) (h : Heap) (hs : ℕ → GreyHolding) (grey : 
   ]
 
   -- the block under scan becomes black
-  blackens : (x a : ℕ) → hs t ≡ grey_held (grey_holding e.width (Blacken x a)) → SolidKept e c (put_at h (ColourOf x) (black_word c))
+  blackens : (x a : ℕ) → hs t ≡ grey_held (grey_holding (payloads e.width) (Blacken x a)) → SolidKept e c (put_at h (ColourOf x) (black_word c))
   blackens x a is_held =
       let is : is_grey (h (ColourOf x)) ≡ true = scan_is_grey e.threads h hs grey t x low (ap (λ (w : GreyHolding). w.scan) is_held) in
       solid_colour e c h x (black_word c) (not_free_black c) (λ free. absurd (grey_or_free (h (ColourOf x)) is free)) (λ u l q. inr refl) k
 
-  row_keeps : (r : GreyRow) → hs t ≡ grey_held (grey_holding e.width r) → SolidKept e c (heap_after h (row_want t n c r))
+  row_keeps : (r : GreyRow) → hs t ≡ grey_held (grey_holding (payloads e.width) r) → SolidKept e c (heap_after h (row_want t n c r))
   row_keeps (Take u) is_held = solid_place e c h (GreyList (list_of t n u)) 0 refl k
   row_keeps (Pop a) is_held = k
   row_keeps (ScanWord x j a) is_held = k

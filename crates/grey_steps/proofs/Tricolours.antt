@@ -6,6 +6,7 @@ use Rattle.block_store.specs.Colours.{grey_word, white_word, black_word}
 use Rattle.block_store.proofs.ColourWords.{black-white, grey-white, grey-black}
 use Rattle.block_store.specs.Heaps.{Heap, put_at}
 use Rattle.block_store.specs.Payloads.{target}
+use Rattle.block_store.specs.Widths.{payloads}
 use Rattle.block_store.specs.Places.{Extent, extent, GreyList, ColourOf, PayloadOf, IsBlock}
 use Rattle.heap_machine.specs.Counts.{changed}
 use Rattle.heap_machine.specs.declared.pass.Pass.{Pass}
@@ -87,7 +88,7 @@ module _ (g : Config) (n c : ℕ) (h : Heap) (hs : ℕ → TricolourHolding) (k 
   ex = extent g
 
   abbrev m : ℕ
-  m = ex.width
+  m = payloads ex.width
 
   -- a block becomes grey
   greys : (z a : ℕ) → TricolourKept ex c (put_at h (ColourOf z) (grey_word a)) hs
@@ -153,7 +154,7 @@ over_none m _ e is = absurd cc
 -- behind the shading before a store the block is not white
 pub shaded_dark : (c : Config) (h : Heap) (hs : ℕ → TricolourHolding) (s : GreyState) (y : ℕ) → GreyFits c s → TricolourKept (extent c) s.pass.cycle h hs → hs s.pass.thread ≡ tricolour_held (holding_at (extent c) s) → s.row ≡ Shaded y → h (ColourOf y) ≢ white_word s.pass.cycle
 shaded_dark c h hs s y f k e is =
-    let same : (hs s.pass.thread).shaded ≡ y = ap (λ (w : TricolourHolding). w.shaded) e ∙ ap (λ (r : GreyRow). (held_tri (extent c).width r).shaded) is in
+    let same : (hs s.pass.thread).shaded ≡ y = ap (λ (w : TricolourHolding). w.shaded) e ∙ ap (λ (r : GreyRow). (held_tri (payloads c.width) r).shaded) is in
     let block : IsBlock c y = subst (RowFits c) is f.row in
     subst (NotWhite s.pass.cycle (colours h)) same (k.shaded s.pass.thread (low_thread c s f)) (λ z. omega (arith, block.0))
 
@@ -163,10 +164,10 @@ shade_dark c h hs p y ws s began f k e over =
     let is : s.row ≡ Shaded y = subst (λ (z : GreyState). grey_over z.row ≡ true → z.row ≡ Shaded y) (sym began) (shade_is_over (extent c) y (shading p y) refl ws) over in
     shaded_dark c h hs s y f k e is
 
-pub blackened_whole : (c : Config) (h : Heap) (hs : ℕ → TricolourHolding) (s : GreyState) (x j : ℕ) → GreyFits c s → TricolourKept (extent c) s.pass.cycle h hs → hs s.pass.thread ≡ tricolour_held (holding_at (extent c) s) → is_blackening s.row ≡ true → (holding_at (extent c) s).scan ≡ Some x → j < (extent c).width
+pub blackened_whole : (c : Config) (h : Heap) (hs : ℕ → TricolourHolding) (s : GreyState) (x j : ℕ) → GreyFits c s → TricolourKept (extent c) s.pass.cycle h hs → hs s.pass.thread ≡ tricolour_held (holding_at (extent c) s) → is_blackening s.row ≡ true → (holding_at (extent c) s).scan ≡ Some x → j < (payloads c.width)
     → target (h (PayloadOf x j)) ≢ 0 → h (ColourOf (target (h (PayloadOf x j)))) ≢ white_word s.pass.cycle
 blackened_whole c h hs s x j f k e is scan low = black_all c s.pass.threads s.pass.cycle h hs k s.pass.thread (low_thread c s f) s.row is e x scan j low
 
 -- a scan that is over holds nothing
 pub scan_over_none : (e : Extent) (p : Pass) (ws : List ℕ) → grey_over (grey_after e (scanning p) ws).row ≡ true → tricolour_held (holding_at e (grey_after e (scanning p) ws)) ≡ no_tricolour
-scan_over_none e p ws over = over_none e.width (grey_after e (scanning p) ws).row over (scan_is_over e (scanning p) refl ws)
+scan_over_none e p ws over = over_none (payloads e.width) (grey_after e (scanning p) ws).row over (scan_is_over e (scanning p) refl ws)

@@ -1,6 +1,7 @@
 -- The ranges of the numbers in a row, and the words that it may read.
 use Rattle.std.specs.Prelude.{ℕ, ◌<◌, ◌≤◌, ◌≡◌}
 use Rattle.block_store.specs.declared.Config.{Config}
+use Rattle.block_store.specs.Widths.{payloads}
 use Rattle.block_store.specs.Places.{extent, IsBlock}
 use Rattle.heap_machine.specs.Operations.{place_of}
 use Rattle.heap_machine.specs.Readings.{CanHold}
@@ -12,8 +13,8 @@ use Rattle.grey_steps.specs.Rows.{GreyState, grey_want}
 abbrev pub RowFits : Config → GreyRow → Type 0
 RowFits c (Take u) = u < c.threads
 RowFits c (Pop hand) = IsBlock c hand
-RowFits c (ScanWord x j hand) = IsBlock c x × (j < (extent c).width) × (hand ≤ c.blocks)
-RowFits c (Shade x j y hand) = IsBlock c x × (j < (extent c).width) × IsBlock c y × (hand ≤ c.blocks)
+RowFits c (ScanWord x j hand) = IsBlock c x × (j < payloads c.width) × (hand ≤ c.blocks)
+RowFits c (Shade x j y hand) = IsBlock c x × (j < payloads c.width) × IsBlock c y × (hand ≤ c.blocks)
 RowFits c (Blacken x hand) = IsBlock c x × (hand ≤ c.blocks)
 RowFits c (Put hand) = IsBlock c hand
 RowFits c Scanned = Unit {0}

@@ -2,6 +2,7 @@
 use Rattle.std.specs.Prelude.{ℕ, ◌+◌, ◌%◌, ◌==◌, nat_lt, Bool, true, false, if◌then◌else◌, Some}
 use Rattle.block_store.specs.Colours.{link, grey_word, black_word, white_word}
 use Rattle.block_store.specs.Payloads.{target}
+use Rattle.block_store.specs.Widths.{payloads}
 use Rattle.block_store.specs.Places.{Extent, Phase, GreyList, ColourOf, PayloadOf}
 use Rattle.heap_machine.specs.Holdings.{Holding, holds_nothing}
 use Rattle.heap_machine.specs.Operations.{Operation, Load, Exchange, CompareExchange}
@@ -78,7 +79,7 @@ abbrev pub grey_want : GreyState → Operation
 grey_want s = row_want s.pass.thread s.pass.threads s.pass.cycle s.row
 
 abbrev pub grey_got : Extent → GreyState → ℕ → GreyState
-grey_got e s w = record { pass = s.pass; row = row_got e.width s.pass.threads s.pass.cycle s.row w }
+grey_got e s w = record { pass = s.pass; row = row_got (payloads e.width) s.pass.threads s.pass.cycle s.row w }
 
 -- the ends
 abbrev pub grey_over : GreyRow → Bool
@@ -126,4 +127,4 @@ grey_holding width (PutOwn y hand) = record holds_nothing { hand = hand; emptied
 grey_holding width (Shaded y) = record holds_nothing { shaded = y }
 
 abbrev pub holding_at : Extent → GreyState → Holding
-holding_at e s = grey_holding e.width s.row
+holding_at e s = grey_holding (payloads e.width) s.row

@@ -4,6 +4,7 @@ ghost use Rattle.std.specs.Prelude.{◌≡◌, ◌≢◌, ◌<◌, ◌≤◌, �
 ghost use Rattle.block_store.specs.declared.Config.{Config};
 ghost use Rattle.block_store.specs.Colours.{is_grey, black_word, white_word};
 ghost use Rattle.block_store.specs.Heaps.{Heap};
+ghost use Rattle.block_store.specs.Widths.{payloads};
 ghost use Rattle.block_store.specs.Places.{Extent, extent, in_range, GreyList, ColourOf, PayloadOf, IsBlock};
 ghost use Rattle.block_store.specs.Payloads.{target};
 ghost use Rattle.heap_machine.specs.Counts.{changed};
@@ -54,7 +55,7 @@ pub fn rows_keep_tricolour()
     ensures shade_over { (e : Extent) (p : Pass) (y : ℕ) (ws : List ℕ) → grey_over (grey_after e (shading p y) ws).row ≡ true → (grey_after e (shading p y) ws).row ≡ Shaded y }
     ensures shaded { (c : Config) (h : Heap) (hs : ℕ → TricolourHolding) (s : GreyState) (y : ℕ) → GreyFits c s → TricolourKept (extent c) s.pass.cycle h hs → hs s.pass.thread ≡ tricolour_held (holding_at (extent c) s) → s.row ≡ Shaded y → h (ColourOf y) ≢ white_word s.pass.cycle }
     ensures not_white { (c : Config) (h : Heap) (hs : ℕ → TricolourHolding) (p : Pass) (y : ℕ) (ws : List ℕ) (s : GreyState) → s ≡ grey_after (extent c) (shading p y) ws → GreyFits c s → TricolourKept (extent c) s.pass.cycle h hs → hs s.pass.thread ≡ tricolour_held (holding_at (extent c) s) → grey_over s.row ≡ true → h (ColourOf y) ≢ white_word s.pass.cycle }
-    ensures black { (c : Config) (h : Heap) (hs : ℕ → TricolourHolding) (s : GreyState) (x j : ℕ) → GreyFits c s → TricolourKept (extent c) s.pass.cycle h hs → hs s.pass.thread ≡ tricolour_held (holding_at (extent c) s) → is_blackening s.row ≡ true → (holding_at (extent c) s).scan ≡ Some x → j < (extent c).width → target (h (PayloadOf x j)) ≢ 0 → h (ColourOf (target (h (PayloadOf x j)))) ≢ white_word s.pass.cycle }
+    ensures black { (c : Config) (h : Heap) (hs : ℕ → TricolourHolding) (s : GreyState) (x j : ℕ) → GreyFits c s → TricolourKept (extent c) s.pass.cycle h hs → hs s.pass.thread ≡ tricolour_held (holding_at (extent c) s) → is_blackening s.row ≡ true → (holding_at (extent c) s).scan ≡ Some x → j < payloads c.width → target (h (PayloadOf x j)) ≢ 0 → h (ColourOf (target (h (PayloadOf x j)))) ≢ white_word s.pass.cycle }
 {}
 
 /// Each event keeps that no block that is not Free refers to a Free one, and that each root block is grey
@@ -77,34 +78,26 @@ pub fn a_unit_is_a_blackening()
 /// A scan has found nothing exactly where its events read as many zeros as there are threads. They
 /// took the list of each thread, their own first. A shading never finds nothing, and makes no unit.
 pub fn nothing_is_each_list_empty()
-    ensures zeros {
-        (e : Extent) (p : Pass) (ws : List ℕ) → p.thread < p.threads
-        → grey_nothing (grey_after e (scanning p) ws).row ≡ begins_with_zeros p.threads ws
-    }
-    ensures taken {
-        (e : Extent) (p : Pass) (ws : List ℕ)
+    ensures zeros { (e : Extent) (p : Pass) (ws : List ℕ) → p.thread < p.threads
+        → grey_nothing (grey_after e (scanning p) ws).row ≡ begins_with_zeros p.threads ws }
+    ensures taken { (e : Extent) (p : Pass) (ws : List ℕ)
         → length ws < p.threads → begins_with_zeros (length ws) ws ≡ true
         → grey_want (grey_after e (scanning p) ws)
-            ≡ Exchange (GreyList (list_of p.thread p.threads (length ws))) 0
-    }
+        ≡ Exchange (GreyList (list_of p.thread p.threads (length ws))) 0 }
     ensures own { (t n : ℕ) → t < n → list_of t n 0 ≡ t }
     ensures each { (t n v : ℕ) → t < n → v < n → (u : ℕ) × (u < n) × (list_of t n u ≡ v) }
-    ensures shade {
-        (e : Extent) (p : Pass) (x : ℕ) (ws : List ℕ)
+    ensures shade { (e : Extent) (p : Pass) (x : ℕ) (ws : List ℕ)
         → (grey_nothing (grey_after e (shading p x) ws).row ≡ false)
-            × (grey_unit (grey_after e (shading p x) ws).row ≡ false)
-    }
+        × (grey_unit (grey_after e (shading p x) ws).row ≡ false) }
 {}
 
 /// Each event keeps all rules of the heap at once, while the other threads hold what they held.
 pub fn rows_keep_the_heap()
-    ensures {
-        (c : Config) (h : Heap) (hs : ℕ → Holding) (s : GreyState)
+    ensures { (c : Config) (h : Heap) (hs : ℕ → Holding) (s : GreyState)
         → GreyFits c s
         → HeapKept (extent c) s.pass.cycle h hs
         → hs s.pass.thread ≡ holding_at (extent c) s
         → HeapKept (extent c) s.pass.cycle (heap_after h (grey_want s))
-            (changed hs s.pass.thread
-                (holding_at (extent c) (grey_got (extent c) s (h (place_of (grey_want s))))))
-    }
+        (changed hs s.pass.thread
+        (holding_at (extent c) (grey_got (extent c) s (h (place_of (grey_want s)))))) }
 {}

@@ -13,9 +13,7 @@ ghost use Rattle.grey_steps.specs.Rows.{GreyState, grey_want, grey_got, grey_ste
 ghost use Rattle.grey_steps.specs.Fits.{GreyFits, GreyReads};
 
 use crate::GreyRow;
-use block_store::{
-    Colour, PAYLOADS, Payload, Places, black, colour_word, read_colour, read_payload, white,
-};
+use block_store::{Colour, Payload, Places, black, colour_word, read_colour, read_payload, white};
 use heap_machine::{Op, Pass, Step};
 use std::marker::Model;
 
@@ -165,14 +163,6 @@ fn after_own(target: u32, head: u64) -> GreyRow
     }
 }
 
-// How many payloads a block has.
-fn payloads(places: &Places) -> u32
-    ensures { result ≡ (extent places.now).width }
-{
-    let _places = places;
-    PAYLOADS
-}
-
 // A white block becomes grey, in front of the hand.
 fn shading(places: &Places, cycle: u64, target: u32, hand: u32) -> Op
     requires target { IsBlock places.now target }
@@ -228,7 +218,10 @@ impl GreyPass {
                 shading(places, cycle, target, hand)
             }
             Blacken { block, .. } => Op::exchange(places.colour(block), colour_word(black(cycle))),
-            Put { hand } | PutOwn { hand, .. } => Op::exchange(places.grey_list(thread), hand as u64),
+            Put { hand } | PutOwn { hand, .. } => Op::exchange(
+                places.grey_list(thread),
+                hand as u64,
+            ),
             TakeOwn { .. } => Op::exchange(places.grey_list(thread), 0),
             Scanned | NothingGrey | Shaded { .. } => Op::load(places.phase()),
         }
@@ -271,7 +264,7 @@ impl GreyPass {
         use GreyRow::*;
 
         let cycle = self.pass.cycle;
-        let width = payloads(places);
+        let width = places.width().payloads();
         match self.row {
             Take { u } => after_take(self.pass.threads, u, read),
             Pop { hand } => begin(hand, link_in(read)),

@@ -4,10 +4,11 @@
 ghost use Rattle.std.specs.Prelude.{◌≡◌, false};
 
 use crate::*;
-use block_store::{Config, Places};
+use block_store::{Config, Places, Width};
 use heap_machine::{Op, Pass, Step};
 
 const SMALL: Config = Config {
+    width: Width::Four,
     threads: 2,
     blocks: 20,
     live: 10,

@@ -4,10 +4,12 @@ use Rattle.std.proofs.lemmas.Bool.{cases_eq, cases_Bool, and_parts}
 use Rattle.block_store.specs.Colours.{is_free}
 use Rattle.block_store.specs.Heaps.{Heap, put_at}
 use Rattle.block_store.specs.Payloads.{target}
+use Rattle.block_store.specs.Registers.{root_block}
+use Rattle.block_store.specs.Widths.{payloads}
 use Rattle.block_store.specs.Places.{Extent, Place, Phase, Cursor, FreeCount, GreyList, FreeList, ColourOf, OwnerOf, ShapeOf, PayloadOf}
 use Rattle.heap_machine.specs.Operations.{Operation, Load, Exchange, CompareExchange, FetchAdd, FetchSub, place_of, heap_after}
 use Rattle.heap_machine.specs.Tricolour.{is_of_tricolour}
-use Rattle.heap_machine.specs.Solid.{NotFree, IsMarked, root_block, SolidKept}
+use Rattle.heap_machine.specs.Solid.{NotFree, IsMarked, SolidKept}
 use Rattle.heap_machine.proofs.Tricolours.{colours}
 
 -- block x gets colour v
@@ -18,8 +20,8 @@ still : (h : Heap) (x v y : ℕ) → is_free v ≡ false → NotFree (colours h)
 still h x v y ok k ne = put_colour (λ w. is_free w ≡ false) h x v y (λ _. ok) (k ne)
 
 pub solid_colour : (ex : Extent) (cycle : ℕ) (h : Heap) (x v : ℕ) → is_free v ≡ false
-    → (is_free (h (ColourOf x)) ≡ true → (j : ℕ) → j < ex.width → NotFree (colours h) (target (h (PayloadOf x j))))
-    → ((t : ℕ) → t < ex.threads → x ≡ root_block ex t → IsMarked cycle v)
+    → (is_free (h (ColourOf x)) ≡ true → (j : ℕ) → j < payloads ex.width → NotFree (colours h) (target (h (PayloadOf x j))))
+    → ((t : ℕ) → t < ex.threads → x ≡ root_block ex.width t → IsMarked cycle v)
     → SolidKept ex cycle h → SolidKept ex cycle (put_at h (ColourOf x) v)
 solid_colour ex cycle h x v ok all marked k = record {
   solid = λ y j is low. still h x v (target (h (PayloadOf y j))) ok (elim (cases_eq x y) [
@@ -29,7 +31,7 @@ solid_colour ex cycle h x v ok all marked k = record {
     ])
     | inr away ↦ k.solid y j (let q : cond (eqb x y) v (h (ColourOf y)) ≡ h (ColourOf y) = rw (ne_eqb x y away) refl in ap is_free (sym q) ∙ is) low
   ]);
-  roots = λ t low. put_colour (IsMarked cycle) h x v (root_block ex t) (marked t low) (k.roots t low);
+  roots = λ t low. put_colour (IsMarked cycle) h x v (root_block ex.width t) (marked t low) (k.roots t low);
 }
 
 -- payload j of block x becomes w

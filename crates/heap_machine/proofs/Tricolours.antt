@@ -4,6 +4,7 @@ use Rattle.std.proofs.lemmas.Bool.{cases_eq, cases_Bool}
 use Rattle.block_store.specs.Colours.{white_word, black_word}
 use Rattle.block_store.specs.Heaps.{Heap, put_at}
 use Rattle.block_store.specs.Payloads.{target}
+use Rattle.block_store.specs.Widths.{payloads}
 use Rattle.block_store.specs.Places.{Extent, Place, Phase, Cursor, FreeCount, GreyList, FreeList, ColourOf, OwnerOf, ShapeOf, PayloadOf}
 use Rattle.heap_machine.specs.Counts.{changed}
 use Rattle.heap_machine.specs.Operations.{Operation, Load, Exchange, CompareExchange, FetchAdd, FetchSub, place_of, heap_after}
@@ -38,7 +39,7 @@ module _ (ex : Extent) (c : ℕ) (h : Heap) (hs : ℕ → TricolourHolding) (k :
   held_as t w low e = subst (HeldAt c h) e (held_by t low)
 
 -- the rule from its blocks and its threads
-pub tricolour_of : (ex : Extent) (c : ℕ) (h : Heap) (hs : ℕ → TricolourHolding) → ((x j : ℕ) → h (ColourOf x) ≡ black_word c → j < ex.width → NotWhite c (colours h) (target (h (PayloadOf x j)))) → ((t : ℕ) → t < ex.threads → HeldAt c h (hs t)) → TricolourKept ex c h hs
+pub tricolour_of : (ex : Extent) (c : ℕ) (h : Heap) (hs : ℕ → TricolourHolding) → ((x j : ℕ) → h (ColourOf x) ≡ black_word c → j < payloads ex.width → NotWhite c (colours h) (target (h (PayloadOf x j)))) → ((t : ℕ) → t < ex.threads → HeldAt c h (hs t)) → TricolourKept ex c h hs
 tricolour_of ex c h hs black held = record {
   black = black;
   dealt = λ t i low l. (held t low).dealt i l;
@@ -66,7 +67,7 @@ held_colour c h x v w ok k = record {
 }
 
 pub kept_colour : (ex : Extent) (c : ℕ) (h : Heap) (hs : ℕ → TricolourHolding) (x v : ℕ) → v ≢ white_word c
-    → (v ≡ black_word c → (j : ℕ) → j < ex.width → NotWhite c (colours h) (target (h (PayloadOf x j))))
+    → (v ≡ black_word c → (j : ℕ) → j < payloads ex.width → NotWhite c (colours h) (target (h (PayloadOf x j))))
     → TricolourKept ex c h hs → TricolourKept ex c (put_at h (ColourOf x) v) hs
 kept_colour ex c h hs x v ok all k = tricolour_of ex c (put_at h (ColourOf x) v) hs
     (λ y j is low. still c (colours h) x v (target (h (PayloadOf y j))) ok (elim (cases_eq x y) [
@@ -120,7 +121,7 @@ tricolour_other ex c h hs (FetchAdd p v) away k = other_place ex c h hs p (h p +
 tricolour_other ex c h hs (FetchSub p v) away k = other_place ex c h hs p (h p - v) away k
 
 -- a black block gets a reference to a white one
-pub store_breaks : (ex : Extent) (c : ℕ) (h : Heap) (hs : ℕ → TricolourHolding) (x j w : ℕ) → h (ColourOf x) ≡ black_word c → j < ex.width → target w ≢ 0 → h (ColourOf (target w)) ≡ white_word c → TricolourKept ex c (put_at h (PayloadOf x j) w) hs → ⊥
+pub store_breaks : (ex : Extent) (c : ℕ) (h : Heap) (hs : ℕ → TricolourHolding) (x j w : ℕ) → h (ColourOf x) ≡ black_word c → j < payloads ex.width → target w ≢ 0 → h (ColourOf (target w)) ≡ white_word c → TricolourKept ex c (put_at h (PayloadOf x j) w) hs → ⊥
 store_breaks ex c h hs x j w black low some white k =
     let here : put_at h (PayloadOf x j) w (PayloadOf x j) ≡ w = rw (eq-eqb x x refl, eq-eqb j j refl) refl in
     subst (λ z. NotWhite c (colours h) (target z)) here (k.black x j black low) some white

@@ -3,10 +3,12 @@ use Rattle.std.specs.Prelude.{ℕ, ◌≡◌, ◌≢◌, ◌<◌, ◌||◌, Bool
 use Rattle.block_store.specs.Colours.{is_free, is_grey, white_word, black_word}
 use Rattle.block_store.specs.Heaps.{Heap}
 use Rattle.block_store.specs.Payloads.{target}
+use Rattle.block_store.specs.Registers.{root_block}
+use Rattle.block_store.specs.Widths.{payloads}
 use Rattle.block_store.specs.Places.{Extent, Place, ColourOf, PayloadOf}
 use Rattle.heap_machine.specs.Grey.{GreyKept, is_of_grey}
 use Rattle.heap_machine.specs.Holdings.{Holding, grey_held, tricolour_held}
-use Rattle.heap_machine.specs.Solid.{NotFree, IsMarked, root_block, SolidKept}
+use Rattle.heap_machine.specs.Solid.{NotFree, IsMarked, SolidKept}
 use Rattle.heap_machine.specs.Tricolour.{NotWhite, TricolourKept, is_of_tricolour}
 
 pub record HeapKept (e : Extent) (cycle : ℕ) (h : Heap) (hs : ℕ → Holding) : Type 0 where
@@ -29,6 +31,6 @@ pub record CanColour (e : Extent) (cycle : ℕ) (h : Heap) (x v : ℕ) : Type 0 
   pub not_grey : is_grey v ≡ false
   pub not_white : v ≢ white_word cycle
   pub not_free : is_free v ≡ false
-  pub dark : v ≡ black_word cycle → (j : ℕ) → j < e.width → NotWhite cycle (λ z. h (ColourOf z)) (target (h (PayloadOf x j)))
-  pub solid : is_free (h (ColourOf x)) ≡ true → (j : ℕ) → j < e.width → NotFree (λ z. h (ColourOf z)) (target (h (PayloadOf x j)))
-  pub root : (t : ℕ) → t < e.threads → x ≡ root_block e t → IsMarked cycle v
+  pub dark : v ≡ black_word cycle → (j : ℕ) → j < payloads e.width → NotWhite cycle (λ z. h (ColourOf z)) (target (h (PayloadOf x j)))
+  pub solid : is_free (h (ColourOf x)) ≡ true → (j : ℕ) → j < payloads e.width → NotFree (λ z. h (ColourOf z)) (target (h (PayloadOf x j)))
+  pub root : (t : ℕ) → t < e.threads → x ≡ root_block e.width t → IsMarked cycle v

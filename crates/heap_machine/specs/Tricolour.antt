@@ -4,6 +4,7 @@ use Rattle.block_store.specs.Colours.{white_word, black_word}
 use Rattle.block_store.specs.Heaps.{Heap}
 use Rattle.block_store.specs.Payloads.{target}
 use Rattle.block_store.specs.Phases.{is_sweep, cycle_of}
+use Rattle.block_store.specs.Widths.{payloads}
 use Rattle.block_store.specs.Places.{Extent, Place, Phase, ColourOf, PayloadOf}
 
 -- what a thread holds of the rule: the block that it scans, and how many of its payloads it has dealt with; the block that it has found in the next payload and not yet shaded; and the block that it has shaded before it stores a reference to it. Each block is 0 where there is none
@@ -30,7 +31,7 @@ pub record TricolourOf (n cycle width : ℕ) (colour : ℕ → ℕ) (payload : �
 
 -- of a heap in this cycle
 abbrev pub TricolourKept : Extent → ℕ → Heap → (ℕ → TricolourHolding) → Type 0
-TricolourKept e cycle h hs = TricolourOf e.threads cycle e.width (λ x. h (ColourOf x)) (λ x j. h (PayloadOf x j)) hs
+TricolourKept e cycle h hs = TricolourOf e.threads cycle (payloads e.width) (λ x. h (ColourOf x)) (λ x j. h (PayloadOf x j)) hs
 
 -- while the phase is Mark, in the cycle of the phase word
 abbrev pub Tricolour : Extent → Heap → (ℕ → TricolourHolding) → Type 0

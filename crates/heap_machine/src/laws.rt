@@ -14,7 +14,9 @@ ghost use Rattle.heap_machine.specs.Counts.{changed, times, total};
 ghost use Rattle.heap_machine.specs.Chains.{Chain};
 ghost use Rattle.heap_machine.specs.Grey.{GreyHolding, no_grey, GreyKept, is_of_grey};
 ghost use Rattle.heap_machine.specs.Tricolour.{TricolourHolding, no_tricolour, NotWhite, TricolourKept, Tricolour, is_of_tricolour};
-ghost use Rattle.heap_machine.specs.Solid.{NotFree, IsMarked, root_block, SolidKept};
+ghost use Rattle.heap_machine.specs.Solid.{NotFree, IsMarked, SolidKept};
+ghost use Rattle.block_store.specs.Registers.{root_block};
+ghost use Rattle.block_store.specs.Widths.{payloads};
 ghost use Rattle.heap_machine.specs.Holdings.{Holding};
 ghost use Rattle.heap_machine.specs.HeapKept.{HeapKept, is_ruled, CanColour, CanRefer};
 ghost use Rattle.heap_machine.specs.Gating.{Gating, GateOf, Outside, Inside, Closing, is_outside, closed_word, open_word};
@@ -147,8 +149,8 @@ pub fn lists_are_lost_at_a_put()
 /// refers to a white block; what it has shaded before a store is not white. So it is while the phase is
 /// Mark, in the cycle of the phase word.
 pub fn black_blocks_refer_to_none_white()
-    ensures black { (e : Extent) (cycle : ℕ) (h : Heap) (hs : ℕ → TricolourHolding) → TricolourKept e cycle h hs → (x j : ℕ) → h (ColourOf x) ≡ black_word cycle → j < e.width → target (h (PayloadOf x j)) ≢ 0 → h (ColourOf (target (h (PayloadOf x j)))) ≢ white_word cycle }
-    ensures mark { (e : Extent) (h : Heap) (hs : ℕ → TricolourHolding) → Tricolour e h hs → is_sweep (h Phase) ≡ false → (x j : ℕ) → h (ColourOf x) ≡ black_word (cycle_of (h Phase)) → j < e.width → target (h (PayloadOf x j)) ≢ 0 → h (ColourOf (target (h (PayloadOf x j)))) ≢ white_word (cycle_of (h Phase)) }
+    ensures black { (e : Extent) (cycle : ℕ) (h : Heap) (hs : ℕ → TricolourHolding) → TricolourKept e cycle h hs → (x j : ℕ) → h (ColourOf x) ≡ black_word cycle → j < payloads e.width → target (h (PayloadOf x j)) ≢ 0 → h (ColourOf (target (h (PayloadOf x j)))) ≢ white_word cycle }
+    ensures mark { (e : Extent) (h : Heap) (hs : ℕ → TricolourHolding) → Tricolour e h hs → is_sweep (h Phase) ≡ false → (x j : ℕ) → h (ColourOf x) ≡ black_word (cycle_of (h Phase)) → j < payloads e.width → target (h (PayloadOf x j)) ≢ 0 → h (ColourOf (target (h (PayloadOf x j)))) ≢ white_word (cycle_of (h Phase)) }
     ensures scanned { (e : Extent) (cycle : ℕ) (h : Heap) (hs : ℕ → TricolourHolding) → TricolourKept e cycle h hs → (t j : ℕ) → t < e.threads → j < (hs t).dealt → target (h (PayloadOf (hs t).scan j)) ≢ 0 → h (ColourOf (target (h (PayloadOf (hs t).scan j)))) ≢ white_word cycle }
     ensures shaded { (e : Extent) (cycle : ℕ) (h : Heap) (hs : ℕ → TricolourHolding) → TricolourKept e cycle h hs → (t : ℕ) → t < e.threads → (hs t).shaded ≢ 0 → h (ColourOf (hs t).shaded) ≢ white_word cycle }
 {}
@@ -160,7 +162,7 @@ pub fn black_blocks_refer_to_none_white()
 /// opening and at the start of a cycle.
 pub fn what_keeps_tricolour()
     ensures place { (e : Extent) (cycle : ℕ) (h : Heap) (hs : ℕ → TricolourHolding) (o : Operation) → is_of_tricolour (place_of o) ≡ false → TricolourKept e cycle h hs → TricolourKept e cycle (heap_after h o) hs }
-    ensures colour { (e : Extent) (cycle : ℕ) (h : Heap) (hs : ℕ → TricolourHolding) (x v : ℕ) → v ≢ white_word cycle → (v ≡ black_word cycle → (j : ℕ) → j < e.width → NotWhite cycle (λ y. h (ColourOf y)) (target (h (PayloadOf x j)))) → TricolourKept e cycle h hs → TricolourKept e cycle (put_at h (ColourOf x) v) hs }
+    ensures colour { (e : Extent) (cycle : ℕ) (h : Heap) (hs : ℕ → TricolourHolding) (x v : ℕ) → v ≢ white_word cycle → (v ≡ black_word cycle → (j : ℕ) → j < payloads e.width → NotWhite cycle (λ y. h (ColourOf y)) (target (h (PayloadOf x j)))) → TricolourKept e cycle h hs → TricolourKept e cycle (put_at h (ColourOf x) v) hs }
     ensures payload { (e : Extent) (cycle : ℕ) (h : Heap) (hs : ℕ → TricolourHolding) (x j w : ℕ) → NotWhite cycle (λ y. h (ColourOf y)) (target w) → TricolourKept e cycle h hs → TricolourKept e cycle (put_at h (PayloadOf x j) w) hs }
     ensures store { (e : Extent) (cycle : ℕ) (h : Heap) (hs : ℕ → TricolourHolding) (t x j w : ℕ) → t < e.threads → target w ≡ (hs t).shaded → TricolourKept e cycle h hs → TricolourKept e cycle (put_at h (PayloadOf x j) w) hs }
     ensures lets_go { (e : Extent) (cycle : ℕ) (h : Heap) (hs : ℕ → TricolourHolding) (t : ℕ) → TricolourKept e cycle h hs → TricolourKept e cycle h (changed hs t no_tricolour) }
@@ -170,7 +172,7 @@ pub fn what_keeps_tricolour()
 /// Where a payload that refers to a white block is stored in a black one, the tricolour rule is broken:
 /// so a block is shaded before a store in a black block.
 pub fn unshaded_stores_break_tricolour()
-    ensures { (e : Extent) (cycle : ℕ) (h : Heap) (hs : ℕ → TricolourHolding) (x j w : ℕ) → h (ColourOf x) ≡ black_word cycle → j < e.width → target w ≢ 0 → h (ColourOf (target w)) ≡ white_word cycle → TricolourKept e cycle (put_at h (PayloadOf x j) w) hs → ⊥ }
+    ensures { (e : Extent) (cycle : ℕ) (h : Heap) (hs : ℕ → TricolourHolding) (x j w : ℕ) → h (ColourOf x) ≡ black_word cycle → j < payloads e.width → target w ≢ 0 → h (ColourOf (target w)) ≡ white_word cycle → TricolourKept e cycle (put_at h (PayloadOf x j) w) hs → ⊥ }
 {}
 
 /// What keeps that no block that is not Free refers to a Free one, and that each root block is grey or
@@ -179,7 +181,7 @@ pub fn unshaded_stores_break_tricolour()
 /// that refers to no Free block, or is one of a Free block.
 pub fn what_keeps_solid()
     ensures place { (e : Extent) (cycle : ℕ) (h : Heap) (o : Operation) → is_of_tricolour (place_of o) ≡ false → SolidKept e cycle h → SolidKept e cycle (heap_after h o) }
-    ensures colour { (e : Extent) (cycle : ℕ) (h : Heap) (x v : ℕ) → is_free v ≡ false → (is_free (h (ColourOf x)) ≡ true → (j : ℕ) → j < e.width → NotFree (λ y. h (ColourOf y)) (target (h (PayloadOf x j)))) → ((t : ℕ) → t < e.threads → x ≡ root_block e t → IsMarked cycle v) → SolidKept e cycle h → SolidKept e cycle (put_at h (ColourOf x) v) }
+    ensures colour { (e : Extent) (cycle : ℕ) (h : Heap) (x v : ℕ) → is_free v ≡ false → (is_free (h (ColourOf x)) ≡ true → (j : ℕ) → j < payloads e.width → NotFree (λ y. h (ColourOf y)) (target (h (PayloadOf x j)))) → ((t : ℕ) → t < e.threads → x ≡ root_block e.width t → IsMarked cycle v) → SolidKept e cycle h → SolidKept e cycle (put_at h (ColourOf x) v) }
     ensures payload { (e : Extent) (cycle : ℕ) (h : Heap) (x j w : ℕ) → (is_free (h (ColourOf x)) ≡ false → NotFree (λ y. h (ColourOf y)) (target w)) → SolidKept e cycle h → SolidKept e cycle (put_at h (PayloadOf x j) w) }
 {}
 
@@ -188,19 +190,13 @@ pub fn what_keeps_solid()
 /// block refers to a white one, on a block that was not Free or refers to no Free one, and black on a
 /// root block; and a payload that refers to no white and to no Free block.
 pub fn what_keeps_the_heap()
-    ensures place {
-        (e : Extent) (cycle : ℕ) (h : Heap) (hs : ℕ → Holding) (o : Operation)
+    ensures place { (e : Extent) (cycle : ℕ) (h : Heap) (hs : ℕ → Holding) (o : Operation)
         → is_ruled (place_of o) ≡ false
-        → HeapKept e cycle h hs → HeapKept e cycle (heap_after h o) hs
-    }
-    ensures colour {
-        (e : Extent) (cycle : ℕ) (h : Heap) (hs : ℕ → Holding) (x v : ℕ)
+        → HeapKept e cycle h hs → HeapKept e cycle (heap_after h o) hs }
+    ensures colour { (e : Extent) (cycle : ℕ) (h : Heap) (hs : ℕ → Holding) (x v : ℕ)
         → CanColour e cycle h x v
-        → HeapKept e cycle h hs → HeapKept e cycle (put_at h (ColourOf x) v) hs
-    }
-    ensures payload {
-        (e : Extent) (cycle : ℕ) (h : Heap) (hs : ℕ → Holding) (x j w : ℕ)
+        → HeapKept e cycle h hs → HeapKept e cycle (put_at h (ColourOf x) v) hs }
+    ensures payload { (e : Extent) (cycle : ℕ) (h : Heap) (hs : ℕ → Holding) (x j w : ℕ)
         → CanRefer cycle h (target w)
-        → HeapKept e cycle h hs → HeapKept e cycle (put_at h (PayloadOf x j) w) hs
-    }
+        → HeapKept e cycle h hs → HeapKept e cycle (put_at h (PayloadOf x j) w) hs }
 {}

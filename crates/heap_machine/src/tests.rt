@@ -3,7 +3,7 @@
 ghost use Rattle.std.specs.Prelude.{◌≡◌, ◌<◌, ◌%◌, false};
 
 use crate::*;
-use block_store::{Config, OutOfMemory, Places};
+use block_store::{Config, OutOfMemory, Places, Width};
 
 #[test]
 fn operations_answer_the_word_before(rt: HostRuntime) -> Result<(), OutOfMemory> {
@@ -38,6 +38,7 @@ fn operations_answer_the_word_before(rt: HostRuntime) -> Result<(), OutOfMemory>
 #[tactic(auto, unfolding(block_store::specs::Phases::inside_of, block_store::specs::Phases::cycle_of))]
 fn a_thread_goes_in_and_out(rt: HostRuntime) {
     let places = Places::new(&Config {
+        width: Width::Four,
         threads: 1,
         blocks: 64,
         live: 20,
@@ -81,6 +82,7 @@ fn places() -> Places
     ensures { (result.threads ≡ 2) × (result.blocks ≡ 64) }
 {
     Places::new(&Config {
+        width: Width::Four,
         threads: 2,
         blocks: 64,
         live: 20,

@@ -5,6 +5,7 @@ use Rattle.block_store.specs.declared.Config.{Config}
 use Rattle.block_store.specs.declared.PhaseWord.{PhaseWord}
 use Rattle.block_store.specs.Heaps.{heap_of}
 use Rattle.block_store.specs.Phases.{bit, inside_of, is_closed, is_sweep, cycle_of}
+use Rattle.block_store.specs.Widths.{payloads}
 use Rattle.block_store.specs.Places.{Place, Phase, OwnerOf, ShapeOf, PayloadOf, extent, in_range, is_block, ColourOf}
 use Rattle.block_store.proofs.PhaseWords.{inside-code, sweep-code, closed-code, cycle-code}
 use Rattle.rate_plan.specs.Rates.{IsAdmitted}
@@ -13,7 +14,8 @@ use Rattle.never_heap.specs.Graphs.{start_graph}
 use Rattle.never_heap.specs.Histories.{Started}
 use Rattle.shown_graph.specs.Words.{block_words, Agrees}
 use Rattle.shown_graph.specs.Shown.{Shows, every_name, never_late}
-use Rattle.shown_graph.specs.Openings.{opening_at, opening_last, opening_words}
+use Rattle.shown_graph.specs.Openings.{opening_at, opening_words}
+use Rattle.array_trees.specs.Openings.{opening_blocks}
 use Rattle.shown_graph.specs.Events.{unloaded, lates, LoadIs, Follows}
 use Rattle.shown_graph.proofs.Opening.{opening_shows}
 use Rattle.shown_graph.proofs.Stores.{words_change, more_late}
@@ -46,13 +48,13 @@ units_start c rate t (trace ∷ traces) = omega (arith, units_start c rate (t + 
 
 -- the words of an opening are those of the start graph, up to the last block of the shared array
 pub opening_agrees : (c : Config) (ws : List ℕ) → IsAdmitted c → ((p : Place) → in_range (extent c) p ≡ true → heap_of (extent c) ws p ≡ opening_heap c p)
-    → (x : ℕ) → 0 < x → x ≤ opening_last c → Agrees (opening_words c) (block_words (heap_of (extent c) ws)) x
+    → (x : ℕ) → 0 < x → x ≤ opening_blocks c → Agrees c.width (opening_words c) (block_words (heap_of (extent c) ws)) x
 opening_agrees c ws plan words x pos low =
     let block = and_from _ _ (le-leb 1 x (omega arith)) (le-leb x c.blocks (omega (arith, opening_low c plan))) in
     record {
       owners = words (OwnerOf x) block;
       shapes = words (ShapeOf x) block;
-      payloads = λ j jl. words (PayloadOf x j) (and_from _ _ block (lt-ltb j 4 jl));
+      payloads = λ j jl. words (PayloadOf x j) (and_from _ _ block (lt-ltb j (payloads c.width) jl));
     }
 
 phase_parts : (w : ℕ) → w ≡ opening_phase → (inside_of w ≡ 0) × IsMark w
@@ -87,22 +89,22 @@ module _ (c : Config) (traces : List (List Command)) (job : IsJob c traces) (s :
   phase : (inside_of (heap_in c s Phase) ≡ 0) × IsMark (heap_in c s Phase)
   phase = phase_parts (heap_in c s Phase) (start.words Phase refl)
 
-  agrees : (x : ℕ) → 0 < x → x ≤ opening_last c → Agrees (opening_words c) (block_words (heap_in c s)) x
+  agrees : (x : ℕ) → 0 < x → x ≤ opening_blocks c → Agrees c.width (opening_words c) (block_words (heap_in c s)) x
   agrees = opening_agrees c s.words job.plan start.words
 
-  shows : Shows c.threads (opening_last c) (every_name (start_graph c)) (start_graph c) (opening_at c.threads) (block_words (heap_in c s)) (lates (loads_in c s))
+  shows : Shows c.width c.threads (opening_blocks c) (every_name (start_graph c)) (start_graph c) (opening_at c.width c.threads) (block_words (heap_in c s)) (lates (loads_in c s))
   shows =
       let first = opening_shows c job.bounds in
-      more_late c.threads (opening_last c) (every_name (start_graph c)) (start_graph c) (opening_at c.threads) (block_words (heap_in c s)) never_late
-      (words_change c.threads (opening_last c) (every_name (start_graph c)) (start_graph c) (opening_at c.threads) (opening_words c) never_late first (block_words (heap_in c s))
+      more_late c.width c.threads (opening_blocks c) (every_name (start_graph c)) (start_graph c) (opening_at c.width c.threads) (block_words (heap_in c s)) never_late
+      (words_change c.width c.threads (opening_blocks c) (every_name (start_graph c)) (start_graph c) (opening_at c.width c.threads) (opening_words c) never_late first (block_words (heap_in c s))
       (λ x j pos low jl. (agrees x pos (omega arith)).payloads j jl)
-      (λ a o ka ol. agrees (opening_at c.threads a o) (omega arith) (first.placed.within a o ka ol)))
+      (λ a o ka ol. agrees (opening_at c.width c.threads a o) (omega arith) (first.placed.within a o ka ol)))
       (lates (loads_in c s)) (λ t r tl rl e. refl)
 
-  follows : Follows c.threads (opening_last c) (every_name (start_graph c)) (opening_at c.threads) (graph_state c (opened s))
+  follows : Follows c.width c.threads (opening_blocks c) (every_name (start_graph c)) (opening_at c.width c.threads) (graph_state c (opened s))
   follows = record {
     shows = shows;
-    loads = λ t tl. subst (λ l. LoadIs (start_graph c) (opening_at c.threads) t l) (sym (unloads t tl)) (record { object = tt; value = tt });
+    loads = λ t tl. subst (λ l. LoadIs c.width (start_graph c) (opening_at c.width c.threads) t l) (sym (unloads t tl)) (record { object = tt; value = tt });
   }
 
   local_start : (t : ℕ) → t < c.threads → LocalKept c (get_or traces t []) (start_graph c) (Started ∷ []) t (at_start c start.rate t (get_or traces t []))

@@ -1,6 +1,9 @@
 -- Jobs of two threads on one small heap, for the tests.
-use Rattle.std.proofs.Common.{◌<◌, ℕ, zero, suc, List, [], ◌∷◌, get_or, refl, arith}
+use Rattle.std.proofs.Common.{◌<◌, ◌≤◌, ℕ, zero, suc, List, [], ◌∷◌, get_or, refl, arith}
 use Rattle.block_store.specs.declared.Config.{Config}
+use Rattle.block_store.specs.declared.Width.{Width}
+use Rattle.block_store.specs.declared.Width.TheVariants.{Four, Eight}
+use Rattle.object_lists.specs.Records.{record_blocks}
 use Rattle.block_store.specs.Configs.{IsInBounds}
 use Rattle.array_trees.specs.Trees.{tree}
 use Rattle.rate_plan.specs.Rates.{IsAdmitted}
@@ -9,48 +12,54 @@ use Rattle.never_heap.specs.Bounds.{IsCommandInBounds}
 use Rattle.heap_system.specs.Locals.{IsTrace}
 use Rattle.heap_system.specs.Machines.{IsJob}
 
-abbrev pub config : Config
-config = record { threads = 2; blocks = 64; live = 20; object = 2; shared = 4 }
+abbrev pub config : Width → Config
+config w = record { width = w; threads = 2; blocks = 64; live = 20; object = 2; shared = 4 }
 
 -- a trace of two commands, of one, and of none
-pub two : (a b : Command) → IsCommandInBounds config a → IsCommandInBounds config b → IsTrace config (a ∷ b ∷ [])
-two a b pa pb = record { short = omega arith; commands = at }
+pub two : (w : Width) (a b : Command) → IsCommandInBounds (config w) a → IsCommandInBounds (config w) b → IsTrace (config w) (a ∷ b ∷ [])
+two w a b pa pb = record { short = omega arith; commands = at }
   where
-    at : (k : ℕ) (d : Command) → k < 2 → IsCommandInBounds config (get_or (a ∷ b ∷ []) k d)
+    at : (k : ℕ) (d : Command) → k < 2 → IsCommandInBounds (config w) (get_or (a ∷ b ∷ []) k d)
     at zero d low = pa
     at (suc zero) d low = pb
     at (suc (suc k)) d low = absurd (omega arith)
 
-pub one : (a : Command) → IsCommandInBounds config a → IsTrace config (a ∷ [])
-one a pa = record { short = omega arith; commands = at }
+pub one : (w : Width) (a : Command) → IsCommandInBounds (config w) a → IsTrace (config w) (a ∷ [])
+one w a pa = record { short = omega arith; commands = at }
   where
-    at : (k : ℕ) (d : Command) → k < 1 → IsCommandInBounds config (get_or (a ∷ []) k d)
+    at : (k : ℕ) (d : Command) → k < 1 → IsCommandInBounds (config w) (get_or (a ∷ []) k d)
     at zero d low = pa
     at (suc k) d low = absurd (omega arith)
 
-pub nothing : IsTrace config []
-nothing = record { short = omega arith; commands = λ k d low. absurd (omega arith) }
+pub nothing : (w : Width) → IsTrace (config w) []
+nothing w = record { short = omega arith; commands = λ k d low. absurd (omega arith) }
 
-admitted : IsAdmitted config
+admitted : (w : Width) → IsAdmitted (config w)
 unfolding tree
-admitted = record { opens = omega arith; room = omega arith }
+admitted Four = record { opens = omega arith; room = omega arith }
+admitted Eight = record { opens = omega arith; room = omega arith }
 
-pub both : (xs ys : List Command) → IsTrace config xs → IsTrace config ys → IsJob config (xs ∷ ys ∷ [])
-both xs ys px py = record {
+-- a record of one field takes no more blocks than an object may
+pub record_fits : (w : Width) → record_blocks w 1 ≤ 2
+record_fits Four = omega arith
+record_fits Eight = omega arith
+
+pub both : (w : Width) (xs ys : List Command) → IsTrace (config w) xs → IsTrace (config w) ys → IsJob (config w) (xs ∷ ys ∷ [])
+both w xs ys px py = record {
   bounds = record { some_thread = omega arith; threads = omega arith; some_block = omega arith; blocks = omega arith; live = omega arith; some_object = omega arith; object = omega arith; shared = omega arith };
-  plan = admitted;
+  plan = admitted w;
   count = refl;
   each = at;
 }
   where
-    at : (t : ℕ) → t < 2 → IsTrace config (get_or (xs ∷ ys ∷ []) t [])
+    at : (t : ℕ) → t < 2 → IsTrace (config w) (get_or (xs ∷ ys ∷ []) t [])
     at zero low = px
     at (suc zero) low = py
     at (suc (suc t)) low = absurd (omega arith)
 
 -- one thread of a heap with a long array
 abbrev pub long : Config
-long = record { threads = 1; blocks = 1024; live = 400; object = 16; shared = 1024 }
+long = record { width = Four; threads = 1; blocks = 1024; live = 400; object = 16; shared = 1024 }
 
 pub three : (a b d : Command) → IsCommandInBounds long a → IsCommandInBounds long b → IsCommandInBounds long d → IsTrace long (a ∷ b ∷ d ∷ [])
 three a b d pa pb pd = record { short = omega arith; commands = at }

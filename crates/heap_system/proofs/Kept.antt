@@ -8,6 +8,8 @@ use Rattle.block_store.specs.Colours.{is_free}
 use Rattle.block_store.specs.Phases.{bit, phase_of, inside_of, is_closed, is_sweep, cycle_of}
 use Rattle.block_store.specs.Places.{Phase, FreeCount, ColourOf, extent, in_range, words_count}
 use Rattle.block_store.proofs.PhaseWords.{phase-more, phase-less}
+use Rattle.block_store.proofs.Registers.{end_more}
+use Rattle.block_store.specs.Widths.{payloads}
 use Rattle.block_store.specs.declared.PhaseWord.{PhaseWord}
 use Rattle.never_heap.specs.declared.Command.{Command}
 use Rattle.never_heap.specs.declared.Command.TheVariants as commands
@@ -17,9 +19,10 @@ use Rattle.never_heap.specs.declared.Reply.TheVariants.{Full}
 use Rattle.never_heap.specs.Bounds.{IsCommandInBounds}
 use Rattle.never_heap.specs.Graphs.{Graph, start_graph}
 use Rattle.never_heap.specs.Histories.{HistoryItem, replay, part, Legal, starts_in, work_in}
-use Rattle.never_heap.specs.Steps.{step, blocks_of}
+use Rattle.never_heap.specs.Steps.{step, makes_object}
 use Rattle.shown_graph.specs.Shown.{every_name}
-use Rattle.shown_graph.specs.Openings.{opening_at, opening_last}
+use Rattle.shown_graph.specs.Openings.{opening_at}
+use Rattle.array_trees.specs.Openings.{opening_blocks}
 use Rattle.shown_graph.specs.Events.{Loading, unloaded, with_load, Follows}
 use Rattle.heap_machine.specs.Counts.{changed}
 use Rattle.heap_machine.specs.Gates.{gate_want, gate_got, gate_entered, SeenOpen}
@@ -53,7 +56,6 @@ use Rattle.barrier_steps.proofs.Dues.{none_due}
 use Rattle.barrier_steps.specs.Rows.{FieldState, field_decided, first_row, row_want, field_want, field_got, field_reply}
 use Rattle.shown_graph.specs.Words.{block_words}
 use Rattle.rate_plan.specs.Rates.{IsAdmitted}
-use Rattle.barrier_steps.proofs.Blocks.{record_has_blocks, array_has_blocks}
 use Rattle.barrier_steps.proofs.FieldRows.{field_fits, field_sum, field_place, stores_held}
 use Rattle.heap_system.specs.declared.local.Part.{Part}
 use Rattle.heap_system.specs.declared.local.Part.TheVariants.{Rest, Enter, Serve, Mark, Count, Again, Leave}
@@ -72,7 +74,7 @@ grey_of c p = grey_held (holding c p)
 
 -- a thread in command k, in this pass, that is not over
 pub record RowKept (g : Graph) (t : ℕ) (pass : Pass) (k : Command) (f : FieldState) : Type 0 where
-  pub serves : blocks_of k ≡ 0
+  pub serves : makes_object k ≡ false
   pub passes : f.pass ≡ pass
   pub thread : f.pass.thread ≡ t
   pub command : f.command ≡ k
@@ -81,7 +83,7 @@ pub record RowKept (g : Graph) (t : ℕ) (pass : Pass) (k : Command) (f : FieldS
 
 -- a Mark pass of thread t for an allocation
 pub record MarkKept (t : ℕ) (pass : Pass) (k : Command) (m : GreyState) : Type 0 where
-  pub allocates : blocks_of k ≡ 0 → ⊥
+  pub allocates : makes_object k ≡ true
   pub passes : m.pass ≡ pass
   pub thread : m.pass.thread ≡ t
 
@@ -96,8 +98,8 @@ PartKept g t pass k Rest = Unit {0}
 PartKept g t pass k (Enter a) = IsEntering a
 PartKept g t pass k (Serve f) = RowKept g t pass k f
 PartKept g t pass k (Mark m) = MarkKept t pass k m
-PartKept g t pass k Count = blocks_of k ≡ 0 → ⊥
-PartKept g t pass k Again = blocks_of k ≡ 0 → ⊥
+PartKept g t pass k Count = makes_object k ≡ true
+PartKept g t pass k Again = makes_object k ≡ true
 PartKept g t pass k Leave = Unit {0}
 
 -- between two commands nothing is paid or waived; in front of the look at the free count nothing is owed
@@ -118,7 +120,7 @@ pub record LocalKept (c : Config) (given : List Command) (g : Graph) (order : Li
   pub fits : IsLocal l
   pub stands : PartKept g t l.pass (command_of l) l.part
   pub settled : IsSettled (owed l) l.paid l.waived l.part
-  pub within : IsWithin l.rate (part t order)
+  pub within : IsWithin c.width l.rate (part t order)
   pub told : part t order ≡ l.log ++ entries_waiting g l
   pub said : map (λ (e : Entry). e.command) l.log ≡ take (length l.log) l.trace
 
@@ -130,7 +132,7 @@ pub record IsMark (w : ℕ) : Type 0 where
 
 -- the blocks of the opening's arrays are not Free
 abbrev pub IsSolid : Config → Heap → Type 0
-IsSolid c h = (x : ℕ) → 1 ≤ x → x ≤ opening_last c → is_free (h (ColourOf x)) ≡ false
+IsSolid c h = (x : ℕ) → 1 ≤ x → x ≤ opening_blocks c → is_free (h (ColourOf x)) ≡ false
 
 -- what thread t has loaded, where it stands, and what it holds
 abbrev pub loads_in : Config → State → ℕ → Loading
@@ -147,7 +149,7 @@ pub record Kept (c : Config) (traces : List (List Command)) (r : Run) : Type 0 w
   pub threads : length r.state.locals ≡ c.threads
   pub gate : GateOf c.threads (heap_in c r.state Phase) (gates_in c r.state)
   pub phase : IsMark (heap_in c r.state Phase)
-  pub shown : Follows c.threads (opening_last c) (every_name (start_graph c)) (opening_at c.threads) (graph_state c r)
+  pub shown : Follows c.width c.threads (opening_blocks c) (every_name (start_graph c)) (opening_at c.width c.threads) (graph_state c r)
   pub locals : (t : ℕ) → t < c.threads → LocalKept c (get_or traces t []) (replay c r.order) r.order t (local_at c r.state t)
   pub legal : Legal c r.order
   pub foreign : (u : ℕ) → c.threads ≤ u → part u r.order ≡ []
@@ -158,7 +160,7 @@ pub record Kept (c : Config) (traces : List (List Command)) (r : Run) : Type 0 w
 
 -- the graph after an event of thread t, by whether it decides command k: an allocation is refused, and leaves it
 abbrev pub graph_decided : Graph → ℕ → Command → Bool → Graph
-graph_decided g t k b = cond (b && eqb (blocks_of k) 0) (step g t k).0 g
+graph_decided g t k b = cond (b && not (makes_object k)) (step g t k).0 g
 
 -- one event of thread t in command k: the heap after it, whether it decides, the pass and the part after it, the reply that it brings, and whether it makes a unit or finds nothing. Before it a
 -- reply was decided or none, and so many units were made of those due, or the rest was waived.
@@ -166,7 +168,7 @@ pub record EventKept (c : Config) (g : Graph) (new : Heap) (gs : ℕ → Gating)
     (unit nothing : Bool) : Type 0 where
   pub gate : GateOf c.threads (new Phase) (changed gs t (gating c pass p))
   pub phase : IsMark (new Phase)
-  pub shown : Follows c.threads (opening_last c) (every_name (start_graph c)) (opening_at c.threads) (state (graph_decided g t k b) new (with_load ls t (loading c p)))
+  pub shown : Follows c.width c.threads (opening_blocks c) (every_name (start_graph c)) (opening_at c.width c.threads) (state (graph_decided g t k b) new (with_load ls t (loading c p)))
   pub part : PartKept (graph_decided g t k b) t pass k p
   pub fits : PartFits c done all p
   pub over : (r : Reply) → reply ≡ Some r → p ≡ Leave
@@ -277,12 +279,12 @@ tell t k paid before true r none = ap (λ o. entries_of t k paid o ++ entry_of t
 tell t k paid before false r none = append-nil (entries_of t k paid before)
 
 -- a command that allocates nothing is decided as its step, with no work
-served_graph : (g : Graph) (t : ℕ) (k : Command) (b : Bool) → blocks_of k ≡ 0 → graph_decided g t k b ≡ graph_after g t k b
-served_graph g t k true z = ap (λ x. cond x (step g t k).0 g) (eq-eqb (blocks_of k) 0 z)
+served_graph : (g : Graph) (t : ℕ) (k : Command) (b : Bool) → makes_object k ≡ false → graph_decided g t k b ≡ graph_after g t k b
+served_graph g t k true z = ap (λ x. cond (not x) (step g t k).0 g) z
 served_graph g t k false z = refl
 
-pub served_reply : (g : Graph) (t : ℕ) (k : Command) → blocks_of k ≡ 0 → reply_decided g t k ≡ (step g t k).1
-served_reply g t k z = ap (λ x. cond x (step g t k).1 (Full 1)) (eq-eqb (blocks_of k) 0 z)
+pub served_reply : (g : Graph) (t : ℕ) (k : Command) → makes_object k ≡ false → reply_decided g t k ≡ (step g t k).1
+served_reply g t k z = ap (λ x. cond x (Full 1) (step g t k).1) z
 
 no_works : (t : ℕ) (k : Command) (paid : ℕ) (r : Reply) (b : Bool) → paid ≡ 0 → works (cond b (entry_of t k paid r ∷ []) []) ≡ 0
 no_works t k paid r true z = omega (arith, z)
@@ -293,12 +295,12 @@ no_work t k paid None z = refl
 no_work t k paid (Some r) z = omega (arith, z)
 
 -- an allocation is refused
-refused_graph : (g : Graph) (t : ℕ) (k : Command) (b : Bool) → (blocks_of k ≡ 0 → ⊥) → graph_decided g t k b ≡ g
-refused_graph g t k true n = ap (λ x. cond x (step g t k).0 g) (ne_eqb (blocks_of k) 0 n)
+refused_graph : (g : Graph) (t : ℕ) (k : Command) (b : Bool) → makes_object k ≡ true → graph_decided g t k b ≡ g
+refused_graph g t k true n = ap (λ x. cond (not x) (step g t k).0 g) n
 refused_graph g t k false n = refl
 
-pub refused_reply : (g : Graph) (t : ℕ) (k : Command) → (blocks_of k ≡ 0 → ⊥) → reply_decided g t k ≡ Full 1
-refused_reply g t k n = ap (λ x. cond x (step g t k).1 (Full 1)) (ne_eqb (blocks_of k) 0 n)
+pub refused_reply : (g : Graph) (t : ℕ) (k : Command) → makes_object k ≡ true → reply_decided g t k ≡ Full 1
+refused_reply g t k n = ap (λ x. cond x (Full 1) (step g t k).1) n
 
 -- what a thread holds stays
 holding_self : (hs : ℕ → GreyHolding) (t : ℕ) (w : GreyHolding) → hs t ≡ w → changed hs t w ≡ hs
@@ -326,11 +328,11 @@ units_paid c m w paid due low = by (grey_unit m.row) (grey_unit (grey_got (exten
 mark_moves : (v w : ℕ) → is_closed v ≡ is_closed w → cycle_of v ≡ cycle_of w → is_sweep v ≡ is_sweep w → IsMark w → IsMark v
 mark_moves v w a b d m = record { opened = a ∙ m.opened; cycle = b ∙ m.cycle; sweep = d ∙ m.sweep }
 
-pub opening_low : (c : Config) → IsAdmitted c → opening_last c ≤ c.blocks
+pub opening_low : (c : Config) → IsAdmitted c → opening_blocks c ≤ c.blocks
 opening_low c plan = omega (arith, plan.opens, plan.room)
 
 pub is_thread : (c : Config) → IsInBounds c → IsAdmitted c → (t : ℕ) → t < c.threads → IsThread c t
-is_thread c bounds plan t tl = record { few = bounds.threads; thread = tl; registers = omega (arith, plan.opens, plan.room) }
+is_thread c bounds plan t tl = record { few = bounds.threads; thread = tl; registers = omega (arith, end_more c.width (t + 1) c.threads (omega arith), plan.opens, plan.room) }
 
 -- a word that counts one inside is not 0
 inside_low : (w : ℕ) → 1 ≤ inside_of w → 1 ≤ w
@@ -338,7 +340,7 @@ unfolding inside_of
 inside_low w h = omega arith
 
 module _ (c : Config) (bounds : IsInBounds c) (plan : IsAdmitted c) (g : Graph) (h : Heap) (gs : ℕ → Gating) (ls : ℕ → Loading) (hs : ℕ → GreyHolding) (t : ℕ) (tl : t < c.threads) (pass : Pass) (k : Command) (inside : IsCommandInBounds c k) (done all due paid : ℕ) (waived : Bool)
-    (gate : GateOf c.threads (h Phase) gs) (phase : IsMark (h Phase)) (shown : Follows c.threads (opening_last c) (every_name (start_graph c)) (opening_at c.threads) (state g h ls))
+    (gate : GateOf c.threads (h Phase) gs) (phase : IsMark (h Phase)) (shown : Follows c.width c.threads (opening_blocks c) (every_name (start_graph c)) (opening_at c.width c.threads) (state g h ls))
     (grey : GreyKept c.threads h hs) (held : IsHeld c h) (solid : IsSolid c h) where
   phase_is : IsPhaseWord (h Phase)
   phase_is = phase_word c.threads (h Phase) gs bounds.threads gate phase
@@ -350,9 +352,9 @@ module _ (c : Config) (bounds : IsInBounds c) (plan : IsAdmitted c) (g : Graph) 
   more = not waived && ltb paid due
 
   -- an event that leaves the graph and what was loaded, where nothing is
-  still : (new : Heap) (p : Part) → block_words new ≡ block_words h → ls t ≡ unloaded → loading c p ≡ unloaded → Follows c.threads (opening_last c) (every_name (start_graph c)) (opening_at c.threads) (state g new (with_load ls t (loading c p)))
+  still : (new : Heap) (p : Part) → block_words new ≡ block_words h → ls t ≡ unloaded → loading c p ≡ unloaded → Follows c.width c.threads (opening_blocks c) (every_name (start_graph c)) (opening_at c.width c.threads) (state g new (with_load ls t (loading c p)))
   still new p words is e =
-      subst (λ s. Follows c.threads (opening_last c) (every_name (start_graph c)) (opening_at c.threads) s)
+      subst (λ s. Follows c.width c.threads (opening_blocks c) (every_name (start_graph c)) (opening_at c.width c.threads) s)
       (ap (λ w. record { graph = g; words = w; loads = ls }) (sym words) ∙ ap (λ l. state g new l) (sym (ap (λ l. with_load ls t l) e ∙ load_self ls t unloaded is))) shown
 
   -- an event at the gate
@@ -407,11 +409,12 @@ module _ (c : Config) (bounds : IsInBounds c) (plan : IsAdmitted c) (g : Graph) 
     pub settled : IsSettled due paid waived p
 
   entered_kept : (q : Pass) → q.thread ≡ t → EnteredKept q (first_part q k more)
-  entered_kept q own = elim (cases_eq (blocks_of k) 0) [
-    | inl z ↦
+  entered_kept q own = elim (cases_Bool (makes_object k)) [
+    | inl n ↦ rw n (by more n refl)
+    | inr z ↦
         let first = first_undecided k z in
         let none = none_due g q.thread k (first_row k) first in
-        rw (eq-eqb (blocks_of k) 0 z) (record {
+        rw z (record {
           gates = refl;
           loads = first_unloaded c k;
           holds = refl;
@@ -419,10 +422,9 @@ module _ (c : Config) (bounds : IsInBounds c) (plan : IsAdmitted c) (g : Graph) 
           stands = record { serves = z; passes = refl; thread = own; command = refl; known = none.1; going = not_over (first_row k) first };
           settled = tt;
         })
-    | inr n ↦ rw (ne_eqb (blocks_of k) 0 n) (by more n refl)
   ]
     where
-      by : (b : Bool) → (blocks_of k ≡ 0 → ⊥) → more ≡ b → EnteredKept q (cond b (Mark (scanning q)) Count)
+      by : (b : Bool) → makes_object k ≡ true → more ≡ b → EnteredKept q (cond b (Mark (scanning q)) Count)
       by true n e = record { gates = refl; loads = refl; holds = refl; waits = refl; stands = record { allocates = n; passes = refl; thread = own }; settled = tt }
       by false n e = record { gates = refl; loads = refl; holds = refl; waits = refl; stands = n; settled = e }
 
@@ -494,7 +496,7 @@ module _ (c : Config) (bounds : IsInBounds c) (plan : IsAdmitted c) (g : Graph) 
       fits = low;
       over = λ r z. absurd cc;
       told = refl;
-      grey = subst (λ x. GreyKept c.threads (heap_after h (grey_want m)) (changed hs t x)) (over_holds_none (extent c).width (grey_got (extent c) m mark_word).row e) mark_kept;
+      grey = subst (λ x. GreyKept c.threads (heap_after h (grey_want m)) (changed hs t x)) (over_holds_none (payloads c.width) (grey_got (extent c) m mark_word).row e) mark_kept;
       held = held_after c h (grey_want m) (marks.stores_held c m fits) held;
       solid = λ x some last. mark_solid h m.pass.thread m.pass.threads m.pass.cycle m.row x (solid x some last);
       low = omega (arith, units_paid c m mark_word paid due pays);
@@ -518,11 +520,11 @@ module _ (c : Config) (bounds : IsInBounds c) (plan : IsAdmitted c) (g : Graph) 
     }
 
   -- an allocation is answered full, and leaves the graph
-  count_event : ls t ≡ unloaded → gs t ≡ gating c pass Count → hs t ≡ no_grey → (blocks_of k ≡ 0 → ⊥) → Event h None true pass Leave (Some (Full 1)) false false
+  count_event : ls t ≡ unloaded → gs t ≡ gating c pass Count → hs t ≡ no_grey → makes_object k ≡ true → Event h None true pass Leave (Some (Full 1)) false false
   count_event is stands empty allocates = record {
     gate = stays h Leave Count refl stands refl refl;
     phase = phase;
-    shown = subst (λ x. Follows c.threads (opening_last c) (every_name (start_graph c)) (opening_at c.threads) (state x h (with_load ls t unloaded))) (sym (refused_graph g t k true allocates)) (still h Leave refl is refl);
+    shown = subst (λ x. Follows c.width c.threads (opening_blocks c) (every_name (start_graph c)) (opening_at c.width c.threads) (state x h (with_load ls t unloaded))) (sym (refused_graph g t k true allocates)) (still h Leave refl is refl);
     part = tt;
     fits = tt;
     over = λ r e. refl;
@@ -538,10 +540,10 @@ module _ (c : Config) (bounds : IsInBounds c) (plan : IsAdmitted c) (g : Graph) 
   -- in a command
   module _ (f : FieldState) (is : ls t ≡ loading_of (extent c) f) (stands : gs t ≡ gating c pass (Serve f)) (empty : hs t ≡ no_grey) (kept : RowKept g t pass k f) (fits : FieldFits c f) (low : done < all) (unpaid : paid ≡ 0) where
     pub reads : FieldReads c f (h (place_of (field_want (extent c) f)))
-    reads = field_reads c bounds (opening_last c) (opening_low c plan) (every_name (start_graph c)) (opening_at c.threads) g h ls shown t f fits kept.thread is kept.going
+    reads = field_reads c bounds (opening_blocks c) (opening_low c plan) (every_name (start_graph c)) (opening_at c.width c.threads) g h ls shown t f fits kept.thread is kept.going
 
-    moves : FieldStep c (opening_last c) (every_name (start_graph c)) (opening_at c.threads) g (heap_after h (field_want (extent c) f)) ls t k (reply_due g f) (is_deciding f.command f.row (h (place_of (field_want (extent c) f)))) (field_got (extent c) f (h (place_of (field_want (extent c) f))))
-    moves = field_moves c bounds (opening_last c) (opening_low c plan) (every_name (start_graph c)) (opening_at c.threads) g h ls shown t k f fits kept.thread kept.command is kept.going kept.known
+    moves : FieldStep c (opening_blocks c) (every_name (start_graph c)) (opening_at c.width c.threads) g (heap_after h (field_want (extent c) f)) ls t k (reply_due g f) (is_deciding f.command f.row (h (place_of (field_want (extent c) f)))) (field_got (extent c) f (h (place_of (field_want (extent c) f))))
+    moves = field_moves c bounds (opening_blocks c) (opening_low c plan) (every_name (start_graph c)) (opening_at c.width c.threads) g h ls shown t k f fits kept.thread kept.command is kept.going kept.known
 
     abbrev row_decides : Bool
     row_decides = is_deciding f.command f.row (h (place_of (field_want (extent c) f)))
@@ -563,9 +565,9 @@ module _ (c : Config) (bounds : IsInBounds c) (plan : IsAdmitted c) (g : Graph) 
     row_solid x some last = ap is_free (field_colour c h f x) ∙ solid x some last
 
     row_shown : (l : Loading) → loading_of (extent c) (field_got (extent c) f (h (place_of (field_want (extent c) f)))) ≡ l
-        → Follows c.threads (opening_last c) (every_name (start_graph c)) (opening_at c.threads) (state (graph_decided g t k row_decides) (heap_after h (field_want (extent c) f)) (with_load ls t l))
-    row_shown l e = subst (λ x. Follows c.threads (opening_last c) (every_name (start_graph c)) (opening_at c.threads) (state x (heap_after h (field_want (extent c) f)) (with_load ls t l))) (sym graph_is)
-        (subst (λ x. Follows c.threads (opening_last c) (every_name (start_graph c)) (opening_at c.threads) (state (graph_after g t k row_decides) (heap_after h (field_want (extent c) f)) (with_load ls t x))) e moves.follows)
+        → Follows c.width c.threads (opening_blocks c) (every_name (start_graph c)) (opening_at c.width c.threads) (state (graph_decided g t k row_decides) (heap_after h (field_want (extent c) f)) (with_load ls t l))
+    row_shown l e = subst (λ x. Follows c.width c.threads (opening_blocks c) (every_name (start_graph c)) (opening_at c.width c.threads) (state x (heap_after h (field_want (extent c) f)) (with_load ls t l))) (sym graph_is)
+        (subst (λ x. Follows c.width c.threads (opening_blocks c) (every_name (start_graph c)) (opening_at c.width c.threads) (state (graph_after g t k row_decides) (heap_after h (field_want (extent c) f)) (with_load ls t x))) e moves.follows)
 
     counted_is : (o : Option Reply) → works (cond row_decides (entry_of t k paid (reply_decided g t k) ∷ []) []) ≡ works (entries_of t k paid o)
     counted_is o = no_works t k paid (reply_decided g t k) row_decides unpaid ∙ sym (no_work t k paid o unpaid)
@@ -604,7 +606,7 @@ module _ (c : Config) (bounds : IsInBounds c) (plan : IsAdmitted c) (g : Graph) 
     }
 
   -- the event of each part
-  pub part_event : (p : Part) → gs t ≡ gating c pass p → ls t ≡ loading c p → hs t ≡ grey_of c p → PartKept g t pass k p → PartFits c done all p → paid + unit_to_come c p ≤ due → IsSettled due paid waived p → (blocks_of k ≡ 0 → paid ≡ 0) → (p ≡ Rest → done < all)
+  pub part_event : (p : Part) → gs t ≡ gating c pass p → ls t ≡ loading c p → hs t ≡ grey_of c p → PartKept g t pass k p → PartFits c done all p → paid + unit_to_come c p ≤ due → IsSettled due paid waived p → (makes_object k ≡ false → paid ≡ 0) → (p ≡ Rest → done < all)
       → Event (heap_after h (part_want c p)) (waiting g p) (decides c p (h (place_of (part_want c p)))) (pass_got (part_entered c p (h (place_of (part_want c p)))) t c.threads pass) (part_got c t k more p (h (place_of (part_want c p)))) (part_reply c p (h (place_of (part_want c p)))) (makes_unit c p (h (place_of (part_want c p)))) (finds_nothing c p (h (place_of (part_want c p))))
   part_event Rest stands is empty kept fits pays settled served low = look_event (ap (λ (x : Gating). x.stand) stands) is empty (low refl) (omega (arith, pays))
   part_event (Enter gates.Look) stands is empty kept fits pays settled served low = look_event (ap (λ (x : Gating). x.stand) stands) is empty fits.2 (omega (arith, pays))
@@ -626,7 +628,7 @@ module _ (c : Config) (bounds : IsInBounds c) (plan : IsAdmitted c) (g : Graph) 
   part_reads (Enter gates.Look) is kept fits = (phase_is, began)
   part_reads (Enter (gates.Enter seen)) is kept fits = (phase_is, began)
   part_reads (Enter _) is kept fits = absurd kept
-  part_reads (Serve f) is kept fits = field_reads c bounds (opening_last c) (opening_low c plan) (every_name (start_graph c)) (opening_at c.threads) g h ls shown t f fits.0 kept.thread is kept.going
+  part_reads (Serve f) is kept fits = field_reads c bounds (opening_blocks c) (opening_low c plan) (every_name (start_graph c)) (opening_at c.width c.threads) g h ls shown t f fits.0 kept.thread is kept.going
   part_reads (Mark m) is kept fits = held (place_of (grey_want m)) (marks.place_fits c m fits.0)
   part_reads Count is kept fits = held FreeCount refl
   part_reads Again is kept fits = phase_is

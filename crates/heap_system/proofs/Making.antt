@@ -5,6 +5,7 @@ use Rattle.block_store.specs.declared.Config.{Config}
 use Rattle.block_store.specs.Colours.{is_grey, grey_word, black_word, white_word}
 use Rattle.block_store.specs.Heaps.{Heap, put_at}
 use Rattle.block_store.specs.Phases.{bit, cycle_of}
+use Rattle.block_store.specs.Widths.{payloads}
 use Rattle.block_store.specs.Places.{extent, Phase, ColourOf}
 use Rattle.block_store.proofs.ColourWords.{not_grey_black, not_grey_white}
 use Rattle.never_heap.specs.declared.Command.{Command}
@@ -100,7 +101,7 @@ part_blackens c h hs t done all g pass k Rest w grey is one stands inside = refl
 part_blackens c h hs t done all g pass k (Enter a) w grey is one stands inside = gate_blackens h a
 part_blackens c h hs t done all g pass k (Serve f) w grey is one stands inside = field_blackens c h f.pass.thread f.command f.row
 part_blackens c h hs t done all g pass k (Mark m) w grey is one stands inside =
-    row_blackens (extent c).width h m.pass.thread m.pass.threads m.pass.cycle m.row (ap (λ (x : Pass). x.cycle) stands.passes ∙ one refl) (λ x b scan. (unit_grey c h hs m x inside.0 grey (ap hs stands.thread ∙ is) b scan).0)
+    row_blackens (payloads c.width) h m.pass.thread m.pass.threads m.pass.cycle m.row (ap (λ (x : Pass). x.cycle) stands.passes ∙ one refl) (λ x b scan. (unit_grey c h hs m x inside.0 grey (ap hs stands.thread ∙ is) b scan).0)
 part_blackens c h hs t done all g pass k Count w grey is one stands inside = refl
 part_blackens c h hs t done all g pass k Again w grey is one stands inside = refl
 part_blackens c h hs t done all g pass k Leave w grey is one stands inside = refl

@@ -39,7 +39,7 @@ graph_after g t k b = cond b (step g t k).0 g
 
 -- what an event of thread t does, in command k, where it leads to f
 pub record FieldStep (c : Config) (m : ℕ) (K : Name → Type 0) (at : Name → ℕ → ℕ) (g : Graph) (new : Heap) (ls : ℕ → Loading) (t : ℕ) (k : Command) (before : Option Reply) (b : Bool) (f : FieldState) : Type 0 where
-  pub follows : Follows c.threads m K at (state (graph_after g t k b) new (with_load ls t (loading_of (extent c) f)))
+  pub follows : Follows c.width c.threads m K at (state (graph_after g t k b) new (with_load ls t (loading_of (extent c) f)))
   pub reply : reply_due (graph_after g t k b) f ≡ cond b (Some (step g t k).1) before
   pub known : IsKnown (graph_after g t k b) f
 
@@ -63,13 +63,13 @@ whole : (s : GraphState) (g : Graph) (ws : BlockWords) (ls : ℕ → Loading) �
 whole s g ws ls a b d =
     ap (λ x. record { graph = x; words = s.words; loads = s.loads }) a ∙ ap (λ x. record { graph = g; words = x; loads = s.loads }) b ∙ ap (λ x. record { graph = g; words = ws; loads = x }) d
 
-module _ (c : Config) (bounds : IsInBounds c) (m : ℕ) (last : m ≤ c.blocks) (K : Name → Type 0) (at : Name → ℕ → ℕ) (g : Graph) (h : Heap) (ls : ℕ → Loading) (k : Follows c.threads m K at (state g h ls)) where
+module _ (c : Config) (bounds : IsInBounds c) (m : ℕ) (last : m ≤ c.blocks) (K : Name → Type 0) (at : Name → ℕ → ℕ) (g : Graph) (h : Heap) (ls : ℕ → Loading) (k : Follows c.width c.threads m K at (state g h ls)) where
   few : c.blocks ≤ 65535
   few = omega (arith, bounds.blocks)
 
-  event_follows : (o : Option Event) → IfSome o (Guard c.threads (state g h ls)) → Follows c.threads m K at (after_event (state g h ls) o)
+  event_follows : (o : Option Event) → IfSome o (Guard c.width c.threads (state g h ls)) → Follows c.width c.threads m K at (after_event (extent c) (state g h ls) o)
   event_follows None guard = k
-  event_follows (Some e) guard = run_follows c.threads m K at (e ∷ []) (state g h ls) (guard, tt) k
+  event_follows (Some e) guard = run_follows c.width c.threads m K at (e ∷ []) (state g h ls) (guard, tt) k
 
   module _ (f : FieldState) (fits : FieldFits c f) (is : ls f.pass.thread ≡ loading_of (extent c) f) (going : field_reply f.row ≡ None) where
     abbrev word : ℕ
@@ -91,13 +91,13 @@ module _ (c : Config) (bounds : IsInBounds c) (m : ℕ) (last : m ≤ c.blocks) 
     deciding = is_deciding f.command f.row (h (place_of (field_want (extent c) f)))
 
     module _ (known : IsKnown g f) where
-      graph_is : (after_event (state g h ls) (event_of (extent c) hand.0 f word)).graph ≡ graph_after g f.pass.thread f.command deciding
+      graph_is : (after_event (extent c) (state g h ls) (event_of (extent c) hand.0 f word)).graph ≡ graph_after g f.pass.thread f.command deciding
       graph_is = elim (cases_Bool deciding) [
         | inl e ↦ graph_steps c (heads at) (state g h ls) hand.0 f.pass.thread f.command f.row word fits.belongs e shown at_row.loads hand.1 ∙ sym (ap (graph_after g f.pass.thread f.command) e)
         | inr e ↦ graph_stays c (state g h ls) hand.0 f.pass.thread f.command f.row word e ∙ sym (ap (graph_after g f.pass.thread f.command) e)
       ]
 
-      state_is : after_event (state g h ls) (event_of (extent c) hand.0 f word) ≡ state (graph_after g f.pass.thread f.command deciding) (heap_after h (field_want (extent c) f)) (with_load ls f.pass.thread (loading_of (extent c) (field_got (extent c) f word)))
+      state_is : after_event (extent c) (state g h ls) (event_of (extent c) hand.0 f word) ≡ state (graph_after g f.pass.thread f.command deciding) (heap_after h (field_want (extent c) f)) (with_load ls f.pass.thread (loading_of (extent c) (field_got (extent c) f word)))
       state_is = whole _ _ _ _ graph_is (words_moved c h (state g h ls) hand.0 f.pass.thread f.command f.row word refl at_row.loads)
           (funext _ _ (loads_moved c h (state g h ls) hand.0 f.pass.thread f.command f.row word fits own_reads at_row))
 
@@ -105,7 +105,7 @@ module _ (c : Config) (bounds : IsInBounds c) (m : ℕ) (last : m ≤ c.blocks) 
       own_moves =
           let due = row_due c m K at few last (state g h ls) k h hand.0 f.pass.thread f.command f.row word fits at_row hand.1 known in
           record {
-            follows = subst (λ s. Follows c.threads m K at s) state_is (event_follows (event_of (extent c) hand.0 f word) (row_guarded c h (state g h ls) hand.0 f.pass.thread f.command f.row word fits own_reads at_row hand.1));
+            follows = subst (λ s. Follows c.width c.threads m K at s) state_is (event_follows (event_of (extent c) hand.0 f word) (row_guarded c h (state g h ls) hand.0 f.pass.thread f.command f.row word fits own_reads at_row hand.1));
             reply = sym (ap (λ x. reply_due x (field_got (extent c) f word)) graph_is) ∙ due.0;
             known = subst (λ x. IsKnown x (field_got (extent c) f word)) graph_is due.1;
           }

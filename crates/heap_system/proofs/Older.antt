@@ -2,12 +2,14 @@
 use Rattle.std.proofs.Common.{◌≡◌, ℕ, ◌+◌, ◌%◌, ◌<◌, Bool, true, false, cond, eqb, ltb, ne_eqb, eq-eqb, lt-ltb, le-ltb, ◌⊎◌, inl, inr, Option, Some, None, List, [], ◌∷◌, ◌++◌, append_assoc, append-nil, refl, sym, ap, ◌∙◌, subst, arith}
 use Rattle.std.proofs.lemmas.Bool.{cases_Bool, cases_eq, cases_lt}
 use Rattle.block_store.specs.declared.Config.{Config}
+use Rattle.block_store.specs.declared.TheConstants.{REGISTERS}
 use Rattle.block_store.specs.declared.Name.{Name}
 use Rattle.block_store.specs.declared.Payload.{Payload}
 use Rattle.block_store.specs.declared.Payload.TheVariants as payloads
 use Rattle.block_store.specs.declared.Shape.{Shape}
 use Rattle.block_store.specs.Configs.{IsInBounds}
 use Rattle.rate_plan.specs.Rates.{IsAdmitted}
+use Rattle.block_store.specs.Registers.{register_block, register_slot}
 use Rattle.block_store.specs.Heaps.{Heap, put_at}
 use Rattle.block_store.specs.Payloads.{target}
 use Rattle.block_store.specs.Places.{extent, Phase, PayloadOf}
@@ -16,13 +18,14 @@ use Rattle.never_heap.specs.declared.Command.{Command}
 use Rattle.never_heap.specs.declared.Command.TheVariants as commands
 use Rattle.never_heap.specs.Graphs.{Graph, start_graph, object_of}
 use Rattle.never_heap.specs.Histories.{HistoryItem, Did, part, replay}
-use Rattle.never_heap.specs.Steps.{blocks_of}
+use Rattle.never_heap.specs.Steps.{makes_object}
 use Rattle.never_heap.proofs.Growing.{part_append}
-use Rattle.shown_graph.specs.Words.{BlockWords, block_words, register_block, value_word}
+use Rattle.shown_graph.specs.Words.{BlockWords, block_words, value_word}
 use Rattle.shown_graph.specs.Shown.{Shows, IsValueOf, every_name, heads}
-use Rattle.shown_graph.specs.Openings.{opening_at, opening_last}
+use Rattle.shown_graph.specs.Openings.{opening_at}
+use Rattle.array_trees.specs.Openings.{opening_blocks}
 use Rattle.shown_graph.specs.Events.{ObjectLoad, ObjectIs, LoadIs, object_in, is_late, lates}
-use Rattle.shown_graph.proofs.Registering.{register_low}
+use Rattle.block_store.proofs.Registers.{register_low, own_array}
 use Rattle.shown_graph.proofs.Stores.{register_apart}
 use Rattle.heap_machine.specs.Operations.{heap_after, place_of}
 use Rattle.heap_machine.specs.declared.gate.GateRow.TheVariants as gates
@@ -139,9 +142,9 @@ field_lately c h f w q e =
     record { reads = l.reads; how = l.how }
 
 begun_quiet : (c : Config) (p : Pass) (k : Command) (more : Bool) (q : ℕ) → late_in c (first_part p k more) q ≡ false
-begun_quiet c p k more q = elim (cases_Bool (eqb (blocks_of k) 0)) [
-  | inl e ↦ rw e (first_quiet c k q)
-  | inr e ↦ rw e (by more)
+begun_quiet c p k more q = elim (cases_Bool (makes_object k)) [
+  | inl e ↦ rw e (by more)
+  | inr e ↦ rw e (first_quiet c k q)
 ]
   where
     by : (b : Bool) → late_in c (cond b (Mark (scanning p)) Count) q ≡ false
@@ -169,19 +172,19 @@ part_lately c h t k more Again w q e = absurd cc
 part_lately c h t k more Leave w q e = absurd cc
 
 -- another thread's event leaves a register's word
-module _ (c : Config) (g : Graph) (m : ℕ) (K : Name → Type 0) (at : Name → ℕ → ℕ) (words : BlockWords) (late : ℕ → ℕ → Bool) (shows : Shows c.threads m K g at words late) (u q : ℕ) (ul : u < c.threads) (ql : q < 16) (h : Heap) (t : ℕ) (tl : t < c.threads) (other : t ≡ u → ⊥) where
-  object_apart : (l : ObjectLoad) → ObjectIs g at t l → l.block ≡ register_block u q → ⊥
+module _ (c : Config) (g : Graph) (m : ℕ) (K : Name → Type 0) (at : Name → ℕ → ℕ) (words : BlockWords) (late : ℕ → ℕ → Bool) (shows : Shows c.width c.threads m K g at words late) (u q : ℕ) (ul : u < c.threads) (ql : q < REGISTERS) (h : Heap) (t : ℕ) (tl : t < c.threads) (other : t ≡ u → ⊥) where
+  object_apart : (l : ObjectLoad) → ObjectIs c.width g at t l → l.block ≡ register_block c.width u q → ⊥
   object_apart l o e =
-      register_apart c.threads m K (object_of g) at shows.placed (register_block u q) (register_low c.threads u q ul ql) o.name l.ordinal
+      register_apart c.width c.threads m K (object_of g) at shows.placed (register_block c.width u q) (register_low c.width c.threads u q ul ql) o.name l.ordinal
       (subst (λ v. IsValueOf K v) o.refers (shows.closed.registers t l.source tl o.source)) o.ordinal (sym e ∙ o.block)
 
-  stays_at : (x j v : ℕ) → (x ≡ register_block u q → ⊥) → put_at h (PayloadOf x j) v (PayloadOf (register_block u q) (q % 4)) ≡ h (PayloadOf (register_block u q) (q % 4))
-  stays_at x j v n = rw (ne_eqb x (register_block u q) n) refl
+  stays_at : (x j v : ℕ) → (x ≡ register_block c.width u q → ⊥) → put_at h (PayloadOf x j) v (PayloadOf (register_block c.width u q) (register_slot c.width q)) ≡ h (PayloadOf (register_block c.width u q) (register_slot c.width q))
+  stays_at x j v n = rw (ne_eqb x (register_block c.width u q) n) refl
 
-  register_other : (s d : ℕ) → s ≡ t → d < 16 → register_block s d ≡ register_block u q → ⊥
-  register_other s d e dl f = other (omega arith)
+  register_other : (s d : ℕ) → s ≡ t → d < REGISTERS → register_block c.width s d ≡ register_block c.width u q → ⊥
+  register_other s d e dl f = other (sym e ∙ own_array c.width s d u q dl ql f)
 
-  row_frame : (k : Command) (r : FieldRow) → FitsAt c t k r → LoadIs g at t (row_loading (extent c) k r) → heap_after h (row_want (extent c) t k r) (PayloadOf (register_block u q) (q % 4)) ≡ h (PayloadOf (register_block u q) (q % 4))
+  row_frame : (k : Command) (r : FieldRow) → FitsAt c t k r → LoadIs c.width g at t (row_loading (extent c) k r) → heap_after h (row_want (extent c) t k r) (PayloadOf (register_block c.width u q) (register_slot c.width q)) ≡ h (PayloadOf (register_block c.width u q) (register_slot c.width q))
   row_frame k rows.StoreNumber fits loads = stays_at _ _ _ (register_other t (to_register k) refl (to_low k fits.command))
   row_frame k rows.StoreNil fits loads = stays_at _ _ _ (register_other t (to_register k) refl (to_low k fits.command))
   row_frame k rows.LoadMoved fits loads = refl
@@ -200,17 +203,17 @@ module _ (c : Config) (g : Graph) (m : ℕ) (K : Name → Type 0) (at : Name →
   row_frame k (rows.LoadSaidOwner word) fits loads = refl
   row_frame k (rows.Answered reply) fits loads = refl
 
-  field_frame : (f : FieldState) → f.pass.thread ≡ t → FieldFits c f → LoadIs g at t (loading_of (extent c) f) → heap_after h (field_want (extent c) f) (PayloadOf (register_block u q) (q % 4)) ≡ h (PayloadOf (register_block u q) (q % 4))
+  field_frame : (f : FieldState) → f.pass.thread ≡ t → FieldFits c f → LoadIs c.width g at t (loading_of (extent c) f) → heap_after h (field_want (extent c) f) (PayloadOf (register_block c.width u q) (register_slot c.width q)) ≡ h (PayloadOf (register_block c.width u q) (register_slot c.width q))
   field_frame f e fits loads =
-      ap (λ s. heap_after h (row_want (extent c) s f.command f.row) (PayloadOf (register_block u q) (q % 4))) e ∙ row_frame f.command f.row (subst (λ s. FitsAt c s f.command f.row) e fits) loads
+      ap (λ s. heap_after h (row_want (extent c) s f.command f.row) (PayloadOf (register_block c.width u q) (register_slot c.width q))) e ∙ row_frame f.command f.row (subst (λ s. FitsAt c s f.command f.row) e fits) loads
 
-  pub part_frame : (pass : Pass) (k : Command) (done all : ℕ) (p : Part) → PartKept g t pass k p → PartFits c done all p → LoadIs g at t (loading c p) → heap_after h (part_want c p) (PayloadOf (register_block u q) (q % 4)) ≡ h (PayloadOf (register_block u q) (q % 4))
+  pub part_frame : (pass : Pass) (k : Command) (done all : ℕ) (p : Part) → PartKept g t pass k p → PartFits c done all p → LoadIs c.width g at t (loading c p) → heap_after h (part_want c p) (PayloadOf (register_block c.width u q) (register_slot c.width q)) ≡ h (PayloadOf (register_block c.width u q) (register_slot c.width q))
   part_frame pass k done all Rest stands fits loads = refl
   part_frame pass k done all (Enter gates.Look) stands fits loads = refl
   part_frame pass k done all (Enter (gates.Enter seen)) stands fits loads = elim (cases_Bool (eqb (h Phase) seen)) [ inl e ↦ rw e refl | inr e ↦ rw e refl ]
   part_frame pass k done all (Enter _) stands fits loads = absurd stands
   part_frame pass k done all (Serve f) stands fits loads = field_frame f stands.thread fits.0 loads
-  part_frame pass k done all (Mark m) stands fits loads = ap (λ (w : BlockWords). w.payload (register_block u q) (q % 4)) (mark_words h m.pass.thread m.pass.threads m.pass.cycle m.row)
+  part_frame pass k done all (Mark m) stands fits loads = ap (λ (w : BlockWords). w.payload (register_block c.width u q) (register_slot c.width q)) (mark_words h m.pass.thread m.pass.threads m.pass.cycle m.row)
   part_frame pass k done all Count stands fits loads = refl
   part_frame pass k done all Again stands fits loads = refl
   part_frame pass k done all Leave stands fits loads = refl
@@ -223,7 +226,7 @@ cond_yes b x y e = rw e refl
 
 -- every late register has its older word
 abbrev pub AllOlder : Config → Run → Type 0
-AllOlder c r = (u q : ℕ) → u < c.threads → q < 16 → late_in c (local_at c r.state u).part q ≡ true → IsOlder c r u q
+AllOlder c r = (u q : ℕ) → u < c.threads → q < REGISTERS → late_in c (local_at c r.state u).part q ≡ true → IsOlder c r u q
 
 others_none : (c : Config) (order : List HistoryItem) (t u : ℕ) (k : Command) (work : ℕ) (b : Bool) → (t ≡ u → ⊥) → part u (cond b (entry_decided c t k work order ∷ []) []) ≡ []
 others_none c order t u k work true n = ap (λ x. cond x (entry_of t k work (reply_decided (replay c order) t k) ∷ []) []) (ne_eqb t u n)
@@ -239,7 +242,7 @@ module _ (c : Config) (traces : List (List Command)) (bounds : IsInBounds c) (pl
   abbrev after : Run
   after = record { state = event_done c t r.state; order = r.order ++ cond deciding (entry_decided c t (command_of (local_at c r.state t)) (local_at c r.state t).paid r.order ∷ []) [] }
 
-  older_other : (u q : ℕ) → u < c.threads → q < 16 → (t ≡ u → ⊥) → late_in c (local_at c (event_done c t r.state) u).part q ≡ true → IsOlder c after u q
+  older_other : (u q : ℕ) → u < c.threads → q < REGISTERS → (t ≡ u → ⊥) → late_in c (local_at c (event_done c t r.state) u).part q ≡ true → IsOlder c after u q
   older_other u q ul ql n late =
       let same : local_at c (event_done c t r.state) u ≡ local_at c r.state u = local_new c traces bounds plan r kept t tl going u ∙ cond_no _ _ _ (ne_eqb t u n) in
       let o : IsOlder c r u q = all u q ul ql (sym (ap (λ (l : LocalState). late_in c l.part q) same) ∙ late) in
@@ -250,17 +253,17 @@ module _ (c : Config) (traces : List (List Command)) (bounds : IsInBounds c) (pl
         split = ap (λ x. x ++ cond deciding (entry_decided c t (command_of (local_at c r.state t)) (local_at c r.state t).paid r.order ∷ []) []) o.split ∙ append_assoc o.before (Did o.entry ∷ o.behind) _;
         own = o.own;
         others = part_append u o.behind _ ∙ ap (λ x. x ++ part u (cond deciding (entry_decided c t (command_of (local_at c r.state t)) (local_at c r.state t).paid r.order ∷ []) [])) o.others ∙ others_none c r.order t u _ _ deciding n;
-        word = ap (λ h. h (PayloadOf (register_block u q) (q % 4))) (heap_new c traces bounds plan r kept t tl going)
-            ∙ part_frame c (replay c r.order) (opening_last c) (every_name (start_graph c)) (opening_at c.threads) (block_words (heap_in c r.state)) (lates (loads_in c r.state)) kept.shown.shows u q ul ql (heap_in c r.state) t tl n
+        word = ap (λ h. h (PayloadOf (register_block c.width u q) (register_slot c.width q))) (heap_new c traces bounds plan r kept t tl going)
+            ∙ part_frame c (replay c r.order) (opening_blocks c) (every_name (start_graph c)) (opening_at c.width c.threads) (block_words (heap_in c r.state)) (lates (loads_in c r.state)) kept.shown.shows u q ul ql (heap_in c r.state) t tl n
             (local_at c r.state t).pass (command_of (local_at c r.state t)) _ _ (local_at c r.state t).part (kept.locals t tl).stands (fits c traces bounds plan r kept t tl) (kept.shown.loads t tl)
             ∙ o.word;
       }
 
-  older_self : (q : ℕ) → q < 16 → late_in c (local_at c (event_done c t r.state) t).part q ≡ true → IsOlder c after t q
+  older_self : (q : ℕ) → q < REGISTERS → late_in c (local_at c (event_done c t r.state) t).part q ≡ true → IsOlder c after t q
   older_self q ql late =
       let same = local_new c traces bounds plan r kept t tl going t ∙ cond_yes _ _ _ (eq-eqb t t refl) in
       let l : Lately c (heap_in c r.state) (local_at c r.state t).part word_here q = part_lately c (heap_in c r.state) t (command_of (local_at c r.state t)) (owes (local_at c r.state t)) (local_at c r.state t).part word_here q (sym (ap (λ (l : LocalState). late_in c l.part q) same) ∙ late) in
-      let still = ap (λ h. h (PayloadOf (register_block t q) (q % 4))) (heap_new c traces bounds plan r kept t tl going ∙ l.reads) in
+      let still = ap (λ h. h (PayloadOf (register_block c.width t q) (register_slot c.width q))) (heap_new c traces bounds plan r kept t tl going ∙ l.reads) in
       elim l.how [
         | inl d ↦
             let shown = kept.shown.shows.registers.holds t q tl ql in
@@ -271,7 +274,7 @@ module _ (c : Config) (traces : List (List Command)) (bounds : IsInBounds c) (pl
               split = ap (λ x. r.order ++ cond x (entry_decided c t (command_of (local_at c r.state t)) (local_at c r.state t).paid r.order ∷ []) []) d.0;
               own = refl;
               others = refl;
-              word = still ∙ shown.reads ∙ ap (value_word (heads (opening_at c.threads))) (shown.now d.1);
+              word = still ∙ shown.reads ∙ ap (value_word (heads (opening_at c.width c.threads))) (shown.now d.1);
             }
         | inr d ↦
             let o : IsOlder c r t q = all t q tl ql d.1 in

@@ -14,9 +14,12 @@ use Rattle.never_heap.specs.declared.Command.TheVariants as commands
 use Rattle.never_heap.specs.declared.Entry.{Entry}
 use Rattle.never_heap.specs.declared.Reply.{Reply}
 use Rattle.never_heap.specs.Bounds.{IsCommandInBounds}
-use Rattle.never_heap.specs.Steps.{blocks_of}
+use Rattle.never_heap.specs.RightWork.{units_owed}
+use Rattle.never_heap.specs.Steps.{blocks_of, makes_object}
+use Rattle.block_store.proofs.Registers.{end_more}
 use Rattle.never_heap.proofs.Ranges as ranges
 use Rattle.block_store.specs.Places.{Extent}
+use Rattle.block_store.specs.Registers.{registers_end}
 use Rattle.heap_machine.specs.Gates.{gate_got, gate_entered, is_going_in, GateFits, GateAt}
 use Rattle.heap_machine.specs.declared.pass.Pass.{Pass}
 use Rattle.heap_machine.specs.Readings.{IsPhaseWord}
@@ -37,7 +40,7 @@ abbrev pub view_of : Inside → LocalState
 view_of l = record { config = l.config; rate = l.rate; thread = l.thread; trace = l.trace.items; log = l.log.items; paid = l.paid; waived = l.waived; pass = l.pass; part = l.part }
 
 -- an object takes no more blocks than one object may
-blocks_low : (c : Config) (k : Command) → IsCommandInBounds c k → blocks_of k ≤ c.object
+blocks_low : (c : Config) (k : Command) → IsCommandInBounds c k → blocks_of c.width k ≤ c.object
 blocks_low c (commands.New d f) h = h.2
 blocks_low c (commands.Arr d e) h = h.2
 blocks_low c (commands.Set d v) h = omega arith
@@ -62,9 +65,9 @@ rate_low c rate bounds plan is = let s = small c rate plan is in omega (arith, b
 -- the units owed are at most those of the largest object
 pub owed_low : (l : LocalState) → IsLocal l → owed l ≤ l.rate * l.config.object
 owed_low l k =
-    let low : blocks_of (command_of l) ≤ l.config.object = blocks_low l.config (command_of l) (bounds_at l.config l.trace (length l.log) k.trace.commands) in
-    let more : blocks_of (command_of l) * l.rate ≤ l.config.object * l.rate = mul-le-mul_right l.rate low in
-    omega (arith, mul_comm l.rate (blocks_of (command_of l)), mul_comm l.rate l.config.object)
+    let low : blocks_of l.config.width (command_of l) ≤ l.config.object = blocks_low l.config (command_of l) (bounds_at l.config l.trace (length l.log) k.trace.commands) in
+    let more : blocks_of l.config.width (command_of l) * l.rate ≤ l.config.object * l.rate = mul-le-mul_right l.rate low in
+    omega (arith, mul_comm l.rate (blocks_of l.config.width (command_of l)), mul_comm l.rate l.config.object)
 
 -- and these are few
 pub units_low : (l : LocalState) → IsLocal l → l.rate * l.config.object ≤ 134215680
@@ -75,22 +78,22 @@ units_low l k =
 
 -- the first part of a command that its thread has entered for
 pub first_part_fits : (c : Config) (done all : ℕ) (p : Pass) (k : Command) (more : Bool) → p.threads ≡ c.threads → IsThread c p.thread → c.blocks ≤ 65535 → IsCommandInBounds c k → done < all → PartFits c done all (first_part p k more)
-first_part_fits c done all p k more same thread blocks inside low = elim (cases_Bool (eqb (blocks_of k) 0)) [
-  | inl e ↦ rw e (first_fits c p k thread (ranges.in_range c k inside), low)
-  | inr e ↦ rw e (here more)
+first_part_fits c done all p k more same thread blocks inside low = elim (cases_Bool (makes_object k)) [
+  | inl e ↦ rw e (here more)
+  | inr e ↦ rw e (first_fits c p k thread (ranges.in_range c k inside), low)
 ]
   where
     here : (b : Bool) → PartFits c done all (cond b (Mark (scanning p)) Count)
     here true = (record { threads = same; few = omega (arith, same, thread.few); blocks = blocks; thread = omega (arith, same, thread.thread); row = omega (arith, thread.thread) }, low)
     here false = low
 
-pub opening_room : (c : Config) → IsAdmitted c → 5 * c.threads ≤ c.blocks
+pub opening_room : (c : Config) → IsAdmitted c → registers_end c.width c.threads ≤ c.blocks
 opening_room c plan = omega (arith, plan.opens, plan.room)
 
 pub first_part_pays : (c : Config) (p : Pass) (k : Command) (more : Bool) (paid due : ℕ) → paid ≤ due → (more ≡ true → paid < due) → paid + unit_to_come c (first_part p k more) ≤ due
-first_part_pays c p k more paid due low some = elim (cases_Bool (eqb (blocks_of k) 0)) [
-  | inl e ↦ rw e (omega arith)
-  | inr e ↦ rw e (here more some)
+first_part_pays c p k more paid due low some = elim (cases_Bool (makes_object k)) [
+  | inl e ↦ rw e (here more some)
+  | inr e ↦ rw e (omega arith)
 ]
   where
     here : (b : Bool) → (b ≡ true → paid < due) → paid + unit_to_come c (cond b (Mark (scanning p)) Count) ≤ due
@@ -131,7 +134,7 @@ abbrev pub with_part : LocalState → Part → LocalState
 with_part l p = record l { part = p }
 
 pub thread_is : (l : LocalState) → IsLocal l → IsThread l.config l.thread
-thread_is l k = record { few = k.bounds.threads; thread = k.thread; registers = omega (arith, opening_room l.config k.plan, k.thread) }
+thread_is l k = record { few = k.bounds.threads; thread = k.thread; registers = omega (arith, opening_room l.config k.plan, end_more l.config.width (l.thread + 1) l.config.threads (omega (arith, k.thread))) }
 
 pub other_part : (l : LocalState) (p : Part) → IsLocal l → PartFits l.config (length l.log) (length l.trace) p → l.paid + unit_to_come l.config p ≤ owed l → IsLocal (with_part l p)
 other_part l p k fits pays = record { bounds = k.bounds; plan = k.plan; rate = k.rate; thread = k.thread; trace = k.trace; log = k.log; part = fits; paid = pays; worked = k.worked }
@@ -209,7 +212,7 @@ answered_with l reply log k inside low is e =
     (sym (is ∙ ap (λ y. l.log ++ entry_of l.thread y l.paid reply ∷ []) e)) (answered_local l reply inside low)
 
 -- the units owed fit
-pub product_low : (l : LocalState) (n : ℕ) → IsLocal l → n ≡ blocks_of (command_of l) → l.rate * n ≤ 134215680
+pub product_low : (l : LocalState) (n : ℕ) → IsLocal l → n ≡ blocks_of l.config.width (command_of l) → l.rate * n ≤ 134215680
 product_low l n k e = let due : l.rate * n ≡ owed l = ap (λ x. l.rate * x) e in omega (arith, owed_low l k, units_low l k)
 
 pub paid_low : (l : LocalState) → IsLocal l → l.paid ≤ 134215680
@@ -219,3 +222,13 @@ pub worked_low : (l : LocalState) → IsLocal l → works l.log ≤ 2 ^ 45
 worked_low l k =
     let a : length l.log * (l.rate * l.config.object) ≤ 131072 * (l.rate * l.config.object) = mul-le-mul_right (l.rate * l.config.object) (omega (arith, k.log, k.trace.short)) in
     omega (arith, k.worked, units_low l k)
+
+-- a thread in the first part of a pass that begins
+pub entered_in : (l : LocalState) (phase : PhaseWord) (g : GateRow) (pass : Pass) (p : Part) → pass ≡ pass_by l.thread l.config.threads phase → p ≡ first_part pass (command_of l) (owes l) → IsLocal l → l.part ≡ Enter g
+    → IsLocal (record { config = l.config; rate = l.rate; thread = l.thread; trace = l.trace; log = l.log; paid = l.paid; waived = l.waived; pass = pass; part = p })
+entered_in l phase g pass p same is k at =
+    let low : length l.log < length l.trace = on_way_low l g k at in
+    let new : IsLocal (with_part l (first_part (pass_by l.thread l.config.threads phase) (command_of l) (owes l))) = entered_local l (Some phase) g k low (λ e. absurd cc) in
+    let part : first_part (pass_by l.thread l.config.threads phase) (command_of l) (owes l) ≡ p = sym (is ∙ ap (λ x. first_part x (command_of l) (owes l)) same) in
+    let all : IsLocal (with_part l p) = subst (λ x. IsLocal (with_part l x)) part new in
+    record { bounds = all.bounds; plan = all.plan; rate = all.rate; thread = all.thread; trace = all.trace; log = all.log; part = all.part; paid = all.paid; worked = all.worked }

@@ -9,7 +9,8 @@ use Rattle.never_heap.specs.declared.Command.{Command}
 use Rattle.never_heap.specs.declared.Reply.{Reply}
 use Rattle.never_heap.specs.Graphs.{start_graph, has_name, object_of}
 use Rattle.never_heap.specs.Histories.{replay, part}
-use Rattle.never_heap.specs.Steps.{blocks_of}
+use Rattle.never_heap.specs.Steps.{blocks_of, makes_object}
+use Rattle.never_heap.proofs.Answering.{makers_have_blocks, others_have_none}
 use Rattle.rate_plan.specs.Rates.{IsRate}
 use Rattle.shown_graph.specs.Openings.{opening_at}
 use Rattle.shown_graph.specs.Events.{unloaded}
@@ -43,7 +44,7 @@ module _ (c : Config) (traces : List (List Command)) (r : Run) (k : Kept c trace
   unpaid : (f : FieldState) → (local_at c r.state t).part ≡ Serve f → (local_at c r.state t).paid ≡ 0
   unpaid f is =
       let row : RowKept (replay c r.order) t (local_at c r.state t).pass (command_of (local_at c r.state t)) f = subst (λ p. PartKept (replay c r.order) t (local_at c r.state t).pass (command_of (local_at c r.state t)) p) is (k.locals t tl).stands in
-      let none : owed (local_at c r.state t) ≡ (local_at c r.state t).rate * 0 = ap (λ n. (local_at c r.state t).rate * n) row.serves in
+      let none : owed (local_at c r.state t) ≡ (local_at c r.state t).rate * 0 = ap (λ n. (local_at c r.state t).rate * n) (others_have_none (local_at c r.state t).config.width (command_of (local_at c r.state t)) row.serves) in
       omega (arith, (k.locals t tl).fits.paid, none)
 
   pub decided_told : (f : FieldState) → (local_at c r.state t).part ≡ Serve f → field_decided f.row ≡ true → (y : Reply) × (part t r.order ≡ (local_at c r.state t).log ++ entry_of t (command_of (local_at c r.state t)) 0 y ∷ [])
@@ -62,16 +63,16 @@ module _ (c : Config) (traces : List (List Command)) (r : Run) (k : Kept c trace
   pub rest_settled : is_rest (local_at c r.state t).part ≡ true → ((local_at c r.state t).paid ≡ 0) × ((local_at c r.state t).waived ≡ false)
   rest_settled e = subst (λ p. IsSettled (owed (local_at c r.state t)) (local_at c r.state t).paid (local_at c r.state t).waived p) (rest_is (local_at c r.state t).part e) (k.locals t tl).settled
 
-  pub count_settled : (local_at c r.state t).part ≡ Count → (0 < blocks_of (command_of (local_at c r.state t))) × (owes (local_at c r.state t) ≡ false)
+  pub count_settled : (local_at c r.state t).part ≡ Count → (0 < blocks_of c.width (command_of (local_at c r.state t))) × (owes (local_at c r.state t) ≡ false)
   count_settled is =
-      let some : blocks_of (command_of (local_at c r.state t)) ≡ 0 → ⊥ = subst (λ p. PartKept (replay c r.order) t (local_at c r.state t).pass (command_of (local_at c r.state t)) p) is (k.locals t tl).stands in
-      (omega (arith, some), subst (λ p. IsSettled (owed (local_at c r.state t)) (local_at c r.state t).paid (local_at c r.state t).waived p) is (k.locals t tl).settled)
+      let some : makes_object (command_of (local_at c r.state t)) ≡ true = subst (λ p. PartKept (replay c r.order) t (local_at c r.state t).pass (command_of (local_at c r.state t)) p) is (k.locals t tl).stands in
+      (makers_have_blocks c.width (command_of (local_at c r.state t)) some, subst (λ p. IsSettled (owed (local_at c r.state t)) (local_at c r.state t).paid (local_at c r.state t).waived p) is (k.locals t tl).settled)
 
   pub rate_is : IsRate c (local_at c r.state t).rate
   rate_is = subst (λ x. IsRate x (local_at c r.state t).rate) (k.locals t tl).config (k.locals t tl).fits.rate
 
-  pub entries_within : (rate : ℕ) → IsRate c rate → IsWithin rate (part t r.order)
-  entries_within rate is = subst (λ n. IsWithin n (part t r.order)) (one_rate c (local_at c r.state t).rate rate rate_is is) (k.locals t tl).within
+  pub entries_within : (rate : ℕ) → IsRate c rate → IsWithin c.width rate (part t r.order)
+  entries_within rate is = subst (λ n. IsWithin c.width n (part t r.order)) (one_rate c (local_at c r.state t).rate rate rate_is is) (k.locals t tl).within
 
   -- where it puts its hand, its list is empty
   pub put_empty : (m : GreyState) → (local_at c r.state t).part ≡ Mark m → is_putting m.row ≡ true
@@ -86,6 +87,6 @@ module _ (c : Config) (traces : List (List Command)) (r : Run) (k : Kept c trace
       )
 
 -- no block of an object is Free
-pub not_free : (c : Config) (traces : List (List Command)) (r : Run) → Kept c traces r → (a : Name) (o : ℕ) → has_name (start_graph c) a ≡ true → o < object_blocks (object_of (replay c r.order) a)
-    → is_free (heap_in c r.state (ColourOf (opening_at c.threads a o))) ≡ false
-not_free c traces r k a o ka ol = k.solid (opening_at c.threads a o) (omega (arith, k.shown.shows.placed.behind a o ka ol)) (k.shown.shows.placed.within a o ka ol)
+pub not_free : (c : Config) (traces : List (List Command)) (r : Run) → Kept c traces r → (a : Name) (o : ℕ) → has_name (start_graph c) a ≡ true → o < object_blocks c.width (object_of (replay c r.order) a)
+    → is_free (heap_in c r.state (ColourOf (opening_at c.width c.threads a o))) ≡ false
+not_free c traces r k a o ka ol = k.solid (opening_at c.width c.threads a o) (omega (arith, k.shown.shows.placed.behind a o ka ol)) (k.shown.shows.placed.within a o ka ol)

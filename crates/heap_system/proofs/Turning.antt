@@ -1,7 +1,8 @@
 -- A turn keeps what every list of turns keeps.
-use Rattle.std.proofs.Common.{zero, suc, ◌*◌, ◌≡◌, ℕ, ◌+◌, ◌<◌, ◌≤◌, Bool, true, false, cond, eqb, lt-ltb, eq-eqb, ne_eqb, ◌&&◌, Option, Some, None, List, [], ◌∷◌, ◌++◌, length, get_or, append_assoc, append-nil, length-append, length-set, set, refl, sym, ap, ◌∙◌, subst, arith, inl, inr, All, map, take}
+use Rattle.std.proofs.Common.{zero, suc, ◌*◌, ◌≡◌, ℕ, ◌+◌, ◌<◌, ◌≤◌, Bool, true, false, not, cond, eqb, lt-ltb, eq-eqb, ne_eqb, ◌&&◌, Option, Some, None, List, [], ◌∷◌, ◌++◌, length, get_or, append_assoc, append-nil, length-append, length-set, set, refl, sym, ap, ◌∙◌, subst, arith, inl, inr, All, map, take}
 use Rattle.std.proofs.lemmas.Bool.{cases_Bool, cases_eq}
 use Rattle.block_store.specs.declared.Config.{Config}
+use Rattle.block_store.specs.declared.Width.{Width}
 use Rattle.block_store.specs.Configs.{IsInBounds}
 use Rattle.block_store.specs.Heaps.{Heap}
 use Rattle.block_store.specs.Places.{Phase, extent, in_range}
@@ -14,13 +15,16 @@ use Rattle.never_heap.specs.Graphs.{Graph, start_graph, register_of}
 use Rattle.never_heap.specs.declared.Reply.TheVariants.{Full}
 use Rattle.never_heap.specs.Bounds.{IsCommandInBounds}
 use Rattle.never_heap.specs.Histories.{HistoryItem, is_full, replay, part, Legal, starts_in, work_in}
-use Rattle.never_heap.specs.Steps.{step, blocks_of}
+use Rattle.never_heap.specs.RightWork.{units_owed}
+use Rattle.never_heap.specs.Steps.{step, makes_object}
+use Rattle.never_heap.proofs.Answering.{others_have_none}
 use Rattle.never_heap.proofs.Growing.{replay_more, legal_history_more, part_append, starts_append, work_append}
 use Rattle.std.proofs.Math.Seq.{take-suc}
 use Rattle.std.proofs.lemmas.List.{map-append}
 use Rattle.never_heap.proofs.GraphMoves.{get_or_set}
 use Rattle.shown_graph.specs.Shown.{every_name}
-use Rattle.shown_graph.specs.Openings.{opening_at, opening_last}
+use Rattle.shown_graph.specs.Openings.{opening_at}
+use Rattle.array_trees.specs.Openings.{opening_blocks}
 use Rattle.shown_graph.specs.Events.{Loading, with_load, Follows}
 use Rattle.heap_machine.specs.Counts.{changed}
 use Rattle.heap_machine.specs.Gating.{Gating, GateOf}
@@ -48,9 +52,9 @@ use Rattle.heap_system.proofs.Steady.{never_full, register_stays}
 use Rattle.heap_system.proofs.Kept.{grey_of, PartKept, LocalKept, IsSolid, loads_in, gates_in, holdings_in, Kept, EventKept, graph_decided, served_reply, refused_reply, part_event, part_reads, part_sum, part_place, IsMark}
 
 -- an entry that is answered full changes nothing
-after_decided : (g new : Graph) (r : Reply) (x : Bool) → is_full r ≡ false → cond (is_full (cond x r (Full 1))) g new ≡ cond x new g
-after_decided g new r true e = ap (λ b. cond b g new) e
-after_decided g new r false e = refl
+after_decided : (g new : Graph) (r : Reply) (x : Bool) → is_full r ≡ false → cond (is_full (cond x (Full 1) r)) g new ≡ cond (not x) new g
+after_decided g new r true e = refl
+after_decided g new r false e = ap (λ b. cond b g new) e
 
 -- the order with an entry more, or as it was
 module _ (c : Config) (order : List HistoryItem) (t : ℕ) (k : Command) (work : ℕ) where
@@ -61,7 +65,7 @@ module _ (c : Config) (order : List HistoryItem) (t : ℕ) (k : Command) (work :
   entry_here = entry_of t k work (reply_decided (replay c order) t k)
 
   graph_grows : (b : Bool) → replay c (order_after b) ≡ graph_decided (replay c order) t k b
-  graph_grows true = replay_more (start_graph c) order (entry_decided c t k work order) ∙ after_decided (replay c order) (step (replay c order) t k).0 (step (replay c order) t k).1 (eqb (blocks_of k) 0) (never_full (replay c order) t k)
+  graph_grows true = replay_more (start_graph c) order (entry_decided c t k work order) ∙ after_decided (replay c order) (step (replay c order) t k).0 (step (replay c order) t k).1 (makes_object k) (never_full (replay c order) t k)
   graph_grows false = ap (replay c) (append-nil order)
 
   pub part_grows : (b : Bool) → part t (order_after b) ≡ part t order ++ cond b (entry_of t k work (reply_decided (replay c order) t k) ∷ []) []
@@ -73,14 +77,14 @@ module _ (c : Config) (order : List HistoryItem) (t : ℕ) (k : Command) (work :
   part_stays false u other = ap (part u) (append-nil order)
 
   legal_grows : (b : Bool) → Legal c order → Legal c (order_after b)
-  legal_grows true legal = legal_history_more c order (entry_decided c t k work order) legal (elim (cases_eq (blocks_of k) 0) [
-    | inl z ↦ inl (served_reply (replay c order) t k z)
-    | inr n ↦ inr (ap is_full (refused_reply (replay c order) t k n), omega arith)
+  legal_grows true legal = legal_history_more c order (entry_decided c t k work order) legal (elim (cases_Bool (makes_object k)) [
+    | inl n ↦ inr (ap is_full (refused_reply (replay c order) t k n), n)
+    | inr z ↦ inl (served_reply (replay c order) t k z)
   ])
   legal_grows false legal = subst (λ o. Legal c o) (sym (append-nil order)) legal
 
   registers_stay : (b : Bool) (u q : ℕ) → t < length (replay c order).mutators → (t ≡ u → ⊥) → register_of (graph_decided (replay c order) t k b) u q ≡ register_of (replay c order) u q
-  registers_stay b u q there other = by (b && eqb (blocks_of k) 0)
+  registers_stay b u q there other = by (b && not (makes_object k))
     where
       by : (x : Bool) → register_of (cond x (step (replay c order) t k).0 (replay c order)) u q ≡ register_of (replay c order) u q
       by true = register_stays (replay c order) t u q k there other
@@ -140,16 +144,16 @@ local_stays c given g new order later u l kept same more =
       fits = kept.fits;
       stands = s.0;
       settled = kept.settled;
-      within = subst (λ x. IsWithin l.rate x) (sym more) kept.within;
+      within = subst (λ x. IsWithin c.width l.rate x) (sym more) kept.within;
       told = more ∙ kept.told ∙ sym (ap (λ o. l.log ++ entries_of l.thread (command_of l) l.paid o) s.1);
       said = kept.said;
     }
 
 -- one entry more, or none
-within_more : (rate : ℕ) (es : List Entry) (e : Entry) (b : Bool) → IsWithin rate es → e.work ≤ rate * blocks_of e.command → IsWithin rate (es ++ cond b (e ∷ []) [])
-within_more rate [] e true k low = (low, tt)
-within_more rate [] e false k low = tt
-within_more rate (x ∷ es) e b k low = (k.0, within_more rate es e b k.1 low)
+within_more : (w : Width) (rate : ℕ) (es : List Entry) (e : Entry) (b : Bool) → IsWithin w rate es → e.work ≤ units_owed w rate e.command → IsWithin w rate (es ++ cond b (e ∷ []) [])
+within_more w rate [] e true k low = (low, tt)
+within_more w rate [] e false k low = tt
+within_more w rate (x ∷ es) e b k low = (k.0, within_more w rate es e b k.1 low)
 
 -- the thread itself, by whether its event brought a reply
 module _ (c : Config) (given : List Command) (g : Graph) (order later : List HistoryItem) (t : ℕ) (l : LocalState) (new : Heap) (gs : ℕ → Gating) (ls : ℕ → Loading) (hs : ℕ → GreyHolding) (b : Bool) (pass : Pass) (p : Part) (unit nothing : Bool) (kept : LocalKept c given g order t l)
@@ -167,8 +171,8 @@ module _ (c : Config) (given : List Command) (g : Graph) (order later : List His
       ∙ append_assoc l.log _ _ ∙ ap (λ x. l.log ++ x) event.told
 
   -- and no entry has more work than it owes
-  within_so : IsWithin l.rate (part t later)
-  within_so = subst (λ x. IsWithin l.rate x) (sym more) (within_more l.rate (part t order) (entry_of t (command_of l) l.paid (reply_decided g t (command_of l))) b kept.within (omega (arith, kept.fits.paid)))
+  within_so : IsWithin c.width l.rate (part t later)
+  within_so = subst (λ x. IsWithin c.width l.rate x) (sym more) (within_more c.width l.rate (part t order) (entry_of t (command_of l) l.paid (reply_decided g t (command_of l))) b kept.within (subst (λ (x : Config). l.paid ≤ units_owed x.width l.rate (command_of l)) kept.config (omega (arith, kept.fits.paid))))
 
   none_moves : Event None → LocalKept c given (graph_decided g t (command_of l) b) later t (after_part l.log (paid_got None unit l.paid) (waived_got None nothing l.waived) p)
   none_moves event = record {
@@ -257,9 +261,9 @@ module _ (c : Config) (traces : List (List Command)) (bounds : IsInBounds c) (pl
   pub inside : IsCommandInBounds c (command_of (local_at c r.state t))
   inside = bounds_at c (local_at c r.state t).trace (length (local_at c r.state t).log) (subst (λ x. All (IsCommandInBounds x) (local_at c r.state t).trace) (kept.locals t tl).config (kept.locals t tl).fits.trace.commands)
 
-  pub unpaid : blocks_of (command_of (local_at c r.state t)) ≡ 0 → (local_at c r.state t).paid ≡ 0
+  pub unpaid : makes_object (command_of (local_at c r.state t)) ≡ false → (local_at c r.state t).paid ≡ 0
   unpaid z =
-      let none : owed (local_at c r.state t) ≡ (local_at c r.state t).rate * 0 = ap (λ n. (local_at c r.state t).rate * n) z in
+      let none : owed (local_at c r.state t) ≡ (local_at c r.state t).rate * 0 = ap (λ n. (local_at c r.state t).rate * n) (others_have_none (local_at c r.state t).config.width (command_of (local_at c r.state t)) z) in
       omega (arith, (kept.locals t tl).fits.paid, none)
 
   -- the place of the next event, and the word that is read there
@@ -281,6 +285,9 @@ module _ (c : Config) (traces : List (List Command)) (bounds : IsInBounds c) (pl
   sums = subst (λ w. SumFits (op_at (extent c) (part_want c (local_at c r.state t).part)) w) (sym word_is) (sum_fits (extent c) (part_want c (local_at c r.state t).part) _
       (part_sum c bounds plan (replay c r.order) (heap_in c r.state) (gates_in c r.state) (loads_in c r.state) (holdings_in c r.state) t tl (local_at c r.state t).pass (command_of (local_at c r.state t)) inside (length (local_at c r.state t).log) (length (local_at c r.state t).trace) (owed (local_at c r.state t)) (local_at c r.state t).paid (local_at c r.state t).waived
       kept.gate kept.phase kept.shown kept.grey kept.held kept.solid (local_at c r.state t).part refl (kept.locals t tl).stands))
+
+  pays : (local_at c r.state t).paid + unit_to_come c (local_at c r.state t).part ≤ owed (local_at c r.state t)
+  pays = subst (λ (x : Config). (local_at c r.state t).paid + unit_to_come x (local_at c r.state t).part ≤ owed (local_at c r.state t)) (kept.locals t tl).config (kept.locals t tl).fits.paid
 
   abbrev reply_here : Option Reply
   reply_here = part_reply c (local_at c r.state t).part (heap_in c r.state (place_of (part_want c (local_at c r.state t).part)))
@@ -307,7 +314,7 @@ module _ (c : Config) (traces : List (List Command)) (bounds : IsInBounds c) (pl
     pub event : EventKept c (replay c r.order) new_heap (gates_in c r.state) (loads_in c r.state) (holdings_in c r.state) t (command_of (local_at c r.state t)) (length (local_at c r.state t).log) (length (local_at c r.state t).trace) (owed (local_at c r.state t)) (local_at c r.state t).paid (local_at c r.state t).waived
         (waiting (replay c r.order) (local_at c r.state t).part) decides_here new_pass new_part reply_here makes_here finds_here
     event = part_event c bounds plan (replay c r.order) (heap_in c r.state) (gates_in c r.state) (loads_in c r.state) (holdings_in c r.state) t tl (local_at c r.state t).pass (command_of (local_at c r.state t)) inside (length (local_at c r.state t).log) (length (local_at c r.state t).trace) (owed (local_at c r.state t)) (local_at c r.state t).paid (local_at c r.state t).waived
-        kept.gate kept.phase kept.shown kept.grey kept.held kept.solid (local_at c r.state t).part refl refl refl (kept.locals t tl).stands fits (kept.locals t tl).fits.paid (kept.locals t tl).settled unpaid
+        kept.gate kept.phase kept.shown kept.grey kept.held kept.solid (local_at c r.state t).part refl refl refl (kept.locals t tl).stands fits pays (kept.locals t tl).settled unpaid
         (rest_low (local_at c r.state t) (kept.locals t tl).fits.log going)
 
     moved : LocalKept c (get_or traces t []) (graph_decided (replay c r.order) t (command_of (local_at c r.state t)) decides_here) (order_after c r.order t (command_of (local_at c r.state t)) (local_at c r.state t).paid decides_here) t (moved_on (local_at c r.state t) t c (heap_in c r.state (place_of (part_want c (local_at c r.state t).part))))
@@ -353,7 +360,7 @@ module _ (c : Config) (traces : List (List Command)) (bounds : IsInBounds c) (pl
       threads = length-set r.state.locals t _ ∙ kept.threads;
       gate = subst (λ x. GateOf c.threads (x Phase) (gates_in c (event_done c t r.state))) (sym heap_new) (subst (λ gs. GateOf c.threads (new_heap Phase) gs) (sym gates_new) event.gate);
       phase = subst (λ x. IsMark (x Phase)) (sym heap_new) event.phase;
-      shown = subst (λ s. Follows c.threads (opening_last c) (every_name (start_graph c)) (opening_at c.threads) s)
+      shown = subst (λ s. Follows c.width c.threads (opening_blocks c) (every_name (start_graph c)) (opening_at c.width c.threads) s)
           (ap (λ x. state x new_heap (with_load (loads_in c r.state) t (loading c new_part))) (sym graph_new)
           ∙ ap (λ x. state (replay c (order_after c r.order t (command_of (local_at c r.state t)) (local_at c r.state t).paid decides_here)) x (with_load (loads_in c r.state) t (loading c new_part))) (sym heap_new)
           ∙ ap (λ x. state (replay c (order_after c r.order t (command_of (local_at c r.state t)) (local_at c r.state t).paid decides_here)) (heap_in c (event_done c t r.state)) x) (sym loads_new)) event.shown;

@@ -12,7 +12,8 @@ use Rattle.never_heap.specs.declared.Entry.{Entry}
 use Rattle.never_heap.specs.declared.Reply.{Reply}
 use Rattle.never_heap.specs.declared.Reply.TheVariants as replies
 use Rattle.never_heap.specs.Bounds.{IsCommandInBounds}
-use Rattle.never_heap.specs.Steps.{blocks_of}
+use Rattle.never_heap.specs.RightWork.{units_owed}
+use Rattle.never_heap.specs.Steps.{makes_object}
 use Rattle.heap_machine.specs.Operations.{Operation, Load}
 use Rattle.heap_machine.specs.Readings.{CanHold}
 use Rattle.heap_machine.specs.Gates.{gate_want, gate_got, gate_step, gate_entered, is_going_in, is_of_pass, is_empty, GateFits}
@@ -55,7 +56,7 @@ command_of l = slice_index_or l.trace (length l.log) (commands.Nil 0)
 
 -- the units that the command in hand owes
 abbrev pub owed : LocalState → ℕ
-owed l = l.rate * blocks_of (command_of l)
+owed l = units_owed l.config.width l.rate (command_of l)
 
 -- whether it still owes some
 abbrev pub owes : LocalState → Bool
@@ -103,9 +104,9 @@ pass_by t n p = record { thread = t; threads = n; cycle = p.cycle; sweep = p.swe
 -- look at how many blocks are free
 abbrev pub first_part : Pass → Command → Bool → Part
 first_part p k more =
-    if blocks_of k == 0 then Serve (at_first_row p k)
-    else if more then Mark (scanning p)
-    else Count
+    if makes_object k
+    then (if more then Mark (scanning p) else Count)
+    else Serve (at_first_row p k)
 
 abbrev pub if_entered : Option PhaseWord → ℕ → ℕ → Command → Bool → GateRow → Part
 if_entered None t n k more g = Enter g

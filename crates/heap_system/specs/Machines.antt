@@ -10,7 +10,7 @@ use Rattle.never_heap.specs.declared.Reply.{Reply}
 use Rattle.never_heap.specs.declared.Reply.TheVariants.{Full}
 use Rattle.never_heap.specs.Graphs.{Graph}
 use Rattle.never_heap.specs.Histories.{HistoryItem, Started, Did, replay}
-use Rattle.never_heap.specs.Steps.{step, blocks_of}
+use Rattle.never_heap.specs.Steps.{step, makes_object}
 use Rattle.heap_machine.specs.Operations.{op_at, op_place, words_after}
 use Rattle.heap_system.specs.declared.local.Part.TheVariants.{Leave}
 use Rattle.heap_system.specs.declared.Turn.{Turn}
@@ -54,7 +54,7 @@ answer c t s = if is_done (local_at c s t) then Done else turn_of (part_step c (
 
 -- the reply with which a command is decided: an allocation is answered full, and any other command as the heap that never frees answers it there
 abbrev pub reply_decided : Graph → ℕ → Command → Reply
-reply_decided g t k = if blocks_of k == 0 then (step g t k).1 else Full 1
+reply_decided g t k = if makes_object k then Full 1 else (step g t k).1
 
 -- the command of thread t takes its place in an order, with the units made for it
 abbrev pub entry_decided : Config → ℕ → Command → ℕ → List HistoryItem → HistoryItem

@@ -1,6 +1,7 @@
 -- What the rows of the threads say of the gate and of the graph: where each stands, what it has loaded, and which reply is decided.
 use Rattle.std.specs.Prelude.{ℕ, ◌≡◌, ◌%◌, Option, None, List, [], ◌∷◌, ◌++◌}
 use Rattle.block_store.specs.declared.Config.{Config}
+use Rattle.block_store.specs.Registers.{register_block, register_slot}
 use Rattle.block_store.specs.Heaps.{Heap, heap_of}
 use Rattle.block_store.specs.Places.{PayloadOf, extent}
 use Rattle.never_heap.specs.declared.Entry.{Entry}
@@ -13,7 +14,7 @@ use Rattle.heap_machine.specs.declared.pass.Pass.{Pass}
 use Rattle.barrier_steps.specs.Replies.{reply_due}
 use Rattle.shown_graph.specs.Openings.{opening_at}
 use Rattle.shown_graph.specs.Shown.{heads}
-use Rattle.shown_graph.specs.Words.{block_words, register_block, value_word}
+use Rattle.shown_graph.specs.Words.{block_words, value_word}
 use Rattle.shown_graph.specs.Events.{Loading, GraphState}
 use Rattle.heap_system.specs.declared.local.Part.{Part}
 use Rattle.heap_system.specs.declared.local.Part.TheVariants.{Serve}
@@ -66,4 +67,4 @@ pub record IsOlder (c : Config) (r : Run) (t q : ℕ) : Type 0 where
   pub split : r.order ≡ before ++ Did entry ∷ behind
   pub own : entry.thread ≡ t
   pub others : part t behind ≡ []
-  pub word : heap_in c r.state (PayloadOf (register_block t q) (q % 4)) ≡ value_word (heads (opening_at c.threads)) (register_of (replay c before) t q)
+  pub word : heap_in c r.state (PayloadOf (register_block c.width t q) (register_slot c.width q)) ≡ value_word (heads (opening_at c.width c.threads)) (register_of (replay c before) t q)

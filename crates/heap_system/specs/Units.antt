@@ -1,12 +1,13 @@
 -- The units of marking that a run makes, which are the events that make a grey block black; and those that a command owes.
-use Rattle.std.specs.Prelude.{ℕ, ◌+◌, ◌*◌, ◌≤◌, ◌==◌, ◌&&◌, if◌then◌else◌, Bool, false, List, [], ◌∷◌}
+use Rattle.std.specs.Prelude.{ℕ, ◌+◌, ◌≤◌, ◌==◌, ◌&&◌, if◌then◌else◌, Bool, false, List, [], ◌∷◌}
 use Rattle.block_store.specs.declared.Config.{Config}
+use Rattle.block_store.specs.declared.Width.{Width}
 use Rattle.block_store.specs.Colours.{is_grey, black_word}
 use Rattle.block_store.specs.Heaps.{Heap}
 use Rattle.block_store.specs.Phases.{bit, cycle_of}
 use Rattle.block_store.specs.Places.{Place, Phase, ColourOf}
 use Rattle.never_heap.specs.declared.Entry.{Entry}
-use Rattle.never_heap.specs.Steps.{blocks_of}
+use Rattle.never_heap.specs.RightWork.{units_owed}
 use Rattle.heap_machine.specs.Operations.{Operation, place_of, heap_after}
 use Rattle.heap_system.specs.Locals.{part_want}
 use Rattle.heap_system.specs.Machines.{State, local_at, has_event, Run, next}
@@ -30,7 +31,7 @@ abbrev pub units_made : Config → ℕ → Run → List ℕ → ℕ
 units_made c t r [] = 0
 units_made c t r (u ∷ us) = (if u == t then bit (is_unit c t r.state) else 0) + units_made c t (next c u r) us
 
--- no entry has more work than its command owes, which is the rate times its blocks
-abbrev pub IsWithin : ℕ → List Entry → Type 0
-IsWithin rate [] = Unit {0}
-IsWithin rate (e ∷ es) = (e.work ≤ rate * blocks_of e.command) × IsWithin rate es
+-- no entry has more work than its command owes on blocks of this width
+abbrev pub IsWithin : Width → ℕ → List Entry → Type 0
+IsWithin w rate [] = Unit {0}
+IsWithin w rate (e ∷ es) = (e.work ≤ units_owed w rate e.command) × IsWithin w rate es

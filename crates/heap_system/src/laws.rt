@@ -3,6 +3,7 @@
 
 ghost use Rattle.std.specs.Prelude.{◌+◌, ◌≡◌, ◌<◌, ◌≤◌, ◌++◌, ◌∷◌, [], ℕ, List, true, false, if◌then◌else◌, slice_index_or};
 ghost use Rattle.block_store.specs.declared.Config.{Config};
+ghost use Rattle.block_store.specs.declared.TheConstants.{REGISTERS};
 ghost use Rattle.block_store.specs.Heaps.{heap_of};
 ghost use Rattle.block_store.specs.Phases.{bit, inside_of, is_closed, is_sweep, cycle_of};
 ghost use Rattle.block_store.specs.Places.{Place, Phase, GreyList, ColourOf, extent, in_range};
@@ -17,7 +18,8 @@ ghost use Rattle.never_heap.specs.Graphs.{start_graph, has_name, object_of};
 ghost use Rattle.never_heap.specs.Histories.{replay, part, Legal, starts_in, work_in};
 ghost use Rattle.shown_graph.specs.Words.{block_words, Agrees};
 ghost use Rattle.shown_graph.specs.Shown.{every_name, Shows};
-ghost use Rattle.shown_graph.specs.Openings.{opening_at, opening_last, opening_words};
+ghost use Rattle.shown_graph.specs.Openings.{opening_at, opening_words};
+ghost use Rattle.array_trees.specs.Openings.{opening_blocks};
 ghost use Rattle.shown_graph.specs.Events.{unloaded, lates, Follows};
 ghost use Rattle.heap_machine.specs.Counts.{total};
 ghost use Rattle.heap_machine.specs.Gating.{is_inside};
@@ -39,7 +41,7 @@ ghost use Rattle.heap_system.specs.Pictures.{stand_of, holding, loading, heap_in
 /// The words of an opening are those of the start graph, up to the last block of the shared array.
 pub fn opening_shows_the_start()
     ensures { (c : Config) (ws : List ℕ) → IsAdmitted c → ((p : Place) → in_range (extent c) p ≡ true → heap_of (extent c) ws p ≡ opening_heap c p)
-        → (x : ℕ) → 0 < x → x ≤ opening_last c → Agrees (opening_words c) (block_words (heap_of (extent c) ws)) x }
+        → (x : ℕ) → 0 < x → x ≤ opening_blocks c → Agrees c.width (opening_words c) (block_words (heap_of (extent c) ws)) x }
 {}
 
 /// The words show the replay of the order. Between the load of the field and the store of a `get`, its
@@ -47,12 +49,12 @@ pub fn opening_shows_the_start()
 /// graph, and no block of an object is Free.
 pub fn words_show_the_order()
     ensures words { (c : Config) (traces : List (List Command)) (ts : List ℕ) (r : Run) → IsJob c traces → IsRunOf c traces ts r
-        → Shows c.threads (opening_last c) (every_name (start_graph c)) (replay c r.order) (opening_at c.threads) (block_words (heap_in c r.state)) (lates (graph_state c r).loads) }
-    ensures free { (c : Config) (traces : List (List Command)) (ts : List ℕ) (r : Run) → IsJob c traces → IsRunOf c traces ts r → (a : Name) (o : ℕ) → has_name (start_graph c) a ≡ true → o < object_blocks (object_of (replay c r.order) a)
-        → is_free (heap_in c r.state (ColourOf (opening_at c.threads a o))) ≡ false }
-    ensures older { (c : Config) (traces : List (List Command)) (ts : List ℕ) (r : Run) → IsJob c traces → IsRunOf c traces ts r → (t q : ℕ) → t < c.threads → q < 16 → lates (graph_state c r).loads t q ≡ true → IsOlder c r t q }
+        → Shows c.width c.threads (opening_blocks c) (every_name (start_graph c)) (replay c r.order) (opening_at c.width c.threads) (block_words (heap_in c r.state)) (lates (graph_state c r).loads) }
+    ensures free { (c : Config) (traces : List (List Command)) (ts : List ℕ) (r : Run) → IsJob c traces → IsRunOf c traces ts r → (a : Name) (o : ℕ) → has_name (start_graph c) a ≡ true → o < object_blocks c.width (object_of (replay c r.order) a)
+        → is_free (heap_in c r.state (ColourOf (opening_at c.width c.threads a o))) ≡ false }
+    ensures older { (c : Config) (traces : List (List Command)) (ts : List ℕ) (r : Run) → IsJob c traces → IsRunOf c traces ts r → (t q : ℕ) → t < c.threads → q < REGISTERS → lates (graph_state c r).loads t q ≡ true → IsOlder c r t q }
     ensures loads { (c : Config) (traces : List (List Command)) (ts : List ℕ) (r : Run) → IsJob c traces → IsRunOf c traces ts r
-        → Follows c.threads (opening_last c) (every_name (start_graph c)) (opening_at c.threads) (graph_state c r) }
+        → Follows c.width c.threads (opening_blocks c) (every_name (start_graph c)) (opening_at c.width c.threads) (graph_state c r) }
 {}
 
 /// The order is legal: each command is answered as the heap that never frees answers it there, or it
@@ -92,11 +94,11 @@ pub fn works_are_units()
     ensures made { (c : Config) (traces : List (List Command)) (ts : List ℕ) (r : Run) → IsJob c traces → (is : IsRunOf c traces ts r) → (t : ℕ) → t < c.threads
         → works (part t r.order) + (local_at c r.state t).paid ≡ units_made c t (opened is.first) ts }
     ensures owed { (c : Config) (traces : List (List Command)) (ts : List ℕ) (r : Run) → IsJob c traces → IsRunOf c traces ts r → (t : ℕ) → t < c.threads → (local_at c r.state t).paid ≤ owed (local_at c r.state t) }
-    ensures entries { (c : Config) (traces : List (List Command)) (ts : List ℕ) (r : Run) → IsJob c traces → IsRunOf c traces ts r → (t : ℕ) → t < c.threads → (rate : ℕ) → IsRate c rate → IsWithin rate (part t r.order) }
+    ensures entries { (c : Config) (traces : List (List Command)) (ts : List ℕ) (r : Run) → IsJob c traces → IsRunOf c traces ts r → (t : ℕ) → t < c.threads → (rate : ℕ) → IsRate c rate → IsWithin c.width rate (part t r.order) }
     ensures rest { (c : Config) (traces : List (List Command)) (ts : List ℕ) (r : Run) → IsJob c traces → IsRunOf c traces ts r → (t : ℕ) → t < c.threads → is_rest (local_at c r.state t).part ≡ true
         → ((local_at c r.state t).paid ≡ 0) × ((local_at c r.state t).waived ≡ false) }
     ensures paid { (c : Config) (traces : List (List Command)) (ts : List ℕ) (r : Run) → IsJob c traces → IsRunOf c traces ts r → (t : ℕ) → t < c.threads → (local_at c r.state t).part ≡ Count
-        → (0 < blocks_of (command_of (local_at c r.state t))) × (owes (local_at c r.state t) ≡ false) }
+        → (0 < blocks_of c.width (command_of (local_at c r.state t))) × (owes (local_at c r.state t) ≡ false) }
     ensures rate { (c : Config) (traces : List (List Command)) (ts : List ℕ) (r : Run) → IsJob c traces → IsRunOf c traces ts r → (t : ℕ) → t < c.threads → IsRate c (local_at c r.state t).rate }
 {}
 

@@ -4,6 +4,7 @@ ghost use Rattle.std.specs.Prelude.{◌≡◌, ◌≤◌, ◌<◌, ◌+◌, ◌^
 ghost use Rattle.block_store.specs.Configs.{IsInBounds};
 ghost use Rattle.block_store.specs.Places.{extent};
 ghost use Rattle.rate_plan.specs.Rates.{IsRate, IsAdmitted};
+ghost use Rattle.never_heap.specs.Steps.{makes_object};
 ghost use Rattle.heap_machine.specs.Operations.{op_at};
 ghost use Rattle.heap_machine.specs.Passes.{IsPass};
 ghost use Rattle.heap_system.specs.Locals.{IsTrace, PartReads, is_done, is_rest, part_want, part_step, local_got, at_start, turn_of, is_last, pass_by, first_part, command_of, owes, works, entry_of};
@@ -95,6 +96,13 @@ fn counted(paid: u64, unit: bool) -> u64
     ensures { result ≡ (if unit then paid + 1 else paid) }
 {
     if unit { paid + 1 } else { paid }
+}
+
+// Whether the command makes an object.
+fn makes_object(command: Command) -> bool
+    ensures { result ≡ makes_object command }
+{
+    matches!(command, Command::New { .. } | Command::Arr { .. })
 }
 
 // The sum of the works of the entries.
@@ -304,7 +312,7 @@ impl Local {
         ensures { result ≡ first_part pass (command_of self.now) (owes self.now) }
     {
         let command = self.trace[self.log.len()];
-        if command.blocks() == 0 {
+        if !makes_object(command) {
             Part::Serve(FieldPass::new(pass, command))
         } else if self.owes(&command) {
             Part::Mark(GreyPass::scan(pass))
@@ -319,7 +327,7 @@ impl Local {
         requires there { length self.now.log < length self.now.trace }
         ensures { result ≡ owes self.now }
     {
-        !self.waived && self.paid < self.rate * u64::from(command.blocks())
+        !self.waived && self.paid < self.rate * u64::from(command.blocks(self.config.width))
     }
 
     // The command in hand is done.

@@ -7,13 +7,14 @@ ghost use Rattle.never_heap.specs.Graphs.{count_of};
 ghost use Rattle.heap_system.specs.Locals.{IsTrace};
 
 use crate::*;
-use block_store::{Config, OutOfMemory, Places};
+use block_store::{Config, OutOfMemory, Places, Width};
 use never_heap::{Command, Graph, Logs, Reply};
 use rand_core::utils::NextWord;
 use rand_pcg::Lcg64Xsh32;
 use std::alloc::Global;
 
 const THREE: Config = Config {
+    width: Width::Four,
     threads: 3,
     blocks: 64,
     live: 24,
@@ -46,7 +47,7 @@ const COMMANDS: [Command; 19] = [
 
 // The commands as a trace.
 fn trace(alloc: Global) -> Result<Vec<Command>, OutOfMemory>
-    ensures { IfOk result (λ v. IsTrace (record { threads = 3; blocks = 64; live = 24; object = 2; shared = 17 }) v.items) }
+    ensures { IfOk result (λ v. IsTrace (record { width = Width.Four; threads = 3; blocks = 64; live = 24; object = 2; shared = 17 }) v.items) }
 {
     let mut trace = Vec::new(alloc);
     for command in &COMMANDS {
@@ -58,7 +59,7 @@ fn trace(alloc: Global) -> Result<Vec<Command>, OutOfMemory>
 }
 
 fn three_threads(alloc: Global) -> Result<System, OutOfMemory>
-    ensures { IfOk result (λ s. s.config ≡ record { threads = 3; blocks = 64; live = 24; object = 2; shared = 17 }) }
+    ensures { IfOk result (λ s. s.config ≡ record { width = Width.Four; threads = 3; blocks = 64; live = 24; object = 2; shared = 17 }) }
 {
     let (first, second, third) = (trace(alloc)?, trace(alloc)?, trace(alloc)?);
     System::new(alloc, THREE, vec![in alloc; first, second, third]?)
@@ -70,14 +71,14 @@ fn model_reply(
     thread: u32,
     command: &Command,
 ) -> Result<Option<Reply>, OutOfMemory>
-    requires thread { thread < length graph.old.mutators }
-    requires counts { (u : ℕ) → count_of graph.old u < 131072 }
-    ensures threads { OnOk result (length graph.new.mutators ≡ length graph.old.mutators) }
-    ensures counts { OnOk result ((k u : ℕ) → ((v : ℕ) → count_of graph.old v ≤ k) → count_of graph.new u ≤ k + 1) }
+    requires thread { thread < length graph.old.graph.mutators }
+    requires counts { (u : ℕ) → count_of graph.old.graph u < 131072 }
+    ensures threads { OnOk result (length graph.new.graph.mutators ≡ length graph.old.graph.mutators) }
+    ensures counts { OnOk result ((k u : ℕ) → ((v : ℕ) → count_of graph.old.graph v ≤ k) → count_of graph.new.graph u ≤ k + 1) }
 {
     if !command.in_bounds(&THREE) {
         Ok(None)
-    } else if command.blocks() == 0 {
+    } else if command.blocks(Width::Four) == 0 {
         Ok(Some(graph.apply(thread, command)?))
     } else {
         Ok(Some(Reply::Full(1)))

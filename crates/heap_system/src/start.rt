@@ -1,30 +1,28 @@
 //! The words of a heap before the first event.
 
 ghost use Rattle.std.specs.Prelude.{◌≡◌, ◌≤◌, ◌<◌, ◌+◌, ◌*◌, ◌&&◌, ◌==◌, ℕ, cond, true, length, IfOk};
+ghost use Rattle.block_store.specs.declared.TheConstants.{REGISTERS};
+ghost use Rattle.block_store.specs.Registers.{root_block, registers_end, register_thread, register_ordinal};
+ghost use Rattle.block_store.specs.Widths.{payloads, register_blocks};
 ghost use Rattle.block_store.specs.Configs.{IsInBounds};
 ghost use Rattle.block_store.specs.Heaps.{heap_of};
-ghost use Rattle.block_store.specs.Places.{Place, ColourOf, OwnerOf, ShapeOf, PayloadOf, extent, in_range, words_count, IsBlock, FreeList, in_block, place_at};
+ghost use Rattle.block_store.specs.Places.{Place, GreyList, ColourOf, OwnerOf, ShapeOf, PayloadOf, extent, in_range, words_count, block_size, IsBlock, FreeList, in_block, place_at};
 ghost use Rattle.rate_plan.specs.Rates.{IsAdmitted};
 ghost use Rattle.object_lists.specs.Parts.{link_in};
 ghost use Rattle.array_trees.specs.Trees.{array_blocks};
 ghost use Rattle.array_trees.specs.Levels.{array_part};
 ghost use Rattle.shown_graph.specs.Made.{link_word};
-ghost use Rattle.shown_graph.specs.Openings.{opening_last, register_word, shared_word};
+ghost use Rattle.array_trees.specs.Openings.{opening_blocks};
+ghost use Rattle.shown_graph.specs.Openings.{register_word, shared_word};
 ghost use Rattle.heap_system.specs.Openings.{opening_colour, opening_heap};
 
 use array_trees::{blocks_of_array, child_of};
 use block_store::{
-    Colour, Config, OutOfMemory, Owner, PAYLOADS, Payload, PhaseWord, Places, REGISTER_BLOCKS,
-    Shape, colour_word, owner_word, payload_word, phase_word, shape_word, white,
+    Colour, Config, OutOfMemory, Owner, Payload, PhaseWord, Places, REGISTERS, Shape, Width,
+    colour_word, owner_word, payload_word, phase_word, shape_word, white,
 };
 use heap_machine::Words;
 use std::alloc::Global;
-
-// The registers of a thread are an array of this many elements.
-const REGISTERS: u32 = 16;
-
-// A block has its colour, its owner, its shape and its payload.
-const BLOCK_WORDS: u32 = 3 + PAYLOADS;
 
 /// The words of the opening heap of a configuration that has a rate: each thread has its registers,
 /// of which register 0 refers to the shared array, and all blocks behind that are Free.
@@ -59,13 +57,32 @@ fn word_at(c: &Config, i: usize) -> u64
     if i < 3 {
         head_at(c, i)
     } else if i < lists {
-        REGISTER_BLOCKS as u64 * (i - 3) as u64 + 1
+        root_of(c.width, (i - 3) as u32) as u64
     } else if i < first {
         free_list_at(c, i - lists)
     } else {
         let behind = (i - first) as u32;
-        block_word(c, behind / BLOCK_WORDS + 1, behind % BLOCK_WORDS)
+        let size = 3 + c.width.payloads();
+        block_word(c, behind / size + 1, behind % size)
     }
+}
+
+// The root of the register array of thread `t`.
+#[tactic(auto, using(block_store::proofs::Registers::root_by))]
+fn root_of(width: Width, t: u32) -> u32
+    requires { t < 16 }
+    ensures { result ≡ root_block width t }
+{
+    width.registers() * t + 1
+}
+
+// The last block of the register arrays.
+#[tactic(auto, using(block_store::proofs::Registers::end_by))]
+fn registers_end(c: &Config) -> u32
+    requires { IsInBounds c.now }
+    ensures { result ≡ registers_end c.now.width c.now.threads }
+{
+    c.width.registers() * c.threads
 }
 
 // The phase word, the cursor, and the free count.
@@ -100,7 +117,7 @@ fn block_word(c: &Config, x: u32, k: u32) -> u64
     requires bounds { IsInBounds c.now }
     requires plan { IsAdmitted c.now }
     requires block { IsBlock c.now x }
-    requires low { k < 7 }
+    requires low { k < 3 + payloads c.now.width }
     ensures { result ≡ opening_heap c.now (in_block x k) }
 {
     match k {
@@ -114,9 +131,27 @@ fn block_word(c: &Config, x: u32, k: u32) -> u64
 // The last block of the shared array.
 fn last_block(c: &Config) -> u32
     requires { IsInBounds c.now }
-    ensures { result ≡ opening_last c.now }
+    ensures { result ≡ opening_blocks c.now }
 {
-    REGISTER_BLOCKS * c.threads + blocks_of_array(c.shared)
+    registers_end(c) + blocks_of_array(c.width, c.shared)
+}
+
+// The thread whose register array has block `x`.
+#[tactic(auto, using(block_store::proofs::Registers::thread_by))]
+fn thread_of(width: Width, x: u32) -> u32
+    requires { 1 ≤ x }
+    ensures { result ≡ register_thread width x }
+{
+    (x - 1) / width.registers()
+}
+
+// Which block of that array it is.
+#[tactic(auto, using(block_store::proofs::Registers::ordinal_by))]
+fn ordinal_of(width: Width, x: u32) -> u32
+    requires { 1 ≤ x }
+    ensures { result ≡ register_ordinal width x }
+{
+    (x - 1) % width.registers()
 }
 
 // The colour word of block `x`.
@@ -125,7 +160,7 @@ fn colour_at(c: &Config, x: u32) -> u64
     requires block { IsBlock c.now x }
     ensures { result ≡ opening_colour c.now x }
 {
-    if x <= REGISTER_BLOCKS * c.threads && (x - 1) % REGISTER_BLOCKS == 0 {
+    if x <= registers_end(c) && ordinal_of(c.width, x) == 0 {
         colour_word(Colour::Grey(0))
     } else if x <= last_block(c) {
         colour_word(white(1))
@@ -142,12 +177,12 @@ fn owner_at(c: &Config, x: u32) -> u64
     requires block { IsBlock c.now x }
     ensures { result ≡ opening_heap c.now (OwnerOf x) }
 {
-    let registers = REGISTER_BLOCKS * c.threads;
+    let registers = registers_end(c);
     if x <= registers {
         owner_word(Owner {
-            thread: (x - 1) / REGISTER_BLOCKS,
+            thread: thread_of(c.width, x),
             serial: 0,
-            ordinal: (x - 1) % REGISTER_BLOCKS,
+            ordinal: ordinal_of(c.width, x),
         })
     } else if x <= last_block(c) {
         owner_word(Owner {
@@ -166,7 +201,7 @@ fn shape_at(c: &Config, x: u32) -> u64
     requires block { IsBlock c.now x }
     ensures { result ≡ opening_heap c.now (ShapeOf x) }
 {
-    if x <= REGISTER_BLOCKS * c.threads {
+    if x <= registers_end(c) {
         shape_word(Shape::Tree(REGISTERS))
     } else if x <= last_block(c) {
         shape_word(Shape::Tree(c.shared))
@@ -176,15 +211,15 @@ fn shape_at(c: &Config, x: u32) -> u64
 }
 
 // The word of payload `j` of an array of nils, whose ordinals stand from block `first` on.
-fn link_at(elements: u32, first: u32, ordinal: u32, j: u32) -> u64
+fn link_at(width: Width, elements: u32, first: u32, ordinal: u32, j: u32) -> u64
     requires few { elements ≤ 65535 }
-    requires inside { ordinal < array_blocks elements }
-    requires child { j < 4 }
+    requires inside { ordinal < array_blocks width elements }
+    requires child { j < payloads width }
     requires first { 1 ≤ first }
-    requires low { first + array_blocks elements ≤ 65536 }
-    ensures { result ≡ link_word (λ o. first + o) (link_in (array_part elements ordinal j)) }
+    requires low { first + array_blocks width elements ≤ 65536 }
+    ensures { result ≡ link_word (λ o. first + o) (link_in (array_part width elements ordinal j)) }
 {
-    match child_of(elements, ordinal, j) {
+    match child_of(width, elements, ordinal, j) {
         Some(child) => payload_word(Payload::Block(first + child)),
         None => 0,
     }
@@ -195,12 +230,12 @@ fn payload_at(c: &Config, x: u32, j: u32) -> u64
     requires bounds { IsInBounds c.now }
     requires plan { IsAdmitted c.now }
     requires block { IsBlock c.now x }
-    requires payload { j < PAYLOADS }
+    requires payload { j < payloads c.now.width }
     ensures { result ≡ opening_heap c.now (PayloadOf x j) }
 {
-    let registers = REGISTER_BLOCKS * c.threads;
+    let registers = registers_end(c);
     if x <= registers {
-        register_payload(c, (x - 1) / REGISTER_BLOCKS, (x - 1) % REGISTER_BLOCKS, j)
+        register_payload(c, thread_of(c.width, x), ordinal_of(c.width, x), j)
     } else if x <= last_block(c) {
         shared_payload(c, x - (registers + 1), j)
     } else {
@@ -214,14 +249,14 @@ fn register_payload(c: &Config, t: u32, ordinal: u32, j: u32) -> u64
     requires bounds { IsInBounds c.now }
     requires plan { IsAdmitted c.now }
     requires thread { t < c.now.threads }
-    requires ordinal { ordinal < 5 }
-    requires payload { j < 4 }
+    requires ordinal { ordinal < register_blocks c.now.width }
+    requires payload { j < payloads c.now.width }
     ensures { result ≡ register_word c.now t ordinal j }
 {
     if ordinal == 1 && j == 0 {
-        payload_word(Payload::Block(REGISTER_BLOCKS * c.threads + 1))
+        payload_word(Payload::Block(registers_end(c) + 1))
     } else {
-        link_at(REGISTERS, REGISTER_BLOCKS * t + 1, ordinal, j)
+        link_at(c.width, REGISTERS, root_of(c.width, t), ordinal, j)
     }
 }
 
@@ -229,9 +264,9 @@ fn register_payload(c: &Config, t: u32, ordinal: u32, j: u32) -> u64
 fn shared_payload(c: &Config, ordinal: u32, j: u32) -> u64
     requires bounds { IsInBounds c.now }
     requires plan { IsAdmitted c.now }
-    requires ordinal { ordinal < array_blocks c.now.shared }
-    requires payload { j < 4 }
+    requires ordinal { ordinal < array_blocks c.now.width c.now.shared }
+    requires payload { j < payloads c.now.width }
     ensures { result ≡ shared_word c.now ordinal j }
 {
-    link_at(c.shared, REGISTER_BLOCKS * c.threads + 1, ordinal, j)
+    link_at(c.width, c.shared, registers_end(c) + 1, ordinal, j)
 }

@@ -1,37 +1,62 @@
 //! The opening heap, two threads on one shared array, and an allocation that pays by marking.
 
-ghost use Rattle.std.specs.Prelude.{◌≡◌, ◌<◌, IfOk};
+ghost use Rattle.std.specs.Prelude.{◌≡◌, ◌<◌, ◌≤◌, IfOk};
 
 use crate::*;
-use block_store::{Config, OutOfMemory, Places, Value};
+use block_store::{Config, OutOfMemory, Places, Value, Width};
 use never_heap::{Command, Logs, Reply};
 use rate_plan::plan;
 use std::alloc::Global;
 
-const ONE: Config = Config {
-    threads: 1,
-    blocks: 64,
-    live: 20,
-    object: 2,
-    shared: 0,
-};
+// A heap of one thread with an empty shared array.
+fn one(width: Width) -> Config
+    ensures { result ≡ record { width = width; threads = 1; blocks = 64; live = 20; object = 2; shared = 0 } }
+{
+    Config {
+        width,
+        threads: 1,
+        blocks: 64,
+        live: 20,
+        object: 2,
+        shared: 0,
+    }
+}
 
-const TWO: Config = Config {
-    threads: 2,
-    blocks: 64,
-    live: 20,
-    object: 2,
-    shared: 4,
-};
+// A heap of two threads with a shared array of four elements.
+fn two(width: Width) -> Config
+    ensures { result ≡ record { width = width; threads = 2; blocks = 64; live = 20; object = 2; shared = 4 } }
+{
+    Config {
+        width,
+        threads: 2,
+        blocks: 64,
+        live: 20,
+        object: 2,
+        shared: 4,
+    }
+}
+
+// Whether the opening of one thread has so many words, and these at these places.
+fn opens_with(
+    alloc: Global,
+    width: Width,
+    count: usize,
+    all: &[(usize, u64)],
+) -> Result<bool, OutOfMemory> {
+    let config = one(width);
+    if plan(&config) != Ok(7) {
+        return Ok(false);
+    }
+    let words = opening(alloc, &config)?;
+    let mut good = words.len() == count;
+    for (place, word) in all {
+        good &= *place < words.len() && words.word(*place) == *word;
+    }
+    Ok(good)
+}
 
 #[test]
 fn the_opening_has_these_words(rt: HostRuntime) -> Result<(), OutOfMemory> {
-    if plan(&ONE) != Ok(7) {
-        assert!(rt; false, "no rate of 7");
-        return Ok(());
-    }
-    let words = opening(rt.alloc(), &ONE)?;
-    assert_eq!(rt; words.len(), 453);
     let all: [(usize, u64); 25] = [
         (0, 1024),
         (1, 65),
@@ -59,16 +84,50 @@ fn the_opening_has_these_words(rt: HostRuntime) -> Result<(), OutOfMemory> {
         (47, 64),
         (446, 0),
     ];
-    for (place, word) in all {
-        if place < words.len() {
-            assert_eq!(rt; words.word(place), word);
-        }
-    }
+    assert!(rt; opens_with(rt.alloc(), Width::Four, 453, &all)?);
+    Ok(())
+}
+
+// With eight payloads a block, the register array is a root and two leaves in blocks 1 to 3, and the
+// shared array is block 4.
+#[test]
+fn the_opening_of_width_eight_has_these_words(rt: HostRuntime) -> Result<(), OutOfMemory> {
+    let all: [(usize, u64); 28] = [
+        (0, 1024),
+        (1, 65),
+        (2, 60),
+        (3, 1),
+        (4, 5),
+        (5, 3),
+        (7, 33),
+        (8, 4),
+        (9, 6),
+        (10, 0),
+        (11, 0),
+        (12, 0),
+        (13, 0),
+        (14, 0),
+        (15, 0),
+        (16, 1),
+        (19, 8),
+        (20, 0),
+        (21, 0),
+        (22, 0),
+        (23, 0),
+        (24, 0),
+        (25, 0),
+        (26, 0),
+        (38, 1),
+        (39, 1_099_511_627_776),
+        (40, 1),
+        (49, 48),
+    ];
+    assert!(rt; opens_with(rt.alloc(), Width::Eight, 709, &all)?);
     Ok(())
 }
 
 // One thread stores 7 in an element of the shared array, and the other reads that element.
-fn writer_and_reader(alloc: Global) -> Result<System, OutOfMemory>
+fn writer_and_reader(alloc: Global, width: Width) -> Result<System, OutOfMemory>
     ensures { IfOk result (λ s. s.config.threads ≡ 2) }
 {
     let writer = vec![in alloc;
@@ -76,7 +135,7 @@ fn writer_and_reader(alloc: Global) -> Result<System, OutOfMemory>
         Command::Put { s: 0, i: 2, v: 1 },
     ]?;
     let reader = vec![in alloc; Command::Get { d: 2, s: 0, i: 2 }, Command::Say { s: 2 }]?;
-    System::new(alloc, TWO, vec![in alloc; writer, reader]?)
+    System::new(alloc, two(width), vec![in alloc; writer, reader]?)
 }
 
 // Gives a thread turns until its log has this many entries, or until it is done.
@@ -118,67 +177,76 @@ fn works(logs: &Finished, t: u32) -> (Option<u64>, Option<u64>) {
     )
 }
 
-#[test]
-fn a_reader_that_comes_first_reads_nil(rt: HostRuntime) -> Result<(), OutOfMemory> {
-    let system = writer_and_reader(rt.alloc())?;
+// What the two threads answer where the reader's first command comes first.
+fn reader_first(alloc: Global, width: Width) -> Result<Option<Finished>, OutOfMemory> {
+    let system = writer_and_reader(alloc, width)?;
     let Err(Unfinished { mut system, thread }) = system.finish() else {
-        assert!(rt; false, "finished at once");
-        return Ok(());
+        return Ok(None);
     };
-    assert_eq!(rt; thread, 0);
-    if system.config().threads == 2 {
+    if system.config().threads == 2 && thread == 0 {
         turns(&mut system, 1, 1);
         turns(&mut system, 0, 3);
         turns(&mut system, 1, 3);
-        assert_eq!(rt; system.turn(0), Turn::Done);
+        if system.turn(0) != Turn::Done {
+            return Ok(None);
+        }
     }
-    let Ok(logs) = system.finish() else {
-        assert!(rt; false, "not finished");
-        return Ok(());
-    };
-    let stored = Some(Reply::Stored);
-    let nil = Some(Reply::Val(Value::Nil));
-    assert_eq!(rt; replies(&logs, 0), (2, stored, stored));
-    assert_eq!(rt; replies(&logs, 1), (2, nil, nil));
-    assert_eq!(rt; (logs.cycles(), logs.units()), (1, 0));
-    assert_eq!(rt; logs.config(), &TWO);
+    Ok(system.finish().ok())
+}
+
+#[test]
+fn a_reader_that_comes_first_reads_nil(rt: HostRuntime) -> Result<(), OutOfMemory> {
+    for width in [Width::Four, Width::Eight] {
+        let Some(logs) = reader_first(rt.alloc(), width)? else {
+            assert!(rt; false, "not finished");
+            return Ok(());
+        };
+        let stored = Some(Reply::Stored);
+        let nil = Some(Reply::Val(Value::Nil));
+        assert_eq!(rt; replies(&logs, 0), (2, stored, stored));
+        assert_eq!(rt; replies(&logs, 1), (2, nil, nil));
+        assert_eq!(rt; (logs.cycles(), logs.units()), (1, 0));
+        assert_eq!(rt; logs.config(), &two(width));
+    }
     Ok(())
 }
 
 #[test]
 fn a_reader_that_comes_last_reads_what_was_stored(rt: HostRuntime) -> Result<(), OutOfMemory> {
-    let mut system = writer_and_reader(rt.alloc())?;
-    turns(&mut system, 0, 3);
-    turns(&mut system, 1, 3);
-    let Ok(logs) = system.finish() else {
-        assert!(rt; false, "not finished");
-        return Ok(());
-    };
-    let stored = Some(Reply::Stored);
-    let seven = Some(Reply::Val(Value::Int(7)));
-    assert_eq!(rt; replies(&logs, 0), (2, stored, stored));
-    assert_eq!(rt; replies(&logs, 1), (2, seven, seven));
-    assert_eq!(rt; (logs.cycles(), logs.units()), (1, 0));
+    for width in [Width::Four, Width::Eight] {
+        let mut system = writer_and_reader(rt.alloc(), width)?;
+        turns(&mut system, 0, 3);
+        turns(&mut system, 1, 3);
+        let Ok(logs) = system.finish() else {
+            assert!(rt; false, "not finished");
+            return Ok(());
+        };
+        let stored = Some(Reply::Stored);
+        let seven = Some(Reply::Val(Value::Int(7)));
+        assert_eq!(rt; replies(&logs, 0), (2, stored, stored));
+        assert_eq!(rt; replies(&logs, 1), (2, seven, seven));
+        assert_eq!(rt; (logs.cycles(), logs.units()), (1, 0));
+    }
     Ok(())
 }
 
 // One thread allocates a block, and the other does nothing.
-fn allocator(alloc: Global) -> Result<System, OutOfMemory>
+fn allocator(alloc: Global, width: Width) -> Result<System, OutOfMemory>
     ensures { IfOk result (λ s. s.config.threads ≡ 2) }
 {
     let trace = vec![in alloc; Command::New { d: 1, fields: 1 }]?;
-    System::new(alloc, TWO, vec![in alloc; trace, Vec::new(alloc)]?)
+    System::new(alloc, two(width), vec![in alloc; trace, Vec::new(alloc)]?)
 }
 
 // One thread allocates a block twice, and the other does nothing.
-fn allocator_of_two(alloc: Global) -> Result<System, OutOfMemory>
+fn allocator_of_two(alloc: Global, width: Width) -> Result<System, OutOfMemory>
     ensures { IfOk result (λ s. s.config.threads ≡ 2) }
 {
     let trace = vec![in alloc;
         Command::New { d: 1, fields: 1 },
         Command::New { d: 1, fields: 1 },
     ]?;
-    System::new(alloc, TWO, vec![in alloc; trace, Vec::new(alloc)]?)
+    System::new(alloc, two(width), vec![in alloc; trace, Vec::new(alloc)]?)
 }
 
 // A word of the heap, or 0 where there is none.
@@ -190,8 +258,17 @@ fn word(system: &System, place: usize) -> u64 {
     }
 }
 
-// Gives thread 0 turns until it is done, and tells which blocks became black, in this order. With
-// two threads the words of block x begin at 7 x, with its colour, and black is 2.
+// The colour word of a block. The heads of a heap of two threads take 7 words, and each block three
+// more than it has payloads.
+fn colour(system: &System, block: usize) -> u64
+    requires { (1 ≤ block) × (block ≤ 64) }
+{
+    let size = 3 + system.config().width.payloads() as usize;
+    word(system, 7 + size * (block - 1))
+}
+
+// Gives thread 0 turns until it is done, and tells which blocks became black, in this order. Black
+// is 2.
 fn blackened(alloc: Global, system: &mut System) -> Result<Vec<usize>, OutOfMemory>
     requires { system.old.config.threads ≡ 2 }
     ensures { system.new.config ≡ system.old.config }
@@ -203,7 +280,7 @@ fn blackened(alloc: Global, system: &mut System) -> Result<Vec<usize>, OutOfMemo
         }
         system.turn(0);
         for block in 1..12 {
-            if word(system, 7 * block) == 2 && !blocks.contains(&block) {
+            if colour(system, block) == 2 && !blocks.contains(&block) {
                 blocks.push(block)?;
             }
         }
@@ -213,8 +290,8 @@ fn blackened(alloc: Global, system: &mut System) -> Result<Vec<usize>, OutOfMemo
 
 #[test]
 fn an_allocation_pays_by_marking(rt: HostRuntime) -> Result<(), OutOfMemory> {
-    assert_eq!(rt; plan(&TWO), Ok(8));
-    let mut system = allocator(rt.alloc())?;
+    assert_eq!(rt; plan(&two(Width::Four)), Ok(8));
+    let mut system = allocator(rt.alloc(), Width::Four)?;
     let blocks = blackened(rt.alloc(), &mut system)?;
     let expected: [usize; 8] = [1, 5, 4, 3, 2, 11, 6, 10];
     assert_eq!(rt; blocks.as_slice(), expected.as_slice());
@@ -230,12 +307,32 @@ fn an_allocation_pays_by_marking(rt: HostRuntime) -> Result<(), OutOfMemory> {
     Ok(())
 }
 
+// The arrays of a heap of width eight have seven blocks: 1 to 3, 4 to 6, and the shared array in 7. So
+// the allocation owes one unit more than there are blocks to mark, and the last is waived.
+#[test]
+fn an_allocation_of_width_eight_marks_all_there_is(rt: HostRuntime) -> Result<(), OutOfMemory> {
+    assert_eq!(rt; plan(&two(Width::Eight)), Ok(8));
+    let mut system = allocator(rt.alloc(), Width::Eight)?;
+    let blocks = blackened(rt.alloc(), &mut system)?;
+    let expected: [usize; 7] = [1, 3, 2, 7, 4, 6, 5];
+    assert_eq!(rt; blocks.as_slice(), expected.as_slice());
+    assert_eq!(rt; (word(&system, 3), word(&system, 4)), (0, 0));
+    let Ok(logs) = system.finish() else {
+        assert!(rt; false, "not finished");
+        return Ok(());
+    };
+    let full = Some(Reply::Full(1));
+    assert_eq!(rt; replies(&logs, 0), (1, full, full));
+    assert_eq!(rt; (logs.cycles(), logs.units()), (1, 7));
+    Ok(())
+}
+
 #[test]
 fn the_second_allocation_pays_what_is_left(rt: HostRuntime) -> Result<(), OutOfMemory> {
-    let mut system = allocator_of_two(rt.alloc())?;
+    let mut system = allocator_of_two(rt.alloc(), Width::Four)?;
     turns(&mut system, 0, 3);
     for block in 1..12 {
-        assert_eq!(rt; word(&system, 7 * block), 2, "block {block}");
+        assert_eq!(rt; colour(&system, block), 2, "block {block}");
     }
     assert_eq!(rt; (word(&system, 3), word(&system, 4)), (0, 0));
     let Ok(logs) = system.finish() else {

@@ -5,7 +5,7 @@ ghost use Rattle.rate_plan.specs.Rates.{IsAdmitted};
 
 use crate::*;
 use array_trees::depth_of;
-use block_store::{Config, OutOfMemory, Places};
+use block_store::{Config, OutOfMemory, Places, Width};
 use heap_machine::Op;
 use never_heap::Command;
 use rate_plan::plan;
@@ -13,6 +13,7 @@ use std::alloc::Global;
 
 // The shared array takes the blocks 6 to 346.
 const LONG: Config = Config {
+    width: Width::Four,
     threads: 1,
     blocks: 1024,
     live: 400,
@@ -22,7 +23,7 @@ const LONG: Config = Config {
 
 // A thread that stores in the last element, and loads it.
 fn one_thread(alloc: Global) -> Result<System, OutOfMemory>
-    requires { IsAdmitted (record { threads = 1; blocks = 1024; live = 400; object = 16; shared = 1024 }) }
+    requires { IsAdmitted (record { width = Width.Four; threads = 1; blocks = 1024; live = 400; object = 16; shared = 1024 }) }
     ensures { IfOk result (λ s. s.config.threads ≡ 1) }
 {
     let trace = vec![in alloc;
@@ -87,7 +88,7 @@ fn an_element_is_reached_in_two_words_more_than_the_depth(
     }
     let mut system = one_thread(rt.alloc())?;
     assert_eq!(rt; touched(&mut system), 0);
-    assert_eq!(rt; depth_of(1024), 4);
+    assert_eq!(rt; depth_of(Width::Four, 1024), 4);
     assert_eq!(rt; touched(&mut system), 6);
     assert_eq!(rt; touched(&mut system), 6);
     assert_eq!(rt; touched(&mut system), 0);

@@ -1,8 +1,12 @@
 -- What a step answers, and which commands have blocks.
-use Rattle.std.proofs.Common.{ℕ, ◌≡◌, ◌<◌, true, false, cond, ltb, length, refl, arith}
+use Rattle.std.proofs.Common.{ℕ, ◌≡◌, ◌<◌, true, false, inl, inr, cond, ltb, length, refl, arith}
+use Rattle.std.proofs.lemmas.Bool.{cases_Bool}
 use Rattle.array_trees.specs.Trees.{leaves}
 use Rattle.array_trees.proofs.Counts.{le-tree}
 use Rattle.block_store.specs.declared.Name.{Name}
+use Rattle.block_store.specs.declared.Width.{Width}
+use Rattle.block_store.specs.Widths.{payloads}
+use Rattle.block_store.proofs.Registers.{wide}
 use Rattle.block_store.specs.declared.Value.{Value}
 use Rattle.block_store.specs.declared.Value.TheVariants.{Nil, Int, Ref}
 use Rattle.never_heap.specs.declared.Command.{Command}
@@ -38,26 +42,32 @@ step_not_full g t (commands.Same a b) =
 step_not_full g t (commands.Say s) = refl
 
 -- a command that makes an object has a block at least, and any other has none
-pub makers_have_blocks : (command : Command) → makes_object command ≡ true → 0 < blocks_of command
-makers_have_blocks (commands.New d f) e = omega arith
-makers_have_blocks (commands.Arr d n) e = omega (arith, le-tree 4 (leaves 4 n) (omega arith))
-makers_have_blocks (commands.Set d v) e = absurd cc
-makers_have_blocks (commands.Nil d) e = absurd cc
-makers_have_blocks (commands.Mov d s) e = absurd cc
-makers_have_blocks (commands.Get d s i) e = absurd cc
-makers_have_blocks (commands.Put s i v) e = absurd cc
-makers_have_blocks (commands.Len s) e = absurd cc
-makers_have_blocks (commands.Same a b) e = absurd cc
-makers_have_blocks (commands.Say s) e = absurd cc
+pub makers_have_blocks : (w : Width) (command : Command) → makes_object command ≡ true → 0 < blocks_of w command
+makers_have_blocks w (commands.New d f) e = omega arith
+makers_have_blocks w (commands.Arr d n) e = omega (arith, le-tree (payloads w) (leaves (payloads w) n) (omega (arith, wide w)))
+makers_have_blocks w (commands.Set d v) e = absurd cc
+makers_have_blocks w (commands.Nil d) e = absurd cc
+makers_have_blocks w (commands.Mov d s) e = absurd cc
+makers_have_blocks w (commands.Get d s i) e = absurd cc
+makers_have_blocks w (commands.Put s i v) e = absurd cc
+makers_have_blocks w (commands.Len s) e = absurd cc
+makers_have_blocks w (commands.Same a b) e = absurd cc
+makers_have_blocks w (commands.Say s) e = absurd cc
 
-pub others_have_none : (command : Command) → makes_object command ≡ false → blocks_of command ≡ 0
-others_have_none (commands.New d f) e = absurd cc
-others_have_none (commands.Arr d n) e = absurd cc
-others_have_none (commands.Set d v) e = refl
-others_have_none (commands.Nil d) e = refl
-others_have_none (commands.Mov d s) e = refl
-others_have_none (commands.Get d s i) e = refl
-others_have_none (commands.Put s i v) e = refl
-others_have_none (commands.Len s) e = refl
-others_have_none (commands.Same a b) e = refl
-others_have_none (commands.Say s) e = refl
+pub others_have_none : (w : Width) (command : Command) → makes_object command ≡ false → blocks_of w command ≡ 0
+others_have_none w (commands.New d f) e = absurd cc
+others_have_none w (commands.Arr d n) e = absurd cc
+others_have_none w (commands.Set d v) e = refl
+others_have_none w (commands.Nil d) e = refl
+others_have_none w (commands.Mov d s) e = refl
+others_have_none w (commands.Get d s i) e = refl
+others_have_none w (commands.Put s i v) e = refl
+others_have_none w (commands.Len s) e = refl
+others_have_none w (commands.Same a b) e = refl
+others_have_none w (commands.Say s) e = refl
+
+pub blocks_make : (w : Width) (command : Command) → 0 < blocks_of w command → makes_object command ≡ true
+blocks_make w command some = elim (cases_Bool (makes_object command)) [
+  | inl y ↦ y
+  | inr n ↦ absurd (omega (arith, others_have_none w command n, some))
+]

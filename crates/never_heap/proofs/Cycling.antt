@@ -3,22 +3,25 @@ use Rattle.std.proofs.Common.{ℕ, ◌+◌, ◌-◌, ◌≡◌, ◌<◌, ◌≤�
 use Rattle.std.proofs.lemmas.Bool.{cases_eq}
 use Rattle.std.proofs.lemmas.List.{append-nil}
 use Rattle.block_store.specs.declared.Config.{Config}
+use Rattle.block_store.specs.declared.Width.{Width}
 use Rattle.never_heap.specs.declared.Entry.{Entry}
 use Rattle.never_heap.specs.Histories.{HistoryItem, Started, Did, replay, starts_in}
 use Rattle.never_heap.specs.Cycles.{before_start, after_start, graph_at}
 use Rattle.never_heap.specs.Given.{given}
 use Rattle.never_heap.specs.Licensed.{IsLicensedItem, LicensedFrom, Licensed}
 use Rattle.never_heap.specs.RightWork.{IsRightWork, RightWork}
-use Rattle.never_heap.specs.Runs.{taken_by, taken_in}
+use Rattle.never_heap.specs.Taken.{taken_by, taken_in}
 use Rattle.never_heap.proofs.Growing.{taken_append, starts_append}
 
 -- right work
-pub right_work_append : (rate : ℕ) (h k : List HistoryItem) → RightWork rate h → RightWork rate k → RightWork rate (h ++ k)
-right_work_append rate [] k w v = v
-right_work_append rate (i ∷ h) k w v = (w.0, right_work_append rate h k w.1 v)
+pub right_work_append : (w : Width) (rate : ℕ) (h k : List HistoryItem)
+    → RightWork w rate h → RightWork w rate k → RightWork w rate (h ++ k)
+right_work_append w rate [] k r v = v
+right_work_append w rate (i ∷ h) k r v = (r.0, right_work_append w rate h k r.1 v)
 
-pub right_work_more : (rate : ℕ) (h : List HistoryItem) (i : HistoryItem) → RightWork rate h → IsRightWork rate i → RightWork rate (h ++ i ∷ [])
-right_work_more rate h i w v = right_work_append rate h (i ∷ []) w (v, tt)
+pub right_work_more : (w : Width) (rate : ℕ) (h : List HistoryItem) (i : HistoryItem)
+    → RightWork w rate h → IsRightWork w rate i → RightWork w rate (h ++ i ∷ [])
+right_work_more w rate h i r v = right_work_append w rate h (i ∷ []) r (v, tt)
 
 -- licensed
 licensed_from : (c : Config) (past h : List HistoryItem) (i : HistoryItem) → LicensedFrom c past h → IsLicensedItem c (past ++ h) i → LicensedFrom c past (h ++ i ∷ [])
@@ -89,31 +92,31 @@ before_stop : (h k : List HistoryItem) → starts_in h ≡ 0 → before_start 1 
 before_stop h k e = before_next h k 1 (omega arith)
 
 -- what was given in a past cycle stays
-pub given_past : (h k : List HistoryItem) (c : ℕ) → 1 ≤ c → c < starts_in h → given (h ++ k) c ≡ given h c
-given_past h k c l m =
-    ap (λ t. taken_in (before_start 1 t)) (after_more c h k l (omega arith))
-    ∙ ap taken_in (before_more 1 (after_start c h) k (omega arith) (omega (arith, starts_after c h l (omega arith))))
+pub given_past : (w : Width) (h k : List HistoryItem) (c : ℕ) → 1 ≤ c → c < starts_in h → given w (h ++ k) c ≡ given w h c
+given_past w h k c l m =
+    ap (λ t. taken_in w (before_start 1 t)) (after_more c h k l (omega arith))
+    ∙ ap (taken_in w) (before_more 1 (after_start c h) k (omega arith) (omega (arith, starts_after c h l (omega arith))))
 
 -- in the present cycle an entry gives the blocks that it took
-pub given_more : (h : List HistoryItem) (e : Entry) → 1 ≤ starts_in h → given (h ++ Did e ∷ []) (starts_in h) ≡ given h (starts_in h) + taken_by e
-given_more h e l =
+pub given_more : (w : Width) (h : List HistoryItem) (e : Entry) → 1 ≤ starts_in h → given w (h ++ Did e ∷ []) (starts_in h) ≡ given w h (starts_in h) + taken_by w e
+given_more w h e l =
     let c : ℕ = starts_in h in
     let rest : List HistoryItem = after_start c h in
     let none : starts_in rest ≡ 0 = omega (arith, starts_after c h l (omega arith)) in
     let last : starts_in (rest ++ Did e ∷ []) ≡ 0 = omega (arith, starts_append rest (Did e ∷ [])) in
-    ap (λ t. taken_in (before_start 1 t)) (after_more c h (Did e ∷ []) l (omega arith))
-    ∙ ap taken_in (before_none (rest ++ Did e ∷ []) last)
-    ∙ taken_append rest (Did e ∷ []) ∙ ap (λ n. taken_in rest + n) (add-zero (taken_by e))
-    ∙ sym (ap (λ t. taken_in t + taken_by e) (before_none rest none))
+    ap (λ t. taken_in w (before_start 1 t)) (after_more c h (Did e ∷ []) l (omega arith))
+    ∙ ap (taken_in w) (before_none (rest ++ Did e ∷ []) last)
+    ∙ taken_append w rest (Did e ∷ []) ∙ ap (λ n. taken_in w rest + n) (add-zero (taken_by w e))
+    ∙ sym (ap (λ t. taken_in w t + taken_by w e) (before_none rest none))
 
 -- a start leaves what was given in the cycle that it ends
-pub given_ended : (h : List HistoryItem) → 1 ≤ starts_in h → given (h ++ Started ∷ []) (starts_in h) ≡ given h (starts_in h)
-given_ended h l =
+pub given_ended : (w : Width) (h : List HistoryItem) → 1 ≤ starts_in h → given w (h ++ Started ∷ []) (starts_in h) ≡ given w h (starts_in h)
+given_ended w h l =
     let c : ℕ = starts_in h in
     let rest : List HistoryItem = after_start c h in
     let none : starts_in rest ≡ 0 = omega (arith, starts_after c h l (omega arith)) in
-    ap (λ t. taken_in (before_start 1 t)) (after_more c h (Started ∷ []) l (omega arith))
-    ∙ ap taken_in (before_stop rest [] none ∙ sym (before_none rest none))
+    ap (λ t. taken_in w (before_start 1 t)) (after_more c h (Started ∷ []) l (omega arith))
+    ∙ ap (taken_in w) (before_stop rest [] none ∙ sym (before_none rest none))
 
 after_next : (h : List HistoryItem) (c : ℕ) → c ≡ starts_in h + 1 → after_start c (h ++ Started ∷ []) ≡ []
 after_next [] c e = after_this c [] e
@@ -121,5 +124,5 @@ after_next (Started ∷ h) c e = after_later c (h ++ Started ∷ []) (λ one. ab
 after_next (Did x ∷ h) c e = after_next h c e
 
 -- and in the cycle that it starts nothing was given
-pub given_none : (h : List HistoryItem) → given (h ++ Started ∷ []) (starts_in h + 1) ≡ 0
-given_none h = ap (λ t. taken_in (before_start 1 t)) (after_next h (starts_in h + 1) refl)
+pub given_none : (w : Width) (h : List HistoryItem) → given w (h ++ Started ∷ []) (starts_in h + 1) ≡ 0
+given_none w h = ap (λ t. taken_in w (before_start 1 t)) (after_next h (starts_in h + 1) refl)

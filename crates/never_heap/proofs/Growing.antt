@@ -1,10 +1,12 @@
 -- What a history says, when one item comes at its end.
 use Rattle.std.proofs.Common.{ℕ, ◌+◌, ◌≡◌, ◌==◌, Bool, true, false, cond, List, [], ◌∷◌, ◌++◌, refl, sym, ap, add_assoc, add-zero, arith, zero-add, subst}
 use Rattle.block_store.specs.declared.Config.{Config}
+use Rattle.block_store.specs.declared.Width.{Width}
 use Rattle.never_heap.specs.declared.Entry.{Entry}
 use Rattle.never_heap.specs.Graphs.{Graph, start_graph}
 use Rattle.never_heap.specs.Histories.{HistoryItem, Started, Did, after, replay_from, IsAnswered, Legal, LegalFrom, replay, part, starts_in, work_in}
-use Rattle.never_heap.specs.Runs.{FullsExactly, NoWork, taken_by, taken_in}
+use Rattle.never_heap.specs.PlainRuns.{FullsExactly, NoWork}
+use Rattle.never_heap.specs.Taken.{taken_by, taken_in}
 
 -- replay goes on by the item
 pub replay_more : (g : Graph) (h : List HistoryItem) (i : HistoryItem) → replay_from g (h ++ i ∷ []) ≡ after (replay_from g h) i
@@ -52,13 +54,14 @@ no_work_append [] k w v = v
 no_work_append (Started ∷ h) k w v = no_work_append h k w v
 no_work_append (Did e ∷ h) k w v = (w.0, no_work_append h k w.1 v)
 
-pub fulls_append : (m used : ℕ) (h k : List HistoryItem) → FullsExactly m used h → FullsExactly m (used + taken_in h) k → FullsExactly m used (h ++ k)
-fulls_append m used [] k f g = subst (λ u. FullsExactly m u k) (add-zero used) g
-fulls_append m used (Started ∷ h) k f g = fulls_append m used h k f g
-fulls_append m used (Did e ∷ h) k f g =
-    (f.0, f.1, fulls_append m (used + taken_by e) h k f.2 (subst (λ u. FullsExactly m u k) (sym (add_assoc used (taken_by e) (taken_in h))) g))
+pub fulls_append : (c : Config) (used : ℕ) (h k : List HistoryItem)
+    → FullsExactly c used h → FullsExactly c (used + taken_in c.width h) k → FullsExactly c used (h ++ k)
+fulls_append c used [] k f g = subst (λ u. FullsExactly c u k) (add-zero used) g
+fulls_append c used (Started ∷ h) k f g = fulls_append c used h k f g
+fulls_append c used (Did e ∷ h) k f g =
+    (f.0, f.1, fulls_append c (used + taken_by c.width e) h k f.2 (subst (λ u. FullsExactly c u k) (sym (add_assoc used (taken_by c.width e) (taken_in c.width h))) g))
 
-pub taken_append : (h k : List HistoryItem) → taken_in (h ++ k) ≡ taken_in h + taken_in k
-taken_append [] k = sym (zero-add (taken_in k))
-taken_append (Started ∷ h) k = taken_append h k
-taken_append (Did e ∷ h) k = omega (arith, taken_append h k)
+pub taken_append : (w : Width) (h k : List HistoryItem) → taken_in w (h ++ k) ≡ taken_in w h + taken_in w k
+taken_append w [] k = sym (zero-add (taken_in w k))
+taken_append w (Started ∷ h) k = taken_append w h k
+taken_append w (Did e ∷ h) k = omega (arith, taken_append w h k)

@@ -15,3 +15,11 @@ pub mod Staying
 pub mod ReachSteps
 pub mod Answering
 pub mod Refusing
+pub mod Unfilled
+pub mod Ordering
+pub mod Coming
+pub mod Walking
+pub mod Counting
+pub mod Opening
+pub mod Once
+pub mod Scanning

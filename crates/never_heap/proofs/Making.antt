@@ -5,7 +5,7 @@ use Rattle.block_store.specs.declared.Name.{Name}
 use Rattle.block_store.specs.declared.Value.{Value}
 use Rattle.block_store.specs.declared.Value.TheVariants.{Ref}
 use Rattle.never_heap.specs.declared.Reply.TheVariants.{New}
-use Rattle.never_heap.specs.Graphs.{Graph, Mutator, Object, ObjectKind, no_mutator, mutator_at, with_mutator, next_name}
+use Rattle.never_heap.specs.Graphs.{Graph, WideGraph, with_graph, Mutator, Object, ObjectKind, no_mutator, mutator_at, with_mutator, next_name}
 use Rattle.never_heap.specs.Steps.{made}
 
 same_mutator : (m : Mutator) (rs : List Value) (os : List Object) → m.registers ≡ rs → m.objects ≡ os → m ≡ record { registers = rs; objects = os }
@@ -57,3 +57,7 @@ pub made_seen : (g seen : Graph) (t d n : ℕ) (k : ObjectKind) (fs : List Value
 made_seen g seen t d n k fs o old grown last same there is count made_as added kept stored objects =
     let steps = made_steps g t d n k fs o old grown last there (is ∙ ap (λ (h : Graph). get_or h.mutators t old) same) count made_as added kept stored objects in
     (steps.0, ap (λ (h : Graph). with_mutator h t last) same ∙ steps.1)
+
+-- the same on blocks of some width
+pub with_both : (seen now : WideGraph) (h k : Graph) → seen ≡ now → h ≡ k → with_graph seen h ≡ with_graph now k
+with_both seen now h k s e = ap (λ (x : WideGraph). with_graph x h) s ∙ ap (λ (x : Graph). with_graph now x) e

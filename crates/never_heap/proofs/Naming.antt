@@ -1,5 +1,5 @@
 -- The list of names, and names in lists of values.
-use Rattle.std.proofs.Common.{ℕ, zero, suc, ◌+◌, ◌-◌, ◌≡◌, ◌<◌, ◌≤◌, Bool, true, false, eqb, List, [], ◌∷◌, ◌++◌, length, get_or, ap, sym, ◌∙◌, refl, subst, arith, inl, inr, add-one}
+use Rattle.std.proofs.Common.{ℕ, zero, suc, ◌+◌, ◌-◌, ◌≡◌, ◌<◌, ◌≤◌, Bool, true, false, eqb, List, [], ◌∷◌, ◌++◌, length, get_or, ap, sym, ◌∙◌, refl, subst, arith, inl, inr, add-one, length-append}
 use Rattle.std.specs.List.{list_any}
 use Rattle.std.proofs.lemmas.Bool.{cases_eq, cases_lt, or_cases, or_left, or_right, and_parts, eqb-true}
 use Rattle.std.proofs.lemmas.List.{get_or_default, length_push, get_or_push, get_or_append_left, get_or_past}
@@ -105,3 +105,10 @@ pub names_step : (g : Graph) (t n : ℕ) (m : Mutator) (ms : List Mutator) (old 
 names_step g t n m ms old new there is same count before after =
     let here : n ≡ count_of g t = count ∙ ap (λ (k : Mutator). length k.objects) (is ∙ get_or_default ms t m no_mutator there ∙ ap (λ xs. get_or xs t no_mutator) same) in
     after ∙ ap (λ xs. xs ++ thread_names t n) before ∙ ap (λ k. names_below g t ++ thread_names t k) here ∙ sym (names_below_more g t)
+
+-- how many names there are with those of the next thread
+pub count_step : (g : Graph) (t n : ℕ) (m : Mutator) (ms : List Mutator) → t < length ms → m ≡ get_or ms t m → ms ≡ g.mutators → n ≡ length m.objects
+    → length (names_below g (t + 1)) ≡ length (names_below g t) + n
+count_step g t n m ms there is same count =
+    ap length (sym (names_step g t n m ms (names_below g t) (names_below g t ++ thread_names t n) there is same count refl refl))
+    ∙ length-append (names_below g t) (thread_names t n) ∙ ap (λ k. length (names_below g t) + k) (length_of_thread t n)

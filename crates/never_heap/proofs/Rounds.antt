@@ -124,7 +124,7 @@ next_round g old new is_new j before r = record {
   ];
 }
 
-both_true : (p q r : Bool) → (p ≡ true → (q ≡ true) × (r ≡ true)) → (q ≡ true → r ≡ true → p ≡ true) → p ≡ (q && r)
+pub both_true : (p q r : Bool) → (p ≡ true → (q ≡ true) × (r ≡ true)) → (q ≡ true → r ≡ true → p ≡ true) → p ≡ (q && r)
 both_true true q r f h = sym (and_from q r (f refl).0 (f refl).1)
 both_true false true true f h = h refl refl
 both_true false true false f h = refl

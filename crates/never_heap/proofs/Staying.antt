@@ -1,5 +1,5 @@
 -- What stays over a step and over a replay: names, with the kind and length of their objects, and what no command stored in.
-use Rattle.std.proofs.Common.{ℕ, ◌+◌, ◌≡◌, ◌<◌, ◌≤◌, Bool, true, false, cond, eqb, leb, ltb, List, [], ◌∷◌, length, set, get_or, ap, sym, ◌∙◌, refl, subst, arith, inl, inr, eq-eqb, ne_eqb}
+use Rattle.std.proofs.Common.{ℕ, ◌+◌, ◌≡◌, ◌<◌, ◌≤◌, Bool, true, false, Option, Some, None, cond, eqb, leb, ltb, List, [], ◌∷◌, length, set, get_or, ap, sym, ◌∙◌, refl, subst, arith, inl, inr, eq-eqb, ne_eqb}
 use Rattle.std.proofs.lemmas.Bool.{cases_eq, cases_lt, cases_Bool, both_ways, or_right, lt-leb, eqb-false}
 use Rattle.std.proofs.lemmas.List.{length-set, set_past, get_or_past, get_or-set_other}
 use Rattle.block_store.specs.declared.Name.{Name}
@@ -11,7 +11,7 @@ use Rattle.never_heap.specs.declared.Reply.{Reply}
 use Rattle.never_heap.specs.declared.Reply.TheVariants.{Range}
 use Rattle.never_heap.specs.Graphs.{SameShape, Graph, Mutator, Object, no_mutator, mutator_at, count_of, register_of, object_of, has_name, same_name, with_mutator, with_register, with_field, with_object, set_field, field_of, next_name}
 use Rattle.never_heap.specs.Histories.{HistoryItem, Started, Did, is_full, after, replay_from}
-use Rattle.never_heap.specs.Steps.{step, made, at_field, at_object, makes_object, stores_in, stores_in_field}
+use Rattle.never_heap.specs.Steps.{step, made, at_field, at_object, makes_object, stores_in, stored_at}
 use Rattle.never_heap.proofs.GraphMoves.{mutator_with, object_with_register, has_name_with_register}
 use Rattle.never_heap.proofs.FieldStores.{object_with_field, has_name_with_field, object_with_object, has_name_with_object, registers_with_field, registers_with_object}
 use Rattle.never_heap.proofs.Naming.{one_name}
@@ -178,7 +178,7 @@ made_object g t d o a has = register_object (with_object g t o) t d (Ref (next_n
   ]
 ]
 
-pub step_object : (g : Graph) (t : ℕ) (command : Command) (a : Name) → has_name g a ≡ true → stores_in_field command ≡ false → object_of (step g t command).0 a ≡ object_of g a
+pub step_object : (g : Graph) (t : ℕ) (command : Command) (a : Name) → has_name g a ≡ true → stored_at command ≡ None → object_of (step g t command).0 a ≡ object_of g a
 step_object g t (commands.New d f) a has n = made_object g t d _ a has
 step_object g t (commands.Arr d e) a has n = made_object g t d _ a has
 step_object g t (commands.Set d v) a has n = register_object g t d (Int v) a
@@ -209,6 +209,42 @@ put_field g t s i v a j n = field_keeps (λ k. field_of (object_of k a) j ≡ fi
           ∙ other_field (object_of g b) i j (register_of g t v) n ∙ ap (λ k. field_of (object_of g k) j) (one_name b a same)
       | inr other ↦ ap (λ k. field_of (cond k (set_field (object_of g b) i (register_of g t v)) (object_of g a)) j) other
     ])
+
+-- the same of each command that stores in a field
+abbrev first_of : Option (ℕ × ℕ) → ℕ
+first_of None = 0
+first_of (Some p) = p.0
+
+abbrev second_of : Option (ℕ × ℕ) → ℕ
+second_of None = 0
+second_of (Some p) = p.1
+
+pub stored_other : (g : Graph) (t : ℕ) (command : Command) (s i : ℕ) (a : Name) → stored_at command ≡ Some (s, i)
+    → (register_of g t s ≡ Ref a → ⊥) → object_of (step g t command).0 a ≡ object_of g a
+stored_other g t (commands.Put q j v) s i a e n =
+    put_other g t q j v a (λ r. n (ap (register_of g t) (sym (ap first_of e)) ∙ r))
+stored_other g t (commands.New d f) s i a e n = absurd cc
+stored_other g t (commands.Arr d f) s i a e n = absurd cc
+stored_other g t (commands.Set d v) s i a e n = absurd cc
+stored_other g t (commands.Nil d) s i a e n = absurd cc
+stored_other g t (commands.Mov d q) s i a e n = absurd cc
+stored_other g t (commands.Get d q j) s i a e n = absurd cc
+stored_other g t (commands.Len q) s i a e n = absurd cc
+stored_other g t (commands.Same q r) s i a e n = absurd cc
+stored_other g t (commands.Say q) s i a e n = absurd cc
+
+pub stored_field : (g : Graph) (t : ℕ) (command : Command) (s i : ℕ) (a : Name) (j : ℕ) → stored_at command ≡ Some (s, i)
+    → (i ≡ j → ⊥) → field_of (object_of (step g t command).0 a) j ≡ field_of (object_of g a) j
+stored_field g t (commands.Put q k v) s i a j e n = put_field g t q k v a j (λ r. n (sym (ap second_of e) ∙ r))
+stored_field g t (commands.New d f) s i a j e n = absurd cc
+stored_field g t (commands.Arr d f) s i a j e n = absurd cc
+stored_field g t (commands.Set d v) s i a j e n = absurd cc
+stored_field g t (commands.Nil d) s i a j e n = absurd cc
+stored_field g t (commands.Mov d q) s i a j e n = absurd cc
+stored_field g t (commands.Get d q k) s i a j e n = absurd cc
+stored_field g t (commands.Len q) s i a j e n = absurd cc
+stored_field g t (commands.Same q r) s i a j e n = absurd cc
+stored_field g t (commands.Say q) s i a j e n = absurd cc
 
 -- how many objects a thread made
 pub step_counts : (g : Graph) (t : ℕ) (command : Command) (u : ℕ) → (t ≡ u → makes_object command ≡ false) → count_of (step g t command).0 u ≡ count_of g u

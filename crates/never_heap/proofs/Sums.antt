@@ -1,20 +1,22 @@
 -- The blocks of marked objects.
-use Rattle.std.proofs.Common.{ℕ, zero, suc, ◌+◌, ◌*◌, ◌≡◌, ◌<◌, ◌≤◌, Bool, true, false, ◌&&◌, cond, eqb, leb, List, [], ◌∷◌, length, get_or, take, ap, sym, ◌∙◌, refl, arith, eq-eqb, ne_eqb}
+use Rattle.std.proofs.Common.{ℕ, zero, suc, ◌+◌, ◌≡◌, ◌<◌, ◌≤◌, Bool, true, false, ◌&&◌, cond, eqb, leb, List, [], ◌∷◌, length, get_or, take, ap, sym, ◌∙◌, refl, arith, eq-eqb, ne_eqb}
 use Rattle.std.specs.List.{sum_by, All}
 use Rattle.std.proofs.lemmas.Bool.{le-leb}
 use Rattle.std.proofs.lemmas.List.{take_all}
 use Rattle.std.proofs.lemmas.List.Elements.{All-append}
 use Rattle.std.proofs.lemmas.List.Sums.{sum_by-cons}
 use Rattle.block_store.specs.declared.Name.{Name}
+use Rattle.block_store.specs.declared.Width.{Width}
+use Rattle.block_store.specs.Registers.{registers_end}
 use Rattle.never_heap.specs.Graphs.{Graph, object_of, has_name, count_of, shared_name}
-use Rattle.never_heap.specs.LiveBlocks.{object_blocks, live_blocks}
+use Rattle.never_heap.specs.LiveBlocks.{object_blocks, live_of, live_blocks}
 use Rattle.never_heap.specs.Marks.{Marked, has_mark}
 use Rattle.never_heap.specs.Reach.{names, names_below, thread_names, reachable}
 use Rattle.never_heap.proofs.Naming.{name_of_place, length_of_thread}
 
 -- the blocks of the marked objects among some names
-abbrev pub marked_blocks : Graph → Marked → List Name → ℕ
-marked_blocks g m xs = sum_by (λ (a : Name). cond (has_mark m a) (object_blocks (object_of g a)) 0) xs
+abbrev pub marked_blocks : Width → Graph → Marked → List Name → ℕ
+marked_blocks w g m xs = sum_by (λ (a : Name). cond (has_mark m a) (object_blocks w (object_of g a)) 0) xs
 
 -- sums of what is the same at each element
 sum_same : {X : Type 0} (f h : X → ℕ) (xs : List X) → All (λ x. f x ≡ h x) xs → sum_by f xs ≡ sum_by h xs
@@ -41,10 +43,14 @@ marked_same : (r n m : Bool) (k : ℕ) → n ≡ true → m ≡ (r && n) → con
 marked_same r n m k h e = ap (λ b. cond b k 0) (e ∙ ap (λ b. r && b) h ∙ and_yes r)
 
 -- where the reachable objects are marked, their blocks are the live blocks
-pub live_of_marked : (g : Graph) (m : Marked) (xs : List Name) (i k : ℕ) → xs ≡ names g → length xs ≤ i
-    → ((b : Name) → has_mark m b ≡ (reachable g b && has_name g b)) → k ≡ 5 * length g.mutators + marked_blocks g m (take i xs) → k ≡ live_blocks g
+pub live_of_marked : (w : Width) (g : Graph) (m : Marked) (xs : List Name) (i k : ℕ) → xs ≡ names g → length xs ≤ i
+    → ((b : Name) → has_mark m b ≡ (reachable g b && has_name g b))
+    → k ≡ registers_end w (length g.mutators) + marked_blocks w g m (take i xs) → k ≡ live_blocks w g
 unfolding live_blocks
-live_of_marked g m xs i k e l marks sum =
-    sum ∙ ap (λ ys. 5 * length g.mutators + marked_blocks g m ys) (take_all i xs l ∙ e)
-    ∙ ap (λ s. 5 * length g.mutators + s) (sum_same (λ (a : Name). cond (has_mark m a) (object_blocks (object_of g a)) 0) (λ (a : Name). cond (reachable g a) (object_blocks (object_of g a)) 0) (names g)
-    (λ j d h. let a : Name = get_or (names g) j d in marked_same (reachable g a) (has_name g a) (has_mark m a) (object_blocks (object_of g a)) (all_named g (length g.mutators) j d h) (marks a)))
+live_of_marked w g m xs i k e l marks sum =
+    let of : Name → ℕ = λ a. object_blocks w (object_of g a) in
+    let base : ℕ = registers_end w (length g.mutators) in
+    sum ∙ ap (λ ys. base + marked_blocks w g m ys) (take_all i xs l ∙ e)
+    ∙ ap (λ s. base + s) (sum_same (λ (a : Name). cond (has_mark m a) (of a) 0) (live_of w g) (names g)
+    (λ j d h. let a : Name = get_or (names g) j d in
+    marked_same (reachable g a) (has_name g a) (has_mark m a) (of a) (all_named g (length g.mutators) j d h) (marks a)))

@@ -6,10 +6,11 @@ use Rattle.array_trees.specs.Trees.{array_blocks}
 use Rattle.never_heap.specs.declared.Command.{Command}
 use Rattle.never_heap.specs.declared.Command.TheVariants.{New, Arr, Set, Nil, Mov, Get, Put, Len, Same, Say}
 
--- registers are below 16, numbers and indexes below 2^62, and an object is at most 65,535 long and takes no more blocks than the configuration allows
+-- Registers are below 16, numbers and indexes below 2^62, and an object is at most 65,535 long and
+-- takes no more blocks than the configuration allows.
 abbrev pub IsCommandInBounds : Config → Command → Type 0
-IsCommandInBounds c (New d f) = (d < 16) × (f ≤ 65535) × (record_blocks f ≤ c.object)
-IsCommandInBounds c (Arr d e) = (d < 16) × (e ≤ 65535) × (array_blocks e ≤ c.object)
+IsCommandInBounds c (New d f) = (d < 16) × (f ≤ 65535) × (record_blocks c.width f ≤ c.object)
+IsCommandInBounds c (Arr d e) = (d < 16) × (e ≤ 65535) × (array_blocks c.width e ≤ c.object)
 IsCommandInBounds c (Set d v) = (d < 16) × (v < 2 ^ 62)
 IsCommandInBounds c (Nil d) = d < 16
 IsCommandInBounds c (Mov d s) = (d < 16) × (s < 16)

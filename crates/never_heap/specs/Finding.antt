@@ -11,4 +11,7 @@ use Rattle.never_heap.specs.Graphs.{Graph, object_of, field_of}
 abbrev pub found : Graph → Value → ℕ → Result (Name × Value) Reply
 found g Nil i = Err Null
 found g (Int v) i = Err Kind
-found g (Ref name) i = if nat_lt i (length (object_of g name).fields) then Ok (name, field_of (object_of g name) i) else Err Range
+found g (Ref name) i =
+    if nat_lt i (length (object_of g name).fields)
+    then Ok (name, field_of (object_of g name) i)
+    else Err Range

@@ -1,12 +1,12 @@
 -- Histories of a heap that never frees. A history has its oldest item first.
-use Rattle.std.specs.Prelude.{ℕ, zero, suc, ◌+◌, ◌<◌, ◌≡◌, ◌==◌, ◌⊎◌, Bool, true, false, if◌then◌else◌, List, [], ◌∷◌, map, slice_index_or}
+use Rattle.std.specs.Prelude.{ℕ, zero, suc, ◌+◌, ◌≡◌, ◌==◌, ◌⊎◌, Bool, true, false, if◌then◌else◌, List, [], ◌∷◌, map, slice_index_or}
 use Rattle.block_store.specs.declared.Config.{Config}
 use Rattle.never_heap.specs.declared.Command.{Command}
 use Rattle.never_heap.specs.declared.Entry.{Entry}
 use Rattle.never_heap.specs.declared.Reply.{Reply}
 use Rattle.never_heap.specs.declared.Reply.TheVariants.{Full, Null, Kind, Range}
 use Rattle.never_heap.specs.Graphs.{Graph, start_graph}
-use Rattle.never_heap.specs.Steps.{step, blocks_of}
+use Rattle.never_heap.specs.Steps.{step, makes_object}
 
 -- a cycle starts, or a command is answered. The j-th start is that of cycle j
 pub data HistoryItem : Type 0 where
@@ -17,7 +17,8 @@ abbrev pub is_full : Reply → Bool
 is_full (Full c) = true
 is_full _ = false
 
--- whether a command was refused: the register was nil or held a number, or the object has no such field
+-- whether a command was refused: the register was nil or held a number, or the object has no such
+-- field
 abbrev pub is_refusal : Reply → Bool
 is_refusal Null = true
 is_refusal Kind = true
@@ -37,10 +38,13 @@ replay_from g (i ∷ is) = replay_from (after g i) is
 abbrev pub replay : Config → List HistoryItem → Graph
 replay c h = replay_from (start_graph c) h
 
--- the reply is the one that the step gives here, or the command allocates and is answered full
+-- the reply is the one that the step gives here, or the command makes an object and is answered
+-- full
 abbrev pub IsAnswered : Graph → HistoryItem → Type 0
 IsAnswered g Started = Unit {0}
-IsAnswered g (Did e) = (e.reply ≡ (step g e.thread e.command).1) ⊎ ((is_full e.reply ≡ true) × (0 < blocks_of e.command))
+IsAnswered g (Did e) =
+    (e.reply ≡ (step g e.thread e.command).1)
+    ⊎ ((is_full e.reply ≡ true) × (makes_object e.command ≡ true))
 
 abbrev pub LegalFrom : Graph → List HistoryItem → Type 0
 LegalFrom g [] = Unit {0}
@@ -78,6 +82,8 @@ work_in [] = 0
 work_in (Started ∷ h) = work_in h
 work_in (Did e ∷ h) = e.work + work_in h
 
--- the commands of each thread's part are its trace, whole and in order, and there is no other thread
+-- the commands of each thread's part are its trace, whole and in order, and there is no other
+-- thread
 abbrev pub HasTraces : List (List Command) → List HistoryItem → Type 0
-HasTraces traces h = (t : ℕ) → map (λ (e : Entry). e.command) (part t h) ≡ slice_index_or traces t []
+HasTraces traces h =
+    (t : ℕ) → map (λ (e : Entry). e.command) (part t h) ≡ slice_index_or traces t []

@@ -6,9 +6,15 @@ pub mod LiveBlocks
 pub mod Steps
 pub mod Bounds
 pub mod Histories
-pub mod Runs
+pub mod Orders
+pub mod Taken
+pub mod PlainRuns
 pub mod Cycles
 pub mod Given
 pub mod Licensed
 pub mod RightWork
+pub mod Runs
+pub mod Coming
+pub mod Jobs
 pub mod Marks
+pub mod Scans

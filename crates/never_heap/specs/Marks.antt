@@ -9,8 +9,14 @@ pub record Marked : Type 0 where
 
 -- whether there is a mark for this name
 abbrev pub has_place : Marked → Name → Bool
-has_place m a = if a.serial == 0 then a.thread == length m.rows else nat_le a.serial (length (slice_index_or m.rows a.thread []))
+has_place m a =
+    if a.serial == 0
+    then a.thread == length m.rows
+    else nat_le a.serial (length (slice_index_or m.rows a.thread []))
 
 -- whether this name is marked
 abbrev pub has_mark : Marked → Name → Bool
-has_mark m a = if a.serial == 0 then (a.thread == length m.rows) && m.shared else slice_index_or (slice_index_or m.rows a.thread []) (a.serial - 1) false
+has_mark m a =
+    if a.serial == 0
+    then (a.thread == length m.rows) && m.shared
+    else slice_index_or (slice_index_or m.rows a.thread []) (a.serial - 1) false

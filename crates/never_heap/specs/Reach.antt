@@ -29,14 +29,27 @@ names_below g (suc t) = names_below g t ++ thread_names t (count_of g t)
 abbrev pub names : Graph → List Name
 names g = names_below g (length g.mutators)
 
--- round 0 is the names in registers, and each later round is the one before and the names in fields of its objects
+-- whether a name stands in a field of one of these objects that is in a set
+abbrev pub leads_to : Graph → (Name → Bool) → List Name → Name → Bool
+leads_to g set list a = list_any (λ (b : Name). set b && stands_in a (object_of g b).fields) list
+
+-- Round 0 is the names in registers, and each later round is the one before and the names in fields
+-- of its objects.
 abbrev pub in_round : Graph → ℕ → Name → Bool
 in_round g zero a = list_any (λ (m : Mutator). stands_in a m.registers) g.mutators
-in_round g (suc j) a = in_round g j a || list_any (λ (b : Name). in_round g j b && stands_in a (object_of g b).fields) (names g)
+in_round g (suc j) a = in_round g j a || leads_to g (in_round g j) (names g) a
 
 -- a name is reachable where it is in the round whose number is the number of names
 unfoldable pub reachable : Graph → Name → Bool
 reachable g a = in_round g (length (names g)) a
+
+-- whether a name is one of these
+abbrev pub is_among : List Name → Name → Bool
+is_among ss a = list_any (λ (s : Name). same_name a s) ss
+
+-- all that a set has is reachable
+abbrev pub AreAllReachable : Graph → (Name → Bool) → Type 0
+AreAllReachable g set = (b : Name) → set b ≡ true → reachable g b ≡ true
 
 -- a set that has each name in a register, and each name in a field of an object that it has
 pub record IsClosed (g : Graph) (s : Name → Bool) : Type 0 where

@@ -1,13 +1,20 @@
 -- The work of an entry.
 use Rattle.std.specs.Prelude.{ℕ, ◌*◌, ◌≡◌, List, [], ◌∷◌}
+use Rattle.block_store.specs.declared.Width.{Width}
+use Rattle.never_heap.specs.declared.Command.{Command}
 use Rattle.never_heap.specs.Histories.{HistoryItem, Started, Did}
 use Rattle.never_heap.specs.Steps.{blocks_of}
 
-abbrev pub IsRightWork : ℕ → HistoryItem → Type 0
-IsRightWork rate Started = Unit {0}
-IsRightWork rate (Did e) = e.work ≡ rate * blocks_of e.command
+-- the units of work that a command owes at this rate, on blocks of this width
+abbrev pub units_owed : Width → ℕ → Command → ℕ
+units_owed w rate command = rate * blocks_of w command
 
--- each entry whose command has k blocks made rate * k units, whether it was answered new or full; so every other entry made none
-abbrev pub RightWork : ℕ → List HistoryItem → Type 0
-RightWork rate [] = Unit {0}
-RightWork rate (i ∷ is) = IsRightWork rate i × RightWork rate is
+abbrev pub IsRightWork : Width → ℕ → HistoryItem → Type 0
+IsRightWork w rate Started = Unit {0}
+IsRightWork w rate (Did e) = e.work ≡ units_owed w rate e.command
+
+-- Each entry made the units that its command owes, whether it was answered new or full; so an entry
+-- of a command that allocates nothing made none.
+abbrev pub RightWork : Width → ℕ → List HistoryItem → Type 0
+RightWork w rate [] = Unit {0}
+RightWork w rate (i ∷ is) = IsRightWork w rate i × RightWork w rate is

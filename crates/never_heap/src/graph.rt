@@ -1,9 +1,9 @@
-//! The heap that never frees, as a plain program: each object keeps its fields in a vector of its own.
+//! The heap that never frees, as a plain program: each object keeps its fields in a vector.
 
 ghost use Rattle.std.specs.Prelude.{◌≡◌, ◌<◌, ◌≤◌, Some, None, length, IfOk, OnErr, OnOk, option_copied, if◌then◌else◌};
 ghost use Rattle.block_store.specs.Configs.{IsInBounds};
 ghost use Rattle.never_heap.specs.Bounds.{IsCommandInRange};
-ghost use Rattle.never_heap.specs.Graphs.{start_graph, count_of, register_of, object_of, has_name, with_register, with_field, nils};
+ghost use Rattle.never_heap.specs.Graphs.{start_graph, count_of, register_of, object_of, has_name, object_named, fields_named, with_register, with_field, with_graph, nil_object};
 ghost use Rattle.never_heap.specs.Kinds.{kind_of};
 ghost use Rattle.never_heap.specs.Steps.{step, made};
 ghost use Rattle.never_heap.specs.Finding.{found};
@@ -11,7 +11,7 @@ ghost use Rattle.never_heap.specs.Finding.{found};
 use crate::mutator::Mutator;
 use crate::object::{Kind, Object};
 use crate::{Command, Reply};
-use block_store::{Config, Name, OutOfMemory, Value};
+use block_store::{Config, Name, OutOfMemory, Value, Width};
 use std::alloc::Global;
 use std::marker::Model;
 
@@ -19,18 +19,22 @@ use std::marker::Model;
 #[derive(Drop)]
 pub struct Graph {
     alloc: Global,
+    width: Width,
     shared: Object,
     mutators: Vec<Mutator>,
 }
 
 impl Model for Graph {
-    ghost use Rattle.never_heap.specs.Graphs.{Graph as Seen};
+    ghost use Rattle.never_heap.specs.Graphs.{WideGraph};
 
-    ghost Value = { Seen };
+    ghost Value = { WideGraph };
 
     ghost use Rattle.std.specs.Prelude.{◌≤◌, length};
 
-    ghost view = { λ g. record { shared = g.shared; mutators = g.mutators.items } };
+    ghost view = { λ g. record {
+      width = g.width;
+      graph = record { shared = g.shared; mutators = g.mutators.items };
+    } };
 
     ghost invariant = { λ g. length g.mutators.items ≤ 16 };
 }
@@ -40,7 +44,7 @@ impl Graph {
     /// has a reference to it in register 0. The configuration is in its ranges.
     pub fn start(alloc: Global, c: &Config) -> Result<Graph, OutOfMemory>
         requires { IsInBounds c.now }
-        ensures { IfOk result (λ g. g ≡ start_graph c.now) }
+        ensures { IfOk result (λ g. g ≡ record { width = c.now.width; graph = start_graph c.now }) }
     {
         let shared = Object::nils(alloc, Kind::Array, c.shared)?;
         let mut mutators = Vec::new(alloc);
@@ -49,6 +53,7 @@ impl Graph {
         }
         Ok(Graph {
             alloc,
+            width: c.width,
             shared,
             mutators,
         })
@@ -56,16 +61,16 @@ impl Graph {
 
     /// What register `r` of a thread holds. There are the thread, and 16 registers.
     pub fn register(&self, thread: u32, r: u8) -> Value
-        requires thread { thread < length self.now.mutators }
+        requires thread { thread < length self.now.graph.mutators }
         requires register { r < 16 }
-        ensures { result ≡ register_of self.now thread r }
+        ensures { result ≡ register_of self.now.graph thread r }
     {
         self.mutators[thread as usize].register(r)
     }
 
     /// The fields or elements of the object of this name. `None` exactly where no object has it.
     pub fn fields(&self, name: Name) -> Option<&[Value]>
-        ensures { option_copied result ≡ (if has_name self.now name then Some (object_of self.now name).fields else None) }
+        ensures { option_copied result ≡ fields_named self.now.graph name }
     {
         self.object(name).map(|object| object.fields())
     }
@@ -74,8 +79,14 @@ impl Graph {
         self.alloc
     }
 
+    pub(crate) fn width(&self) -> Width
+        ensures { result ≡ self.now.width }
+    {
+        self.width
+    }
+
     pub(crate) fn mutators(&self) -> &[Mutator]
-        ensures mutators { result.now ≡ self.now.mutators }
+        ensures mutators { result.now ≡ self.now.graph.mutators }
         ensures few { length result.now ≤ 16 }
     {
         &self.mutators
@@ -83,7 +94,7 @@ impl Graph {
 
     // The object of a name.
     pub(crate) fn object(&self, name: Name) -> Option<&Object>
-        ensures { option_copied result ≡ (if has_name self.now name then Some (object_of self.now name) else None) }
+        ensures { option_copied result ≡ object_named self.now.graph name }
     {
         if name.serial == 0 {
             return (name.thread as usize == self.mutators.len()).then_some(&self.shared);
@@ -93,16 +104,16 @@ impl Graph {
 
     // The fields of the object of a name; none where no object has it.
     pub(crate) fn cells(&self, name: Name) -> &[Value]
-        ensures { result.now ≡ (object_of self.now name).fields }
+        ensures { result.now ≡ (object_of self.now.graph name).fields }
     {
         self.fields(name).unwrap_or(&[])
     }
 
-    // Field `i` of the object to which register `s` refers, with that object's name, or the refusal.
+    // Field `i` of the object to which register `s` refers, with its name, or the refusal.
     fn find(&self, thread: u32, s: u8, i: u64) -> Result<(Name, Value), Reply>
-        requires thread { thread < length self.now.mutators }
+        requires thread { thread < length self.now.graph.mutators }
         requires register { s < 16 }
-        ensures { result ≡ found self.now (register_of self.now thread s) i }
+        ensures { result ≡ found self.now.graph (register_of self.now.graph thread s) i }
     {
         match self.register(thread, s) {
             Value::Nil => Err(Reply::Null),
@@ -116,10 +127,11 @@ impl Graph {
 
     // Register `d` becomes this value.
     fn store(&mut self, thread: u32, d: u8, value: Value) -> Reply
-        requires thread { thread < length self.old.mutators }
+        requires thread { thread < length self.old.graph.mutators }
         requires register { d < 16 }
         ensures reply { result ≡ Reply.Stored }
-        ensures graph { self.new ≡ with_register self.old thread d value }
+        ensures graph { self.new ≡
+            with_graph self.old (with_register self.old.graph thread d value) }
     {
         self.mutators[thread as usize].set_register(d, value);
         Reply::Stored
@@ -127,11 +139,13 @@ impl Graph {
 
     // A new object of nils in register `d`. What can fail comes first.
     fn make(&mut self, thread: u32, d: u8, kind: Kind, fields: u32) -> Result<Reply, OutOfMemory>
-        requires thread { thread < length self.old.mutators }
+        requires thread { thread < length self.old.graph.mutators }
         requires register { d < 16 }
         requires fields { fields ≤ 65535 }
-        requires count { count_of self.old thread < 131072 }
-        ensures made { IfOk result (λ r. let s = made self.old thread d (record { kind = kind_of kind; fields = nils fields }) in (r ≡ s.1) × (self.new ≡ s.0)) }
+        requires count { count_of self.old.graph thread < 131072 }
+        ensures made { IfOk result (λ r.
+            let s = made self.old.graph thread d (nil_object (kind_of kind) fields)
+            in (r ≡ s.1) × (self.new ≡ with_graph self.old s.0)) }
         ensures unchanged { OnErr result (self.new ≡ self.old) }
     {
         let object = Object::nils(self.alloc, kind, fields)?;
@@ -144,10 +158,11 @@ impl Graph {
     }
 
     fn get(&mut self, thread: u32, d: u8, s: u8, i: u64) -> Reply
-        requires thread { thread < length self.old.mutators }
+        requires thread { thread < length self.old.graph.mutators }
         requires registers { (d < 16) × (s < 16) }
-        ensures reply { result ≡ (step self.old thread (Command.Get d s i)).1 }
-        ensures graph { self.new ≡ (step self.old thread (Command.Get d s i)).0 }
+        ensures reply { result ≡ (step self.old.graph thread (Command.Get d s i)).1 }
+        ensures graph { self.new ≡
+            with_graph self.old (step self.old.graph thread (Command.Get d s i)).0 }
     {
         match self.find(thread, s, i) {
             Ok((_, value)) => {
@@ -159,10 +174,11 @@ impl Graph {
     }
 
     fn put(&mut self, thread: u32, s: u8, i: u64, v: u8) -> Reply
-        requires thread { thread < length self.old.mutators }
+        requires thread { thread < length self.old.graph.mutators }
         requires registers { (s < 16) × (v < 16) }
-        ensures reply { result ≡ (step self.old thread (Command.Put s i v)).1 }
-        ensures graph { self.new ≡ (step self.old thread (Command.Put s i v)).0 }
+        ensures reply { result ≡ (step self.old.graph thread (Command.Put s i v)).1 }
+        ensures graph { self.new ≡
+            with_graph self.old (step self.old.graph thread (Command.Put s i v)).0 }
     {
         let value = self.register(thread, v);
         match self.find(thread, s, i) {
@@ -176,8 +192,8 @@ impl Graph {
 
     // Field `i` of the object of a name becomes this value.
     fn set_field(&mut self, name: Name, i: usize, value: Value)
-        requires { i < length (object_of self.old name).fields }
-        ensures { self.new ≡ with_field self.old name i value }
+        requires { i < length (object_of self.old.graph name).fields }
+        ensures { self.new ≡ with_graph self.old (with_field self.old.graph name i value) }
     {
         if name.serial == 0 {
             self.shared.put(i, value);
@@ -187,9 +203,9 @@ impl Graph {
     }
 
     fn len(&self, thread: u32, s: u8) -> Reply
-        requires thread { thread < length self.now.mutators }
+        requires thread { thread < length self.now.graph.mutators }
         requires register { s < 16 }
-        ensures { result ≡ (step self.now thread (Command.Len s)).1 }
+        ensures { result ≡ (step self.now.graph thread (Command.Len s)).1 }
     {
         match self.register(thread, s) {
             Value::Nil => Reply::Null,
@@ -199,9 +215,9 @@ impl Graph {
     }
 
     fn same(&self, thread: u32, a: u8, b: u8) -> Reply
-        requires thread { thread < length self.now.mutators }
+        requires thread { thread < length self.now.graph.mutators }
         requires registers { (a < 16) × (b < 16) }
-        ensures { result ≡ (step self.now thread (Command.Same a b)).1 }
+        ensures { result ≡ (step self.now.graph thread (Command.Same a b)).1 }
     {
         if self.register(thread, a) == self.register(thread, b) {
             Reply::Yes
@@ -211,15 +227,16 @@ impl Graph {
     }
 
     /// Does one command of a thread, and answers it; never with a full. There is the thread, the
-    /// command's registers are below 16, its numbers and indexes below 2^62, what it makes is at most
-    /// 65,535 long, and the thread has made fewer than 131,072 objects. After want of memory the
-    /// graph is as it was.
+    /// command's registers are below 16, its numbers and indexes below 2^62, what it makes is at
+    /// most 65,535 long, and the thread has made fewer than 131,072 objects. After want of memory
+    /// the graph is as it was.
     pub fn apply(&mut self, thread: u32, command: &Command) -> Result<Reply, OutOfMemory>
-        requires thread { thread < length self.old.mutators }
+        requires thread { thread < length self.old.graph.mutators }
         requires command { IsCommandInRange command.now }
-        requires count { count_of self.old thread < 131072 }
-        ensures reply { IfOk result (λ r. r ≡ (step self.old thread command.now).1) }
-        ensures graph { OnOk result (self.new ≡ (step self.old thread command.now).0) }
+        requires count { count_of self.old.graph thread < 131072 }
+        ensures reply { IfOk result (λ r. r ≡ (step self.old.graph thread command.now).1) }
+        ensures graph { OnOk result (self.new ≡
+            with_graph self.old (step self.old.graph thread command.now).0) }
         ensures unchanged { OnErr result (self.new ≡ self.old) }
     {
         Ok(match *command {

@@ -1,4 +1,4 @@
-//! The model that every promise is measured against: commands, replies, and a heap that never frees.
+//! The model that every promise is measured against: commands, replies, a heap that never frees.
 #![tactic(auto)]
 
 ghost use Rattle.std.specs.Prelude.{◌≡◌, ◌<◌, ◌≤◌, ◌↔◌, IsTrue, ℕ, List, [], ◌∷◌, ◌++◌, length, slice_index_or};
@@ -10,21 +10,27 @@ ghost use Rattle.never_heap.specs.Histories.{HistoryItem, after, replay, part, L
 
 mod graph;
 mod laws;
+mod live;
 mod marks;
 mod mutator;
 mod object;
 mod reach;
+mod run_laws;
 #[cfg(test)]
 mod tests;
 
 use array_trees::blocks_of_array;
-use block_store::{Config, Name, Value};
+use block_store::{Config, Name, Value, Width};
 pub use graph::Graph;
 pub use laws::{
-    blocks_are_given, cycles_start, names_stay, reach_grows_by_new_objects, reachable_is_least,
-    runs_grow, steps_answer, steps_leave,
+    live_blocks_are_few, names_stay, opening_blocks_are_live, reach_grows_by_new_objects,
+    reachable_is_least, steps_answer, steps_leave,
 };
 use object_lists::blocks_of_record;
+pub use run_laws::{
+    blocks_are_given, cycles_start, fulls_need_live_blocks, orders_make_one_history,
+    runs_are_items_that_may_come, runs_are_walked, runs_grow,
+};
 use std::sync::Wait;
 
 /// A thread has this many registers.
@@ -62,17 +68,21 @@ pub enum Command {
 }
 
 impl Command {
-    /// Whether registers are below 16, numbers and indexes below 2^62, and an object that is made is
-    /// at most 65,535 long and takes no more blocks than one object may.
+    /// Whether registers are below 16, numbers and indexes below 2^62, and an object that is made
+    /// is at most 65,535 long and takes no more blocks than one object may.
     pub fn in_bounds(&self, c: &Config) -> bool
         ensures { IsTrue result ↔ IsCommandInBounds c.now self.now }
     {
         match *self {
             Command::New { d, fields } => {
-                d < REGISTERS && fields <= MOST_FIELDS && blocks_of_record(fields) <= c.object
+                d < REGISTERS
+                    && fields <= MOST_FIELDS
+                    && blocks_of_record(c.width, fields) <= c.object
             }
             Command::Arr { d, elements } => {
-                d < REGISTERS && elements <= MOST_FIELDS && blocks_of_array(elements) <= c.object
+                d < REGISTERS
+                    && elements <= MOST_FIELDS
+                    && blocks_of_array(c.width, elements) <= c.object
             }
             Command::Set { d, value } => d < REGISTERS && value < NUMBERS,
             Command::Nil { d } => d < REGISTERS,
@@ -84,15 +94,15 @@ impl Command {
         }
     }
 
-    /// How many blocks the command allocates; 0 for one that makes no object. An object is at most
-    /// 65,535 long.
-    pub fn blocks(&self) -> u32
+    /// How many blocks of this width the command allocates; 0 for one that makes no object. An
+    /// object is at most 65,535 long.
+    pub fn blocks(&self, width: Width) -> u32
         requires { length_made self.now ≤ 65535 }
-        ensures { result ≡ blocks_of self.now }
+        ensures { result ≡ blocks_of width self.now }
     {
         match *self {
-            Command::New { fields, .. } => blocks_of_record(fields),
-            Command::Arr { elements, .. } => blocks_of_array(elements),
+            Command::New { fields, .. } => blocks_of_record(width, fields),
+            Command::Arr { elements, .. } => blocks_of_array(width, elements),
             _ => 0,
         }
     }
@@ -170,7 +180,8 @@ pub trait Logs {
         ensures { result ≡ unit_count self.now };
 }
 
-/// Is told of each command before its first event, outside the gate. A test makes threads meet by it.
+/// Is told of each command before its first event, outside the gate. By it a test makes threads
+/// meet.
 pub trait Pace: Sync {
     /// Before the command of this number, from 0, of a thread.
     fn before<R: Wait>(&self, rt: &R, thread: u32, command: u64);
@@ -184,10 +195,12 @@ impl Pace for NoPace {
     fn before<R: Wait>(&self, _rt: &R, _thread: u32, _command: u64) {}
 }
 
-/// Replay goes on by one item at the end, a legal history goes on by an item that is answered on its
-/// replay, and each thread's part goes on by the part of what comes.
+/// Replay goes on by one item at the end, a legal history goes on by an item that is answered on
+/// its replay, and each thread's part goes on by the part of what comes.
 pub fn histories_grow()
-    ensures replay { (c : Config) (h : List HistoryItem) (i : HistoryItem) → replay c (h ++ i ∷ []) ≡ after (replay c h) i }
-    ensures legal { (c : Config) (h : List HistoryItem) (i : HistoryItem) → Legal c h → IsAnswered (replay c h) i → Legal c (h ++ i ∷ []) }
+    ensures replay { (c : Config) (h : List HistoryItem) (i : HistoryItem)
+        → replay c (h ++ i ∷ []) ≡ after (replay c h) i }
+    ensures legal { (c : Config) (h : List HistoryItem) (i : HistoryItem)
+        → Legal c h → IsAnswered (replay c h) i → Legal c (h ++ i ∷ []) }
     ensures part { (t : ℕ) (h k : List HistoryItem) → part t (h ++ k) ≡ part t h ++ part t k }
 {}

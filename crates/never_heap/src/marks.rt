@@ -41,6 +41,7 @@ impl Row {
     fn mark(&mut self, i: usize) -> bool
         ensures after { self.new ≡ slice_set self.old i true }
         ensures unchanged { result ≡ false → self.new ≡ self.old }
+        ensures is_new { result ≡ true → (i < length self.old) × (slice_index_or self.old i false ≡ false) }
     {
         let is_new = i < self.cells.len() && !self.cells[i];
         if is_new {
@@ -97,10 +98,13 @@ impl Marks {
     }
 
     // Marks a name, where it has a place, and answers whether it was not marked before.
-    fn mark(&mut self, name: Name) -> bool
-        ensures marks { (b : Name) → has_mark self.new b ≡ (has_mark self.old b || (same_name name b && has_place self.old b)) }
+    pub(crate) fn mark(&mut self, name: Name) -> bool
+        ensures marks { (b : Name) → has_mark self.new b
+            ≡ (has_mark self.old b || (same_name name b && has_place self.old b)) }
         ensures places { (b : Name) → has_place self.new b ≡ has_place self.old b }
         ensures unchanged { result ≡ false → self.new ≡ self.old }
+        ensures is_new { result ≡ true → (has_mark self.old name ≡ false)
+            × (has_place self.old name ≡ true) }
     {
         let thread = name.thread as usize;
         if name.serial == 0 {
@@ -113,9 +117,11 @@ impl Marks {
         thread < self.rows.len() && self.rows[thread].mark(name.serial as usize - 1)
     }
 
-    // Marks each name that stands in a list of values, and answers whether one was not marked before.
+    // Marks each name that stands in a list of values, and answers whether one was not marked
+    // before.
     pub(crate) fn spread(&mut self, values: &[Value]) -> bool
-        ensures marks { (b : Name) → has_mark self.new b ≡ (has_mark self.old b || (stands_in b values.now && has_place self.old b)) }
+        ensures marks { (b : Name) → has_mark self.new b
+            ≡ (has_mark self.old b || (stands_in b values.now && has_place self.old b)) }
         ensures places { (b : Name) → has_place self.new b ≡ has_place self.old b }
         ensures unchanged { result ≡ false → self.new ≡ self.old }
     {

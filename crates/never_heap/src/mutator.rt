@@ -2,7 +2,7 @@
 
 ghost use Rattle.std.specs.Prelude.{◌≡◌, ◌<◌, ◌≤◌, ◌+◌, ◌-◌, ◌++◌, ◌∷◌, [], Some, None, nat_le, length, slice_set, slice_index_or, OnErr, OnOk, option_copied, if◌then◌else◌};
 ghost use Rattle.block_store.specs.declared.Value.TheVariants.{Nil};
-ghost use Rattle.never_heap.specs.Graphs.{start_mutator, set_field, no_object};
+ghost use Rattle.never_heap.specs.Graphs.{start_mutator, object_at, set_field};
 
 use crate::object::Object;
 use block_store::{Name, OutOfMemory, Value};
@@ -75,7 +75,8 @@ impl Mutator {
     // The object of a serial, which is at least 1.
     pub(crate) fn object(&self, serial: u32) -> Option<&Object>
         requires { 1 ≤ serial }
-        ensures { option_copied result ≡ (if nat_le serial (length self.now.objects) then Some (slice_index_or self.now.objects (serial - 1) no_object) else None) }
+        ensures { option_copied result ≡ (if nat_le serial (length self.now.objects)
+            then Some (object_at self.now serial) else None) }
     {
         self.objects.get(serial as usize - 1)
     }
@@ -94,9 +95,11 @@ impl Mutator {
     // Field `i` of the object of a serial becomes this value.
     pub(crate) fn put(&mut self, serial: u32, i: usize, value: Value)
         requires serial { (1 ≤ serial) × (serial ≤ length self.old.objects) }
-        requires field { i < length (slice_index_or self.old.objects (serial - 1) no_object).fields }
+        requires field { i < length (object_at self.old serial).fields }
         ensures registers { self.new.registers ≡ self.old.registers }
-        ensures objects { self.new.objects ≡ slice_set self.old.objects (serial - 1) (set_field (slice_index_or self.old.objects (serial - 1) no_object) i value) }
+        ensures objects { self.new.objects ≡
+            slice_set self.old.objects (serial - 1)
+            (set_field (object_at self.old serial) i value) }
     {
         self.objects[serial as usize - 1].put(i, value);
     }

@@ -6,7 +6,7 @@ ghost use Rattle.never_heap.specs.Kinds.{kind_of};
 ghost use Rattle.never_heap.specs.LiveBlocks.{object_blocks};
 
 use array_trees::blocks_of_array;
-use block_store::{OutOfMemory, Value};
+use block_store::{OutOfMemory, Value, Width};
 use object_lists::blocks_of_record;
 use std::alloc::Global;
 use std::marker::Model;
@@ -61,15 +61,15 @@ impl Object {
         self.fields[i] = value;
     }
 
-    // The blocks that the object takes, at most 21,845.
-    pub(crate) fn blocks(&self) -> u32
-        ensures value { result ≡ object_blocks self.now }
+    // The blocks of this width that the object takes, at most 21,845.
+    pub(crate) fn blocks(&self, width: Width) -> u32
+        ensures value { result ≡ object_blocks width self.now }
         ensures few { result ≤ 21845 }
     {
         let length = self.fields.len() as u32;
         match self.kind {
-            Kind::Record => blocks_of_record(length),
-            Kind::Array => blocks_of_array(length),
+            Kind::Record => blocks_of_record(width, length),
+            Kind::Array => blocks_of_array(width, length),
         }
     }
 }

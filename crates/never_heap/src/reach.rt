@@ -1,16 +1,26 @@
 //! Which objects of a graph can be reached, and how many blocks they take.
 
 ghost use Rattle.std.specs.Prelude.{◌≡◌, ◌<◌, ◌≤◌, ◌+◌, ◌*◌, ◌&&◌, ◌||◌, ◌++◌, true, false, IfOk, OnOk, vec_len};
-ghost use Rattle.std.specs.List.{list_any};
 ghost use Rattle.block_store.specs.declared.Name.{Name};
+ghost use Rattle.block_store.specs.Registers.{registers_end};
 ghost use Rattle.never_heap.specs.Graphs.{has_name, object_of};
 ghost use Rattle.never_heap.specs.LiveBlocks.{live_blocks, object_blocks};
 ghost use Rattle.never_heap.specs.Marks.{has_place, has_mark};
-ghost use Rattle.never_heap.specs.Reach.{names, thread_names, in_round, stands_in, reachable};
+ghost use Rattle.never_heap.specs.Reach.{names, thread_names, in_round, leads_to, reachable, AreAllReachable};
 
 use crate::Graph;
 use crate::marks::Marks;
-use block_store::{Name, OutOfMemory, REGISTER_BLOCKS};
+use block_store::{Name, OutOfMemory, Width};
+
+// The blocks of the registers of this many threads.
+#[tactic(auto, using(block_store::proofs::Registers::end_by))]
+pub(crate) fn register_blocks(width: Width, threads: u64) -> u64
+    requires { threads ≤ 16 }
+    ensures value { result ≡ registers_end width threads }
+    ensures few { result ≤ 80 }
+{
+    u64::from(width.registers()) * threads
+}
 
 // The names of the first objects of a thread, behind what the list has.
 fn push_names(list: &mut Vec<Name>, thread: u32, count: u32) -> Result<(), OutOfMemory>
@@ -28,7 +38,7 @@ fn push_names(list: &mut Vec<Name>, thread: u32, count: u32) -> Result<(), OutOf
 impl Graph {
     // All names: that of the shared array, and then thread by thread.
     fn list_names(&self) -> Result<Vec<Name>, OutOfMemory>
-        ensures names { IfOk result (λ v. v.items ≡ names self.now) }
+        ensures names { IfOk result (λ v. v.items ≡ names self.now.graph) }
         ensures few { IfOk result (λ v. vec_len v ≤ 2097153) }
     {
         let mutators = self.mutators();
@@ -45,8 +55,8 @@ impl Graph {
     }
 
     // A place for each object, and no mark.
-    fn no_marks(&self) -> Result<Marks, OutOfMemory>
-        ensures places { IfOk result (λ m. (b : Name) → has_place m b ≡ has_name self.now b) }
+    pub(crate) fn no_marks(&self) -> Result<Marks, OutOfMemory>
+        ensures places { IfOk result (λ m. (b : Name) → has_place m b ≡ has_name self.now.graph b) }
         ensures marks { IfOk result (λ m. (b : Name) → has_mark m b ≡ false) }
     {
         let mut marks = Marks::new(self.alloc());
@@ -58,7 +68,8 @@ impl Graph {
 
     // Marks what stands in registers.
     fn mark_registers(&self, marks: &mut Marks)
-        ensures marks { (b : Name) → has_mark marks.new b ≡ (has_mark marks.old b || (in_round self.now 0 b && has_place marks.old b)) }
+        ensures marks { (b : Name) → has_mark marks.new b
+            ≡ (has_mark marks.old b || (in_round self.now.graph 0 b && has_place marks.old b)) }
         ensures places { (b : Name) → has_place marks.new b ≡ has_place marks.old b }
     {
         for mutator in self.mutators() {
@@ -71,8 +82,10 @@ impl Graph {
     fn mark_fields(&self, list: &[Name], marks: &mut Marks) -> bool
         ensures places { (b : Name) → has_place marks.new b ≡ has_place marks.old b }
         ensures kept { (b : Name) → has_mark marks.old b ≡ true → has_mark marks.new b ≡ true }
-        ensures led { (a : Name) → list_any (λ (b : Name). has_mark marks.old b && stands_in a (object_of self.now b).fields) list.now ≡ true → has_place marks.old a ≡ true → has_mark marks.new a ≡ true }
-        ensures sound { ((b : Name) → has_mark marks.old b ≡ true → reachable self.now b ≡ true) → (b : Name) → has_mark marks.new b ≡ true → reachable self.now b ≡ true }
+        ensures led { (a : Name) → leads_to self.now.graph (has_mark marks.old) list.now a ≡ true
+            → has_place marks.old a ≡ true → has_mark marks.new a ≡ true }
+        ensures sound { AreAllReachable self.now.graph (has_mark marks.old)
+            → AreAllReachable self.now.graph (has_mark marks.new) }
         ensures unchanged { result ≡ false → marks.new ≡ marks.old }
     {
         let mut is_new = false;
@@ -86,8 +99,9 @@ impl Graph {
 
     // Marks all objects that can be reached: what stands in registers, and then round by round.
     fn mark_reachable(&self, list: &[Name]) -> Result<Marks, OutOfMemory>
-        requires { list.now ≡ names self.now }
-        ensures { IfOk result (λ m. (b : Name) → has_mark m b ≡ (reachable self.now b && has_name self.now b)) }
+        requires { list.now ≡ names self.now.graph }
+        ensures { IfOk result (λ m. (b : Name)
+            → has_mark m b ≡ (reachable self.now.graph b && has_name self.now.graph b)) }
     {
         let mut marks = self.no_marks()?;
         self.mark_registers(&mut marks);
@@ -99,14 +113,14 @@ impl Graph {
         Ok(marks)
     }
 
-    /// Five blocks for the registers of each thread, and the blocks of all objects that can be
-    /// reached from registers.
+    /// The blocks of the registers of all threads, and of all objects that can be reached from
+    /// registers.
     pub fn reach_blocks(&self) -> Result<u64, OutOfMemory>
-        ensures { IfOk result (λ k. k ≡ live_blocks self.now) }
+        ensures { IfOk result (λ k. k ≡ live_blocks self.now.width self.now.graph) }
     {
         let list = self.list_names()?;
         let marks = self.mark_reachable(&list)?;
-        let mut blocks = u64::from(REGISTER_BLOCKS) * self.mutators().len() as u64;
+        let mut blocks = register_blocks(self.width(), self.mutators().len() as u64);
         for name in &list {
             if marks.has(*name) {
                 blocks += u64::from(self.blocks_of(*name));
@@ -116,11 +130,12 @@ impl Graph {
     }
 
     // The blocks of the object of a name.
-    fn blocks_of(&self, name: Name) -> u32
-        requires { has_name self.now name ≡ true }
-        ensures value { result ≡ object_blocks (object_of self.now name) }
+    pub(crate) fn blocks_of(&self, name: Name) -> u32
+        requires { has_name self.now.graph name ≡ true }
+        ensures value { result ≡ object_blocks self.now.width (object_of self.now.graph name) }
         ensures few { result ≤ 21845 }
     {
-        self.object(name).map_or(0, |object| object.blocks())
+        self.object(name)
+            .map_or(0, |object| object.blocks(self.width()))
     }
 }

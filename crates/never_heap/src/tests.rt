@@ -1,7 +1,13 @@
+ghost use Rattle.std.specs.Prelude.{◌≡◌, ◌<◌, ◌≤◌, ◌+◌, length, OnOk};
+ghost use Rattle.never_heap.specs.Graphs.{count_of};
+
 use crate::{Command, Graph, Reply};
-use block_store::{Config, Name, OutOfMemory, Value};
+use block_store::{Config, Name, OutOfMemory, Value, Width};
+use std::alloc::Global;
+use std::process::Abort;
 
 const CONFIG: Config = Config {
+    width: Width::Four,
     threads: 1,
     blocks: 64,
     live: 20,
@@ -48,5 +54,136 @@ fn commands_are_answered(rt: HostRuntime) -> Result<(), OutOfMemory> {
         assert_eq!(rt; graph.apply(0, &command)?, reply);
     }
     assert_eq!(rt; graph.reach_blocks()?, 7);
+    assert_eq!(rt; graph.count_live()?, 7);
     Ok(())
+}
+
+// A ring of two records with a long array beside it, a chain of two behind register 3, and what
+// registers no longer refer to.
+const LINKED: [Command; 13] = [
+    Command::New { d: 1, fields: 4 },
+    Command::New { d: 2, fields: 1 },
+    Command::Put { s: 1, i: 0, v: 2 },
+    Command::Put { s: 2, i: 0, v: 1 },
+    Command::Arr { d: 2, elements: 17 },
+    Command::Put { s: 1, i: 3, v: 2 },
+    Command::New { d: 3, fields: 1 },
+    Command::New { d: 4, fields: 7 },
+    Command::Put { s: 4, i: 6, v: 3 },
+    Command::Mov { d: 3, s: 4 },
+    Command::Nil { d: 4 },
+    Command::New { d: 5, fields: 3 },
+    Command::Nil { d: 5 },
+];
+
+#[test]
+#[tactic(auto, using(crate::proofs::Stepping::step_threads, crate::proofs::Stepping::step_count))]
+fn one_scan_counts_what_rounds_count(rt: HostRuntime) -> Result<(), OutOfMemory> {
+    let config = Config {
+        object: 8,
+        ..CONFIG
+    };
+    let mut graph = Graph::start(rt.alloc(), &config)?;
+    for command in LINKED {
+        graph.apply(0, &command)?;
+        assert_eq!(rt; graph.count_live()?, graph.reach_blocks()?);
+    }
+    // 6 at the opening, 2 and 1 of the ring, 8 of the array, 3 and 1 of the chain.
+    assert_eq!(rt; graph.count_live()?, 21);
+    Ok(())
+}
+
+/// How many blocks a chain of records has on `CONFIG` after so many rounds, with those of the
+/// registers and of the shared array, at the rounds at which they are counted.
+fn counted_at(round: u32) -> Option<u64> {
+    match round {
+        0 => Some(6),
+        10 => Some(16),
+        21 => Some(27),
+        34 => Some(40),
+        49 => Some(55),
+        58 => Some(64),
+        _ => None,
+    }
+}
+
+/// A round: one more record, which refers to the one before it.
+#[tactic(auto, using(crate::proofs::Stepping::step_threads, crate::proofs::Stepping::step_count))]
+fn link(graph: &mut Graph) -> Result<(), OutOfMemory>
+    requires threads { length graph.old.graph.mutators ≡ 1 }
+    requires few { count_of graph.old.graph 0 < 1000 }
+    ensures threads { OnOk result (length graph.new.graph.mutators ≡ 1) }
+    ensures count { OnOk result (count_of graph.new.graph 0 ≤ count_of graph.old.graph 0 + 3) }
+{
+    graph.apply(0, &Command::New { d: 1, fields: 1 })?;
+    graph.apply(0, &Command::Put { s: 1, i: 0, v: 2 })?;
+    graph.apply(0, &Command::Mov { d: 2, s: 1 })?;
+    Ok(())
+}
+
+#[test]
+fn a_chain_can_be_reached_to_its_end(rt: HostRuntime) -> Result<(), OutOfMemory> {
+    let mut graph = Graph::start(rt.alloc(), &CONFIG)?;
+    for round in 0..59 {
+        if let Some(blocks) = counted_at(round) {
+            assert_eq!(rt; graph.reach_blocks()?, blocks, "after {round} rounds");
+        }
+        link(&mut graph)?;
+    }
+    Ok(())
+}
+
+/// Two threads on blocks of this width, of which thread 1 makes a record of 14 fields.
+#[tactic(auto, using(crate::proofs::Stepping::step_threads, crate::proofs::Stepping::step_count))]
+fn other_thread(
+    rt: &impl Abort,
+    alloc: Global,
+    width: Width,
+    blocks: u64,
+) -> Result<(), OutOfMemory> {
+    let config = Config {
+        width,
+        threads: 2,
+        ..CONFIG
+    };
+    let name = Name {
+        thread: 1,
+        serial: 1,
+    };
+    let mut graph = Graph::start(alloc, &config)?;
+    let made = graph.apply(1, &Command::New { d: 1, fields: 14 })?;
+    assert_eq!(rt; made, Reply::New(name));
+    assert_eq!(rt;
+        graph.apply(1, &Command::Say { s: 1 })?,
+        Reply::Val(Value::Ref(name))
+    );
+    assert_eq!(rt;
+        graph.apply(0, &Command::Say { s: 1 })?,
+        Reply::Val(Value::Nil)
+    );
+    assert_eq!(rt; graph.reach_blocks()?, blocks);
+    Ok(())
+}
+
+#[test]
+fn each_thread_has_its_own_registers(rt: HostRuntime) -> Result<(), OutOfMemory> {
+    other_thread(&rt, rt.alloc(), Width::Four, 16)?;
+    other_thread(&rt, rt.alloc(), Width::Eight, 9)
+}
+
+#[test]
+fn wider_blocks_hold_more(rt: HostRuntime) {
+    let config = Config {
+        width: Width::Eight,
+        ..CONFIG
+    };
+    for (command, blocks) in [
+        (Command::New { d: 1, fields: 14 }, 2),
+        (Command::New { d: 1, fields: 15 }, 3),
+        (Command::Arr { d: 1, elements: 8 }, 1),
+        (Command::Arr { d: 1, elements: 9 }, 3),
+    ] {
+        assert_eq!(rt; command.blocks(Width::Eight), blocks);
+        assert_eq!(rt; command.in_bounds(&config), blocks <= 2);
+    }
 }

@@ -2,14 +2,18 @@
 use Rattle.std.proofs.Common.{◌≡◌, ℕ, zero, suc, ◌+◌, ◌-◌, ◌*◌, ◌/◌, ◌%◌, ◌<◌, ◌≤◌, refl, sym, ap, subst, arith, inl, inr}
 use Rattle.std.proofs.lemmas.Bool.{cases_lt, lt-ltb, le-ltb}
 use Rattle.std.proofs.lemmas.Nat.{div-add-mod', div-mul-add, mod-mul-add, mod_below, le-div}
+use Rattle.block_store.specs.declared.Width.{Width}
+use Rattle.block_store.specs.declared.Width.TheVariants.{Four, Eight}
+use Rattle.block_store.specs.Widths.{payloads}
 use Rattle.object_lists.specs.Parts.{Link, Field, Blank, link_below, field_below}
 use Rattle.object_lists.specs.Layouts.{IsLayout, IsWay}
-use Rattle.object_lists.specs.Records.{list_blocks, list_part, list_spot}
+use Rattle.object_lists.specs.Records.{list_blocks, list_part, list_spot, record_blocks, record_part, record_spot}
 use Rattle.object_lists.proofs.PartLemmas.{field_below-in, link_below-in, field_below-field, link_below-link, field_below-link, link_below-field}
 
 module _ (k f : ℕ) (some : 0 < k) where
   -- what stands at the places behind the link
-  part_field : (o j i : ℕ) → list_part k f o (suc j) ≡ Field i → (j < k) × (o * k + j < f) × (o * k + j ≡ i)
+  part_field : (o j i : ℕ) → list_part k f o (suc j) ≡ Field i
+      → (j < k) × (o * k + j < f) × (o * k + j ≡ i)
   part_field o j i e = elim (cases_lt j k) [
     | inl h ↦
         let at : field_below (o * k + j) f ≡ Field i = rw (lt-ltb j k h) at e in
@@ -20,7 +24,8 @@ module _ (k f : ℕ) (some : 0 < k) where
 
   part_link : (o j p : ℕ) → list_part k f o (suc j) ≡ Link p → ⊥
   part_link o j p e = elim (cases_lt j k) [
-    | inl h ↦ let at : field_below (o * k + j) f ≡ Link p = rw (lt-ltb j k h) at e in field_below-link (o * k + j) f p at
+    | inl h ↦ let at : field_below (o * k + j) f ≡ Link p = rw (lt-ltb j k h) at e in
+        field_below-link (o * k + j) f p at
     | inr h ↦ let same : Blank ≡ Link p = rw (le-ltb j k h) at e in cc
   ]
 
@@ -36,7 +41,8 @@ module _ (k f : ℕ) (some : 0 < k) where
       let whole : i / k * k + i % k ≡ i = div-add-mod' i k in
       let next : 1 + i % k ≡ suc (i % k) = omega arith in
       let own : field_below i f ≡ Field i = field_below-in i f h in
-      let sum : field_below (i / k * k + i % k) f ≡ Field i = subst (λ x. field_below x f ≡ Field i) (sym whole) own in
+      let sum : field_below (i / k * k + i % k) f ≡ Field i =
+      subst (λ x. field_below x f ≡ Field i) (sym whole) own in
       subst (λ x. list_part k f (i / k) x ≡ Field i) (sym next) (rw (lt-ltb (i % k) k low) sum)
 
   list_spots : (o j i : ℕ) → list_part k f o j ≡ Field i
@@ -50,8 +56,10 @@ module _ (k f : ℕ) (some : 0 < k) where
       let j-at : i % k ≡ j = subst (λ x. x % k ≡ j) is j-is in
       (omega arith, in_blocks o j fits, omega arith, sym o-at, omega arith)
 
-  list_onward : (o j p : ℕ) → list_part k f o j ≡ Link p → (j ≡ 0) × (o + 1 ≡ p) × (p < list_blocks k f)
-  list_onward o zero p e = let both = link_below-link (o + 1) (list_blocks k f) p e in (refl, both.1, subst (λ x. x < list_blocks k f) both.1 both.0)
+  list_onward : (o j p : ℕ) → list_part k f o j ≡ Link p
+      → (j ≡ 0) × (o + 1 ≡ p) × (p < list_blocks k f)
+  list_onward o zero p e = let both = link_below-link (o + 1) (list_blocks k f) p e in
+      (refl, both.1, subst (λ x. x < list_blocks k f) both.1 both.0)
   list_onward o (suc j) p e = absurd (part_link o j p e)
 
   pub list_layout : IsLayout (k + 1) f (list_blocks k f) (list_part k f) (list_spot k)
@@ -71,7 +79,8 @@ module _ (k f : ℕ) (some : 0 < k) where
       p - 1,
       0,
       let next : p - 1 + 1 ≡ p = omega arith in
-          subst (λ x. link_below x (list_blocks k f) ≡ Link p) (sym next) (link_below-in p (list_blocks k f) high),
+          subst (λ x. link_below x (list_blocks k f) ≡ Link p) (sym next)
+          (link_below-in p (list_blocks k f) high),
     );
     once = λ o j q l p e1 e2.
         let (first, next, fits) = list_onward o j p e1 in
@@ -89,3 +98,14 @@ module _ (k f : ℕ) (some : 0 < k) where
         link_below-in (l + 1) (list_blocks k f) (omega arith);
     ends = list_fields i h;
   }
+
+-- by the width: its blocks have one payload more than fields
+pub record_layout : (w : Width) (f : ℕ)
+    → IsLayout (payloads w) f (record_blocks w f) (record_part w f) (record_spot w)
+record_layout Four f = list_layout 3 f (omega arith)
+record_layout Eight f = list_layout 7 f (omega arith)
+
+pub record_way : (w : Width) (f i : ℕ) → i < f
+    → IsWay (record_part w f) i (record_spot w i).0 (record_spot w i).1 (λ l. l) (λ l. 0)
+record_way Four f i h = list_way 3 f (omega arith) i h
+record_way Eight f i h = list_way 7 f (omega arith) i h

@@ -1,7 +1,8 @@
--- The rate: how many units of marking and sweeping an allocation makes for each block that it asks for.
+-- The rate: how many units of marking and sweeping an allocation makes for each block that it asks
+-- for.
 use Rattle.std.specs.Prelude.{ℕ, ◌+◌, ◌-◌, ◌*◌, ◌/◌, ◌<◌, ◌≤◌}
 use Rattle.block_store.specs.declared.Config.{Config}
-use Rattle.array_trees.specs.Trees.{array_blocks}
+use Rattle.array_trees.specs.Openings.{opening_blocks}
 use Rattle.rate_plan.specs.declared.PlanFault.{PlanFault}
 use Rattle.rate_plan.specs.declared.PlanFault.TheVariants.{NoRate, LiveTooSmall}
 
@@ -9,12 +10,9 @@ use Rattle.rate_plan.specs.declared.PlanFault.TheVariants.{NoRate, LiveTooSmall}
 abbrev pub ceiling : ℕ → ℕ → ℕ
 ceiling x y = (x + (y - 1)) / y
 
--- the blocks of the opening heap: five for the registers of each thread, and those of the shared array
-abbrev pub start_blocks : Config → ℕ
-start_blocks c = 5 * c.threads + array_blocks c.shared
-
--- p units for each block are to be enough for a cycle to end before the blocks are used up: a cycle has at most 2 units for each
--- block of the heap, so it should last for at most ceiling (2 * blocks) p blocks, and one allocation more of each thread.
+-- p units for each block are to be enough for a cycle to end before the blocks are used up: a cycle
+-- has at most 2 units for each block of the heap, so it should last for at most
+-- ceiling (2 * blocks) p blocks, and one allocation more of each thread.
 abbrev pub KeepsUp : Config → ℕ → Type 0
 KeepsUp c p = c.live + 2 * (ceiling (2 * c.blocks) p + c.threads * c.object) ≤ c.blocks
 
@@ -26,10 +24,11 @@ pub record IsRate (c : Config) (p : ℕ) : Type 0 where
 
 -- the heap opens with no more blocks than may be live, and there is room for a cycle of one block
 pub record IsAdmitted (c : Config) : Type 0 where
-  pub opens : start_blocks c ≤ c.live
+  pub opens : opening_blocks c ≤ c.live
   pub room : c.live + 2 * (1 + c.threads * c.object) ≤ c.blocks
 
 -- when each refusal comes
 abbrev pub IsRefusal : Config → PlanFault → Type 0
-IsRefusal c LiveTooSmall = c.live < start_blocks c
-IsRefusal c NoRate = (start_blocks c ≤ c.live) × (c.blocks < c.live + 2 * (1 + c.threads * c.object))
+IsRefusal c LiveTooSmall = c.live < opening_blocks c
+IsRefusal c NoRate =
+    (opening_blocks c ≤ c.live) × (c.blocks < c.live + 2 * (1 + c.threads * c.object))

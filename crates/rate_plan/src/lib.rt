@@ -4,10 +4,11 @@
 ghost use Rattle.std.specs.Prelude.{◌≡◌, ℕ, ◌*◌, ◌≤◌, MatchResult};
 ghost use Rattle.block_store.specs.Configs.{IsInBounds};
 ghost use Rattle.block_store.specs.declared.Config.{Config};
+ghost use Rattle.array_trees.specs.Openings.{opening_blocks};
 ghost use Rattle.rate_plan.specs.Rates.{IsRate, IsAdmitted, IsRefusal};
 
 use array_trees::blocks_of_array;
-use block_store::{Config, REGISTER_BLOCKS};
+use block_store::Config;
 
 /// Why a configuration has no rate.
 #[derive(Clone, Copy, Debug, PartialEq, Eq)]
@@ -18,9 +19,17 @@ pub enum PlanFault {
     LiveTooSmall,
 }
 
-/// The rate: how many units an allocation will make for each block, chosen so that a cycle ends before
-/// the blocks are used up. It is the least number, at least 1, that is enough by `KeepsUp`. The
-/// configuration is in bounds.
+// The blocks with which the heap opens: the register arrays of all threads, and the shared array.
+fn opening_blocks(c: &Config) -> u32
+    requires { IsInBounds c.now }
+    ensures { result ≡ opening_blocks c.now }
+{
+    c.width.registers() * c.threads + blocks_of_array(c.width, c.shared)
+}
+
+/// The rate: how many units an allocation will make for each block, chosen so that a cycle ends
+/// before the blocks are used up. It is the least number, at least 1, that is enough by `KeepsUp`.
+/// The configuration is in bounds.
 ///
 /// # Errors
 ///
@@ -30,7 +39,7 @@ pub fn plan(c: &Config) -> Result<u64, PlanFault>
     requires { IsInBounds c.now }
     ensures { MatchResult result (λ p. IsAdmitted c.now × IsRate c.now p) (IsRefusal c.now) }
 {
-    if c.live < REGISTER_BLOCKS * c.threads + blocks_of_array(c.shared) {
+    if c.live < opening_blocks(c) {
         return Err(PlanFault::LiveTooSmall);
     }
     let taken = c.live + 2 * c.threads * c.object;
@@ -42,7 +51,8 @@ pub fn plan(c: &Config) -> Result<u64, PlanFault>
     Ok(u64::from((2 * c.blocks).div_ceil(spare)))
 }
 
-/// An admitted configuration has one rate. It is at least 5, and at most twice the number of blocks.
+/// An admitted configuration has one rate. It is at least 5, and at most twice the number of
+/// blocks.
 pub fn one_rate()
     ensures found { (c : Config) → IsAdmitted c → (p : ℕ) × IsRate c p }
     ensures single { (c : Config) (p q : ℕ) → IsRate c p → IsRate c q → p ≡ q }
@@ -57,17 +67,22 @@ mod tests {
     use super::PlanFault::{self, LiveTooSmall, NoRate};
     use super::plan;
     use block_store::Config;
+    use block_store::Width::{self, Eight, Four};
 
     #[test]
     fn known_rates(rt: HostRuntime) {
-        for (blocks, live, rate) in [
-            (64, 20, Ok(7)),
-            (26, 20, Ok(52)),
-            (25, 20, Err(NoRate)),
-            (64, 5, Err(LiveTooSmall)),
-            (10, 5, Err(LiveTooSmall)),
+        for (width, blocks, live, rate) in [
+            (Four, 64, 20, Ok(7)),
+            (Four, 26, 20, Ok(52)),
+            (Four, 25, 20, Err(NoRate)),
+            (Four, 64, 5, Err(LiveTooSmall)),
+            (Four, 10, 5, Err(LiveTooSmall)),
+            (Eight, 64, 20, Ok(7)),
+            (Eight, 64, 4, Ok(5)),
+            (Eight, 64, 3, Err(LiveTooSmall)),
         ] {
             let c = Config {
+                width,
                 threads: 1,
                 blocks,
                 live,
@@ -77,6 +92,7 @@ mod tests {
             assert_eq!(rt; plan(&c), rate, "{c:?}");
         }
         let c = Config {
+            width: Four,
             threads: 4,
             blocks: 4096,
             live: 2000,
@@ -102,21 +118,36 @@ mod tests {
         Err(NoRate)
     }
 
-    #[test]
-    fn no_smaller_rate_is_enough(rt: HostRuntime) {
-        for (threads, object, shared, opening) in [(1, 1, 0, 6), (1, 3, 17, 13), (2, 2, 5, 13)] {
-            for blocks in 1..60 {
-                for live in 5..30 {
-                    let c = Config {
-                        threads,
-                        blocks,
-                        live,
-                        object,
-                        shared,
-                    };
-                    assert_eq!(rt; plan(&c), searched(&c, opening), "{c:?}");
+    // Compares the rates of small heaps with those that are searched.
+    fn is_least(width: Width, threads: u32, object: u32, shared: u32, opening: u32) -> bool
+        requires threads { (1 ≤ threads) × (threads ≤ 16) }
+        requires object { (1 ≤ object) × (object ≤ 1024) }
+        requires shared { shared ≤ 1024 }
+    {
+        for blocks in 1..60 {
+            for live in 2..30 {
+                let c = Config {
+                    width,
+                    threads,
+                    blocks,
+                    live,
+                    object,
+                    shared,
+                };
+                if plan(&c) != searched(&c, opening) {
+                    return false;
                 }
             }
         }
+        true
+    }
+
+    #[test]
+    fn no_smaller_rate_is_enough(rt: HostRuntime) {
+        assert!(rt; is_least(Four, 1, 1, 0, 6));
+        assert!(rt; is_least(Four, 1, 3, 17, 13));
+        assert!(rt; is_least(Four, 2, 2, 5, 13));
+        assert!(rt; is_least(Eight, 1, 1, 0, 4));
+        assert!(rt; is_least(Eight, 2, 2, 17, 10));
     }
 }

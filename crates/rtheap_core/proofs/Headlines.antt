@@ -1,7 +1,7 @@
 -- The headline of an ended run.
 use Rattle.std.proofs.Common.{ℕ, ◌≡◌, List, [], ◌∷◌, Option, refl, sym, ap, ◌∙◌, subst, arith}
 use Rattle.never_heap.specs.Histories.{HistoryItem, Started, Did, parts, starts_in, work_in}
-use Rattle.never_heap.specs.Runs.{NoWork}
+use Rattle.never_heap.specs.PlainRuns.{NoWork}
 use Rattle.trace_text.specs.Texts.{run_text, text_by_threads}
 use Rattle.rtheap_core.specs.PlainRuns.{PlainRun, history_of}
 use Rattle.rtheap_core.specs.Exits.{Headline, IsWritten}

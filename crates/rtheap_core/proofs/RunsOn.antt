@@ -12,7 +12,9 @@ use Rattle.never_heap.specs.declared.Reply.TheVariants as replies
 use Rattle.never_heap.specs.Graphs.{Graph, start_graph}
 use Rattle.never_heap.specs.Steps.{step, blocks_of}
 use Rattle.never_heap.specs.Histories.{Did, after, is_full, LegalFrom, IsAnswered, replay_from, part, starts_in}
-use Rattle.never_heap.specs.Runs.{FullsExactly, NoWork, IsPlainRun, opening_blocks, blocks_if_new, taken_by, taken_in}
+use Rattle.never_heap.specs.PlainRuns.{FullsExactly, NoWork, IsPlainRun, opening_blocks}
+use Rattle.never_heap.specs.Taken.{blocks_if_new, taken_by, taken_in}
+use Rattle.never_heap.proofs.Answering.{blocks_make}
 use Rattle.never_heap.proofs.Growing.{replay_more, legal_more, part_append, no_work_append, fulls_append, taken_append}
 use Rattle.rtheap_core.specs.declared.plain.PlainHeap.{PlainHeap}
 use Rattle.rtheap_core.specs.Plain.{IsPlain, ShowsPlain, Answers}
@@ -64,7 +66,7 @@ true≢false e = cc
 adds_full : (m used : ℕ) (at : Name → ℕ → ℕ) (g : Graph) (h new : PlainHeap) (command : Command) (reply : Reply) → used ≤ m → m < used + blocks_of command → h.last ≡ used → reply ≡ replies.Full 1 → new ≡ h → ShowsPlain h at g
     → Adds m used g new (entry_of command reply)
 adds_full m used at g h new command reply low lack n e same sh = record {
-  answered = inr (ap is_full e, omega arith);
+  answered = inr (ap is_full e, blocks_make command (omega arith));
   lacks = λ _ _. e;
   fits = λ k l. absurd (omega arith);
   given = let t : blocks_if_new reply (blocks_of command) ≡ 0 = ap (λ (r : Reply). blocks_if_new r (blocks_of command)) e in let q : new.last ≡ h.last = ap (λ (q : PlainHeap). q.last) same in omega arith;

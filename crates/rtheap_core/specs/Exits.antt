@@ -2,7 +2,7 @@
 use Rattle.std.specs.Prelude.{ℕ, ◌≡◌, ◌⊎◌, List, [], ◌∷◌, ◌++◌, codes, decimal, Option, IfSome}
 use Rattle.never_heap.specs.declared.Entry.{Entry}
 use Rattle.never_heap.specs.Histories.{HistoryItem, parts, starts_in, work_in}
-use Rattle.never_heap.specs.Runs.{IsPlainRun}
+use Rattle.never_heap.specs.PlainRuns.{IsPlainRun}
 use Rattle.rate_plan.specs.Rates.{IsAdmitted, IsRate}
 use Rattle.trace_text.specs.declared.jobs.Job.{Job}
 use Rattle.trace_text.specs.Jobs.{IsJobInBounds, IsInput}

@@ -1,7 +1,7 @@
 -- What became of a task before anything was written.
 use Rattle.std.specs.Prelude.{ℕ, ◌≡◌, List, [], ◌∷◌, Option}
 use Rattle.never_heap.specs.Histories.{parts}
-use Rattle.never_heap.specs.Runs.{IsPlainRun}
+use Rattle.never_heap.specs.PlainRuns.{IsPlainRun}
 use Rattle.rate_plan.specs.Rates.{IsAdmitted, IsRate}
 use Rattle.trace_text.specs.declared.jobs.Job.{Job}
 use Rattle.rtheap_core.specs.Exits.{IsReadAs, job_of}

@@ -6,7 +6,8 @@ use Rattle.never_heap.specs.declared.Command.{Command}
 use Rattle.never_heap.specs.declared.Entry.{Entry}
 use Rattle.never_heap.specs.Graphs.{start_graph}
 use Rattle.never_heap.specs.Histories.{HistoryItem, Started, Did, LegalFrom, replay_from, part}
-use Rattle.never_heap.specs.Runs.{FullsExactly, NoWork, opening_blocks, taken_in}
+use Rattle.never_heap.specs.PlainRuns.{FullsExactly, NoWork, opening_blocks}
+use Rattle.never_heap.specs.Taken.{taken_in}
 use Rattle.rtheap_core.specs.declared.plain.PlainHeap.{PlainHeap}
 use Rattle.rtheap_core.specs.Plain.{IsPlain, ShowsPlain}
 

@@ -5,7 +5,7 @@ ghost use Rattle.std.specs.List.{AllByRecursion};
 ghost use Rattle.block_store.specs.Configs.{IsInBounds};
 ghost use Rattle.never_heap.specs.Bounds.{IsCommandInBounds};
 ghost use Rattle.never_heap.specs.Histories.{parts};
-ghost use Rattle.never_heap.specs.Runs.{IsPlainRun, opening_blocks};
+ghost use Rattle.never_heap.specs.PlainRuns.{IsPlainRun, opening_blocks};
 ghost use Rattle.trace_text.specs.Jobs.{IsJobInBounds};
 ghost use Rattle.rate_plan.specs.Rates.{IsAdmitted};
 ghost use Rattle.rtheap_core.specs.Runnable.{CanRun};

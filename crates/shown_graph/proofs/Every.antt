@@ -1,6 +1,9 @@
 -- The moves where all names of the graph are kept.
-use Rattle.std.proofs.Common.{◌≡◌, ℕ, ◌*◌, ◌%◌, ◌<◌, ◌≤◌, ⊎_elim, inl, inr, Bool, true, false, ◌||◌, length, refl, sym, ap, ◌∙◌, subst, arith}
+use Rattle.std.proofs.Common.{◌≡◌, ℕ, ◌<◌, ◌≤◌, ⊎_elim, inl, inr, Bool, true, false, ◌||◌, length, refl, sym, ap, ◌∙◌, subst, arith}
 use Rattle.std.proofs.lemmas.Bool.{cases_Bool}
+use Rattle.block_store.specs.Registers.{register_block, register_slot, registers_end}
+use Rattle.block_store.specs.declared.TheConstants.{REGISTERS}
+use Rattle.block_store.specs.declared.Width.{Width}
 use Rattle.block_store.specs.declared.Name.{Name}
 use Rattle.block_store.specs.declared.Value.{Value}
 use Rattle.block_store.specs.declared.Value.TheVariants.{Ref}
@@ -9,72 +12,118 @@ use Rattle.never_heap.specs.Graphs.{Graph, ObjectKind, object_of, has_name, same
 use Rattle.never_heap.proofs.GraphMoves.{has_name_with_register}
 use Rattle.never_heap.proofs.FieldStores.{has_name_with_field, has_name_with_object}
 use Rattle.shown_graph.specs.Layouts.{object_spot}
-use Rattle.shown_graph.specs.Words.{Agrees, BlockWords, value_word, with_payload, register_block}
+use Rattle.shown_graph.specs.Words.{Agrees, BlockWords, value_word, with_payload}
 use Rattle.shown_graph.specs.Shown.{IsValueOf, heads, Shows, every_name}
 use Rattle.shown_graph.specs.Made.{new_object, with_blocks, and_name, IsMade}
 use Rattle.shown_graph.proofs.Names.{same_self}
 use Rattle.shown_graph.proofs.Stores.{register_store, register_late, field_store, same_names, words_change}
 use Rattle.shown_graph.proofs.Publish.{publish, fresh_head}
 
-module _ (n m : ℕ) (K : Name → Type 0) (g : Graph) (at : Name → ℕ → ℕ) (w : BlockWords) (late : ℕ → ℕ → Bool) (shows : Shows n m K g at w late) where
+module _ (W : Width) (n m : ℕ) (K : Name → Type 0) (g : Graph) (at : Name → ℕ → ℕ)
+    (w : BlockWords) (late : ℕ → ℕ → Bool) (shows : Shows W n m K g at w late) where
   -- Only words behind block m change.
-  pub words_behind : (u : BlockWords) → 5 * n ≤ m → ((x : ℕ) → 0 < x → x ≤ m → Agrees w u x) → Shows n m K g at u late
-  words_behind u room same = words_change n m K g at w late shows u (λ x j some xl jl. (same x some (omega arith)).payloads j jl)
-      (λ a o ka ol. same (at a o) (omega (arith, shows.placed.behind a o ka ol)) (shows.placed.within a o ka ol))
+  pub words_behind : (u : BlockWords) → registers_end W n ≤ m
+      → ((x : ℕ) → 0 < x → x ≤ m → Agrees W w u x) → Shows W n m K g at u late
+  words_behind u room same =
+      words_change W n m K g at w late shows u
+      (λ x j some xl jl. (same x some (omega arith)).payloads j jl)
+      (λ a o ka ol. same (at a o) (omega (arith, shows.placed.behind a o ka ol))
+      (shows.placed.within a o ka ol))
 
-module _ (n m : ℕ) (g : Graph) (at : Name → ℕ → ℕ) (w : BlockWords) (late : ℕ → ℕ → Bool) (shows : Shows n m (every_name g) g at w late) where
+module _ (W : Width) (n m : ℕ) (g : Graph) (at : Name → ℕ → ℕ) (w : BlockWords)
+    (late : ℕ → ℕ → Bool) (shows : Shows W n m (every_name g) g at w late) where
   thread_in : (t : ℕ) → t < n → t < length g.mutators
   thread_in t there = subst (λ k. t < k) (sym shows.sized.threads) there
 
-  pub every_register_store : (late' : ℕ → ℕ → Bool) (t r : ℕ) (v : Value) → t < n → r < 16 → IsValueOf (every_name g) v → ((u q : ℕ) → late' u q ≡ false → ((t ≡ u) → (r ≡ q) → ⊥) → late u q ≡ false)
-      → Shows n m (every_name (with_register g t r v)) (with_register g t r v) at (with_payload w (register_block t r) (r % 4) (value_word (heads at) v)) late'
+  pub every_register_store : (late' : ℕ → ℕ → Bool) (t r : ℕ) (v : Value) → t < n → r < REGISTERS
+      → IsValueOf (every_name g) v
+      → ((u q : ℕ) → late' u q ≡ false → ((t ≡ u) → (r ≡ q) → ⊥) → late u q ≡ false)
+      → Shows W n m (every_name (with_register g t r v)) (with_register g t r v) at
+      (with_payload w (register_block W t r) (register_slot W r)
+      (value_word (heads at) v)) late'
   every_register_store late' t r v there small kept others =
-      same_names n m (every_name g) (with_register g t r v) at _ late' (register_store n m (every_name g) g at w late shows late' t r there small v kept others) (every_name (with_register g t r v))
-      (λ a h. sym (has_name_with_register g t r v a (thread_in t there)) ∙ h) (λ a h. has_name_with_register g t r v a (thread_in t there) ∙ h)
+      same_names W n m (every_name g) (with_register g t r v) at _ late'
+      (register_store W n m
+      (every_name g) g at w late shows late' t r there small v kept others)
+      (every_name (with_register g t r v))
+      (λ a h. sym (has_name_with_register g t r v a (thread_in t there)) ∙ h)
+      (λ a h. has_name_with_register g t r v a (thread_in t there) ∙ h)
 
-  pub every_register_late : (late' : ℕ → ℕ → Bool) (t r : ℕ) (v : Value) → t < n → r < 16 → IsValueOf (every_name g) v → late' t r ≡ true → ((u q : ℕ) → late' u q ≡ false → late u q ≡ false)
-      → Shows n m (every_name (with_register g t r v)) (with_register g t r v) at w late'
+  pub every_register_late : (late' : ℕ → ℕ → Bool) (t r : ℕ) (v : Value) → t < n → r < REGISTERS
+      → IsValueOf (every_name g) v → late' t r ≡ true
+      → ((u q : ℕ) → late' u q ≡ false → late u q ≡ false)
+      → Shows W n m (every_name (with_register g t r v)) (with_register g t r v) at w late'
   every_register_late late' t r v there small kept is others =
-      same_names n m (every_name g) (with_register g t r v) at w late' (register_late n m (every_name g) g at w late shows late' t r there small v kept is others) (every_name (with_register g t r v))
-      (λ a h. sym (has_name_with_register g t r v a (thread_in t there)) ∙ h) (λ a h. has_name_with_register g t r v a (thread_in t there) ∙ h)
+      same_names W n m (every_name g) (with_register g t r v) at w late'
+      (register_late W n m
+      (every_name g) g at w late shows late' t r there small v kept is others)
+      (every_name (with_register g t r v))
+      (λ a h. sym (has_name_with_register g t r v a (thread_in t there)) ∙ h)
+      (λ a h. has_name_with_register g t r v a (thread_in t there) ∙ h)
 
-  pub every_field_store : (a : Name) (i : ℕ) (v : Value) → has_name g a ≡ true → i < length (object_of g a).fields → IsValueOf (every_name g) v
-      → Shows n m (every_name (with_field g a i v)) (with_field g a i v) at (with_payload w (at a (object_spot (object_of g a) i).0) (object_spot (object_of g a) i).1 (value_word (heads at) v)) late
+  pub every_field_store : (a : Name) (i : ℕ) (v : Value) → has_name g a ≡ true
+      → i < length (object_of g a).fields → IsValueOf (every_name g) v
+      → Shows W n m (every_name (with_field g a i v)) (with_field g a i v) at
+      (with_payload w (at a (object_spot W (object_of g a) i).0)
+      (object_spot W (object_of g a) i).1 (value_word (heads at) v)) late
   every_field_store a i v has within kept =
-      same_names n m (every_name g) (with_field g a i v) at _ late (field_store n m (every_name g) g at w late shows a i v has within kept) (every_name (with_field g a i v))
-      (λ b h. sym (has_name_with_field g a i v has b) ∙ h) (λ b h. has_name_with_field g a i v has b ∙ h)
+      same_names W n m (every_name g) (with_field g a i v) at _ late
+      (field_store W n m (every_name g) g at w late shows a i v has within kept)
+      (every_name (with_field g a i v))
+      (λ b h. sym (has_name_with_field g a i v has b) ∙ h)
+      (λ b h. has_name_with_field g a i v has b ∙ h)
 
-  module _ (t : ℕ) (k : ObjectKind) (f : ℕ) (block_of : ℕ → ℕ) (made : IsMade n m g w t k f block_of) where
-    old_or_new : (b : Name) → has_name (with_object g t (new_object k f)) b ≡ true → and_name (every_name g) (next_name g t) b
+  module _ (t : ℕ) (k : ObjectKind) (f : ℕ) (block_of : ℕ → ℕ)
+      (made : IsMade W n m g w t k f block_of) where
+    old_or_new : (b : Name) → has_name (with_object g t (new_object k f)) b ≡ true
+        → and_name (every_name g) (next_name g t) b
     old_or_new b h = elim (cases_Bool (same_name (next_name g t) b)) [
       | inl is ↦ inl is
-      | inr is ↦ inr (sym (ap (λ x. x || has_name g b) is) ∙ sym (has_name_with_object g t (new_object k f) (thread_in t made.thread) b) ∙ h)
+      | inr is ↦ inr (sym (ap (λ x. x || has_name g b) is)
+          ∙ sym (has_name_with_object g t (new_object k f) (thread_in t made.thread) b) ∙ h)
     ]
 
-    new_or_old : (b : Name) → and_name (every_name g) (next_name g t) b → has_name (with_object g t (new_object k f)) b ≡ true
-    new_or_old b name = has_name_with_object g t (new_object k f) (thread_in t made.thread) b ∙ ⊎_elim (λ (is : same_name (next_name g t) b ≡ true). rw is refl) (λ (h : has_name g b ≡ true). elim (cases_Bool (same_name (next_name g t) b)) [
-      | inl is ↦ rw is refl
-      | inr is ↦ rw is h
-    ]) name
+    new_or_old : (b : Name) → and_name (every_name g) (next_name g t) b
+        → has_name (with_object g t (new_object k f)) b ≡ true
+    new_or_old b name = has_name_with_object g t (new_object k f) (thread_in t made.thread) b
+        ∙ ⊎_elim (λ (is : same_name (next_name g t) b ≡ true). rw is refl)
+        (λ (h : has_name g b ≡ true). elim (cases_Bool (same_name (next_name g t) b)) [
+          | inl is ↦ rw is refl
+          | inr is ↦ rw is h
+        ]) name
 
-    pub every_publish : Shows n m (every_name (with_object g t (new_object k f))) (with_object g t (new_object k f)) (with_blocks at (next_name g t) block_of) w late
+    pub every_publish : Shows W n m (every_name (with_object g t (new_object k f)))
+        (with_object g t (new_object k f)) (with_blocks at (next_name g t) block_of) w late
     every_publish =
-        same_names n m (and_name (every_name g) (next_name g t)) (with_object g t (new_object k f)) (with_blocks at (next_name g t) block_of) w late
-        (publish n m (every_name g) g at w late shows t k f block_of made) (every_name (with_object g t (new_object k f))) old_or_new new_or_old
+        same_names W n m (and_name (every_name g) (next_name g t))
+        (with_object g t (new_object k f)) (with_blocks at (next_name g t) block_of) w late
+        (publish W n m (every_name g) g at w late shows t k f block_of made)
+        (every_name (with_object g t (new_object k f))) old_or_new new_or_old
 
     -- the grown graph has the new name
     pub has_fresh : has_name (with_object g t (new_object k f)) (next_name g t) ≡ true
     has_fresh = new_or_old (next_name g t) (inl (same_self (next_name g t)))
 
 -- The object that was made is referred to by register d.
-pub every_new : (n m : ℕ) (g : Graph) (at : Name → ℕ → ℕ) (w : BlockWords) (late : ℕ → ℕ → Bool) → Shows n m (every_name g) g at w late
-    → (t d : ℕ) (k : ObjectKind) (f : ℕ) (block_of : ℕ → ℕ) → IsMade n m g w t k f block_of → d < 16
-    → Shows n m (every_name (with_register (with_object g t (new_object k f)) t d (Ref (next_name g t)))) (with_register (with_object g t (new_object k f)) t d (Ref (next_name g t)))
-    (with_blocks at (next_name g t) block_of) (with_payload w (register_block t d) (d % 4) (reference_word (block_of 0))) late
-every_new n m g at w late shows t d k f block_of made small =
-    let new = every_publish n m g at w late shows t k f block_of made in
-    subst (λ x. Shows n m (every_name (with_register (with_object g t (new_object k f)) t d (Ref (next_name g t)))) (with_register (with_object g t (new_object k f)) t d (Ref (next_name g t)))
-    (with_blocks at (next_name g t) block_of) (with_payload w (register_block t d) (d % 4) (reference_word x)) late)
-    (fresh_head n m (every_name g) g at w late shows t k f block_of made)
-    (every_register_store n m (with_object g t (new_object k f)) (with_blocks at (next_name g t) block_of) w late new late t d (Ref (next_name g t)) made.thread small
-    (has_fresh n m g at w late shows t k f block_of made) (λ u q e _. e))
+pub every_new : (W : Width) (n m : ℕ) (g : Graph) (at : Name → ℕ → ℕ) (w : BlockWords)
+    (late : ℕ → ℕ → Bool) → Shows W n m (every_name g) g at w late
+    → (t d : ℕ) (k : ObjectKind) (f : ℕ) (block_of : ℕ → ℕ) → IsMade W n m g w t k f block_of
+    → d < REGISTERS
+    → Shows W n m (every_name
+    (with_register (with_object g t (new_object k f)) t d (Ref (next_name g t))))
+    (with_register (with_object g t (new_object k f)) t d (Ref (next_name g t)))
+    (with_blocks at (next_name g t) block_of)
+    (with_payload w (register_block W t d) (register_slot W d)
+    (reference_word (block_of 0))) late
+every_new W n m g at w late shows t d k f block_of made small =
+    let new = every_publish W n m g at w late shows t k f block_of made in
+    subst (λ x. Shows W n m (every_name
+    (with_register (with_object g t (new_object k f)) t d (Ref (next_name g t))))
+    (with_register (with_object g t (new_object k f)) t d (Ref (next_name g t)))
+    (with_blocks at (next_name g t) block_of)
+    (with_payload w (register_block W t d) (register_slot W d) (reference_word x)) late)
+    (fresh_head W n m (every_name g) g at w late shows t k f block_of made)
+    (every_register_store W n m (with_object g t (new_object k f))
+    (with_blocks at (next_name g t) block_of) w late new late t d
+    (Ref (next_name g t)) made.thread small
+    (has_fresh W n m g at w late shows t k f block_of made) (λ u q e _. e))

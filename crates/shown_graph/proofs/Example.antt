@@ -1,53 +1,198 @@
 -- The events of the example may come one after another, and its record is one that was made.
-use Rattle.std.proofs.Common.{zero, suc, ◌+◌, ◌≡◌, ℕ, ◌<◌, refl, arith}
+use Rattle.std.proofs.Common.{zero, suc, ◌+◌, ◌*◌, ◌≡◌, ℕ, ◌<◌, None, cond, eqb, ltb, inl, inr, refl, sym, ap, ◌∙◌, ne_eqb, arith}
+use Rattle.std.proofs.lemmas.Bool.{cases_Bool}
 use Rattle.block_store.specs.declared.Shape.TheVariants as shapes
 use Rattle.block_store.specs.declared.Value.TheVariants.{Int}
+use Rattle.block_store.specs.Owners.{owner_word}
 use Rattle.block_store.specs.Payloads.{target, reference_word, number_word}
 use Rattle.block_store.specs.Shapes.{shape_of, array_word}
+use Rattle.block_store.specs.declared.Width.TheVariants.{Four, Eight}
+use Rattle.block_store.specs.declared.Width.{Width}
+use Rattle.block_store.specs.Widths.{payloads}
+use Rattle.block_store.specs.Registers.{registers_end}
 use Rattle.array_trees.specs.Trees.{tree}
 use Rattle.array_trees.specs.Levels.{tree_depth}
 use Rattle.never_heap.specs.Graphs.{Record, start_graph, register_of}
 use Rattle.object_lists.specs.Parts.{link_in}
-use Rattle.shown_graph.specs.Layouts.{layout_part}
+use Rattle.object_lists.specs.Records.{list_part}
+use Rattle.shown_graph.specs.Layouts.{layout_blocks, layout_part}
 use Rattle.shown_graph.specs.Made.{IsMade, IsWritten, link_word}
 use Rattle.shown_graph.specs.Openings.{opening_words}
 use Rattle.shown_graph.proofs.Publish.{written_shows}
 use Rattle.shown_graph.specs.Events.{run, Guarded, opening_state}
-use Rattle.shown_graph.specs.Example.{small_config, some_events, with_record}
+use Rattle.shown_graph.specs.Example.{small_config, wide_config, some_events, with_record}
 
-pub example_runs : Guarded 2 (opening_state small_config) some_events
+-- what one event asks, and then the others
+both : {A B : Type 0} → A → B → A × B
+both a b = (a, b)
+
+pub example_runs : (W : Width) → Guarded W 2 (opening_state (small_config W)) some_events
 unfolding target reference_word number_word array_word shape_of tree tree_depth
-example_runs = ((omega arith, omega arith, refl, omega arith), ((omega arith, omega arith, refl, λ e. omega arith), ((omega arith, refl, refl), ((omega arith, omega arith, refl), ((omega arith, refl, refl, record { object = refl; refers = refl; shape = shapes.Tree 4; read = refl; field = refl }), ((omega arith, omega arith, refl, λ e. omega arith), ((omega arith, refl, refl), ((omega arith, omega arith, refl, record { object = refl; refers = refl; shape = shapes.Tree 4; read = refl; field = refl }), ((omega arith, refl, refl), tt)))))))))
+example_runs Four =
+    both (omega arith, omega arith, refl, omega arith)
+    (both (omega arith, omega arith, refl, λ e. omega arith)
+    (both (omega arith, refl, refl)
+    (both (omega arith, omega arith, refl)
+    (both (
+      omega arith,
+      refl,
+      refl,
+      record {
+        object = refl;
+        refers = refl;
+        shape = shapes.Tree 4;
+        read = refl;
+        field = refl;
+      },
+    )
+    (both (omega arith, omega arith, refl, λ e. omega arith)
+    (both (omega arith, refl, refl)
+    (both (
+      omega arith,
+      omega arith,
+      refl,
+      record {
+        object = refl;
+        refers = refl;
+        shape = shapes.Tree 4;
+        read = refl;
+        field = refl;
+      },
+    )
+    (both (omega arith, refl, refl) tt))))))))
+example_runs Eight =
+    both (omega arith, omega arith, refl, omega arith)
+    (both (omega arith, omega arith, refl, λ e. omega arith)
+    (both (omega arith, refl, refl)
+    (both (omega arith, omega arith, refl)
+    (both (
+      omega arith,
+      refl,
+      refl,
+      record {
+        object = refl;
+        refers = refl;
+        shape = shapes.Tree 4;
+        read = refl;
+        field = refl;
+      },
+    )
+    (both (omega arith, omega arith, refl, λ e. omega arith)
+    (both (omega arith, refl, refl)
+    (both (
+      omega arith,
+      omega arith,
+      refl,
+      record {
+        object = refl;
+        refers = refl;
+        shape = shapes.Tree 4;
+        read = refl;
+        field = refl;
+      },
+    )
+    (both (omega arith, refl, refl) tt))))))))
 
-pub example_reads : register_of (run (opening_state small_config) some_events).graph 1 2 ≡ Int 7
-example_reads = refl
+pub example_reads : (W : Width)
+    → register_of (run W (opening_state (small_config W)) some_events).graph 1 2 ≡ Int 7
+example_reads Four = refl
+example_reads Eight = refl
 
-links : (o j : ℕ) → o < 2 → j < 4 → (with_record (opening_words small_config)).payload (12 + o) j ≡ link_word (λ o. 12 + o) (link_in (layout_part Record 4 o j))
+-- no payload of a record but the first is a link
+no_link : (k f o j : ℕ) → link_in (list_part k f o (suc j)) ≡ None
+no_link k f o j = elim (cases_Bool (ltb j k)) [
+  | inr out ↦ rw out refl
+  | inl in_row ↦ elim (cases_Bool (ltb (o * k + j) f)) [
+    | inl is ↦ rw (in_row, is) refl
+    | inr is ↦
+        rw (in_row, is) refl
+  ]
+]
+
+-- a write at payload 0 is none at another
+not_first : (j v : ℕ) → cond (eqb (suc j) 0) v 0 ≡ 0
+not_first j v = rw (ne_eqb (suc j) 0 (λ e. absurd (omega arith))) refl
+
+links : (W : Width) (o j : ℕ) → o < 2
+    → (with_record W (opening_words (small_config W))).payload (12 + o) j
+    ≡ link_word (λ p. 12 + p) (link_in (layout_part W Record (payloads W) o j))
 unfolding reference_word tree tree_depth
-links zero zero ol jl = refl
-links zero (suc zero) ol jl = refl
-links zero (suc (suc zero)) ol jl = refl
-links zero (suc (suc (suc zero))) ol jl = refl
-links zero (suc (suc (suc (suc j)))) ol jl = absurd (omega arith)
-links (suc zero) zero ol jl = refl
-links (suc zero) (suc zero) ol jl = refl
-links (suc zero) (suc (suc zero)) ol jl = refl
-links (suc zero) (suc (suc (suc zero))) ol jl = refl
-links (suc zero) (suc (suc (suc (suc j)))) ol jl = absurd (omega arith)
-links (suc (suc o)) j ol jl = absurd (omega arith)
+links Four zero zero ol = refl
+links Four zero (suc j) ol = not_first j 26 ∙ sym (ap (link_word (λ p. 12 + p)) (no_link 3 4 0 j))
+links Four (suc zero) zero ol = refl
+links Four (suc zero) (suc j) ol = sym (ap (link_word (λ p. 12 + p)) (no_link 3 4 1 j))
+links Four (suc (suc o)) j ol = absurd (omega arith)
+links Eight zero zero ol = refl
+links Eight zero (suc j) ol = not_first j 26 ∙ sym (ap (link_word (λ p. 12 + p)) (no_link 7 8 0 j))
+links Eight (suc zero) zero ol = refl
+links Eight (suc zero) (suc j) ol = sym (ap (link_word (λ p. 12 + p)) (no_link 7 8 1 j))
+links Eight (suc (suc o)) j ol = absurd (omega arith)
 
-written : (o : ℕ) → o < 2 → IsWritten (with_record (opening_words small_config)) (record { thread = 0; serial = 1 }) Record 4 (λ o. 12 + o) o
-written zero ol = record { owned = refl; shaped = refl; links = λ j jl. links zero j ol jl }
-written (suc zero) ol = record { owned = refl; shaped = refl; links = λ j jl. links (suc zero) j ol jl }
-written (suc (suc o)) ol = absurd (omega arith)
+written : (W : Width) (o : ℕ) → o < 2
+    → IsWritten W (with_record W (opening_words (small_config W)))
+    (record { thread = 0; serial = 1 }) Record (payloads W) (λ p. 12 + p) o
+written W zero ol = record { owned = refl; shaped = refl; links = λ j jl. links W zero j ol }
+written W (suc zero) ol =
+    record { owned = refl; shaped = refl; links = λ j jl. links W (suc zero) j ol }
+written W (suc (suc o)) ol = absurd (omega arith)
 
-pub example_made : IsMade 2 13 (start_graph small_config) (with_record (opening_words small_config)) 0 Record 4 (λ o. 12 + o)
-example_made = record {
+two : (W : Width) → layout_blocks W Record (payloads W) ≡ 2
+two Four = refl
+two Eight = refl
+
+end_low : (W : Width) → registers_end W 2 < 12
+end_low Four = omega arith
+end_low Eight = omega arith
+
+pub example_made : (W : Width)
+    → IsMade W 2 13 (start_graph (small_config W))
+    (with_record W (opening_words (small_config W))) 0 Record (payloads W) (λ o. 12 + o)
+example_made W = record {
   thread = omega arith;
   few_threads = omega arith;
   serial = omega arith;
-  ordinals = omega arith;
-  behind = λ o ol. omega arith;
-  within = λ o ol. omega arith;
-  blocks = λ o ol. written_shows (λ a. 0) (with_record (opening_words small_config)) (record { thread = 0; serial = 1 }) Record 4 (λ o. 12 + o) o (written o ol);
+  ordinals = omega (arith, two W);
+  behind = λ o ol. omega (arith, end_low W);
+  within = λ o ol. omega (arith, two W, ol);
+  blocks = λ o ol. written_shows W (λ a. 0) (with_record W (opening_words (small_config W)))
+      (record { thread = 0; serial = 1 }) Record (payloads W) (λ p. 12 + p) o
+      (written W o (omega (arith, two W, ol)));
 }
+
+pub wide_root : ((opening_words wide_config).payload 1 0 ≡ 4)
+    × ((opening_words wide_config).payload 1 1 ≡ 6)
+unfolding reference_word tree tree_depth
+wide_root = (refl, refl)
+
+pub wide_root_rest : (j : ℕ) → 1 < j → j < 8 → (opening_words wide_config).payload 1 j ≡ 0
+unfolding reference_word tree tree_depth
+wide_root_rest zero low high = absurd (omega arith)
+wide_root_rest (suc zero) low high = absurd (omega arith)
+wide_root_rest (suc (suc zero)) low high = refl
+wide_root_rest (suc (suc (suc zero))) low high = refl
+wide_root_rest (suc (suc (suc (suc zero)))) low high = refl
+wide_root_rest (suc (suc (suc (suc (suc zero))))) low high = refl
+wide_root_rest (suc (suc (suc (suc (suc (suc zero)))))) low high = refl
+wide_root_rest (suc (suc (suc (suc (suc (suc (suc zero))))))) low high = refl
+wide_root_rest (suc (suc (suc (suc (suc (suc (suc (suc j)))))))) low high = absurd (omega arith)
+
+pub wide_registers : (opening_words wide_config).payload 2 0 ≡ 8
+unfolding reference_word tree tree_depth
+wide_registers = refl
+
+pub wide_rest : (j : ℕ) → 0 < j → j < 8 → (opening_words wide_config).payload 2 j ≡ 0
+unfolding reference_word tree tree_depth
+wide_rest zero low high = absurd (omega arith)
+wide_rest (suc zero) low high = refl
+wide_rest (suc (suc zero)) low high = refl
+wide_rest (suc (suc (suc zero))) low high = refl
+wide_rest (suc (suc (suc (suc zero)))) low high = refl
+wide_rest (suc (suc (suc (suc (suc zero))))) low high = refl
+wide_rest (suc (suc (suc (suc (suc (suc zero)))))) low high = refl
+wide_rest (suc (suc (suc (suc (suc (suc (suc zero))))))) low high = refl
+wide_rest (suc (suc (suc (suc (suc (suc (suc (suc j)))))))) low high = absurd (omega arith)
+
+pub wide_shared : ((opening_words wide_config).owner 4 ≡ 1099511627776)
+    × ((opening_words wide_config).shape 4 ≡ 1)
+unfolding owner_word array_word tree
+wide_shared = (refl, refl)

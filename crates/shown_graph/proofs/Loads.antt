@@ -1,5 +1,6 @@
 -- What a thread has loaded reads as the graph says.
 use Rattle.std.proofs.Common.{◌≡◌, ℕ, ◌<◌, ◌≤◌, Some, IfSome, length, sym, ap, ◌∙◌, subst}
+use Rattle.block_store.specs.declared.Width.{Width}
 use Rattle.block_store.specs.declared.Name.{Name}
 use Rattle.block_store.specs.declared.Shape.{Shape}
 use Rattle.block_store.specs.declared.Value.TheVariants.{Ref}
@@ -15,20 +16,36 @@ use Rattle.shown_graph.specs.Events.{ObjectLoad, ValueLoad, GraphState, lates, O
 use Rattle.shown_graph.proofs.ObjectLayouts.{object_layout}
 use Rattle.shown_graph.proofs.Reading.{value_read, owner_read}
 
-module _ (n m : ℕ) (K : Name → Type 0) (at : Name → ℕ → ℕ) (s : GraphState) (k : Follows n m K at s) (t : ℕ) (there : t < n) where
-  pub value_shown : (v : ValueLoad) → m ≤ 65535 → ValueIs s.graph at t v → payload_of v.word ≡ Some (value_payload (heads at) (register_of s.graph t v.origin))
+module _ (W : Width) (n m : ℕ) (K : Name → Type 0) (at : Name → ℕ → ℕ) (s : GraphState)
+    (k : Follows W n m K at s) (t : ℕ) (there : t < n) where
+  pub value_shown : (v : ValueLoad) → m ≤ 65535 → ValueIs s.graph at t v
+      → payload_of v.word ≡ Some (value_payload (heads at) (register_of s.graph t v.origin))
   value_shown v few is = ap payload_of is.word
-      ∙ value_read n m K s.graph at s.words (lates s.loads) k.shows (register_of s.graph t v.origin) few (k.shows.closed.registers t v.origin there is.origin)
+      ∙ value_read W n m K s.graph at s.words (lates s.loads) k.shows
+      (register_of s.graph t v.origin) few
+      (k.shows.closed.registers t v.origin there is.origin)
 
-  pub name_shown : (v : ValueLoad) (a : Name) → ValueIs s.graph at t v → register_of s.graph t v.origin ≡ Ref a → owner_of (s.words.owner (target v.word)) ≡ Some (record { thread = a.thread; serial = a.serial; ordinal = 0 })
+  pub name_shown : (v : ValueLoad) (a : Name) → ValueIs s.graph at t v
+      → register_of s.graph t v.origin ≡ Ref a
+      → owner_of (s.words.owner (target v.word))
+      ≡ Some (record { thread = a.thread; serial = a.serial; ordinal = 0 })
   name_shown v a is refers =
-      let kept : K a = subst (λ x. IsValueOf K x) refers (k.shows.closed.registers t v.origin there is.origin) in
-      let block : target v.word ≡ at a 0 = ap target (is.word ∙ ap (value_word (heads at)) refers) ∙ target-reference (at a 0) in
-      ap (λ x. owner_of (s.words.owner x)) block ∙ owner_read n m K s.graph at s.words (lates s.loads) k.shows a 0 kept (object_layout (object_of s.graph a)).first
+      let kept : K a = subst (λ x. IsValueOf K x) refers
+      (k.shows.closed.registers t v.origin there is.origin) in
+      let block : target v.word ≡ at a 0 =
+      ap target (is.word ∙ ap (value_word (heads at)) refers) ∙ target-reference (at a 0) in
+      ap (λ x. owner_of (s.words.owner x)) block
+      ∙ owner_read W n m K s.graph at s.words (lates s.loads) k.shows a 0 kept
+      (object_layout W (object_of s.graph a)).first
 
-pub length_shown : (t : ℕ) (at : Name → ℕ → ℕ) (g : Graph) (l : ObjectLoad) (f : Shape) (a : Name) → ObjectIs g at t l → l.shape ≡ Some f → register_of g t l.source ≡ Ref a
+pub length_shown : (W : Width) (t : ℕ) (at : Name → ℕ → ℕ) (g : Graph) (l : ObjectLoad)
+    (f : Shape) (a : Name) → ObjectIs W g at t l → l.shape ≡ Some f
+    → register_of g t l.source ≡ Ref a
     → f ≡ kind_shape (object_of g a).kind (length (object_of g a).fields)
-length_shown t at g l f a is read refers =
+length_shown W t at g l f a is read refers =
     let same : Ref is.name ≡ Ref a = sym is.refers ∙ refers in
     let one : is.name ≡ a = cc in
-    subst (λ b. f ≡ kind_shape (object_of g b).kind (length (object_of g b).fields)) one (subst (λ o. IfSome o (λ f. f ≡ kind_shape (object_of g is.name).kind (length (object_of g is.name).fields))) read is.shape)
+    subst (λ b. f ≡ kind_shape (object_of g b).kind (length (object_of g b).fields)) one
+    (subst (λ o. IfSome o (λ f. f
+    ≡ kind_shape (object_of g is.name).kind
+    (length (object_of g is.name).fields))) read is.shape)

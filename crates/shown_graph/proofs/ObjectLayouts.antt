@@ -1,20 +1,28 @@
 -- Every object has a layout, and one of few blocks has few fields.
 use Rattle.std.proofs.Common.{ℕ, ◌≤◌, length, arith}
+use Rattle.block_store.specs.declared.Width.{Width}
+use Rattle.block_store.specs.declared.Width.TheVariants.{Four, Eight}
+use Rattle.block_store.specs.Widths.{payloads}
 use Rattle.object_lists.specs.Layouts.{IsLayout}
-use Rattle.object_lists.proofs.Lists.{list_layout}
+use Rattle.object_lists.proofs.Lists.{record_layout}
 use Rattle.array_trees.specs.Trees.{leaves}
 use Rattle.array_trees.proofs.Arrays.{tree_layout}
-use Rattle.array_trees.proofs.Counts.{le-tree}
+use Rattle.array_trees.proofs.Counts.{le-tree, many}
 use Rattle.never_heap.specs.Graphs.{ObjectKind, Record, Array, Object}
 use Rattle.shown_graph.specs.Layouts.{layout_blocks, layout_part, layout_spot, object_blocks, object_part, object_spot}
 
-pub layout_laws : (k : ObjectKind) (n : ℕ) → IsLayout 4 n (layout_blocks k n) (layout_part k n) (layout_spot k n)
-layout_laws Record n = list_layout 3 n (omega arith)
-layout_laws Array n = tree_layout 4 n (omega arith)
+pub layout_laws : (W : Width) (k : ObjectKind) (n : ℕ)
+    → IsLayout (payloads W) n (layout_blocks W k n) (layout_part W k n) (layout_spot W k n)
+layout_laws W Record n = record_layout W n
+layout_laws W Array n = tree_layout (payloads W) n (many W)
 
-pub object_layout : (o : Object) → IsLayout 4 (length o.fields) (object_blocks o) (object_part o) (object_spot o)
-object_layout o = layout_laws o.kind (length o.fields)
+pub object_layout : (W : Width) (o : Object)
+    → IsLayout (payloads W) (length o.fields) (object_blocks W o) (object_part W o)
+    (object_spot W o)
+object_layout W o = layout_laws W o.kind (length o.fields)
 
-pub few_fields : (k : ObjectKind) (n : ℕ) → layout_blocks k n ≤ 1024 → n ≤ 65535
-few_fields Record n h = omega arith
-few_fields Array n h = omega (arith, h, le-tree 4 (leaves 4 n) (omega arith))
+pub few_fields : (W : Width) (k : ObjectKind) (n : ℕ) → layout_blocks W k n ≤ 1024 → n ≤ 65535
+few_fields Four Record n h = omega arith
+few_fields Eight Record n h = omega arith
+few_fields Four Array n h = omega (arith, h, le-tree 4 (leaves 4 n) (omega arith))
+few_fields Eight Array n h = omega (arith, h, le-tree 8 (leaves 8 n) (omega arith))

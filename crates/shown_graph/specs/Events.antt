@@ -1,27 +1,33 @@
--- What threads do by commands that allocate nothing, one word at a time: what they have loaded, their events, and when each may come.
-use Rattle.std.specs.Prelude.{ℕ, ◌%◌, ◌^◌, ◌<◌, ◌≡◌, ◌≢◌, ◌==◌, ◌&&◌, Bool, true, false, cond, Option, Some, None, IfSome, List, [], ◌∷◌, length}
+-- What threads do by commands that allocate nothing, one word at a time: what they have loaded,
+-- their events, and when each may come. W is the width of the blocks.
+use Rattle.std.specs.Prelude.{ℕ, ◌^◌, ◌<◌, ◌≡◌, ◌≢◌, ◌==◌, ◌&&◌, Bool, true, false, cond, Option, Some, None, IfSome, List, [], ◌∷◌, length}
 use Rattle.block_store.specs.declared.Config.{Config}
 use Rattle.block_store.specs.declared.Name.{Name}
 use Rattle.block_store.specs.declared.Shape.{Shape}
+use Rattle.block_store.specs.declared.TheConstants.{REGISTERS}
 use Rattle.block_store.specs.declared.Value.{Value}
 use Rattle.block_store.specs.declared.Value.TheVariants.{Nil, Int, Ref}
+use Rattle.block_store.specs.declared.Width.{Width}
+use Rattle.block_store.specs.Registers.{register_block, register_slot}
 use Rattle.block_store.specs.Payloads.{target}
 use Rattle.block_store.specs.Shapes.{shape_of}
 use Rattle.never_heap.specs.Graphs.{Graph, start_graph, object_of, field_of, register_of, with_register, with_field}
 use Rattle.object_lists.specs.Parts.{Link, Field}
 use Rattle.shown_graph.specs.Layouts.{object_blocks, kind_shape, shape_part}
-use Rattle.shown_graph.specs.Words.{BlockWords, value_word, with_payload, register_block}
+use Rattle.shown_graph.specs.Words.{BlockWords, value_word, with_payload, with_register_word}
 use Rattle.shown_graph.specs.Shown.{heads, Shows}
 use Rattle.shown_graph.specs.Openings.{opening_words}
 
--- the block at which a thread has come in the object that its register source refers to, and the shape where it was read
+-- the block at which a thread has come in the object that its register source refers to, and the
+-- shape where it was read
 pub record ObjectLoad : Type 0 where
   pub source : ℕ
   pub block : ℕ
   pub ordinal : ℕ
   pub shape : Option Shape
 
--- the word of the value in register origin. It is late where the register has the value already, and its word is older.
+-- the word of the value in register origin. It is late where the register has the value already,
+-- and its word is older.
 pub record ValueLoad : Type 0 where
   pub origin : ℕ
   pub word : ℕ
@@ -71,11 +77,13 @@ pub data Event : Type 0 where
   ReadValue : (t r : ℕ) → Event  -- register r, for its value
   ReadShape : (t : ℕ) (f : Shape) → Event  -- the object's shape
   ReadLink : (t j p : ℕ) → Event  -- payload j, which links to ordinal p
-  ReadField : (t d : ℕ) (a : Name) (i j : ℕ) → Event  -- payload j, which is field i of a; register d of the graph has it from now on
+  -- payload j, which is field i of a; register d of the graph has it from now on
+  ReadField : (t d : ℕ) (a : Name) (i j : ℕ) → Event
   StoreLate : (t : ℕ) → Event  -- the word of that value is stored in its register
   StoreValue : (t d : ℕ) → Event  -- the loaded value is stored in register d
   StoreConstant : (t d : ℕ) (v : Value) → Event  -- nil or a number is stored in register d
-  StoreField : (t : ℕ) (a : Name) (i j : ℕ) → Event  -- the loaded value is stored at payload j, which is field i of a
+  -- the loaded value is stored at payload j, which is field i of a
+  StoreField : (t : ℕ) (a : Name) (i j : ℕ) → Event
   Finish : (t : ℕ) → Event  -- the command is over
 
 abbrev pub object_at : GraphState → ℕ → ObjectLoad
@@ -84,37 +92,64 @@ object_at s t = object_in (s.loads t).object
 abbrev pub value_at : GraphState → ℕ → ValueLoad
 value_at s t = value_in (s.loads t).value
 
-abbrev pub register_word_in : BlockWords → ℕ → ℕ → ℕ
-register_word_in w t r = w.payload (register_block t r) (r % 4)
+abbrev pub register_word_in : Width → BlockWords → ℕ → ℕ → ℕ
+register_word_in W w t r = w.payload (register_block W t r) (register_slot W r)
+
+-- thread t has come to the object, or has loaded the value, beside what it had loaded
+abbrev pub load_object : GraphState → ℕ → ObjectLoad → GraphState
+load_object s t o =
+    record s {
+      loads = with_load s.loads t (record { object = Some o; value = (s.loads t).value });
+    }
+
+abbrev pub load_value : GraphState → ℕ → ValueLoad → GraphState
+load_value s t v =
+    record s {
+      loads = with_load s.loads t (record { object = (s.loads t).object; value = Some v });
+    }
+
+-- the state after thread t's store, with which its command is over
+abbrev pub stored : GraphState → ℕ → Graph → BlockWords → GraphState
+stored s t g w = record { graph = g; words = w; loads = with_load s.loads t unloaded }
 
 -- the state after an event
-abbrev pub apply : GraphState → Event → GraphState
-apply s (ReadObject t r) = record s { loads = with_load s.loads t (record { value = (s.loads t).value; object = Some (record { source = r; block = target (register_word_in s.words t r); ordinal = 0; shape = None }) }) }
-apply s (ReadValue t r) = record s { loads = with_load s.loads t (record { object = (s.loads t).object; value = Some (record { origin = r; word = register_word_in s.words t r; late = false }) }) }
-apply s (ReadShape t f) = record s { loads = with_load s.loads t (record { value = (s.loads t).value; object = Some (record (object_at s t) { shape = Some f }) }) }
-apply s (ReadLink t j p) = record s { loads = with_load s.loads t (record { value = (s.loads t).value; object = Some (record (object_at s t) { block = target (s.words.payload (object_at s t).block j); ordinal = p }) }) }
-apply s (ReadField t d a i j) = record {
-  graph = with_register s.graph t d (field_of (object_of s.graph a) i);
-  words = s.words;
-  loads = with_load s.loads t (record { object = None; value = Some (record { origin = d; word = s.words.payload (object_at s t).block j; late = true }) });
-}
-apply s (StoreLate t) = record s { words = with_payload s.words (register_block t (value_at s t).origin) ((value_at s t).origin % 4) (value_at s t).word; loads = with_load s.loads t unloaded }
-apply s (StoreValue t d) = record {
-  graph = with_register s.graph t d (register_of s.graph t (value_at s t).origin);
-  words = with_payload s.words (register_block t d) (d % 4) (value_at s t).word;
-  loads = with_load s.loads t unloaded;
-}
-apply s (StoreConstant t d v) = record {
-  graph = with_register s.graph t d v;
-  words = with_payload s.words (register_block t d) (d % 4) (value_word (λ a. 0) v);
-  loads = with_load s.loads t unloaded;
-}
-apply s (StoreField t a i j) = record {
-  graph = with_field s.graph a i (register_of s.graph t (value_at s t).origin);
-  words = with_payload s.words (object_at s t).block j (value_at s t).word;
-  loads = with_load s.loads t unloaded;
-}
-apply s (Finish t) = record s { loads = with_load s.loads t unloaded }
+abbrev pub apply : Width → GraphState → Event → GraphState
+apply W s (ReadObject t r) =
+    load_object s t (record {
+      source = r;
+      block = target (register_word_in W s.words t r);
+      ordinal = 0;
+      shape = None;
+    })
+apply W s (ReadValue t r) =
+    load_value s t (record { origin = r; word = register_word_in W s.words t r; late = false })
+apply W s (ReadShape t f) = load_object s t (record (object_at s t) { shape = Some f })
+apply W s (ReadLink t j p) =
+    let block = target (s.words.payload (object_at s t).block j) in
+    load_object s t (record (object_at s t) { block = block; ordinal = p })
+apply W s (ReadField t d a i j) =
+    let word = s.words.payload (object_at s t).block j in
+    let value : ValueLoad = record { origin = d; word = word; late = true } in
+    record {
+      graph = with_register s.graph t d (field_of (object_of s.graph a) i);
+      words = s.words;
+      loads = with_load s.loads t (record { object = None; value = Some value });
+    }
+apply W s (StoreLate t) =
+    let v = value_at s t in
+    stored s t s.graph (with_register_word W s.words t v.origin v.word)
+apply W s (StoreValue t d) =
+    let v = value_at s t in
+    stored s t (with_register s.graph t d (register_of s.graph t v.origin))
+    (with_register_word W s.words t d v.word)
+apply W s (StoreConstant t d v) =
+    stored s t (with_register s.graph t d v)
+    (with_register_word W s.words t d (value_word (λ a. 0) v))
+apply W s (StoreField t a i j) =
+    let v = value_at s t in
+    stored s t (with_field s.graph a i (register_of s.graph t v.origin))
+    (with_payload s.words (object_at s t).block j v.word)
+apply W s (Finish t) = stored s t s.graph s.words
 
 abbrev pub HasObject : GraphState → ℕ → Type 0
 HasObject s t = (s.loads t).object ≡ Some (object_at s t)
@@ -123,19 +158,19 @@ abbrev pub HasValue : GraphState → ℕ → Type 0
 HasValue s t = (s.loads t).value ≡ Some (value_at s t)
 
 -- the shape was read, and says of payload j that it is field i of the object of a
-pub record IsAtField (s : GraphState) (t : ℕ) (a : Name) (i j : ℕ) : Type 0 where
+pub record IsAtField (W : Width) (s : GraphState) (t : ℕ) (a : Name) (i j : ℕ) : Type 0 where
   pub object : HasObject s t
   pub refers : register_of s.graph t (object_at s t).source ≡ Ref a
   pub shape : Shape
   pub read : (object_at s t).shape ≡ Some shape
-  pub field : shape_part shape (object_at s t).ordinal j ≡ Field i
+  pub field : shape_part W shape (object_at s t).ordinal j ≡ Field i
 
 -- the same for a link to ordinal p
-pub record IsAtLink (s : GraphState) (t j p : ℕ) : Type 0 where
+pub record IsAtLink (W : Width) (s : GraphState) (t j p : ℕ) : Type 0 where
   pub object : HasObject s t
   pub shape : Shape
   pub read : (object_at s t).shape ≡ Some shape
-  pub link : shape_part shape (object_at s t).ordinal j ≡ Link p
+  pub link : shape_part W shape (object_at s t).ordinal j ≡ Link p
 
 -- a value that is no reference
 abbrev pub IsConstant : Value → Type 0
@@ -144,49 +179,59 @@ IsConstant (Int v) = v < 2 ^ 62
 IsConstant (Ref a) = ⊥
 
 -- when an event of one of n threads may come
-abbrev pub Guard : ℕ → GraphState → Event → Type 0
-Guard n s (ReadObject t r) = (t < n) × (r < 16) × IsPrompt (s.loads t) × (target (register_word_in s.words t r) ≢ 0)
-Guard n s (ReadValue t r) = (t < n) × (r < 16) × IsPrompt (s.loads t)
-Guard n s (ReadShape t f) = (t < n) × HasObject s t × (shape_of (s.words.shape (object_at s t).block) ≡ Some f)
-Guard n s (ReadLink t j p) = (t < n) × IsAtLink s t j p
-Guard n s (ReadField t d a i j) = (t < n) × (d < 16) × IsPrompt (s.loads t) × IsAtField s t a i j
-Guard n s (StoreLate t) = (t < n) × HasValue s t × ((value_at s t).late ≡ true)
-Guard n s (StoreValue t d) = (t < n) × (d < 16) × IsPrompt (s.loads t) × HasValue s t
-Guard n s (StoreConstant t d v) = (t < n) × (d < 16) × IsPrompt (s.loads t) × IsConstant v
-Guard n s (StoreField t a i j) = (t < n) × IsPrompt (s.loads t) × HasValue s t × IsAtField s t a i j
-Guard n s (Finish t) = (t < n) × IsPrompt (s.loads t)
+abbrev pub Guard : Width → ℕ → GraphState → Event → Type 0
+Guard W n s (ReadObject t r) =
+    (t < n) × (r < REGISTERS) × IsPrompt (s.loads t)
+    × (target (register_word_in W s.words t r) ≢ 0)
+Guard W n s (ReadValue t r) = (t < n) × (r < REGISTERS) × IsPrompt (s.loads t)
+Guard W n s (ReadShape t f) =
+    (t < n) × HasObject s t × (shape_of (s.words.shape (object_at s t).block) ≡ Some f)
+Guard W n s (ReadLink t j p) = (t < n) × IsAtLink W s t j p
+Guard W n s (ReadField t d a i j) =
+    (t < n) × (d < REGISTERS) × IsPrompt (s.loads t) × IsAtField W s t a i j
+Guard W n s (StoreLate t) = (t < n) × HasValue s t × ((value_at s t).late ≡ true)
+Guard W n s (StoreValue t d) = (t < n) × (d < REGISTERS) × IsPrompt (s.loads t) × HasValue s t
+Guard W n s (StoreConstant t d v) =
+    (t < n) × (d < REGISTERS) × IsPrompt (s.loads t) × IsConstant v
+Guard W n s (StoreField t a i j) =
+    (t < n) × IsPrompt (s.loads t) × HasValue s t × IsAtField W s t a i j
+Guard W n s (Finish t) = (t < n) × IsPrompt (s.loads t)
 
 -- the state after a list of events, and whether each may come where it does
-abbrev pub run : GraphState → List Event → GraphState
-run s [] = s
-run s (e ∷ es) = run (apply s e) es
+abbrev pub run : Width → GraphState → List Event → GraphState
+run W s [] = s
+run W s (e ∷ es) = run W (apply W s e) es
 
-abbrev pub Guarded : ℕ → GraphState → List Event → Type 0
-Guarded n s [] = Unit {0}
-Guarded n s (e ∷ es) = Guard n s e × Guarded n (apply s e) es
+abbrev pub Guarded : Width → ℕ → GraphState → List Event → Type 0
+Guarded W n s [] = Unit {0}
+Guarded W n s (e ∷ es) = Guard W n s e × Guarded W n (apply W s e) es
 
--- The block is that of the ordinal, of the object to which the graph's register refers. That no other thread changes.
-pub record ObjectIs (g : Graph) (at : Name → ℕ → ℕ) (t : ℕ) (l : ObjectLoad) : Type 0 where
-  pub source : l.source < 16
+-- The block is that of the ordinal, of the object to which the graph's register refers. That no
+-- other thread changes.
+pub record ObjectIs (W : Width) (g : Graph) (at : Name → ℕ → ℕ) (t : ℕ)
+    (l : ObjectLoad) : Type 0 where
+  pub source : l.source < REGISTERS
   pub name : Name
   pub refers : register_of g t l.source ≡ Ref name
-  pub ordinal : l.ordinal < object_blocks (object_of g name)
+  pub ordinal : l.ordinal < object_blocks W (object_of g name)
   pub block : l.block ≡ at name l.ordinal
-  pub shape : IfSome l.shape (λ f. f ≡ kind_shape (object_of g name).kind (length (object_of g name).fields))
+  pub shape : IfSome l.shape
+      (λ f. f ≡ kind_shape (object_of g name).kind (length (object_of g name).fields))
 
 -- the word is that of the graph's register
 pub record ValueIs (g : Graph) (at : Name → ℕ → ℕ) (t : ℕ) (v : ValueLoad) : Type 0 where
-  pub origin : v.origin < 16
+  pub origin : v.origin < REGISTERS
   pub word : v.word ≡ value_word (heads at) (register_of g t v.origin)
 
-pub record LoadIs (g : Graph) (at : Name → ℕ → ℕ) (t : ℕ) (l : Loading) : Type 0 where
-  pub object : IfSome l.object (λ o. ObjectIs g at t o)
+pub record LoadIs (W : Width) (g : Graph) (at : Name → ℕ → ℕ) (t : ℕ) (l : Loading) : Type 0 where
+  pub object : IfSome l.object (λ o. ObjectIs W g at t o)
   pub value : IfSome l.value (λ v. ValueIs g at t v)
 
 -- The words show the graph, and what the threads have loaded is of it.
-pub record Follows (n m : ℕ) (K : Name → Type 0) (at : Name → ℕ → ℕ) (s : GraphState) : Type 0 where
-  pub shows : Shows n m K s.graph at s.words (lates s.loads)
-  pub loads : (t : ℕ) → t < n → LoadIs s.graph at t (s.loads t)
+pub record Follows (W : Width) (n m : ℕ) (K : Name → Type 0) (at : Name → ℕ → ℕ)
+    (s : GraphState) : Type 0 where
+  pub shows : Shows W n m K s.graph at s.words (lates s.loads)
+  pub loads : (t : ℕ) → t < n → LoadIs W s.graph at t (s.loads t)
 
 -- the opening words of the start graph, with nothing loaded
 abbrev pub opening_state : Config → GraphState

@@ -1,9 +1,13 @@
--- Two threads share an array of four elements: `set 1 7` and `put 0 2 1` of thread 0, and `get 2 0 2` of thread 1, event by event.
+-- Two threads share an array of four elements: `set 1 7` and `put 0 2 1` of thread 0, and
+-- `get 2 0 2` of thread 1, event by event.
 use Rattle.std.specs.Prelude.{◌==◌, ◌&&◌, cond, List, [], ◌∷◌}
 use Rattle.block_store.specs.declared.Config.{Config}
 use Rattle.block_store.specs.declared.Name.{Name}
 use Rattle.block_store.specs.declared.Shape.TheVariants as shapes
 use Rattle.block_store.specs.declared.Value.TheVariants.{Int}
+use Rattle.block_store.specs.declared.Width.{Width}
+use Rattle.block_store.specs.declared.Width.TheVariants.{Eight}
+use Rattle.block_store.specs.Widths.{payloads}
 use Rattle.block_store.specs.Owners.{owner_word}
 use Rattle.block_store.specs.Payloads.{reference_word}
 use Rattle.block_store.specs.Shapes.{record_word}
@@ -11,8 +15,25 @@ use Rattle.shown_graph.specs.Words.{BlockWords}
 use Rattle.shown_graph.specs.Events.{Event}
 use Rattle.shown_graph.specs.Events.Event.{ReadObject, ReadValue, ReadShape, ReadField, StoreLate, StoreConstant, StoreField}
 
-abbrev pub small_config : Config
-small_config = record { threads = 2; blocks = 20; live = 15; object = 3; shared = 4 }
+abbrev pub small_config : Width → Config
+small_config W = record {
+  width = W;
+  threads = 2;
+  blocks = 20;
+  live = 15;
+  object = 3;
+  shared = 4;
+}
+
+abbrev pub wide_config : Config
+wide_config = record {
+  width = Eight;
+  threads = 1;
+  blocks = 64;
+  live = 20;
+  object = 2;
+  shared = 0;
+}
 
 abbrev pub shared_array : Name
 shared_array = record { thread = 2; serial = 0 }
@@ -24,10 +45,14 @@ some_events =
     ∷ ReadObject 1 0 ∷ ReadShape 1 (shapes.Tree 4) ∷ ReadField 1 2 shared_array 2 2 ∷ StoreLate 1
     ∷ []
 
--- a record of four fields that thread 0 has written in blocks 12 and 13, at the opening
-abbrev pub with_record : BlockWords → BlockWords
-with_record w = record {
-  owner = λ x. cond (x == 12) (owner_word 0 1 0) (cond (x == 13) (owner_word 0 1 1) (w.owner x));
-  shape = λ x. cond (x == 12) (record_word 4) (cond (x == 13) (record_word 4) (w.shape x));
-  payload = λ x j. cond ((x == 12) && (j == 0)) (reference_word 13) (w.payload x j);
-}
+-- A record of two blocks that thread 0 has written in blocks 12 and 13, at the opening: it has as
+-- many fields as a block has payload words.
+abbrev pub with_record : Width → BlockWords → BlockWords
+with_record W w =
+    let shape = record_word (payloads W) in
+    record {
+      owner = λ x.
+          cond (x == 12) (owner_word 0 1 0) (cond (x == 13) (owner_word 0 1 1) (w.owner x));
+      shape = λ x. cond (x == 12) shape (cond (x == 13) shape (w.shape x));
+      payload = λ x j. cond ((x == 12) && (j == 0)) (reference_word 13) (w.payload x j);
+    }

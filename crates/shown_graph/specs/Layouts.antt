@@ -1,43 +1,41 @@
--- How an object lies in blocks of four payload words: a record as a list, an array as a tree.
+-- How an object lies in blocks of the width W: a record as a list, an array as a tree.
 use Rattle.std.specs.Prelude.{ℕ, length}
 use Rattle.object_lists.specs.Parts.{Part}
-use Rattle.object_lists.specs.Records.{record_blocks, record_part, record_spot}
-use Rattle.array_trees.specs.Trees.{array_blocks}
+use Rattle.object_lists.specs.Records.{record_part, record_spot}
 use Rattle.array_trees.specs.Levels.{array_part, array_spot}
 use Rattle.block_store.specs.declared.Shape.{Shape}
+use Rattle.block_store.specs.declared.Width.{Width}
 use Rattle.block_store.specs.declared.Shape.TheVariants as shapes
 use Rattle.never_heap.specs.Graphs.{ObjectKind, Record, Array, Object}
+use Rattle.never_heap.specs.LiveBlocks.{blocks_of_kind}
+pub use Rattle.never_heap.specs.LiveBlocks.{object_blocks}
 
 -- how many blocks an object of this many fields takes
-abbrev pub layout_blocks : ObjectKind → ℕ → ℕ
-layout_blocks Record n = record_blocks n
-layout_blocks Array n = array_blocks n
+abbrev pub layout_blocks : Width → ObjectKind → ℕ → ℕ
+layout_blocks W k n = blocks_of_kind W k n
 
 -- what stands at payload j of ordinal o
-abbrev pub layout_part : ObjectKind → ℕ → ℕ → ℕ → Part
-layout_part Record n o j = record_part n o j
-layout_part Array n o j = array_part n o j
+abbrev pub layout_part : Width → ObjectKind → ℕ → ℕ → ℕ → Part
+layout_part W Record n o j = record_part W n o j
+layout_part W Array n o j = array_part W n o j
 
 -- the ordinal and the payload where field i stands
-abbrev pub layout_spot : ObjectKind → ℕ → ℕ → ℕ × ℕ
-layout_spot Record n i = record_spot i
-layout_spot Array n i = array_spot n i
+abbrev pub layout_spot : Width → ObjectKind → ℕ → ℕ → ℕ × ℕ
+layout_spot W Record n i = record_spot W i
+layout_spot W Array n i = array_spot W n i
 
--- the same of an object
-abbrev pub object_blocks : Object → ℕ
-object_blocks o = layout_blocks o.kind (length o.fields)
+-- the same of an object; how many blocks it takes is said with the graph
+abbrev pub object_part : Width → Object → ℕ → ℕ → Part
+object_part W o = layout_part W o.kind (length o.fields)
 
-abbrev pub object_part : Object → ℕ → ℕ → Part
-object_part o = layout_part o.kind (length o.fields)
-
-abbrev pub object_spot : Object → ℕ → ℕ × ℕ
-object_spot o = layout_spot o.kind (length o.fields)
+abbrev pub object_spot : Width → Object → ℕ → ℕ × ℕ
+object_spot W o = layout_spot W o.kind (length o.fields)
 
 -- the shape of an object of this kind and length, and what stands in the blocks of a shape
 abbrev pub kind_shape : ObjectKind → ℕ → Shape
 kind_shape Record n = shapes.List n
 kind_shape Array n = shapes.Tree n
 
-abbrev pub shape_part : Shape → ℕ → ℕ → Part
-shape_part (shapes.List f) = record_part f
-shape_part (shapes.Tree e) = array_part e
+abbrev pub shape_part : Width → Shape → ℕ → ℕ → Part
+shape_part W (shapes.List f) = record_part W f
+shape_part W (shapes.Tree e) = array_part W e

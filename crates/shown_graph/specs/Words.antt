@@ -1,11 +1,15 @@
--- The words of values, of parts of objects, and of shapes; and the functions that say which words the blocks hold.
-use Rattle.std.specs.Prelude.{ℕ, ◌+◌, ◌*◌, ◌/◌, ◌<◌, ◌≡◌, ◌==◌, ◌&&◌, cond, length}
+-- The words of values, of parts of objects, and of shapes; and the functions that say which words
+-- the blocks hold.
+use Rattle.std.specs.Prelude.{ℕ, ◌<◌, ◌≡◌, ◌==◌, ◌&&◌, cond, length}
 use Rattle.block_store.specs.declared.Name.{Name}
 use Rattle.block_store.specs.declared.Value.{Value}
 use Rattle.block_store.specs.declared.Value.TheVariants.{Nil, Int, Ref}
+use Rattle.block_store.specs.declared.Width.{Width}
+use Rattle.block_store.specs.Widths.{payloads}
 use Rattle.block_store.specs.Heaps.{Heap}
 use Rattle.block_store.specs.Payloads.{number_word, reference_word}
 use Rattle.block_store.specs.Places.{OwnerOf, ShapeOf, PayloadOf}
+use Rattle.block_store.specs.Registers.{register_block, register_slot}
 use Rattle.block_store.specs.Shapes.{record_word, array_word}
 use Rattle.never_heap.specs.Graphs.{Object, ObjectKind, Record, Array}
 use Rattle.object_lists.specs.Parts.{Part, Link, Field, Blank}
@@ -16,7 +20,8 @@ value_word head Nil = 0
 value_word head (Int v) = number_word v
 value_word head (Ref a) = reference_word (head a)
 
--- the payload word of a part of an object, where its ordinals stand at these blocks and its fields have these values
+-- the payload word of a part of an object, where its ordinals stand at these blocks and its fields
+-- have these values
 abbrev pub part_word : (Name → ℕ) → (ℕ → ℕ) → (ℕ → Value) → Part → ℕ
 part_word head block_of field (Link o) = reference_word (block_of o)
 part_word head block_of field (Field i) = value_word head (field i)
@@ -38,18 +43,26 @@ pub record BlockWords : Type 0 where
 
 -- the words of the blocks of a heap
 abbrev pub block_words : Heap → BlockWords
-block_words h = record { owner = λ x. h (OwnerOf x); shape = λ x. h (ShapeOf x); payload = λ x j. h (PayloadOf x j) }
+block_words h = record {
+  owner = λ x. h (OwnerOf x);
+  shape = λ x. h (ShapeOf x);
+  payload = λ x j. h (PayloadOf x j);
+}
 
 -- the words after v was written at payload j of block x
 abbrev pub with_payload : BlockWords → ℕ → ℕ → ℕ → BlockWords
-with_payload w x j v = record { owner = w.owner; shape = w.shape; payload = λ y k. cond ((x == y) && (j == k)) v (w.payload y k) }
+with_payload w x j v = record {
+  owner = w.owner;
+  shape = w.shape;
+  payload = λ y k. cond ((x == y) && (j == k)) v (w.payload y k);
+}
+
+-- the words after v was written in register r of thread t
+abbrev pub with_register_word : Width → BlockWords → ℕ → ℕ → ℕ → BlockWords
+with_register_word W w t r v = with_payload w (register_block W t r) (register_slot W r) v
 
 -- the words of block x did not change
-pub record Agrees (w u : BlockWords) (x : ℕ) : Type 0 where
+pub record Agrees (W : Width) (w u : BlockWords) (x : ℕ) : Type 0 where
   pub owners : u.owner x ≡ w.owner x
   pub shapes : u.shape x ≡ w.shape x
-  pub payloads : (j : ℕ) → j < 4 → u.payload x j ≡ w.payload x j
-
--- the block that holds register r of thread t, at payload r % 4
-abbrev pub register_block : ℕ → ℕ → ℕ
-register_block t r = 5 * t + 2 + r / 4
+  pub payloads : (j : ℕ) → j < payloads W → u.payload x j ≡ w.payload x j

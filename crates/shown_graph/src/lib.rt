@@ -1,128 +1,193 @@
-//! Which graph the words of blocks show: where each object's blocks are, what stands in each of their
-//! words, and which moves of words and graph go together. Each law is the contract of a function that
-//! does nothing.
+//! Which graph the words of blocks show: where each object's blocks are, what stands in each of
+//! their words, and which moves of words and graph go together. Each law is the contract of a
+//! function that does nothing.
 #![tactic(auto)]
 
-ghost use Rattle.std.specs.Prelude.{◌≡◌, ℕ, ◌+◌, ◌*◌, ◌%◌, ◌<◌, ◌≤◌, Bool, true, false, Some, List, length};
+ghost use Rattle.std.specs.Prelude.{◌≡◌, ℕ, ◌+◌, ◌<◌, ◌≤◌, Bool, true, false, Some, List, length};
 ghost use Rattle.block_store.specs.declared.Config.{Config};
 ghost use Rattle.block_store.specs.declared.Name.{Name};
 ghost use Rattle.block_store.specs.declared.Shape.{Shape};
+ghost use Rattle.block_store.specs.declared.TheConstants.{REGISTERS};
 ghost use Rattle.block_store.specs.declared.Value.{Value};
 ghost use Rattle.block_store.specs.declared.Value.TheVariants.{Int, Ref};
+ghost use Rattle.block_store.specs.declared.Width.{Width};
+ghost use Rattle.block_store.specs.declared.Width.TheVariants.{Four, Eight};
 ghost use Rattle.block_store.specs.Configs.{IsInBounds};
 ghost use Rattle.block_store.specs.Owners.{owner_of};
 ghost use Rattle.block_store.specs.Payloads.{payload_of, reference_word, target};
+ghost use Rattle.block_store.specs.Registers.{register_block, register_slot, registers_end};
 ghost use Rattle.block_store.specs.Shapes.{shape_of};
+ghost use Rattle.block_store.specs.Widths.{payloads};
 ghost use Rattle.object_lists.specs.Layouts.{IsLayout, IsWay};
+ghost use Rattle.array_trees.specs.Openings.{opening_blocks};
 ghost use Rattle.never_heap.specs.Graphs.{Graph, ObjectKind, Record, start_graph, object_of, field_of, register_of, has_name, with_register, with_field, with_object, next_name};
-ghost use Rattle.shown_graph.specs.Layouts.{kind_shape, layout_blocks, layout_part, layout_spot, object_blocks, object_part, object_spot};
-ghost use Rattle.shown_graph.specs.Words.{Agrees, BlockWords, value_word, with_payload, register_block};
-ghost use Rattle.shown_graph.specs.Shown.{IsValueOf, heads, BlockShows, Closed, Shows, every_name, named, never_late};
+ghost use Rattle.shown_graph.specs.Layouts.{kind_shape, layout_blocks, layout_part, layout_spot, object_part, object_spot};
+ghost use Rattle.shown_graph.specs.Words.{Agrees, BlockWords, with_payload, with_register_word};
+ghost use Rattle.shown_graph.specs.Shown.{heads, BlockShows, Closed, Shows, every_name, named, never_late};
 ghost use Rattle.shown_graph.specs.Made.{new_object, with_blocks, and_name, IsMade, IsWritten};
-ghost use Rattle.shown_graph.specs.Openings.{opening_at, opening_last, opening_words};
+ghost use Rattle.shown_graph.specs.Snapshots.{Snapshot, IsShown, IsRegister, IsKeptValue, word_of, IsBlockOf, IsMadeIn, referred_new, CatchesUp, FallsBehind};
+ghost use Rattle.shown_graph.specs.Openings.{opening_at, opening_words};
 ghost use Rattle.shown_graph.specs.Events.{ObjectLoad, ValueLoad, GraphState, Event, run, Guarded, ObjectIs, ValueIs, Follows, opening_state};
-ghost use Rattle.shown_graph.specs.Example.{small_config, some_events, with_record};
+ghost use Rattle.shown_graph.specs.Example.{small_config, wide_config, some_events, with_record};
 ghost use Rattle.shown_graph.specs.Read.{value_payload};
 
-/// Objects of each kind and length have a layout in blocks of four payload words.
+/// Objects of each kind and length have a layout in blocks of either width.
 pub fn objects_are_laid_out()
-    ensures { (k : ObjectKind) (n : ℕ) → IsLayout 4 n (layout_blocks k n) (layout_part k n) (layout_spot k n) }
+    ensures { (W : Width) (k : ObjectKind) (n : ℕ)
+        → IsLayout (payloads W) n (layout_blocks W k n) (layout_part W k n) (layout_spot W k n) }
 {}
 
 /// The opening words show the start graph.
 pub fn opening_is_shown()
-    ensures { (c : Config) → IsInBounds c → Shows c.threads (opening_last c) (every_name (start_graph c)) (start_graph c) (opening_at c.threads) (opening_words c) never_late }
+    ensures { (c : Config) → IsInBounds c
+        → Shows c.width c.threads (opening_blocks c) (every_name (start_graph c)) (start_graph c)
+        (opening_at c.width c.threads) (opening_words c) never_late }
+{}
+
+/// Words of the opening heap of one thread and an empty shared array, in blocks of eight: the root
+/// of the register array in block 1 refers to blocks 2 and 3, register 0 in block 2 refers to block
+/// 4, and that is the shared array `1.0`.
+pub fn a_known_opening()
+    ensures root { ((opening_words wide_config).payload 1 0 ≡ 4)
+        × ((opening_words wide_config).payload 1 1 ≡ 6)
+        × ((j : ℕ) → 1 < j → j < 8 → (opening_words wide_config).payload 1 j ≡ 0) }
+    ensures registers { ((opening_words wide_config).payload 2 0 ≡ 8)
+        × ((j : ℕ) → 0 < j → j < 8 → (opening_words wide_config).payload 2 j ≡ 0) }
+    ensures shared { ((opening_words wide_config).owner 4 ≡ 1099511627776)
+        × ((opening_words wide_config).shape 4 ≡ 1) }
 {}
 
 /// A store of a kept value in a register, and in a field of a kept object. A register may take its
 /// value first, and be late until its word is stored.
 pub fn stores_are_shown()
-    ensures register { (n m t r : ℕ) (kept : Name → Bool) (g : Graph) (at : Name → ℕ → ℕ) (w : BlockWords) (late later : ℕ → ℕ → Bool) (v : Value) → Shows n m (named kept) g at w late
-        → t < n → r < 16 → IsValueOf (named kept) v → ((u q : ℕ) → later u q ≡ false → ((t ≡ u) → (r ≡ q) → ⊥) → late u q ≡ false)
-        → Shows n m (named kept) (with_register g t r v) at (with_payload w (register_block t r) (r % 4) (value_word (heads at) v)) later }
-    ensures late { (n m t r : ℕ) (kept : Name → Bool) (g : Graph) (at : Name → ℕ → ℕ) (w : BlockWords) (late later : ℕ → ℕ → Bool) (v : Value) → Shows n m (named kept) g at w late
-        → t < n → r < 16 → IsValueOf (named kept) v → later t r ≡ true → ((u q : ℕ) → later u q ≡ false → late u q ≡ false)
-        → Shows n m (named kept) (with_register g t r v) at w later }
-    ensures caught_up { (n m t r : ℕ) (kept : Name → Bool) (g : Graph) (at : Name → ℕ → ℕ) (w : BlockWords) (late later : ℕ → ℕ → Bool) → Shows n m (named kept) g at w late
-        → t < n → r < 16 → ((u q : ℕ) → later u q ≡ false → ((t ≡ u) → (r ≡ q) → ⊥) → late u q ≡ false)
-        → Shows n m (named kept) g at (with_payload w (register_block t r) (r % 4) (value_word (heads at) (register_of g t r))) later }
-    ensures field { (n m i : ℕ) (kept : Name → Bool) (g : Graph) (at : Name → ℕ → ℕ) (w : BlockWords) (late : ℕ → ℕ → Bool) (a : Name) (v : Value) → Shows n m (named kept) g at w late
-        → kept a ≡ true → i < length (object_of g a).fields → IsValueOf (named kept) v
-        → Shows n m (named kept) (with_field g a i v) at (with_payload w (at a (object_spot (object_of g a) i).0) (object_spot (object_of g a) i).1 (value_word (heads at) v)) late }
+    ensures register { (s : Snapshot) (t r : ℕ) (later : ℕ → ℕ → Bool) (v : Value) → IsShown s
+        → IsRegister s t r → IsKeptValue s v → CatchesUp s later t r
+        → IsShown (record s {
+          graph = with_register s.graph t r v;
+          words = with_register_word s.width s.words t r (word_of s v);
+          late = later;
+        }) }
+    ensures late { (s : Snapshot) (t r : ℕ) (later : ℕ → ℕ → Bool) (v : Value) → IsShown s
+        → IsRegister s t r → IsKeptValue s v → later t r ≡ true → FallsBehind s later
+        → IsShown (record s { graph = with_register s.graph t r v; late = later }) }
+    ensures caught_up { (s : Snapshot) (t r : ℕ) (later : ℕ → ℕ → Bool) → IsShown s
+        → IsRegister s t r → CatchesUp s later t r
+        → IsShown (record s {
+          words = with_register_word s.width s.words t r (word_of s (register_of s.graph t r));
+          late = later;
+        }) }
+    ensures field { (s : Snapshot) (a : Name) (i : ℕ) (v : Value) → IsShown s
+        → s.kept a ≡ true → i < length (object_of s.graph a).fields → IsKeptValue s v
+        → IsShown (record s {
+          graph = with_field s.graph a i v;
+          words = with_payload s.words (s.at a (object_spot s.width (object_of s.graph a) i).0)
+              (object_spot s.width (object_of s.graph a) i).1 (word_of s v);
+        }) }
 {}
 
-/// A block of a new object shows its part once its owner, its shape and its links are written, and nil
-/// elsewhere.
+/// A block of a new object shows its part once its owner, its shape and its links are written, and
+/// nil elsewhere.
 pub fn written_blocks_are_shown()
-    ensures { (n o : ℕ) (head : Name → ℕ) (w : BlockWords) (a : Name) (k : ObjectKind) (block_of : ℕ → ℕ) → IsWritten w a k n block_of o → BlockShows head w a (new_object k n) block_of o }
+    ensures { (W : Width) (n o : ℕ) (head : Name → ℕ) (w : BlockWords) (a : Name) (k : ObjectKind)
+        (block_of : ℕ → ℕ) → IsWritten W w a k n block_of o
+        → BlockShows W head w a (new_object k n) block_of o }
 {}
 
-/// An object that was made block by block gets the next name of its thread, and is kept. With all names
-/// kept, a register refers to it at once.
+/// An object that was made block by block gets the next name of its thread, and is kept. With all
+/// names kept, a register refers to it at once.
 pub fn new_objects_are_shown()
-    ensures published { (n m t f : ℕ) (kept : Name → Bool) (g : Graph) (at : Name → ℕ → ℕ) (w : BlockWords) (late : ℕ → ℕ → Bool) (k : ObjectKind) (block_of : ℕ → ℕ) → Shows n m (named kept) g at w late
-        → IsMade n m g w t k f block_of → Shows n m (and_name (named kept) (next_name g t)) (with_object g t (new_object k f)) (with_blocks at (next_name g t) block_of) w late }
-    ensures referred { (n m t d f : ℕ) (g : Graph) (at : Name → ℕ → ℕ) (w : BlockWords) (late : ℕ → ℕ → Bool) (k : ObjectKind) (block_of : ℕ → ℕ) → Shows n m (every_name g) g at w late
-        → IsMade n m g w t k f block_of → d < 16
-        → Shows n m (every_name (with_register (with_object g t (new_object k f)) t d (Ref (next_name g t)))) (with_register (with_object g t (new_object k f)) t d (Ref (next_name g t)))
-        (with_blocks at (next_name g t) block_of) (with_payload w (register_block t d) (d % 4) (reference_word (block_of 0))) late }
+    ensures published { (s : Snapshot) (t f : ℕ) (k : ObjectKind) (block_of : ℕ → ℕ) → IsShown s
+        → IsMadeIn s t k f block_of
+        → Shows s.width s.threads s.last (and_name (named s.kept) (next_name s.graph t))
+        (with_object s.graph t (new_object k f)) (with_blocks s.at (next_name s.graph t) block_of)
+        s.words s.late }
+    ensures referred { (s : Snapshot) (t d f : ℕ) (k : ObjectKind) (block_of : ℕ → ℕ)
+        → IsShown (record s { kept = has_name s.graph }) → IsMadeIn s t k f block_of → d < REGISTERS
+        → IsShown (referred_new s t d k f block_of) }
 {}
 
 /// Words that are of no register block and of no kept object may change, as those behind the last
 /// block. Fewer names may be kept, where these refer to each other alone and no register is late.
 pub fn other_words_are_free()
-    ensures words { (n m : ℕ) (kept : Name → Bool) (g : Graph) (at : Name → ℕ → ℕ) (w u : BlockWords) (late : ℕ → ℕ → Bool) → Shows n m (named kept) g at w late
-        → ((x j : ℕ) → 0 < x → x ≤ 5 * n → j < 4 → u.payload x j ≡ w.payload x j)
-        → ((a : Name) (o : ℕ) → kept a ≡ true → o < object_blocks (object_of g a) → Agrees w u (at a o)) → Shows n m (named kept) g at u late }
-    ensures behind { (n m l : ℕ) (kept : Name → Bool) (g : Graph) (at : Name → ℕ → ℕ) (w u : BlockWords) (late : ℕ → ℕ → Bool) → Shows n m (named kept) g at w late
-        → 5 * n ≤ m → m ≤ l → ((x : ℕ) → 0 < x → x ≤ m → Agrees w u x) → Shows n l (named kept) g at u late }
-    ensures fewer { (n m : ℕ) (kept fewer : Name → Bool) (g : Graph) (at : Name → ℕ → ℕ) (w : BlockWords) (late : ℕ → ℕ → Bool) → Shows n m (named kept) g at w late
-        → ((a : Name) → fewer a ≡ true → kept a ≡ true) → Closed n (named fewer) (object_of g) (register_of g) → ((t r : ℕ) → t < n → r < 16 → late t r ≡ false) → Shows n m (named fewer) g at w late }
+    ensures words { (s : Snapshot) (u : BlockWords) → IsShown s
+        → ((x j : ℕ) → 0 < x → x ≤ registers_end s.width s.threads → j < payloads s.width
+        → u.payload x j ≡ s.words.payload x j)
+        → ((a : Name) (o : ℕ) → IsBlockOf s a o → Agrees s.width s.words u (s.at a o))
+        → IsShown (record s { words = u }) }
+    ensures behind { (s : Snapshot) (l : ℕ) (u : BlockWords) → IsShown s
+        → registers_end s.width s.threads ≤ s.last → s.last ≤ l
+        → ((x : ℕ) → 0 < x → x ≤ s.last → Agrees s.width s.words u x)
+        → IsShown (record s { last = l; words = u }) }
+    ensures fewer { (s : Snapshot) (fewer : Name → Bool) → IsShown s
+        → ((a : Name) → fewer a ≡ true → s.kept a ≡ true)
+        → Closed s.threads (named fewer) (object_of s.graph) (register_of s.graph)
+        → ((t r : ℕ) → IsRegister s t r → s.late t r ≡ false)
+        → IsShown (record s { kept = fewer }) }
 {}
 
-/// What the words show is what is read of them: a name and ordinal, a kind and length, a value, and at
-/// the end of a way a field. Blocks of two names or ordinals are two.
+/// What the words show is what is read of them: a name and ordinal, a kind and length, a value, and
+/// at the end of a way a field. Blocks of two names or ordinals are two.
 pub fn shown_words_are_read()
-    ensures owner { (n m o : ℕ) (kept : Name → Bool) (g : Graph) (at : Name → ℕ → ℕ) (w : BlockWords) (late : ℕ → ℕ → Bool) (a : Name) → Shows n m (named kept) g at w late
-        → kept a ≡ true → o < object_blocks (object_of g a) → owner_of (w.owner (at a o)) ≡ Some (record { thread = a.thread; serial = a.serial; ordinal = o }) }
-    ensures length { (n m o : ℕ) (kept : Name → Bool) (g : Graph) (at : Name → ℕ → ℕ) (w : BlockWords) (late : ℕ → ℕ → Bool) (a : Name) → Shows n m (named kept) g at w late
-        → kept a ≡ true → o < object_blocks (object_of g a) → shape_of (w.shape (at a o)) ≡ Some (kind_shape (object_of g a).kind (length (object_of g a).fields)) }
-    ensures value { (n m : ℕ) (kept : Name → Bool) (g : Graph) (at : Name → ℕ → ℕ) (w : BlockWords) (late : ℕ → ℕ → Bool) (v : Value) → Shows n m (named kept) g at w late
-        → m ≤ 65535 → IsValueOf (named kept) v → payload_of (value_word (heads at) v) ≡ Some (value_payload (heads at) v) }
-    ensures one_value { (n m : ℕ) (kept : Name → Bool) (g : Graph) (at : Name → ℕ → ℕ) (w : BlockWords) (late : ℕ → ℕ → Bool) (v u : Value) → Shows n m (named kept) g at w late
-        → IsValueOf (named kept) v → IsValueOf (named kept) u → value_word (heads at) v ≡ value_word (heads at) u → v ≡ u }
-    ensures register { (n m t r : ℕ) (kept : Name → Bool) (g : Graph) (at : Name → ℕ → ℕ) (w : BlockWords) (late : ℕ → ℕ → Bool) → Shows n m (named kept) g at w late
-        → t < n → r < 16 → late t r ≡ false → w.payload (register_block t r) (r % 4) ≡ value_word (heads at) (register_of g t r) }
-    ensures field { (n m i steps last : ℕ) (kept : Name → Bool) (g : Graph) (at : Name → ℕ → ℕ) (w : BlockWords) (late : ℕ → ℕ → Bool) (a : Name) (way turn walked : ℕ → ℕ) → Shows n m (named kept) g at w late
-        → kept a ≡ true → i < length (object_of g a).fields → IsWay (object_part (object_of g a)) i steps last way turn
-        → walked 0 ≡ at a 0 → ((l : ℕ) → l < steps → w.payload (walked l) (turn l) ≡ reference_word (walked (l + 1)))
-        → (walked steps ≡ at a (object_spot (object_of g a) i).0) × (w.payload (walked steps) last ≡ value_word (heads at) (field_of (object_of g a) i)) }
-    ensures apart { (n m o p : ℕ) (kept : Name → Bool) (g : Graph) (at : Name → ℕ → ℕ) (w : BlockWords) (late : ℕ → ℕ → Bool) (a b : Name) → Shows n m (named kept) g at w late
-        → kept a ≡ true → kept b ≡ true → o < object_blocks (object_of g a) → p < object_blocks (object_of g b) → at a o ≡ at b p → (a ≡ b) × (o ≡ p) }
+    ensures owner { (s : Snapshot) (a : Name) (o : ℕ) → IsShown s → IsBlockOf s a o
+        → owner_of (s.words.owner (s.at a o))
+        ≡ Some (record { thread = a.thread; serial = a.serial; ordinal = o }) }
+    ensures length { (s : Snapshot) (a : Name) (o : ℕ) → IsShown s → IsBlockOf s a o
+        → shape_of (s.words.shape (s.at a o))
+        ≡ Some (kind_shape (object_of s.graph a).kind (length (object_of s.graph a).fields)) }
+    ensures value { (s : Snapshot) (v : Value) → IsShown s → s.last ≤ 65535 → IsKeptValue s v
+        → payload_of (word_of s v) ≡ Some (value_payload (heads s.at) v) }
+    ensures one_value { (s : Snapshot) (v u : Value) → IsShown s → IsKeptValue s v
+        → IsKeptValue s u → word_of s v ≡ word_of s u → v ≡ u }
+    ensures register { (s : Snapshot) (t r : ℕ) → IsShown s → IsRegister s t r → s.late t r ≡ false
+        → s.words.payload (register_block s.width t r) (register_slot s.width r)
+        ≡ word_of s (register_of s.graph t r) }
+    ensures field { (s : Snapshot) (a : Name) (i steps last : ℕ) (way turn walked : ℕ → ℕ)
+        → IsShown s → s.kept a ≡ true → i < length (object_of s.graph a).fields
+        → IsWay (object_part s.width (object_of s.graph a)) i steps last way turn
+        → walked 0 ≡ s.at a 0
+        → ((l : ℕ) → l < steps
+        → s.words.payload (walked l) (turn l) ≡ reference_word (walked (l + 1)))
+        → (walked steps ≡ s.at a (object_spot s.width (object_of s.graph a) i).0)
+        × (s.words.payload (walked steps) last ≡ word_of s (field_of (object_of s.graph a) i)) }
+    ensures apart { (s : Snapshot) (a b : Name) (o p : ℕ) → IsShown s → IsBlockOf s a o
+        → IsBlockOf s b p → s.at a o ≡ s.at b p → (a ≡ b) × (o ≡ p) }
 {}
 
-/// What a thread has loaded reads as the graph says: the value of its register, the name to which that
-/// refers, and the kind and length of an object whose shape was read.
+/// What a thread has loaded reads as the graph says: the value of its register, the name to which
+/// that refers, and the kind and length of an object whose shape was read.
 pub fn loads_are_read()
-    ensures value { (n m t : ℕ) (kept : Name → Bool) (at : Name → ℕ → ℕ) (s : GraphState) (v : ValueLoad) → Follows n m (named kept) at s → t < n → m ≤ 65535
-        → ValueIs s.graph at t v → payload_of v.word ≡ Some (value_payload (heads at) (register_of s.graph t v.origin)) }
-    ensures name { (n m t : ℕ) (kept : Name → Bool) (at : Name → ℕ → ℕ) (s : GraphState) (v : ValueLoad) (a : Name) → Follows n m (named kept) at s → t < n
-        → ValueIs s.graph at t v → register_of s.graph t v.origin ≡ Ref a → owner_of (s.words.owner (target v.word)) ≡ Some (record { thread = a.thread; serial = a.serial; ordinal = 0 }) }
-    ensures length { (t : ℕ) (at : Name → ℕ → ℕ) (g : Graph) (l : ObjectLoad) (f : Shape) (a : Name) → ObjectIs g at t l → l.shape ≡ Some f
-        → register_of g t l.source ≡ Ref a → f ≡ kind_shape (object_of g a).kind (length (object_of g a).fields) }
+    ensures value { (W : Width) (n m t : ℕ) (kept : Name → Bool) (at : Name → ℕ → ℕ)
+        (s : GraphState) (v : ValueLoad) → Follows W n m (named kept) at s → t < n → m ≤ 65535
+        → ValueIs s.graph at t v
+        → payload_of v.word ≡ Some (value_payload (heads at) (register_of s.graph t v.origin)) }
+    ensures name { (W : Width) (n m t : ℕ) (kept : Name → Bool) (at : Name → ℕ → ℕ) (s : GraphState)
+        (v : ValueLoad) (a : Name) → Follows W n m (named kept) at s → t < n
+        → ValueIs s.graph at t v → register_of s.graph t v.origin ≡ Ref a
+        → owner_of (s.words.owner (target v.word))
+        ≡ Some (record { thread = a.thread; serial = a.serial; ordinal = 0 }) }
+    ensures length { (W : Width) (t : ℕ) (at : Name → ℕ → ℕ) (g : Graph) (l : ObjectLoad)
+        (f : Shape) (a : Name) → ObjectIs W g at t l → l.shape ≡ Some f
+        → register_of g t l.source ≡ Ref a
+        → f ≡ kind_shape (object_of g a).kind (length (object_of g a).fields) }
 {}
 
-/// After every list of events of commands that allocate nothing, each of which may come where it does,
-/// the words show the graph. So they do at the opening.
+/// After every list of events of commands that allocate nothing, each of which may come where it
+/// does, the words show the graph. So they do at the opening.
 pub fn commands_are_shown()
-    ensures opening { (c : Config) → IsInBounds c → Follows c.threads (opening_last c) (every_name (start_graph c)) (opening_at c.threads) (opening_state c) }
-    ensures run { (n m : ℕ) (kept : Name → Bool) (at : Name → ℕ → ℕ) (s : GraphState) (es : List Event) → Follows n m (named kept) at s → Guarded n s es → Follows n m (named kept) at (run s es) }
+    ensures opening { (c : Config) → IsInBounds c
+        → Follows c.width c.threads (opening_blocks c) (every_name (start_graph c))
+        (opening_at c.width c.threads) (opening_state c) }
+    ensures run { (W : Width) (n m : ℕ) (kept : Name → Bool) (at : Name → ℕ → ℕ) (s : GraphState)
+        (es : List Event) → Follows W n m (named kept) at s → Guarded W n s es
+        → Follows W n m (named kept) at (run W s es) }
 {}
 
-/// The conditions of these laws are met by a small heap: by an array that two threads share, a store
-/// in it, a load of what was stored, and a record of two blocks.
+/// The conditions of these laws are met by a small heap of either width: by an array that two
+/// threads share, a store in it, a load of what was stored, and a record of two blocks.
 pub fn the_example_runs()
-    ensures events { Guarded 2 (opening_state small_config) some_events }
-    ensures result { register_of (run (opening_state small_config) some_events).graph 1 2 ≡ Int 7 }
-    ensures made { IsMade 2 13 (start_graph small_config) (with_record (opening_words small_config)) 0 Record 4 (λ o. 12 + o) }
+    ensures events { (W : Width) → Guarded W 2 (opening_state (small_config W)) some_events }
+    ensures result { (W : Width)
+        → register_of (run W (opening_state (small_config W)) some_events).graph 1 2 ≡ Int 7 }
+    ensures made { (W : Width) → IsMade W 2 13 (start_graph (small_config W))
+        (with_record W (opening_words (small_config W))) 0 Record (payloads W) (λ o. 12 + o) }
 {}

@@ -3,11 +3,10 @@ use Rattle.std.proofs.Common.{◌≡◌, ℕ, ◌+◌, ◌<◌, List, [], ◌∷
 use Rattle.std.proofs.lemmas.Bool.{cases_eq}
 use Rattle.block_store.specs.declared.Config.{Config}
 use Rattle.never_heap.specs.declared.Command.{Command}
-use Rattle.trace_text.specs.declared.jobs.Job.{Job}
 use Rattle.trace_text.specs.declared.trace_faults.Why.{Why}
 use Rattle.trace_text.specs.declared.reading.lines.Line.{Line}
 use Rattle.trace_text.specs.declared.reading.lines.Line.TheVariants.{Thread, End, Told}
-use Rattle.trace_text.specs.Jobs.{IsJob}
+use Rattle.trace_text.specs.Jobs.{Job, IsJob}
 use Rattle.trace_text.specs.Reading.{pieced}
 use Rattle.trace_text.specs.Said.{line_at, header_at}
 use Rattle.trace_text.specs.Refusals.{IsFirstBadLine}

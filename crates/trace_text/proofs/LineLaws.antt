@@ -130,8 +130,8 @@ told_agree : (c : Config) (t k : ℕ) (w : Word) (ns : List ℕ) → count_is (l
 unfolding told_at
 told_agree c t k words.Thread ns h = at_one (Agrees c t k words.Thread) ns h (λ n. turns _ _ (Thread n) (or_turn (not (eqb n t)) (eqb t c.threads)))
 told_agree c t k words.End ns h = at_none (Agrees c t k words.End) ns h (turns _ _ End refl)
-told_agree c t k words.New ns h = at_two (Agrees c t k words.New) ns h (λ d f. checks _ _ _ _ (Told (commands.New d f)) (or_false (ltb 15 d)) (full_both (leb 131072 k) (ltb 65535 f) (ltb c.object (record_blocks f))))
-told_agree c t k words.Arr ns h = at_two (Agrees c t k words.Arr) ns h (λ d e. checks _ _ _ _ (Told (commands.Arr d e)) (or_false (ltb 15 d)) (full_both (leb 131072 k) (ltb 65535 e) (ltb c.object (array_blocks e))))
+told_agree c t k words.New ns h = at_two (Agrees c t k words.New) ns h (λ d f. checks _ _ _ _ (Told (commands.New d f)) (or_false (ltb 15 d)) (full_both (leb 131072 k) (ltb 65535 f) (ltb c.object (record_blocks c.width f))))
+told_agree c t k words.Arr ns h = at_two (Agrees c t k words.Arr) ns h (λ d e. checks _ _ _ _ (Told (commands.Arr d e)) (or_false (ltb 15 d)) (full_both (leb 131072 k) (ltb 65535 e) (ltb c.object (array_blocks c.width e))))
 told_agree c t k words.Set ns h = at_two (Agrees c t k words.Set) ns h (λ d v. checks _ _ _ _ (Told (commands.Set d v)) (or_false (ltb 15 d)) (full_last (leb 131072 k) (leb (2 ^ 62) v)))
 told_agree c t k words.Nil ns h = at_one (Agrees c t k words.Nil) ns h (λ d. checks _ _ _ _ (Told (commands.Nil d)) (or_false (ltb 15 d)) refl)
 told_agree c t k words.Mov ns h = at_two (Agrees c t k words.Mov) ns h (λ d s. checks _ _ _ _ (Told (commands.Mov d s)) (two_or_false (ltb 15 d) (ltb 15 s)) refl)
@@ -241,13 +241,13 @@ told_sound c t k words.End ns l e =
     says c t k words.End End l [] p.1 record { text = refl; fits = end_turn t c.threads p.0; command = λ _. inr refl })
 told_sound c t k words.New ns l e =
     from_two (Says c t k words.New l) ns _ l e (λ d n f.
-    let p = passed (ltb 15 d) (leb 131072 k || ltb 65535 n || ltb c.object (record_blocks n)) (Told (commands.New d n)) l f in
-    let b = few_blocks n (record_blocks n) c.object k p.1 in
+    let p = passed (ltb 15 d) (leb 131072 k || ltb 65535 n || ltb c.object (record_blocks c.width n)) (Told (commands.New d n)) l f in
+    let b = few_blocks n (record_blocks c.width n) c.object k p.1 in
     says c t k words.New (Told (commands.New d n)) l (d ∷ n ∷ []) p.2 record { text = refl; fits = ((low d p.0, b.0, b.1), b.2); command = λ h. absurd cc })
 told_sound c t k words.Arr ns l e =
     from_two (Says c t k words.Arr l) ns _ l e (λ d n f.
-    let p = passed (ltb 15 d) (leb 131072 k || ltb 65535 n || ltb c.object (array_blocks n)) (Told (commands.Arr d n)) l f in
-    let b = few_blocks n (array_blocks n) c.object k p.1 in
+    let p = passed (ltb 15 d) (leb 131072 k || ltb 65535 n || ltb c.object (array_blocks c.width n)) (Told (commands.Arr d n)) l f in
+    let b = few_blocks n (array_blocks c.width n) c.object k p.1 in
     says c t k words.Arr (Told (commands.Arr d n)) l (d ∷ n ∷ []) p.2 record { text = refl; fits = ((low d p.0, b.0, b.1), b.2); command = λ h. absurd cc })
 told_sound c t k words.Set ns l e =
     from_two (Says c t k words.Set l) ns _ l e (λ d n f.
@@ -419,8 +419,8 @@ told_complete : (c : Config) (t k : ℕ) (l : Line) → Fits c t k l → told_at
 unfolding told_at
 told_complete c t k (Thread n) f = rw (eq-eqb n t f.0, ne_eqb t c.threads f.1) refl
 told_complete c t k End f = rw (eq-eqb t c.threads f) refl
-told_complete c t k (Told (commands.New d n)) f = passes _ _ (Told (commands.New d n)) (is_low d f.0.0) (has_room n (record_blocks n) c.object k f.0.1 f.0.2 f.1)
-told_complete c t k (Told (commands.Arr d n)) f = passes _ _ (Told (commands.Arr d n)) (is_low d f.0.0) (has_room n (array_blocks n) c.object k f.0.1 f.0.2 f.1)
+told_complete c t k (Told (commands.New d n)) f = passes _ _ (Told (commands.New d n)) (is_low d f.0.0) (has_room n (record_blocks c.width n) c.object k f.0.1 f.0.2 f.1)
+told_complete c t k (Told (commands.Arr d n)) f = passes _ _ (Told (commands.Arr d n)) (is_low d f.0.0) (has_room n (array_blocks c.width n) c.object k f.0.1 f.0.2 f.1)
 told_complete c t k (Told (commands.Set d v)) f = passes _ _ (Told (commands.Set d v)) (is_low d f.0.0) (is_small v k f.0.1 f.1)
 told_complete c t k (Told (commands.Nil d)) f = passes _ _ (Told (commands.Nil d)) (is_low d f.0) (is_few k f.1)
 told_complete c t k (Told (commands.Mov d s)) f = passes _ _ (Told (commands.Mov d s)) (are_low d s f.0.0 f.0.1) (is_few k f.1)

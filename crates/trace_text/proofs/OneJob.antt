@@ -6,14 +6,14 @@ use Rattle.block_store.specs.Configs.{IsInBounds}
 use Rattle.never_heap.specs.declared.Command.{Command}
 use Rattle.never_heap.specs.declared.Command.TheVariants as commands
 use Rattle.never_heap.specs.Bounds.{IsCommandInBounds}
-use Rattle.trace_text.specs.declared.jobs.Job.{Job}
+use Rattle.never_heap.specs.Jobs.{IsTraceInBounds}
 use Rattle.trace_text.specs.declared.reading.lines.Line.{Line}
 use Rattle.trace_text.specs.declared.reading.lines.Line.TheVariants.{Told}
 use Rattle.trace_text.specs.declared.reading.words.Word.{Word}
 use Rattle.trace_text.specs.declared.reading.words.Word.TheVariants as words
 use Rattle.trace_text.specs.declared.trace_faults.Why.{Why}
 use Rattle.trace_text.specs.Spellings.{header, command_line, trace_lines, traces_lines, job_lines}
-use Rattle.trace_text.specs.Jobs.{IsJob}
+use Rattle.trace_text.specs.Jobs.{Job, IsJob}
 use Rattle.trace_text.specs.Words.{word_at, is_command}
 use Rattle.trace_text.specs.Said.{line_at, header_at}
 use Rattle.trace_text.proofs.LineLaws.{place, line_complete}
@@ -82,7 +82,7 @@ abbrev AllFit : Config → List Command → Type 0
 AllFit c trace = AllByRecursion (IsCommandInBounds c) trace
 
 abbrev AllTracesFit : Config → List (List Command) → Type 0
-AllTracesFit c traces = AllByRecursion (λ (trace : List Command). AllFit c trace) traces
+AllTracesFit c traces = AllByRecursion (IsTraceInBounds c) traces
 
 same_rest : (c : Config) (t : ℕ) (traces others : List (List Command)) → (tail_lines t traces ≡ tail_lines t others → traces ≡ others)
     → (xs ys : List Command) → AllFit c xs → AllFit c ys → rest_lines t xs traces ≡ rest_lines t ys others → (xs ≡ ys) × (traces ≡ others)
@@ -113,7 +113,7 @@ same_tail c t (trace ∷ traces) [] p q e = absurd (no_more_threads t trace trac
 same_tail c t (trace ∷ traces) (other ∷ others) p q e =
     let both = sym (parted_tail t trace traces) ∙ e ∙ parted_tail t other others in
     let rest : rest_lines (t + 1) trace traces ≡ rest_lines (t + 1) other others = cc both in
-    let same = same_rest c (t + 1) traces others (same_tail c (t + 1) traces others p.1 q.1) trace other p.0 q.0 rest in
+    let same = same_rest c (t + 1) traces others (same_tail c (t + 1) traces others p.1 q.1) trace other p.0.commands q.0.commands rest in
     ap (λ (z : List Command). z ∷ traces) same.0 ∙ ap (λ (zs : List (List Command)). other ∷ zs) same.1
 
 same_header : (c k : Config) → IsInBounds c → IsInBounds k → header c ≡ header k → c ≡ k
@@ -128,5 +128,5 @@ one_job bytes job other p q =
     let head : header job.config ≡ header other.config = cc in
     let tail : tail_lines 0 job.traces ≡ tail_lines 0 other.traces = cc in
     let config = same_header job.config other.config p.in_bounds.config q.in_bounds.config head in
-    let traces = same_tail job.config 0 job.traces other.traces p.in_bounds.commands (subst (λ (c : Config). AllTracesFit c other.traces) (sym config) q.in_bounds.commands) tail in
+    let traces = same_tail job.config 0 job.traces other.traces p.in_bounds.each (subst (λ (c : Config). AllTracesFit c other.traces) (sym config) q.in_bounds.each) tail in
     ap (λ c. made c job.traces) config ∙ ap (made other.config) traces

@@ -13,7 +13,7 @@ use Rattle.trace_text.specs.declared.reading.lines.Line.TheVariants.{Thread, End
 use Rattle.trace_text.specs.Spellings.{header, command_line, trace_lines, traces_lines}
 use Rattle.trace_text.specs.Reading.{pieced}
 use Rattle.trace_text.specs.Refusals.{Before, nothing_before, after_line, after_lines, later_fault, next_fault, header_fault, config_of, fault_at, IsFirstBadLine}
-use Rattle.trace_text.specs.Wholes.{IsTraceInBounds}
+use Rattle.never_heap.specs.Jobs.{IsTraceInBounds}
 use Rattle.trace_text.proofs.LineLaws.{reason, prior, line_text, Fits, is_told, line_agrees, line_complete}
 use Rattle.trace_text.proofs.HeaderLaws.{header_agrees, header_sound, header_complete}
 

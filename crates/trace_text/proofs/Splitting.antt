@@ -56,5 +56,8 @@ position_none p bs e k lt =
     fails_before_first p bs k 0 (omega arith)
 
 -- the line that is parted from the others
+pub first_at : (bs line rest : List ℕ) → lines_of bs ≡ line ∷ lines_of rest → parted (lines_of bs) ≡ Some (line, lines_of rest)
+first_at bs line rest e = ap (λ (ls : List (List ℕ)). parted ls) e
+
 pub parts_at : (bs line rest : List ℕ) → lines_of bs ≡ line ∷ lines_of rest → parted (pieced bs) ≡ Some (pieces_of line, pieced rest)
 parts_at bs line rest e = ap (λ (ls : List (List ℕ)). parted (map pieces_of ls)) e

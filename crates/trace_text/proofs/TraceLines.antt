@@ -6,7 +6,7 @@ use Rattle.std.proofs.lemmas.List.{take-append-drop, take_all}
 use Rattle.std.proofs.Math.Numerals.{add-one}
 use Rattle.std.proofs.Math.Seq.{take-suc}
 use Rattle.never_heap.specs.declared.Command.{Command}
-use Rattle.trace_text.specs.declared.jobs.Job.{Job}
+use Rattle.trace_text.specs.Jobs.{Job}
 use Rattle.trace_text.specs.Spellings.{header, trace_lines, traces_lines}
 use Rattle.trace_text.specs.JobTexts.{line_text, job_text}
 use Rattle.trace_text.specs.Streams.{Appends, AppendsFront}

@@ -8,7 +8,6 @@ use Rattle.std.proofs.lemmas.Option.{same_Some}
 use Rattle.block_store.specs.declared.Config.{Config}
 use Rattle.never_heap.specs.declared.Command.{Command}
 use Rattle.never_heap.specs.Bounds.{IsCommandInBounds}
-use Rattle.trace_text.specs.declared.jobs.Job.{Job}
 use Rattle.trace_text.specs.declared.trace_faults.TraceFault.{TraceFault}
 use Rattle.trace_text.specs.declared.trace_faults.TraceFault.TheVariants.{ReadFault, TooLong, BadLine, OutOfMemory}
 use Rattle.trace_text.specs.declared.trace_faults.Why.{Why}
@@ -16,11 +15,12 @@ use Rattle.trace_text.specs.declared.trace_faults.Why.TheVariants as whys
 use Rattle.trace_text.specs.declared.reading.lines.Line.{Line}
 use Rattle.trace_text.specs.declared.reading.lines.Line.TheVariants.{Thread, End, Told}
 use Rattle.trace_text.specs.Spellings.{header, command_line, trace_lines, traces_lines, job_lines}
-use Rattle.trace_text.specs.Jobs.{IsJobInBounds, IsJob}
+use Rattle.trace_text.specs.Jobs.{Job, IsJobInBounds, IsJob}
 use Rattle.trace_text.specs.Reading.{Gives, pieced}
 use Rattle.trace_text.specs.Said.{line_at, header_at}
 use Rattle.trace_text.specs.Refusals.{Before, nothing_before, after_lines, later_fault, next_fault, fault_at, IsFirstBadLine}
-use Rattle.trace_text.specs.Wholes.{IsLineFault, next_line, IsTraceInBounds, IsTrace, IsBadTrace, IsBegun}
+use Rattle.never_heap.specs.Jobs.{IsTraceInBounds}
+use Rattle.trace_text.specs.Wholes.{IsLineFault, next_line, IsTrace, IsBadTrace, IsBegun}
 use Rattle.trace_text.proofs.LineLaws.{reason, prior, place, is_told, line_agrees, line_sound}
 use Rattle.trace_text.proofs.HeaderLaws.{header_agrees, header_sound}
 use Rattle.trace_text.proofs.QuietLaws.{Lines, IsQuiet, LeadsThrough, in_turn, quiet_append, after_append, trace_leads, traces_lead, end_is_quiet, all_quiet, header_quiet, header_config, first_bad}
@@ -151,18 +151,6 @@ unfolding later_fault
 behind_end c t k [] = refl
 behind_end c t k (p ∷ ps) = refl
 
-all_few : (c : Config) (traces : List (List Command)) → AllByRecursion (IsTraceInBounds c) traces → AllByRecursion (λ (trace : List Command). length trace ≤ 131072) traces
-all_few c [] h = tt
-all_few c (trace ∷ traces) h = (h.0.few, all_few c traces h.1)
-
-all_fit : (c : Config) (traces : List (List Command)) → AllByRecursion (IsTraceInBounds c) traces → AllByRecursion (λ (trace : List Command). AllByRecursion (IsCommandInBounds c) trace) traces
-all_fit c [] h = tt
-all_fit c (trace ∷ traces) h = (h.0.commands, all_fit c traces h.1)
-
-all_bounded : (c : Config) (traces : List (List Command)) → AllByRecursion (λ (trace : List Command). length trace ≤ 131072) traces → AllByRecursion (λ (trace : List Command). AllByRecursion (IsCommandInBounds c) trace) traces → AllByRecursion (IsTraceInBounds c) traces
-all_bounded c [] h i = tt
-all_bounded c (trace ∷ traces) h i = (record { few = h.0; commands = i.0 }, all_bounded c traces h.1 i.1)
-
 module _ (c : Config) (done : List (List Command)) (bytes : List ℕ) (read : ℕ) (left : Lines) (begun : IsBegun c done bytes read left) where
   through : LeadsThrough c 0 0 done (length done)
   through = traces_lead c 0 0 done (length done) (omega arith) begun.threads begun.config.threads begun.traces
@@ -202,7 +190,7 @@ module _ (c : Config) (done : List (List Command)) (bytes : List ℕ) (read : �
     pub is_whole : left ≡ [] → IsJob bytes (record { config = c; traces = done })
     is_whole e =
         record {
-          in_bounds = record { config = begun.config; threads = last; few = all_few c done begun.traces; commands = all_fit c done begun.traces };
+          in_bounds = record { config = begun.config; threads = last; each = begun.traces };
           lines = text_end ∙ ap (λ (ls : Lines). header c ∷ (traces_lines 0 done ++ (codes "end" ∷ []) ∷ ls)) e;
         }
 
@@ -228,7 +216,7 @@ apart_order m n low high ne = elim (cases_lt m n) [ inl lt ↦ low lt | inr le �
 job_quiet : (c : Config) (traces : List (List Command)) (i : ℕ) → IsJobInBounds (record { config = c; traces = traces }) → fault_at (job_lines c traces) i ≡ None
 job_quiet c traces zero b = header_quiet c b.config
 job_quiet c traces (suc i) b =
-    let t = traces_lead c 0 0 traces (length traces) (omega arith) (omega (arith, b.threads)) b.config.threads (all_bounded c traces b.few b.commands) in
+    let t = traces_lead c 0 0 traces (length traces) (omega arith) (omega (arith, b.threads)) b.config.threads b.each in
     let ls = traces_lines 0 traces ++ (codes "end" ∷ []) ∷ [] in
     let own : IsQuiet c (prior (length traces) t.last) ((codes "end" ∷ []) ∷ []) = (end_is_quiet c (length traces) t.last b.threads (omega (arith, b.threads, b.config.threads)), tt) in
     let quiet : IsQuiet c nothing_before ls = quiet_append c nothing_before (traces_lines 0 traces) ((codes "end" ∷ []) ∷ []) t.leads.quiet (subst (λ (p : Before). IsQuiet c p ((codes "end" ∷ []) ∷ [])) (sym t.leads.after) own) in

@@ -6,15 +6,17 @@ use Rattle.std.proofs.lemmas.Bool.Decides.{nat_tests}
 use Rattle.std.proofs.lemmas.Fmt.{decimal_is_IsNumeral}
 use Rattle.std.proofs.lemmas.Str.Parse.{digit_from_value}
 use Rattle.block_store.specs.declared.Config.{Config}
+use Rattle.block_store.specs.declared.Width.{Width}
+use Rattle.block_store.specs.declared.Width.TheVariants.{Four, Eight}
 use Rattle.block_store.specs.Configs.{IsInBounds}
 use Rattle.never_heap.specs.declared.Command.{Command}
 use Rattle.never_heap.specs.declared.Command.TheVariants.{New, Arr, Set, Nil, Mov, Get, Put, Len, Same, Say}
 use Rattle.never_heap.specs.Bounds.{IsCommandInBounds}
-use Rattle.trace_text.specs.declared.jobs.Job.{Job}
+use Rattle.never_heap.specs.Jobs.{IsTraceInBounds}
 use Rattle.trace_text.specs.Lines.{lines_of, pieces_of, onto_first}
 use Rattle.trace_text.specs.Reading.{pieced}
-use Rattle.trace_text.specs.Spellings.{header, command_line, trace_lines, traces_lines, job_lines}
-use Rattle.trace_text.specs.Jobs.{IsJobInBounds, IsJob, IsInput}
+use Rattle.trace_text.specs.Spellings.{version, header, command_line, trace_lines, traces_lines, job_lines}
+use Rattle.trace_text.specs.Jobs.{Job, IsJobInBounds, IsJob, IsInput}
 use Rattle.trace_text.specs.JobTexts.{line_text, job_text}
 
 -- ---- bytes
@@ -120,9 +122,14 @@ digits_piece (b ∷ bs) digits =
 number_piece : (n : ℕ) → n < 2 ^ 64 → is_piece (decimal n) ≡ true
 number_piece n fits = let numeral = decimal_is_IsNumeral n fits in digits_piece (decimal n) numeral.0.1
 
+version_piece : (w : Width) → is_piece (version w) ≡ true
+version_piece Four = refl
+version_piece Eight = refl
+
 header_line : (c : Config) → IsInBounds c → IsLine (header c)
 header_line c b =
     rw (
+      version_piece c.width,
       number_piece c.threads (omega (arith, b.threads)),
       number_piece c.blocks (omega (arith, b.blocks)),
       number_piece c.live (omega (arith, b.live)),
@@ -162,17 +169,17 @@ all_append : (xs ys : List (List (List ℕ))) → AllByRecursion IsLine xs → A
 all_append [] ys p q = q
 all_append (x ∷ xs) ys p q = (p.0, all_append xs ys p.1 q)
 
-threads_lines : (c : Config) (t : ℕ) (traces : List (List Command)) → t + length traces ≤ 16 → AllByRecursion (λ (trace : List Command). AllByRecursion (IsCommandInBounds c) trace) traces
+threads_lines : (c : Config) (t : ℕ) (traces : List (List Command)) → t + length traces ≤ 16 → AllByRecursion (IsTraceInBounds c) traces
     → AllByRecursion IsLine (traces_lines t traces)
 threads_lines c t [] few b = tt
 threads_lines c t (trace ∷ traces) few b =
-    all_append (trace_lines t trace) (traces_lines (t + 1) traces) (thread_line t (omega arith), commands_lines c trace b.0) (threads_lines c (t + 1) traces (omega arith) b.1)
+    all_append (trace_lines t trace) (traces_lines (t + 1) traces) (thread_line t (omega arith), commands_lines c trace b.0.commands) (threads_lines c (t + 1) traces (omega arith) b.1)
 
 -- the text of a job is that job
 pub text_is_job : (job : Job) → IsJobInBounds job → IsJob (job_text job) job
 text_is_job job b =
     let few : 0 + length job.traces ≤ 16 = omega (arith, b.threads, b.config.threads) in
-    let threads = threads_lines job.config 0 job.traces few b.commands in
+    let threads = threads_lines job.config 0 job.traces few b.each in
     let last : AllByRecursion IsLine ((codes "end" ∷ []) ∷ []) = (refl, tt) in
     let are : AllByRecursion IsLine (job_lines job.config job.traces) =
     (header_line job.config b.config, all_append (traces_lines 0 job.traces) ((codes "end" ∷ []) ∷ []) threads last) in

@@ -1,9 +1,8 @@
 -- What is read of a source.
 use Rattle.std.specs.Prelude.{ℕ, ◌+◌, ◌≤◌, ◌≡◌, ◌⊎◌, List, ◌++◌, length, take, drop, Option, Some, IfSome, Result, Ok, Err}
-use Rattle.trace_text.specs.declared.jobs.Job.{Job}
 use Rattle.trace_text.specs.declared.trace_faults.TraceFault.{TraceFault}
 use Rattle.trace_text.specs.declared.trace_faults.TraceFault.TheVariants.{ReadFault, TooLong, BadLine, OutOfMemory}
-use Rattle.trace_text.specs.Jobs.{input_limit}
+use Rattle.trace_text.specs.Jobs.{Job, input_limit}
 use Rattle.trace_text.specs.Streams.{IsAtEnd, TookAtMost}
 use Rattle.trace_text.specs.Faults.{Rose}
 

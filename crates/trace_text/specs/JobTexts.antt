@@ -1,7 +1,7 @@
 -- The one text of a job.
 use Rattle.std.specs.Prelude.{ℕ, List, [], ◌∷◌, ◌++◌}
 use Rattle.std.specs.List.{flat_map, join_with_byte}
-use Rattle.trace_text.specs.declared.jobs.Job.{Job}
+use Rattle.trace_text.specs.Jobs.{Job}
 use Rattle.trace_text.specs.Lines.{line_feed, space}
 use Rattle.trace_text.specs.Spellings.{job_lines}
 

@@ -1,10 +1,8 @@
--- Which bytes are a job.
+-- What a job is, and which bytes are one.
 use Rattle.std.specs.Prelude.{ℕ, ◌≤◌, ◌≡◌, List, map, length}
-use Rattle.std.specs.List.{AllByRecursion}
-use Rattle.block_store.specs.Configs.{IsInBounds}
+use Rattle.block_store.specs.declared.Config.{Config}
 use Rattle.never_heap.specs.declared.Command.{Command}
-use Rattle.never_heap.specs.Bounds.{IsCommandInBounds}
-use Rattle.trace_text.specs.declared.jobs.Job.{Job}
+use Rattle.never_heap.specs.Jobs as bounds
 use Rattle.trace_text.specs.Lines.{lines_of, pieces_of}
 use Rattle.trace_text.specs.Spellings.{job_lines}
 
@@ -12,12 +10,14 @@ use Rattle.trace_text.specs.Spellings.{job_lines}
 abbrev pub input_limit : ℕ
 input_limit = 16777216
 
--- what a job may hold: numbers in their ranges, one trace per thread, at most 131,072 commands in each
-pub record IsJobInBounds (job : Job) : Type 0 where
-  pub config : IsInBounds job.config
-  pub threads : length job.traces ≡ job.config.threads
-  pub few : AllByRecursion (λ (trace : List Command). length trace ≤ 131072) job.traces
-  pub commands : AllByRecursion (λ (trace : List Command). AllByRecursion (IsCommandInBounds job.config) trace) job.traces
+-- a configuration, and one trace of commands per thread
+pub record Job : Type 0 where
+  pub config : Config
+  pub traces : List (List Command)
+
+-- its numbers are in their ranges, and there is one trace per thread
+abbrev pub IsJobInBounds : Job → Type 0
+IsJobInBounds job = bounds.IsJobInBounds job.config job.traces
 
 -- The bytes are this job: their lines are its lines. The last line feed may be missing.
 pub record IsJob (bytes : List ℕ) (job : Job) : Type 0 where

@@ -3,6 +3,7 @@ use Rattle.std.specs.Prelude.{ℕ, zero, suc, ◌+◌, ◌-◌, ◌<◌, ◌≤�
 use Rattle.std.specs.Option.{unwrap_or}
 use Rattle.std.specs.List.{list_any}
 use Rattle.block_store.specs.declared.Config.{Config}
+use Rattle.block_store.specs.declared.Width.TheVariants.{Four}
 use Rattle.object_lists.specs.Records.{record_blocks}
 use Rattle.array_trees.specs.Trees.{array_blocks}
 use Rattle.trace_text.specs.declared.trace_faults.Why.{Why}
@@ -10,7 +11,7 @@ use Rattle.trace_text.specs.declared.trace_faults.Why.TheVariants as whys
 use Rattle.trace_text.specs.declared.reading.words.Word.{Word}
 use Rattle.trace_text.specs.declared.reading.words.Word.TheVariants.{Thread, End}
 use Rattle.trace_text.specs.Reading.{number_at, pieced}
-use Rattle.trace_text.specs.Headers.{labels_at}
+use Rattle.trace_text.specs.Headers.{Labels, labels_at}
 use Rattle.trace_text.specs.Words.{word_at, is_command, operands, Operand, OfThread, OfRegister, OfFields, OfElements, OfNumber}
 
 -- the reason of the first test that holds
@@ -33,22 +34,37 @@ abbrev pub is_outside : ℕ → ℕ → ℕ → Bool
 is_outside least most n = nat_lt n least || nat_lt most n
 
 -- the form, then the five numbers, then their ranges
-abbrev pub numbers_fault : Option (List ℕ × List ℕ × List ℕ × List ℕ × List ℕ) → Option Why
+abbrev pub numbers_fault : Option Labels → Option Why
 numbers_fault None = Some whys.Header
 numbers_fault (Some p) =
-    first_of (
-    (not (is_number p.0 && is_number p.1 && is_number p.2 && is_number p.3 && is_number p.4), whys.Number)
-    ∷ (is_outside 1 16 (value_of p.0) || is_outside 1 65535 (value_of p.1) || is_outside 0 65535 (value_of p.2) || is_outside 1 1024 (value_of p.3) || is_outside 0 1024 (value_of p.4), whys.Size)
+    first_of ((
+      not (is_number p.1 && is_number p.2 && is_number p.3 && is_number p.4 && is_number p.5),
+      whys.Number,
+    )
+    ∷ (
+      is_outside 1 16 (value_of p.1) || is_outside 1 65535 (value_of p.2)
+          || is_outside 0 65535 (value_of p.3) || is_outside 1 1024 (value_of p.4)
+          || is_outside 0 1024 (value_of p.5),
+      whys.Size,
+    )
     ∷ [])
 
 -- what is wrong with a header
 unfoldable pub header_fault : List (List ℕ) → Option Why
 header_fault line = numbers_fault (labels_at line)
 
--- the configuration of five pieces
-abbrev pub numbers_config : Option (List ℕ × List ℕ × List ℕ × List ℕ × List ℕ) → Config
-numbers_config None = record { threads = 0; blocks = 0; live = 0; object = 0; shared = 0 }
-numbers_config (Some p) = record { threads = value_of p.0; blocks = value_of p.1; live = value_of p.2; object = value_of p.3; shared = value_of p.4 }
+-- the configuration of a width and five pieces
+abbrev pub numbers_config : Option Labels → Config
+numbers_config None =
+    record { width = Four; threads = 0; blocks = 0; live = 0; object = 0; shared = 0 }
+numbers_config (Some p) = record {
+  width = p.0;
+  threads = value_of p.1;
+  blocks = value_of p.2;
+  live = value_of p.3;
+  object = value_of p.4;
+  shared = value_of p.5;
+}
 
 -- the configuration that a header without fault names
 unfoldable pub config_of : List (List ℕ) → Config
@@ -101,8 +117,8 @@ is_high_register o n = false
 abbrev pub is_too_large : Config → Operand → ℕ → Bool
 is_too_large c OfThread n = false
 is_too_large c OfRegister n = false
-is_too_large c OfFields n = nat_lt 65535 n || nat_lt c.object (record_blocks n)
-is_too_large c OfElements n = nat_lt 65535 n || nat_lt c.object (array_blocks n)
+is_too_large c OfFields n = nat_lt 65535 n || nat_lt c.object (record_blocks c.width n)
+is_too_large c OfElements n = nat_lt 65535 n || nat_lt c.object (array_blocks c.width n)
 is_too_large c OfNumber n = nat_le (2 ^ 62) n
 
 -- a thread that is not the next, or is one too many, and an end before the last thread

@@ -75,8 +75,8 @@ on_three ns line = Err whys.Count
 unfoldable pub told_at : Place → Word → List ℕ → Result Line Why
 told_at p words.Thread ns = on_one ns (λ t. if not (t == p.threads) || p.threads == p.config.threads then Err whys.Order else Ok (Thread t))
 told_at p words.End ns = on_none ns (if not (p.threads == p.config.threads) then Err whys.Order else Ok End)
-told_at p words.New ns = on_two ns (λ d f. checked (nat_lt 15 d) (p.full || nat_lt 65535 f || nat_lt p.config.object (record_blocks f)) (Told (commands.New d f)))
-told_at p words.Arr ns = on_two ns (λ d e. checked (nat_lt 15 d) (p.full || nat_lt 65535 e || nat_lt p.config.object (array_blocks e)) (Told (commands.Arr d e)))
+told_at p words.New ns = on_two ns (λ d f. checked (nat_lt 15 d) (p.full || nat_lt 65535 f || nat_lt p.config.object (record_blocks p.config.width f)) (Told (commands.New d f)))
+told_at p words.Arr ns = on_two ns (λ d e. checked (nat_lt 15 d) (p.full || nat_lt 65535 e || nat_lt p.config.object (array_blocks p.config.width e)) (Told (commands.Arr d e)))
 told_at p words.Set ns = on_two ns (λ d v. checked (nat_lt 15 d) (p.full || nat_le (2 ^ 62) v) (Told (commands.Set d v)))
 told_at p words.Nil ns = on_one ns (λ d. checked (nat_lt 15 d) p.full (Told (commands.Nil d)))
 told_at p words.Mov ns = on_two ns (λ d s. checked (nat_lt 15 d || nat_lt 15 s) p.full (Told (commands.Mov d s)))
@@ -109,14 +109,21 @@ bounded_at least most n = if nat_lt n least || nat_lt most n then Err whys.Size 
 unfoldable pub header_at : List (List ℕ) → Result Config Why
 header_at line = do
   pieces ← ok_or (labels_at line) whys.Header
-  threads ← spelled pieces.0
-  blocks ← spelled pieces.1
-  live ← spelled pieces.2
-  object ← spelled pieces.3
-  shared ← spelled pieces.4
+  threads ← spelled pieces.1
+  blocks ← spelled pieces.2
+  live ← spelled pieces.3
+  object ← spelled pieces.4
+  shared ← spelled pieces.5
   threads ← bounded_at 1 16 threads
   blocks ← bounded_at 1 65535 blocks
   live ← bounded_at 0 65535 live
   object ← bounded_at 1 1024 object
   shared ← bounded_at 0 1024 shared
-  Ok (record { threads = threads; blocks = blocks; live = live; object = object; shared = shared })
+  Ok (record {
+    width = pieces.0;
+    threads = threads;
+    blocks = blocks;
+    live = live;
+    object = object;
+    shared = shared;
+  })

@@ -1,13 +1,22 @@
--- How a job is spelled: its lines, each as its pieces. A number is written in decimal digits, without a leading zero.
+-- How a job is spelled: its lines, each as its pieces. A number is written in decimal digits,
+-- without a leading zero.
 use Rattle.std.specs.Prelude.{ℕ, ◌+◌, List, [], ◌∷◌, ◌++◌, map, codes, decimal}
 use Rattle.block_store.specs.declared.Config.{Config}
+use Rattle.block_store.specs.declared.Width.{Width}
+use Rattle.block_store.specs.declared.Width.TheVariants.{Four, Eight}
 use Rattle.never_heap.specs.declared.Command.{Command}
 use Rattle.never_heap.specs.declared.Command.TheVariants.{New, Arr, Set, Nil, Mov, Get, Put, Len, Same, Say}
+
+-- the version of a job whose blocks have this width
+abbrev pub version : Width → List ℕ
+version Four = codes "1"
+version Eight = codes "2"
 
 -- the first line
 abbrev pub header : Config → List (List ℕ)
 header c =
-    codes "rtheap" ∷ codes "1" ∷ codes "threads" ∷ decimal c.threads ∷ codes "blocks" ∷ decimal c.blocks ∷ codes "live" ∷ decimal c.live
+    codes "rtheap" ∷ version c.width ∷ codes "threads" ∷ decimal c.threads
+    ∷ codes "blocks" ∷ decimal c.blocks ∷ codes "live" ∷ decimal c.live
     ∷ codes "object" ∷ decimal c.object ∷ codes "shared" ∷ decimal c.shared ∷ []
 
 abbrev pub command_line : Command → List (List ℕ)

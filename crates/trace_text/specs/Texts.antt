@@ -40,6 +40,10 @@ entry_line e = decimal e.thread ++ (space ∷ reply_text e.reply e.work) ++ line
 abbrev pub totals_line : ℕ → ℕ → List ℕ
 totals_line cycles units = codes "end cycles " ++ decimal cycles ++ codes " work " ++ decimal units ++ line_feed ∷ []
 
+-- the line of the start of a cycle
+abbrev pub start_line : ℕ → List ℕ
+start_line cycle = codes "start " ++ decimal cycle ++ line_feed ∷ []
+
 -- the text of a run: each thread's lines in turn, and the totals
 abbrev pub run_text : List (List Entry) → ℕ → ℕ → List ℕ
 run_text logs cycles units = flat_map (λ log. flat_map entry_line log) logs ++ totals_line cycles units

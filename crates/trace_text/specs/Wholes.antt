@@ -4,7 +4,7 @@ use Rattle.std.specs.List.{AllByRecursion}
 use Rattle.block_store.specs.declared.Config.{Config}
 use Rattle.block_store.specs.Configs.{IsInBounds}
 use Rattle.never_heap.specs.declared.Command.{Command}
-use Rattle.never_heap.specs.Bounds.{IsCommandInBounds}
+use Rattle.never_heap.specs.Jobs.{IsTraceInBounds}
 use Rattle.trace_text.specs.declared.trace_faults.TraceFault.{TraceFault}
 use Rattle.trace_text.specs.declared.trace_faults.TraceFault.TheVariants.{ReadFault, TooLong, BadLine, OutOfMemory}
 use Rattle.trace_text.specs.declared.trace_faults.Why.{Why}
@@ -22,11 +22,6 @@ IsLineFault P OutOfMemory = Unit {0}
 -- the line behind the traces of t threads
 abbrev pub next_line : Config → ℕ → List (List ℕ)
 next_line c t = if t == c.threads then codes "end" ∷ [] else codes "thread" ∷ decimal t ∷ []
-
--- a trace may hold these commands
-pub record IsTraceInBounds (c : Config) (trace : List Command) : Type 0 where
-  pub few : length trace ≤ 131072
-  pub commands : AllByRecursion (IsCommandInBounds c) trace
 
 -- lines are the commands of a thread, the line behind the traces of t threads, and others
 pub record IsTrace (c : Config) (t : ℕ) (lines : List (List (List ℕ))) (trace : List Command) (others : List (List (List ℕ))) : Type 0 where

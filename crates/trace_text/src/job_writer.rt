@@ -2,18 +2,18 @@
 
 ghost use Rattle.std.specs.Prelude.{◌≡◌, ◌+◌, ◌≤◌, [], ◌∷◌, ◌++◌, map, length, codes, decimal, IfOk, OnOk, OnErr};
 ghost use Rattle.std.specs.List.{flat_map};
-ghost use Rattle.trace_text.specs.declared.jobs.Job as jobs;
+ghost use Rattle.trace_text.specs.Jobs as jobs;
 ghost use Rattle.trace_text.specs.Faults.{Rose};
 ghost use Rattle.trace_text.specs.Lines.{space};
 ghost use Rattle.trace_text.specs.Streams.{Appends, AppendsFront};
-ghost use Rattle.trace_text.specs.Spellings.{header, command_line, trace_lines, traces_lines};
+ghost use Rattle.trace_text.specs.Spellings.{version, header, command_line, trace_lines, traces_lines};
 ghost use Rattle.trace_text.specs.Jobs.{input_limit, IsJobInBounds, IsJob, IsInput};
 ghost use Rattle.trace_text.specs.JobTexts.{line_text, job_text};
 
-use crate::jobs::{Job, Traces};
+use crate::jobs::Job;
 use crate::line_buffer::LineBuffer;
 use crate::{Failed, Sink};
-use block_store::Config;
+use block_store::{Config, Width};
 use never_heap::Command;
 
 /// Writes a job: a line with the configuration, then for each thread its line and a line for each of
@@ -38,8 +38,8 @@ pub fn write_job<K: Sink>(job: &Job, sink: &mut K) -> Result<(), Failed>
     ensures still { OnOk result (K.faults sink.new ≡ K.faults sink.old) }
     ensures is_job { IsJob (job_text job.now) job.now }
 {
-    sink.put(line_of_header(&job.config).bytes())?;
-    write_traces(&job.traces, sink)?;
+    sink.put(line_of_header(job).bytes())?;
+    write_traces(job, sink)?;
     sink.put(b"end\n")
 }
 
@@ -51,22 +51,26 @@ pub fn job_text_is_job()
 {}
 
 /// Writes the traces from that of thread 0 on.
-fn write_traces<K: Sink>(traces: &Traces, sink: &mut K) -> Result<(), Failed>
-    ensures written { OnOk result (Appends (K.held sink.old) (K.held sink.new) (flat_map line_text (traces_lines 0 traces.now))) }
-    ensures front { OnErr result (AppendsFront (K.held sink.old) (K.held sink.new) (flat_map line_text (traces_lines 0 traces.now))) }
+fn write_traces<K: Sink>(job: &Job, sink: &mut K) -> Result<(), Failed>
+    ensures written { OnOk result (Appends (K.held sink.old) (K.held sink.new)
+        (flat_map line_text (traces_lines 0 job.now.traces))) }
+    ensures front { OnErr result (AppendsFront (K.held sink.old) (K.held sink.new)
+        (flat_map line_text (traces_lines 0 job.now.traces))) }
     ensures rose { OnErr result (Rose (K.faults sink.old) (K.faults sink.new)) }
     ensures still { OnOk result (K.faults sink.new ≡ K.faults sink.old) }
 {
-    for t in 0..traces.len() {
-        write_trace(t, traces.trace(t), sink)?;
+    for t in 0..job.threads() {
+        write_trace(t, job.trace(t), sink)?;
     }
     Ok(())
 }
 
 /// Writes the line of thread `t`, and one for each of its commands.
 fn write_trace<K: Sink>(t: usize, trace: &[Command], sink: &mut K) -> Result<(), Failed>
-    ensures written { OnOk result (Appends (K.held sink.old) (K.held sink.new) (flat_map line_text (trace_lines t trace.now))) }
-    ensures front { OnErr result (AppendsFront (K.held sink.old) (K.held sink.new) (flat_map line_text (trace_lines t trace.now))) }
+    ensures written { OnOk result (Appends (K.held sink.old) (K.held sink.new)
+        (flat_map line_text (trace_lines t trace.now))) }
+    ensures front { OnErr result (AppendsFront (K.held sink.old) (K.held sink.new)
+        (flat_map line_text (trace_lines t trace.now))) }
     ensures rose { OnErr result (Rose (K.faults sink.old) (K.faults sink.new)) }
     ensures still { OnOk result (K.faults sink.new ≡ K.faults sink.old) }
 {
@@ -76,8 +80,10 @@ fn write_trace<K: Sink>(t: usize, trace: &[Command], sink: &mut K) -> Result<(),
 
 /// Writes a line for each command.
 fn write_commands<K: Sink>(trace: &[Command], sink: &mut K) -> Result<(), Failed>
-    ensures written { OnOk result (Appends (K.held sink.old) (K.held sink.new) (flat_map line_text (map command_line trace.now))) }
-    ensures front { OnErr result (AppendsFront (K.held sink.old) (K.held sink.new) (flat_map line_text (map command_line trace.now))) }
+    ensures written { OnOk result (Appends (K.held sink.old) (K.held sink.new)
+        (flat_map line_text (map command_line trace.now))) }
+    ensures front { OnErr result (AppendsFront (K.held sink.old) (K.held sink.new)
+        (flat_map line_text (map command_line trace.now))) }
     ensures rose { OnErr result (Rose (K.faults sink.old) (K.faults sink.new)) }
     ensures still { OnOk result (K.faults sink.new ≡ K.faults sink.old) }
 {
@@ -98,7 +104,13 @@ fn line_of_thread(t: usize) -> LineBuffer
     line
 }
 
-fn line_of_header(config: &Config) -> LineBuffer
+fn line_of_header(job: &Job) -> LineBuffer
+    ensures { result ≡ line_text (header job.now.config) }
+{
+    line_of_config(&job.config)
+}
+
+fn line_of_config(config: &Config) -> LineBuffer
     ensures { result ≡ line_text (header config.now) }
 {
     let mut line = LineBuffer::new();
@@ -112,8 +124,21 @@ fn line_of_header(config: &Config) -> LineBuffer
     line.prepend_short_number(config.blocks);
     line.prepend(b" blocks ");
     line.prepend_short_number(config.threads);
-    line.prepend(b"rtheap 1 threads ");
+    line.prepend(b" threads ");
+    line.prepend(version_of(config.width));
+    line.prepend(b"rtheap ");
     line
+}
+
+/// The version of a job whose blocks have this width.
+fn version_of(width: Width) -> &'static [u8]
+    ensures version { result.now ≡ version width }
+    ensures short { length result.now ≤ 1 }
+{
+    match width {
+        Width::Four => b"1",
+        Width::Eight => b"2",
+    }
 }
 
 /// Makes a command's line, in place of what the buffer held.
@@ -210,13 +235,14 @@ mod tests {
         traces.push(Vec::from_slice(alloc, &second)?)?;
         Ok(Job {
             config: Config {
+                width: Width::Four,
                 threads: 2,
                 blocks: 65535,
                 live: 0,
                 object: 2,
                 shared: 1024,
             },
-            traces: Traces::new(traces),
+            traces,
         })
     }
 

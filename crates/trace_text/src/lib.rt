@@ -15,12 +15,15 @@ mod std_source;
 mod trace_faults;
 
 pub use job_writer::{job_text_is_job, write_job};
-pub use jobs::{Job, Traces};
+pub use jobs::Job;
 pub use line_buffer::LineBuffer;
 pub use mem_sink::MemSink;
 pub use mem_source::MemSource;
-pub use printing::{lines_are_short, write_run};
-pub use reading::{inputs_are_told_apart, jobs_are_one, read_trace};
+pub use printing::{fill_entry, fill_start, fill_totals, lines_are_short, write_run};
+pub use reading::{
+    INPUT_LIMIT, first_line, first_piece, input_of, inputs_are_told_apart, job_of, jobs_are_one,
+    number_of, read_trace,
+};
 pub use sinks::Sink;
 pub use sources::Source;
 pub use std_sink::StdSink;

@@ -4,7 +4,7 @@ ghost use Rattle.std.specs.Prelude.{◌≡◌, ◌+◌, ◌≤◌, ◌++◌, len
 ghost use Rattle.std.specs.List.{flat_map};
 ghost use Rattle.trace_text.specs.Faults.{Rose};
 ghost use Rattle.trace_text.specs.Streams.{Appends, AppendsFront};
-ghost use Rattle.trace_text.specs.Texts.{name_text, value_text, reply_text, entry_line, totals_line, run_text};
+ghost use Rattle.trace_text.specs.Texts.{name_text, value_text, reply_text, entry_line, totals_line, start_line, run_text};
 
 use crate::line_buffer::LineBuffer;
 use crate::{Failed, Sink};
@@ -30,7 +30,9 @@ pub fn write_run<R: Logs, K: Sink>(run: &R, sink: &mut K) -> Result<(), Failed>
     for t in 0..run.threads() {
         write_log(run.entries(t), sink)?;
     }
-    sink.put(line_of_totals(run.cycles(), run.units()).bytes())
+    let mut line = LineBuffer::new();
+    fill_totals(&mut line, run.cycles(), run.units());
+    sink.put(line.bytes())
 }
 
 /// A law: each line of a run has at most 64 bytes, whatever its numbers.
@@ -38,8 +40,9 @@ pub fn lines_are_short(entry: Entry, cycles: u64, units: u64)
     ensures entry { length (entry_line entry) ≤ 64 }
     ensures totals { length (totals_line cycles units) ≤ 64 }
 {
-    fill_entry(&mut LineBuffer::new(), &entry);
-    line_of_totals(cycles, units);
+    let mut line = LineBuffer::new();
+    fill_entry(&mut line, &entry);
+    fill_totals(&mut line, cycles, units);
 }
 
 /// Writes a line for each entry.
@@ -58,7 +61,7 @@ fn write_log<K: Sink>(log: &[Entry], sink: &mut K) -> Result<(), Failed>
 }
 
 /// Makes an entry's line, in place of what the buffer held.
-fn fill_entry(line: &mut LineBuffer, entry: &Entry)
+pub fn fill_entry(line: &mut LineBuffer, entry: &Entry)
     ensures text { line.new ≡ entry_line entry.now }
     ensures short { length line.new ≤ 64 }
 {
@@ -69,17 +72,28 @@ fn fill_entry(line: &mut LineBuffer, entry: &Entry)
     line.prepend_short_number(entry.thread);
 }
 
-fn line_of_totals(cycles: u64, units: u64) -> LineBuffer
-    ensures text { result ≡ totals_line cycles units }
-    ensures short { length result ≤ 64 }
+/// Makes the line of the totals, in place of what the buffer held.
+pub fn fill_totals(line: &mut LineBuffer, cycles: u64, units: u64)
+    ensures text { line.new ≡ totals_line cycles units }
+    ensures short { length line.new ≤ 64 }
 {
-    let mut line = LineBuffer::new();
+    line.clear();
     line.prepend(b"\n");
     line.prepend_number(units);
     line.prepend(b" work ");
     line.prepend_number(cycles);
     line.prepend(b"end cycles ");
-    line
+}
+
+/// Makes the line of the start of a cycle, in place of what the buffer held.
+pub fn fill_start(line: &mut LineBuffer, cycle: u64)
+    ensures text { line.new ≡ start_line cycle }
+    ensures short { length line.new ≤ 64 }
+{
+    line.clear();
+    line.prepend(b"\n");
+    line.prepend_number(cycle);
+    line.prepend(b"start ");
 }
 
 fn prepend_reply(line: &mut LineBuffer, reply: Reply, work: u64)

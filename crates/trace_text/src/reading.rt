@@ -1,7 +1,7 @@
 //! Reading a job from a source.
 
 ghost use Rattle.std.specs.Prelude.{◌≡◌, ◌+◌, ◌<◌, ◌≤◌, ◌⊎◌, ℕ, List, Some, [], drop, length, Err, IfOk, IfSome, OnOk, MatchResult, IsErrOf};
-ghost use Rattle.trace_text.specs.declared.jobs.Job as jobs;
+ghost use Rattle.trace_text.specs.Jobs as jobs;
 ghost use Rattle.trace_text.specs.declared.trace_faults.Why as whys;
 ghost use Rattle.trace_text.specs.declared.trace_faults.TraceFault.TheVariants as faults;
 ghost use Rattle.trace_text.specs.Jobs.{input_limit, IsJobInBounds, IsJob, IsInput};
@@ -22,8 +22,10 @@ mod whole;
 mod words;
 
 use crate::jobs::Job;
-use crate::reading::input::{INPUT_LIMIT, input_of};
-use crate::reading::whole::job_of;
+pub use crate::reading::input::{INPUT_LIMIT, input_of};
+pub use crate::reading::numbers::number_of;
+pub use crate::reading::pieces::{first_line, first_piece};
+pub use crate::reading::whole::job_of;
 use crate::sources::Source;
 use crate::trace_faults::TraceFault;
 use std::alloc::Global;
@@ -61,7 +63,7 @@ pub fn read_trace<S: Source>(alloc: Global, source: &mut S) -> Result<Job, Trace
     ensures cause { MatchResult result (λ _. S.faults source.new ≡ S.faults source.old)
         (λ fault. CountsFault fault (S.faults source.old) (S.faults source.new)) }
 {
-    let input = input_of(alloc, source)?;
+    let input = input_of(alloc, source, INPUT_LIMIT)?;
     if input.len() > INPUT_LIMIT {
         return Err(TraceFault::TooLong);
     }

@@ -1,4 +1,5 @@
-use Rattle.std.proofs.Common.{◌≡◌, ◌+◌, ◌<◌, ◌≤◌}
+use Rattle.std.proofs.Common.{◌≡◌, ◌+◌, ◌<◌}
+use Rattle.block_store.specs.Widths.{payloads}
 use Rattle.array_trees.specs.Trees.{tree, array_blocks}
 use Rattle.array_trees.proofs.blocks_of_array.Given as goal
 
@@ -6,8 +7,7 @@ use Rattle.array_trees.proofs.blocks_of_array.Given as goal
 abbrev pub invariant-loop-level : goal.invariant-loop-level
 invariant-loop-level l = record {
   some : 0 < l.level;
-  few : l.level ≤ 16384;
-  counted : l.blocks + tree 4 l.level ≡ array_blocks l.e + l.level;
+  counted : l.blocks + tree (payloads l.width) l.level ≡ array_blocks l.width l.e + l.level;
 }
 
 abbrev pub decreases-loop-level : goal.decreases-loop-level

@@ -5,7 +5,14 @@ use Rattle.shown_graph.proofs.other_words_are_free.Goals as goal
 
 pub returns : goal.returns
 returns c = record {
-  words = λ n m kept g at w u late shows registers objects. words_change n m (named kept) g at w late shows u registers objects;
-  behind = λ n m l kept g at w u late shows room more same. later_last n m (named kept) g at u late (words_behind n m (named kept) g at w late shows u room same) l more;
-  fewer = λ n m kept fewer g at w late shows down closed none. fewer_names n m (named kept) g at w late shows (named fewer) down closed none;
+  words = λ s u shows registers objects.
+      words_change s.width s.threads s.last (named s.kept) s.graph s.at s.words s.late shows u
+      registers (λ a o ka ol. objects a o (record { kept = ka; ordinal = ol }));
+  behind = λ s l u shows room more same.
+      later_last s.width s.threads s.last (named s.kept) s.graph s.at u s.late
+      (words_behind s.width s.threads s.last (named s.kept) s.graph s.at s.words s.late shows u room
+      same) l more;
+  fewer = λ s fewer shows down closed none.
+      fewer_names s.width s.threads s.last (named s.kept) s.graph s.at s.words s.late shows
+      (named fewer) down closed (λ t r tn rl. none t r (tn, rl));
 }

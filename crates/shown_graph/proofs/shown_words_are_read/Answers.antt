@@ -4,11 +4,25 @@ use Rattle.shown_graph.proofs.shown_words_are_read.Goals as goal
 
 pub returns : goal.returns
 returns c = record {
-  owner = λ n m o kept g at w late a shows ka ol. owner_read n m (named kept) g at w late shows a o ka ol;
-  length = λ n m o kept g at w late a shows ka ol. length_read n m (named kept) g at w late shows a o ka ol;
-  value = λ n m kept g at w late v shows few value. value_read n m (named kept) g at w late shows v few value;
-  one_value = λ n m kept g at w late v u shows kv ku e. one_value n m (named kept) g at w late shows v u kv ku e;
-  register = λ n m t r kept g at w late shows tn rl now. register_read n m (named kept) g at w late shows t r tn rl now;
-  field = λ n m i steps last kept g at w late a way turn walked shows ka within is starts goes. walk_ends n m (named kept) g at w late shows a i ka within steps last way turn is walked starts goes;
-  apart = λ n m o p kept g at w late a b shows ka kb ol pl e. blocks_apart n m (named kept) g at w late shows a b o p ka kb ol pl e;
+  owner = λ s a o shows is.
+      owner_read s.width s.threads s.last (named s.kept) s.graph s.at s.words s.late shows a o
+      is.kept is.ordinal;
+  length = λ s a o shows is.
+      length_read s.width s.threads s.last (named s.kept) s.graph s.at s.words s.late shows a o
+      is.kept is.ordinal;
+  value = λ s v shows few value.
+      value_read s.width s.threads s.last (named s.kept) s.graph s.at s.words s.late shows v few
+      value;
+  one_value = λ s v u shows kv ku e.
+      one_value s.width s.threads s.last
+      (named s.kept) s.graph s.at s.words s.late shows v u kv ku e;
+  register = λ s t r shows there now.
+      register_read s.width s.threads s.last (named s.kept) s.graph s.at s.words s.late shows t r
+      there.0 there.1 now;
+  field = λ s a i steps last way turn walked shows ka within is starts goes.
+      walk_ends s.width s.threads s.last (named s.kept) s.graph s.at s.words s.late shows a i ka
+      within steps last way turn is walked starts goes;
+  apart = λ s a b o p shows is other e.
+      blocks_apart s.width s.threads s.last (named s.kept) s.graph s.at s.words s.late shows a b o p
+      is.kept other.kept is.ordinal other.ordinal e;
 }

@@ -4,8 +4,16 @@ use Rattle.shown_graph.proofs.stores_are_shown.Goals as goal
 
 pub returns : goal.returns
 returns c = record {
-  register = λ n m t r kept g at w late later v shows tn small value others. register_store n m (named kept) g at w late shows later t r tn small v value others;
-  late = λ n m t r kept g at w late later v shows tn small value is others. register_late n m (named kept) g at w late shows later t r tn small v value is others;
-  caught_up = λ n m t r kept g at w late later shows tn small others. late_store n m (named kept) g at w late shows later t r tn small others;
-  field = λ n m i kept g at w late a v shows ka within value. field_store n m (named kept) g at w late shows a i v ka within value;
+  register = λ s t r later v shows there value others.
+      register_store s.width s.threads s.last (named s.kept) s.graph s.at s.words s.late shows later
+      t r there.0 there.1 v value others;
+  late = λ s t r later v shows there value is others.
+      register_late s.width s.threads s.last (named s.kept) s.graph s.at s.words s.late shows later
+      t r there.0 there.1 v value is others;
+  caught_up = λ s t r later shows there others.
+      late_store s.width s.threads s.last (named s.kept) s.graph s.at s.words s.late shows later
+      t r there.0 there.1 others;
+  field = λ s a i v shows ka within value.
+      field_store s.width s.threads s.last (named s.kept) s.graph s.at s.words s.late shows
+      a i v ka within value;
 }

@@ -4,23 +4,24 @@ ghost use Rattle.std.specs.Prelude.{◌≡◌};
 ghost use Rattle.std.specs.Option.{option_copied};
 ghost use Rattle.trace_text.specs.Lines.{pieces_of};
 ghost use Rattle.trace_text.specs.Reading.{Gives, pieces_left};
-ghost use Rattle.trace_text.specs.Headers.{behind_at, labelled_at, labels_at};
+ghost use Rattle.trace_text.specs.Headers.{behind_at, width_at, version_at, labelled_at, labels_at};
 ghost use Rattle.trace_text.specs.Said.{bounded_at, header_at};
 
 use crate::reading::lines::spelled;
 use crate::reading::pieces::{first_piece, no_more};
 use crate::trace_faults::Why;
-use block_store::Config;
+use block_store::{Config, Width};
 
 /// The configuration that a header names, each number in its range.
 #[tactic(auto, unfolding(crate::specs::Said::header_at))]
 pub fn header_of(line: &[u8]) -> Result<Config, Why>
     ensures { result ≡ header_at (pieces_of line.now) }
 {
-    let (threads, blocks, live, object, shared) = labels_of(line).ok_or(Why::Header)?;
+    let (width, threads, blocks, live, object, shared) = labels_of(line).ok_or(Why::Header)?;
     let (threads, blocks, live) = (spelled(threads)?, spelled(blocks)?, spelled(live)?);
     let (object, shared) = (spelled(object)?, spelled(shared)?);
     Ok(Config {
+        width,
         threads: bounded(threads, 1, 16)?,
         blocks: bounded(blocks, 1, 65_535)?,
         live: bounded(live, 0, 65_535)?,
@@ -29,21 +30,42 @@ pub fn header_of(line: &[u8]) -> Result<Config, Why>
     })
 }
 
-/// The five pieces of a header that are to be numbers.
+/// The width that a header's version names, and its five pieces that are to be numbers.
 #[tactic(auto, unfolding(crate::specs::Headers::labels_at))]
-fn labels_of(line: &[u8]) -> Option<(&[u8], &[u8], &[u8], &[u8], &[u8])>
-    ensures { Gives (λ x. (x.0.now, x.1.now, x.2.now, x.3.now, x.4.now)) result
+fn labels_of(line: &[u8]) -> Option<(Width, &[u8], &[u8], &[u8], &[u8], &[u8])>
+    ensures { Gives (λ x. (x.0, x.1.now, x.2.now, x.3.now, x.4.now, x.5.now)) result
         (labels_at (pieces_of line.now)) }
 {
     let rest = behind(Some(line), b"rtheap")?;
-    let rest = behind(rest, b"1")?;
+    let (width, rest) = version_of(rest)?;
     let (threads, rest) = labelled(rest, b"threads")?;
     let (blocks, rest) = labelled(rest, b"blocks")?;
     let (live, rest) = labelled(rest, b"live")?;
     let (object, rest) = labelled(rest, b"object")?;
     let (shared, rest) = labelled(rest, b"shared")?;
     no_more(rest)?;
-    Some((threads, blocks, live, object, shared))
+    Some((width, threads, blocks, live, object, shared))
+}
+
+/// The width that the version names with which the pieces begin, and the pieces behind it.
+#[tactic(auto, unfolding(crate::specs::Headers::version_at))]
+fn version_of(pieces: Option<&[u8]>) -> Option<(Width, Option<&[u8]>)>
+    ensures { Gives (λ x. (x.0, pieces_left (option_copied x.1))) result
+        (version_at (pieces_left (option_copied pieces.entry))) }
+{
+    let (version, others) = first_piece(pieces?);
+    Some((width_of(version)?, others))
+}
+
+/// The width of the blocks in a job of this version.
+fn width_of(version: &[u8]) -> Option<Width>
+    ensures { result ≡ width_at version.now }
+{
+    match version {
+        b"1" => Some(Width::Four),
+        b"2" => Some(Width::Eight),
+        _ => None,
+    }
 }
 
 /// The piece behind a label that the pieces begin with, and the pieces behind it.

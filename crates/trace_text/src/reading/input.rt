@@ -1,6 +1,6 @@
 //! The bytes of a source.
 
-ghost use Rattle.std.specs.Prelude.{◌≡◌, ◌+◌, ◌<◌, ◌≤◌, ◌++◌, [], take, length, vec_len, IfOk, IfErr, IfSome, MatchResult};
+ghost use Rattle.std.specs.Prelude.{◌≡◌, ◌+◌, ◌^◌, ◌<◌, ◌≤◌, ◌++◌, [], take, length, vec_len, IfOk, IfErr, IfSome, MatchResult};
 ghost use Rattle.trace_text.specs.Streams.{IsAtEnd, StillTells};
 ghost use Rattle.trace_text.specs.Inputs.{HasRead, Adds, CountsFault, IsOfNoByte, TookFew};
 
@@ -8,20 +8,29 @@ use crate::sources::Source;
 use crate::trace_faults::TraceFault;
 use std::alloc::{AllocError, Global};
 
-/// The most bytes that an input may have.
+/// The most bytes that a job's text may have.
 pub const INPUT_LIMIT: usize = 16_777_216;
 
 /// How many bytes a source is asked for at most at a time.
 const PIECE_LEN: usize = 65_536;
 
-/// The bytes of a source up to its end. Of an input that is too long only the first byte too many
-/// is read.
-pub fn input_of<S: Source>(alloc: Global, source: &mut S) -> Result<Vec<u8>, TraceFault>
+/// The bytes of a source up to its end, where there are at most `most`, which is below 2^62. Of more
+/// bytes only the first one too many is read.
+///
+/// # Errors
+///
+/// `ReadFault` where the source fails, and `OutOfMemory`.
+pub fn input_of<S: Source>(
+    alloc: Global,
+    source: &mut S,
+    most: usize,
+) -> Result<Vec<u8>, TraceFault>
+    requires { most < 2 ^ 62 }
     ensures read { IfOk result (λ input. HasRead (S.left source.old) input.items (S.left source.new)) }
-    ensures within { IfOk result (λ input. vec_len input ≤ INPUT_LIMIT + 1) }
-    ensures ended { IfOk result (λ input. vec_len input ≤ INPUT_LIMIT
+    ensures within { IfOk result (λ input. vec_len input ≤ most + 1) }
+    ensures ended { IfOk result (λ input. vec_len input ≤ most
         → IsAtEnd (S.left source.old) (S.left source.new)) }
-    ensures few { IfErr result (λ fault. TookFew fault (INPUT_LIMIT + 1) (S.left source.old) (S.left source.new)) }
+    ensures few { IfErr result (λ fault. TookFew fault (most + 1) (S.left source.old) (S.left source.new)) }
     ensures cause_alone { IfErr result IsOfNoByte }
     ensures cause { MatchResult result (λ _. S.faults source.new ≡ S.faults source.old)
         (λ fault. CountsFault fault (S.faults source.old) (S.faults source.new)) }
@@ -29,8 +38,8 @@ pub fn input_of<S: Source>(alloc: Global, source: &mut S) -> Result<Vec<u8>, Tra
 {
     let mut input = Vec::new(alloc);
     let mut piece = zeros(alloc, PIECE_LEN)?;
-    while input.len() <= INPUT_LIMIT {
-        let room = (INPUT_LIMIT + 1 - input.len()).min(PIECE_LEN);
+    while input.len() <= most {
+        let room = (most + 1 - input.len()).min(PIECE_LEN);
         let taken = take_into(source, &mut piece[..room], &mut input)?;
         if taken == 0 {
             return Ok(input);

@@ -102,7 +102,7 @@ fn new_of(place: &Place, operands: Option<&[u8]>) -> Result<Line, Why>
         return Err(Why::Size);
     }
     let fields = fields as u32;
-    if blocks_of_record(fields) > place.config.object {
+    if blocks_of_record(place.config.width, fields) > place.config.object {
         return Err(Why::Size);
     }
     Ok(Line::Told(Command::New { d: d as u8, fields }))
@@ -120,7 +120,7 @@ fn arr_of(place: &Place, operands: Option<&[u8]>) -> Result<Line, Why>
         return Err(Why::Size);
     }
     let elements = elements as u32;
-    if blocks_of_array(elements) > place.config.object {
+    if blocks_of_array(place.config.width, elements) > place.config.object {
         return Err(Why::Size);
     }
     Ok(Line::Told(Command::Arr {

@@ -2,14 +2,16 @@
 
 ghost use Rattle.std.specs.Prelude.{◌≡◌, ◌==◌, ◌<◌, ◌∷◌, length, position, IfSome};
 ghost use Rattle.std.specs.Option.{option_copied};
-ghost use Rattle.trace_text.specs.Lines.{pieces_of};
+ghost use Rattle.trace_text.specs.Lines.{lines_of, pieces_of};
 ghost use Rattle.trace_text.specs.Reading.{Gives, parted, pieced, pieces_left, no_more_of, one_piece_of, two_pieces_of, three_pieces_of};
 
 use memchr::memchr;
 
 /// The first line of an input, and what stands behind it. An empty input has no line.
 pub fn first_line(input: &[u8]) -> Option<(&[u8], &[u8])>
-    ensures lines { Gives (λ x. (pieces_of x.0.now, pieced x.1.now)) result (parted (pieced input.now)) }
+    ensures bytes { Gives (λ x. (x.0.now, lines_of x.1.now)) result (parted (lines_of input.now)) }
+    ensures lines { Gives (λ x. (pieces_of x.0.now, pieced x.1.now)) result
+        (parted (pieced input.now)) }
     ensures shorter { IfSome result (λ x. length x.1.now < length input.now) }
 {
     if input.is_empty() {

@@ -22,6 +22,10 @@ const REFUSED: &str = "-||1 header
 -|rtheap|1 header
 -|rtheap 1|1 header
 -|rtheap 3 threads 1 blocks 64 live 20 object 2 shared 0/thread 0/end/|1 header
+-|rtheap 02 threads 1 blocks 64 live 20 object 2 shared 0/thread 0/end/|1 header
+-|rtheap 12 threads 1 blocks 64 live 20 object 2 shared 0/thread 0/end/|1 header
+-|rtheap 2 threads 1 blocks 64 live 20 object 2 shared 0/thread 0/new 1 15/end/|3 size
+-|rtheap 2 threads 1 blocks 64 live 20 object 2 shared 0/thread 0/arr 1 9/end/|3 size
 -|Rtheap 1 threads 1 blocks 64 live 20 object 2 shared 0/thread 0/end/|1 header
 -|rtheap 01 threads 1 blocks 64 live 20 object 2 shared 0/thread 0/end/|1 header
 -|rtheap 1 thread 1 blocks 64 live 20 object 2 shared 0/thread 0/end/|1 header
@@ -305,6 +309,6 @@ fn each_row_is_refused_in_pieces_of_any_length(rt: HostRuntime) -> Result<(), Fa
         }
         rows = rows.saturating_add(1);
     }
-    assert_eq!(rt; rows, 239);
+    assert_eq!(rt; rows, 243);
     Ok(())
 }

@@ -1,14 +1,24 @@
 //! Small jobs, read whole and in pieces.
 
-ghost use Rattle.std.specs.Prelude.{◌≤◌};
+ghost use Rattle.std.specs.Prelude.{◌≤◌, IfOk};
+ghost use Rattle.trace_text.specs.Jobs.{IsJobInBounds};
 
 use super::*;
-use crate::{MemSource, Why};
-use block_store::Config;
+use crate::{MemSink, MemSource, Why, write_job};
+use block_store::{Config, Width};
 use never_heap::Command;
 use std::alloc::AllocError;
 use std::process::Abort;
 use std::test::Fail;
+
+const SMALL: Config = Config {
+    width: Width::Four,
+    threads: 1,
+    blocks: 64,
+    live: 20,
+    object: 2,
+    shared: 0,
+};
 
 /// What reading these bytes answers, at most `most` of them a call. The calls in `fail` fail.
 fn read(
@@ -18,6 +28,7 @@ fn read(
     fail: &[u64],
 ) -> Result<Result<Job, TraceFault>, AllocError>
     requires { 1 ≤ most }
+    ensures { IfOk result (λ read. IfOk read IsJobInBounds) }
 {
     let bytes = Vec::from_slice(alloc, bytes)?;
     let fail = Vec::from_slice(alloc, fail)?;
@@ -27,16 +38,9 @@ fn read(
 
 /// That a job is one for a heap of 64 blocks, with this trace.
 fn expect_job(rt: &impl Abort, job: &Job, trace: &[Command]) {
-    let config = Config {
-        threads: 1,
-        blocks: 64,
-        live: 20,
-        object: 2,
-        shared: 0,
-    };
-    assert_eq!(rt; job.config, config);
+    assert_eq!(rt; job.config, SMALL);
     assert_eq!(rt; job.traces.len(), 1);
-    assert_eq!(rt; job.traces.trace(0), trace);
+    assert_eq!(rt; job.trace(0), trace);
 }
 
 #[test]
@@ -106,8 +110,8 @@ fn all_commands_of_two_threads_are_read(rt: HostRuntime) -> Result<(), Fail> {
     ];
     let job = read(rt.alloc(), text, 7, &[])??;
     assert_eq!(rt; job.traces.len(), 2);
-    assert_eq!(rt; job.traces.trace(0), first.as_slice());
-    assert_eq!(rt; job.traces.trace(1), second.as_slice());
+    assert_eq!(rt; job.trace(0), first.as_slice());
+    assert_eq!(rt; job.trace(1), second.as_slice());
     Ok(())
 }
 
@@ -141,7 +145,7 @@ fn a_thread_has_so_many_commands(rt: HostRuntime) -> Result<(), Fail> {
     text.extend_from_slice(b"end\n")?;
     let job = read(rt.alloc(), &text, 65_536, &[])??;
     assert_eq!(rt; job.traces.len(), 1);
-    assert_eq!(rt; job.traces.trace(0).len(), 131_072);
+    assert_eq!(rt; job.trace(0).len(), 131_072);
     text.truncate(full);
     text.extend_from_slice(b"say 1\nend\n")?;
     let line = TraceFault::BadLine {
@@ -149,4 +153,53 @@ fn a_thread_has_so_many_commands(rt: HostRuntime) -> Result<(), Fail> {
         why: Why::Size,
     };
     expect_fault(&rt, rt.alloc(), &text, line)
+}
+
+#[test]
+fn a_job_of_wide_blocks_is_read_and_written(rt: HostRuntime) -> Result<(), Fail> {
+    let text =
+        b"rtheap 2 threads 1 blocks 64 live 20 object 2 shared 0\nthread 0\nnew 1 14\narr 2 8\nend\n";
+    let trace = [
+        Command::New { d: 1, fields: 14 },
+        Command::Arr { d: 2, elements: 8 },
+    ];
+    let config = Config {
+        width: Width::Eight,
+        ..SMALL
+    };
+    let job = read(rt.alloc(), text, 10, &[])??;
+    assert_eq!(rt; job.config, config);
+    assert_eq!(rt; job.trace(0), trace.as_slice());
+    let mut sink = MemSink::new(rt.alloc(), 1000, Vec::new(rt.alloc()))
+        .ok()
+        .ok_or("memory")?;
+    assert_eq!(rt; write_job(&job, &mut sink), Ok(()));
+    assert_eq!(rt; sink.bytes(), text.as_slice());
+    Ok(())
+}
+
+#[test]
+fn four_threads_are_read(rt: HostRuntime) -> Result<(), Fail> {
+    let text =
+        b"rtheap 1 threads 4 blocks 4096 live 2000 object 16 shared 16\nthread 0\nthread 1\nlen 0\nthread 2\nthread 3\nsay 0\nend\n";
+    let config = Config {
+        width: Width::Four,
+        threads: 4,
+        blocks: 4096,
+        live: 2000,
+        object: 16,
+        shared: 16,
+    };
+    let job = read(rt.alloc(), text, 64, &[])??;
+    assert_eq!(rt; job.config, config);
+    assert_eq!(rt; job.traces.len(), 4);
+    assert_eq!(rt;
+        job.traces[1].as_slice(),
+        [Command::Len { s: 0 }].as_slice()
+    );
+    assert_eq!(rt;
+        job.traces[3].as_slice(),
+        [Command::Say { s: 0 }].as_slice()
+    );
+    Ok(())
 }

@@ -6,7 +6,7 @@ ghost use Rattle.trace_text.specs.Reading.{pieced};
 ghost use Rattle.trace_text.specs.Refusals.{IsFirstBadLine};
 ghost use Rattle.trace_text.specs.Wholes.{IsLineFault, IsTrace, IsBadTrace, IsBegun};
 
-use crate::jobs::{Job, Traces};
+use crate::jobs::Job;
 use crate::reading::header::header_of;
 use crate::reading::input::INPUT_LIMIT;
 use crate::reading::lines::{Line, Place, line_of};
@@ -28,7 +28,11 @@ struct Rest<'a> {
     read: u64,
 }
 
-/// The job that an input is, or its first line that is wrong.
+/// The job that an input of at most 16,777,216 bytes is.
+///
+/// # Errors
+///
+/// `BadLine` with the first line that is wrong, and `OutOfMemory`.
 pub fn job_of(alloc: Global, input: &[u8]) -> Result<Job, TraceFault>
     requires { length input.now ≤ INPUT_LIMIT }
     ensures { MatchResult result (IsJob input.now) (IsLineFault (IsFirstBadLine input.now)) }
@@ -46,10 +50,7 @@ pub fn job_of(alloc: Global, input: &[u8]) -> Result<Job, TraceFault>
             why: Why::End,
         });
     }
-    Ok(Job {
-        config,
-        traces: Traces::new(traces),
-    })
+    Ok(Job { config, traces })
 }
 
 /// What the header and the line of the first thread say, and what stands behind them.

@@ -6,4 +6,10 @@ use Rattle.block_store.proofs.PhaseWords.{phase-code}
 use Rattle.block_store.proofs.laws.words_read_back.Goals as goal
 
 pub returns : goal.returns
-returns c = record { payload = payload-code; owner = owner-code; shape = shape-code; colour = colour-code; phase = phase-code }
+returns c = record {
+  payload = payload-code;
+  owner = owner-code;
+  shape = shape-code;
+  colour = colour-code;
+  phase = phase-code;
+}

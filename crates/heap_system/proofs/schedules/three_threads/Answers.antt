@@ -1,4 +1,5 @@
 use Rattle.std.proofs.Common.{◌<◌, ℕ, zero, suc, List, [], ◌∷◌, map, get_or, refl, sym, subst, arith, Vec, Global}
+use Rattle.block_store.specs.declared.Width.TheVariants.{Four}
 use Rattle.block_store.specs.declared.Config.{Config}
 use Rattle.array_trees.specs.Trees.{tree}
 use Rattle.rate_plan.specs.Rates.{IsAdmitted}
@@ -8,7 +9,7 @@ use Rattle.heap_system.specs.Machines.{IsJob}
 use Rattle.heap_system.proofs.schedules.three_threads.Goals as goal
 
 abbrev config : Config
-config = record { threads = 3; blocks = 64; live = 24; object = 2; shared = 17 }
+config = record { width = Four; threads = 3; blocks = 64; live = 24; object = 2; shared = 17 }
 
 admitted : IsAdmitted config
 unfolding tree

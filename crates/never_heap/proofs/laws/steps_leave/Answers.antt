@@ -1,5 +1,5 @@
 use Rattle.never_heap.proofs.Stepping.{step_threads}
-use Rattle.never_heap.proofs.Staying.{step_register, step_object, put_other, put_field, step_counts, step_made}
+use Rattle.never_heap.proofs.Staying.{step_register, step_object, stored_other, stored_field, step_counts, step_made}
 use Rattle.never_heap.proofs.Refusing.{step_refused}
 use Rattle.never_heap.proofs.laws.steps_leave.Goals as goal
 
@@ -10,13 +10,13 @@ pub returns-clause-objects : goal.returns-clause-objects
 returns-clause-objects c = step_object
 
 pub returns-clause-others : goal.returns-clause-others
-returns-clause-others c = put_other
+returns-clause-others c = stored_other
 
 pub returns-clause-threads : goal.returns-clause-threads
 returns-clause-threads c = step_threads
 
 pub returns-clause-fields : goal.returns-clause-fields
-returns-clause-fields c = put_field
+returns-clause-fields c = stored_field
 
 pub returns-clause-counts : goal.returns-clause-counts
 returns-clause-counts c = step_counts

@@ -9,6 +9,6 @@ invariant-loop-t g l =
     let held = g.K.Sink.held in
     let faults = g.K.Sink.faults in
     record {
-      written : Appends (held l.initial.sink) (held l.sink) (traces_text 0 (take l.t l.traces));
+      written : Appends (held l.initial.sink) (held l.sink) (traces_text 0 (take l.t l.job.traces));
       still : faults l.sink ≡ faults l.initial.sink;
     }

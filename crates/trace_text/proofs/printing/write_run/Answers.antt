@@ -19,7 +19,7 @@ returns-in_err-write_log-clause-front g c =
 -- what is put last is the line of the totals
 last_line : (g : Over) (c : goal.After-put g) → c.bytes.result.now ≡ totals_line (g.R.Logs.cycle_count c.args.run.now) (g.R.Logs.unit_count c.args.run.now)
 last_line g c =
-    c.bytes.ensures ∙ c.line_of_totals.ensures.text ∙ ap (λ n. totals_line n c.units.result) c.cycles.ensures
+    c.bytes.ensures ∙ c.fill_totals.ensures.text ∙ ap (λ n. totals_line n c.units.result) c.cycles.ensures
     ∙ ap (totals_line (g.R.Logs.cycle_count c.args.run.now)) c.units.ensures
 
 -- all lines before it were put

@@ -1,16 +1,16 @@
-use Rattle.std.proofs.Common.{◌≡◌, List, [], ◌∷◌, sym, subst, refl, arith}
+use Rattle.std.proofs.Common.{map, ◌≡◌, List, [], ◌∷◌, sym, subst, refl, arith}
 use Rattle.std.specs.List.{AllByRecursion}
 use Rattle.array_trees.specs.Trees.{tree, array_blocks}
 use Rattle.block_store.specs.declared.Config.{Config}
+use Rattle.block_store.specs.declared.Width.TheVariants.{Four}
 use Rattle.never_heap.specs.declared.Command.{Command}
 use Rattle.never_heap.specs.declared.Command.TheVariants.{New, Arr, Set, Nil, Mov, Get, Put, Len, Same, Say}
 use Rattle.never_heap.specs.Bounds.{IsCommandInBounds}
-use Rattle.trace_text.specs.declared.jobs.Job.{Job}
-use Rattle.trace_text.specs.Jobs.{IsJobInBounds}
+use Rattle.trace_text.specs.Jobs.{Job, IsJobInBounds}
 use Rattle.trace_text.proofs.job_writer.tests.job.Goals as goal
 
 abbrev config : Config
-config = record { threads = 2; blocks = 65535; live = 0; object = 2; shared = 1024 }
+config = record { width = Four; threads = 2; blocks = 65535; live = 0; object = 2; shared = 1024 }
 
 abbrev first : List Command
 first = New 3 5 ∷ Arr 15 0 ∷ Set 1 4611686018427387903 ∷ Nil 0 ∷ Mov 4 3 ∷ []
@@ -21,7 +21,7 @@ second = Get 2 0 17 ∷ Put 0 1 12 ∷ Len 7 ∷ Same 8 9 ∷ Say 10 ∷ []
 abbrev job : List (List Command) → Job
 job traces = record { config = config; traces = traces }
 
-empty_array : array_blocks 0 ≡ 1
+empty_array : array_blocks Four 0 ≡ 1
 unfolding tree
 empty_array = refl
 
@@ -46,12 +46,11 @@ in_bounds = record {
     shared = omega arith;
   };
   threads = refl;
-  few = (omega arith, (omega arith, tt));
-  commands = (first_fits, (second_fits, tt));
+  each = (record { few = omega arith; commands = first_fits }, (record { few = omega arith; commands = second_fits }, tt));
 }
 
 pub returns : goal.returns
 returns c =
-    let made : c.new.result ≡ first ∷ second ∷ [] =
-    rw (c.new.ensures, c.in_ok-push-2.ensures.items, c.in_ok-push.ensures.items, c.new-traces.ensures.items, c.in_ok-from_slice.ensures.items, c.in_ok-from_slice-2.ensures.items) refl in
+    let made : map (λ v. v.items) c.push-2.new.self.items ≡ first ∷ second ∷ [] =
+    rw (c.in_ok-push-2.ensures.items, c.in_ok-push.ensures.items, c.new-traces.ensures.items, c.in_ok-from_slice.ensures.items, c.in_ok-from_slice-2.ensures.items) refl in
     subst (λ (traces : List (List Command)). IsJobInBounds (job traces)) (sym made) in_bounds

@@ -1,4 +1,4 @@
-use Rattle.std.proofs.Common.{arith, rules, refl, ◌∙◌}
+use Rattle.std.proofs.Common.{◌+◌, arith, rules, refl, ◌∙◌}
 use Rattle.std.proofs.lemmas.Result.{err_from_is_err_and}
 use Rattle.trace_text.proofs.Fronts.{begins, reads_on, tells, tells_on, ends_on, few_on}
 use Rattle.trace_text.proofs.reading.input.input_of.Goals as goal
@@ -12,7 +12,7 @@ pub returns-in_err-taken-clause-few : goal.returns-in_err-taken-clause-few
 returns-in_err-taken-clause-few g c =
     let left = g.S.Source.left in
     let p = err_from_is_err_and c.from_residual-in_err-taken.result c.from_residual-in_err-taken.ensures.1 in
-    rw (p.1, p.2) (few_on _ (left c.args.source.now) (left c.loop-input.source) (left c.take_into.new.source) c.loop-input.input.items _ 16777217 (search rules) c.loop-input.invariant.read c.in_err-taken.ensures.few)
+    rw (p.1, p.2) (few_on _ (left c.args.source.now) (left c.loop-input.source) (left c.take_into.new.source) c.loop-input.input.items _ (c.args.most + 1) (search rules) c.loop-input.invariant.read c.in_err-taken.ensures.few)
 
 pub returns-then-taken-eq0-clause-read : goal.returns-then-taken-eq0-clause-read
 returns-then-taken-eq0-clause-read g c =

@@ -1,4 +1,4 @@
-use Rattle.std.proofs.Common.{◌≡◌, ◌-◌, ◌≤◌, vec_len}
+use Rattle.std.proofs.Common.{◌≡◌, ◌+◌, ◌-◌, ◌≤◌, vec_len}
 use Rattle.trace_text.specs.Inputs.{HasRead}
 use Rattle.trace_text.proofs.reading.input.input_of.Given as goal
 
@@ -6,10 +6,10 @@ use Rattle.trace_text.proofs.reading.input.input_of.Given as goal
 abbrev pub invariant-loop-input : goal.invariant-loop-input
 invariant-loop-input g l = record {
   read : HasRead (g.S.Source.left l.fn.source) l.input.items (g.S.Source.left l.source);
-  within : vec_len l.input ≤ 16777217;
+  within : vec_len l.input ≤ l.most + 1;
   piece : vec_len l.piece ≡ 65536;
   still : g.S.Source.faults l.source ≡ g.S.Source.faults l.fn.source;
 }
 
 abbrev pub decreases-loop-input : goal.decreases-loop-input
-decreases-loop-input g l = 16777217 - vec_len l.input
+decreases-loop-input g l = (l.most + 1) - vec_len l.input

@@ -46,5 +46,4 @@ returns c =
     let done : List (List Command) = map (λ v. v.items) traces.items in
     let count : c.loop-thread.thread ≡ length done = sym c.loop-thread.invariant.count ∙ traces.ok.0 ∙ sym (length-map traces.items (λ v. v.items)) in
     let none = parted_none _ (gives_none _ c.first_line.result _ c.first_line.ensures.lines (sym c.is_some.ensures ∙ c.if-is_some.false)) in
-    let whole = ends_whole c.in_ok-config.config done c.loop-thread.thread c.args.input.now c.loop-thread.rest.read (pieced c.loop-thread.rest.lines.now) c.loop-thread.invariant.begun count c.loop-thread-test.false none in
-    subst (λ (ts : List (List Command)). IsJob c.args.input.now (record { config = c.in_ok-config.config; traces = ts })) (sym c.new.ensures) whole
+    ends_whole c.in_ok-config.config done c.loop-thread.thread c.args.input.now c.loop-thread.rest.read (pieced c.loop-thread.rest.lines.now) c.loop-thread.invariant.begun count c.loop-thread-test.false none

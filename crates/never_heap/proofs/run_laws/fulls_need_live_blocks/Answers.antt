@@ -1,0 +1,5 @@
+use Rattle.never_heap.proofs.Unfilled.{none_full}
+use Rattle.never_heap.proofs.run_laws.fulls_need_live_blocks.Goals as goal
+
+pub returns : goal.returns
+returns c = none_full

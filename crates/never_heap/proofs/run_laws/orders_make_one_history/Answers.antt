@@ -1,0 +1,5 @@
+use Rattle.never_heap.proofs.Ordering.{one_of}
+use Rattle.never_heap.proofs.run_laws.orders_make_one_history.Goals as goal
+
+pub returns : goal.returns
+returns c = one_of

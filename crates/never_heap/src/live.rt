@@ -1,0 +1,104 @@
+//! How many blocks are live, by one scan over what can be reached.
+
+ghost use Rattle.std.specs.Prelude.{◌≡◌, ◌≤◌, ◌∷◌, [], true, ℕ, length, IfOk, OnOk};
+ghost use Rattle.block_store.specs.declared.Name.{Name};
+ghost use Rattle.block_store.specs.declared.Value.TheVariants.{Ref};
+ghost use Rattle.never_heap.specs.LiveBlocks.{live_blocks};
+ghost use Rattle.never_heap.specs.Reach.{names, stands_in, reachable};
+ghost use Rattle.never_heap.specs.Scans.{IsScanOf, HasFound, HasRegisters};
+
+use crate::Graph;
+use crate::marks::Marks;
+use crate::reach::register_blocks;
+use block_store::{Name, OutOfMemory, Value};
+
+/// A scan over the objects that can be reached: those found so far, each once, and their blocks
+/// with those of the registers.
+#[derive(Drop)]
+struct Scan {
+    marks: Marks,
+    found: Vec<Name>,
+    total: u64,
+}
+
+impl Scan {
+    // Finds the object of a name, where it was not found before.
+    fn find(&mut self, graph: &Graph, name: Name) -> Result<(), OutOfMemory>
+        requires few { length (names graph.now.graph) ≤ 2097153 }
+        requires scanned { IsScanOf graph.now self.old }
+        requires reached { reachable graph.now.graph name ≡ true }
+        ensures scanned { OnOk result (IsScanOf graph.now self.new) }
+        ensures finds { OnOk result (HasFound graph.now.graph self.old self.new (Ref name ∷ [])) }
+    {
+        if !self.marks.mark(name) {
+            return Ok(());
+        }
+        self.found.push(name)?;
+        self.total += u64::from(graph.blocks_of(name));
+        Ok(())
+    }
+
+    // Finds each object to which a list of values refers.
+    fn find_all(&mut self, graph: &Graph, values: &[Value]) -> Result<(), OutOfMemory>
+        requires few { length (names graph.now.graph) ≤ 2097153 }
+        requires scanned { IsScanOf graph.now self.old }
+        requires reached { (b : Name)
+            → stands_in b values.now ≡ true → reachable graph.now.graph b ≡ true }
+        ensures scanned { OnOk result (IsScanOf graph.now self.new) }
+        ensures finds { OnOk result (HasFound graph.now.graph self.old self.new values.now) }
+    {
+        for value in values {
+            if let Value::Ref(name) = *value {
+                self.find(graph, name)?;
+            }
+        }
+        Ok(())
+    }
+}
+
+impl Graph {
+    /// The same number as `reach_blocks`, by one scan: each object that can be reached is found
+    /// once, and its fields are looked through once.
+    pub fn count_live(&self) -> Result<u64, OutOfMemory>
+        ensures { IfOk result (λ k. k ≡ live_blocks self.now.width self.now.graph) }
+    {
+        self.count_names();
+        let mut scan = self.scan_registers()?;
+        let mut next = 0;
+        while next < scan.found.len() {
+            let name = scan.found[next];
+            scan.find_all(self, self.cells(name))?;
+            next += 1;
+        }
+        Ok(scan.total)
+    }
+
+    // A scan that has found what stands in registers.
+    fn scan_registers(&self) -> Result<Scan, OutOfMemory>
+        requires { length (names self.now.graph) ≤ 2097153 }
+        ensures scanned { IfOk result (IsScanOf self.now) }
+        ensures registers { IfOk result (λ s. HasRegisters self.now.graph s.marks) }
+    {
+        let mut scan = Scan {
+            marks: self.no_marks()?,
+            found: Vec::new(self.alloc()),
+            total: register_blocks(self.width(), self.mutators().len() as u64),
+        };
+        for mutator in self.mutators() {
+            scan.find_all(self, mutator.registers())?;
+        }
+        Ok(scan)
+    }
+
+    // How many objects there are.
+    fn count_names(&self) -> u64
+        ensures value { result ≡ length (names self.now.graph) }
+        ensures few { result ≤ 2097153 }
+    {
+        let mut count = 1;
+        for mutator in self.mutators() {
+            count += mutator.count() as u64;
+        }
+        count
+    }
+}
