@@ -179,20 +179,20 @@ module _ (ex : Extent) (sweep : Bool) (white cursor : ℕ) (colour : ℕ → ℕ
     recount w x = total_changed (λ (v : SweepHolding). bit (has_claimed v x)) ex.threads cs t w low
 
     -- a range from the cursor on is claimed by a thread that has none
-    claim_goes : (r : ℕ) → 0 < r → cursor + r ≤ ex.blocks + 1 → cs t ≡ no_claim
-        → SweepOf ex sweep white (cursor + r) colour
-        (changed cs t (record { low = cursor; high = cursor + r; doomed = 0 }))
-    claim_goes r some high none =
-        let w : SweepHolding = record { low = cursor; high = cursor + r; doomed = 0 } in
+    claim_goes : (high : ℕ) → cursor < high → high ≤ ex.blocks + 1 → cs t ≡ no_claim
+        → SweepOf ex sweep white high colour
+        (changed cs t (record { low = cursor; high = high; doomed = 0 }))
+    claim_goes high some last none =
+        let w : SweepHolding = record { low = cursor; high = high; doomed = 0 } in
         let old : (x : ℕ) → bit (has_claimed (cs t) x) ≡ 0 =
         λ x. ap (λ (v : SweepHolding). bit (has_claimed v x)) none
         ∙ ap bit (not_claimed no_claim x (λ a b. omega arith)) in
         let inside = k.cursor_in in
         record {
-          cursor_in = (omega (arith, inside.0), high);
-          ranges = λ u ul. changed_both (λ _ (v : SweepHolding). IsRange (cursor + r) v) cs t w u
+          cursor_in = (omega (arith, inside.0), last);
+          ranges = λ u ul. changed_both (λ _ (v : SweepHolding). IsRange high v) cs t w u
               (λ _. inr (inside.0, omega arith, omega arith))
-              (λ _. range_more cursor (cursor + r) (cs u) (omega arith) (k.ranges u ul));
+              (λ _. range_more cursor high (cs u) (omega arith) (k.ranges u ul));
           once = λ x. elim (cases_lt x cursor) [
             | inl below ↦
                 let z : bit (has_claimed w x) ≡ 0 = ap bit (not_claimed w x (λ a b. omega arith)) in
@@ -415,11 +415,11 @@ module _ (ex : Extent) (h : Heap) (cs : ℕ → SweepHolding) (k : SweepKept ex 
       (d.0, p.0, p.1, e.1))
 
   -- a range from the cursor on is claimed
-  pub sweep_claims : (r : ℕ) → 0 < r → h Cursor + r ≤ ex.blocks + 1 → old ≡ no_claim
-      → SweepKept ex (put_at h Cursor (h Cursor + r))
-      (changed cs t (record { low = h Cursor; high = h Cursor + r; doomed = 0 }))
-  sweep_claims r some high none =
-      claim_goes ex sweeps white (h Cursor) colours cs k t low r some high (is ∙ none)
+  pub sweep_claims : (high : ℕ) → h Cursor < high → high ≤ ex.blocks + 1 → old ≡ no_claim
+      → SweepKept ex (put_at h Cursor high)
+      (changed cs t (record { low = h Cursor; high = high; doomed = 0 }))
+  sweep_claims high some last none =
+      claim_goes ex sweeps white (h Cursor) colours cs k t low high some last (is ∙ none)
 
   -- a claimed block was read white, and is about to be freed
   pub sweep_dooms : (x : ℕ) → sweeps ≡ true → old.low ≤ x → x < old.high → h (ColourOf x) ≡ white

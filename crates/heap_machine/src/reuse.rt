@@ -167,9 +167,9 @@ pub fn what_keeps_the_sweep()
         → SweepKept e (put_at h Cursor v) cs }
     ensures claims { (e : Extent) (h : Heap) (cs : ℕ → SweepHolding) → SweepKept e h cs
         → (t : ℕ) → t < e.threads → (old : SweepHolding) → cs t ≡ old
-        → (r : ℕ) → 0 < r → h Cursor + r ≤ e.blocks + 1 → old ≡ no_claim
-        → SweepKept e (put_at h Cursor (h Cursor + r))
-        (changed cs t (record { low = h Cursor; high = h Cursor + r; doomed = 0 })) }
+        → (high : ℕ) → h Cursor < high → high ≤ e.blocks + 1 → old ≡ no_claim
+        → SweepKept e (put_at h Cursor high)
+            (changed cs t (record { low = h Cursor; high = high; doomed = 0 })) }
     ensures dooms { (e : Extent) (h : Heap) (cs : ℕ → SweepHolding) → SweepKept e h cs
         → (t : ℕ) → t < e.threads → (old : SweepHolding) → cs t ≡ old
         → (x : ℕ) → is_sweep (h Phase) ≡ true → old.low ≤ x → x < old.high
