@@ -1,0 +1,13 @@
+//! Building, one atomic operation at a time: the blocks of an object are reserved and collected from
+//! the free lists, written from the last to the first, and published by one store. The blocks that are
+//! held stand in a room that the caller lends, so building takes no memory.
+#![tactic(auto)]
+
+mod laws;
+mod objects;
+mod pass;
+mod rows;
+
+pub use laws::rows_stay_in_the_heap;
+pub use pass::BuildPass;
+pub use rows::BuildRow;
