@@ -1,3 +1,5 @@
 pub mod Parts
 pub mod Ranges
 pub mod Wanted
+pub mod Held
+pub mod Keeping

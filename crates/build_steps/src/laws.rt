@@ -35,3 +35,18 @@ pub fn rows_stay_in_the_heap()
     ensures stores { (c : Config) (s : BuildState) → BuildFits c s
         → StoresHeld c (build_want (extent c) s) }
 {}
+
+/// Each event keeps that each Free block stands in one place and is counted, that no block is claimed
+/// twice, and that what was passed is not white, while the other threads hold what they held and the
+/// cycle is the part's. A part begins and ends with nothing held.
+pub fn rows_keep_reuse()
+    ensures kept { (c : Config) (h : Heap) (hs : ℕ → Holding) (s : BuildState)
+        → BuildFits c s → cycle_of (h Phase) ≡ s.cycle
+        → ReuseKept (extent c) h hs → hs s.thread ≡ build_holding s
+        → ReuseKept (extent c) (heap_after h (build_want (extent c) s))
+        (changed hs s.thread
+        (build_holding (build_got (extent c) s (h (place_of (build_want (extent c) s)))))) }
+    ensures first { (w : Width) (t n c serial : ℕ) (k : Command) (capacity : ℕ)
+        → build_holding (building w t n c serial k capacity) ≡ holds_nothing }
+    ensures over { (s : BuildState) → build_over s.row ≡ true → build_holding s ≡ holds_nothing }
+{}
