@@ -3,3 +3,5 @@ pub mod Ranges
 pub mod Wanted
 pub mod Held
 pub mod Keeping
+pub mod Standing
+pub mod Publishing

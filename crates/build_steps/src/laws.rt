@@ -1,10 +1,12 @@
 //! Laws of the rows, for the proofs above: each is the contract of a function that does nothing.
 
-ghost use Rattle.std.specs.Prelude.{◌≡◌, ◌<◌, ◌≤◌, ◌+◌, ℕ, true};
+ghost use Rattle.std.specs.Prelude.{◌≡◌, ◌≢◌, ◌<◌, ◌≤◌, ◌+◌, ℕ, List, true, false};
 ghost use Rattle.block_store.specs.declared.Config.{Config};
-ghost use Rattle.block_store.specs.Heaps.{Heap};
+ghost use Rattle.block_store.specs.Heaps.{Heap, put_at};
+ghost use Rattle.block_store.specs.Colours.{black_word};
+ghost use Rattle.block_store.specs.Payloads.{target, reference_word};
 ghost use Rattle.block_store.specs.Phases.{cycle_of};
-ghost use Rattle.block_store.specs.Places.{Extent, extent, in_range, Phase, FreeList};
+ghost use Rattle.block_store.specs.Places.{Place, extent, in_range, Phase, ColourOf};
 ghost use Rattle.block_store.specs.Registers.{registers_end};
 ghost use Rattle.block_store.specs.declared.Width.{Width};
 ghost use Rattle.never_heap.specs.declared.Command.{Command};
@@ -12,11 +14,16 @@ ghost use Rattle.never_heap.specs.Bounds.{IsCommandInRange};
 ghost use Rattle.never_heap.specs.Steps.{makes_object, blocks_of};
 ghost use Rattle.heap_machine.specs.Counts.{changed};
 ghost use Rattle.heap_machine.specs.Holdings.{Holding, holds_nothing};
-ghost use Rattle.heap_machine.specs.Operations.{Exchange, place_of, heap_after, Fits};
+ghost use Rattle.heap_machine.specs.Operations.{place_of, heap_after, Fits};
 ghost use Rattle.heap_machine.specs.Readings.{StoresHeld};
 ghost use Rattle.heap_machine.specs.ReuseKept.{ReuseKept};
-ghost use Rattle.build_steps.specs.Rows.{BuildState, build_want, build_got, build_over, build_holding, building};
+ghost use Rattle.build_steps.specs.Rows.{BuildState, built_at, built_payload, made_place, build_want, build_got, build_over, build_holding, building};
 ghost use Rattle.build_steps.specs.Fits.{BuildFits, BuildReads};
+ghost use Rattle.build_steps.specs.Ends.{is_publishing};
+ghost use Rattle.build_steps.specs.Standing.{IsWhole, Stands, HeldOnce, IsElsewhere, AllRead, build_after, heap_written};
+ghost use Rattle.build_steps.specs.Objects.{made_part};
+ghost use Rattle.build_steps.specs.declared.rows.BuildRow.TheVariants.{WritePayload};
+ghost use Rattle.object_lists.specs.Parts.{Link, Field, Blank};
 
 /// The first state fits its heap, and a state that fits becomes one that fits. Such a state wants a
 /// place of the heap, adds and takes away nothing, and stores what the place can hold.
@@ -49,4 +56,53 @@ pub fn rows_keep_reuse()
     ensures first { (w : Width) (t n c serial : ℕ) (k : Command) (capacity : ℕ)
         → build_holding (building w t n c serial k capacity) ≡ holds_nothing }
     ensures over { (s : BuildState) → build_over s.row ≡ true → build_holding s ≡ holds_nothing }
+{}
+
+/// What a part has written stands: of each ordinal that it has made black the owner with the object's
+/// name, the shape, the links and nils, and the colour; of the one before it the words that it has
+/// written. Each of its events before it publishes keeps that, whatever it reads, where no block is
+/// held twice; and a write of a place of no held block keeps it.
+pub fn what_is_written_stands()
+    ensures first { (w : Width) (h : Heap) (t n c serial : ℕ) (k : Command) (capacity : ℕ)
+        → Stands w h (building w t n c serial k capacity) }
+    ensures kept { (c : Config) (h : Heap) (s : BuildState) (v : ℕ) → BuildFits c s
+        → HeldOnce s.held → is_publishing s.row ≡ false → Stands c.width h s
+        → Stands c.width (heap_after h (build_want (extent c) s)) (build_got (extent c) s v) }
+    ensures others { (c : Config) (h : Heap) (s : BuildState) (p : Place) (v : ℕ) → BuildFits c s
+        → IsElsewhere s p → Stands c.width h s → Stands c.width (put_at h p v) s }
+{}
+
+/// What is published is the whole object: all its blocks are black and show the name with their
+/// ordinals, the command's shape, the links of its layout and nils; and the command's register then
+/// refers to the first of them. So it is behind all events of a part, whatever they read, where no
+/// block is held twice and nobody else writes what is held. A link is written when the block to which
+/// it refers is black already.
+pub fn what_is_published()
+    ensures links_black { (c : Config) (h : Heap) (s : BuildState) (o j : ℕ) → BuildFits c s
+        → Stands c.width h s → s.row ≡ WritePayload o j
+        → target (built_payload c.width s o j) ≢ 0
+        → h (ColourOf (target (built_payload c.width s o j))) ≡ black_word s.cycle }
+    ensures links { (w : Width) (s : BuildState) (o j p : ℕ) → made_part w s.command o j ≡ Link p
+        → built_payload w s o j ≡ reference_word (built_at s p) }
+    ensures fields { (w : Width) (s : BuildState) (o j i : ℕ) → made_part w s.command o j ≡ Field i
+        → built_payload w s o j ≡ 0 }
+    ensures blanks { (w : Width) (s : BuildState) (o j : ℕ) → made_part w s.command o j ≡ Blank
+        → built_payload w s o j ≡ 0 }
+    ensures whole { (w : Width) (h : Heap) (s : BuildState) → Stands w h s
+        → is_publishing s.row ≡ true → (o : ℕ) → o < s.blocks → IsWhole w h s o }
+    ensures stays { (c : Config) (h : Heap) (s : BuildState) → BuildFits c s
+        → Stands c.width h s → is_publishing s.row ≡ true → (o : ℕ) → o < s.blocks
+        → registers_end c.width (s.thread + 1) < built_at s o
+        → IsWhole c.width (heap_after h (build_want (extent c) s)) s o }
+    ensures register { (c : Config) (h : Heap) (s : BuildState) → is_publishing s.row ≡ true
+        → heap_after h (build_want (extent c) s) (made_place c.width s)
+        ≡ reference_word (built_at s 0) }
+    ensures events { (c : Config) (h : Heap) (t n cycle serial : ℕ) (k : Command) (capacity : ℕ)
+        (vs : List ℕ) (s : BuildState)
+        → s ≡ build_after (extent c) (building c.width t n cycle serial k capacity) vs
+        → BuildFits c (building c.width t n cycle serial k capacity)
+        → AllRead c (building c.width t n cycle serial k capacity) vs
+        → HeldOnce s.held → is_publishing s.row ≡ true → (o : ℕ) → o < s.blocks
+        → IsWhole c.width
+        (heap_written (extent c) h (building c.width t n cycle serial k capacity) vs) s o }
 {}

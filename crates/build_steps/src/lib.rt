@@ -8,6 +8,6 @@ mod objects;
 mod pass;
 mod rows;
 
-pub use laws::{rows_keep_reuse, rows_stay_in_the_heap};
+pub use laws::{rows_keep_reuse, rows_stay_in_the_heap, what_is_published, what_is_written_stands};
 pub use pass::BuildPass;
 pub use rows::BuildRow;
