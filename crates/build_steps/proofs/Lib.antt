@@ -5,3 +5,4 @@ pub mod Held
 pub mod Keeping
 pub mod Standing
 pub mod Publishing
+pub mod Marking

@@ -13,7 +13,10 @@ ghost use Rattle.never_heap.specs.declared.Command.{Command};
 ghost use Rattle.never_heap.specs.Bounds.{IsCommandInRange};
 ghost use Rattle.never_heap.specs.Steps.{makes_object, blocks_of};
 ghost use Rattle.heap_machine.specs.Counts.{changed};
-ghost use Rattle.heap_machine.specs.Holdings.{Holding, holds_nothing};
+ghost use Rattle.heap_machine.specs.Grey.{no_grey, GreyKept};
+ghost use Rattle.heap_machine.specs.Tricolour.{no_tricolour, TricolourKept};
+ghost use Rattle.heap_machine.specs.Solid.{SolidKept};
+ghost use Rattle.heap_machine.specs.Holdings.{Holding, holds_nothing, grey_held, tricolour_held};
 ghost use Rattle.heap_machine.specs.Operations.{place_of, heap_after, Fits};
 ghost use Rattle.heap_machine.specs.Readings.{StoresHeld};
 ghost use Rattle.heap_machine.specs.ReuseKept.{ReuseKept};
@@ -105,4 +108,32 @@ pub fn what_is_published()
         → HeldOnce s.held → is_publishing s.row ≡ true → (o : ℕ) → o < s.blocks
         → IsWhole c.width
         (heap_written (extent c) h (building c.width t n cycle serial k capacity) vs) s o }
+{}
+
+/// Each event keeps that a grey block stands in one place, while the other threads hold what they
+/// held; a part holds no grey block. Where what it has written stands, each event keeps, in the colours
+/// of its cycle, that no black block refers to a white one, and that no block that is not Free refers
+/// to a Free one.
+pub fn rows_keep_marking()
+    ensures grey { (c : Config) (h : Heap) (hs : ℕ → Holding) (s : BuildState) → BuildFits c s
+        → ReuseKept (extent c) h hs → hs s.thread ≡ build_holding s
+        → GreyKept c.threads h (λ u. grey_held (hs u))
+        → GreyKept c.threads (heap_after h (build_want (extent c) s))
+        (changed (λ u. grey_held (hs u)) s.thread
+        (grey_held (build_holding
+        (build_got (extent c) s (h (place_of (build_want (extent c) s))))))) }
+    ensures tricolour { (c : Config) (h : Heap) (hs : ℕ → Holding) (s : BuildState) → BuildFits c s
+        → ReuseKept (extent c) h hs → hs s.thread ≡ build_holding s → Stands c.width h s
+        → TricolourKept (extent c) s.cycle h (λ u. tricolour_held (hs u))
+        → TricolourKept (extent c) s.cycle (heap_after h (build_want (extent c) s))
+        (changed (λ u. tricolour_held (hs u)) s.thread
+        (tricolour_held (build_holding
+        (build_got (extent c) s (h (place_of (build_want (extent c) s))))))) }
+    ensures solid { (c : Config) (h : Heap) (hs : ℕ → Holding) (s : BuildState) → BuildFits c s
+        → ReuseKept (extent c) h hs → hs s.thread ≡ build_holding s → Stands c.width h s
+        → SolidKept (extent c) s.cycle h
+        → SolidKept (extent c) s.cycle (heap_after h (build_want (extent c) s)) }
+    ensures holds_no_grey { (s : BuildState) → grey_held (build_holding s) ≡ no_grey }
+    ensures holds_no_tricolour { (s : BuildState)
+        → tricolour_held (build_holding s) ≡ no_tricolour }
 {}

@@ -8,6 +8,9 @@ mod objects;
 mod pass;
 mod rows;
 
-pub use laws::{rows_keep_reuse, rows_stay_in_the_heap, what_is_published, what_is_written_stands};
+pub use laws::{
+    rows_keep_marking, rows_keep_reuse, rows_stay_in_the_heap, what_is_published,
+    what_is_written_stands,
+};
 pub use pass::BuildPass;
 pub use rows::BuildRow;
