@@ -10,6 +10,7 @@ use Rattle.std.proofs.Common.{
   refl,
   arith,
   eqb,
+  eq-eqb,
   List,
   [],
   ◌∷◌,
@@ -37,3 +38,16 @@ first_few n xs = omega (arith, length-take n xs)
 
 pub first_all : (n : ℕ) (xs : List ℕ) → length xs ≡ n → take n xs ≡ xs
 first_all n xs e = take_all n xs (omega arith)
+
+pub stands_once : (xs : List ℕ) (j : ℕ) → j < length xs → 1 ≤ times (block_at xs j) xs
+stands_once [] j low = absurd (omega arith)
+stands_once (x ∷ xs) zero low = rw (eq-eqb x x refl) (omega arith)
+stands_once (x ∷ xs) (suc j) low = omega (arith, stands_once xs j (omega arith))
+
+pub first_has : (n : ℕ) (xs : List ℕ) (o : ℕ) → o < n → o < length xs
+    → 1 ≤ times (block_at xs o) (take n xs)
+first_has zero xs o less low = absurd (omega arith)
+first_has (suc n) [] o less low = absurd (omega arith)
+first_has (suc n) (x ∷ xs) zero less low = rw (eq-eqb x x refl) (omega arith)
+first_has (suc n) (x ∷ xs) (suc o) less low =
+    omega (arith, first_has n xs o (omega arith) (omega arith))

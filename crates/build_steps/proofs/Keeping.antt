@@ -257,7 +257,7 @@ module _ (ex : Extent) (h : Heap) (hs : ℕ → Holding) (k : ReuseKept ex h hs)
       ]
 
   -- the first block of the hand is held, and the rest is in the hand
-  collected : (a u : ℕ) → 1 ≤ a → length s.held < s.blocks → hs s.thread ≡ holding (Collect a u)
+  pub collected : (a u : ℕ) → 1 ≤ a → length s.held < s.blocks → hs s.thread ≡ holding (Collect a u)
       → FreeKept ex h (changed fs s.thread
       (collects s.blocks (link (h (ColourOf a))) true (s.held ++ a ∷ [])))
   collected a u pos few e = free_collects ex h fs k.free s.thread low

@@ -6,3 +6,5 @@ pub mod Keeping
 pub mod Standing
 pub mod Publishing
 pub mod Marking
+pub mod Once
+pub mod Ends

@@ -77,6 +77,7 @@ use Rattle.build_steps.specs.declared.rows.BuildRow.TheVariants.{
   Built,
   Refused,
 }
+use Rattle.build_steps.proofs.Held.{stands_once}
 use Rattle.build_steps.specs.Objects.{block_at}
 use Rattle.build_steps.specs.Rows.{
   BuildState,
@@ -111,11 +112,6 @@ use Rattle.build_steps.specs.Standing.{
   is_of_block,
   IsElsewhere,
 }
-
-stands_once : (xs : List ℕ) (j : ℕ) → j < length xs → 1 ≤ times (block_at xs j) xs
-stands_once [] j low = absurd (omega arith)
-stands_once (x ∷ xs) zero low = rw (eq-eqb x x refl) (omega arith)
-stands_once (x ∷ xs) (suc j) low = omega (arith, stands_once xs j (omega arith))
 
 twice : (xs : List ℕ) (i j : ℕ) → i < j → j < length xs → block_at xs i ≡ block_at xs j
     → 2 ≤ times (block_at xs j) xs

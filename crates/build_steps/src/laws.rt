@@ -1,18 +1,19 @@
 //! Laws of the rows, for the proofs above: each is the contract of a function that does nothing.
 
-ghost use Rattle.std.specs.Prelude.{◌≡◌, ◌≢◌, ◌<◌, ◌≤◌, ◌+◌, ℕ, List, true, false};
+ghost use Rattle.std.specs.Prelude.{◌≡◌, ◌≢◌, ◌<◌, ◌≤◌, ◌+◌, ◌⊎◌, ◌||◌, ◌&&◌, nat_lt, ℕ, List, [], length, true, false, Some, is_some};
 ghost use Rattle.block_store.specs.declared.Config.{Config};
 ghost use Rattle.block_store.specs.Heaps.{Heap, put_at};
-ghost use Rattle.block_store.specs.Colours.{black_word};
+ghost use Rattle.block_store.specs.Colours.{is_free, black_word};
 ghost use Rattle.block_store.specs.Payloads.{target, reference_word};
 ghost use Rattle.block_store.specs.Phases.{cycle_of};
-ghost use Rattle.block_store.specs.Places.{Place, extent, in_range, Phase, ColourOf};
+ghost use Rattle.block_store.specs.Places.{Extent, Place, extent, in_range, Phase, ColourOf};
 ghost use Rattle.block_store.specs.Registers.{registers_end};
 ghost use Rattle.block_store.specs.declared.Width.{Width};
 ghost use Rattle.never_heap.specs.declared.Command.{Command};
+ghost use Rattle.never_heap.specs.declared.Reply.TheVariants as replies;
 ghost use Rattle.never_heap.specs.Bounds.{IsCommandInRange};
 ghost use Rattle.never_heap.specs.Steps.{makes_object, blocks_of};
-ghost use Rattle.heap_machine.specs.Counts.{changed};
+ghost use Rattle.heap_machine.specs.Counts.{changed, times};
 ghost use Rattle.heap_machine.specs.Grey.{no_grey, GreyKept};
 ghost use Rattle.heap_machine.specs.Tricolour.{no_tricolour, TricolourKept};
 ghost use Rattle.heap_machine.specs.Solid.{SolidKept};
@@ -20,11 +21,11 @@ ghost use Rattle.heap_machine.specs.Holdings.{Holding, holds_nothing, grey_held,
 ghost use Rattle.heap_machine.specs.Operations.{place_of, heap_after, Fits};
 ghost use Rattle.heap_machine.specs.Readings.{StoresHeld};
 ghost use Rattle.heap_machine.specs.ReuseKept.{ReuseKept};
-ghost use Rattle.build_steps.specs.Rows.{BuildState, built_at, built_payload, made_place, build_want, build_got, build_over, build_holding, building};
+ghost use Rattle.build_steps.specs.Rows.{BuildState, built_at, built_payload, made_place, build_want, build_got, build_step, build_over, build_reply, build_holding, building, full_cycle};
 ghost use Rattle.build_steps.specs.Fits.{BuildFits, BuildReads};
-ghost use Rattle.build_steps.specs.Ends.{is_publishing};
-ghost use Rattle.build_steps.specs.Standing.{IsWhole, Stands, HeldOnce, IsElsewhere, AllRead, build_after, heap_written};
-ghost use Rattle.build_steps.specs.Objects.{made_part};
+ghost use Rattle.build_steps.specs.Ends.{is_counting, is_publishing, is_built, is_refused, decides, is_last};
+ghost use Rattle.build_steps.specs.Standing.{left_of, IsWhole, Stands, HeldOnce, IsElsewhere, AllRead, build_after, heap_written};
+ghost use Rattle.build_steps.specs.Objects.{made_part, block_at};
 ghost use Rattle.build_steps.specs.declared.rows.BuildRow.TheVariants.{WritePayload};
 ghost use Rattle.object_lists.specs.Parts.{Link, Field, Blank};
 
@@ -136,4 +137,45 @@ pub fn rows_keep_marking()
     ensures holds_no_grey { (s : BuildState) → grey_held (build_holding s) ≡ no_grey }
     ensures holds_no_tricolour { (s : BuildState)
         → tricolour_held (build_holding s) ≡ no_tricolour }
+{}
+
+/// No block is held twice: a part begins with none, and each event keeps it, while the other threads
+/// hold what they held. What is held and not black yet is Free, and among what the part holds of the
+/// Free blocks.
+pub fn held_blocks_are_distinct()
+    ensures first { HeldOnce [] }
+    ensures kept { (c : Config) (h : Heap) (hs : ℕ → Holding) (s : BuildState) → BuildFits c s
+        → ReuseKept (extent c) h hs → hs s.thread ≡ build_holding s → HeldOnce s.held
+        → HeldOnce (build_got (extent c) s (h (place_of (build_want (extent c) s)))).held }
+    ensures apart { (held : List ℕ) (i j : ℕ) → HeldOnce held → i < length held → j < length held
+        → block_at held i ≡ block_at held j → i ≡ j }
+    ensures left { (c : Config) (s : BuildState) (o : ℕ) → BuildFits c s → o < length s.held
+        → o < left_of s.blocks s.row → 1 ≤ times (built_at s o) (build_holding s).held }
+    ensures free { (c : Config) (h : Heap) (hs : ℕ → Holding) (s : BuildState) (o : ℕ)
+        → BuildFits c s → ReuseKept (extent c) h hs → hs s.thread ≡ build_holding s
+        → o < length s.held → o < left_of s.blocks s.row
+        → is_free (h (ColourOf (built_at s o))) ≡ true }
+{}
+
+/// There is a reply exactly once the deciding event was made, which is the last: the one that reads a
+/// free count below the object's blocks, or the one that publishes. The first is answered full, with
+/// the cycle before the part's, or 1 in cycle 1; the other new, with the name of the thread and serial.
+pub fn replies_are_decided()
+    ensures present { (s : BuildState) → is_some (build_reply s) ≡ build_over s.row }
+    ensures decided { (e : Extent) (s : BuildState) (v : ℕ)
+        → build_over (build_got e s v).row ≡ (build_over s.row || decides s v) }
+    ensures last { (e : Extent) (s : BuildState) (v : ℕ)
+        → is_last (build_step s v) ≡ build_over (build_got e s v).row }
+    ensures refused { (e : Extent) (s : BuildState) (v : ℕ)
+        → is_refused (build_got e s v).row
+        ≡ (is_refused s.row || (is_counting s.row && nat_lt v s.blocks)) }
+    ensures built { (e : Extent) (s : BuildState) (v : ℕ)
+        → is_built (build_got e s v).row ≡ (is_built s.row || is_publishing s.row) }
+    ensures full { (s : BuildState) → is_refused s.row ≡ true
+        → build_reply s ≡ Some (replies.Full (full_cycle s.cycle)) }
+    ensures new { (s : BuildState) → is_built s.row ≡ true
+        → build_reply s
+        ≡ Some (replies.New (record { thread = s.thread; serial = s.serial })) }
+    ensures cycle { (c : ℕ) → 1 ≤ c
+        → ((c ≡ 1) × (full_cycle c ≡ 1)) ⊎ (full_cycle c + 1 ≡ c) }
 {}

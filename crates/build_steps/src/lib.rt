@@ -9,8 +9,8 @@ mod pass;
 mod rows;
 
 pub use laws::{
-    rows_keep_marking, rows_keep_reuse, rows_stay_in_the_heap, what_is_published,
-    what_is_written_stands,
+    held_blocks_are_distinct, replies_are_decided, rows_keep_marking, rows_keep_reuse,
+    rows_stay_in_the_heap, what_is_published, what_is_written_stands,
 };
 pub use pass::BuildPass;
 pub use rows::BuildRow;
