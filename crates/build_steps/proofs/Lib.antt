@@ -8,3 +8,4 @@ pub mod Publishing
 pub mod Marking
 pub mod Once
 pub mod Ends
+pub mod Zeros

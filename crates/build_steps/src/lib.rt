@@ -7,6 +7,8 @@ mod laws;
 mod objects;
 mod pass;
 mod rows;
+#[cfg(test)]
+mod tests;
 
 pub use laws::{
     held_blocks_are_distinct, replies_are_decided, rows_keep_marking, rows_keep_reuse,

@@ -331,9 +331,10 @@ impl BuildPass {
         requires { (self.now.thread ≤ 16) × (self.now.serial ≤ 131072) × (ordinal ≤ 1023) }
         ensures { result ≡ built_owner self.now ordinal }
     {
+        let (thread, serial) = (self.thread, self.serial);
         owner_word(Owner {
-            thread: self.thread,
-            serial: self.serial,
+            thread,
+            serial,
             ordinal,
         })
     }
