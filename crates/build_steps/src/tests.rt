@@ -201,6 +201,69 @@ fn an_array_of_four_blocks_is_built(rt: HostRuntime) -> Result<(), OutOfMemory> 
     Ok(())
 }
 
+// A record of eight fields in blocks of eight payloads, in cycle 3, where a black block has the word 2.
+// The thread's list is 7, 12.
+#[test]
+#[tactic(auto, unfolding(block_store::specs::Colours::colour_of, block_store::specs::Colours::link, crate::specs::Rows::list_of))]
+fn a_record_of_two_wide_blocks_is_built(rt: HostRuntime) -> Result<(), OutOfMemory> {
+    let places = Places::new(&WIDE);
+    let command = Command::New { d: 0, fields: 8 };
+    let mut pass = BuildPass::new(Width::Eight, 0, 1, 3, 2, command, room(rt.alloc(), 2)?);
+    assert_eq!(rt; pass.got(&places, 2), Step::Went);
+    assert_eq!(rt; pass.got(&places, 2), Step::Went);
+    assert_eq!(rt; pass.want(&places), Op::Exchange { place: 4, new: 0 });
+    assert_eq!(rt; pass.got(&places, 7), Step::Went);
+    assert_eq!(rt; pass.want(&places), Op::Load { place: 71 });
+    assert_eq!(rt; pass.got(&places, 96), Step::Went);
+    assert_eq!(rt; pass.want(&places), Op::Load { place: 126 });
+    assert_eq!(rt; pass.got(&places, 0), Step::Went);
+    let last = [0, 0, 0, 0, 0, 0, 0, 0];
+    assert!(rt; writes(&mut pass, &places, 126, 131_073, 16, &last, 2));
+    let first = [24, 0, 0, 0, 0, 0, 0, 0];
+    assert!(rt; writes(&mut pass, &places, 71, 131_072, 16, &first, 2));
+    let name = Name {
+        thread: 0,
+        serial: 2,
+    };
+    assert!(rt; publishes(&mut pass, &places, 19, 14, Reply::New(name)));
+    Ok(())
+}
+
+// An array of 17 elements in blocks of four payloads: five leaves, under two blocks, under a root. The
+// thread's list is 11 to 18.
+#[test]
+#[tactic(auto, unfolding(array_trees::specs::Trees::tree, block_store::specs::Colours::colour_of, block_store::specs::Colours::link, crate::specs::Rows::list_of))]
+fn an_array_of_eight_blocks_is_built(rt: HostRuntime) -> Result<(), OutOfMemory> {
+    let places = Places::new(&ONE);
+    let command = Command::Arr { d: 0, elements: 17 };
+    let mut pass = BuildPass::new(Width::Four, 0, 1, 1, 1, command, room(rt.alloc(), 8)?);
+    assert_eq!(rt; pass.got(&places, 8), Step::Went);
+    assert_eq!(rt; pass.got(&places, 8), Step::Went);
+    assert_eq!(rt; pass.got(&places, 11), Step::Went);
+    assert_eq!(rt; pass.got(&places, 96), Step::Went);
+    assert_eq!(rt; pass.got(&places, 104), Step::Went);
+    assert_eq!(rt; pass.got(&places, 112), Step::Went);
+    assert_eq!(rt; pass.got(&places, 120), Step::Went);
+    assert_eq!(rt; pass.got(&places, 128), Step::Went);
+    assert_eq!(rt; pass.got(&places, 136), Step::Went);
+    assert_eq!(rt; pass.got(&places, 144), Step::Went);
+    assert_eq!(rt; pass.got(&places, 0), Step::Went);
+    assert!(rt; writes(&mut pass, &places, 124, 65_543, 35, &[0, 0, 0, 0], 2));
+    assert!(rt; writes(&mut pass, &places, 117, 65_542, 35, &[0, 0, 0, 0], 2));
+    assert!(rt; writes(&mut pass, &places, 110, 65_541, 35, &[0, 0, 0, 0], 2));
+    assert!(rt; writes(&mut pass, &places, 103, 65_540, 35, &[0, 0, 0, 0], 2));
+    assert!(rt; writes(&mut pass, &places, 96, 65_539, 35, &[0, 0, 0, 0], 2));
+    assert!(rt; writes(&mut pass, &places, 89, 65_538, 35, &[36, 0, 0, 0], 2));
+    assert!(rt; writes(&mut pass, &places, 82, 65_537, 35, &[28, 30, 32, 34], 2));
+    assert!(rt; writes(&mut pass, &places, 75, 65_536, 35, &[24, 26, 0, 0], 2));
+    let name = Name {
+        thread: 0,
+        serial: 1,
+    };
+    assert!(rt; publishes(&mut pass, &places, 15, 22, Reply::New(name)));
+    Ok(())
+}
+
 // Eight blocks are too many where seven are free, and not where eight are. The reply names the cycle
 // before, and in the first cycle that one.
 #[test]
