@@ -1,11 +1,12 @@
--- At which event a command that allocates nothing takes its place among the commands of all threads.
+-- At which event a command that allocates nothing takes its place among the commands of all
+-- threads.
 use Rattle.std.specs.Prelude.{ℕ, nat_lt, Bool, true, false, not}
 use Rattle.block_store.specs.declared.Payload.{Payload}
 use Rattle.block_store.specs.declared.Payload.TheVariants as payloads
 use Rattle.never_heap.specs.declared.Command.{Command}
 use Rattle.never_heap.specs.declared.Command.TheVariants as commands
 use Rattle.barrier_steps.specs.declared.rows.FieldRow.{FieldRow}
-use Rattle.barrier_steps.specs.declared.rows.FieldRow.TheVariants.{StoreNumber, StoreNil, LoadMoved, StoreMoved, LoadObject, LoadShape, LoadValue, LoadLink, LoadField, LoadOwner, StoreLate, StoreField, LoadFirst, LoadSecond, LoadSaid, LoadSaidOwner, Answered}
+use Rattle.barrier_steps.specs.declared.rows.FieldRow.TheVariants.{StoreNumber, StoreNil, LoadMoved, StoreMoved, LoadObject, LoadShape, LoadValue, LoadLink, LoadField, LoadOwner, StorePending, StoreField, LoadFirst, LoadSecond, LoadSaid, LoadSaidOwner, Answered}
 use Rattle.barrier_steps.specs.Walks.{shape_length}
 use Rattle.barrier_steps.specs.Rows.{payload_in, shape_in}
 
@@ -21,8 +22,9 @@ length_decides (commands.Get d s i) n = not (nat_lt i n)
 length_decides (commands.Put s i v) n = not (nat_lt i n)
 length_decides _ n = true
 
--- whether the event of a row of command k that reads w is the deciding one: the store of `set`, `nil`, `mov` and `put`, the load of
--- the field of `get`, of the second register of `same`, of the register of `say`, of the shape of `len`; or the one that shows a refusal
+-- whether the event of a row of command k that reads w is the deciding one: the store of `set`,
+-- `nil`, `mov` and `put`, the load of the field of `get`, of the second register of `same`, of the
+-- register of `say`, of the shape of `len`; or the one that shows a refusal
 abbrev pub is_deciding : Command → FieldRow → ℕ → Bool
 is_deciding k StoreNumber w = true
 is_deciding k StoreNil w = true
@@ -34,7 +36,7 @@ is_deciding k (LoadValue way) w = false
 is_deciding k (LoadLink way word) w = false
 is_deciding k (LoadField way) w = true
 is_deciding k (LoadOwner word) w = false
-is_deciding k (StoreLate word value) w = false
+is_deciding k (StorePending word value) w = false
 is_deciding k (StoreField way word) w = true
 is_deciding k LoadFirst w = false
 is_deciding k (LoadSecond word) w = true

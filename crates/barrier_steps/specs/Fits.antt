@@ -11,13 +11,14 @@ use Rattle.never_heap.specs.Bounds.{IsCommandInRange}
 use Rattle.heap_machine.specs.Operations.{place_of}
 use Rattle.heap_machine.specs.Readings.{CanHold}
 use Rattle.barrier_steps.specs.declared.rows.FieldRow.{FieldRow}
-use Rattle.barrier_steps.specs.declared.rows.FieldRow.TheVariants.{StoreNumber, StoreNil, LoadMoved, StoreMoved, LoadObject, LoadShape, LoadValue, LoadLink, LoadField, LoadOwner, StoreLate, StoreField, LoadFirst, LoadSecond, LoadSaid, LoadSaidOwner, Answered}
+use Rattle.barrier_steps.specs.declared.rows.FieldRow.TheVariants.{StoreNumber, StoreNil, LoadMoved, StoreMoved, LoadObject, LoadShape, LoadValue, LoadLink, LoadField, LoadOwner, StorePending, StoreField, LoadFirst, LoadSecond, LoadSaid, LoadSaidOwner, Answered}
 use Rattle.barrier_steps.specs.declared.rows.Way.{Way}
 use Rattle.barrier_steps.specs.Operands.{field_index, is_set, is_nil, is_mov, is_get, is_put, goes_to_field, looks_at_object, is_same, is_say}
 use Rattle.barrier_steps.specs.Walks.{shape_length, links_to}
 use Rattle.barrier_steps.specs.Rows.{FieldState, row_want}
 
--- thread t is one of the heap's, which has at most 16, and the blocks of its registers are in the heap
+-- thread t is one of the heap's, which has at most 16, and the blocks of its registers are in the
+-- heap
 pub record IsThread (c : Config) (t : ℕ) : Type 0 where
   pub few : c.threads ≤ 16
   pub thread : t < c.threads
@@ -51,7 +52,7 @@ is_row_of k (LoadValue way) = is_put k
 is_row_of k (LoadLink way word) = goes_to_field k
 is_row_of k (LoadField way) = is_get k
 is_row_of k (LoadOwner word) = is_get k
-is_row_of k (StoreLate word value) = is_get k
+is_row_of k (StorePending word value) = is_get k
 is_row_of k (StoreField way word) = is_put k
 is_row_of k LoadFirst = is_same k
 is_row_of k (LoadSecond word) = is_same k
@@ -68,18 +69,21 @@ RowFits c k (StoreMoved word) = IsLoaded c word
 RowFits c k LoadObject = Unit {0}
 RowFits c k (LoadShape x) = IsBlock c x
 RowFits c k (LoadValue way) = IsWalk c (field_index k) way × (way.level ≡ 0)
-RowFits c k (LoadLink way word) = IsWalk c (field_index k) way × (way.level < links_to (extent c) way.shape (field_index k)) × IsLoaded c word
+RowFits c k (LoadLink way word) = IsWalk c (field_index k) way
+    × (way.level < links_to (extent c) way.shape (field_index k)) × IsLoaded c word
 RowFits c k (LoadField way) = IsWalk c (field_index k) way × IsThere c (field_index k) way
 RowFits c k (LoadOwner word) = IsLoaded c word × (target word ≢ 0)
-RowFits c k (StoreLate word value) = IsLoaded c word
-RowFits c k (StoreField way word) = IsWalk c (field_index k) way × IsThere c (field_index k) way × IsLoaded c word
+RowFits c k (StorePending word value) = IsLoaded c word
+RowFits c k (StoreField way word) = IsWalk c (field_index k) way × IsThere c (field_index k) way
+    × IsLoaded c word
 RowFits c k LoadFirst = Unit {0}
 RowFits c k (LoadSecond word) = IsLoaded c word
 RowFits c k LoadSaid = Unit {0}
 RowFits c k (LoadSaidOwner word) = IsLoaded c word × (target word ≢ 0)
 RowFits c k (Answered reply) = Unit {0}
 
--- the thread is one of the heap's, the command is in range and comes to the row, and the row's numbers are in range
+-- the thread is one of the heap's, the command is in range and comes to the row, and the row's
+-- numbers are in range
 pub record FitsAt (c : Config) (t : ℕ) (k : Command) (r : FieldRow) : Type 0 where
   pub thread : IsThread c t
   pub command : IsCommandInRange k
@@ -96,7 +100,8 @@ LinkReads _ w = Unit {0}
 
 -- the words that a row may read: those that the wanted place can hold, and at a link a reference
 abbrev pub ReadsAt : Config → ℕ → Command → FieldRow → ℕ → Type 0
-ReadsAt c t k row w = CanHold (extent c) (place_of (row_want (extent c) t k row)) w × LinkReads row w
+ReadsAt c t k row w = CanHold (extent c) (place_of (row_want (extent c) t k row)) w
+    × LinkReads row w
 
 abbrev pub FieldReads : Config → FieldState → ℕ → Type 0
 FieldReads c s w = ReadsAt c s.pass.thread s.command s.row w

@@ -1,4 +1,5 @@
--- What a command names: registers, the number of a field, a number. Each is 0 where the command names none.
+-- What a command names: registers, the number of a field, a number. Each is 0 where the command
+-- names none.
 use Rattle.std.specs.Prelude.{ℕ, Bool, true, false}
 use Rattle.never_heap.specs.declared.Command.{Command}
 use Rattle.never_heap.specs.declared.Command.TheVariants.{Set, Nil, Mov, Get, Put, Len, Same, Say}

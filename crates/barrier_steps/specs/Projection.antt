@@ -12,7 +12,7 @@ use Rattle.shown_graph.specs.Words.{block_words}
 use Rattle.shown_graph.specs.Events as events
 use Rattle.shown_graph.specs.Events.{ObjectLoad, ValueLoad, Loading, unloaded, GraphState, Event, apply}
 use Rattle.barrier_steps.specs.declared.rows.FieldRow.{FieldRow}
-use Rattle.barrier_steps.specs.declared.rows.FieldRow.TheVariants.{StoreNumber, StoreNil, LoadMoved, StoreMoved, LoadObject, LoadShape, LoadValue, LoadLink, LoadField, LoadOwner, StoreLate, StoreField, LoadFirst, LoadSecond, LoadSaid, LoadSaidOwner, Answered}
+use Rattle.barrier_steps.specs.declared.rows.FieldRow.TheVariants.{StoreNumber, StoreNil, LoadMoved, StoreMoved, LoadObject, LoadShape, LoadValue, LoadLink, LoadField, LoadOwner, StorePending, StoreField, LoadFirst, LoadSecond, LoadSaid, LoadSaidOwner, Answered}
 use Rattle.barrier_steps.specs.declared.rows.Way.{Way}
 use Rattle.barrier_steps.specs.Operands.{to_register, from_register, other_register, field_index, number_set}
 use Rattle.barrier_steps.specs.Walks.{shape_length, link_at, field_at, ordinal_at}
@@ -25,15 +25,20 @@ object_load s x = Some (record { source = s; block = x; ordinal = 0; shape = Non
 
 -- the object of a way to field i, at the block that the links have led to
 abbrev pub walk_load : Extent → ℕ → ℕ → Way → Option ObjectLoad
-walk_load e s i way = Some (record { source = s; block = way.block; ordinal = ordinal_at e way.shape i way.level; shape = Some way.shape })
+walk_load e s i way = Some (record {
+  source = s;
+  block = way.block;
+  ordinal = ordinal_at e way.shape i way.level;
+  shape = Some way.shape;
+})
 
 -- the word of register r
 abbrev pub value_load : ℕ → ℕ → Option ValueLoad
-value_load r word = Some (record { origin = r; word = word; late = false })
+value_load r word = Some (record { origin = r; word = word; pending = false })
 
 -- the word of a field that the graph's register d has already
-abbrev pub late_load : ℕ → ℕ → Option ValueLoad
-late_load d word = Some (record { origin = d; word = word; late = true })
+abbrev pub pending_load : ℕ → ℕ → Option ValueLoad
+pending_load d word = Some (record { origin = d; word = word; pending = true })
 
 -- on the way `put` has the word that it will store, and `get` has none
 abbrev pub carried_load : Command → ℕ → Option ValueLoad
@@ -46,35 +51,62 @@ object_on e k way = walk_load e (from_register k) (field_index k) way
 
 -- what a row of command k has loaded
 abbrev pub row_loading : Extent → Command → FieldRow → Loading
-row_loading e k (StoreMoved word) = record { object = None; value = value_load (from_register k) word }
+row_loading e k (StoreMoved word) = record {
+  object = None;
+  value = value_load (from_register k) word;
+}
 row_loading e k (LoadShape x) = record { object = object_load (from_register k) x; value = None }
 row_loading e k (LoadValue way) = record { object = object_on e k way; value = None }
-row_loading e k (LoadLink way word) = record { object = object_on e k way; value = carried_load k word }
+row_loading e k (LoadLink way word) = record {
+  object = object_on e k way;
+  value = carried_load k word;
+}
 row_loading e k (LoadField way) = record { object = object_on e k way; value = None }
-row_loading e k (LoadOwner word) = record { object = None; value = late_load (to_register k) word }
-row_loading e k (StoreLate word value) = record { object = None; value = late_load (to_register k) word }
-row_loading e k (StoreField way word) = record { object = object_on e k way; value = value_load (other_register k) word }
-row_loading e k (LoadSecond word) = record { object = None; value = value_load (from_register k) word }
-row_loading e k (LoadSaidOwner word) = record { object = None; value = value_load (from_register k) word }
+row_loading e k (LoadOwner word) = record { object = None; value = pending_load (to_register k) word }
+row_loading e k (StorePending word value) = record {
+  object = None;
+  value = pending_load (to_register k) word;
+}
+row_loading e k (StoreField way word) = record {
+  object = object_on e k way;
+  value = value_load (other_register k) word;
+}
+row_loading e k (LoadSecond word) = record {
+  object = None;
+  value = value_load (from_register k) word;
+}
+row_loading e k (LoadSaidOwner word) = record {
+  object = None;
+  value = value_load (from_register k) word;
+}
 row_loading e k _ = unloaded
 
--- the event of a row of thread t in command k that reads w, where a is the object in hand: none where graph, words and loads stay as they are
+-- the event of a row of thread t in command k that reads w, where a is the object in hand: none
+-- where graph, words and loads stay as they are
 abbrev pub row_event : Extent → Name → ℕ → Command → FieldRow → ℕ → Option Event
-row_event e a t k StoreNumber w = Some (events.StoreConstant t (to_register k) (values.Int (number_set k)))
+row_event e a t k StoreNumber w = Some (events.StoreConstant t (to_register k)
+    (values.Int (number_set k)))
 row_event e a t k StoreNil w = Some (events.StoreConstant t (to_register k) values.Nil)
 row_event e a t k LoadMoved w = Some (events.ReadValue t (from_register k))
 row_event e a t k (StoreMoved word) w = Some (events.StoreValue t (to_register k))
-row_event e a t k LoadObject w = if refers (payload_in w) then Some (events.ReadObject t (from_register k)) else None
-row_event e a t k (LoadShape x) w = if length_decides k (shape_length (shape_in w)) then Some (events.Finish t) else Some (events.ReadShape t (shape_in w))
+row_event e a t k LoadObject w = if refers (payload_in w)
+    then Some (events.ReadObject t (from_register k)) else None
+row_event e a t k (LoadShape x) w = if length_decides k (shape_length (shape_in w))
+    then Some (events.Finish t) else Some (events.ReadShape t (shape_in w))
 row_event e a t k (LoadValue way) w = Some (events.ReadValue t (other_register k))
-row_event e a t k (LoadLink way word) w = Some (events.ReadLink t (link_at e way.shape (field_index k) way.level) (ordinal_at e way.shape (field_index k) (way.level + 1)))
-row_event e a t k (LoadField way) w = Some (events.ReadField t (to_register k) a (field_index k) (field_at e way.shape (field_index k)))
+row_event e a t k (LoadLink way word) w = Some
+    (events.ReadLink t (link_at e way.shape (field_index k) way.level)
+    (ordinal_at e way.shape (field_index k) (way.level + 1)))
+row_event e a t k (LoadField way) w = Some (events.ReadField t (to_register k) a (field_index k)
+    (field_at e way.shape (field_index k)))
 row_event e a t k (LoadOwner word) w = None
-row_event e a t k (StoreLate word value) w = Some (events.StoreLate t)
-row_event e a t k (StoreField way word) w = Some (events.StoreField t a (field_index k) (field_at e way.shape (field_index k)))
+row_event e a t k (StorePending word value) w = Some (events.StorePending t)
+row_event e a t k (StoreField way word) w = Some
+    (events.StoreField t a (field_index k) (field_at e way.shape (field_index k)))
 row_event e a t k LoadFirst w = Some (events.ReadValue t (from_register k))
 row_event e a t k (LoadSecond word) w = Some (events.Finish t)
-row_event e a t k LoadSaid w = if refers (payload_in w) then Some (events.ReadValue t (from_register k)) else None
+row_event e a t k LoadSaid w = if refers (payload_in w)
+    then Some (events.ReadValue t (from_register k)) else None
 row_event e a t k (LoadSaidOwner word) w = Some (events.Finish t)
 row_event e a t k (Answered reply) w = None
 
@@ -89,8 +121,10 @@ InHandAt s a t k (LoadField way) = register_of s.graph t (from_register k) ≡ v
 InHandAt s a t k (StoreField way word) = register_of s.graph t (from_register k) ≡ values.Ref a
 InHandAt s a t k _ = Unit {0}
 
--- the words and loads of a state are those of a heap and of a row of its thread, which reads w there
-pub record IsAt (e : Extent) (s : GraphState) (h : Heap) (t : ℕ) (k : Command) (row : FieldRow) (w : ℕ) : Type 0 where
+-- the words and loads of a state are those of a heap and of a row of its thread, which reads w
+-- there
+pub record IsAt (e : Extent) (s : GraphState) (h : Heap) (t : ℕ) (k : Command) (row : FieldRow)
+    (w : ℕ) : Type 0 where
   pub words : s.words ≡ block_words h
   pub loads : s.loads t ≡ row_loading e k row
   pub reads : w ≡ h (place_of (row_want e t k row))

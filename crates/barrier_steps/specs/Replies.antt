@@ -14,7 +14,7 @@ use Rattle.never_heap.specs.Steps.{step}
 use Rattle.shown_graph.specs.Layouts.{kind_shape}
 use Rattle.shown_graph.specs.Read.{value_payload}
 use Rattle.barrier_steps.specs.declared.rows.FieldRow.{FieldRow}
-use Rattle.barrier_steps.specs.declared.rows.FieldRow.TheVariants.{StoreNumber, StoreNil, LoadMoved, StoreMoved, LoadObject, LoadShape, LoadValue, LoadLink, LoadField, LoadOwner, StoreLate, StoreField, LoadFirst, LoadSecond, LoadSaid, LoadSaidOwner, Answered}
+use Rattle.barrier_steps.specs.declared.rows.FieldRow.TheVariants.{StoreNumber, StoreNil, LoadMoved, StoreMoved, LoadObject, LoadShape, LoadValue, LoadLink, LoadField, LoadOwner, StorePending, StoreField, LoadFirst, LoadSecond, LoadSaid, LoadSaidOwner, Answered}
 use Rattle.barrier_steps.specs.Operands.{to_register, from_register, other_register, field_index}
 use Rattle.barrier_steps.specs.Rows.{FieldState}
 
@@ -34,7 +34,8 @@ IsWordOf head v w = payload_of w ≡ Some (value_payload head v)
 pub record ShapeShown (g : Graph) (t s w : ℕ) : Type 0 where
   pub name : Name
   pub refers : register_of g t s ≡ Ref name
-  pub shape : shape_of w ≡ Some (kind_shape (object_of g name).kind (length (object_of g name).fields))
+  pub shape : shape_of w ≡ Some (kind_shape (object_of g name).kind
+      (length (object_of g name).fields))
 
 -- register s of thread t refers to an object that has field i
 pub record FieldFound (g : Graph) (t s i : ℕ) : Type 0 where
@@ -46,15 +47,19 @@ pub record FieldFound (g : Graph) (t s i : ℕ) : Type 0 where
 pub record BothShown (head : Name → ℕ) (g : Graph) (t a b word w : ℕ) : Type 0 where
   pub first : IsWordOf head (register_of g t a) word
   pub second : IsWordOf head (register_of g t b) w
-  pub apart : (x y : Name) → register_of g t a ≡ Ref x → register_of g t b ≡ Ref y → head x ≡ head y → x ≡ y
+  pub apart : (x y : Name) → register_of g t a ≡ Ref x → register_of g t b ≡ Ref y → head x ≡ head y
+      → x ≡ y
 
--- what a row of thread t in command k has loaded, and the word w that it reads, are what the graph says
+-- what a row of thread t in command k has loaded, and the word w that it reads, are what the graph
+-- says
 abbrev pub ShownAt : (Name → ℕ) → Graph → ℕ → Command → FieldRow → ℕ → Type 0
 ShownAt head g t k LoadObject w = IsWordOf head (register_of g t (from_register k)) w
 ShownAt head g t k (LoadShape x) w = ShapeShown g t (from_register k) w
-ShownAt head g t k (LoadField way) w = (found : FieldFound g t (from_register k) (field_index k)) × IsWordOf head (field_of (object_of g found.name) (field_index k)) w
+ShownAt head g t k (LoadField way) w = (found : FieldFound g t (from_register k) (field_index k))
+    × IsWordOf head (field_of (object_of g found.name) (field_index k)) w
 ShownAt head g t k (StoreField way word) w = FieldFound g t (from_register k) (field_index k)
-ShownAt head g t k (LoadSecond word) w = BothShown head g t (from_register k) (other_register k) word w
+ShownAt head g t k (LoadSecond word) w = BothShown head g t (from_register k)
+    (other_register k) word w
 ShownAt head g t k LoadSaid w = IsWordOf head (register_of g t (from_register k)) w
 ShownAt head g t k _ w = Unit {0}
 
@@ -67,7 +72,7 @@ pub record RefersTo (head : Name → ℕ) (word : ℕ) (reply : Reply) : Type 0 
 -- a decided row will give this reply
 abbrev pub Promises : (Name → ℕ) → FieldRow → Reply → Type 0
 Promises head (LoadOwner word) reply = RefersTo head word reply
-Promises head (StoreLate word value) reply = reply ≡ Val value
+Promises head (StorePending word value) reply = reply ≡ Val value
 Promises head (LoadSaidOwner word) reply = RefersTo head word reply
 Promises head (Answered given) reply = given ≡ reply
 Promises head _ reply = ⊥
@@ -75,31 +80,35 @@ Promises head _ reply = ⊥
 -- the owner word w is that of the first block of the object to which the reply refers
 abbrev pub OwnerShown : (Name → ℕ) → ℕ → Reply → ℕ → Type 0
 OwnerShown head word reply w =
-    (a : Name) → reply ≡ Val (Ref a) → target word ≡ head a → owner_of w ≡ Some (record { thread = a.thread; serial = a.serial; ordinal = 0 })
+    (a : Name) → reply ≡ Val (Ref a) → target word ≡ head a
+    → owner_of w ≡ Some (record { thread = a.thread; serial = a.serial; ordinal = 0 })
 
--- where a decided row still reads the name of the object to which its reply refers, the word w shows it
+-- where a decided row still reads the name of the object to which its reply refers, the word w
+-- shows it
 abbrev pub NameShown : (Name → ℕ) → FieldRow → Reply → ℕ → Type 0
 NameShown head (LoadOwner word) reply w = OwnerShown head word reply w
 NameShown head (LoadSaidOwner word) reply w = OwnerShown head word reply w
 NameShown head _ reply w = Unit {0}
 
--- where a decided row of thread t in command k still reads a name, its reply is the value of the register that the word is of
+-- where a decided row of thread t in command k still reads a name, its reply is the value of the
+-- register that the word is of
 abbrev pub ShowsAt : Graph → ℕ → Command → FieldRow → Reply → Type 0
 ShowsAt g t k (LoadOwner word) reply = reply ≡ Val (register_of g t (to_register k))
 ShowsAt g t k (LoadSaidOwner word) reply = reply ≡ Val (register_of g t (from_register k))
 ShowsAt g t k _ reply = Unit {0}
 
--- the reply that was decided, also where it is not given yet: a value is the one that the register has in the graph
+-- the reply that was decided, also where it is not given yet: a value is the one that the register
+-- has in the graph
 abbrev pub due_at : Graph → ℕ → Command → FieldRow → Option Reply
 due_at g t k (LoadOwner word) = Some (Val (register_of g t (to_register k)))
-due_at g t k (StoreLate word value) = Some (Val (register_of g t (to_register k)))
+due_at g t k (StorePending word value) = Some (Val (register_of g t (to_register k)))
 due_at g t k (LoadSaidOwner word) = Some (Val (register_of g t (from_register k)))
 due_at g t k (Answered reply) = Some reply
 due_at g t k _ = None
 
 -- the value that `get` has still to store is the one that its register has in the graph
 abbrev pub KnownAt : Graph → ℕ → Command → FieldRow → Type 0
-KnownAt g t k (StoreLate word value) = value ≡ register_of g t (to_register k)
+KnownAt g t k (StorePending word value) = value ≡ register_of g t (to_register k)
 KnownAt g t k _ = Unit {0}
 
 -- the same of the state of a part

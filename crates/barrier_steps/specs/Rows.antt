@@ -1,4 +1,5 @@
--- The commands that allocate nothing, as rows of one event each: what each row wants, and what it becomes on the word that it read.
+-- The commands that allocate nothing, as rows of one event each: what each row wants, and what it
+-- becomes on the word that it read.
 use Rattle.std.specs.Prelude.{ℕ, ◌+◌, ◌==◌, nat_lt, Bool, true, false, if◌then◌else◌, Option, Some, None}
 use Rattle.block_store.specs.declared.Owner.{Owner}
 use Rattle.block_store.specs.declared.Payload.{Payload}
@@ -21,7 +22,7 @@ use Rattle.heap_machine.specs.declared.pass.Pass.{Pass}
 use Rattle.heap_machine.specs.declared.Step.{Step}
 use Rattle.heap_machine.specs.declared.Step.TheVariants.{Went, Over}
 use Rattle.barrier_steps.specs.declared.rows.FieldRow.{FieldRow}
-use Rattle.barrier_steps.specs.declared.rows.FieldRow.TheVariants.{StoreNumber, StoreNil, LoadMoved, StoreMoved, LoadObject, LoadShape, LoadValue, LoadLink, LoadField, LoadOwner, StoreLate, StoreField, LoadFirst, LoadSecond, LoadSaid, LoadSaidOwner, Answered}
+use Rattle.barrier_steps.specs.declared.rows.FieldRow.TheVariants.{StoreNumber, StoreNil, LoadMoved, StoreMoved, LoadObject, LoadShape, LoadValue, LoadLink, LoadField, LoadOwner, StorePending, StoreField, LoadFirst, LoadSecond, LoadSaid, LoadSaidOwner, Answered}
 use Rattle.barrier_steps.specs.declared.rows.Way.{Way}
 use Rattle.barrier_steps.specs.Operands.{to_register, from_register, other_register, field_index, number_set}
 use Rattle.barrier_steps.specs.Walks.{shape_length, links_to, link_at, field_at}
@@ -76,20 +77,24 @@ first_row (commands.Say s) = LoadSaid
 abbrev pub at_first_row : Pass → Command → FieldState
 at_first_row p k = record { pass = p; command = k; row = first_row k }
 
--- the operation of a row of thread t in command k. A part that is over would look at the phase once more
+-- the operation of a row of thread t in command k. A part that is over would look at the phase once
+-- more
 abbrev pub row_want : Extent → ℕ → Command → FieldRow → Operation
-row_want e t k StoreNumber = Exchange (register_place e t (to_register k)) (number_word (number_set k))
+row_want e t k StoreNumber = Exchange (register_place e t (to_register k))
+    (number_word (number_set k))
 row_want e t k StoreNil = Exchange (register_place e t (to_register k)) 0
 row_want e t k LoadMoved = Load (register_place e t (from_register k))
 row_want e t k (StoreMoved word) = Exchange (register_place e t (to_register k)) word
 row_want e t k LoadObject = Load (register_place e t (from_register k))
 row_want e t k (LoadShape x) = Load (ShapeOf x)
 row_want e t k (LoadValue way) = Load (register_place e t (other_register k))
-row_want e t k (LoadLink way word) = Load (PayloadOf way.block (link_at e way.shape (field_index k) way.level))
+row_want e t k (LoadLink way word) = Load (PayloadOf way.block
+    (link_at e way.shape (field_index k) way.level))
 row_want e t k (LoadField way) = Load (PayloadOf way.block (field_at e way.shape (field_index k)))
 row_want e t k (LoadOwner word) = Load (OwnerOf (target word))
-row_want e t k (StoreLate word value) = Exchange (register_place e t (to_register k)) word
-row_want e t k (StoreField way word) = Exchange (PayloadOf way.block (field_at e way.shape (field_index k))) word
+row_want e t k (StorePending word value) = Exchange (register_place e t (to_register k)) word
+row_want e t k (StoreField way word) = Exchange
+    (PayloadOf way.block (field_at e way.shape (field_index k))) word
 row_want e t k LoadFirst = Load (register_place e t (from_register k))
 row_want e t k (LoadSecond word) = Load (register_place e t (other_register k))
 row_want e t k LoadSaid = Load (register_place e t (from_register k))
@@ -109,7 +114,8 @@ at_block _ way word = LoadField way
 
 -- the next link of the way, while there is one
 abbrev pub on_way : Extent → Command → Way → ℕ → FieldRow
-on_way e k way word = if nat_lt way.level (links_to e way.shape (field_index k)) then LoadLink way word else at_block k way word
+on_way e k way word = if nat_lt way.level (links_to e way.shape (field_index k))
+    then LoadLink way word else at_block k way word
 
 -- the way at its first block
 abbrev pub way_from : Shape → ℕ → Way
@@ -121,14 +127,16 @@ way_on way x = record { shape = way.shape; level = way.level + 1; block = x }
 
 -- after the object's shape: an index that is not below its length is answered range
 abbrev pub after_shape : Extent → Command → ℕ → Shape → FieldRow
-after_shape e (commands.Get d s i) x f = if nat_lt i (shape_length f) then on_way e (commands.Get d s i) (way_from f x) 0 else Answered replies.Range
-after_shape e (commands.Put s i v) x f = if nat_lt i (shape_length f) then LoadValue (way_from f x) else Answered replies.Range
+after_shape e (commands.Get d s i) x f = if nat_lt i (shape_length f)
+    then on_way e (commands.Get d s i) (way_from f x) 0 else Answered replies.Range
+after_shape e (commands.Put s i v) x f = if nat_lt i (shape_length f) then LoadValue (way_from f x)
+    else Answered replies.Range
 after_shape e _ x f = Answered (replies.Len (shape_length f))
 
 -- after the field that `get` loads: its word is then stored, once its value is known
 abbrev pub after_field : ℕ → Payload → FieldRow
-after_field word payloads.Nil = StoreLate word values.Nil
-after_field word (payloads.Int v) = StoreLate word (values.Int v)
+after_field word payloads.Nil = StorePending word values.Nil
+after_field word (payloads.Int v) = StorePending word (values.Int v)
 after_field word (payloads.Block x) = LoadOwner word
 
 -- after the register that `say` shows
@@ -148,8 +156,8 @@ row_got e k (LoadShape x) w = after_shape e k x (shape_in w)
 row_got e k (LoadValue way) w = on_way e k way w
 row_got e k (LoadLink way word) w = on_way e k (way_on way (target w)) word
 row_got e k (LoadField way) w = after_field w (payload_in w)
-row_got e k (LoadOwner word) w = StoreLate word (object_in w)
-row_got e k (StoreLate word value) w = Answered (replies.Val value)
+row_got e k (LoadOwner word) w = StorePending word (object_in w)
+row_got e k (StorePending word value) w = Answered (replies.Val value)
 row_got e k (StoreField way word) w = Answered replies.Stored
 row_got e k LoadFirst w = LoadSecond w
 row_got e k (LoadSecond word) w = Answered (if word == w then replies.Yes else replies.No)
@@ -179,7 +187,7 @@ field_step e s w = step_of (field_reply (field_got e s w).row)
 -- the rows behind the deciding event
 abbrev pub field_decided : FieldRow → Bool
 field_decided (LoadOwner word) = true
-field_decided (StoreLate word value) = true
+field_decided (StorePending word value) = true
 field_decided (LoadSaidOwner word) = true
 field_decided (Answered reply) = true
 field_decided _ = false

@@ -44,7 +44,8 @@ pub fn rows_stay_in_the_heap()
     ensures place { (c : Config) (f : FieldState) → FieldFits c f
         → in_range (extent c) (place_of (field_want (extent c) f)) ≡ true }
     ensures sum { (c : Config) (f : FieldState) (w : ℕ) → Fits (field_want (extent c) f) w }
-    ensures stores { (c : Config) (f : FieldState) → FieldFits c f → StoresHeld c (field_want (extent c) f) }
+    ensures stores { (c : Config) (f : FieldState) → FieldFits c f
+        → StoresHeld c (field_want (extent c) f) }
 {}
 
 /// A part is decided exactly behind its deciding event, of which there is one at most, and it has a
@@ -59,9 +60,9 @@ pub fn rows_decide_once()
     ensures reply { (row : FieldRow) → IsSome (field_reply row) → field_decided row ≡ true }
 {}
 
-/// At the deciding event the command answers what its step does on the graph of which the words that
-/// were read are, and that reply is given at the end, whatever becomes of the graph, where the name of
-/// the object that it refers to is read.
+/// At the deciding event the command answers what its step does on the graph of which the words
+/// that were read are, and that reply is given at the end, whatever becomes of the graph, where the
+/// name of the object that it refers to is read.
 pub fn rows_answer_as_steps()
     ensures decided { (c : Config) (head : Name → ℕ) (g : Graph) (f : FieldState) (w : ℕ)
         → is_row_of f.command f.row ≡ true → is_deciding f.command f.row w ≡ true
@@ -89,7 +90,8 @@ pub fn rows_are_events()
     ensures stays { (c : Config) (s : GraphState) (a : Name) (f : FieldState) (w : ℕ)
         → is_deciding f.command f.row w ≡ false
         → (after_event (extent c) s (event_of (extent c) a f w)).graph ≡ s.graph }
-    ensures steps { (c : Config) (head : Name → ℕ) (s : GraphState) (a : Name) (f : FieldState) (w : ℕ)
+    ensures steps { (c : Config) (head : Name
+        → ℕ) (s : GraphState) (a : Name) (f : FieldState) (w : ℕ)
         → is_row_of f.command f.row ≡ true → is_deciding f.command f.row w ≡ true
         → Shown head s.graph f w
         → s.loads f.pass.thread ≡ loading_of (extent c) f → IsInHand s a f
@@ -104,33 +106,42 @@ pub fn rows_are_events()
 /// that its places can hold, and these are what the graph says, the name of a reply's object among
 /// them. From the deciding event on the reply that is due is the step's answer.
 pub fn rows_read_the_graph()
-    ensures reads { (c : Config) (m : ℕ) (kept : Name → Bool) (at : Name → ℕ → ℕ) (s : GraphState) (h : Heap)
+    ensures reads { (c : Config) (m : ℕ) (kept : Name → Bool) (at : Name → ℕ
+        → ℕ) (s : GraphState) (h : Heap)
         (f : FieldState) (w : ℕ) → c.blocks ≤ 65535 → m ≤ c.blocks
         → Follows c.width c.threads m (named kept) at s → FieldFits c f → IsAtRow (extent c) s h f w
         → field_reply f.row ≡ None → FieldReads c f w }
-    ensures shown { (c : Config) (m : ℕ) (kept : Name → Bool) (at : Name → ℕ → ℕ) (s : GraphState) (h : Heap)
+    ensures shown { (c : Config) (m : ℕ) (kept : Name → Bool) (at : Name → ℕ
+        → ℕ) (s : GraphState) (h : Heap)
         (f : FieldState) (w : ℕ) → c.blocks ≤ 65535 → m ≤ c.blocks
         → Follows c.width c.threads m (named kept) at s → FieldFits c f → IsAtRow (extent c) s h f w
         → Shown (heads at) s.graph f w }
-    ensures register { (c : Config) (head : Name → ℕ) (s : GraphState) (a : Name) (f : FieldState) (w : ℕ)
+    ensures register { (c : Config) (head : Name
+        → ℕ) (s : GraphState) (a : Name) (f : FieldState) (w : ℕ)
         → IsSized c.threads s.graph → FieldFits c f → Shown head s.graph f w → IsInHand s a f
         → is_deciding f.command f.row w ≡ true
-        → ShowsRegister (after_event (extent c) s (event_of (extent c) a f w)).graph (field_got (extent c) f w)
+        → ShowsRegister (after_event (extent c) s (event_of (extent c) a f w)).graph
+        (field_got (extent c) f w)
         (answer s.graph f.pass.thread f.command) }
-    ensures name { (c : Config) (m : ℕ) (kept : Name → Bool) (at : Name → ℕ → ℕ) (s : GraphState) (h : Heap)
+    ensures name { (c : Config) (m : ℕ) (kept : Name → Bool) (at : Name → ℕ
+        → ℕ) (s : GraphState) (h : Heap)
         (f : FieldState) (w : ℕ) (reply : Reply) → c.blocks ≤ 65535 → m ≤ c.blocks
         → Follows c.width c.threads m (named kept) at s → FieldFits c f → IsAtRow (extent c) s h f w
         → ShowsRegister s.graph f reply → NameShown (heads at) f.row reply w }
-    ensures due { (c : Config) (m : ℕ) (kept : Name → Bool) (at : Name → ℕ → ℕ) (s : GraphState) (h : Heap)
+    ensures due { (c : Config) (m : ℕ) (kept : Name → Bool) (at : Name → ℕ
+        → ℕ) (s : GraphState) (h : Heap)
         (a : Name) (f : FieldState) (w : ℕ) → c.blocks ≤ 65535 → m ≤ c.blocks
         → Follows c.width c.threads m (named kept) at s → FieldFits c f → IsAtRow (extent c) s h f w
         → IsInHand s a f → IsKnown s.graph f
-        → reply_due (after_event (extent c) s (event_of (extent c) a f w)).graph (field_got (extent c) f w)
+        → reply_due (after_event (extent c) s (event_of (extent c) a f w)).graph
+        (field_got (extent c) f w)
         ≡ (if is_deciding f.command f.row w
         then Some (answer s.graph f.pass.thread f.command) else reply_due s.graph f) }
-    ensures known { (c : Config) (m : ℕ) (kept : Name → Bool) (at : Name → ℕ → ℕ) (s : GraphState) (h : Heap)
+    ensures known { (c : Config) (m : ℕ) (kept : Name → Bool) (at : Name → ℕ
+        → ℕ) (s : GraphState) (h : Heap)
         (a : Name) (f : FieldState) (w : ℕ) → c.blocks ≤ 65535 → m ≤ c.blocks
         → Follows c.width c.threads m (named kept) at s → FieldFits c f → IsAtRow (extent c) s h f w
         → IsInHand s a f → IsKnown s.graph f
-        → IsKnown (after_event (extent c) s (event_of (extent c) a f w)).graph (field_got (extent c) f w) }
+        → IsKnown (after_event (extent c) s (event_of (extent c) a f w)).graph
+        (field_got (extent c) f w) }
 {}

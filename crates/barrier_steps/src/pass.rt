@@ -11,7 +11,6 @@ ghost use Rattle.block_store.specs.Shapes.{IsShape, shape_of};
 ghost use Rattle.never_heap.specs.Bounds.{IsCommandInRange};
 ghost use Rattle.never_heap.specs.Steps.{makes_object};
 ghost use Rattle.heap_machine.specs.Operations.{op_at, Load, Exchange};
-ghost use Rattle.heap_machine.specs.Passes.{IsPass};
 ghost use Rattle.barrier_steps.specs.Operands as operands;
 ghost use Rattle.barrier_steps.specs.Walks;
 ghost use Rattle.barrier_steps.specs.Walks.{shape_length, links_to};
@@ -23,7 +22,8 @@ use crate::operands::{field_index, from_register, number_set, other_register, to
 use crate::walks::{field_at, length_of, link_at, links_to};
 use crate::{FieldRow, Way};
 use block_store::{
-    Name, Payload, Places, Shape, Value, Width, payload_word, read_owner, read_payload, read_shape,
+    Name, Payload, PhaseWord, Places, Shape, Value, Width, payload_word, read_owner, read_payload,
+    read_shape,
 };
 use heap_machine::{Op, Pass, Step};
 use never_heap::{Command, Reply};
@@ -92,20 +92,8 @@ fn register(places: &Places, thread: u32, r: u8) -> usize
     requires register { r < REGISTERS }
     ensures { result ≡ index (extent places.now) (register_place (extent places.now) thread r) }
 {
-    let (block, slot) = register_at(places.width(), thread, r as u32);
+    let (block, slot) = places.width().register(thread, r as u32);
     places.payload(block, slot)
-}
-
-// The block and the payload of register `r` of a thread.
-#[tactic(auto, using(block_store::proofs::Registers::block_by, block_store::proofs::Registers::slot_by))]
-fn register_at(width: Width, thread: u32, r: u32) -> (u32, u32)
-    requires thread { thread < 16 }
-    requires register { r < REGISTERS }
-    ensures block { result.0 ≡ register_block width thread r }
-    ensures slot { result.1 ≡ register_slot width r }
-{
-    let payloads = width.payloads();
-    (width.registers() * thread + 2 + r / payloads, r % payloads)
 }
 
 // The first row of a command.
@@ -203,7 +191,8 @@ fn after_shape(places: &Places, command: Command, block: u32, shape: Shape) -> F
 fn after_link(places: &Places, command: Command, way: Way, word: u64, block: u32) -> FieldRow
     requires shape { IsShape way.shape }
     requires index { operands.field_index command < shape_length way.shape }
-    requires level { way.level < links_to (extent places.now) way.shape (operands.field_index command) }
+    requires level { way.level < links_to (extent places.now) way.shape
+        (operands.field_index command) }
     ensures { result ≡ Rows.on_way (extent places.now) command (Rows.way_on way block) word }
 {
     let next = Way {
@@ -215,10 +204,10 @@ fn after_link(places: &Places, command: Command, way: Way, word: u64, block: u32
 }
 
 // The store of a field's word, once its value is known.
-fn store_late(word: u64, value: Value) -> FieldRow
-    ensures { result ≡ FieldRow.StoreLate word value }
+fn store_pending(word: u64, value: Value) -> FieldRow
+    ensures { result ≡ FieldRow.StorePending word value }
 {
-    FieldRow::StoreLate { word, value }
+    FieldRow::StorePending { word, value }
 }
 
 // After the field that `get` loads.
@@ -226,8 +215,8 @@ fn after_field(word: u64, payload: Payload) -> FieldRow
     ensures { result ≡ Rows.after_field word payload }
 {
     match payload {
-        Payload::Nil => store_late(word, Value::Nil),
-        Payload::Int(number) => store_late(word, Value::Int(number)),
+        Payload::Nil => store_pending(word, Value::Nil),
+        Payload::Int(number) => store_pending(word, Value::Int(number)),
         Payload::Block(_) => FieldRow::LoadOwner { word },
     }
 }
@@ -257,7 +246,9 @@ fn after_both(first: u64, second: u64) -> FieldRow
 // The place of the next link on a way to the field of a command.
 fn link(places: &Places, command: Command, way: Way) -> usize
     requires walk { IsWalk places.now (operands.field_index command) way }
-    ensures { result ≡ index (extent places.now) (PayloadOf way.block (Walks.link_at (extent places.now) way.shape (operands.field_index command) way.level)) }
+    ensures { result
+        ≡ index (extent places.now) (PayloadOf way.block (Walks.link_at (extent places.now)
+        way.shape (operands.field_index command) way.level)) }
 {
     places.payload(
         way.block,
@@ -268,7 +259,9 @@ fn link(places: &Places, command: Command, way: Way) -> usize
 // The place of that field, at its block.
 fn field(places: &Places, command: Command, way: Way) -> usize
     requires walk { IsWalk places.now (operands.field_index command) way }
-    ensures { result ≡ index (extent places.now) (PayloadOf way.block (Walks.field_at (extent places.now) way.shape (operands.field_index command))) }
+    ensures { result
+        ≡ index (extent places.now) (PayloadOf way.block (Walks.field_at (extent places.now)
+        way.shape (operands.field_index command))) }
 {
     places.payload(
         way.block,
@@ -277,10 +270,35 @@ fn field(places: &Places, command: Command, way: Way) -> usize
 }
 
 impl FieldPass {
-    /// The part that does this command, which allocates nothing, for the thread of this pass, which is
-    /// inside. The command's registers are below 16, its numbers and indexes below 2^62.
-    pub fn new(pass: Pass, command: Command) -> FieldPass
-        requires pass { IsPass pass }
+    /// The part that does this command, which allocates nothing, for one of 1 to 16 threads that is
+    /// inside. The command's registers are below 16, its numbers and indexes below 2^62. The phase
+    /// word is the one with which the thread entered.
+    pub fn new(thread: u32, threads: u32, phase: PhaseWord, command: Command) -> FieldPass
+        requires thread { (thread < threads) × (threads ≤ 16) }
+        requires range { IsCommandInRange command }
+        requires allocates { makes_object command ≡ false }
+        ensures { result
+            ≡ at_first_row
+            (record {
+              thread = thread;
+              threads = threads;
+              cycle = phase.cycle;
+              sweep
+                  = phase.sweep;
+            }) command }
+    {
+        let pass = Pass {
+            thread,
+            threads,
+            cycle: phase.cycle,
+            sweep: phase.sweep,
+        };
+        FieldPass::new_in(pass, command)
+    }
+
+    /// The same in this pass of a thread.
+    pub fn new_in(pass: Pass, command: Command) -> FieldPass
+        requires thread { (pass.thread < pass.threads) × (pass.threads ≤ 16) }
         requires range { IsCommandInRange command }
         requires allocates { makes_object command ≡ false }
         ensures { result ≡ at_first_row pass command }
@@ -305,7 +323,7 @@ impl FieldPass {
         match self.row {
             StoreNumber => self.store(places, payload_word(Payload::Int(number_set(command)))),
             StoreNil => self.store(places, payload_word(Payload::Nil)),
-            StoreMoved { word } | StoreLate { word, .. } => self.store(places, word),
+            StoreMoved { word } | StorePending { word, .. } => self.store(places, word),
             LoadMoved | LoadObject | LoadFirst | LoadSaid => {
                 self.load(places, from_register(command))
             }
@@ -323,7 +341,9 @@ impl FieldPass {
     fn store(&self, places: &Places, word: u64) -> Op
         requires thread { IsThread places.now self.now.pass.thread }
         requires command { IsCommandInRange self.now.command }
-        ensures { result ≡ op_at (extent places.now) (Exchange (register_place (extent places.now) self.now.pass.thread (operands.to_register self.now.command)) word) }
+        ensures { result
+            ≡ op_at (extent places.now) (Exchange (register_place (extent places.now)
+            self.now.pass.thread (operands.to_register self.now.command)) word) }
     {
         let place = register(places, self.pass.thread, to_register(self.command));
         Op::exchange(place, word)
@@ -333,7 +353,9 @@ impl FieldPass {
     fn load(&self, places: &Places, r: u8) -> Op
         requires thread { IsThread places.now self.now.pass.thread }
         requires register { r < REGISTERS }
-        ensures { result ≡ op_at (extent places.now) (Load (register_place (extent places.now) self.now.pass.thread r)) }
+        ensures { result
+            ≡ op_at (extent places.now) (Load (register_place (extent places.now)
+            self.now.pass.thread r)) }
     {
         Op::load(register(places, self.pass.thread, r))
     }
@@ -375,8 +397,8 @@ impl FieldPass {
             LoadValue { way } => on_way(places, command, way, read),
             LoadLink { way, word } => after_link(places, command, way, word, target(read)),
             LoadField { .. } => after_field(read, payload_in(read)),
-            LoadOwner { word } => store_late(word, object_in(read)),
-            StoreLate { value, .. } => answered(Reply::Val(value)),
+            LoadOwner { word } => store_pending(word, object_in(read)),
+            StorePending { value, .. } => answered(Reply::Val(value)),
             LoadFirst => LoadSecond { word: read },
             LoadSecond { word } => after_both(word, read),
             LoadSaid => after_said(read, payload_in(read)),
@@ -392,7 +414,7 @@ impl FieldPass {
     {
         match self.row {
             FieldRow::LoadOwner { .. }
-            | FieldRow::StoreLate { .. }
+            | FieldRow::StorePending { .. }
             | FieldRow::LoadSaidOwner { .. }
             | FieldRow::Answered { .. } => true,
             _ => false,

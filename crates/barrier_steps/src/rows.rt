@@ -14,8 +14,8 @@ pub struct Way {
     pub block: u32,
 }
 
-/// The next event of a command that allocates nothing, or its reply. A row has what was loaded for the
-/// command and is still needed: blocks, the object's shape, words of values.
+/// The next event of a command that allocates nothing, or its reply. A row has what was loaded for
+/// the command and is still needed: blocks, the object's shape, words of values.
 #[derive(Clone, Copy, Debug, PartialEq, Eq)]
 pub enum FieldRow {
     /// `set`: stores the number in its register.
@@ -32,15 +32,15 @@ pub enum FieldRow {
     LoadShape { block: u32 },
     /// `put`: loads the register whose word it stores.
     LoadValue { way: Way },
-    /// `get` and `put`: loads the next link on the way to the field. Of `put` the word is the one that
-    /// it stores, and of `get` it is 0.
+    /// `get` and `put`: loads the next link on the way to the field. Of `put` the word is the one
+    /// that it stores, and of `get` it is 0.
     LoadLink { way: Way, word: u64 },
     /// `get`: loads the field.
     LoadField { way: Way },
     /// `get`: loads the owner of the block to which the field's word refers.
     LoadOwner { word: u64 },
     /// `get`: stores the field's word, which shows this value, in its register.
-    StoreLate { word: u64, value: Value },
+    StorePending { word: u64, value: Value },
     /// `put`: stores the word in the field.
     StoreField { way: Way, word: u64 },
     /// `same`: loads the first register.

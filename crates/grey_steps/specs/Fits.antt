@@ -9,12 +9,14 @@ use Rattle.grey_steps.specs.declared.rows.GreyRow.{GreyRow}
 use Rattle.grey_steps.specs.declared.rows.GreyRow.TheVariants.{Take, Pop, ScanWord, Shade, Blacken, Put, Scanned, NothingGrey, TakeOwn, ShadeStored, PutOwn, Shaded}
 use Rattle.grey_steps.specs.Rows.{GreyState, grey_want}
 
--- the numbers that a row names are in range: lists, blocks, payloads, and hands, which are blocks or 0
+-- the numbers that a row names are in range: lists, blocks, payloads, and hands, which are blocks
+-- or 0
 abbrev pub RowFits : Config → GreyRow → Type 0
 RowFits c (Take u) = u < c.threads
 RowFits c (Pop hand) = IsBlock c hand
 RowFits c (ScanWord x j hand) = IsBlock c x × (j < payloads c.width) × (hand ≤ c.blocks)
-RowFits c (Shade x j y hand) = IsBlock c x × (j < payloads c.width) × IsBlock c y × (hand ≤ c.blocks)
+RowFits c (Shade x j y hand) = IsBlock c x × (j < payloads c.width) × IsBlock c y
+    × (hand ≤ c.blocks)
 RowFits c (Blacken x hand) = IsBlock c x × (hand ≤ c.blocks)
 RowFits c (Put hand) = IsBlock c hand
 RowFits c Scanned = Unit {0}
@@ -24,7 +26,8 @@ RowFits c (ShadeStored y hand) = IsBlock c y × (hand ≤ c.blocks)
 RowFits c (PutOwn y hand) = IsBlock c y × IsBlock c hand
 RowFits c (Shaded y) = IsBlock c y
 
--- the heap has the state's threads, at most 16, of which this is one, and at most 65,535 blocks; the row's numbers are in range
+-- the heap has the state's threads, at most 16, of which this is one, and at most 65,535 blocks;
+-- the row's numbers are in range
 pub record GreyFits (c : Config) (s : GreyState) : Type 0 where
   pub threads : s.pass.threads ≡ c.threads
   pub few : s.pass.threads ≤ 16

@@ -1,4 +1,6 @@
--- Marking, as rows of one event each: a thread scans one grey block, or makes one block grey to which a command is about to store a reference. What each row wants, and what it becomes on the word that it read.
+-- Marking, as rows of one event each: a thread scans one grey block, or makes one block grey to
+-- which a command is about to store a reference. What each row wants, and what it becomes on the
+-- word that it read.
 use Rattle.std.specs.Prelude.{ℕ, ◌+◌, ◌%◌, ◌==◌, nat_lt, Bool, true, false, if◌then◌else◌, Some}
 use Rattle.block_store.specs.Colours.{link, grey_word, black_word, white_word}
 use Rattle.block_store.specs.Payloads.{target}
@@ -21,7 +23,8 @@ pub record GreyState : Type 0 where
 unfoldable pub list_of : ℕ → ℕ → ℕ → ℕ
 list_of t n u = (t + u) % n
 
--- the operation of a row of thread t of n in cycle c. A part that is over would look at the phase once more
+-- the operation of a row of thread t of n in cycle c. A part that is over would look at the phase
+-- once more
 abbrev pub row_want : ℕ → ℕ → ℕ → GreyRow → Operation
 row_want t n c (Take u) = Exchange (GreyList (list_of t n u)) 0
 row_want t n c (Pop hand) = Load (ColourOf hand)
@@ -38,7 +41,8 @@ row_want t n c (Shaded y) = Load Phase
 
 -- after the u-th list: a list that is not empty is the hand
 abbrev pub after_take : ℕ → ℕ → ℕ → GreyRow
-after_take n u w = if w == 0 then (if nat_lt (u + 1) n then Take (u + 1) else NothingGrey) else Pop w
+after_take n u w = if w == 0 then (if nat_lt (u + 1) n then Take (u + 1) else NothingGrey)
+    else Pop w
 
 -- after payload j of block x was dealt with, of as many as a block has
 abbrev pub after_word : ℕ → ℕ → ℕ → ℕ → GreyRow
@@ -79,7 +83,11 @@ abbrev pub grey_want : GreyState → Operation
 grey_want s = row_want s.pass.thread s.pass.threads s.pass.cycle s.row
 
 abbrev pub grey_got : Extent → GreyState → ℕ → GreyState
-grey_got e s w = record { pass = s.pass; row = row_got (payloads e.width) s.pass.threads s.pass.cycle s.row w }
+grey_got e s w = record {
+  pass = s.pass;
+  row =
+      row_got (payloads e.width) s.pass.threads s.pass.cycle s.row w;
+}
 
 -- the ends
 abbrev pub grey_over : GreyRow → Bool
@@ -110,20 +118,41 @@ scanning p = record { pass = p; row = Take 0 }
 abbrev pub shading : Pass → ℕ → GreyState
 shading p y = record { pass = p; row = TakeOwn y }
 
--- what the thread holds before the event of a row, where a block has this many payloads. Its own list is the first that it takes; and from the event that made a block grey before a
--- store, or found it not white, the barrier of that block is over
+-- what the thread holds before the event of a row, where a block has this many payloads. Its own
+-- list is the first that it takes; and from the event that made a block grey before a store, or
+-- found it not white, the barrier of that block is over
 abbrev pub grey_holding : ℕ → GreyRow → Holding
 grey_holding width (Take u) = record holds_nothing { emptied = nat_lt 0 u }
 grey_holding width (Pop hand) = record holds_nothing { hand = hand; emptied = true }
-grey_holding width (ScanWord x j hand) = record holds_nothing { hand = hand; emptied = true; scan = Some x; dealt = j }
-grey_holding width (Shade x j y hand) = record holds_nothing { hand = hand; emptied = true; scan = Some x; dealt = j; found = y }
-grey_holding width (Blacken x hand) = record holds_nothing { hand = hand; emptied = true; scan = Some x; dealt = width }
+grey_holding width (ScanWord x j hand) = record holds_nothing {
+  hand = hand;
+  emptied = true;
+  scan = Some x;
+  dealt = j;
+}
+grey_holding width (Shade x j y hand) = record holds_nothing {
+  hand = hand;
+  emptied = true;
+  scan = Some x;
+  dealt = j;
+  found = y;
+}
+grey_holding width (Blacken x hand) = record holds_nothing {
+  hand = hand;
+  emptied = true;
+  scan = Some x;
+  dealt = width;
+}
 grey_holding width (Put hand) = record holds_nothing { hand = hand; emptied = true }
 grey_holding width Scanned = holds_nothing
 grey_holding width NothingGrey = holds_nothing
 grey_holding width (TakeOwn y) = holds_nothing
 grey_holding width (ShadeStored y hand) = record holds_nothing { hand = hand; emptied = true }
-grey_holding width (PutOwn y hand) = record holds_nothing { hand = hand; emptied = true; shaded = y }
+grey_holding width (PutOwn y hand) = record holds_nothing {
+  hand = hand;
+  emptied = true;
+  shaded = y;
+}
 grey_holding width (Shaded y) = record holds_nothing { shaded = y }
 
 abbrev pub holding_at : Extent → GreyState → Holding

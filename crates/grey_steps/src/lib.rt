@@ -1,10 +1,11 @@
-//! Marking, one atomic operation at a time: a grey block is scanned, or a block becomes grey to which
-//! a command is about to store a reference. Grey blocks stand in lists that are linked through the blocks' own
-//! colour words, so marking takes no memory.
+//! Marking, one atomic operation at a time: a grey block is scanned, or a block becomes grey to
+//! which a command is about to store a reference. Grey blocks stand in lists that are linked
+//! through the blocks' own colour words, so marking takes no memory.
 #![tactic(auto)]
 
 mod laws;
 mod pass;
+mod reuse;
 mod rows;
 #[cfg(test)]
 mod tests;
@@ -14,4 +15,5 @@ pub use laws::{
     rows_keep_the_heap, rows_keep_tricolour, rows_stay_in_the_heap,
 };
 pub use pass::GreyPass;
+pub use reuse::{rows_keep_each_phase, rows_keep_reuse};
 pub use rows::GreyRow;

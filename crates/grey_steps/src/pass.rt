@@ -1,6 +1,6 @@
 //! The part of a thread's work that marks: it scans one grey block, or makes one block grey.
 
-ghost use Rattle.std.specs.Prelude.{◌≡◌, ◌+◌, ◌-◌, ◌^◌, ◌<◌, ◌≤◌, IsSome};
+ghost use Rattle.std.specs.Prelude.{◌≡◌, ◌+◌, ◌-◌, ◌^◌, ◌<◌, ◌≤◌, false, IsSome};
 ghost use Rattle.block_store.specs.Colours as colours;
 ghost use Rattle.block_store.specs.Colours.{colour_of, colour_link, white_word, grey_word};
 ghost use Rattle.block_store.specs.Payloads as words;
@@ -167,16 +167,42 @@ fn after_own(target: u32, head: u64) -> GreyRow
 fn shading(places: &Places, cycle: u64, target: u32, hand: u32) -> Op
     requires target { IsBlock places.now target }
     requires hand { hand ≤ 65535 }
-    ensures { result ≡ op_at (extent places.now) (CompareExchange (ColourOf target) (white_word cycle) (grey_word hand)) }
+    ensures { result
+        ≡ op_at (extent places.now) (CompareExchange (ColourOf target) (white_word cycle)
+        (grey_word hand)) }
 {
     let grey = colour_word(Colour::Grey(hand));
     Op::compare_exchange(places.colour(target), colour_word(white(cycle)), grey)
 }
 
+// A pass of thread `thread` of these in Mark.
+fn marking(thread: u32, threads: u32, cycle: u64) -> Pass
+    ensures { result ≡ record { thread = thread; threads = threads; cycle = cycle; sweep = false } }
+{
+    Pass {
+        thread,
+        threads,
+        cycle,
+        sweep: false,
+    }
+}
+
 impl GreyPass {
-    /// The part that takes a grey list, scans one block of it and puts the rest back, for the thread
-    /// of this pass, which is inside.
-    pub fn scan(pass: Pass) -> GreyPass
+    /// The part that takes a grey list, scans one block of it and puts the rest back, for a thread
+    /// that is inside. `threads` is 1 to 16 and `thread` is below it. The cycle, 1 to 2^54 − 2, is
+    /// that of the phase word with which the thread entered.
+    pub fn scan(thread: u32, threads: u32, cycle: u64) -> GreyPass
+        requires thread { (thread < threads) × (threads ≤ 16) }
+        requires cycle { (1 ≤ cycle) × (cycle ≤ 2 ^ 54 - 2) }
+        ensures { result
+            ≡ scanning
+            (record { thread = thread; threads = threads; cycle = cycle; sweep = false }) }
+    {
+        GreyPass::scan_in(marking(thread, threads, cycle))
+    }
+
+    /// The same in this pass of a thread.
+    pub fn scan_in(pass: Pass) -> GreyPass
         requires { IsPass pass }
         ensures { result ≡ scanning pass }
     {
@@ -187,21 +213,26 @@ impl GreyPass {
     }
 
     /// The part that takes the thread's own list, makes this block grey where it is white, in front
-    /// of that list, and puts the list back; an empty list is not put. `block` is 1 to 65,535.
-    pub fn shade(pass: Pass, block: u32) -> GreyPass
-        requires pass { IsPass pass }
+    /// of that list, and puts the list back; an empty list is not put. `block` is 1 to 65,535;
+    /// `thread`, `threads` and `cycle` are as for `scan`.
+    pub fn shade(thread: u32, threads: u32, cycle: u64, block: u32) -> GreyPass
+        requires thread { (thread < threads) × (threads ≤ 16) }
+        requires cycle { (1 ≤ cycle) × (cycle ≤ 2 ^ 54 - 2) }
         requires block { (1 ≤ block) × (block ≤ 65535) }
-        ensures { result ≡ shading pass block }
+        ensures { result
+            ≡ shading
+            (record { thread = thread; threads = threads; cycle = cycle; sweep = false })
+            block }
     {
         GreyPass {
-            pass,
+            pass: marking(thread, threads, cycle),
             row: GreyRow::TakeOwn { target: block },
         }
     }
 
     /// The operation of the next event. A part that is over wants no more than a look at the phase.
-    /// The places are those of a heap that has the part's threads and its row's blocks, the same heap
-    /// at all calls of one part.
+    /// The places are those of a heap that has the part's threads and its row's blocks, the same
+    /// heap at all calls of one part.
     #[inline(never)]
     pub fn want(&self, places: &Places) -> Op
         requires { GreyFits places.now self.now }
@@ -227,8 +258,8 @@ impl GreyPass {
         }
     }
 
-    /// Moves on by one event, whose operation read the word: one that its place can hold. The places
-    /// are those that `want` was given. A part that is over stays as it is.
+    /// Moves on by one event, whose operation read the word: one that its place can hold. The
+    /// places are those that `want` was given. A part that is over stays as it is.
     #[inline(never)]
     pub fn got(&mut self, places: &Places, word: u64) -> Step
         requires fits { GreyFits places.now self.old }

@@ -5,8 +5,8 @@
 /// the number of blocks, and `j` is below the number of payloads.
 #[derive(Clone, Copy, Debug, PartialEq, Eq)]
 pub enum GreyRow {
-    /// Scan: takes the grey list of thread `(thread + u) mod threads`, so its own first; `u` lists, fewer
-    /// than there are threads, have been found empty.
+    /// Scan: takes the grey list of thread `(thread + u) mod threads`, so its own first; `u` lists,
+    /// fewer than there are threads, have been found empty.
     Take {
         u: u32,
     },

@@ -1,11 +1,8 @@
-//! Scans and shades done by hand on the words of a heap with two threads. In cycle 1 the word of a white
-//! block is 1, and that of a black one 2.
-
-ghost use Rattle.std.specs.Prelude.{◌≡◌, false};
+//! Scans and shades done by hand on the words of a heap with two threads, in cycle 1.
 
 use crate::*;
 use block_store::{Config, Places, Width};
-use heap_machine::{Op, Pass, Step};
+use heap_machine::{Op, Step};
 
 const SMALL: Config = Config {
     width: Width::Four,
@@ -16,62 +13,62 @@ const SMALL: Config = Config {
     shared: 5,
 };
 
-// A Mark pass of cycle 1.
-fn pass(thread: u32) -> Pass
-    ensures { result ≡ record { thread = thread; threads = 2; cycle = 1; sweep = false } }
-{
-    Pass {
-        thread,
-        threads: 2,
-        cycle: 1,
-        sweep: false,
-    }
-}
+// A white block, a black one, and grey ones behind which block 6, 9 or 13 stands.
+const WHITE: u64 = 1;
 
-// The other thread's list is 11 and 6. Block 11 holds nil, a number, a reference to block 13, which is
-// white, and one to block 12, which is black.
+const BLACK: u64 = 2;
+
+const GREY_TO_6: u64 = 51;
+
+const GREY_TO_9: u64 = 75;
+
+const GREY_TO_13: u64 = 107;
+
+// Payloads.
+const NIL: u64 = 0;
+
+const SEVEN: u64 = 15;
+
+const TO_12: u64 = 24;
+
+const TO_13: u64 = 26;
+
+// The other thread's list is 11 and 6. Block 11 holds nil, a number, a reference to block 13, which
+// is white, and one to block 12, which is black.
 #[test]
 #[tactic(auto, unfolding(block_store::specs::Payloads::payload_of, block_store::specs::Payloads::target, block_store::specs::Colours::colour_of, block_store::specs::Colours::link, block_store::specs::Colours::grey_word, block_store::specs::Colours::black_word, block_store::specs::Colours::white_word, crate::specs::Rows::list_of))]
 fn a_block_is_scanned(rt: HostRuntime) {
     let places = Places::new(&SMALL);
-    let mut scan = GreyPass::scan(pass(0));
-    assert_eq!(rt; scan.want(&places), Op::Exchange { place: 3, new: 0 });
+    let mut scan = GreyPass::scan(0, 2, 1);
+    assert_eq!(rt; scan.want(&places), Op::exchange(places.grey_list(0), 0));
     assert_eq!(rt; scan.got(&places, 0), Step::Went);
-    assert_eq!(rt; scan.want(&places), Op::Exchange { place: 4, new: 0 });
+    assert_eq!(rt; scan.want(&places), Op::exchange(places.grey_list(1), 0));
     assert_eq!(rt; scan.got(&places, 11), Step::Went);
-    assert_eq!(rt; scan.want(&places), Op::Load { place: 77 });
-    assert_eq!(rt; scan.got(&places, 51), Step::Went);
-    assert_eq!(rt; scan.want(&places), Op::Load { place: 80 });
-    assert_eq!(rt; scan.got(&places, 0), Step::Went);
-    assert_eq!(rt; scan.want(&places), Op::Load { place: 81 });
-    assert_eq!(rt; scan.got(&places, 15), Step::Went);
-    assert_eq!(rt; scan.want(&places), Op::Load { place: 82 });
-    assert_eq!(rt; scan.got(&places, 26), Step::Went);
+    assert_eq!(rt; scan.want(&places), Op::load(places.colour(11)));
+    assert_eq!(rt; scan.got(&places, GREY_TO_6), Step::Went);
+    assert_eq!(rt; scan.want(&places), Op::load(places.payload(11, 0)));
+    assert_eq!(rt; scan.got(&places, NIL), Step::Went);
+    assert_eq!(rt; scan.want(&places), Op::load(places.payload(11, 1)));
+    assert_eq!(rt; scan.got(&places, SEVEN), Step::Went);
+    assert_eq!(rt; scan.want(&places), Op::load(places.payload(11, 2)));
+    assert_eq!(rt; scan.got(&places, TO_13), Step::Went);
     assert_eq!(rt;
         scan.want(&places),
-        Op::CompareExchange {
-            place: 91,
-            old: 1,
-            new: 51
-        }
+        Op::compare_exchange(places.colour(13), WHITE, GREY_TO_6)
     );
-    assert_eq!(rt; scan.got(&places, 1), Step::Went);
-    assert_eq!(rt; scan.want(&places), Op::Load { place: 83 });
-    assert_eq!(rt; scan.got(&places, 24), Step::Went);
+    assert_eq!(rt; scan.got(&places, WHITE), Step::Went);
+    assert_eq!(rt; scan.want(&places), Op::load(places.payload(11, 3)));
+    assert_eq!(rt; scan.got(&places, TO_12), Step::Went);
     assert_eq!(rt;
         scan.want(&places),
-        Op::CompareExchange {
-            place: 84,
-            old: 1,
-            new: 107
-        }
+        Op::compare_exchange(places.colour(12), WHITE, GREY_TO_13)
     );
-    assert_eq!(rt; scan.got(&places, 2), Step::Went);
+    assert_eq!(rt; scan.got(&places, BLACK), Step::Went);
     assert!(rt; !scan.unit());
-    assert_eq!(rt; scan.want(&places), Op::Exchange { place: 77, new: 2 });
-    assert_eq!(rt; scan.got(&places, 51), Step::Went);
+    assert_eq!(rt; scan.want(&places), Op::exchange(places.colour(11), BLACK));
+    assert_eq!(rt; scan.got(&places, GREY_TO_6), Step::Went);
     assert!(rt; scan.unit());
-    assert_eq!(rt; scan.want(&places), Op::Exchange { place: 3, new: 13 });
+    assert_eq!(rt; scan.want(&places), Op::exchange(places.grey_list(0), 13));
     assert_eq!(rt; scan.got(&places, 0), Step::Over);
     assert!(rt; scan.unit());
     assert!(rt; !scan.nothing());
@@ -80,7 +77,7 @@ fn a_block_is_scanned(rt: HostRuntime) {
 #[test]
 fn nothing_is_grey(rt: HostRuntime) {
     let places = Places::new(&SMALL);
-    let mut scan = GreyPass::scan(pass(1));
+    let mut scan = GreyPass::scan(1, 2, 1);
     assert_eq!(rt; scan.got(&places, 0), Step::Went);
     assert!(rt; !scan.nothing());
     assert_eq!(rt; scan.got(&places, 0), Step::Over);
@@ -92,22 +89,18 @@ fn nothing_is_grey(rt: HostRuntime) {
 #[tactic(auto, unfolding(block_store::specs::Colours::grey_word, block_store::specs::Colours::white_word, block_store::specs::Colours::colour_of, block_store::specs::Colours::link))]
 fn a_block_is_shaded(rt: HostRuntime) {
     let places = Places::new(&SMALL);
-    let mut shade = GreyPass::shade(pass(1), 12);
-    assert_eq!(rt; shade.want(&places), Op::Exchange { place: 4, new: 0 });
+    let mut shade = GreyPass::shade(1, 2, 1, 12);
+    assert_eq!(rt; shade.want(&places), Op::exchange(places.grey_list(1), 0));
     assert_eq!(rt; shade.got(&places, 9), Step::Went);
     assert_eq!(rt;
         shade.want(&places),
-        Op::CompareExchange {
-            place: 84,
-            old: 1,
-            new: 75
-        }
+        Op::compare_exchange(places.colour(12), WHITE, GREY_TO_9)
     );
-    assert_eq!(rt; shade.got(&places, 1), Step::Went);
-    assert_eq!(rt; shade.want(&places), Op::Exchange { place: 4, new: 12 });
+    assert_eq!(rt; shade.got(&places, WHITE), Step::Went);
+    assert_eq!(rt; shade.want(&places), Op::exchange(places.grey_list(1), 12));
     assert_eq!(rt; shade.got(&places, 0), Step::Over);
     assert!(rt; !shade.unit());
-    let mut again = GreyPass::shade(pass(1), 12);
+    let mut again = GreyPass::shade(1, 2, 1, 12);
     assert_eq!(rt; again.got(&places, 0), Step::Went);
-    assert_eq!(rt; again.got(&places, 75), Step::Over);
+    assert_eq!(rt; again.got(&places, GREY_TO_9), Step::Over);
 }

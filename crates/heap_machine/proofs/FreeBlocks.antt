@@ -1,79 +1,18 @@
 -- What keeps the rule of the Free blocks, by the kind of write; and what it says of a block.
-use Rattle.std.proofs.Common.{
-  ◌≡◌,
-  ◌≢◌,
-  ℕ,
-  zero,
-  suc,
-  ◌+◌,
-  ◌-◌,
-  ◌≤◌,
-  ◌<◌,
-  ◌&&◌,
-  Bool,
-  true,
-  false,
-  cond,
-  eqb,
-  refl,
-  arith,
-  subst,
-  sym,
-  ap,
-  ◌∙◌,
-  List,
-  [],
-  ◌∷◌,
-  length,
-  inl,
-  inr,
-  eq-eqb,
-  ne_eqb,
-}
+use Rattle.std.proofs.Common.{◌≡◌, ◌≢◌, ℕ, zero, suc, ◌+◌, ◌-◌, ◌≤◌, ◌<◌, ◌&&◌, Bool, true, false, cond, eqb, refl, arith, subst, sym, ap, ◌∙◌, List, [], ◌∷◌, length, inl, inr, eq-eqb, ne_eqb}
 use Rattle.std.proofs.lemmas.Bool.{cases_eq, cases_Bool, and_from, le-leb}
 use Rattle.block_store.specs.Colours.{is_free, link, free_word}
 use Rattle.block_store.proofs.ColourWords.{link-free, free_free}
 use Rattle.block_store.specs.Heaps.{Heap, put_at}
 use Rattle.block_store.specs.Phases.{bit}
-use Rattle.block_store.specs.Places.{
-  Extent,
-  Place,
-  Phase,
-  Cursor,
-  FreeCount,
-  GreyList,
-  FreeList,
-  ColourOf,
-  OwnerOf,
-  ShapeOf,
-  PayloadOf,
-  is_block,
-}
+use Rattle.block_store.specs.Places.{Extent, Place, Phase, Cursor, FreeCount, GreyList, FreeList, ColourOf, OwnerOf, ShapeOf, PayloadOf, is_block}
 use Rattle.heap_machine.specs.Chains.{Chain}
 use Rattle.heap_machine.specs.Counts.{times, total, changed}
 use Rattle.heap_machine.specs.FreeBlocks.{FreeHolding, FreeOf, FreeKept, is_of_free}
-use Rattle.heap_machine.specs.Operations.{
-  Operation,
-  Load,
-  Exchange,
-  CompareExchange,
-  FetchAdd,
-  FetchSub,
-  place_of,
-  heap_after,
-}
+use Rattle.heap_machine.specs.Operations.{Operation, Load, Exchange, CompareExchange, FetchAdd, FetchSub, place_of, heap_after}
 use Rattle.heap_machine.proofs.Chaining.{Chain-zero, Chain-step, Chain-outside, Chain-front}
 use Rattle.heap_machine.proofs.GreyBlocks.{first_stands}
-use Rattle.heap_machine.proofs.Functions.{
-  changed_both,
-  total_changed,
-  total_part,
-  total_parts,
-  total_same,
-  total_bits,
-  bit_one,
-  bit_le,
-}
+use Rattle.heap_machine.proofs.Functions.{changed_both, total_changed, total_part, total_parts, total_same, total_bits, bit_one, bit_le}
 
 abbrev pub colours : Heap → ℕ → ℕ
 colours h x = h (ColourOf x)

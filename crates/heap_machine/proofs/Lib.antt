@@ -14,3 +14,7 @@ pub mod Keeping
 pub mod FreeBlocks
 pub mod Sweeping
 pub mod Reusing
+pub mod GateReuse
+pub mod Opening
+pub mod FreeLost
+pub mod Phasing

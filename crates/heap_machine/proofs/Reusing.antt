@@ -12,14 +12,7 @@ use Rattle.heap_machine.specs.ReuseKept.{ReuseKept, is_of_reuse}
 use Rattle.heap_machine.specs.Sweeping.{SweepHolding, SweepKept, no_claim, is_of_sweep}
 use Rattle.heap_machine.proofs.FreeBlocks.{free_other, free_other_colour, free_stays}
 use Rattle.heap_machine.proofs.Keeping.{part_changed}
-use Rattle.heap_machine.proofs.Sweeping.{
-  sweep_other,
-  sweep_colour,
-  sweep_phase,
-  sweep_turns,
-  sweep_cursor,
-  sweep_stays,
-}
+use Rattle.heap_machine.proofs.Sweeping.{sweep_other, sweep_colour, sweep_phase, sweep_turns, sweep_cursor, sweep_stays}
 
 neither : (a b : Bool) → (a || b) ≡ false → (a ≡ false) × (b ≡ false)
 neither true b e = absurd cc

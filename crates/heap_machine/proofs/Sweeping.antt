@@ -1,89 +1,14 @@
 -- What keeps the rule of the sweep, by the kind of write; and what it says of a block.
-use Rattle.std.proofs.Common.{
-  ◌≡◌,
-  ◌≢◌,
-  ℕ,
-  ◌+◌,
-  ◌-◌,
-  ◌≤◌,
-  ◌<◌,
-  ◌⊎◌,
-  ⊎_elim,
-  inl,
-  inr,
-  Bool,
-  true,
-  false,
-  cond,
-  eqb,
-  leb,
-  ltb,
-  refl,
-  arith,
-  subst,
-  sym,
-  ap,
-  ◌∙◌,
-  eq-eqb,
-  ne_eqb,
-  leb-true,
-  ltb-true,
-  le-ltb,
-}
-use Rattle.std.proofs.lemmas.Bool.{
-  cases_eq,
-  cases_lt,
-  cases_Bool,
-  and_from,
-  and_parts,
-  le-leb,
-  lt-ltb,
-}
+use Rattle.std.proofs.Common.{◌≡◌, ◌≢◌, ℕ, ◌+◌, ◌-◌, ◌≤◌, ◌<◌, ◌⊎◌, ⊎_elim, inl, inr, Bool, true, false, cond, eqb, leb, ltb, refl, arith, subst, sym, ap, ◌∙◌, eq-eqb, ne_eqb, leb-true, ltb-true, le-ltb}
+use Rattle.std.proofs.lemmas.Bool.{cases_eq, cases_lt, cases_Bool, and_from, and_parts, le-leb, lt-ltb}
 use Rattle.block_store.specs.Colours.{white_word}
 use Rattle.block_store.specs.Heaps.{Heap, put_at}
 use Rattle.block_store.specs.Phases.{bit, is_sweep, cycle_of}
-use Rattle.block_store.specs.Places.{
-  Extent,
-  Place,
-  Phase,
-  Cursor,
-  FreeCount,
-  GreyList,
-  FreeList,
-  ColourOf,
-  OwnerOf,
-  ShapeOf,
-  PayloadOf,
-}
+use Rattle.block_store.specs.Places.{Extent, Place, Phase, Cursor, FreeCount, GreyList, FreeList, ColourOf, OwnerOf, ShapeOf, PayloadOf}
 use Rattle.heap_machine.specs.Counts.{changed}
-use Rattle.heap_machine.specs.Operations.{
-  Operation,
-  Load,
-  Exchange,
-  CompareExchange,
-  FetchAdd,
-  FetchSub,
-  place_of,
-  heap_after,
-}
-use Rattle.heap_machine.specs.Sweeping.{
-  SweepHolding,
-  no_claim,
-  rest_of,
-  has_claimed,
-  claims,
-  IsRange,
-  SweepOf,
-  SweepKept,
-  is_of_sweep,
-}
-use Rattle.heap_machine.proofs.Functions.{
-  changed_both,
-  total_changed,
-  total_parts,
-  total_none,
-  bit_le,
-}
+use Rattle.heap_machine.specs.Operations.{Operation, Load, Exchange, CompareExchange, FetchAdd, FetchSub, place_of, heap_after}
+use Rattle.heap_machine.specs.Sweeping.{SweepHolding, no_claim, rest_of, has_claimed, claims, IsRange, SweepOf, SweepKept, is_of_sweep}
+use Rattle.heap_machine.proofs.Functions.{changed_both, total_changed, total_parts, total_none, bit_le}
 
 -- a block in the range, below it, and behind it
 pub claimed_in : (w : SweepHolding) (x : ℕ) → w.low ≤ x → x < w.high → has_claimed w x ≡ true
@@ -361,6 +286,15 @@ sweep_turns ex h cs v none first k =
     sweep_of ex (is_sweep v) (white_word (cycle_of v)) (h Cursor)
     (λ x. h (ColourOf x)) cs k.cursor_in none
     (λ is x pos end. absurd (let c = first is in omega arith))
+
+-- in Mark, where nobody has claimed anything
+pub sweep_begins : (ex : Extent) (h : Heap) (cs : ℕ → SweepHolding)
+    → ((t : ℕ) → t < ex.threads → cs t ≡ no_claim) → is_sweep (h Phase) ≡ false
+    → (1 ≤ h Cursor) × (h Cursor ≤ ex.blocks + 1) → SweepKept ex h cs
+sweep_begins ex h cs none mark inside =
+    sweep_of ex (is_sweep (h Phase)) (white_word (cycle_of (h Phase))) (h Cursor)
+    (λ x. h (ColourOf x)) cs
+    inside none (λ is. absurd (let q : true ≡ false = sym is ∙ mark in cc))
 
 -- and in Mark the cursor becomes any
 pub sweep_cursor : (ex : Extent) (h : Heap) (cs : ℕ → SweepHolding) (v : ℕ)

@@ -1,22 +1,8 @@
 -- The Free blocks. Each stands in exactly one place: in the chain of one free list word, in the
 -- chain of the free hand of one thread, or among the blocks that one thread has collected to build
 -- with and not yet coloured. All these chains end, have no block twice, and hold Free blocks alone.
-use Rattle.std.specs.Prelude.{
-  ℕ,
-  suc,
-  ◌+◌,
-  ◌≡◌,
-  ◌<◌,
-  ◌≤◌,
-  ◌&&◌,
-  Bool,
-  true,
-  false,
-  List,
-  [],
-  length,
-}
-use Rattle.block_store.specs.Colours.{is_free}
+use Rattle.std.specs.Prelude.{ℕ, suc, ◌+◌, ◌≡◌, ◌<◌, ◌≤◌, ◌&&◌, Bool, true, false, List, [], length, nat_lt, if◌then◌else◌}
+use Rattle.block_store.specs.Colours.{is_free, free_word}
 use Rattle.block_store.specs.Heaps.{Heap}
 use Rattle.block_store.specs.Phases.{bit}
 use Rattle.block_store.specs.Places.{Extent, Place, FreeCount, FreeList, ColourOf, is_block}
@@ -63,6 +49,19 @@ pub record FreeOf (e : Extent) (heads colour : ℕ → ℕ) (count : ℕ) (fs : 
 -- of a heap
 abbrev pub FreeKept : Extent → Heap → (ℕ → FreeHolding) → Type 0
 FreeKept e h fs = FreeOf e (λ t. h (FreeList t)) (λ x. h (ColourOf x)) (h FreeCount) fs
+
+-- the blocks from a on are Free, in ascending order in the list of the first thread, and counted; the
+-- others are not, and the other lists are empty: so is a heap that nobody has used yet
+pub record FreeFrom (e : Extent) (h : Heap) (a : ℕ) : Type 0 where
+  pub threads : 0 < e.threads
+  pub some : 1 ≤ a
+  pub last : a ≤ e.blocks
+  pub first : h (FreeList 0) ≡ a
+  pub others : (t : ℕ) → 0 < t → t < e.threads → h (FreeList t) ≡ 0
+  pub free : (x : ℕ) → a ≤ x → x ≤ e.blocks
+      → h (ColourOf x) ≡ free_word (if nat_lt x e.blocks then x + 1 else 0)
+  pub live : (x : ℕ) → 1 ≤ x → x < a → is_free (h (ColourOf x)) ≡ false
+  pub count : h FreeCount + a ≡ e.blocks + 1
 
 -- the places whose words the rule speaks of
 abbrev pub is_of_free : Place → Bool

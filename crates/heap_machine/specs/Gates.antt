@@ -1,4 +1,5 @@
--- The part of a thread's work that goes in or out at the gate, or closes it and turns the phase over: what each row wants, and what it becomes on the word that it read.
+-- The part of a thread's work that goes in or out at the gate, or closes it and turns the phase
+-- over: what each row wants, and what it becomes on the word that it read.
 use Rattle.std.specs.Prelude.{ℕ, ◌+◌, ◌-◌, ◌^◌, ◌≡◌, ◌<◌, ◌≤◌, ◌==◌, ◌&&◌, nat_lt, not, Bool, true, false, if◌then◌else◌, Option, Some, None}
 use Rattle.block_store.specs.declared.Config.{Config}
 use Rattle.block_store.specs.Places.{Phase, Cursor, GreyList}
@@ -50,7 +51,8 @@ look_to_close p w = if is_of_pass p w then (if is_empty w then Close p w else Ke
 
 -- after list u was looked at
 abbrev pub list_checked : Pass → ℕ → ℕ → GateRow
-list_checked p u w = if w == 0 then (if nat_lt (u + 1) p.threads then CheckList p (u + 1) else SetCursor p) else Reopen p
+list_checked p u w = if w == 0 then (if nat_lt (u + 1) p.threads then CheckList p (u + 1)
+    else SetCursor p) else Reopen p
 
 -- the row after it, where it read w
 abbrev pub gate_got : GateRow → ℕ → GateRow
@@ -68,14 +70,17 @@ gate_got (Reopen p) w = TurnedOver
 gate_got TurnedOver w = TurnedOver
 gate_got KeptOut w = KeptOut
 
--- An entering part waits at a closed gate and at a lost exchange. A closing part waits where, in its own cycle and phase, the gate is closed or somebody is inside, and at a lost exchange; it does not wait where the cycle or phase is another.
+-- An entering part waits at a closed gate and at a lost exchange. A closing part waits where, in
+-- its own cycle and phase, the gate is closed or somebody is inside, and at a lost exchange; it
+-- does not wait where the cycle or phase is another.
 abbrev pub gate_step : GateRow → ℕ → Step
 gate_step Look w = if is_closed w then Waited else Went
 gate_step (Enter seen) w = if w == seen then Over else Waited
 gate_step (Entered seen) w = Over
 gate_step Leave w = Over
 gate_step Left w = Over
-gate_step (CloseLook p) w = if is_of_pass p w then (if is_empty w then Went else WaitedOver) else Over
+gate_step (CloseLook p) w = if is_of_pass p w then (if is_empty w then Went else WaitedOver)
+    else Over
 gate_step (Close p seen) w = if w == seen then Went else WaitedOver
 gate_step (CheckList p u) w = Went
 gate_step (SetCursor p) w = Went
@@ -100,7 +105,8 @@ gate_entered (Reopen p) = None
 gate_entered TurnedOver = None
 gate_entered KeptOut = None
 
--- the cycle that the part started; going in and out starts none, and neither does turning over to Sweep
+-- the cycle that the part started; going in and out starts none, and neither does turning over to
+-- Sweep
 abbrev pub gate_started : GateRow → Option ℕ
 gate_started row = None
 

@@ -1,4 +1,5 @@
--- The gate: the phase word counts the threads inside; while it is closed one thread has closed it and nobody is inside; and a thread inside has the phase and cycle of the word.
+-- The gate: the phase word counts the threads inside; while it is closed one thread has closed it
+-- and nobody is inside; and a thread inside has the phase and cycle of the word.
 use Rattle.std.specs.Prelude.{ℕ, ◌<◌, ◌≡◌, Bool, true, false}
 use Rattle.block_store.specs.Phases.{bit, phase_code, phase_of, inside_of, is_sweep, is_closed, cycle_of}
 use Rattle.heap_machine.specs.Counts.{total}
@@ -43,4 +44,5 @@ pub record GateOf (n phase : ℕ) (gs : ℕ → Gating) : Type 0 where
   pub count : total n (λ t. bit (is_inside (gs t).stand)) ≡ inside_of phase
   pub closers : total n (λ t. bit (is_closing (gs t).stand)) ≡ bit (is_closed phase)
   pub alone : is_closed phase ≡ true → inside_of phase ≡ 0
-  pub passes : (t : ℕ) → t < n → is_outside (gs t).stand ≡ false → ((gs t).cycle ≡ cycle_of phase) × ((gs t).sweep ≡ is_sweep phase)
+  pub passes : (t : ℕ) → t < n → is_outside (gs t).stand ≡ false
+      → ((gs t).cycle ≡ cycle_of phase) × ((gs t).sweep ≡ is_sweep phase)

@@ -1,4 +1,6 @@
--- The grey blocks. Each stands in exactly one place: in the chain of one grey list word, in the chain of the hand of one thread, or as the block that one thread scans. All these chains end, have no block twice, and hold grey blocks alone.
+-- The grey blocks. Each stands in exactly one place: in the chain of one grey list word, in the
+-- chain of the hand of one thread, or as the block that one thread scans. All these chains end,
+-- have no block twice, and hold grey blocks alone.
 use Rattle.std.specs.Prelude.{ℕ, ◌+◌, ◌≡◌, ◌<◌, Bool, true, false, List, [], ◌∷◌, Option, Some, None}
 use Rattle.block_store.specs.Colours.{is_grey}
 use Rattle.block_store.specs.Heaps.{Heap}
@@ -7,7 +9,9 @@ use Rattle.block_store.specs.Places.{Place, GreyList, ColourOf}
 use Rattle.heap_machine.specs.Chains.{Chain}
 use Rattle.heap_machine.specs.Counts.{times, total}
 
--- what a thread holds of the grey blocks: the first block of the list in its hand, or 0; the block that it scans; and whether its own list is known to be empty: it was taken in this pass, or nothing was grey, and no list was put there since
+-- what a thread holds of the grey blocks: the first block of the list in its hand, or 0; the block
+-- that it scans; and whether its own list is known to be empty: it was taken in this pass, or
+-- nothing was grey, and no list was put there since
 pub record GreyHolding : Type 0 where
   pub hand : ℕ
   pub scan : Option ℕ
@@ -23,13 +27,15 @@ Stands c None hand xs = Chain c hand xs
 Stands c (Some x) hand [] = ⊥
 Stands c (Some x) hand (y ∷ ys) = (x ≡ y) × Chain c hand ys
 
--- over the first block of each of n grey lists, the colour words, and what each of n threads holds. Where a thread knows its own list to be empty, it is: so what it puts there loses nothing
+-- over the first block of each of n grey lists, the colour words, and what each of n threads holds.
+-- Where a thread knows its own list to be empty, it is: so what it puts there loses nothing
 pub record GreyOf (n : ℕ) (heads colour : ℕ → ℕ) (hs : ℕ → GreyHolding) : Type 0 where
   pub lists : ℕ → List ℕ
   pub hands : ℕ → List ℕ
   pub list_chain : (t : ℕ) → t < n → Chain colour (heads t) (lists t)
   pub hand_chain : (t : ℕ) → t < n → Stands colour (hs t).scan (hs t).hand (hands t)
-  pub once : (x : ℕ) → total n (λ t. times x (lists t)) + total n (λ t. times x (hands t)) ≡ bit (is_grey (colour x))
+  pub once : (x : ℕ) → total n (λ t. times x (lists t)) + total n (λ t. times x (hands t))
+      ≡ bit (is_grey (colour x))
   pub emptied : (t : ℕ) → t < n → (hs t).emptied ≡ true → heads t ≡ 0
 
 -- of a heap

@@ -31,6 +31,8 @@ pub record CanColour (e : Extent) (cycle : ℕ) (h : Heap) (x v : ℕ) : Type 0 
   pub not_grey : is_grey v ≡ false
   pub not_white : v ≢ white_word cycle
   pub not_free : is_free v ≡ false
-  pub dark : v ≡ black_word cycle → (j : ℕ) → j < payloads e.width → NotWhite cycle (λ z. h (ColourOf z)) (target (h (PayloadOf x j)))
-  pub solid : is_free (h (ColourOf x)) ≡ true → (j : ℕ) → j < payloads e.width → NotFree (λ z. h (ColourOf z)) (target (h (PayloadOf x j)))
+  pub dark : v ≡ black_word cycle → (j : ℕ) → j < payloads e.width
+      → NotWhite cycle (λ z. h (ColourOf z)) (target (h (PayloadOf x j)))
+  pub solid : is_free (h (ColourOf x)) ≡ true → (j : ℕ) → j < payloads e.width
+      → NotFree (λ z. h (ColourOf z)) (target (h (PayloadOf x j)))
   pub root : (t : ℕ) → t < e.threads → x ≡ root_block e.width t → IsMarked cycle v

@@ -1,12 +1,15 @@
--- What a thread holds before its next event, in one record; each rule on the heap reads its part of it.
+-- What a thread holds before its next event, in one record; each rule on the heap reads its part of
+-- it.
 use Rattle.std.specs.Prelude.{ℕ, Bool, false, List, [], Option, Some, None}
 use Rattle.heap_machine.specs.FreeBlocks.{FreeHolding}
 use Rattle.heap_machine.specs.Grey.{GreyHolding}
 use Rattle.heap_machine.specs.Sweeping.{SweepHolding}
 use Rattle.heap_machine.specs.Tricolour.{TricolourHolding}
 
--- the first block of the list in its hand, or 0; the block that it scans, and how many of its payloads are dealt with; the block that it has found in the next
--- one and not yet shaded, or 0; whether it knows its own list to be empty; and the block whose barrier is over, so that a reference to it may be stored, or 0.
+-- the first block of the list in its hand, or 0; the block that it scans, and how many of its
+-- payloads are dealt with; the block that it has found in the next one and not yet shaded, or 0;
+-- whether it knows its own list to be empty; and the block whose barrier is over, so that a
+-- reference to it may be stored, or 0.
 -- Then of the Free blocks: the first block of the free list in its hand, or 0; whether it knows its
 -- own free list to be empty; the blocks that it has collected to build with and not yet coloured;
 -- how many it has reserved and not yet coloured; and how many it has freed and not yet credited.
@@ -57,7 +60,12 @@ grey_held w = record { hand = w.hand; scan = w.scan; emptied = w.emptied }
 
 -- the part that the tricolour rule reads
 abbrev pub tricolour_held : Holding → TricolourHolding
-tricolour_held w = record { scan = block_or_zero w.scan; dealt = w.dealt; found = w.found; shaded = w.shaded }
+tricolour_held w = record {
+  scan = block_or_zero w.scan;
+  dealt = w.dealt;
+  found = w.found;
+  shaded = w.shaded;
+}
 
 -- the part that the rule of the Free blocks reads
 abbrev pub free_held : Holding → FreeHolding

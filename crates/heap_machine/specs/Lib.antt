@@ -14,3 +14,4 @@ pub mod Sweeping
 pub mod Holdings
 pub mod HeapKept
 pub mod ReuseKept
+pub mod PhaseKept

@@ -27,7 +27,8 @@ CanHold e (OwnerOf x) w = IsSome (owner_of w)
 CanHold e (ShapeOf x) w = IsSome (shape_of w)
 CanHold e (PayloadOf x j) w = IsSome (payload_of w) × (target w ≤ e.blocks)
 
--- what the operation stores is what its place can hold. Of an addition or a subtraction this is never said, since what it stores depends on the word before
+-- what the operation stores is what its place can hold. Of an addition or a subtraction this is
+-- never said, since what it stores depends on the word before
 abbrev pub StoresHeld : Config → Operation → Type 0
 StoresHeld c (Load p) = Unit {0}
 StoresHeld c (Exchange p v) = CanHold (extent c) p v

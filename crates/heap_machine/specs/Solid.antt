@@ -1,4 +1,5 @@
--- While the phase is Mark no block that is not Free refers to a Free one, and each root block is marked.
+-- While the phase is Mark no block that is not Free refers to a Free one, and each root block is
+-- marked.
 use Rattle.std.specs.Prelude.{ℕ, ◌≡◌, ◌≢◌, ◌<◌, ◌⊎◌, true, false}
 use Rattle.block_store.specs.Colours.{is_free, is_grey, black_word}
 use Rattle.block_store.specs.Heaps.{Heap}
@@ -17,7 +18,8 @@ IsMarked cycle w = (is_grey w ≡ true) ⊎ (w ≡ black_word cycle)
 
 -- over the extent of the heap, the cycle, the colour words and the payload words
 pub record SolidOf (e : Extent) (cycle : ℕ) (colour : ℕ → ℕ) (payload : ℕ → ℕ → ℕ) : Type 0 where
-  pub solid : (x j : ℕ) → is_free (colour x) ≡ false → j < payloads e.width → NotFree colour (target (payload x j))
+  pub solid : (x j : ℕ) → is_free (colour x) ≡ false → j < payloads e.width
+      → NotFree colour (target (payload x j))
   pub roots : (t : ℕ) → t < e.threads → IsMarked cycle (colour (root_block e.width t))
 
 -- of a heap in this cycle

@@ -1,21 +1,6 @@
 -- The sweep goes through the blocks once in each cycle: a thread claims a range of blocks from the
 -- cursor on, which goes to its end, and then passes them one by one.
-use Rattle.std.specs.Prelude.{
-  ℕ,
-  ◌+◌,
-  ◌≡◌,
-  ◌≢◌,
-  ◌<◌,
-  ◌≤◌,
-  ◌⊎◌,
-  ◌&&◌,
-  nat_lt,
-  nat_le,
-  cond,
-  Bool,
-  true,
-  false,
-}
+use Rattle.std.specs.Prelude.{ℕ, ◌+◌, ◌≡◌, ◌≢◌, ◌<◌, ◌≤◌, ◌⊎◌, ◌&&◌, nat_lt, nat_le, cond, Bool, true, false}
 use Rattle.block_store.specs.Colours.{white_word}
 use Rattle.block_store.specs.Heaps.{Heap}
 use Rattle.block_store.specs.Phases.{bit, is_sweep, cycle_of}

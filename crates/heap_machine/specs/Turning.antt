@@ -1,4 +1,5 @@
--- The part that closes the gate and turns the phase over: its rows, where its thread stands, and what its events read.
+-- The part that closes the gate and turns the phase over: its rows, where its thread stands, and
+-- what its events read.
 use Rattle.std.specs.Prelude.{ℕ, ◌≡◌, Bool, true, false, List, [], ◌∷◌}
 use Rattle.heap_machine.specs.Gates.{gate_got, is_of_pass, is_empty}
 use Rattle.heap_machine.specs.Gating.{Stand, Outside, Closing, Gating}
@@ -19,7 +20,8 @@ turns_over _ = true
 abbrev pub in_pass : Pass → Stand → Gating
 in_pass p s = record { stand = s; cycle = p.cycle; sweep = p.sweep }
 
--- where the thread of such a part stands before the event of a row: it has closed the gate until it opens it again
+-- where the thread of such a part stands before the event of a row: it has closed the gate until it
+-- opens it again
 abbrev pub turning_gating : GateRow → Gating
 turning_gating (CloseLook p) = in_pass p Outside
 turning_gating (Close p seen) = in_pass p Outside
@@ -36,7 +38,8 @@ lists_read (SetCursor p) = p.threads
 lists_read (Flip p) = p.threads
 lists_read _ = 0
 
--- the gate can be closed for the pass: the word says its cycle and phase, and is that of an open gate with nobody inside
+-- the gate can be closed for the pass: the word says its cycle and phase, and is that of an open
+-- gate with nobody inside
 pub record CanClose (p : Pass) (w : ℕ) : Type 0 where
   pub pass : is_of_pass p w ≡ true
   pub empty : is_empty w ≡ true

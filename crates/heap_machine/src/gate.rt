@@ -26,7 +26,8 @@ pub enum GateRow {
     Leave,
     /// Is over: the thread went out.
     Left,
-    /// Looks whether the gate can be closed: in the pass's cycle and phase, open, with nobody inside.
+    /// Looks whether the gate can be closed: in the pass's cycle and phase, open, with nobody
+    /// inside.
     CloseLook { pass: Pass },
     /// Closes the gate, where the phase word is still the one that was seen.
     Close { pass: Pass, seen: u64 },
@@ -88,22 +89,31 @@ impl Gate {
     }
 
     /// The part that closes the gate after this pass found nothing to do, and changes the phase: to
-    /// Sweep where each grey list is empty, else it opens the gate again in Mark. It is over at once
-    /// where the phase word says another cycle or phase than the pass had, the gate is closed, somebody
-    /// is inside, or another thread changes the phase word first. A Sweep pass cannot be turned over
-    /// yet: `sweep` has to be false.
-    pub fn turn_over(pass: Pass) -> Gate
-        requires pass { IsPass pass }
-        requires mark { pass.sweep ≡ false }
-        ensures { result ≡ GateRow.CloseLook pass }
+    /// Sweep where each grey list is empty, else it opens the gate again in Mark. It is over at
+    /// once where the phase word says another cycle or phase than the pass had, the gate is closed,
+    /// somebody is inside, or another thread changes the phase word first. A Sweep pass cannot be
+    /// turned over yet: `sweep` has to be false.
+    pub fn turn_over(thread: u32, threads: u32, cycle: u64, sweep: bool) -> Gate
+        requires thread { (thread < threads) × (threads ≤ 16) }
+        requires cycle { (1 ≤ cycle) × (cycle ≤ 2 ^ 54 - 2) }
+        requires mark { sweep ≡ false }
+        ensures { result
+            ≡ GateRow.CloseLook
+            (record { thread = thread; threads = threads; cycle = cycle; sweep = sweep }) }
     {
+        let pass = Pass {
+            thread,
+            threads,
+            cycle,
+            sweep,
+        };
         Gate {
             row: GateRow::CloseLook { pass },
         }
     }
 
-    /// The operation of the next event. A part that is over wants no more than a look. The places are
-    /// those of a heap with the part's threads.
+    /// The operation of the next event. A part that is over wants no more than a look. The places
+    /// are those of a heap with the part's threads.
     pub fn want(&self, places: &Places) -> Op
         requires { GateAt places.now self.now }
         ensures { result ≡ op_at (extent places.now) (gate_want self.now) }
@@ -126,9 +136,9 @@ impl Gate {
     }
 
     /// Moves on by one event, whose operation read the word: one that its place can hold. A part
-    /// that is over stays as it is. `WaitedOver` comes exactly where the gate could not be closed in
-    /// the pass's own cycle and phase, because it was closed, somebody was inside, or another thread
-    /// changed the phase word first.
+    /// that is over stays as it is. `WaitedOver` comes exactly where the gate could not be closed
+    /// in the pass's own cycle and phase, because it was closed, somebody was inside, or another
+    /// thread changed the phase word first.
     pub fn got(&mut self, places: &Places, word: u64) -> Step
         requires places { GateAt places.now self.old }
         requires word { CanHold (extent places.now) (place_of (gate_want self.old)) word }
@@ -259,7 +269,8 @@ impl Gate {
     /// What the phase word said when the thread entered; `None` until a part that goes in is over.
     pub fn entered(&self) -> Option<PhaseWord>
         ensures word { result ≡ gate_entered self.now }
-        ensures fits { IfSome result (λ p. (p.inside < 255) × (p.cycle < 2 ^ 54 - 1) × (p.closed ≡ false)) }
+        ensures fits { IfSome result (λ p. (p.inside < 255) × (p.cycle < 2 ^ 54 - 1)
+            × (p.closed ≡ false)) }
     {
         match self.row {
             GateRow::Entered { seen } => Some(read_phase(seen)),
@@ -267,8 +278,8 @@ impl Gate {
         }
     }
 
-    /// The cycle that this part started; `None` where it started none, which is so of each part until
-    /// a Sweep pass can be turned over.
+    /// The cycle that this part started; `None` where it started none, which is so of each part
+    /// until a Sweep pass can be turned over.
     pub fn started(&self) -> Option<u64>
         ensures { result ≡ gate_started self.now }
     {

@@ -4,14 +4,22 @@
 ghost use Rattle.std.specs.Prelude.{◌≡◌, ◌≢◌, ◌<◌, ◌≤◌, ◌+◌, ◌==◌, ◌&&◌, ℕ, suc, Bool, List, length, true, false};
 ghost use Rattle.block_store.specs.Places.{Extent, Phase, Cursor, FreeCount, FreeList, ColourOf, is_block};
 ghost use Rattle.block_store.specs.Colours.{link, is_free, free_word, white_word};
-ghost use Rattle.block_store.specs.Phases.{bit, is_sweep, cycle_of};
+ghost use Rattle.block_store.specs.Phases.{bit, inside_of, is_sweep, cycle_of};
 ghost use Rattle.block_store.specs.Heaps.{Heap, put_at};
 ghost use Rattle.heap_machine.specs.Operations.{Operation, place_of, heap_after};
 ghost use Rattle.heap_machine.specs.Counts.{changed, times, total};
-ghost use Rattle.heap_machine.specs.FreeBlocks.{FreeHolding, FreeKept, count_free, is_of_free};
+ghost use Rattle.heap_machine.specs.FreeBlocks.{FreeHolding, no_free, FreeFrom, FreeKept, count_free, is_of_free};
 ghost use Rattle.heap_machine.specs.Sweeping.{SweepHolding, no_claim, rest_of, has_claimed, claims, SweepKept, is_of_sweep};
-ghost use Rattle.heap_machine.specs.Holdings.{Holding, free_held, sweep_held};
+ghost use Rattle.heap_machine.specs.Grey.{GreyKept};
+ghost use Rattle.heap_machine.specs.HeapKept.{HeapKept};
+ghost use Rattle.heap_machine.specs.Holdings.{Holding, grey_held, free_held, sweep_held};
+ghost use Rattle.heap_machine.specs.PhaseKept.{PhaseKept};
 ghost use Rattle.heap_machine.specs.ReuseKept.{ReuseKept, is_of_reuse};
+ghost use Rattle.heap_machine.specs.Gates.{gate_want, GateFits};
+ghost use Rattle.heap_machine.specs.Gating.{Gating, GateOf, is_closing};
+ghost use Rattle.heap_machine.specs.Turning.{turns_over, turning_gating};
+ghost use Rattle.heap_machine.specs.declared.gate.GateRow.{GateRow};
+ghost use Rattle.heap_machine.specs.declared.pass.Pass.{Pass};
 
 /// Each Free block of the heap stands in one place: in the chain of one free list, in the chain
 /// of the hand of one thread, or among the blocks that one thread has collected and not yet
@@ -54,6 +62,12 @@ pub fn free_blocks_stand_once()
     ensures empty { (e : Extent) (h : Heap) (fs : ℕ → FreeHolding) → FreeKept e h fs → (t : ℕ)
         → t < e.threads
         → (fs t).emptied ≡ true → h (FreeList t) ≡ 0 }
+{}
+
+/// So it is in a heap that nobody has used yet: its last blocks are Free, in one ascending list.
+pub fn free_blocks_stand_at_the_opening()
+    ensures { (e : Extent) (h : Heap) (fs : ℕ → FreeHolding) (a : ℕ) → FreeFrom e h a
+        → ((t : ℕ) → t < e.threads → fs t ≡ no_free) → FreeKept e h fs }
 {}
 
 /// What keeps that each Free block stands in one place and is counted, while the other threads
@@ -114,6 +128,16 @@ pub fn what_keeps_free_blocks()
         (changed fs t (record old { held = xs; reserved = reserved })) }
 {}
 
+/// Where a thread puts its hand in its own free list and that list is not empty, not every Free block
+/// stands in one place any more: the blocks of that list are lost.
+pub fn free_lists_are_lost_at_a_put()
+    ensures { (e : Extent) (h : Heap) (fs : ℕ → FreeHolding) → FreeKept e h fs
+        → (t : ℕ) → t < e.threads → h (FreeList t) ≢ 0
+        → FreeKept e (put_at h (FreeList t) (fs t).hand)
+        (changed fs t (record (fs t) { hand = 0; emptied = false }))
+        → ⊥ }
+{}
+
 /// No block is claimed by two threads, and those that are claimed are below the cursor. While the
 /// phase is Sweep no block that was passed is white: one below the cursor that nobody has
 /// claimed. So where the cursor is behind the last block and nothing is claimed, no block is
@@ -165,11 +189,15 @@ pub fn what_keeps_the_sweep()
         → ((t : ℕ) → t < e.threads → cs t ≡ no_claim) → is_sweep (h Phase) ≡ false
         → (1 ≤ v) × (v ≤ e.blocks + 1)
         → SweepKept e (put_at h Cursor v) cs }
+    ensures begins { (e : Extent) (h : Heap) (cs : ℕ → SweepHolding)
+        → ((t : ℕ) → t < e.threads → cs t ≡ no_claim) → is_sweep (h Phase) ≡ false
+        → (1 ≤ h Cursor) × (h Cursor ≤ e.blocks + 1)
+        → SweepKept e h cs }
     ensures claims { (e : Extent) (h : Heap) (cs : ℕ → SweepHolding) → SweepKept e h cs
         → (t : ℕ) → t < e.threads → (old : SweepHolding) → cs t ≡ old
         → (high : ℕ) → h Cursor < high → high ≤ e.blocks + 1 → old ≡ no_claim
         → SweepKept e (put_at h Cursor high)
-            (changed cs t (record { low = h Cursor; high = high; doomed = 0 })) }
+        (changed cs t (record { low = h Cursor; high = high; doomed = 0 })) }
     ensures dooms { (e : Extent) (h : Heap) (cs : ℕ → SweepHolding) → SweepKept e h cs
         → (t : ℕ) → t < e.threads → (old : SweepHolding) → cs t ≡ old
         → (x : ℕ) → is_sweep (h Phase) ≡ true → old.low ≤ x → x < old.high
@@ -215,4 +243,42 @@ pub fn what_keeps_reuse()
         → (v : ℕ) → ((t : ℕ) → t < e.threads → sweep_held (hs t) ≡ no_claim)
         → is_sweep (h Phase) ≡ false → (1 ≤ v) × (v ≤ e.blocks + 1)
         → ReuseKept e (put_at h Cursor v) hs }
+{}
+
+/// The events of the gate keep both rules: to go in and out, where the phase word counts a thread
+/// inside; and to close the gate and turn the phase over, where nothing is claimed while it is
+/// closed, and the cursor is at the first block before the flip.
+pub fn gate_rows_keep_reuse()
+    ensures passes { (e : Extent) (h : Heap) (hs : ℕ → Holding) → ReuseKept e h hs
+        → (r : GateRow) → turns_over r ≡ false → GateFits r
+        → (r ≡ GateRow.Leave → 1 ≤ inside_of (h Phase))
+        → ReuseKept e (heap_after h (gate_want r)) hs }
+    ensures turns { (e : Extent) (h : Heap) (hs : ℕ → Holding) → ReuseKept e h hs
+        → (gs : ℕ → Gating) → GateOf e.threads (h Phase) gs → (t : ℕ) → t < e.threads
+        → (r : GateRow) → turns_over r ≡ true → GateFits r → gs t ≡ turning_gating r
+        → (is_closing (turning_gating r).stand ≡ true
+        → (u : ℕ) → u < e.threads → sweep_held (hs u) ≡ no_claim)
+        → ((p : Pass) → r ≡ GateRow.Flip p → h Cursor ≡ 1)
+        → ReuseKept e (heap_after h (gate_want r)) hs }
+{}
+
+/// What a heap keeps in each phase: while the phase is Mark it is what marking keeps in the cycle of
+/// the phase word, with both rules on reuse; in Sweep it is where grey blocks stand, with these. A
+/// phase word of the same phase and cycle keeps it, and so does one that turns to Sweep where nothing
+/// is claimed and the cursor is at the first block.
+pub fn rules_hold_by_the_phase()
+    ensures mark { (e : Extent) (h : Heap) (hs : ℕ → Holding) → PhaseKept e h hs
+        → is_sweep (h Phase) ≡ false → HeapKept e (cycle_of (h Phase)) h hs }
+    ensures marks { (e : Extent) (h : Heap) (hs : ℕ → Holding)
+        → (cycle : ℕ) → cycle_of (h Phase) ≡ cycle
+        → HeapKept e cycle h hs → ReuseKept e h hs → PhaseKept e h hs }
+    ensures sweeps { (e : Extent) (h : Heap) (hs : ℕ → Holding) → is_sweep (h Phase) ≡ true
+        → GreyKept e.threads h (λ t. grey_held (hs t)) → ReuseKept e h hs → PhaseKept e h hs }
+    ensures phase { (e : Extent) (h : Heap) (hs : ℕ → Holding) → PhaseKept e h hs
+        → (v : ℕ) → cycle_of v ≡ cycle_of (h Phase) → is_sweep v ≡ is_sweep (h Phase)
+        → PhaseKept e (put_at h Phase v) hs }
+    ensures flips { (e : Extent) (h : Heap) (hs : ℕ → Holding) → PhaseKept e h hs
+        → (v : ℕ) → is_sweep v ≡ true → h Cursor ≡ 1
+        → ((t : ℕ) → t < e.threads → sweep_held (hs t) ≡ no_claim)
+        → PhaseKept e (put_at h Phase v) hs }
 {}

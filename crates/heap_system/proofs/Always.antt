@@ -13,23 +13,24 @@ use Rattle.never_heap.specs.declared.Command.{Command}
 use Rattle.never_heap.specs.Graphs.{start_graph}
 use Rattle.never_heap.specs.Histories.{Started}
 use Rattle.shown_graph.specs.Words.{block_words, Agrees}
-use Rattle.shown_graph.specs.Shown.{Shows, every_name, never_late}
+use Rattle.shown_graph.specs.Shown.{Shows, every_name, none_pending}
 use Rattle.shown_graph.specs.Openings.{opening_at, opening_words}
 use Rattle.array_trees.specs.Openings.{opening_blocks}
-use Rattle.shown_graph.specs.Events.{unloaded, lates, LoadIs, Follows}
+use Rattle.shown_graph.specs.Events.{unloaded, pending_registers, LoadIs, Follows}
 use Rattle.shown_graph.proofs.Opening.{opening_shows}
-use Rattle.shown_graph.proofs.Stores.{words_change, more_late}
+use Rattle.shown_graph.proofs.Stores.{words_change, more_pending}
 use Rattle.heap_machine.specs.Grey.{no_grey}
 use Rattle.heap_machine.specs.Gating.{Gating, is_outside, is_inside, is_closing}
 use Rattle.heap_machine.proofs.Functions.{total_none}
 use Rattle.heap_system.specs.declared.local.Part.TheVariants.{Rest}
-use Rattle.heap_system.specs.Locals.{LocalState, no_pass, at_start, command_of, decides}
-use Rattle.heap_system.specs.Machines.{State, no_local, local_at, event_done, has_event, word_read, entry_decided, Run, next, after_turns, starts_from, IsOpening, IsJob, opened, IsRunOf}
+use Rattle.heap_system.specs.Locals.{LocalState, no_pass, at_start, command_of, verdict}
+use Rattle.heap_system.specs.Machines.{State, no_local, local_at, event_done, has_event, word_read, entries_by, Run, next, after_turns, starts_from, IsOpening, IsJob, opened, IsRunOf}
 use Rattle.heap_system.specs.Openings.{opening_heap, opening_phase}
 use Rattle.heap_system.specs.Pictures.{gating, loading, heap_in, graph_state}
+use Rattle.heap_system.proofs.Paying.{each_at}
 use Rattle.heap_system.proofs.Kept.{grey_of, LocalKept, loads_in, gates_in, holdings_in, Kept, IsMark, opening_low}
 use Rattle.heap_system.proofs.Turning.{next_kept}
-use Rattle.heap_system.proofs.Grounds.{opening_grey, opening_held, opening_solid}
+use Rattle.heap_system.proofs.Grounds.{opening_grey, opening_held, opening_taken}
 use Rattle.heap_system.specs.Systems.{units_of}
 
 pub length_starts : (c : Config) (rate t : ℕ) (traces : List (List Command)) → length (starts_from c rate t traces) ≡ length traces
@@ -72,7 +73,7 @@ module _ (c : Config) (traces : List (List Command)) (job : IsJob c traces) (s :
   pub here : (t : ℕ) → t < c.threads → local_at c s t ≡ at_start c start.rate t (get_or traces t [])
   here t tl =
       let e : 0 + t ≡ t = omega arith in
-      ap (λ ls. get_or ls t (no_local c)) start.locals ∙ starts_at c start.rate 0 t traces (no_local c) (omega (arith, job.count)) ∙ ap (λ u. at_start c start.rate u (get_or traces t [])) e
+      ap (λ ls. get_or ls t (no_local c)) start.locals ∙ starts_at c start.rate 0 t traces (no_local c) (omega (arith, job.bounds.threads)) ∙ ap (λ u. at_start c start.rate u (get_or traces t [])) e
 
   unloads : (t : ℕ) → t < c.threads → loads_in c s t ≡ unloaded
   unloads t tl = ap (λ (l : LocalState). loading c l.part) (here t tl)
@@ -92,14 +93,14 @@ module _ (c : Config) (traces : List (List Command)) (job : IsJob c traces) (s :
   agrees : (x : ℕ) → 0 < x → x ≤ opening_blocks c → Agrees c.width (opening_words c) (block_words (heap_in c s)) x
   agrees = opening_agrees c s.words job.plan start.words
 
-  shows : Shows c.width c.threads (opening_blocks c) (every_name (start_graph c)) (start_graph c) (opening_at c.width c.threads) (block_words (heap_in c s)) (lates (loads_in c s))
+  shows : Shows c.width c.threads (opening_blocks c) (every_name (start_graph c)) (start_graph c) (opening_at c.width c.threads) (block_words (heap_in c s)) (pending_registers (loads_in c s))
   shows =
-      let first = opening_shows c job.bounds in
-      more_late c.width c.threads (opening_blocks c) (every_name (start_graph c)) (start_graph c) (opening_at c.width c.threads) (block_words (heap_in c s)) never_late
-      (words_change c.width c.threads (opening_blocks c) (every_name (start_graph c)) (start_graph c) (opening_at c.width c.threads) (opening_words c) never_late first (block_words (heap_in c s))
+      let first = opening_shows c job.bounds.config in
+      more_pending c.width c.threads (opening_blocks c) (every_name (start_graph c)) (start_graph c) (opening_at c.width c.threads) (block_words (heap_in c s)) none_pending
+      (words_change c.width c.threads (opening_blocks c) (every_name (start_graph c)) (start_graph c) (opening_at c.width c.threads) (opening_words c) none_pending first (block_words (heap_in c s))
       (λ x j pos low jl. (agrees x pos (omega arith)).payloads j jl)
       (λ a o ka ol. agrees (opening_at c.width c.threads a o) (omega arith) (first.placed.within a o ka ol)))
-      (lates (loads_in c s)) (λ t r tl rl e. refl)
+      (pending_registers (loads_in c s)) (λ t r tl rl e. refl)
 
   follows : Follows c.width c.threads (opening_blocks c) (every_name (start_graph c)) (opening_at c.width c.threads) (graph_state c (opened s))
   follows = record {
@@ -113,11 +114,11 @@ module _ (c : Config) (traces : List (List Command)) (job : IsJob c traces) (s :
     thread = refl;
     trace = refl;
     fits = record {
-      bounds = job.bounds;
+      bounds = job.bounds.config;
       plan = job.plan;
       rate = start.planned;
       thread = tl;
-      trace = job.each t tl;
+      trace = each_at c traces job t tl;
       log = omega arith;
       part = tt;
       paid = omega arith;
@@ -133,7 +134,7 @@ module _ (c : Config) (traces : List (List Command)) (job : IsJob c traces) (s :
   pub opening_kept : Kept c traces (opened s)
   opening_kept = record {
     long = start.count;
-    threads = ap length start.locals ∙ length_starts c start.rate 0 traces ∙ job.count;
+    threads = ap length start.locals ∙ length_starts c start.rate 0 traces ∙ job.bounds.threads;
     gate = record {
       count = total_none c.threads _ (λ t tl. ap (λ (g : Gating). bit (is_inside g.stand)) (outside t tl)) ∙ sym phase.0;
       closers = total_none c.threads _ (λ t tl. ap (λ (g : Gating). bit (is_closing g.stand)) (outside t tl)) ∙ sym (ap bit phase.1.opened);
@@ -145,19 +146,21 @@ module _ (c : Config) (traces : List (List Command)) (job : IsJob c traces) (s :
     locals = λ t tl. subst (λ l. LocalKept c (get_or traces t []) (start_graph c) (Started ∷ []) t l) (sym (here t tl)) (local_start t tl);
     legal = tt;
     foreign = λ u ul. refl;
-    grey = opening_grey c job.bounds job.plan (heap_in c s) start.words outside_words (holdings_in c s) holds;
-    held = opening_held c job.bounds job.plan (heap_in c s) start.words (record { inside = omega (arith, phase.0); cycle = omega (arith, phase.1.cycle) });
-    solid = opening_solid c job.bounds job.plan (heap_in c s) start.words;
+    rules = record {
+      grey = opening_grey c job.bounds.config job.plan (heap_in c s) start.words outside_words (holdings_in c s) holds;
+      held = opening_held c job.bounds.config job.plan (heap_in c s) start.words (record { inside = omega (arith, phase.0); cycle = omega (arith, phase.1.cycle) });
+      taken = opening_taken c job.bounds.config job.plan (heap_in c s) start.words;
+    };
     counts = (refl, sym (ap (λ ls. units_of (map (λ (l : LocalState). l.log) ls)) start.locals ∙ units_start c start.rate 0 traces));
   }
 
 -- any turn
 pub turn_kept : (c : Config) (traces : List (List Command)) → IsJob c traces → (r : Run) → Kept c traces r → (t : ℕ) → Kept c traces (next c t r)
 turn_kept c traces job r kept t = elim (cases_lt t c.threads) [
-  | inl tl ↦ next_kept c traces job.bounds job.plan r kept t tl
+  | inl tl ↦ next_kept c traces job.bounds.config job.plan r kept t tl
   | inr out ↦
       let none : has_event c t r.state ≡ false = rw (le-ltb t c.threads out) refl in
-      subst (λ x. Kept c traces (record { state = cond x (event_done c t r.state) r.state; order = r.order ++ cond x (cond (decides c (local_at c r.state t).part (word_read c r.state (local_at c r.state t))) (entry_decided c t (command_of (local_at c r.state t)) (local_at c r.state t).paid r.order ∷ []) []) [] })) (sym none)
+      subst (λ x. Kept c traces (record { state = cond x (event_done c t r.state) r.state; order = r.order ++ cond x (entries_by c t (command_of (local_at c r.state t)) (local_at c r.state t).paid r.order (verdict c (local_at c r.state t).part (word_read c r.state (local_at c r.state t)))) [] })) (sym none)
       (subst (λ o. Kept c traces (record { state = r.state; order = o })) (sym (append-nil r.order)) kept)
 ]
 

@@ -9,30 +9,21 @@ use Rattle.array_trees.specs.Trees.{tree}
 use Rattle.rate_plan.specs.Rates.{IsAdmitted}
 use Rattle.never_heap.specs.declared.Command.{Command}
 use Rattle.never_heap.specs.Bounds.{IsCommandInBounds}
-use Rattle.heap_system.specs.Locals.{IsTrace}
+use Rattle.never_heap.specs.Jobs.{IsTraceInBounds}
 use Rattle.heap_system.specs.Machines.{IsJob}
 
 abbrev pub config : Width → Config
 config w = record { width = w; threads = 2; blocks = 64; live = 20; object = 2; shared = 4 }
 
 -- a trace of two commands, of one, and of none
-pub two : (w : Width) (a b : Command) → IsCommandInBounds (config w) a → IsCommandInBounds (config w) b → IsTrace (config w) (a ∷ b ∷ [])
-two w a b pa pb = record { short = omega arith; commands = at }
-  where
-    at : (k : ℕ) (d : Command) → k < 2 → IsCommandInBounds (config w) (get_or (a ∷ b ∷ []) k d)
-    at zero d low = pa
-    at (suc zero) d low = pb
-    at (suc (suc k)) d low = absurd (omega arith)
+pub two : (w : Width) (a b : Command) → IsCommandInBounds (config w) a → IsCommandInBounds (config w) b → IsTraceInBounds (config w) (a ∷ b ∷ [])
+two w a b pa pb = record { few = omega arith; commands = (pa, (pb, tt)) }
 
-pub one : (w : Width) (a : Command) → IsCommandInBounds (config w) a → IsTrace (config w) (a ∷ [])
-one w a pa = record { short = omega arith; commands = at }
-  where
-    at : (k : ℕ) (d : Command) → k < 1 → IsCommandInBounds (config w) (get_or (a ∷ []) k d)
-    at zero d low = pa
-    at (suc k) d low = absurd (omega arith)
+pub one : (w : Width) (a : Command) → IsCommandInBounds (config w) a → IsTraceInBounds (config w) (a ∷ [])
+one w a pa = record { few = omega arith; commands = (pa, tt) }
 
-pub nothing : (w : Width) → IsTrace (config w) []
-nothing w = record { short = omega arith; commands = λ k d low. absurd (omega arith) }
+pub nothing : (w : Width) → IsTraceInBounds (config w) []
+nothing w = record { few = omega arith; commands = tt }
 
 admitted : (w : Width) → IsAdmitted (config w)
 unfolding tree
@@ -44,43 +35,28 @@ pub record_fits : (w : Width) → record_blocks w 1 ≤ 2
 record_fits Four = omega arith
 record_fits Eight = omega arith
 
-pub both : (w : Width) (xs ys : List Command) → IsTrace (config w) xs → IsTrace (config w) ys → IsJob (config w) (xs ∷ ys ∷ [])
+pub both : (w : Width) (xs ys : List Command) → IsTraceInBounds (config w) xs → IsTraceInBounds (config w) ys → IsJob (config w) (xs ∷ ys ∷ [])
 both w xs ys px py = record {
-  bounds = record { some_thread = omega arith; threads = omega arith; some_block = omega arith; blocks = omega arith; live = omega arith; some_object = omega arith; object = omega arith; shared = omega arith };
+  bounds = record {
+    config = record { some_thread = omega arith; threads = omega arith; some_block = omega arith; blocks = omega arith; live = omega arith; some_object = omega arith; object = omega arith; shared = omega arith };
+    threads = refl;
+    each = (px, (py, tt));
+  };
   plan = admitted w;
-  count = refl;
-  each = at;
 }
-  where
-    at : (t : ℕ) → t < 2 → IsTrace (config w) (get_or (xs ∷ ys ∷ []) t [])
-    at zero low = px
-    at (suc zero) low = py
-    at (suc (suc t)) low = absurd (omega arith)
 
 -- one thread of a heap with a long array
 abbrev pub long : Config
 long = record { width = Four; threads = 1; blocks = 1024; live = 400; object = 16; shared = 1024 }
 
-pub three : (a b d : Command) → IsCommandInBounds long a → IsCommandInBounds long b → IsCommandInBounds long d → IsTrace long (a ∷ b ∷ d ∷ [])
-three a b d pa pb pd = record { short = omega arith; commands = at }
-  where
-    at : (k : ℕ) (e : Command) → k < 3 → IsCommandInBounds long (get_or (a ∷ b ∷ d ∷ []) k e)
-    at zero e low = pa
-    at (suc zero) e low = pb
-    at (suc (suc zero)) e low = pd
-    at (suc (suc (suc k))) e low = absurd (omega arith)
+pub three : (a b d : Command) → IsCommandInBounds long a → IsCommandInBounds long b → IsCommandInBounds long d → IsTraceInBounds long (a ∷ b ∷ d ∷ [])
+three a b d pa pb pd = record { few = omega arith; commands = (pa, (pb, (pd, tt))) }
 
 pub long_in_bounds : IsInBounds long
 long_in_bounds = record { some_thread = omega arith; threads = omega arith; some_block = omega arith; blocks = omega arith; live = omega arith; some_object = omega arith; object = omega arith; shared = omega arith }
 
-pub alone : (xs : List Command) → IsAdmitted long → IsTrace long xs → IsJob long (xs ∷ [])
+pub alone : (xs : List Command) → IsAdmitted long → IsTraceInBounds long xs → IsJob long (xs ∷ [])
 alone xs plan px = record {
-  bounds = long_in_bounds;
+  bounds = record { config = long_in_bounds; threads = refl; each = (px, tt) };
   plan = plan;
-  count = refl;
-  each = at;
 }
-  where
-    at : (t : ℕ) → t < 1 → IsTrace long (get_or (xs ∷ []) t [])
-    at zero low = px
-    at (suc t) low = absurd (omega arith)

@@ -18,7 +18,7 @@ use Rattle.never_heap.specs.declared.Reply.{Reply}
 use Rattle.never_heap.specs.declared.Reply.TheVariants.{Full}
 use Rattle.never_heap.specs.Bounds.{IsCommandInBounds}
 use Rattle.never_heap.specs.Graphs.{Graph, start_graph}
-use Rattle.never_heap.specs.Histories.{HistoryItem, replay, part, Legal, starts_in, work_in}
+use Rattle.never_heap.specs.Histories.{HistoryItem, is_full, replay, part, Legal, starts_in, work_in}
 use Rattle.never_heap.specs.Steps.{step, makes_object}
 use Rattle.shown_graph.specs.Shown.{every_name}
 use Rattle.shown_graph.specs.Openings.{opening_at}
@@ -45,6 +45,7 @@ use Rattle.grey_steps.specs.Fits.{GreyFits, GreyReads}
 use Rattle.grey_steps.proofs.Ends.{unit_after, unit_once, over_holds_none}
 use Rattle.grey_steps.proofs.Marking.{keeps}
 use Rattle.grey_steps.proofs.Ranges as marks
+use Rattle.barrier_steps.specs.Rows.{at_first_row}
 use Rattle.barrier_steps.specs.declared.rows.FieldRow.{FieldRow}
 use Rattle.barrier_steps.specs.declared.rows.FieldRow.TheVariants as rows
 use Rattle.barrier_steps.specs.Deciding.{is_deciding}
@@ -59,8 +60,8 @@ use Rattle.rate_plan.specs.Rates.{IsAdmitted}
 use Rattle.barrier_steps.proofs.FieldRows.{field_fits, field_sum, field_place, stores_held}
 use Rattle.heap_system.specs.declared.local.Part.{Part}
 use Rattle.heap_system.specs.declared.local.Part.TheVariants.{Rest, Enter, Serve, Mark, Count, Again, Leave}
-use Rattle.heap_system.specs.Locals.{LocalState, command_of, owed, pass_by, first_part, if_entered, pass_got, if_replied, part_entered, part_want, part_got, part_reply, decides, makes_unit, finds_nothing, paid_got, waived_got, entry_of, entries_of, works, unit_to_come, PartFits, IsLocal, PartReads}
-use Rattle.heap_system.specs.Machines.{State, Run, local_at, reply_decided}
+use Rattle.heap_system.specs.Locals.{LocalState, command_of, owed, pass_by, first_part, if_entered, pass_got, if_replied, part_entered, part_want, part_got, part_reply, Verdict, Open, AsStep, Refused, if_decides, verdict, makes_unit, finds_nothing, paid_got, waived_got, entry_of, entries_of, works, unit_to_come, PartFits, IsLocal, PartReads}
+use Rattle.heap_system.specs.Machines.{State, Run, local_at}
 use Rattle.heap_system.specs.Systems.{logs_of, units_of}
 use Rattle.heap_system.specs.Units.{IsWithin}
 use Rattle.heap_system.specs.Pictures.{gating, stand_of, holding, loading, waiting, entries_waiting, heap_in, graph_state}
@@ -81,9 +82,8 @@ pub record RowKept (g : Graph) (t : ℕ) (pass : Pass) (k : Command) (f : FieldS
   pub known : IsKnown g f
   pub going : field_reply f.row ≡ None
 
--- a Mark pass of thread t for an allocation
-pub record MarkKept (t : ℕ) (pass : Pass) (k : Command) (m : GreyState) : Type 0 where
-  pub allocates : makes_object k ≡ true
+-- a Mark pass of thread t
+pub record MarkKept (t : ℕ) (pass : Pass) (m : GreyState) : Type 0 where
   pub passes : m.pass ≡ pass
   pub thread : m.pass.thread ≡ t
 
@@ -97,9 +97,9 @@ abbrev pub PartKept : Graph → ℕ → Pass → Command → Part → Type 0
 PartKept g t pass k Rest = Unit {0}
 PartKept g t pass k (Enter a) = IsEntering a
 PartKept g t pass k (Serve f) = RowKept g t pass k f
-PartKept g t pass k (Mark m) = MarkKept t pass k m
+PartKept g t pass k (Mark m) = MarkKept t pass m
 PartKept g t pass k Count = makes_object k ≡ true
-PartKept g t pass k Again = makes_object k ≡ true
+PartKept g t pass k Again = Unit {0}
 PartKept g t pass k Leave = Unit {0}
 
 -- between two commands nothing is paid or waived; in front of the look at the free count nothing is owed
@@ -131,8 +131,14 @@ pub record IsMark (w : ℕ) : Type 0 where
   pub sweep : is_sweep w ≡ false
 
 -- the blocks of the opening's arrays are not Free
-abbrev pub IsSolid : Config → Heap → Type 0
-IsSolid c h = (x : ℕ) → 1 ≤ x → x ≤ opening_blocks c → is_free (h (ColourOf x)) ≡ false
+abbrev pub AreTaken : Config → Heap → Type 0
+AreTaken c h = (x : ℕ) → 1 ≤ x → x ≤ opening_blocks c → is_free (h (ColourOf x)) ≡ false
+
+-- what the heap keeps under what the threads hold: one field for each rule
+pub record Rules (c : Config) (h : Heap) (hs : ℕ → GreyHolding) : Type 0 where
+  pub grey : GreyKept c.threads h hs
+  pub held : IsHeld c h
+  pub taken : AreTaken c h
 
 -- what thread t has loaded, where it stands, and what it holds
 abbrev pub loads_in : Config → State → ℕ → Loading
@@ -153,18 +159,30 @@ pub record Kept (c : Config) (traces : List (List Command)) (r : Run) : Type 0 w
   pub locals : (t : ℕ) → t < c.threads → LocalKept c (get_or traces t []) (replay c r.order) r.order t (local_at c r.state t)
   pub legal : Legal c r.order
   pub foreign : (u : ℕ) → c.threads ≤ u → part u r.order ≡ []
-  pub grey : GreyKept c.threads (heap_in c r.state) (holdings_in c r.state)
-  pub held : IsHeld c (heap_in c r.state)
-  pub solid : IsSolid c (heap_in c r.state)
+  pub rules : Rules c (heap_in c r.state) (holdings_in c r.state)
   pub counts : (starts_in r.order ≡ 1) × (work_in r.order ≡ units_of (logs_of r.state))
 
--- the graph after an event of thread t, by whether it decides command k: an allocation is refused, and leaves it
-abbrev pub graph_decided : Graph → ℕ → Command → Bool → Graph
-graph_decided g t k b = cond (b && not (makes_object k)) (step g t k).0 g
+-- the graph after an event of thread t in command k, by its verdict
+abbrev pub graph_decided : Graph → ℕ → Command → Verdict → Graph
+graph_decided g t k Open = g
+graph_decided g t k AsStep = (step g t k).0
+graph_decided g t k (Refused r) = g
 
--- one event of thread t in command k: the heap after it, whether it decides, the pass and the part after it, the reply that it brings, and whether it makes a unit or finds nothing. Before it a
+-- the entry that it adds to the order
+abbrev pub told_by : Graph → ℕ → Command → ℕ → Verdict → List Entry
+told_by g t k work Open = []
+told_by g t k work AsStep = entry_of t k work (step g t k).1 ∷ []
+told_by g t k work (Refused r) = entry_of t k work r ∷ []
+
+-- only an allocation is refused, and with full
+abbrev pub IsLawful : Command → Verdict → Type 0
+IsLawful k Open = Unit {0}
+IsLawful k AsStep = Unit {0}
+IsLawful k (Refused r) = (is_full r ≡ true) × (makes_object k ≡ true)
+
+-- one event of thread t in command k: the heap after it, its verdict, the pass and the part after it, the reply that it brings, and whether it makes a unit or finds nothing. Before it a
 -- reply was decided or none, and so many units were made of those due, or the rest was waived.
-pub record EventKept (c : Config) (g : Graph) (new : Heap) (gs : ℕ → Gating) (ls : ℕ → Loading) (hs : ℕ → GreyHolding) (t : ℕ) (k : Command) (done all due paid : ℕ) (waived : Bool) (before : Option Reply) (b : Bool) (pass : Pass) (p : Part) (reply : Option Reply)
+pub record EventKept (c : Config) (g : Graph) (new : Heap) (gs : ℕ → Gating) (ls : ℕ → Loading) (hs : ℕ → GreyHolding) (t : ℕ) (k : Command) (done all due paid : ℕ) (waived : Bool) (before : Option Reply) (b : Verdict) (pass : Pass) (p : Part) (reply : Option Reply)
     (unit nothing : Bool) : Type 0 where
   pub gate : GateOf c.threads (new Phase) (changed gs t (gating c pass p))
   pub phase : IsMark (new Phase)
@@ -172,13 +190,12 @@ pub record EventKept (c : Config) (g : Graph) (new : Heap) (gs : ℕ → Gating)
   pub part : PartKept (graph_decided g t k b) t pass k p
   pub fits : PartFits c done all p
   pub over : (r : Reply) → reply ≡ Some r → p ≡ Leave
-  pub told : entries_of t k paid before ++ cond b (entry_of t k paid (reply_decided g t k) ∷ []) [] ≡ entries_of t k paid reply ++ entries_of t k (paid_got reply unit paid) (waiting (graph_decided g t k b) p)
-  pub grey : GreyKept c.threads new (changed hs t (grey_of c p))
-  pub held : IsHeld c new
-  pub solid : IsSolid c new
+  pub told : entries_of t k paid before ++ told_by g t k paid b ≡ entries_of t k paid reply ++ entries_of t k (paid_got reply unit paid) (waiting (graph_decided g t k b) p)
+  pub rules : Rules c new (changed hs t (grey_of c p))
   pub low : paid_got reply unit paid + unit_to_come c p ≤ due
   pub settled : IsSettled due (paid_got reply unit paid) (waived_got reply nothing waived) p
-  pub counted : works (cond b (entry_of t k paid (reply_decided g t k) ∷ []) []) ≡ works (entries_of t k paid reply)
+  pub counted : works (told_by g t k paid b) ≡ works (entries_of t k paid reply)
+  pub lawful : IsLawful k b
 
 -- the first row of a command
 first_unloaded : (c : Config) (k : Command) → row_loading (extent c) k (first_row k) ≡ unloaded
@@ -201,7 +218,7 @@ row_phase c h t k (rows.LoadValue way) = refl
 row_phase c h t k (rows.LoadLink way word) = refl
 row_phase c h t k (rows.LoadField way) = refl
 row_phase c h t k (rows.LoadOwner word) = refl
-row_phase c h t k (rows.StoreLate word value) = refl
+row_phase c h t k (rows.StorePending word value) = refl
 row_phase c h t k (rows.StoreField way word) = refl
 row_phase c h t k rows.LoadFirst = refl
 row_phase c h t k (rows.LoadSecond word) = refl
@@ -224,7 +241,7 @@ row_colour c h t k (rows.LoadValue way) y = refl
 row_colour c h t k (rows.LoadLink way word) y = refl
 row_colour c h t k (rows.LoadField way) y = refl
 row_colour c h t k (rows.LoadOwner word) y = refl
-row_colour c h t k (rows.StoreLate word value) y = refl
+row_colour c h t k (rows.StorePending word value) y = refl
 row_colour c h t k (rows.StoreField way word) y = refl
 row_colour c h t k rows.LoadFirst y = refl
 row_colour c h t k (rows.LoadSecond word) y = refl
@@ -246,7 +263,7 @@ row_other c t k (rows.LoadValue way) = refl
 row_other c t k (rows.LoadLink way word) = refl
 row_other c t k (rows.LoadField way) = refl
 row_other c t k (rows.LoadOwner word) = refl
-row_other c t k (rows.StoreLate word value) = refl
+row_other c t k (rows.StorePending word value) = refl
 row_other c t k (rows.StoreField way word) = refl
 row_other c t k rows.LoadFirst = refl
 row_other c t k (rows.LoadSecond word) = refl
@@ -279,12 +296,17 @@ tell t k paid before true r none = ap (λ o. entries_of t k paid o ++ entry_of t
 tell t k paid before false r none = append-nil (entries_of t k paid before)
 
 -- a command that allocates nothing is decided as its step, with no work
-served_graph : (g : Graph) (t : ℕ) (k : Command) (b : Bool) → makes_object k ≡ false → graph_decided g t k b ≡ graph_after g t k b
-served_graph g t k true z = ap (λ x. cond (not x) (step g t k).0 g) z
-served_graph g t k false z = refl
+step_graph : (g : Graph) (t : ℕ) (k : Command) (b : Bool) → graph_decided g t k (if_decides b) ≡ graph_after g t k b
+step_graph g t k true = refl
+step_graph g t k false = refl
 
-pub served_reply : (g : Graph) (t : ℕ) (k : Command) → makes_object k ≡ false → reply_decided g t k ≡ (step g t k).1
-served_reply g t k z = ap (λ x. cond x (Full 1) (step g t k).1) z
+step_told : (g : Graph) (t : ℕ) (k : Command) (paid : ℕ) (b : Bool) → told_by g t k paid (if_decides b) ≡ cond b (entry_of t k paid (step g t k).1 ∷ []) []
+step_told g t k paid true = refl
+step_told g t k paid false = refl
+
+step_lawful : (k : Command) (b : Bool) → IsLawful k (if_decides b)
+step_lawful k true = tt
+step_lawful k false = tt
 
 no_works : (t : ℕ) (k : Command) (paid : ℕ) (r : Reply) (b : Bool) → paid ≡ 0 → works (cond b (entry_of t k paid r ∷ []) []) ≡ 0
 no_works t k paid r true z = omega (arith, z)
@@ -293,14 +315,6 @@ no_works t k paid r false z = refl
 no_work : (t : ℕ) (k : Command) (paid : ℕ) (o : Option Reply) → paid ≡ 0 → works (entries_of t k paid o) ≡ 0
 no_work t k paid None z = refl
 no_work t k paid (Some r) z = omega (arith, z)
-
--- an allocation is refused
-refused_graph : (g : Graph) (t : ℕ) (k : Command) (b : Bool) → makes_object k ≡ true → graph_decided g t k b ≡ g
-refused_graph g t k true n = ap (λ x. cond (not x) (step g t k).0 g) n
-refused_graph g t k false n = refl
-
-pub refused_reply : (g : Graph) (t : ℕ) (k : Command) → makes_object k ≡ true → reply_decided g t k ≡ Full 1
-refused_reply g t k n = ap (λ x. cond x (Full 1) (step g t k).1) n
 
 -- what a thread holds stays
 holding_self : (hs : ℕ → GreyHolding) (t : ℕ) (w : GreyHolding) → hs t ≡ w → changed hs t w ≡ hs
@@ -341,11 +355,11 @@ inside_low w h = omega arith
 
 module _ (c : Config) (bounds : IsInBounds c) (plan : IsAdmitted c) (g : Graph) (h : Heap) (gs : ℕ → Gating) (ls : ℕ → Loading) (hs : ℕ → GreyHolding) (t : ℕ) (tl : t < c.threads) (pass : Pass) (k : Command) (inside : IsCommandInBounds c k) (done all due paid : ℕ) (waived : Bool)
     (gate : GateOf c.threads (h Phase) gs) (phase : IsMark (h Phase)) (shown : Follows c.width c.threads (opening_blocks c) (every_name (start_graph c)) (opening_at c.width c.threads) (state g h ls))
-    (grey : GreyKept c.threads h hs) (held : IsHeld c h) (solid : IsSolid c h) where
+    (rules : Rules c h hs) where
   phase_is : IsPhaseWord (h Phase)
   phase_is = phase_word c.threads (h Phase) gs bounds.threads gate phase
 
-  abbrev Event : Heap → Option Reply → Bool → Pass → Part → Option Reply → Bool → Bool → Type 0
+  abbrev Event : Heap → Option Reply → Verdict → Pass → Part → Option Reply → Bool → Bool → Type 0
   Event new before b q p reply unit nothing = EventKept c g new gs ls hs t k done all due paid waived before b q p reply unit nothing
 
   abbrev more : Bool
@@ -359,7 +373,7 @@ module _ (c : Config) (bounds : IsInBounds c) (plan : IsAdmitted c) (g : Graph) 
 
   -- an event at the gate
   gate_event : (v : ℕ) (q : Pass) (p : Part) → GateOf c.threads v (changed gs t (gating c q p)) → IsMark v → ls t ≡ unloaded → loading c p ≡ unloaded → hs t ≡ no_grey → grey_of c p ≡ no_grey → waiting g p ≡ None
-      → PartKept g t q k p → PartFits c done all p → paid + unit_to_come c p ≤ due → IsSettled due paid waived p → Event (put_at h Phase v) None false q p None false false
+      → PartKept g t q k p → PartFits c done all p → paid + unit_to_come c p ≤ due → IsSettled due paid waived p → Event (put_at h Phase v) None Open q p None false false
   gate_event v q p new mark is unl empty holds waits kept fits low settled = record {
     gate = new;
     phase = mark;
@@ -368,17 +382,20 @@ module _ (c : Config) (bounds : IsInBounds c) (plan : IsAdmitted c) (g : Graph) 
     fits = fits;
     over = λ r e. absurd cc;
     told = sym (ap (entries_of t k paid) waits);
-    grey = subst (λ x. GreyKept c.threads (put_at h Phase v) x) (sym (ap (changed hs t) holds ∙ holding_self hs t no_grey empty)) grey;
-    held = held_put c h Phase v (phase_word c.threads v (changed gs t (gating c q p)) bounds.threads new mark) held;
-    solid = solid;
+    rules = record {
+      grey = subst (λ x. GreyKept c.threads (put_at h Phase v) x) (sym (ap (changed hs t) holds ∙ holding_self hs t no_grey empty)) rules.grey;
+      held = held_put c h Phase v (phase_word c.threads v (changed gs t (gating c q p)) bounds.threads new mark) rules.held;
+      taken = rules.taken;
+    };
     low = low;
     settled = settled;
     counted = refl;
+    lawful = tt;
   }
 
   -- and one that only looks
   look_at : (p : Part) → GateOf c.threads (h Phase) (changed gs t (gating c pass p)) → ls t ≡ unloaded → loading c p ≡ unloaded → hs t ≡ no_grey → grey_of c p ≡ no_grey → waiting g p ≡ None
-      → PartKept g t pass k p → PartFits c done all p → paid + unit_to_come c p ≤ due → IsSettled due paid waived p → Event h None false pass p None false false
+      → PartKept g t pass k p → PartFits c done all p → paid + unit_to_come c p ≤ due → IsSettled due paid waived p → Event h None Open pass p None false false
   look_at p new is unl empty holds waits kept fits low settled = record {
     gate = new;
     phase = phase;
@@ -387,16 +404,19 @@ module _ (c : Config) (bounds : IsInBounds c) (plan : IsAdmitted c) (g : Graph) 
     fits = fits;
     over = λ r e. absurd cc;
     told = sym (ap (entries_of t k paid) waits);
-    grey = subst (λ x. GreyKept c.threads h x) (sym (ap (changed hs t) holds ∙ holding_self hs t no_grey empty)) grey;
-    held = held;
-    solid = solid;
+    rules = record {
+      grey = subst (λ x. GreyKept c.threads h x) (sym (ap (changed hs t) holds ∙ holding_self hs t no_grey empty)) rules.grey;
+      held = rules.held;
+      taken = rules.taken;
+    };
     low = low;
     settled = settled;
     counted = refl;
+    lawful = tt;
   }
 
   -- on the way in
-  look_event : (gs t).stand ≡ Outside → ls t ≡ unloaded → hs t ≡ no_grey → done < all → paid ≤ due → Event h None false (pass_got (gate_entered (gate_got gates.Look (h Phase))) t c.threads pass) (if_entered (gate_entered (gate_got gates.Look (h Phase))) t c.threads k more (gate_got gates.Look (h Phase))) None false false
+  look_event : (gs t).stand ≡ Outside → ls t ≡ unloaded → hs t ≡ no_grey → done < all → paid ≤ due → Event h None Open (pass_got (gate_entered (gate_got gates.Look (h Phase))) t c.threads pass) (if_entered (gate_entered (gate_got gates.Look (h Phase))) t c.threads k more (gate_got gates.Look (h Phase))) None false false
   look_event out is empty low pays = rw phase.opened (look_at (Enter (gates.Enter (h Phase))) (gate_stays c.threads (h Phase) gs gate t tl _ (sym out) (λ e. absurd cc)) is refl empty refl refl tt (record { word = phase_is; opened = phase.opened }, refl, low) (omega (arith, pays)) tt)
 
   -- the part of a thread that has entered, in its pass
@@ -409,30 +429,31 @@ module _ (c : Config) (bounds : IsInBounds c) (plan : IsAdmitted c) (g : Graph) 
     pub settled : IsSettled due paid waived p
 
   entered_kept : (q : Pass) → q.thread ≡ t → EnteredKept q (first_part q k more)
-  entered_kept q own = elim (cases_Bool (makes_object k)) [
-    | inl n ↦ rw n (by more n refl)
-    | inr z ↦
-        let first = first_undecided k z in
-        let none = none_due g q.thread k (first_row k) first in
-        rw z (record {
-          gates = refl;
-          loads = first_unloaded c k;
-          holds = refl;
-          waits = none.0;
-          stands = record { serves = z; passes = refl; thread = own; command = refl; known = none.1; going = not_over (first_row k) first };
-          settled = tt;
-        })
-  ]
+  entered_kept q own = by more refl
     where
-      by : (b : Bool) → makes_object k ≡ true → more ≡ b → EnteredKept q (cond b (Mark (scanning q)) Count)
-      by true n e = record { gates = refl; loads = refl; holds = refl; waits = refl; stands = record { allocates = n; passes = refl; thread = own }; settled = tt }
-      by false n e = record { gates = refl; loads = refl; holds = refl; waits = refl; stands = n; settled = e }
+      here : (b : Bool) → makes_object k ≡ b → more ≡ false → EnteredKept q (cond b Count (Serve (at_first_row q k)))
+      here true n e = record { gates = refl; loads = refl; holds = refl; waits = refl; stands = n; settled = e }
+      here false z e =
+          let first = first_undecided k z in
+          let none = none_due g q.thread k (first_row k) first in
+          record {
+            gates = refl;
+            loads = first_unloaded c k;
+            holds = refl;
+            waits = none.0;
+            stands = record { serves = z; passes = refl; thread = own; command = refl; known = none.1; going = not_over (first_row k) first };
+            settled = tt;
+          }
+
+      by : (b : Bool) → more ≡ b → EnteredKept q (first_part q k b)
+      by true e = record { gates = refl; loads = refl; holds = refl; waits = refl; stands = record { passes = refl; thread = own }; settled = tt }
+      by false e = here (makes_object k) refl e
 
   more_due : more ≡ true → paid < due
   more_due e = ltb-true paid due (and_parts (not waived) (ltb paid due) e).1
 
   enter_event : (seen : ℕ) → SeenOpen seen → (gs t).stand ≡ Outside → ls t ≡ unloaded → hs t ≡ no_grey → done < all → paid ≤ due
-      → Event (heap_after h (gate_want (gates.Enter seen))) None false (pass_got (gate_entered (gate_got (gates.Enter seen) (h Phase))) t c.threads pass) (if_entered (gate_entered (gate_got (gates.Enter seen) (h Phase))) t c.threads k more (gate_got (gates.Enter seen) (h Phase))) None false false
+      → Event (heap_after h (gate_want (gates.Enter seen))) None Open (pass_got (gate_entered (gate_got (gates.Enter seen) (h Phase))) t c.threads pass) (if_entered (gate_entered (gate_got (gates.Enter seen) (h Phase))) t c.threads k more (gate_got (gates.Enter seen) (h Phase))) None false false
   enter_event seen fit out is empty low pays = elim (cases_Bool (eqb (h Phase) seen)) [
     | inl e ↦ rw e (won (eqb-true (h Phase) seen e))
     | inr e ↦ rw e (look_at (Enter gates.Look) (gate_stays c.threads (h Phase) gs gate t tl _ (sym out) (λ e. absurd cc)) is refl empty refl refl tt (tt, refl, low) (omega (arith, pays)) tt)
@@ -447,10 +468,10 @@ module _ (c : Config) (bounds : IsInBounds c) (plan : IsAdmitted c) (g : Graph) 
       sweep_is : h Phase ≡ seen → is_sweep seen ≡ is_sweep (h Phase)
       sweep_is e = ap is_sweep (sym e)
 
-      won : h Phase ≡ seen → Event (put_at h Phase (seen + 1)) None false (pass_by t c.threads (phase_of seen)) (first_part (pass_by t c.threads (phase_of seen)) k more) None false false
+      won : h Phase ≡ seen → Event (put_at h Phase (seen + 1)) None Open (pass_by t c.threads (phase_of seen)) (first_part (pass_by t c.threads (phase_of seen)) k more) None false false
       won e =
           let kept = entered_kept (pass_by t c.threads (phase_of seen)) refl in
-          subst (λ x. Event (put_at h Phase (x + 1)) None false (pass_by t c.threads (phase_of seen)) (first_part (pass_by t c.threads (phase_of seen)) k more) None false false) e
+          subst (λ x. Event (put_at h Phase (x + 1)) None Open (pass_by t c.threads (phase_of seen)) (first_part (pass_by t c.threads (phase_of seen)) k more) None false false) e
           (gate_event (h Phase + 1) (pass_by t c.threads (phase_of seen)) (first_part (pass_by t c.threads (phase_of seen)) k more)
           (subst (λ x. GateOf c.threads (h Phase + 1) (changed gs t x)) (sym kept.gates) (gate_enters c.threads (h Phase) gs gate t tl (gating c (pass_by t c.threads (phase_of seen)) Count) (omega (arith, bounds.threads)) phase.opened out refl (cycle_is e) (sweep_is e)))
           (mark_moves (h Phase + 1) (h Phase) (ap (λ (p : PhaseWord). p.closed) more_inside) (ap (λ (p : PhaseWord). p.cycle) more_inside) (ap (λ (p : PhaseWord). p.sweep) more_inside) phase)
@@ -461,7 +482,7 @@ module _ (c : Config) (bounds : IsInBounds c) (plan : IsAdmitted c) (g : Graph) 
 
   -- on the way out, at rest or to come in again
   leave_event : (p : Part) → (gs t).stand ≡ Inside → gating c pass p ≡ gating c pass Rest → ls t ≡ unloaded → loading c p ≡ unloaded → hs t ≡ no_grey → grey_of c p ≡ no_grey → waiting g p ≡ None
-      → PartKept g t pass k p → PartFits c done all p → paid + unit_to_come c p ≤ due → IsSettled due paid waived p → Event (heap_after h (gate_want gates.Leave)) None false pass p None false false
+      → PartKept g t pass k p → PartFits c done all p → paid + unit_to_come c p ≤ due → IsSettled due paid waived p → Event (heap_after h (gate_want gates.Leave)) None Open pass p None false false
   leave_event p is out unl loads empty holds waits kept fits low settled =
       let some : 1 ≤ inside_of (h Phase) = inside_some c.threads (h Phase) gs gate t tl is in
       let less = phase-less (h Phase) some in
@@ -476,65 +497,74 @@ module _ (c : Config) (bounds : IsInBounds c) (plan : IsAdmitted c) (g : Graph) 
       (gate_stays c.threads (h Phase) gs gate t tl (gating c pass p) (to ∙ sym (ap (λ (x : Gating). x.stand) stands ∙ from)) (λ _. (sym (ap (λ (x : Gating). x.cycle) stands), sym (ap (λ (x : Gating). x.sweep) stands))))
 
   -- in a Mark pass
-  module _ (m : GreyState) (is : ls t ≡ unloaded) (stands : gs t ≡ gating c pass (Mark m)) (holds : hs t ≡ grey_held (holding_at (extent c) m)) (kept : MarkKept t pass k m) (fits : GreyFits c m) (low : done < all) (pays : paid + unit_to_come c (Mark m) ≤ due) where
+  module _ (m : GreyState) (is : ls t ≡ unloaded) (stands : gs t ≡ gating c pass (Mark m)) (holds : hs t ≡ grey_held (holding_at (extent c) m)) (kept : MarkKept t pass m) (fits : GreyFits c m) (low : done < all) (pays : paid + unit_to_come c (Mark m) ≤ due) where
     abbrev mark_word : ℕ
     mark_word = h (place_of (grey_want m))
 
     pub mark_reads : GreyReads c m (h (place_of (grey_want m)))
-    mark_reads = held (place_of (grey_want m)) (marks.place_fits c m fits)
+    mark_reads = rules.held (place_of (grey_want m)) (marks.place_fits c m fits)
 
     mark_kept : GreyKept c.threads (heap_after h (grey_want m)) (changed hs t (grey_held (holding_at (extent c) (grey_got (extent c) m mark_word))))
-    mark_kept = subst (λ x. GreyKept c.threads (heap_after h (grey_want m)) (changed hs x (grey_held (holding_at (extent c) (grey_got (extent c) m mark_word))))) kept.thread (keeps c h hs m fits grey (ap hs kept.thread ∙ holds))
+    mark_kept = subst (λ x. GreyKept c.threads (heap_after h (grey_want m)) (changed hs x (grey_held (holding_at (extent c) (grey_got (extent c) m mark_word))))) kept.thread (keeps c h hs m fits rules.grey (ap hs kept.thread ∙ holds))
 
     mark_event : (b : Bool) → grey_over (grey_got (extent c) m mark_word).row ≡ b
-        → Event (heap_after h (grey_want m)) None false pass (cond b Again (Mark (grey_got (extent c) m mark_word))) None (makes_unit c (Mark m) mark_word) (finds_nothing c (Mark m) mark_word)
+        → Event (heap_after h (grey_want m)) None Open pass (cond b Again (Mark (grey_got (extent c) m mark_word))) None (makes_unit c (Mark m) mark_word) (finds_nothing c (Mark m) mark_word)
     mark_event true e = record {
       gate = stays (heap_after h (grey_want m)) Again (Mark m) (mark_phase h m.pass.thread m.pass.threads m.pass.cycle m.row) stands refl refl;
       phase = subst (λ w. IsMark w) (sym (mark_phase h m.pass.thread m.pass.threads m.pass.cycle m.row)) phase;
       shown = still (heap_after h (grey_want m)) Again (mark_words h m.pass.thread m.pass.threads m.pass.cycle m.row) is refl;
-      part = kept.allocates;
+      part = tt;
       fits = low;
       over = λ r z. absurd cc;
       told = refl;
-      grey = subst (λ x. GreyKept c.threads (heap_after h (grey_want m)) (changed hs t x)) (over_holds_none (payloads c.width) (grey_got (extent c) m mark_word).row e) mark_kept;
-      held = held_after c h (grey_want m) (marks.stores_held c m fits) held;
-      solid = λ x some last. mark_solid h m.pass.thread m.pass.threads m.pass.cycle m.row x (solid x some last);
+      rules = record {
+        grey = subst (λ x. GreyKept c.threads (heap_after h (grey_want m)) (changed hs t x)) (over_holds_none (payloads c.width) (grey_got (extent c) m mark_word).row e) mark_kept;
+        held = held_after c h (grey_want m) (marks.stores_held c m fits) rules.held;
+        taken = λ x some last. mark_solid h m.pass.thread m.pass.threads m.pass.cycle m.row x (rules.taken x some last);
+      };
       low = omega (arith, units_paid c m mark_word paid due pays);
       settled = tt;
       counted = refl;
+      lawful = tt;
     }
     mark_event false e = record {
       gate = stays (heap_after h (grey_want m)) (Mark (grey_got (extent c) m mark_word)) (Mark m) (mark_phase h m.pass.thread m.pass.threads m.pass.cycle m.row) stands refl refl;
       phase = subst (λ w. IsMark w) (sym (mark_phase h m.pass.thread m.pass.threads m.pass.cycle m.row)) phase;
       shown = still (heap_after h (grey_want m)) (Mark (grey_got (extent c) m mark_word)) (mark_words h m.pass.thread m.pass.threads m.pass.cycle m.row) is refl;
-      part = record { allocates = kept.allocates; passes = kept.passes; thread = kept.thread };
+      part = record { passes = kept.passes; thread = kept.thread };
       fits = (marks.next_fits c m mark_word fits mark_reads, low);
       over = λ r z. absurd cc;
       told = refl;
-      grey = mark_kept;
-      held = held_after c h (grey_want m) (marks.stores_held c m fits) held;
-      solid = λ x some last. mark_solid h m.pass.thread m.pass.threads m.pass.cycle m.row x (solid x some last);
+      rules = record {
+        grey = mark_kept;
+        held = held_after c h (grey_want m) (marks.stores_held c m fits) rules.held;
+        taken = λ x some last. mark_solid h m.pass.thread m.pass.threads m.pass.cycle m.row x (rules.taken x some last);
+      };
       low = units_paid c m mark_word paid due pays;
       settled = tt;
       counted = refl;
+      lawful = tt;
     }
 
   -- an allocation is answered full, and leaves the graph
-  count_event : ls t ≡ unloaded → gs t ≡ gating c pass Count → hs t ≡ no_grey → makes_object k ≡ true → Event h None true pass Leave (Some (Full 1)) false false
+  count_event : ls t ≡ unloaded → gs t ≡ gating c pass Count → hs t ≡ no_grey → makes_object k ≡ true → Event h None (Refused (Full 1)) pass Leave (Some (Full 1)) false false
   count_event is stands empty allocates = record {
     gate = stays h Leave Count refl stands refl refl;
     phase = phase;
-    shown = subst (λ x. Follows c.width c.threads (opening_blocks c) (every_name (start_graph c)) (opening_at c.width c.threads) (state x h (with_load ls t unloaded))) (sym (refused_graph g t k true allocates)) (still h Leave refl is refl);
+    shown = still h Leave refl is refl;
     part = tt;
     fits = tt;
     over = λ r e. refl;
-    told = ap (λ r. entry_of t k paid r ∷ []) (refused_reply g t k allocates);
-    grey = subst (λ x. GreyKept c.threads h x) (sym (holding_self hs t no_grey empty)) grey;
-    held = held;
-    solid = solid;
+    told = refl;
+    rules = record {
+      grey = subst (λ x. GreyKept c.threads h x) (sym (holding_self hs t no_grey empty)) rules.grey;
+      held = rules.held;
+      taken = rules.taken;
+    };
     low = omega arith;
     settled = (refl, refl);
     counted = refl;
+    lawful = (refl, allocates);
   }
 
   -- in a command
@@ -548,32 +578,32 @@ module _ (c : Config) (bounds : IsInBounds c) (plan : IsAdmitted c) (g : Graph) 
     abbrev row_decides : Bool
     row_decides = is_deciding f.command f.row (h (place_of (field_want (extent c) f)))
 
-    graph_is : graph_decided g t k row_decides ≡ graph_after g t k row_decides
-    graph_is = served_graph g t k row_decides kept.serves
+    graph_is : graph_decided g t k (if_decides row_decides) ≡ graph_after g t k row_decides
+    graph_is = step_graph g t k row_decides
 
-    told_is : entries_of t k paid (reply_due g f) ++ cond row_decides (entry_of t k paid (reply_decided g t k) ∷ []) []
-        ≡ entries_of t k paid (reply_due (graph_decided g t k row_decides) (field_got (extent c) f (h (place_of (field_want (extent c) f)))))
+    told_is : entries_of t k paid (reply_due g f) ++ told_by g t k paid (if_decides row_decides)
+        ≡ entries_of t k paid (reply_due (graph_decided g t k (if_decides row_decides)) (field_got (extent c) f (h (place_of (field_want (extent c) f)))))
     told_is =
-        ap (λ r. entries_of t k paid (reply_due g f) ++ cond row_decides (entry_of t k paid r ∷ []) []) (served_reply g t k kept.serves)
+        ap (λ x. entries_of t k paid (reply_due g f) ++ x) (step_told g t k paid row_decides)
         ∙ tell t k paid (reply_due g f) row_decides (step g t k).1 (λ e. (none_due g f.pass.thread f.command f.row (undecided f.command f.row (h (place_of (field_want (extent c) f))) e)).0) ∙ ap (entries_of t k paid) (sym moves.reply)
         ∙ sym (ap (λ x. entries_of t k paid (reply_due x (field_got (extent c) f (h (place_of (field_want (extent c) f)))))) graph_is)
 
     row_grey : (p : Part) → grey_of c p ≡ no_grey → GreyKept c.threads (heap_after h (field_want (extent c) f)) (changed hs t (grey_of c p))
-    row_grey p e = subst (λ x. GreyKept c.threads (heap_after h (field_want (extent c) f)) x) (sym (ap (changed hs t) e ∙ holding_self hs t no_grey empty)) (kept_other c.threads h hs (field_want (extent c) f) (field_other c f) grey)
+    row_grey p e = subst (λ x. GreyKept c.threads (heap_after h (field_want (extent c) f)) x) (sym (ap (changed hs t) e ∙ holding_self hs t no_grey empty)) (kept_other c.threads h hs (field_want (extent c) f) (field_other c f) rules.grey)
 
-    row_solid : IsSolid c (heap_after h (field_want (extent c) f))
-    row_solid x some last = ap is_free (field_colour c h f x) ∙ solid x some last
+    row_taken : AreTaken c (heap_after h (field_want (extent c) f))
+    row_taken x some last = ap is_free (field_colour c h f x) ∙ rules.taken x some last
 
     row_shown : (l : Loading) → loading_of (extent c) (field_got (extent c) f (h (place_of (field_want (extent c) f)))) ≡ l
-        → Follows c.width c.threads (opening_blocks c) (every_name (start_graph c)) (opening_at c.width c.threads) (state (graph_decided g t k row_decides) (heap_after h (field_want (extent c) f)) (with_load ls t l))
+        → Follows c.width c.threads (opening_blocks c) (every_name (start_graph c)) (opening_at c.width c.threads) (state (graph_decided g t k (if_decides row_decides)) (heap_after h (field_want (extent c) f)) (with_load ls t l))
     row_shown l e = subst (λ x. Follows c.width c.threads (opening_blocks c) (every_name (start_graph c)) (opening_at c.width c.threads) (state x (heap_after h (field_want (extent c) f)) (with_load ls t l))) (sym graph_is)
         (subst (λ x. Follows c.width c.threads (opening_blocks c) (every_name (start_graph c)) (opening_at c.width c.threads) (state (graph_after g t k row_decides) (heap_after h (field_want (extent c) f)) (with_load ls t x))) e moves.follows)
 
-    counted_is : (o : Option Reply) → works (cond row_decides (entry_of t k paid (reply_decided g t k) ∷ []) []) ≡ works (entries_of t k paid o)
-    counted_is o = no_works t k paid (reply_decided g t k) row_decides unpaid ∙ sym (no_work t k paid o unpaid)
+    counted_is : (o : Option Reply) → works (told_by g t k paid (if_decides row_decides)) ≡ works (entries_of t k paid o)
+    counted_is o = ap works (step_told g t k paid row_decides) ∙ no_works t k paid (step g t k).1 row_decides unpaid ∙ sym (no_work t k paid o unpaid)
 
     pub serve_event : (o : Option Reply) → field_reply (field_got (extent c) f (h (place_of (field_want (extent c) f)))).row ≡ o
-        → Event (heap_after h (field_want (extent c) f)) (reply_due g f) row_decides pass (if_replied o (field_got (extent c) f (h (place_of (field_want (extent c) f))))) o false false
+        → Event (heap_after h (field_want (extent c) f)) (reply_due g f) (if_decides row_decides) pass (if_replied o (field_got (extent c) f (h (place_of (field_want (extent c) f))))) o false false
     serve_event None e = record {
       gate = stays (heap_after h (field_want (extent c) f)) (Serve (field_got (extent c) f (h (place_of (field_want (extent c) f))))) (Serve f) (field_phase c h f) stands refl refl;
       phase = subst (λ w. IsMark w) (sym (field_phase c h f)) phase;
@@ -582,12 +612,15 @@ module _ (c : Config) (bounds : IsInBounds c) (plan : IsAdmitted c) (g : Graph) 
       fits = (field_fits c f (h (place_of (field_want (extent c) f))) fits reads, low);
       over = λ r z. absurd cc;
       told = told_is;
-      grey = row_grey (Serve (field_got (extent c) f (h (place_of (field_want (extent c) f))))) refl;
-      held = held_after c h (field_want (extent c) f) (stores_held c f fits) held;
-      solid = row_solid;
+      rules = record {
+        grey = row_grey (Serve (field_got (extent c) f (h (place_of (field_want (extent c) f))))) refl;
+        held = held_after c h (field_want (extent c) f) (stores_held c f fits) rules.held;
+        taken = row_taken;
+      };
       low = omega (arith, unpaid);
       settled = tt;
       counted = counted_is None;
+      lawful = step_lawful k row_decides;
     }
     serve_event (Some r) e = record {
       gate = stays (heap_after h (field_want (extent c) f)) Leave (Serve f) (field_phase c h f) stands refl refl;
@@ -596,18 +629,21 @@ module _ (c : Config) (bounds : IsInBounds c) (plan : IsAdmitted c) (g : Graph) 
       part = tt;
       fits = tt;
       over = λ r z. refl;
-      told = told_is ∙ ap (entries_of t k paid) (reply_waits (graph_decided g t k row_decides) (field_got (extent c) f (h (place_of (field_want (extent c) f)))) r e);
-      grey = row_grey Leave refl;
-      held = held_after c h (field_want (extent c) f) (stores_held c f fits) held;
-      solid = row_solid;
+      told = told_is ∙ ap (entries_of t k paid) (reply_waits (graph_decided g t k (if_decides row_decides)) (field_got (extent c) f (h (place_of (field_want (extent c) f)))) r e);
+      rules = record {
+        grey = row_grey Leave refl;
+        held = held_after c h (field_want (extent c) f) (stores_held c f fits) rules.held;
+        taken = row_taken;
+      };
       low = omega arith;
       settled = (refl, refl);
       counted = counted_is (Some r);
+      lawful = step_lawful k row_decides;
     }
 
   -- the event of each part
   pub part_event : (p : Part) → gs t ≡ gating c pass p → ls t ≡ loading c p → hs t ≡ grey_of c p → PartKept g t pass k p → PartFits c done all p → paid + unit_to_come c p ≤ due → IsSettled due paid waived p → (makes_object k ≡ false → paid ≡ 0) → (p ≡ Rest → done < all)
-      → Event (heap_after h (part_want c p)) (waiting g p) (decides c p (h (place_of (part_want c p)))) (pass_got (part_entered c p (h (place_of (part_want c p)))) t c.threads pass) (part_got c t k more p (h (place_of (part_want c p)))) (part_reply c p (h (place_of (part_want c p)))) (makes_unit c p (h (place_of (part_want c p)))) (finds_nothing c p (h (place_of (part_want c p))))
+      → Event (heap_after h (part_want c p)) (waiting g p) (verdict c p (h (place_of (part_want c p)))) (pass_got (part_entered c p (h (place_of (part_want c p)))) t c.threads pass) (part_got c t k more p (h (place_of (part_want c p)))) (part_reply c p (h (place_of (part_want c p)))) (makes_unit c p (h (place_of (part_want c p)))) (finds_nothing c p (h (place_of (part_want c p))))
   part_event Rest stands is empty kept fits pays settled served low = look_event (ap (λ (x : Gating). x.stand) stands) is empty (low refl) (omega (arith, pays))
   part_event (Enter gates.Look) stands is empty kept fits pays settled served low = look_event (ap (λ (x : Gating). x.stand) stands) is empty fits.2 (omega (arith, pays))
   part_event (Enter (gates.Enter seen)) stands is empty kept fits pays settled served low = enter_event seen fits.0 (ap (λ (x : Gating). x.stand) stands) is empty fits.2 (omega (arith, pays))
@@ -629,8 +665,8 @@ module _ (c : Config) (bounds : IsInBounds c) (plan : IsAdmitted c) (g : Graph) 
   part_reads (Enter (gates.Enter seen)) is kept fits = (phase_is, began)
   part_reads (Enter _) is kept fits = absurd kept
   part_reads (Serve f) is kept fits = field_reads c bounds (opening_blocks c) (opening_low c plan) (every_name (start_graph c)) (opening_at c.width c.threads) g h ls shown t f fits.0 kept.thread is kept.going
-  part_reads (Mark m) is kept fits = held (place_of (grey_want m)) (marks.place_fits c m fits.0)
-  part_reads Count is kept fits = held FreeCount refl
+  part_reads (Mark m) is kept fits = rules.held (place_of (grey_want m)) (marks.place_fits c m fits.0)
+  part_reads Count is kept fits = rules.held FreeCount refl
   part_reads Again is kept fits = phase_is
   part_reads Leave is kept fits = phase_is
 

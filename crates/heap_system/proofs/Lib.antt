@@ -13,3 +13,4 @@ pub mod Waiting
 pub mod Older
 pub mod Making
 pub mod Jobs
+pub mod Waived

@@ -13,7 +13,11 @@ use Rattle.never_heap.specs.declared.Command.{Command}
 use Rattle.never_heap.specs.declared.Command.TheVariants as commands
 use Rattle.never_heap.specs.declared.Entry.{Entry}
 use Rattle.never_heap.specs.declared.Reply.{Reply}
+use Rattle.std.specs.List.{AllByRecursion}
+use Rattle.std.proofs.lemmas.List.Elements.{All-from_recursion}
 use Rattle.never_heap.specs.Bounds.{IsCommandInBounds}
+use Rattle.never_heap.specs.Jobs.{IsTraceInBounds}
+use Rattle.heap_system.specs.Machines.{IsJob}
 use Rattle.never_heap.specs.RightWork.{units_owed}
 use Rattle.never_heap.specs.Steps.{blocks_of, makes_object}
 use Rattle.block_store.proofs.Registers.{end_more}
@@ -25,6 +29,7 @@ use Rattle.heap_machine.specs.declared.pass.Pass.{Pass}
 use Rattle.heap_machine.specs.Readings.{IsPhaseWord}
 use Rattle.heap_machine.specs.declared.gate.GateRow.{GateRow}
 use Rattle.heap_machine.specs.declared.gate.GateRow.TheVariants as gates
+use Rattle.barrier_steps.specs.Rows.{at_first_row}
 use Rattle.barrier_steps.specs.Fits.{IsThread}
 use Rattle.barrier_steps.proofs.FieldRows.{first_fits}
 use Rattle.grey_steps.specs.Rows.{GreyState, grey_got, grey_unit, scanning}
@@ -32,7 +37,7 @@ use Rattle.grey_steps.specs.Ends.{is_blackening}
 use Rattle.grey_steps.proofs.Ends.{unit_after, unit_once}
 use Rattle.heap_system.specs.declared.local.Local.TheInside.{Inside}
 use Rattle.heap_system.specs.declared.local.Part.{Part}
-use Rattle.heap_system.specs.declared.local.Part.TheVariants.{Enter, Mark, Count, Leave}
+use Rattle.heap_system.specs.declared.local.Part.TheVariants.{Enter, Serve, Mark, Count, Leave}
 use Rattle.heap_system.specs.Locals.{LocalState, IsLocal, PartFits, command_of, owed, owes, pass_by, first_part, if_entered, unit_to_come, works, entry_of}
 
 -- what is seen of a thread
@@ -52,10 +57,14 @@ blocks_low c (commands.Len s) h = omega arith
 blocks_low c (commands.Same a b) h = omega arith
 blocks_low c (commands.Say s) h = omega arith
 
+-- the trace of a thread of a job
+pub each_at : (c : Config) (traces : List (List Command)) → IsJob c traces → (t : ℕ) → t < c.threads → IsTraceInBounds c (get_or traces t [])
+each_at c traces job t tl = All-from_recursion (IsTraceInBounds c) traces job.bounds.each t [] (omega (arith, job.bounds.threads))
+
 -- the command at any place of a trace is in bounds, and so is what stands for none
-pub bounds_at : (c : Config) (ks : List Command) (i : ℕ) → All (IsCommandInBounds c) ks → IsCommandInBounds c (get_or ks i (commands.Nil 0))
+pub bounds_at : (c : Config) (ks : List Command) (i : ℕ) → AllByRecursion (IsCommandInBounds c) ks → IsCommandInBounds c (get_or ks i (commands.Nil 0))
 bounds_at c ks i all = elim (cases_lt i (length ks)) [
-  | inl low ↦ all i (commands.Nil 0) low
+  | inl low ↦ All-from_recursion (IsCommandInBounds c) ks all i (commands.Nil 0) low
   | inr out ↦ subst (λ k. IsCommandInBounds c k) (sym (get_or_past ks i (commands.Nil 0) out)) (omega arith)
 ]
 
@@ -78,27 +87,23 @@ units_low l k =
 
 -- the first part of a command that its thread has entered for
 pub first_part_fits : (c : Config) (done all : ℕ) (p : Pass) (k : Command) (more : Bool) → p.threads ≡ c.threads → IsThread c p.thread → c.blocks ≤ 65535 → IsCommandInBounds c k → done < all → PartFits c done all (first_part p k more)
-first_part_fits c done all p k more same thread blocks inside low = elim (cases_Bool (makes_object k)) [
-  | inl e ↦ rw e (here more)
-  | inr e ↦ rw e (first_fits c p k thread (ranges.in_range c k inside), low)
-]
+first_part_fits c done all p k true same thread blocks inside low = (record { threads = same; few = omega (arith, same, thread.few); blocks = blocks; thread = omega (arith, same, thread.thread); row = omega (arith, thread.thread) }, low)
+first_part_fits c done all p k false same thread blocks inside low = here (makes_object k)
   where
-    here : (b : Bool) → PartFits c done all (cond b (Mark (scanning p)) Count)
-    here true = (record { threads = same; few = omega (arith, same, thread.few); blocks = blocks; thread = omega (arith, same, thread.thread); row = omega (arith, thread.thread) }, low)
-    here false = low
+    here : (b : Bool) → PartFits c done all (cond b Count (Serve (at_first_row p k)))
+    here true = low
+    here false = (first_fits c p k thread (ranges.in_range c k inside), low)
 
 pub opening_room : (c : Config) → IsAdmitted c → registers_end c.width c.threads ≤ c.blocks
 opening_room c plan = omega (arith, plan.opens, plan.room)
 
 pub first_part_pays : (c : Config) (p : Pass) (k : Command) (more : Bool) (paid due : ℕ) → paid ≤ due → (more ≡ true → paid < due) → paid + unit_to_come c (first_part p k more) ≤ due
-first_part_pays c p k more paid due low some = elim (cases_Bool (makes_object k)) [
-  | inl e ↦ rw e (here more some)
-  | inr e ↦ rw e (omega arith)
-]
+first_part_pays c p k true paid due low some = omega (arith, some refl)
+first_part_pays c p k false paid due low some = here (makes_object k)
   where
-    here : (b : Bool) → (b ≡ true → paid < due) → paid + unit_to_come c (cond b (Mark (scanning p)) Count) ≤ due
-    here true f = omega (arith, f refl)
-    here false f = omega arith
+    here : (b : Bool) → paid + unit_to_come c (cond b Count (Serve (at_first_row p k))) ≤ due
+    here true = omega arith
+    here false = omega arith
 
 -- a unit is new behind the event that makes the block under scan black
 new_unit : (a b u : Bool) → b ≡ (a || u) → (a ≡ true → u ≡ false) → (b && not a) ≡ u
@@ -220,7 +225,7 @@ paid_low l k = omega (arith, k.paid, owed_low l k, units_low l k)
 
 pub worked_low : (l : LocalState) → IsLocal l → works l.log ≤ 2 ^ 45
 worked_low l k =
-    let a : length l.log * (l.rate * l.config.object) ≤ 131072 * (l.rate * l.config.object) = mul-le-mul_right (l.rate * l.config.object) (omega (arith, k.log, k.trace.short)) in
+    let a : length l.log * (l.rate * l.config.object) ≤ 131072 * (l.rate * l.config.object) = mul-le-mul_right (l.rate * l.config.object) (omega (arith, k.log, k.trace.few)) in
     omega (arith, k.worked, units_low l k)
 
 -- a thread in the first part of a pass that begins

@@ -13,13 +13,15 @@ use Rattle.heap_machine.specs.declared.op.Op.{Op}
 use Rattle.heap_system.specs.declared.local.Part.{Part}
 use Rattle.heap_system.specs.declared.local.Part.TheVariants.{Rest, Enter, Serve, Mark, Count, Again, Leave}
 use Rattle.heap_system.specs.declared.Turn.{Turn}
-use Rattle.heap_system.specs.Locals.{LocalState, IsTrace, works, command_of, owed, entries_of, is_rest, is_done, part_want, part_step, turn_of, local_got, at_start, PartReads}
+use Rattle.never_heap.specs.Jobs.{IsTraceInBounds}
+use Rattle.heap_system.specs.Locals.{LocalState, works, command_of, owed, entries_of, is_rest, is_done, part_want, part_step, turn_of, local_got, at_start, PartReads}
 use Rattle.heap_system.specs.Machines.{State, no_local, local_at, word_read, event_done, has_event, turned, answer, Run, next, after_turns, IsJob, IsOpening, starts_from, opened, IsRunOf}
 use Rattle.heap_system.specs.Pictures.{waiting}
 use Rattle.heap_system.specs.Systems.{Whole, traces_of, logs_of, units_of, AllDone, IsReached, IsFinished}
 use Rattle.heap_system.specs.Units.{units_made}
 use Rattle.rate_plan.specs.Rates.{IsRate, IsAdmitted}
 use Rattle.rate_plan.proofs.Plans.{found}
+use Rattle.heap_system.proofs.Paying.{each_at}
 use Rattle.heap_system.proofs.Kept.{Kept, IsSettled}
 use Rattle.heap_system.proofs.Turning.{cell, sums, reads}
 use Rattle.heap_system.proofs.Always.{length_starts, run_kept}
@@ -53,9 +55,9 @@ turn_facts c s t l k tl is =
     record {
       same = same;
       config = config;
-      cell = rw config (rw same (cell c (traces_of s) k.job.bounds k.job.plan (record { state = s; order = k.run.order }) kept t tl));
-      sums = rw config (rw same (sums c (traces_of s) k.job.bounds k.job.plan (record { state = s; order = k.run.order }) kept t tl));
-      reads = rw config (rw same (reads c (traces_of s) k.job.bounds k.job.plan (record { state = s; order = k.run.order }) kept t tl));
+      cell = rw config (rw same (cell c (traces_of s) k.job.bounds.config k.job.plan (record { state = s; order = k.run.order }) kept t tl));
+      sums = rw config (rw same (sums c (traces_of s) k.job.bounds.config k.job.plan (record { state = s; order = k.run.order }) kept t tl));
+      reads = rw config (rw same (reads c (traces_of s) k.job.bounds.config k.job.plan (record { state = s; order = k.run.order }) kept t tl));
     }
 
 -- the traces stay
@@ -187,7 +189,7 @@ all_done c s k done = record {
       | inl tl ↦
           let d = and_parts (is_rest (local_at c s t).part) (eqb (length (local_at c s t).log) (length (local_at c s t).trace)) (done t tl) in
           ap (map (λ (e : Entry). e.command)) (logged t tl) ∙ (kept.locals t tl).said ∙ ap (λ n. take n (local_at c s t).trace) (eqb-true _ _ d.1) ∙ take-length (local_at c s t).trace ∙ (kept.locals t tl).trace
-      | inr out ↦ ap (map (λ (e : Entry). e.command)) (kept.foreign t out) ∙ sym (get_or_past (traces_of s) t [] (omega (arith, k.job.count)))
+      | inr out ↦ ap (map (λ (e : Entry). e.command)) (kept.foreign t out) ∙ sym (get_or_past (traces_of s) t [] (omega (arith, k.job.bounds.threads)))
     ]
 
 starts_more : (c : Config) (rate t : ℕ) (traces : List (List Command)) (trace : List Command) → starts_from c rate t (traces ++ trace ∷ []) ≡ starts_from c rate t traces ++ at_start c rate (t + length traces) trace ∷ []
@@ -245,10 +247,10 @@ module _ {V : Type 0} (f : V → List Command) (c : Config) (all ys rest zs : Li
   number_low =
       let e : length ys + suc (length zs) ≡ length all = sym (length-append ys (x ∷ zs)) ∙ ap length whole_is in
       let m : length (map f all) ≡ length all = length-map all f in
-      omega (arith, number, job.count)
+      omega (arith, number, job.bounds.threads)
 
-  pub trace_fits : IsTrace c (f x)
-  trace_fits = subst (λ k. IsTrace c k) (ap (λ i. get_or (map f all) i []) number ∙ sym (ap (λ k. get_or (map f k) (length ys) []) whole_is) ∙ at_middle f ys zs x) (job.each n number_low)
+  pub trace_fits : IsTraceInBounds c (f x)
+  trace_fits = subst (λ k. IsTraceInBounds c k) (ap (λ i. get_or (map f all) i []) number ∙ sym (ap (λ k. get_or (map f k) (length ys) []) whole_is) ∙ at_middle f ys zs x) (each_at c (map f all) job n number_low)
 
   pub splits_on : (ys ++ x ∷ []) ++ zs ≡ all
   splits_on = append_assoc ys (x ∷ []) zs ∙ whole_is

@@ -13,8 +13,9 @@ use Rattle.never_heap.specs.declared.Entry.{Entry}
 use Rattle.never_heap.specs.declared.Reply.{Reply}
 use Rattle.never_heap.specs.Graphs.{Graph, start_graph, register_of}
 use Rattle.never_heap.specs.declared.Reply.TheVariants.{Full}
+use Rattle.std.specs.List.{AllByRecursion}
 use Rattle.never_heap.specs.Bounds.{IsCommandInBounds}
-use Rattle.never_heap.specs.Histories.{HistoryItem, is_full, replay, part, Legal, starts_in, work_in}
+use Rattle.never_heap.specs.Histories.{HistoryItem, Did, replay, part, Legal, starts_in, work_in}
 use Rattle.never_heap.specs.RightWork.{units_owed}
 use Rattle.never_heap.specs.Steps.{step, makes_object}
 use Rattle.never_heap.proofs.Answering.{others_have_none}
@@ -37,9 +38,9 @@ use Rattle.barrier_steps.specs.declared.rows.FieldRow.{FieldRow}
 use Rattle.barrier_steps.specs.declared.rows.FieldRow.TheVariants as rows
 use Rattle.heap_system.specs.declared.local.Part.{Part}
 use Rattle.heap_system.specs.declared.local.Part.TheVariants.{Rest, Enter, Serve, Mark, Count, Again, Leave}
-use Rattle.heap_system.specs.Locals.{LocalState, command_of, owed, owes, is_rest, is_done, part_want, part_got, part_reply, decides, part_entered, pass_got, makes_unit, finds_nothing, paid_got, waived_got, entry_of, entries_of, works, local_got, unit_to_come, IsLocal, PartFits, PartReads}
+use Rattle.heap_system.specs.Locals.{LocalState, command_of, owed, owes, is_rest, is_done, part_want, part_got, part_reply, Verdict, Open, AsStep, Refused, verdict, part_entered, pass_got, makes_unit, finds_nothing, paid_got, waived_got, entry_of, entries_of, works, local_got, unit_to_come, IsLocal, PartFits, PartReads}
 use Rattle.heap_system.specs.Systems.{logs_of, units_of}
-use Rattle.heap_system.specs.Machines.{reply_decided, no_local, local_at, word_read, event_done, has_event, entry_decided, Run, next}
+use Rattle.heap_system.specs.Machines.{no_local, local_at, word_read, event_done, has_event, entries_by, Run, next}
 use Rattle.heap_system.specs.Units.{IsWithin}
 use Rattle.heap_system.specs.Pictures.{gating, loading, waiting, heap_in}
 use Rattle.barrier_steps.specs.Operands.{to_register, from_register}
@@ -49,55 +50,57 @@ use Rattle.heap_machine.specs.declared.pass.Pass.{Pass}
 use Rattle.heap_system.proofs.Paying.{bounds_at, works_append, answered_in}
 use Rattle.heap_system.proofs.Moves.{state}
 use Rattle.heap_system.proofs.Steady.{never_full, register_stays}
-use Rattle.heap_system.proofs.Kept.{grey_of, PartKept, LocalKept, IsSolid, loads_in, gates_in, holdings_in, Kept, EventKept, graph_decided, served_reply, refused_reply, part_event, part_reads, part_sum, part_place, IsMark}
-
--- an entry that is answered full changes nothing
-after_decided : (g new : Graph) (r : Reply) (x : Bool) → is_full r ≡ false → cond (is_full (cond x (Full 1) r)) g new ≡ cond (not x) new g
-after_decided g new r true e = refl
-after_decided g new r false e = ap (λ b. cond b g new) e
+use Rattle.heap_system.proofs.Kept.{grey_of, PartKept, LocalKept, Rules, loads_in, gates_in, holdings_in, Kept, EventKept, graph_decided, told_by, IsLawful, part_event, part_reads, part_sum, part_place, IsMark}
 
 -- the order with an entry more, or as it was
 module _ (c : Config) (order : List HistoryItem) (t : ℕ) (k : Command) (work : ℕ) where
-  abbrev pub order_after : Bool → List HistoryItem
-  order_after b = order ++ cond b (entry_decided c t k work order ∷ []) []
+  abbrev pub order_after : Verdict → List HistoryItem
+  order_after v = order ++ entries_by c t k work order v
 
-  abbrev entry_here : Entry
-  entry_here = entry_of t k work (reply_decided (replay c order) t k)
+  abbrev entry_with : Reply → Entry
+  entry_with r = entry_of t k work r
 
-  graph_grows : (b : Bool) → replay c (order_after b) ≡ graph_decided (replay c order) t k b
-  graph_grows true = replay_more (start_graph c) order (entry_decided c t k work order) ∙ after_decided (replay c order) (step (replay c order) t k).0 (step (replay c order) t k).1 (makes_object k) (never_full (replay c order) t k)
-  graph_grows false = ap (replay c) (append-nil order)
+  abbrev reply_here : Reply
+  reply_here = (step (replay c order) t k).1
 
-  pub part_grows : (b : Bool) → part t (order_after b) ≡ part t order ++ cond b (entry_of t k work (reply_decided (replay c order) t k) ∷ []) []
-  part_grows true = part_append t order (entry_decided c t k work order ∷ []) ∙ ap (λ x. part t order ++ cond x (entry_here ∷ []) []) (eq-eqb t t refl)
-  part_grows false = ap (part t) (append-nil order) ∙ sym (append-nil (part t order))
+  graph_grows : (v : Verdict) → IsLawful k v → replay c (order_after v) ≡ graph_decided (replay c order) t k v
+  graph_grows Open l = ap (replay c) (append-nil order)
+  graph_grows AsStep l = replay_more (start_graph c) order (Did (entry_with reply_here)) ∙ ap (λ x. cond x (replay c order) (step (replay c order) t k).0) (never_full (replay c order) t k)
+  graph_grows (Refused r) l = replay_more (start_graph c) order (Did (entry_with r)) ∙ ap (λ x. cond x (replay c order) (step (replay c order) t k).0) l.0
 
-  pub part_stays : (b : Bool) (u : ℕ) → (t ≡ u → ⊥) → part u (order_after b) ≡ part u order
-  part_stays true u other = part_append u order (entry_decided c t k work order ∷ []) ∙ ap (λ x. part u order ++ cond x (entry_here ∷ []) []) (ne_eqb t u other) ∙ append-nil (part u order)
-  part_stays false u other = ap (part u) (append-nil order)
+  pub part_grows : (v : Verdict) → part t (order_after v) ≡ part t order ++ told_by (replay c order) t k work v
+  part_grows Open = ap (part t) (append-nil order) ∙ sym (append-nil (part t order))
+  part_grows AsStep = part_append t order (Did (entry_with reply_here) ∷ []) ∙ ap (λ x. part t order ++ cond x (entry_with reply_here ∷ []) []) (eq-eqb t t refl)
+  part_grows (Refused r) = part_append t order (Did (entry_with r) ∷ []) ∙ ap (λ x. part t order ++ cond x (entry_with r ∷ []) []) (eq-eqb t t refl)
 
-  legal_grows : (b : Bool) → Legal c order → Legal c (order_after b)
-  legal_grows true legal = legal_history_more c order (entry_decided c t k work order) legal (elim (cases_Bool (makes_object k)) [
-    | inl n ↦ inr (ap is_full (refused_reply (replay c order) t k n), n)
-    | inr z ↦ inl (served_reply (replay c order) t k z)
-  ])
-  legal_grows false legal = subst (λ o. Legal c o) (sym (append-nil order)) legal
+  entry_stays : (r : Reply) (u : ℕ) → (t ≡ u → ⊥) → part u (order ++ Did (entry_with r) ∷ []) ≡ part u order
+  entry_stays r u other = part_append u order (Did (entry_with r) ∷ []) ∙ ap (λ x. part u order ++ cond x (entry_with r ∷ []) []) (ne_eqb t u other) ∙ append-nil (part u order)
 
-  registers_stay : (b : Bool) (u q : ℕ) → t < length (replay c order).mutators → (t ≡ u → ⊥) → register_of (graph_decided (replay c order) t k b) u q ≡ register_of (replay c order) u q
-  registers_stay b u q there other = by (b && not (makes_object k))
-    where
-      by : (x : Bool) → register_of (cond x (step (replay c order) t k).0 (replay c order)) u q ≡ register_of (replay c order) u q
-      by true = register_stays (replay c order) t u q k there other
-      by false = refl
+  pub part_stays : (v : Verdict) (u : ℕ) → (t ≡ u → ⊥) → part u (order_after v) ≡ part u order
+  part_stays Open u other = ap (part u) (append-nil order)
+  part_stays AsStep u other = entry_stays reply_here u other
+  part_stays (Refused r) u other = entry_stays r u other
+
+  legal_grows : (v : Verdict) → IsLawful k v → Legal c order → Legal c (order_after v)
+  legal_grows Open l legal = subst (λ o. Legal c o) (sym (append-nil order)) legal
+  legal_grows AsStep l legal = legal_history_more c order (Did (entry_with reply_here)) legal (inl refl)
+  legal_grows (Refused r) l legal = legal_history_more c order (Did (entry_with r)) legal (inr l)
+
+  registers_stay : (v : Verdict) (u q : ℕ) → t < length (replay c order).mutators → (t ≡ u → ⊥) → register_of (graph_decided (replay c order) t k v) u q ≡ register_of (replay c order) u q
+  registers_stay Open u q there other = refl
+  registers_stay AsStep u q there other = register_stays (replay c order) t u q k there other
+  registers_stay (Refused r) u q there other = refl
 
   -- the starts stay, and the work grows by that of the entry
-  starts_stay : (b : Bool) → starts_in (order_after b) ≡ starts_in order
-  starts_stay true = omega (arith, starts_append order (entry_decided c t k work order ∷ []))
-  starts_stay false = ap starts_in (append-nil order)
+  starts_stay : (v : Verdict) → starts_in (order_after v) ≡ starts_in order
+  starts_stay Open = ap starts_in (append-nil order)
+  starts_stay AsStep = omega (arith, starts_append order (Did (entry_with reply_here) ∷ []))
+  starts_stay (Refused r) = omega (arith, starts_append order (Did (entry_with r) ∷ []))
 
-  work_grows : (b : Bool) → work_in (order_after b) ≡ work_in order + works (cond b (entry_here ∷ []) [])
-  work_grows true = work_append order (entry_decided c t k work order ∷ [])
-  work_grows false = ap work_in (append-nil order) ∙ omega arith
+  work_grows : (v : Verdict) → work_in (order_after v) ≡ work_in order + works (told_by (replay c order) t k work v)
+  work_grows Open = ap work_in (append-nil order) ∙ omega arith
+  work_grows AsStep = work_append order (Did (entry_with reply_here) ∷ [])
+  work_grows (Refused r) = work_append order (Did (entry_with r) ∷ [])
 
 -- and so do the logs of all threads, by what is put in one
 units_grow : (ls : List LocalState) (t : ℕ) (new d : LocalState) (es : List Entry) → t < length ls → new.log ≡ (get_or ls t d).log ++ es → units_of (map (λ (l : LocalState). l.log) (set ls t new)) ≡ units_of (map (λ (l : LocalState). l.log) ls) + works es
@@ -116,7 +119,7 @@ said_more log trace e k is following low said =
 -- the other threads' rows say the same of a graph in which their registers are the same
 row_stays : (g new : Graph) (u : ℕ) (k : Command) (r : FieldRow) → ((q : ℕ) → register_of new u q ≡ register_of g u q) → (KnownAt g u k r → KnownAt new u k r) × (due_at new u k r ≡ due_at g u k r)
 row_stays g new u k (rows.LoadOwner word) same = (λ x. x, rw (same (to_register k)) refl)
-row_stays g new u k (rows.StoreLate word value) same = (let s : register_of new u (to_register k) ≡ register_of g u (to_register k) = same (to_register k) in (λ x. x ∙ sym s, rw s refl))
+row_stays g new u k (rows.StorePending word value) same = (let s : register_of new u (to_register k) ≡ register_of g u (to_register k) = same (to_register k) in (λ x. x ∙ sym s, rw s refl))
 row_stays g new u k (rows.LoadSaidOwner word) same = (λ x. x, rw (same (from_register k)) refl)
 row_stays g new u k _ same = (λ x. x, refl)
 
@@ -150,14 +153,15 @@ local_stays c given g new order later u l kept same more =
     }
 
 -- one entry more, or none
-within_more : (w : Width) (rate : ℕ) (es : List Entry) (e : Entry) (b : Bool) → IsWithin w rate es → e.work ≤ units_owed w rate e.command → IsWithin w rate (es ++ cond b (e ∷ []) [])
-within_more w rate [] e true k low = (low, tt)
-within_more w rate [] e false k low = tt
-within_more w rate (x ∷ es) e b k low = (k.0, within_more w rate es e b k.1 low)
+within_more : (w : Width) (rate : ℕ) (es : List Entry) (g : Graph) (t : ℕ) (k : Command) (work : ℕ) (v : Verdict) → IsWithin w rate es → work ≤ units_owed w rate k → IsWithin w rate (es ++ told_by g t k work v)
+within_more w rate [] g t k work Open is low = tt
+within_more w rate [] g t k work AsStep is low = (low, tt)
+within_more w rate [] g t k work (Refused r) is low = (low, tt)
+within_more w rate (x ∷ es) g t k work v is low = (is.0, within_more w rate es g t k work v is.1 low)
 
 -- the thread itself, by whether its event brought a reply
-module _ (c : Config) (given : List Command) (g : Graph) (order later : List HistoryItem) (t : ℕ) (l : LocalState) (new : Heap) (gs : ℕ → Gating) (ls : ℕ → Loading) (hs : ℕ → GreyHolding) (b : Bool) (pass : Pass) (p : Part) (unit nothing : Bool) (kept : LocalKept c given g order t l)
-    (more : part t later ≡ part t order ++ cond b (entry_of t (command_of l) l.paid (reply_decided g t (command_of l)) ∷ []) []) where
+module _ (c : Config) (given : List Command) (g : Graph) (order later : List HistoryItem) (t : ℕ) (l : LocalState) (new : Heap) (gs : ℕ → Gating) (ls : ℕ → Loading) (hs : ℕ → GreyHolding) (b : Verdict) (pass : Pass) (p : Part) (unit nothing : Bool) (kept : LocalKept c given g order t l)
+    (more : part t later ≡ part t order ++ told_by g t (command_of l) l.paid b) where
   abbrev Event : Option Reply → Type 0
   Event o = EventKept c g new gs ls hs t (command_of l) (length l.log) (length l.trace) (owed l) l.paid l.waived (waiting g l.part) b pass p o unit nothing
 
@@ -167,12 +171,12 @@ module _ (c : Config) (given : List Command) (g : Graph) (order later : List His
   -- what the order tells
   told_so : (o : Option Reply) → Event o → part t later ≡ l.log ++ (entries_of t (command_of l) l.paid o ++ entries_of t (command_of l) (paid_got o unit l.paid) (waiting (graph_decided g t (command_of l) b) p))
   told_so o event =
-      more ∙ ap (λ x. x ++ cond b (entry_of t (command_of l) l.paid (reply_decided g t (command_of l)) ∷ []) []) (kept.told ∙ ap (λ x. l.log ++ entries_of x (command_of l) l.paid (waiting g l.part)) kept.thread)
+      more ∙ ap (λ x. x ++ told_by g t (command_of l) l.paid b) (kept.told ∙ ap (λ x. l.log ++ entries_of x (command_of l) l.paid (waiting g l.part)) kept.thread)
       ∙ append_assoc l.log _ _ ∙ ap (λ x. l.log ++ x) event.told
 
   -- and no entry has more work than it owes
   within_so : IsWithin c.width l.rate (part t later)
-  within_so = subst (λ x. IsWithin c.width l.rate x) (sym more) (within_more c.width l.rate (part t order) (entry_of t (command_of l) l.paid (reply_decided g t (command_of l))) b kept.within (subst (λ (x : Config). l.paid ≤ units_owed x.width l.rate (command_of l)) kept.config (omega (arith, kept.fits.paid))))
+  within_so = subst (λ x. IsWithin c.width l.rate x) (sym more) (within_more c.width l.rate (part t order) g t (command_of l) l.paid b kept.within (subst (λ (x : Config). l.paid ≤ units_owed x.width l.rate (command_of l)) kept.config (omega (arith, kept.fits.paid))))
 
   none_moves : Event None → LocalKept c given (graph_decided g t (command_of l) b) later t (after_part l.log (paid_got None unit l.paid) (waived_got None nothing l.waived) p)
   none_moves event = record {
@@ -259,7 +263,7 @@ module _ (c : Config) (traces : List (List Command)) (bounds : IsInBounds c) (pl
   fits = subst (λ x. PartFits x (length (local_at c r.state t).log) (length (local_at c r.state t).trace) (local_at c r.state t).part) (kept.locals t tl).config (kept.locals t tl).fits.part
 
   pub inside : IsCommandInBounds c (command_of (local_at c r.state t))
-  inside = bounds_at c (local_at c r.state t).trace (length (local_at c r.state t).log) (subst (λ x. All (IsCommandInBounds x) (local_at c r.state t).trace) (kept.locals t tl).config (kept.locals t tl).fits.trace.commands)
+  inside = bounds_at c (local_at c r.state t).trace (length (local_at c r.state t).log) (subst (λ x. AllByRecursion (IsCommandInBounds x) (local_at c r.state t).trace) (kept.locals t tl).config (kept.locals t tl).fits.trace.commands)
 
   pub unpaid : makes_object (command_of (local_at c r.state t)) ≡ false → (local_at c r.state t).paid ≡ 0
   unpaid z =
@@ -279,21 +283,21 @@ module _ (c : Config) (traces : List (List Command)) (bounds : IsInBounds c) (pl
   pub reads : PartReads c (local_at c r.state t).part (word_read c r.state (local_at c r.state t))
   reads = subst (λ w. PartReads c (local_at c r.state t).part w) (sym word_is)
       (part_reads c bounds plan (replay c r.order) (heap_in c r.state) (gates_in c r.state) (loads_in c r.state) (holdings_in c r.state) t tl (local_at c r.state t).pass (command_of (local_at c r.state t)) inside (length (local_at c r.state t).log) (length (local_at c r.state t).trace) (owed (local_at c r.state t)) (local_at c r.state t).paid (local_at c r.state t).waived
-      kept.gate kept.phase kept.shown kept.grey kept.held kept.solid (local_at c r.state t).part refl (kept.locals t tl).stands fits)
+      kept.gate kept.phase kept.shown kept.rules (local_at c r.state t).part refl (kept.locals t tl).stands fits)
 
   pub sums : SumFits (op_at (extent c) (part_want c (local_at c r.state t).part)) (word_read c r.state (local_at c r.state t))
   sums = subst (λ w. SumFits (op_at (extent c) (part_want c (local_at c r.state t).part)) w) (sym word_is) (sum_fits (extent c) (part_want c (local_at c r.state t).part) _
       (part_sum c bounds plan (replay c r.order) (heap_in c r.state) (gates_in c r.state) (loads_in c r.state) (holdings_in c r.state) t tl (local_at c r.state t).pass (command_of (local_at c r.state t)) inside (length (local_at c r.state t).log) (length (local_at c r.state t).trace) (owed (local_at c r.state t)) (local_at c r.state t).paid (local_at c r.state t).waived
-      kept.gate kept.phase kept.shown kept.grey kept.held kept.solid (local_at c r.state t).part refl (kept.locals t tl).stands))
+      kept.gate kept.phase kept.shown kept.rules (local_at c r.state t).part refl (kept.locals t tl).stands))
 
   pays : (local_at c r.state t).paid + unit_to_come c (local_at c r.state t).part ≤ owed (local_at c r.state t)
   pays = subst (λ (x : Config). (local_at c r.state t).paid + unit_to_come x (local_at c r.state t).part ≤ owed (local_at c r.state t)) (kept.locals t tl).config (kept.locals t tl).fits.paid
 
-  abbrev reply_here : Option Reply
-  reply_here = part_reply c (local_at c r.state t).part (heap_in c r.state (place_of (part_want c (local_at c r.state t).part)))
+  abbrev told_here : Option Reply
+  told_here = part_reply c (local_at c r.state t).part (heap_in c r.state (place_of (part_want c (local_at c r.state t).part)))
 
-  abbrev decides_here : Bool
-  decides_here = decides c (local_at c r.state t).part (heap_in c r.state (place_of (part_want c (local_at c r.state t).part)))
+  abbrev decides_here : Verdict
+  decides_here = verdict c (local_at c r.state t).part (heap_in c r.state (place_of (part_want c (local_at c r.state t).part)))
 
   abbrev makes_here : Bool
   makes_here = makes_unit c (local_at c r.state t).part (heap_in c r.state (place_of (part_want c (local_at c r.state t).part)))
@@ -312,14 +316,14 @@ module _ (c : Config) (traces : List (List Command)) (bounds : IsInBounds c) (pl
 
   module _ (going : is_done (local_at c r.state t) ≡ false) where
     pub event : EventKept c (replay c r.order) new_heap (gates_in c r.state) (loads_in c r.state) (holdings_in c r.state) t (command_of (local_at c r.state t)) (length (local_at c r.state t).log) (length (local_at c r.state t).trace) (owed (local_at c r.state t)) (local_at c r.state t).paid (local_at c r.state t).waived
-        (waiting (replay c r.order) (local_at c r.state t).part) decides_here new_pass new_part reply_here makes_here finds_here
+        (waiting (replay c r.order) (local_at c r.state t).part) decides_here new_pass new_part told_here makes_here finds_here
     event = part_event c bounds plan (replay c r.order) (heap_in c r.state) (gates_in c r.state) (loads_in c r.state) (holdings_in c r.state) t tl (local_at c r.state t).pass (command_of (local_at c r.state t)) inside (length (local_at c r.state t).log) (length (local_at c r.state t).trace) (owed (local_at c r.state t)) (local_at c r.state t).paid (local_at c r.state t).waived
-        kept.gate kept.phase kept.shown kept.grey kept.held kept.solid (local_at c r.state t).part refl refl refl (kept.locals t tl).stands fits pays (kept.locals t tl).settled unpaid
+        kept.gate kept.phase kept.shown kept.rules (local_at c r.state t).part refl refl refl (kept.locals t tl).stands fits pays (kept.locals t tl).settled unpaid
         (rest_low (local_at c r.state t) (kept.locals t tl).fits.log going)
 
     moved : LocalKept c (get_or traces t []) (graph_decided (replay c r.order) t (command_of (local_at c r.state t)) decides_here) (order_after c r.order t (command_of (local_at c r.state t)) (local_at c r.state t).paid decides_here) t (moved_on (local_at c r.state t) t c (heap_in c r.state (place_of (part_want c (local_at c r.state t).part))))
     moved = local_moves c (get_or traces t []) (replay c r.order) r.order (order_after c r.order t (command_of (local_at c r.state t)) (local_at c r.state t).paid decides_here) t (local_at c r.state t) new_heap (gates_in c r.state) (loads_in c r.state) (holdings_in c r.state) decides_here new_pass new_part makes_here finds_here
-        (kept.locals t tl) (part_grows c r.order t (command_of (local_at c r.state t)) (local_at c r.state t).paid decides_here) reply_here event (λ x e. reply_low c _ _ (local_at c r.state t).part _ x fits e)
+        (kept.locals t tl) (part_grows c r.order t (command_of (local_at c r.state t)) (local_at c r.state t).paid decides_here) told_here event (λ x e. reply_low c _ _ (local_at c r.state t).part _ x fits e)
 
     moved_is : local_got (local_at c r.state t) (word_read c r.state (local_at c r.state t)) ≡ moved_on (local_at c r.state t) t c (heap_in c r.state (place_of (part_want c (local_at c r.state t).part)))
     moved_is =
@@ -340,8 +344,8 @@ module _ (c : Config) (traces : List (List Command)) (bounds : IsInBounds c) (pl
     holdings_new : holdings_in c (event_done c t r.state) ≡ changed (holdings_in c r.state) t (grey_of c new_part)
     holdings_new = funext _ _ (λ u. ap (λ (l : LocalState). grey_of c l.part) (local_new u) ∙ cond_of (λ (l : LocalState). grey_of c l.part) (eqb t u) _ (local_at c r.state u))
 
-    logs_new : units_of (logs_of (event_done c t r.state)) ≡ units_of (logs_of r.state) + works (entries_of t (command_of (local_at c r.state t)) (local_at c r.state t).paid reply_here)
-    logs_new = units_grow r.state.locals t (local_got (local_at c r.state t) (word_read c r.state (local_at c r.state t))) (no_local c) (entries_of t (command_of (local_at c r.state t)) (local_at c r.state t).paid reply_here) (omega (arith, kept.threads))
+    logs_new : units_of (logs_of (event_done c t r.state)) ≡ units_of (logs_of r.state) + works (entries_of t (command_of (local_at c r.state t)) (local_at c r.state t).paid told_here)
+    logs_new = units_grow r.state.locals t (local_got (local_at c r.state t) (word_read c r.state (local_at c r.state t))) (no_local c) (entries_of t (command_of (local_at c r.state t)) (local_at c r.state t).paid told_here) (omega (arith, kept.threads))
         (ap (λ (x : LocalState). x.log) moved_is)
 
     loads_new : loads_in c (event_done c t r.state) ≡ with_load (loads_in c r.state) t (loading c new_part)
@@ -351,7 +355,7 @@ module _ (c : Config) (traces : List (List Command)) (bounds : IsInBounds c) (pl
     heap_new = heap_of-after (extent c) r.state.words (part_want c (local_at c r.state t).part) place (omega (arith, kept.long))
 
     graph_new : replay c (order_after c r.order t (command_of (local_at c r.state t)) (local_at c r.state t).paid decides_here) ≡ graph_decided (replay c r.order) t (command_of (local_at c r.state t)) decides_here
-    graph_new = graph_grows c r.order t (command_of (local_at c r.state t)) (local_at c r.state t).paid decides_here
+    graph_new = graph_grows c r.order t (command_of (local_at c r.state t)) (local_at c r.state t).paid decides_here event.lawful
 
     -- after the event
     pub event_kept : Kept c traces (record { state = event_done c t r.state; order = order_after c r.order t (command_of (local_at c r.state t)) (local_at c r.state t).paid decides_here })
@@ -365,11 +369,9 @@ module _ (c : Config) (traces : List (List Command)) (bounds : IsInBounds c) (pl
           ∙ ap (λ x. state (replay c (order_after c r.order t (command_of (local_at c r.state t)) (local_at c r.state t).paid decides_here)) x (with_load (loads_in c r.state) t (loading c new_part))) (sym heap_new)
           ∙ ap (λ x. state (replay c (order_after c r.order t (command_of (local_at c r.state t)) (local_at c r.state t).paid decides_here)) (heap_in c (event_done c t r.state)) x) (sym loads_new)) event.shown;
       locals = each;
-      legal = legal_grows c r.order t (command_of (local_at c r.state t)) (local_at c r.state t).paid decides_here kept.legal;
+      legal = legal_grows c r.order t (command_of (local_at c r.state t)) (local_at c r.state t).paid decides_here event.lawful kept.legal;
       foreign = λ u ul. part_stays c r.order t (command_of (local_at c r.state t)) (local_at c r.state t).paid decides_here u (λ e. omega arith) ∙ kept.foreign u ul;
-      grey = subst (λ x. GreyKept c.threads x (holdings_in c (event_done c t r.state))) (sym heap_new) (subst (λ hs. GreyKept c.threads new_heap hs) (sym holdings_new) event.grey);
-      held = subst (λ x. IsHeld c x) (sym heap_new) event.held;
-      solid = subst (λ x. IsSolid c x) (sym heap_new) event.solid;
+      rules = subst (λ x. Rules c x (holdings_in c (event_done c t r.state))) (sym heap_new) (subst (λ hs. Rules c new_heap hs) (sym holdings_new) event.rules);
       counts = (
         starts_stay c r.order t (command_of (local_at c r.state t)) (local_at c r.state t).paid decides_here ∙ kept.counts.0,
         omega (arith, work_grows c r.order t (command_of (local_at c r.state t)) (local_at c r.state t).paid decides_here, kept.counts.1, event.counted, logs_new),
@@ -393,10 +395,10 @@ module _ (c : Config) (traces : List (List Command)) (bounds : IsInBounds c) (pl
   next_kept = elim (cases_Bool (is_done (local_at c r.state t))) [
     | inl done ↦
         let none : has_event c t r.state ≡ false = rw (lt-ltb t c.threads tl, done) refl in
-        subst (λ x. Kept c traces (record { state = cond x (event_done c t r.state) r.state; order = r.order ++ cond x (cond (decides c (local_at c r.state t).part (word_read c r.state (local_at c r.state t))) (entry_decided c t (command_of (local_at c r.state t)) (local_at c r.state t).paid r.order ∷ []) []) [] })) (sym none)
+        subst (λ x. Kept c traces (record { state = cond x (event_done c t r.state) r.state; order = r.order ++ cond x (entries_by c t (command_of (local_at c r.state t)) (local_at c r.state t).paid r.order (verdict c (local_at c r.state t).part (word_read c r.state (local_at c r.state t)))) [] })) (sym none)
         (subst (λ o. Kept c traces (record { state = r.state; order = o })) (sym (append-nil r.order)) kept)
     | inr going ↦
         let some : has_event c t r.state ≡ true = rw (lt-ltb t c.threads tl, going) refl in
-        subst (λ x. Kept c traces (record { state = cond x (event_done c t r.state) r.state; order = r.order ++ cond x (cond (decides c (local_at c r.state t).part (word_read c r.state (local_at c r.state t))) (entry_decided c t (command_of (local_at c r.state t)) (local_at c r.state t).paid r.order ∷ []) []) [] })) (sym some)
-        (subst (λ w. Kept c traces (record { state = event_done c t r.state; order = r.order ++ cond (decides c (local_at c r.state t).part w) (entry_decided c t (command_of (local_at c r.state t)) (local_at c r.state t).paid r.order ∷ []) [] })) (sym word_is) (event_kept going))
+        subst (λ x. Kept c traces (record { state = cond x (event_done c t r.state) r.state; order = r.order ++ cond x (entries_by c t (command_of (local_at c r.state t)) (local_at c r.state t).paid r.order (verdict c (local_at c r.state t).part (word_read c r.state (local_at c r.state t)))) [] })) (sym some)
+        (subst (λ w. Kept c traces (record { state = event_done c t r.state; order = r.order ++ entries_by c t (command_of (local_at c r.state t)) (local_at c r.state t).paid r.order (verdict c (local_at c r.state t).part w) })) (sym word_is) (event_kept going))
   ]

@@ -1,4 +1,5 @@
--- One thread's state, and its events as a table of rows: what each row wants, and what it becomes on the word that it read.
+-- One thread's state, and its events as a table of rows: what each row wants, and what it becomes
+-- on the word that it read.
 use Rattle.std.specs.Prelude.{ℕ, ◌+◌, ◌*◌, ◌==◌, ◌&&◌, ◌||◌, ◌++◌, ◌<◌, ◌≤◌, ◌≡◌, nat_lt, if◌then◌else◌, Bool, true, false, Option, Some, None, List, [], ◌∷◌, length, slice_index_or, All, not}
 use Rattle.block_store.specs.declared.Config.{Config}
 use Rattle.block_store.specs.declared.PhaseWord.{PhaseWord}
@@ -11,7 +12,7 @@ use Rattle.never_heap.specs.declared.Command.TheVariants as commands
 use Rattle.never_heap.specs.declared.Entry.{Entry}
 use Rattle.never_heap.specs.declared.Reply.{Reply}
 use Rattle.never_heap.specs.declared.Reply.TheVariants as replies
-use Rattle.never_heap.specs.Bounds.{IsCommandInBounds}
+use Rattle.never_heap.specs.Jobs.{IsTraceInBounds}
 use Rattle.never_heap.specs.RightWork.{units_owed}
 use Rattle.never_heap.specs.Steps.{makes_object}
 use Rattle.heap_machine.specs.Operations.{Operation, Load}
@@ -37,8 +38,10 @@ use Rattle.heap_system.specs.declared.local.Part.TheVariants.{Rest, Enter, Serve
 use Rattle.heap_system.specs.declared.Turn.{Turn}
 use Rattle.heap_system.specs.declared.Turn.TheVariants as turns
 
--- A thread of a heap: its commands, the entries of those that are done, and the row at which it stands. The rate is the number of units that an
--- allocation owes for each of its blocks; paid are those made for the command in hand; the rest is waived where nothing was found to mark. The pass is the one of its last entry.
+-- A thread of a heap: its commands, the entries of those that are done, and the row at which it
+-- stands. The rate is the number of units that an allocation owes for each of its blocks; paid are
+-- those made for the command in hand; the rest is waived where nothing was found to mark. The pass
+-- is the one of its last entry.
 pub record LocalState : Type 0 where
   pub config : Config
   pub rate : ℕ
@@ -62,8 +65,8 @@ owed l = units_owed l.config.width l.rate (command_of l)
 abbrev pub owes : LocalState → Bool
 owes l = not l.waived && nat_lt l.paid (owed l)
 
--- what a part of a thread's work says before its next event: the operation that it wants, where the thread stands at the gate, what it holds and has loaded, and the
--- units that it may still make
+-- what a part of a thread's work says before its next event: the operation that it wants, where the
+-- thread stands at the gate, what it holds and has loaded, and the units that it may still make
 pub record View : Type 0 where
   pub want : Operation
   pub stand : Stand
@@ -73,14 +76,23 @@ pub record View : Type 0 where
 
 -- what most say: inside, and no more than an operation
 abbrev pub quiet : Operation → View
-quiet o = record { want = o; stand = Inside; holding = holds_nothing; loading = unloaded; to_come = 0 }
+quiet o = record {
+  want = o;
+  stand = Inside;
+  holding = holds_nothing;
+  loading = unloaded;
+  to_come = 0;
+}
 
 -- what each says; a thread at rest begins with the look at the gate
 abbrev pub view : Config → Part → View
 view c Rest = record (quiet (gate_want gates.Look)) { stand = Outside }
 view c (Enter g) = record (quiet (gate_want g)) { stand = Outside }
 view c (Serve f) = record (quiet (field_want (extent c) f)) { loading = loading_of (extent c) f }
-view c (Mark m) = record (quiet (grey_want m)) { holding = holding_at (extent c) m; to_come = bit (not (grey_unit m.row)) }
+view c (Mark m) = record (quiet (grey_want m)) {
+  holding = holding_at (extent c) m;
+  to_come = bit (not (grey_unit m.row));
+}
 view c Count = quiet (Load FreeCount)
 view c Again = quiet (gate_want gates.Leave)
 view c Leave = quiet (gate_want gates.Leave)
@@ -100,13 +112,13 @@ is_done l = is_rest l.part && (length l.log == length l.trace)
 abbrev pub pass_by : ℕ → ℕ → PhaseWord → Pass
 pass_by t n p = record { thread = t; threads = n; cycle = p.cycle; sweep = p.sweep }
 
--- what a thread does in a pass that begins: a command that allocates nothing at once; for an allocation a Mark pass, and where it owes no more the
--- look at how many blocks are free
+-- what a thread does in a pass that begins: a Mark pass where units are owed; where none are, the
+-- look at how many blocks are free for an allocation, and any other command at once
 abbrev pub first_part : Pass → Command → Bool → Part
 first_part p k more =
-    if makes_object k
-    then (if more then Mark (scanning p) else Count)
-    else Serve (at_first_row p k)
+    if more
+    then Mark (scanning p)
+    else (if makes_object k then Count else Serve (at_first_row p k))
 
 abbrev pub if_entered : Option PhaseWord → ℕ → ℕ → Command → Bool → GateRow → Part
 if_entered None t n k more g = Enter g
@@ -125,37 +137,73 @@ if_replied (Some r) f = Leave
 abbrev pub if_marked : GreyState → Part
 if_marked g = if grey_over g.row then Again else Mark g
 
--- the part after it, in thread t and for command k, of which units are still owed or not, where it read w
+-- the part after it, in thread t and for command k, of which units are still owed or not, where it
+-- read w
 abbrev pub part_got : Config → ℕ → Command → Bool → Part → ℕ → Part
-part_got c t k more Rest w = if_entered (gate_entered (gate_got gates.Look w)) t c.threads k more (gate_got gates.Look w)
-part_got c t k more (Enter g) w = if_entered (gate_entered (gate_got g w)) t c.threads k more (gate_got g w)
-part_got c t k more (Serve f) w = if_replied (field_reply (field_got (extent c) f w).row) (field_got (extent c) f w)
+part_got c t k more Rest w = if_entered (gate_entered (gate_got gates.Look w)) t c.threads k more
+    (gate_got gates.Look w)
+part_got c t k more (Enter g) w = if_entered (gate_entered (gate_got g w)) t c.threads k more
+    (gate_got g w)
+part_got c t k more (Serve f) w = if_replied (field_reply (field_got (extent c) f w).row)
+    (field_got (extent c) f w)
 part_got c t k more (Mark g) w = if_marked (grey_got (extent c) g w)
 part_got c t k more Count w = Leave
 part_got c t k more Again w = Enter gates.Look
 part_got c t k more Leave w = Rest
 
--- what an event is: its step; the phase word by which the thread went in; the reply that it brings, at the last event before the thread goes out; whether it decides the command, makes a
+-- how an event decides the command: not; as the heap that never frees answers it there; or it is
+-- refused with this reply
+pub data Verdict : Type 0 where
+  Open : Verdict
+  AsStep : Verdict
+  Refused : (reply : Reply) → Verdict
+
+abbrev pub if_decides : Bool → Verdict
+if_decides b = if b then AsStep else Open
+
+-- what an event is: its step; the phase word by which the thread went in; the reply that it brings,
+-- at the last event before the thread goes out; its verdict on the command; whether it makes a
 -- unit, or leads to where nothing was found
 pub record Effect : Type 0 where
   pub step : Step
   pub entered : Option PhaseWord
   pub reply : Option Reply
-  pub decides : Bool
+  pub verdict : Verdict
   pub unit : Bool
   pub nothing : Bool
 
 -- what most are: no more than a step
 abbrev pub plain : Step → Effect
-plain s = record { step = s; entered = None; reply = None; decides = false; unit = false; nothing = false }
+plain s = record {
+  step = s;
+  entered = None;
+  reply = None;
+  verdict = Open;
+  unit = false;
+  nothing = false;
+}
 
--- what the event of each part is that reads w. An allocation is answered full, whatever the free count was; a unit is the event that makes the block under scan black
+-- what the event of each part is that reads w. An allocation is answered full, whatever the free
+-- count was; a unit is the event that makes the block under scan black
 abbrev pub effect : Config → Part → ℕ → Effect
-effect c Rest w = record (plain (gate_step gates.Look w)) { entered = gate_entered (gate_got gates.Look w) }
+effect c Rest w = record (plain (gate_step gates.Look w)) {
+  entered =
+      gate_entered (gate_got gates.Look w);
+}
 effect c (Enter g) w = record (plain (gate_step g w)) { entered = gate_entered (gate_got g w) }
-effect c (Serve f) w = record (plain (field_step (extent c) f w)) { reply = field_reply (field_got (extent c) f w).row; decides = is_deciding f.command f.row w }
-effect c (Mark m) w = record (plain (grey_step (extent c) m w)) { unit = is_blackening m.row; nothing = grey_nothing (grey_got (extent c) m w).row }
-effect c Count w = record (plain steps.Over) { reply = Some (replies.Full 1); decides = true }
+effect c (Serve f) w = record (plain (field_step (extent c) f w)) {
+  reply =
+      field_reply (field_got (extent c) f w).row;
+  verdict = if_decides (is_deciding f.command f.row w);
+}
+effect c (Mark m) w = record (plain (grey_step (extent c) m w)) {
+  unit = is_blackening m.row;
+  nothing = grey_nothing (grey_got (extent c) m w).row;
+}
+effect c Count w = record (plain steps.Over) {
+  reply = Some (replies.Full 1);
+  verdict = Refused (replies.Full 1);
+}
 effect c Again w = plain (gate_step gates.Leave w)
 effect c Leave w = plain (gate_step gates.Leave w)
 
@@ -168,8 +216,8 @@ part_entered c p w = (effect c p w).entered
 abbrev pub part_reply : Config → Part → ℕ → Option Reply
 part_reply c p w = (effect c p w).reply
 
-abbrev pub decides : Config → Part → ℕ → Bool
-decides c p w = (effect c p w).decides
+abbrev pub verdict : Config → Part → ℕ → Verdict
+verdict c p w = (effect c p w).verdict
 
 abbrev pub makes_unit : Config → Part → ℕ → Bool
 makes_unit c p w = (effect c p w).unit
@@ -177,7 +225,8 @@ makes_unit c p w = (effect c p w).unit
 abbrev pub finds_nothing : Config → Part → ℕ → Bool
 finds_nothing c p w = (effect c p w).nothing
 
--- the units made for the command in hand after an event, and whether the rest is waived: where it brings a reply the next command has none
+-- the units made for the command in hand after an event, and whether the rest is waived: where it
+-- brings a reply the next command has none
 abbrev pub paid_got : Option Reply → Bool → ℕ → ℕ
 paid_got None unit paid = if unit then paid + 1 else paid
 paid_got (Some r) unit paid = 0
@@ -200,7 +249,9 @@ is_last steps.Over = true
 is_last steps.Waited = false
 is_last steps.WaitedOver = true
 
--- whether a turn that reads w waits: at a look on a closed gate, where the phase word was changed since the look, and at a look whether the gate can be closed where it is closed or somebody is inside
+-- whether a turn that reads w waits: at a look on a closed gate, where the phase word was changed
+-- since the look, and at a look whether the gate can be closed where it is closed or somebody is
+-- inside
 abbrev pub waits : Part → ℕ → Bool
 waits Rest w = is_closed w
 waits (Enter gates.Look) w = is_closed w
@@ -231,11 +282,6 @@ local_got l w = record {
   part = part_got l.config l.thread (command_of l) (owes l) l.part w;
 }
 
--- at most 131,072 commands, each in bounds
-pub record IsTrace (c : Config) (trace : List Command) : Type 0 where
-  pub short : length trace ≤ 131072
-  pub commands : All (IsCommandInBounds c) trace
-
 -- the numbers of a row are in range, and a thread that has begun a command has one
 abbrev pub PartFits : Config → ℕ → ℕ → Part → Type 0
 PartFits c done all Rest = Unit {0}
@@ -261,7 +307,7 @@ pub record IsLocal (l : LocalState) : Type 0 where
   pub plan : IsAdmitted l.config
   pub rate : IsRate l.config l.rate
   pub thread : l.thread < l.config.threads
-  pub trace : IsTrace l.config l.trace
+  pub trace : IsTraceInBounds l.config l.trace
   pub log : length l.log ≤ length l.trace
   pub part : PartFits l.config (length l.log) (length l.trace) l.part
   pub paid : l.paid + unit_to_come l.config l.part ≤ owed l
@@ -283,4 +329,14 @@ no_pass t n = record { thread = t; threads = n; cycle = 0; sweep = false }
 
 -- a thread at rest before its first command, with this rate
 abbrev pub at_start : Config → ℕ → ℕ → List Command → LocalState
-at_start c rate t trace = record { config = c; rate = rate; thread = t; trace = trace; log = []; paid = 0; waived = false; pass = no_pass t c.threads; part = Rest }
+at_start c rate t trace = record {
+  config = c;
+  rate = rate;
+  thread = t;
+  trace = trace;
+  log = [];
+  paid = 0;
+  waived = false;
+  pass = no_pass t c.threads;
+  part = Rest;
+}

@@ -1,21 +1,19 @@
--- The words and all threads, what a turn of a thread makes of them, and the order that a list of turns has: its commands and starts as they were decided.
+-- The words and all threads, what a turn of a thread makes of them, and the order that a list of
+-- turns has: its commands and starts as they were decided.
 use Rattle.std.specs.Prelude.{ℕ, ◌+◌, ◌==◌, ◌++◌, ◌<◌, ◌≡◌, true, false, not, nat_lt, if◌then◌else◌, Bool, List, [], ◌∷◌, length, slice_index, slice_index_or, slice_set}
 use Rattle.block_store.specs.declared.Config.{Config}
-use Rattle.block_store.specs.Configs.{IsInBounds}
 use Rattle.block_store.specs.Heaps.{heap_of}
 use Rattle.block_store.specs.Places.{Place, extent, in_range, words_count}
 use Rattle.rate_plan.specs.Rates.{IsRate, IsAdmitted}
 use Rattle.never_heap.specs.declared.Command.{Command}
-use Rattle.never_heap.specs.declared.Reply.{Reply}
-use Rattle.never_heap.specs.declared.Reply.TheVariants.{Full}
-use Rattle.never_heap.specs.Graphs.{Graph}
 use Rattle.never_heap.specs.Histories.{HistoryItem, Started, Did, replay}
-use Rattle.never_heap.specs.Steps.{step, makes_object}
+use Rattle.never_heap.specs.Steps.{step}
 use Rattle.heap_machine.specs.Operations.{op_at, op_place, words_after}
 use Rattle.heap_system.specs.declared.local.Part.TheVariants.{Leave}
 use Rattle.heap_system.specs.declared.Turn.{Turn}
 use Rattle.heap_system.specs.declared.Turn.TheVariants.{Done}
-use Rattle.heap_system.specs.Locals.{LocalState, command_of, is_done, part_want, part_step, decides, turn_of, local_got, entry_of, no_pass, at_start, IsTrace}
+use Rattle.never_heap.specs.Jobs.{IsJobInBounds}
+use Rattle.heap_system.specs.Locals.{LocalState, command_of, is_done, part_want, part_step, Verdict, Open, AsStep, Refused, verdict, turn_of, local_got, entry_of, no_pass, at_start}
 use Rattle.heap_system.specs.Openings.{opening_heap}
 
 -- the list of words, and the threads by their numbers
@@ -25,7 +23,17 @@ pub record State : Type 0 where
 
 -- a thread that there is not
 abbrev pub no_local : Config → LocalState
-no_local c = record { config = c; rate = 0; thread = c.threads; trace = []; log = []; paid = 0; waived = false; pass = no_pass c.threads c.threads; part = Leave }
+no_local c = record {
+  config = c;
+  rate = 0;
+  thread = c.threads;
+  trace = [];
+  log = [];
+  paid = 0;
+  waived = false;
+  pass = no_pass c.threads c.threads;
+  part = Leave;
+}
 
 abbrev pub local_at : Config → State → ℕ → LocalState
 local_at c s t = slice_index_or s.locals t (no_local c)
@@ -34,7 +42,8 @@ local_at c s t = slice_index_or s.locals t (no_local c)
 abbrev pub word_read : Config → State → LocalState → ℕ
 word_read c s l = slice_index s.words (op_place (op_at (extent c) (part_want c l.part)))
 
--- the state after the event of thread t: one operation on one word, and the thread moves on by one row
+-- the state after the event of thread t: one operation on one word, and the thread moves on by one
+-- row
 abbrev pub event_done : Config → ℕ → State → State
 event_done c t s = record {
   words = words_after (op_at (extent c) (part_want c (local_at c s t).part)) s.words;
@@ -50,21 +59,22 @@ turned c t s = if has_event c t s then event_done c t s else s
 
 -- what the turn answers
 abbrev pub answer : Config → ℕ → State → Turn
-answer c t s = if is_done (local_at c s t) then Done else turn_of (part_step c (local_at c s t).part (word_read c s (local_at c s t)))
+answer c t s = if is_done (local_at c s t) then Done
+    else turn_of (part_step c (local_at c s t).part (word_read c s (local_at c s t)))
 
--- the reply with which a command is decided: an allocation is answered full, and any other command as the heap that never frees answers it there
-abbrev pub reply_decided : Graph → ℕ → Command → Reply
-reply_decided g t k = if makes_object k then Full 1 else (step g t k).1
+-- what an event of thread t adds to an order: its command takes its place there, with the units
+-- made for it, where the event decides it
+abbrev pub entries_by : Config → ℕ → Command → ℕ → List HistoryItem → Verdict → List HistoryItem
+entries_by c t k work order Open = []
+entries_by c t k work order AsStep = Did (entry_of t k work (step (replay c order) t k).1) ∷ []
+entries_by c t k work order (Refused reply) = Did (entry_of t k work reply) ∷ []
 
--- the command of thread t takes its place in an order, with the units made for it
-abbrev pub entry_decided : Config → ℕ → Command → ℕ → List HistoryItem → HistoryItem
-entry_decided c t k work order = Did (entry_of t k work (reply_decided (replay c order) t k))
-
--- what a turn of thread t adds to an order: an entry, where its event decides a command
+-- what a turn of thread t adds
 abbrev pub decided : Config → ℕ → State → List HistoryItem → List HistoryItem
 decided c t s order =
     if has_event c t s
-    then (if decides c (local_at c s t).part (word_read c s (local_at c s t)) then entry_decided c t (command_of (local_at c s t)) (local_at c s t).paid order ∷ [] else [])
+    then entries_by c t (command_of (local_at c s t)) (local_at c s t).paid order
+    (verdict c (local_at c s t).part (word_read c s (local_at c s t)))
     else []
 
 -- a state with the order that led to it, the oldest item first
@@ -90,22 +100,33 @@ pub record IsOpening (c : Config) (traces : List (List Command)) (s : State) : T
   pub rate : ℕ
   pub planned : IsRate c rate
   pub count : length s.words ≡ words_count (extent c)
-  pub words : (p : Place) → in_range (extent c) p ≡ true → heap_of (extent c) s.words p ≡ opening_heap c p
+  pub words : (p : Place) → in_range (extent c) p ≡ true
+      → heap_of (extent c) s.words p ≡ opening_heap c p
   pub locals : s.locals ≡ starts_from c rate 0 traces
 
--- a configuration that has a rate, with a trace for each thread
+-- a job in bounds whose configuration has a rate
 pub record IsJob (c : Config) (traces : List (List Command)) : Type 0 where
-  pub bounds : IsInBounds c
+  pub bounds : IsJobInBounds c traces
   pub plan : IsAdmitted c
-  pub count : length traces ≡ c.threads
-  pub each : (t : ℕ) → t < c.threads → IsTrace c (slice_index_or traces t [])
 
 -- the order begins with the start of cycle 1
 abbrev pub opened : State → Run
 opened s = record { state = s; order = Started ∷ [] }
 
 -- the run of a job by a list of turns
-pub record IsRunOf (c : Config) (traces : List (List Command)) (ts : List ℕ) (r : Run) : Type 0 where
+pub record IsRunOf (c : Config) (traces : List (List Command)) (ts : List ℕ) (r : Run) :
+    Type 0 where
   pub first : State
   pub opening : IsOpening c traces first
   pub turns : r ≡ after_turns c (opened first) ts
+
+-- a run of some job by some list of turns
+pub record IsAfterTurns (c : Config) (r : Run) : Type 0 where
+  pub traces : List (List Command)
+  pub job : IsJob c traces
+  pub turns : List ℕ
+  pub by_turns : IsRunOf c traces turns r
+
+-- thread t after a run
+abbrev pub local_in : Config → Run → ℕ → LocalState
+local_in c r t = local_at c r.state t

@@ -1,4 +1,5 @@
--- The opening heap: each thread's register array, behind these the shared array, and behind that the Free blocks.
+-- The opening heap: each thread's register array, behind these the shared array, and behind that
+-- the Free blocks.
 use Rattle.std.specs.Prelude.{ℕ, ◌+◌, ◌-◌, ◌==◌, ◌&&◌, nat_le, nat_lt, if◌then◌else◌, Bool, false}
 use Rattle.block_store.specs.declared.Config.{Config}
 use Rattle.block_store.specs.Colours.{grey_word, white_word, free_word}
@@ -17,14 +18,16 @@ opening_phase = phase_code (record { inside = 0; sweep = false; closed = false; 
 abbrev pub is_root : Config → ℕ → Bool
 is_root c x = nat_le x (registers_end c.width c.threads) && (register_ordinal c.width x == 0)
 
--- the roots are Grey and alone in their lists, the other blocks of the arrays are white, and the blocks behind them are Free, linked upwards
+-- the roots are Grey and alone in their lists, the other blocks of the arrays are white, and the
+-- blocks behind them are Free, linked upwards
 abbrev pub opening_colour : Config → ℕ → ℕ
 opening_colour c x =
     if is_root c x then grey_word 0
     else if nat_le x (opening_blocks c) then white_word 1
     else free_word (if nat_lt x c.blocks then x + 1 else 0)
 
--- The word of each place. The grey list of each thread is its root, and thread 0 has all Free blocks.
+-- The word of each place. The grey list of each thread is its root, and thread 0 has all Free
+-- blocks.
 abbrev pub opening_heap : Config → Heap
 opening_heap c Phase = opening_phase
 opening_heap c Cursor = c.blocks + 1

@@ -1,4 +1,5 @@
--- What the rows of the threads say of the gate and of the graph: where each stands, what it has loaded, and which reply is decided.
+-- What the rows of the threads say of the gate and of the graph: where each stands, what it has
+-- loaded, and which reply is decided.
 use Rattle.std.specs.Prelude.{ℕ, ◌≡◌, ◌%◌, Option, None, List, [], ◌∷◌, ◌++◌}
 use Rattle.block_store.specs.declared.Config.{Config}
 use Rattle.block_store.specs.Registers.{register_block, register_slot}
@@ -58,8 +59,8 @@ graph_state c r = record {
   loads = λ t. loading c (local_at c r.state t).part;
 }
 
--- Register q of thread t has the word that it had before the last command of the thread was decided: the order is what was before that command, its
--- entry, and entries of other threads.
+-- Register q of thread t has the word that it had before the last command of the thread was
+-- decided: the order is what was before that command, its entry, and entries of other threads.
 pub record IsOlder (c : Config) (r : Run) (t q : ℕ) : Type 0 where
   pub before : List HistoryItem
   pub entry : Entry
@@ -67,4 +68,5 @@ pub record IsOlder (c : Config) (r : Run) (t q : ℕ) : Type 0 where
   pub split : r.order ≡ before ++ Did entry ∷ behind
   pub own : entry.thread ≡ t
   pub others : part t behind ≡ []
-  pub word : heap_in c r.state (PayloadOf (register_block c.width t q) (register_slot c.width q)) ≡ value_word (heads (opening_at c.width c.threads)) (register_of (replay c before) t q)
+  pub word : heap_in c r.state (PayloadOf (register_block c.width t q) (register_slot c.width q))
+      ≡ value_word (heads (opening_at c.width c.threads)) (register_of (replay c before) t q)

@@ -42,9 +42,11 @@ abbrev pub units_of : List (List Entry) → ℕ
 units_of [] = 0
 units_of (log ∷ logs) = works log + units_of logs
 
--- The logs are the parts of the order of some list of turns after which all threads are done. The order is legal, its parts are
--- the traces, whole, it has one start, and its work is that of the logs. The works of each log are the turns of its thread that made a grey block black.
-pub record IsFinished (c : Config) (traces : List (List Command)) (logs : List (List Entry)) : Type 0 where
+-- The logs are the parts of the order of some list of turns after which all threads are done. The
+-- order is legal, its parts are the traces, whole, it has one start, and its work is that of the
+-- logs. The works of each log are the units that the turns of its thread made.
+pub record IsFinished (c : Config) (traces : List (List Command)) (logs : List (List Entry)) :
+    Type 0 where
   pub turns : List ℕ
   pub run : Run
   pub job : IsJob c traces
@@ -55,7 +57,8 @@ pub record IsFinished (c : Config) (traces : List (List Command)) (logs : List (
   pub legal : Legal c run.order
   pub traces_whole : HasTraces traces run.order
   pub one_start : starts_in run.order ≡ 1
-  pub made : (t : ℕ) → t < c.threads → works (slice_index_or logs t []) ≡ units_made c t (opened by_turns.first) turns
+  pub made : (t : ℕ) → t < c.threads → works (slice_index_or logs t [])
+      ≡ units_made c t (opened by_turns.first) turns
   pub works : work_in run.order ≡ units_of logs
 
 -- thread t is the least that is not done

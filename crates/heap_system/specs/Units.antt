@@ -1,4 +1,5 @@
--- The units of marking that a run makes, which are the events that make a grey block black; and those that a command owes.
+-- The units that a run makes, which its rows tell; what a unit of marking does to the heap; and
+-- what a command owes.
 use Rattle.std.specs.Prelude.{ℕ, ◌+◌, ◌≤◌, ◌==◌, ◌&&◌, if◌then◌else◌, Bool, false, List, [], ◌∷◌}
 use Rattle.block_store.specs.declared.Config.{Config}
 use Rattle.block_store.specs.declared.Width.{Width}
@@ -9,27 +10,42 @@ use Rattle.block_store.specs.Places.{Place, Phase, ColourOf}
 use Rattle.never_heap.specs.declared.Entry.{Entry}
 use Rattle.never_heap.specs.RightWork.{units_owed}
 use Rattle.heap_machine.specs.Operations.{Operation, place_of, heap_after}
-use Rattle.heap_system.specs.Locals.{part_want}
-use Rattle.heap_system.specs.Machines.{State, local_at, has_event, Run, next}
+use Rattle.heap_system.specs.Locals.{part_want, makes_unit}
+use Rattle.heap_system.specs.Machines.{State, local_at, word_read, has_event, Run, next}
 use Rattle.heap_system.specs.Pictures.{heap_in}
 
--- whether a place is the colour of a block, and of its words before and after the first is grey and the second black in cycle c
+-- whether a place is the colour of a block, and of its words before and after the first is grey and
+-- the second black in cycle c
 abbrev pub turns_black : ℕ → Place → ℕ → ℕ → Bool
 turns_black c (ColourOf x) before after = is_grey before && (after == black_word c)
 turns_black c _ before after = false
 
 -- whether an operation on this heap makes a grey block black, in the colours of the heap's cycle
 abbrev pub blackens : Heap → Operation → Bool
-blackens h o = turns_black (cycle_of (h Phase)) (place_of o) (h (place_of o)) (heap_after h o (place_of o))
+blackens h o = turns_black (cycle_of (h Phase)) (place_of o) (h (place_of o))
+    (heap_after h o (place_of o))
 
 -- whether a turn of thread t does
+abbrev pub turn_blackens : Config → ℕ → State → Bool
+turn_blackens c t s = if has_event c t s then blackens (heap_in c s)
+    (part_want c (local_at c s t).part) else false
+
+-- whether a turn of thread t makes a unit
 abbrev pub is_unit : Config → ℕ → State → Bool
-is_unit c t s = if has_event c t s then blackens (heap_in c s) (part_want c (local_at c s t).part) else false
+is_unit c t s = if has_event c t s then makes_unit c (local_at c s t).part
+    (word_read c s (local_at c s t)) else false
 
 -- how many of the turns of thread t do, over a list of turns from a run on
 abbrev pub units_made : Config → ℕ → Run → List ℕ → ℕ
 units_made c t r [] = 0
-units_made c t r (u ∷ us) = (if u == t then bit (is_unit c t r.state) else 0) + units_made c t (next c u r) us
+units_made c t r (u ∷ us) = (if u == t then bit (is_unit c t r.state) else 0)
+    + units_made c t (next c u r) us
+
+-- and how many make a grey block black
+abbrev pub blacks_made : Config → ℕ → Run → List ℕ → ℕ
+blacks_made c t r [] = 0
+blacks_made c t r (u ∷ us) = (if u == t then bit (turn_blackens c t r.state) else 0)
+    + blacks_made c t (next c u r) us
 
 -- no entry has more work than its command owes on blocks of this width
 abbrev pub IsWithin : Width → ℕ → List Entry → Type 0

@@ -7,7 +7,8 @@ ghost use Rattle.rate_plan.specs.Rates.{IsRate, IsAdmitted};
 ghost use Rattle.never_heap.specs.Steps.{makes_object};
 ghost use Rattle.heap_machine.specs.Operations.{op_at};
 ghost use Rattle.heap_machine.specs.Passes.{IsPass};
-ghost use Rattle.heap_system.specs.Locals.{IsTrace, PartReads, is_done, is_rest, part_want, part_step, local_got, at_start, turn_of, is_last, pass_by, first_part, command_of, owes, works, entry_of};
+ghost use Rattle.never_heap.specs.Jobs.{IsTraceInBounds};
+ghost use Rattle.heap_system.specs.Locals.{PartReads, is_done, is_rest, part_want, part_step, local_got, at_start, turn_of, is_last, pass_by, first_part, command_of, owes, works, entry_of};
 
 use crate::Turn;
 use barrier_steps::FieldPass;
@@ -26,9 +27,9 @@ pub enum Part {
     Rest,
     /// On its way in.
     Enter(Gate),
-    /// Inside, in a command that allocates nothing.
+    /// Inside, in a command that makes no object and owes no more.
     Serve(FieldPass),
-    /// Inside, in an allocation that owes units, of which it makes one at most: none where nothing is
+    /// Inside, in a command that owes units, of which it makes one at most: none where nothing is
     /// grey.
     Mark(GreyPass),
     /// Inside, in an allocation that owes no more: it looks how many blocks are free.
@@ -65,9 +66,29 @@ impl Model for Local {
 
     ghost Value = { LocalState };
 
-    ghost view = { λ l. record { config = l.config; rate = l.rate; thread = l.thread; trace = l.trace.items; log = l.log.items; paid = l.paid; waived = l.waived; pass = l.pass; part = l.part } };
+    ghost view = { λ l. record {
+      config = l.config;
+      rate = l.rate;
+      thread = l.thread;
+      trace = l.trace.items;
+      log = l.log.items;
+      paid = l.paid;
+      waived = l.waived;
+      pass = l.pass;
+      part = l.part;
+    } };
 
-    ghost invariant = { λ l. IsLocal (record { config = l.config; rate = l.rate; thread = l.thread; trace = l.trace.items; log = l.log.items; paid = l.paid; waived = l.waived; pass = l.pass; part = l.part }) × (length l.trace.items ≤ vec_capacity l.log) };
+    ghost invariant = { λ l. IsLocal (record {
+      config = l.config;
+      rate = l.rate;
+      thread = l.thread;
+      trace = l.trace.items;
+      log = l.log.items;
+      paid = l.paid;
+      waived = l.waived;
+      pass = l.pass;
+      part = l.part;
+    }) × (length l.trace.items ≤ vec_capacity l.log) };
 }
 
 // What a turn answers after this step of a part.
@@ -119,8 +140,8 @@ fn sum_of_works(entries: &[Entry]) -> u64
 
 impl Local {
     /// A thread at rest before its first command, with room for all entries of its log. The
-    /// configuration has a rate, the thread is one of it, and the trace has at most 131,072 commands,
-    /// which are in bounds.
+    /// configuration has a rate, the thread is one of it, and the trace has at most 131,072
+    /// commands, which are in bounds.
     ///
     /// # Errors
     ///
@@ -134,8 +155,9 @@ impl Local {
         requires bounds { IsInBounds c.now }
         requires plan { IsAdmitted c.now }
         requires thread { thread < c.now.threads }
-        requires trace { IsTrace c.now trace.items }
-        ensures { IfOk result (λ l. IsRate c.now l.rate × (l ≡ at_start c.now l.rate thread trace.items)) }
+        requires trace { IsTraceInBounds c.now trace.items }
+        ensures { IfOk result (λ l. IsRate c.now l.rate
+            × (l ≡ at_start c.now l.rate thread trace.items)) }
     {
         let log = Vec::with_capacity(alloc, trace.len())?;
         let Ok(rate) = plan(c) else {
@@ -163,7 +185,6 @@ impl Local {
     pub fn thread(&self) -> u32
         ensures { result ≡ self.now.thread }
     {
-        let _part = &self.part;
         self.thread
     }
 
@@ -207,7 +228,8 @@ impl Local {
     #[tactic(auto, using(crate::proofs::Paying::going_at))]
     pub fn want(&self) -> Op
         requires { is_done self.now ≡ false }
-        ensures { result ≡ op_at (extent self.now.config) (part_want self.now.config self.now.part) }
+        ensures { result ≡ op_at (extent self.now.config)
+            (part_want self.now.config self.now.part) }
     {
         let places = Places::new(&self.config);
         match &self.part {
@@ -223,10 +245,10 @@ impl Local {
         }
     }
 
-    /// Moves on by one event, whose operation read the word. The thread is not done, and the word is
-    /// one that its row may read: on the way in a phase word of cycle 1 or later.
-    // Before a method is called on `self` the part is put at rest, so that it may be any; and no arm
-    // makes a part, a gate or a pass before it puts it in its place.
+    /// Moves on by one event, whose operation read the word. The thread is not done, and the word
+    /// is one that its row may read: on the way in a phase word of cycle 1 or later.
+    // Before a method is called on `self` the part is put at rest, so that it may be any; and no
+    // arm makes a part, a gate or a pass before it puts it in its place.
     #[inline(always)]
     #[tactic(auto, using(crate::proofs::Paying::unit_is_new))]
     pub fn got(&mut self, word: u64) -> Turn
@@ -312,12 +334,12 @@ impl Local {
         ensures { result ≡ first_part pass (command_of self.now) (owes self.now) }
     {
         let command = self.trace[self.log.len()];
-        if !makes_object(command) {
-            Part::Serve(FieldPass::new(pass, command))
-        } else if self.owes(&command) {
-            Part::Mark(GreyPass::scan(pass))
-        } else {
+        if self.owes(&command) {
+            Part::Mark(GreyPass::scan_in(pass))
+        } else if makes_object(command) {
             Part::Count
+        } else {
+            Part::Serve(FieldPass::new_in(pass, command))
         }
     }
 
@@ -333,7 +355,15 @@ impl Local {
     // The command in hand is done.
     fn answer(&mut self, reply: Reply)
         requires command { length self.old.log < length self.old.trace }
-        ensures { self.new ≡ record self.old { part = Part.Leave; log = self.old.log ++ entry_of self.old.thread (command_of self.old) self.old.paid reply ∷ []; paid = 0; waived = false } }
+        ensures { self.new
+            ≡ record self.old {
+              part = Part.Leave;
+              log = self.old.log ++ entry_of
+                  self.old.thread (command_of self.old) self.old.paid reply ∷ [];
+              paid = 0;
+              waived
+                  = false;
+            } }
     {
         let command = self.trace[self.log.len()];
         self.log.push_reserved(Entry {

@@ -4,10 +4,11 @@
 
 ghost use Rattle.std.specs.Prelude.{◌≡◌, ◌<◌, ◌≤◌, ◌+◌, ℕ, length, IfOk, OnOk};
 ghost use Rattle.never_heap.specs.Graphs.{count_of};
-ghost use Rattle.heap_system.specs.Locals.{IsTrace};
+ghost use Rattle.std.specs.List.{All};
+ghost use Rattle.never_heap.specs.Bounds.{IsCommandInBounds};
 
 use crate::*;
-use block_store::{Config, OutOfMemory, Places, Width};
+use block_store::{Config, OutOfMemory, Places, Width, black, colour_word};
 use never_heap::{Command, Graph, Logs, Reply};
 use rand_core::utils::NextWord;
 use rand_pcg::Lcg64Xsh32;
@@ -47,7 +48,14 @@ const COMMANDS: [Command; 19] = [
 
 // The commands as a trace.
 fn trace(alloc: Global) -> Result<Vec<Command>, OutOfMemory>
-    ensures { IfOk result (λ v. IsTrace (record { width = Width.Four; threads = 3; blocks = 64; live = 24; object = 2; shared = 17 }) v.items) }
+    ensures { IfOk result (λ v. (length v.items ≤ 131072) × All (IsCommandInBounds (record {
+      width = Width.Four;
+      threads = 3;
+      blocks = 64;
+      live = 24;
+      object = 2;
+      shared = 17;
+    })) v.items) }
 {
     let mut trace = Vec::new(alloc);
     for command in &COMMANDS {
@@ -59,7 +67,15 @@ fn trace(alloc: Global) -> Result<Vec<Command>, OutOfMemory>
 }
 
 fn three_threads(alloc: Global) -> Result<System, OutOfMemory>
-    ensures { IfOk result (λ s. s.config ≡ record { width = Width.Four; threads = 3; blocks = 64; live = 24; object = 2; shared = 17 }) }
+    ensures { IfOk result (λ s. s.config ≡ record {
+      width = Width.Four;
+      threads = 3;
+      blocks = 64;
+      live =
+          24;
+      object = 2;
+      shared = 17;
+    }) }
 {
     let (first, second, third) = (trace(alloc)?, trace(alloc)?, trace(alloc)?);
     System::new(alloc, THREE, vec![in alloc; first, second, third]?)
@@ -73,8 +89,10 @@ fn model_reply(
 ) -> Result<Option<Reply>, OutOfMemory>
     requires thread { thread < length graph.old.graph.mutators }
     requires counts { (u : ℕ) → count_of graph.old.graph u < 131072 }
-    ensures threads { OnOk result (length graph.new.graph.mutators ≡ length graph.old.graph.mutators) }
-    ensures counts { OnOk result ((k u : ℕ) → ((v : ℕ) → count_of graph.old.graph v ≤ k) → count_of graph.new.graph u ≤ k + 1) }
+    ensures threads { OnOk result (length graph.new.graph.mutators
+        ≡ length graph.old.graph.mutators) }
+    ensures counts { OnOk result ((k u : ℕ) → ((v : ℕ) → count_of graph.old.graph v ≤ k) → count_of
+        graph.new.graph u ≤ k + 1) }
 {
     if !command.in_bounds(&THREE) {
         Ok(None)
@@ -85,18 +103,20 @@ fn model_reply(
     }
 }
 
-// How many blocks are black. With three threads the words of block x begin at 7 x + 2, with its
-// colour, and black is 2.
+// How many blocks are black in cycle 1.
 fn black_blocks(system: &System) -> u64 {
-    let words = Places::new(system.config()).words();
-    let mut black = 0;
-    for block in 1..65_u64 {
-        let place = 7 * block as usize + 2;
-        if place < words && system.word(place) == 2 && black < block {
-            black += 1;
+    let places = Places::new(system.config());
+    let last = system.config().blocks;
+    let mut count = 0;
+    for block in 1..65_u32 {
+        if block <= last && count < u64::from(block) {
+            let place = places.colour(block);
+            if place < places.words() && system.word(place) == colour_word(black(1)) {
+                count += 1;
+            }
         }
     }
-    black
+    count
 }
 
 // Whether each reply is the model's.

@@ -30,9 +30,13 @@ impl Model for System {
 
     ghost Value = { Whole };
 
-    ghost view = { λ s. record { config = s.config; state = record { words = s.words; locals = s.locals.items } } };
+    ghost view = { λ s. record {
+      config = s.config;
+      state = record { words = s.words; locals = s.locals.items };
+    } };
 
-    ghost invariant = { λ s. IsReached s.config (record { words = s.words; locals = s.locals.items }) };
+    ghost invariant = { λ s. IsReached s.config
+        (record { words = s.words; locals = s.locals.items }) };
 }
 
 /// What is left of a system after a run: its configuration, and what its threads answered.
@@ -49,7 +53,10 @@ impl Model for Finished {
 
     ghost Value = { Finish };
 
-    ghost view = { λ f. record { config = f.config; logs = map (λ (l : LocalState). l.log) f.locals.items } };
+    ghost view = { λ f. record {
+      config = f.config;
+      logs = map (λ (l : LocalState). l.log) f.locals.items;
+    } };
 
     ghost invariant = { λ f. (length f.locals.items ≡ f.config.threads) × (f.config.threads ≤ 16) };
 }
@@ -65,17 +72,22 @@ pub struct Unfinished {
 
 // The least thread that is not done.
 fn first_undone(locals: &[Local]) -> Option<usize>
-    ensures none { IfNone result ((t : ℕ) (d : LocalState) → t < length locals.now → is_done (slice_index_or locals.now t d) ≡ true) }
+    ensures none { IfNone result ((t : ℕ) (d : LocalState) → t < length locals.now
+        → is_done (slice_index_or
+        locals.now t d) ≡ true) }
     ensures there { IfSome result (λ t. t < length locals.now) }
-    ensures undone { IfSome result (λ t. (d : LocalState) → is_done (slice_index_or locals.now t d) ≡ false) }
-    ensures least { IfSome result (λ t. (u : ℕ) (d : LocalState) → u < t → is_done (slice_index_or locals.now u d) ≡ true) }
+    ensures undone { IfSome result (λ t. (d : LocalState)
+        → is_done (slice_index_or locals.now t d) ≡ false) }
+    ensures least { IfSome result (λ t. (u : ℕ) (d : LocalState) → u < t
+        → is_done (slice_index_or locals.now u
+        d) ≡ true) }
 {
     locals.iter().position(|local| !local.done())
 }
 
 impl System {
-    /// The system of a configuration that has a rate, with a trace for each thread: the opening words,
-    /// and each thread at rest. A trace has at most 131,072 commands, which are in bounds.
+    /// The system of a configuration that has a rate, with a trace for each thread: the opening
+    /// words, and each thread at rest. A trace has at most 131,072 commands, which are in bounds.
     ///
     /// # Errors
     ///
@@ -102,7 +114,10 @@ impl System {
     /// Makes the event that a thread of the heap wants. Nothing changes where the thread is done.
     pub fn turn(&mut self, thread: u32) -> Turn
         requires { thread < self.old.config.threads }
-        ensures state { self.new ≡ record self.old { state = turned self.old.config thread self.old.state } }
+        ensures state { self.new ≡ record self.old {
+          state =
+              turned self.old.config thread self.old.state;
+        } }
         ensures traces { traces_of self.new.state ≡ traces_of self.old.state }
         ensures answer { result ≡ answer self.old.config thread self.old.state }
     {
@@ -119,7 +134,6 @@ impl System {
         ensures same { result.now ≡ self.now.config }
         ensures reached { IsReached self.now.config self.now.state }
     {
-        let _words = &self.words;
         &self.config
     }
 
@@ -146,7 +160,9 @@ impl System {
     /// The system, unchanged, where a thread is not done, with the least such thread.
     pub fn finish(self) -> Result<Finished, Unfinished>
         ensures done { IfOk result (λ f. AllDone self.config self.state) }
-        ensures finished { IfOk result (λ f. (f.config ≡ self.config) × (f.logs ≡ logs_of self.state) × IsFinished self.config (traces_of self.state) f.logs) }
+        ensures finished { IfOk result (λ f. (f.config ≡ self.config)
+            × (f.logs ≡ logs_of self.state) × IsFinished
+            self.config (traces_of self.state) f.logs) }
         ensures unchanged { IfErr result (λ u. u.system ≡ self) }
         ensures least { IfErr result (λ u. IsLeastUndone self.config self.state u.thread) }
     {
@@ -168,7 +184,6 @@ impl Finished {
     pub fn config(&self) -> &Config
         ensures { result.now ≡ self.now.config }
     {
-        let _locals = &self.locals;
         &self.config
     }
 }
@@ -201,7 +216,6 @@ impl Logs for Finished {
     }
 
     fn cycles(&self) -> u64 {
-        let _locals = &self.locals;
         1
     }
 

@@ -10,7 +10,8 @@ use std::alloc::Global;
 
 // A heap of one thread with an empty shared array.
 fn one(width: Width) -> Config
-    ensures { result ≡ record { width = width; threads = 1; blocks = 64; live = 20; object = 2; shared = 0 } }
+    ensures { result
+        ≡ record { width = width; threads = 1; blocks = 64; live = 20; object = 2; shared = 0 } }
 {
     Config {
         width,
@@ -24,7 +25,8 @@ fn one(width: Width) -> Config
 
 // A heap of two threads with a shared array of four elements.
 fn two(width: Width) -> Config
-    ensures { result ≡ record { width = width; threads = 2; blocks = 64; live = 20; object = 2; shared = 4 } }
+    ensures { result
+        ≡ record { width = width; threads = 2; blocks = 64; live = 20; object = 2; shared = 4 } }
 {
     Config {
         width,
@@ -88,8 +90,8 @@ fn the_opening_has_these_words(rt: HostRuntime) -> Result<(), OutOfMemory> {
     Ok(())
 }
 
-// With eight payloads a block, the register array is a root and two leaves in blocks 1 to 3, and the
-// shared array is block 4.
+// With eight payloads a block, the register array is a root and two leaves in blocks 1 to 3, and
+// the shared array is block 4.
 #[test]
 fn the_opening_of_width_eight_has_these_words(rt: HostRuntime) -> Result<(), OutOfMemory> {
     let all: [(usize, u64); 28] = [
@@ -258,13 +260,15 @@ fn word(system: &System, place: usize) -> u64 {
     }
 }
 
-// The colour word of a block. The heads of a heap of two threads take 7 words, and each block three
-// more than it has payloads.
+// The colour word of a block.
 fn colour(system: &System, block: usize) -> u64
     requires { (1 ≤ block) × (block ≤ 64) }
 {
-    let size = 3 + system.config().width.payloads() as usize;
-    word(system, 7 + size * (block - 1))
+    if block <= system.config().blocks as usize {
+        word(system, Places::new(system.config()).colour(block as u32))
+    } else {
+        0
+    }
 }
 
 // Gives thread 0 turns until it is done, and tells which blocks became black, in this order. Black
@@ -307,8 +311,8 @@ fn an_allocation_pays_by_marking(rt: HostRuntime) -> Result<(), OutOfMemory> {
     Ok(())
 }
 
-// The arrays of a heap of width eight have seven blocks: 1 to 3, 4 to 6, and the shared array in 7. So
-// the allocation owes one unit more than there are blocks to mark, and the last is waived.
+// The arrays of a heap of width eight have seven blocks: 1 to 3, 4 to 6, and the shared array in 7.
+// So the allocation owes one unit more than there are blocks to mark, and the last is waived.
 #[test]
 fn an_allocation_of_width_eight_marks_all_there_is(rt: HostRuntime) -> Result<(), OutOfMemory> {
     assert_eq!(rt; plan(&two(Width::Eight)), Ok(8));

@@ -23,7 +23,15 @@ const LONG: Config = Config {
 
 // A thread that stores in the last element, and loads it.
 fn one_thread(alloc: Global) -> Result<System, OutOfMemory>
-    requires { IsAdmitted (record { width = Width.Four; threads = 1; blocks = 1024; live = 400; object = 16; shared = 1024 }) }
+    requires { IsAdmitted (record {
+      width = Width.Four;
+      threads = 1;
+      blocks = 1024;
+      live = 400;
+      object =
+          16;
+      shared = 1024;
+    }) }
     ensures { IfOk result (λ s. s.config.threads ≡ 1) }
 {
     let trace = vec![in alloc;

@@ -43,8 +43,10 @@ begins_entry p e trace rest next was =
     let f : Entry → Command = λ x. x.command in
     let long : length (p ++ e ∷ []) ≡ suc (length p) = length-append p (e ∷ []) ∙ omega arith in
     (λ i. map-append f p (e ∷ []) i ++ drop (long i) trace)
-    ∙ ap (λ (l : List Command). (map f p ++ e.command ∷ []) ++ l) (drop_one (length p) trace e.command rest next)
-    ∙ append_assoc (map f p) (e.command ∷ []) rest ∙ ap (λ (l : List Command). map f p ++ l) (sym next) ∙ was
+    ∙ ap (λ (l : List Command). (map f p ++ e.command ∷ []) ++ l)
+    (drop_one (length p) trace e.command rest next)
+    ∙ append_assoc (map f p) (e.command ∷ []) rest
+    ∙ ap (λ (l : List Command). map f p ++ l) (sym next) ∙ was
 
 part_entry : (t : ℕ) (e : Entry) → e.thread ≡ t → part t (Did e ∷ []) ≡ e ∷ []
 part_entry t e is = rw (eq-eqb e.thread t is)
@@ -59,7 +61,8 @@ begin_more traces past Started next was t =
     (sym (part_append t past (Started ∷ []) ∙ append-nil (part t past))) (was t)
 begin_more traces past (Did e) next was t = elim (cases_eq e.thread t) [
   | inl is ↦ subst (λ (p : List Entry). Begins p (slice_index_or traces t []))
-      (sym (part_append t past (Did e ∷ []) ∙ ap (λ (l : List Entry). part t past ++ l) (part_entry t e is)))
+      (sym (part_append t past (Did e ∷ [])
+      ∙ ap (λ (l : List Entry). part t past ++ l) (part_entry t e is)))
       (begins_entry (part t past) e (slice_index_or traces t []) next.0
       (subst (λ (u : ℕ). left_of traces past u ≡ e.command ∷ next.0) is next.1) (was t))
   | inr ne ↦ subst (λ (p : List Entry). Begins p (slice_index_or traces t []))
@@ -79,7 +82,8 @@ left_is p trace rest e =
     let f : Entry → Command = λ x. x.command in
     (λ i. drop (sym (length_commands p) i) (sym e i)) ∙ drop-append_seam (map f p) rest
 
-pub next_is : (traces : List (List Command)) (past : List HistoryItem) (i : HistoryItem) (h : List HistoryItem)
+pub next_is : (traces : List (List Command)) (past : List HistoryItem) (i : HistoryItem)
+    (h : List HistoryItem)
     → ((t : ℕ) → commands_in t (past ++ i ∷ h) ≡ slice_index_or traces t []) → IsNext traces past i
 next_is traces past Started h whole = tt
 next_is traces past (Did e) h whole =
@@ -89,7 +93,8 @@ next_is traces past (Did e) h whole =
     let parts : part t (past ++ Did e ∷ h) ≡ part t past ++ e ∷ part t h =
     part_append t past (Did e ∷ h)
     ∙ ap (λ (l : List Entry). part t past ++ l)
-    (part_append t (Did e ∷ []) h ∙ ap (λ (l : List Entry). l ++ part t h) (part_entry t e refl)) in (
+    (part_append t (Did e ∷ []) h
+    ∙ ap (λ (l : List Entry). l ++ part t h) (part_entry t e refl)) in (
       rest,
       left_is (part t past) (slice_index_or traces t []) (e.command ∷ rest)
           (sym (map-append f (part t past) (e ∷ part t h)) ∙ ap (map f) (sym parts) ∙ whole t),
@@ -107,7 +112,8 @@ legal_at : (g : Graph) (past : List HistoryItem) (i : HistoryItem) (rest : List 
 legal_at g [] i rest l = l.0
 legal_at g (x ∷ past) i rest l = legal_at (after g x) past i rest l.1
 
-licensed_at : (c : Config) (before past : List HistoryItem) (i : HistoryItem) (rest : List HistoryItem)
+licensed_at : (c : Config) (before past : List HistoryItem) (i : HistoryItem)
+    (rest : List HistoryItem)
     → LicensedFrom c before (past ++ i ∷ rest) → IsLicensedItem c (before ++ past) i
 licensed_at c before [] i rest l =
     subst (λ (p : List HistoryItem). IsLicensedItem c p i) (sym (append-nil before)) l.0
@@ -115,7 +121,8 @@ licensed_at c before (x ∷ past) i rest l =
     subst (λ (p : List HistoryItem). IsLicensedItem c p i) (append_assoc before (x ∷ []) past)
     (licensed_at c (before ++ x ∷ []) past i rest l.1)
 
-work_at : (w : Width) (rate : ℕ) (past : List HistoryItem) (i : HistoryItem) (rest : List HistoryItem)
+work_at : (w : Width) (rate : ℕ) (past : List HistoryItem) (i : HistoryItem)
+    (rest : List HistoryItem)
     → RightWork w rate (past ++ i ∷ rest) → IsRightWork w rate i
 work_at w rate [] i rest l = l.0
 work_at w rate (x ∷ past) i rest l = work_at w rate past i rest l.1
@@ -137,11 +144,13 @@ module _ (c : Config) (rate : ℕ) (traces : List (List Command)) where
     right_work = work_at c.width rate past i rest run.right_work;
   }
 
-  come_from : (past h : List HistoryItem) → IsRun c rate traces (past ++ h) → AllMayCome c rate traces past h
+  come_from : (past h : List HistoryItem) → IsRun c rate traces (past ++ h)
+      → AllMayCome c rate traces past h
   come_from past [] run = tt
   come_from past (i ∷ h) run = (
     comes past i h run,
-    come_from (past ++ i ∷ []) h (subst (IsRun c rate traces) (sym (append_assoc past (i ∷ []) h)) run),
+    come_from (past ++ i ∷ []) h
+        (subst (IsRun c rate traces) (sym (append_assoc past (i ∷ []) h)) run),
   )
 
   pub all_come : (h : List HistoryItem) → IsRun c rate traces h → AllMayCome c rate traces [] h
@@ -153,7 +162,8 @@ module _ (c : Config) (rate : ℕ) (traces : List (List Command)) where
 
   pub none_left : (h : List HistoryItem) (t : ℕ) → IsRun c rate traces h → left_of traces h t ≡ []
   none_left h t run =
-      left_is (part t h) (slice_index_or traces t []) [] (append-nil (commands_in t h) ∙ run.traces_whole t)
+      left_is (part t h) (slice_index_or traces t []) []
+      (append-nil (commands_in t h) ∙ run.traces_whole t)
 
   -- ---- and items that may come in turn, to the end of all traces, are a run
 
@@ -163,7 +173,8 @@ module _ (c : Config) (rate : ℕ) (traces : List (List Command)) where
     right_work : RightWork c.width rate h
     begins : AllBegin traces (past ++ h)
 
-  goes : (past h : List HistoryItem) → AllBegin traces past → AllMayCome c rate traces past h → Goes past h
+  goes : (past h : List HistoryItem) → AllBegin traces past → AllMayCome c rate traces past h
+      → Goes past h
   goes past [] begins all = record {
     legal = tt;
     licensed = tt;
@@ -173,13 +184,17 @@ module _ (c : Config) (rate : ℕ) (traces : List (List Command)) where
   goes past (i ∷ h) begins all =
       let rest = goes (past ++ i ∷ []) h (begin_more traces past i all.0.next begins) all.1 in
       record {
-        legal = (all.0.answered, subst (λ (g : Graph). LegalFrom g h) (replay_more (start_graph c) past i) rest.legal);
+        legal = (
+          all.0.answered,
+          subst (λ (g : Graph). LegalFrom g h) (replay_more (start_graph c) past i) rest.legal,
+        );
         licensed = (all.0.licensed, rest.licensed);
         right_work = (all.0.right_work, rest.right_work);
         begins = subst (AllBegin traces) (append_assoc past (i ∷ []) h) rest.begins;
       }
 
-  legal_whole : (h : List HistoryItem) → h ≢ [] → AllMayCome c rate traces [] h → LegalFrom (start_graph c) h → Legal c h
+  legal_whole : (h : List HistoryItem) → h ≢ [] → AllMayCome c rate traces [] h
+      → LegalFrom (start_graph c) h → Legal c h
   legal_whole [] some all l = absurd (some refl)
   legal_whole (Started ∷ h) some all l = l.1
   legal_whole (Did e ∷ h) some all l = absurd (let first : Did e ≡ Started = all.0.first refl in cc)

@@ -9,26 +9,30 @@ use Rattle.never_heap.specs.PlainRuns.{FullsExactly, NoWork}
 use Rattle.never_heap.specs.Taken.{taken_by, taken_in}
 
 -- replay goes on by the item
-pub replay_more : (g : Graph) (h : List HistoryItem) (i : HistoryItem) → replay_from g (h ++ i ∷ []) ≡ after (replay_from g h) i
+pub replay_more : (g : Graph) (h : List HistoryItem) (i : HistoryItem)
+    → replay_from g (h ++ i ∷ []) ≡ after (replay_from g h) i
 replay_more g [] i = refl
 replay_more g (x ∷ h) i = replay_more (after g x) h i
 
 -- a legal history stays legal where the item is answered on its replay
-pub legal_more : (g : Graph) (h : List HistoryItem) (i : HistoryItem) → LegalFrom g h → IsAnswered (replay_from g h) i → LegalFrom g (h ++ i ∷ [])
+pub legal_more : (g : Graph) (h : List HistoryItem) (i : HistoryItem) → LegalFrom g h
+    → IsAnswered (replay_from g h) i → LegalFrom g (h ++ i ∷ [])
 legal_more g [] i l a = (a, tt)
 legal_more g (x ∷ h) i l a = (l.0, legal_more (after g x) h i l.1 a)
 
-pub legal_history_more : (c : Config) (h : List HistoryItem) (i : HistoryItem) → Legal c h → IsAnswered (replay c h) i → Legal c (h ++ i ∷ [])
+pub legal_history_more : (c : Config) (h : List HistoryItem) (i : HistoryItem) → Legal c h
+    → IsAnswered (replay c h) i → Legal c (h ++ i ∷ [])
 legal_history_more c [] i l a = absurd l
 legal_history_more c (Started ∷ h) i l a = legal_more (start_graph c) h i l a
 legal_history_more c (Did e ∷ h) i l a = absurd l
 
--- a front of a legal history is legal
+-- a prefix of a legal history is legal
 pub legal_front : (g : Graph) (h k : List HistoryItem) → LegalFrom g (h ++ k) → LegalFrom g h
 legal_front g [] k l = tt
 legal_front g (x ∷ h) k l = (l.0, legal_front (after g x) h k l.1)
 
-part_cons : (b : Bool) (e : Entry) (xs ys zs : List Entry) → xs ≡ ys ++ zs → cond b (e ∷ xs) xs ≡ cond b (e ∷ ys) ys ++ zs
+part_cons : (b : Bool) (e : Entry) (xs ys zs : List Entry) → xs ≡ ys ++ zs
+    → cond b (e ∷ xs) xs ≡ cond b (e ∷ ys) ys ++ zs
 part_cons true e xs ys zs h = ap (λ r. e ∷ r) h
 part_cons false e xs ys zs h = h
 
@@ -55,13 +59,20 @@ no_work_append (Started ∷ h) k w v = no_work_append h k w v
 no_work_append (Did e ∷ h) k w v = (w.0, no_work_append h k w.1 v)
 
 pub fulls_append : (c : Config) (used : ℕ) (h k : List HistoryItem)
-    → FullsExactly c used h → FullsExactly c (used + taken_in c.width h) k → FullsExactly c used (h ++ k)
+    → FullsExactly c used h → FullsExactly c (used + taken_in c.width h) k
+    → FullsExactly c used (h ++ k)
 fulls_append c used [] k f g = subst (λ u. FullsExactly c u k) (add-zero used) g
 fulls_append c used (Started ∷ h) k f g = fulls_append c used h k f g
-fulls_append c used (Did e ∷ h) k f g =
-    (f.0, f.1, fulls_append c (used + taken_by c.width e) h k f.2 (subst (λ u. FullsExactly c u k) (sym (add_assoc used (taken_by c.width e) (taken_in c.width h))) g))
+fulls_append c used (Did e ∷ h) k f g = (
+  f.0,
+  f.1,
+  fulls_append c (used + taken_by c.width e) h k f.2
+      (subst (λ u. FullsExactly c u k)
+      (sym (add_assoc used (taken_by c.width e) (taken_in c.width h))) g),
+)
 
-pub taken_append : (w : Width) (h k : List HistoryItem) → taken_in w (h ++ k) ≡ taken_in w h + taken_in w k
+pub taken_append : (w : Width) (h k : List HistoryItem)
+    → taken_in w (h ++ k) ≡ taken_in w h + taken_in w k
 taken_append w [] k = sym (zero-add (taken_in w k))
 taken_append w (Started ∷ h) k = taken_append w h k
 taken_append w (Did e ∷ h) k = omega (arith, taken_append w h k)

@@ -23,12 +23,14 @@ one_below c (suc u) =
     ap (λ k. names_below (start_graph c) u ++ thread_names u k) (count_of_start c u)
     ∙ ap (λ (l : List Name). l ++ []) (one_below c u)
 
-shared_reached : (c : Config) → IsInBounds c → reachable (start_graph c) (shared_name c.threads) ≡ true
+shared_reached : (c : Config) → IsInBounds c
+    → reachable (start_graph c) (shared_name c.threads) ≡ true
 shared_reached c bounds =
     (reachable_closed (start_graph c)).registers 0 0 (shared_name c.threads)
     (register_of_start c 0 0 bounds.some_thread (omega arith))
 
-pub opening_live : (c : Config) → IsInBounds c → live_blocks c.width (start_graph c) ≡ opening_blocks c
+pub opening_live : (c : Config) → IsInBounds c
+    → live_blocks c.width (start_graph c) ≡ opening_blocks c
 unfolding live_blocks
 opening_live c bounds =
     let g = start_graph c in

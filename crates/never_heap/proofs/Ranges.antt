@@ -4,7 +4,8 @@ use Rattle.never_heap.specs.declared.Command.{Command}
 use Rattle.never_heap.specs.declared.Command.TheVariants.{New, Arr, Set, Nil, Mov, Get, Put, Len, Same, Say}
 use Rattle.never_heap.specs.Bounds.{IsCommandInBounds, IsCommandInRange}
 
-pub in_range : (c : Config) (command : Command) → IsCommandInBounds c command → IsCommandInRange command
+pub in_range : (c : Config) (command : Command) → IsCommandInBounds c command
+    → IsCommandInRange command
 in_range c (New d f) h = (h.0, h.1)
 in_range c (Arr d e) h = (h.0, h.1)
 in_range c (Set d v) h = h

@@ -16,13 +16,20 @@ use Rattle.never_heap.specs.Steps.{step, at_field, at_object}
 abbrev Leaves : Graph → Graph × Reply → Type 0
 Leaves g r = is_refusal r.1 ≡ true → r.0 ≡ g
 
-field_leaves : (g : Graph) (v : Value) (i : ℕ) (act : Name → Graph × Reply) → ((a : Name) → is_refusal (act a).1 ≡ false) → Leaves g (at_field g v i act)
+field_leaves : (g : Graph) (v : Value) (i : ℕ) (act : Name → Graph × Reply)
+    → ((a : Name) → is_refusal (act a).1 ≡ false) → Leaves g (at_field g v i act)
 field_leaves g Nil i act f = λ y. refl
 field_leaves g (Int n) i act f = λ y. refl
 field_leaves g (Ref a) i act f =
-    elim (ltb i (length (object_of g a).fields)) as (λ b. Leaves g (cond b (act a) (g, replies.Range))) [ true ↦ λ y. absurd (both_ways (is_refusal (act a).1) (f a) y) | false ↦ λ y. refl ]
+    elim (ltb i (length (object_of g a).fields)) as
+    (λ b. Leaves g (cond b (act a) (g, replies.Range))) [
+      | true ↦
+          λ y. absurd (both_ways (is_refusal (act a).1) (f a) y)
+      | false ↦ λ y. refl
+    ]
 
-object_leaves : (g : Graph) (v : Value) (act : Name → Graph × Reply) → ((a : Name) → (act a).0 ≡ g) → Leaves g (at_object g v act)
+object_leaves : (g : Graph) (v : Value) (act : Name → Graph × Reply)
+    → ((a : Name) → (act a).0 ≡ g) → Leaves g (at_object g v act)
 object_leaves g Nil act f y = refl
 object_leaves g (Int n) act f y = refl
 object_leaves g (Ref a) act f y = f a

@@ -12,28 +12,36 @@ use Rattle.never_heap.proofs.GraphMoves.{name_of_shared, name_of_thread, at_zero
 pub threads_of_start : (c : Config) → length (start_graph c).mutators ≡ c.threads
 threads_of_start c = length-replicate c.threads (start_mutator c.threads)
 
-pub start_at : (c : Config) (t : ℕ) → t < c.threads → mutator_at (start_graph c) t ≡ start_mutator c.threads
+pub start_at : (c : Config) (t : ℕ) → t < c.threads
+    → mutator_at (start_graph c) t ≡ start_mutator c.threads
 start_at c t h = get_or-replicate c.threads t (start_mutator c.threads) no_mutator h
 
 -- no thread has made an object
 pub count_of_start : (c : Config) (t : ℕ) → count_of (start_graph c) t ≡ 0
 count_of_start c t = elim (cases_lt t c.threads) [
   | inl h ↦ ap (λ (m : Mutator). length m.objects) (start_at c t h)
-  | inr h ↦ ap (λ (m : Mutator). length m.objects) (get_or_past (start_graph c).mutators t no_mutator (omega (arith, threads_of_start c)))
+  | inr h ↦ ap (λ (m : Mutator). length m.objects)
+      (get_or_past (start_graph c).mutators t no_mutator (omega (arith, threads_of_start c)))
 ]
 
 -- the one name is that of the shared array
-pub name_of_start : (c : Config) (a : Name) → has_name (start_graph c) a ≡ true → (a.thread ≡ c.threads) × (a.serial ≡ 0)
+pub name_of_start : (c : Config) (a : Name) → has_name (start_graph c) a ≡ true
+    → (a.thread ≡ c.threads) × (a.serial ≡ 0)
 name_of_start c a h = elim (cases_eq a.serial 0) [
   | inl z ↦ (name_of_shared (start_graph c) a z h ∙ threads_of_start c, z)
-  | inr z ↦ let few : a.serial ≤ count_of (start_graph c) a.thread = name_of_thread (start_graph c) a z h in absurd (z (omega (arith, count_of_start c a.thread)))
+  | inr z ↦ let few : a.serial ≤ count_of (start_graph c) a.thread =
+      name_of_thread (start_graph c) a z h in
+      absurd (z (omega (arith, count_of_start c a.thread)))
 ]
 
-pub object_of_start : (c : Config) (a : Name) → has_name (start_graph c) a ≡ true → object_of (start_graph c) a ≡ record { kind = Array; fields = nils c.shared }
+pub object_of_start : (c : Config) (a : Name) → has_name (start_graph c) a ≡ true
+    → object_of (start_graph c) a ≡ record { kind = Array; fields = nils c.shared }
 object_of_start c a h =
     let p = name_of_start c a h in
-    at_zero (start_graph c).shared (length (start_graph c).mutators) (mutator_at (start_graph c) a.thread).objects a p.1
-    ∙ ap (λ b. cond b (start_graph c).shared no_object) (eq-eqb a.thread (length (start_graph c).mutators) (p.0 ∙ sym (threads_of_start c)))
+    at_zero (start_graph c).shared (length (start_graph c).mutators)
+    (mutator_at (start_graph c) a.thread).objects a p.1
+    ∙ ap (λ b. cond b (start_graph c).shared no_object)
+    (eq-eqb a.thread (length (start_graph c).mutators) (p.0 ∙ sym (threads_of_start c)))
 
 pub has_shared : (c : Config) → has_name (start_graph c) (shared_name c.threads) ≡ true
 has_shared c = eq-eqb c.threads (length (start_graph c).mutators) (sym (threads_of_start c))
@@ -46,11 +54,17 @@ first_register : (v : Value) (r : ℕ) → r ≡ 0 → get_or (v ∷ nils 15) r 
 first_register v r e = ap (λ k. get_or (v ∷ nils 15) k Nil) e
 
 -- register 0 refers to the shared array, and the others are nil
-pub register_of_start : (c : Config) (t r : ℕ) → t < c.threads → r < 16 → register_of (start_graph c) t r ≡ cond (eqb r 0) (Ref (shared_name c.threads)) Nil
+pub register_of_start : (c : Config) (t r : ℕ) → t < c.threads → r < 16
+    → register_of (start_graph c) t r ≡ cond (eqb r 0) (Ref (shared_name c.threads)) Nil
 register_of_start c t r h l = elim (cases_eq r 0) [
-  | inl e ↦ ap (λ (m : Mutator). get_or m.registers r Nil) (start_at c t h) ∙ first_register (Ref (shared_name c.threads)) r e ∙ sym (ap (λ b. cond b (Ref (shared_name c.threads)) Nil) (eq-eqb r 0 e))
-  | inr n ↦ ap (λ (m : Mutator). get_or m.registers r Nil) (start_at c t h) ∙ later_registers (Ref (shared_name c.threads)) r l n ∙ sym (ap (λ b. cond b (Ref (shared_name c.threads)) Nil) (ne_eqb r 0 n))
+  | inl e ↦ ap (λ (m : Mutator). get_or m.registers r Nil) (start_at c t h)
+      ∙ first_register (Ref (shared_name c.threads)) r e
+      ∙ sym (ap (λ b. cond b (Ref (shared_name c.threads)) Nil) (eq-eqb r 0 e))
+  | inr n ↦ ap (λ (m : Mutator). get_or m.registers r Nil) (start_at c t h)
+      ∙ later_registers (Ref (shared_name c.threads)) r l n
+      ∙ sym (ap (λ b. cond b (Ref (shared_name c.threads)) Nil) (ne_eqb r 0 n))
 ]
 
-pub sixteen_of_start : (c : Config) (t : ℕ) → t < c.threads → length (mutator_at (start_graph c) t).registers ≡ 16
+pub sixteen_of_start : (c : Config) (t : ℕ) → t < c.threads
+    → length (mutator_at (start_graph c) t).registers ≡ 16
 sixteen_of_start c t h = ap (λ (m : Mutator). length m.registers) (start_at c t h)

@@ -1,4 +1,5 @@
--- What stays over a step and over a replay: names, with the kind and length of their objects, and what no command stored in.
+-- What stays over a step and over a replay: names, with the kind and length of their objects, and
+-- what no command stored in.
 use Rattle.std.proofs.Common.{ℕ, ◌+◌, ◌≡◌, ◌<◌, ◌≤◌, Bool, true, false, Option, Some, None, cond, eqb, leb, ltb, List, [], ◌∷◌, length, set, get_or, ap, sym, ◌∙◌, refl, subst, arith, inl, inr, eq-eqb, ne_eqb}
 use Rattle.std.proofs.lemmas.Bool.{cases_eq, cases_lt, cases_Bool, both_ways, or_right, lt-leb, eqb-false}
 use Rattle.std.proofs.lemmas.List.{length-set, set_past, get_or_past, get_or-set_other}
@@ -19,94 +20,132 @@ use Rattle.never_heap.proofs.Stepping.{Change, none, store, put, make, change_of
 
 -- a thread that there is not changes nothing
 past_with : (g : Graph) (t : ℕ) (m : Mutator) → length g.mutators ≤ t → with_mutator g t m ≡ g
-past_with g t m l = ap (λ (ms : List Mutator). let h : Graph = record { shared = g.shared; mutators = ms } in h) (set_past g.mutators t m l)
+past_with g t m l = ap (λ (ms : List Mutator). let h
+    : Graph = record { shared = g.shared; mutators = ms } in h) (set_past g.mutators t m l)
 
 past_register : (g : Graph) (t r : ℕ) → length g.mutators ≤ t → register_of g t r ≡ Nil
-past_register g t r l = ap (λ (m : Mutator). get_or m.registers r Nil) (get_or_past g.mutators t no_mutator l)
+past_register g t r l = ap (λ (m : Mutator). get_or m.registers r Nil)
+    (get_or_past g.mutators t no_mutator l)
 
-pub change_past : (g : Graph) (t : ℕ) (new : Bool) (h : Graph) → length g.mutators ≤ t → Change g t new h → h ≡ g
+pub change_past : (g : Graph) (t : ℕ) (new : Bool) (h : Graph) → length g.mutators ≤ t
+    → Change g t new h → h ≡ g
 change_past g t new _ l none = refl
 change_past g t new _ l (store d v s) = past_with g t _ l
-change_past g t new _ l (put s i v a e k) = let nil : register_of g t s ≡ Nil = past_register g t s l in absurd cc
+change_past g t new _ l (put s i v a e k) = let nil : register_of g t s ≡ Nil =
+    past_register g t s l in absurd cc
 change_past g t new _ l (make d o n e y) =
-    ap (λ (k : Graph). with_register k t d (Ref (next_name g t))) (past_with g t _ l) ∙ past_with g t _ l
+    ap (λ (k : Graph). with_register k t d (Ref (next_name g t))) (past_with g t _ l)
+    ∙ past_with g t _ l
 
 -- the next name is new
 pub next_is_new : (g : Graph) (t : ℕ) → has_name g (next_name g t) ≡ false
 next_is_new g t =
-    ap (λ b. cond b (eqb t (length g.mutators)) (leb (count_of g t + 1) (count_of g t))) (ne_eqb (count_of g t + 1) 0 (λ e. absurd (omega arith)))
+    ap (λ b. cond b (eqb t (length g.mutators)) (leb (count_of g t + 1) (count_of g t)))
+    (ne_eqb (count_of g t + 1) 0 (λ e. absurd (omega arith)))
     ∙ lt-leb (count_of g t + 1) (count_of g t) (omega arith)
 
 same_shape : (o p : Object) → p ≡ o → SameShape o p
-same_shape o p e = record { kind = ap (λ (x : Object). x.kind) e; size = ap (λ (x : Object). length x.fields) e }
+same_shape o p e = record {
+  kind = ap (λ (x : Object). x.kind) e;
+  size = ap (λ (x : Object). length x.fields) e;
+}
 
 shape_set : (o p : Object) (i : ℕ) (v : Value) → p ≡ set_field o i v → SameShape o p
-shape_set o p i v e = record { kind = ap (λ (x : Object). x.kind) e; size = ap (λ (x : Object). length x.fields) e ∙ length-set o.fields i v }
+shape_set o p i v e = record {
+  kind = ap (λ (x : Object). x.kind) e;
+  size = ap (λ (x : Object). length x.fields) e ∙ length-set o.fields i v;
+}
 
 module _ (g : Graph) (t : ℕ) (new : Bool) (there : t < length g.mutators) where
-  names_here : (h : Graph) → Change g t new h → (a : Name) → has_name g a ≡ true → has_name h a ≡ true
+  names_here : (h : Graph) → Change g t new h → (a : Name) → has_name g a ≡ true
+      → has_name h a ≡ true
   names_here _ none a has = has
   names_here _ (store d v s) a has = has_name_with_register g t d v a there ∙ has
-  names_here _ (put s i v b e l) a has = has_name_with_field g b i (register_of g t v) (has_field g b i l) a ∙ has
+  names_here _ (put s i v b e l) a has =
+      has_name_with_field g b i (register_of g t v) (has_field g b i l) a ∙ has
   names_here _ (make d o n e y) a has =
-      has_name_with_register (with_object g t o) t d (Ref (next_name g t)) a (omega (arith, with_object_threads g t o))
-      ∙ has_name_with_object g t o there a ∙ or_right (same_name (next_name g t) a) (has_name g a) has
+      has_name_with_register (with_object g t o) t d (Ref (next_name g t)) a
+      (omega (arith, with_object_threads g t o))
+      ∙ has_name_with_object g t o there a
+      ∙ or_right (same_name (next_name g t) a) (has_name g a) has
 
-  shape_here : (h : Graph) → Change g t new h → (a : Name) → has_name g a ≡ true → SameShape (object_of g a) (object_of h a)
+  shape_here : (h : Graph) → Change g t new h → (a : Name) → has_name g a ≡ true
+      → SameShape (object_of g a) (object_of h a)
   shape_here _ none a has = same_shape (object_of g a) (object_of g a) refl
-  shape_here _ (store d v s) a has = same_shape (object_of g a) _ (object_with_register g t d v a there)
+  shape_here _ (store d v s) a has =
+      same_shape (object_of g a) _ (object_with_register g t d v a there)
   shape_here _ (put s i v b e l) a has = elim (cases_Bool (same_name b a)) [
-    | inl y ↦ subst (λ (x : Name). SameShape (object_of g x) (object_of (with_field g b i (register_of g t v)) a)) (one_name b a y)
-        (shape_set (object_of g b) (object_of (with_field g b i (register_of g t v)) a) i (register_of g t v) (object_with_field g b i (register_of g t v) (has_field g b i l) a
+    | inl y ↦ subst (λ (x : Name). SameShape (object_of g x)
+        (object_of (with_field g b i (register_of g t v)) a)) (one_name b a y)
+        (shape_set (object_of g b) (object_of (with_field g b i (register_of g t v)) a) i
+        (register_of g t v) (object_with_field g b i (register_of g t v) (has_field g b i l) a
         ∙ ap (λ k. cond k (set_field (object_of g b) i (register_of g t v)) (object_of g a)) y))
-    | inr n ↦ same_shape (object_of g a) _ (object_with_field g b i (register_of g t v) (has_field g b i l) a
+    | inr n ↦ same_shape (object_of g a) _
+        (object_with_field g b i (register_of g t v) (has_field g b i l) a
         ∙ ap (λ k. cond k (set_field (object_of g b) i (register_of g t v)) (object_of g a)) n)
   ]
   shape_here _ (make d o n e y) a has = elim (cases_Bool (same_name (next_name g t) a)) [
-    | inl same ↦ absurd (both_ways (has_name g (next_name g t)) (next_is_new g t) (ap (has_name g) (one_name (next_name g t) a same) ∙ has))
-    | inr other ↦ same_shape (object_of g a) _ (object_with_register (with_object g t o) t d (Ref (next_name g t)) a (omega (arith, with_object_threads g t o))
+    | inl same ↦ absurd (both_ways (has_name g (next_name g t)) (next_is_new g t)
+        (ap (has_name g) (one_name (next_name g t) a same) ∙ has))
+    | inr other ↦ same_shape (object_of g a) _
+        (object_with_register (with_object g t o) t d (Ref (next_name g t)) a
+        (omega (arith, with_object_threads g t o))
         ∙ object_with_object g t o there a ∙ ap (λ k. cond k o (object_of g a)) other)
   ]
 
 -- a name stays, with the kind and length of its object
-pub names_of_change : (g : Graph) (t : ℕ) (new : Bool) (h : Graph) → Change g t new h → (a : Name) → has_name g a ≡ true → has_name h a ≡ true
+pub names_of_change : (g : Graph) (t : ℕ) (new : Bool) (h : Graph) → Change g t new h → (a : Name)
+    → has_name g a ≡ true → has_name h a ≡ true
 names_of_change g t new h c a has = elim (cases_lt t (length g.mutators)) [
   | inl there ↦ names_here g t new there h c a has
   | inr past ↦ ap (λ k. has_name k a) (change_past g t new h past c) ∙ has
 ]
 
-pub shape_of_change : (g : Graph) (t : ℕ) (new : Bool) (h : Graph) → Change g t new h → (a : Name) → has_name g a ≡ true → SameShape (object_of g a) (object_of h a)
+pub shape_of_change : (g : Graph) (t : ℕ) (new : Bool) (h : Graph) → Change g t new h → (a : Name)
+    → has_name g a ≡ true → SameShape (object_of g a) (object_of h a)
 shape_of_change g t new h c a has = elim (cases_lt t (length g.mutators)) [
   | inl there ↦ shape_here g t new there h c a has
-  | inr past ↦ same_shape (object_of g a) (object_of h a) (ap (λ k. object_of k a) (change_past g t new h past c))
+  | inr past ↦ same_shape (object_of g a) (object_of h a)
+      (ap (λ k. object_of k a) (change_past g t new h past c))
 ]
 
-pub step_names : (g : Graph) (t : ℕ) (command : Command) (a : Name) → has_name g a ≡ true → has_name (step g t command).0 a ≡ true
-step_names g t command = names_of_change g t (makes_object command) (step g t command).0 (change_of g t command)
+pub step_names : (g : Graph) (t : ℕ) (command : Command) (a : Name) → has_name g a ≡ true
+    → has_name (step g t command).0 a ≡ true
+step_names g t command =
+    names_of_change g t (makes_object command) (step g t command).0 (change_of g t command)
 
-pub step_shape : (g : Graph) (t : ℕ) (command : Command) (a : Name) → has_name g a ≡ true → SameShape (object_of g a) (object_of (step g t command).0 a)
-step_shape g t command = shape_of_change g t (makes_object command) (step g t command).0 (change_of g t command)
+pub step_shape : (g : Graph) (t : ℕ) (command : Command) (a : Name) → has_name g a ≡ true
+    → SameShape (object_of g a) (object_of (step g t command).0 a)
+step_shape g t command =
+    shape_of_change g t (makes_object command) (step g t command).0 (change_of g t command)
 
 -- the same over an item and over a replay, by a law of steps
-pub after_keeps : (P : Graph → Type 0) (g : Graph) (i : HistoryItem) → P g → ((t : ℕ) (command : Command) → P (step g t command).0) → P (after g i)
+pub after_keeps : (P : Graph → Type 0) (g : Graph) (i : HistoryItem) → P g
+    → ((t : ℕ) (command : Command) → P (step g t command).0) → P (after g i)
 after_keeps P g Started p f = p
 after_keeps P g (Did e) p f = elim (cases_Bool (is_full e.reply)) [
   | inl y ↦ subst (λ b. P (cond b g (step g e.thread e.command).0)) (sym y) p
   | inr n ↦ subst (λ b. P (cond b g (step g e.thread e.command).0)) (sym n) (f e.thread e.command)
 ]
 
-pub replay_keeps : (P : Graph → Type 0) → ((g : Graph) (t : ℕ) (command : Command) → P g → P (step g t command).0) → (h : List HistoryItem) (g : Graph) → P g → P (replay_from g h)
+pub replay_keeps : (P : Graph → Type 0)
+    → ((g : Graph) (t : ℕ) (command : Command) → P g → P (step g t command).0)
+    → (h : List HistoryItem) (g : Graph) → P g → P (replay_from g h)
 replay_keeps P f [] g p = p
-replay_keeps P f (i ∷ h) g p = replay_keeps P f h (after g i) (after_keeps P g i p (λ t command. f g t command p))
+replay_keeps P f (i ∷ h) g p =
+    replay_keeps P f h (after g i) (after_keeps P g i p (λ t command. f g t command p))
 
-pub replay_names : (g : Graph) (h : List HistoryItem) (a : Name) → has_name g a ≡ true → has_name (replay_from g h) a ≡ true
-replay_names g h a has = replay_keeps (λ k. has_name k a ≡ true) (λ k t command. step_names k t command a) h g has
+pub replay_names : (g : Graph) (h : List HistoryItem) (a : Name) → has_name g a ≡ true
+    → has_name (replay_from g h) a ≡ true
+replay_names g h a has =
+    replay_keeps (λ k. has_name k a ≡ true) (λ k t command. step_names k t command a) h g has
 
 record Kept (o : Object) (a : Name) (g : Graph) : Type 0 where
   has : has_name g a ≡ true
   shape : SameShape o (object_of g a)
 
-pub replay_shape : (g : Graph) (h : List HistoryItem) (a : Name) → has_name g a ≡ true → SameShape (object_of g a) (object_of (replay_from g h) a)
+pub replay_shape : (g : Graph) (h : List HistoryItem) (a : Name) → has_name g a ≡ true
+    → SameShape (object_of g a) (object_of (replay_from g h) a)
 replay_shape g h a has = (replay_keeps (Kept (object_of g a) a) (λ k t command p.
     let s = step_shape k t command a p.has in
     record {
@@ -115,99 +154,140 @@ replay_shape g h a has = (replay_keeps (Kept (object_of g a) a) (λ k t command 
     }) h g (record { has = has; shape = same_shape (object_of g a) (object_of g a) refl })).shape
 
 -- registers of other threads, and registers in which the command does not store
-other_register : (g : Graph) (t d u q : ℕ) (v : Value) → (t ≡ u → eqb d q ≡ false) → register_of (with_register g t d v) u q ≡ register_of g u q
+other_register : (g : Graph) (t d u q : ℕ) (v : Value) → (t ≡ u → eqb d q ≡ false)
+    → register_of (with_register g t d v) u q ≡ register_of g u q
 other_register g t d u q v f = elim (cases_lt t (length g.mutators)) [
   | inr past ↦ ap (λ k. register_of k u q) (past_with g t _ past)
   | inl there ↦
-      let m : Mutator = record { registers = set (mutator_at g t).registers d v; objects = (mutator_at g t).objects } in
+      let m : Mutator = record {
+        registers = set (mutator_at g t).registers d v;
+        objects = (mutator_at g t).objects;
+      } in
       elim (cases_eq t u) [
         | inl same ↦
-            ap (λ (x : Mutator). get_or x.registers q Nil) (mutator_with g t u m there ∙ ap (λ b. cond b m (mutator_at g u)) (eq-eqb t u same))
-            ∙ get_or-set_other (mutator_at g t).registers d q v Nil (λ e. eqb-false d q (f same) (sym e)) ∙ ap (λ k. register_of g k q) same
-        | inr other ↦ ap (λ (x : Mutator). get_or x.registers q Nil) (mutator_with g t u m there ∙ ap (λ b. cond b m (mutator_at g u)) (ne_eqb t u other))
+            ap (λ (x : Mutator). get_or x.registers q Nil)
+            (mutator_with g t u m there
+            ∙ ap (λ b. cond b m (mutator_at g u)) (eq-eqb t u same))
+            ∙ get_or-set_other (mutator_at g t).registers d q v Nil
+            (λ e. eqb-false d q (f same) (sym e)) ∙ ap (λ k. register_of g k q) same
+        | inr other ↦ ap (λ (x : Mutator). get_or x.registers q Nil)
+            (mutator_with g t u m there ∙ ap (λ b. cond b m (mutator_at g u)) (ne_eqb t u other))
       ]
 ]
 
-made_register : (g : Graph) (t d u q : ℕ) (o : Object) → (t ≡ u → eqb d q ≡ false) → register_of (made g t d o).0 u q ≡ register_of g u q
-made_register g t d u q o f = other_register (with_object g t o) t d u q (Ref (next_name g t)) f ∙ elim (cases_lt t (length g.mutators)) [
-  | inl there ↦ ap (λ rs. get_or rs q Nil) (registers_with_object g t o there u)
-  | inr past ↦ ap (λ k. register_of k u q) (past_with g t _ past)
-]
+made_register : (g : Graph) (t d u q : ℕ) (o : Object) → (t ≡ u → eqb d q ≡ false)
+    → register_of (made g t d o).0 u q ≡ register_of g u q
+made_register g t d u q o f =
+    other_register (with_object g t o) t d u q (Ref (next_name g t)) f
+    ∙ elim (cases_lt t (length g.mutators)) [
+      | inl there ↦ ap (λ rs. get_or rs q Nil) (registers_with_object g t o there u)
+      | inr past ↦ ap (λ k. register_of k u q) (past_with g t _ past)
+    ]
 
-field_keeps : (P : Graph → Type 0) (g : Graph) (i : ℕ) (v : Value) (act : Name → Graph × Reply) → P g → ((a : Name) → v ≡ Ref a → i < length (object_of g a).fields → P (act a).0) → P (at_field g v i act).0
+field_keeps : (P : Graph → Type 0) (g : Graph) (i : ℕ) (v : Value) (act : Name → Graph × Reply)
+    → P g → ((a : Name) → v ≡ Ref a → i < length (object_of g a).fields → P (act a).0)
+    → P (at_field g v i act).0
 field_keeps P g i Nil act p f = p
 field_keeps P g i (Int n) act p f = p
 field_keeps P g i (Ref a) act p f = elim (cases_Bool (ltb i (length (object_of g a).fields))) [
-  | inl y ↦ subst (λ b. P (cond b (act a) (g, Range)).0) (sym y) (f a refl (Rattle.std.proofs.lemmas.Bool.ltb-true i _ y))
+  | inl y ↦ subst (λ b. P (cond b (act a) (g, Range)).0) (sym y)
+      (f a refl (Rattle.std.proofs.lemmas.Bool.ltb-true i _ y))
   | inr n ↦ subst (λ b. P (cond b (act a) (g, Range)).0) (sym n) p
 ]
 
-object_keeps : (P : Graph → Type 0) (g : Graph) (v : Value) (act : Name → Graph × Reply) → P g → ((a : Name) → (act a).0 ≡ g) → P (at_object g v act).0
+object_keeps : (P : Graph → Type 0) (g : Graph) (v : Value) (act : Name → Graph × Reply) → P g
+    → ((a : Name) → (act a).0 ≡ g) → P (at_object g v act).0
 object_keeps P g Nil act p f = p
 object_keeps P g (Int n) act p f = p
 object_keeps P g (Ref a) act p f = subst (λ k. P k) (sym (f a)) p
 
-pub step_register : (g : Graph) (t : ℕ) (command : Command) (u q : ℕ) → (t ≡ u → stores_in command q ≡ false) → register_of (step g t command).0 u q ≡ register_of g u q
+pub step_register : (g : Graph) (t : ℕ) (command : Command) (u q : ℕ)
+    → (t ≡ u → stores_in command q ≡ false)
+    → register_of (step g t command).0 u q ≡ register_of g u q
 step_register g t (commands.New d f) u q n = made_register g t d u q _ n
 step_register g t (commands.Arr d e) u q n = made_register g t d u q _ n
 step_register g t (commands.Set d v) u q n = other_register g t d u q (Int v) n
 step_register g t (commands.Nil d) u q n = other_register g t d u q Nil n
 step_register g t (commands.Mov d s) u q n = other_register g t d u q (register_of g t s) n
 step_register g t (commands.Get d s i) u q n =
-    field_keeps (λ k. register_of k u q ≡ register_of g u q) g i (register_of g t s) _ refl (λ a e l. other_register g t d u q _ n)
+    field_keeps (λ k. register_of k u q ≡ register_of g u q) g i (register_of g t s) _ refl
+    (λ a e l. other_register g t d u q _ n)
 step_register g t (commands.Put s i v) u q n =
     field_keeps (λ k. register_of k u q ≡ register_of g u q) g i (register_of g t s) _ refl
-    (λ a e l. ap (λ rs. get_or rs q Nil) (registers_with_field g a i (register_of g t v) (has_field g a i l) u))
-step_register g t (commands.Len s) u q n = object_keeps (λ k. register_of k u q ≡ register_of g u q) g (register_of g t s) _ refl (λ a. refl)
+    (λ a e l. ap (λ rs. get_or rs q Nil)
+    (registers_with_field g a i (register_of g t v) (has_field g a i l) u))
+step_register g t (commands.Len s) u q n =
+    object_keeps (λ k. register_of k u q ≡ register_of g u q) g (register_of g t s) _ refl
+    (λ a. refl)
 step_register g t (commands.Same a b) u q n = refl
 step_register g t (commands.Say s) u q n = refl
 
 -- objects, but for the one in which a put stores
-register_object : (g : Graph) (t d : ℕ) (v : Value) (a : Name) → object_of (with_register g t d v) a ≡ object_of g a
+register_object : (g : Graph) (t d : ℕ) (v : Value) (a : Name)
+    → object_of (with_register g t d v) a ≡ object_of g a
 register_object g t d v a = elim (cases_lt t (length g.mutators)) [
   | inl there ↦ object_with_register g t d v a there
   | inr past ↦ ap (λ k. object_of k a) (past_with g t _ past)
 ]
 
-made_object : (g : Graph) (t d : ℕ) (o : Object) (a : Name) → has_name g a ≡ true → object_of (made g t d o).0 a ≡ object_of g a
-made_object g t d o a has = register_object (with_object g t o) t d (Ref (next_name g t)) a ∙ elim (cases_lt t (length g.mutators)) [
-  | inr past ↦ ap (λ k. object_of k a) (past_with g t _ past)
-  | inl there ↦ elim (cases_Bool (same_name (next_name g t) a)) [
-    | inl same ↦ absurd (both_ways (has_name g (next_name g t)) (next_is_new g t) (ap (has_name g) (one_name (next_name g t) a same) ∙ has))
-    | inr other ↦ object_with_object g t o there a ∙ ap (λ k. cond k o (object_of g a)) other
-  ]
-]
+made_object : (g : Graph) (t d : ℕ) (o : Object) (a : Name) → has_name g a ≡ true
+    → object_of (made g t d o).0 a ≡ object_of g a
+made_object g t d o a has =
+    register_object (with_object g t o) t d (Ref (next_name g t)) a
+    ∙ elim (cases_lt t (length g.mutators)) [
+      | inr past ↦ ap (λ k. object_of k a) (past_with g t _ past)
+      | inl there ↦ elim (cases_Bool (same_name (next_name g t) a)) [
+        | inl same ↦ absurd (both_ways (has_name g (next_name g t)) (next_is_new g t)
+            (ap (has_name g) (one_name (next_name g t) a same) ∙ has))
+        | inr other ↦ object_with_object g t o there a ∙ ap (λ k. cond k o (object_of g a)) other
+      ]
+    ]
 
-pub step_object : (g : Graph) (t : ℕ) (command : Command) (a : Name) → has_name g a ≡ true → stored_at command ≡ None → object_of (step g t command).0 a ≡ object_of g a
+pub step_object : (g : Graph) (t : ℕ) (command : Command) (a : Name) → has_name g a ≡ true
+    → stored_at command ≡ None → object_of (step g t command).0 a ≡ object_of g a
 step_object g t (commands.New d f) a has n = made_object g t d _ a has
 step_object g t (commands.Arr d e) a has n = made_object g t d _ a has
 step_object g t (commands.Set d v) a has n = register_object g t d (Int v) a
 step_object g t (commands.Nil d) a has n = register_object g t d Nil a
 step_object g t (commands.Mov d s) a has n = register_object g t d (register_of g t s) a
-step_object g t (commands.Get d s i) a has n = field_keeps (λ k. object_of k a ≡ object_of g a) g i (register_of g t s) _ refl (λ b e l. register_object g t d _ a)
+step_object g t (commands.Get d s i) a has n =
+    field_keeps (λ k. object_of k a ≡ object_of g a) g i (register_of g t s) _ refl
+    (λ b e l. register_object g t d _ a)
 step_object g t (commands.Put s i v) a has n = absurd cc
-step_object g t (commands.Len s) a has n = object_keeps (λ k. object_of k a ≡ object_of g a) g (register_of g t s) _ refl (λ b. refl)
+step_object g t (commands.Len s) a has n =
+    object_keeps (λ k. object_of k a ≡ object_of g a) g (register_of g t s) _ refl (λ b. refl)
 step_object g t (commands.Same b c) a has n = refl
 step_object g t (commands.Say s) a has n = refl
 
 -- a put leaves the objects to which its register does not refer
-pub put_other : (g : Graph) (t s i v : ℕ) (a : Name) → (register_of g t s ≡ Ref a → ⊥) → object_of (step g t (commands.Put s i v)).0 a ≡ object_of g a
-put_other g t s i v a n = field_keeps (λ k. object_of k a ≡ object_of g a) g i (register_of g t s) _ refl (λ b e l. elim (cases_Bool (same_name b a)) [
-  | inl same ↦ absurd (n (e ∙ ap Ref (one_name b a same)))
-  | inr other ↦ object_with_field g b i (register_of g t v) (has_field g b i l) a ∙ ap (λ k. cond k (set_field (object_of g b) i (register_of g t v)) (object_of g a)) other
-])
+pub put_other : (g : Graph) (t s i v : ℕ) (a : Name) → (register_of g t s ≡ Ref a → ⊥)
+    → object_of (step g t (commands.Put s i v)).0 a ≡ object_of g a
+put_other g t s i v a n =
+    field_keeps (λ k. object_of k a ≡ object_of g a) g i (register_of g t s) _ refl
+    (λ b e l. elim (cases_Bool (same_name b a)) [
+      | inl same ↦ absurd (n (e ∙ ap Ref (one_name b a same)))
+      | inr other ↦ object_with_field g b i (register_of g t v) (has_field g b i l) a
+          ∙ ap (λ k. cond k (set_field (object_of g b) i (register_of g t v)) (object_of g a)) other
+    ])
 
 -- and the fields of another place
-other_field : (o : Object) (i j : ℕ) (v : Value) → (i ≡ j → ⊥) → field_of (set_field o i v) j ≡ field_of o j
+other_field : (o : Object) (i j : ℕ) (v : Value) → (i ≡ j → ⊥)
+    → field_of (set_field o i v) j ≡ field_of o j
 other_field o i j v n = get_or-set_other o.fields i j v Nil (λ e. n (sym e))
 
-pub put_field : (g : Graph) (t s i v : ℕ) (a : Name) (j : ℕ) → (i ≡ j → ⊥) → field_of (object_of (step g t (commands.Put s i v)).0 a) j ≡ field_of (object_of g a) j
-put_field g t s i v a j n = field_keeps (λ k. field_of (object_of k a) j ≡ field_of (object_of g a) j) g i (register_of g t s) _ refl (λ b e l.
+pub put_field : (g : Graph) (t s i v : ℕ) (a : Name) (j : ℕ) → (i ≡ j → ⊥)
+    → field_of (object_of (step g t (commands.Put s i v)).0 a) j ≡ field_of (object_of g a) j
+put_field g t s i v a j n =
+    field_keeps (λ k. field_of (object_of k a) j ≡ field_of (object_of g a) j) g i
+    (register_of g t s) _ refl (λ b e l.
     ap (λ o. field_of o j) (object_with_field g b i (register_of g t v) (has_field g b i l) a)
     ∙ elim (cases_Bool (same_name b a)) [
-      | inl same ↦ ap (λ k. field_of (cond k (set_field (object_of g b) i (register_of g t v)) (object_of g a)) j) same
-          ∙ other_field (object_of g b) i j (register_of g t v) n ∙ ap (λ k. field_of (object_of g k) j) (one_name b a same)
-      | inr other ↦ ap (λ k. field_of (cond k (set_field (object_of g b) i (register_of g t v)) (object_of g a)) j) other
+      | inl same ↦ ap (λ k. field_of
+          (cond k (set_field (object_of g b) i (register_of g t v)) (object_of g a)) j) same
+          ∙ other_field (object_of g b) i j (register_of g t v) n
+          ∙ ap (λ k. field_of (object_of g k) j) (one_name b a same)
+      | inr other ↦ ap (λ k. field_of
+          (cond k (set_field (object_of g b) i (register_of g t v)) (object_of g a)) j) other
     ])
 
 -- the same of each command that stores in a field
@@ -219,7 +299,8 @@ abbrev second_of : Option (ℕ × ℕ) → ℕ
 second_of None = 0
 second_of (Some p) = p.1
 
-pub stored_other : (g : Graph) (t : ℕ) (command : Command) (s i : ℕ) (a : Name) → stored_at command ≡ Some (s, i)
+pub stored_other : (g : Graph) (t : ℕ) (command : Command) (s i : ℕ) (a : Name)
+    → stored_at command ≡ Some (s, i)
     → (register_of g t s ≡ Ref a → ⊥) → object_of (step g t command).0 a ≡ object_of g a
 stored_other g t (commands.Put q j v) s i a e n =
     put_other g t q j v a (λ r. n (ap (register_of g t) (sym (ap first_of e)) ∙ r))
@@ -233,9 +314,11 @@ stored_other g t (commands.Len q) s i a e n = absurd cc
 stored_other g t (commands.Same q r) s i a e n = absurd cc
 stored_other g t (commands.Say q) s i a e n = absurd cc
 
-pub stored_field : (g : Graph) (t : ℕ) (command : Command) (s i : ℕ) (a : Name) (j : ℕ) → stored_at command ≡ Some (s, i)
+pub stored_field : (g : Graph) (t : ℕ) (command : Command) (s i : ℕ) (a : Name) (j : ℕ)
+    → stored_at command ≡ Some (s, i)
     → (i ≡ j → ⊥) → field_of (object_of (step g t command).0 a) j ≡ field_of (object_of g a) j
-stored_field g t (commands.Put q k v) s i a j e n = put_field g t q k v a j (λ r. n (sym (ap second_of e) ∙ r))
+stored_field g t (commands.Put q k v) s i a j e n =
+    put_field g t q k v a j (λ r. n (sym (ap second_of e) ∙ r))
 stored_field g t (commands.New d f) s i a j e n = absurd cc
 stored_field g t (commands.Arr d f) s i a j e n = absurd cc
 stored_field g t (commands.Set d v) s i a j e n = absurd cc
@@ -247,13 +330,17 @@ stored_field g t (commands.Same q r) s i a j e n = absurd cc
 stored_field g t (commands.Say q) s i a j e n = absurd cc
 
 -- how many objects a thread made
-pub step_counts : (g : Graph) (t : ℕ) (command : Command) (u : ℕ) → (t ≡ u → makes_object command ≡ false) → count_of (step g t command).0 u ≡ count_of g u
+pub step_counts : (g : Graph) (t : ℕ) (command : Command) (u : ℕ)
+    → (t ≡ u → makes_object command ≡ false) → count_of (step g t command).0 u ≡ count_of g u
 step_counts g t command u n = elim (cases_lt t (length g.mutators)) [
-  | inl there ↦ count_stays g t u (makes_object command) (step g t command).0 there n (change_of g t command)
-  | inr past ↦ ap (λ k. count_of k u) (change_past g t (makes_object command) (step g t command).0 past (change_of g t command))
+  | inl there ↦ count_stays g t u (makes_object command) (step g t command).0 there n
+      (change_of g t command)
+  | inr past ↦ ap (λ k. count_of k u)
+      (change_past g t (makes_object command) (step g t command).0 past (change_of g t command))
 ]
 
-pub step_made : (g : Graph) (t : ℕ) (command : Command) → makes_object command ≡ true → t < length g.mutators → count_of (step g t command).0 t ≡ count_of g t + 1
+pub step_made : (g : Graph) (t : ℕ) (command : Command) → makes_object command ≡ true
+    → t < length g.mutators → count_of (step g t command).0 t ≡ count_of g t + 1
 step_made g t (commands.New d f) e there = made_count g t d _ there
 step_made g t (commands.Arr d f) e there = made_count g t d _ there
 step_made g t (commands.Set d v) e there = absurd cc

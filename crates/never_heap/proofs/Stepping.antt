@@ -14,109 +14,151 @@ use Rattle.never_heap.proofs.GraphMoves.{at_zero, at_serial, objects_with}
 use Rattle.never_heap.proofs.FieldStores.{threads_with_field, count_with_field, count_with_object}
 
 -- a name with a field is the name of an object
-pub has_field : (g : Graph) (a : Name) (i : ℕ) → i < length (object_of g a).fields → has_name g a ≡ true
+pub has_field : (g : Graph) (a : Name) (i : ℕ) → i < length (object_of g a).fields
+    → has_name g a ≡ true
 has_field g a i h = elim (cases_eq a.serial 0) [
   | inl z ↦ elim (cases_eq a.thread (length g.mutators)) [
     | inl e ↦ rw (eq-eqb a.serial 0 z, eq-eqb a.thread (length g.mutators) e) refl
     | inr n ↦
-        let none : object_of g a ≡ no_object = at_zero g.shared (length g.mutators) (mutator_at g a.thread).objects a z ∙ ap (λ b. cond b g.shared no_object) (ne_eqb a.thread (length g.mutators) n) in
+        let none : object_of g a ≡ no_object =
+        at_zero g.shared (length g.mutators) (mutator_at g a.thread).objects a z
+        ∙ ap (λ b. cond b g.shared no_object) (ne_eqb a.thread (length g.mutators) n) in
         let few : length (object_of g a).fields ≡ 0 = ap (λ (o : Object). length o.fields) none in
         absurd (omega arith)
   ]
   | inr n ↦ elim (cases_lt (a.serial - 1) (count_of g a.thread)) [
     | inl l ↦ rw (ne_eqb a.serial 0 n) (le-leb a.serial (count_of g a.thread) (omega arith))
     | inr l ↦
-        let none : object_of g a ≡ no_object = at_serial g.shared (length g.mutators) (mutator_at g a.thread).objects a n ∙ get_or_past (mutator_at g a.thread).objects (a.serial - 1) no_object l in
+        let none : object_of g a ≡ no_object =
+        at_serial g.shared (length g.mutators) (mutator_at g a.thread).objects a n
+        ∙ get_or_past (mutator_at g a.thread).objects (a.serial - 1) no_object l in
         let few : length (object_of g a).fields ≡ 0 = ap (λ (o : Object). length o.fields) none in
         absurd (omega arith)
   ]
 ]
 
--- what a command may store in a register: nil or a number, what a register of the thread holds, or a field of an object in one
+-- what a command may store in a register: nil or a number, what a register of the thread holds,
+-- or a field of an object in one
 pub data Stored (g : Graph) (t : ℕ) : Value → Type 0 where
   nil : Stored g t Nil
   number : (n : ℕ) → Stored g t (Int n)
   register : (s : ℕ) → Stored g t (register_of g t s)
-  field : (s i : ℕ) (a : Name) → register_of g t s ≡ Ref a → i < length (object_of g a).fields → Stored g t (field_of (object_of g a) i)
+  field : (s i : ℕ) (a : Name) → register_of g t s ≡ Ref a → i < length (object_of g a).fields
+      → Stored g t (field_of (object_of g a) i)
 
--- what a step makes of a graph: nothing new, a store in a register, a store in a field, or a new object in a register
+-- what a step makes of a graph: nothing new, a store in a register, a store in a field, or a new
+-- object in a register
 pub data Change (g : Graph) (t : ℕ) (new : Bool) : Graph → Type 0 where
   none : Change g t new g
   store : (d : ℕ) (v : Value) → Stored g t v → Change g t new (with_register g t d v)
-  put : (s i v : ℕ) (a : Name) → register_of g t s ≡ Ref a → i < length (object_of g a).fields → Change g t new (with_field g a i (register_of g t v))
-  make : (d : ℕ) (o : Object) (n : ℕ) → o.fields ≡ nils n → new ≡ true → Change g t new (with_register (with_object g t o) t d (Ref (next_name g t)))
+  put : (s i v : ℕ) (a : Name) → register_of g t s ≡ Ref a → i < length (object_of g a).fields
+      → Change g t new (with_field g a i (register_of g t v))
+  make : (d : ℕ) (o : Object) (n : ℕ) → o.fields ≡ nils n → new ≡ true
+      → Change g t new (with_register (with_object g t o) t d (Ref (next_name g t)))
 
 at_field_changes : (g : Graph) (t : ℕ) (new : Bool) (i : ℕ) (v : Value) (act : Name → Graph × Reply)
-    → ((a : Name) → v ≡ Ref a → i < length (object_of g a).fields → Change g t new (act a).0) → Change g t new (at_field g v i act).0
+    → ((a : Name) → v ≡ Ref a → i < length (object_of g a).fields → Change g t new (act a).0)
+    → Change g t new (at_field g v i act).0
 at_field_changes g t new i Nil act h = none
 at_field_changes g t new i (Int n) act h = none
-at_field_changes g t new i (Ref a) act h = elim (cases_Bool (ltb i (length (object_of g a).fields))) [
-  | inl y ↦ subst (λ b. Change g t new (cond b (act a) (g, Rattle.never_heap.specs.declared.Reply.TheVariants.Range)).0) (sym y) (h a refl (ltb-true i _ y))
-  | inr n ↦ subst (λ b. Change g t new (cond b (act a) (g, Rattle.never_heap.specs.declared.Reply.TheVariants.Range)).0) (sym n) none
-]
+at_field_changes g t new i (Ref a) act h =
+    elim (cases_Bool (ltb i (length (object_of g a).fields))) [
+      | inl y ↦ subst (λ b. Change g t new
+          (cond b (act a) (g, Rattle.never_heap.specs.declared.Reply.TheVariants.Range)).0) (sym y)
+          (h a refl (ltb-true i _ y))
+      | inr n ↦ subst (λ b. Change g t new
+          (cond b (act a) (g, Rattle.never_heap.specs.declared.Reply.TheVariants.Range)).0)
+          (sym n) none
+    ]
 
-at_object_changes : (g : Graph) (t : ℕ) (new : Bool) (v : Value) (act : Name → Graph × Reply) → ((a : Name) → (act a).0 ≡ g) → Change g t new (at_object g v act).0
+at_object_changes : (g : Graph) (t : ℕ) (new : Bool) (v : Value) (act : Name → Graph × Reply)
+    → ((a : Name) → (act a).0 ≡ g) → Change g t new (at_object g v act).0
 at_object_changes g t new Nil act h = none
 at_object_changes g t new (Int n) act h = none
 at_object_changes g t new (Ref a) act h = subst (λ k. Change g t new k) (sym (h a)) none
 
 -- each step is one of these
-pub change_of : (g : Graph) (t : ℕ) (command : Command) → Change g t (makes_object command) (step g t command).0
+pub change_of : (g : Graph) (t : ℕ) (command : Command)
+    → Change g t (makes_object command) (step g t command).0
 change_of g t (commands.New d f) = make d _ f refl refl
 change_of g t (commands.Arr d e) = make d _ e refl refl
 change_of g t (commands.Set d v) = store d (Int v) (number v)
 change_of g t (commands.Nil d) = store d Nil nil
 change_of g t (commands.Mov d s) = store d (register_of g t s) (register s)
-change_of g t (commands.Get d s i) = at_field_changes g t false i (register_of g t s) _ (λ a e l. store d _ (field s i a e l))
-change_of g t (commands.Put s i v) = at_field_changes g t false i (register_of g t s) _ (λ a e l. put s i v a e l)
+change_of g t (commands.Get d s i) =
+    at_field_changes g t false i (register_of g t s) _ (λ a e l. store d _ (field s i a e l))
+change_of g t (commands.Put s i v) =
+    at_field_changes g t false i (register_of g t s) _ (λ a e l. put s i v a e l)
 change_of g t (commands.Len s) = at_object_changes g t false (register_of g t s) _ (λ a. refl)
 change_of g t (commands.Same a b) = none
 change_of g t (commands.Say s) = none
 
-with_register_threads : (g : Graph) (t d : ℕ) (v : Value) → length (with_register g t d v).mutators ≡ length g.mutators
+with_register_threads : (g : Graph) (t d : ℕ) (v : Value)
+    → length (with_register g t d v).mutators ≡ length g.mutators
 with_register_threads g t d v = length-set g.mutators t _
 
-pub with_object_threads : (g : Graph) (t : ℕ) (o : Object) → length (with_object g t o).mutators ≡ length g.mutators
+pub with_object_threads : (g : Graph) (t : ℕ) (o : Object)
+    → length (with_object g t o).mutators ≡ length g.mutators
 with_object_threads g t o = length-set g.mutators t _
 
 -- the threads stay
-pub threads_of_change : (g : Graph) (t : ℕ) (new : Bool) (h : Graph) → Change g t new h → length h.mutators ≡ length g.mutators
+pub threads_of_change : (g : Graph) (t : ℕ) (new : Bool) (h : Graph) → Change g t new h
+    → length h.mutators ≡ length g.mutators
 threads_of_change g t new _ none = refl
 threads_of_change g t new _ (store d v s) = with_register_threads g t d v
-threads_of_change g t new _ (put s i v a e l) = threads_with_field g a i (register_of g t v) (has_field g a i l)
-threads_of_change g t new _ (make d o n e y) = with_register_threads (with_object g t o) t d (Ref (next_name g t)) ∙ with_object_threads g t o
+threads_of_change g t new _ (put s i v a e l) =
+    threads_with_field g a i (register_of g t v) (has_field g a i l)
+threads_of_change g t new _ (make d o n e y) =
+    with_register_threads (with_object g t o) t d (Ref (next_name g t))
+    ∙ with_object_threads g t o
 
-count_with_register : (g : Graph) (t d u : ℕ) (v : Value) → t < length g.mutators → count_of (with_register g t d v) u ≡ count_of g u
+count_with_register : (g : Graph) (t d u : ℕ) (v : Value) → t < length g.mutators
+    → count_of (with_register g t d v) u ≡ count_of g u
 count_with_register g t d u v there = ap length (objects_with g t u _ there refl)
 
 -- a thread that makes an object has one more
-pub made_count : (g : Graph) (t d : ℕ) (o : Object) → t < length g.mutators → count_of (made g t d o).0 t ≡ count_of g t + 1
+pub made_count : (g : Graph) (t d : ℕ) (o : Object) → t < length g.mutators
+    → count_of (made g t d o).0 t ≡ count_of g t + 1
 made_count g t d o there =
-    count_with_register (with_object g t o) t d t (Ref (next_name g t)) (omega (arith, with_object_threads g t o))
-    ∙ count_with_object g t o there t ∙ ap (λ b. cond b (count_of g t + 1) (count_of g t)) (eq-eqb t t refl)
+    count_with_register (with_object g t o) t d t (Ref (next_name g t))
+    (omega (arith, with_object_threads g t o))
+    ∙ count_with_object g t o there t
+    ∙ ap (λ b. cond b (count_of g t + 1) (count_of g t)) (eq-eqb t t refl)
 
 -- the thread makes one object at most
-pub count_of_change : (g : Graph) (t : ℕ) (new : Bool) (h : Graph) → t < length g.mutators → Change g t new h → count_of h t ≤ count_of g t + 1
+pub count_of_change : (g : Graph) (t : ℕ) (new : Bool) (h : Graph) → t < length g.mutators
+    → Change g t new h → count_of h t ≤ count_of g t + 1
 count_of_change g t new _ there none = omega arith
 count_of_change g t new _ there (store d v s) = omega (arith, count_with_register g t d t v there)
-count_of_change g t new _ there (put s i v a e l) = omega (arith, count_with_field g a i (register_of g t v) (has_field g a i l) t)
+count_of_change g t new _ there (put s i v a e l) =
+    omega (arith, count_with_field g a i (register_of g t v) (has_field g a i l) t)
 count_of_change g t new _ there (make d o n e y) = omega (arith, made_count g t d o there)
 
 -- another thread makes none, nor does a command that makes no object
-pub count_stays : (g : Graph) (t u : ℕ) (new : Bool) (h : Graph) → t < length g.mutators → (t ≡ u → new ≡ false) → Change g t new h → count_of h u ≡ count_of g u
+pub count_stays : (g : Graph) (t u : ℕ) (new : Bool) (h : Graph) → t < length g.mutators
+    → (t ≡ u → new ≡ false) → Change g t new h → count_of h u ≡ count_of g u
 count_stays g t u new _ there other none = refl
 count_stays g t u new _ there other (store d v s) = count_with_register g t d u v there
-count_stays g t u new _ there other (put s i v a e l) = count_with_field g a i (register_of g t v) (has_field g a i l) u
+count_stays g t u new _ there other (put s i v a e l) =
+    count_with_field g a i (register_of g t v) (has_field g a i l) u
 count_stays g t u new _ there other (make d o n e y) =
-    count_with_register (with_object g t o) t d u (Ref (next_name g t)) (omega (arith, with_object_threads g t o))
-    ∙ count_with_object g t o there u ∙ ap (λ b. cond b (count_of g t + 1) (count_of g u)) (ne_eqb t u (λ same. both_ways new (other same) y))
+    count_with_register (with_object g t o) t d u (Ref (next_name g t))
+    (omega (arith, with_object_threads g t o))
+    ∙ count_with_object g t o there u
+    ∙ ap (λ b. cond b (count_of g t + 1) (count_of g u))
+    (ne_eqb t u (λ same. both_ways new (other same) y))
 
-pub count_of_other : (g : Graph) (t u : ℕ) (new : Bool) (h : Graph) → t < length g.mutators → (t ≡ u → ⊥) → Change g t new h → count_of h u ≡ count_of g u
+pub count_of_other : (g : Graph) (t u : ℕ) (new : Bool) (h : Graph) → t < length g.mutators
+    → (t ≡ u → ⊥) → Change g t new h → count_of h u ≡ count_of g u
 count_of_other g t u new h there other = count_stays g t u new h there (λ same. absurd (other same))
 
 -- what the program's caller needs: a step leaves the threads, and makes one object at most
-pub step_threads : (g : Graph) (t : ℕ) (command : Command) → length (step g t command).0.mutators ≡ length g.mutators
-step_threads g t command = threads_of_change g t (makes_object command) (step g t command).0 (change_of g t command)
+pub step_threads : (g : Graph) (t : ℕ) (command : Command)
+    → length (step g t command).0.mutators ≡ length g.mutators
+step_threads g t command =
+    threads_of_change g t (makes_object command) (step g t command).0 (change_of g t command)
 
-pub step_count : (g : Graph) (t : ℕ) (command : Command) → t < length g.mutators → count_of (step g t command).0 t ≤ count_of g t + 1
-step_count g t command there = count_of_change g t (makes_object command) (step g t command).0 there (change_of g t command)
+pub step_count : (g : Graph) (t : ℕ) (command : Command) → t < length g.mutators
+    → count_of (step g t command).0 t ≤ count_of g t + 1
+step_count g t command there =
+    count_of_change g t (makes_object command) (step g t command).0 there (change_of g t command)

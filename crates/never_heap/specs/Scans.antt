@@ -17,7 +17,9 @@ marked_weight w g m = sum_by (λ (a : Name). if has_mark m a then w a else 0) (n
 
 -- The names found are those marked, each once, and all can be reached. The blocks are theirs and
 -- those of the registers.
-pub record Scanned (w : Width) (g : Graph) (m : Marked) (found : List Name) (blocks : ℕ) : Type 0 where
+pub record Scanned
+    (w : Width) (g : Graph) (m : Marked) (found : List Name) (blocks : ℕ)
+    : Type 0 where
   pub places : (b : Name) → has_place m b ≡ has_name g b
   pub sound : (b : Name) → has_mark m b ≡ true → reachable g b ≡ true
   pub listed : (b : Name) → list_any (same_name b) found ≡ has_mark m b
@@ -27,7 +29,9 @@ pub record Scanned (w : Width) (g : Graph) (m : Marked) (found : List Name) (blo
   pub small : blocks ≤ 80 + 21845 * length found
 
 -- what is found in a list of values: the objects to which they refer, behind what was found before
-pub record Finds (g : Graph) (old new : Marked) (before after : List Name) (vs : List Value) : Type 0 where
+pub record Finds
+    (g : Graph) (old new : Marked) (before after : List Name) (vs : List Value)
+    : Type 0 where
   pub kept : (b : Name) → has_mark old b ≡ true → has_mark new b ≡ true
   pub all : (b : Name) → stands_in b vs ≡ true → has_name g b ≡ true → has_mark new b ≡ true
   pub behind : (more : List Name) × (after ≡ before ++ more)

@@ -41,7 +41,8 @@ impl Row {
     fn mark(&mut self, i: usize) -> bool
         ensures after { self.new ≡ slice_set self.old i true }
         ensures unchanged { result ≡ false → self.new ≡ self.old }
-        ensures is_new { result ≡ true → (i < length self.old) × (slice_index_or self.old i false ≡ false) }
+        ensures is_new { result ≡ true
+            → (i < length self.old) × (slice_index_or self.old i false ≡ false) }
     {
         let is_new = i < self.cells.len() && !self.cells[i];
         if is_new {

@@ -78,7 +78,7 @@ pub fn runs_are_items_that_may_come()
 {}
 
 /// The induction along a run. Where something holds of no item, leaves at most L blocks live, and
-/// goes on by each item that may come and is no full, it holds of each run; so no run has a full.
+/// goes on by each item that may come and is no full, it holds of each run, and no run has a full.
 pub fn runs_are_walked()
     ensures { (c : Config) (rate : ℕ) (traces : List (List Command))
         (holds : List HistoryItem → Bool)
@@ -88,5 +88,5 @@ pub fn runs_are_walked()
         → ((past : List HistoryItem) (i : HistoryItem)
         → MayCome c rate traces past i → IsNoFull i
         → holds past ≡ true → holds (past ++ i ∷ []) ≡ true)
-        → (h : List HistoryItem) → IsRun c rate traces h → holds h ≡ true }
+        → (h : List HistoryItem) → IsRun c rate traces h → (holds h ≡ true) × NoFulls h }
 {}

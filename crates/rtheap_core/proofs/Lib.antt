@@ -1,3 +1,4 @@
+pub mod CarriedOut
 pub mod CellWrites
 pub mod NewObjects
 pub mod Found
@@ -9,3 +10,4 @@ pub mod RunsOn
 pub mod Headlines
 pub mod Verdicts
 pub mod Taken
+pub mod RegisterPlaces

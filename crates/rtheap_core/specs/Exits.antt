@@ -1,18 +1,18 @@
 -- What the top call answers.
-use Rattle.std.specs.Prelude.{ℕ, ◌≡◌, ◌⊎◌, List, [], ◌∷◌, ◌++◌, codes, decimal, Option, IfSome}
+use Rattle.std.specs.Prelude.{ℕ, ◌≡◌, ◌⊎◌, List, [], ◌∷◌, ◌++◌, codes, decimal, IfSome}
 use Rattle.never_heap.specs.declared.Entry.{Entry}
 use Rattle.never_heap.specs.Histories.{HistoryItem, parts, starts_in, work_in}
 use Rattle.never_heap.specs.PlainRuns.{IsPlainRun}
 use Rattle.rate_plan.specs.Rates.{IsAdmitted, IsRate}
-use Rattle.trace_text.specs.declared.jobs.Job.{Job}
-use Rattle.trace_text.specs.Jobs.{IsJobInBounds, IsInput}
+use Rattle.trace_text.specs.Jobs.{Job, IsJobInBounds, IsInput}
 use Rattle.trace_text.specs.Lines.{line_feed}
-use Rattle.trace_text.specs.Streams.{Appends, AppendsFront, IsAtEnd}
+use Rattle.trace_text.specs.Streams.{Appends, AppendsPrefix, IsAtEnd}
 use Rattle.trace_text.specs.Texts.{text_by_threads}
 use Rattle.rtheap_core.specs.declared.exit.RunEnd.{RunEnd}
 use Rattle.rtheap_core.specs.declared.exit.RunEnd.TheVariants.{Ran}
 use Rattle.rtheap_core.specs.PlainRuns.{PlainRun, commands_of}
 use Rattle.rtheap_core.specs.Runnable.{CanRun}
+use Rattle.rtheap_core.specs.Sides.{Sides}
 
 -- the words are the one word that asks for a run, or for the rate
 abbrev pub AskForRun : List (List ℕ) → Type 0
@@ -29,52 +29,64 @@ Ask words = AskForRun words ⊎ AskForPlan words
 abbrev pub run_of : RunEnd → PlainRun
 run_of (Ran p) = p
 
+-- what an ended run shows: the entries of each thread, how many cycles were started, and how many
+-- units were made
+abbrev pub logs_of : RunEnd → List (List Entry)
+logs_of end = (run_of end).log ∷ []
+
+abbrev pub cycles_of : RunEnd → ℕ
+cycles_of end = 1
+
+abbrev pub units_of : RunEnd → ℕ
+units_of end = 0
+
 -- the job that an ended run shows: its configuration, and the commands of its log
 abbrev pub job_of : PlainRun → Job
 job_of p = record { config = p.config; traces = commands_of p.log ∷ [] }
 
--- where the stream told its bytes, they were the input that is this job, and all were read
-pub record IsReadAs (left left_now : Option (List ℕ)) (job : Job) : Type 0 where
+-- where the source told its bytes, they were the input that is this job, and all were read
+pub record IsReadAs (source : Sides) (job : Job) : Type 0 where
   pub bounds : IsJobInBounds job
-  pub input : IfSome left (λ bytes. IsInput bytes job)
-  pub ended : IsAtEnd left left_now
+  pub input : IfSome source.bytes (λ bytes. IsInput bytes job)
+  pub ended : IsAtEnd source.bytes source.bytes_now
 
--- the text was appended where the status is 0, and a front of it where the writing failed
-pub record IsWritten (held held_now : Option (List ℕ)) (status : ℕ) (text : List ℕ) : Type 0 where
-  pub whole : status ≡ 0 → Appends held held_now text
-  pub front : status ≡ 6 → AppendsFront held held_now text
+-- the text was appended where the status is 0, and a prefix of it where the writing failed
+pub record IsWritten (sink : Sides) (status : ℕ) (text : List ℕ) : Type 0 where
+  pub whole : status ≡ 0 → Appends sink.bytes sink.bytes_now text
+  pub prefix : status ≡ 6 → AppendsPrefix sink.bytes sink.bytes_now text
 
--- The headline. There is one history of a heap that never frees: its replies, thread by thread in trace order, are those of the logs;
--- each allocation made 0 units; and a reply `full 1` stands exactly where the blocks ran out. The job that was run is the input, the
--- logs, cycles and units are those that the ended run shows, and the history's text is what was written.
-pub record Headline (left left_now held held_now : Option (List ℕ)) (status : ℕ) (run : PlainRun) (logs : List (List Entry)) (cycles units : ℕ) : Type 0 where
-  pub read : IsReadAs left left_now (job_of run)
-  pub admitted : IsAdmitted run.config
-  pub runnable : CanRun (job_of run)
+-- The headline. There is one history of a heap that never frees: its replies, thread by thread in
+-- trace order, are those of the logs; each allocation made 0 units; and a reply `full 1` stands
+-- exactly where the blocks ran out. The job that was run is the input, the logs, cycles and units
+-- are those that the ended run shows, and the history's text is what was written.
+pub record Headline (source sink : Sides) (status : ℕ) (end : RunEnd) : Type 0 where
+  pub read : IsReadAs source (job_of (run_of end))
+  pub admitted : IsAdmitted (run_of end).config
+  pub runnable : CanRun (job_of (run_of end))
   pub history : List HistoryItem
-  pub is_run : IsPlainRun run.config (job_of run).traces history
-  pub parts_logged : parts run.config.threads history ≡ logs
-  pub starts_counted : starts_in history ≡ cycles
-  pub work_counted : work_in history ≡ units
-  pub kept : logs ≡ run.log ∷ []
-  pub text : IsWritten held held_now status (text_by_threads run.config.threads history)
+  pub is_run : IsPlainRun (run_of end).config (job_of (run_of end)).traces history
+  pub parts_logged : parts (run_of end).config.threads history ≡ logs_of end
+  pub starts_counted : starts_in history ≡ cycles_of end
+  pub work_counted : work_in history ≡ units_of end
+  pub text : IsWritten sink status (text_by_threads (run_of end).config.threads history)
 
 -- a rate's line
 abbrev pub rate_text : ℕ → List ℕ
 rate_text rate = codes "rate " ++ decimal rate ++ line_feed ∷ []
 
 -- the rate of the input's configuration was written
-pub record Planned (left left_now held held_now : Option (List ℕ)) (status : ℕ) : Type 0 where
+pub record Planned (source sink : Sides) (status : ℕ) : Type 0 where
   pub job : Job
-  pub read : IsReadAs left left_now job
+  pub read : IsReadAs source job
   pub admitted : IsAdmitted job.config
   pub rate : ℕ
   pub is_rate : IsRate job.config rate
-  pub text : IsWritten held held_now status (rate_text rate)
+  pub text : IsWritten sink status (rate_text rate)
 
 -- what `due` may be
 abbrev pub IsDue : ℕ → Type 0
-IsDue due = (due ≡ 0) ⊎ ((due ≡ 2) ⊎ ((due ≡ 3) ⊎ ((due ≡ 4) ⊎ ((due ≡ 5) ⊎ (due ≡ 7)))))
+IsDue due =
+    (due ≡ 0) ⊎ ((due ≡ 2) ⊎ ((due ≡ 3) ⊎ ((due ≡ 4) ⊎ ((due ≡ 5) ⊎ (due ≡ 7)))))
 
 -- the status by all but the writing is k, unless the source failed or the answer is want of memory
 abbrev pub IsDueOrFails : ℕ → ℕ → Type 0

@@ -6,7 +6,8 @@ use Rattle.never_heap.specs.declared.Command.{Command}
 use Rattle.never_heap.specs.declared.Entry.{Entry}
 use Rattle.never_heap.specs.Graphs.{start_graph}
 use Rattle.never_heap.specs.Histories.{HistoryItem, Started, Did, LegalFrom, replay_from, part}
-use Rattle.never_heap.specs.PlainRuns.{FullsExactly, NoWork, opening_blocks}
+use Rattle.array_trees.specs.Openings.{opening_blocks}
+use Rattle.never_heap.specs.PlainRuns.{FullsExactly, NoWork}
 use Rattle.never_heap.specs.Taken.{taken_in}
 use Rattle.rtheap_core.specs.declared.plain.PlainHeap.{PlainHeap}
 use Rattle.rtheap_core.specs.Plain.{IsPlain, ShowsPlain}
@@ -25,7 +26,9 @@ abbrev pub commands_of : List Entry → List Command
 commands_of log = map (λ (e : Entry). e.command) log
 
 -- the entries so far answer these commands, and the heap shows the graph that they leave
-pub record IsRunSoFar (c : Config) (commands : List Command) (heap : PlainHeap) (log : List Entry) : Type 0 where
+pub record IsRunSoFar
+    (c : Config) (commands : List Command) (heap : PlainHeap) (log : List Entry)
+    : Type 0 where
   pub plain : IsPlain heap
   pub config : heap.store.config ≡ c
   pub done : commands_of log ≡ commands
@@ -33,7 +36,7 @@ pub record IsRunSoFar (c : Config) (commands : List Command) (heap : PlainHeap) 
   pub others : (t : ℕ) → (t ≡ 0 → ⊥) → part t (map Did log) ≡ []
   pub legal : LegalFrom (start_graph c) (map Did log)
   pub no_work : NoWork (map Did log)
-  pub fulls : FullsExactly c.blocks (opening_blocks c) (map Did log)
-  pub given : heap.last ≡ opening_blocks c + taken_in (map Did log)
+  pub fulls : FullsExactly c (opening_blocks c) (map Did log)
+  pub given : heap.last ≡ opening_blocks c + taken_in c.width (map Did log)
   pub at : Name → ℕ → ℕ
-  pub shown : ShowsPlain heap at (replay_from (start_graph c) (map Did log))
+  pub shown : ShowsPlain c.width heap at (replay_from (start_graph c) (map Did log))

@@ -7,13 +7,15 @@ use Rattle.block_store.specs.declared.Shape.{Shape}
 use Rattle.block_store.specs.declared.Shape.TheVariants as shapes
 use Rattle.block_store.specs.declared.Value.{Value}
 use Rattle.block_store.specs.declared.Value.TheVariants as values
+use Rattle.block_store.specs.declared.Width.{Width}
 use Rattle.block_store.specs.Heaps.{Heap}
 use Rattle.block_store.specs.Owners.{owner_of}
 use Rattle.block_store.specs.Payloads.{payload_of}
 use Rattle.block_store.specs.Places.{OwnerOf, ShapeOf, PayloadOf}
 use Rattle.block_store.specs.Shapes.{shape_of}
-use Rattle.object_lists.specs.Records.{record_spot}
+use Rattle.object_lists.specs.Records.{record_slot}
 use Rattle.array_trees.specs.Levels.{array_depth, array_turn}
+use Rattle.rtheap_core.specs.Cells.{register_at}
 use Rattle.rtheap_core.specs.Objects.{length_of}
 use Rattle.never_heap.specs.declared.Reply.{Reply}
 use Rattle.never_heap.specs.declared.Reply.TheVariants.{Kind, Null, Range}
@@ -25,7 +27,8 @@ reference_of None = values.Nil
 
 -- a reference to the object at block x
 abbrev pub reference_at : Heap → ℕ → ℕ → Value
-reference_at heap last x = if nat_le x last then reference_of (owner_of (heap (OwnerOf x))) else values.Nil
+reference_at heap last x =
+    if nat_le x last then reference_of (owner_of (heap (OwnerOf x))) else values.Nil
 
 abbrev pub value_of_payload : Heap → ℕ → Option Payload → Value
 value_of_payload heap last (Some (payloads.Int n)) = values.Int n
@@ -44,7 +47,8 @@ with_shape x None = Err Null
 
 -- the first block and the shape of the object at block x
 abbrev pub object_at : Heap → ℕ → ℕ → Result (ℕ × Shape) Reply
-object_at heap last x = if nat_le x last then with_shape x (shape_of (heap (ShapeOf x))) else Err Null
+object_at heap last x =
+    if nat_le x last then with_shape x (shape_of (heap (ShapeOf x))) else Err Null
 
 -- the same of the object to which a payload refers, or the reply that refuses
 abbrev pub object_of_payload : Heap → ℕ → Option Payload → Result (ℕ × Shape) Reply
@@ -64,17 +68,26 @@ block_or last x (Some (payloads.Int n)) = x
 block_or last x (Some payloads.Nil) = x
 block_or last x None = x
 
--- the block at which one is after some links from block x on, where the l-th link is at payload turn l
+-- the block at which one is after some links from block x on, where the l-th link is at payload
+-- turn l
 abbrev pub walk : Heap → ℕ → ℕ → (ℕ → ℕ) → ℕ → ℕ
 walk heap last x turn zero = x
-walk heap last x turn (suc l) = block_or last (walk heap last x turn l) (payload_of (heap (PayloadOf (walk heap last x turn l) (turn l))))
+walk heap last x turn (suc l) =
+    let y = walk heap last x turn l in block_or last y (payload_of (heap (PayloadOf y (turn l))))
 
 -- the block and the payload of field i of the object of this shape at block x
-abbrev pub spot_of : Heap → ℕ → ℕ → Shape → ℕ → ℕ × ℕ
-spot_of heap last x (shapes.List f) i = (walk heap last x (λ _. 0) (record_spot i).0, (record_spot i).1)
-spot_of heap last x (shapes.Tree e) i = (walk heap last x (array_turn e i) (array_depth e), array_turn e i (array_depth e))
+abbrev pub slot_of : Width → Heap → ℕ → ℕ → Shape → ℕ → ℕ × ℕ
+slot_of W heap last x (shapes.List f) i =
+    (walk heap last x (λ _. 0) (record_slot W i).0, (record_slot W i).1)
+slot_of W heap last x (shapes.Tree e) i =
+    (walk heap last x (array_turn W e i) (array_depth W e), array_turn W e i (array_depth W e))
 
 -- the same where there is a field i, and else the reply that refuses
-abbrev pub spot_in : Heap → ℕ → Result (ℕ × Shape) Reply → ℕ → Result (ℕ × ℕ) Reply
-spot_in heap last (Ok o) i = if nat_lt i (length_of o.1) then Ok (spot_of heap last o.0 o.1 i) else Err Range
-spot_in heap last (Err reply) i = Err reply
+abbrev pub slot_in : Width → Heap → ℕ → Result (ℕ × Shape) Reply → ℕ → Result (ℕ × ℕ) Reply
+slot_in W heap last (Ok o) i =
+    if nat_lt i (length_of o.1) then Ok (slot_of W heap last o.0 o.1 i) else Err Range
+slot_in W heap last (Err reply) i = Err reply
+
+-- the block and the payload of field i of the object in register s, or the reply that refuses
+abbrev pub slot_from : Width → Heap → ℕ → ℕ → ℕ → Result (ℕ × ℕ) Reply
+slot_from W heap last s i = slot_in W heap last (object_in heap last (heap (register_at W s))) i

@@ -1,21 +1,21 @@
 -- Why a call was refused: the status, the line and the cause of each refusal.
-use Rattle.std.specs.Prelude.{ℕ, ◌≡◌, ◌≢◌, ◌≤◌, ◌<◌, ◌+◌, List, [], ◌∷◌, ◌++◌, length, drop, codes, decimal, Option, Some, IfSome}
+use Rattle.std.specs.Prelude.{ℕ, ◌≡◌, ◌≢◌, ◌≤◌, ◌<◌, ◌+◌, List, [], ◌∷◌, ◌++◌, length, drop, codes, decimal, Some, IfSome}
 use Rattle.rate_plan.specs.declared.PlanFault.{PlanFault}
 use Rattle.rate_plan.specs.declared.PlanFault.TheVariants as plans
 use Rattle.rate_plan.specs.Rates.{IsAdmitted, IsRefusal}
-use Rattle.trace_text.specs.declared.jobs.Job.{Job}
 use Rattle.trace_text.specs.declared.trace_faults.TraceFault.{TraceFault}
 use Rattle.trace_text.specs.declared.trace_faults.TraceFault.TheVariants as faults
 use Rattle.trace_text.specs.Faults.{Rose}
-use Rattle.trace_text.specs.Jobs.{input_limit}
+use Rattle.trace_text.specs.Jobs.{Job, input_limit}
 use Rattle.trace_text.specs.Lines.{line_feed}
 use Rattle.trace_text.specs.Reasons.{reason_text}
 use Rattle.trace_text.specs.Refusals.{IsFirstBadLine}
-use Rattle.trace_text.specs.Streams.{Appends, AppendsFront, IsAtEnd, TookAtMost}
+use Rattle.trace_text.specs.Streams.{Appends, AppendsPrefix, IsAtEnd, TookAtMost}
 use Rattle.rtheap_core.specs.declared.refusal.Refusal.{Refusal}
 use Rattle.rtheap_core.specs.declared.refusal.Refusal.TheVariants.{Usage, BadLine, TooLong, LiveTooSmall, NoRate, Later, ReadFault, OutOfMemory}
 use Rattle.rtheap_core.specs.Exits.{AskForRun, Ask, IsReadAs}
 use Rattle.rtheap_core.specs.Runnable.{CanRun}
+use Rattle.rtheap_core.specs.Sides.{Sides}
 
 abbrev pub status_of : Refusal → ℕ
 status_of Usage = 2
@@ -54,27 +54,46 @@ abbrev pub refusal_of_plan : PlanFault → Refusal
 refusal_of_plan plans.LiveTooSmall = LiveTooSmall
 refusal_of_plan plans.NoRate = NoRate
 
--- the input was read, and is this job
-abbrev pub IsJobWith : (Job → Type 0) → Option (List ℕ) → Option (List ℕ) → Type 0
-IsJobWith P left left_now = (job : Job) × IsReadAs left left_now job × P job
+-- the input was read, and is a job of which this holds
+abbrev pub IsJobWith : (Job → Type 0) → Sides → Type 0
+IsJobWith P source = (job : Job) × IsReadAs source job × P job
 
--- what caused a refusal, by the words, and by what the source had left and its count of faults before and now
-abbrev pub IsCause : List (List ℕ) → Option (List ℕ) → Option (List ℕ) → ℕ → ℕ → Refusal → Type 0
-IsCause words left left_now before now Usage = (Ask words → ⊥) × (left_now ≡ left) × (now ≡ before)
-IsCause words left left_now before now (BadLine line why) =
-    Ask words × IfSome left (λ bytes. (length bytes ≤ input_limit) × IsFirstBadLine bytes line why) × IsAtEnd left left_now × (now ≡ before)
-IsCause words left left_now before now TooLong =
-    Ask words × IfSome left (λ bytes. (input_limit < length bytes) × (left_now ≡ Some (drop (input_limit + 1) bytes))) × (now ≡ before)
-IsCause words left left_now before now Later = AskForRun words × IsJobWith (λ job. IsAdmitted job.config × (CanRun job → ⊥)) left left_now × (now ≡ before)
-IsCause words left left_now before now LiveTooSmall = Ask words × IsJobWith (λ job. IsRefusal job.config plans.LiveTooSmall) left left_now × (now ≡ before)
-IsCause words left left_now before now NoRate = Ask words × IsJobWith (λ job. IsRefusal job.config plans.NoRate) left left_now × (now ≡ before)
-IsCause words left left_now before now ReadFault = Ask words × Rose before now
-IsCause words left left_now before now OutOfMemory = Ask words × TookAtMost (input_limit + 1) left left_now × (now ≡ before)
+-- the source counted no fault
+abbrev pub IsUnfailed : Sides → Type 0
+IsUnfailed s = s.faults_now ≡ s.faults
 
--- A refused call: its status is that of a refusal with its cause, and the refusal's line was appended, or a front of it.
-pub record Refused (words : List (List ℕ)) (left left_now held held_now : Option (List ℕ)) (before now status due : ℕ) : Type 0 where
+-- what caused a refusal, by the words, and by the source
+abbrev pub IsCause : List (List ℕ) → Sides → Refusal → Type 0
+IsCause words source Usage =
+    (Ask words → ⊥) × (source.bytes_now ≡ source.bytes) × IsUnfailed source
+IsCause words source (BadLine line why) =
+    Ask words
+    × IfSome source.bytes (λ bytes. (length bytes ≤ input_limit) × IsFirstBadLine bytes line why)
+    × IsAtEnd source.bytes source.bytes_now × IsUnfailed source
+IsCause words source TooLong =
+    Ask words
+    × IfSome source.bytes (λ bytes.
+    (input_limit < length bytes) × (source.bytes_now ≡ Some (drop (input_limit + 1) bytes)))
+    × IsUnfailed source
+IsCause words source Later =
+    AskForRun words
+    × IsJobWith (λ job. IsAdmitted job.config × (CanRun job → ⊥)) source × IsUnfailed source
+IsCause words source LiveTooSmall =
+    Ask words
+    × IsJobWith (λ job. IsRefusal job.config plans.LiveTooSmall) source × IsUnfailed source
+IsCause words source NoRate =
+    Ask words × IsJobWith (λ job. IsRefusal job.config plans.NoRate) source × IsUnfailed source
+IsCause words source ReadFault = Ask words × Rose source.faults source.faults_now
+IsCause words source OutOfMemory =
+    Ask words × TookAtMost (input_limit + 1) source.bytes source.bytes_now × IsUnfailed source
+
+-- A refused call: its status is that of a refusal with its cause, and the refusal's line was
+-- appended, or a prefix of it.
+pub record Refused
+    (words : List (List ℕ)) (source sink : Sides) (status due : ℕ)
+    : Type 0 where
   pub refusal : Refusal
   pub is_due : due ≡ status_of refusal
-  pub cause : IsCause words left left_now before now refusal
-  pub line : status ≢ 6 → Appends held held_now (refusal_line refusal)
-  pub front : status ≡ 6 → AppendsFront held held_now (refusal_line refusal)
+  pub cause : IsCause words source refusal
+  pub line : status ≢ 6 → Appends sink.bytes sink.bytes_now (refusal_line refusal)
+  pub prefix : status ≡ 6 → AppendsPrefix sink.bytes sink.bytes_now (refusal_line refusal)

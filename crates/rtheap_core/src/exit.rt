@@ -11,14 +11,13 @@ pub enum RunEnd {
 }
 
 impl Logs for RunEnd {
-    ghost use Rattle.std.specs.Prelude.{[], ◌∷◌};
-    ghost use Rattle.rtheap_core.specs.Exits.{run_of};
+    ghost use Rattle.rtheap_core.specs.Exits.{logs_of, cycles_of, units_of};
 
-    ghost logs = { λ e. (run_of e).log ∷ [] };
+    ghost logs = { logs_of };
 
-    ghost cycle_count = { λ _. 1 };
+    ghost cycle_count = { cycles_of };
 
-    ghost unit_count = { λ _. 0 };
+    ghost unit_count = { units_of };
 
     fn threads(&self) -> u32 {
         match self {

@@ -3,38 +3,36 @@
 
 mod objects;
 
-ghost use Rattle.std.specs.Prelude.{◌≡◌, ◌<◌, ◌≤◌, ◌+◌, ◌/◌, ◌%◌, ◌^◌, ℕ, false, IfOk};
-ghost use Rattle.block_store.specs.declared.Name.{Name};
+ghost use Rattle.std.specs.Prelude.{◌≡◌, ◌<◌, ◌≤◌, ◌^◌, false, IfOk};
 ghost use Rattle.block_store.specs.Configs.{IsInBounds};
 ghost use Rattle.block_store.specs.Heaps.{put_at};
 ghost use Rattle.block_store.specs.Payloads.{payload_of};
 ghost use Rattle.block_store.specs.Places.{PayloadOf, IsBlock};
 ghost use Rattle.block_store.specs.Shapes.{IsShape};
+ghost use Rattle.block_store.specs.Widths.{payloads};
 ghost use Rattle.array_trees.specs.Levels.{array_depth, array_turn};
 ghost use Rattle.never_heap.specs.declared.Command.{Command};
 ghost use Rattle.never_heap.specs.Bounds.{IsCommandInBounds};
-ghost use Rattle.never_heap.specs.Graphs.{Graph, start_graph};
+ghost use Rattle.never_heap.specs.Graphs.{start_graph};
 ghost use Rattle.never_heap.specs.Histories.{is_full};
 ghost use Rattle.never_heap.specs.Steps.{blocks_of};
-ghost use Rattle.shown_graph.specs.Openings.{opening_at, opening_last};
-ghost use Rattle.rtheap_core.specs.Cells.{heap_in};
+ghost use Rattle.array_trees.specs.Openings.{opening_blocks};
+ghost use Rattle.shown_graph.specs.Openings.{opening_at};
+ghost use Rattle.rtheap_core.specs.Cells.{heap_in, register_at};
 ghost use Rattle.rtheap_core.specs.Objects.{length_of, blocks_in};
-ghost use Rattle.rtheap_core.specs.Readings.{reference_at, value_in, object_at, object_in, block_or, walk, spot_of, spot_in};
-ghost use Rattle.rtheap_core.specs.Plain.{IsPlain, ShowsPlain, Answers, making};
+ghost use Rattle.rtheap_core.specs.Readings.{reference_at, value_in, object_at, object_in, block_or, walk, slot_of, slot_from};
+ghost use Rattle.rtheap_core.specs.Plain.{IsPlain, ShowsPlain, DoesStep, Takes, making};
 
 use crate::store::Store;
-use array_trees::depth_of;
+use array_trees::{depth_of, path_of};
 use block_store::{
-    Config, Name, OutOfMemory, PAYLOADS, Payload, REGISTER_BLOCKS, Shape, Value, payload_word,
-    read_owner, read_payload, read_shape,
+    Config, Name, OutOfMemory, Payload, REGISTERS, Shape, Value, payload_word, read_owner,
+    read_payload, read_shape,
 };
 use never_heap::{Command, Reply};
 use object_lists::walk_of;
 use objects::{blocks_of_shape, length_of_shape, write_object};
 use std::alloc::Global;
-
-// How many registers a thread has.
-const REGISTERS: u32 = 16;
 
 /// The words, the last block that was given, and how many objects were made.
 #[derive(Drop)]
@@ -44,48 +42,35 @@ pub struct PlainHeap {
     made: u32,
 }
 
-// The payload that leads to element `i` of an array from its block at this height above the leaves.
-fn turn(i: u32, height: u32) -> u32
-    requires { height ≤ 7 }
-    ensures { result ≡ i / 4 ^ height % 4 }
-{
-    (i >> (2 * height)) % PAYLOADS
-}
-
 impl PlainHeap {
     /// The opening heap of one thread, to whose shared array register 0 refers.
     pub fn open(alloc: Global, c: &Config) -> Result<PlainHeap, OutOfMemory>
         requires config { IsInBounds c.now }
         requires one_thread { c.now.threads ≡ 1 }
-        requires room { opening_last c.now ≤ c.now.blocks }
+        requires room { opening_blocks c.now ≤ c.now.blocks }
         ensures plain { IfOk result IsPlain }
         ensures config { IfOk result (λ h. h.store.config ≡ c.now) }
-        ensures last { IfOk result (λ h. h.last ≡ opening_last c.now) }
-        ensures shown { IfOk result (λ h. ShowsPlain h (opening_at c.now.threads) (start_graph c.now)) }
+        ensures last { IfOk result (λ h. h.last ≡ opening_blocks c.now) }
+        ensures shown { IfOk result (λ h. ShowsPlain c.now.width h
+            (opening_at c.now.width c.now.threads) (start_graph c.now)) }
     {
         let mut store = Store::new(alloc, c)?;
         let registers = Name {
             thread: 0,
             serial: 0,
         };
-        write_object(
-            &mut store,
-            registers,
-            Shape::Tree(REGISTERS),
-            1,
-            REGISTER_BLOCKS,
-        );
+        let end = c.width.registers();
+        write_object(&mut store, registers, Shape::Tree(REGISTERS), 1, end);
         let shared = Name {
             thread: 1,
             serial: 0,
         };
-        let blocks = blocks_of_shape(Shape::Tree(c.shared));
-        let first = REGISTER_BLOCKS + 1;
-        write_object(&mut store, shared, Shape::Tree(c.shared), first, blocks);
-        store.set_payload(2, 0, payload_word(Payload::Block(first)));
+        let blocks = blocks_of_shape(c.width, Shape::Tree(c.shared));
+        write_object(&mut store, shared, Shape::Tree(c.shared), end + 1, blocks);
+        store.set_register(0, payload_word(Payload::Block(end + 1)));
         Ok(PlainHeap {
             store,
-            last: REGISTER_BLOCKS + blocks,
+            last: end + blocks,
             made: 0,
         })
     }
@@ -94,10 +79,9 @@ impl PlainHeap {
     fn register(&self, r: u8) -> u64
         requires plain { IsPlain self.now }
         requires register { r < 16 }
-        ensures { result ≡ heap_in self.now.store (PayloadOf (2 + r / 4) (r % 4)) }
+        ensures { result ≡ heap_in self.now.store (register_at self.now.store.config.width r) }
     {
-        self.store
-            .payload(2 + r as u32 / PAYLOADS, r as u32 % PAYLOADS)
+        self.store.register(r)
     }
 
     // Writes register `r`.
@@ -105,12 +89,12 @@ impl PlainHeap {
         requires plain { IsPlain self.old }
         requires register { r < 16 }
         ensures plain { IsPlain self.new }
-        ensures heap { heap_in self.new.store ≡ put_at (heap_in self.old.store) (PayloadOf (2 + r / 4) (r % 4)) word }
+        ensures heap { heap_in self.new.store ≡
+            put_at (heap_in self.old.store) (register_at self.old.store.config.width r) word }
         ensures config { self.new.store.config ≡ self.old.store.config }
         ensures counts { (self.new.last ≡ self.old.last) × (self.new.made ≡ self.old.made) }
     {
-        self.store
-            .set_payload(2 + r as u32 / PAYLOADS, r as u32 % PAYLOADS, word);
+        self.store.set_register(r, word);
     }
 
     // What a word shows. A word that refers to no object shows nothing.
@@ -143,7 +127,8 @@ impl PlainHeap {
         }
     }
 
-    // The first block and the shape of the object to which a word refers, or the reply that refuses.
+    // The first block and the shape of the object to which a word refers, or the reply that
+    // refuses.
     fn object(&self, word: u64) -> Result<(u32, Shape), Reply>
         requires { IsPlain self.now }
         ensures block { IfOk result (λ o. IsBlock self.now.store.config o.0 × IsShape o.1) }
@@ -176,9 +161,10 @@ impl PlainHeap {
     fn follow(&self, block: u32, payload: u32) -> u32
         requires plain { IsPlain self.now }
         requires block { IsBlock self.now.store.config block }
-        requires payload { payload < PAYLOADS }
+        requires payload { payload < payloads self.now.store.config.width }
         ensures block { IsBlock self.now.store.config result }
-        ensures value { result ≡ block_or self.now.last block (payload_of (heap_in self.now.store (PayloadOf block payload))) }
+        ensures value { result ≡ block_or self.now.last block
+            (payload_of (heap_in self.now.store (PayloadOf block payload))) }
     {
         match read_payload(self.store.payload(block, payload)) {
             Some(Payload::Block(next)) => {
@@ -205,57 +191,77 @@ impl PlainHeap {
         block
     }
 
+    // The payload at which the way to element `i` of an array of `elements` goes on from this
+    // level.
+    fn turn(&self, elements: u32, i: u32, level: u32) -> u32
+        requires few { elements ≤ 65535 }
+        requires element { i < elements }
+        requires level { level ≤ array_depth self.now.store.config.width elements }
+        ensures value { result ≡ array_turn self.now.store.config.width elements i level }
+        ensures within { result < payloads self.now.store.config.width }
+    {
+        path_of(self.store.width(), elements, i, level)
+    }
+
     // The leaf of element `i` of an array of `elements`, which has a tree of this depth.
     fn walk_tree(&self, first: u32, elements: u32, i: u32, depth: u32) -> u32
         requires plain { IsPlain self.now }
         requires block { IsBlock self.now.store.config first }
-        requires depth { depth ≡ array_depth elements }
-        requires few { depth ≤ 7 }
+        requires few { elements ≤ 65535 }
+        requires element { i < elements }
+        requires depth { depth ≡ array_depth self.now.store.config.width elements }
         ensures block { IsBlock self.now.store.config result }
-        ensures value { result ≡ walk (heap_in self.now.store) self.now.last first (array_turn elements i) depth }
+        ensures value { result ≡ walk (heap_in self.now.store) self.now.last first
+            (array_turn self.now.store.config.width elements i) depth }
     {
         let mut block = first;
         for level in 0..depth {
-            block = self.follow(block, turn(i, depth - level));
+            block = self.follow(block, self.turn(elements, i, level));
         }
         block
     }
 
     // The block and the payload of field `i` of the object of this shape at a block.
-    fn spot(&self, first: u32, shape: Shape, i: u32) -> (u32, u32)
+    fn slot(&self, first: u32, shape: Shape, i: u32) -> (u32, u32)
         requires plain { IsPlain self.now }
         requires block { IsBlock self.now.store.config first }
         requires shape { IsShape shape }
         requires field { i < length_of shape }
-        ensures place { IsBlock self.now.store.config result.0 × (result.1 < PAYLOADS) }
-        ensures value { result ≡ spot_of (heap_in self.now.store) self.now.last first shape i }
+        ensures place { IsBlock self.now.store.config result.0
+            × (result.1 < payloads self.now.store.config.width) }
+        ensures value { result ≡ slot_of self.now.store.config.width
+            (heap_in self.now.store) self.now.last first shape i }
     {
+        let width = self.store.width();
         match shape {
             Shape::List(_) => {
-                let (steps, payload) = walk_of(i);
+                let (steps, payload) = walk_of(width, i);
                 (self.walk_list(first, steps), payload)
             }
             Shape::Tree(elements) => {
-                let depth = depth_of(elements);
+                let depth = depth_of(width, elements);
                 let leaf = self.walk_tree(first, elements, i, depth);
-                (leaf, i % PAYLOADS)
+                (leaf, self.turn(elements, i, depth))
             }
         }
     }
 
-    // The block and the payload of field `i` of the object in register `s`, or the reply that refuses.
+    // The block and the payload of field `i` of the object in register `s`, or the reply that
+    // refuses.
     fn field(&self, s: u8, i: u64) -> Result<(u32, u32), Reply>
         requires plain { IsPlain self.now }
         requires register { s < 16 }
-        ensures place { IfOk result (λ p. IsBlock self.now.store.config p.0 × (p.1 < PAYLOADS)) }
-        ensures value { result ≡ spot_in (heap_in self.now.store) self.now.last (object_in (heap_in self.now.store) self.now.last (heap_in self.now.store (PayloadOf (2 + s / 4) (s % 4)))) i }
+        ensures place { IfOk result (λ p. IsBlock self.now.store.config p.0
+            × (p.1 < payloads self.now.store.config.width)) }
+        ensures value { result ≡ slot_from self.now.store.config.width
+            (heap_in self.now.store) self.now.last s i }
     {
         match self.object(self.register(s)) {
             Ok((first, shape)) => {
                 if i >= length_of_shape(shape) as u64 {
                     return Err(Reply::Range);
                 }
-                Ok(self.spot(first, shape, i as u32))
+                Ok(self.slot(first, shape, i as u32))
             }
             Err(reply) => Err(reply),
         }
@@ -270,7 +276,7 @@ impl PlainHeap {
         ensures config { self.new.store.config ≡ self.old.store.config }
         ensures last { self.new.last ≡ self.old.last }
         ensures not_full { is_full result ≡ false }
-        ensures answered { (at : Name → ℕ → ℕ) (g : Graph) → ShowsPlain self.old at g → Answers self.new g (Command.Get d s i) result }
+        ensures answered { DoesStep self.old self.new (Command.Get d s i) result }
     {
         match self.field(s, i) {
             Ok((block, payload)) => {
@@ -292,7 +298,7 @@ impl PlainHeap {
         ensures config { self.new.store.config ≡ self.old.store.config }
         ensures last { self.new.last ≡ self.old.last }
         ensures not_full { is_full result ≡ false }
-        ensures answered { (at : Name → ℕ → ℕ) (g : Graph) → ShowsPlain self.old at g → Answers self.new g (Command.Put s i v) result }
+        ensures answered { DoesStep self.old self.new (Command.Put s i v) result }
     {
         match self.field(s, i) {
             Ok((block, payload)) => {
@@ -309,7 +315,7 @@ impl PlainHeap {
         requires plain { IsPlain self.now }
         requires from { s < 16 }
         ensures not_full { is_full result ≡ false }
-        ensures answered { (at : Name → ℕ → ℕ) (g : Graph) → ShowsPlain self.now at g → Answers self.now g (Command.Len s) result }
+        ensures answered { DoesStep self.now self.now (Command.Len s) result }
     {
         match self.object(self.register(s)) {
             Ok((_, shape)) => Reply::Len(length_of_shape(shape) as u64),
@@ -323,7 +329,7 @@ impl PlainHeap {
         requires first { a < 16 }
         requires second { b < 16 }
         ensures not_full { is_full result ≡ false }
-        ensures answered { (at : Name → ℕ → ℕ) (g : Graph) → ShowsPlain self.now at g → Answers self.now g (Command.Same a b) result }
+        ensures answered { DoesStep self.now self.now (Command.Same a b) result }
     {
         if self.register(a) == self.register(b) {
             return Reply::Yes;
@@ -335,7 +341,7 @@ impl PlainHeap {
     fn say(&self, s: u8) -> Value
         requires plain { IsPlain self.now }
         requires from { s < 16 }
-        ensures answered { (at : Name → ℕ → ℕ) (g : Graph) → ShowsPlain self.now at g → Answers self.now g (Command.Say s) (Reply.Val result) }
+        ensures answered { DoesStep self.now self.now (Command.Say s) (Reply.Val result) }
     {
         self.value(self.register(s))
     }
@@ -348,7 +354,7 @@ impl PlainHeap {
         ensures plain { IsPlain self.new }
         ensures config { self.new.store.config ≡ self.old.store.config }
         ensures last { self.new.last ≡ self.old.last }
-        ensures answered { (at : Name → ℕ → ℕ) (g : Graph) → ShowsPlain self.old at g → Answers self.new g (Command.Set d value) Reply.Stored }
+        ensures answered { DoesStep self.old self.new (Command.Set d value) Reply.Stored }
     {
         self.set_register(d, payload_word(Payload::Int(value)));
     }
@@ -360,7 +366,7 @@ impl PlainHeap {
         ensures plain { IsPlain self.new }
         ensures config { self.new.store.config ≡ self.old.store.config }
         ensures last { self.new.last ≡ self.old.last }
-        ensures answered { (at : Name → ℕ → ℕ) (g : Graph) → ShowsPlain self.old at g → Answers self.new g (Command.Nil d) Reply.Stored }
+        ensures answered { DoesStep self.old self.new (Command.Nil d) Reply.Stored }
     {
         self.set_register(d, payload_word(Payload::Nil));
     }
@@ -373,25 +379,27 @@ impl PlainHeap {
         ensures plain { IsPlain self.new }
         ensures config { self.new.store.config ≡ self.old.store.config }
         ensures last { self.new.last ≡ self.old.last }
-        ensures answered { (at : Name → ℕ → ℕ) (g : Graph) → ShowsPlain self.old at g → Answers self.new g (Command.Mov d s) Reply.Stored }
+        ensures answered { DoesStep self.old self.new (Command.Mov d s) Reply.Stored }
     {
         let word = self.register(s);
         self.set_register(d, word);
     }
 
-    // Makes an object of nils, to which register `d` then refers; `Full` where too few blocks are left.
+    // Makes an object of nils, to which register `d` then refers; `Full` where too few blocks are
+    // left.
     fn make(&mut self, d: u8, shape: Shape) -> Reply
         requires plain { IsPlain self.old }
         requires into { d < 16 }
         requires shape { IsShape shape }
-        requires few { blocks_in shape ≤ 1024 }
+        requires few { blocks_in self.old.store.config.width shape ≤ 1024 }
         ensures plain { IsPlain self.new }
         ensures config { self.new.store.config ≡ self.old.store.config }
-        ensures room { self.old.last + blocks_in shape ≤ self.old.store.config.blocks → (is_full result ≡ false) × (self.new.last ≡ self.old.last + blocks_in shape) }
-        ensures full { self.old.store.config.blocks < self.old.last + blocks_in shape → (result ≡ Reply.Full 1) × (self.new ≡ self.old) }
-        ensures answered { (at : Name → ℕ → ℕ) (g : Graph) → ShowsPlain self.old at g → is_full result ≡ false → Answers self.new g (making d shape) result }
+        ensures taken { Takes self.old self.new
+            (blocks_in self.old.store.config.width shape) result }
+        ensures answered { is_full result ≡ false
+            → DoesStep self.old self.new (making d shape) result }
     {
-        let blocks = blocks_of_shape(shape);
+        let blocks = blocks_of_shape(self.store.width(), shape);
         if self.last + blocks > self.store.config().blocks {
             return Reply::Full(1);
         }
@@ -413,9 +421,9 @@ impl PlainHeap {
         requires bounds { IsCommandInBounds self.old.store.config command.now }
         ensures plain { IsPlain self.new }
         ensures config { self.new.store.config ≡ self.old.store.config }
-        ensures room { self.old.last + blocks_of command.now ≤ self.old.store.config.blocks → (is_full result ≡ false) × (self.new.last ≡ self.old.last + blocks_of command.now) }
-        ensures full { self.old.store.config.blocks < self.old.last + blocks_of command.now → (result ≡ Reply.Full 1) × (self.new ≡ self.old) }
-        ensures answered { (at : Name → ℕ → ℕ) (g : Graph) → ShowsPlain self.old at g → is_full result ≡ false → Answers self.new g command.now result }
+        ensures taken { Takes self.old self.new
+            (blocks_of self.old.store.config.width command.now) result }
+        ensures answered { is_full result ≡ false → DoesStep self.old self.new command.now result }
     {
         match *command {
             Command::New { d, fields } => self.make(d, Shape::List(fields)),

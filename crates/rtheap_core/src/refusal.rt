@@ -3,7 +3,6 @@
 ghost use Rattle.std.specs.Prelude.{◌≡◌, ◌≤◌, ◌++◌, length};
 ghost use Rattle.rtheap_core.specs.declared.refusal.Refusal.TheVariants as refusals;
 ghost use Rattle.rtheap_core.specs.Refusals.{status_of, refusal_of, refusal_of_plan, refusal_line, refusal_text};
-ghost use Rattle.trace_text.specs.Reasons.{reason_text};
 
 use block_store::OutOfMemory;
 use rate_plan::PlanFault;
@@ -63,7 +62,7 @@ impl Refusal {
         match self {
             Refusal::Usage => line.prepend(b"usage"),
             Refusal::BadLine { line: number, why } => {
-                line.prepend(why_bytes(why));
+                line.prepend(why.text().as_bytes());
                 line.prepend(b": ");
                 line.prepend_number(number);
                 line.prepend(b"line ");
@@ -75,23 +74,6 @@ impl Refusal {
             Refusal::ReadFault => line.prepend(b"read fault"),
             Refusal::OutOfMemory => line.prepend(b"no memory"),
         }
-    }
-}
-
-/// The reason as it is written.
-fn why_bytes(why: Why) -> &'static [u8]
-    ensures text { result.now ≡ reason_text why }
-    ensures length { length result.now ≤ 8 }
-{
-    match why {
-        Why::Header => b"header",
-        Why::Word => b"word",
-        Why::Number => b"number",
-        Why::Count => b"count",
-        Why::Register => b"register",
-        Why::Size => b"size",
-        Why::Order => b"order",
-        Why::End => b"end",
     }
 }
 

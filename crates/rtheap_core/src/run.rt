@@ -5,7 +5,8 @@ ghost use Rattle.std.specs.List.{AllByRecursion};
 ghost use Rattle.block_store.specs.Configs.{IsInBounds};
 ghost use Rattle.never_heap.specs.Bounds.{IsCommandInBounds};
 ghost use Rattle.never_heap.specs.Histories.{parts};
-ghost use Rattle.never_heap.specs.PlainRuns.{IsPlainRun, opening_blocks};
+ghost use Rattle.array_trees.specs.Openings.{opening_blocks};
+ghost use Rattle.never_heap.specs.PlainRuns.{IsPlainRun};
 ghost use Rattle.trace_text.specs.Jobs.{IsJobInBounds};
 ghost use Rattle.rate_plan.specs.Rates.{IsAdmitted};
 ghost use Rattle.rtheap_core.specs.Runnable.{CanRun};
@@ -76,7 +77,7 @@ pub fn run_job(alloc: Global, job: &Job) -> Result<Plain, OutOfMemory>
     ensures run { IfOk result (λ p. IsPlainRun p.config (job_of p).traces (history_of p.log)) }
     ensures part { IfOk result (λ p. parts 1 (history_of p.log) ≡ p.log ∷ []) }
 {
-    let log = run_trace(alloc, &job.config, job.traces.trace(0))?;
+    let log = run_trace(alloc, &job.config, job.trace(0))?;
     Ok(Plain {
         config: job.config,
         log,
@@ -89,7 +90,8 @@ fn run_trace(alloc: Global, config: &Config, trace: &[Command]) -> Result<Vec<En
     requires one_thread { config.now.threads ≡ 1 }
     requires room { opening_blocks config.now ≤ config.now.blocks }
     requires commands { AllByRecursion (IsCommandInBounds config.now) trace.now }
-    ensures run { IfOk result (λ log. IsPlainRun config.now (trace.now ∷ []) (history_of log.items)) }
+    ensures run { IfOk result (λ log.
+        IsPlainRun config.now (trace.now ∷ []) (history_of log.items)) }
     ensures part { IfOk result (λ log. parts 1 (history_of log.items) ≡ log.items ∷ []) }
     ensures commands { IfOk result (λ log. commands_of log.items ≡ trace.now) }
 {

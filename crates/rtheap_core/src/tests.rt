@@ -116,24 +116,27 @@ end cycles 1 work 0
     Ok(())
 }
 
+/// Fills the heap of 64 blocks of this version with objects of one block, for which there is room.
+fn fills(rt: &impl Abort, alloc: Global, version: u32, room: u32) -> Result<(), Fail> {
+    let mut text = format!(in alloc;
+        "rtheap {version} threads 1 blocks 64 live 20 object 2 shared 0\nthread 0\n"
+    )?;
+    let mut expected = String::new(alloc);
+    for before in 0..room {
+        text.push_str("new 1 0\n")?;
+        let serial = u64::from(before) + 1;
+        let line = format!(in alloc; "0 new 0.{serial} work 0\n")?;
+        expected.push_str(line.as_str())?;
+    }
+    text.push_str("new 1 0\nend\n")?;
+    expected.push_str("0 full 1 work 0\nend cycles 1 work 0\n")?;
+    answers(rt, alloc, "run", text.as_str(), 0, expected.as_str())
+}
+
 #[test]
 fn the_heap_is_full_when_the_last_block_is_given(rt: HostRuntime) -> Result<(), Fail> {
-    let alloc = rt.alloc();
-    let mut commands = String::new(alloc);
-    let mut expected = String::new(alloc);
-    for serial in 1..60u32 {
-        commands.push_str("new 1 0\n")?;
-        if serial < 59 {
-            let line = format!(in alloc; "0 new 0.{serial} work 0\n")?;
-            expected.push_str(line.as_str())?;
-        }
-    }
-    expected.push_str("0 full 1 work 0\nend cycles 1 work 0\n")?;
-    let text = job(alloc, commands.as_str())?;
-    let (exit, sink) = made(&rt, rt.alloc(), &Call::run(text.as_str()))?;
-    assert_eq!(rt; exit.status, 0);
-    assert_eq!(rt; sink.bytes(), expected.as_bytes());
-    Ok(())
+    fills(&rt, rt.alloc(), 1, 58)?;
+    fills(&rt, rt.alloc(), 2, 60)
 }
 
 /// Commands of every kind, and what they answer.
@@ -209,10 +212,28 @@ end
 fn what_one_register_stores_is_seen_through_another(rt: HostRuntime) -> Result<(), Fail> {
     let text = job(
         rt.alloc(),
-        "new 1 2\nmov 2 1\nset 3 7\nput 2 1 3\nget 4 1 1\nput 1 0 2\nget 5 2 0\nsame 5 1\nput 0 0 1\n",
+        "new 1 2
+mov 2 1
+set 3 7
+put 2 1 3
+get 4 1 1
+put 1 0 2
+get 5 2 0
+same 5 1
+put 0 0 1
+",
     )?;
-    let written =
-        "0 new 0.1 work 0\n0 ok\n0 ok\n0 ok\n0 int 7\n0 ok\n0 ref 0.1\n0 yes\n0 range\nend cycles 1 work 0\n";
+    let written = "0 new 0.1 work 0
+0 ok
+0 ok
+0 ok
+0 int 7
+0 ok
+0 ref 0.1
+0 yes
+0 range
+end cycles 1 work 0
+";
     answers(&rt, rt.alloc(), "run", text.as_str(), 0, written)
 }
 
@@ -251,7 +272,15 @@ fn heap(alloc: Global, blocks: u32, live: u32) -> Result<String, AllocError> {
 fn jobs_of_several_threads_are_put_off(rt: HostRuntime) -> Result<(), Fail> {
     let two = "rtheap 1 threads 2 blocks 64 live 20 object 2 shared 0\nthread 0\nthread 1\nend\n";
     answers(&rt, rt.alloc(), "run", two, 3, "rtheap: later\n")?;
-    answers(&rt, rt.alloc(), "plan", two, 0, "rate 8\n")
+    answers(&rt, rt.alloc(), "plan", two, 0, "rate 8\n")?;
+    let four = "rtheap 1 threads 4 blocks 4096 live 2000 object 16 shared 16
+thread 0
+thread 1
+thread 2
+thread 3
+end
+";
+    answers(&rt, rt.alloc(), "plan", four, 0, "rate 9\n")
 }
 
 #[test]
@@ -421,6 +450,56 @@ fn agrees(rt: &impl Abort, alloc: Global, config: &Config, entries: &[Entry]) ->
     Ok(())
 }
 
+/// A job on the usual heap with blocks of eight payload words.
+fn wide(alloc: Global, live: u32, commands: &str) -> Result<String, AllocError> {
+    format!(in alloc;
+        "rtheap 2 threads 1 blocks 64 live {live} object 2 shared 0\nthread 0\n{commands}end\n"
+    )
+}
+
+#[test]
+fn jobs_of_version_2_are_planned_and_run(rt: HostRuntime) -> Result<(), Fail> {
+    let alloc = rt.alloc();
+    for (word, live, commands, status, written) in [
+        ("plan", 20, "", 0, "rate 7\n"),
+        ("plan", 4, "", 0, "rate 5\n"),
+        ("plan", 3, "", 4, "rtheap: live limit too small\n"),
+        (
+            "run",
+            20,
+            "new 1 14\n",
+            0,
+            "0 new 0.1 work 0\nend cycles 1 work 0\n",
+        ),
+        ("run", 20, "new 1 15\n", 3, "rtheap: line 3: size\n"),
+        ("run", 20, "arr 1 9\n", 3, "rtheap: line 3: size\n"),
+    ] {
+        let text = wide(alloc, live, commands)?;
+        answers(&rt, alloc, word, text.as_str(), status, written)?;
+    }
+    Ok(())
+}
+
+#[test]
+fn the_largest_heap_takes_the_largest_object(rt: HostRuntime) -> Result<(), Fail> {
+    let header = "rtheap 1 threads 1 blocks 65535 live 5000 object 1024 shared 0\nthread 0\n";
+    let alloc = rt.alloc();
+    let text = format!(in alloc;
+        "{header}arr 1 3072\nput 1 0 1\nget 2 1 0\nget 2 1 3071\nget 2 1 3072\nend\n"
+    )?;
+    let written = "0 new 0.1 work 0\n0 ok\n0 ref 0.1\n0 nil\n0 range\nend cycles 1 work 0\n";
+    answers(&rt, rt.alloc(), "run", text.as_str(), 0, written)?;
+    let larger = format!(in alloc; "{header}arr 1 3073\nend\n")?;
+    answers(
+        &rt,
+        rt.alloc(),
+        "run",
+        larger.as_str(),
+        3,
+        "rtheap: line 3: size\n",
+    )
+}
+
 /// Runs a job, and its commands on the heap that never frees.
 fn runs_agree(rt: &impl Abort, alloc: Global, input: &str) -> Result<(), Fail> {
     let (exit, _sink) = made(rt, alloc, &Call::run(input))?;
@@ -467,10 +546,41 @@ say 12
 end
 ";
 
+/// The same on blocks of eight payload words: an array of two leaves and a record of three blocks.
+const WIDE_RINGS: &str = "rtheap 2 threads 1 blocks 64 live 40 object 3 shared 17
+thread 0
+arr 1 16
+new 2 21
+put 1 15 2
+put 2 20 1
+put 2 7 2
+get 3 1 15
+get 4 3 20
+same 4 1
+same 4 2
+put 0 16 3
+get 5 0 16
+get 6 5 7
+same 6 2
+set 7 8
+put 1 8 7
+get 8 4 8
+get 8 4 7
+len 1
+len 2
+len 0
+get 7 2 21
+put 0 17 1
+say 5
+say 4
+end
+";
+
 #[test]
 fn a_heap_of_words_answers_as_the_heap_that_never_frees(rt: HostRuntime) -> Result<(), Fail> {
     let (commands, _written) = EACH_KIND;
     let text = job(rt.alloc(), commands)?;
     runs_agree(&rt, rt.alloc(), text.as_str())?;
-    runs_agree(&rt, rt.alloc(), RINGS)
+    runs_agree(&rt, rt.alloc(), RINGS)?;
+    runs_agree(&rt, rt.alloc(), WIDE_RINGS)
 }

@@ -1,20 +1,17 @@
 //! The top call.
 
 ghost use Rattle.std.specs.Prelude.{◌≡◌, ◌≢◌, ◌<◌, ◌≤◌, ◌⊎◌, ◌↔◌, List, ℕ, [], ◌∷◌, length, map, string_bytes, IsSome, Some, None, IfSome, IfOk, IfErr, OnOk};
-ghost use Rattle.rate_plan.specs.declared.PlanFault.{PlanFault};
-ghost use Rattle.rate_plan.specs.Rates.{IsAdmitted, IsRate, IsRefusal};
-ghost use Rattle.trace_text.specs.declared.jobs.Job.{Job};
-ghost use Rattle.trace_text.specs.declared.trace_faults.Why as whys;
+ghost use Rattle.rate_plan.specs.Rates.{IsAdmitted, IsRate};
 ghost use Rattle.trace_text.specs.Faults.{Rose};
-ghost use Rattle.trace_text.specs.Jobs.{IsInput, input_limit};
-ghost use Rattle.trace_text.specs.Refusals.{IsFirstBadLine};
-ghost use Rattle.trace_text.specs.Streams.{Appends, AppendsFront};
+ghost use Rattle.trace_text.specs.Streams.{Appends, AppendsPrefix};
 ghost use Rattle.trace_text.specs.Texts.{run_text};
+ghost use Rattle.rtheap_core.specs.declared.exit.RunEnd.{RunEnd};
 ghost use Rattle.rtheap_core.specs.declared.exit.RunEnd.TheVariants as ends;
-ghost use Rattle.rtheap_core.specs.Exits.{AskForRun, AskForPlan, Ask, Headline, Planned, IsReadAs, IsWritten, IsDue, IsDueOrFails, rate_text, run_of};
+ghost use Rattle.rtheap_core.specs.Calls.{IsCarriedOut, IsComplete};
+ghost use Rattle.rtheap_core.specs.Exits.{AskForRun, AskForPlan, Ask, IsReadAs, IsWritten, logs_of, cycles_of, units_of, rate_text};
+ghost use Rattle.rtheap_core.specs.Sides.{sides};
 ghost use Rattle.rtheap_core.specs.Outcomes.{HasRun, HasRate};
-ghost use Rattle.rtheap_core.specs.Refusals.{IsCause, Refused, status_of, refusal_line};
-ghost use Rattle.rtheap_core.specs.Runnable.{CanRun};
+ghost use Rattle.rtheap_core.specs.Refusals.{IsCause, status_of, refusal_line};
 
 use crate::exit::{Exit, RunEnd};
 use crate::refusal::Refusal;
@@ -34,6 +31,8 @@ const WRITE_FAULT: u8 = 6;
 /// Does what the words ask for: `run` reads a job from the source, runs it, and writes what each
 /// command answered and a line of totals; `plan` reads a job and writes the rate of its
 /// configuration. Any other words are refused with the line `rtheap: usage`.
+///
+/// The entries, cycles and units that an ended run shows by `Logs` are those that `done` is about.
 pub fn rtheap<R, S: Source, K: Sink, Q: Pace>(
     _rt: &R,
     alloc: Global,
@@ -42,38 +41,21 @@ pub fn rtheap<R, S: Source, K: Sink, Q: Pace>(
     sink: &mut K,
     _pace: &Q,
 ) -> Exit
-    // What was run is a run on a heap that never frees, and what was written is its text.
-    ensures headline { IfSome result.run (λ end. Headline (S.left source.old) (S.left source.new) (K.held sink.old) (K.held sink.new) result.status (run_of end)
-        (⟦<RunEnd as Logs>⟧.logs end) (⟦<RunEnd as Logs>⟧.cycle_count end) (⟦<RunEnd as Logs>⟧.unit_count end)) }
-    ensures planned { AskForPlan (map (λ w. string_bytes w) words.now) → result.due ≡ 0
-        → Planned (S.left source.old) (S.left source.new) (K.held sink.old) (K.held sink.new) result.status }
-    // A run is there exactly where the words ask for it and nothing refused it.
-    ensures run { IsSome result.run ↔ (AskForRun (map (λ w. string_bytes w) words.now) × (result.due ≡ 0)) }
-
-    // Each status has its cause, and there is no other status.
-    ensures any_due { IsDue result.due }
-    ensures any_status { (result.status ≡ result.due) ⊎ (result.status ≡ 6) }
-    ensures refused { result.due ≢ 0 → Refused (map (λ w. string_bytes w) words.now) (S.left source.old) (S.left source.new) (K.held sink.old) (K.held sink.new)
-        (S.faults source.old) (S.faults source.new) result.status result.due }
-    ensures usage { (result.due ≡ 2) ↔ (Ask (map (λ w. string_bytes w) words.now) → ⊥) }
-    ensures read_fault { result.due ≡ 5 → Rose (S.faults source.old) (S.faults source.new) }
-    ensures read_fault_told { S.faults source.old < S.faults source.new → result.due ≡ 5 }
-    ensures write_fault { result.status ≡ 6 → Rose (K.faults sink.old) (K.faults sink.new) }
-    ensures write_fault_told { K.faults sink.old < K.faults sink.new → result.status ≡ 6 }
-
-    // A known input has one answer, unless the source fails or the answer is want of memory.
-    ensures too_long { Ask (map (λ w. string_bytes w) words.now) → IfSome (S.left source.old) (λ bytes. input_limit < length bytes → IsDueOrFails 3 result.due) }
-    ensures bad_line { Ask (map (λ w. string_bytes w) words.now) → IfSome (S.left source.old) (λ bytes. (line : ℕ) (why : whys.Why) → length bytes ≤ input_limit → IsFirstBadLine bytes line why
-        → IsDueOrFails 3 result.due) }
-    ensures no_rate { Ask (map (λ w. string_bytes w) words.now) → IfSome (S.left source.old) (λ bytes. (job : Job) → IsInput bytes job → (fault : PlanFault) → IsRefusal job.config fault
-        → IsDueOrFails 4 result.due) }
-    ensures later { AskForRun (map (λ w. string_bytes w) words.now) → IfSome (S.left source.old) (λ bytes. (job : Job) → IsInput bytes job → IsAdmitted job.config → (CanRun job → ⊥)
-        → IsDueOrFails 3 result.due) }
-    ensures complete { Ask (map (λ w. string_bytes w) words.now) → IfSome (S.left source.old) (λ bytes. (job : Job) → IsInput bytes job → IsAdmitted job.config
-        → (AskForRun (map (λ w. string_bytes w) words.now) → CanRun job) → IsDueOrFails 0 result.due) }
-    // Without a fault of a stream the task is done, or the answer is want of memory.
-    ensures unfailed { (Rose (S.faults source.old) (S.faults source.new) → ⊥) → (Rose (K.faults sink.old) (K.faults sink.new) → ⊥) → IsDueOrFails 0 result.due
-        → (result.status ≡ 0) ⊎ (result.status ≡ 7) }
+    ensures shown { (end : RunEnd) → (⟦<RunEnd as Logs>⟧.logs end ≡ logs_of end)
+        × (⟦<RunEnd as Logs>⟧.cycle_count end ≡ cycles_of end)
+        × (⟦<RunEnd as Logs>⟧.unit_count end ≡ units_of end) }
+    ensures done { IsCarriedOut (record {
+      words = map (λ w. string_bytes w) words.now;
+      source = sides S.left S.faults source.old source.new;
+      sink = sides K.held K.faults sink.old sink.new;
+      exit = result;
+    }) }
+    ensures complete { IsComplete (record {
+      words = map (λ w. string_bytes w) words.now;
+      source = sides S.left S.faults source.old source.new;
+      sink = sides K.held K.faults sink.old sink.new;
+      exit = result;
+    }) }
 {
     inputs_are_told_apart();
     jobs_are_one();
@@ -87,24 +69,12 @@ fn carried_out<S: Source, K: Sink>(
     source: &mut S,
     sink: &mut K,
 ) -> Exit
-    // What was run is a run on a heap that never frees, and what was written is its text.
-    ensures headline { IfSome result.run (λ end. Headline (S.left source.old) (S.left source.new) (K.held sink.old) (K.held sink.new) result.status (run_of end)
-        (⟦<RunEnd as Logs>⟧.logs end) (⟦<RunEnd as Logs>⟧.cycle_count end) (⟦<RunEnd as Logs>⟧.unit_count end)) }
-    ensures planned { AskForPlan (map (λ w. string_bytes w) words.now) → result.due ≡ 0
-        → Planned (S.left source.old) (S.left source.new) (K.held sink.old) (K.held sink.new) result.status }
-    // A run is there exactly where the words ask for it and nothing refused it.
-    ensures run { IsSome result.run ↔ (AskForRun (map (λ w. string_bytes w) words.now) × (result.due ≡ 0)) }
-
-    // Each status has its cause, and there is no other status.
-    ensures any_due { IsDue result.due }
-    ensures any_status { (result.status ≡ result.due) ⊎ (result.status ≡ 6) }
-    ensures refused { result.due ≢ 0 → Refused (map (λ w. string_bytes w) words.now) (S.left source.old) (S.left source.new) (K.held sink.old) (K.held sink.new)
-        (S.faults source.old) (S.faults source.new) result.status result.due }
-    ensures usage { (result.due ≡ 2) ↔ (Ask (map (λ w. string_bytes w) words.now) → ⊥) }
-    ensures read_fault { result.due ≡ 5 → Rose (S.faults source.old) (S.faults source.new) }
-    ensures read_fault_told { S.faults source.old < S.faults source.new → result.due ≡ 5 }
-    ensures write_fault { result.status ≡ 6 → Rose (K.faults sink.old) (K.faults sink.new) }
-    ensures write_fault_told { K.faults sink.old < K.faults sink.new → result.status ≡ 6 }
+    ensures done { IsCarriedOut (record {
+      words = map (λ w. string_bytes w) words.now;
+      source = sides S.left S.faults source.old source.new;
+      sink = sides K.held K.faults sink.old sink.new;
+      exit = result;
+    }) }
 {
     match Task::of(words) {
         None => refused(Refusal::Usage, sink),
@@ -121,11 +91,11 @@ fn carried_out<S: Source, K: Sink>(
 
 /// Reads a job, and finds its rate.
 fn planned_job<S: Source>(alloc: Global, source: &mut S) -> Result<(Job, u64), Refusal>
-    ensures read { IfOk result (λ x. IsReadAs (S.left source.old) (S.left source.new) x.0) }
+    ensures read { IfOk result (λ x. IsReadAs (sides S.left S.faults source.old source.new) x.0) }
     ensures rate { IfOk result (λ x. IsAdmitted x.0.config × IsRate x.0.config x.1) }
     ensures still { OnOk result (S.faults source.new ≡ S.faults source.old) }
     ensures refused { IfErr result (λ refusal. (words : List (List ℕ)) → Ask words
-        → IsCause words (S.left source.old) (S.left source.new) (S.faults source.old) (S.faults source.new) refusal) }
+        → IsCause words (sides S.left S.faults source.old source.new) refusal) }
 {
     let job = read_trace(alloc, source)?;
     let rate = plan(&job.config)?;
@@ -134,10 +104,10 @@ fn planned_job<S: Source>(alloc: Global, source: &mut S) -> Result<(Job, u64), R
 
 /// Reads a job and runs it.
 fn ran<S: Source>(alloc: Global, source: &mut S) -> Result<Plain, Refusal>
-    ensures ran { IfOk result (HasRun (S.left source.old) (S.left source.new)) }
+    ensures ran { IfOk result (HasRun (sides S.left S.faults source.old source.new)) }
     ensures still { OnOk result (S.faults source.new ≡ S.faults source.old) }
     ensures refused { IfErr result (λ refusal. (words : List (List ℕ)) → AskForRun words
-        → IsCause words (S.left source.old) (S.left source.new) (S.faults source.old) (S.faults source.new) refusal) }
+        → IsCause words (sides S.left S.faults source.old source.new) refusal) }
 {
     let (job, _rate) = planned_job(alloc, source)?;
     if !can_run(&job) {
@@ -149,10 +119,10 @@ fn ran<S: Source>(alloc: Global, source: &mut S) -> Result<Plain, Refusal>
 
 /// Reads a job, and gives its rate.
 fn rated<S: Source>(alloc: Global, source: &mut S) -> Result<u64, Refusal>
-    ensures rated { IfOk result (HasRate (S.left source.old) (S.left source.new)) }
+    ensures rated { IfOk result (HasRate (sides S.left S.faults source.old source.new)) }
     ensures still { OnOk result (S.faults source.new ≡ S.faults source.old) }
     ensures refused { IfErr result (λ refusal. (words : List (List ℕ)) → AskForPlan words
-        → IsCause words (S.left source.old) (S.left source.new) (S.faults source.old) (S.faults source.new) refusal) }
+        → IsCause words (sides S.left S.faults source.old source.new) refusal) }
 {
     let (_job, rate) = planned_job(alloc, source)?;
     Ok(rate)
@@ -163,7 +133,8 @@ fn written<K: Sink>(run: Plain, sink: &mut K) -> Exit
     ensures due { result.due ≡ 0 }
     ensures run { result.run ≡ Some (ends.Ran run) }
     ensures status { (result.status ≡ 0) ⊎ (result.status ≡ 6) }
-    ensures text { IsWritten (K.held sink.old) (K.held sink.new) result.status (run_text (run.log ∷ []) 1 0) }
+    ensures text { IsWritten (sides K.held K.faults sink.old sink.new) result.status
+        (run_text (run.log ∷ []) 1 0) }
     ensures still { result.status ≢ 6 → K.faults sink.new ≡ K.faults sink.old }
     ensures rose { result.status ≡ 6 → Rose (K.faults sink.old) (K.faults sink.new) }
 {
@@ -186,7 +157,8 @@ fn planned<K: Sink>(rate: u64, sink: &mut K) -> Exit
     ensures due { result.due ≡ 0 }
     ensures run { result.run ≡ None }
     ensures status { (result.status ≡ 0) ⊎ (result.status ≡ 6) }
-    ensures text { IsWritten (K.held sink.old) (K.held sink.new) result.status (rate_text rate) }
+    ensures text { IsWritten (sides K.held K.faults sink.old sink.new) result.status
+        (rate_text rate) }
     ensures still { result.status ≢ 6 → K.faults sink.new ≡ K.faults sink.old }
     ensures rose { result.status ≡ 6 → Rose (K.faults sink.old) (K.faults sink.new) }
 {
@@ -202,8 +174,10 @@ fn refused<K: Sink>(refusal: Refusal, sink: &mut K) -> Exit
     ensures due { result.due ≡ status_of refusal }
     ensures run { result.run ≡ None }
     ensures status { (result.status ≡ result.due) ⊎ (result.status ≡ 6) }
-    ensures line { result.status ≢ 6 → Appends (K.held sink.old) (K.held sink.new) (refusal_line refusal) }
-    ensures front { result.status ≡ 6 → AppendsFront (K.held sink.old) (K.held sink.new) (refusal_line refusal) }
+    ensures line { result.status ≢ 6
+        → Appends (K.held sink.old) (K.held sink.new) (refusal_line refusal) }
+    ensures prefix { result.status ≡ 6
+        → AppendsPrefix (K.held sink.old) (K.held sink.new) (refusal_line refusal) }
     ensures still { result.status ≢ 6 → K.faults sink.new ≡ K.faults sink.old }
     ensures rose { result.status ≡ 6 → Rose (K.faults sink.old) (K.faults sink.new) }
 {
@@ -217,7 +191,7 @@ fn told<K: Sink>(line: &LineBuffer, due: u8, sink: &mut K) -> Exit
     ensures run { result.run ≡ None }
     ensures status { (result.status ≡ due) ⊎ (result.status ≡ 6) }
     ensures line { result.status ≢ 6 → Appends (K.held sink.old) (K.held sink.new) line.now }
-    ensures front { result.status ≡ 6 → AppendsFront (K.held sink.old) (K.held sink.new) line.now }
+    ensures prefix { result.status ≡ 6 → AppendsPrefix (K.held sink.old) (K.held sink.new) line.now }
     ensures still { result.status ≢ 6 → K.faults sink.new ≡ K.faults sink.old }
     ensures rose { result.status ≡ 6 → Rose (K.faults sink.old) (K.faults sink.new) }
 {

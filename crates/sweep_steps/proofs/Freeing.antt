@@ -1,79 +1,33 @@
 -- Which block is freed, and what the events of the sweep leave as it was.
-use Rattle.std.proofs.Common.{
-  ◌≡◌,
-  ℕ,
-  ◌<◌,
-  ◌≤◌,
-  ◌+◌,
-  ◌⊎◌,
-  ⊎_elim,
-  true,
-  false,
-  is_some,
-  refl,
-  arith,
-  subst,
-  sym,
-  ap,
-  ◌∙◌,
-  inl,
-  inr,
-  eqb,
-  eq-eqb,
-  ne_eqb,
-}
+use Rattle.std.proofs.Common.{◌≡◌, ℕ, ◌<◌, ◌≤◌, ◌+◌, ◌⊎◌, ⊎_elim, true, false, is_some, refl, arith, subst, sym, ap, ◌∙◌, inl, inr, eqb, eq-eqb, ne_eqb}
 use Rattle.std.proofs.lemmas.Bool.{cases_Bool, cases_eq}
 use Rattle.block_store.specs.declared.Config.{Config}
 use Rattle.block_store.specs.declared.Colour.TheVariants.{Free}
 use Rattle.block_store.specs.Colours.{is_free, is_grey, white_word, free_word}
-use Rattle.block_store.proofs.ColourWords.{
-  colour-code,
-  link-free,
-  not_grey_white,
-  not_grey_free,
-  free_free,
-}
+use Rattle.block_store.proofs.ColourWords.{colour-code, link-free, not_grey_white, not_grey_free, free_free}
 use Rattle.block_store.specs.Heaps.{Heap, put_at}
 use Rattle.block_store.specs.Phases.{is_sweep, cycle_of}
-use Rattle.block_store.specs.Places.{
-  Extent,
-  extent,
-  Place,
-  Phase,
-  Cursor,
-  FreeCount,
-  FreeList,
-  ColourOf,
-  same_place,
-}
+use Rattle.block_store.specs.Places.{Extent, extent, Place, Phase, Cursor, FreeCount, FreeList, ColourOf, same_place}
 use Rattle.block_store.proofs.Indexes.{one_place}
 use Rattle.heap_machine.specs.Counts.{changed}
 use Rattle.heap_machine.specs.Grey.{GreyHolding, no_grey, GreyKept}
 use Rattle.heap_machine.specs.Holdings.{Holding, grey_held, free_held}
 use Rattle.heap_machine.specs.Operations.{Exchange, CompareExchange, FetchAdd, place_of, heap_after}
 use Rattle.heap_machine.specs.Readings.{IsHeld}
+use Rattle.heap_machine.specs.PhaseKept.{PhaseKept}
 use Rattle.heap_machine.specs.ReuseKept.{ReuseKept}
 use Rattle.heap_machine.proofs.FreeBlocks.{free_few}
 use Rattle.heap_machine.proofs.GreyBlocks.{kept_other, kept_other_colour}
 use Rattle.heap_machine.proofs.GreyEvents.{stays}
 use Rattle.heap_machine.proofs.Held.{held_put, held_after}
 use Rattle.heap_machine.proofs.Keeping.{part_changed}
+use Rattle.heap_machine.proofs.Phasing.{from_sweep}
 use Rattle.sweep_steps.specs.declared.rows.SweepRow.{SweepRow}
-use Rattle.sweep_steps.specs.declared.rows.SweepRow.TheVariants.{
-  ReadCursor,
-  ClaimRange,
-  PassBlock,
-  TakeFree,
-  FreeBlock,
-  PutFree,
-  Credit,
-  Swept,
-  NothingLeft,
-}
+use Rattle.sweep_steps.specs.declared.rows.SweepRow.TheVariants.{ReadCursor, ClaimRange, PassBlock, TakeFree, FreeBlock, PutFree, Credit, Swept, NothingLeft}
 use Rattle.sweep_steps.specs.Rows.{SweepState, row_want, sweep_want, sweep_got, sweep_holding}
 use Rattle.sweep_steps.specs.Ends.{is_freeing, is_unswept}
 use Rattle.sweep_steps.specs.Fits.{RowFits, SweepFits, IsSweeping}
-use Rattle.sweep_steps.proofs.Keeping.{doomed_white}
+use Rattle.sweep_steps.proofs.Keeping.{doomed_white, keeps_reuse}
 
 -- what the thread holds of the grey blocks
 none_grey : (r : SweepRow) → grey_held (sweep_holding r) ≡ no_grey
@@ -240,3 +194,23 @@ pub keeps_words : (c : Config) (h : Heap) (hs : ℕ → Holding) (s : SweepState
     → IsHeld c (heap_after h (sweep_want s))
 keeps_words c h hs s f k e g =
     row_words c h hs k s.thread s.cycle s.owed f.thread f.few s.row f.row e g
+
+-- the phase word stays
+pub keeps_sweeping : (h : Heap) (s : SweepState) (w : ℕ) → IsSweeping h s
+    → IsSweeping (heap_after h (sweep_want s)) (sweep_got s w)
+keeps_sweeping h s w k =
+    let same : heap_after h (sweep_want s) Phase ≡ h Phase = leaves_others h s Phase refl in
+    record { phase = ap is_sweep same ∙ k.phase; cycle = ap cycle_of same ∙ k.cycle }
+
+-- all that is kept in Sweep
+pub keeps_phase : (c : Config) (h : Heap) (hs : ℕ → Holding) (s : SweepState) → SweepFits c s
+    → IsSweeping h s
+    → PhaseKept (extent c) h hs → hs s.thread ≡ sweep_holding s.row
+    → PhaseKept (extent c) (heap_after h (sweep_want s))
+    (changed hs s.thread (sweep_holding (sweep_got s (h (place_of (sweep_want s)))).row))
+keeps_phase c h hs s f is k e =
+    let w = h (place_of (sweep_want s)) in
+    from_sweep (extent c) (heap_after h (sweep_want s))
+    (changed hs s.thread (sweep_holding (sweep_got s w).row))
+    (keeps_sweeping h s w is).phase (keeps_grey c h hs s f is k.reuse e k.grey)
+    (keeps_reuse c h hs s f is k.reuse e)

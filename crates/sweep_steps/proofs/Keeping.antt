@@ -1,94 +1,24 @@
 -- Each event of the sweep keeps where Free blocks stand, what is claimed and what was passed.
-use Rattle.std.proofs.Common.{
-  ◌≡◌,
-  ◌≢◌,
-  ℕ,
-  ◌<◌,
-  ◌≤◌,
-  ◌+◌,
-  true,
-  false,
-  [],
-  refl,
-  arith,
-  subst,
-  sym,
-  ap,
-  ◌∙◌,
-  inl,
-  inr,
-  ⊎_elim,
-  eqb,
-  ltb,
-  eq-eqb,
-  ne_eqb,
-  eqb-true,
-}
+use Rattle.std.proofs.Common.{◌≡◌, ◌≢◌, ℕ, ◌<◌, ◌≤◌, ◌+◌, true, false, [], refl, arith, subst, sym, ap, ◌∙◌, inl, inr, ⊎_elim, eqb, ltb, eq-eqb, ne_eqb, eqb-true}
 use Rattle.std.proofs.lemmas.Bool.{cases_Bool, cases_eq, lt-ltb, eqb-false}
 use Rattle.block_store.specs.declared.Config.{Config}
 use Rattle.block_store.specs.Colours.{is_free, white_word, free_word}
 use Rattle.block_store.proofs.ColourWords.{not_free_white, free-white}
 use Rattle.block_store.specs.Heaps.{Heap, put_at}
 use Rattle.block_store.specs.Phases.{is_sweep, cycle_of}
-use Rattle.block_store.specs.Places.{
-  Extent,
-  extent,
-  Phase,
-  Cursor,
-  FreeCount,
-  FreeList,
-  ColourOf,
-}
+use Rattle.block_store.specs.Places.{Extent, extent, Phase, Cursor, FreeCount, FreeList, ColourOf}
 use Rattle.heap_machine.specs.Counts.{changed}
 use Rattle.heap_machine.specs.FreeBlocks.{FreeHolding, FreeKept}
 use Rattle.heap_machine.specs.Holdings.{Holding, holds_nothing, free_held, sweep_held}
 use Rattle.heap_machine.specs.Operations.{Exchange, FetchAdd, place_of, heap_after}
 use Rattle.heap_machine.specs.ReuseKept.{ReuseKept}
 use Rattle.heap_machine.specs.Sweeping.{SweepHolding, SweepKept, rest_of}
-use Rattle.heap_machine.proofs.FreeBlocks.{
-  free_other,
-  free_stays,
-  free_takes,
-  free_puts,
-  free_counts,
-  free_frees,
-  free_empty,
-}
+use Rattle.heap_machine.proofs.FreeBlocks.{free_other, free_stays, free_takes, free_puts, free_counts, free_frees, free_empty}
 use Rattle.heap_machine.proofs.Reusing.{reuse_goes, reuse_stays}
-use Rattle.heap_machine.proofs.Sweeping.{
-  sweep_other,
-  sweep_stays,
-  sweep_claims,
-  sweep_dooms,
-  sweep_passes,
-  sweep_frees,
-}
+use Rattle.heap_machine.proofs.Sweeping.{sweep_other, sweep_stays, sweep_claims, sweep_dooms, sweep_passes, sweep_frees}
 use Rattle.sweep_steps.specs.declared.rows.SweepRow.{SweepRow}
-use Rattle.sweep_steps.specs.declared.rows.SweepRow.TheVariants.{
-  ReadCursor,
-  ClaimRange,
-  PassBlock,
-  TakeFree,
-  FreeBlock,
-  PutFree,
-  Credit,
-  Swept,
-  NothingLeft,
-}
-use Rattle.sweep_steps.specs.Rows.{
-  SweepState,
-  row_want,
-  row_got,
-  after_read,
-  after_claim,
-  after_range,
-  next_block,
-  before_free,
-  sweep_want,
-  sweep_got,
-  sweep_over,
-  sweep_holding,
-}
+use Rattle.sweep_steps.specs.declared.rows.SweepRow.TheVariants.{ReadCursor, ClaimRange, PassBlock, TakeFree, FreeBlock, PutFree, Credit, Swept, NothingLeft}
+use Rattle.sweep_steps.specs.Rows.{SweepState, row_want, row_got, after_read, after_claim, after_range, next_block, before_free, sweep_want, sweep_got, sweep_over, sweep_holding}
 use Rattle.sweep_steps.specs.Ends.{is_putting}
 use Rattle.sweep_steps.specs.Fits.{IsLeft, IsFreed, RowFits, SweepFits, IsSweeping}
 

@@ -1,82 +1,14 @@
 -- Which events are units, and which blocks a part claims and passes.
-use Rattle.std.proofs.Common.{
-  ◌≡◌,
-  ℕ,
-  suc,
-  ◌<◌,
-  ◌≤◌,
-  ◌+◌,
-  ◌-◌,
-  ◌||◌,
-  ◌++◌,
-  Bool,
-  true,
-  false,
-  is_some,
-  List,
-  [],
-  ◌∷◌,
-  length,
-  Option,
-  Some,
-  None,
-  cond,
-  refl,
-  arith,
-  subst,
-  sym,
-  ap,
-  ◌∙◌,
-  inl,
-  inr,
-  eqb,
-  ltb,
-  ne_eqb,
-  ltb-true,
-  ltb-false,
-  append-nil,
-}
+use Rattle.std.proofs.Common.{◌≡◌, ℕ, suc, ◌<◌, ◌≤◌, ◌+◌, ◌-◌, ◌||◌, ◌++◌, Bool, true, false, is_some, List, [], ◌∷◌, length, Option, Some, None, cond, refl, arith, subst, sym, ap, ◌∙◌, inl, inr, eqb, ltb, ne_eqb, ltb-true, ltb-false, append-nil}
 use Rattle.std.proofs.lemmas.List.{append_assoc}
 use Rattle.std.proofs.lemmas.Bool.{cases_Bool, lt-ltb}
 use Rattle.block_store.specs.declared.Config.{Config}
 use Rattle.block_store.specs.Colours.{white_word}
+use Rattle.block_store.specs.Phases.{bit}
 use Rattle.sweep_steps.specs.declared.rows.SweepRow.{SweepRow}
-use Rattle.sweep_steps.specs.declared.rows.SweepRow.TheVariants.{
-  ReadCursor,
-  ClaimRange,
-  PassBlock,
-  TakeFree,
-  FreeBlock,
-  PutFree,
-  Credit,
-  Swept,
-  NothingLeft,
-}
-use Rattle.sweep_steps.specs.Rows.{
-  SweepState,
-  row_got,
-  after_range,
-  next_block,
-  before_free,
-  range_end,
-  sweep_got,
-  sweep_over,
-  sweep_unit,
-  sweep_passed,
-  sweep_nothing,
-  sweeping,
-}
-use Rattle.sweep_steps.specs.Ends.{
-  row_passes,
-  row_claims,
-  is_reading,
-  blocks_from,
-  blocks_left,
-  sweep_after,
-  with_first,
-  blocks_passed,
-  blocks_claimed,
-}
+use Rattle.sweep_steps.specs.declared.rows.SweepRow.TheVariants.{ReadCursor, ClaimRange, PassBlock, TakeFree, FreeBlock, PutFree, Credit, Swept, NothingLeft}
+use Rattle.sweep_steps.specs.Rows.{SweepState, row_got, after_range, next_block, before_free, range_end, sweep_got, sweep_over, sweep_unit, sweep_passed, sweep_nothing, sweeping, sweep_holding}
+use Rattle.sweep_steps.specs.Ends.{row_passes, row_claims, is_reading, blocks_from, blocks_left, sweep_after, with_first, blocks_passed, blocks_claimed}
 use Rattle.sweep_steps.specs.Fits.{IsLeft, RowFits, SweepFits}
 
 -- what is so of both rows of a choice
@@ -199,6 +131,31 @@ passed_few c s f = few_row c.blocks s.owed s.row f.row where
   few_row m owed (Credit p g) f = (f.2, f.3)
   few_row m owed (Swept p g) f = (f.2, f.3)
   few_row m owed NothingLeft f = (omega arith, omega arith)
+
+pub passed_bits : (s : SweepState) (w : ℕ)
+    → sweep_passed (sweep_got s w).row
+    ≡ sweep_passed s.row + bit (is_some (row_passes s.cycle s.row w))
+passed_bits s w = passed_counts s w
+    ∙ one (is_some (row_passes s.cycle s.row w)) (sweep_passed s.row) where
+      one : (b : Bool) (n : ℕ) → cond b (n + 1) n ≡ n + bit b
+      one true n = refl
+      one false n = omega arith
+
+-- with what is left of the range, at most as many as were owed
+pub claimed_due : (c : Config) (s : SweepState) → SweepFits c s
+    → (sweep_holding s.row).high + sweep_passed s.row ≤ (sweep_holding s.row).low + s.owed
+claimed_due c s f = due_row c.blocks s.owed s.row f.row where
+  due_row : (m owed : ℕ) (r : SweepRow) → RowFits m owed r
+      → (sweep_holding r).high + sweep_passed r ≤ (sweep_holding r).low + owed
+  due_row m owed ReadCursor f = omega arith
+  due_row m owed (ClaimRange x high) f = omega arith
+  due_row m owed (PassBlock x high p a g) f = f.0.due
+  due_row m owed (TakeFree x high p) f = f.due
+  due_row m owed (FreeBlock x high p a g) f = f.0.due
+  due_row m owed (PutFree a p g) f = (let z = f.5 in omega arith)
+  due_row m owed (Credit p g) f = (let z = f.3 in omega arith)
+  due_row m owed (Swept p g) f = (let z = f.3 in omega arith)
+  due_row m owed NothingLeft f = omega arith
 
 -- as many blocks were passed as the row says
 pub passed_length : (s : SweepState) (ws : List ℕ)

@@ -1,27 +1,5 @@
 -- What holds of the rows: their places are in range, and a row that fits becomes one that fits.
-use Rattle.std.proofs.Common.{
-  ◌≡◌,
-  ℕ,
-  ◌<◌,
-  ◌≤◌,
-  ◌+◌,
-  ◌-◌,
-  min,
-  true,
-  arith,
-  refl,
-  sym,
-  subst,
-  inl,
-  inr,
-  ⊎_elim,
-  eqb,
-  ltb,
-  eq-eqb,
-  ne_eqb,
-  ltb-true,
-  ltb-false,
-}
+use Rattle.std.proofs.Common.{◌≡◌, ℕ, ◌<◌, ◌≤◌, ◌+◌, ◌-◌, min, true, arith, refl, sym, subst, inl, inr, ⊎_elim, eqb, ltb, eq-eqb, ne_eqb, ltb-true, ltb-false}
 use Rattle.std.proofs.lemmas.Bool.{cases_Bool, cases_eq, lt-ltb}
 use Rattle.block_store.specs.declared.Config.{Config}
 use Rattle.block_store.specs.Colours.{white_word}
@@ -30,29 +8,8 @@ use Rattle.heap_machine.specs.Operations.{place_of, Fits}
 use Rattle.heap_machine.specs.Readings.{CanHold}
 use Rattle.heap_machine.proofs.FreeBlocks.{block_is}
 use Rattle.sweep_steps.specs.declared.rows.SweepRow.{SweepRow}
-use Rattle.sweep_steps.specs.declared.rows.SweepRow.TheVariants.{
-  ReadCursor,
-  ClaimRange,
-  PassBlock,
-  TakeFree,
-  FreeBlock,
-  PutFree,
-  Credit,
-  Swept,
-  NothingLeft,
-}
-use Rattle.sweep_steps.specs.Rows.{
-  SweepState,
-  row_want,
-  row_got,
-  after_read,
-  after_range,
-  next_block,
-  before_free,
-  sweep_want,
-  sweep_got,
-  sweeping,
-}
+use Rattle.sweep_steps.specs.declared.rows.SweepRow.TheVariants.{ReadCursor, ClaimRange, PassBlock, TakeFree, FreeBlock, PutFree, Credit, Swept, NothingLeft}
+use Rattle.sweep_steps.specs.Rows.{SweepState, row_want, row_got, after_read, after_range, next_block, before_free, sweep_want, sweep_got, sweeping}
 use Rattle.sweep_steps.specs.Fits.{IsLeft, IsFreed, RowFits, SweepFits, SweepReads}
 
 pub first_fits : (c : Config) (t cycle owed : ℕ) → t < c.threads → c.blocks ≤ 65535 → 1 ≤ owed

@@ -1,33 +1,9 @@
 -- Which events pass a block, free one and put a hand, and which blocks a part claims and passes.
-use Rattle.std.specs.Prelude.{
-  ℕ,
-  zero,
-  suc,
-  ◌+◌,
-  ◌-◌,
-  ◌==◌,
-  Bool,
-  true,
-  false,
-  if◌then◌else◌,
-  Option,
-  Some,
-  None,
-  List,
-  [],
-  ◌∷◌,
-  ◌++◌,
-}
+use Rattle.std.specs.Prelude.{ℕ, zero, suc, ◌+◌, ◌-◌, ◌==◌, Bool, true, false, if◌then◌else◌, Option, Some, None, List, [], ◌∷◌, ◌++◌}
 use Rattle.block_store.specs.Colours.{white_word}
 use Rattle.block_store.specs.Places.{Place, Cursor, FreeCount, FreeList, ColourOf}
 use Rattle.sweep_steps.specs.declared.rows.SweepRow.{SweepRow}
-use Rattle.sweep_steps.specs.declared.rows.SweepRow.TheVariants.{
-  ReadCursor,
-  ClaimRange,
-  PassBlock,
-  FreeBlock,
-  PutFree,
-}
+use Rattle.sweep_steps.specs.declared.rows.SweepRow.TheVariants.{ReadCursor, ClaimRange, PassBlock, FreeBlock, PutFree}
 use Rattle.sweep_steps.specs.Rows.{SweepState, sweep_got, sweep_holding}
 
 -- the event passes this block: it read a block that is not white, or freed one
@@ -75,7 +51,8 @@ with_first (Some x) xs = x ∷ xs
 -- the blocks that these events pass, and those that they claim, in this order
 abbrev pub blocks_passed : SweepState → List ℕ → List ℕ
 blocks_passed s [] = []
-blocks_passed s (w ∷ ws) = with_first (row_passes s.cycle s.row w) (blocks_passed (sweep_got s w) ws)
+blocks_passed s (w ∷ ws) =
+    with_first (row_passes s.cycle s.row w) (blocks_passed (sweep_got s w) ws)
 
 abbrev pub blocks_claimed : SweepState → List ℕ → List ℕ
 blocks_claimed s [] = []

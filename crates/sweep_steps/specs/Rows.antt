@@ -1,18 +1,7 @@
 -- The sweep, as rows of one event each: a thread claims a range of blocks and passes them one by
 -- one; a white block is freed as it is passed. What each row wants, and what it becomes on the
 -- word that it read.
-use Rattle.std.specs.Prelude.{
-  ℕ,
-  ◌+◌,
-  ◌-◌,
-  ◌==◌,
-  nat_lt,
-  min,
-  Bool,
-  true,
-  false,
-  if◌then◌else◌,
-}
+use Rattle.std.specs.Prelude.{ℕ, ◌+◌, ◌-◌, ◌==◌, nat_lt, min, Bool, true, false, if◌then◌else◌}
 use Rattle.block_store.specs.Colours.{white_word, free_word}
 use Rattle.block_store.specs.Places.{Phase, Cursor, FreeCount, FreeList, ColourOf}
 use Rattle.heap_machine.specs.Holdings.{Holding, holds_nothing}
@@ -20,17 +9,7 @@ use Rattle.heap_machine.specs.Operations.{Operation, Load, Exchange, CompareExch
 use Rattle.heap_machine.specs.declared.Step.{Step}
 use Rattle.heap_machine.specs.declared.Step.TheVariants.{Went, Waited, Over}
 use Rattle.sweep_steps.specs.declared.rows.SweepRow.{SweepRow}
-use Rattle.sweep_steps.specs.declared.rows.SweepRow.TheVariants.{
-  ReadCursor,
-  ClaimRange,
-  PassBlock,
-  TakeFree,
-  FreeBlock,
-  PutFree,
-  Credit,
-  Swept,
-  NothingLeft,
-}
+use Rattle.sweep_steps.specs.declared.rows.SweepRow.TheVariants.{ReadCursor, ClaimRange, PassBlock, TakeFree, FreeBlock, PutFree, Credit, Swept, NothingLeft}
 
 -- a thread that sweeps: the cycle, in which a block is white; how many blocks the heap has; how
 -- many units the thread owed as the pass began; and its row

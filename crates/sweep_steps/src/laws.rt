@@ -3,6 +3,7 @@
 ghost use Rattle.std.specs.Prelude.{◌≡◌, ◌≢◌, ◌<◌, ◌≤◌, ◌+◌, ◌-◌, ◌||◌, ◌++◌, ◌⊎◌, ℕ, List, length, min, nat_lt, cond, true, false, is_some};
 ghost use Rattle.block_store.specs.declared.Config.{Config};
 ghost use Rattle.block_store.specs.Heaps.{Heap};
+ghost use Rattle.block_store.specs.Phases.{bit};
 ghost use Rattle.block_store.specs.Colours.{is_free, white_word};
 ghost use Rattle.block_store.specs.Places.{Extent, Place, extent, in_range, FreeList, ColourOf};
 ghost use Rattle.heap_machine.specs.Counts.{changed};
@@ -10,6 +11,7 @@ ghost use Rattle.heap_machine.specs.Grey.{GreyKept};
 ghost use Rattle.heap_machine.specs.Holdings.{Holding, holds_nothing, grey_held};
 ghost use Rattle.heap_machine.specs.Operations.{Exchange, place_of, heap_after, Fits};
 ghost use Rattle.heap_machine.specs.Readings.{IsHeld};
+ghost use Rattle.heap_machine.specs.PhaseKept.{PhaseKept};
 ghost use Rattle.heap_machine.specs.ReuseKept.{ReuseKept};
 ghost use Rattle.sweep_steps.specs.Rows.{SweepState, sweep_want, sweep_got, sweep_over, sweep_unit, sweep_passed, sweep_nothing, sweeping, sweep_holding};
 ghost use Rattle.sweep_steps.specs.Ends.{is_reading, is_freeing, is_putting, is_unswept, row_passes, blocks_from, blocks_left, blocks_passed, blocks_claimed, sweep_after};
@@ -40,6 +42,8 @@ pub fn rows_keep_reuse()
         → ReuseKept (extent c) h hs → hs s.thread ≡ sweep_holding s.row
         → ReuseKept (extent c) (heap_after h (sweep_want s))
         (changed hs s.thread (sweep_holding (sweep_got s (h (place_of (sweep_want s)))).row)) }
+    ensures sweeping { (h : Heap) (s : SweepState) (w : ℕ) → IsSweeping h s
+        → IsSweeping (heap_after h (sweep_want s)) (sweep_got s w) }
     ensures first { (t c m owed : ℕ) → sweep_holding (sweeping t c m owed).row ≡ holds_nothing }
     ensures over { (r : SweepRow) → sweep_over r ≡ true → sweep_holding r ≡ holds_nothing }
     ensures put { (c : Config) (h : Heap) (hs : ℕ → Holding) (s : SweepState)
@@ -47,6 +51,16 @@ pub fn rows_keep_reuse()
         → is_putting s.row ≡ true
         → (sweep_want s ≡ Exchange (FreeList s.thread) (sweep_holding s.row).free_hand)
         × (h (FreeList s.thread) ≡ 0) }
+{}
+
+/// Each event keeps all rules of the heap at once, while the other threads hold what they held and
+/// the phase is Sweep, in the cycle of the part.
+pub fn rows_keep_the_heap()
+    ensures { (c : Config) (h : Heap) (hs : ℕ → Holding) (s : SweepState)
+        → SweepFits c s → IsSweeping h s
+        → PhaseKept (extent c) h hs → hs s.thread ≡ sweep_holding s.row
+        → PhaseKept (extent c) (heap_after h (sweep_want s))
+        (changed hs s.thread (sweep_holding (sweep_got s (h (place_of (sweep_want s)))).row)) }
 {}
 
 /// Where each word of the heap is one that its place can hold, it is so behind each event. The free
@@ -87,8 +101,9 @@ pub fn only_white_blocks_are_freed()
 {}
 
 /// A part is a unit exactly behind an event that passed a block, until its next event, and it has
-/// passed as many blocks as there were such events: at most eight, and at most as many as were
-/// owed. It has found nothing exactly where the cursor was read behind the last block.
+/// passed as many blocks as there were such events: at most eight, and, with those that it has
+/// claimed and not yet passed, at most as many as were owed. It has found nothing exactly where the
+/// cursor was read behind the last block.
 pub fn a_unit_is_a_passed_block()
     ensures first { (t c m owed : ℕ) → (sweep_unit (sweeping t c m owed).row ≡ false)
         × (sweep_passed (sweeping t c m owed).row ≡ 0)
@@ -97,10 +112,11 @@ pub fn a_unit_is_a_passed_block()
         → sweep_unit (sweep_got s w).row ≡ is_some (row_passes s.cycle s.row w) }
     ensures passed { (s : SweepState) (w : ℕ)
         → sweep_passed (sweep_got s w).row
-        ≡ cond (is_some (row_passes s.cycle s.row w)) (sweep_passed s.row
-        + 1) (sweep_passed s.row) }
+        ≡ sweep_passed s.row + bit (is_some (row_passes s.cycle s.row w)) }
     ensures few { (c : Config) (s : SweepState) → SweepFits c s
         → (sweep_passed s.row ≤ 8) × (sweep_passed s.row ≤ s.owed) }
+    ensures due { (c : Config) (s : SweepState) → SweepFits c s
+        → (sweep_holding s.row).high + sweep_passed s.row ≤ (sweep_holding s.row).low + s.owed }
     ensures nothing { (s : SweepState) (w : ℕ)
         → sweep_nothing (sweep_got s w).row
         ≡ (sweep_nothing s.row || cond (is_reading s.row) (nat_lt s.blocks w) false) }

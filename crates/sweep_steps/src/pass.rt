@@ -105,9 +105,7 @@ fn next_block(block: u32, end: u32, passed: u32, hand: u32, freed: u32) -> Sweep
 fn before_free(block: u32, end: u32, passed: u32, hand: u32, freed: u32) -> SweepRow
     ensures { result ≡ Rows.before_free block end passed hand freed }
 {
-    if freed == 0 {
-        SweepRow::TakeFree { block, end, passed }
-    } else {
+    if freed > 0 {
         SweepRow::FreeBlock {
             block,
             end,
@@ -115,6 +113,8 @@ fn before_free(block: u32, end: u32, passed: u32, hand: u32, freed: u32) -> Swee
             hand,
             freed,
         }
+    } else {
+        SweepRow::TakeFree { block, end, passed }
     }
 }
 

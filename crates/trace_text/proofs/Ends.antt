@@ -15,7 +15,8 @@ use Rattle.trace_text.proofs.OneJob.{one_job}
 use Rattle.trace_text.proofs.WholeLaws.{apart, one_first}
 
 -- of a source that is at its end all bytes were read
-pub all_read : (bytes input : List ℕ) (new : Option (List ℕ)) → HasRead (Some bytes) input new → new ≡ Some [] → bytes ≡ input
+pub all_read : (bytes input : List ℕ) (new : Option (List ℕ)) → HasRead (Some bytes) input new
+    → new ≡ Some [] → bytes ≡ input
 all_read bytes input new h e =
     let none : h.0 ≡ [] = same_Some h.0 [] (sym h.2 ∙ e) in
     h.1 ∙ ap (λ (r : List ℕ). input ++ r) none ∙ append-nil input
@@ -30,30 +31,37 @@ bounded (Err e) input is = tt
 
 -- ---- bytes that were all read
 
-read_job : (r : Result Job TraceFault) (bytes : List ℕ) → Answers r bytes → (job : Job) → IsJob bytes job → IsRead r job
+read_job : (r : Result Job TraceFault) (bytes : List ℕ) → Answers r bytes → (job : Job)
+    → IsJob bytes job → IsRead r job
 read_job (Ok found) bytes is job of = one_job bytes found job is of
 read_job (Err ReadFault) bytes is job of = tt
 read_job (Err TooLong) bytes is job of = absurd is
 read_job (Err (BadLine line why)) bytes is job of = absurd (apart bytes job line why of is)
 read_job (Err OutOfMemory) bytes is job of = tt
 
-same_fault : (line other : ℕ) (why reason : Why) → line ≡ other → why ≡ reason → ◌≡◌ {A = TraceFault} (BadLine line why) (BadLine other reason)
+same_fault : (line other : ℕ) (why reason : Why) → line ≡ other → why ≡ reason
+    → ◌≡◌ {A = TraceFault} (BadLine line why) (BadLine other reason)
 same_fault line other why reason e f = cc
 
-refused : (r : Result Job TraceFault) (bytes : List ℕ) → Answers r bytes → (line : ℕ) (why : Why) → IsFirstBadLine bytes line why → IsRefused r (BadLine line why)
+refused : (r : Result Job TraceFault) (bytes : List ℕ) → Answers r bytes → (line : ℕ) (why : Why)
+    → IsFirstBadLine bytes line why → IsRefused r (BadLine line why)
 refused (Ok job) bytes is line why bad = apart bytes job line why is bad
 refused (Err ReadFault) bytes is line why bad = inr tt
 refused (Err TooLong) bytes is line why bad = absurd is
-refused (Err (BadLine other reason)) bytes is line why bad = let same = one_first bytes other line reason why is bad in inl (same_fault other line reason why same.0 same.1)
+refused (Err (BadLine other reason)) bytes is line why bad = let same =
+    one_first bytes other line reason why is bad in
+    inl (same_fault other line reason why same.0 same.1)
 refused (Err OutOfMemory) bytes is line why bad = inr tt
 
-blamed : (r : Result Job TraceFault) (bytes : List ℕ) → Answers r bytes → (line : ℕ) (why : Why) → r ≡ Err (BadLine line why) → IsFirstBadLine bytes line why
+blamed : (r : Result Job TraceFault) (bytes : List ℕ) → Answers r bytes → (line : ℕ) (why : Why)
+    → r ≡ Err (BadLine line why) → IsFirstBadLine bytes line why
 blamed r bytes is line why e = subst (λ (s : Result Job TraceFault). Answers s bytes) e is
 
 not_long : (r : Result Job TraceFault) (bytes : List ℕ) → Answers r bytes → r ≡ Err TooLong → ⊥
 not_long r bytes is e = subst (λ (s : Result Job TraceFault). Answers s bytes) e is
 
-ok_input : (r : Result Job TraceFault) (bytes : List ℕ) → length bytes ≤ 16777216 → Answers r bytes → IfOk r (λ job. IsInput bytes job)
+ok_input : (r : Result Job TraceFault) (bytes : List ℕ) → length bytes ≤ 16777216
+    → Answers r bytes → IfOk r (λ job. IsInput bytes job)
 ok_input (Ok job) bytes short is = record { within = short; is_job = is }
 ok_input (Err e) bytes short is = tt
 
@@ -61,12 +69,19 @@ whatever : (r : Result Job TraceFault) (P : Job → Type 0) → ((job : Job) →
 whatever (Ok job) P h = h job
 whatever (Err e) P h = tt
 
-ended_few : (old new : Option (List ℕ)) (input : List ℕ) → length input ≤ 16777216 → HasRead old input new → TookAtMost 16777217 old new
+ended_few : (old new : Option (List ℕ)) (input : List ℕ) → length input ≤ 16777216
+    → HasRead old input new → TookAtMost 16777217 old new
 ended_few None new input short read = tt
-ended_few (Some bytes) new input short read =
-    (length input, omega arith, read.2 ∙ ap Some (sym (ap (drop (length input)) read.1 ∙ drop_at input read.0 (length input) refl)))
+ended_few (Some bytes) new input short read = (
+  length input,
+  omega arith,
+  read.2
+      ∙ ap Some (sym (ap (drop (length input)) read.1
+      ∙ drop_at input read.0 (length input) refl)),
+)
 
-ends_by : (r : Result Job TraceFault) (input : List ℕ) (old new : Option (List ℕ)) → Answers r input → IsAtEnd old new → TookAtMost 16777217 old new → StopsAt r old new
+ends_by : (r : Result Job TraceFault) (input : List ℕ) (old new : Option (List ℕ))
+    → Answers r input → IsAtEnd old new → TookAtMost 16777217 old new → StopsAt r old new
 ends_by (Ok job) input old new is ended few = ended
 ends_by (Err ReadFault) input old new is ended few = tt
 ends_by (Err TooLong) input old new is ended few = absurd is
@@ -79,11 +94,23 @@ pub record Known (r : Result Job TraceFault) (old : Option (List ℕ)) : Type 0 
   pub complete : IfSome old (λ bytes. (job : Job) → IsInput bytes job → IsRead r job)
   pub long : IfSome old (λ bytes. 16777216 < length bytes → IsRefused r TooLong)
   pub too_long : IsErrOf r TooLong → IfSome old (λ bytes. 16777216 < length bytes)
-  pub wrong : IfSome old (λ bytes. (line : ℕ) (why : Why) → length bytes ≤ 16777216 → IsFirstBadLine bytes line why → IsRefused r (BadLine line why))
-  pub bad_line : (line : ℕ) (why : Why) → IsErrOf r (BadLine line why) → IfSome old (λ bytes. (length bytes ≤ 16777216) × IsFirstBadLine bytes line why)
+  pub wrong : IfSome old (λ bytes. (line : ℕ) (why : Why) → length bytes ≤ 16777216
+      → IsFirstBadLine bytes line why → IsRefused r (BadLine line why))
+  pub bad_line : (line : ℕ) (why : Why) → IsErrOf r (BadLine line why)
+      → IfSome old (λ bytes. (length bytes ≤ 16777216) × IsFirstBadLine bytes line why)
 
-pub known : (r : Result Job TraceFault) (old new : Option (List ℕ)) (input : List ℕ) → Answers r input → length input ≤ 16777216 → HasRead old input new → IsAtEnd old new → Known r old
-known r None new input is short read ended = record { job = whatever r _ (λ job. tt); complete = tt; long = tt; too_long = λ e. tt; wrong = tt; bad_line = λ line why e. tt }
+pub known : (r : Result Job TraceFault) (old new : Option (List ℕ)) (input : List ℕ)
+    → Answers r input → length input ≤ 16777216 → HasRead old input new → IsAtEnd old new
+    → Known r old
+known r None new input is short read ended =
+    record {
+      job = whatever r _ (λ job. tt);
+      complete = tt;
+      long = tt;
+      too_long = λ e. tt;
+      wrong = tt;
+      bad_line = λ line why e. tt;
+    }
 known r (Some bytes) new input is short read ended =
     let same = all_read bytes input new read ended in
     let told : Answers r bytes = subst (Answers r) (sym same) is in
@@ -97,21 +124,36 @@ known r (Some bytes) new input is short read ended =
       bad_line = λ line why e. (few, blamed r bytes told line why e);
     }
 
-pub stops : (r : Result Job TraceFault) (old new : Option (List ℕ)) (input : List ℕ) → Answers r input → length input ≤ 16777216 → HasRead old input new → IsAtEnd old new → StopsAt r old new
-stops r old new input is short read ended = ends_by r input old new is ended (ended_few old new input short read)
+pub stops : (r : Result Job TraceFault) (old new : Option (List ℕ)) (input : List ℕ)
+    → Answers r input → length input ≤ 16777216 → HasRead old input new → IsAtEnd old new
+    → StopsAt r old new
+stops r old new input is short read ended =
+    ends_by r input old new is ended (ended_few old new input short read)
 
 -- a source that told too many bytes was read as far as the first of them
-pub stops_early : (old new : Option (List ℕ)) (input : List ℕ) → length input ≡ 16777217 → HasRead old input new → IfSome old (λ bytes. new ≡ Some (drop 16777217 bytes))
+pub stops_early : (old new : Option (List ℕ)) (input : List ℕ) → length input ≡ 16777217
+    → HasRead old input new → IfSome old (λ bytes. new ≡ Some (drop 16777217 bytes))
 stops_early None new input len read = tt
-stops_early (Some bytes) new input len read = read.2 ∙ ap Some (sym (ap (drop 16777217) read.1 ∙ drop_at input read.0 16777217 len))
+stops_early (Some bytes) new input len read =
+    read.2 ∙ ap Some (sym (ap (drop 16777217) read.1 ∙ drop_at input read.0 16777217 len))
 
-more_told : (bytes input : List ℕ) (new : Option (List ℕ)) → length input ≡ 16777217 → HasRead (Some bytes) input new → 16777216 < length bytes
+more_told : (bytes input : List ℕ) (new : Option (List ℕ)) → length input ≡ 16777217
+    → HasRead (Some bytes) input new → 16777216 < length bytes
 more_told bytes input new len read =
     omega (arith, ap length read.1, length-append input read.0)
 
 -- what is known of a source with too many bytes
-pub known_long : (old new : Option (List ℕ)) (input : List ℕ) → length input ≡ 16777217 → HasRead old input new → Known (Err TooLong) old
-known_long None new input len read = record { job = tt; complete = tt; long = tt; too_long = λ e. tt; wrong = tt; bad_line = λ line why e. tt }
+pub known_long : (old new : Option (List ℕ)) (input : List ℕ) → length input ≡ 16777217
+    → HasRead old input new → Known (Err TooLong) old
+known_long None new input len read =
+    record {
+      job = tt;
+      complete = tt;
+      long = tt;
+      too_long = λ e. tt;
+      wrong = tt;
+      bad_line = λ line why e. tt;
+    }
 known_long (Some bytes) new input len read =
     let more = more_told bytes input new len read in
     record {

@@ -29,11 +29,13 @@ is_digit_from : (b : ℕ) → digit_value b < 10 → is_digit b ≡ true
 is_digit_from b h = let r = digit_from_value b h in grind (arith, nat_tests)
 
 -- a choice that gave something
-pub then_some : {A : Type 0} (t : Bool) (x : Option A) (m : A) → cond t x None ≡ Some m → (t ≡ true) × (x ≡ Some m)
+pub then_some : {A : Type 0} (t : Bool) (x : Option A) (m : A) → cond t x None ≡ Some m
+    → (t ≡ true) × (x ≡ Some m)
 then_some true x m e = (refl, e)
 then_some false x m e = absurd cc
 
-pub else_some : {A : Type 0} (t : Bool) (x : Option A) (m : A) → cond t None x ≡ Some m → (t ≡ false) × (x ≡ Some m)
+pub else_some : {A : Type 0} (t : Bool) (x : Option A) (m : A) → cond t None x ≡ Some m
+    → (t ≡ false) × (x ≡ Some m)
 else_some true x m e = absurd cc
 else_some false x m e = (refl, e)
 
@@ -44,9 +46,13 @@ digits_sound n m (b ∷ bs) e =
     let t = then_some (is_digit b) (digits_on (10 * n + (b - 48)) bs) m e in
     let next : 10 * n + (b - 48) ≡ n * 10 + digit_value b = omega (arith, digit_is b t.0) in
     let rest = digits_sound (10 * n + (b - 48)) m bs t.1 in
-    record { digits = (digit_below b t.0, rest.digits); value = sym (ap (λ k. digits_value_after 10 k bs) next) ∙ rest.value }
+    record {
+      digits = (digit_below b t.0, rest.digits);
+      value = sym (ap (λ k. digits_value_after 10 k bs) next) ∙ rest.value;
+    }
 
-pub digits_complete : (n : ℕ) (bs : List ℕ) → AllDigits 10 bs → digits_on n bs ≡ Some (digits_value_after 10 n bs)
+pub digits_complete : (n : ℕ) (bs : List ℕ) → AllDigits 10 bs
+    → digits_on n bs ≡ Some (digits_value_after 10 n bs)
 unfolding digits_on
 digits_complete n [] h = refl
 digits_complete n (b ∷ bs) h =
@@ -56,38 +62,49 @@ digits_complete n (b ∷ bs) h =
 
 -- the form of a number
 abbrev pub has_bad_form : List ℕ → Bool
-has_bad_form piece = eqb (length piece) 0 || ltb 19 (length piece) || (ltb 1 (length piece) && eqb (get_or piece 0 0) 48)
+has_bad_form token = eqb (length token) 0 || ltb 19 (length token) ||
+    (ltb 1 (length token) && eqb (get_or token 0 0) 48)
 
-pub record HasForm (piece : List ℕ) : Type 0 where
-  pub some : 0 < length piece
-  pub few : length piece ≤ 19
-  pub no_zero : get_or piece 0 0 ≡ 48 → length piece ≡ 1
+pub record HasForm (token : List ℕ) : Type 0 where
+  pub some : 0 < length token
+  pub few : length token ≤ 19
+  pub no_zero : get_or token 0 0 ≡ 48 → length token ≡ 1
 
-form_sound : (piece : List ℕ) → has_bad_form piece ≡ false → HasForm piece
-form_sound piece e = record { some = grind (arith, nat_tests); few = grind (arith, nat_tests); no_zero = λ z. grind (arith, nat_tests) }
+form_sound : (token : List ℕ) → has_bad_form token ≡ false → HasForm token
+form_sound token e = record {
+  some = grind (arith, nat_tests);
+  few = grind (arith, nat_tests);
+  no_zero = λ z. grind (arith, nat_tests);
+}
 
-form_complete : (piece : List ℕ) → 0 < length piece → length piece ≤ 19 → (get_or piece 0 0 ≡ 48 → length piece ≡ 1) → has_bad_form piece ≡ false
-form_complete piece some few no_zero = grind (arith, nat_tests)
+form_complete : (token : List ℕ) → 0 < length token → length token ≤ 19
+    → (get_or token 0 0 ≡ 48 → length token ≡ 1) → has_bad_form token ≡ false
+form_complete token some few no_zero = grind (arith, nat_tests)
 
-pub number_sound : (piece : List ℕ) (n : ℕ) → number_at piece ≡ Some n → (piece ≡ decimal n) × (n < 10 ^ 19)
+pub number_sound : (token : List ℕ) (n : ℕ) → number_at token ≡ Some n
+    → (token ≡ decimal n) × (n < 10 ^ 19)
 unfolding number_at
-number_sound piece n e =
-    let t = else_some (has_bad_form piece) (digits_on 0 piece) n e in
-    let form = form_sound piece t.0 in
-    let spelled = digits_sound 0 n piece t.1 in
-    let below : digits_value 10 piece < 10 ^ length piece = digits_value-lt 10 piece spelled.digits in
-    let most : 10 ^ length piece ≤ 10 ^ 19 = pow-le-pow_right (omega arith) form.few in
-    let same : decimal (digits_value 10 piece) ≡ piece = decimal-digits_value own piece spelled.digits form.some form.no_zero (omega arith) in
-    let value : digits_value 10 piece ≡ n = spelled.value in
+number_sound token n e =
+    let t = else_some (has_bad_form token) (digits_on 0 token) n e in
+    let form = form_sound token t.0 in
+    let spelled = digits_sound 0 n token t.1 in
+    let below : digits_value 10 token < 10 ^ length token =
+    digits_value-lt 10 token spelled.digits in
+    let most : 10 ^ length token ≤ 10 ^ 19 = pow-le-pow_right (omega arith) form.few in
+    let same : decimal (digits_value 10 token) ≡ token =
+    decimal-digits_value own token spelled.digits form.some form.no_zero (omega arith) in
+    let value : digits_value 10 token ≡ n = spelled.value in
     (sym same ∙ ap decimal value, omega arith)
 
 no_zero_in_front : (n : ℕ) → n < 10 ^ 19 → get_or (decimal n) 0 0 ≡ 48 → length (decimal n) ≡ 1
 no_zero_in_front zero lt z = ap length (decimal_digit 0 (omega arith))
-no_zero_in_front (suc n) lt z = absurd (omega (arith, first_decimal (suc n) (omega arith) (omega arith)))
+no_zero_in_front (suc n) lt z =
+    absurd (omega (arith, first_decimal (suc n) (omega arith) (omega arith)))
 
 pub number_complete : (n : ℕ) → n < 10 ^ 19 → number_at (decimal n) ≡ Some n
 unfolding number_at
 number_complete n lt =
     let spelled = decimal_is_IsNumeral n (omega arith) in
-    let form = form_complete (decimal n) spelled.0.0 (length-decimal-le 19 n (omega arith) lt (omega arith)) (no_zero_in_front n lt) in
+    let form = form_complete (decimal n) spelled.0.0
+    (length-decimal-le 19 n (omega arith) lt (omega arith)) (no_zero_in_front n lt) in
     rw form (digits_complete 0 (decimal n) spelled.0.1 ∙ ap Some spelled.1)

@@ -7,12 +7,14 @@ use Rattle.std.proofs.Math.Nat.{pow-le-pow_right}
 use Rattle.trace_text.specs.Reading.{is_digit, digits_on}
 
 -- the step at a byte that is a digit
-pub digits_on_more : (bs : List ℕ) (n i : ℕ) → i < length bs → is_digit (get_or bs i 0) ≡ true → digits_on n (drop i bs) ≡ digits_on (10 * n + (get_or bs i 0 - 48)) (drop (i + 1) bs)
+pub digits_on_more : (bs : List ℕ) (n i : ℕ) → i < length bs → is_digit (get_or bs i 0) ≡ true
+    → digits_on n (drop i bs) ≡ digits_on (10 * n + (get_or bs i 0 - 48)) (drop (i + 1) bs)
 unfolding digits_on
 digits_on_more bs n i lt is = at_drop_more (digits_on n) bs i 0 lt ∙ rw is refl
 
 -- the step at a byte that is none
-pub digits_on_stop : (bs : List ℕ) (n i : ℕ) → i < length bs → is_digit (get_or bs i 0) ≡ false → digits_on n (drop i bs) ≡ None
+pub digits_on_stop : (bs : List ℕ) (n i : ℕ) → i < length bs → is_digit (get_or bs i 0) ≡ false
+    → digits_on n (drop i bs) ≡ None
 unfolding digits_on
 digits_on_stop bs n i lt is = at_drop_more (digits_on n) bs i 0 lt ∙ rw is refl
 

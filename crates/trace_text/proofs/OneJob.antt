@@ -54,7 +54,8 @@ command_named (commands.Same a b) = refl
 command_named (commands.Say s) = refl
 
 -- commands on equal lines are equal
-same_command : (c : Config) (x y : Command) → IsCommandInBounds c x → IsCommandInBounds c y → command_line x ≡ command_line y → x ≡ y
+same_command : (c : Config) (x y : Command) → IsCommandInBounds c x → IsCommandInBounds c y
+    → command_line x ≡ command_line y → x ≡ y
 same_command c x y p q e =
     let at_x = line_complete c 1 0 (Told x) (omega arith) (p, omega arith) refl in
     let at_y = line_complete c 1 0 (Told y) (omega arith) (q, omega arith) refl in
@@ -68,14 +69,17 @@ tail_lines t traces = traces_lines t traces ++ (codes "end" ∷ []) ∷ []
 abbrev rest_lines : ℕ → List Command → List (List Command) → List (List (List ℕ))
 rest_lines t trace traces = map command_line trace ++ tail_lines t traces
 
-no_command : (t : ℕ) (traces : List (List Command)) (x : Command) (more : List (List (List ℕ))) → tail_lines t traces ≡ command_line x ∷ more → ⊥
+no_command : (t : ℕ) (traces : List (List Command)) (x : Command) (more : List (List (List ℕ)))
+    → tail_lines t traces ≡ command_line x ∷ more → ⊥
 no_command t [] x more e =
     let head : (codes "end" ∷ []) ≡ command_line x = same_first _ _ _ _ e in
-    let tells : false ≡ true = ap (λ (ps : List (List ℕ)). commands_word (named ps)) head ∙ command_named x in
+    let tells : false ≡ true =
+    ap (λ (ps : List (List ℕ)). commands_word (named ps)) head ∙ command_named x in
     absurd cc
 no_command t (trace ∷ traces) x more e =
     let head : (codes "thread" ∷ decimal t ∷ []) ≡ command_line x = same_first _ _ _ _ e in
-    let tells : false ≡ true = ap (λ (ps : List (List ℕ)). commands_word (named ps)) head ∙ command_named x in
+    let tells : false ≡ true =
+    ap (λ (ps : List (List ℕ)). commands_word (named ps)) head ∙ command_named x in
     absurd cc
 
 abbrev AllFit : Config → List Command → Type 0
@@ -84,11 +88,15 @@ AllFit c trace = AllByRecursion (IsCommandInBounds c) trace
 abbrev AllTracesFit : Config → List (List Command) → Type 0
 AllTracesFit c traces = AllByRecursion (IsTraceInBounds c) traces
 
-same_rest : (c : Config) (t : ℕ) (traces others : List (List Command)) → (tail_lines t traces ≡ tail_lines t others → traces ≡ others)
-    → (xs ys : List Command) → AllFit c xs → AllFit c ys → rest_lines t xs traces ≡ rest_lines t ys others → (xs ≡ ys) × (traces ≡ others)
+same_rest : (c : Config) (t : ℕ) (traces others : List (List Command))
+    → (tail_lines t traces ≡ tail_lines t others → traces ≡ others)
+    → (xs ys : List Command) → AllFit c xs → AllFit c ys
+    → rest_lines t xs traces ≡ rest_lines t ys others → (xs ≡ ys) × (traces ≡ others)
 same_rest c t traces others same [] [] p q e = (refl, same e)
-same_rest c t traces others same [] (y ∷ ys) p q e = absurd (no_command t traces y (rest_lines t ys others) e)
-same_rest c t traces others same (x ∷ xs) [] p q e = absurd (no_command t others x (rest_lines t xs traces) (sym e))
+same_rest c t traces others same [] (y ∷ ys) p q e =
+    absurd (no_command t traces y (rest_lines t ys others) e)
+same_rest c t traces others same (x ∷ xs) [] p q e =
+    absurd (no_command t others x (rest_lines t xs traces) (sym e))
 same_rest c t traces others same (x ∷ xs) (y ∷ ys) p q e =
     let head : command_line x ≡ command_line y = cc in
     let rest : rest_lines t xs traces ≡ rest_lines t ys others = cc in
@@ -97,36 +105,47 @@ same_rest c t traces others same (x ∷ xs) (y ∷ ys) p q e =
     (ap (λ (z : Command). z ∷ xs) first ∙ ap (λ (zs : List Command). y ∷ zs) more.0, more.1)
 
 -- behind a thread's line stand its commands and what follows them
-parted_tail : (t : ℕ) (trace : List Command) (traces : List (List Command)) → tail_lines t (trace ∷ traces) ≡ (codes "thread" ∷ decimal t ∷ []) ∷ rest_lines (t + 1) trace traces
-parted_tail t trace traces = append_assoc (trace_lines t trace) (traces_lines (t + 1) traces) ((codes "end" ∷ []) ∷ [])
+parted_tail : (t : ℕ) (trace : List Command) (traces : List (List Command))
+    → tail_lines t (trace ∷ traces)
+    ≡ (codes "thread" ∷ decimal t ∷ []) ∷ rest_lines (t + 1) trace traces
+parted_tail t trace traces =
+    append_assoc (trace_lines t trace) (traces_lines (t + 1) traces) ((codes "end" ∷ []) ∷ [])
 
-no_more_threads : (t : ℕ) (trace : List Command) (traces : List (List Command)) → tail_lines t [] ≡ tail_lines t (trace ∷ traces) → ⊥
+no_more_threads : (t : ℕ) (trace : List Command) (traces : List (List Command))
+    → tail_lines t [] ≡ tail_lines t (trace ∷ traces) → ⊥
 no_more_threads t trace traces e =
     let head : (codes "end" ∷ []) ≡ (codes "thread" ∷ decimal t ∷ []) = same_first _ _ _ _ e in
     let tells : ◌≡◌ {A = Option Word} (Some words.End) (Some words.Thread) = ap named head in
     absurd cc
 
-same_tail : (c : Config) (t : ℕ) (traces others : List (List Command)) → AllTracesFit c traces → AllTracesFit c others → tail_lines t traces ≡ tail_lines t others → traces ≡ others
+same_tail : (c : Config) (t : ℕ) (traces others : List (List Command)) → AllTracesFit c traces
+    → AllTracesFit c others → tail_lines t traces ≡ tail_lines t others → traces ≡ others
 same_tail c t [] [] p q e = refl
 same_tail c t [] (other ∷ others) p q e = absurd (no_more_threads t other others e)
 same_tail c t (trace ∷ traces) [] p q e = absurd (no_more_threads t trace traces (sym e))
 same_tail c t (trace ∷ traces) (other ∷ others) p q e =
     let both = sym (parted_tail t trace traces) ∙ e ∙ parted_tail t other others in
     let rest : rest_lines (t + 1) trace traces ≡ rest_lines (t + 1) other others = cc both in
-    let same = same_rest c (t + 1) traces others (same_tail c (t + 1) traces others p.1 q.1) trace other p.0.commands q.0.commands rest in
-    ap (λ (z : List Command). z ∷ traces) same.0 ∙ ap (λ (zs : List (List Command)). other ∷ zs) same.1
+    let same = same_rest c (t + 1) traces others
+    (same_tail c (t + 1) traces others p.1 q.1) trace other p.0.commands q.0.commands rest in
+    ap (λ (z : List Command). z ∷ traces) same.0
+    ∙ ap (λ (zs : List (List Command)). other ∷ zs) same.1
 
 same_header : (c k : Config) → IsInBounds c → IsInBounds k → header c ≡ header k → c ≡ k
-same_header c k p q e = same_Ok c k (sym (header_complete c p) ∙ ap header_at e ∙ header_complete k q)
+same_header c k p q e = same_Ok c k
+    (sym (header_complete c p) ∙ ap header_at e ∙ header_complete k q)
 
 abbrev made : Config → List (List Command) → Job
 made c traces = record { config = c; traces = traces }
 
 pub one_job : (bytes : List ℕ) (job other : Job) → IsJob bytes job → IsJob bytes other → job ≡ other
 one_job bytes job other p q =
-    let lines : job_lines job.config job.traces ≡ job_lines other.config other.traces = sym p.lines ∙ q.lines in
+    let lines : job_lines job.config job.traces ≡ job_lines other.config other.traces =
+    sym p.lines ∙ q.lines in
     let head : header job.config ≡ header other.config = cc in
     let tail : tail_lines 0 job.traces ≡ tail_lines 0 other.traces = cc in
     let config = same_header job.config other.config p.in_bounds.config q.in_bounds.config head in
-    let traces = same_tail job.config 0 job.traces other.traces p.in_bounds.each (subst (λ (c : Config). AllTracesFit c other.traces) (sym config) q.in_bounds.each) tail in
+    let traces = same_tail job.config 0 job.traces other.traces p.in_bounds.each
+    (subst (λ (c : Config). AllTracesFit c other.traces)
+    (sym config) q.in_bounds.each) tail in
     ap (λ c. made c job.traces) config ∙ ap (made other.config) traces

@@ -32,27 +32,30 @@ word_text words.Same = codes "same"
 word_text words.Say = codes "say"
 
 -- one more text is tried
-tried : (piece text : List ℕ) (w v : Word) (more : Option Word) → word_text w ≡ text → (more ≡ Some v → piece ≡ word_text v) → cond (bytes_eq piece text) (Some w) more ≡ Some v → piece ≡ word_text v
-tried piece text w v more is otherwise e =
-    elim (cases_Bool (bytes_eq piece text)) [
-      | inl yes' ↦ (bytes_eq-Decides piece text).0 yes' ∙ sym is ∙ ap word_text (same_Some w v (subst (λ b. cond b (Some w) more ≡ Some v) yes' e))
+tried : (token text : List ℕ) (w v : Word) (more : Option Word) → word_text w ≡ text
+    → (more ≡ Some v → token ≡ word_text v) → cond (bytes_eq token text) (Some w) more ≡ Some v
+    → token ≡ word_text v
+tried token text w v more is otherwise e =
+    elim (cases_Bool (bytes_eq token text)) [
+      | inl yes' ↦ (bytes_eq-Decides token text).0 yes' ∙ sym is
+          ∙ ap word_text (same_Some w v (subst (λ b. cond b (Some w) more ≡ Some v) yes' e))
       | inr no' ↦ otherwise (subst (λ b. cond b (Some w) more ≡ Some v) no' e)
     ]
 
-pub word_sound : (piece : List ℕ) (v : Word) → word_at piece ≡ Some v → piece ≡ word_text v
-word_sound piece v e =
-    tried piece (codes "get") words.Get v _ refl
-    (tried piece (codes "put") words.Put v _ refl
-    (tried piece (codes "new") words.New v _ refl
-    (tried piece (codes "arr") words.Arr v _ refl
-    (tried piece (codes "set") words.Set v _ refl
-    (tried piece (codes "mov") words.Mov v _ refl
-    (tried piece (codes "nil") words.Nil v _ refl
-    (tried piece (codes "len") words.Len v _ refl
-    (tried piece (codes "same") words.Same v _ refl
-    (tried piece (codes "say") words.Say v _ refl
-    (tried piece (codes "thread") words.Thread v _ refl
-    (tried piece (codes "end") words.End v None refl (λ none. absurd cc))))))))))))
+pub word_sound : (token : List ℕ) (v : Word) → word_at token ≡ Some v → token ≡ word_text v
+word_sound token v e =
+    tried token (codes "get") words.Get v _ refl
+    (tried token (codes "put") words.Put v _ refl
+    (tried token (codes "new") words.New v _ refl
+    (tried token (codes "arr") words.Arr v _ refl
+    (tried token (codes "set") words.Set v _ refl
+    (tried token (codes "mov") words.Mov v _ refl
+    (tried token (codes "nil") words.Nil v _ refl
+    (tried token (codes "len") words.Len v _ refl
+    (tried token (codes "same") words.Same v _ refl
+    (tried token (codes "say") words.Say v _ refl
+    (tried token (codes "thread") words.Thread v _ refl
+    (tried token (codes "end") words.End v None refl (λ none. absurd cc))))))))))))
     e
 
 pub word_complete : (v : Word) → word_at (word_text v) ≡ Some v
@@ -71,7 +74,8 @@ word_complete words.Say = refl
 
 -- ---- how many
 
-pub count_map : {A B : Type 0} (f : A → B) (k : ℕ) (xs : List A) → count_is k (map f xs) ≡ count_is k xs
+pub count_map : {A B : Type 0} (f : A → B) (k : ℕ) (xs : List A)
+    → count_is k (map f xs) ≡ count_is k xs
 count_map f zero [] = refl
 count_map f zero (x ∷ xs) = refl
 count_map f (suc k) [] = refl
@@ -92,16 +96,21 @@ count_length (x ∷ xs) (suc k) = suc_eqb (length xs) k ∙ count_length xs k
 
 -- ---- numbers
 
-one_value : (o : Option ℕ) (ns : List ℕ) (t : Bool) (r : Result (List ℕ) Why) → r ≡ cond t (Err whys.Number) (Ok ns)
-    → (ok_or o whys.Number >>= λ n. r >>= λ ms. Ok (n ∷ ms)) ≡ cond (not (is_some o) || t) (Err whys.Number) (Ok (unwrap_or o 0 ∷ ns))
+one_value : (o : Option ℕ) (ns : List ℕ) (t : Bool) (r : Result (List ℕ) Why)
+    → r ≡ cond t (Err whys.Number) (Ok ns)
+    → (ok_or o whys.Number >>= λ n. r >>= λ ms. Ok (n ∷ ms))
+    ≡ cond (not (is_some o) || t) (Err whys.Number) (Ok (unwrap_or o 0 ∷ ns))
 one_value None ns t r e = refl
 one_value (Some n) ns true r e = rw e refl
 one_value (Some n) ns false r e = rw e refl
 
--- the values of pieces, where each is a number
-pub values_are : (ps : List (List ℕ)) → values_at ps ≡ cond (list_any (λ piece. not (is_number piece)) ps) (Err whys.Number) (Ok (map value_of ps))
+-- the values of tokens, where each is a number
+pub values_are : (ps : List (List ℕ))
+    → values_at ps ≡ cond (list_any (λ token. not (is_number token)) ps) (Err whys.Number)
+    (Ok (map value_of ps))
 values_are [] = refl
-values_are (p ∷ ps) = one_value (number_at p) (map value_of ps) (list_any (λ piece. not (is_number piece)) ps) (values_at ps) (values_are ps)
+values_are (p ∷ ps) = one_value (number_at p) (map value_of ps)
+    (list_any (λ token. not (is_number token)) ps) (values_at ps) (values_are ps)
 
 abbrev pub AreWritten : List ℕ → Type 0
 AreWritten ns = AllByRecursion (λ n. n < 10 ^ 19) ns
@@ -110,29 +119,37 @@ pub values_complete : (ns : List ℕ) → AreWritten ns → values_at (map decim
 values_complete [] w = refl
 values_complete (n ∷ ns) w = rw (number_complete n w.0, values_complete ns w.1) refl
 
-pub numbers_complete : (k : ℕ) (ns : List ℕ) → count_is k ns ≡ true → AreWritten ns → numbers_at k (map decimal ns) ≡ Ok ns
+pub numbers_complete : (k : ℕ) (ns : List ℕ) → count_is k ns ≡ true → AreWritten ns
+    → numbers_at k (map decimal ns) ≡ Ok ns
 unfolding numbers_at
 numbers_complete k ns c w = rw (count_map decimal k ns, c) (values_complete ns w)
 
 same_Ok : {A : Type 0} (x y : A) → ◌≡◌ {A = Result A Why} (Ok x) (Ok y) → x ≡ y
 same_Ok x y e = cc
 
-values_next : (o : Option ℕ) (r : Result (List ℕ) Why) (p : List ℕ) (ps : List (List ℕ)) (ns : List ℕ) → ((n : ℕ) → o ≡ Some n → p ≡ decimal n) → ((ms : List ℕ) → r ≡ Ok ms → ps ≡ map decimal ms)
+values_next : (o : Option ℕ) (r : Result (List ℕ) Why) (p : List ℕ) (ps : List (List ℕ))
+    (ns : List ℕ) → ((n : ℕ) → o ≡ Some n → p ≡ decimal n)
+    → ((ms : List ℕ) → r ≡ Ok ms → ps ≡ map decimal ms)
     → (ok_or o whys.Number >>= λ n. r >>= λ ms. Ok (n ∷ ms)) ≡ Ok ns → p ∷ ps ≡ map decimal ns
 values_next None r p ps ns first others e = absurd cc
 values_next (Some n) (Err why) p ps ns first others e = absurd cc
 values_next (Some n) (Ok ms) p ps ns first others e =
     let is : n ∷ ms ≡ ns = same_Ok (n ∷ ms) ns e in
-    ap (λ (q : List ℕ). q ∷ ps) (first n refl) ∙ ap (λ (qs : List (List ℕ)). decimal n ∷ qs) (others ms refl) ∙ ap (map decimal) is
+    ap (λ (q : List ℕ). q ∷ ps) (first n refl)
+    ∙ ap (λ (qs : List (List ℕ)). decimal n ∷ qs) (others ms refl) ∙ ap (map decimal) is
 
 pub values_sound : (ps : List (List ℕ)) (ns : List ℕ) → values_at ps ≡ Ok ns → ps ≡ map decimal ns
 values_sound [] ns e = ap (map decimal) (same_Ok [] ns e)
-values_sound (p ∷ ps) ns e = values_next (number_at p) (values_at ps) p ps ns (λ n is. (number_sound p n is).0) (λ ms is. values_sound ps ms is) e
+values_sound (p ∷ ps) ns e =
+    values_next (number_at p) (values_at ps) p ps ns (λ n is. (number_sound p n is).0)
+    (λ ms is. values_sound ps ms is) e
 
-from_count : (t : Bool) (r : Result (List ℕ) Why) (ns : List ℕ) → cond t r (Err whys.Count) ≡ Ok ns → r ≡ Ok ns
+from_count : (t : Bool) (r : Result (List ℕ) Why) (ns : List ℕ)
+    → cond t r (Err whys.Count) ≡ Ok ns → r ≡ Ok ns
 from_count true r ns e = e
 from_count false r ns e = absurd cc
 
-pub numbers_sound : (k : ℕ) (ps : List (List ℕ)) (ns : List ℕ) → numbers_at k ps ≡ Ok ns → ps ≡ map decimal ns
+pub numbers_sound : (k : ℕ) (ps : List (List ℕ)) (ns : List ℕ) → numbers_at k ps ≡ Ok ns
+    → ps ≡ map decimal ns
 unfolding numbers_at
 numbers_sound k ps ns e = values_sound ps ns (from_count (count_is k ps) (values_at ps) ns e)

@@ -14,7 +14,8 @@ pub record Adds (k : ℕ) (bytes old new : List ℕ) (left : Option (List ℕ)) 
 
 -- of what was left this front was read, and the others are left
 abbrev pub HasRead : Option (List ℕ) → List ℕ → Option (List ℕ) → Type 0
-HasRead old front new = IfSome old (λ bytes. (rest : List ℕ) × (bytes ≡ front ++ rest) × (new ≡ Some rest))
+HasRead old front new =
+    IfSome old (λ bytes. (rest : List ℕ) × (bytes ≡ front ++ rest) × (new ≡ Some rest))
 
 -- a source is blamed only where its count of faults rose; any other fault leaves the count
 abbrev pub CountsFault : TraceFault → ℕ → ℕ → Type 0
@@ -47,7 +48,8 @@ TookFew TooLong most old new = Unit {0}
 TookFew (BadLine line why) most old new = Unit {0}
 TookFew OutOfMemory most old new = TookAtMost most old new
 
--- how far a source was read: to its end for a job or a bad line, and else to the first byte too many at the furthest
+-- how far a source was read: to its end for a job or a bad line, and else to the first byte too
+-- many at the furthest
 abbrev pub StopsAt : Result Job TraceFault → Option (List ℕ) → Option (List ℕ) → Type 0
 StopsAt (Ok job) old new = IsAtEnd old new
 StopsAt (Err ReadFault) old new = Unit {0}

@@ -12,5 +12,6 @@ pub mod Reasons
 pub mod Wholes
 pub mod Inputs
 pub mod Texts
+pub mod Orders
 pub mod JobTexts
 pub mod Memories

@@ -1,7 +1,8 @@
 -- Bytes that a source gives and a sink takes. Where a stream tells nothing, nothing is said.
 use Rattle.std.specs.Prelude.{ℕ, ◌≤◌, ◌≡◌, List, [], ◌++◌, length, take, drop, Option, Some, IfSome, IsSome}
 
--- of the bytes that were left, the first k are now the first k of the piece, and the others are left
+-- of the bytes that were left, the first k are now the first k of the piece, and the others are
+-- left
 pub record GivesFirst (k : ℕ) (piece bytes : List ℕ) (left : Option (List ℕ)) : Type 0 where
   pub within : k ≤ length bytes
   pub given : take k piece ≡ take k bytes
@@ -11,9 +12,9 @@ pub record GivesFirst (k : ℕ) (piece bytes : List ℕ) (left : Option (List �
 abbrev pub Appends : Option (List ℕ) → Option (List ℕ) → List ℕ → Type 0
 Appends old new text = IfSome old (λ bytes. new ≡ Some (bytes ++ text))
 
--- the same with a front of the text
-abbrev pub AppendsFront : Option (List ℕ) → Option (List ℕ) → List ℕ → Type 0
-AppendsFront old new text = IfSome old (λ bytes. (k : ℕ) × (new ≡ Some (bytes ++ take k text)))
+-- the same with a prefix of the text
+abbrev pub AppendsPrefix : Option (List ℕ) → Option (List ℕ) → List ℕ → Type 0
+AppendsPrefix old new text = IfSome old (λ bytes. (k : ℕ) × (new ≡ Some (bytes ++ take k text)))
 
 -- the stream was read to its end
 abbrev pub IsAtEnd : Option (List ℕ) → Option (List ℕ) → Type 0

@@ -38,7 +38,8 @@ entry_line e = decimal e.thread ++ (space ∷ reply_text e.reply e.work) ++ line
 
 -- the last line: how many cycles were started and how many units were made
 abbrev pub totals_line : ℕ → ℕ → List ℕ
-totals_line cycles units = codes "end cycles " ++ decimal cycles ++ codes " work " ++ decimal units ++ line_feed ∷ []
+totals_line cycles units =
+    codes "end cycles " ++ decimal cycles ++ codes " work " ++ decimal units ++ line_feed ∷ []
 
 -- the line of the start of a cycle
 abbrev pub start_line : ℕ → List ℕ
@@ -46,7 +47,8 @@ start_line cycle = codes "start " ++ decimal cycle ++ line_feed ∷ []
 
 -- the text of a run: each thread's lines in turn, and the totals
 abbrev pub run_text : List (List Entry) → ℕ → ℕ → List ℕ
-run_text logs cycles units = flat_map (λ log. flat_map entry_line log) logs ++ totals_line cycles units
+run_text logs cycles units =
+    flat_map (λ log. flat_map entry_line log) logs ++ totals_line cycles units
 
 -- the text of a history of n threads, by threads
 abbrev pub text_by_threads : ℕ → List HistoryItem → List ℕ

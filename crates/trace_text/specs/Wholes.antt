@@ -9,7 +9,7 @@ use Rattle.trace_text.specs.declared.trace_faults.TraceFault.{TraceFault}
 use Rattle.trace_text.specs.declared.trace_faults.TraceFault.TheVariants.{ReadFault, TooLong, BadLine, OutOfMemory}
 use Rattle.trace_text.specs.declared.trace_faults.Why.{Why}
 use Rattle.trace_text.specs.Spellings.{header, command_line, traces_lines}
-use Rattle.trace_text.specs.Reading.{pieced}
+use Rattle.trace_text.specs.Reading.{tokenized}
 use Rattle.trace_text.specs.Refusals.{next_fault}
 
 -- a reader of lines refuses for a line, or because memory ran out
@@ -24,23 +24,32 @@ abbrev pub next_line : Config → ℕ → List (List ℕ)
 next_line c t = if t == c.threads then codes "end" ∷ [] else codes "thread" ∷ decimal t ∷ []
 
 -- lines are the commands of a thread, the line behind the traces of t threads, and others
-pub record IsTrace (c : Config) (t : ℕ) (lines : List (List (List ℕ))) (trace : List Command) (others : List (List (List ℕ))) : Type 0 where
+pub record IsTrace
+    (c : Config) (t : ℕ) (lines : List (List (List ℕ)))
+    (trace : List Command) (others : List (List (List ℕ)))
+    : Type 0 where
   pub text : lines ≡ map command_line trace ++ next_line c t ∷ others
   pub in_bounds : IsTraceInBounds c trace
 
 -- behind commands of thread t - 1 and `read` lines before them there is something wrong
-pub record IsBadTrace (c : Config) (t : ℕ) (lines : List (List (List ℕ))) (read line : ℕ) (why : Why) : Type 0 where
+pub record IsBadTrace
+    (c : Config) (t : ℕ) (lines : List (List (List ℕ))) (read line : ℕ) (why : Why)
+    : Type 0 where
   pub trace : List Command
   pub others : List (List (List ℕ))
   pub text : lines ≡ map command_line trace ++ others
   pub in_bounds : IsTraceInBounds c trace
   pub place : line ≡ read + length trace + 1
-  pub fault : next_fault c (record { threads = t; commands = length trace; ended = false }) others ≡ Some why
+  pub fault : next_fault c
+      (record { threads = t; commands = length trace; ended = false }) others ≡ Some why
 
 -- the lines of an input are those of a job up to the line behind these traces, and others
-pub record IsBegun (c : Config) (done : List (List Command)) (bytes : List ℕ) (read : ℕ) (others : List (List (List ℕ))) : Type 0 where
+pub record IsBegun
+    (c : Config) (done : List (List Command)) (bytes : List ℕ)
+    (read : ℕ) (others : List (List (List ℕ)))
+    : Type 0 where
   pub config : IsInBounds c
   pub threads : length done ≤ c.threads
-  pub text : pieced bytes ≡ header c ∷ (traces_lines 0 done ++ next_line c (length done) ∷ others)
+  pub text : tokenized bytes ≡ header c ∷ (traces_lines 0 done ++ next_line c (length done) ∷ others)
   pub traces : AllByRecursion (IsTraceInBounds c) done
   pub place : read ≡ length (traces_lines 0 done) + 2

@@ -7,8 +7,8 @@ use std::marker::Model;
 /// How many bytes a line may have.
 const ROOM: usize = 128;
 
-/// A line of at most 128 bytes, made from its end: more is put in front. Made so, a number's digits go to their place at
-/// once: where they end is known, and where they begin is not.
+/// A line of at most 128 bytes, made from its end: more is put in front. Made so, a number's digits
+/// go to their place at once: where they end is known, and where they begin is not.
 #[derive(Drop)]
 pub struct LineBuffer {
     bytes: [u8; ROOM],

@@ -44,7 +44,13 @@ impl MemSink {
     /// An empty sink with room for `room` bytes, which are taken here: no later call takes memory.
     /// The calls whose numbers, from 0, stand in `fail` fail.
     pub fn new(alloc: Global, room: usize, fail: Vec<u64>) -> Result<MemSink, OutOfMemory>
-        ensures { IfOk result (λ sink. sink ≡ record { held = []; room = room; fail = fail.items; calls = 0; faults = 0 }) }
+        ensures { IfOk result (λ sink. sink ≡ record {
+          held = [];
+          room = room;
+          fail = fail.items;
+          calls = 0;
+          faults = 0;
+        }) }
     {
         let bytes = Vec::with_capacity(alloc, room)?;
         Ok(MemSink {
@@ -73,7 +79,8 @@ impl Sink for MemSink {
 
     /// Takes the whole piece, unless it does not fit or the call is one that fails.
     fn put(&mut self, piece: &[u8]) -> Result<(), Failed>
-        ensures fails { IsErr result ↔ (Contains self.old.fail self.old.calls ⊎ (self.old.room < length self.old.held + length piece.now)) }
+        ensures fails { IsErr result ↔ (Contains self.old.fail self.old.calls
+            ⊎ (self.old.room < length self.old.held + length piece.now)) }
         ensures after { OnOk result (self.new ≡ with_taken self.old piece.now) }
         ensures after_fault { OnErr result (self.new ≡ with_sink_fault self.old) }
         ensures rose { OnErr result (Rose self.old.faults self.new.faults) }

@@ -44,7 +44,13 @@ impl MemSource {
     /// from 0, stand in `fail` fail. With no number there it never fails.
     pub fn new(bytes: Vec<u8>, most: usize, fail: Vec<u64>) -> MemSource
         requires { 1 ≤ most }
-        ensures { result ≡ record { left = bytes.items; most = most; fail = fail.items; calls = 0; faults = 0 } }
+        ensures { result ≡ record {
+          left = bytes.items;
+          most = most;
+          fail = fail.items;
+          calls = 0;
+          faults = 0;
+        } }
     {
         MemSource {
             bytes,
@@ -67,7 +73,8 @@ impl Source for MemSource {
     /// Gives the next bytes, unless the call is one that fails.
     fn take(&mut self, piece: &mut [u8]) -> Result<usize, Failed>
         ensures fails { IsErr result ↔ Contains self.old.fail self.old.calls }
-        ensures count { IfOk result (λ k. k ≡ min self.old.most (min (length piece.old) (length self.old.left))) }
+        ensures count { IfOk result (λ k.
+            k ≡ min self.old.most (min (length piece.old) (length self.old.left))) }
         ensures given { IfOk result (λ k. piece.new ≡ take k self.old.left ++ drop k piece.old) }
         ensures after { IfOk result (λ k. self.new ≡ with_given self.old k) }
         ensures kept { OnErr result (piece.new ≡ piece.old) }

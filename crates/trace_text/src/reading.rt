@@ -13,18 +13,18 @@ mod header;
 mod input;
 mod lines;
 mod numbers;
-mod pieces;
 #[cfg(test)]
 mod refused;
 #[cfg(test)]
 mod tests;
+mod tokens;
 mod whole;
 mod words;
 
 use crate::jobs::Job;
 pub use crate::reading::input::{INPUT_LIMIT, input_of};
 pub use crate::reading::numbers::number_of;
-pub use crate::reading::pieces::{first_line, first_piece};
+pub use crate::reading::tokens::{first_line, first_token};
 pub use crate::reading::whole::job_of;
 use crate::sources::Source;
 use crate::trace_faults::TraceFault;
@@ -43,17 +43,22 @@ pub fn read_trace<S: Source>(alloc: Global, source: &mut S) -> Result<Job, Trace
     ensures bounds { IfOk result IsJobInBounds }
 
     // Bytes that are a job are read as that job, unless the source fails or memory runs out.
-    ensures complete { IfSome (S.left source.old) (λ bytes. (job : jobs.Job) → IsInput bytes job → IsRead result job) }
+    ensures complete { IfSome (S.left source.old) (λ bytes.
+        (job : jobs.Job) → IsInput bytes job → IsRead result job) }
 
     // Too many bytes are refused as such, and only they are.
-    ensures long { IfSome (S.left source.old) (λ bytes. input_limit < length bytes → IsRefused result faults.TooLong) }
-    ensures too_long { IsErrOf result faults.TooLong → IfSome (S.left source.old) (λ bytes. input_limit < length bytes) }
+    ensures long { IfSome (S.left source.old) (λ bytes.
+        input_limit < length bytes → IsRefused result faults.TooLong) }
+    ensures too_long { IsErrOf result faults.TooLong
+        → IfSome (S.left source.old) (λ bytes. input_limit < length bytes) }
 
     // Other bytes that are no job are refused for the first line that is wrong, and only they are.
-    ensures wrong { IfSome (S.left source.old) (λ bytes. (line : ℕ) (why : whys.Why) → length bytes ≤ input_limit
+    ensures wrong { IfSome (S.left source.old) (λ bytes.
+        (line : ℕ) (why : whys.Why) → length bytes ≤ input_limit
         → IsFirstBadLine bytes line why → IsRefused result (faults.BadLine line why)) }
     ensures bad_line { (line : ℕ) (why : whys.Why) → IsErrOf result (faults.BadLine line why)
-        → IfSome (S.left source.old) (λ bytes. (length bytes ≤ input_limit) × IsFirstBadLine bytes line why) }
+        → IfSome (S.left source.old) (λ bytes.
+        (length bytes ≤ input_limit) × IsFirstBadLine bytes line why) }
 
     // How far the source was read.
     ensures stopped { StopsAt result (S.left source.old) (S.left source.new) }
@@ -72,13 +77,17 @@ pub fn read_trace<S: Source>(alloc: Global, source: &mut S) -> Result<Job, Trace
 
 /// Bytes are at most one job.
 pub fn jobs_are_one()
-    ensures { (bytes : List ℕ) (job other : jobs.Job) → IsJob bytes job → IsJob bytes other → job ≡ other }
+    ensures { (bytes : List ℕ) (job other : jobs.Job)
+        → IsJob bytes job → IsJob bytes other → job ≡ other }
 {}
 
 /// Bytes are a job, or one line is the first that is wrong, for one reason; and never both.
 pub fn inputs_are_told_apart()
-    ensures either { (bytes : List ℕ) → ((job : jobs.Job) × IsJob bytes job) ⊎ ((line : ℕ) × (why : whys.Why) × IsFirstBadLine bytes line why) }
-    ensures apart { (bytes : List ℕ) (job : jobs.Job) (line : ℕ) (why : whys.Why) → IsJob bytes job → IsFirstBadLine bytes line why → ⊥ }
-    ensures one { (bytes : List ℕ) (line other : ℕ) (why reason : whys.Why) → IsFirstBadLine bytes line why
-        → IsFirstBadLine bytes other reason → (line ≡ other) × (why ≡ reason) }
+    ensures either { (bytes : List ℕ) → ((job : jobs.Job) × IsJob bytes job)
+        ⊎ ((line : ℕ) × (why : whys.Why) × IsFirstBadLine bytes line why) }
+    ensures apart { (bytes : List ℕ) (job : jobs.Job) (line : ℕ) (why : whys.Why)
+        → IsJob bytes job → IsFirstBadLine bytes line why → ⊥ }
+    ensures one { (bytes : List ℕ) (line other : ℕ) (why reason : whys.Why)
+        → IsFirstBadLine bytes line why → IsFirstBadLine bytes other reason
+        → (line ≡ other) × (why ≡ reason) }
 {}

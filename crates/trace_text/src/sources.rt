@@ -14,12 +14,14 @@ pub trait Source {
     /// How many faults the source has counted. The count never falls, and stands still at 2^64 - 1.
     ghost faults: { Self → ℕ };
 
-    /// Reads into the front of a piece, and says how many bytes. For a piece that is not empty, 0 is
-    /// the end of the input.
+    /// Reads into the front of a piece, and says how many bytes. For a piece that is not empty, 0
+    /// is the end of the input.
     fn take(&mut self, piece: &mut [u8]) -> Result<usize, Failed>
         ensures within { IfOk result (λ k. k ≤ length piece.old) }
-        ensures given { IfOk result (λ k. IfSome (left self.old) (λ bytes. GivesFirst k piece.new bytes (left self.new))) }
-        ensures end { IfOk result (λ k. k ≡ 0 → 0 < length piece.old → IfSome (left self.old) (λ bytes. bytes ≡ [])) }
+        ensures given { IfOk result (λ k. IfSome (left self.old) (λ bytes.
+            GivesFirst k piece.new bytes (left self.new))) }
+        ensures end { IfOk result (λ k. k ≡ 0 → 0 < length piece.old
+            → IfSome (left self.old) (λ bytes. bytes ≡ [])) }
         ensures told { OnErr result (StillTells (left self.old) (left self.new)) }
         ensures rose { OnErr result (Rose (faults self.old) (faults self.new)) }
         ensures still { OnOk result (faults self.new ≡ faults self.old) };

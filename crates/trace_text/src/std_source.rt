@@ -46,8 +46,10 @@ impl<R: Read> Source for StdSource<R> {
 /// One read, which is tried again as often as it is interrupted.
 fn read_once<R: Read>(reader: &mut R, piece: &mut [u8]) -> Result<usize, Failed>
     ensures bound { ReadsAtMost result piece.new }
-    ensures ok { IfOk result (λ k. Consumes (R.remaining reader.old) (R.remaining reader.new) (take k piece.new)) }
-    ensures end { IfOk result (λ k. k ≡ 0 → 0 < length piece.old → IsAtEnd (R.remaining reader.new)) }
+    ensures ok { IfOk result (λ k.
+        Consumes (R.remaining reader.old) (R.remaining reader.new) (take k piece.new)) }
+    ensures end { IfOk result (λ k.
+        k ≡ 0 → 0 < length piece.old → IsAtEnd (R.remaining reader.new)) }
     ensures err { OnErr result (Keeps (R.remaining reader.old) (R.remaining reader.new)) }
 {
     for _ in 0..u64::MAX {

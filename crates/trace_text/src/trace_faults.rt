@@ -1,6 +1,6 @@
 //! Why no job was read.
 
-ghost use Rattle.std.specs.Prelude.{◌≡◌, Some};
+ghost use Rattle.std.specs.Prelude.{◌≡◌, ◌≤◌, Some, length};
 ghost use Rattle.trace_text.specs.declared.trace_faults.TraceFault.TheVariants as faults;
 ghost use Rattle.trace_text.specs.Reasons.{reason_text};
 
@@ -29,11 +29,13 @@ pub enum Why {
     End,
 }
 
-impl fmt::Display for Why {
-    ghost output = { λ why. Some (reason_text why) };
-
-    fn fmt<W: fmt::Write>(&self, f: &mut fmt::Formatter<W>) -> fmt::Result {
-        f.write_str(match self {
+impl Why {
+    /// The reason as it is printed, a word in lower case.
+    pub fn text(self) -> &'static str
+        ensures text { result.now ≡ reason_text self }
+        ensures short { length result.now ≤ 8 }
+    {
+        match self {
             Why::Header => "header",
             Why::Word => "word",
             Why::Number => "number",
@@ -42,7 +44,15 @@ impl fmt::Display for Why {
             Why::Size => "size",
             Why::Order => "order",
             Why::End => "end",
-        })
+        }
+    }
+}
+
+impl fmt::Display for Why {
+    ghost output = { λ why. Some (reason_text why) };
+
+    fn fmt<W: fmt::Write>(&self, f: &mut fmt::Formatter<W>) -> fmt::Result {
+        f.write_str(self.text())
     }
 }
 

@@ -14,8 +14,8 @@ pub const INPUT_LIMIT: usize = 16_777_216;
 /// How many bytes a source is asked for at most at a time.
 const PIECE_LEN: usize = 65_536;
 
-/// The bytes of a source up to its end, where there are at most `most`, which is below 2^62. Of more
-/// bytes only the first one too many is read.
+/// The bytes of a source up to its end, where there are at most `most`, which is below 2^62. Of
+/// more bytes only the first one too many is read.
 ///
 /// # Errors
 ///
@@ -26,11 +26,13 @@ pub fn input_of<S: Source>(
     most: usize,
 ) -> Result<Vec<u8>, TraceFault>
     requires { most < 2 ^ 62 }
-    ensures read { IfOk result (λ input. HasRead (S.left source.old) input.items (S.left source.new)) }
+    ensures read { IfOk result (λ input.
+        HasRead (S.left source.old) input.items (S.left source.new)) }
     ensures within { IfOk result (λ input. vec_len input ≤ most + 1) }
     ensures ended { IfOk result (λ input. vec_len input ≤ most
         → IsAtEnd (S.left source.old) (S.left source.new)) }
-    ensures few { IfErr result (λ fault. TookFew fault (most + 1) (S.left source.old) (S.left source.new)) }
+    ensures few { IfErr result (λ fault.
+        TookFew fault (most + 1) (S.left source.old) (S.left source.new)) }
     ensures cause_alone { IfErr result IsOfNoByte }
     ensures cause { MatchResult result (λ _. S.faults source.new ≡ S.faults source.old)
         (λ fault. CountsFault fault (S.faults source.old) (S.faults source.new)) }
@@ -60,7 +62,8 @@ fn take_into<S: Source>(
     ensures len { IfOk result (λ k.
         (k ≤ length piece.old) × (vec_len input.new ≡ vec_len input.old + k)) }
     ensures end { IfOk result (λ k. k ≡ 0 → IsAtEnd (S.left source.old) (S.left source.new)) }
-    ensures few { IfErr result (λ fault. TookFew fault (length piece.old) (S.left source.old) (S.left source.new)) }
+    ensures few { IfErr result (λ fault.
+        TookFew fault (length piece.old) (S.left source.old) (S.left source.new)) }
     ensures cause_alone { IfErr result IsOfNoByte }
     ensures cause { MatchResult result (λ _. S.faults source.new ≡ S.faults source.old)
         (λ fault. CountsFault fault (S.faults source.old) (S.faults source.new)) }

@@ -45,8 +45,19 @@ fn expect_job(rt: &impl Abort, job: &Job, trace: &[Command]) {
 
 #[test]
 fn a_job_is_read_in_any_pieces(rt: HostRuntime) -> Result<(), Fail> {
-    let text =
-        b"rtheap 1 threads 1 blocks 64 live 20 object 2 shared 0\nthread 0\nnew 1 2\nput 1 1 1\nget 2 1 1\nget 3 1 2\nnil 1\nsay 1\nsay 2\nget 3 1 0\nsay 0\nend\n";
+    let text = b"rtheap 1 threads 1 blocks 64 live 20 object 2 shared 0
+thread 0
+new 1 2
+put 1 1 1
+get 2 1 1
+get 3 1 2
+nil 1
+say 1
+say 2
+get 3 1 0
+say 0
+end
+";
     let trace = [
         Command::New { d: 1, fields: 2 },
         Command::Put { s: 1, i: 1, v: 1 },
@@ -89,8 +100,21 @@ fn expect_fault(
 
 #[test]
 fn all_commands_of_two_threads_are_read(rt: HostRuntime) -> Result<(), Fail> {
-    let text =
-        b"rtheap 1 threads 2 blocks 64 live 20 object 2 shared 4\nthread 0\nnew 1 6\narr 15 4\nset 1 4611686018427387903\nnil 1\nmov 1 2\nthread 1\nget 1 2 3\nput 1 2 3\nlen 1\nsame 1 2\nsay 0\nend\n";
+    let text = b"rtheap 1 threads 2 blocks 64 live 20 object 2 shared 4
+thread 0
+new 1 6
+arr 15 4
+set 1 4611686018427387903
+nil 1
+mov 1 2
+thread 1
+get 1 2 3
+put 1 2 3
+len 1
+same 1 2
+say 0
+end
+";
     let first = [
         Command::New { d: 1, fields: 6 },
         Command::Arr { d: 15, elements: 4 },
@@ -157,8 +181,12 @@ fn a_thread_has_so_many_commands(rt: HostRuntime) -> Result<(), Fail> {
 
 #[test]
 fn a_job_of_wide_blocks_is_read_and_written(rt: HostRuntime) -> Result<(), Fail> {
-    let text =
-        b"rtheap 2 threads 1 blocks 64 live 20 object 2 shared 0\nthread 0\nnew 1 14\narr 2 8\nend\n";
+    let text = b"rtheap 2 threads 1 blocks 64 live 20 object 2 shared 0
+thread 0
+new 1 14
+arr 2 8
+end
+";
     let trace = [
         Command::New { d: 1, fields: 14 },
         Command::Arr { d: 2, elements: 8 },
@@ -180,8 +208,15 @@ fn a_job_of_wide_blocks_is_read_and_written(rt: HostRuntime) -> Result<(), Fail>
 
 #[test]
 fn four_threads_are_read(rt: HostRuntime) -> Result<(), Fail> {
-    let text =
-        b"rtheap 1 threads 4 blocks 4096 live 2000 object 16 shared 16\nthread 0\nthread 1\nlen 0\nthread 2\nthread 3\nsay 0\nend\n";
+    let text = b"rtheap 1 threads 4 blocks 4096 live 2000 object 16 shared 16
+thread 0
+thread 1
+len 0
+thread 2
+thread 3
+say 0
+end
+";
     let config = Config {
         width: Width::Four,
         threads: 4,

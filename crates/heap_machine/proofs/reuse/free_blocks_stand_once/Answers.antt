@@ -1,13 +1,4 @@
-use Rattle.heap_machine.proofs.FreeBlocks.{
-  free_once,
-  free_list,
-  free_hand,
-  free_held,
-  free_one_held,
-  free_first,
-  free_in_hand,
-  free_few,
-}
+use Rattle.heap_machine.proofs.FreeBlocks.{free_once, free_list, free_hand, free_held, free_one_held, free_first, free_in_hand, free_few}
 use Rattle.heap_machine.proofs.reuse.free_blocks_stand_once.Goals as goal
 
 pub returns : goal.returns

@@ -7,10 +7,10 @@ use Rattle.heap_system.proofs.Kept.{gates_in}
 use Rattle.heap_system.proofs.laws.threads_inside_are_counted.Goals as goal
 
 pub returns-clause-count : goal.returns-clause-count
-returns-clause-count _ c traces ts r job is = sym (run_kept c traces ts r job is).gate.count
+returns-clause-count _ c r is = sym (run_kept c is.traces is.turns r is.job is.by_turns).gate.count
 
 pub returns-clause-most : goal.returns-clause-most
-returns-clause-most _ c traces ts r job is = inside_most c.threads (heap_in c r.state Phase) (gates_in c r.state) (run_kept c traces ts r job is).gate
+returns-clause-most _ c r is = inside_most c.threads (heap_in c r.state Phase) (gates_in c r.state) (run_kept c is.traces is.turns r is.job is.by_turns).gate
 
 pub returns-clause-opened : goal.returns-clause-opened
-returns-clause-opened _ c traces ts r job is = let p = (run_kept c traces ts r job is).phase in (p.opened, p.cycle, p.sweep)
+returns-clause-opened _ c r is = let p = (run_kept c is.traces is.turns r is.job is.by_turns).phase in (p.opened, p.cycle, p.sweep)

@@ -1,7 +1,7 @@
 use Rattle.std.proofs.Common.{◌≡◌, true}
-use Rattle.never_heap.proofs.Walking.{walk}
+use Rattle.never_heap.proofs.Walking.{walk_all}
 use Rattle.never_heap.proofs.run_laws.runs_are_walked.Goals as goal
 
 pub returns : goal.returns
 returns c config rate traces holds none within step h run =
-    walk config rate traces (λ past. holds past ≡ true) within step h none run
+    walk_all config rate traces (λ past. holds past ≡ true) within step h none run

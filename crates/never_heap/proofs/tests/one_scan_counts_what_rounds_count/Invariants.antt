@@ -3,4 +3,5 @@ use Rattle.never_heap.specs.Graphs.{count_of}
 use Rattle.never_heap.proofs.tests.one_scan_counts_what_rounds_count.Given as goal
 
 abbrev pub invariant-loop-command : goal.invariant-loop-command
-invariant-loop-command g l = (length l.graph.graph.mutators ≡ 1) × (count_of l.graph.graph 0 ≤ l.command-index)
+invariant-loop-command g l =
+    (length l.graph.graph.mutators ≡ 1) × (count_of l.graph.graph 0 ≤ l.command-index)

@@ -1,9 +1,10 @@
 use Rattle.std.proofs.Common.{inl, subst, sym}
 use Rattle.std.proofs.lemmas.Result.{err_from_is_err_and}
-use Rattle.trace_text.specs.declared.jobs.Job.{Job}
+use Rattle.trace_text.specs.Jobs.{Job}
 use Rattle.rate_plan.specs.Rates.{IsAdmitted}
 use Rattle.rtheap_core.specs.Exits.{IsReadAs}
 use Rattle.rtheap_core.specs.Runnable.{CanRun}
+use Rattle.rtheap_core.specs.Sides.{sides}
 use Rattle.rtheap_core.proofs.Taken.{few_taken}
 use Rattle.rtheap_core.proofs.top.ran.Goals as goal
 
@@ -15,14 +16,17 @@ returns-in_err-job-clause-refused g c =
 pub returns-in_err-run-clause-refused : goal.returns-in_err-run-clause-refused
 returns-in_err-run-clause-refused g c =
     let p = err_from_is_err_and c.from_residual-in_err-run.result c.from_residual-in_err-run.ensures.1 in
-    let few = few_taken (g.S.Source.left c.args.source.now) (g.S.Source.left c.planned_job.new.source) _ c.in_ok-job.ensures.read in
+    let few = few_taken
+    (sides g.S.Source.left g.S.Source.faults c.args.source.now c.planned_job.new.source) _ c.in_ok-job.ensures.read in
     rw (p.1, p.2) (λ words asked. (inl asked, few, c.in_ok-job.ensures.still))
 
 pub returns-clause-ran : goal.returns-clause-ran
 returns-clause-ran g c =
     let same = c.in_ok-run.ensures.job in
     record {
-      read = subst (IsReadAs (g.S.Source.left c.args.source.now) (g.S.Source.left c.planned_job.new.source)) (sym same) c.in_ok-job.ensures.read;
+      read = subst (IsReadAs
+          (sides g.S.Source.left g.S.Source.faults c.args.source.now c.planned_job.new.source))
+          (sym same) c.in_ok-job.ensures.read;
       admitted = subst (λ (j : Job). IsAdmitted j.config) (sym same) c.in_ok-job.ensures.rate.0;
       runnable = subst CanRun (sym same) (c.can_run.ensures.0 c.if-not-can_run.false);
       is_run = c.in_ok-run.ensures.run;

@@ -11,6 +11,7 @@ invariant-loop-command g l =
     let held = g.K.Sink.held in
     let faults = g.K.Sink.faults in
     record {
-      written : Appends (held l.initial.sink) (held l.sink) (flat_map (λ c. line_text (command_line c)) (take l.command-index l.trace));
+      written : Appends (held l.initial.sink) (held l.sink)
+          (flat_map (λ c. line_text (command_line c)) (take l.command-index l.trace));
       still : faults l.sink ≡ faults l.initial.sink;
     }

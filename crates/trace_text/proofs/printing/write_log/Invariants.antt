@@ -10,6 +10,7 @@ invariant-loop-entry g l =
     let held = g.K.Sink.held in
     let faults = g.K.Sink.faults in
     record {
-      written : Appends (held l.initial.sink) (held l.sink) (flat_map entry_line (take l.entry-index l.log));
+      written : Appends (held l.initial.sink) (held l.sink)
+          (flat_map entry_line (take l.entry-index l.log));
       still : faults l.sink ≡ faults l.initial.sink;
     }

@@ -10,6 +10,7 @@ invariant-loop-t g l =
     let held = g.K.Sink.held in
     let faults = g.K.Sink.faults in
     record {
-      written : Appends (held l.initial.sink) (held l.sink) (flat_map (λ log. flat_map entry_line log) (take l.t (g.R.Logs.logs l.run)));
+      written : Appends (held l.initial.sink) (held l.sink)
+          (flat_map (λ log. flat_map entry_line log) (take l.t (g.R.Logs.logs l.run)));
       still : faults l.sink ≡ faults l.initial.sink;
     }

@@ -13,5 +13,9 @@ loop-preserved g c =
             within = (let bound = w.in-Ok.ensures.bound in grind (arith, take_rest, length-drop));
             written = written_more _ _ _ c.args.piece.now c.loop.done w.in-Ok.count at.written w.in-Ok.ensures.bytes;
           })
-      | in-Err w ↦ rw w.done-is (record { within = at.within; written = kept_more _ _ _ _ at.written w.in-Err.ensures.bytes })
+      | in-Err w ↦ rw w.done-is
+          (record {
+            within = at.within;
+            written = kept_more _ _ _ _ at.written w.in-Err.ensures.bytes;
+          })
     ]

@@ -6,5 +6,6 @@ use Rattle.trace_text.proofs.std_sink.write_whole.Given as goal
 abbrev pub invariant-loop : goal.invariant-loop
 invariant-loop g l = record {
   within : l.done ≤ length l.piece;
-  written : Appends (g.W.Write.contents l.initial.writer) (g.W.Write.contents l.writer) (take l.done l.piece);
+  written : Appends (g.W.Write.contents l.initial.writer) (g.W.Write.contents l.writer)
+      (take l.done l.piece);
 }

@@ -32,4 +32,5 @@ loop-round-preserved c =
     }))
 
 pub returns : goal.returns
-returns c = last_round c.args.self.now.graph c.loop-round.marks c.loop-round._round (omega (arith, ap length c.requires)) c.loop-round.invariant
+returns c = last_round c.args.self.now.graph c.loop-round.marks c.loop-round._round
+    (omega (arith, ap length c.requires)) c.loop-round.invariant

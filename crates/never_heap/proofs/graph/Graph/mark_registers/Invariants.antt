@@ -6,4 +6,6 @@ use Rattle.never_heap.proofs.Spreading.{Grown}
 use Rattle.never_heap.proofs.graph.Graph.mark_registers.Given as goal
 
 abbrev pub invariant-loop-mutator : goal.invariant-loop-mutator
-invariant-loop-mutator l = Grown l.fn.marks l.marks (λ b. list_any (λ (m : Mutator). stands_in b m.registers) (take l.mutator-index l.mutator-items))
+invariant-loop-mutator l =
+    Grown l.fn.marks l.marks (λ b. list_any (λ (m : Mutator). stands_in b m.registers)
+    (take l.mutator-index l.mutator-items))

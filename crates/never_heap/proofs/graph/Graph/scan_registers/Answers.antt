@@ -1,4 +1,4 @@
-use Rattle.std.proofs.Common.{◌≡◌, ◌≤◌, ◌∙◌, ◌*◌, ap, sym, subst, length, true, false, List, ℕ}
+use Rattle.std.proofs.Common.{◌≡◌, ◌≤◌, ◌∙◌, ap, sym, subst, length, true, false, List}
 use Rattle.block_store.specs.declared.Name.{Name}
 use Rattle.block_store.specs.declared.Width.{Width}
 use Rattle.block_store.specs.Registers.{registers_end}
@@ -12,9 +12,15 @@ loop-mutator-init c =
     let g = c.args.self.now.graph in
     let blocks = c.register_blocks.result in
     record {
-      scanned = subst (λ (l : List Name). Scanned c.args.self.now.width g c.in_ok-no_marks.field-0 l blocks) (sym c.new.ensures.items)
+      scanned = subst
+          (λ (l : List Name). Scanned c.args.self.now.width g c.in_ok-no_marks.field-0 l blocks)
+          (sym c.new.ensures.items)
           (scanned_none c.args.self.now.width g c.in_ok-no_marks.field-0 blocks c.in_ok-no_marks.ensures.places c.in_ok-no_marks.ensures.marks
-          (c.register_blocks.ensures.value ∙ (ap (λ (w : Width). registers_end w (length c.mutators.result.now)) c.width.ensures ∙ ap (λ l. registers_end c.args.self.now.width (length l)) c.mutators.ensures.mutators))
+          (c.register_blocks.ensures.value
+          ∙ (ap (λ (w : Width). registers_end w
+          (length c.mutators.result.now)) c.width.ensures
+          ∙ ap (λ l. registers_end c.args.self.now.width
+          (length l)) c.mutators.ensures.mutators))
           (subst (λ l. length l ≤ 16) c.mutators.ensures.mutators c.mutators.ensures.few));
       registers = λ b h has. absurd (let e : false ≡ true = h in cc);
     }

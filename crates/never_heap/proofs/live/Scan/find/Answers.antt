@@ -15,6 +15,8 @@ pub returns-clause-scanned : goal.returns-clause-scanned
 returns-clause-scanned c =
     let g = c.args.graph.now.graph in
     let new = c.if-not-mark.ensures.is_new refl in
-    subst (λ (xs : List Name). Scanned c.args.graph.now.width g c.mark.new.self xs (c.args.self.now.total + c.from.result)) (sym c.in_ok-push.ensures.items)
+    subst (λ (xs : List Name). Scanned c.args.graph.now.width g c.mark.new.self xs
+    (c.args.self.now.total + c.from.result)) (sym c.in_ok-push.ensures.items)
     (scanned_more c.args.graph.now.width g c.args.self.now.marks c.mark.new.self c.args.self.now.found.items c.args.self.now.total c.args.name c.requires.scanned c.if-not-mark.ensures.marks c.if-not-mark.ensures.places
-    new.0 new.1 c.from.result c.requires.reached (c.from.ensures ∙ c.blocks_of.ensures.value) (let low = c.blocks_of.ensures.few in let same = c.from.ensures in omega arith))
+    new.0 new.1 c.from.result c.requires.reached (c.from.ensures ∙ c.blocks_of.ensures.value)
+    (let low = c.blocks_of.ensures.few in let same = c.from.ensures in omega arith))

@@ -19,6 +19,8 @@ loop-value-preserved c =
       | in_default w ↦ rw w.self-is (record {
         scanned = c.loop-value.invariant.scanned;
         finds = finds_other g old.marks mid.marks mid.marks old.found.items mid.found.items mid.found.items c.args.values.now c.loop-value.value-index c.loop-value-test.true
-            c.loop-value.invariant.finds (λ a. no_reference a (get_or c.args.values.now c.loop-value.value-index Nil) w.in_default.not-Ref);
+            c.loop-value.invariant.finds
+            (λ a. no_reference a
+            (get_or c.args.values.now c.loop-value.value-index Nil) w.in_default.not-Ref);
       })
     ]

@@ -11,5 +11,6 @@ loop-value-preserved c = elim c.match-value.branch [
       w.in-Ref.name w.mark-is_new.result c.loop-value.invariant w.in-Ref.is w.mark-is_new.ensures.marks w.mark-is_new.ensures.places w.mark-is_new.ensures.unchanged)
   | in_default w ↦ spread_as c.args.self.now _ c.match-value.self _ c.match-value.is_new _ w.self-is w.is_new-is
       (spread_other c.args.self.now c.loop-value.self c.loop-value.self c.loop-value.is_new c.args.values.now c.loop-value.value-index c.loop-value-test.true
-      c.loop-value.invariant (λ a. no_reference a (get_or c.args.values.now c.loop-value.value-index Nil) w.in_default.not-Ref))
+      c.loop-value.invariant (λ a. no_reference a
+      (get_or c.args.values.now c.loop-value.value-index Nil) w.in_default.not-Ref))
 ]

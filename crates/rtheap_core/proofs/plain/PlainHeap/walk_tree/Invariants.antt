@@ -8,5 +8,6 @@ use Rattle.rtheap_core.proofs.plain.PlainHeap.walk_tree.Given as goal
 abbrev pub invariant-loop-level : goal.invariant-loop-level
 invariant-loop-level l = record {
   block : IsBlock l.self.store.config l.block;
-  walked : l.block ≡ walk (heap_in l.self.store) l.self.last l.first (array_turn l.elements l.i) l.level;
+  walked : l.block ≡ walk (heap_in l.self.store) l.self.last l.first
+      (array_turn l.self.store.config.width l.elements l.i) l.level;
 }

@@ -6,5 +6,6 @@ use Rattle.rtheap_core.proofs.plain.objects.write_links.Given as goal
 abbrev pub invariant-loop-payload : goal.invariant-loop-payload
 invariant-loop-payload l = record {
   config : l.store.config ≡ l.initial.store.config;
-  written : AreLinksWritten (heap_in l.initial.store) (heap_in l.store) l.shape l.first l.ordinal l.payload;
+  written : AreLinksWritten l.initial.store.config.width (heap_in l.initial.store)
+      (heap_in l.store) l.shape l.first l.ordinal l.payload;
 }

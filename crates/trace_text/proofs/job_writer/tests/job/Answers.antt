@@ -26,12 +26,22 @@ unfolding tree
 empty_array = refl
 
 first_fits : AllByRecursion (IsCommandInBounds config) first
-first_fits =
-    ((omega arith, omega arith, omega arith), ((omega arith, omega arith, omega (arith, empty_array)), ((omega arith, omega arith), (omega arith, ((omega arith, omega arith), tt)))))
+first_fits = (
+  (omega arith, omega arith, omega arith),
+  (
+    (omega arith, omega arith, omega (arith, empty_array)),
+    ((omega arith, omega arith), (omega arith, ((omega arith, omega arith), tt))),
+  ),
+)
 
 second_fits : AllByRecursion (IsCommandInBounds config) second
-second_fits =
-    ((omega arith, omega arith, omega arith), ((omega arith, omega arith, omega arith), (omega arith, ((omega arith, omega arith), (omega arith, tt)))))
+second_fits = (
+  (omega arith, omega arith, omega arith),
+  (
+    (omega arith, omega arith, omega arith),
+    (omega arith, ((omega arith, omega arith), (omega arith, tt))),
+  ),
+)
 
 in_bounds : IsJobInBounds (job (first ∷ second ∷ []))
 in_bounds = record {
@@ -46,11 +56,20 @@ in_bounds = record {
     shared = omega arith;
   };
   threads = refl;
-  each = (record { few = omega arith; commands = first_fits }, (record { few = omega arith; commands = second_fits }, tt));
+  each = (
+    record { few = omega arith; commands = first_fits },
+    (record { few = omega arith; commands = second_fits }, tt),
+  );
 }
 
 pub returns : goal.returns
 returns c =
     let made : map (λ v. v.items) c.push-2.new.self.items ≡ first ∷ second ∷ [] =
-    rw (c.in_ok-push-2.ensures.items, c.in_ok-push.ensures.items, c.new-traces.ensures.items, c.in_ok-from_slice.ensures.items, c.in_ok-from_slice-2.ensures.items) refl in
+    rw (
+      c.in_ok-push-2.ensures.items,
+      c.in_ok-push.ensures.items,
+      c.new-traces.ensures.items,
+      c.in_ok-from_slice.ensures.items,
+      c.in_ok-from_slice-2.ensures.items,
+    ) refl in
     subst (λ (traces : List (List Command)). IsJobInBounds (job traces)) (sym made) in_bounds

@@ -6,16 +6,30 @@ use Rattle.trace_text.proofs.reading.numbers.value_of.Goals as goal
 
 pub returns-in_err-digit : goal.returns-in_err-digit
 returns-in_err-digit c =
-    let none = false_from_ne_true (is_digit (get_or c.args.digits.now c.loop-byte.byte-index 0)) c.in_err-digit.ensures in
-    rw c.from_residual.ensures (sym (sym c.loop-byte.invariant.whole ∙ digits_on_stop c.args.digits.now c.loop-byte.value c.loop-byte.byte-index c.loop-byte-test.true none))
+    let none = false_from_ne_true
+    (is_digit (get_or c.args.digits.now c.loop-byte.byte-index 0)) c.in_err-digit.ensures in
+    rw c.from_residual.ensures
+    (sym (sym c.loop-byte.invariant.whole
+    ∙ digits_on_stop c.args.digits.now c.loop-byte.value c.loop-byte.byte-index c.loop-byte-test.true none))
 
 pub overflow_mul-value : goal.overflow_mul-value
-overflow_mul-value c = omega (arith, more_fits c.loop-byte.value 0 c.loop-byte.byte-index c.loop-byte.invariant.small (omega arith) (omega arith))
+overflow_mul-value c = omega (
+  arith,
+  more_fits c.loop-byte.value 0 c.loop-byte.byte-index c.loop-byte.invariant.small
+      (omega arith) (omega arith),
+)
 
 pub overflow_add-value : goal.overflow_add-value
 overflow_add-value c =
-    let d = digit_below (get_or c.args.digits.now c.loop-byte.byte-index 0) c.in_ok-digit.ensures.0 in
-    omega (arith, more_fits c.loop-byte.value (get_or c.args.digits.now c.loop-byte.byte-index 0 - 48) c.loop-byte.byte-index c.loop-byte.invariant.small d (omega arith), c.from.ensures, c.in_ok-digit.ensures.1)
+    let d = digit_below
+    (get_or c.args.digits.now c.loop-byte.byte-index 0) c.in_ok-digit.ensures.0 in
+    omega (
+      arith,
+      more_fits c.loop-byte.value
+          (get_or c.args.digits.now c.loop-byte.byte-index 0 - 48) c.loop-byte.byte-index c.loop-byte.invariant.small d (omega arith),
+      c.from.ensures,
+      c.in_ok-digit.ensures.1,
+    )
 
 pub loop-byte-preserved : goal.loop-byte-preserved
 loop-byte-preserved c =
@@ -23,9 +37,11 @@ loop-byte-preserved c =
     let d = digit_below b c.in_ok-digit.ensures.0 in
     let is : c.from.result ≡ b - 48 = c.from.ensures ∙ c.in_ok-digit.ensures.1 in
     rw is record {
-      small = one_more c.loop-byte.value (b - 48) c.loop-byte.byte-index c.loop-byte.invariant.small d;
+      small = one_more c.loop-byte.value
+          (b - 48) c.loop-byte.byte-index c.loop-byte.invariant.small d;
       whole = sym (digits_on_more c.args.digits.now c.loop-byte.value c.loop-byte.byte-index c.loop-byte-test.true c.in_ok-digit.ensures.0) ∙ c.loop-byte.invariant.whole;
     }
 
 pub returns : goal.returns
-returns c = sym (digits_on_end c.args.digits.now c.loop-byte.value c.loop-byte.byte-index (omega arith)) ∙ c.loop-byte.invariant.whole
+returns c = sym (digits_on_end c.args.digits.now c.loop-byte.value c.loop-byte.byte-index
+    (omega arith)) ∙ c.loop-byte.invariant.whole

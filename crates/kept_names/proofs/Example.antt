@@ -1,0 +1,503 @@
+-- The events of the example may come one after another, and lead to the next cycle.
+use Rattle.std.proofs.Common.{◌≡◌, ◌≢◌, ℕ, zero, suc, ◌≤◌, ◌<◌, inl, inr, Bool, true, false, ◌&&◌, ltb, refl, arith, subst, sym, ap, ◌∙◌, Option, Some, None, List, [], ◌∷◌, ◌++◌, ne_eqb}
+use Rattle.std.proofs.lemmas.Bool.{and_parts, ltb-true, lt-leb}
+use Rattle.block_store.specs.declared.Config.{Config}
+use Rattle.block_store.specs.declared.Value.TheVariants.{Ref}
+use Rattle.block_store.specs.declared.Width.{Width}
+use Rattle.block_store.specs.declared.Width.TheVariants.{Four, Eight}
+use Rattle.block_store.specs.Colours.{kind, is_free, is_grey, free_word, grey_word, black_word, white_word}
+use Rattle.block_store.specs.Configs.{IsInBounds}
+use Rattle.block_store.specs.Owners.{owner_word}
+use Rattle.block_store.specs.Payloads.{target, reference_word, number_word}
+use Rattle.block_store.specs.Registers.{root_block}
+use Rattle.block_store.specs.declared.Shape.TheVariants as shapes
+use Rattle.block_store.specs.Shapes.{record_word, shape_of}
+use Rattle.block_store.proofs.ColourWords.{free-black, free-white}
+use Rattle.array_trees.specs.Levels.{tree_depth}
+use Rattle.array_trees.specs.Openings.{opening_blocks}
+use Rattle.array_trees.specs.Trees.{tree}
+use Rattle.never_heap.specs.Graphs.{register_of}
+use Rattle.never_heap.specs.Reach.{reachable}
+use Rattle.shown_graph.specs.Events.{unloaded}
+use Rattle.kept_names.specs.Building.{Build, build_blocks, IsHeldOnce}
+use Rattle.kept_names.specs.Colouring.{changed, IfRefers, IsTricolour, NotRoot}
+use Rattle.kept_names.specs.States.{KeptState}
+use Rattle.kept_names.specs.Events.{KeptEvent, apply, run, Guarded, IsAlone, IsWriting, build_at, held_at}
+use Rattle.kept_names.specs.Events.KeptEvent.{ShadeRoot}
+use Rattle.kept_names.specs.Openings.{OpeningColours}
+use Rattle.kept_names.specs.Example.{one_thread, first_colours, mark_events, build_events, start_events, command_events, some_events, array_name, record_name, example_start, example_end}
+use Rattle.kept_names.proofs.Colours.{changed_else}
+
+-- one guard after another
+infixr 5 ◌▸◌
+◌▸◌ : {A B : Type 0} → A → B → A × B
+a ▸ b = (a, b)
+
+-- one list of events after another
+guarded_on : (c : Config) (s : KeptState) (es fs : List KeptEvent) → Guarded c s es
+    → Guarded c (run c s es) fs → Guarded c s (es ++ fs)
+guarded_on c s [] fs q r = r
+guarded_on c s (e ∷ es) fs q r = (q.0, guarded_on c (apply c s e) es fs q.1 r)
+
+-- there is one thread
+only_zero : (P : ℕ → Type 0) → P 0 → (t : ℕ) → t < 1 → P t
+only_zero P here zero h = here
+only_zero P here (suc t) h = absurd (omega arith)
+
+two : (P : ℕ → Type 0) → P 0 → P 1 → (o : ℕ) → o < 2 → P o
+two P a b zero h = a
+two P a b (suc zero) h = b
+two P a b (suc (suc o)) h = absurd (omega arith)
+
+-- one builder with two blocks
+held_once : (builds : ℕ → Option Build) (b : Build) (o : ℕ) → builds 0 ≡ Some b → b.collected ≡ 2
+    → (b.held 0 ≡ b.held 1 → ⊥) → o < 2 → IsHeldOnce 1 builds 0 o (b.held o)
+held_once builds b o is all apart ol u p d un builds_it pl lo e = only_zero
+    (λ u. builds u ≡ Some d → (0 ≡ u) × (o ≡ p)) (λ f.
+    (let one : Some b ≡ Some d = sym is ∙ f in
+    let same : b ≡ d = cc in
+    let held : b.held o ≡ b.held p = e ∙ ap (λ (b : Build). b.held p) (sym same) in
+    let pl2 : p < 2 = subst (λ z. p < z) all (subst (λ (b : Build). p < b.collected) (sym same) pl)
+    in (
+      refl,
+      two (λ o. b.held o ≡ b.held p → o ≡ p)
+          (two (λ p. b.held 0 ≡ b.held p → 0 ≡ p) (λ _. refl) (λ h. absurd (apart h)) p pl2)
+          (two (λ p. b.held 1 ≡ b.held p → 1 ≡ p) (λ h. absurd (apart (sym h))) (λ _. refl) p pl2) o ol
+          held,
+    ))) u un builds_it
+
+-- colours that were written one after another, the last one first
+abbrev painted : List (ℕ × ℕ) → (ℕ → ℕ) → ℕ → ℕ
+painted [] f x = f x
+painted (w ∷ ws) f x = changed (painted ws f) w.0 w.1 x
+
+abbrev all_below : List (ℕ × ℕ) → ℕ → Bool
+all_below [] b = true
+all_below (w ∷ ws) b = ltb w.0 b && all_below ws b
+
+far : (ws : List (ℕ × ℕ)) (f : ℕ → ℕ) (b x : ℕ) → all_below ws b ≡ true → b ≤ x
+    → painted ws f x ≡ f x
+far [] f b x h le = refl
+far (w ∷ ws) f b x h le =
+    let p = and_parts (ltb w.0 b) (all_below ws b) h in
+    let low : w.0 < b = ltb-true _ _ p.0 in
+    changed_else (painted ws f) w.0 w.1 x (λ e. omega arith) ∙ far ws f b x p.1 le
+
+first_far : (W : Width) (x : ℕ) → 9 ≤ x → first_colours W x ≡ free_word 0
+first_far Four x h = rw (
+  ne_eqb x 0 (λ e. omega arith),
+  ne_eqb x 1 (λ e. omega arith),
+  lt-leb x 6
+      (omega arith),
+) refl
+first_far Eight x h = rw (
+  ne_eqb x 0 (λ e. omega arith),
+  ne_eqb x 1 (λ e. omega arith),
+  lt-leb x 4
+      (omega arith),
+) refl
+
+-- nine blocks, and those behind them
+nine : (P : ℕ → Type 0) → P 0 → P 1 → P 2 → P 3 → P 4 → P 5 → P 6 → P 7 → P 8
+    → ((x : ℕ) → 9 ≤ x → P x) → (x : ℕ) → P x
+nine P a b c d e f g h i more zero = a
+nine P a b c d e f g h i more (suc zero) = b
+nine P a b c d e f g h i more (suc (suc zero)) = c
+nine P a b c d e f g h i more (suc (suc (suc zero))) = d
+nine P a b c d e f g h i more (suc (suc (suc (suc zero)))) = e
+nine P a b c d e f g h i more (suc (suc (suc (suc (suc zero))))) = f
+nine P a b c d e f g h i more (suc (suc (suc (suc (suc (suc zero)))))) = g
+nine P a b c d e f g h i more (suc (suc (suc (suc (suc (suc (suc zero))))))) = h
+nine P a b c d e f g h i more (suc (suc (suc (suc (suc (suc (suc (suc zero)))))))) = i
+nine P a b c d e f g h i more (suc (suc (suc (suc (suc (suc (suc (suc (suc x))))))))) = more _
+    (omega arith)
+
+four : (P : ℕ → Type 0) → P 0 → P 1 → P 2 → P 3 → (j : ℕ) → j < 4 → P j
+four P a b c d zero h = a
+four P a b c d (suc zero) h = b
+four P a b c d (suc (suc zero)) h = c
+four P a b c d (suc (suc (suc zero))) h = d
+four P a b c d (suc (suc (suc (suc j)))) h = absurd (omega arith)
+
+eight : (P : ℕ → Type 0) → P 0 → P 1 → P 2 → P 3 → P 4 → P 5 → P 6 → P 7 → (j : ℕ) → j < 8 → P j
+eight P a b c d e f g h zero l = a
+eight P a b c d e f g h (suc zero) l = b
+eight P a b c d e f g h (suc (suc zero)) l = c
+eight P a b c d e f g h (suc (suc (suc zero))) l = d
+eight P a b c d e f g h (suc (suc (suc (suc zero)))) l = e
+eight P a b c d e f g h (suc (suc (suc (suc (suc zero))))) l = f
+eight P a b c d e f g h (suc (suc (suc (suc (suc (suc zero)))))) l = g
+eight P a b c d e f g h (suc (suc (suc (suc (suc (suc (suc zero))))))) l = h
+eight P a b c d e f g h (suc (suc (suc (suc (suc (suc (suc (suc j)))))))) l = absurd (omega arith)
+
+pub bounds : (W : Width) → IsInBounds (one_thread W)
+bounds W = record {
+  some_thread = omega arith;
+  threads = omega arith;
+  some_block = omega arith;
+  blocks = omega arith;
+  live = omega arith;
+  some_object = omega arith;
+  object = omega arith;
+  shared = omega arith;
+}
+
+pub room : (W : Width) → opening_blocks (one_thread W) ≤ 20
+unfolding target reference_word number_word owner_word kind grey_word free_word black_word
+    white_word tree tree_depth record_word shape_of
+room Four = omega arith
+room Eight = omega arith
+
+pub first_are : (W : Width) → OpeningColours (one_thread W) (first_colours W)
+unfolding target reference_word number_word owner_word kind grey_word free_word black_word
+    white_word tree tree_depth record_word shape_of
+first_are Four = record {
+  roots = only_zero (λ t. is_grey (first_colours Four (root_block Four t)) ≡ true) refl;
+  none = refl;
+  arrays = nine (λ x. 0 < x → x ≤ 6 → NotRoot Four 1 x → first_colours Four x ≡ white_word 1)
+      (λ h. absurd (omega arith)) (λ h l r. absurd (r 0 (omega arith) refl)) (λ h l r. refl)
+      (λ h l r. refl) (λ h l r. refl) (λ h l r. refl) (λ h l r. refl) (λ h l. absurd (omega arith))
+      (λ h l. absurd (omega arith)) (λ x m h l. absurd (omega arith));
+  others = nine (λ x. 6 < x → is_free (first_colours Four x) ≡ true) (λ h. refl)
+      (λ h. absurd (omega arith)) (λ h. absurd (omega arith)) (λ h. absurd (omega arith))
+      (λ h. absurd (omega arith)) (λ h. absurd (omega arith)) (λ h. absurd (omega arith))
+      (λ h. refl) (λ h. refl) (λ x m h. ap is_free (first_far Four x m));
+}
+first_are Eight = record {
+  roots = only_zero (λ t. is_grey (first_colours Eight (root_block Eight t)) ≡ true) refl;
+  none = refl;
+  arrays = nine (λ x. 0 < x → x ≤ 4 → NotRoot Eight 1 x → first_colours Eight x ≡ white_word 1)
+      (λ h. absurd (omega arith)) (λ h l r. absurd (r 0 (omega arith) refl)) (λ h l r. refl)
+      (λ h l r. refl) (λ h l r. refl) (λ h l. absurd (omega arith)) (λ h l. absurd (omega arith))
+      (λ h l. absurd (omega arith)) (λ h l. absurd (omega arith)) (λ x m h l. absurd (omega arith));
+  others = nine (λ x. 4 < x → is_free (first_colours Eight x) ≡ true) (λ h. refl)
+      (λ h. absurd (omega arith)) (λ h. absurd (omega arith)) (λ h. absurd (omega arith))
+      (λ h. absurd (omega arith)) (λ h. refl) (λ h. refl) (λ h. refl) (λ h. refl)
+      (λ x m h. ap is_free (first_far Eight x m));
+}
+
+abbrev marked : Width → KeptState
+marked W = run (one_thread W) (example_start W) (mark_events W)
+
+marking : (W : Width) → Guarded (one_thread W) (example_start W) (mark_events W)
+unfolding target reference_word number_word owner_word kind grey_word free_word black_word
+    white_word tree tree_depth record_word shape_of
+marking Four =
+    ((omega arith, omega arith, refl, tt), (omega arith, refl, inl refl), refl, refl)
+    ▸ (refl, refl, omega arith)
+    ▸ (refl, omega arith, (λ e. omega arith), refl)
+    ▸ (refl, refl, omega arith)
+    ▸ (refl, omega arith, (λ e. omega arith), refl)
+    ▸ (refl, refl, omega arith)
+    ▸ (refl, omega arith, (λ e. omega arith), refl)
+    ▸ (refl, refl, omega arith)
+    ▸ (refl, omega arith, (λ e. omega arith), refl)
+    ▸ (refl, refl)
+    ▸ (refl, refl)
+    ▸ (refl, refl)
+    ▸ (refl, refl)
+    ▸ (refl, refl)
+    ▸ tt
+marking Eight =
+    ((omega arith, omega arith, refl, tt), (omega arith, refl, inl refl), refl, refl)
+    ▸ (refl, refl, omega arith)
+    ▸ (refl, omega arith, (λ e. omega arith), refl)
+    ▸ (refl, refl, omega arith)
+    ▸ (refl, omega arith, (λ e. omega arith), refl)
+    ▸ (refl, refl)
+    ▸ (refl, refl)
+    ▸ (refl, refl)
+    ▸ tt
+
+abbrev marks : Width → List (ℕ × ℕ)
+marks Four = (5, black_word 1) ∷ (4, black_word 1) ∷ (3, black_word 1) ∷ (2, black_word 1) ∷
+    (1, black_word 1) ∷ (5, grey_word 0) ∷ (4, grey_word 0) ∷ (3, grey_word 0) ∷
+    (2, grey_word 0) ∷ []
+marks Eight = (3, black_word 1) ∷ (2, black_word 1) ∷ (1, black_word 1) ∷ (3, grey_word 0) ∷
+    (2, grey_word 0) ∷ []
+
+marked_far : (W : Width) (x : ℕ) → 9 ≤ x → (marked W).colour x ≡ free_word 0
+unfolding target reference_word number_word owner_word kind grey_word free_word black_word
+    white_word tree tree_depth record_word shape_of
+marked_far Four x m = far (marks Four) (first_colours Four) 9 x refl m ∙ first_far Four x m
+marked_far Eight x m = far (marks Eight) (first_colours Eight) 9 x refl m ∙ first_far Eight x m
+
+none_grey : (W : Width) (x : ℕ) → is_grey ((marked W).colour x) ≡ false
+unfolding target reference_word number_word owner_word kind grey_word free_word black_word
+    white_word tree tree_depth record_word shape_of
+none_grey Four = nine (λ x. is_grey ((marked Four).colour x) ≡ false) refl refl refl refl refl refl
+    refl refl refl (λ x m. ap is_grey (marked_far Four x m))
+none_grey Eight = nine (λ x. is_grey ((marked Eight).colour x) ≡ false) refl refl refl refl refl
+    refl refl refl refl (λ x m. ap is_grey (marked_far Eight x m))
+
+tricolour : (W : Width) → IsTricolour W 1 (marked W).colour (marked W).seen.words.payload
+unfolding target reference_word number_word owner_word kind grey_word free_word black_word
+    white_word tree tree_depth record_word shape_of
+tricolour Four x j = nine (λ x. (j : ℕ) → (marked Four).colour x ≡ black_word 1 → j < 4
+    → IfRefers (λ y. (marked Four).colour y ≢ white_word 1) ((marked Four).seen.words.payload x j))
+    (λ j b. absurd (omega (arith, b)))
+    (λ j b jl. four (λ j. IfRefers (λ y. (marked Four).colour y ≢ white_word 1)
+    ((marked Four).seen.words.payload 1 j)) (λ some e. absurd (omega (arith, e)))
+    (λ some e. absurd (omega (arith, e))) (λ some e. absurd (omega (arith, e)))
+    (λ some e. absurd (omega (arith, e))) j jl)
+    (λ j b jl. four (λ j. IfRefers (λ y. (marked Four).colour y ≢ white_word 1)
+    ((marked Four).seen.words.payload 2 j)) (λ some. absurd (some refl))
+    (λ some. absurd (some refl)) (λ some. absurd (some refl)) (λ some. absurd (some refl)) j jl)
+    (λ j b jl. four (λ j. IfRefers (λ y. (marked Four).colour y ≢ white_word 1)
+    ((marked Four).seen.words.payload 3 j)) (λ some. absurd (some refl))
+    (λ some. absurd (some refl)) (λ some. absurd (some refl)) (λ some. absurd (some refl)) j jl)
+    (λ j b jl. four (λ j. IfRefers (λ y. (marked Four).colour y ≢ white_word 1)
+    ((marked Four).seen.words.payload 4 j)) (λ some. absurd (some refl))
+    (λ some. absurd (some refl)) (λ some. absurd (some refl)) (λ some. absurd (some refl)) j jl)
+    (λ j b jl. four (λ j. IfRefers (λ y. (marked Four).colour y ≢ white_word 1)
+    ((marked Four).seen.words.payload 5 j)) (λ some. absurd (some refl))
+    (λ some. absurd (some refl)) (λ some. absurd (some refl)) (λ some. absurd (some refl)) j jl)
+    (λ j b. absurd (omega (arith, b)))
+    (λ j b. absurd (omega (arith, b)))
+    (λ j b. absurd (omega (arith, b)))
+    (λ x m j b. absurd (free-black 0 1 (sym (marked_far Four x m) ∙ b))) x j
+tricolour Eight x j = nine (λ x. (j : ℕ) → (marked Eight).colour x ≡ black_word 1 → j < 8
+    → IfRefers (λ y. (marked Eight).colour y ≢ white_word 1)
+    ((marked Eight).seen.words.payload x j))
+    (λ j b. absurd (omega (arith, b)))
+    (λ j b jl. eight (λ j. IfRefers (λ y. (marked Eight).colour y ≢ white_word 1)
+    ((marked Eight).seen.words.payload 1 j)) (λ some e. absurd (omega (arith, e)))
+    (λ some e. absurd (omega (arith, e))) (λ some. absurd (some refl))
+    (λ some. absurd (some refl)) (λ some. absurd (some refl)) (λ some. absurd (some refl))
+    (λ some. absurd (some refl)) (λ some. absurd (some refl)) j jl)
+    (λ j b jl. eight (λ j. IfRefers (λ y. (marked Eight).colour y ≢ white_word 1)
+    ((marked Eight).seen.words.payload 2 j)) (λ some. absurd (some refl))
+    (λ some. absurd (some refl)) (λ some. absurd (some refl)) (λ some. absurd (some refl))
+    (λ some. absurd (some refl)) (λ some. absurd (some refl)) (λ some. absurd (some refl))
+    (λ some. absurd (some refl)) j jl)
+    (λ j b jl. eight (λ j. IfRefers (λ y. (marked Eight).colour y ≢ white_word 1)
+    ((marked Eight).seen.words.payload 3 j)) (λ some. absurd (some refl))
+    (λ some. absurd (some refl)) (λ some. absurd (some refl)) (λ some. absurd (some refl))
+    (λ some. absurd (some refl)) (λ some. absurd (some refl)) (λ some. absurd (some refl))
+    (λ some. absurd (some refl)) j jl)
+    (λ j b. absurd (omega (arith, b)))
+    (λ j b. absurd (omega (arith, b)))
+    (λ j b. absurd (omega (arith, b)))
+    (λ j b. absurd (omega (arith, b)))
+    (λ j b. absurd (omega (arith, b)))
+    (λ x m j b. absurd (free-black 0 1 (sym (marked_far Eight x m) ∙ b))) x j
+
+alone_first : (W : Width) → IsAlone (one_thread W) (marked W)
+alone_first Four = record {
+  loads = only_zero (λ t. (marked Four).seen.loads t ≡ unloaded) refl;
+  scans = only_zero (λ t. (marked Four).scans t ≡ 0) refl;
+  builds = only_zero (λ t. (marked Four).builds t ≡ None) refl;
+}
+alone_first Eight = record {
+  loads = only_zero (λ t. (marked Eight).seen.loads t ≡ unloaded) refl;
+  scans = only_zero (λ t. (marked Eight).scans t ≡ 0) refl;
+  builds = only_zero (λ t. (marked Eight).builds t ≡ None) refl;
+}
+
+-- a word of the record is next
+writing : (W : Width) (s : KeptState) (o words : ℕ) → s.builds 0 ≡ Some (build_at s 0)
+    → (build_at s 0).collected ≡ 2 → build_blocks W (build_at s 0) ≡ 2
+    → (held_at s 0 0 ≡ held_at s 0 1 → ⊥)
+    → suc o ≡ (build_at s 0).left → (build_at s 0).step ≡ words → o < 2
+    → IsWriting (one_thread W) s 0 o words
+writing W s o words is all blocks apart next step ol = record {
+  building = (omega arith, is);
+  all = all ∙ sym blocks;
+  next = next;
+  step = step;
+  once = held_once s.builds (build_at s 0) o is all apart ol;
+}
+
+building : (W : Width) → Guarded (one_thread W) (marked W) (build_events W)
+unfolding target reference_word number_word owner_word kind grey_word free_word black_word
+    white_word tree tree_depth record_word shape_of
+building Four =
+    (refl, alone_first Four, none_grey Four, tricolour Four)
+    ▸ (refl, refl)
+    ▸ (omega arith, refl, omega arith, omega arith)
+    ▸ ((omega arith, refl), omega arith, (omega arith, omega arith, refl))
+    ▸ ((omega arith, refl), omega arith, (omega arith, omega arith, refl))
+    ▸ writing Four _ 1 0 refl refl refl (λ e. omega arith) refl refl (omega arith)
+    ▸ writing Four _ 1 1 refl refl refl (λ e. omega arith) refl refl (omega arith)
+    ▸ (writing Four _ 1 2 refl refl refl (λ e. omega arith) refl refl (omega arith), omega arith)
+    ▸ (writing Four _ 1 3 refl refl refl (λ e. omega arith) refl refl (omega arith), omega arith)
+    ▸ (writing Four _ 1 4 refl refl refl (λ e. omega arith) refl refl (omega arith), omega arith)
+    ▸ (writing Four _ 1 5 refl refl refl (λ e. omega arith) refl refl (omega arith), omega arith)
+    ▸ writing Four _ 1 6 refl refl refl (λ e. omega arith) refl refl (omega arith)
+    ▸ writing Four _ 0 0 refl refl refl (λ e. omega arith) refl refl (omega arith)
+    ▸ writing Four _ 0 1 refl refl refl (λ e. omega arith) refl refl (omega arith)
+    ▸ (writing Four _ 0 2 refl refl refl (λ e. omega arith) refl refl (omega arith), omega arith)
+    ▸ (writing Four _ 0 3 refl refl refl (λ e. omega arith) refl refl (omega arith), omega arith)
+    ▸ (writing Four _ 0 4 refl refl refl (λ e. omega arith) refl refl (omega arith), omega arith)
+    ▸ (writing Four _ 0 5 refl refl refl (λ e. omega arith) refl refl (omega arith), omega arith)
+    ▸ writing Four _ 0 6 refl refl refl (λ e. omega arith) refl refl (omega arith)
+    ▸ ((omega arith, refl), refl, refl, omega arith, refl)
+    ▸ tt
+building Eight =
+    (refl, alone_first Eight, none_grey Eight, tricolour Eight)
+    ▸ (refl, refl)
+    ▸ (omega arith, refl, omega arith, omega arith)
+    ▸ ((omega arith, refl), omega arith, (omega arith, omega arith, refl))
+    ▸ ((omega arith, refl), omega arith, (omega arith, omega arith, refl))
+    ▸ writing Eight _ 1 0 refl refl refl (λ e. omega arith) refl refl (omega arith)
+    ▸ writing Eight _ 1 1 refl refl refl (λ e. omega arith) refl refl (omega arith)
+    ▸ (writing Eight _ 1 2 refl refl refl (λ e. omega arith) refl refl (omega arith), omega arith)
+    ▸ (writing Eight _ 1 3 refl refl refl (λ e. omega arith) refl refl (omega arith), omega arith)
+    ▸ (writing Eight _ 1 4 refl refl refl (λ e. omega arith) refl refl (omega arith), omega arith)
+    ▸ (writing Eight _ 1 5 refl refl refl (λ e. omega arith) refl refl (omega arith), omega arith)
+    ▸ (writing Eight _ 1 6 refl refl refl (λ e. omega arith) refl refl (omega arith), omega arith)
+    ▸ (writing Eight _ 1 7 refl refl refl (λ e. omega arith) refl refl (omega arith), omega arith)
+    ▸ (writing Eight _ 1 8 refl refl refl (λ e. omega arith) refl refl (omega arith), omega arith)
+    ▸ (writing Eight _ 1 9 refl refl refl (λ e. omega arith) refl refl (omega arith), omega arith)
+    ▸ writing Eight _ 1 10 refl refl refl (λ e. omega arith) refl refl (omega arith)
+    ▸ writing Eight _ 0 0 refl refl refl (λ e. omega arith) refl refl (omega arith)
+    ▸ writing Eight _ 0 1 refl refl refl (λ e. omega arith) refl refl (omega arith)
+    ▸ (writing Eight _ 0 2 refl refl refl (λ e. omega arith) refl refl (omega arith), omega arith)
+    ▸ (writing Eight _ 0 3 refl refl refl (λ e. omega arith) refl refl (omega arith), omega arith)
+    ▸ (writing Eight _ 0 4 refl refl refl (λ e. omega arith) refl refl (omega arith), omega arith)
+    ▸ (writing Eight _ 0 5 refl refl refl (λ e. omega arith) refl refl (omega arith), omega arith)
+    ▸ (writing Eight _ 0 6 refl refl refl (λ e. omega arith) refl refl (omega arith), omega arith)
+    ▸ (writing Eight _ 0 7 refl refl refl (λ e. omega arith) refl refl (omega arith), omega arith)
+    ▸ (writing Eight _ 0 8 refl refl refl (λ e. omega arith) refl refl (omega arith), omega arith)
+    ▸ (writing Eight _ 0 9 refl refl refl (λ e. omega arith) refl refl (omega arith), omega arith)
+    ▸ writing Eight _ 0 10 refl refl refl (λ e. omega arith) refl refl (omega arith)
+    ▸ ((omega arith, refl), refl, refl, omega arith, refl)
+    ▸ tt
+
+abbrev built : Width → KeptState
+built W = run (one_thread W) (marked W) (build_events W)
+
+-- the root is shaded
+abbrev shaded : Width → KeptState
+shaded W = apply (one_thread W) (built W) (ShadeRoot 0 0)
+
+abbrev built_marks : Width → List (ℕ × ℕ)
+built_marks Four = (1, grey_word 0) ∷ (6, black_word 1) ∷ (7, black_word 1) ∷ (6, free_word 0) ∷
+    (5, black_word 1) ∷ (4, black_word 1) ∷ (3, black_word 1) ∷ (2, black_word 1) ∷
+    (1, black_word 1) ∷ (5, grey_word 0) ∷ (4, grey_word 0) ∷ (3, grey_word 0) ∷
+    (2, grey_word 0) ∷ []
+built_marks Eight = (1, grey_word 0) ∷ (4, black_word 1) ∷ (5, black_word 1) ∷ (4, free_word 0) ∷
+    (3, black_word 1) ∷ (2, black_word 1) ∷ (1, black_word 1) ∷ (3, grey_word 0) ∷
+    (2, grey_word 0) ∷ []
+
+shaded_far : (W : Width) (x : ℕ) → 9 ≤ x → (shaded W).colour x ≡ free_word 0
+unfolding target reference_word number_word owner_word kind grey_word free_word black_word
+    white_word tree tree_depth record_word shape_of
+shaded_far Four x m = far (built_marks Four) (first_colours Four) 9 x refl m ∙ first_far Four x m
+shaded_far Eight x m = far (built_marks Eight) (first_colours Eight) 9 x refl m
+    ∙ first_far Eight x m
+
+none_white : (W : Width) (x : ℕ) → (shaded W).colour x ≢ white_word 1
+unfolding target reference_word number_word owner_word kind grey_word free_word black_word
+    white_word tree tree_depth record_word shape_of
+none_white Four = nine (λ x. (shaded Four).colour x ≢ white_word 1) (λ e. omega (arith, e))
+    (λ e. omega (arith, e)) (λ e. omega (arith, e)) (λ e. omega (arith, e)) (λ e. omega (arith, e))
+    (λ e. omega (arith, e)) (λ e. omega (arith, e)) (λ e. omega (arith, e)) (λ e. omega (arith, e))
+    (λ x m e. free-white 0 1 (sym (shaded_far Four x m) ∙ e))
+none_white Eight = nine (λ x. (shaded Eight).colour x ≢ white_word 1) (λ e. omega (arith, e))
+    (λ e. omega (arith, e)) (λ e. omega (arith, e)) (λ e. omega (arith, e)) (λ e. omega (arith, e))
+    (λ e. omega (arith, e)) (λ e. omega (arith, e)) (λ e. omega (arith, e)) (λ e. omega (arith, e))
+    (λ x m e. free-white 0 1 (sym (shaded_far Eight x m) ∙ e))
+
+alone_last : (W : Width) → IsAlone (one_thread W) (shaded W)
+alone_last Four = record {
+  loads = only_zero (λ t. (shaded Four).seen.loads t ≡ unloaded) refl;
+  scans = only_zero (λ t. (shaded Four).scans t ≡ 0) refl;
+  builds = only_zero (λ t. (shaded Four).builds t ≡ None) refl;
+}
+alone_last Eight = record {
+  loads = only_zero (λ t. (shaded Eight).seen.loads t ≡ unloaded) refl;
+  scans = only_zero (λ t. (shaded Eight).scans t ≡ 0) refl;
+  builds = only_zero (λ t. (shaded Eight).builds t ≡ None) refl;
+}
+
+starting : (W : Width) → Guarded (one_thread W) (built W) start_events
+starting Four = (refl, omega arith) ▸ (
+  refl,
+  alone_last Four,
+  none_white Four,
+  only_zero
+      (λ t. (shaded Four).shaded t ≡ true) refl,
+) ▸ tt
+starting Eight = (refl, omega arith) ▸ (
+  refl,
+  alone_last Eight,
+  none_white Eight,
+  only_zero
+      (λ t. (shaded Eight).shaded t ≡ true) refl,
+) ▸ tt
+
+commanding : (W : Width) → Guarded (one_thread W) (run (one_thread W) (built W) start_events)
+    (command_events W)
+unfolding target reference_word number_word owner_word kind grey_word free_word black_word
+    white_word tree tree_depth record_word shape_of
+commanding Four =
+    ((omega arith, omega arith, refl), refl)
+    ▸ (refl, omega arith, refl, (λ e. omega arith), refl)
+    ▸ ((omega arith, omega arith, refl, refl), (omega arith, refl, inl refl), refl, refl)
+    ▸ ((omega arith, omega arith, refl, (λ e. omega arith)), refl)
+    ▸ ((omega arith, refl, refl), refl)
+    ▸ (
+      (
+        omega arith,
+        omega arith,
+        refl,
+        record
+            { object = refl; refers = refl; shape = shapes.List 4; read = refl; field = refl },
+      ),
+      (omega arith, refl, inl refl),
+      refl,
+      refl,
+    )
+    ▸ ((omega arith, refl, refl), refl)
+    ▸ ((omega arith, refl, inl refl), refl)
+    ▸ ((omega arith, refl, inr (refl, refl)), refl)
+    ▸ tt
+commanding Eight =
+    ((omega arith, omega arith, refl), refl)
+    ▸ (refl, omega arith, refl, (λ e. omega arith), refl)
+    ▸ ((omega arith, omega arith, refl, refl), (omega arith, refl, inl refl), refl, refl)
+    ▸ ((omega arith, omega arith, refl, (λ e. omega arith)), refl)
+    ▸ ((omega arith, refl, refl), refl)
+    ▸ (
+      (
+        omega arith,
+        omega arith,
+        refl,
+        record
+            { object = refl; refers = refl; shape = shapes.List 8; read = refl; field = refl },
+      ),
+      (omega arith, refl, inl refl),
+      refl,
+      refl,
+    )
+    ▸ ((omega arith, refl, refl), refl)
+    ▸ ((omega arith, refl, inl refl), refl)
+    ▸ ((omega arith, refl, inr (refl, refl)), refl)
+    ▸ tt
+
+pub example_runs : (W : Width) → Guarded (one_thread W) (example_start W) (some_events W)
+example_runs W = guarded_on (one_thread W) (example_start W) (mark_events W)
+    (build_events W ++ (start_events ++ command_events W)) (marking W)
+    (guarded_on (one_thread W) (marked W) (build_events W) (start_events ++ command_events W)
+    (building W)
+    (guarded_on (one_thread W) (built W) start_events (command_events W) (starting W)
+    (commanding W)))
+
+pub example_cycle : (W : Width) → (example_end W).cycle ≡ 2
+example_cycle Four = refl
+example_cycle Eight = refl
+
+pub example_refers : (W : Width) → register_of (example_end W).seen.graph 0 1 ≡ Ref record_name
+example_refers Four = refl
+example_refers Eight = refl
+
+pub example_keeps : (W : Width) → (example_end W).kept record_name ≡ true
+unfolding reachable
+example_keeps Four = refl
+example_keeps Eight = refl
+
+pub example_loses : (W : Width) → (example_end W).kept array_name ≡ false
+unfolding reachable
+example_loses Four = refl
+example_loses Eight = refl

@@ -1,0 +1,16 @@
+pub mod Referring
+pub mod Colours
+pub mod Holding
+pub mod Building
+pub mod Standing
+pub mod Painting
+pub mod Closing
+pub mod Turning
+pub mod Older
+pub mod Commands
+pub mod Builders
+pub mod Publishing
+pub mod Steps
+pub mod Opening
+pub mod Showing
+pub mod Example

@@ -1,0 +1,45 @@
+//! Checks a printed order of a job against a heap that never frees, and says whether it is
+//! accepted.
+#![tactic(auto)]
+
+use rt_check::check;
+use std::alloc::AllocError;
+use std::env;
+use std::io::ErrorKind;
+use std::process::ExitCode;
+use std::rt::Env;
+use trace_text::{Sink, StdSink, StdSource};
+
+/// The status of a writing that failed, and that of want of memory.
+const WRITE_FAULT: u8 = 6;
+
+const NO_MEMORY: u8 = 7;
+
+fn main(rt: HostRuntime) -> ExitCode {
+    ExitCode::from(run(&rt).unwrap_or_else(|_| without_memory(&rt)))
+}
+
+/// Tells that memory ran out before anything was done.
+fn without_memory(rt: &HostRuntime) -> u8 {
+    match StdSink::new(rt.stdout()).put(b"rt_check: no memory\n") {
+        Ok(()) => NO_MEMORY,
+        Err(_) => WRITE_FAULT,
+    }
+}
+
+/// Checks what stands in standard input, and says with which status the program ends.
+fn run(rt: &HostRuntime) -> Result<u8, AllocError> {
+    let words = words_of(rt)?;
+    let mut source = StdSource::new(rt.stdin());
+    let mut sink = StdSink::new(rt.stdout());
+    Ok(check(rt.alloc(), &words, &mut source, &mut sink).status)
+}
+
+/// The words behind the program's name. Words of which one is no text are words too, and refused.
+fn words_of(rt: &HostRuntime) -> Result<Vec<String>, AllocError> {
+    match env::args(rt) {
+        Ok(args) => args.skip(1).collect(rt.alloc()),
+        Err(e) if e.kind() == ErrorKind::OutOfMemory => Err(AllocError),
+        Err(_) => vec![in rt.alloc(); String::new(rt.alloc())].map_err(|_| AllocError),
+    }
+}

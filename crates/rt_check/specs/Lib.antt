@@ -1,0 +1,4 @@
+pub mod Good
+pub mod Inputs
+pub mod Answers
+pub mod Standing

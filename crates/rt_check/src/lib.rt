@@ -1,0 +1,15 @@
+//! A checker of printed orders: whether the lines of an order are those of a run of a job.
+#![tactic(auto)]
+
+mod follower;
+mod input;
+mod laws;
+mod lines;
+mod refusal;
+#[cfg(test)]
+mod tests;
+mod top;
+
+pub use laws::{answers_are_one, good_orders_are_runs};
+pub use refusal::Refusal;
+pub use top::{CheckExit, check};
