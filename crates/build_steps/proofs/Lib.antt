@@ -6,6 +6,7 @@ pub mod Keeping
 pub mod Standing
 pub mod Publishing
 pub mod Marking
+pub mod Together
 pub mod Once
 pub mod Ends
 pub mod Zeros

@@ -27,10 +27,10 @@ use Rattle.std.proofs.lemmas.Bool.{cases_Bool}
 use Rattle.block_store.specs.declared.Width.{Width}
 use Rattle.block_store.specs.Widths.{payloads}
 use Rattle.object_lists.specs.Parts.{Part, Link, Field, Blank, link_in, field_below}
-use Rattle.object_lists.specs.Records.{record_part, list_part, room, record_blocks, record_spot}
+use Rattle.object_lists.specs.Records.{record_part, list_part, room, record_blocks, record_slot}
 use Rattle.object_lists.specs.Layouts.{IsLayout}
 use Rattle.object_lists.proofs.Lists.{record_layout}
-use Rattle.array_trees.specs.Levels.{array_part, array_spot}
+use Rattle.array_trees.specs.Levels.{array_part, array_slot}
 use Rattle.array_trees.specs.Trees.{array_blocks}
 use Rattle.array_trees.proofs.Arrays.{tree_layout}
 use Rattle.array_trees.proofs.Counts.{many}
@@ -60,7 +60,7 @@ is_link (Field i) q e = absurd (let z : None ≡ Some q = e in cc)
 is_link Blank q e = absurd (let z : None ≡ Some q = e in cc)
 
 array_layout : (w : Width) (e : ℕ)
-    → IsLayout (payloads w) e (array_blocks w e) (array_part w e) (array_spot w e)
+    → IsLayout (payloads w) e (array_blocks w e) (array_part w e) (array_slot w e)
 array_layout w e = tree_layout (payloads w) e (many w)
 
 -- links go to larger ordinals

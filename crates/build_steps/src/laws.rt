@@ -20,6 +20,7 @@ ghost use Rattle.heap_machine.specs.Solid.{SolidKept};
 ghost use Rattle.heap_machine.specs.Holdings.{Holding, holds_nothing, grey_held, tricolour_held};
 ghost use Rattle.heap_machine.specs.Operations.{place_of, heap_after, Fits};
 ghost use Rattle.heap_machine.specs.Readings.{StoresHeld};
+ghost use Rattle.heap_machine.specs.PhaseKept.{PhaseKept};
 ghost use Rattle.heap_machine.specs.ReuseKept.{ReuseKept};
 ghost use Rattle.build_steps.specs.Rows.{BuildState, built_at, built_payload, made_place, build_want, build_got, build_step, build_over, build_reply, build_holding, building, full_cycle};
 ghost use Rattle.build_steps.specs.Fits.{BuildFits, BuildReads};
@@ -137,6 +138,19 @@ pub fn rows_keep_marking()
     ensures holds_no_grey { (s : BuildState) → grey_held (build_holding s) ≡ no_grey }
     ensures holds_no_tricolour { (s : BuildState)
         → tricolour_held (build_holding s) ≡ no_tricolour }
+{}
+
+/// Each event keeps all rules of the heap at once, while the other threads hold what they held, what
+/// the part has written stands, and the cycle is the part's. No event writes the phase.
+pub fn rows_keep_the_heap()
+    ensures kept { (c : Config) (h : Heap) (hs : ℕ → Holding) (s : BuildState) → BuildFits c s
+        → cycle_of (h Phase) ≡ s.cycle → Stands c.width h s
+        → PhaseKept (extent c) h hs → hs s.thread ≡ build_holding s
+        → PhaseKept (extent c) (heap_after h (build_want (extent c) s))
+        (changed hs s.thread
+        (build_holding (build_got (extent c) s (h (place_of (build_want (extent c) s)))))) }
+    ensures phase { (c : Config) (h : Heap) (s : BuildState)
+        → heap_after h (build_want (extent c) s) Phase ≡ h Phase }
 {}
 
 /// No block is held twice: a part begins with none, and each event keeps it, while the other threads

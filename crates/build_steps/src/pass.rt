@@ -3,10 +3,8 @@
 ghost use Rattle.std.specs.Prelude.{◌≡◌, ◌+◌, ◌-◌, ◌^◌, ◌<◌, ◌≤◌, IsSome, true, [], length, vec_capacity};
 ghost use Rattle.block_store.specs.Colours as colours;
 ghost use Rattle.block_store.specs.Colours.{colour_of};
-ghost use Rattle.block_store.specs.declared.TheConstants.{REGISTERS};
 ghost use Rattle.block_store.specs.Places.{extent, index, PayloadOf, IsBlock};
 ghost use Rattle.block_store.specs.Payloads as words;
-ghost use Rattle.block_store.specs.Registers.{register_block, register_slot, registers_end};
 ghost use Rattle.block_store.specs.Widths.{payloads};
 ghost use Rattle.heap_machine.specs.Operations.{op_at};
 ghost use Rattle.never_heap.specs.Bounds.{IsCommandInRange};
@@ -170,18 +168,6 @@ fn after_colour(ordinal: u32) -> BuildRow
             ordinal: ordinal - 1,
         }
     }
-}
-
-// The block and the payload of register `r` of a thread.
-#[tactic(auto, using(block_store::proofs::Registers::block_by, block_store::proofs::Registers::slot_by))]
-fn register_at(width: Width, thread: u32, r: u32) -> (u32, u32)
-    requires thread { thread < 16 }
-    requires register { r < REGISTERS }
-    ensures block { result.0 ≡ register_block width thread r }
-    ensures slot { result.1 ≡ register_slot width r }
-{
-    let payloads = width.payloads();
-    (width.registers() * thread + 2 + r / payloads, r % payloads)
 }
 
 impl BuildPass {
@@ -367,7 +353,7 @@ impl BuildPass {
         ensures { result ≡ index (extent places.now) (made_place places.now.width self.now) }
     {
         let r = made_register(self.command);
-        let (block, slot) = register_at(places.width(), self.thread, r as u32);
+        let (block, slot) = places.width().register(self.thread, r as u32);
         places.payload(block, slot)
     }
 
