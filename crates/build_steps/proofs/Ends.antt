@@ -99,7 +99,10 @@ module _ (P : BuildRow → Type 0) (take : (u : ℕ) → P (TakeFree u))
 module _ (w : Width) (s : BuildState) where
   row_refused : (r : BuildRow) (v : ℕ)
       → is_refused (row_got w s r v) ≡ (is_refused r || (is_counting r && ltb v s.blocks))
-  row_refused ReadCount v = elim (cases_Bool (ltb v s.blocks)) [ inl is ↦ rw is refl | inr is ↦ rw is refl ]
+  row_refused ReadCount v = elim (cases_Bool (ltb v s.blocks)) [
+    | inl is ↦ rw is refl
+    | inr is ↦ rw is refl
+  ]
   row_refused (Reserve seen) v = either (λ r. is_refused r ≡ false) (eqb v seen) _ _ refl refl
   row_refused (TakeFree u) v = behind_take (λ r. is_refused r ≡ false) (λ _. refl) (λ _ _. refl)
       (λ _. refl) (λ _. refl) s.threads u v
@@ -124,8 +127,14 @@ module _ (w : Width) (s : BuildState) where
   row_built _ v = refl
 
   row_last : (r : BuildRow) (v : ℕ) → is_last (row_step s r v) ≡ build_over (row_got w s r v)
-  row_last ReadCount v = elim (cases_Bool (ltb v s.blocks)) [ inl is ↦ rw is refl | inr is ↦ rw is refl ]
-  row_last (Reserve seen) v = elim (cases_Bool (eqb v seen)) [ inl is ↦ rw is refl | inr is ↦ rw is refl ]
+  row_last ReadCount v = elim (cases_Bool (ltb v s.blocks)) [
+    | inl is ↦ rw is refl
+    | inr is ↦ rw is refl
+  ]
+  row_last (Reserve seen) v = elim (cases_Bool (eqb v seen)) [
+    | inl is ↦ rw is refl
+    | inr is ↦ rw is refl
+  ]
   row_last (TakeFree u) v = elim (cases_Bool (eqb v 0)) [
     | inl is ↦ elim (cases_Bool (ltb (u + 1) s.threads)) [
       | inl more ↦ rw (is, more) refl

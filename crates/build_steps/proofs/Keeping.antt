@@ -140,7 +140,8 @@ collects k a emptied held = record {
 abbrev writes : ℕ → List ℕ → FreeHolding
 writes n held = collects n 0 false (take n held)
 
-count_nothing : (k b : ℕ) (held : List ℕ) (v : ℕ) → row_holding b held (after_count k v) ≡ holds_nothing
+count_nothing : (k b : ℕ) (held : List ℕ) (v : ℕ)
+    → row_holding b held (after_count k v) ≡ holds_nothing
 count_nothing k b held v = elim (cases_Bool (ltb v k)) [ inl is ↦ rw is refl | inr is ↦ rw is refl ]
 
 payload_holding : (k many o j : ℕ) (held : List ℕ)
@@ -205,7 +206,8 @@ module _ (ex : Extent) (h : Heap) (hs : ℕ → Holding) (k : ReuseKept ex h hs)
 
   reserve_step : (seen : ℕ) → s.held ≡ [] → s.blocks ≤ seen → hs s.thread ≡ holding (Reserve seen)
       → h FreeCount ≡ seen
-      → ReuseKept ex (put_at h FreeCount (seen - s.blocks)) (changed hs s.thread (holding (TakeFree 0)))
+      → ReuseKept ex (put_at h FreeCount (seen - s.blocks))
+      (changed hs s.thread (holding (TakeFree 0)))
   reserve_step seen none fits e is =
       goes (put_at h FreeCount (seen - s.blocks)) s.held (TakeFree 0) (collects s.blocks 0 false [])
       (subst (λ (xs : List ℕ). free_held (row_holding s.blocks xs (TakeFree 0))
@@ -328,7 +330,8 @@ module _ (ex : Extent) (h : Heap) (hs : ℕ → Holding) (k : ReuseKept ex h hs)
       (collects s.blocks 0 false s.held)
       (ap (λ (xs : List ℕ). collects (s.blocks - 1 + 1) 0 false xs) these
       ∙ ap (λ n. collects n 0 false s.held) count)
-      (free_puts ex h fs k.free s.thread low (free_held (holding (PutRest a))) (ap free_held e) refl)
+      (free_puts ex h fs k.free s.thread low (free_held (holding (PutRest a)))
+      (ap free_held e) refl)
       (sweep_other ex h (changed cs s.thread no_claim) (Exchange (FreeList s.thread) a) refl
       (claims_none (PutRest a) e))
 
@@ -342,14 +345,16 @@ module _ (ex : Extent) (h : Heap) (hs : ℕ → Holding) (k : ReuseKept ex h hs)
       ap (λ (w : Holding). times x w.held) (e ∙ is) in
       let next : take (o + 1) s.held ≡ take (suc o) s.held =
       ap (λ n. take n s.held) (let q : o + 1 ≡ suc o = omega arith in q) in
-      let count : times x (take (o + 1) s.held) ≡ times x (take (suc o) s.held) = ap (times x) next in
+      let count : times x (take (o + 1) s.held) ≡ times x (take (suc o) s.held) =
+      ap (times x) next in
       let one : bit (eqb x x) ≡ 1 = ap bit (eq-eqb x x refl) in
       let there = held_is_free ex h fs k.free s.thread x low in
       let both = bit_one (is_block ex x && is_free (h (ColourOf x)))
       (omega (arith, times_first s.held o x fits)) in
       (and_parts (is_block ex x) (is_free (h (ColourOf x))) both).1
 
-  colour_step : (o : ℕ) → o < length s.held → (1 ≤ block_at s.held o) × (block_at s.held o ≤ ex.blocks)
+  colour_step : (o : ℕ) → o < length s.held
+      → (1 ≤ block_at s.held o) × (block_at s.held o ≤ ex.blocks)
       → cycle_of (h Phase) ≡ s.cycle → hs s.thread ≡ holding (WriteColour o)
       → ReuseKept ex (put_at h (ColourOf (block_at s.held o)) (black_word s.cycle))
       (changed hs s.thread (holding (after_colour o)))
@@ -367,7 +372,8 @@ module _ (ex : Extent) (h : Heap) (hs : ℕ → Holding) (k : ReuseKept ex h hs)
       (free_builds ex h fs k.free s.thread low (free_held (holds_first (o + 1) s.held))
       (ap free_held e) x (black_word s.cycle) o (take o s.held) block.0 block.1 free
       (not_free_black s.cycle)
-      (λ y. subst (λ n. times y (take n s.held) ≡ bit (eqb y x) + times y (take o s.held)) (sym next)
+      (λ y. subst (λ n. times y (take n s.held) ≡ bit (eqb y x) + times y (take o s.held))
+      (sym next)
       (times_first s.held o y fits))
       (sym next) (first_few o s.held))
       (sweep_colour ex h (changed cs s.thread no_claim) x (black_word s.cycle) (λ _. (dark, live))
@@ -390,7 +396,8 @@ module _ (ex : Extent) (h : Heap) (hs : ℕ → Holding) (k : ReuseKept ex h hs)
   row_keeps c is (Collect a u) f blocks cycle e = collect_step a u f.0.0 f.2 e
   row_keeps c is (PutRest a) f blocks cycle e = put_step a f.1 e
   row_keeps c is (WriteOwner o) f blocks cycle e =
-      keeps_on (row_want ex.width s (WriteOwner o)) (holding (WriteOwner o)) (holding (WriteShape o))
+      keeps_on (row_want ex.width s (WriteOwner o)) (holding (WriteOwner o))
+      (holding (WriteShape o))
       refl e refl
   row_keeps c is (WriteShape o) f blocks cycle e =
       keeps_on (row_want ex.width s (WriteShape o)) (holding (WriteShape o))

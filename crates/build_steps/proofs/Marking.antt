@@ -166,12 +166,16 @@ module _ (c : Config) (h : Heap) (s : BuildState) (P : Heap → Type 0) where
       → P h
       → P (heap_after h (row_want c.width s r))
   row_rule ReadCount e other refer colour f k free p = p
-  row_rule (Reserve seen) e other refer colour f k free p = other (row_want c.width s (Reserve seen)) refl
-  row_rule (TakeFree u) e other refer colour f k free p = other (row_want c.width s (TakeFree u)) refl
+  row_rule (Reserve seen) e other refer colour f k free p =
+      other (row_want c.width s (Reserve seen)) refl
+  row_rule (TakeFree u) e other refer colour f k free p =
+      other (row_want c.width s (TakeFree u)) refl
   row_rule (Collect a u) e other refer colour f k free p = p
   row_rule (PutRest a) e other refer colour f k free p = other (row_want c.width s (PutRest a)) refl
-  row_rule (WriteOwner o) e other refer colour f k free p = other (row_want c.width s (WriteOwner o)) refl
-  row_rule (WriteShape o) e other refer colour f k free p = other (row_want c.width s (WriteShape o)) refl
+  row_rule (WriteOwner o) e other refer colour f k free p =
+      other (row_want c.width s (WriteOwner o)) refl
+  row_rule (WriteShape o) e other refer colour f k free p =
+      other (row_want c.width s (WriteShape o)) refl
   row_rule (WritePayload o j) e other refer colour f k free p =
       refer (built_at s o) j (built_payload c.width s o j) (payload_refers c h s f k o j e)
   row_rule (WriteColour o) e other refer colour f k free p =
@@ -262,7 +266,8 @@ module _ (c : Config) (h : Heap) (hs : ℕ → Holding) (s : BuildState) (f : Bu
   grey_same = same_holding (λ u. grey_held (hs u)) s.thread (grey_held (build_holding next))
       (ap grey_held e ∙ holds_no_grey s ∙ sym (holds_no_grey next))
 
-  tricolour_same : changed (λ u. tricolour_held (hs u)) s.thread (tricolour_held (build_holding next))
+  tricolour_same : changed (λ u. tricolour_held (hs u)) s.thread
+      (tricolour_held (build_holding next))
       ≡ (λ u. tricolour_held (hs u))
   tricolour_same =
       same_holding (λ u. tricolour_held (hs u)) s.thread (tricolour_held (build_holding next))

@@ -103,7 +103,8 @@ link_black h held b (Some p) black ne =
     subst (λ x. h (ColourOf x) ≡ b) (sym (target-reference (block_at held p))) (black p refl)
 
 -- to whatever ordinal o links, its block is black already
-pub links_black : (w : Width) (h : Heap) (s : BuildState) (o j : ℕ) → s.blocks ≡ blocks_of w s.command
+pub links_black : (w : Width) (h : Heap) (s : BuildState) (o j : ℕ)
+    → s.blocks ≡ blocks_of w s.command
     → Stands w h s → left_of s.blocks s.row ≤ suc o → target (built_payload w s o j) ≢ 0
     → h (ColourOf (target (built_payload w s o j))) ≡ black_word s.cycle
 links_black w h s o j size k left ne =
@@ -113,7 +114,8 @@ links_black w h s o j size k left ne =
     let low = on.1 in
     (k.whole p (omega arith) (omega arith)).black)) ne
 
-row_links_black : (w : Width) (h : Heap) (s : BuildState) (o j : ℕ) → s.blocks ≡ blocks_of w s.command
+row_links_black : (w : Width) (h : Heap) (s : BuildState) (o j : ℕ)
+    → s.blocks ≡ blocks_of w s.command
     → Stands w h s → s.row ≡ WritePayload o j → target (built_payload w s o j) ≢ 0
     → h (ColourOf (target (built_payload w s o j))) ≡ black_word s.cycle
 row_links_black w h s o j size k e ne =

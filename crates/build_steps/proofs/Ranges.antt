@@ -81,22 +81,23 @@ pub first_fits : (c : Config) (t cycle serial : ℕ) (k : Command) (capacity : �
     → serial ≤ 131072 → IsCommandInRange k → makes_object k ≡ true
     → blocks_of c.width k ≤ 1024 → blocks_of c.width k ≤ capacity
     → BuildFits c (building c.width t c.threads cycle serial k capacity)
-first_fits c t cycle serial k capacity low few blocks registers last range makes most space = record {
-  threads = refl;
-  few = few;
-  blocks = blocks;
-  thread = low;
-  registers = registers;
-  serial = last;
-  range = range;
-  makes = makes;
-  size = refl;
-  some = some_blocks c.width k makes;
-  most = most;
-  space = space;
-  held = λ o none. absurd (omega arith);
-  row = refl;
-}
+first_fits c t cycle serial k capacity low few blocks registers last range makes most space =
+    record {
+      threads = refl;
+      few = few;
+      blocks = blocks;
+      thread = low;
+      registers = registers;
+      serial = last;
+      range = range;
+      makes = makes;
+      size = refl;
+      some = some_blocks c.width k makes;
+      most = most;
+      space = space;
+      held = λ o none. absurd (omega arith);
+      row = refl;
+    }
 
 pub length_more : (xs : List ℕ) (x : ℕ) → length (xs ++ x ∷ []) ≡ length xs + 1
 length_more [] x = refl

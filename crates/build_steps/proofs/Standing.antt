@@ -120,7 +120,8 @@ twice (x ∷ xs) i zero less low e = absurd (omega arith)
 twice (x ∷ xs) zero (suc j) less low e =
     let one : bit (eqb (block_at xs j) x) ≡ 1 = ap bit (eq-eqb (block_at xs j) x (sym e)) in
     omega (arith, stands_once xs j (omega arith))
-twice (x ∷ xs) (suc i) (suc j) less low e = omega (arith, twice xs i j (omega arith) (omega arith) e)
+twice (x ∷ xs) (suc i) (suc j) less low e =
+    omega (arith, twice xs i j (omega arith) (omega arith) e)
 
 -- where no block is held twice, distinct ordinals have distinct blocks
 pub one_ordinal : (xs : List ℕ) (i j : ℕ) → HeldOnce xs → i < length xs → j < length xs
@@ -325,7 +326,8 @@ module _ (w : Width) (h : Heap) (s : BuildState) (o : ℕ) (once : HeldOnce s.he
       → Stands w (put_at h (ShapeOf (built_at s o)) (built_shape s)) (at_row s (WritePayload o 0))
   shape_step k =
       let b = begun_here (WriteShape o) (omega arith) k in
-      goes_on (ShapeOf (built_at s o)) (built_shape s) (WriteShape o) (WritePayload o 0) (omega arith)
+      goes_on (ShapeOf (built_at s o)) (built_shape s) (WriteShape o) (WritePayload o 0)
+      (omega arith)
       (omega arith) (λ q low ne. apart q low ne)
       (record {
         owned = λ some. b.owned (omega arith);
@@ -397,7 +399,8 @@ module _ (w : Width) (h : Heap) (s : BuildState) (o : ℕ) (once : HeldOnce s.he
       }
 
   colour_step : Stands w h (at_row s (WriteColour o))
-      → Stands w (put_at h (ColourOf (built_at s o)) (black_word s.cycle)) (at_row s (after_colour o))
+      → Stands w (put_at h (ColourOf (built_at s o)) (black_word s.cycle))
+      (at_row s (after_colour o))
   colour_step k = elim (cases_eq o 0) [
     | inl z ↦ rw (eq-eqb o 0 z) (colour_goes Publish (sym z) refl k)
     | inr nz ↦ rw (ne_eqb o 0 nz) (colour_goes (WriteOwner (o - 1)) (omega arith) refl k)

@@ -84,7 +84,8 @@ keeps_phase c h hs s f cycle stands k e =
           let before : is_sweep (h Phase) ≡ false = ap is_sweep (sym phase) ∙ mark in
           let old = subst (λ z. TricolourKept (extent c) z h (λ t. tricolour_held (hs t))) cycle
           (k.tricolour before) in
-          subst (λ z. TricolourKept (extent c) z g (λ t. tricolour_held (changed hs s.thread next t)))
+          subst (λ z. TricolourKept (extent c) z g
+          (λ t. tricolour_held (changed hs s.thread next t)))
           (sym same)
           (subst (λ (ws : ℕ → TricolourHolding). TricolourKept (extent c) s.cycle g ws)
           (part_changed tricolour_held hs s.thread next)

@@ -46,9 +46,10 @@ RowFits c k held Publish = length held ≡ k
 RowFits c k held Built = length held ≡ k
 RowFits c k held Refused = held ≡ []
 
--- The heap has the state's threads, at most 16, of which this is one whose registers are in the heap,
--- and at most 65,535 blocks. The command makes an object of so many blocks, at most 1,024, for which
--- there is room. What is held are blocks of the heap, and the row's numbers are in range.
+-- The heap has the state's threads, at most 16, of which this is one whose registers are in the
+-- heap, and at most 65,535 blocks. The command makes an object of so many blocks, at most 1,024,
+-- for which there is room. What is held are blocks of the heap, and the row's numbers are in
+-- range.
 pub record BuildFits (c : Config) (s : BuildState) : Type 0 where
   pub threads : s.threads ≡ c.threads
   pub few : s.threads ≤ 16

@@ -1,6 +1,6 @@
--- Building, as rows of one event each: a thread reserves the blocks of an object, collects them from
--- the free lists, writes them from the last ordinal to the first, and publishes the object. What each
--- row wants, and what it becomes on the word that it read.
+-- Building, as rows of one event each: a thread reserves the blocks of an object, collects them
+-- from the free lists, writes them from the last ordinal to the first, and publishes the object.
+-- What each row wants, and what it becomes on the word that it read.
 use Rattle.std.specs.Prelude.{
   ℕ,
   ◌+◌,
@@ -65,9 +65,9 @@ use Rattle.build_steps.specs.declared.rows.BuildRow.TheVariants.{
 }
 use Rattle.build_steps.specs.Objects.{made_register, made_shape, made_part, block_at, link_word}
 
--- a thread that builds: of how many it is one, the cycle of its pass, the serial of the object's name,
--- the command that makes it and how many blocks it takes; the blocks that it holds, in the order of
--- their ordinals, and for how many it has room; and its row
+-- a thread that builds: of how many it is one, the cycle of its pass, the serial of the object's
+-- name, the command that makes it and how many blocks it takes; the blocks that it holds, in the
+-- order of their ordinals, and for how many it has room; and its row
 pub record BuildState : Type 0 where
   pub thread : ℕ
   pub threads : ℕ
@@ -171,12 +171,13 @@ abbrev pub held_got : List ℕ → BuildRow → List ℕ
 held_got held (Collect hand u) = held ++ hand ∷ []
 held_got held _ = held
 
--- A row waits where it lost the reservation, and where the last list was empty. The event that leads
--- to an end is the last
+-- A row waits where it lost the reservation, and where the last list was empty. The event that
+-- leads to an end is the last
 abbrev pub row_step : BuildState → BuildRow → ℕ → Step
 row_step s ReadCount v = if nat_lt v s.blocks then Over else Went
 row_step s (Reserve seen) v = if v == seen then Went else Waited
-row_step s (TakeFree u) v = if v == 0 then (if nat_lt (u + 1) s.threads then Went else Waited) else Went
+row_step s (TakeFree u) v =
+    if v == 0 then (if nat_lt (u + 1) s.threads then Went else Waited) else Went
 row_step s Publish v = Over
 row_step s Built v = Over
 row_step s Refused v = Over

@@ -49,8 +49,8 @@ use Rattle.build_steps.specs.Rows.{
 }
 use Rattle.build_steps.specs.Fits.{BuildReads}
 
--- The block of ordinal o shows its part of the object: the name with the ordinal, the shape, links to
--- blocks of the object and nils; and it is black.
+-- The block of ordinal o shows its part of the object: the name with the ordinal, the shape,
+-- links to blocks of the object and nils; and it is black.
 pub record IsWhole (w : Width) (h : Heap) (s : BuildState) (o : ℕ) : Type 0 where
   pub owned : h (OwnerOf (built_at s o)) ≡ built_owner s o
   pub shaped : h (ShapeOf (built_at s o)) ≡ built_shape s

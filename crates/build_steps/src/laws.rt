@@ -48,9 +48,9 @@ pub fn rows_stay_in_the_heap()
         → StoresHeld c (build_want (extent c) s) }
 {}
 
-/// Each event keeps that each Free block stands in one place and is counted, that no block is claimed
-/// twice, and that what was passed is not white, while the other threads hold what they held and the
-/// cycle is the part's. A part begins and ends with nothing held.
+/// Each event keeps that each Free block stands in one place and is counted, that no block is
+/// claimed twice, and that what was passed is not white, while the other threads hold what they
+/// held and the cycle is the part's. A part begins and ends with nothing held.
 pub fn rows_keep_reuse()
     ensures kept { (c : Config) (h : Heap) (hs : ℕ → Holding) (s : BuildState)
         → BuildFits c s → cycle_of (h Phase) ≡ s.cycle
@@ -63,10 +63,10 @@ pub fn rows_keep_reuse()
     ensures over { (s : BuildState) → build_over s.row ≡ true → build_holding s ≡ holds_nothing }
 {}
 
-/// What a part has written stands: of each ordinal that it has made black the owner with the object's
-/// name, the shape, the links and nils, and the colour; of the one before it the words that it has
-/// written. Each of its events before it publishes keeps that, whatever it reads, where no block is
-/// held twice; and a write of a place of no held block keeps it.
+/// What a part has written stands: of each ordinal that it has made black the owner with the
+/// object's name, the shape, the links and nils, and the colour; of the one before it the words
+/// that it has written. Each of its events before it publishes keeps that, whatever it reads,
+/// where no block is held twice; and a write of a place of no held block keeps it.
 pub fn what_is_written_stands()
     ensures first { (w : Width) (h : Heap) (t n c serial : ℕ) (k : Command) (capacity : ℕ)
         → Stands w h (building w t n c serial k capacity) }
@@ -78,10 +78,10 @@ pub fn what_is_written_stands()
 {}
 
 /// What is published is the whole object: all its blocks are black and show the name with their
-/// ordinals, the command's shape, the links of its layout and nils; and the command's register then
-/// refers to the first of them. So it is behind all events of a part, whatever they read, where no
-/// block is held twice and nobody else writes what is held. A link is written when the block to which
-/// it refers is black already.
+/// ordinals, the command's shape, the links of its layout and nils; and the command's register
+/// then refers to the first of them. So it is behind all events of a part, whatever they read,
+/// where no block is held twice and nobody else writes what is held. A link is written when the
+/// block to which it refers is black already.
 pub fn what_is_published()
     ensures links_black { (c : Config) (h : Heap) (s : BuildState) (o j : ℕ) → BuildFits c s
         → Stands c.width h s → s.row ≡ WritePayload o j
@@ -113,9 +113,9 @@ pub fn what_is_published()
 {}
 
 /// Each event keeps that a grey block stands in one place, while the other threads hold what they
-/// held; a part holds no grey block. Where what it has written stands, each event keeps, in the colours
-/// of its cycle, that no black block refers to a white one, and that no block that is not Free refers
-/// to a Free one.
+/// held; a part holds no grey block. Where what it has written stands, each event keeps, in the
+/// colours of its cycle, that no black block refers to a white one, and that no block that is not
+/// Free refers to a Free one.
 pub fn rows_keep_marking()
     ensures grey { (c : Config) (h : Heap) (hs : ℕ → Holding) (s : BuildState) → BuildFits c s
         → ReuseKept (extent c) h hs → hs s.thread ≡ build_holding s
@@ -140,8 +140,8 @@ pub fn rows_keep_marking()
         → tricolour_held (build_holding s) ≡ no_tricolour }
 {}
 
-/// Each event keeps all rules of the heap at once, while the other threads hold what they held, what
-/// the part has written stands, and the cycle is the part's. No event writes the phase.
+/// Each event keeps all rules of the heap at once, while the other threads hold what they held,
+/// what the part has written stands, and the cycle is the part's. No event writes the phase.
 pub fn rows_keep_the_heap()
     ensures kept { (c : Config) (h : Heap) (hs : ℕ → Holding) (s : BuildState) → BuildFits c s
         → cycle_of (h Phase) ≡ s.cycle → Stands c.width h s
@@ -153,9 +153,9 @@ pub fn rows_keep_the_heap()
         → heap_after h (build_want (extent c) s) Phase ≡ h Phase }
 {}
 
-/// No block is held twice: a part begins with none, and each event keeps it, while the other threads
-/// hold what they held. What is held and not black yet is Free, and among what the part holds of the
-/// Free blocks.
+/// No block is held twice: a part begins with none, and each event keeps it, while the other
+/// threads hold what they held. What is held and not black yet is Free, and among what the part
+/// holds of the Free blocks.
 pub fn held_blocks_are_distinct()
     ensures first { HeldOnce [] }
     ensures kept { (c : Config) (h : Heap) (hs : ℕ → Holding) (s : BuildState) → BuildFits c s
@@ -171,9 +171,10 @@ pub fn held_blocks_are_distinct()
         → is_free (h (ColourOf (built_at s o))) ≡ true }
 {}
 
-/// There is a reply exactly once the deciding event was made, which is the last: the one that reads a
-/// free count below the object's blocks, or the one that publishes. The first is answered full, with
-/// the cycle before the part's, or 1 in cycle 1; the other new, with the name of the thread and serial.
+/// There is a reply exactly once the deciding event was made, which is the last: the one that
+/// reads a free count below the object's blocks, or the one that publishes. The first is answered
+/// full, with the cycle before the part's, or 1 in cycle 1; the other new, with the name of the
+/// thread and serial.
 pub fn replies_are_decided()
     ensures present { (s : BuildState) → is_some (build_reply s) ≡ build_over s.row }
     ensures decided { (e : Extent) (s : BuildState) (v : ℕ)

@@ -44,7 +44,17 @@ impl Model for BuildPass {
 
     ghost Value = { BuildState };
 
-    ghost view = { λ p. record { thread = p.thread; threads = p.threads; cycle = p.cycle; serial = p.serial; command = p.command; blocks = p.blocks; held = p.room.items; capacity = vec_capacity p.room; row = p.row } };
+    ghost view = { λ p. record {
+      thread = p.thread;
+      threads = p.threads;
+      cycle = p.cycle;
+      serial = p.serial;
+      command = p.command;
+      blocks = p.blocks;
+      held = p.room.items;
+      capacity = vec_capacity p.room;
+      row = p.row;
+    } };
 }
 
 // The link in a colour word.
@@ -248,8 +258,8 @@ impl BuildPass {
         }
     }
 
-    /// Moves on by one event, whose operation read the word: one that its place can hold. The places
-    /// are those that `want` was given. A part that is over stays as it is.
+    /// Moves on by one event, whose operation read the word: one that its place can hold. The
+    /// places are those that `want` was given. A part that is over stays as it is.
     #[inline(never)]
     #[tactic(auto, using(crate::proofs::Ranges::fits_next))]
     pub fn got(&mut self, places: &Places, word: u64) -> Step

@@ -1,6 +1,7 @@
-//! Objects built by hand on the words of small heaps. The words that are expected are those of the
-//! layouts: an owner word is `thread * 2^40 + serial * 2^16 + ordinal`, a shape word twice the fields of
-//! a record and one more than twice the elements of an array, a reference twice its block.
+//! Objects built by hand on the words of small heaps. The words that are expected are those of
+//! the layouts: an owner word is `thread * 2^40 + serial * 2^16 + ordinal`, a shape word twice
+//! the fields of a record and one more than twice the elements of an array, a reference twice its
+//! block.
 
 ghost use Rattle.std.specs.Prelude.{◌≡◌, ◌<◌, ◌≤◌, length, vec_capacity, [], IfOk};
 ghost use Rattle.block_store.specs.Places.{extent};
@@ -23,8 +24,8 @@ fn exchanges(pass: &mut BuildPass, places: &Places, place: usize, new: u64) -> b
     wanted && went
 }
 
-// Whether the part writes a block whose words begin at this place: its owner, its shape, its payloads
-// and its colour.
+// Whether the part writes a block whose words begin at this place: its owner, its shape, its
+// payloads and its colour.
 fn writes(
     pass: &mut BuildPass,
     places: &Places,
@@ -159,8 +160,8 @@ fn a_record_of_two_blocks_is_built(rt: HostRuntime) -> Result<(), OutOfMemory> {
     Ok(())
 }
 
-// An array of 17 elements in blocks of eight payloads: three leaves under a root. In cycle 1 a black
-// block has the word 2. The thread's list is 5, 6, 9, 10.
+// An array of 17 elements in blocks of eight payloads: three leaves under a root. In cycle 1 a
+// black block has the word 2. The thread's list is 5, 6, 9, 10.
 #[test]
 #[tactic(auto, unfolding(array_trees::specs::Trees::tree, block_store::specs::Colours::colour_of, block_store::specs::Colours::link, crate::specs::Rows::list_of))]
 fn an_array_of_four_blocks_is_built(rt: HostRuntime) -> Result<(), OutOfMemory> {
@@ -201,8 +202,8 @@ fn an_array_of_four_blocks_is_built(rt: HostRuntime) -> Result<(), OutOfMemory> 
     Ok(())
 }
 
-// A record of eight fields in blocks of eight payloads, in cycle 3, where a black block has the word 2.
-// The thread's list is 7, 12.
+// A record of eight fields in blocks of eight payloads, in cycle 3, where a black block has the
+// word 2. The thread's list is 7, 12.
 #[test]
 #[tactic(auto, unfolding(block_store::specs::Colours::colour_of, block_store::specs::Colours::link, crate::specs::Rows::list_of))]
 fn a_record_of_two_wide_blocks_is_built(rt: HostRuntime) -> Result<(), OutOfMemory> {
@@ -229,8 +230,8 @@ fn a_record_of_two_wide_blocks_is_built(rt: HostRuntime) -> Result<(), OutOfMemo
     Ok(())
 }
 
-// An array of 17 elements in blocks of four payloads: five leaves, under two blocks, under a root. The
-// thread's list is 11 to 18.
+// An array of 17 elements in blocks of four payloads: five leaves, under two blocks, under a
+// root. The thread's list is 11 to 18.
 #[test]
 #[tactic(auto, unfolding(array_trees::specs::Trees::tree, block_store::specs::Colours::colour_of, block_store::specs::Colours::link, crate::specs::Rows::list_of))]
 fn an_array_of_eight_blocks_is_built(rt: HostRuntime) -> Result<(), OutOfMemory> {
@@ -264,8 +265,8 @@ fn an_array_of_eight_blocks_is_built(rt: HostRuntime) -> Result<(), OutOfMemory>
     Ok(())
 }
 
-// Eight blocks are too many where seven are free, and not where eight are. The reply names the cycle
-// before, and in the first cycle that one.
+// Eight blocks are too many where seven are free, and not where eight are. The reply names the
+// cycle before, and in the first cycle that one.
 #[test]
 #[tactic(auto, unfolding(array_trees::specs::Trees::tree))]
 fn full_is_answered_below_the_count(rt: HostRuntime) -> Result<(), OutOfMemory> {
@@ -284,7 +285,8 @@ fn full_is_answered_below_the_count(rt: HostRuntime) -> Result<(), OutOfMemory> 
     Ok(())
 }
 
-// A lost reservation looks at the count again, and waits; so does a look at lists that are all empty.
+// A lost reservation looks at the count again, and waits; so does a look at lists that are all
+// empty.
 #[test]
 #[tactic(auto, unfolding(crate::specs::Rows::list_of))]
 fn a_lost_reservation_waits(rt: HostRuntime) -> Result<(), OutOfMemory> {
