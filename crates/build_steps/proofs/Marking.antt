@@ -1,33 +1,8 @@
 -- Each event of building keeps the rules of marking.
-use Rattle.std.proofs.Common.{
-  ◌≡◌,
-  ◌≢◌,
-  ℕ,
-  suc,
-  ◌<◌,
-  ◌≤◌,
-  ◌+◌,
-  ◌-◌,
-  true,
-  false,
-  refl,
-  arith,
-  subst,
-  sym,
-  ap,
-  ◌∙◌,
-  inl,
-  inr,
-  eqb,
-  eqb-true,
-  eq-eqb,
-  ne_eqb,
-  List,
-  length,
-}
-use Rattle.std.proofs.lemmas.Bool.{cases_Bool, cases_eq}
+use Rattle.std.proofs.Common.{◌≡◌, ◌≢◌, ℕ, ◌<◌, ◌+◌, true, false, refl, arith, subst, sym, ap, ◌∙◌, inl, inr, eqb-true, eq-eqb, ne_eqb, List}
+use Rattle.std.proofs.lemmas.Bool.{cases_eq}
 use Rattle.block_store.specs.declared.Config.{Config}
-use Rattle.block_store.specs.Colours.{is_free, is_grey, kind, link, white_word, black_word}
+use Rattle.block_store.specs.Colours.{is_free, is_grey, kind, link, black_word}
 use Rattle.block_store.proofs.ColourWords.{
   not_grey_black,
   not_free_black,
@@ -38,33 +13,17 @@ use Rattle.block_store.proofs.ColourWords.{
 use Rattle.block_store.specs.Heaps.{Heap, put_at}
 use Rattle.block_store.specs.Payloads.{target, reference_word}
 use Rattle.block_store.specs.Widths.{payloads}
-use Rattle.block_store.specs.Registers.{register_block, register_slot, root_block}
+use Rattle.block_store.specs.Registers.{register_block, register_slot}
 use Rattle.block_store.proofs.PayloadWords.{target-reference}
-use Rattle.block_store.specs.Places.{
-  Extent,
-  Place,
-  extent,
-  FreeCount,
-  FreeList,
-  ColourOf,
-  OwnerOf,
-  ShapeOf,
-  PayloadOf,
-}
+use Rattle.block_store.specs.Places.{extent, ColourOf, PayloadOf}
 use Rattle.heap_machine.specs.Counts.{changed}
 use Rattle.heap_machine.specs.Grey.{GreyHolding, no_grey, GreyKept}
 use Rattle.heap_machine.specs.HeapKept.{CanRefer, CanColour}
-use Rattle.heap_machine.specs.Holdings.{Holding, holds_nothing, grey_held, tricolour_held}
-use Rattle.heap_machine.specs.Operations.{Operation, Load, Exchange, place_of, heap_after}
+use Rattle.heap_machine.specs.Holdings.{Holding, grey_held, tricolour_held}
+use Rattle.heap_machine.specs.Operations.{Operation, place_of, heap_after}
 use Rattle.heap_machine.specs.ReuseKept.{ReuseKept}
-use Rattle.heap_machine.specs.Solid.{NotFree, SolidKept}
-use Rattle.heap_machine.specs.Tricolour.{
-  TricolourHolding,
-  no_tricolour,
-  NotWhite,
-  TricolourKept,
-  is_of_tricolour,
-}
+use Rattle.heap_machine.specs.Solid.{SolidKept}
+use Rattle.heap_machine.specs.Tricolour.{TricolourHolding, no_tricolour, TricolourKept, is_of_tricolour}
 use Rattle.heap_machine.proofs.Functions.{funext}
 use Rattle.heap_machine.proofs.GreyBlocks.{kept_other, kept_other_colour}
 use Rattle.heap_machine.proofs.Solids.{solid_other, solid_colour, solid_payload}
@@ -84,20 +43,10 @@ use Rattle.build_steps.specs.declared.rows.BuildRow.TheVariants.{
   Built,
   Refused,
 }
-use Rattle.build_steps.specs.Objects.{made_register, block_at}
-use Rattle.build_steps.specs.Rows.{
-  BuildState,
-  built_at,
-  built_payload,
-  made_place,
-  row_want,
-  build_want,
-  build_got,
-  row_holding,
-  build_holding,
-}
+use Rattle.build_steps.specs.Objects.{made_register}
+use Rattle.build_steps.specs.Rows.{BuildState, built_at, built_payload, row_want, build_want, build_got, row_holding, build_holding}
 use Rattle.build_steps.specs.Fits.{RowFits, BuildFits}
-use Rattle.build_steps.specs.Standing.{left_of, begun_of, Stands, IsBegun}
+use Rattle.build_steps.specs.Standing.{left_of, begun_of, Stands}
 use Rattle.build_steps.proofs.Keeping.{still_free}
 use Rattle.build_steps.proofs.Publishing.{links_black}
 

@@ -27,7 +27,7 @@ use Rattle.std.proofs.lemmas.Bool.{cases_Bool}
 use Rattle.block_store.specs.declared.Width.{Width}
 use Rattle.block_store.specs.Widths.{payloads}
 use Rattle.object_lists.specs.Parts.{Part, Link, Field, Blank, link_in, field_below}
-use Rattle.object_lists.specs.Records.{record_part, list_part, room, record_blocks, record_slot}
+use Rattle.object_lists.specs.Records.{record_part, list_part, room}
 use Rattle.object_lists.specs.Layouts.{IsLayout}
 use Rattle.object_lists.proofs.Lists.{record_layout}
 use Rattle.array_trees.specs.Levels.{array_part, array_slot}

@@ -1,45 +1,11 @@
 -- What is published, and to what it links.
-use Rattle.std.proofs.Common.{
-  ◌≡◌,
-  ◌≢◌,
-  ℕ,
-  zero,
-  suc,
-  ◌<◌,
-  ◌≤◌,
-  ◌+◌,
-  ◌&&◌,
-  Bool,
-  true,
-  false,
-  Option,
-  Some,
-  None,
-  refl,
-  arith,
-  subst,
-  sym,
-  ap,
-  ◌∙◌,
-  inl,
-  inr,
-  eqb,
-  eq-eqb,
-  ne_eqb,
-  List,
-  [],
-  ◌∷◌,
-  ◌++◌,
-  length,
-}
+use Rattle.std.proofs.Common.{◌≡◌, ◌≢◌, ℕ, suc, ◌<◌, ◌≤◌, ◌+◌, true, false, Option, Some, None, refl, arith, subst, sym, ap, inl, inr, eq-eqb, ne_eqb, List, [], ◌∷◌}
 use Rattle.std.proofs.lemmas.Bool.{cases_Bool}
 use Rattle.block_store.specs.declared.Config.{Config}
 use Rattle.block_store.specs.declared.Width.{Width}
 use Rattle.block_store.specs.Colours.{black_word}
 use Rattle.block_store.specs.Heaps.{Heap, put_at}
 use Rattle.block_store.specs.Payloads.{target, reference_word}
-use Rattle.block_store.specs.Phases.{bit}
-use Rattle.block_store.specs.Widths.{payloads}
 use Rattle.block_store.specs.Registers.{register_block, register_slot, registers_end}
 use Rattle.block_store.proofs.PayloadWords.{target-reference, target-nil}
 use Rattle.block_store.proofs.Registers.{register_low}
@@ -50,20 +16,7 @@ use Rattle.never_heap.specs.Steps.{blocks_of}
 use Rattle.heap_machine.specs.Counts.{times}
 use Rattle.heap_machine.specs.Operations.{Exchange, heap_after}
 use Rattle.build_steps.specs.declared.rows.BuildRow.{BuildRow}
-use Rattle.build_steps.specs.declared.rows.BuildRow.TheVariants.{
-  ReadCount,
-  Reserve,
-  TakeFree,
-  Collect,
-  PutRest,
-  WriteOwner,
-  WriteShape,
-  WritePayload,
-  WriteColour,
-  Publish,
-  Built,
-  Refused,
-}
+use Rattle.build_steps.specs.declared.rows.BuildRow.TheVariants.{Collect, WritePayload, Publish, Built}
 use Rattle.build_steps.specs.Objects.{made_register, made_part, block_at, link_word}
 use Rattle.build_steps.specs.Rows.{
   BuildState,
@@ -77,7 +30,7 @@ use Rattle.build_steps.specs.Rows.{
   build_got,
   building,
 }
-use Rattle.build_steps.specs.Fits.{RowFits, BuildFits}
+use Rattle.build_steps.specs.Fits.{BuildFits}
 use Rattle.build_steps.specs.Ends.{is_publishing, is_built}
 use Rattle.build_steps.specs.Standing.{
   IsWhole,

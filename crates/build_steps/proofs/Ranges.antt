@@ -1,43 +1,11 @@
 -- What holds of the rows: their places are in range, and a row that fits becomes one that fits.
-use Rattle.std.proofs.Common.{
-  ◌≡◌,
-  ℕ,
-  zero,
-  suc,
-  ◌<◌,
-  ◌≤◌,
-  ◌+◌,
-  ◌-◌,
-  true,
-  is_some,
-  arith,
-  refl,
-  ap,
-  sym,
-  ◌∙◌,
-  subst,
-  inl,
-  inr,
-  eqb,
-  ltb,
-  eq-eqb,
-  ne_eqb,
-  ltb-true,
-  ltb-false,
-  eqb-true,
-  List,
-  [],
-  ◌∷◌,
-  ◌++◌,
-  length,
-}
-use Rattle.std.proofs.lemmas.Bool.{cases_Bool, cases_eq, lt-ltb}
+use Rattle.std.proofs.Common.{◌≡◌, ℕ, zero, suc, ◌<◌, ◌≤◌, ◌+◌, true, arith, refl, ap, sym, subst, inl, inr, eqb, ltb, eq-eqb, ne_eqb, ltb-true, ltb-false, List, [], ◌∷◌, ◌++◌, length}
+use Rattle.std.proofs.lemmas.Bool.{cases_Bool, cases_eq}
 use Rattle.block_store.specs.declared.Config.{Config}
-use Rattle.block_store.specs.declared.Width.{Width}
 use Rattle.block_store.specs.Widths.{payloads}
 use Rattle.block_store.proofs.Registers.{wide}
 use Rattle.block_store.specs.Colours.{link}
-use Rattle.block_store.specs.Places.{extent, in_range, IsBlock}
+use Rattle.block_store.specs.Places.{extent, IsBlock}
 use Rattle.never_heap.specs.declared.Command.{Command}
 use Rattle.never_heap.specs.Bounds.{IsCommandInRange}
 use Rattle.never_heap.specs.Steps.{makes_object, blocks_of}
@@ -60,19 +28,7 @@ use Rattle.build_steps.specs.declared.rows.BuildRow.TheVariants.{
   Refused,
 }
 use Rattle.build_steps.specs.Objects.{block_at}
-use Rattle.build_steps.specs.Rows.{
-  BuildState,
-  row_want,
-  row_got,
-  held_got,
-  build_want,
-  build_got,
-  building,
-  next_list,
-  after_take,
-  after_last,
-  after_collect,
-}
+use Rattle.build_steps.specs.Rows.{BuildState, row_want, row_got, held_got, build_got, building, next_list, after_collect}
 use Rattle.build_steps.specs.Fits.{RowFits, BuildFits, BuildReads}
 use Rattle.build_steps.proofs.Parts.{some_blocks}
 

@@ -1,54 +1,17 @@
 -- What a row wants: a place of the heap, and a word that the place can hold.
-use Rattle.std.proofs.Common.{
-  ◌≡◌,
-  ℕ,
-  ◌<◌,
-  ◌≤◌,
-  ◌+◌,
-  true,
-  false,
-  Option,
-  Some,
-  None,
-  is_some,
-  IsSome,
-  arith,
-  refl,
-  ap,
-  sym,
-  subst,
-  inl,
-  inr,
-  leb,
-  eqb,
-  ltb,
-  List,
-  length,
-  mod-lt,
-  mod-eq_of_lt,
-}
-use Rattle.std.proofs.lemmas.Bool.{cases_Bool, lt-ltb, le-leb}
+use Rattle.std.proofs.Common.{◌≡◌, ℕ, ◌<◌, ◌≤◌, ◌+◌, true, false, Option, Some, None, is_some, IsSome, arith, refl, ap, sym, subst, leb, List, length, mod-lt, mod-eq_of_lt}
+use Rattle.std.proofs.lemmas.Bool.{lt-ltb, le-leb}
 use Rattle.block_store.specs.declared.Config.{Config}
 use Rattle.block_store.specs.declared.TheConstants.{REGISTERS}
 use Rattle.block_store.specs.declared.Width.{Width}
 use Rattle.block_store.specs.declared.Payload.TheVariants.{Nil, Block}
 use Rattle.block_store.specs.declared.Shape.TheVariants as shapes
-use Rattle.block_store.specs.Colours.{black_word}
 use Rattle.block_store.specs.Owners.{owner_of, owner_word}
-use Rattle.block_store.specs.Payloads.{payload_of, reference_word, target}
+use Rattle.block_store.specs.Payloads.{reference_word}
 use Rattle.block_store.specs.Shapes.{shape_of}
 use Rattle.block_store.specs.Widths.{payloads}
-use Rattle.block_store.specs.Registers.{register_block, register_slot, registers_end}
-use Rattle.block_store.specs.Places.{
-  extent,
-  in_range,
-  is_block,
-  IsBlock,
-  ColourOf,
-  OwnerOf,
-  ShapeOf,
-  PayloadOf,
-}
+use Rattle.block_store.specs.Registers.{register_block, register_slot}
+use Rattle.block_store.specs.Places.{extent, in_range, is_block, IsBlock, PayloadOf}
 use Rattle.block_store.proofs.ColourWords.{colour-black, link-black}
 use Rattle.block_store.proofs.OwnerWords.{owner-code}
 use Rattle.block_store.proofs.PayloadWords.{payload-code, target-reference, target-nil}
@@ -58,7 +21,7 @@ use Rattle.object_lists.specs.Parts.{link_in}
 use Rattle.never_heap.specs.declared.Command.{Command}
 use Rattle.never_heap.specs.declared.Command.TheVariants.{New, Arr}
 use Rattle.never_heap.specs.Bounds.{IsCommandInRange}
-use Rattle.never_heap.specs.Steps.{makes_object, blocks_of}
+use Rattle.never_heap.specs.Steps.{makes_object}
 use Rattle.heap_machine.specs.Operations.{place_of, Fits}
 use Rattle.heap_machine.specs.Readings.{CanHold, StoresHeld}
 use Rattle.build_steps.specs.declared.rows.BuildRow.{BuildRow}
@@ -77,7 +40,7 @@ use Rattle.build_steps.specs.declared.rows.BuildRow.TheVariants.{
   Refused,
 }
 use Rattle.build_steps.specs.Objects.{made_register, made_shape, made_part, block_at, link_word}
-use Rattle.build_steps.specs.Rows.{BuildState, list_of, row_want, build_want, made_place}
+use Rattle.build_steps.specs.Rows.{BuildState, list_of, row_want, build_want}
 use Rattle.build_steps.specs.Fits.{RowFits, BuildFits}
 use Rattle.build_steps.proofs.Parts.{links_onward}
 

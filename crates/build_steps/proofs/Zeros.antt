@@ -1,16 +1,13 @@
 -- A row may read 0: that is a word of every place at which a part looks.
-use Rattle.std.proofs.Common.{◌≡◌, ℕ, ◌<◌, ◌≤◌, ◌-◌, ◌^◌, IsSome, is_some, refl, arith, ap, sym, subst}
+use Rattle.std.proofs.Common.{ℕ, ◌≤◌, IsSome, is_some, refl, arith, ap, sym, subst}
 use Rattle.block_store.specs.declared.Config.{Config}
 use Rattle.block_store.specs.declared.Width.{Width}
-use Rattle.block_store.specs.declared.Colour.TheVariants as colours
 use Rattle.block_store.specs.declared.Payload.TheVariants as payloads
-use Rattle.block_store.specs.declared.Shape.TheVariants as shapes
-use Rattle.block_store.specs.Colours.{colour_of, link}
+use Rattle.block_store.specs.Colours.{colour_of}
 use Rattle.block_store.specs.Owners.{owner_of, owner_parts}
-use Rattle.block_store.specs.Payloads.{payload_of, target}
 use Rattle.block_store.specs.Phases.{inside_of, cycle_of}
 use Rattle.block_store.specs.Shapes.{shape_of}
-use Rattle.block_store.specs.Places.{extent, Phase, ColourOf, OwnerOf, ShapeOf, PayloadOf}
+use Rattle.block_store.specs.Places.{extent, PayloadOf}
 use Rattle.block_store.proofs.ColourWords.{link-zero}
 use Rattle.block_store.proofs.PayloadWords.{payload-code, target-nil}
 use Rattle.heap_machine.specs.Operations.{place_of}

@@ -4,7 +4,6 @@ use Rattle.block_store.specs.declared.Config.{Config}
 use Rattle.block_store.specs.Places.{extent, IsBlock}
 use Rattle.block_store.specs.Registers.{registers_end}
 use Rattle.block_store.specs.Widths.{payloads}
-use Rattle.never_heap.specs.declared.Command.{Command}
 use Rattle.never_heap.specs.Bounds.{IsCommandInRange}
 use Rattle.never_heap.specs.Steps.{makes_object, blocks_of}
 use Rattle.heap_machine.specs.Operations.{place_of}
