@@ -20,7 +20,7 @@ use Rattle.heap_machine.proofs.Tricolours.{tricolour_other}
 module _ (e : Extent) (h : Heap) (hs : ℕ → Holding) where
   -- while the phase is Mark, what marking keeps
   pub in_mark : PhaseKept e h hs → is_sweep (h Phase) ≡ false → HeapKept e (cycle_of (h Phase)) h hs
-  in_mark k mark = record { grey = k.grey; tricolour = k.tricolour; solid = k.solid }
+  in_mark k mark = record { grey = k.grey; tricolour = k.tricolour mark; solid = k.solid mark }
 
   -- and back
   pub from_mark : (cycle : ℕ) → cycle_of (h Phase) ≡ cycle → HeapKept e cycle h hs
@@ -28,9 +28,9 @@ module _ (e : Extent) (h : Heap) (hs : ℕ → Holding) where
   from_mark cycle same k reuse = record {
     grey = k.grey;
     reuse = reuse;
-    tricolour = λ mark. subst (λ c. TricolourKept e c h (λ t. tricolour_held (hs t)))
-        (sym same) (k.tricolour mark);
-    solid = λ mark. subst (λ c. SolidKept e c h) (sym same) (k.solid mark);
+    tricolour = λ _. subst (λ c. TricolourKept e c h (λ t. tricolour_held (hs t)))
+        (sym same) k.tricolour;
+    solid = λ _. subst (λ c. SolidKept e c h) (sym same) k.solid;
   }
 
   -- in Sweep the rules of marking say nothing
