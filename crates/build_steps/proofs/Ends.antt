@@ -1,5 +1,28 @@
 -- Which event decides what the command answers, and what that is.
-use Rattle.std.proofs.Common.{◌≡◌, ℕ, ◌≤◌, ◌+◌, ◌⊎◌, ◌||◌, ◌&&◌, Bool, true, false, Some, is_some, refl, arith, inl, inr, eqb, ltb, cond, eq-eqb, ne_eqb, length}
+use Rattle.std.proofs.Common.{
+  ◌≡◌,
+  ℕ,
+  ◌≤◌,
+  ◌+◌,
+  ◌⊎◌,
+  ◌||◌,
+  ◌&&◌,
+  Bool,
+  true,
+  false,
+  Some,
+  is_some,
+  refl,
+  arith,
+  inl,
+  inr,
+  eqb,
+  ltb,
+  cond,
+  eq-eqb,
+  ne_eqb,
+  length,
+}
 use Rattle.std.proofs.lemmas.Bool.{cases_Bool, cases_eq}
 use Rattle.block_store.specs.Widths.{payloads}
 use Rattle.block_store.specs.Colours.{link}
@@ -7,8 +30,31 @@ use Rattle.block_store.specs.declared.Width.{Width}
 use Rattle.block_store.specs.Places.{Extent}
 use Rattle.never_heap.specs.declared.Reply.TheVariants as replies
 use Rattle.build_steps.specs.declared.rows.BuildRow.{BuildRow}
-use Rattle.build_steps.specs.declared.rows.BuildRow.TheVariants.{ReadCount, Reserve, TakeFree, Collect, PutRest, WriteOwner, WritePayload, WriteColour, Built, Refused}
-use Rattle.build_steps.specs.Rows.{BuildState, row_got, row_step, row_reply, build_got, build_step, build_over, build_reply, full_cycle, after_take, after_collect}
+use Rattle.build_steps.specs.declared.rows.BuildRow.TheVariants.{
+  ReadCount,
+  Reserve,
+  TakeFree,
+  Collect,
+  PutRest,
+  WriteOwner,
+  WritePayload,
+  WriteColour,
+  Built,
+  Refused,
+}
+use Rattle.build_steps.specs.Rows.{
+  BuildState,
+  row_got,
+  row_step,
+  row_reply,
+  build_got,
+  build_step,
+  build_over,
+  build_reply,
+  full_cycle,
+  after_take,
+  after_collect,
+}
 use Rattle.build_steps.specs.Ends.{
   is_counting,
   is_publishing,

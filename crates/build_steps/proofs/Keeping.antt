@@ -1,5 +1,37 @@
 -- Each event of building keeps where Free blocks stand, what is claimed and what was passed.
-use Rattle.std.proofs.Common.{◌≡◌, ◌≢◌, ℕ, suc, ◌<◌, ◌≤◌, ◌+◌, ◌-◌, ◌&&◌, Bool, true, false, refl, arith, subst, sym, ap, ◌∙◌, inl, inr, eqb, ltb, eq-eqb, ne_eqb, eqb-true, List, [], ◌∷◌, ◌++◌, length, take}
+use Rattle.std.proofs.Common.{
+  ◌≡◌,
+  ◌≢◌,
+  ℕ,
+  suc,
+  ◌<◌,
+  ◌≤◌,
+  ◌+◌,
+  ◌-◌,
+  ◌&&◌,
+  Bool,
+  true,
+  false,
+  refl,
+  arith,
+  subst,
+  sym,
+  ap,
+  ◌∙◌,
+  inl,
+  inr,
+  eqb,
+  ltb,
+  eq-eqb,
+  ne_eqb,
+  eqb-true,
+  List,
+  [],
+  ◌∷◌,
+  ◌++◌,
+  length,
+  take,
+}
 use Rattle.std.proofs.lemmas.Bool.{cases_Bool, cases_eq, lt-ltb, and_parts}
 use Rattle.block_store.specs.declared.Config.{Config}
 use Rattle.block_store.specs.Colours.{is_free, link, white_word, black_word}
@@ -7,7 +39,16 @@ use Rattle.block_store.proofs.ColourWords.{not_free_white, not_free_black, black
 use Rattle.block_store.specs.Heaps.{Heap, put_at}
 use Rattle.block_store.specs.Phases.{bit, cycle_of}
 use Rattle.block_store.specs.Widths.{payloads}
-use Rattle.block_store.specs.Places.{Extent, extent, is_block, IsBlock, Phase, FreeCount, FreeList, ColourOf}
+use Rattle.block_store.specs.Places.{
+  Extent,
+  extent,
+  is_block,
+  IsBlock,
+  Phase,
+  FreeCount,
+  FreeList,
+  ColourOf,
+}
 use Rattle.heap_machine.specs.Counts.{changed, times}
 use Rattle.heap_machine.specs.FreeBlocks.{FreeHolding, FreeKept}
 use Rattle.heap_machine.specs.Holdings.{Holding, holds_nothing, free_held, sweep_held}
@@ -43,7 +84,25 @@ use Rattle.build_steps.specs.declared.rows.BuildRow.TheVariants.{
   Refused,
 }
 use Rattle.build_steps.specs.Objects.{block_at}
-use Rattle.build_steps.specs.Rows.{BuildState, list_of, row_want, row_got, held_got, next_list, after_count, after_take, after_collect, after_payload, after_colour, build_want, build_got, build_over, row_holding, holds_first, build_holding}
+use Rattle.build_steps.specs.Rows.{
+  BuildState,
+  list_of,
+  row_want,
+  row_got,
+  held_got,
+  next_list,
+  after_count,
+  after_take,
+  after_collect,
+  after_payload,
+  after_colour,
+  build_want,
+  build_got,
+  build_over,
+  row_holding,
+  holds_first,
+  build_holding,
+}
 use Rattle.build_steps.specs.Fits.{RowFits, BuildFits}
 use Rattle.build_steps.proofs.Held.{times_more, times_first, first_few, first_all}
 use Rattle.build_steps.proofs.Ranges.{length_more}

@@ -9,4 +9,5 @@ pub mod Marking
 pub mod Together
 pub mod Once
 pub mod Ends
+pub mod Order
 pub mod Zeros

@@ -1,5 +1,25 @@
 -- Each event of building keeps the rules of marking.
-use Rattle.std.proofs.Common.{◌≡◌, ◌≢◌, ℕ, ◌<◌, ◌+◌, true, false, refl, arith, subst, sym, ap, ◌∙◌, inl, inr, eqb-true, eq-eqb, ne_eqb, List}
+use Rattle.std.proofs.Common.{
+  ◌≡◌,
+  ◌≢◌,
+  ℕ,
+  ◌<◌,
+  ◌+◌,
+  true,
+  false,
+  refl,
+  arith,
+  subst,
+  sym,
+  ap,
+  ◌∙◌,
+  inl,
+  inr,
+  eqb-true,
+  eq-eqb,
+  ne_eqb,
+  List,
+}
 use Rattle.std.proofs.lemmas.Bool.{cases_eq}
 use Rattle.block_store.specs.declared.Config.{Config}
 use Rattle.block_store.specs.Colours.{is_free, is_grey, kind, link, black_word}
@@ -23,7 +43,12 @@ use Rattle.heap_machine.specs.Holdings.{Holding, grey_held, tricolour_held}
 use Rattle.heap_machine.specs.Operations.{Operation, place_of, heap_after}
 use Rattle.heap_machine.specs.ReuseKept.{ReuseKept}
 use Rattle.heap_machine.specs.Solid.{SolidKept}
-use Rattle.heap_machine.specs.Tricolour.{TricolourHolding, no_tricolour, TricolourKept, is_of_tricolour}
+use Rattle.heap_machine.specs.Tricolour.{
+  TricolourHolding,
+  no_tricolour,
+  TricolourKept,
+  is_of_tricolour,
+}
 use Rattle.heap_machine.proofs.Functions.{funext}
 use Rattle.heap_machine.proofs.GreyBlocks.{kept_other, kept_other_colour}
 use Rattle.heap_machine.proofs.Solids.{solid_other, solid_colour, solid_payload}
@@ -44,7 +69,16 @@ use Rattle.build_steps.specs.declared.rows.BuildRow.TheVariants.{
   Refused,
 }
 use Rattle.build_steps.specs.Objects.{made_register}
-use Rattle.build_steps.specs.Rows.{BuildState, built_at, built_payload, row_want, build_want, build_got, row_holding, build_holding}
+use Rattle.build_steps.specs.Rows.{
+  BuildState,
+  built_at,
+  built_payload,
+  row_want,
+  build_want,
+  build_got,
+  row_holding,
+  build_holding,
+}
 use Rattle.build_steps.specs.Fits.{RowFits, BuildFits}
 use Rattle.build_steps.specs.Standing.{left_of, begun_of, Stands}
 use Rattle.build_steps.proofs.Keeping.{still_free}

@@ -1,5 +1,30 @@
 -- What is published, and to what it links.
-use Rattle.std.proofs.Common.{◌≡◌, ◌≢◌, ℕ, suc, ◌<◌, ◌≤◌, ◌+◌, true, false, Option, Some, None, refl, arith, subst, sym, ap, inl, inr, eq-eqb, ne_eqb, List, [], ◌∷◌}
+use Rattle.std.proofs.Common.{
+  ◌≡◌,
+  ◌≢◌,
+  ℕ,
+  suc,
+  ◌<◌,
+  ◌≤◌,
+  ◌+◌,
+  true,
+  false,
+  Option,
+  Some,
+  None,
+  refl,
+  arith,
+  subst,
+  sym,
+  ap,
+  inl,
+  inr,
+  eq-eqb,
+  ne_eqb,
+  List,
+  [],
+  ◌∷◌,
+}
 use Rattle.std.proofs.lemmas.Bool.{cases_Bool}
 use Rattle.block_store.specs.declared.Config.{Config}
 use Rattle.block_store.specs.declared.Width.{Width}
@@ -16,7 +41,12 @@ use Rattle.never_heap.specs.Steps.{blocks_of}
 use Rattle.heap_machine.specs.Counts.{times}
 use Rattle.heap_machine.specs.Operations.{Exchange, heap_after}
 use Rattle.build_steps.specs.declared.rows.BuildRow.{BuildRow}
-use Rattle.build_steps.specs.declared.rows.BuildRow.TheVariants.{Collect, WritePayload, Publish, Built}
+use Rattle.build_steps.specs.declared.rows.BuildRow.TheVariants.{
+  Collect,
+  WritePayload,
+  Publish,
+  Built,
+}
 use Rattle.build_steps.specs.Objects.{made_register, made_part, block_at, link_word}
 use Rattle.build_steps.specs.Rows.{
   BuildState,

@@ -1,5 +1,32 @@
 -- What holds of the rows: their places are in range, and a row that fits becomes one that fits.
-use Rattle.std.proofs.Common.{◌≡◌, ℕ, zero, suc, ◌<◌, ◌≤◌, ◌+◌, true, arith, refl, ap, sym, subst, inl, inr, eqb, ltb, eq-eqb, ne_eqb, ltb-true, ltb-false, List, [], ◌∷◌, ◌++◌, length}
+use Rattle.std.proofs.Common.{
+  ◌≡◌,
+  ℕ,
+  zero,
+  suc,
+  ◌<◌,
+  ◌≤◌,
+  ◌+◌,
+  true,
+  arith,
+  refl,
+  ap,
+  sym,
+  subst,
+  inl,
+  inr,
+  eqb,
+  ltb,
+  eq-eqb,
+  ne_eqb,
+  ltb-true,
+  ltb-false,
+  List,
+  [],
+  ◌∷◌,
+  ◌++◌,
+  length,
+}
 use Rattle.std.proofs.lemmas.Bool.{cases_Bool, cases_eq}
 use Rattle.block_store.specs.declared.Config.{Config}
 use Rattle.block_store.specs.Widths.{payloads}
@@ -28,7 +55,16 @@ use Rattle.build_steps.specs.declared.rows.BuildRow.TheVariants.{
   Refused,
 }
 use Rattle.build_steps.specs.Objects.{block_at}
-use Rattle.build_steps.specs.Rows.{BuildState, row_want, row_got, held_got, build_got, building, next_list, after_collect}
+use Rattle.build_steps.specs.Rows.{
+  BuildState,
+  row_want,
+  row_got,
+  held_got,
+  build_got,
+  building,
+  next_list,
+  after_collect,
+}
 use Rattle.build_steps.specs.Fits.{RowFits, BuildFits, BuildReads}
 use Rattle.build_steps.proofs.Parts.{some_blocks}
 

@@ -1,12 +1,55 @@
 -- What a part has written stands until it is published.
-use Rattle.std.proofs.Common.{◌≡◌, ℕ, zero, suc, ◌<◌, ◌≤◌, ◌+◌, ◌-◌, ◌&&◌, Bool, true, false, refl, arith, subst, sym, ap, inl, inr, eqb, ltb, eq-eqb, ne_eqb, ltb-true, ltb-false, List, [], ◌∷◌, length}
+use Rattle.std.proofs.Common.{
+  ◌≡◌,
+  ℕ,
+  zero,
+  suc,
+  ◌<◌,
+  ◌≤◌,
+  ◌+◌,
+  ◌-◌,
+  ◌&&◌,
+  Bool,
+  true,
+  false,
+  refl,
+  arith,
+  subst,
+  sym,
+  ap,
+  inl,
+  inr,
+  eqb,
+  ltb,
+  eq-eqb,
+  ne_eqb,
+  ltb-true,
+  ltb-false,
+  List,
+  [],
+  ◌∷◌,
+  length,
+}
 use Rattle.std.proofs.lemmas.Bool.{cases_Bool, cases_eq}
 use Rattle.block_store.specs.declared.Config.{Config}
 use Rattle.block_store.specs.declared.Width.{Width}
 use Rattle.block_store.specs.Colours.{black_word, link}
 use Rattle.block_store.specs.Heaps.{Heap, put_at}
 use Rattle.block_store.specs.Widths.{payloads}
-use Rattle.block_store.specs.Places.{Place, extent, same_place, Phase, Cursor, FreeCount, GreyList, FreeList, ColourOf, OwnerOf, ShapeOf, PayloadOf}
+use Rattle.block_store.specs.Places.{
+  Place,
+  extent,
+  same_place,
+  Phase,
+  Cursor,
+  FreeCount,
+  GreyList,
+  FreeList,
+  ColourOf,
+  OwnerOf,
+  ShapeOf,
+  PayloadOf,
+}
 use Rattle.block_store.specs.Phases.{bit}
 use Rattle.heap_machine.specs.Counts.{times}
 use Rattle.heap_machine.specs.Operations.{heap_after}
@@ -28,7 +71,26 @@ use Rattle.build_steps.specs.declared.rows.BuildRow.TheVariants.{
 }
 use Rattle.build_steps.proofs.Held.{stands_once}
 use Rattle.build_steps.specs.Objects.{block_at}
-use Rattle.build_steps.specs.Rows.{BuildState, built_at, built_owner, built_shape, built_payload, row_want, row_got, held_got, after_count, after_reserve, after_take, after_last, after_collect, after_payload, after_colour, build_want, build_got, building}
+use Rattle.build_steps.specs.Rows.{
+  BuildState,
+  built_at,
+  built_owner,
+  built_shape,
+  built_payload,
+  row_want,
+  row_got,
+  held_got,
+  after_count,
+  after_reserve,
+  after_take,
+  after_last,
+  after_collect,
+  after_payload,
+  after_colour,
+  build_want,
+  build_got,
+  building,
+}
 use Rattle.build_steps.specs.Fits.{RowFits, BuildFits}
 use Rattle.build_steps.specs.Ends.{is_publishing}
 use Rattle.build_steps.specs.Standing.{

@@ -1,5 +1,28 @@
 -- What a row wants: a place of the heap, and a word that the place can hold.
-use Rattle.std.proofs.Common.{◌≡◌, ℕ, ◌<◌, ◌≤◌, ◌+◌, true, false, Option, Some, None, is_some, IsSome, arith, refl, ap, sym, subst, leb, List, length, mod-lt, mod-eq_of_lt}
+use Rattle.std.proofs.Common.{
+  ◌≡◌,
+  ℕ,
+  ◌<◌,
+  ◌≤◌,
+  ◌+◌,
+  true,
+  false,
+  Option,
+  Some,
+  None,
+  is_some,
+  IsSome,
+  arith,
+  refl,
+  ap,
+  sym,
+  subst,
+  leb,
+  List,
+  length,
+  mod-lt,
+  mod-eq_of_lt,
+}
 use Rattle.std.proofs.lemmas.Bool.{lt-ltb, le-leb}
 use Rattle.block_store.specs.declared.Config.{Config}
 use Rattle.block_store.specs.declared.TheConstants.{REGISTERS}

@@ -3,7 +3,16 @@ use Rattle.std.specs.Prelude.{ℕ, ◌||◌, ◌&&◌, nat_lt, Bool, true, false
 use Rattle.heap_machine.specs.declared.Step.{Step}
 use Rattle.heap_machine.specs.declared.Step.TheVariants.{Over, WaitedOver}
 use Rattle.build_steps.specs.declared.rows.BuildRow.{BuildRow}
-use Rattle.build_steps.specs.declared.rows.BuildRow.TheVariants.{ReadCount, Publish, Built, Refused}
+use Rattle.build_steps.specs.declared.rows.BuildRow.TheVariants.{
+  ReadCount,
+  WriteOwner,
+  WriteShape,
+  WritePayload,
+  WriteColour,
+  Publish,
+  Built,
+  Refused,
+}
 use Rattle.build_steps.specs.Rows.{BuildState}
 
 -- the event reads the free count
@@ -15,6 +24,14 @@ is_counting _ = false
 abbrev pub is_publishing : BuildRow → Bool
 is_publishing Publish = true
 is_publishing _ = false
+
+-- the event writes a word of a held block
+abbrev pub is_writing : BuildRow → Bool
+is_writing (WriteOwner o) = true
+is_writing (WriteShape o) = true
+is_writing (WritePayload o j) = true
+is_writing (WriteColour o) = true
+is_writing _ = false
 
 -- the object was made
 abbrev pub is_built : BuildRow → Bool

@@ -6,6 +6,7 @@ use Rattle.std.specs.Prelude.{
   ◌<◌,
   ◌≤◌,
   ◌≡◌,
+  ◌⊎◌,
   ◌==◌,
   Bool,
   false,
@@ -81,6 +82,13 @@ begun_of many (WriteShape o) = 1
 begun_of many (WritePayload o j) = j + 2
 begun_of many (WriteColour o) = many + 2
 begun_of many _ = 0
+
+-- From row r to row r', for k blocks of so many payloads: one more word of the same ordinal is
+-- written, or with all of them its colour, and the next is the first word of the ordinal below.
+abbrev pub IsNextWord : ℕ → ℕ → BuildRow → BuildRow → Type 0
+IsNextWord many k r r' =
+    (left_of k r' ≡ left_of k r) × (begun_of many r' ≡ begun_of many r + 1)
+    ⊎ (left_of k r' + 1 ≡ left_of k r) × (begun_of many r ≡ many + 2) × (begun_of many r' ≡ 0)
 
 -- what the part has written stands in the heap
 pub record Stands (w : Width) (h : Heap) (s : BuildState) : Type 0 where

@@ -9,6 +9,7 @@ ghost use Rattle.block_store.specs.Phases.{cycle_of};
 ghost use Rattle.block_store.specs.Places.{Extent, Place, extent, in_range, Phase, ColourOf};
 ghost use Rattle.block_store.specs.Registers.{registers_end};
 ghost use Rattle.block_store.specs.declared.Width.{Width};
+ghost use Rattle.block_store.specs.Widths.{payloads};
 ghost use Rattle.never_heap.specs.declared.Command.{Command};
 ghost use Rattle.never_heap.specs.declared.Reply.TheVariants as replies;
 ghost use Rattle.never_heap.specs.Bounds.{IsCommandInRange};
@@ -24,8 +25,8 @@ ghost use Rattle.heap_machine.specs.PhaseKept.{PhaseKept};
 ghost use Rattle.heap_machine.specs.ReuseKept.{ReuseKept};
 ghost use Rattle.build_steps.specs.Rows.{BuildState, built_at, built_payload, made_place, build_want, build_got, build_step, build_over, build_reply, build_holding, building, full_cycle};
 ghost use Rattle.build_steps.specs.Fits.{BuildFits, BuildReads};
-ghost use Rattle.build_steps.specs.Ends.{is_counting, is_publishing, is_built, is_refused, decides, is_last};
-ghost use Rattle.build_steps.specs.Standing.{left_of, IsWhole, Stands, HeldOnce, IsElsewhere, AllRead, build_after, heap_written};
+ghost use Rattle.build_steps.specs.Ends.{is_counting, is_writing, is_publishing, is_built, is_refused, decides, is_last};
+ghost use Rattle.build_steps.specs.Standing.{left_of, IsNextWord, IsWhole, Stands, HeldOnce, IsElsewhere, AllRead, build_after, heap_written};
 ghost use Rattle.build_steps.specs.Objects.{made_part, block_at};
 ghost use Rattle.build_steps.specs.declared.rows.BuildRow.TheVariants.{WritePayload};
 ghost use Rattle.object_lists.specs.Parts.{Link, Field, Blank};
@@ -75,6 +76,13 @@ pub fn what_is_written_stands()
         → Stands c.width (heap_after h (build_want (extent c) s)) (build_got (extent c) s v) }
     ensures others { (c : Config) (h : Heap) (s : BuildState) (p : Place) (v : ℕ) → BuildFits c s
         → IsElsewhere s p → Stands c.width h s → Stands c.width (put_at h p v) s }
+{}
+
+/// The words of the held blocks are written in one order, each once: of each ordinal, from the last
+/// down, the owner, the shape, the payloads from 0 on, and last the colour.
+pub fn words_are_written_in_order()
+    ensures { (c : Config) (s : BuildState) (v : ℕ) → BuildFits c s → is_writing s.row ≡ true
+        → IsNextWord (payloads c.width) s.blocks s.row (build_got (extent c) s v).row }
 {}
 
 /// What is published is the whole object: all its blocks are black and show the name with their

@@ -13,6 +13,7 @@ mod tests;
 pub use laws::{
     held_blocks_are_distinct, replies_are_decided, rows_keep_marking, rows_keep_reuse,
     rows_keep_the_heap, rows_stay_in_the_heap, what_is_published, what_is_written_stands,
+    words_are_written_in_order,
 };
 pub use pass::BuildPass;
 pub use rows::BuildRow;
