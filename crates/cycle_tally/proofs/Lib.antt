@@ -1,0 +1,15 @@
+pub mod Functions
+pub mod Sums
+pub mod Counting
+pub mod Moving
+pub mod Working
+pub mod Deciding
+pub mod Steps
+pub mod Laws
+pub mod Listing
+pub mod Making
+pub mod InUse
+pub mod KeptStart
+pub mod Openings
+pub mod Smalls
+pub mod Example

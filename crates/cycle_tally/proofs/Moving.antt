@@ -1,0 +1,275 @@
+-- Events that move one thread or the phase, and the start of a cycle.
+use Rattle.std.proofs.Common.{◌≡◌, ℕ, suc, ◌+◌, ◌-◌, ◌*◌, ◌≤◌, ◌<◌, max, true, false, ◌&&◌, ltb, refl, arith, ap, sym, ◌∙◌, subst, [], ◌∷◌, ◌++◌, inl, inr, lt-ltb}
+use Rattle.std.proofs.lemmas.Bool.{cases_eq, cases_lt, le-ltb}
+use Rattle.block_store.specs.declared.Config.{Config}
+use Rattle.block_store.specs.Phases.{bit}
+use Rattle.never_heap.specs.Histories.{Started, work_in}
+use Rattle.never_heap.specs.Cycles.{graph_at}
+use Rattle.never_heap.specs.Given.{given}
+use Rattle.never_heap.specs.LiveBlocks.{live_blocks}
+use Rattle.never_heap.proofs.Growing.{starts_append, work_append}
+use Rattle.never_heap.proofs.Cycling.{right_work_more, licensed_more, graph_at_more, given_ended, given_none}
+use Rattle.work_account.specs.Sums.{total}
+use Rattle.work_account.specs.Accounts.{entered, units_in, given_in}
+use Rattle.cycle_tally.proofs.Functions.{total_changed, total_none}
+use Rattle.work_account.proofs.Balances.{entered_sound}
+use Rattle.cycle_tally.specs.Tallies.{Spending, Tally, claims, given_now}
+use Rattle.cycle_tally.specs.Events.{Enter, Leave, SetCursor, Flip, Start, Clear, Next, with_thread, apply, FewInUse, NoClaim}
+use Rattle.cycle_tally.specs.Entries.{entries_in}
+use Rattle.cycle_tally.specs.Kept.{SpendingKept, live_before, TallyKept}
+use Rattle.cycle_tally.proofs.Sums.{total_least, total_nought, paid_entered, cycle_entered, units_entered, given_entered, units_later, given_later, no_claims}
+use Rattle.cycle_tally.proofs.Counting.{one_less, entries_started, in_threads_more, bool_no, scanned_one, few_units, all_given_now, given_then, each_changed}
+
+module _ (c : Config) (rate : ℕ) (black : ℕ → ℕ) (some : 0 < rate) (s : Tally)
+    (k : TallyKept c rate black s) where
+  -- an event that moves one thread, and no count
+  pub moved : (t : ℕ) → t < c.threads → (w : Spending) → SpendingKept c rate s.cycle w
+      → ((x : ℕ) → claims x w ≡ claims x (s.threads t))
+      → units_in s.cycle w.balance ≡ units_in s.cycle (s.threads t).balance
+      → given_in s.cycle w.balance ≡ given_in s.cycle (s.threads t).balance
+      → w.reserved ≡ (s.threads t).reserved → w.balance.paid ≡ (s.threads t).balance.paid
+      → TallyKept c rate black (with_thread s t w)
+  moved t tl w kw same u g r p = record {
+    starts = k.starts;
+    some = k.some;
+    cursor = k.cursor;
+    scans = k.scans;
+    ended = k.ended;
+    few = k.few;
+    many = k.many;
+    cheap = k.cheap;
+    right = k.right;
+    entries = k.entries;
+    licensed = k.licensed;
+    each = each_changed c rate black some s k s.cycle t w k.each kw;
+    passes = λ x pos. (let q = total_changed (claims x) c.threads s.threads t w tl in
+        omega (arith, k.passes x pos, same x));
+    counted = (let q = total_changed (λ (v : Spending).
+        units_in s.cycle v.balance) c.threads s.threads t w tl in omega (arith, k.counted));
+    handed = (let q = total_changed (λ (v : Spending).
+        given_in s.cycle v.balance) c.threads s.threads t w tl in omega (arith, k.handed));
+    room = (let q = total_changed (λ (v : Spending).
+        given_in s.cycle v.balance) c.threads s.threads t w tl in
+        let y = total_changed (λ (v : Spending). v.reserved) c.threads s.threads t w tl in
+        omega (arith, k.room));
+    works = (let q = total_changed (λ (v : Spending). v.balance.paid) c.threads s.threads t w tl in
+        omega (arith, k.works));
+  }
+
+  pub enters : (t : ℕ) → t < c.threads → TallyKept c rate black (apply c rate black s (Enter t))
+  enters t tl =
+      let w0 : Spending = s.threads t in
+      let o = k.each t tl in
+      let p : (entered s.cycle w0.balance).paid ≡ w0.balance.paid =
+      paid_entered s.cycle w0.balance in
+      let z : (entered s.cycle w0.balance).cycle ≡ s.cycle =
+      cycle_entered s.cycle w0.balance o.entered in
+      moved t tl (record w0 { inside = true; balance = entered s.cycle w0.balance })
+      (record {
+        sound = entered_sound rate c.object s.cycle w0.balance o.sound;
+        entered = omega arith;
+        present = λ _. z;
+        asked = o.asked;
+        owed = omega (arith, o.owed);
+        claimed = λ h. (let q = o.claimed h in (q.0, refl, omega (arith, q.2)));
+        reserved = λ h. (let q = o.reserved h in (refl, q.1, p ∙ q.2));
+      })
+      (λ x. refl) (units_entered s.cycle w0.balance o.entered)
+      (given_entered s.cycle w0.balance o.entered) refl p
+
+  pub leaves : (t : ℕ) → t < c.threads → NoClaim (s.threads t)
+      → (s.threads t).reserved ≡ 0 → TallyKept c rate black (apply c rate black s (Leave t))
+  leaves t tl none r =
+      let o = k.each t tl in
+      moved t tl (record (s.threads t) { inside = false })
+      (record {
+        sound = o.sound;
+        entered = o.entered;
+        asked = o.asked;
+        owed = o.owed;
+        present = λ h. absurd (let q : false ≡ true = h in cc);
+        claimed = λ h. absurd (omega arith);
+        reserved = λ h. absurd (h r);
+      })
+      (λ x. refl) refl refl refl refl
+
+  pub asks : (t y : ℕ) → t < c.threads → NoClaim (s.threads t)
+      → (s.threads t).reserved ≡ 0 → (s.threads t).balance.paid ≡ 0 → y ≤ c.object
+      → TallyKept c rate black (apply c rate black s (Next t y))
+  asks t y tl none r p l =
+      let o = k.each t tl in
+      moved t tl (record (s.threads t) { asked = y })
+      (record {
+        sound = o.sound;
+        entered = o.entered;
+        present = o.present;
+        asked = l;
+        owed = omega arith;
+        claimed = λ h. absurd (omega arith);
+        reserved = λ h. absurd (h r);
+      })
+      (λ x. refl) refl refl refl refl
+
+  pub clears : (t : ℕ) → t < c.threads → NoClaim (s.threads t)
+      → TallyKept c rate black (apply c rate black s (Clear t))
+  clears t tl none =
+      let o = k.each t tl in
+      let w : Spending = record (s.threads t) { low = 0; high = 0 } in
+      moved t tl w
+      (record {
+        sound = o.sound;
+        entered = o.entered;
+        present = o.present;
+        asked = o.asked;
+        owed = o.owed;
+        reserved = o.reserved;
+        claimed = λ h. absurd (omega arith);
+      })
+      (λ x. no_claims x w (omega arith) ∙ sym (no_claims x (s.threads t) none)) refl refl refl refl
+
+  pub cursor_set : s.sweep ≡ false → TallyKept c rate black (apply c rate black s SetCursor)
+  cursor_set mark = record {
+    starts = k.starts;
+    some = k.some;
+    each = k.each;
+    scans = k.scans;
+    counted = k.counted;
+    handed = k.handed;
+    ended = k.ended;
+    room = k.room;
+    few = k.few;
+    many = k.many;
+    works = k.works;
+    cheap = k.cheap;
+    right = k.right;
+    entries = k.entries;
+    licensed = k.licensed;
+    cursor = (omega arith, omega arith);
+    passes = λ x pos. k.passes x pos ∙ ap (λ b. bit (b && ltb x s.cursor)) mark
+        ∙ sym (ap (λ b. bit (b && ltb x 1)) mark);
+  }
+
+  pub flips : s.sweep ≡ false → s.cursor ≡ 1 → TallyKept c rate black (apply c rate black s Flip)
+  flips mark first = record {
+    starts = k.starts;
+    some = k.some;
+    each = k.each;
+    cursor = k.cursor;
+    counted = k.counted;
+    handed = k.handed;
+    ended = k.ended;
+    room = k.room;
+    few = k.few;
+    many = k.many;
+    works = k.works;
+    cheap = k.cheap;
+    right = k.right;
+    entries = k.entries;
+    licensed = k.licensed;
+    scans = λ x. scanned_one c rate black some s k x;
+    passes = λ x pos. k.passes x pos ∙ ap (λ b. bit (b && ltb x s.cursor)) mark
+        ∙ sym (ap bit (le-ltb x s.cursor (omega arith)));
+  }
+
+  pub idle_claims : (x t : ℕ) → t < c.threads → (s.threads t).inside ≡ false
+      → claims x (s.threads t) ≡ 0
+  idle_claims x t tl out = elim (cases_lt (s.threads t).low (s.threads t).high) [
+    | inl l ↦ absurd (bool_no _ out ((k.each t tl).claimed l).1)
+    | inr g ↦ no_claims x (s.threads t) g
+  ]
+
+  -- at the end of a cycle each block was passed
+  pub passed_all : s.sweep ≡ true → c.blocks < s.cursor
+      → ((t : ℕ) → t < c.threads → (s.threads t).inside ≡ false) → (x : ℕ) → 0 < x → x ≤ c.blocks
+      → s.passed x ≡ 1
+  passed_all sw above out x pos low =
+      let none : total c.threads (λ t. claims x (s.threads t)) ≡ 0 =
+      total_none c.threads (λ t. claims x (s.threads t))
+      (λ t tl. idle_claims x t tl (out t tl)) in
+      let one : bit (s.sweep && ltb x s.cursor) ≡ 1 = ap (λ b. bit (b && ltb x s.cursor)) sw
+      ∙ ap bit (lt-ltb x s.cursor (omega arith)) in
+      omega (arith, k.passes x pos)
+
+  pub begins : s.sweep ≡ true → c.blocks < s.cursor
+      → ((t : ℕ) → t < c.threads → (s.threads t).inside ≡ false) → FewInUse c s
+      → TallyKept c rate black (apply c rate black s Start)
+  begins sw above out usage =
+      let next : s.cycle + 1 - 1 ≡ s.cycle = omega arith in
+      let longest : max 1 (s.cycle + 1 - 1) ≡ s.cycle = omega (arith, k.some) in
+      let swept : total c.blocks (λ x. s.passed (suc x)) ≡ c.blocks =
+      total_least c.blocks (λ x. s.passed (suc x))
+      (λ x l. passed_all sw above out (suc x) (omega arith) (omega arith)) in
+      let same : live_blocks c.width (graph_at c (s.order ++ Started ∷ []) s.cycle)
+      ≡ live_blocks c.width (graph_at c s.order s.cycle) =
+      ap (live_blocks c.width) (graph_at_more c s.order (Started ∷ []) s.cycle k.some
+      (omega (arith, k.starts))) in
+      let ended : given c.width (s.order ++ Started ∷ []) s.cycle ≡ given c.width s.order s.cycle =
+      subst (λ z. given c.width (s.order ++ Started ∷ []) z ≡ given c.width s.order z) k.starts
+      (given_ended c.width s.order (omega (arith, k.starts, k.some))) in
+      let fresh : given c.width (s.order ++ Started ∷ []) (s.cycle + 1) ≡ 0 =
+      subst (λ z. given c.width (s.order ++ Started ∷ []) (z + 1) ≡ 0) k.starts
+      (given_none c.width s.order) in
+      let none : given_now c.threads (apply c rate black s Start) ≡ 0 =
+      total_none c.threads (λ t. given_in (s.cycle + 1) (s.threads t).balance)
+      (λ t tl. given_later s.cycle (s.threads t).balance (k.each t tl).entered) in
+      let nought : total c.blocks (λ x. 0) ≡ 0 = total_nought c.blocks in
+      record {
+        starts = starts_append s.order (Started ∷ []) ∙ ap (λ z. z + 1) k.starts;
+        some = omega arith;
+        each = λ t tl. (let o = k.each t tl in record {
+          sound = o.sound;
+          asked = o.asked;
+          owed = o.owed;
+          claimed = o.claimed;
+          reserved = o.reserved;
+          entered = omega (arith, o.entered);
+          present = λ h. absurd (bool_no _ (out t tl) h);
+        });
+        cursor = k.cursor;
+        scans = λ x. omega arith;
+        passes = λ x pos. (let z : total c.threads (λ t. claims x (s.threads t)) ≡ 0 =
+            total_none c.threads (λ t. claims x (s.threads t))
+            (λ t tl. idle_claims x t tl (out t tl)) in omega arith);
+        counted = (let z : total c.threads (λ t. units_in (s.cycle + 1) (s.threads t).balance) ≡ 0 =
+            total_none c.threads (λ t. units_in (s.cycle + 1) (s.threads t).balance)
+            (λ t tl. units_later s.cycle (s.threads t).balance (k.each t tl).entered) in
+            omega arith);
+        handed = none ∙ sym fresh;
+        ended = λ z l. elim (cases_eq z s.cycle) [
+          | inl e ↦ (let now : given c.width (s.order ++ Started ∷ []) z
+              ≡ given c.width s.order s.cycle = ap (given c.width (s.order ++ Started ∷ [])) e
+              ∙ ended in omega (arith, k.handed, all_given_now c rate black some s k))
+          | inr ne ↦ (let then : given c.width (s.order ++ Started ∷ []) z
+              ≡ given c.width s.order z = given_then c rate black some s k Started z
+              (omega arith) in omega (arith, k.ended z (omega arith)))
+        ];
+        room =
+            let b : live_before c (apply c rate black s Start)
+            ≡ live_blocks c.width (graph_at c s.order s.cycle) =
+            ap (λ z. live_blocks c.width (graph_at c (s.order ++ Started ∷ []) z)) longest
+            ∙ same in
+            let g : given c.width (s.order ++ Started ∷ []) (s.cycle + 1 - 1)
+            ≡ given c.width s.order s.cycle = ap (given c.width (s.order ++ Started ∷ [])) next
+            ∙ ended in
+            omega (arith, usage);
+        few =
+            let p : (s.cycle + 1 - 1) * c.blocks ≡ (s.cycle - 1) * c.blocks + c.blocks =
+            ap (λ z. z * c.blocks) next ∙ one_less s.cycle c.blocks k.some in
+            omega (arith, k.few);
+        many =
+            let p : 2 * c.blocks * (s.cycle + 1 - 1) ≡ 2 * c.blocks * s.cycle =
+            ap (λ z. 2 * c.blocks * z) next in
+            let q : s.cycle * (2 * c.blocks) ≡ (s.cycle - 1) * (2 * c.blocks) + 2 * c.blocks =
+            one_less s.cycle (2 * c.blocks) k.some in
+            omega (arith, k.many, few_units c rate black some s k);
+        works = (let w : work_in (s.order ++ Started ∷ []) ≡ work_in s.order + 0 =
+            work_append s.order (Started ∷ []) in omega (arith, k.works));
+        cheap = (let w : work_in (s.order ++ Started ∷ []) ≡ work_in s.order + 0 =
+            work_append s.order (Started ∷ []) in
+            let q : entries_in (s.order ++ Started ∷ []) * (rate * c.object)
+            ≡ entries_in s.order * (rate * c.object) =
+            ap (λ z. z * (rate * c.object)) (entries_started s.order) in omega (arith, k.cheap));
+        entries = in_threads_more c.threads s.order Started k.entries tt;
+        right = right_work_more c.width rate s.order Started k.right tt;
+        licensed = licensed_more c s.order Started k.licensed tt;
+      }

@@ -1,0 +1,33 @@
+-- Each event that may come keeps a tally.
+use Rattle.std.proofs.Common.{ℕ, ◌<◌}
+use Rattle.block_store.specs.declared.Config.{Config}
+use Rattle.rate_plan.specs.Rates.{KeepsUp}
+use Rattle.cycle_tally.specs.Tallies.{Tally}
+use Rattle.cycle_tally.specs.Events.{Event, Enter, Leave, SetCursor, Flip, Start, Paint, Scan, Claim, Pass, Clear, Credit, Reserve, Publish, Refuse, Answer, Next, apply, Guard}
+use Rattle.cycle_tally.specs.Kept.{TallyKept}
+use Rattle.cycle_tally.proofs.Moving.{enters, leaves, asks, clears, cursor_set, flips, begins}
+use Rattle.cycle_tally.proofs.Working.{paints, scans_one, claims_more, passes_one}
+use Rattle.cycle_tally.proofs.Deciding.{credits, reserves, gives, answers, refuses}
+
+module _ (c : Config) (rate : ℕ) (black : ℕ → ℕ) (some : 0 < rate) (s : Tally)
+    (k : TallyKept c rate black s) where
+  -- each event with its guard
+  pub step_kept : (e : Event) → KeepsUp c rate → Guard c rate black s e
+      → TallyKept c rate black (apply c rate black s e)
+  step_kept (Enter t) plan g = enters c rate black some s k t g
+  step_kept (Leave t) plan g = leaves c rate black some s k t g.0 g.1 g.2
+  step_kept SetCursor plan g = cursor_set c rate black some s k g
+  step_kept Flip plan g = flips c rate black some s k g.0 g.1
+  step_kept Start plan g = begins c rate black some s k g.0 g.1 g.2 g.3
+  step_kept (Paint x w) plan g = paints c rate black some s k x w g
+  step_kept (Scan t x) plan g = scans_one c rate black some s k t x g.0 g.1 g.2 g.3 g.4 g.5 g.6 g.7
+  step_kept (Claim t r) plan g = claims_more c rate black some s k t r g.0 g.1 g.2 g.3 g.4 g.5
+  step_kept (Pass t) plan g = passes_one c rate black some s k t g.0 g.1
+  step_kept (Clear t) plan g = clears c rate black some s k t g.0 g.1
+  step_kept (Credit y) plan g = credits c rate black some s k y
+  step_kept (Reserve t) plan g = reserves c rate black some s k t g.0 g.1 g.2 g.3 g.4
+  step_kept (Publish t e) plan g = gives c rate black some s k t e g.0 g.1 g.2 g.3 g.4 g.5 g.6 g.7
+  step_kept (Refuse t e) plan g =
+      refuses c rate black some s k t e plan g.0 g.1 g.2 g.3 g.4 g.5 g.6 g.7
+  step_kept (Answer t e) plan g = answers c rate black some s k t e g.0 g.1 g.2 g.3
+  step_kept (Next t y) plan g = asks c rate black some s k t y g.0 g.1 g.2 g.3 g.4

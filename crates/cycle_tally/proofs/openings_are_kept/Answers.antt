@@ -1,0 +1,11 @@
+use Rattle.never_heap.proofs.Opening.{opening_live}
+use Rattle.cycle_tally.proofs.Laws.{opening_kept}
+use Rattle.cycle_tally.proofs.Openings.{opens}
+use Rattle.cycle_tally.proofs.openings_are_kept.Goals as goal
+
+pub returns-clause-kept : goal.returns-clause-kept
+returns-clause-kept g c rate black s some o = opening_kept c rate black some s o
+
+pub returns-clause-heap : goal.returns-clause-heap
+returns-clause-heap g c colour asked within room few =
+    opens c colour asked (opening_live c within) room few

@@ -1,0 +1,13 @@
+use Rattle.cycle_tally.proofs.Example.{bounds, room, keeps_up, example_runs, example_legal, example_cycle, example_units}
+use Rattle.cycle_tally.proofs.the_example_runs.Goals as goal
+
+pub returns : goal.returns
+returns g = record {
+  bounds = bounds;
+  room = room;
+  rate = keeps_up;
+  events = example_runs;
+  legal = example_legal;
+  cycle = example_cycle;
+  units = example_units;
+}

@@ -1,0 +1,8 @@
+pub mod Tallies
+pub mod Entries
+pub mod Events
+pub mod Kept
+pub mod Bounds
+pub mod InUse
+pub mod Openings
+pub mod Example
