@@ -1,45 +1,25 @@
 -- The events of the example may come one after another.
-use Rattle.std.proofs.Common.{◌≡◌, ◌≢◌, ℕ, zero, suc, ◌+◌, ◌≤◌, ◌<◌, true, false, eqb, ltb, leb, refl, arith, inl, List, [], ◌∷◌, ◌++◌, eq-eqb}
-use Rattle.std.proofs.lemmas.Bool.{both_ways, ltb-true, leb-true}
-use Rattle.block_store.specs.declared.Config.{Config}
+use Rattle.std.proofs.Common.{◌≡◌, ℕ, zero, suc, ◌≤◌, true, leb, refl, arith, inl, false, inr, sym, subst, [], ◌∷◌}
+use Rattle.std.proofs.lemmas.Bool.{leb-true}
 use Rattle.block_store.specs.declared.Width.{Width}
 use Rattle.block_store.specs.declared.Width.TheVariants.{Four, Eight}
 use Rattle.block_store.specs.Configs.{IsInBounds}
 use Rattle.array_trees.specs.Openings.{opening_blocks}
 use Rattle.array_trees.specs.Trees.{tree}
 use Rattle.rate_plan.specs.Rates.{KeepsUp}
-use Rattle.never_heap.specs.Histories.{Legal}
-use Rattle.never_heap.proofs.Opening.{opening_live}
-use Rattle.cycle_tally.specs.Tallies.{Tally, units}
-use Rattle.cycle_tally.specs.Events.{Event, Next, Answer, apply, run, Guarded}
-use Rattle.cycle_tally.specs.Example.{small, small_rate, blacks, dropped_entry, mark_events, sweep_events, next_events, some_events, example_start, example_end}
-
--- one guard after another
-infixr 5 ◌▸◌
-◌▸◌ : {A B : Type 0} → A → B → A × B
-a ▸ b = (a, b)
-
--- one list of events after another
-guarded_on : (c : Config) (rate : ℕ) (black : ℕ → ℕ) (s : Tally) (es fs : List Event)
-    → Guarded c rate black s es → Guarded c rate black (run c rate black s es) fs
-    → Guarded c rate black s (es ++ fs)
-guarded_on c rate black s [] fs q r = r
-guarded_on c rate black s (e ∷ es) fs q r =
-    (q.0, guarded_on c rate black (apply c rate black s e) es fs q.1 r)
-
--- what computes
-less : (a b : ℕ) → ltb a b ≡ true → a < b
-less a b h = ltb-true a b h
+use Rattle.never_heap.specs.Cycles.{graph_at}
+use Rattle.never_heap.specs.declared.Reply.TheVariants as replies
+use Rattle.never_heap.specs.Histories.{HistoryItem, Started, Did, Legal}
+use Rattle.never_heap.specs.Licensed.{StartsSmall, NoFulls}
+use Rattle.never_heap.specs.LiveBlocks.{live_blocks}
+use Rattle.never_heap.specs.Reach.{reachable}
+use Rattle.cycle_tally.specs.Tallies.{units}
+use Rattle.cycle_tally.specs.Events.{Guarded}
+use Rattle.cycle_tally.proofs.Testing.{all_guarded}
+use Rattle.cycle_tally.specs.Example.{tight, tight_rate, asked_entry, full_events, full_start, full_end, small, small_rate, blacks, some_events, example_start, example_end}
 
 most : (a b : ℕ) → leb a b ≡ true → a ≤ b
 most a b h = leb-true a b h
-
-apart : (a b : ℕ) → eqb a b ≡ false → a ≢ b
-apart a b h e = both_ways (eqb a b) h (eq-eqb a b e)
-
-only_zero : (P : ℕ → Type 0) → P 0 → (t : ℕ) → t < 1 → P t
-only_zero P here zero h = here
-only_zero P here (suc t) h = absurd (omega arith)
 
 pub bounds : (w : Width) → IsInBounds (small w)
 bounds w = record {
@@ -61,249 +41,13 @@ room Eight = most _ _ refl
 pub keeps_up : (w : Width) → KeepsUp (small w) small_rate
 keeps_up w = most _ _ refl
 
-abbrev after_mark : Width → Tally
-after_mark w = run (small w) small_rate blacks (example_start w) mark_events
-
-abbrev after_sweep : Width → Tally
-after_sweep w = run (small w) small_rate blacks (after_mark w) sweep_events
-
-marks : (w : Width) → Guarded (small w) small_rate blacks (example_start w) mark_events
-marks w =
-    less _ _ refl
-    ▸ (
-      less _ _ refl,
-      refl,
-      refl,
-      less _ _ refl,
-      most _ _ refl,
-      apart _ _ refl,
-      less _ _ refl,
-      most _ _ refl,
-    )
-    ▸ (
-      less _ _ refl,
-      refl,
-      refl,
-      less _ _ refl,
-      most _ _ refl,
-      apart _ _ refl,
-      less _ _ refl,
-      most _ _ refl,
-    )
-    ▸ (
-      less _ _ refl,
-      refl,
-      refl,
-      less _ _ refl,
-      most _ _ refl,
-      apart _ _ refl,
-      less _ _ refl,
-      most _ _ refl,
-    )
-    ▸ (
-      less _ _ refl,
-      refl,
-      refl,
-      less _ _ refl,
-      most _ _ refl,
-      apart _ _ refl,
-      less _ _ refl,
-      most _ _ refl,
-    )
-    ▸ (
-      less _ _ refl,
-      refl,
-      refl,
-      less _ _ refl,
-      most _ _ refl,
-      apart _ _ refl,
-      less _ _ refl,
-      most _ _ refl,
-    )
-    ▸ (
-      less _ _ refl,
-      refl,
-      refl,
-      less _ _ refl,
-      most _ _ refl,
-      apart _ _ refl,
-      less _ _ refl,
-      most _ _ refl,
-    )
-    ▸ (
-      less _ _ refl,
-      refl,
-      refl,
-      less _ _ refl,
-      most _ _ refl,
-      apart _ _ refl,
-      less _ _ refl,
-      most _ _ refl,
-    )
-    ▸ (
-      less _ _ refl,
-      refl,
-      refl,
-      less _ _ refl,
-      most _ _ refl,
-      apart _ _ refl,
-      less _ _ refl,
-      most _ _ refl,
-    )
-    ▸ (
-      less _ _ refl,
-      refl,
-      refl,
-      less _ _ refl,
-      most _ _ refl,
-      apart _ _ refl,
-      less _ _ refl,
-      most _ _ refl,
-    )
-    ▸ (
-      less _ _ refl,
-      refl,
-      refl,
-      less _ _ refl,
-      most _ _ refl,
-      apart _ _ refl,
-      less _ _ refl,
-      most _ _ refl,
-    )
-    ▸ (less _ _ refl, most _ _ refl, refl)
-    ▸ refl
-    ▸ (refl, refl)
-    ▸ tt
-
-sweeps : (w : Width) → Guarded (small w) small_rate blacks (after_mark w) sweep_events
-unfolding tree
-sweeps Four =
-    less _ _ refl
-    ▸ (less _ _ refl, refl, refl, most _ _ refl, most _ _ refl, most _ _ refl)
-    ▸ (less _ _ refl, less _ _ refl)
-    ▸ (less _ _ refl, less _ _ refl)
-    ▸ (less _ _ refl, less _ _ refl)
-    ▸ (less _ _ refl, less _ _ refl)
-    ▸ (less _ _ refl, less _ _ refl)
-    ▸ (less _ _ refl, less _ _ refl)
-    ▸ (less _ _ refl, less _ _ refl)
-    ▸ (less _ _ refl, less _ _ refl)
-    ▸ (less _ _ refl, most _ _ refl)
-    ▸ (less _ _ refl, refl, refl, most _ _ refl, most _ _ refl, most _ _ refl)
-    ▸ (less _ _ refl, less _ _ refl)
-    ▸ (less _ _ refl, less _ _ refl)
-    ▸ (less _ _ refl, most _ _ refl)
-    ▸ (λ mark. absurd (both_ways true mark refl))
-    ▸ tt
-    ▸ (less _ _ refl, refl, refl, refl, most _ _ refl)
-    ▸ (
-      less _ _ refl,
-      refl,
-      most _ _ refl,
-      record { thread = refl; blocks = refl; work = refl },
-      refl,
-      refl,
-      refl,
-      refl,
-    )
-    ▸ (less _ _ refl, most _ _ refl, refl)
-    ▸ tt
-sweeps Eight =
-    less _ _ refl
-    ▸ (less _ _ refl, refl, refl, most _ _ refl, most _ _ refl, most _ _ refl)
-    ▸ (less _ _ refl, less _ _ refl)
-    ▸ (less _ _ refl, less _ _ refl)
-    ▸ (less _ _ refl, less _ _ refl)
-    ▸ (less _ _ refl, less _ _ refl)
-    ▸ (less _ _ refl, less _ _ refl)
-    ▸ (less _ _ refl, less _ _ refl)
-    ▸ (less _ _ refl, less _ _ refl)
-    ▸ (less _ _ refl, less _ _ refl)
-    ▸ (less _ _ refl, most _ _ refl)
-    ▸ (less _ _ refl, refl, refl, most _ _ refl, most _ _ refl, most _ _ refl)
-    ▸ (less _ _ refl, less _ _ refl)
-    ▸ (less _ _ refl, less _ _ refl)
-    ▸ (less _ _ refl, most _ _ refl)
-    ▸ (λ mark. absurd (both_ways true mark refl))
-    ▸ tt
-    ▸ (less _ _ refl, refl, refl, refl, most _ _ refl)
-    ▸ (
-      less _ _ refl,
-      refl,
-      most _ _ refl,
-      record { thread = refl; blocks = refl; work = refl },
-      refl,
-      refl,
-      refl,
-      refl,
-    )
-    ▸ (less _ _ refl, most _ _ refl, refl)
-    ▸ tt
-
-abbrev at_start : Width → Tally
-at_start w =
-    run (small w) small_rate blacks (after_sweep w) (Next 0 0 ∷ Answer 0 dropped_entry ∷ [])
-
--- a sum of the free count, the live blocks and the given ones
-room_left : (m free live gave opening : ℕ) → live ≡ opening → leb m (free + opening + gave) ≡ true
-    → m ≤ free + live + gave
-room_left m free live gave opening e h =
-    let all : m ≤ free + opening + gave = leb-true m (free + opening + gave) h in omega arith
-
-nexts : (w : Width) → Guarded (small w) small_rate blacks (after_sweep w) next_events
-unfolding tree
-nexts Four =
-    (less _ _ refl, most _ _ refl, refl, refl, most _ _ refl)
-    ▸ (less _ _ refl, record { thread = refl; blocks = refl; work = refl }, refl, refl)
-    ▸ (
-      refl,
-      less _ _ refl,
-      only_zero (λ t. ((at_start Four).threads t).inside ≡ false) refl,
-      room_left _ _ _ _ (opening_blocks (small Four))
-          (opening_live (small Four) (bounds Four)) refl,
-    )
-    ▸ (less _ _ refl, most _ _ refl, refl, refl, most _ _ refl)
-    ▸ less _ _ refl
-    ▸ (
-      less _ _ refl,
-      refl,
-      refl,
-      less _ _ refl,
-      most _ _ refl,
-      apart _ _ refl,
-      less _ _ refl,
-      most _ _ refl,
-    )
-    ▸ tt
-nexts Eight =
-    (less _ _ refl, most _ _ refl, refl, refl, most _ _ refl)
-    ▸ (less _ _ refl, record { thread = refl; blocks = refl; work = refl }, refl, refl)
-    ▸ (
-      refl,
-      less _ _ refl,
-      only_zero (λ t. ((at_start Eight).threads t).inside ≡ false) refl,
-      room_left _ _ _ _ (opening_blocks (small Eight))
-          (opening_live (small Eight) (bounds Eight)) refl,
-    )
-    ▸ (less _ _ refl, most _ _ refl, refl, refl, most _ _ refl)
-    ▸ less _ _ refl
-    ▸ (
-      less _ _ refl,
-      refl,
-      refl,
-      less _ _ refl,
-      most _ _ refl,
-      apart _ _ refl,
-      less _ _ refl,
-      most _ _ refl,
-    )
-    ▸ tt
-
-pub example_runs : (w : Width) → Guarded (small w) small_rate blacks (example_start w) some_events
-example_runs w = guarded_on (small w) small_rate blacks (example_start w) mark_events
-    (sweep_events ++ next_events) (marks w)
-    (guarded_on (small w) small_rate blacks (after_mark w) sweep_events next_events (sweeps w)
-    (nexts w))
+pub example_runs : (w : Width)
+    → Guarded (small w) small_rate blacks (example_start w) some_events
+unfolding live_blocks reachable tree
+example_runs Four =
+    all_guarded (small Four) small_rate blacks some_events (example_start Four) refl
+example_runs Eight =
+    all_guarded (small Eight) small_rate blacks some_events (example_start Eight) refl
 
 pub example_cycle : (w : Width) → (example_end w).cycle ≡ 2
 example_cycle w = refl
@@ -312,4 +56,103 @@ pub example_units : (w : Width) → units 10 (example_end w) ≡ 21
 example_units w = refl
 
 pub example_legal : (w : Width) → Legal (small w) (example_end w).order
-example_legal w = inl refl ▸ inl refl ▸ tt ▸ tt
+example_legal w = (inl refl, (inl refl, (tt, tt)))
+
+-- the live blocks of the two starts
+live_then : (w : Width) (z : ℕ) → 1 ≤ z → z ≤ 2
+    → live_blocks w (graph_at (small w) (example_end w).order z) ≤ 6
+unfolding live_blocks reachable tree
+live_then w zero some few = absurd (omega arith)
+live_then Four (suc zero) some few = most _ _ refl
+live_then Eight (suc zero) some few = most _ _ refl
+live_then Four (suc (suc zero)) some few = most _ _ refl
+live_then Eight (suc (suc zero)) some few = most _ _ refl
+live_then w (suc (suc (suc z))) some few = absurd (omega arith)
+
+pub example_starts : (w : Width) → StartsSmall (small w) (example_end w).order
+example_starts w = live_then w
+
+-- the full
+pub tight_bounds : (w : Width) → IsInBounds (tight w)
+tight_bounds Four = record {
+  some_thread = most _ _ refl;
+  threads = most _ _ refl;
+  some_block = most _ _ refl;
+  blocks = most _ _ refl;
+  live = most _ _ refl;
+  some_object = most _ _ refl;
+  object = most _ _ refl;
+  shared = most _ _ refl;
+}
+tight_bounds Eight = record {
+  some_thread = most _ _ refl;
+  threads = most _ _ refl;
+  some_block = most _ _ refl;
+  blocks = most _ _ refl;
+  live = most _ _ refl;
+  some_object = most _ _ refl;
+  object = most _ _ refl;
+  shared = most _ _ refl;
+}
+
+pub tight_room : (w : Width) → opening_blocks (tight w) ≤ (tight w).blocks
+unfolding tree
+tight_room Four = most _ _ refl
+tight_room Eight = most _ _ refl
+
+pub tight_keeps_up : (w : Width) → KeepsUp (tight w) (tight_rate w)
+tight_keeps_up Four = most _ _ refl
+tight_keeps_up Eight = most _ _ refl
+
+pub full_runs : (w : Width) → Guarded (tight w) (tight_rate w) blacks (full_start w) (full_events w)
+unfolding live_blocks reachable tree
+full_runs Four =
+    all_guarded (tight Four) (tight_rate Four) blacks (full_events Four) (full_start Four) refl
+full_runs Eight =
+    all_guarded (tight Eight) (tight_rate Eight) blacks (full_events Eight) (full_start Eight) refl
+
+abbrev new_then : Width → ℕ → HistoryItem
+new_then w k = Did (asked_entry w k (replies.New (record { thread = 0; serial = k })))
+
+pub full_order : (w : Width) → (full_end w).order
+    ≡ Started ∷ new_then w 1 ∷ Started ∷ new_then w 2 ∷ Started ∷ new_then w 3 ∷ Started
+    ∷ new_then w 4 ∷ Started ∷ Did (asked_entry w 5 (replies.Full 4)) ∷ []
+full_order Four = refl
+full_order Eight = refl
+
+legal_so : (w : Width) → Legal (tight w) (Started ∷ new_then w 1 ∷ Started ∷ new_then w 2
+    ∷ Started ∷ new_then w 3 ∷ Started ∷ new_then w 4 ∷ Started
+    ∷ Did (asked_entry w 5 (replies.Full 4)) ∷ [])
+legal_so w = (
+  inl refl,
+  (
+    tt,
+    (
+      inl refl,
+      (
+        tt,
+        (
+          inl refl,
+          (
+            tt,
+            (
+              inl refl,
+              (
+                tt,
+                (inr (refl, refl), tt),
+              ),
+            ),
+          ),
+        ),
+      ),
+    ),
+  ),
+)
+
+pub full_legal : (w : Width) → Legal (tight w) (full_end w).order
+full_legal Four = subst (λ h. Legal (tight Four) h) (sym (full_order Four)) (legal_so Four)
+full_legal Eight = subst (λ h. Legal (tight Eight) h) (sym (full_order Eight)) (legal_so Eight)
+
+pub full_is_there : (w : Width) → NoFulls (full_end w).order → ⊥
+full_is_there Four h = absurd (let e : true ≡ false = h.1.1.1.1.0 in cc)
+full_is_there Eight h = absurd (let e : true ≡ false = h.1.1.1.1.0 in cc)

@@ -128,7 +128,7 @@ module _ (c : Config) (rate : ℕ) (black : ℕ → ℕ) (some : 0 < rate) where
       omega (arith, (k.each t tl).owed)) in
       omega (arith, k.works)
 
-  pub bound_of : (s : Tally) → TallyKept c rate black s → Bound c rate black s
+  pub bound_of : (s : Tally) → TallyKept c rate black s → Bound c rate s
   bound_of s k = record {
     account = λ t tl. (k.each t tl).sound;
     scanned_once = λ x. omega (
@@ -159,6 +159,6 @@ module _ (c : Config) (rate : ℕ) (black : ℕ → ℕ) (some : 0 < rate) where
   }
 
   pub always_bound : KeepsUp c rate → (s : Tally) → Opened c s → (es : List Event)
-      → Guarded c rate black s es → Bound c rate black (run c rate black s es)
+      → Guarded c rate black s es → Bound c rate (run c rate black s es)
   always_bound plan s o es g = bound_of (run c rate black s es)
       (run_kept plan es s (opening_kept s o) g)

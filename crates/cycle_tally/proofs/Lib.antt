@@ -12,4 +12,5 @@ pub mod InUse
 pub mod KeptStart
 pub mod Openings
 pub mod Smalls
+pub mod Testing
 pub mod Example

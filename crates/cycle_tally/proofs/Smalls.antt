@@ -53,7 +53,7 @@ parts_few (suc n) most h few =
     let rest : in_parts n h ≤ n * most = parts_few n most h (λ t l. few t (omega arith)) in
     omega (arith, few n (omega arith))
 
-module _ (c : Config) (rate : ℕ) (black : ℕ → ℕ) (s : Tally) (b : Bound c rate black s)
+module _ (c : Config) (rate : ℕ) (s : Tally) (b : Bound c rate s)
     (blocks : 0 < c.blocks) (threads : c.threads ≤ 16) (cheap : rate ≤ 131070)
     (object : c.object ≤ 1024)
     (few : (t : ℕ) → t < c.threads → length (part t s.order) ≤ 131072) where

@@ -21,22 +21,21 @@ pub record IsSwept (c : Config) (s : Tally) : Type 0 where
   pub cursor : c.blocks < s.cursor
   pub empty : IsEmpty c s
 
-module _ (c : Config) (rate : ℕ) (black : ℕ → ℕ) where
-  pub record Bound (s : Tally) : Type 0 where
-    pub account : (t : ℕ) → t < c.threads → IsSound rate c.object (s.threads t).balance
-    -- in each cycle a block is made black by a scan at most once, and passed at most once; at its
-    -- end each was passed
-    pub scanned_once : (x : ℕ) → s.scanned x ≤ 1
-    pub passed_once : (x : ℕ) → 0 < x → s.passed x ≤ 1
-    pub all_passed : IsSwept c s → (x : ℕ) → 0 < x → x ≤ c.blocks → s.passed x ≡ 1
-    pub gave : (z : ℕ) → z ≤ s.cycle → given c.width s.order z ≤ most_given c rate
-    -- the units of all cycles are the works of what was decided, and what is paid for the rest
-    pub cycles : starts_in s.order ≡ s.cycle
-    pub few : (s.cycle - 1) * c.blocks ≤ units c.blocks s
-    pub many : units c.blocks s ≤ 2 * c.blocks * s.cycle
-    pub works : work_in s.order + paid_now c.threads s ≡ units c.blocks s
-    pub all_works : AsksNothing c s → work_in s.order ≡ units c.blocks s
-    pub cheap : units c.blocks s ≤ (entries_in s.order + c.threads) * (rate * c.object)
-    pub entries : InThreads c.threads s.order
-    pub right : RightWork c.width rate s.order
-    pub licensed : Licensed c s.order
+pub record Bound (c : Config) (rate : ℕ) (s : Tally) : Type 0 where
+  pub account : (t : ℕ) → t < c.threads → IsSound rate c.object (s.threads t).balance
+  -- in each cycle a block is made black by a scan at most once, and passed at most once; at its
+  -- end each was passed
+  pub scanned_once : (x : ℕ) → s.scanned x ≤ 1
+  pub passed_once : (x : ℕ) → 0 < x → s.passed x ≤ 1
+  pub all_passed : IsSwept c s → (x : ℕ) → 0 < x → x ≤ c.blocks → s.passed x ≡ 1
+  pub gave : (z : ℕ) → z ≤ s.cycle → given c.width s.order z ≤ most_given c rate
+  -- the units of all cycles are the works of what was decided, and what is paid for the rest
+  pub cycles : starts_in s.order ≡ s.cycle
+  pub few : (s.cycle - 1) * c.blocks ≤ units c.blocks s
+  pub many : units c.blocks s ≤ 2 * c.blocks * s.cycle
+  pub works : work_in s.order + paid_now c.threads s ≡ units c.blocks s
+  pub all_works : AsksNothing c s → work_in s.order ≡ units c.blocks s
+  pub cheap : units c.blocks s ≤ (entries_in s.order + c.threads) * (rate * c.object)
+  pub entries : InThreads c.threads s.order
+  pub right : RightWork c.width rate s.order
+  pub licensed : Licensed c s.order

@@ -134,11 +134,13 @@ module _ (c : Config) (rate : ℕ) (black : ℕ → ℕ) where
   Guard s (Publish t e) =
       let w = s.threads t in
       (t < c.threads) × (w.inside ≡ true) × NoClaim w × Decides c t w e × (w.reserved ≡ w.asked)
-      × (w.balance.paid ≡ rate * w.asked) × (taken_by c.width e ≡ w.asked) × (is_full e.reply ≡ false)
+      × (w.balance.paid ≡ rate * w.asked) × (taken_by c.width e ≡ w.asked)
+      × (is_full e.reply ≡ false)
   Guard s (Refuse t e) =
       let w = s.threads t in
       (t < c.threads) × (w.inside ≡ true) × NoClaim w × Decides c t w e × (w.reserved ≡ 0)
-      × (w.balance.paid ≡ rate * w.asked) × (s.free < w.asked) × (e.reply ≡ Full (max 1 (s.cycle - 1)))
+      × (w.balance.paid ≡ rate * w.asked) × (s.free < w.asked)
+      × (e.reply ≡ Full (max 1 (s.cycle - 1)))
   Guard s (Answer t e) =
       let w = s.threads t in
       (t < c.threads) × Decides c t w e × (w.asked ≡ 0) × (is_full e.reply ≡ false)

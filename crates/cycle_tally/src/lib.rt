@@ -25,7 +25,7 @@ ghost use Rattle.cycle_tally.specs.Events.{Event, apply, Guard, run, Guarded};
 ghost use Rattle.cycle_tally.specs.Kept.{TallyKept};
 ghost use Rattle.cycle_tally.specs.Openings.{Opened, opening_tally};
 ghost use Rattle.cycle_tally.specs.Bounds.{Bound};
-ghost use Rattle.cycle_tally.specs.Example.{small, small_rate, blacks, some_events, example_start, example_end};
+ghost use Rattle.cycle_tally.specs.Example.{small, small_rate, blacks, some_events, example_start, example_end, tight, tight_rate, full_events, full_start, full_end};
 ghost use Rattle.cycle_tally.specs.InUse.{IsCovered, count_free};
 ghost use Rattle.cycle_tally.specs.Entries.{InThreads};
 
@@ -52,16 +52,16 @@ pub fn openings_are_kept()
 /// What is kept is within the bound; and so is what comes after an opening.
 pub fn events_keep_the_bound()
     ensures kept { (c : Config) (rate : ℕ) (black : ℕ → ℕ) (s : Tally)
-        → 0 < rate → TallyKept c rate black s → Bound c rate black s }
+        → 0 < rate → TallyKept c rate black s → Bound c rate s }
     ensures after { (c : Config) (rate : ℕ) (black : ℕ → ℕ) (s : Tally) (es : List Event)
         → 0 < rate → KeepsUp c rate → Opened c s → Guarded c rate black s es
-        → Bound c rate black (run c rate black s es) }
+        → Bound c rate (run c rate black s es) }
 {}
 
 /// Where each of its cycles began with at most L live blocks, a legal order within the bound has
 /// no full.
 pub fn few_live_are_never_refused()
-    ensures { (c : Config) (rate : ℕ) (black : ℕ → ℕ) (s : Tally) → Bound c rate black s
+    ensures { (c : Config) (rate : ℕ) (s : Tally) → Bound c rate s
         → Legal c s.order → StartsSmall c s.order → NoFulls s.order }
 {}
 
@@ -87,7 +87,7 @@ pub fn few_blocks_are_in_use()
 /// While no thread has decided more commands than a trace has at most, the units of all cycles and
 /// the number of the cycle stay below 2^50.
 pub fn counts_stay_small()
-    ensures { (c : Config) (rate : ℕ) (black : ℕ → ℕ) (s : Tally) → Bound c rate black s
+    ensures { (c : Config) (rate : ℕ) (s : Tally) → Bound c rate s
         → 0 < c.blocks → c.threads ≤ 16 → rate ≤ 131070 → c.object ≤ 1024
         → ((t : ℕ) → t < c.threads → length (part t s.order) ≤ 131072)
         → (units c.blocks s < 2 ^ 50) × (s.cycle < 2 ^ 50) }
@@ -102,6 +102,19 @@ pub fn the_example_runs()
     ensures events { (w : Width)
         → Guarded (small w) small_rate blacks (example_start w) some_events }
     ensures legal { (w : Width) → Legal (small w) (example_end w).order }
+    ensures starts { (w : Width) → StartsSmall (small w) (example_end w).order }
     ensures cycle { (w : Width) → (example_end w).cycle ≡ 2 }
     ensures units { (w : Width) → units (small w).blocks (example_end w) ≡ 21 }
+{}
+
+/// A full can come: of one thread that keeps what it is given, the fifth allocation is refused in
+/// the fifth cycle, as more blocks were live at the start of the fourth than the limit.
+pub fn a_full_can_come()
+    ensures bounds { (w : Width) → IsInBounds (tight w) }
+    ensures room { (w : Width) → opening_blocks (tight w) ≤ (tight w).blocks }
+    ensures rate { (w : Width) → KeepsUp (tight w) (tight_rate w) }
+    ensures events { (w : Width)
+        → Guarded (tight w) (tight_rate w) blacks (full_start w) (full_events w) }
+    ensures legal { (w : Width) → Legal (tight w) (full_end w).order }
+    ensures full { (w : Width) → ¬ NoFulls (full_end w).order }
 {}

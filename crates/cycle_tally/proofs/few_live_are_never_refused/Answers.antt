@@ -2,4 +2,4 @@ use Rattle.never_heap.proofs.Unfilled.{none_full}
 use Rattle.cycle_tally.proofs.few_live_are_never_refused.Goals as goal
 
 pub returns : goal.returns
-returns g c rate black s b legal few = none_full c s.order legal b.licensed few
+returns g c rate s b legal few = none_full c s.order legal b.licensed few

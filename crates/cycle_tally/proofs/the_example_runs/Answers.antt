@@ -1,4 +1,4 @@
-use Rattle.cycle_tally.proofs.Example.{bounds, room, keeps_up, example_runs, example_legal, example_cycle, example_units}
+use Rattle.cycle_tally.proofs.Example.{bounds, room, keeps_up, example_runs, example_legal, example_starts, example_cycle, example_units}
 use Rattle.cycle_tally.proofs.the_example_runs.Goals as goal
 
 pub returns : goal.returns
@@ -8,6 +8,7 @@ returns g = record {
   rate = keeps_up;
   events = example_runs;
   legal = example_legal;
+  starts = example_starts;
   cycle = example_cycle;
   units = example_units;
 }
