@@ -221,7 +221,6 @@ impl AtomBoard {
     pub fn config(&self) -> &Config
         ensures { result.now ≡ self.now.config }
     {
-        let _table = &self.table;
         &self.config
     }
 

@@ -38,7 +38,6 @@ impl Closed {
     pub fn config(&self) -> &Config
         ensures { result.now ≡ self.now.config }
     {
-        let _locals = &self.locals;
         &self.config
     }
 }
@@ -59,7 +58,6 @@ impl Logs for Closed {
     }
 
     fn cycles(&self) -> u64 {
-        let _locals = &self.locals;
         self.cycles
     }
 

@@ -40,7 +40,6 @@ impl Mutator {
     pub fn thread(&self) -> u32
         ensures { result ≡ self.now.local.thread }
     {
-        let _seat = &self.seat;
         self.local.thread()
     }
 
@@ -48,7 +47,6 @@ impl Mutator {
     pub fn done(&self) -> bool
         ensures { result ≡ is_done self.now.local }
     {
-        let _seat = &self.seat;
         self.local.done()
     }
 
@@ -56,7 +54,6 @@ impl Mutator {
     pub fn at_rest(&self) -> bool
         ensures { result ≡ is_rest self.now.local.part }
     {
-        let _seat = &self.seat;
         self.local.at_rest()
     }
 
@@ -64,7 +61,6 @@ impl Mutator {
     pub fn log(&self) -> &[Entry]
         ensures { result.now ≡ self.now.local.log }
     {
-        let _seat = &self.seat;
         self.local.log()
     }
 }
