@@ -6,9 +6,9 @@ use Rattle.std.proofs.lemmas.Nat.{div-add-mod', mod_below}
 use Rattle.object_lists.specs.Parts.{Part, Link, Field, Blank, link_below, field_below}
 use Rattle.object_lists.specs.Layouts.{IsLayout, IsWay}
 use Rattle.array_trees.specs.Trees.{blocks_over, leaves, tree}
-use Rattle.array_trees.specs.Levels.{level, depth_within, tree_depth, IsDepth, IsByLevels, level_size, level_start, part_from, tree_part, tree_spot, tree_way, tree_turn}
+use Rattle.array_trees.specs.Levels.{level, depth_within, tree_depth, IsDepth, IsByLevels, level_size, level_start, part_from, tree_part, tree_slot, tree_way, tree_turn}
 use Rattle.array_trees.proofs.Counts.{over_less, over_some, tree-one, tree-more, le-tree}
-use Rattle.array_trees.proofs.Parts.{IsLevels, spots_from, links_onward, linked_from, once_from, way_on, way_end, in_level, level_from, leaf_from}
+use Rattle.array_trees.proofs.Parts.{IsLevels, slots_from, links_onward, linked_from, once_from, way_on, way_end, in_level, level_from, leaf_from}
 
 -- the first power is the number itself
 pub pow_one : (w : ℕ) → w ^ 1 ≡ w
@@ -118,14 +118,14 @@ module _ (w e : ℕ) (hw : 1 < w) where
       tree_at (level_start w e 0 + i / w) (i % w) (mod_below i w (omega arith))
       ∙ way_end w e (tree_depth w e) (level_start w e) (level_size w e) levels i fits
 
-  tree_spots : (o j i : ℕ) → tree_part w e o j ≡ Field i
+  tree_slots : (o j i : ℕ) → tree_part w e o j ≡ Field i
       → (i < e) × (o < tree w (leaves w e)) × (j < w) × (o ≡ level_start w e 0 + i / w)
       × (j ≡ i % w)
   unfolding whole_part
-  tree_spots o j i at =
+  tree_slots o j i at =
       let inside = tree_field o j i at in
       let (fits, low, row, column) =
-      spots_from w e (tree_depth w e) (level_start w e) (level_size w e) levels
+      slots_from w e (tree_depth w e) (level_start w e) (level_size w e) levels
       (tree_depth w e) o j i (omega arith) (from_root o) inside.0 inside.1 in
       (fits, omega (arith, all_blocks, low), inside.0, row, column)
 
@@ -162,11 +162,11 @@ module _ (w e : ℕ) (hw : 1 < w) where
       (tree_depth w e) o j q k p (omega arith)
       (from_root o) (from_root q) here.0 there.0 here.1 there.1
 
-  pub tree_layout : IsLayout w e (tree w (leaves w e)) (tree_part w e) (tree_spot w e)
+  pub tree_layout : IsLayout w e (tree w (leaves w e)) (tree_part w e) (tree_slot w e)
   tree_layout = record {
     first = omega (arith, le-tree w (leaves w e) hw);
     fields = tree_fields;
-    spots = tree_spots;
+    slots = tree_slots;
     apart = λ i k hi hk row column.
         let own : i / w * w + i % w ≡ i = div-add-mod' i w in
         let other : k / w * w + k % w ≡ k = div-add-mod' k w in

@@ -70,10 +70,10 @@ module _ (w e d : ℕ) (start size : ℕ → ℕ) (levels : IsLevels w e d start
   ]
 
   -- a place of a field
-  pub spots_from : (h o j i : ℕ) → h ≤ d → start h ≤ o → j < w
+  pub slots_from : (h o j i : ℕ) → h ≤ d → start h ≤ o → j < w
       → part_from w e start size h o j ≡ Field i
       → (i < e) × (o < start 0 + size 0) × (o ≡ start 0 + i / w) × (j ≡ i % w)
-  spots_from zero o j i hd low jw at =
+  slots_from zero o j i hd low jw at =
       let both = field_below-field ((o - start 0) * w + j) e i at in
       let row : ((o - start 0) * w + j) / w ≡ o - start 0 = div-mul-add (o - start 0) w j jw in
       let column : ((o - start 0) * w + j) % w ≡ j = mod-mul-add (o - start 0) w j jw in
@@ -83,10 +83,10 @@ module _ (w e d : ℕ) (start size : ℕ → ℕ) (levels : IsLevels w e d start
       div_below i w (size 0) (omega (arith, levels.wide))
       (omega (arith, levels.leaves, both.0, both.1)) in
       (omega (arith, both.0, both.1), omega arith, omega arith, sym column_is)
-  spots_from (suc h) o j i hd low jw at = elim (cases_lt o (start h)) [
+  slots_from (suc h) o j i hd low jw at = elim (cases_lt o (start h)) [
     | inl here ↦ absurd (link_below-field (start h + ((o - start (suc h)) * w + j))
         (start h + size h) i (sym (at_here h o j here) ∙ at))
-    | inr below ↦ spots_from h o j i (omega arith) below jw (sym (at_below h o j below) ∙ at)
+    | inr below ↦ slots_from h o j i (omega arith) below jw (sym (at_below h o j below) ∙ at)
   ]
 
   -- the leaves are found from each level above them

@@ -7,19 +7,19 @@ use Rattle.block_store.specs.Widths.{payloads, register_blocks}
 use Rattle.block_store.specs.Registers.{root_block, register_block, register_slot}
 use Rattle.object_lists.specs.Parts.{link_below}
 use Rattle.array_trees.specs.Trees.{tree, array_blocks}
-use Rattle.array_trees.specs.Levels.{array_part, array_spot, tree_depth}
+use Rattle.array_trees.specs.Levels.{array_part, array_slot, tree_depth}
 
 pub array_of : (w : Width) → register_blocks w ≡ array_blocks w REGISTERS
 unfolding tree
 array_of Four = refl
 array_of Eight = refl
 
-pub spot_of : (w : Width) (t r : ℕ)
-    → (register_block w t r ≡ root_block w t + (array_spot w REGISTERS r).0)
-    × (register_slot w r ≡ (array_spot w REGISTERS r).1)
+pub slot_of : (w : Width) (t r : ℕ)
+    → (register_block w t r ≡ root_block w t + (array_slot w REGISTERS r).0)
+    × (register_slot w r ≡ (array_slot w REGISTERS r).1)
 unfolding tree
-spot_of Four t r = (omega arith, refl)
-spot_of Eight t r = (omega arith, refl)
+slot_of Four t r = (omega arith, refl)
+slot_of Eight t r = (omega arith, refl)
 
 -- the root links to all other blocks
 pub root_of : (w : Width) (j : ℕ) → j < payloads w

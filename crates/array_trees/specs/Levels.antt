@@ -66,8 +66,8 @@ pub record IsByLevels (w e : ℕ) : Type 0 where
       → tree_part w e (level_start w e 0 + r) j ≡ field_below (r * w + j) e
 
 -- where element i stands: its leaf, and its payload
-abbrev pub tree_spot : ℕ → ℕ → ℕ → ℕ × ℕ
-tree_spot w e i = (level_start w e 0 + i / w, i % w)
+abbrev pub tree_slot : ℕ → ℕ → ℕ → ℕ × ℕ
+tree_slot w e i = (level_start w e 0 + i / w, i % w)
 
 -- the block of level l under which element i stands, where level 0 is the root
 abbrev pub tree_way : ℕ → ℕ → ℕ → ℕ → ℕ
@@ -81,8 +81,8 @@ tree_turn w e i l = i / w ^ (tree_depth w e - l) % w
 abbrev pub array_part : Width → ℕ → ℕ → ℕ → Part
 array_part w e o j = tree_part (payloads w) e o j
 
-abbrev pub array_spot : Width → ℕ → ℕ → ℕ × ℕ
-array_spot w e i = tree_spot (payloads w) e i
+abbrev pub array_slot : Width → ℕ → ℕ → ℕ × ℕ
+array_slot w e i = tree_slot (payloads w) e i
 
 abbrev pub array_depth : Width → ℕ → ℕ
 array_depth w e = tree_depth (payloads w) e

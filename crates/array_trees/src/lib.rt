@@ -9,7 +9,7 @@ ghost use Rattle.block_store.specs.declared.TheConstants.{REGISTERS};
 ghost use Rattle.block_store.specs.declared.Width.{Width};
 ghost use Rattle.object_lists.specs.Layouts.{IsLayout, IsWay};
 ghost use Rattle.object_lists.specs.Parts.{Link, Field, link_in, link_below};
-ghost use Rattle.array_trees.specs.Levels.{level_size, IsByLevels, IsDepth, array_part, array_spot, array_depth, array_way, array_turn};
+ghost use Rattle.array_trees.specs.Levels.{level_size, IsByLevels, IsDepth, array_part, array_slot, array_depth, array_way, array_turn};
 ghost use Rattle.array_trees.specs.Trees.{blocks_over, leaves, tree, array_blocks, IsTree};
 
 use block_store::Width;
@@ -134,7 +134,7 @@ pub fn child_of(width: Width, e: u32, ordinal: u32, j: u32) -> Option<u32>
 /// from the root, and the way to an element ends at its place.
 pub fn array_layouts()
     ensures layout { (w : Width) (e : ℕ)
-        → IsLayout (payloads w) e (array_blocks w e) (array_part w e) (array_spot w e) }
+        → IsLayout (payloads w) e (array_blocks w e) (array_part w e) (array_slot w e) }
     ensures depth { (w : Width) (e : ℕ) → IsDepth (payloads w) e (array_depth w e) }
     ensures levels { (w : Width) (e : ℕ) → IsByLevels (payloads w) e }
     ensures way { (w : Width) (e i : ℕ) → i < e
@@ -146,9 +146,9 @@ pub fn array_layouts()
 /// register at its element's place, behind a root that links to all other blocks.
 pub fn registers_are_arrays()
     ensures blocks { (w : Width) → register_blocks w ≡ array_blocks w REGISTERS }
-    ensures spot { (w : Width) (t r : ℕ) → r < REGISTERS
-        → (register_block w t r ≡ root_block w t + (array_spot w REGISTERS r).0)
-        × (register_slot w r ≡ (array_spot w REGISTERS r).1) }
+    ensures slot { (w : Width) (t r : ℕ) → r < REGISTERS
+        → (register_block w t r ≡ root_block w t + (array_slot w REGISTERS r).0)
+        × (register_slot w r ≡ (array_slot w REGISTERS r).1) }
     ensures root { (w : Width) (j : ℕ) → j < payloads w
         → array_part w REGISTERS 0 j ≡ link_below (1 + j) (register_blocks w) }
 {}

@@ -10,7 +10,7 @@ use Rattle.never_heap.specs.declared.Command.{Command}
 use Rattle.never_heap.specs.declared.Command.TheVariants as commands
 use Rattle.never_heap.specs.Steps.{makes_object}
 use Rattle.barrier_steps.specs.declared.rows.FieldRow.{FieldRow}
-use Rattle.barrier_steps.specs.declared.rows.FieldRow.TheVariants.{StoreNumber, StoreNil, LoadMoved, StoreMoved, LoadObject, LoadShape, LoadValue, LoadLink, LoadField, LoadOwner, StoreLate, StoreField, LoadFirst, LoadSecond, LoadSaid, LoadSaidOwner, Answered}
+use Rattle.barrier_steps.specs.declared.rows.FieldRow.TheVariants.{StoreNumber, StoreNil, LoadMoved, StoreMoved, LoadObject, LoadShape, LoadValue, LoadLink, LoadField, LoadOwner, StorePending, StoreField, LoadFirst, LoadSecond, LoadSaid, LoadSaidOwner, Answered}
 use Rattle.barrier_steps.specs.declared.rows.Way.{Way}
 use Rattle.barrier_steps.specs.Operands.{field_index}
 use Rattle.barrier_steps.specs.Walks.{shape_length, links_to}
@@ -64,7 +64,7 @@ decided_after c k (LoadValue way) w = way_undecided c k way w
 decided_after c k (LoadLink way word) w = way_undecided c k _ word
 decided_after c k (LoadField way) w = field_decides w (payload_in w)
 decided_after c k (LoadOwner word) w = refl
-decided_after c k (StoreLate word value) w = refl
+decided_after c k (StorePending word value) w = refl
 decided_after c k (StoreField way word) w = refl
 decided_after c k LoadFirst w = refl
 decided_after c k (LoadSecond word) w = refl
@@ -74,7 +74,7 @@ decided_after c k (Answered reply) w = refl
 
 pub decided_once : (k : Command) (row : FieldRow) (w : ℕ) → field_decided row ≡ true → is_deciding k row w ≡ false
 decided_once k (LoadOwner word) w h = refl
-decided_once k (StoreLate word value) w h = refl
+decided_once k (StorePending word value) w h = refl
 decided_once k (LoadSaidOwner word) w h = refl
 decided_once k (Answered reply) w h = refl
 decided_once k _ w h = absurd cc

@@ -12,7 +12,7 @@ use Rattle.never_heap.specs.Graphs.{Graph, register_of}
 use Rattle.shown_graph.specs.Shown.{heads}
 use Rattle.shown_graph.specs.Events.{GraphState, Follows}
 use Rattle.barrier_steps.specs.declared.rows.FieldRow.{FieldRow}
-use Rattle.barrier_steps.specs.declared.rows.FieldRow.TheVariants.{LoadOwner, StoreLate, LoadSaidOwner, Answered}
+use Rattle.barrier_steps.specs.declared.rows.FieldRow.TheVariants.{LoadOwner, StorePending, LoadSaidOwner, Answered}
 use Rattle.barrier_steps.specs.Operands.{to_register}
 use Rattle.barrier_steps.specs.Rows.{row_got, field_decided}
 use Rattle.barrier_steps.specs.Fits.{FitsAt}
@@ -28,7 +28,7 @@ use Rattle.barrier_steps.proofs.Registers.{HasRegister, has_shows, row_has}
 -- a promised reply that shows its register is due
 promised_due : (head : Name → ℕ) (g : Graph) (t : ℕ) (k : Command) (row : FieldRow) (reply : Reply) → Promises head row reply → HasRegister g t k row reply → (due_at g t k row ≡ Some reply) × KnownAt g t k row
 promised_due head g t k (LoadOwner word) reply p e = (ap Some (sym e), tt)
-promised_due head g t k (StoreLate word value) reply p e = (ap Some (sym e), let same : replies.Val value ≡ replies.Val (register_of g t (to_register k)) = sym p ∙ e in cc)
+promised_due head g t k (StorePending word value) reply p e = (ap Some (sym e), let same : replies.Val value ≡ replies.Val (register_of g t (to_register k)) = sym p ∙ e in cc)
 promised_due head g t k (LoadSaidOwner word) reply p e = (ap Some (sym e), tt)
 promised_due head g t k (Answered given) reply p e = (ap Some p, tt)
 promised_due head g t k _ reply p e = absurd p
@@ -36,27 +36,27 @@ promised_due head g t k _ reply p e = absurd p
 -- before the deciding event none is due
 pub none_due : (g : Graph) (t : ℕ) (k : Command) (row : FieldRow) → field_decided row ≡ false → (due_at g t k row ≡ None) × KnownAt g t k row
 none_due g t k (LoadOwner word) e = absurd cc
-none_due g t k (StoreLate word value) e = absurd cc
+none_due g t k (StorePending word value) e = absurd cc
 none_due g t k (LoadSaidOwner word) e = absurd cc
 none_due g t k (Answered given) e = absurd cc
 none_due g t k _ e = (refl, tt)
 
 pub some_due : (g : Graph) (t : ℕ) (k : Command) (row : FieldRow) → field_decided row ≡ true → (reply : Reply) × (due_at g t k row ≡ Some reply)
 some_due g t k (LoadOwner word) e = (_, refl)
-some_due g t k (StoreLate word value) e = (_, refl)
+some_due g t k (StorePending word value) e = (_, refl)
 some_due g t k (LoadSaidOwner word) e = (_, refl)
 some_due g t k (Answered given) e = (given, refl)
 some_due g t k _ e = absurd cc
 
 due_has : (g : Graph) (t : ℕ) (k : Command) (row : FieldRow) (reply : Reply) → due_at g t k row ≡ Some reply → HasRegister g t k row reply
 due_has g t k (LoadOwner word) reply e = cc
-due_has g t k (StoreLate word value) reply e = cc
+due_has g t k (StorePending word value) reply e = cc
 due_has g t k (LoadSaidOwner word) reply e = cc
 due_has g t k _ reply e = tt
 
 still_has : (c : Config) (g : Graph) (t : ℕ) (k : Command) (row : FieldRow) (w : ℕ) (reply : Reply) → field_decided row ≡ true → HasRegister g t k row reply → HasRegister g t k (row_got (extent c) k row w) reply
 still_has c g t k (LoadOwner word) w reply h e = e
-still_has c g t k (StoreLate word value) w reply h e = tt
+still_has c g t k (StorePending word value) w reply h e = tt
 still_has c g t k (LoadSaidOwner word) w reply h e = tt
 still_has c g t k (Answered given) w reply h e = tt
 still_has c g t k _ w reply h e = absurd cc

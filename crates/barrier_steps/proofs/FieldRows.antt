@@ -22,7 +22,7 @@ use Rattle.heap_machine.specs.Operations.{place_of, Fits}
 use Rattle.heap_machine.specs.Readings.{StoresHeld}
 use Rattle.heap_machine.specs.declared.pass.Pass.{Pass}
 use Rattle.barrier_steps.specs.declared.rows.FieldRow.{FieldRow}
-use Rattle.barrier_steps.specs.declared.rows.FieldRow.TheVariants.{StoreNumber, StoreNil, LoadMoved, StoreMoved, LoadObject, LoadShape, LoadValue, LoadLink, LoadField, LoadOwner, StoreLate, StoreField, LoadFirst, LoadSecond, LoadSaid, LoadSaidOwner, Answered}
+use Rattle.barrier_steps.specs.declared.rows.FieldRow.TheVariants.{StoreNumber, StoreNil, LoadMoved, StoreMoved, LoadObject, LoadShape, LoadValue, LoadLink, LoadField, LoadOwner, StorePending, StoreField, LoadFirst, LoadSecond, LoadSaid, LoadSaidOwner, Answered}
 use Rattle.barrier_steps.specs.declared.rows.Way.{Way}
 use Rattle.barrier_steps.specs.Operands.{to_register, from_register, other_register, field_index, number_set, is_put, is_get, goes_to_field, looks_at_object}
 use Rattle.barrier_steps.specs.Walks.{shape_length, links_to}
@@ -69,7 +69,7 @@ place_at c t k (LoadValue way) f = register_in c t (other_register k) f.thread (
 place_at c t k (LoadLink way word) f = payload_in_range c way.block _ f.row.0.block (link_low c way.shape (field_index k) way.level)
 place_at c t k (LoadField way) f = payload_in_range c way.block _ f.row.0.block (field_low c way.shape (field_index k))
 place_at c t k (LoadOwner word) f = block_in c (target word) (target_block c word f.row.0 f.row.1)
-place_at c t k (StoreLate word value) f = register_in c t (to_register k) f.thread (to_low k f.command)
+place_at c t k (StorePending word value) f = register_in c t (to_register k) f.thread (to_low k f.command)
 place_at c t k (StoreField way word) f = payload_in_range c way.block _ f.row.0.block (field_low c way.shape (field_index k))
 place_at c t k LoadFirst f = register_in c t (from_register k) f.thread (from_low k f.command)
 place_at c t k (LoadSecond word) f = register_in c t (other_register k) f.thread (other_low k f.command)
@@ -92,7 +92,7 @@ sum_at c t k (LoadValue way) w = tt
 sum_at c t k (LoadLink way word) w = tt
 sum_at c t k (LoadField way) w = tt
 sum_at c t k (LoadOwner word) w = tt
-sum_at c t k (StoreLate word value) w = tt
+sum_at c t k (StorePending word value) w = tt
 sum_at c t k (StoreField way word) w = tt
 sum_at c t k LoadFirst w = tt
 sum_at c t k (LoadSecond word) w = tt
@@ -164,7 +164,7 @@ belongs_on c k (LoadValue way) w is = way_belongs c k way w (put_goes k is)
 belongs_on c k (LoadLink way word) w is = way_belongs c k (way_on way (target w)) word is
 belongs_on c k (LoadField way) w is = field_belongs k w (payload_in w) is
 belongs_on c k (LoadOwner word) w is = is
-belongs_on c k (StoreLate word value) w is = refl
+belongs_on c k (StorePending word value) w is = refl
 belongs_on c k (StoreField way word) w is = refl
 belongs_on c k LoadFirst w is = is
 belongs_on c k (LoadSecond word) w is = refl
@@ -228,7 +228,7 @@ row_fits c t k (LoadField way) w h r =
     payload_cases w r.0.0 (λ p. RowFits c k (after_field w p)) (loaded c w r.0) (λ v low. loaded c w r.0)
     (λ x is some. (loaded c w r.0, reference x w is some))
 row_fits c t k (LoadOwner word) w h r = h.0
-row_fits c t k (StoreLate word value) w h r = tt
+row_fits c t k (StorePending word value) w h r = tt
 row_fits c t k (StoreField way word) w h r = tt
 row_fits c t k LoadFirst w h r = loaded c w r.0
 row_fits c t k (LoadSecond word) w h r = tt
@@ -258,7 +258,7 @@ stores_at c t k (LoadValue way) f = tt
 stores_at c t k (LoadLink way word) f = tt
 stores_at c t k (LoadField way) f = tt
 stores_at c t k (LoadOwner word) f = tt
-stores_at c t k (StoreLate word value) f = (f.row.payload, f.row.block)
+stores_at c t k (StorePending word value) f = (f.row.payload, f.row.block)
 stores_at c t k (StoreField way word) f = (f.row.2.payload, f.row.2.block)
 stores_at c t k LoadFirst f = tt
 stores_at c t k (LoadSecond word) f = tt

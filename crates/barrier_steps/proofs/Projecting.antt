@@ -22,7 +22,7 @@ use Rattle.shown_graph.specs.Words.{block_words, with_payload, value_word}
 use Rattle.shown_graph.specs.Events as events
 use Rattle.shown_graph.specs.Events.{ObjectLoad, ValueLoad, Loading, unloaded, object_in, value_in, with_load, GraphState, Event, apply, Guard, IsPrompt, HasObject, HasValue, object_at, value_at, register_word_in, IsAtField, IsAtLink}
 use Rattle.barrier_steps.specs.declared.rows.FieldRow.{FieldRow}
-use Rattle.barrier_steps.specs.declared.rows.FieldRow.TheVariants.{StoreNumber, StoreNil, LoadMoved, StoreMoved, LoadObject, LoadShape, LoadValue, LoadLink, LoadField, LoadOwner, StoreLate, StoreField, LoadFirst, LoadSecond, LoadSaid, LoadSaidOwner, Answered}
+use Rattle.barrier_steps.specs.declared.rows.FieldRow.TheVariants.{StoreNumber, StoreNil, LoadMoved, StoreMoved, LoadObject, LoadShape, LoadValue, LoadLink, LoadField, LoadOwner, StorePending, StoreField, LoadFirst, LoadSecond, LoadSaid, LoadSaidOwner, Answered}
 use Rattle.barrier_steps.specs.declared.rows.Way.{Way}
 use Rattle.barrier_steps.specs.Operands.{to_register, from_register, other_register, field_index, number_set, is_put, looks_at_object}
 use Rattle.barrier_steps.specs.Walks.{shape_length, links_to, link_at, field_at, ordinal_at}
@@ -33,7 +33,7 @@ use Rattle.barrier_steps.proofs.Named.{to_low, from_low, other_low, number_low}
 use Rattle.barrier_steps.proofs.Walking.{way_is}
 use Rattle.barrier_steps.proofs.ReadWords.{payload_cases}
 use Rattle.barrier_steps.proofs.FieldRows.{reference}
-use Rattle.barrier_steps.specs.Projection.{row_loading, row_event, after_event, IsAt, InHandAt, walk_load, object_on, carried_load, object_load, value_load, late_load}
+use Rattle.barrier_steps.specs.Projection.{row_loading, row_event, after_event, IsAt, InHandAt, walk_load, object_on, carried_load, object_load, value_load, pending_load}
 
 -- the words are those that the row's operation leaves
 pub words_moved : (c : Config) (h : Heap) (s : GraphState) (a : Name) (t : ℕ) (k : Command) (row : FieldRow) (w : ℕ) → s.words ≡ block_words h → s.loads t ≡ row_loading (extent c) k row
@@ -49,7 +49,7 @@ words_moved c h s a t k (LoadValue way) w is l = is
 words_moved c h s a t k (LoadLink way word) w is l = is
 words_moved c h s a t k (LoadField way) w is l = is
 words_moved c h s a t k (LoadOwner word) w is l = is
-words_moved c h s a t k (StoreLate word value) w is l =
+words_moved c h s a t k (StorePending word value) w is l =
     ap (λ x. with_payload x (register_block c.width t (value_at s t).origin) (register_slot c.width (value_at s t).origin) (value_at s t).word) is
     ∙ ap (λ x. with_payload (block_words h) (register_block c.width t (value_in x.value).origin) (register_slot c.width (value_in x.value).origin) (value_in x.value).word) l
 words_moved c h s a t k (StoreField way word) w is l =
@@ -85,7 +85,7 @@ way_loading c k way word = elim (cases_Bool (ltb way.level (links_to (extent c) 
   | inr is ↦ rw is (block_loading c k way word)
 ]
 
-field_loading : (c : Config) (k : Command) (word : ℕ) (p : Payload) → row_loading (extent c) k (after_field word p) ≡ pair None (late_load (to_register k) word)
+field_loading : (c : Config) (k : Command) (word : ℕ) (p : Payload) → row_loading (extent c) k (after_field word p) ≡ pair None (pending_load (to_register k) word)
 field_loading c k word payloads.Nil = refl
 field_loading c k word (payloads.Int v) = refl
 field_loading c k word (payloads.Block x) = refl
@@ -168,9 +168,9 @@ loads_moved c h s a t k (LoadField way) w fits reads at u =
     let block : (object_at s t).block ≡ way.block = ap (λ y. (object_in y.object).block) at.loads in
     let word : s.words.payload (object_at s t).block (field_at (extent c) way.shape (field_index k)) ≡ w =
     ap (λ x. s.words.payload x (field_at (extent c) way.shape (field_index k))) block ∙ payload_read s h _ _ w at.words at.reads in
-    ap (λ l. with_load s.loads t l u) (ap (λ x. pair None (late_load (to_register k) x)) word ∙ sym (field_loading c k w (payload_in w)))
+    ap (λ l. with_load s.loads t l u) (ap (λ x. pair None (pending_load (to_register k) x)) word ∙ sym (field_loading c k w (payload_in w)))
 loads_moved c h s a t k (LoadOwner word) w fits reads at u = unmoved s.loads t (row_loading (extent c) k (LoadOwner word)) u at.loads
-loads_moved c h s a t k (StoreLate word value) w fits reads at u = refl
+loads_moved c h s a t k (StorePending word value) w fits reads at u = refl
 loads_moved c h s a t k (StoreField way word) w fits reads at u = refl
 loads_moved c h s a t k LoadFirst w fits reads at u =
     value_moved c s t (from_register k) w u None (row_loading (extent c) k (LoadSecond w)) (ap (λ x. x.object) at.loads) (payload_read s h _ _ w at.words at.reads) refl
@@ -227,7 +227,7 @@ at_link c s t r i way loads is low =
 
 -- the store of the thread is not still to come
 prompt : (s : GraphState) (t : ℕ) (l : Loading) → s.loads t ≡ l → IsPrompt l → IsPrompt (s.loads t)
-prompt s t l e h = ap (λ x. (value_in x.value).late) e ∙ h
+prompt s t l e h = ap (λ x. (value_in x.value).pending) e ∙ h
 
 -- the event of a row may come
 pub row_guarded : (c : Config) (h : Heap) (s : GraphState) (a : Name) (t : ℕ) (k : Command) (row : FieldRow) (w : ℕ) → FitsAt c t k row → ReadsAt c t k row w → IsAt (extent c) s h t k row w → InHandAt s a t k row
@@ -254,8 +254,8 @@ row_guarded c h s a t k (LoadLink way word) w fits reads at hand = (fits.thread.
 row_guarded c h s a t k (LoadField way) w fits reads at hand =
     (fits.thread.thread, to_low k fits.command, prompt s t (row_loading (extent c) k (LoadField way)) at.loads refl, at_field c s t (from_register k) (field_index k) way a (ap (λ l. l.object) at.loads) fits.row.0 fits.row.1 hand)
 row_guarded c h s a t k (LoadOwner word) w fits reads at hand = tt
-row_guarded c h s a t k (StoreLate word value) w fits reads at hand =
-    (fits.thread.thread, has_value s t (value_in (late_load (to_register k) word)) (ap (λ l. l.value) at.loads), ap (λ l. (value_in l.value).late) at.loads)
+row_guarded c h s a t k (StorePending word value) w fits reads at hand =
+    (fits.thread.thread, has_value s t (value_in (pending_load (to_register k) word)) (ap (λ l. l.value) at.loads), ap (λ l. (value_in l.value).pending) at.loads)
 row_guarded c h s a t k (StoreField way word) w fits reads at hand = (
   fits.thread.thread,
   prompt s t (row_loading (extent c) k (StoreField way word)) at.loads refl,

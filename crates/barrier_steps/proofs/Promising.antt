@@ -20,7 +20,7 @@ use Rattle.never_heap.specs.Steps.{at_object, at_field, same_value}
 use Rattle.shown_graph.specs.Layouts.{kind_shape}
 use Rattle.shown_graph.specs.Read.{value_payload}
 use Rattle.barrier_steps.specs.declared.rows.FieldRow.{FieldRow}
-use Rattle.barrier_steps.specs.declared.rows.FieldRow.TheVariants.{StoreNumber, StoreNil, LoadMoved, StoreMoved, LoadObject, LoadShape, LoadValue, LoadLink, LoadField, LoadOwner, StoreLate, StoreField, LoadFirst, LoadSecond, LoadSaid, LoadSaidOwner, Answered}
+use Rattle.barrier_steps.specs.declared.rows.FieldRow.TheVariants.{StoreNumber, StoreNil, LoadMoved, StoreMoved, LoadObject, LoadShape, LoadValue, LoadLink, LoadField, LoadOwner, StorePending, StoreField, LoadFirst, LoadSecond, LoadSaid, LoadSaidOwner, Answered}
 use Rattle.barrier_steps.specs.Operands.{from_register, other_register, field_index, is_set, is_nil, is_mov, is_get, is_put, looks_at_object, is_same, is_say}
 use Rattle.barrier_steps.specs.Walks.{shape_length}
 use Rattle.barrier_steps.specs.Rows.{payload_or_nil, payload_in, shape_or_empty, shape_in, object_or_nil, row_got, field_reply, after_object, after_shape, after_field, after_said, on_way, way_from}
@@ -194,7 +194,7 @@ promised c head g t k _ w is n h = absurd cc
 -- a decided row keeps its promise
 pub kept : (c : Config) (head : Name → ℕ) (k : Command) (row : FieldRow) (w : ℕ) (reply : Reply) → Promises head row reply → NameShown head row reply w → Promises head (row_got (extent c) k row w) reply
 kept c head k (LoadOwner word) w reply p shown = p.says ∙ ap (λ o. replies.Val (object_or_nil o)) (sym (shown p.name p.says p.block))
-kept c head k (StoreLate word value) w reply p shown = sym p
+kept c head k (StorePending word value) w reply p shown = sym p
 kept c head k (LoadSaidOwner word) w reply p shown = ap (λ o. replies.Val (object_or_nil o)) (shown p.name p.says p.block) ∙ sym p.says
 kept c head k (Answered given) w reply p shown = p
 kept c head k _ w reply p shown = absurd p

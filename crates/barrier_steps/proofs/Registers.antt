@@ -18,7 +18,7 @@ use Rattle.never_heap.proofs.GraphMoves.{register_with_register}
 use Rattle.shown_graph.specs.Shown.{IsSized}
 use Rattle.shown_graph.specs.Events.{GraphState}
 use Rattle.barrier_steps.specs.declared.rows.FieldRow.{FieldRow}
-use Rattle.barrier_steps.specs.declared.rows.FieldRow.TheVariants.{StoreNumber, StoreNil, StoreMoved, LoadObject, LoadShape, LoadField, StoreLate, StoreField, LoadSecond, LoadSaid}
+use Rattle.barrier_steps.specs.declared.rows.FieldRow.TheVariants.{StoreNumber, StoreNil, StoreMoved, LoadObject, LoadShape, LoadField, StorePending, StoreField, LoadSecond, LoadSaid}
 use Rattle.barrier_steps.specs.declared.rows.Way.{Way}
 use Rattle.barrier_steps.specs.Operands.{to_register, from_register, field_index}
 use Rattle.barrier_steps.specs.Walks.{shape_length, links_to}
@@ -33,11 +33,11 @@ use Rattle.barrier_steps.proofs.Stepping.{one_name, chosen_value}
 
 -- a decided row that reads a name, or stores the value, replies with the value of its register
 abbrev pub HasRegister : Graph → ℕ → Command → FieldRow → Reply → Type 0
-HasRegister g t k (StoreLate word value) reply = reply ≡ replies.Val (register_of g t (to_register k))
+HasRegister g t k (StorePending word value) reply = reply ≡ replies.Val (register_of g t (to_register k))
 HasRegister g t k row reply = ShowsAt g t k row reply
 
 pub has_shows : (g : Graph) (t : ℕ) (k : Command) (row : FieldRow) (reply : Reply) → HasRegister g t k row reply → ShowsAt g t k row reply
-has_shows g t k (StoreLate word value) reply h = tt
+has_shows g t k (StorePending word value) reply h = tt
 has_shows g t k _ reply h = h
 
 -- rows that neither read a name nor store a value show no register

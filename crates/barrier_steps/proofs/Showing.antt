@@ -21,19 +21,19 @@ use Rattle.shown_graph.specs.Layouts.{kind_shape, layout_part, object_part, shap
 use Rattle.block_store.specs.Registers.{register_block, register_slot}
 use Rattle.shown_graph.specs.Words.{block_words, value_word, part_word}
 use Rattle.shown_graph.specs.Shown.{IsValueOf, heads}
-use Rattle.shown_graph.specs.Events.{ObjectLoad, ValueLoad, Loading, GraphState, lates, is_late, object_in, value_in, ObjectIs, ValueIs, Follows}
+use Rattle.shown_graph.specs.Events.{ObjectLoad, ValueLoad, Loading, GraphState, pending_registers, is_pending, object_in, value_in, ObjectIs, ValueIs, Follows}
 use Rattle.shown_graph.proofs.ObjectLayouts.{object_layout}
 use Rattle.shown_graph.proofs.Reading.{value_read, owner_read, length_read, register_read, link_read, blocks_apart}
 use Rattle.shown_graph.proofs.Loads.{name_shown}
 use Rattle.barrier_steps.specs.declared.rows.Way.{Way}
 use Rattle.barrier_steps.specs.declared.rows.FieldRow.{FieldRow}
-use Rattle.barrier_steps.specs.declared.rows.FieldRow.TheVariants.{StoreNumber, StoreNil, LoadMoved, StoreMoved, LoadObject, LoadShape, LoadValue, LoadLink, LoadField, LoadOwner, StoreLate, StoreField, LoadFirst, LoadSecond, LoadSaid, LoadSaidOwner, Answered}
+use Rattle.barrier_steps.specs.declared.rows.FieldRow.TheVariants.{StoreNumber, StoreNil, LoadMoved, StoreMoved, LoadObject, LoadShape, LoadValue, LoadLink, LoadField, LoadOwner, StorePending, StoreField, LoadFirst, LoadSecond, LoadSaid, LoadSaidOwner, Answered}
 use Rattle.barrier_steps.specs.Walks.{shape_length, links_to, link_at, field_at, ordinal_at}
 use Rattle.barrier_steps.specs.Operands.{to_register, from_register, other_register, field_index}
 use Rattle.barrier_steps.specs.Rows.{register_place, field_reply}
 use Rattle.barrier_steps.specs.Fits.{IsWalk, IsThere, FitsAt, ReadsAt}
 use Rattle.barrier_steps.specs.Replies.{IsWordOf, ShapeShown, FieldFound, ShownAt, RefersTo, Promises, OwnerShown, NameShown, ShowsAt, due_at, KnownAt}
-use Rattle.barrier_steps.specs.Projection.{walk_load, object_on, object_load, value_load, late_load, IsAt}
+use Rattle.barrier_steps.specs.Projection.{walk_load, object_on, object_load, value_load, pending_load, IsAt}
 use Rattle.barrier_steps.proofs.Named.{to_low, from_low, other_low}
 use Rattle.barrier_steps.proofs.Walking.{way_is, field_low}
 use Rattle.barrier_steps.proofs.Projecting.{payload_read}
@@ -52,7 +52,7 @@ module _ (c : Config) (m : ℕ) (K : Name → Type 0) (at : Name → ℕ → ℕ
   few_blocks = omega (arith, few, low)
 
   read_word : (v : Value) (w : ℕ) → IsValueOf K v → value_word (heads at) v ≡ w → IsWordOf (heads at) v w
-  read_word v w kept e = ap payload_of (sym e) ∙ value_read c.width c.threads m K s.graph at s.words (lates s.loads) follows.shows v few_blocks kept
+  read_word v w kept e = ap payload_of (sym e) ∙ value_read c.width c.threads m K s.graph at s.words (pending_registers s.loads) follows.shows v few_blocks kept
 
   -- the word of a kept value is one that a payload place can hold
   value_target : (v : Value) → IsValueOf K v → target (value_word (heads at) v) ≤ c.blocks
@@ -67,10 +67,10 @@ module _ (c : Config) (m : ℕ) (K : Name → Type 0) (at : Name → ℕ → ℕ
   register_held : (t r w : ℕ) → t < c.threads → r < REGISTERS → s.words.payload (register_block c.width t r) (register_slot c.width r) ≡ w → IsSome (payload_of w) × (target w ≤ c.blocks)
   register_held t r w tn rl e = let shown = follows.shows.registers.holds t r tn rl in value_held shown.value w shown.kept (sym shown.reads ∙ e)
 
-  register_shown : (t r w : ℕ) → t < c.threads → r < REGISTERS → lates s.loads t r ≡ false → s.words.payload (register_block c.width t r) (register_slot c.width r) ≡ w → IsWordOf (heads at) (register_of s.graph t r) w
+  register_shown : (t r w : ℕ) → t < c.threads → r < REGISTERS → pending_registers s.loads t r ≡ false → s.words.payload (register_block c.width t r) (register_slot c.width r) ≡ w → IsWordOf (heads at) (register_of s.graph t r) w
   register_shown t r w tn rl now e =
       read_word (register_of s.graph t r) w (follows.shows.closed.registers t r tn rl)
-      (sym (register_read c.width c.threads m K s.graph at s.words (lates s.loads) follows.shows t r tn rl now) ∙ e)
+      (sym (register_read c.width c.threads m K s.graph at s.words (pending_registers s.loads) follows.shows t r tn rl now) ∙ e)
 
   -- the object in hand
   object_is : (t : ℕ) (l : Loading) (o : ObjectLoad) → t < c.threads → s.loads t ≡ l → l.object ≡ Some o → ObjectIs c.width s.graph at t o
@@ -90,7 +90,7 @@ module _ (c : Config) (m : ℕ) (K : Name → Type 0) (at : Name → ℕ → ℕ
         name = is.name;
         refers = is.refers;
         shape = ap shape_of (sym e ∙ ap s.words.shape is.block)
-            ∙ length_read c.width c.threads m K s.graph at s.words (lates s.loads) follows.shows is.name 0 kept (object_layout c.width (object_of s.graph is.name)).first;
+            ∙ length_read c.width c.threads m K s.graph at s.words (pending_registers s.loads) follows.shows is.name 0 kept (object_layout c.width (object_of s.graph is.name)).first;
       }
 
   module _ (t r i : ℕ) (way : Way) (is : ObjectIs c.width s.graph at t (object_in (walk_load (extent c) r i way))) (fits : IsWalk c i way) (tn : t < c.threads) (rl : r < REGISTERS) where
@@ -139,7 +139,7 @@ module _ (c : Config) (m : ℕ) (K : Name → Type 0) (at : Name → ℕ → ℕ
         part_is (link_at (extent c) way.shape i way.level) (Link next) ((way_is c way.shape i fits.index).links way.level less) in
         let on = (object_layout c.width (object_of s.graph is.name)).onward _ _ next link in
         let word : reference_word (at is.name next) ≡ w =
-        sym (link_read c.width c.threads m K s.graph at s.words (lates s.loads) follows.shows is.name _ _ next kept link)
+        sym (link_read c.width c.threads m K s.graph at s.words (pending_registers s.loads) follows.shows is.name _ _ next kept link)
         ∙ sym (ap (λ x. s.words.payload x (link_at (extent c) way.shape i way.level)) is.block)
         ∙ e in
         reference_held (at is.name next) w word (behind_registers (follows.shows.placed.behind is.name next kept on.2)) (omega (arith, follows.shows.placed.within is.name next kept on.2, low))
@@ -157,7 +157,7 @@ module _ (c : Config) (m : ℕ) (K : Name → Type 0) (at : Name → ℕ → ℕ
             ((ap is_some reads, omega arith), positive (target w) x goes some)
 
   -- a value's word that refers to a block is that of a name, whose first block it is
-  refers_to : (t r w : ℕ) (reply : Reply) → ValueIs s.graph at t (record { origin = r; word = w; late = false }) → target w ≢ 0 → reply ≡ replies.Val (register_of s.graph t r) → RefersTo (heads at) w reply
+  refers_to : (t r w : ℕ) (reply : Reply) → ValueIs s.graph at t (record { origin = r; word = w; pending = false }) → target w ≢ 0 → reply ≡ replies.Val (register_of s.graph t r) → RefersTo (heads at) w reply
   refers_to t r w reply is some shows = go (register_of s.graph t r) refl
     where
       go : (v : Value) → register_of s.graph t r ≡ v → RefersTo (heads at) w reply
@@ -166,23 +166,23 @@ module _ (c : Config) (m : ℕ) (K : Name → Type 0) (at : Name → ℕ → ℕ
       go (values.Ref a) e = record { name = a; says = shows ∙ ap replies.Val e; block = ap target (is.word ∙ ap (value_word (heads at)) e) ∙ target-reference (at a 0) }
 
   -- and that block has an owner word
-  value_named : (t r w x : ℕ) → t < c.threads → ValueIs s.graph at t (record { origin = r; word = w; late = false }) → target w ≢ 0 → s.words.owner (target w) ≡ x → IsSome (owner_of x)
+  value_named : (t r w x : ℕ) → t < c.threads → ValueIs s.graph at t (record { origin = r; word = w; pending = false }) → target w ≢ 0 → s.words.owner (target w) ≡ x → IsSome (owner_of x)
   value_named t r w x tn is some e =
       let to = refers_to t r w (replies.Val (register_of s.graph t r)) is some refl in
       let says : replies.Val (register_of s.graph t r) ≡ replies.Val (values.Ref to.name) = to.says in
       let refers : register_of s.graph t r ≡ values.Ref to.name = cc in
       ap is_some (ap owner_of (sym e ∙ ap s.words.owner to.block)
-      ∙ owner_read c.width c.threads m K s.graph at s.words (lates s.loads) follows.shows to.name 0 (is_kept t r to.name tn is.origin refers) (object_layout c.width (object_of s.graph to.name)).first)
+      ∙ owner_read c.width c.threads m K s.graph at s.words (pending_registers s.loads) follows.shows to.name 0 (is_kept t r to.name tn is.origin refers) (object_layout c.width (object_of s.graph to.name)).first)
 
-  on_time : (t r w : ℕ) (b : Bool) → ValueIs s.graph at t (record { origin = r; word = w; late = b }) → ValueIs s.graph at t (record { origin = r; word = w; late = false })
+  on_time : (t r w : ℕ) (b : Bool) → ValueIs s.graph at t (record { origin = r; word = w; pending = b }) → ValueIs s.graph at t (record { origin = r; word = w; pending = false })
   on_time t r w b is = record { origin = is.origin; word = is.word }
 
-  register_named : (t r word w : ℕ) (reply : Reply) → t < c.threads → ValueIs s.graph at t (record { origin = r; word = word; late = false }) → s.words.owner (target word) ≡ w
+  register_named : (t r word w : ℕ) (reply : Reply) → t < c.threads → ValueIs s.graph at t (record { origin = r; word = word; pending = false }) → s.words.owner (target word) ≡ w
       → reply ≡ replies.Val (register_of s.graph t r) → OwnerShown (heads at) word reply w
   register_named t r word w reply tn is e shows a says goes =
       let values_one : replies.Val (register_of s.graph t r) ≡ replies.Val (values.Ref a) = sym shows ∙ says in
       let refers : register_of s.graph t r ≡ values.Ref a = cc in
-      ap owner_of (sym e) ∙ name_shown c.width c.threads m K at s follows t tn (record { origin = r; word = word; late = false }) a is refers
+      ap owner_of (sym e) ∙ name_shown c.width c.threads m K at s follows t tn (record { origin = r; word = word; pending = false }) a is refers
 
   owner_word_read : (x w : ℕ) → s.words ≡ block_words h → w ≡ h (OwnerOf x) → s.words.owner x ≡ w
   owner_word_read x w is reads = ap (λ b. b.owner x) is ∙ sym reads
@@ -190,9 +190,9 @@ module _ (c : Config) (m : ℕ) (K : Name → Type 0) (at : Name → ℕ → ℕ
   register_at : (t r w : ℕ) → s.words ≡ block_words h → w ≡ h (register_place (extent c) t r) → s.words.payload (register_block c.width t r) (register_slot c.width r) ≡ w
   register_at t r w is reads = payload_read s h (register_block c.width t r) (register_slot c.width r) w is reads
 
-  -- no register of the thread is late
-  not_late : (t r : ℕ) (l : Loading) → s.loads t ≡ l → is_late l.value r ≡ false → lates s.loads t r ≡ false
-  not_late t r l e now = ap (λ x. is_late x.value r) e ∙ now
+  -- no register of the thread is pending
+  not_pending : (t r : ℕ) (l : Loading) → s.loads t ≡ l → is_pending l.value r ≡ false → pending_registers s.loads t r ≡ false
+  not_pending t r l e now = ap (λ x. is_pending x.value r) e ∙ now
 
   -- the object in hand on a way
   way_object : (t : ℕ) (k : Command) (way : Way) (l : Loading) → t < c.threads → s.loads t ≡ l → l.object ≡ object_on (extent c) k way → ObjectIs c.width s.graph at t (object_in (object_on (extent c) k way))
@@ -205,7 +205,7 @@ module _ (c : Config) (m : ℕ) (K : Name → Type 0) (at : Name → ℕ → ℕ
   row_shown t k LoadMoved w fits is = tt
   row_shown t k (StoreMoved word) w fits is = tt
   row_shown t k LoadObject w fits is =
-      register_shown t (from_register k) w fits.thread.thread (from_low k fits.command) (not_late t (from_register k) _ is.loads refl) (register_at t (from_register k) w is.words is.reads)
+      register_shown t (from_register k) w fits.thread.thread (from_low k fits.command) (not_pending t (from_register k) _ is.loads refl) (register_at t (from_register k) w is.words is.reads)
   row_shown t k (LoadShape x) w fits is =
       shape_word t (from_register k) x w (object_is t _ _ fits.thread.thread is.loads refl) fits.thread.thread (from_low k fits.command) (ap (λ b. b.shape x) is.words ∙ sym is.reads)
   row_shown t k (LoadValue way) w fits is = tt
@@ -217,7 +217,7 @@ module _ (c : Config) (m : ℕ) (K : Name → Type 0) (at : Name → ℕ → ℕ
             (field_word t (from_register k) (field_index k) way object fits.row.0 fits.thread.thread (from_low k fits.command) w fits.row.1 (payload_read s h _ _ w is.words is.reads)),
       )
   row_shown t k (LoadOwner word) w fits is = tt
-  row_shown t k (StoreLate word value) w fits is = tt
+  row_shown t k (StorePending word value) w fits is = tt
   row_shown t k (StoreField way word) w fits is =
       found_field t (from_register k) (field_index k) way (way_object t k way _ fits.thread.thread is.loads refl) fits.row.0 fits.thread.thread (from_low k fits.command)
   row_shown t k LoadFirst w fits is = tt
@@ -227,13 +227,13 @@ module _ (c : Config) (m : ℕ) (K : Name → Type 0) (at : Name → ℕ → ℕ
       let value = value_is t _ (value_in (value_load a word)) fits.thread.thread is.loads refl in
       record {
         first = read_word (register_of s.graph t a) word (follows.shows.closed.registers t a fits.thread.thread (from_low k fits.command)) (sym value.word);
-        second = register_shown t b w fits.thread.thread (other_low k fits.command) (not_late t b _ is.loads refl) (register_at t b w is.words is.reads);
+        second = register_shown t b w fits.thread.thread (other_low k fits.command) (not_pending t b _ is.loads refl) (register_at t b w is.words is.reads);
         apart = λ x y ex ey e.
-            (blocks_apart c.width c.threads m K s.graph at s.words (lates s.loads) follows.shows x y 0 0 (is_kept t a x fits.thread.thread (from_low k fits.command) ex) (is_kept t b y fits.thread.thread (other_low k fits.command) ey)
+            (blocks_apart c.width c.threads m K s.graph at s.words (pending_registers s.loads) follows.shows x y 0 0 (is_kept t a x fits.thread.thread (from_low k fits.command) ex) (is_kept t b y fits.thread.thread (other_low k fits.command) ey)
             (object_layout c.width (object_of s.graph x)).first (object_layout c.width (object_of s.graph y)).first e).0;
       }
   row_shown t k LoadSaid w fits is =
-      register_shown t (from_register k) w fits.thread.thread (from_low k fits.command) (not_late t (from_register k) _ is.loads refl) (register_at t (from_register k) w is.words is.reads)
+      register_shown t (from_register k) w fits.thread.thread (from_low k fits.command) (not_pending t (from_register k) _ is.loads refl) (register_at t (from_register k) w is.words is.reads)
   row_shown t k (LoadSaidOwner word) w fits is = tt
   row_shown t k (Answered reply) w fits is = tt
 
@@ -264,8 +264,8 @@ module _ (c : Config) (m : ℕ) (K : Name → Type 0) (at : Name → ℕ → ℕ
         tt,
       )
   row_reads t k (LoadOwner word) w fits is goes =
-      (value_named t (to_register k) word w fits.thread.thread (on_time t (to_register k) word true (value_is t _ (value_in (late_load (to_register k) word)) fits.thread.thread is.loads refl)) fits.row.1 (owner_word_read (target word) w is.words is.reads), tt)
-  row_reads t k (StoreLate word value) w fits is goes = (to_held t k (StoreLate word value) w fits is.reads is.words, tt)
+      (value_named t (to_register k) word w fits.thread.thread (on_time t (to_register k) word true (value_is t _ (value_in (pending_load (to_register k) word)) fits.thread.thread is.loads refl)) fits.row.1 (owner_word_read (target word) w is.words is.reads), tt)
+  row_reads t k (StorePending word value) w fits is goes = (to_held t k (StorePending word value) w fits is.reads is.words, tt)
   row_reads t k (StoreField way word) w fits is goes =
       let object = way_object t k way _ fits.thread.thread is.loads refl in (
         value_held (field_of (object_of s.graph object.name) (field_index k)) w (field_kept t (from_register k) (field_index k) way object fits.row.0 fits.thread.thread (from_low k fits.command))
@@ -282,7 +282,7 @@ module _ (c : Config) (m : ℕ) (K : Name → Type 0) (at : Name → ℕ → ℕ
   -- and where its reply shows a register, it reads the name of the object to which that refers
   pub row_named : (t : ℕ) (k : Command) (row : FieldRow) (w : ℕ) (reply : Reply) → FitsAt c t k row → IsAt (extent c) s h t k row w → ShowsAt s.graph t k row reply → NameShown (heads at) row reply w
   row_named t k (LoadOwner word) w reply fits is shows =
-      register_named t (to_register k) word w reply fits.thread.thread (on_time t (to_register k) word true (value_is t _ (value_in (late_load (to_register k) word)) fits.thread.thread is.loads refl)) (owner_word_read (target word) w is.words is.reads) shows
+      register_named t (to_register k) word w reply fits.thread.thread (on_time t (to_register k) word true (value_is t _ (value_in (pending_load (to_register k) word)) fits.thread.thread is.loads refl)) (owner_word_read (target word) w is.words is.reads) shows
   row_named t k (LoadSaidOwner word) w reply fits is shows =
       register_named t (from_register k) word w reply fits.thread.thread (value_is t _ (value_in (value_load (from_register k) word)) fits.thread.thread is.loads refl) (owner_word_read (target word) w is.words is.reads) shows
   row_named t k StoreNumber w reply fits is shows = tt
@@ -294,7 +294,7 @@ module _ (c : Config) (m : ℕ) (K : Name → Type 0) (at : Name → ℕ → ℕ
   row_named t k (LoadValue way) w reply fits is shows = tt
   row_named t k (LoadLink way word) w reply fits is shows = tt
   row_named t k (LoadField way) w reply fits is shows = tt
-  row_named t k (StoreLate word value) w reply fits is shows = tt
+  row_named t k (StorePending word value) w reply fits is shows = tt
   row_named t k (StoreField way word) w reply fits is shows = tt
   row_named t k LoadFirst w reply fits is shows = tt
   row_named t k (LoadSecond word) w reply fits is shows = tt
@@ -304,8 +304,8 @@ module _ (c : Config) (m : ℕ) (K : Name → Type 0) (at : Name → ℕ → ℕ
   -- a decided row promises the reply that is due
   pub row_promises : (t : ℕ) (k : Command) (row : FieldRow) (w : ℕ) (reply : Reply) → FitsAt c t k row → IsAt (extent c) s h t k row w → KnownAt s.graph t k row → due_at s.graph t k row ≡ Some reply → Promises (heads at) row reply
   row_promises t k (LoadOwner word) w reply fits is known due =
-      refers_to t (to_register k) word reply (on_time t (to_register k) word true (value_is t _ (value_in (late_load (to_register k) word)) fits.thread.thread is.loads refl)) fits.row.1 cc
-  row_promises t k (StoreLate word value) w reply fits is known due =
+      refers_to t (to_register k) word reply (on_time t (to_register k) word true (value_is t _ (value_in (pending_load (to_register k) word)) fits.thread.thread is.loads refl)) fits.row.1 cc
+  row_promises t k (StorePending word value) w reply fits is known due =
       let says : reply ≡ replies.Val (register_of s.graph t (to_register k)) = cc in
       says ∙ ap replies.Val (sym known)
   row_promises t k (LoadSaidOwner word) w reply fits is known due =

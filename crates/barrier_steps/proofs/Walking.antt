@@ -11,7 +11,7 @@ use Rattle.block_store.specs.Shapes.{IsShape}
 use Rattle.block_store.specs.Widths.{payloads}
 use Rattle.block_store.proofs.Registers.{wide}
 use Rattle.object_lists.specs.Layouts.{IsWay}
-use Rattle.object_lists.specs.Records.{record_spot}
+use Rattle.object_lists.specs.Records.{record_slot}
 use Rattle.object_lists.proofs.Lists.{record_way}
 use Rattle.array_trees.specs.Levels.{array_depth}
 use Rattle.array_trees.proofs.Depths.{depth_few}
@@ -20,7 +20,7 @@ use Rattle.shown_graph.specs.Layouts.{shape_part}
 use Rattle.barrier_steps.specs.Walks.{shape_length, links_to, link_at, field_at, ordinal_at}
 
 -- there are few links
-record_few : (w : Width) (i : ℕ) → (record_spot w i).0 ≤ i
+record_few : (w : Width) (i : ℕ) → (record_slot w i).0 ≤ i
 record_few Four i = omega arith
 record_few Eight i = omega arith
 
@@ -29,7 +29,7 @@ links_few e (shapes.List n) i fits h = omega (arith, record_few e.width i)
 links_few e (shapes.Tree n) i fits h = omega (arith, depth_few e.width n fits)
 
 -- links and fields stand in the payloads of a block
-record_low : (w : Width) (i : ℕ) → (record_spot w i).1 < payloads w
+record_low : (w : Width) (i : ℕ) → (record_slot w i).1 < payloads w
 record_low Four i = (let h : i % 3 < 3 = mod_below i 3 (omega arith) in omega arith)
 record_low Eight i = (let h : i % 7 < 7 = mod_below i 7 (omega arith) in omega arith)
 

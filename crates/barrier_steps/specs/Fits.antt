@@ -11,7 +11,7 @@ use Rattle.never_heap.specs.Bounds.{IsCommandInRange}
 use Rattle.heap_machine.specs.Operations.{place_of}
 use Rattle.heap_machine.specs.Readings.{CanHold}
 use Rattle.barrier_steps.specs.declared.rows.FieldRow.{FieldRow}
-use Rattle.barrier_steps.specs.declared.rows.FieldRow.TheVariants.{StoreNumber, StoreNil, LoadMoved, StoreMoved, LoadObject, LoadShape, LoadValue, LoadLink, LoadField, LoadOwner, StoreLate, StoreField, LoadFirst, LoadSecond, LoadSaid, LoadSaidOwner, Answered}
+use Rattle.barrier_steps.specs.declared.rows.FieldRow.TheVariants.{StoreNumber, StoreNil, LoadMoved, StoreMoved, LoadObject, LoadShape, LoadValue, LoadLink, LoadField, LoadOwner, StorePending, StoreField, LoadFirst, LoadSecond, LoadSaid, LoadSaidOwner, Answered}
 use Rattle.barrier_steps.specs.declared.rows.Way.{Way}
 use Rattle.barrier_steps.specs.Operands.{field_index, is_set, is_nil, is_mov, is_get, is_put, goes_to_field, looks_at_object, is_same, is_say}
 use Rattle.barrier_steps.specs.Walks.{shape_length, links_to}
@@ -52,7 +52,7 @@ is_row_of k (LoadValue way) = is_put k
 is_row_of k (LoadLink way word) = goes_to_field k
 is_row_of k (LoadField way) = is_get k
 is_row_of k (LoadOwner word) = is_get k
-is_row_of k (StoreLate word value) = is_get k
+is_row_of k (StorePending word value) = is_get k
 is_row_of k (StoreField way word) = is_put k
 is_row_of k LoadFirst = is_same k
 is_row_of k (LoadSecond word) = is_same k
@@ -73,7 +73,7 @@ RowFits c k (LoadLink way word) = IsWalk c (field_index k) way
     × (way.level < links_to (extent c) way.shape (field_index k)) × IsLoaded c word
 RowFits c k (LoadField way) = IsWalk c (field_index k) way × IsThere c (field_index k) way
 RowFits c k (LoadOwner word) = IsLoaded c word × (target word ≢ 0)
-RowFits c k (StoreLate word value) = IsLoaded c word
+RowFits c k (StorePending word value) = IsLoaded c word
 RowFits c k (StoreField way word) = IsWalk c (field_index k) way × IsThere c (field_index k) way
     × IsLoaded c word
 RowFits c k LoadFirst = Unit {0}

@@ -12,7 +12,7 @@ use Rattle.shown_graph.specs.Words.{block_words}
 use Rattle.shown_graph.specs.Events as events
 use Rattle.shown_graph.specs.Events.{ObjectLoad, ValueLoad, Loading, unloaded, GraphState, Event, apply}
 use Rattle.barrier_steps.specs.declared.rows.FieldRow.{FieldRow}
-use Rattle.barrier_steps.specs.declared.rows.FieldRow.TheVariants.{StoreNumber, StoreNil, LoadMoved, StoreMoved, LoadObject, LoadShape, LoadValue, LoadLink, LoadField, LoadOwner, StoreLate, StoreField, LoadFirst, LoadSecond, LoadSaid, LoadSaidOwner, Answered}
+use Rattle.barrier_steps.specs.declared.rows.FieldRow.TheVariants.{StoreNumber, StoreNil, LoadMoved, StoreMoved, LoadObject, LoadShape, LoadValue, LoadLink, LoadField, LoadOwner, StorePending, StoreField, LoadFirst, LoadSecond, LoadSaid, LoadSaidOwner, Answered}
 use Rattle.barrier_steps.specs.declared.rows.Way.{Way}
 use Rattle.barrier_steps.specs.Operands.{to_register, from_register, other_register, field_index, number_set}
 use Rattle.barrier_steps.specs.Walks.{shape_length, link_at, field_at, ordinal_at}
@@ -34,11 +34,11 @@ walk_load e s i way = Some (record {
 
 -- the word of register r
 abbrev pub value_load : ℕ → ℕ → Option ValueLoad
-value_load r word = Some (record { origin = r; word = word; late = false })
+value_load r word = Some (record { origin = r; word = word; pending = false })
 
 -- the word of a field that the graph's register d has already
-abbrev pub late_load : ℕ → ℕ → Option ValueLoad
-late_load d word = Some (record { origin = d; word = word; late = true })
+abbrev pub pending_load : ℕ → ℕ → Option ValueLoad
+pending_load d word = Some (record { origin = d; word = word; pending = true })
 
 -- on the way `put` has the word that it will store, and `get` has none
 abbrev pub carried_load : Command → ℕ → Option ValueLoad
@@ -62,10 +62,10 @@ row_loading e k (LoadLink way word) = record {
   value = carried_load k word;
 }
 row_loading e k (LoadField way) = record { object = object_on e k way; value = None }
-row_loading e k (LoadOwner word) = record { object = None; value = late_load (to_register k) word }
-row_loading e k (StoreLate word value) = record {
+row_loading e k (LoadOwner word) = record { object = None; value = pending_load (to_register k) word }
+row_loading e k (StorePending word value) = record {
   object = None;
-  value = late_load (to_register k) word;
+  value = pending_load (to_register k) word;
 }
 row_loading e k (StoreField way word) = record {
   object = object_on e k way;
@@ -100,7 +100,7 @@ row_event e a t k (LoadLink way word) w = Some
 row_event e a t k (LoadField way) w = Some (events.ReadField t (to_register k) a (field_index k)
     (field_at e way.shape (field_index k)))
 row_event e a t k (LoadOwner word) w = None
-row_event e a t k (StoreLate word value) w = Some (events.StoreLate t)
+row_event e a t k (StorePending word value) w = Some (events.StorePending t)
 row_event e a t k (StoreField way word) w = Some
     (events.StoreField t a (field_index k) (field_at e way.shape (field_index k)))
 row_event e a t k LoadFirst w = Some (events.ReadValue t (from_register k))

@@ -22,7 +22,7 @@ use Rattle.heap_machine.specs.declared.pass.Pass.{Pass}
 use Rattle.heap_machine.specs.declared.Step.{Step}
 use Rattle.heap_machine.specs.declared.Step.TheVariants.{Went, Over}
 use Rattle.barrier_steps.specs.declared.rows.FieldRow.{FieldRow}
-use Rattle.barrier_steps.specs.declared.rows.FieldRow.TheVariants.{StoreNumber, StoreNil, LoadMoved, StoreMoved, LoadObject, LoadShape, LoadValue, LoadLink, LoadField, LoadOwner, StoreLate, StoreField, LoadFirst, LoadSecond, LoadSaid, LoadSaidOwner, Answered}
+use Rattle.barrier_steps.specs.declared.rows.FieldRow.TheVariants.{StoreNumber, StoreNil, LoadMoved, StoreMoved, LoadObject, LoadShape, LoadValue, LoadLink, LoadField, LoadOwner, StorePending, StoreField, LoadFirst, LoadSecond, LoadSaid, LoadSaidOwner, Answered}
 use Rattle.barrier_steps.specs.declared.rows.Way.{Way}
 use Rattle.barrier_steps.specs.Operands.{to_register, from_register, other_register, field_index, number_set}
 use Rattle.barrier_steps.specs.Walks.{shape_length, links_to, link_at, field_at}
@@ -92,7 +92,7 @@ row_want e t k (LoadLink way word) = Load (PayloadOf way.block
     (link_at e way.shape (field_index k) way.level))
 row_want e t k (LoadField way) = Load (PayloadOf way.block (field_at e way.shape (field_index k)))
 row_want e t k (LoadOwner word) = Load (OwnerOf (target word))
-row_want e t k (StoreLate word value) = Exchange (register_place e t (to_register k)) word
+row_want e t k (StorePending word value) = Exchange (register_place e t (to_register k)) word
 row_want e t k (StoreField way word) = Exchange
     (PayloadOf way.block (field_at e way.shape (field_index k))) word
 row_want e t k LoadFirst = Load (register_place e t (from_register k))
@@ -135,8 +135,8 @@ after_shape e _ x f = Answered (replies.Len (shape_length f))
 
 -- after the field that `get` loads: its word is then stored, once its value is known
 abbrev pub after_field : ℕ → Payload → FieldRow
-after_field word payloads.Nil = StoreLate word values.Nil
-after_field word (payloads.Int v) = StoreLate word (values.Int v)
+after_field word payloads.Nil = StorePending word values.Nil
+after_field word (payloads.Int v) = StorePending word (values.Int v)
 after_field word (payloads.Block x) = LoadOwner word
 
 -- after the register that `say` shows
@@ -156,8 +156,8 @@ row_got e k (LoadShape x) w = after_shape e k x (shape_in w)
 row_got e k (LoadValue way) w = on_way e k way w
 row_got e k (LoadLink way word) w = on_way e k (way_on way (target w)) word
 row_got e k (LoadField way) w = after_field w (payload_in w)
-row_got e k (LoadOwner word) w = StoreLate word (object_in w)
-row_got e k (StoreLate word value) w = Answered (replies.Val value)
+row_got e k (LoadOwner word) w = StorePending word (object_in w)
+row_got e k (StorePending word value) w = Answered (replies.Val value)
 row_got e k (StoreField way word) w = Answered replies.Stored
 row_got e k LoadFirst w = LoadSecond w
 row_got e k (LoadSecond word) w = Answered (if word == w then replies.Yes else replies.No)
@@ -187,7 +187,7 @@ field_step e s w = step_of (field_reply (field_got e s w).row)
 -- the rows behind the deciding event
 abbrev pub field_decided : FieldRow → Bool
 field_decided (LoadOwner word) = true
-field_decided (StoreLate word value) = true
+field_decided (StorePending word value) = true
 field_decided (LoadSaidOwner word) = true
 field_decided (Answered reply) = true
 field_decided _ = false

@@ -4,7 +4,7 @@ use Rattle.std.specs.Prelude.{ℕ}
 use Rattle.block_store.specs.Places.{Extent}
 use Rattle.block_store.specs.declared.Shape.{Shape}
 use Rattle.block_store.specs.declared.Shape.TheVariants as shapes
-use Rattle.object_lists.specs.Records.{record_spot}
+use Rattle.object_lists.specs.Records.{record_slot}
 use Rattle.array_trees.specs.Levels.{array_depth, array_turn, array_way}
 
 -- how many fields or elements there are
@@ -15,7 +15,7 @@ shape_length (shapes.Tree e) = e
 -- how many links lead to field i: in a record one for each block before it, in an array one for
 -- each level above the leaves
 abbrev pub links_to : Extent → Shape → ℕ → ℕ
-links_to e (shapes.List f) i = (record_spot e.width i).0
+links_to e (shapes.List f) i = (record_slot e.width i).0
 links_to e (shapes.Tree n) i = array_depth e.width n
 
 -- at which payload the link stands that leads on to field i, after l links
@@ -25,7 +25,7 @@ link_at e (shapes.Tree n) i l = array_turn e.width n i l
 
 -- at which payload field i stands in its block
 abbrev pub field_at : Extent → Shape → ℕ → ℕ
-field_at e (shapes.List f) i = (record_spot e.width i).1
+field_at e (shapes.List f) i = (record_slot e.width i).1
 field_at e (shapes.Tree n) i = array_turn e.width n i (array_depth e.width n)
 
 -- the ordinal of the block that l links on the way to field i lead to

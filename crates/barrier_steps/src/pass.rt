@@ -92,20 +92,8 @@ fn register(places: &Places, thread: u32, r: u8) -> usize
     requires register { r < REGISTERS }
     ensures { result ≡ index (extent places.now) (register_place (extent places.now) thread r) }
 {
-    let (block, slot) = register_at(places.width(), thread, r as u32);
+    let (block, slot) = places.width().register(thread, r as u32);
     places.payload(block, slot)
-}
-
-// The block and the payload of register `r` of a thread.
-#[tactic(auto, using(block_store::proofs::Registers::block_by, block_store::proofs::Registers::slot_by))]
-fn register_at(width: Width, thread: u32, r: u32) -> (u32, u32)
-    requires thread { thread < 16 }
-    requires register { r < REGISTERS }
-    ensures block { result.0 ≡ register_block width thread r }
-    ensures slot { result.1 ≡ register_slot width r }
-{
-    let payloads = width.payloads();
-    (width.registers() * thread + 2 + r / payloads, r % payloads)
 }
 
 // The first row of a command.
@@ -216,10 +204,10 @@ fn after_link(places: &Places, command: Command, way: Way, word: u64, block: u32
 }
 
 // The store of a field's word, once its value is known.
-fn store_late(word: u64, value: Value) -> FieldRow
-    ensures { result ≡ FieldRow.StoreLate word value }
+fn store_pending(word: u64, value: Value) -> FieldRow
+    ensures { result ≡ FieldRow.StorePending word value }
 {
-    FieldRow::StoreLate { word, value }
+    FieldRow::StorePending { word, value }
 }
 
 // After the field that `get` loads.
@@ -227,8 +215,8 @@ fn after_field(word: u64, payload: Payload) -> FieldRow
     ensures { result ≡ Rows.after_field word payload }
 {
     match payload {
-        Payload::Nil => store_late(word, Value::Nil),
-        Payload::Int(number) => store_late(word, Value::Int(number)),
+        Payload::Nil => store_pending(word, Value::Nil),
+        Payload::Int(number) => store_pending(word, Value::Int(number)),
         Payload::Block(_) => FieldRow::LoadOwner { word },
     }
 }
@@ -335,7 +323,7 @@ impl FieldPass {
         match self.row {
             StoreNumber => self.store(places, payload_word(Payload::Int(number_set(command)))),
             StoreNil => self.store(places, payload_word(Payload::Nil)),
-            StoreMoved { word } | StoreLate { word, .. } => self.store(places, word),
+            StoreMoved { word } | StorePending { word, .. } => self.store(places, word),
             LoadMoved | LoadObject | LoadFirst | LoadSaid => {
                 self.load(places, from_register(command))
             }
@@ -409,8 +397,8 @@ impl FieldPass {
             LoadValue { way } => on_way(places, command, way, read),
             LoadLink { way, word } => after_link(places, command, way, word, target(read)),
             LoadField { .. } => after_field(read, payload_in(read)),
-            LoadOwner { word } => store_late(word, object_in(read)),
-            StoreLate { value, .. } => answered(Reply::Val(value)),
+            LoadOwner { word } => store_pending(word, object_in(read)),
+            StorePending { value, .. } => answered(Reply::Val(value)),
             LoadFirst => LoadSecond { word: read },
             LoadSecond { word } => after_both(word, read),
             LoadSaid => after_said(read, payload_in(read)),
@@ -426,7 +414,7 @@ impl FieldPass {
     {
         match self.row {
             FieldRow::LoadOwner { .. }
-            | FieldRow::StoreLate { .. }
+            | FieldRow::StorePending { .. }
             | FieldRow::LoadSaidOwner { .. }
             | FieldRow::Answered { .. } => true,
             _ => false,

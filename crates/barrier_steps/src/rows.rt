@@ -40,7 +40,7 @@ pub enum FieldRow {
     /// `get`: loads the owner of the block to which the field's word refers.
     LoadOwner { word: u64 },
     /// `get`: stores the field's word, which shows this value, in its register.
-    StoreLate { word: u64, value: Value },
+    StorePending { word: u64, value: Value },
     /// `put`: stores the word in the field.
     StoreField { way: Way, word: u64 },
     /// `same`: loads the first register.

@@ -2,8 +2,9 @@
 //! of words, and the places of words.
 #![tactic(auto)]
 
-ghost use Rattle.std.specs.Prelude.{◌≡◌, ◌≤◌, ◌↔◌, IsTrue};
+ghost use Rattle.std.specs.Prelude.{◌≡◌, ◌<◌, ◌≤◌, ◌↔◌, IsTrue};
 ghost use Rattle.block_store.specs.Configs.{IsInBounds};
+ghost use Rattle.block_store.specs.Registers.{root_block, register_block, register_slot, registers_end};
 ghost use Rattle.block_store.specs.Widths.{payloads, register_blocks};
 
 mod colours;
@@ -57,6 +58,36 @@ impl Width {
             Width::Four => 5,
             Width::Eight => 3,
         }
+    }
+
+    /// The root of the register array of thread `t`, which is below 16.
+    #[tactic(auto, using(crate::proofs::Registers::root_by))]
+    pub fn root(self, t: u32) -> u32
+        requires { t < 16 }
+        ensures { result ≡ root_block self t }
+    {
+        self.registers() * t + 1
+    }
+
+    /// The last block of the register arrays of these threads, of which there are at most 16.
+    #[tactic(auto, using(crate::proofs::Registers::end_by))]
+    pub fn registers_end(self, threads: u32) -> u32
+        requires { threads ≤ 16 }
+        ensures { result ≡ registers_end self threads }
+    {
+        self.registers() * threads
+    }
+
+    /// The block of register `r` of thread `t`, and the payload at which it stands. Both are below 16.
+    #[tactic(auto, using(crate::proofs::Registers::block_by, crate::proofs::Registers::slot_by))]
+    pub fn register(self, t: u32, r: u32) -> (u32, u32)
+        requires thread { t < 16 }
+        requires register { r < REGISTERS }
+        ensures block { result.0 ≡ register_block self t r }
+        ensures slot { result.1 ≡ register_slot self r }
+    {
+        let payloads = self.payloads();
+        (self.root(t) + 1 + r / payloads, r % payloads)
     }
 }
 

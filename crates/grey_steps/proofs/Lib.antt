@@ -4,3 +4,4 @@ pub mod Ends
 pub mod Tricolours
 pub mod Solids
 pub mod Together
+pub mod Reuses

@@ -5,6 +5,7 @@
 
 mod laws;
 mod pass;
+mod reuse;
 mod rows;
 #[cfg(test)]
 mod tests;
@@ -14,4 +15,5 @@ pub use laws::{
     rows_keep_the_heap, rows_keep_tricolour, rows_stay_in_the_heap,
 };
 pub use pass::GreyPass;
+pub use reuse::{rows_keep_each_phase, rows_keep_reuse};
 pub use rows::GreyRow;

@@ -11,3 +11,10 @@ pub mod Held
 pub mod Tricolours
 pub mod Solids
 pub mod Keeping
+pub mod FreeBlocks
+pub mod Sweeping
+pub mod Reusing
+pub mod GateReuse
+pub mod Opening
+pub mod FreeLost
+pub mod Phasing

@@ -1,13 +1,20 @@
 -- What a thread holds before its next event, in one record; each rule on the heap reads its part of
 -- it.
-use Rattle.std.specs.Prelude.{ℕ, Bool, false, Option, Some, None}
+use Rattle.std.specs.Prelude.{ℕ, Bool, false, List, [], Option, Some, None}
+use Rattle.heap_machine.specs.FreeBlocks.{FreeHolding}
 use Rattle.heap_machine.specs.Grey.{GreyHolding}
+use Rattle.heap_machine.specs.Sweeping.{SweepHolding}
 use Rattle.heap_machine.specs.Tricolour.{TricolourHolding}
 
 -- the first block of the list in its hand, or 0; the block that it scans, and how many of its
 -- payloads are dealt with; the block that it has found in the next one and not yet shaded, or 0;
 -- whether it knows its own list to be empty; and the block whose barrier is over, so that a
--- reference to it may be stored, or 0
+-- reference to it may be stored, or 0.
+-- Then of the Free blocks: the first block of the free list in its hand, or 0; whether it knows its
+-- own free list to be empty; the blocks that it has collected to build with and not yet coloured;
+-- how many it has reserved and not yet coloured; and how many it has freed and not yet credited.
+-- And of the sweep: the blocks from low on below high, which it has claimed and not yet passed; and
+-- the one of them that it is about to free, or 0
 pub record Holding : Type 0 where
   pub hand : ℕ
   pub scan : Option ℕ
@@ -15,9 +22,32 @@ pub record Holding : Type 0 where
   pub found : ℕ
   pub emptied : Bool
   pub shaded : ℕ
+  pub free_hand : ℕ
+  pub free_emptied : Bool
+  pub held : List ℕ
+  pub reserved : ℕ
+  pub freed : ℕ
+  pub low : ℕ
+  pub high : ℕ
+  pub doomed : ℕ
 
 abbrev pub holds_nothing : Holding
-holds_nothing = record { hand = 0; scan = None; dealt = 0; found = 0; emptied = false; shaded = 0 }
+holds_nothing = record {
+  hand = 0;
+  scan = None;
+  dealt = 0;
+  found = 0;
+  emptied = false;
+  shaded = 0;
+  free_hand = 0;
+  free_emptied = false;
+  held = [];
+  reserved = 0;
+  freed = 0;
+  low = 0;
+  high = 0;
+  doomed = 0;
+}
 
 -- the block, or 0
 abbrev pub block_or_zero : Option ℕ → ℕ
@@ -36,3 +66,17 @@ tricolour_held w = record {
   found = w.found;
   shaded = w.shaded;
 }
+
+-- the part that the rule of the Free blocks reads
+abbrev pub free_held : Holding → FreeHolding
+free_held w = record {
+  hand = w.free_hand;
+  emptied = w.free_emptied;
+  held = w.held;
+  reserved = w.reserved;
+  freed = w.freed;
+}
+
+-- the part that the rule of the sweep reads
+abbrev pub sweep_held : Holding → SweepHolding
+sweep_held w = record { low = w.low; high = w.high; doomed = w.doomed }

@@ -9,5 +9,9 @@ pub mod Gating
 pub mod Grey
 pub mod Tricolour
 pub mod Solid
+pub mod FreeBlocks
+pub mod Sweeping
 pub mod Holdings
 pub mod HeapKept
+pub mod ReuseKept
+pub mod PhaseKept

@@ -1,13 +1,15 @@
 //! The shared words of a heap: one atomic operation on one of them, and the part of a thread's work
 //! that goes in and out at the gate, or closes it and turns the phase over, one operation at a
 //! time. And the rules that every part of a thread's work keeps: where grey blocks stand, that no
-//! black block refers to a white one, and that only Free blocks refer to Free ones.
+//! black block refers to a white one, that only Free blocks refer to Free ones, where Free blocks
+//! stand, and what of them the sweep has claimed and passed.
 #![tactic(auto)]
 
 mod gate;
 mod laws;
 mod op;
 mod pass;
+mod reuse;
 #[cfg(test)]
 mod tests;
 mod turnover;
@@ -23,6 +25,11 @@ pub use laws::{
 };
 pub use op::Op;
 pub use pass::Pass;
+pub use reuse::{
+    free_blocks_stand_at_the_opening, free_blocks_stand_once, free_lists_are_lost_at_a_put,
+    gate_rows_keep_reuse, rules_hold_by_the_phase, sweep_claims_do_not_overlap,
+    what_keeps_free_blocks, what_keeps_reuse, what_keeps_the_sweep,
+};
 pub use words::Words;
 
 /// What an event was to the part of a thread's work that made it.

@@ -78,7 +78,12 @@ fn a_thread_goes_in_and_out(rt: HostRuntime) {
 // The turn over of thread `t` of two, after a Mark pass of cycle 1.
 fn turn_over(t: u32) -> Gate
     requires { t < 2 }
-    ensures { result ≡ GateRow.CloseLook (record { thread = t; threads = 2; cycle = 1; sweep = false }) }
+    ensures { result ≡ GateRow.CloseLook (record {
+      thread = t;
+      threads = 2;
+      cycle = 1;
+      sweep = false;
+    }) }
 {
     Gate::turn_over(t, 2, 1, false)
 }

@@ -13,12 +13,12 @@ use Rattle.never_heap.specs.declared.Command.{Command}
 use Rattle.never_heap.specs.Graphs.{start_graph}
 use Rattle.never_heap.specs.Histories.{Started}
 use Rattle.shown_graph.specs.Words.{block_words, Agrees}
-use Rattle.shown_graph.specs.Shown.{Shows, every_name, never_late}
+use Rattle.shown_graph.specs.Shown.{Shows, every_name, none_pending}
 use Rattle.shown_graph.specs.Openings.{opening_at, opening_words}
 use Rattle.array_trees.specs.Openings.{opening_blocks}
-use Rattle.shown_graph.specs.Events.{unloaded, lates, LoadIs, Follows}
+use Rattle.shown_graph.specs.Events.{unloaded, pending_registers, LoadIs, Follows}
 use Rattle.shown_graph.proofs.Opening.{opening_shows}
-use Rattle.shown_graph.proofs.Stores.{words_change, more_late}
+use Rattle.shown_graph.proofs.Stores.{words_change, more_pending}
 use Rattle.heap_machine.specs.Grey.{no_grey}
 use Rattle.heap_machine.specs.Gating.{Gating, is_outside, is_inside, is_closing}
 use Rattle.heap_machine.proofs.Functions.{total_none}
@@ -30,7 +30,7 @@ use Rattle.heap_system.specs.Pictures.{gating, loading, heap_in, graph_state}
 use Rattle.heap_system.proofs.Paying.{each_at}
 use Rattle.heap_system.proofs.Kept.{grey_of, LocalKept, loads_in, gates_in, holdings_in, Kept, IsMark, opening_low}
 use Rattle.heap_system.proofs.Turning.{next_kept}
-use Rattle.heap_system.proofs.Grounds.{opening_grey, opening_held, opening_solid}
+use Rattle.heap_system.proofs.Grounds.{opening_grey, opening_held, opening_taken}
 use Rattle.heap_system.specs.Systems.{units_of}
 
 pub length_starts : (c : Config) (rate t : ℕ) (traces : List (List Command)) → length (starts_from c rate t traces) ≡ length traces
@@ -93,14 +93,14 @@ module _ (c : Config) (traces : List (List Command)) (job : IsJob c traces) (s :
   agrees : (x : ℕ) → 0 < x → x ≤ opening_blocks c → Agrees c.width (opening_words c) (block_words (heap_in c s)) x
   agrees = opening_agrees c s.words job.plan start.words
 
-  shows : Shows c.width c.threads (opening_blocks c) (every_name (start_graph c)) (start_graph c) (opening_at c.width c.threads) (block_words (heap_in c s)) (lates (loads_in c s))
+  shows : Shows c.width c.threads (opening_blocks c) (every_name (start_graph c)) (start_graph c) (opening_at c.width c.threads) (block_words (heap_in c s)) (pending_registers (loads_in c s))
   shows =
       let first = opening_shows c job.bounds.config in
-      more_late c.width c.threads (opening_blocks c) (every_name (start_graph c)) (start_graph c) (opening_at c.width c.threads) (block_words (heap_in c s)) never_late
-      (words_change c.width c.threads (opening_blocks c) (every_name (start_graph c)) (start_graph c) (opening_at c.width c.threads) (opening_words c) never_late first (block_words (heap_in c s))
+      more_pending c.width c.threads (opening_blocks c) (every_name (start_graph c)) (start_graph c) (opening_at c.width c.threads) (block_words (heap_in c s)) none_pending
+      (words_change c.width c.threads (opening_blocks c) (every_name (start_graph c)) (start_graph c) (opening_at c.width c.threads) (opening_words c) none_pending first (block_words (heap_in c s))
       (λ x j pos low jl. (agrees x pos (omega arith)).payloads j jl)
       (λ a o ka ol. agrees (opening_at c.width c.threads a o) (omega arith) (first.placed.within a o ka ol)))
-      (lates (loads_in c s)) (λ t r tl rl e. refl)
+      (pending_registers (loads_in c s)) (λ t r tl rl e. refl)
 
   follows : Follows c.width c.threads (opening_blocks c) (every_name (start_graph c)) (opening_at c.width c.threads) (graph_state c (opened s))
   follows = record {
@@ -146,9 +146,11 @@ module _ (c : Config) (traces : List (List Command)) (job : IsJob c traces) (s :
     locals = λ t tl. subst (λ l. LocalKept c (get_or traces t []) (start_graph c) (Started ∷ []) t l) (sym (here t tl)) (local_start t tl);
     legal = tt;
     foreign = λ u ul. refl;
-    grey = opening_grey c job.bounds.config job.plan (heap_in c s) start.words outside_words (holdings_in c s) holds;
-    held = opening_held c job.bounds.config job.plan (heap_in c s) start.words (record { inside = omega (arith, phase.0); cycle = omega (arith, phase.1.cycle) });
-    solid = opening_solid c job.bounds.config job.plan (heap_in c s) start.words;
+    rules = record {
+      grey = opening_grey c job.bounds.config job.plan (heap_in c s) start.words outside_words (holdings_in c s) holds;
+      held = opening_held c job.bounds.config job.plan (heap_in c s) start.words (record { inside = omega (arith, phase.0); cycle = omega (arith, phase.1.cycle) });
+      taken = opening_taken c job.bounds.config job.plan (heap_in c s) start.words;
+    };
     counts = (refl, sym (ap (λ ls. units_of (map (λ (l : LocalState). l.log) ls)) start.locals ∙ units_start c start.rate 0 traces));
   }
 

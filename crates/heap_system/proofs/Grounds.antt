@@ -154,7 +154,7 @@ module _ (c : Config) (bounds : IsInBounds c) (plan : IsAdmitted c) where
     where
       by : (p : Part) → array_part c.width e o j ≡ p → CanHold (extent c) (PayloadOf x j) (part_word head (λ p. first + p) field p)
       by (Link q) is = let within = ((tree_layout (payloads c.width) e (many c.width)).onward o j q is).2 in block_held x j (first + q) (omega arith) (omega arith)
-      by (Field i) is = fields i ((tree_layout (payloads c.width) e (many c.width)).spots o j i is).0
+      by (Field i) is = fields i ((tree_layout (payloads c.width) e (many c.width)).slots o j i is).0
       by Blank is = nothing_held x j
 
   abbrev shared_first : ℕ
@@ -219,8 +219,8 @@ module _ (c : Config) (bounds : IsInBounds c) (plan : IsAdmitted c) where
     opening_held phase (PayloadOf x j) inp = subst (CanHold (extent c) (PayloadOf x j)) (sym (words (PayloadOf x j) inp)) (payload_held x j (leb-true 1 x (and_parts (leb 1 x) (leb x c.blocks) (and_parts (leb 1 x && leb x c.blocks) (ltb j (payloads c.width)) inp).0).0))
 
     -- no block of the arrays is Free
-    pub opening_solid : (x : ℕ) → 1 ≤ x → x ≤ opening_blocks c → is_free (h (ColourOf x)) ≡ false
-    opening_solid x some low = ap is_free (words (ColourOf x) (block_in x some (omega (arith, last_low)))) ∙ colour_solid x low
+    pub opening_taken : (x : ℕ) → 1 ≤ x → x ≤ opening_blocks c → is_free (h (ColourOf x)) ≡ false
+    opening_taken x some low = ap is_free (words (ColourOf x) (block_in x some (omega (arith, last_low)))) ∙ colour_solid x low
 
     -- each root stands in its list
     module _ (outside : (x : ℕ) → is_block (extent c) x ≡ false → h (ColourOf x) ≡ 0) (hs : ℕ → GreyHolding) (empty : (t : ℕ) → t < c.threads → hs t ≡ no_grey) where

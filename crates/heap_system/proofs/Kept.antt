@@ -131,8 +131,14 @@ pub record IsMark (w : ℕ) : Type 0 where
   pub sweep : is_sweep w ≡ false
 
 -- the blocks of the opening's arrays are not Free
-abbrev pub IsSolid : Config → Heap → Type 0
-IsSolid c h = (x : ℕ) → 1 ≤ x → x ≤ opening_blocks c → is_free (h (ColourOf x)) ≡ false
+abbrev pub AreTaken : Config → Heap → Type 0
+AreTaken c h = (x : ℕ) → 1 ≤ x → x ≤ opening_blocks c → is_free (h (ColourOf x)) ≡ false
+
+-- what the heap keeps under what the threads hold: one field for each rule
+pub record Rules (c : Config) (h : Heap) (hs : ℕ → GreyHolding) : Type 0 where
+  pub grey : GreyKept c.threads h hs
+  pub held : IsHeld c h
+  pub taken : AreTaken c h
 
 -- what thread t has loaded, where it stands, and what it holds
 abbrev pub loads_in : Config → State → ℕ → Loading
@@ -153,9 +159,7 @@ pub record Kept (c : Config) (traces : List (List Command)) (r : Run) : Type 0 w
   pub locals : (t : ℕ) → t < c.threads → LocalKept c (get_or traces t []) (replay c r.order) r.order t (local_at c r.state t)
   pub legal : Legal c r.order
   pub foreign : (u : ℕ) → c.threads ≤ u → part u r.order ≡ []
-  pub grey : GreyKept c.threads (heap_in c r.state) (holdings_in c r.state)
-  pub held : IsHeld c (heap_in c r.state)
-  pub solid : IsSolid c (heap_in c r.state)
+  pub rules : Rules c (heap_in c r.state) (holdings_in c r.state)
   pub counts : (starts_in r.order ≡ 1) × (work_in r.order ≡ units_of (logs_of r.state))
 
 -- the graph after an event of thread t in command k, by its verdict
@@ -187,9 +191,7 @@ pub record EventKept (c : Config) (g : Graph) (new : Heap) (gs : ℕ → Gating)
   pub fits : PartFits c done all p
   pub over : (r : Reply) → reply ≡ Some r → p ≡ Leave
   pub told : entries_of t k paid before ++ told_by g t k paid b ≡ entries_of t k paid reply ++ entries_of t k (paid_got reply unit paid) (waiting (graph_decided g t k b) p)
-  pub grey : GreyKept c.threads new (changed hs t (grey_of c p))
-  pub held : IsHeld c new
-  pub solid : IsSolid c new
+  pub rules : Rules c new (changed hs t (grey_of c p))
   pub low : paid_got reply unit paid + unit_to_come c p ≤ due
   pub settled : IsSettled due (paid_got reply unit paid) (waived_got reply nothing waived) p
   pub counted : works (told_by g t k paid b) ≡ works (entries_of t k paid reply)
@@ -216,7 +218,7 @@ row_phase c h t k (rows.LoadValue way) = refl
 row_phase c h t k (rows.LoadLink way word) = refl
 row_phase c h t k (rows.LoadField way) = refl
 row_phase c h t k (rows.LoadOwner word) = refl
-row_phase c h t k (rows.StoreLate word value) = refl
+row_phase c h t k (rows.StorePending word value) = refl
 row_phase c h t k (rows.StoreField way word) = refl
 row_phase c h t k rows.LoadFirst = refl
 row_phase c h t k (rows.LoadSecond word) = refl
@@ -239,7 +241,7 @@ row_colour c h t k (rows.LoadValue way) y = refl
 row_colour c h t k (rows.LoadLink way word) y = refl
 row_colour c h t k (rows.LoadField way) y = refl
 row_colour c h t k (rows.LoadOwner word) y = refl
-row_colour c h t k (rows.StoreLate word value) y = refl
+row_colour c h t k (rows.StorePending word value) y = refl
 row_colour c h t k (rows.StoreField way word) y = refl
 row_colour c h t k rows.LoadFirst y = refl
 row_colour c h t k (rows.LoadSecond word) y = refl
@@ -261,7 +263,7 @@ row_other c t k (rows.LoadValue way) = refl
 row_other c t k (rows.LoadLink way word) = refl
 row_other c t k (rows.LoadField way) = refl
 row_other c t k (rows.LoadOwner word) = refl
-row_other c t k (rows.StoreLate word value) = refl
+row_other c t k (rows.StorePending word value) = refl
 row_other c t k (rows.StoreField way word) = refl
 row_other c t k rows.LoadFirst = refl
 row_other c t k (rows.LoadSecond word) = refl
@@ -353,7 +355,7 @@ inside_low w h = omega arith
 
 module _ (c : Config) (bounds : IsInBounds c) (plan : IsAdmitted c) (g : Graph) (h : Heap) (gs : ℕ → Gating) (ls : ℕ → Loading) (hs : ℕ → GreyHolding) (t : ℕ) (tl : t < c.threads) (pass : Pass) (k : Command) (inside : IsCommandInBounds c k) (done all due paid : ℕ) (waived : Bool)
     (gate : GateOf c.threads (h Phase) gs) (phase : IsMark (h Phase)) (shown : Follows c.width c.threads (opening_blocks c) (every_name (start_graph c)) (opening_at c.width c.threads) (state g h ls))
-    (grey : GreyKept c.threads h hs) (held : IsHeld c h) (solid : IsSolid c h) where
+    (rules : Rules c h hs) where
   phase_is : IsPhaseWord (h Phase)
   phase_is = phase_word c.threads (h Phase) gs bounds.threads gate phase
 
@@ -380,9 +382,11 @@ module _ (c : Config) (bounds : IsInBounds c) (plan : IsAdmitted c) (g : Graph) 
     fits = fits;
     over = λ r e. absurd cc;
     told = sym (ap (entries_of t k paid) waits);
-    grey = subst (λ x. GreyKept c.threads (put_at h Phase v) x) (sym (ap (changed hs t) holds ∙ holding_self hs t no_grey empty)) grey;
-    held = held_put c h Phase v (phase_word c.threads v (changed gs t (gating c q p)) bounds.threads new mark) held;
-    solid = solid;
+    rules = record {
+      grey = subst (λ x. GreyKept c.threads (put_at h Phase v) x) (sym (ap (changed hs t) holds ∙ holding_self hs t no_grey empty)) rules.grey;
+      held = held_put c h Phase v (phase_word c.threads v (changed gs t (gating c q p)) bounds.threads new mark) rules.held;
+      taken = rules.taken;
+    };
     low = low;
     settled = settled;
     counted = refl;
@@ -400,9 +404,11 @@ module _ (c : Config) (bounds : IsInBounds c) (plan : IsAdmitted c) (g : Graph) 
     fits = fits;
     over = λ r e. absurd cc;
     told = sym (ap (entries_of t k paid) waits);
-    grey = subst (λ x. GreyKept c.threads h x) (sym (ap (changed hs t) holds ∙ holding_self hs t no_grey empty)) grey;
-    held = held;
-    solid = solid;
+    rules = record {
+      grey = subst (λ x. GreyKept c.threads h x) (sym (ap (changed hs t) holds ∙ holding_self hs t no_grey empty)) rules.grey;
+      held = rules.held;
+      taken = rules.taken;
+    };
     low = low;
     settled = settled;
     counted = refl;
@@ -496,10 +502,10 @@ module _ (c : Config) (bounds : IsInBounds c) (plan : IsAdmitted c) (g : Graph) 
     mark_word = h (place_of (grey_want m))
 
     pub mark_reads : GreyReads c m (h (place_of (grey_want m)))
-    mark_reads = held (place_of (grey_want m)) (marks.place_fits c m fits)
+    mark_reads = rules.held (place_of (grey_want m)) (marks.place_fits c m fits)
 
     mark_kept : GreyKept c.threads (heap_after h (grey_want m)) (changed hs t (grey_held (holding_at (extent c) (grey_got (extent c) m mark_word))))
-    mark_kept = subst (λ x. GreyKept c.threads (heap_after h (grey_want m)) (changed hs x (grey_held (holding_at (extent c) (grey_got (extent c) m mark_word))))) kept.thread (keeps c h hs m fits grey (ap hs kept.thread ∙ holds))
+    mark_kept = subst (λ x. GreyKept c.threads (heap_after h (grey_want m)) (changed hs x (grey_held (holding_at (extent c) (grey_got (extent c) m mark_word))))) kept.thread (keeps c h hs m fits rules.grey (ap hs kept.thread ∙ holds))
 
     mark_event : (b : Bool) → grey_over (grey_got (extent c) m mark_word).row ≡ b
         → Event (heap_after h (grey_want m)) None Open pass (cond b Again (Mark (grey_got (extent c) m mark_word))) None (makes_unit c (Mark m) mark_word) (finds_nothing c (Mark m) mark_word)
@@ -511,9 +517,11 @@ module _ (c : Config) (bounds : IsInBounds c) (plan : IsAdmitted c) (g : Graph) 
       fits = low;
       over = λ r z. absurd cc;
       told = refl;
-      grey = subst (λ x. GreyKept c.threads (heap_after h (grey_want m)) (changed hs t x)) (over_holds_none (payloads c.width) (grey_got (extent c) m mark_word).row e) mark_kept;
-      held = held_after c h (grey_want m) (marks.stores_held c m fits) held;
-      solid = λ x some last. mark_solid h m.pass.thread m.pass.threads m.pass.cycle m.row x (solid x some last);
+      rules = record {
+        grey = subst (λ x. GreyKept c.threads (heap_after h (grey_want m)) (changed hs t x)) (over_holds_none (payloads c.width) (grey_got (extent c) m mark_word).row e) mark_kept;
+        held = held_after c h (grey_want m) (marks.stores_held c m fits) rules.held;
+        taken = λ x some last. mark_solid h m.pass.thread m.pass.threads m.pass.cycle m.row x (rules.taken x some last);
+      };
       low = omega (arith, units_paid c m mark_word paid due pays);
       settled = tt;
       counted = refl;
@@ -527,9 +535,11 @@ module _ (c : Config) (bounds : IsInBounds c) (plan : IsAdmitted c) (g : Graph) 
       fits = (marks.next_fits c m mark_word fits mark_reads, low);
       over = λ r z. absurd cc;
       told = refl;
-      grey = mark_kept;
-      held = held_after c h (grey_want m) (marks.stores_held c m fits) held;
-      solid = λ x some last. mark_solid h m.pass.thread m.pass.threads m.pass.cycle m.row x (solid x some last);
+      rules = record {
+        grey = mark_kept;
+        held = held_after c h (grey_want m) (marks.stores_held c m fits) rules.held;
+        taken = λ x some last. mark_solid h m.pass.thread m.pass.threads m.pass.cycle m.row x (rules.taken x some last);
+      };
       low = units_paid c m mark_word paid due pays;
       settled = tt;
       counted = refl;
@@ -546,9 +556,11 @@ module _ (c : Config) (bounds : IsInBounds c) (plan : IsAdmitted c) (g : Graph) 
     fits = tt;
     over = λ r e. refl;
     told = refl;
-    grey = subst (λ x. GreyKept c.threads h x) (sym (holding_self hs t no_grey empty)) grey;
-    held = held;
-    solid = solid;
+    rules = record {
+      grey = subst (λ x. GreyKept c.threads h x) (sym (holding_self hs t no_grey empty)) rules.grey;
+      held = rules.held;
+      taken = rules.taken;
+    };
     low = omega arith;
     settled = (refl, refl);
     counted = refl;
@@ -577,10 +589,10 @@ module _ (c : Config) (bounds : IsInBounds c) (plan : IsAdmitted c) (g : Graph) 
         ∙ sym (ap (λ x. entries_of t k paid (reply_due x (field_got (extent c) f (h (place_of (field_want (extent c) f)))))) graph_is)
 
     row_grey : (p : Part) → grey_of c p ≡ no_grey → GreyKept c.threads (heap_after h (field_want (extent c) f)) (changed hs t (grey_of c p))
-    row_grey p e = subst (λ x. GreyKept c.threads (heap_after h (field_want (extent c) f)) x) (sym (ap (changed hs t) e ∙ holding_self hs t no_grey empty)) (kept_other c.threads h hs (field_want (extent c) f) (field_other c f) grey)
+    row_grey p e = subst (λ x. GreyKept c.threads (heap_after h (field_want (extent c) f)) x) (sym (ap (changed hs t) e ∙ holding_self hs t no_grey empty)) (kept_other c.threads h hs (field_want (extent c) f) (field_other c f) rules.grey)
 
-    row_solid : IsSolid c (heap_after h (field_want (extent c) f))
-    row_solid x some last = ap is_free (field_colour c h f x) ∙ solid x some last
+    row_taken : AreTaken c (heap_after h (field_want (extent c) f))
+    row_taken x some last = ap is_free (field_colour c h f x) ∙ rules.taken x some last
 
     row_shown : (l : Loading) → loading_of (extent c) (field_got (extent c) f (h (place_of (field_want (extent c) f)))) ≡ l
         → Follows c.width c.threads (opening_blocks c) (every_name (start_graph c)) (opening_at c.width c.threads) (state (graph_decided g t k (if_decides row_decides)) (heap_after h (field_want (extent c) f)) (with_load ls t l))
@@ -600,9 +612,11 @@ module _ (c : Config) (bounds : IsInBounds c) (plan : IsAdmitted c) (g : Graph) 
       fits = (field_fits c f (h (place_of (field_want (extent c) f))) fits reads, low);
       over = λ r z. absurd cc;
       told = told_is;
-      grey = row_grey (Serve (field_got (extent c) f (h (place_of (field_want (extent c) f))))) refl;
-      held = held_after c h (field_want (extent c) f) (stores_held c f fits) held;
-      solid = row_solid;
+      rules = record {
+        grey = row_grey (Serve (field_got (extent c) f (h (place_of (field_want (extent c) f))))) refl;
+        held = held_after c h (field_want (extent c) f) (stores_held c f fits) rules.held;
+        taken = row_taken;
+      };
       low = omega (arith, unpaid);
       settled = tt;
       counted = counted_is None;
@@ -616,9 +630,11 @@ module _ (c : Config) (bounds : IsInBounds c) (plan : IsAdmitted c) (g : Graph) 
       fits = tt;
       over = λ r z. refl;
       told = told_is ∙ ap (entries_of t k paid) (reply_waits (graph_decided g t k (if_decides row_decides)) (field_got (extent c) f (h (place_of (field_want (extent c) f)))) r e);
-      grey = row_grey Leave refl;
-      held = held_after c h (field_want (extent c) f) (stores_held c f fits) held;
-      solid = row_solid;
+      rules = record {
+        grey = row_grey Leave refl;
+        held = held_after c h (field_want (extent c) f) (stores_held c f fits) rules.held;
+        taken = row_taken;
+      };
       low = omega arith;
       settled = (refl, refl);
       counted = counted_is (Some r);
@@ -649,8 +665,8 @@ module _ (c : Config) (bounds : IsInBounds c) (plan : IsAdmitted c) (g : Graph) 
   part_reads (Enter (gates.Enter seen)) is kept fits = (phase_is, began)
   part_reads (Enter _) is kept fits = absurd kept
   part_reads (Serve f) is kept fits = field_reads c bounds (opening_blocks c) (opening_low c plan) (every_name (start_graph c)) (opening_at c.width c.threads) g h ls shown t f fits.0 kept.thread is kept.going
-  part_reads (Mark m) is kept fits = held (place_of (grey_want m)) (marks.place_fits c m fits.0)
-  part_reads Count is kept fits = held FreeCount refl
+  part_reads (Mark m) is kept fits = rules.held (place_of (grey_want m)) (marks.place_fits c m fits.0)
+  part_reads Count is kept fits = rules.held FreeCount refl
   part_reads Again is kept fits = phase_is
   part_reads Leave is kept fits = phase_is
 

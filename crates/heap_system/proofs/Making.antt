@@ -55,7 +55,7 @@ field_blackens c h t k (rows.LoadValue way) = refl
 field_blackens c h t k (rows.LoadLink way word) = refl
 field_blackens c h t k (rows.LoadField way) = refl
 field_blackens c h t k (rows.LoadOwner word) = refl
-field_blackens c h t k (rows.StoreLate word value) = refl
+field_blackens c h t k (rows.StorePending word value) = refl
 field_blackens c h t k (rows.StoreField way word) = refl
 field_blackens c h t k rows.LoadFirst = refl
 field_blackens c h t k (rows.LoadSecond word) = refl
@@ -111,7 +111,7 @@ pub unit_blackens : (c : Config) (traces : List (List Command)) → IsJob c trac
 unit_blackens c traces job r kept t tl =
     let l = local_at c r.state t in
     ap (λ b. cond (has_event c t r.state) b false)
-    (sym (part_blackens c (heap_in c r.state) (holdings_in c r.state) t _ _ (replay c r.order) l.pass (command_of l) l.part (word_read c r.state l) kept.grey refl (λ out. (kept.gate.passes t tl out).0) (kept.locals t tl).stands (fits c traces job.bounds.config job.plan r kept t tl)))
+    (sym (part_blackens c (heap_in c r.state) (holdings_in c r.state) t _ _ (replay c r.order) l.pass (command_of l) l.part (word_read c r.state l) kept.rules.grey refl (λ out. (kept.gate.passes t tl out).0) (kept.locals t tl).stands (fits c traces job.bounds.config job.plan r kept t tl)))
 
 -- what is in the log and what is paid grow by the unit
 replied_sum : (t : ℕ) (k : Command) (paid : ℕ) (o : Option Reply) → works (entries_of t k paid o) + paid_got o false paid ≡ paid

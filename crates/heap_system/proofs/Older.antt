@@ -1,4 +1,4 @@
--- The word of a late register is the one that it had before its command was decided.
+-- The word of a pending register is the one that it had before its command was decided.
 use Rattle.std.proofs.Common.{◌≡◌, ℕ, ◌+◌, ◌%◌, ◌<◌, Bool, true, false, cond, eqb, ltb, ne_eqb, eq-eqb, lt-ltb, le-ltb, ◌⊎◌, inl, inr, ⊎_elim, Option, Some, None, List, [], ◌∷◌, ◌++◌, append_assoc, append-nil, refl, sym, ap, ◌∙◌, subst, arith}
 use Rattle.std.proofs.lemmas.Bool.{cases_Bool, cases_eq, cases_lt}
 use Rattle.block_store.specs.declared.Config.{Config}
@@ -25,7 +25,7 @@ use Rattle.shown_graph.specs.Words.{BlockWords, block_words, value_word}
 use Rattle.shown_graph.specs.Shown.{Shows, IsValueOf, every_name, heads}
 use Rattle.shown_graph.specs.Openings.{opening_at}
 use Rattle.array_trees.specs.Openings.{opening_blocks}
-use Rattle.shown_graph.specs.Events.{ObjectLoad, ObjectIs, LoadIs, object_in, is_late, lates}
+use Rattle.shown_graph.specs.Events.{ObjectLoad, ObjectIs, LoadIs, object_in, is_pending, pending_registers}
 use Rattle.block_store.proofs.Registers.{register_low, own_array}
 use Rattle.shown_graph.proofs.Stores.{register_apart}
 use Rattle.heap_machine.specs.Operations.{heap_after, place_of}
@@ -52,46 +52,46 @@ use Rattle.heap_system.proofs.Always.{here, opening_kept, turn_kept}
 use Rattle.heap_system.proofs.Turning.{local_new, heap_new, fits, word_is}
 
 -- whether the word of register q is older than the graph, by where its thread is
-abbrev late_in : Config → Part → ℕ → Bool
-late_in c p q = is_late (loading c p).value q
+abbrev pending_in : Config → Part → ℕ → Bool
+pending_in c p q = is_pending (loading c p).value q
 
-abbrev late_at : Config → Command → FieldRow → ℕ → Bool
-late_at c k r q = is_late (row_loading (extent c) k r).value q
+abbrev pending_at : Config → Command → FieldRow → ℕ → Bool
+pending_at c k r q = is_pending (row_loading (extent c) k r).value q
 
--- the part that a row leads to is late where the row is
-led_late : (c : Config) (f : FieldState) (q : ℕ) → late_in c (if_replied (field_reply f.row) f) q ≡ true → late_at c f.command f.row q ≡ true
-led_late c f q = by (field_reply f.row)
+-- the part that a row leads to is pending where the row is
+led_pending : (c : Config) (f : FieldState) (q : ℕ) → pending_in c (if_replied (field_reply f.row) f) q ≡ true → pending_at c f.command f.row q ≡ true
+led_pending c f q = by (field_reply f.row)
   where
-    by : (o : Option _) → late_in c (if_replied o f) q ≡ true → late_at c f.command f.row q ≡ true
+    by : (o : Option _) → pending_in c (if_replied o f) q ≡ true → pending_at c f.command f.row q ≡ true
     by None e = e
     by (Some y) e = absurd cc
 
--- rows after which no register is late
-object_quiet : (c : Config) (k : Command) (y : Payload) (q : ℕ) → late_at c k (after_object y) q ≡ false
+-- rows after which no register is pending
+object_quiet : (c : Config) (k : Command) (y : Payload) (q : ℕ) → pending_at c k (after_object y) q ≡ false
 object_quiet c k payloads.Nil q = refl
 object_quiet c k (payloads.Int v) q = refl
 object_quiet c k (payloads.Block x) q = refl
 
-said_quiet : (c : Config) (k : Command) (w : ℕ) (y : Payload) (q : ℕ) → late_at c k (after_said w y) q ≡ false
+said_quiet : (c : Config) (k : Command) (w : ℕ) (y : Payload) (q : ℕ) → pending_at c k (after_said w y) q ≡ false
 said_quiet c k w payloads.Nil q = refl
 said_quiet c k w (payloads.Int v) q = refl
 said_quiet c k w (payloads.Block x) q = refl
 
-carried_quiet : (c : Config) (k : Command) (way : Way) (word q : ℕ) → late_at c k (rows.LoadLink way word) q ≡ false
+carried_quiet : (c : Config) (k : Command) (way : Way) (word q : ℕ) → pending_at c k (rows.LoadLink way word) q ≡ false
 carried_quiet c (commands.Put s i v) way word q = refl
 carried_quiet c _ way word q = refl
 
-block_quiet : (c : Config) (k : Command) (way : Way) (word q : ℕ) → late_at c k (at_block k way word) q ≡ false
+block_quiet : (c : Config) (k : Command) (way : Way) (word q : ℕ) → pending_at c k (at_block k way word) q ≡ false
 block_quiet c (commands.Put s i v) way word q = refl
 block_quiet c _ way word q = refl
 
-way_quiet : (c : Config) (k : Command) (way : Way) (word q : ℕ) → late_at c k (on_way (extent c) k way word) q ≡ false
+way_quiet : (c : Config) (k : Command) (way : Way) (word q : ℕ) → pending_at c k (on_way (extent c) k way word) q ≡ false
 way_quiet c k way word q = elim (cases_Bool (ltb way.level (links_to (extent c) way.shape (field_index k)))) [
   | inl e ↦ rw e (carried_quiet c k way word q)
   | inr e ↦ rw e (block_quiet c k way word q)
 ]
 
-shape_quiet : (c : Config) (k : Command) (x : ℕ) (f : Shape) (q : ℕ) → late_at c k (after_shape (extent c) k x f) q ≡ false
+shape_quiet : (c : Config) (k : Command) (x : ℕ) (f : Shape) (q : ℕ) → pending_at c k (after_shape (extent c) k x f) q ≡ false
 shape_quiet c (commands.Get d s i) x f q = elim (cases_Bool (ltb i (shape_length f))) [
   | inl e ↦ rw e (way_quiet c (commands.Get d s i) (way_from f x) 0 q)
   | inr e ↦ rw e refl
@@ -102,76 +102,76 @@ shape_quiet c (commands.Put s i v) x f q = elim (cases_Bool (ltb i (shape_length
 ]
 shape_quiet c _ x f q = refl
 
-first_quiet : (c : Config) (k : Command) (q : ℕ) → late_at c k (first_row k) q ≡ false
+first_quiet : (c : Config) (k : Command) (q : ℕ) → pending_at c k (first_row k) q ≡ false
 first_quiet c (commands.New d f) q = refl
 first_quiet c _ q = refl
 
 no_way : {P : Type 0} (b : Bool) → b ≡ false → b ≡ true → P
 no_way b e f = let z : true ≡ false = sym f ∙ e in absurd cc
 
--- an event after which a register is late only reads; it decides, or the register was late before
-pub record Lately (c : Config) (h : Heap) (p : Part) (w q : ℕ) : Type 0 where
+-- an event after which a register is pending only reads; it decides, or the register was pending before
+pub record Pending (c : Config) (h : Heap) (p : Part) (w q : ℕ) : Type 0 where
   pub reads : heap_after h (part_want c p) ≡ h
-  pub how : ((verdict c p w ≡ AsStep) × (late_in c p q ≡ false)) ⊎ ((verdict c p w ≡ Open) × (late_in c p q ≡ true))
+  pub how : ((verdict c p w ≡ AsStep) × (pending_in c p q ≡ false)) ⊎ ((verdict c p w ≡ Open) × (pending_in c p q ≡ true))
 
-record LatelyAt (c : Config) (h : Heap) (t : ℕ) (k : Command) (r : FieldRow) (w q : ℕ) : Type 0 where
+record PendingAt (c : Config) (h : Heap) (t : ℕ) (k : Command) (r : FieldRow) (w q : ℕ) : Type 0 where
   pub reads : heap_after h (row_want (extent c) t k r) ≡ h
-  pub how : ((is_deciding k r w ≡ true) × (late_at c k r q ≡ false)) ⊎ ((is_deciding k r w ≡ false) × (late_at c k r q ≡ true))
+  pub how : ((is_deciding k r w ≡ true) × (pending_at c k r q ≡ false)) ⊎ ((is_deciding k r w ≡ false) × (pending_at c k r q ≡ true))
 
-row_lately : (c : Config) (h : Heap) (t : ℕ) (k : Command) (r : FieldRow) (w q : ℕ) → late_at c k (row_got (extent c) k r w) q ≡ true → LatelyAt c h t k r w q
-row_lately c h t k rows.StoreNumber w q e = absurd cc
-row_lately c h t k rows.StoreNil w q e = absurd cc
-row_lately c h t k rows.LoadMoved w q e = absurd cc
-row_lately c h t k (rows.StoreMoved word) w q e = absurd cc
-row_lately c h t k rows.LoadObject w q e = no_way _ (object_quiet c k (payload_in w) q) e
-row_lately c h t k (rows.LoadShape x) w q e = no_way _ (shape_quiet c k x (shape_in w) q) e
-row_lately c h t k (rows.LoadValue way) w q e = no_way _ (way_quiet c k way w q) e
-row_lately c h t k (rows.LoadLink way word) w q e = no_way _ (way_quiet c k (way_on way (target w)) word q) e
-row_lately c h t k (rows.LoadField way) w q e = record { reads = refl; how = inl (refl, refl) }
-row_lately c h t k (rows.LoadOwner word) w q e = record { reads = refl; how = inr (refl, e) }
-row_lately c h t k (rows.StoreLate word value) w q e = absurd cc
-row_lately c h t k (rows.StoreField way word) w q e = absurd cc
-row_lately c h t k rows.LoadFirst w q e = absurd cc
-row_lately c h t k (rows.LoadSecond word) w q e = absurd cc
-row_lately c h t k rows.LoadSaid w q e = no_way _ (said_quiet c k w (payload_in w) q) e
-row_lately c h t k (rows.LoadSaidOwner word) w q e = absurd cc
-row_lately c h t k (rows.Answered reply) w q e = absurd cc
+row_pending : (c : Config) (h : Heap) (t : ℕ) (k : Command) (r : FieldRow) (w q : ℕ) → pending_at c k (row_got (extent c) k r w) q ≡ true → PendingAt c h t k r w q
+row_pending c h t k rows.StoreNumber w q e = absurd cc
+row_pending c h t k rows.StoreNil w q e = absurd cc
+row_pending c h t k rows.LoadMoved w q e = absurd cc
+row_pending c h t k (rows.StoreMoved word) w q e = absurd cc
+row_pending c h t k rows.LoadObject w q e = no_way _ (object_quiet c k (payload_in w) q) e
+row_pending c h t k (rows.LoadShape x) w q e = no_way _ (shape_quiet c k x (shape_in w) q) e
+row_pending c h t k (rows.LoadValue way) w q e = no_way _ (way_quiet c k way w q) e
+row_pending c h t k (rows.LoadLink way word) w q e = no_way _ (way_quiet c k (way_on way (target w)) word q) e
+row_pending c h t k (rows.LoadField way) w q e = record { reads = refl; how = inl (refl, refl) }
+row_pending c h t k (rows.LoadOwner word) w q e = record { reads = refl; how = inr (refl, e) }
+row_pending c h t k (rows.StorePending word value) w q e = absurd cc
+row_pending c h t k (rows.StoreField way word) w q e = absurd cc
+row_pending c h t k rows.LoadFirst w q e = absurd cc
+row_pending c h t k (rows.LoadSecond word) w q e = absurd cc
+row_pending c h t k rows.LoadSaid w q e = no_way _ (said_quiet c k w (payload_in w) q) e
+row_pending c h t k (rows.LoadSaidOwner word) w q e = absurd cc
+row_pending c h t k (rows.Answered reply) w q e = absurd cc
 
-field_lately : (c : Config) (h : Heap) (f : FieldState) (w q : ℕ) → late_in c (if_replied (field_reply (field_got (extent c) f w).row) (field_got (extent c) f w)) q ≡ true → Lately c h (Serve f) w q
-field_lately c h f w q e =
-    let l : LatelyAt c h f.pass.thread f.command f.row w q = row_lately c h f.pass.thread f.command f.row w q (led_late c (field_got (extent c) f w) q e) in
+field_pending : (c : Config) (h : Heap) (f : FieldState) (w q : ℕ) → pending_in c (if_replied (field_reply (field_got (extent c) f w).row) (field_got (extent c) f w)) q ≡ true → Pending c h (Serve f) w q
+field_pending c h f w q e =
+    let l : PendingAt c h f.pass.thread f.command f.row w q = row_pending c h f.pass.thread f.command f.row w q (led_pending c (field_got (extent c) f w) q e) in
     record { reads = l.reads; how = ⊎_elim (λ d. inl (ap if_decides d.0, d.1)) (λ d. inr (ap if_decides d.0, d.1)) l.how }
 
-begun_quiet : (c : Config) (p : Pass) (k : Command) (more : Bool) (q : ℕ) → late_in c (first_part p k more) q ≡ false
+begun_quiet : (c : Config) (p : Pass) (k : Command) (more : Bool) (q : ℕ) → pending_in c (first_part p k more) q ≡ false
 begun_quiet c p k true q = refl
 begun_quiet c p k false q = here (makes_object k)
   where
-    here : (b : Bool) → late_in c (cond b Count (Serve (at_first_row p k))) q ≡ false
+    here : (b : Bool) → pending_in c (cond b Count (Serve (at_first_row p k))) q ≡ false
     here true = refl
     here false = first_quiet c k q
 
-entered_quiet : (c : Config) (o : Option _) (t n : ℕ) (k : Command) (more : Bool) (g : _) (q : ℕ) → late_in c (if_entered o t n k more g) q ≡ false
+entered_quiet : (c : Config) (o : Option _) (t n : ℕ) (k : Command) (more : Bool) (g : _) (q : ℕ) → pending_in c (if_entered o t n k more g) q ≡ false
 entered_quiet c None t n k more g q = refl
 entered_quiet c (Some x) t n k more g q = begun_quiet c (pass_by t n x) k more q
 
-marked_quiet : (c : Config) (m : GreyState) (q : ℕ) → late_in c (if_marked m) q ≡ false
+marked_quiet : (c : Config) (m : GreyState) (q : ℕ) → pending_in c (if_marked m) q ≡ false
 marked_quiet c m q = by (grey_over m.row)
   where
-    by : (b : Bool) → late_in c (cond b Again (Mark m)) q ≡ false
+    by : (b : Bool) → pending_in c (cond b Again (Mark m)) q ≡ false
     by true = refl
     by false = refl
 
-pub part_lately : (c : Config) (h : Heap) (t : ℕ) (k : Command) (more : Bool) (p : Part) (w q : ℕ) → late_in c (part_got c t k more p w) q ≡ true → Lately c h p w q
-part_lately c h t k more Rest w q e = no_way _ (entered_quiet c _ t c.threads k more _ q) e
-part_lately c h t k more (Enter g) w q e = no_way _ (entered_quiet c _ t c.threads k more _ q) e
-part_lately c h t k more (Serve f) w q e = field_lately c h f w q e
-part_lately c h t k more (Mark m) w q e = no_way _ (marked_quiet c (grey_got (extent c) m w) q) e
-part_lately c h t k more Count w q e = absurd cc
-part_lately c h t k more Again w q e = absurd cc
-part_lately c h t k more Leave w q e = absurd cc
+pub part_pending : (c : Config) (h : Heap) (t : ℕ) (k : Command) (more : Bool) (p : Part) (w q : ℕ) → pending_in c (part_got c t k more p w) q ≡ true → Pending c h p w q
+part_pending c h t k more Rest w q e = no_way _ (entered_quiet c _ t c.threads k more _ q) e
+part_pending c h t k more (Enter g) w q e = no_way _ (entered_quiet c _ t c.threads k more _ q) e
+part_pending c h t k more (Serve f) w q e = field_pending c h f w q e
+part_pending c h t k more (Mark m) w q e = no_way _ (marked_quiet c (grey_got (extent c) m w) q) e
+part_pending c h t k more Count w q e = absurd cc
+part_pending c h t k more Again w q e = absurd cc
+part_pending c h t k more Leave w q e = absurd cc
 
 -- another thread's event leaves a register's word
-module _ (c : Config) (g : Graph) (m : ℕ) (K : Name → Type 0) (at : Name → ℕ → ℕ) (words : BlockWords) (late : ℕ → ℕ → Bool) (shows : Shows c.width c.threads m K g at words late) (u q : ℕ) (ul : u < c.threads) (ql : q < REGISTERS) (h : Heap) (t : ℕ) (tl : t < c.threads) (other : t ≡ u → ⊥) where
+module _ (c : Config) (g : Graph) (m : ℕ) (K : Name → Type 0) (at : Name → ℕ → ℕ) (words : BlockWords) (pending : ℕ → ℕ → Bool) (shows : Shows c.width c.threads m K g at words pending) (u q : ℕ) (ul : u < c.threads) (ql : q < REGISTERS) (h : Heap) (t : ℕ) (tl : t < c.threads) (other : t ≡ u → ⊥) where
   object_apart : (l : ObjectLoad) → ObjectIs c.width g at t l → l.block ≡ register_block c.width u q → ⊥
   object_apart l o e =
       register_apart c.width c.threads m K (object_of g) at shows.placed (register_block c.width u q) (register_low c.width c.threads u q ul ql) o.name l.ordinal
@@ -194,7 +194,7 @@ module _ (c : Config) (g : Graph) (m : ℕ) (K : Name → Type 0) (at : Name →
   row_frame k (rows.LoadLink way word) fits loads = refl
   row_frame k (rows.LoadField way) fits loads = refl
   row_frame k (rows.LoadOwner word) fits loads = refl
-  row_frame k (rows.StoreLate word value) fits loads = stays_at _ _ _ (register_other t (to_register k) refl (to_low k fits.command))
+  row_frame k (rows.StorePending word value) fits loads = stays_at _ _ _ (register_other t (to_register k) refl (to_low k fits.command))
   row_frame k (rows.StoreField way word) fits loads = stays_at _ _ _ (object_apart (object_in (object_on (extent c) k way)) loads.object)
   row_frame k rows.LoadFirst fits loads = refl
   row_frame k (rows.LoadSecond word) fits loads = refl
@@ -223,9 +223,9 @@ cond_no b x y e = rw e refl
 cond_yes : {A : Type 0} (b : Bool) (x y : A) → b ≡ true → cond b x y ≡ x
 cond_yes b x y e = rw e refl
 
--- every late register has its older word
+-- every pending register has its older word
 abbrev pub AllOlder : Config → Run → Type 0
-AllOlder c r = (u q : ℕ) → u < c.threads → q < REGISTERS → late_in c (local_at c r.state u).part q ≡ true → IsOlder c r u q
+AllOlder c r = (u q : ℕ) → u < c.threads → q < REGISTERS → pending_in c (local_at c r.state u).part q ≡ true → IsOlder c r u q
 
 others_none : (c : Config) (order : List HistoryItem) (t u : ℕ) (k : Command) (work : ℕ) (v : Verdict) → (t ≡ u → ⊥) → part u (entries_by c t k work order v) ≡ []
 others_none c order t u k work Open n = refl
@@ -242,10 +242,10 @@ module _ (c : Config) (traces : List (List Command)) (bounds : IsInBounds c) (pl
   abbrev after : Run
   after = record { state = event_done c t r.state; order = r.order ++ entries_by c t (command_of (local_at c r.state t)) (local_at c r.state t).paid r.order deciding }
 
-  older_other : (u q : ℕ) → u < c.threads → q < REGISTERS → (t ≡ u → ⊥) → late_in c (local_at c (event_done c t r.state) u).part q ≡ true → IsOlder c after u q
-  older_other u q ul ql n late =
+  older_other : (u q : ℕ) → u < c.threads → q < REGISTERS → (t ≡ u → ⊥) → pending_in c (local_at c (event_done c t r.state) u).part q ≡ true → IsOlder c after u q
+  older_other u q ul ql n pending =
       let same : local_at c (event_done c t r.state) u ≡ local_at c r.state u = local_new c traces bounds plan r kept t tl going u ∙ cond_no _ _ _ (ne_eqb t u n) in
-      let o : IsOlder c r u q = all u q ul ql (sym (ap (λ (l : LocalState). late_in c l.part q) same) ∙ late) in
+      let o : IsOlder c r u q = all u q ul ql (sym (ap (λ (l : LocalState). pending_in c l.part q) same) ∙ pending) in
       record {
         before = o.before;
         entry = o.entry;
@@ -254,15 +254,15 @@ module _ (c : Config) (traces : List (List Command)) (bounds : IsInBounds c) (pl
         own = o.own;
         others = part_append u o.behind _ ∙ ap (λ x. x ++ part u (entries_by c t (command_of (local_at c r.state t)) (local_at c r.state t).paid r.order deciding)) o.others ∙ others_none c r.order t u _ _ deciding n;
         word = ap (λ h. h (PayloadOf (register_block c.width u q) (register_slot c.width q))) (heap_new c traces bounds plan r kept t tl going)
-            ∙ part_frame c (replay c r.order) (opening_blocks c) (every_name (start_graph c)) (opening_at c.width c.threads) (block_words (heap_in c r.state)) (lates (loads_in c r.state)) kept.shown.shows u q ul ql (heap_in c r.state) t tl n
+            ∙ part_frame c (replay c r.order) (opening_blocks c) (every_name (start_graph c)) (opening_at c.width c.threads) (block_words (heap_in c r.state)) (pending_registers (loads_in c r.state)) kept.shown.shows u q ul ql (heap_in c r.state) t tl n
             (local_at c r.state t).pass (command_of (local_at c r.state t)) _ _ (local_at c r.state t).part (kept.locals t tl).stands (fits c traces bounds plan r kept t tl) (kept.shown.loads t tl)
             ∙ o.word;
       }
 
-  older_self : (q : ℕ) → q < REGISTERS → late_in c (local_at c (event_done c t r.state) t).part q ≡ true → IsOlder c after t q
-  older_self q ql late =
+  older_self : (q : ℕ) → q < REGISTERS → pending_in c (local_at c (event_done c t r.state) t).part q ≡ true → IsOlder c after t q
+  older_self q ql pending =
       let same = local_new c traces bounds plan r kept t tl going t ∙ cond_yes _ _ _ (eq-eqb t t refl) in
-      let l : Lately c (heap_in c r.state) (local_at c r.state t).part word_here q = part_lately c (heap_in c r.state) t (command_of (local_at c r.state t)) (owes (local_at c r.state t)) (local_at c r.state t).part word_here q (sym (ap (λ (l : LocalState). late_in c l.part q) same) ∙ late) in
+      let l : Pending c (heap_in c r.state) (local_at c r.state t).part word_here q = part_pending c (heap_in c r.state) t (command_of (local_at c r.state t)) (owes (local_at c r.state t)) (local_at c r.state t).part word_here q (sym (ap (λ (l : LocalState). pending_in c l.part q) same) ∙ pending) in
       let still = ap (λ h. h (PayloadOf (register_block c.width t q) (register_slot c.width q))) (heap_new c traces bounds plan r kept t tl going ∙ l.reads) in
       elim l.how [
         | inl d ↦
@@ -290,9 +290,9 @@ module _ (c : Config) (traces : List (List Command)) (bounds : IsInBounds c) (pl
       ]
 
   event_older : AllOlder c after
-  event_older u q ul ql late = elim (cases_eq t u) [
-    | inl e ↦ subst (λ v. late_in c (local_at c (event_done c t r.state) v).part q ≡ true → IsOlder c after v q) e (older_self q ql) late
-    | inr n ↦ older_other u q ul ql n late
+  event_older u q ul ql pending = elim (cases_eq t u) [
+    | inl e ↦ subst (λ v. pending_in c (local_at c (event_done c t r.state) v).part q ≡ true → IsOlder c after v q) e (older_self q ql) pending
+    | inr n ↦ older_other u q ul ql n pending
   ]
 
 turn_older : (c : Config) (traces : List (List Command)) → IsJob c traces → (r : Run) → Kept c traces r → (t : ℕ) → AllOlder c r → AllOlder c (next c t r)
@@ -318,7 +318,7 @@ turns_older c traces job [] r kept all = all
 turns_older c traces job (t ∷ ts) r kept all = turns_older c traces job ts (next c t r) (turn_kept c traces job r kept t) (turn_older c traces job r kept t all)
 
 opened_older : (c : Config) (traces : List (List Command)) → IsJob c traces → (s : State) → IsOpening c traces s → AllOlder c (opened s)
-opened_older c traces job s start u q ul ql late = let z : true ≡ false = sym late ∙ ap (λ (l : LocalState). late_in c l.part q) (here c traces job s start u ul) in absurd cc
+opened_older c traces job s start u q ul ql pending = let z : true ≡ false = sym pending ∙ ap (λ (l : LocalState). pending_in c l.part q) (here c traces job s start u ul) in absurd cc
 
 -- every run
 pub run_older : (c : Config) (traces : List (List Command)) (ts : List ℕ) (r : Run) → IsJob c traces → IsRunOf c traces ts r → AllOlder c r

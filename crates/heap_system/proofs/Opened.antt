@@ -16,7 +16,7 @@ use Rattle.block_store.specs.Places.{Place, extent, in_range, index, place_at, w
 use Rattle.block_store.proofs.Indexes.{back, below}
 use Rattle.object_lists.specs.Parts.{Part, Link, Field, Blank, link_in}
 use Rattle.array_trees.specs.Trees.{tree, array_blocks}
-use Rattle.array_trees.specs.Levels.{array_part, array_spot, tree_depth}
+use Rattle.array_trees.specs.Levels.{array_part, array_slot, tree_depth}
 use Rattle.array_trees.proofs.Arrays.{tree_layout}
 use Rattle.array_trees.proofs.Counts.{few_shared, many}
 use Rattle.never_heap.specs.Graphs.{start_graph, shared_name, register_of}
@@ -41,10 +41,10 @@ pub last_low : (c : Config) → IsInBounds c → opening_blocks c ≤ 421
 last_low c inside = omega (arith, few_shared c.width c.shared inside.shared, end_few c.width c.threads inside.threads)
 
 -- where register 0 stands in its array: behind the root, in the first payload
-first_spot : (w : Width) → array_spot w REGISTERS 0 ≡ (1, 0)
+first_slot : (w : Width) → array_slot w REGISTERS 0 ≡ (1, 0)
 unfolding tree
-first_spot Four = refl
-first_spot Eight = refl
+first_slot Four = refl
+first_slot Eight = refl
 
 first_field : (w : Width) → array_part w REGISTERS 1 0 ≡ Field 0
 unfolding tree tree_depth
@@ -61,10 +61,10 @@ first_register c t tl =
 pub other_register : (c : Config) (t o j : ℕ) → t < c.threads → ((o ≡ 1) → (j ≡ 0) → ⊥) → link_word (λ p. root_block c.width t + p) (link_in (array_part c.width REGISTERS o j)) ≡ register_word c t o j
 other_register c t o j tl ne = shown (array_part c.width REGISTERS o j) refl
   where
-    not_first : (i : ℕ) → o ≡ (array_spot c.width REGISTERS i).0 → j ≡ (array_spot c.width REGISTERS i).1 → i ≡ 0 → ⊥
+    not_first : (i : ℕ) → o ≡ (array_slot c.width REGISTERS i).0 → j ≡ (array_slot c.width REGISTERS i).1 → i ≡ 0 → ⊥
     not_first i a b z =
-        ne (a ∙ ap (λ k. (array_spot c.width REGISTERS k).0) z ∙ ap (λ (p : ℕ × ℕ). p.0) (first_spot c.width))
-        (b ∙ ap (λ k. (array_spot c.width REGISTERS k).1) z ∙ ap (λ (p : ℕ × ℕ). p.1) (first_spot c.width))
+        ne (a ∙ ap (λ k. (array_slot c.width REGISTERS k).0) z ∙ ap (λ (p : ℕ × ℕ). p.0) (first_slot c.width))
+        (b ∙ ap (λ k. (array_slot c.width REGISTERS k).1) z ∙ ap (λ (p : ℕ × ℕ). p.1) (first_slot c.width))
 
     nil_field : (i : ℕ) → i < REGISTERS → (i ≡ 0 → ⊥) → register_of (start_graph c) t i ≡ Nil
     nil_field i il n = register_of_start c t i tl il ∙ ap (λ b. cond b (Ref (shared_name c.threads)) Nil) (ne_eqb i 0 n)
@@ -72,7 +72,7 @@ other_register c t o j tl ne = shown (array_part c.width REGISTERS o j) refl
     shown : (p : Part) → array_part c.width REGISTERS o j ≡ p → link_word (λ p. root_block c.width t + p) (link_in p) ≡ part_word (shared_block c) (λ p. root_block c.width t + p) (register_of (start_graph c) t) p
     shown (Link q) e = refl
     shown (Field i) e =
-        let s = (tree_layout (payloads c.width) REGISTERS (many c.width)).spots o j i e in
+        let s = (tree_layout (payloads c.width) REGISTERS (many c.width)).slots o j i e in
         sym (ap (value_word (shared_block c)) (nil_field i s.0 (not_first i s.3 s.4)))
     shown Blank e = refl
 

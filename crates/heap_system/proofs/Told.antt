@@ -81,7 +81,7 @@ module _ (c : Config) (traces : List (List Command)) (r : Run) (k : Kept c trace
       let stands : MarkKept t (local_at c r.state t).pass m = subst (λ p. PartKept (replay c r.order) t (local_at c r.state t).pass (command_of (local_at c r.state t)) p) is (k.locals t tl).stands in
       let fits : PartFits c (length (local_at c r.state t).log) (length (local_at c r.state t).trace) (Mark m) =
       subst (λ p. PartFits c (length (local_at c r.state t).log) (length (local_at c r.state t).trace) p) is (subst (λ x. PartFits x (length (local_at c r.state t).log) (length (local_at c r.state t).trace) (local_at c r.state t).part) (k.locals t tl).config (k.locals t tl).fits.part) in
-      let e = put_on_empty c (heap_in c r.state) (holdings_in c r.state) m fits.0 k.grey (ap (holdings_in c r.state) stands.thread ∙ ap (grey_of c) is) putting in (
+      let e = put_on_empty c (heap_in c r.state) (holdings_in c r.state) m fits.0 k.rules.grey (ap (holdings_in c r.state) stands.thread ∙ ap (grey_of c) is) putting in (
         ap (part_want c) is ∙ e.0 ∙ ap (λ u. Exchange (GreyList u) (holding_at (extent c) m).hand) stands.thread ∙ sym (ap (λ p. Exchange (GreyList t) (holding c p).hand) is),
         subst (λ u. heap_in c r.state (GreyList u) ≡ 0) stands.thread e.1,
       )
@@ -89,4 +89,4 @@ module _ (c : Config) (traces : List (List Command)) (r : Run) (k : Kept c trace
 -- no block of an object is Free
 pub not_free : (c : Config) (traces : List (List Command)) (r : Run) → Kept c traces r → (a : Name) (o : ℕ) → has_name (start_graph c) a ≡ true → o < object_blocks c.width (object_of (replay c r.order) a)
     → is_free (heap_in c r.state (ColourOf (opening_at c.width c.threads a o))) ≡ false
-not_free c traces r k a o ka ol = k.solid (opening_at c.width c.threads a o) (omega (arith, k.shown.shows.placed.behind a o ka ol)) (k.shown.shows.placed.within a o ka ol)
+not_free c traces r k a o ka ol = k.rules.taken (opening_at c.width c.threads a o) (omega (arith, k.shown.shows.placed.behind a o ka ol)) (k.shown.shows.placed.within a o ka ol)

@@ -50,7 +50,7 @@ use Rattle.heap_machine.specs.declared.pass.Pass.{Pass}
 use Rattle.heap_system.proofs.Paying.{bounds_at, works_append, answered_in}
 use Rattle.heap_system.proofs.Moves.{state}
 use Rattle.heap_system.proofs.Steady.{never_full, register_stays}
-use Rattle.heap_system.proofs.Kept.{grey_of, PartKept, LocalKept, IsSolid, loads_in, gates_in, holdings_in, Kept, EventKept, graph_decided, told_by, IsLawful, part_event, part_reads, part_sum, part_place, IsMark}
+use Rattle.heap_system.proofs.Kept.{grey_of, PartKept, LocalKept, Rules, loads_in, gates_in, holdings_in, Kept, EventKept, graph_decided, told_by, IsLawful, part_event, part_reads, part_sum, part_place, IsMark}
 
 -- the order with an entry more, or as it was
 module _ (c : Config) (order : List HistoryItem) (t : ℕ) (k : Command) (work : ℕ) where
@@ -119,7 +119,7 @@ said_more log trace e k is following low said =
 -- the other threads' rows say the same of a graph in which their registers are the same
 row_stays : (g new : Graph) (u : ℕ) (k : Command) (r : FieldRow) → ((q : ℕ) → register_of new u q ≡ register_of g u q) → (KnownAt g u k r → KnownAt new u k r) × (due_at new u k r ≡ due_at g u k r)
 row_stays g new u k (rows.LoadOwner word) same = (λ x. x, rw (same (to_register k)) refl)
-row_stays g new u k (rows.StoreLate word value) same = (let s : register_of new u (to_register k) ≡ register_of g u (to_register k) = same (to_register k) in (λ x. x ∙ sym s, rw s refl))
+row_stays g new u k (rows.StorePending word value) same = (let s : register_of new u (to_register k) ≡ register_of g u (to_register k) = same (to_register k) in (λ x. x ∙ sym s, rw s refl))
 row_stays g new u k (rows.LoadSaidOwner word) same = (λ x. x, rw (same (from_register k)) refl)
 row_stays g new u k _ same = (λ x. x, refl)
 
@@ -283,12 +283,12 @@ module _ (c : Config) (traces : List (List Command)) (bounds : IsInBounds c) (pl
   pub reads : PartReads c (local_at c r.state t).part (word_read c r.state (local_at c r.state t))
   reads = subst (λ w. PartReads c (local_at c r.state t).part w) (sym word_is)
       (part_reads c bounds plan (replay c r.order) (heap_in c r.state) (gates_in c r.state) (loads_in c r.state) (holdings_in c r.state) t tl (local_at c r.state t).pass (command_of (local_at c r.state t)) inside (length (local_at c r.state t).log) (length (local_at c r.state t).trace) (owed (local_at c r.state t)) (local_at c r.state t).paid (local_at c r.state t).waived
-      kept.gate kept.phase kept.shown kept.grey kept.held kept.solid (local_at c r.state t).part refl (kept.locals t tl).stands fits)
+      kept.gate kept.phase kept.shown kept.rules (local_at c r.state t).part refl (kept.locals t tl).stands fits)
 
   pub sums : SumFits (op_at (extent c) (part_want c (local_at c r.state t).part)) (word_read c r.state (local_at c r.state t))
   sums = subst (λ w. SumFits (op_at (extent c) (part_want c (local_at c r.state t).part)) w) (sym word_is) (sum_fits (extent c) (part_want c (local_at c r.state t).part) _
       (part_sum c bounds plan (replay c r.order) (heap_in c r.state) (gates_in c r.state) (loads_in c r.state) (holdings_in c r.state) t tl (local_at c r.state t).pass (command_of (local_at c r.state t)) inside (length (local_at c r.state t).log) (length (local_at c r.state t).trace) (owed (local_at c r.state t)) (local_at c r.state t).paid (local_at c r.state t).waived
-      kept.gate kept.phase kept.shown kept.grey kept.held kept.solid (local_at c r.state t).part refl (kept.locals t tl).stands))
+      kept.gate kept.phase kept.shown kept.rules (local_at c r.state t).part refl (kept.locals t tl).stands))
 
   pays : (local_at c r.state t).paid + unit_to_come c (local_at c r.state t).part ≤ owed (local_at c r.state t)
   pays = subst (λ (x : Config). (local_at c r.state t).paid + unit_to_come x (local_at c r.state t).part ≤ owed (local_at c r.state t)) (kept.locals t tl).config (kept.locals t tl).fits.paid
@@ -318,7 +318,7 @@ module _ (c : Config) (traces : List (List Command)) (bounds : IsInBounds c) (pl
     pub event : EventKept c (replay c r.order) new_heap (gates_in c r.state) (loads_in c r.state) (holdings_in c r.state) t (command_of (local_at c r.state t)) (length (local_at c r.state t).log) (length (local_at c r.state t).trace) (owed (local_at c r.state t)) (local_at c r.state t).paid (local_at c r.state t).waived
         (waiting (replay c r.order) (local_at c r.state t).part) decides_here new_pass new_part told_here makes_here finds_here
     event = part_event c bounds plan (replay c r.order) (heap_in c r.state) (gates_in c r.state) (loads_in c r.state) (holdings_in c r.state) t tl (local_at c r.state t).pass (command_of (local_at c r.state t)) inside (length (local_at c r.state t).log) (length (local_at c r.state t).trace) (owed (local_at c r.state t)) (local_at c r.state t).paid (local_at c r.state t).waived
-        kept.gate kept.phase kept.shown kept.grey kept.held kept.solid (local_at c r.state t).part refl refl refl (kept.locals t tl).stands fits pays (kept.locals t tl).settled unpaid
+        kept.gate kept.phase kept.shown kept.rules (local_at c r.state t).part refl refl refl (kept.locals t tl).stands fits pays (kept.locals t tl).settled unpaid
         (rest_low (local_at c r.state t) (kept.locals t tl).fits.log going)
 
     moved : LocalKept c (get_or traces t []) (graph_decided (replay c r.order) t (command_of (local_at c r.state t)) decides_here) (order_after c r.order t (command_of (local_at c r.state t)) (local_at c r.state t).paid decides_here) t (moved_on (local_at c r.state t) t c (heap_in c r.state (place_of (part_want c (local_at c r.state t).part))))
@@ -371,9 +371,7 @@ module _ (c : Config) (traces : List (List Command)) (bounds : IsInBounds c) (pl
       locals = each;
       legal = legal_grows c r.order t (command_of (local_at c r.state t)) (local_at c r.state t).paid decides_here event.lawful kept.legal;
       foreign = λ u ul. part_stays c r.order t (command_of (local_at c r.state t)) (local_at c r.state t).paid decides_here u (λ e. omega arith) ∙ kept.foreign u ul;
-      grey = subst (λ x. GreyKept c.threads x (holdings_in c (event_done c t r.state))) (sym heap_new) (subst (λ hs. GreyKept c.threads new_heap hs) (sym holdings_new) event.grey);
-      held = subst (λ x. IsHeld c x) (sym heap_new) event.held;
-      solid = subst (λ x. IsSolid c x) (sym heap_new) event.solid;
+      rules = subst (λ x. Rules c x (holdings_in c (event_done c t r.state))) (sym heap_new) (subst (λ hs. Rules c new_heap hs) (sym holdings_new) event.rules);
       counts = (
         starts_stay c r.order t (command_of (local_at c r.state t)) (local_at c r.state t).paid decides_here ∙ kept.counts.0,
         omega (arith, work_grows c r.order t (command_of (local_at c r.state t)) (local_at c r.state t).paid decides_here, kept.counts.1, event.counted, logs_new),

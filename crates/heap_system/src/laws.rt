@@ -20,7 +20,7 @@ ghost use Rattle.shown_graph.specs.Words.{block_words, Agrees};
 ghost use Rattle.shown_graph.specs.Shown.{every_name, Shows};
 ghost use Rattle.shown_graph.specs.Openings.{opening_at, opening_words};
 ghost use Rattle.array_trees.specs.Openings.{opening_blocks};
-ghost use Rattle.shown_graph.specs.Events.{unloaded, lates, Follows};
+ghost use Rattle.shown_graph.specs.Events.{unloaded, pending_registers, Follows};
 ghost use Rattle.heap_machine.specs.Counts.{total};
 ghost use Rattle.heap_machine.specs.Gating.{is_inside};
 ghost use Rattle.heap_machine.specs.Grey.{GreyKept};
@@ -31,12 +31,15 @@ ghost use Rattle.heap_machine.specs.Operations.{Exchange, place_of, op_at, SumFi
 ghost use Rattle.barrier_steps.specs.Rows.{FieldState, field_decided};
 ghost use Rattle.heap_system.specs.declared.local.Part.TheVariants.{Serve, Mark, Count};
 ghost use Rattle.heap_system.specs.Locals.{LocalState, local_got, is_done, waits, is_rest, command_of, owed, owes, entry_of, works, part_want, PartReads};
-ghost use Rattle.heap_system.specs.Systems.{units_of, logs_of};
+ghost use Rattle.heap_system.specs.Systems.{units_of, logs_of, Finish};
 ghost use Rattle.heap_system.specs.Units.{units_made, blacks_made, IsWithin};
 ghost use Rattle.heap_system.specs.Machines.{State, answer, turned, Run, opened, IsAfterTurns, local_in, local_at, word_read};
 ghost use Rattle.heap_system.specs.Openings.{opening_heap};
 ghost use Rattle.heap_system.specs.declared.Turn.TheVariants as Turn;
 ghost use Rattle.heap_system.specs.Pictures.{stand_of, holding, loading, heap_in, graph_state, entries_waiting, IsOlder};
+
+use crate::Finished;
+use never_heap::Logs;
 
 /// The words of an opening are those of the start graph, up to the last block of the shared array.
 pub fn opening_shows_the_start()
@@ -53,14 +56,14 @@ pub fn words_show_the_order()
     ensures words { (c : Config) (r : Run) → IsAfterTurns c r
         → Shows c.width c.threads (opening_blocks c) (every_name (start_graph c))
         (replay c r.order) (opening_at c.width c.threads) (block_words (heap_in c r.state))
-        (lates (graph_state c r).loads) }
+        (pending_registers (graph_state c r).loads) }
     ensures free { (c : Config) (r : Run) → IsAfterTurns c r
         → (a : Name) (o : ℕ) → has_name (start_graph c) a ≡ true
         → o < object_blocks c.width (object_of (replay c r.order) a)
         → is_free (heap_in c r.state (ColourOf (opening_at c.width c.threads a o))) ≡ false }
     ensures older { (c : Config) (r : Run) → IsAfterTurns c r
         → (t q : ℕ) → t < c.threads → q < REGISTERS
-        → lates (graph_state c r).loads t q ≡ true → IsOlder c r t q }
+        → pending_registers (graph_state c r).loads t q ≡ true → IsOlder c r t q }
     ensures loads { (c : Config) (r : Run) → IsAfterTurns c r
         → Follows c.width c.threads (opening_blocks c) (every_name (start_graph c))
         (opening_at c.width c.threads) (graph_state c r) }
@@ -176,4 +179,12 @@ pub fn events_are_safe()
     ensures sums { (c : Config) (r : Run) → IsAfterTurns c r → (t : ℕ) → t < c.threads
         → SumFits (op_at (extent c) (part_want c (local_in c r t).part))
         (word_read c r.state (local_in c r t)) }
+{}
+
+/// What a finished run shows as `Logs` is what it holds: its logs, one cycle, and the sum of its
+/// works.
+pub fn finished_runs_show_their_logs()
+    ensures logs { (f : Finish) → ⟦<Finished as Logs>⟧.logs f ≡ f.logs }
+    ensures cycles { (f : Finish) → ⟦<Finished as Logs>⟧.cycle_count f ≡ 1 }
+    ensures units { (f : Finish) → ⟦<Finished as Logs>⟧.unit_count f ≡ units_of f.logs }
 {}

@@ -185,7 +185,6 @@ impl Local {
     pub fn thread(&self) -> u32
         ensures { result ≡ self.now.thread }
     {
-        let _part = &self.part;
         self.thread
     }
 
@@ -200,7 +199,6 @@ impl Local {
     pub fn paid(&self) -> u64
         ensures { result ≡ self.now.paid }
     {
-        let _part = &self.part;
         self.paid
     }
 

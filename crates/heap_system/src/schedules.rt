@@ -8,7 +8,7 @@ ghost use Rattle.std.specs.List.{All};
 ghost use Rattle.never_heap.specs.Bounds.{IsCommandInBounds};
 
 use crate::*;
-use block_store::{Config, OutOfMemory, Places, Width};
+use block_store::{Config, OutOfMemory, Places, Width, black, colour_word};
 use never_heap::{Command, Graph, Logs, Reply};
 use rand_core::utils::NextWord;
 use rand_pcg::Lcg64Xsh32;
@@ -103,18 +103,20 @@ fn model_reply(
     }
 }
 
-// How many blocks are black. With three threads the words of block x begin at 7 x + 2, with its
-// colour, and black is 2.
+// How many blocks are black in cycle 1.
 fn black_blocks(system: &System) -> u64 {
-    let words = Places::new(system.config()).words();
-    let mut black = 0;
-    for block in 1..65_u64 {
-        let place = 7 * block as usize + 2;
-        if place < words && system.word(place) == 2 && black < block {
-            black += 1;
+    let places = Places::new(system.config());
+    let last = system.config().blocks;
+    let mut count = 0;
+    for block in 1..65_u32 {
+        if block <= last && count < u64::from(block) {
+            let place = places.colour(block);
+            if place < places.words() && system.word(place) == colour_word(black(1)) {
+                count += 1;
+            }
         }
     }
-    black
+    count
 }
 
 // Whether each reply is the model's.

@@ -53,38 +53,19 @@ fn word_at(c: &Config, i: usize) -> u64
     requires low { i < words_count (extent c.now) }
     ensures { result ≡ opening_heap c.now (place_at (extent c.now) i) }
 {
-    let threads = c.threads as usize;
-    let lists = 3 + threads;
-    let first = 3 + 2 * threads;
-    if i < 3 {
+    let places = Places::new(c);
+    let first = places.colour(1);
+    if i < places.grey_list(0) {
         head_at(c, i)
-    } else if i < lists {
-        root_of(c.width, (i - 3) as u32) as u64
+    } else if i < places.free_list(0) {
+        c.width.root((i - places.grey_list(0)) as u32) as u64
     } else if i < first {
-        free_list_at(c, i - lists)
+        free_list_at(c, i - places.free_list(0))
     } else {
-        let behind = (i - first) as u32;
-        let size = 3 + c.width.payloads();
-        block_word(c, behind / size + 1, behind % size)
+        let size = places.payload(1, 0) - first + c.width.payloads() as usize;
+        let behind = i - first;
+        block_word(c, (behind / size + 1) as u32, behind % size)
     }
-}
-
-// The root of the register array of thread `t`.
-#[tactic(auto, using(block_store::proofs::Registers::root_by))]
-fn root_of(width: Width, t: u32) -> u32
-    requires { t < 16 }
-    ensures { result ≡ root_block width t }
-{
-    width.registers() * t + 1
-}
-
-// The last block of the register arrays.
-#[tactic(auto, using(block_store::proofs::Registers::end_by))]
-fn registers_end(c: &Config) -> u32
-    requires { IsInBounds c.now }
-    ensures { result ≡ registers_end c.now.width c.now.threads }
-{
-    c.width.registers() * c.threads
 }
 
 // The phase word, the cursor, and the free count.
@@ -94,15 +75,18 @@ fn head_at(c: &Config, i: usize) -> u64
     requires low { i < 3 }
     ensures { result ≡ opening_heap c.now (place_at (extent c.now) i) }
 {
-    match i {
-        0 => phase_word(PhaseWord {
+    let places = Places::new(c);
+    if i == places.phase() {
+        phase_word(PhaseWord {
             inside: 0,
             sweep: false,
             closed: false,
             cycle: 1,
-        }),
-        1 => c.blocks as u64 + 1,
-        _ => (c.blocks - last_block(c)) as u64,
+        })
+    } else if i == places.cursor() {
+        c.blocks as u64 + 1
+    } else {
+        (c.blocks - last_block(c)) as u64
     }
 }
 
@@ -115,18 +99,23 @@ fn free_list_at(c: &Config, t: usize) -> u64
 }
 
 // The word of block `x` that stands `k` words behind its colour.
-fn block_word(c: &Config, x: u32, k: u32) -> u64
+fn block_word(c: &Config, x: u32, k: usize) -> u64
     requires bounds { IsInBounds c.now }
     requires plan { IsAdmitted c.now }
     requires block { IsBlock c.now x }
     requires low { k < 3 + payloads c.now.width }
     ensures { result ≡ opening_heap c.now (in_block x k) }
 {
-    match k {
-        0 => colour_at(c, x),
-        1 => owner_at(c, x),
-        2 => shape_at(c, x),
-        _ => payload_at(c, x, k - 3),
+    let places = Places::new(c);
+    let first = places.colour(x);
+    if first + k == places.colour(x) {
+        colour_at(c, x)
+    } else if first + k == places.owner(x) {
+        owner_at(c, x)
+    } else if first + k == places.shape(x) {
+        shape_at(c, x)
+    } else {
+        payload_at(c, x, (first + k - places.payload(x, 0)) as u32)
     }
 }
 
@@ -135,7 +124,7 @@ fn last_block(c: &Config) -> u32
     requires { IsInBounds c.now }
     ensures { result ≡ opening_blocks c.now }
 {
-    registers_end(c) + blocks_of_array(c.width, c.shared)
+    c.width.registers_end(c.threads) + blocks_of_array(c.width, c.shared)
 }
 
 // The thread whose register array has block `x`.
@@ -162,7 +151,7 @@ fn colour_at(c: &Config, x: u32) -> u64
     requires block { IsBlock c.now x }
     ensures { result ≡ opening_colour c.now x }
 {
-    if x <= registers_end(c) && ordinal_of(c.width, x) == 0 {
+    if x <= c.width.registers_end(c.threads) && ordinal_of(c.width, x) == 0 {
         colour_word(Colour::Grey(0))
     } else if x <= last_block(c) {
         colour_word(white(1))
@@ -179,7 +168,7 @@ fn owner_at(c: &Config, x: u32) -> u64
     requires block { IsBlock c.now x }
     ensures { result ≡ opening_heap c.now (OwnerOf x) }
 {
-    let registers = registers_end(c);
+    let registers = c.width.registers_end(c.threads);
     if x <= registers {
         owner_word(Owner {
             thread: thread_of(c.width, x),
@@ -203,7 +192,7 @@ fn shape_at(c: &Config, x: u32) -> u64
     requires block { IsBlock c.now x }
     ensures { result ≡ opening_heap c.now (ShapeOf x) }
 {
-    if x <= registers_end(c) {
+    if x <= c.width.registers_end(c.threads) {
         shape_word(Shape::Tree(REGISTERS))
     } else if x <= last_block(c) {
         shape_word(Shape::Tree(c.shared))
@@ -235,7 +224,7 @@ fn payload_at(c: &Config, x: u32, j: u32) -> u64
     requires payload { j < payloads c.now.width }
     ensures { result ≡ opening_heap c.now (PayloadOf x j) }
 {
-    let registers = registers_end(c);
+    let registers = c.width.registers_end(c.threads);
     if x <= registers {
         register_payload(c, thread_of(c.width, x), ordinal_of(c.width, x), j)
     } else if x <= last_block(c) {
@@ -256,9 +245,9 @@ fn register_payload(c: &Config, t: u32, ordinal: u32, j: u32) -> u64
     ensures { result ≡ register_word c.now t ordinal j }
 {
     if ordinal == 1 && j == 0 {
-        payload_word(Payload::Block(registers_end(c) + 1))
+        payload_word(Payload::Block(c.width.registers_end(c.threads) + 1))
     } else {
-        link_at(c.width, REGISTERS, root_of(c.width, t), ordinal, j)
+        link_at(c.width, REGISTERS, c.width.root(t), ordinal, j)
     }
 }
 
@@ -270,5 +259,11 @@ fn shared_payload(c: &Config, ordinal: u32, j: u32) -> u64
     requires payload { j < payloads c.now.width }
     ensures { result ≡ shared_word c.now ordinal j }
 {
-    link_at(c.width, c.shared, registers_end(c) + 1, ordinal, j)
+    link_at(
+        c.width,
+        c.shared,
+        c.width.registers_end(c.threads) + 1,
+        ordinal,
+        j,
+    )
 }

@@ -145,7 +145,6 @@ impl System {
         ensures same { result.now ≡ self.now.config }
         ensures reached { IsReached self.now.config self.now.state }
     {
-        let _words = &self.words;
         &self.config
     }
 
@@ -173,7 +172,6 @@ impl System {
     pub fn copied_words(&self, alloc: Global) -> Result<Vec<u64>, OutOfMemory>
         ensures { IfOk result (λ v. v.items ≡ self.now.state.words) }
     {
-        let _config = &self.config;
         copied(alloc, &self.words)
     }
 
@@ -215,7 +213,6 @@ impl Finished {
     pub fn config(&self) -> &Config
         ensures { result.now ≡ self.now.config }
     {
-        let _locals = &self.locals;
         &self.config
     }
 }
@@ -248,7 +245,6 @@ impl Logs for Finished {
     }
 
     fn cycles(&self) -> u64 {
-        let _locals = &self.locals;
         1
     }
 

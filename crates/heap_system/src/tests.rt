@@ -260,13 +260,15 @@ fn word(system: &System, place: usize) -> u64 {
     }
 }
 
-// The colour word of a block. The heads of a heap of two threads take 7 words, and each block three
-// more than it has payloads.
+// The colour word of a block.
 fn colour(system: &System, block: usize) -> u64
     requires { (1 ≤ block) × (block ≤ 64) }
 {
-    let size = 3 + system.config().width.payloads() as usize;
-    word(system, 7 + size * (block - 1))
+    if block <= system.config().blocks as usize {
+        word(system, Places::new(system.config()).colour(block as u32))
+    } else {
+        0
+    }
 }
 
 // Gives thread 0 turns until it is done, and tells which blocks became black, in this order. Black

@@ -13,7 +13,7 @@ use Rattle.never_heap.specs.Graphs.{Graph, ObjectKind, next_name}
 use Rattle.shown_graph.specs.Layouts.{layout_part}
 use Rattle.shown_graph.specs.Words.{Agrees, BlockWords, with_payload}
 use Rattle.shown_graph.specs.Shown.{Shows}
-use Rattle.shown_graph.specs.Events.{lates}
+use Rattle.shown_graph.specs.Events.{pending_registers}
 use Rattle.shown_graph.proofs.Blocks.{other_block}
 use Rattle.shown_graph.proofs.ObjectLayouts.{layout_laws}
 use Rattle.shown_graph.proofs.Stores.{words_change}
@@ -112,7 +112,7 @@ module _ (c : Config) (s : KeptState) (k : IsKept c s) where
       → IsBuild W n m s.cycle s.colour u d)
       → ((d : Build) (o : ℕ) → s.builds t ≡ Some d → d.left ≤ o → o < build_blocks W d
       → (b.left ≤ o) × (o < build_blocks W b) × (d.held o ≡ b.held o))
-      → Shows W n m (Kept s) g s.at u (lates s.seen.loads)
+      → Shows W n m (Kept s) g s.at u (pending_registers s.seen.loads)
       → ((x j : ℕ) → 0 < x → x ≤ registers_end W n → j < payloads W
       → u.payload x j ≡ w.payload x j)
       → (s.sweep ≡ true → SweepColours W n s.cycle (Kept s) (sizes c s) s.at s.colour u.payload
@@ -121,7 +121,7 @@ module _ (c : Config) (s : KeptState) (k : IsKept c s) where
   rebuilt t b u title new others more shows registers sweeping = record {
     ordered = k.ordered;
     follows = record { shows = shows; loads = k.follows.loads };
-    older = λ v r vn rl late. older_words c s.order w (Kept s) s.at v r (k.older v r vn rl late) u
+    older = λ v r vn rl pending. older_words c s.order w (Kept s) s.at v r (k.older v r vn rl pending) u
         (registers (register_block W v r) (register_slot W r) (register_some W v r)
         (register_low W n v r vn rl) (slot_low W r));
     known = k.known;
@@ -214,7 +214,7 @@ module _ (c : Config) (s : KeptState) (k : IsKept c s) where
             ap (λ (b : Build). b.held p)
                 (same_build d is),
           ))
-          (words_change W n m (Kept s) g s.at w (lates s.seen.loads) (shown c s k) u
+          (words_change W n m (Kept s) g s.at w (pending_registers s.seen.loads) (shown c s k) u
           (λ x j some low jl. (same x (λ e. omega (arith, hand_behind))).payloads j jl)
           (λ a p ka pl. same (s.at a p) (λ e. hand_not_kept a p ka pl e)))
           (λ x j some low jl. (same x (λ e. omega (arith, hand_behind))).payloads j jl)

@@ -13,7 +13,7 @@ use Rattle.block_store.specs.Widths.{payloads, register_blocks}
 use Rattle.block_store.proofs.Registers.{ordinal_low, thread_low, block_is, arrays_small, wide, register_low, register_some, slot_low}
 use Rattle.never_heap.specs.Graphs.{Graph, object_of, field_of, register_of}
 use Rattle.never_heap.proofs.Reaching.{field_there}
-use Rattle.shown_graph.specs.Layouts.{object_blocks, object_spot}
+use Rattle.shown_graph.specs.Layouts.{object_blocks, object_slot}
 use Rattle.shown_graph.specs.Words.{BlockWords, value_word}
 use Rattle.shown_graph.specs.Shown.{IsValueOf, heads, Closed, Shows}
 use Rattle.shown_graph.proofs.ObjectLayouts.{object_layout}
@@ -30,14 +30,14 @@ value_kept K L (Int i) f k = k
 value_kept K L (Ref a) f k = f a refl k
 
 module _ (W : Width) (n m cycle : ℕ) (K L : Name → Type 0) (g : Graph) (at : Name → ℕ → ℕ)
-    (w : BlockWords) (late : ℕ → ℕ → Bool) (colour : ℕ → ℕ)
-    (shows : Shows W n m K g at w late)
+    (w : BlockWords) (pending : ℕ → ℕ → Bool) (colour : ℕ → ℕ)
+    (shows : Shows W n m K g at w pending)
     (fits : (x : ℕ) → IsColoured cycle (colour x))
     (solid : (x : ℕ) → Belongs W n K (λ a. object_blocks W (object_of g a)) at x
     → is_free (colour x) ≡ false)
     (marked : (x : ℕ) → IsDark cycle (colour x)
     → Belongs W n K (λ a. object_blocks W (object_of g a)) at x)
-    (prompt : (t r : ℕ) → t < n → r < REGISTERS → late t r ≡ false)
+    (prompt : (t r : ℕ) → t < n → r < REGISTERS → pending t r ≡ false)
     (none : (x : ℕ) → is_grey (colour x) ≡ false)
     (tricolour : IsTricolour W cycle colour w.payload)
     (roots : (t : ℕ) → t < n → IsDark cycle (colour (root_block W t)))
@@ -53,7 +53,7 @@ module _ (W : Width) (n m cycle : ℕ) (K L : Name → Type 0) (g : Graph) (at :
   pub black_refers : (x j : ℕ) → colour x ≡ black_word cycle → j < payloads W
       → IfRefers IsBlack (w.payload x j)
   black_refers x j black jl some =
-      let b = belongs_refers W n m K g at w late shows x j (marked x (inr black)) jl some in (
+      let b = belongs_refers W n m K g at w pending shows x j (marked x (inr black)) jl some in (
         must_be_black cycle _ (fits (target (w.payload x j))) (solid _ b.0) (none _)
             (tricolour x j black jl some),
         b.1,
@@ -109,7 +109,7 @@ module _ (W : Width) (n m cycle : ℕ) (K L : Name → Type 0) (g : Graph) (at :
       let on = laws.onward q j (suc o) link in
       let above = whole fuel q a (omega (arith, on.1)) ka black (omega (arith, on.1)) in
       to_black (at a q) j (at a (suc o)) above on.0
-      (link_read W n m K g at w late shows a q j (suc o) ka link) (not_zero a (suc o) ka low)
+      (link_read W n m K g at w pending shows a q j (suc o) ka link) (not_zero a (suc o) ka low)
 
   -- what black registers and objects refer to is of the fewer names
   head_black : (x j : ℕ) (d : Name) (v : Value) → colour x ≡ black_word cycle → j < payloads W
@@ -123,18 +123,18 @@ module _ (W : Width) (n m cycle : ℕ) (K L : Name → Type 0) (g : Graph) (at :
     fields = λ a i la. (let k = down a la in value_kept K L (field_of (object_of g a) i) (λ d e kd.
         (let il = field_there g a d i e in
         let laws = object_layout W (object_of g a) in
-        let spot = laws.spots _ _ i (laws.fields i il) in
-        head_black (at a (object_spot W (object_of g a) i).0) (object_spot W (object_of g a) i).1 d
+        let slot = laws.slots _ _ i (laws.fields i il) in
+        head_black (at a (object_slot W (object_of g a) i).0) (object_slot W (object_of g a) i).1 d
         (field_of (object_of g a) i)
-        (whole (suc (object_spot W (object_of g a) i).0) (object_spot W (object_of g a) i).0 a
-        (omega arith) k.0 k.1 spot.1) spot.2
-        (field_read W n m K g at w late shows a i k.0 il) e kd))
+        (whole (suc (object_slot W (object_of g a) i).0) (object_slot W (object_of g a) i).0 a
+        (omega arith) k.0 k.1 slot.1) slot.2
+        (field_read W n m K g at w pending shows a i k.0 il) e kd))
         (shows.closed.fields a i k.0));
     registers = λ t r tn rl. value_kept K L (register_of g t r) (λ d e kd.
         head_black (register_block W t r) (register_slot W r) d (register_of g t r)
         (array_black (register_block W t r) (register_some W t r, register_low W n t r tn rl))
         (slot_low W r)
-        (register_read W n m K g at w late shows t r tn rl (prompt t r tn rl)) e kd)
+        (register_read W n m K g at w pending shows t r tn rl (prompt t r tn rl)) e kd)
         (shows.closed.registers t r tn rl);
   }
 

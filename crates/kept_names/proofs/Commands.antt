@@ -17,8 +17,8 @@ use Rattle.never_heap.proofs.FieldStores.{has_name_with_field, count_with_field}
 use Rattle.shown_graph.specs.Layouts.{object_blocks}
 use Rattle.shown_graph.specs.Words.{BlockWords, value_word, with_payload}
 use Rattle.shown_graph.specs.Events as commanded
-use Rattle.shown_graph.specs.Events.{Loading, GraphState, Event, lates, object_at, value_at, IsConstant, HasValue, IsAtField, Follows}
-use Rattle.shown_graph.specs.Events.Event.{ReadObject, ReadValue, ReadShape, ReadLink, ReadField, StoreLate, StoreValue, StoreConstant, StoreField, Finish}
+use Rattle.shown_graph.specs.Events.{Loading, GraphState, Event, pending_registers, object_at, value_at, IsConstant, HasValue, IsAtField, Follows}
+use Rattle.shown_graph.specs.Events.Event.{ReadObject, ReadValue, ReadShape, ReadLink, ReadField, StorePending, StoreValue, StoreConstant, StoreField, Finish}
 use Rattle.shown_graph.proofs.Blocks.{other_block}
 use Rattle.shown_graph.proofs.ObjectLayouts.{object_layout}
 use Rattle.shown_graph.proofs.Serving.{at_field, step_follows}
@@ -125,7 +125,7 @@ module _ (c : Config) (s : KeptState) (k : IsKept c s) where
   served_moves (ReadShape t f) q = still w unwritten
   served_moves (ReadLink t j p) q = still w unwritten
   served_moves (ReadField t d a i j) q = in_register w t d _ q.0 unwritten
-  served_moves (StoreLate t) q = still _ (stored (register_block W t (value_at s.seen t).origin) _ _
+  served_moves (StorePending t) q = still _ (stored (register_block W t (value_at s.seen t).origin) _ _
       (in_array t (value_at s.seen t).origin q.0 (value_is c s k t q.0 q.1).origin)
       (loaded_kept c s k t q.0 q.1))
   served_moves (StoreValue t d) q = in_register _ t d _ q.0
@@ -134,14 +134,14 @@ module _ (c : Config) (s : KeptState) (k : IsKept c s) where
       (stored (register_block W t d) _ _ (in_array t d q.0 q.1) (constant_refers v q.3))
   served_moves (StoreField t a i j) q =
       let (ka, block, low, field) = at_field W n m (Kept s) s.at s.seen k.follows t a i j q.0 q.3 in
-      let place = (object_layout W (object_of g a)).spots (object_at s.seen t).ordinal j i field in
+      let place = (object_layout W (object_of g a)).slots (object_at s.seen t).ordinal j i field in
       let v = register_of g t (value_at s.seen t).origin in
       let kept = (shown c s k).closed.registers t (value_at s.seen t).origin q.0
       (value_is c s k t q.0 q.2).origin in
       let has = (shown c s k).names a ka in
       record {
         names = λ b. has_name_with_field g a i _ has b;
-        blocks = λ b. blocks_same W n m (Kept s) g s.at w (lates s.seen.loads)
+        blocks = λ b. blocks_same W n m (Kept s) g s.at w (pending_registers s.seen.loads)
             (shown c s k) a i _ ka place.0 kept b;
         counts = λ x. count_with_field g a i _ has x;
         store = stored (object_at s.seen t).block j _
@@ -176,7 +176,7 @@ module _ (c : Config) (s : KeptState) (k : IsKept c s) where
   -- so it keeps everything, if it keeps the order
   moved : (now : GraphState) (order : List HistoryItem) → Moves now.graph now.words
       → Follows W n m (Kept s) s.at now → IsOrdered c now.graph order s.cycle (Known s)
-      → ((u r : ℕ) → u < n → r < REGISTERS → lates now.loads u r ≡ true
+      → ((u r : ℕ) → u < n → r < REGISTERS → pending_registers now.loads u r ≡ true
       → IsOlder c order now.words (Kept s) s.at u r)
       → IsKept c (record s { seen = now; order = order })
   moved now order m follows ordered older =
@@ -213,7 +213,7 @@ module _ (c : Config) (s : KeptState) (k : IsKept c s) where
   graph_left (ReadShape t f) is = refl
   graph_left (ReadLink t j p) is = refl
   graph_left (ReadField t d a i j) is = absurd (differ false is refl)
-  graph_left (StoreLate t) is = refl
+  graph_left (StorePending t) is = refl
   graph_left (StoreValue t d) is = absurd (differ false is refl)
   graph_left (StoreConstant t d v) is = absurd (differ false is refl)
   graph_left (StoreField t a i j) is = absurd (differ false is refl)

@@ -1,4 +1,4 @@
--- A register that is late has its older value.
+-- A register that is pending has its older value.
 use Rattle.std.proofs.Common.{◌≡◌, ℕ, ◌<◌, inl, inr, true, false, cond, [], ◌∷◌, ◌++◌, List, refl, arith, subst, sym, ap, ◌∙◌, append_assoc, ne_eqb}
 use Rattle.std.proofs.lemmas.Bool.{cases_eq}
 use Rattle.block_store.specs.declared.Config.{Config}
@@ -14,8 +14,8 @@ use Rattle.never_heap.proofs.Growing.{part_append}
 use Rattle.shown_graph.specs.Words.{BlockWords, value_word, with_payload}
 use Rattle.shown_graph.specs.Shown.{IsValueOf, heads}
 use Rattle.shown_graph.specs.Events as commanded
-use Rattle.shown_graph.specs.Events.{Loading, Event, is_late, lates, object_at, value_at, register_word_in, IsPrompt}
-use Rattle.shown_graph.specs.Events.Event.{ReadObject, ReadValue, ReadShape, ReadLink, ReadField, StoreLate, StoreValue, StoreConstant, StoreField, Finish}
+use Rattle.shown_graph.specs.Events.{Loading, Event, is_pending, pending_registers, object_at, value_at, register_word_in, IsPrompt}
+use Rattle.shown_graph.specs.Events.Event.{ReadObject, ReadValue, ReadShape, ReadLink, ReadField, StorePending, StoreValue, StoreConstant, StoreField, Finish}
 use Rattle.shown_graph.proofs.Blocks.{payload_other}
 use Rattle.shown_graph.proofs.Names.{value_stays, word_stays}
 use Rattle.shown_graph.proofs.Reading.{register_read}
@@ -94,7 +94,7 @@ module _ (c : Config) (s : KeptState) (k : IsKept c s) where
   other_loads (ReadShape t f) u ne = load_other s.seen.loads t u _ ne
   other_loads (ReadLink t j p) u ne = load_other s.seen.loads t u _ ne
   other_loads (ReadField t d a i j) u ne = load_other s.seen.loads t u _ ne
-  other_loads (StoreLate t) u ne = load_other s.seen.loads t u _ ne
+  other_loads (StorePending t) u ne = load_other s.seen.loads t u _ ne
   other_loads (StoreValue t d) u ne = load_other s.seen.loads t u _ ne
   other_loads (StoreConstant t d v) u ne = load_other s.seen.loads t u _ ne
   other_loads (StoreField t a i j) u ne = load_other s.seen.loads t u _ ne
@@ -121,7 +121,7 @@ module _ (c : Config) (s : KeptState) (k : IsKept c s) where
   other_word (ReadShape t f) guard u r un rl ne = refl
   other_word (ReadLink t j p) guard u r un rl ne = refl
   other_word (ReadField t d a i j) guard u r un rl ne = refl
-  other_word (StoreLate t) guard u r un rl ne = other_register t _ _ u r
+  other_word (StorePending t) guard u r un rl ne = other_register t _ _ u r
       (value_is c s k t guard.0 guard.1).origin rl ne
   other_word (StoreValue t d) guard u r un rl ne = other_register t d _ u r guard.1 rl ne
   other_word (StoreConstant t d v) guard u r un rl ne = other_register t d _ u r guard.1 rl ne
@@ -138,68 +138,68 @@ module _ (c : Config) (s : KeptState) (k : IsKept c s) where
       ))
   other_word (Finish t) guard u r un rl ne = refl
 
-  -- the thread's own late register, behind an event that leaves the graph
+  -- the thread's own pending register, behind an event that leaves the graph
   own_late : (e : Event) → commanded.Guard c.width c.threads s.seen e → leaves_graph e ≡ true
-      → (r : ℕ) → is_late ((served c s e).loads (event_thread e)).value r ≡ true
-      → (is_late (s.seen.loads (event_thread e)).value r ≡ true)
+      → (r : ℕ) → is_pending ((served c s e).loads (event_thread e)).value r ≡ true
+      → (is_pending (s.seen.loads (event_thread e)).value r ≡ true)
       × (register_word_in c.width (served c s e).words (event_thread e) r ≡ register_word_in
       c.width s.seen.words (event_thread e) r)
-  own_late (ReadObject t q) guard is r late = (
-    sym (ap (λ (l : Loading). is_late l.value r) (load_here s.seen.loads t t _ refl))
-        ∙ late,
+  own_late (ReadObject t q) guard is r pending = (
+    sym (ap (λ (l : Loading). is_pending l.value r) (load_here s.seen.loads t t _ refl))
+        ∙ pending,
     refl,
   )
-  own_late (ReadValue t q) guard is r late = absurd
-      (differ false (sym (ap (λ (l : Loading). is_late l.value r)
-      (load_here s.seen.loads t t _ refl)) ∙ late) refl)
-  own_late (ReadShape t f) guard is r late = (
-    sym (ap (λ (l : Loading). is_late l.value r) (load_here s.seen.loads t t _ refl))
-        ∙ late,
+  own_late (ReadValue t q) guard is r pending = absurd
+      (differ false (sym (ap (λ (l : Loading). is_pending l.value r)
+      (load_here s.seen.loads t t _ refl)) ∙ pending) refl)
+  own_late (ReadShape t f) guard is r pending = (
+    sym (ap (λ (l : Loading). is_pending l.value r) (load_here s.seen.loads t t _ refl))
+        ∙ pending,
     refl,
   )
-  own_late (ReadLink t j p) guard is r late = (
-    sym (ap (λ (l : Loading). is_late l.value r) (load_here s.seen.loads t t _ refl))
-        ∙ late,
+  own_late (ReadLink t j p) guard is r pending = (
+    sym (ap (λ (l : Loading). is_pending l.value r) (load_here s.seen.loads t t _ refl))
+        ∙ pending,
     refl,
   )
-  own_late (ReadField t d a i j) guard is r late = absurd (differ false is refl)
-  own_late (StoreLate t) guard is r late = absurd
-      (differ false (sym (ap (λ (l : Loading). is_late l.value r)
-      (load_here s.seen.loads t t _ refl)) ∙ late) refl)
-  own_late (StoreValue t d) guard is r late = absurd (differ false is refl)
-  own_late (StoreConstant t d v) guard is r late = absurd (differ false is refl)
-  own_late (StoreField t a i j) guard is r late = absurd (differ false is refl)
-  own_late (Finish t) guard is r late = absurd
-      (differ false (sym (ap (λ (l : Loading). is_late l.value r)
-      (load_here s.seen.loads t t _ refl)) ∙ late) refl)
+  own_late (ReadField t d a i j) guard is r pending = absurd (differ false is refl)
+  own_late (StorePending t) guard is r pending = absurd
+      (differ false (sym (ap (λ (l : Loading). is_pending l.value r)
+      (load_here s.seen.loads t t _ refl)) ∙ pending) refl)
+  own_late (StoreValue t d) guard is r pending = absurd (differ false is refl)
+  own_late (StoreConstant t d v) guard is r pending = absurd (differ false is refl)
+  own_late (StoreField t a i j) guard is r pending = absurd (differ false is refl)
+  own_late (Finish t) guard is r pending = absurd
+      (differ false (sym (ap (λ (l : Loading). is_pending l.value r)
+      (load_here s.seen.loads t t _ refl)) ∙ pending) refl)
 
-  -- behind a deciding event no register of the thread is late but that of a `get`
+  -- behind a deciding event no register of the thread is pending but that of a `get`
   decided_late : (e : Event) → commanded.Guard c.width c.threads s.seen e
       → IsPrompt (s.seen.loads (event_thread e)) → (r : ℕ)
-      → is_late ((served c s e).loads (event_thread e)).value r ≡ true
+      → is_pending ((served c s e).loads (event_thread e)).value r ≡ true
       → (served c s e).words ≡ s.seen.words
-  decided_late (ReadObject t q) guard prompt r late = refl
-  decided_late (ReadValue t q) guard prompt r late = refl
-  decided_late (ReadShape t f) guard prompt r late = refl
-  decided_late (ReadLink t j p) guard prompt r late = refl
-  decided_late (ReadField t d a i j) guard prompt r late = refl
-  decided_late (StoreLate t) guard prompt r late = absurd
-      (differ false (sym (ap (λ (l : Loading). is_late l.value r)
-      (load_here s.seen.loads t t _ refl)) ∙ late) refl)
-  decided_late (StoreValue t d) guard prompt r late = absurd
-      (differ false (sym (ap (λ (l : Loading). is_late l.value r)
-      (load_here s.seen.loads t t _ refl)) ∙ late) refl)
-  decided_late (StoreConstant t d v) guard prompt r late = absurd
-      (differ false (sym (ap (λ (l : Loading). is_late l.value r)
-      (load_here s.seen.loads t t _ refl)) ∙ late) refl)
-  decided_late (StoreField t a i j) guard prompt r late = absurd
-      (differ false (sym (ap (λ (l : Loading). is_late l.value r)
-      (load_here s.seen.loads t t _ refl)) ∙ late) refl)
-  decided_late (Finish t) guard prompt r late = absurd
-      (differ false (sym (ap (λ (l : Loading). is_late l.value r)
-      (load_here s.seen.loads t t _ refl)) ∙ late) refl)
+  decided_late (ReadObject t q) guard prompt r pending = refl
+  decided_late (ReadValue t q) guard prompt r pending = refl
+  decided_late (ReadShape t f) guard prompt r pending = refl
+  decided_late (ReadLink t j p) guard prompt r pending = refl
+  decided_late (ReadField t d a i j) guard prompt r pending = refl
+  decided_late (StorePending t) guard prompt r pending = absurd
+      (differ false (sym (ap (λ (l : Loading). is_pending l.value r)
+      (load_here s.seen.loads t t _ refl)) ∙ pending) refl)
+  decided_late (StoreValue t d) guard prompt r pending = absurd
+      (differ false (sym (ap (λ (l : Loading). is_pending l.value r)
+      (load_here s.seen.loads t t _ refl)) ∙ pending) refl)
+  decided_late (StoreConstant t d v) guard prompt r pending = absurd
+      (differ false (sym (ap (λ (l : Loading). is_pending l.value r)
+      (load_here s.seen.loads t t _ refl)) ∙ pending) refl)
+  decided_late (StoreField t a i j) guard prompt r pending = absurd
+      (differ false (sym (ap (λ (l : Loading). is_pending l.value r)
+      (load_here s.seen.loads t t _ refl)) ∙ pending) refl)
+  decided_late (Finish t) guard prompt r pending = absurd
+      (differ false (sym (ap (λ (l : Loading). is_pending l.value r)
+      (load_here s.seen.loads t t _ refl)) ∙ pending) refl)
 
-  -- a register that was not late until its thread's command was decided
+  -- a register that was not pending until its thread's command was decided
   now_older : (entry : Entry) (r : ℕ) → entry.thread < c.threads → r < REGISTERS
       → IsPrompt (s.seen.loads entry.thread) → IsOlder c (s.order ++ Did entry ∷ []) s.seen.words
       (Kept s) s.at entry.thread r
@@ -212,7 +212,7 @@ module _ (c : Config) (s : KeptState) (k : IsKept c s) where
     others = refl;
     kept = subst (λ (h : Graph). IsValueOf (Kept s) (register_of h entry.thread r))
         k.ordered.replayed ((shown c s k).closed.registers entry.thread r tn rl);
-    word = register_read W n c.blocks (Kept s) s.seen.graph s.at w (lates s.seen.loads)
+    word = register_read W n c.blocks (Kept s) s.seen.graph s.at w (pending_registers s.seen.loads)
         (shown c s k) entry.thread r tn rl
         (prompt_register (s.seen.loads entry.thread).value r prompt)
         ∙ ap (λ (h : Graph). value_word (heads s.at) (register_of h entry.thread r))
@@ -221,16 +221,16 @@ module _ (c : Config) (s : KeptState) (k : IsKept c s) where
 
   pub older_served : (e : Event) → commanded.Guard c.width c.threads s.seen e
       → leaves_graph e ≡ true → (u r : ℕ) → u < c.threads → r < REGISTERS
-      → lates (served c s e).loads u r ≡ true
+      → pending_registers (served c s e).loads u r ≡ true
       → IsOlder c s.order (served c s e).words (Kept s) s.at u r
-  older_served e guard is u r un rl late = elim (cases_eq (event_thread e) u) [
+  older_served e guard is u r un rl pending = elim (cases_eq (event_thread e) u) [
     | inr ne ↦ older_words c s.order w (Kept s) s.at u r
-        (k.older u r un rl (ap (λ (l : Loading). is_late l.value r) (sym (other_loads e u ne))
-        ∙ late)) (served c s e).words (other_word e guard u r un rl ne)
+        (k.older u r un rl (ap (λ (l : Loading). is_pending l.value r) (sym (other_loads e u ne))
+        ∙ pending)) (served c s e).words (other_word e guard u r un rl ne)
     | inl same ↦
-        let own = own_late e guard is r (ap (λ v. lates (served c s e).loads v r) same ∙ late) in
+        let own = own_late e guard is r (ap (λ v. pending_registers (served c s e).loads v r) same ∙ pending) in
         older_words c s.order w (Kept s) s.at u r
-        (k.older u r un rl (subst (λ v. lates s.seen.loads v r ≡ true) same own.0))
+        (k.older u r un rl (subst (λ v. pending_registers s.seen.loads v r ≡ true) same own.0))
         (served c s e).words
         (subst (λ v. register_word_in c.width (served c s e).words v r ≡ register_word_in c.width
         s.seen.words v r) same own.1)
@@ -238,17 +238,17 @@ module _ (c : Config) (s : KeptState) (k : IsKept c s) where
 
   pub older_decided : (e : Event) (entry : Entry) → commanded.Guard c.width c.threads s.seen e
       → MayDecide c s entry → entry.thread ≡ event_thread e → (u r : ℕ) → u < c.threads
-      → r < REGISTERS → lates (served c s e).loads u r ≡ true
+      → r < REGISTERS → pending_registers (served c s e).loads u r ≡ true
       → IsOlder c (s.order ++ Did entry ∷ []) (served c s e).words (Kept s) s.at u r
-  older_decided e entry guard may own u r un rl late = elim (cases_eq (event_thread e) u) [
+  older_decided e entry guard may own u r un rl pending = elim (cases_eq (event_thread e) u) [
     | inr ne ↦ older_words c (s.order ++ Did entry ∷ []) w (Kept s) s.at u r
         (older_item c s.order w (Kept s) s.at u r
-        (k.older u r un rl (ap (λ (l : Loading). is_late l.value r) (sym (other_loads e u ne))
-        ∙ late)) (Did entry) (not_own u entry (λ z. ne (sym own ∙ z))))
+        (k.older u r un rl (ap (λ (l : Loading). is_pending l.value r) (sym (other_loads e u ne))
+        ∙ pending)) (Did entry) (not_own u entry (λ z. ne (sym own ∙ z))))
         (served c s e).words (other_word e guard u r un rl ne)
     | inl same ↦
         let words = decided_late e guard (subst (λ v. IsPrompt (s.seen.loads v)) own may.1) r
-        (ap (λ v. lates (served c s e).loads v r) same ∙ late) in
+        (ap (λ v. pending_registers (served c s e).loads v r) same ∙ pending) in
         subst (λ v. IsOlder c (s.order ++ Did entry ∷ []) (served c s e).words (Kept s) s.at v r)
         (own ∙ same)
         (subst (λ (x : BlockWords). IsOlder c (s.order ++ Did entry ∷ []) x
@@ -256,10 +256,10 @@ module _ (c : Config) (s : KeptState) (k : IsKept c s) where
   ]
 
   pub older_answered : (entry : Entry) → MayDecide c s entry → (u r : ℕ) → u < c.threads
-      → r < REGISTERS → lates s.seen.loads u r ≡ true
+      → r < REGISTERS → pending_registers s.seen.loads u r ≡ true
       → IsOlder c (s.order ++ Did entry ∷ []) s.seen.words (Kept s) s.at u r
-  older_answered entry may u r un rl late = elim (cases_eq entry.thread u) [
-    | inr ne ↦ older_item c s.order w (Kept s) s.at u r (k.older u r un rl late) (Did entry)
+  older_answered entry may u r un rl pending = elim (cases_eq entry.thread u) [
+    | inr ne ↦ older_item c s.order w (Kept s) s.at u r (k.older u r un rl pending) (Did entry)
         (not_own u entry ne)
     | inl same ↦ subst (λ v. IsOlder c (s.order ++ Did entry ∷ []) s.seen.words (Kept s) s.at v r)
         same (now_older entry r may.0 rl may.1)

@@ -15,7 +15,7 @@ use Rattle.never_heap.specs.Reach.{reachable}
 use Rattle.never_heap.proofs.Reaching.{reachable_closed, reachable_within}
 use Rattle.never_heap.proofs.ReachSteps.{sound_start}
 use Rattle.never_heap.proofs.Starting.{name_of_start, register_of_start}
-use Rattle.shown_graph.specs.Shown.{Shows, every_name, never_late}
+use Rattle.shown_graph.specs.Shown.{Shows, every_name, none_pending}
 use Rattle.shown_graph.specs.Openings.{opening_at, opening_words}
 use Rattle.shown_graph.proofs.Names.{name_one}
 use Rattle.shown_graph.proofs.Opening.{opening_shows}
@@ -46,11 +46,11 @@ module _ (c : Config) (inside : IsInBounds c) (room : opening_blocks c ≤ c.blo
       (register_of_start c 0 0 (omega (arith, inside.some_thread)) (omega arith) ∙ ap Ref is)
 
   shown_start : Shows W n c.blocks (λ a. reachable (start_graph c) a ≡ true) (start_graph c)
-      (opening_at W n) (opening_words c) never_late
+      (opening_at W n) (opening_words c) none_pending
   shown_start = same_names W n c.blocks (every_name (start_graph c)) (start_graph c)
-      (opening_at W n) (opening_words c) never_late
+      (opening_at W n) (opening_words c) none_pending
       (later_last W n (opening_blocks c) (every_name (start_graph c)) (start_graph c)
-      (opening_at W n) (opening_words c) never_late (opening_shows c inside) c.blocks room)
+      (opening_at W n) (opening_words c) none_pending (opening_shows c inside) c.blocks room)
       (λ a. reachable (start_graph c) a ≡ true) reached_name name_reached
 
   -- a root, or a white block
@@ -110,7 +110,7 @@ module _ (c : Config) (inside : IsInBounds c) (room : opening_blocks c ≤ c.blo
       since = λ a h. inl h;
     };
     follows = record { shows = shown_start; loads = λ t tn. record { object = tt; value = tt } };
-    older = λ t r tn rl late. absurd (differ false late refl);
+    older = λ t r tn rl pending. absurd (differ false pending refl);
     known = λ a h. h;
     named = reached_name;
     painted = record {

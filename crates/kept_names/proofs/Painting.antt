@@ -6,7 +6,7 @@ use Rattle.block_store.specs.Payloads.{target}
 use Rattle.block_store.specs.Registers.{root_block}
 use Rattle.block_store.specs.Widths.{payloads}
 use Rattle.block_store.proofs.ColourWords.{not_free_black, not_free_grey, grey_grey, free_free}
-use Rattle.shown_graph.specs.Events.{HasValue, lates}
+use Rattle.shown_graph.specs.Events.{HasValue, pending_registers}
 use Rattle.block_store.specs.declared.Width.{Width}
 use Rattle.shown_graph.specs.Words.{BlockWords}
 use Rattle.kept_names.specs.Colouring.{changed}
@@ -49,7 +49,7 @@ module _ (c : Config) (s : KeptState) (k : IsKept c s) where
       → IsKept c (apply c s (ReadWord t x j))
   reads_word t x j mark grey jl = scanned c s k t (target (w.payload x j))
       (λ some. kept_is_known c s k (target (w.payload x j))
-      (belongs_refers W n m (Kept s) s.seen.graph s.at w (lates s.seen.loads) (shown c s k) x j
+      (belongs_refers W n m (Kept s) s.seen.graph s.at w (pending_registers s.seen.loads) (shown c s k) x j
       (known_is_kept c s k mark x (grey_known c s k x grey)) jl some).0)
 
   pub shades_read : (t a : ℕ) → s.sweep ≡ false → t < n → s.scans t ≢ 0

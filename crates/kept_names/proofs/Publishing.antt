@@ -25,7 +25,7 @@ use Rattle.shown_graph.specs.Layouts.{object_blocks, kind_shape}
 use Rattle.shown_graph.specs.Made.{new_object, with_blocks, and_name, IsMade, IsWritten}
 use Rattle.shown_graph.specs.Words.{BlockWords, value_word, with_payload}
 use Rattle.shown_graph.specs.Shown.{IsValueOf, heads, Shows}
-use Rattle.shown_graph.specs.Events.{is_late, Loading, unloaded, lates, ObjectIs, ValueIs, LoadIs}
+use Rattle.shown_graph.specs.Events.{is_pending, Loading, unloaded, pending_registers, ObjectIs, ValueIs, LoadIs}
 use Rattle.shown_graph.proofs.Blocks.{other_block}
 use Rattle.shown_graph.proofs.Names.{same_is, same_self, not_next, word_stays}
 use Rattle.shown_graph.proofs.ObjectLayouts.{layout_laws}
@@ -131,8 +131,8 @@ module _ (c : Config) (inside : IsInBounds c) (s : KeptState) (k : IsKept c s) (
   abbrev w : BlockWords
   w = s.seen.words
 
-  abbrev late : ℕ → ℕ → Bool
-  late = lates s.seen.loads
+  abbrev pending : ℕ → ℕ → Bool
+  pending = pending_registers s.seen.loads
 
   mine : IsBuild W n m s.cycle s.colour w own
   mine = build_of c s k t own building.0 building.1
@@ -208,9 +208,9 @@ module _ (c : Config) (inside : IsInBounds c) (s : KeptState) (k : IsKept c s) (
   new_kept : with_name s.kept new new ≡ true
   new_kept = or_left _ _ (same_self new)
 
-  shown_named : Shows W n m More grown placed w late
-  shown_named = same_names W n m (and_name (Kept s) new) grown placed w late
-      (publish W n m (Kept s) g s.at w late (shown c s k) t own.kind own.size own.held made)
+  shown_named : Shows W n m More grown placed w pending
+  shown_named = same_names W n m (and_name (Kept s) new) grown placed w pending
+      (publish W n m (Kept s) g s.at w pending (shown c s k) t own.kind own.size own.held made)
       More (λ a h. or_cases _ _ h) (λ a h. from a h)
     where
       from : (a : Name) → and_name (Kept s) new a → with_name s.kept new a ≡ true
@@ -218,17 +218,17 @@ module _ (c : Config) (inside : IsInBounds c) (s : KeptState) (k : IsKept c s) (
       from a (inr ka) = or_right _ _ ka
 
   shown_new : Shows W n m More after_it placed
-      words late
+      words pending
   shown_new = subst (λ x. Shows W n m More after_it placed
-      (with_payload w (register_block W t d) (register_slot W d) (reference_word x)) late)
-      (fresh_head W n m (Kept s) g s.at w late (shown c s k) t own.kind own.size own.held made)
-      (register_store W n m More grown placed w late shown_named
-      late t d building.0 small (Ref new) new_kept (λ u q e _. e))
+      (with_payload w (register_block W t d) (register_slot W d) (reference_word x)) pending)
+      (fresh_head W n m (Kept s) g s.at w pending (shown c s k) t own.kind own.size own.held made)
+      (register_store W n m More grown placed w pending shown_named
+      pending t d building.0 small (Ref new) new_kept (λ u q e _. e))
 
   -- what other threads have loaded stays of the graph
   register_other : (u r : ℕ) → (t ≡ u → ⊥) → register_of after_it u r ≡ register_of g u r
-  register_other u r ne = sym (register_same W n m More grown placed w late shown_named
-      late t d building.0 small (Ref new) new_kept u r (λ e _. ne e))
+  register_other u r ne = sym (register_same W n m More grown placed w pending shown_named
+      pending t d building.0 small (Ref new) new_kept u r (λ e _. ne e))
       ∙ ap (λ rs. get_or rs r Nil) (registers_with_object g t object in_graph u)
 
   load_other : (u : ℕ) → u < n → (t ≡ u → ⊥) → (l : Loading) → LoadIs W g s.at u l
@@ -391,12 +391,12 @@ module _ (c : Config) (inside : IsInBounds c) (s : KeptState) (k : IsKept c s) (
   all_kept mark a (inl is) = or_left _ _ is
   all_kept mark a (inr ka) = or_right _ _ ((k.marking mark).all a ka)
 
-  -- a register of another thread that is late has its older value
-  older_now : (u r : ℕ) → u < n → r < REGISTERS → lates s.seen.loads u r ≡ true
+  -- a register of another thread that is pending has its older value
+  older_now : (u r : ℕ) → u < n → r < REGISTERS → pending_registers s.seen.loads u r ≡ true
       → IsOlder c (s.order ++ Did (made_entry s t d work) ∷ []) words More placed u r
   older_now u r un rl is = elim (cases_eq t u) [
-    | inl e ↦ absurd (differ _ is (ap (λ v. lates s.seen.loads v r) (sym e)
-        ∙ ap (λ (l : Loading). is_late l.value r) idle))
+    | inl e ↦ absurd (differ _ is (ap (λ v. pending_registers s.seen.loads v r) (sym e)
+        ∙ ap (λ (l : Loading). is_pending l.value r) idle))
     | inr ne ↦
         older_names c (s.order ++ Did (made_entry s t d work) ∷ []) words (Kept s) s.at u r
         (older_words c (s.order ++ Did (made_entry s t d work) ∷ []) w (Kept s) s.at u r

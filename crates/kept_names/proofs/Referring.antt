@@ -114,7 +114,7 @@ refers_root W n t j tn = elim (cases_Bool (ltb (1 + j) (register_blocks W))) [
 ]
 
 module _ (W : Width) (n m : ℕ) (K : Name → Type 0) (g : Graph) (at : Name → ℕ → ℕ) (w : BlockWords)
-    (late : ℕ → ℕ → Bool) (shows : Shows W n m K g at w late) where
+    (pending : ℕ → ℕ → Bool) (shows : Shows W n m K g at w pending) where
   abbrev blocks : Name → ℕ
   blocks a = object_blocks W (object_of g a)
 
@@ -159,9 +159,9 @@ module _ (W : Width) (n m : ℕ) (K : Name → Type 0) (g : Graph) (at : Name �
       (λ i b e f. head_of b
       (kept_ref (field_of (object_of g a) i) b (shows.closed.fields a i ka) f)))
 
-  register_refers : (word : ℕ) (v : Value) (is_late : Bool)
-      → RegisterShows word (heads at) K v is_late → IfRefers IsOf word
-  register_refers word v is_late r = refers_same IsOf _ _ r.reads (kept_value_refers r.value r.kept)
+  register_refers : (word : ℕ) (v : Value) (is_pending : Bool)
+      → RegisterShows word (heads at) K v is_pending → IfRefers IsOf word
+  register_refers word v is_pending r = refers_same IsOf _ _ r.reads (kept_value_refers r.value r.kept)
 
   -- a payload of a register array's block
   pub array_refers : (x j : ℕ) → IsRegisterBlock W n x → j < payloads W

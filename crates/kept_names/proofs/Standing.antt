@@ -11,7 +11,7 @@ use Rattle.block_store.proofs.OwnerWords.{one_owner}
 use Rattle.never_heap.specs.Graphs.{Graph, next_name, same_name}
 use Rattle.shown_graph.specs.Words.{BlockWords, value_word}
 use Rattle.shown_graph.specs.Shown.{IsValueOf, heads, Shows}
-use Rattle.shown_graph.specs.Events.{lates, value_at, HasValue, ValueIs}
+use Rattle.shown_graph.specs.Events.{pending_registers, value_at, HasValue, ValueIs}
 use Rattle.shown_graph.proofs.Names.{not_next, is_same}
 use Rattle.kept_names.specs.Building.{Build, build_blocks, IsBuild, IsBuilt, NotHeld, IsHeldOnce}
 use Rattle.kept_names.specs.Colouring.{changed, IfRefers, IsDark, IsColoured, IsRegisterBlock, NotRoot, IsBlockOf, Belongs, SweepColours}
@@ -51,10 +51,10 @@ module _ (c : Config) (s : KeptState) (k : IsKept c s) where
   abbrev w : BlockWords
   w = s.seen.words
 
-  abbrev late : ℕ → ℕ → Bool
-  late = lates s.seen.loads
+  abbrev pending : ℕ → ℕ → Bool
+  pending = pending_registers s.seen.loads
 
-  pub shown : Shows W n m (Kept s) g s.at w late
+  pub shown : Shows W n m (Kept s) g s.at w pending
   shown = k.follows.shows
 
   pub build_of : (t : ℕ) (b : Build) → t < n → s.builds t ≡ Some b
@@ -135,13 +135,13 @@ module _ (c : Config) (s : KeptState) (k : IsKept c s) where
       → (s.colour x ≡ black_word s.cycle) × NotRoot W n x
   kept_black sweep x q = (
     ap s.colour q.is ∙ (k.sweeping sweep).kept q.name q.ordinal q.kept q.low,
-    behind_roots W n x (block_behind W n m (Kept s) g s.at w late shown x q),
+    behind_roots W n x (block_behind W n m (Kept s) g s.at w pending shown x q),
   )
 
   -- what a kept value's word refers to
   pub value_refers : (v : Value) → IsValueOf (Kept s) v
       → IfRefers (IsBlockOf (Kept s) (sizes c s) s.at) (value_word (heads s.at) v)
-  value_refers v kept = kept_value_refers W n m (Kept s) g s.at w late shown v kept
+  value_refers v kept = kept_value_refers W n m (Kept s) g s.at w pending shown v kept
 
   -- what a thread has loaded
   pub value_is : (t : ℕ) → t < n → HasValue s.seen t → ValueIs g s.at t (value_at s.seen t)

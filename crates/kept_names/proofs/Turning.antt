@@ -17,7 +17,7 @@ use Rattle.never_heap.proofs.Cycling.{graph_at_next}
 use Rattle.never_heap.proofs.Growing.{replay_more, legal_history_more, starts_append}
 use Rattle.never_heap.proofs.Reaching.{reachable_closed, reachable_least}
 use Rattle.shown_graph.specs.Shown.{IsValueOf, Closed}
-use Rattle.shown_graph.specs.Events.{Loading, is_late, lates}
+use Rattle.shown_graph.specs.Events.{Loading, is_pending, pending_registers}
 use Rattle.shown_graph.proofs.Stores.{fewer_names}
 use Rattle.block_store.specs.declared.Width.{Width}
 use Rattle.shown_graph.specs.Words.{BlockWords}
@@ -64,8 +64,8 @@ module _ (c : Config) (s : KeptState) (k : IsKept c s) where
   abbrev w : BlockWords
   w = s.seen.words
 
-  abbrev late : ℕ → ℕ → Bool
-  late = lates s.seen.loads
+  abbrev pending : ℕ → ℕ → Bool
+  pending = pending_registers s.seen.loads
 
   -- what the graph reaches is kept
   pub reached_kept : (a : Name) → reachable g a ≡ true → Kept s a
@@ -76,8 +76,8 @@ module _ (c : Config) (s : KeptState) (k : IsKept c s) where
       (λ b d i kb e. subst (IsValueOf (Kept s)) e ((shown c s k).closed.fields b i kb)) a h
 
   module _ (alone : IsAlone c s) where
-    no_late : (t r : ℕ) → t < n → r < REGISTERS → lates s.seen.loads t r ≡ false
-    no_late t r tn rl = ap (λ (l : Loading). is_late l.value r) (alone.loads t tn)
+    no_late : (t r : ℕ) → t < n → r < REGISTERS → pending_registers s.seen.loads t r ≡ false
+    no_late t r tn rl = ap (λ (l : Loading). is_pending l.value r) (alone.loads t tn)
 
     no_built : (x : ℕ) → IsBuilt W n s.builds x → ⊥
     no_built x b = let z : None ≡ Some b.build = sym (alone.builds b.thread b.there)
@@ -89,7 +89,7 @@ module _ (c : Config) (s : KeptState) (k : IsKept c s) where
       ordered = k.ordered;
       older = λ t r tn rl is. absurd (differ _ is (no_late t r tn rl));
       follows = record {
-        shows = fewer_names W n m (Kept s) g s.at w late (shown c s k) Fewer
+        shows = fewer_names W n m (Kept s) g s.at w pending (shown c s k) Fewer
             (λ a la. (down a la).0) closed no_late;
         loads = k.follows.loads;
       };
@@ -105,7 +105,7 @@ module _ (c : Config) (s : KeptState) (k : IsKept c s) where
       titles = k.titles;
       scans = k.scans;
       marking = λ e. absurd (differ true refl e);
-      sweeping = λ _. flip_colours W n m s.cycle (Kept s) Fewer g s.at w late s.colour
+      sweeping = λ _. flip_colours W n m s.cycle (Kept s) Fewer g s.at w pending s.colour
           (shown c s k) k.painted.fits solid marked no_late none tricolour
           (k.marking mark).roots down up;
     }
@@ -137,7 +137,7 @@ module _ (c : Config) (s : KeptState) (k : IsKept c s) where
         closed : Closed n (λ a. s.kept a && eqb (s.colour (s.at a 0)) (black_word s.cycle) ≡ true)
             (object_of g) (register_of g)
         closed = flip_closed W n m s.cycle (Kept s)
-            (λ a. s.kept a && eqb (s.colour (s.at a 0)) (black_word s.cycle) ≡ true) g s.at w late
+            (λ a. s.kept a && eqb (s.colour (s.at a 0)) (black_word s.cycle) ≡ true) g s.at w pending
             s.colour (shown c s k) k.painted.fits solid marked no_late none tricolour
             (k.marking mark).roots down up
 
@@ -180,7 +180,7 @@ module _ (c : Config) (s : KeptState) (k : IsKept c s) where
       };
       older = λ t r tn rl is. absurd (differ _ is (no_late t r tn rl));
       follows = record {
-        shows = fewer_names W n m (Kept s) g s.at w late (shown c s k)
+        shows = fewer_names W n m (Kept s) g s.at w pending (shown c s k)
             (λ a. reachable g a ≡ true) reached_kept reached_closed no_late;
         loads = k.follows.loads;
       };

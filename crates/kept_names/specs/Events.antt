@@ -21,7 +21,7 @@ use Rattle.shown_graph.specs.Made.{new_object, with_blocks}
 use Rattle.shown_graph.specs.Words.{BlockWords, with_payload, with_register_word}
 use Rattle.shown_graph.specs.Events as commanded
 use Rattle.shown_graph.specs.Events.{GraphState, Event, HasValue, IsPrompt, unloaded, value_at}
-use Rattle.shown_graph.specs.Events.Event.{ReadObject, ReadValue, ReadShape, ReadLink, ReadField, StoreLate, StoreValue, StoreConstant, StoreField, Finish}
+use Rattle.shown_graph.specs.Events.Event.{ReadObject, ReadValue, ReadShape, ReadLink, ReadField, StorePending, StoreValue, StoreConstant, StoreField, Finish}
 use Rattle.kept_names.specs.Building.{Build, build_in, build_blocks, build_owner, build_shape, build_payload, with_owner, with_shape, IsHeldOnce}
 use Rattle.kept_names.specs.Colouring.{changed, IsTricolour}
 use Rattle.kept_names.specs.States.{KeptState, with_name}
@@ -70,7 +70,7 @@ event_thread (ReadValue t r) = t
 event_thread (ReadShape t f) = t
 event_thread (ReadLink t j p) = t
 event_thread (ReadField t d a i j) = t
-event_thread (StoreLate t) = t
+event_thread (StorePending t) = t
 event_thread (StoreValue t d) = t
 event_thread (StoreConstant t d v) = t
 event_thread (StoreField t a i j) = t

@@ -17,7 +17,7 @@ use Rattle.never_heap.specs.declared.Entry.{Entry}
 use Rattle.never_heap.specs.declared.Reply.{Reply}
 use Rattle.never_heap.specs.declared.Reply.TheVariants as replies
 use Rattle.never_heap.specs.Graphs.{Record}
-use Rattle.shown_graph.specs.Events.Event.{ReadObject, ReadValue, ReadShape, ReadField, StoreLate, StoreValue, StoreConstant}
+use Rattle.shown_graph.specs.Events.Event.{ReadObject, ReadValue, ReadShape, ReadField, StorePending, StoreValue, StoreConstant}
 use Rattle.kept_names.specs.Events.{KeptEvent, run}
 use Rattle.kept_names.specs.Openings.{opening_kept}
 use Rattle.kept_names.specs.States.{KeptState}
@@ -95,7 +95,7 @@ command_events W =
     ∷ Decide (StoreValue 0 1) (unpaid (commands.Mov 1 0) replies.Stored)
     ∷ Serve (ReadObject 0 0) ∷ Serve (ReadShape 0 (shapes.List (payloads W)))
     ∷ Decide (ReadField 0 2 record_name 0 1) (unpaid (commands.Get 2 0 0) (replies.Val Nil))
-    ∷ Serve (StoreLate 0)
+    ∷ Serve (StorePending 0)
     ∷ Answer (unpaid (commands.Len 3) replies.Null)
     ∷ Answer (unpaid (commands.New 2 1) (replies.Full 1)) ∷ []
 

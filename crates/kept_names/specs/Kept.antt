@@ -10,7 +10,7 @@ use Rattle.never_heap.specs.Graphs.{Graph, has_name, next_name, register_of}
 use Rattle.never_heap.specs.Histories.{HistoryItem, Did, Legal, part, replay, starts_in}
 use Rattle.never_heap.specs.Cycles.{graph_at}
 use Rattle.never_heap.specs.Reach.{reachable}
-use Rattle.shown_graph.specs.Events.{Follows, lates, register_word_in}
+use Rattle.shown_graph.specs.Events.{Follows, pending_registers, register_word_in}
 use Rattle.shown_graph.specs.Shown.{IsValueOf, heads}
 use Rattle.shown_graph.specs.Words.{BlockWords, value_word}
 use Rattle.kept_names.specs.Building.{IsBuild, IsBuilt}
@@ -57,8 +57,8 @@ pub record IsKept (c : Config) (s : KeptState) : Type 0 where
   pub ordered : IsOrdered c s.seen.graph s.order s.cycle (Known s)
   -- the words show the kept names, and what is loaded is of them
   pub follows : Follows c.width c.threads c.blocks (Kept s) s.at s.seen
-  -- a late register has its older value
-  pub older : (t r : ℕ) → t < c.threads → r < REGISTERS → lates s.seen.loads t r ≡ true
+  -- a pending register has its older value
+  pub older : (t r : ℕ) → t < c.threads → r < REGISTERS → pending_registers s.seen.loads t r ≡ true
       → IsOlder c s.order s.seen.words (Kept s) s.at t r
   pub known : (a : Name) → Kept s a → Known s a
   pub named : (a : Name) → Known s a → has_name s.seen.graph a ≡ true

@@ -15,7 +15,7 @@ ghost use Rattle.block_store.specs.Widths.{payloads};
 ghost use Rattle.array_trees.specs.Openings.{opening_blocks};
 ghost use Rattle.never_heap.specs.Graphs.{next_name, register_of};
 ghost use Rattle.never_heap.specs.Histories.{Legal, replay};
-ghost use Rattle.shown_graph.specs.Events.{lates};
+ghost use Rattle.shown_graph.specs.Events.{pending_registers};
 ghost use Rattle.shown_graph.specs.Shown.{Shows};
 ghost use Rattle.kept_names.specs.Building.{Build, build_blocks, IsBuild, IsBuilt, NotHeld};
 ghost use Rattle.kept_names.specs.Colouring.{IfRefers, IsDark, IsShadedRoot};
@@ -45,7 +45,7 @@ pub fn openings_are_kept()
 {}
 
 /// The graph is the replay of the order, which is legal. All that it reaches is kept, and the words
-/// show what is kept; a register alone is late whose thread has loaded a value for it that is still
+/// show what is kept; a register alone is pending whose thread has loaded a value for it that is still
 /// to be stored, and it has the value from before that command. No block that the graph reaches is
 /// Free, or held by a builder.
 pub fn words_show_what_is_reached()
@@ -55,9 +55,9 @@ pub fn words_show_what_is_reached()
         → Kept s a }
     ensures words { (c : Config) (s : KeptState) → IsKept c s
         → Shows c.width c.threads c.blocks (Kept s) s.seen.graph s.at s.seen.words
-        (lates s.seen.loads) }
+        (pending_registers s.seen.loads) }
     ensures older { (c : Config) (s : KeptState) (t r : ℕ) → IsKept c s → t < c.threads
-        → r < REGISTERS → lates s.seen.loads t r ≡ true
+        → r < REGISTERS → pending_registers s.seen.loads t r ≡ true
         → IsOlder c s.order s.seen.words (Kept s) s.at t r }
     ensures solid { (c : Config) (s : KeptState) (x : ℕ) → IsKept c s → IsReachedBlock c s x
         → is_free (s.colour x) ≡ false }

@@ -26,7 +26,7 @@ legal_history_more c [] i l a = absurd l
 legal_history_more c (Started ∷ h) i l a = legal_more (start_graph c) h i l a
 legal_history_more c (Did e ∷ h) i l a = absurd l
 
--- a front of a legal history is legal
+-- a prefix of a legal history is legal
 pub legal_front : (g : Graph) (h k : List HistoryItem) → LegalFrom g (h ++ k) → LegalFrom g h
 legal_front g [] k l = tt
 legal_front g (x ∷ h) k l = (l.0, legal_front (after g x) h k l.1)

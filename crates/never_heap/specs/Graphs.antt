@@ -1,6 +1,7 @@
 -- The object graph of a heap that never frees.
 use Rattle.std.specs.Prelude.{ℕ, ◌≡◌, ◌+◌, ◌-◌, ◌==◌, ◌&&◌, nat_le, Bool, Option, Some, None, if◌then◌else◌, List, [], ◌∷◌, ◌++◌, length, replicate, slice_set, slice_index_or}
 use Rattle.block_store.specs.declared.Config.{Config}
+use Rattle.block_store.specs.declared.TheConstants.{REGISTERS}
 use Rattle.block_store.specs.declared.Width.{Width}
 use Rattle.block_store.specs.declared.Name.{Name}
 use Rattle.block_store.specs.declared.Value.{Value}
@@ -15,7 +16,7 @@ pub record Object : Type 0 where
   pub kind : ObjectKind
   pub fields : List Value
 
--- what a thread has: its 16 registers, and the objects that it allocated, the s-th at place s - 1
+-- what a thread has: its registers, and the objects that it allocated, the s-th at place s - 1
 pub record Mutator : Type 0 where
   pub registers : List Value
   pub objects : List Object
@@ -53,7 +54,7 @@ nil_object kind n = record { kind = kind; fields = nils n }
 
 -- a thread before its first command: register 0 refers to the shared array, and the others are nil
 abbrev pub start_mutator : ℕ → Mutator
-start_mutator n = record { registers = Ref (shared_name n) ∷ nils 15; objects = [] }
+start_mutator n = record { registers = Ref (shared_name n) ∷ nils (REGISTERS - 1); objects = [] }
 
 -- the opening graph: one object, the shared array, of nils
 abbrev pub start_graph : Config → Graph

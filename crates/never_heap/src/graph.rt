@@ -11,7 +11,7 @@ ghost use Rattle.never_heap.specs.Finding.{found};
 use crate::mutator::Mutator;
 use crate::object::{Kind, Object};
 use crate::{Command, Reply};
-use block_store::{Config, Name, OutOfMemory, Value, Width};
+use block_store::{Config, Name, OutOfMemory, REGISTERS, Value, Width};
 use std::alloc::Global;
 use std::marker::Model;
 
@@ -59,10 +59,10 @@ impl Graph {
         })
     }
 
-    /// What register `r` of a thread holds. There are the thread, and 16 registers.
+    /// What register `r` of a thread holds. There are the thread and the register.
     pub fn register(&self, thread: u32, r: u8) -> Value
         requires thread { thread < length self.now.graph.mutators }
-        requires register { r < 16 }
+        requires register { r < REGISTERS }
         ensures { result ≡ register_of self.now.graph thread r }
     {
         self.mutators[thread as usize].register(r)
@@ -112,7 +112,7 @@ impl Graph {
     // Field `i` of the object to which register `s` refers, with its name, or the refusal.
     fn find(&self, thread: u32, s: u8, i: u64) -> Result<(Name, Value), Reply>
         requires thread { thread < length self.now.graph.mutators }
-        requires register { s < 16 }
+        requires register { s < REGISTERS }
         ensures { result ≡ found self.now.graph (register_of self.now.graph thread s) i }
     {
         match self.register(thread, s) {
@@ -128,7 +128,7 @@ impl Graph {
     // Register `d` becomes this value.
     fn store(&mut self, thread: u32, d: u8, value: Value) -> Reply
         requires thread { thread < length self.old.graph.mutators }
-        requires register { d < 16 }
+        requires register { d < REGISTERS }
         ensures reply { result ≡ Reply.Stored }
         ensures graph { self.new ≡
             with_graph self.old (with_register self.old.graph thread d value) }
@@ -140,7 +140,7 @@ impl Graph {
     // A new object of nils in register `d`. What can fail comes first.
     fn make(&mut self, thread: u32, d: u8, kind: Kind, fields: u32) -> Result<Reply, OutOfMemory>
         requires thread { thread < length self.old.graph.mutators }
-        requires register { d < 16 }
+        requires register { d < REGISTERS }
         requires fields { fields ≤ 65535 }
         requires count { count_of self.old.graph thread < 131072 }
         ensures made { IfOk result (λ r.
@@ -159,7 +159,7 @@ impl Graph {
 
     fn get(&mut self, thread: u32, d: u8, s: u8, i: u64) -> Reply
         requires thread { thread < length self.old.graph.mutators }
-        requires registers { (d < 16) × (s < 16) }
+        requires registers { (d < REGISTERS) × (s < REGISTERS) }
         ensures reply { result ≡ (step self.old.graph thread (Command.Get d s i)).1 }
         ensures graph { self.new ≡
             with_graph self.old (step self.old.graph thread (Command.Get d s i)).0 }
@@ -175,7 +175,7 @@ impl Graph {
 
     fn put(&mut self, thread: u32, s: u8, i: u64, v: u8) -> Reply
         requires thread { thread < length self.old.graph.mutators }
-        requires registers { (s < 16) × (v < 16) }
+        requires registers { (s < REGISTERS) × (v < REGISTERS) }
         ensures reply { result ≡ (step self.old.graph thread (Command.Put s i v)).1 }
         ensures graph { self.new ≡
             with_graph self.old (step self.old.graph thread (Command.Put s i v)).0 }
@@ -204,7 +204,7 @@ impl Graph {
 
     fn len(&self, thread: u32, s: u8) -> Reply
         requires thread { thread < length self.now.graph.mutators }
-        requires register { s < 16 }
+        requires register { s < REGISTERS }
         ensures { result ≡ (step self.now.graph thread (Command.Len s)).1 }
     {
         match self.register(thread, s) {
@@ -216,7 +216,7 @@ impl Graph {
 
     fn same(&self, thread: u32, a: u8, b: u8) -> Reply
         requires thread { thread < length self.now.graph.mutators }
-        requires registers { (a < 16) × (b < 16) }
+        requires registers { (a < REGISTERS) × (b < REGISTERS) }
         ensures { result ≡ (step self.now.graph thread (Command.Same a b)).1 }
     {
         if self.register(thread, a) == self.register(thread, b) {
@@ -227,9 +227,9 @@ impl Graph {
     }
 
     /// Does one command of a thread, and answers it; never with a full. There is the thread, the
-    /// command's registers are below 16, its numbers and indexes below 2^62, what it makes is at
-    /// most 65,535 long, and the thread has made fewer than 131,072 objects. After want of memory
-    /// the graph is as it was.
+    /// command's registers are below `REGISTERS`, its numbers and indexes below 2^62, what it makes
+    /// is at most 65,535 long, and the thread has made fewer than 131,072 objects. After want of
+    /// memory the graph is as it was.
     pub fn apply(&mut self, thread: u32, command: &Command) -> Result<Reply, OutOfMemory>
         requires thread { thread < length self.old.graph.mutators }
         requires command { IsCommandInRange command.now }

@@ -20,7 +20,7 @@ mod run_laws;
 mod tests;
 
 use array_trees::blocks_of_array;
-use block_store::{Config, Name, Value, Width};
+use block_store::{Config, Name, REGISTERS, Value, Width};
 pub use graph::Graph;
 pub use laws::{
     live_blocks_are_few, names_stay, opening_blocks_are_live, reach_grows_by_new_objects,
@@ -32,9 +32,6 @@ pub use run_laws::{
     runs_are_items_that_may_come, runs_are_walked, runs_grow,
 };
 use std::sync::Wait;
-
-/// A thread has this many registers.
-pub const REGISTERS: u8 = 16;
 
 /// Numbers and indexes are below this.
 pub const NUMBERS: u64 = 1 << 62;
@@ -68,29 +65,29 @@ pub enum Command {
 }
 
 impl Command {
-    /// Whether registers are below 16, numbers and indexes below 2^62, and an object that is made
-    /// is at most 65,535 long and takes no more blocks than one object may.
+    /// Whether registers are below `REGISTERS`, numbers and indexes below 2^62, and an object that
+    /// is made is at most 65,535 long and takes no more blocks than one object may.
     pub fn in_bounds(&self, c: &Config) -> bool
         ensures { IsTrue result ↔ IsCommandInBounds c.now self.now }
     {
         match *self {
             Command::New { d, fields } => {
-                d < REGISTERS
+                is_register(d)
                     && fields <= MOST_FIELDS
                     && blocks_of_record(c.width, fields) <= c.object
             }
             Command::Arr { d, elements } => {
-                d < REGISTERS
+                is_register(d)
                     && elements <= MOST_FIELDS
                     && blocks_of_array(c.width, elements) <= c.object
             }
-            Command::Set { d, value } => d < REGISTERS && value < NUMBERS,
-            Command::Nil { d } => d < REGISTERS,
-            Command::Mov { d, s } => d < REGISTERS && s < REGISTERS,
-            Command::Get { d, s, i } => d < REGISTERS && s < REGISTERS && i < NUMBERS,
-            Command::Put { s, i, v } => s < REGISTERS && i < NUMBERS && v < REGISTERS,
-            Command::Len { s } | Command::Say { s } => s < REGISTERS,
-            Command::Same { a, b } => a < REGISTERS && b < REGISTERS,
+            Command::Set { d, value } => is_register(d) && value < NUMBERS,
+            Command::Nil { d } => is_register(d),
+            Command::Mov { d, s } => is_register(d) && is_register(s),
+            Command::Get { d, s, i } => is_register(d) && is_register(s) && i < NUMBERS,
+            Command::Put { s, i, v } => is_register(s) && i < NUMBERS && is_register(v),
+            Command::Len { s } | Command::Say { s } => is_register(s),
+            Command::Same { a, b } => is_register(a) && is_register(b),
         }
     }
 
@@ -106,6 +103,13 @@ impl Command {
             _ => 0,
         }
     }
+}
+
+/// Whether a thread has a register of this number.
+fn is_register(r: u8) -> bool
+    ensures { IsTrue result ↔ (r < REGISTERS) }
+{
+    u32::from(r) < REGISTERS
 }
 
 /// What a command answers.

@@ -5,14 +5,14 @@ ghost use Rattle.block_store.specs.declared.Value.TheVariants.{Nil};
 ghost use Rattle.never_heap.specs.Graphs.{start_mutator, object_at, set_field};
 
 use crate::object::Object;
-use block_store::{Name, OutOfMemory, Value};
+use block_store::{Name, OutOfMemory, REGISTERS, Value};
 use std::alloc::Global;
 use std::marker::Model;
 
 /// The registers of a thread, and the objects that it made, of which there are at most 131,072.
 #[derive(Drop)]
 pub(crate) struct Mutator {
-    registers: [Value; 16],
+    registers: [Value; REGISTERS as usize],
     objects: Vec<Object>,
 }
 
@@ -33,7 +33,7 @@ impl Mutator {
     pub(crate) fn start(alloc: Global, threads: u32) -> Mutator
         ensures { result ≡ start_mutator threads }
     {
-        let mut registers = [Value::Nil; 16];
+        let mut registers = [Value::Nil; REGISTERS as usize];
         registers[0] = Value::Ref(Name {
             thread: threads,
             serial: 0,
@@ -45,7 +45,7 @@ impl Mutator {
     }
 
     pub(crate) fn register(&self, r: u8) -> Value
-        requires { r < 16 }
+        requires { r < REGISTERS }
         ensures { result ≡ slice_index_or self.now.registers r Nil }
     {
         self.registers[r as usize]
@@ -58,7 +58,7 @@ impl Mutator {
     }
 
     pub(crate) fn set_register(&mut self, r: u8, value: Value)
-        requires { r < 16 }
+        requires { r < REGISTERS }
         ensures registers { self.new.registers ≡ slice_set self.old.registers r value }
         ensures objects { self.new.objects ≡ self.old.objects }
     {

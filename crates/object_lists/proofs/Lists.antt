@@ -7,7 +7,7 @@ use Rattle.block_store.specs.declared.Width.TheVariants.{Four, Eight}
 use Rattle.block_store.specs.Widths.{payloads}
 use Rattle.object_lists.specs.Parts.{Link, Field, Blank, link_below, field_below}
 use Rattle.object_lists.specs.Layouts.{IsLayout, IsWay}
-use Rattle.object_lists.specs.Records.{list_blocks, list_part, list_spot, record_blocks, record_part, record_spot}
+use Rattle.object_lists.specs.Records.{list_blocks, list_part, list_slot, record_blocks, record_part, record_slot}
 use Rattle.object_lists.proofs.PartLemmas.{field_below-in, link_below-in, field_below-field, link_below-link, field_below-link, link_below-field}
 
 module _ (k f : ℕ) (some : 0 < k) where
@@ -45,10 +45,10 @@ module _ (k f : ℕ) (some : 0 < k) where
       subst (λ x. field_below x f ≡ Field i) (sym whole) own in
       subst (λ x. list_part k f (i / k) x ≡ Field i) (sym next) (rw (lt-ltb (i % k) k low) sum)
 
-  list_spots : (o j i : ℕ) → list_part k f o j ≡ Field i
+  list_slots : (o j i : ℕ) → list_part k f o j ≡ Field i
       → (i < f) × (o < list_blocks k f) × (j < k + 1) × (o ≡ i / k) × (j ≡ 1 + i % k)
-  list_spots o zero i e = absurd (link_below-field (o + 1) (list_blocks k f) i e)
-  list_spots o (suc j) i e =
+  list_slots o zero i e = absurd (link_below-field (o + 1) (list_blocks k f) i e)
+  list_slots o (suc j) i e =
       let (low, fits, is) = part_field o j i e in
       let o-is : (o * k + j) / k ≡ o = div-mul-add o k j low in
       let j-is : (o * k + j) % k ≡ j = mod-mul-add o k j low in
@@ -62,11 +62,11 @@ module _ (k f : ℕ) (some : 0 < k) where
       (refl, both.1, subst (λ x. x < list_blocks k f) both.1 both.0)
   list_onward o (suc j) p e = absurd (part_link o j p e)
 
-  pub list_layout : IsLayout (k + 1) f (list_blocks k f) (list_part k f) (list_spot k)
+  pub list_layout : IsLayout (k + 1) f (list_blocks k f) (list_part k f) (list_slot k)
   list_layout = record {
     first = omega arith;
     fields = list_fields;
-    spots = list_spots;
+    slots = list_slots;
     apart = λ i l hi hl eo ej.
         let own : i / k * k + i % k ≡ i = div-add-mod' i k in
         let other : l / k * k + l % k ≡ l = div-add-mod' l k in
@@ -101,11 +101,11 @@ module _ (k f : ℕ) (some : 0 < k) where
 
 -- by the width: its blocks have one payload more than fields
 pub record_layout : (w : Width) (f : ℕ)
-    → IsLayout (payloads w) f (record_blocks w f) (record_part w f) (record_spot w)
+    → IsLayout (payloads w) f (record_blocks w f) (record_part w f) (record_slot w)
 record_layout Four f = list_layout 3 f (omega arith)
 record_layout Eight f = list_layout 7 f (omega arith)
 
 pub record_way : (w : Width) (f i : ℕ) → i < f
-    → IsWay (record_part w f) i (record_spot w i).0 (record_spot w i).1 (λ l. l) (λ l. 0)
+    → IsWay (record_part w f) i (record_slot w i).0 (record_slot w i).1 (λ l. l) (λ l. 0)
 record_way Four f i h = list_way 3 f (omega arith) i h
 record_way Eight f i h = list_way 7 f (omega arith) i h

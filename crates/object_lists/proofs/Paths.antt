@@ -39,8 +39,8 @@ longer part o j p steps way turn is e = record {
   ends = put_here way (suc steps) p (suc steps) refl;
 }
 
-module _ (w len blocks : ℕ) (part : ℕ → ℕ → Part) (spot : ℕ → ℕ × ℕ)
-    (is : IsLayout w len blocks part spot) where
+module _ (w len blocks : ℕ) (part : ℕ → ℕ → Part) (slot : ℕ → ℕ × ℕ)
+    (is : IsLayout w len blocks part slot) where
   -- a block that is linked from one that is reached
   reached_by : (o j p : ℕ) → part o j ≡ Link p → o < p → Reached part o → Reached part p
   reached_by o j p e less r =

@@ -3,19 +3,19 @@ use Rattle.std.specs.Prelude.{ℕ, ◌+◌, ◌<◌, ◌≡◌}
 use Rattle.object_lists.specs.Parts.{Part, Link, Field}
 
 -- The layout of an object of `len` fields in `blocks` blocks of w payload words. `part o j` is what
--- stands at payload j of the block of ordinal o, and `spot i` is where field i stands: an ordinal
+-- stands at payload j of the block of ordinal o, and `slot i` is where field i stands: an ordinal
 -- and a payload.
-pub record IsLayout (w len blocks : ℕ) (part : ℕ → ℕ → Part) (spot : ℕ → ℕ × ℕ) : Type 0 where
+pub record IsLayout (w len blocks : ℕ) (part : ℕ → ℕ → Part) (slot : ℕ → ℕ × ℕ) : Type 0 where
   -- there is a first block
   pub first : 0 < blocks
-  -- a field stands where its spot is
-  pub fields : (i : ℕ) → i < len → part (spot i).0 (spot i).1 ≡ Field i
+  -- a field stands where its slot is
+  pub fields : (i : ℕ) → i < len → part (slot i).0 (slot i).1 ≡ Field i
   -- and nowhere else; no other fields stand anywhere
-  pub spots : (o j i : ℕ) → part o j ≡ Field i
-      → (i < len) × (o < blocks) × (j < w) × (o ≡ (spot i).0) × (j ≡ (spot i).1)
-  -- distinct fields have distinct spots
+  pub slots : (o j i : ℕ) → part o j ≡ Field i
+      → (i < len) × (o < blocks) × (j < w) × (o ≡ (slot i).0) × (j ≡ (slot i).1)
+  -- distinct fields have distinct slots
   pub apart : (i k : ℕ) → i < len → k < len
-      → (spot i).0 ≡ (spot k).0 → (spot i).1 ≡ (spot k).1 → i ≡ k
+      → (slot i).0 ≡ (slot k).0 → (slot i).1 ≡ (slot k).1 → i ≡ k
   -- a link goes to a larger ordinal
   pub onward : (o j p : ℕ) → part o j ≡ Link p → (j < w) × (o < p) × (p < blocks)
   -- each block but the first is linked

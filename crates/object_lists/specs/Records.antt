@@ -16,8 +16,8 @@ list_part k f o zero = link_below (o + 1) (list_blocks k f)
 list_part k f o (suc j) = if nat_lt j k then field_below (o * k + j) f else Blank
 
 -- where field i stands: its block, and its payload
-abbrev pub list_spot : ℕ → ℕ → ℕ × ℕ
-list_spot k i = (i / k, 1 + i % k)
+abbrev pub list_slot : ℕ → ℕ → ℕ × ℕ
+list_slot k i = (i / k, 1 + i % k)
 
 -- the fields of a block of this width
 abbrev pub room : Width → ℕ
@@ -29,5 +29,5 @@ record_blocks w f = list_blocks (room w) f
 abbrev pub record_part : Width → ℕ → ℕ → ℕ → Part
 record_part w f o j = list_part (room w) f o j
 
-abbrev pub record_spot : Width → ℕ → ℕ × ℕ
-record_spot w i = list_spot (room w) i
+abbrev pub record_slot : Width → ℕ → ℕ × ℕ
+record_slot w i = list_slot (room w) i

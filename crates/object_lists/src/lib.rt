@@ -4,7 +4,7 @@
 ghost use Rattle.std.specs.Prelude.{◌≡◌, ℕ, ◌+◌, ◌<◌, ◌≤◌, SomeIff};
 ghost use Rattle.object_lists.specs.Layouts.{IsLayout, IsWay, IsPath};
 ghost use Rattle.object_lists.specs.Parts.{Part, link_in};
-ghost use Rattle.object_lists.specs.Records.{record_blocks, record_part, record_spot, room};
+ghost use Rattle.object_lists.specs.Records.{record_blocks, record_part, record_slot, room};
 ghost use Rattle.block_store.specs.declared.Width.{Width};
 ghost use Rattle.block_store.specs.Widths.{payloads};
 
@@ -30,7 +30,7 @@ pub fn blocks_of_record(width: Width, f: u32) -> u32
 /// Where field `i` of a record stands: the number of links to follow from the first block, which is
 /// the ordinal of the field's block, and the payload there.
 pub fn walk_of(width: Width, i: u32) -> (u32, u32)
-    ensures pair { result ≡ record_spot width i }
+    ensures pair { result ≡ record_slot width i }
     ensures way { (f : ℕ) → i < f
         → IsWay (record_part width f) i result.0 result.1 (λ l. l) (λ l. 0) }
 {
@@ -54,14 +54,14 @@ pub fn link_of(width: Width, blocks: u32, ordinal: u32) -> Option<u32>
 /// and each block but the first is linked from one place.
 pub fn record_layouts()
     ensures { (w : Width) (f : ℕ)
-        → IsLayout (payloads w) f (record_blocks w f) (record_part w f) (record_spot w) }
+        → IsLayout (payloads w) f (record_blocks w f) (record_part w f) (record_slot w) }
 {}
 
 /// In every layout, of a record or of an array, each block is reached from the first along links,
 /// in no more steps than its ordinal says.
 pub fn blocks_are_reached()
-    ensures { (w len blocks : ℕ) (part : ℕ → ℕ → Part) (spot : ℕ → ℕ × ℕ)
-        → IsLayout w len blocks part spot → (o : ℕ) → o < blocks
+    ensures { (w len blocks : ℕ) (part : ℕ → ℕ → Part) (slot : ℕ → ℕ × ℕ)
+        → IsLayout w len blocks part slot → (o : ℕ) → o < blocks
         → (steps : ℕ) × (way : ℕ → ℕ) × (turn : ℕ → ℕ)
         × (steps ≤ o) × IsPath part o steps way turn }
 {}

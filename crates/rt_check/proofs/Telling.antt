@@ -21,7 +21,7 @@ use Rattle.never_heap.specs.Licensed.{IsLicensedReply}
 use Rattle.never_heap.specs.LiveBlocks.{live_blocks}
 use Rattle.never_heap.specs.RightWork.{units_owed}
 use Rattle.never_heap.specs.Steps.{step, makes_object}
-use Rattle.trace_text.specs.Lines.{pieces_of, onto_first}
+use Rattle.trace_text.specs.Lines.{tokens_of, onto_first}
 use Rattle.trace_text.specs.Reading.{number_at, digits_on}
 use Rattle.trace_text.specs.Texts.{reply_text}
 use Rattle.trace_text.specs.Orders.{item_text, end_text}
@@ -29,34 +29,34 @@ use Rattle.trace_text.proofs.NumberLaws.{number_complete}
 use Rattle.rt_check.specs.Good.{IsGood, IsLast, AreGood, FirstBad}
 use Rattle.rt_check.specs.Standing.{Begins}
 
--- ---- the first piece
+-- ---- the first token
 
-digits_piece : (ds r : List ℕ) → AllDigits 10 ds → pieces_of (ds ++ 32 ∷ r) ≡ ds ∷ pieces_of r
-digits_piece [] r all = refl
-digits_piece (d ∷ ds) r all =
+digits_token : (ds r : List ℕ) → AllDigits 10 ds → tokens_of (ds ++ 32 ∷ r) ≡ ds ∷ tokens_of r
+digits_token [] r all = refl
+digits_token (d ∷ ds) r all =
     let range = digit_from_value d all.0 in
     let no_space : eqb d 32 ≡ false = grind (arith, nat_tests) in
-    rw no_space (ap (onto_first d) (digits_piece ds r all.1))
+    rw no_space (ap (onto_first d) (digits_token ds r all.1))
 
 pub entry_begins : (s : ℕ) (e : Entry) → e.thread < 10 ^ 19
     → Begins (item_text s (Did e)) (Some e.thread)
 entry_begins s e low =
     let numeral = decimal_is_IsNumeral e.thread (omega arith) in (
       decimal e.thread,
-      pieces_of (reply_text e.reply e.work),
-      digits_piece (decimal e.thread) (reply_text e.reply e.work) numeral.0.1,
+      tokens_of (reply_text e.reply e.work),
+      digits_token (decimal e.thread) (reply_text e.reply e.work) numeral.0.1,
       number_complete e.thread low,
     )
 
 pub start_begins : (s : ℕ) → Begins (item_text s Started) None
 unfolding number_at digits_on
-start_begins s = (codes "start", pieces_of (decimal (s + 1)), refl, refl)
+start_begins s = (codes "start", tokens_of (decimal (s + 1)), refl, refl)
 
 pub end_begins : (past : List HistoryItem) → Begins (end_text past) None
 unfolding number_at digits_on
 end_begins past = (
   codes "end",
-  pieces_of (codes "cycles " ++ decimal (starts_in past) ++ codes " work " ++ decimal
+  tokens_of (codes "cycles " ++ decimal (starts_in past) ++ codes " work " ++ decimal
       (work_in past)),
   refl,
   refl,
@@ -270,12 +270,12 @@ module _ (c : Config) (rate : ℕ) (traces : List (List Command)) (few : length 
       → AreGood c rate traces past ls → FirstBad c rate traces past ls n → ⊥
   apart past [] n good bad = absurd good
   apart past (l ∷ ls) n (inl last) (inl bad) = bad.1.0 last.0
-  apart past (l ∷ ls) n (inl last) (inr (inl late)) = late.2 last.1
+  apart past (l ∷ ls) n (inl last) (inr (inl pending)) = pending.2 last.1
   apart past (l ∷ ls) n (inl last) (inr (inr more)) =
       no_item c rate traces past few l last.0 more.2.0 more.2.1
   apart past (l ∷ ls) n (inr next) (inl bad) = bad.1.1 next.0 next.1
-  apart past (l ∷ ls) n (inr next) (inr (inl late)) =
-      no_item c rate traces past few l late.1 next.0 next.1
+  apart past (l ∷ ls) n (inr next) (inr (inl pending)) =
+      no_item c rate traces past few l pending.1 next.0 next.1
   apart past (l ∷ ls) n (inr next) (inr (inr more)) =
       let same = one c rate traces past few l more.2.0 next.0 more.2.1 next.1 in
       apart (past ++ next.0 ∷ []) ls more.0 next.2

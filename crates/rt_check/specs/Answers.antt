@@ -9,7 +9,7 @@ use Rattle.trace_text.specs.declared.trace_faults.TraceFault.TheVariants as faul
 use Rattle.trace_text.specs.Faults.{Rose}
 use Rattle.trace_text.specs.Lines.{line_feed}
 use Rattle.trace_text.specs.Reasons.{reason_text}
-use Rattle.trace_text.specs.Streams.{Appends, AppendsFront, TookAtMost}
+use Rattle.trace_text.specs.Streams.{Appends, AppendsPrefix, TookAtMost}
 use Rattle.rt_check.specs.declared.refusal.Refusal.{Refusal}
 use Rattle.rt_check.specs.declared.refusal.Refusal.TheVariants.{Usage, BadLine, TooLong, LiveTooSmall, NoRate, ReadFault, OutOfMemory, BadOrder}
 use Rattle.rt_check.specs.Inputs.{check_limit, IsTooLong, HasBadLine, HasJob, IsOrderOf, IsBadAt}
@@ -98,7 +98,7 @@ IsCause words left left_now before now (Some OutOfMemory) =
 IsCause words left left_now before now a =
     (words ≡ []) × IsAnswered a left left_now × (now ≡ before)
 
--- A call's answer: it has its cause, and its line was appended, or a front of it.
+-- A call's answer: it has its cause, and its line was appended, or a prefix of it.
 pub record IsAnswer
     (words : List (List ℕ)) (left left_now held held_now : Option (List ℕ))
     (before now status due : ℕ) : Type 0 where
@@ -106,7 +106,7 @@ pub record IsAnswer
   pub is_due : due ≡ status_of answer
   pub cause : IsCause words left left_now before now answer
   pub line : status ≢ 6 → Appends held held_now (answer_line answer)
-  pub front : status ≡ 6 → AppendsFront held held_now (answer_line answer)
+  pub prefix : status ≡ 6 → AppendsPrefix held held_now (answer_line answer)
 
 -- the status is k, unless the source failed or the answer is want of memory
 abbrev pub IsDueOrFails : ℕ → ℕ → Type 0

@@ -8,7 +8,7 @@ use Rattle.never_heap.specs.Graphs.{WideGraph, with_graph, count_of}
 use Rattle.never_heap.specs.Histories.{HistoryItem, part, replay, starts_in, work_in}
 use Rattle.never_heap.specs.LiveBlocks.{live_blocks}
 use Rattle.never_heap.specs.Steps.{step, makes_object}
-use Rattle.trace_text.specs.Lines.{pieces_of}
+use Rattle.trace_text.specs.Lines.{tokens_of}
 use Rattle.trace_text.specs.Reading.{number_at}
 use Rattle.rt_check.specs.declared.follower.Follower.{Follower}
 use Rattle.rt_check.specs.declared.follower.Verdict.{Verdict}
@@ -47,11 +47,11 @@ HasFollowed c f = (past : List HistoryItem) × Stands c past f × (length past <
 abbrev pub rest_of : List (List Command) → List ℕ → ℕ → List Command
 rest_of traces done t = drop (slice_index_or done t 0) (slice_index_or traces t [])
 
--- the first piece of a line is this number, or it is none
+-- the first token of a line is this number, or it is none
 abbrev pub Begins : List ℕ → Option ℕ → Type 0
 Begins line number =
-    (piece : List ℕ) × (others : List (List ℕ)) × (pieces_of line ≡ piece ∷ others)
-    × (number_at piece ≡ number)
+    (token : List ℕ) × (others : List (List ℕ)) × (tokens_of line ≡ token ∷ others)
+    × (number_at token ≡ number)
 
 -- a thread's next command, where it has one left
 abbrev pub HasNext : List (List Command) → Follower → ℕ → Command → Type 0

@@ -13,7 +13,7 @@ ghost use Rattle.rt_check.specs.Standing.{Counted, IsFullHere, entry_here, graph
 use block_store::{Config, OutOfMemory};
 use never_heap::{Command, Entry, Graph, Reply};
 use std::alloc::Global;
-use trace_text::{Job, LineBuffer, fill_entry, fill_start, fill_totals, first_piece, number_of};
+use trace_text::{Job, LineBuffer, fill_entry, fill_start, fill_totals, first_token, number_of};
 
 /// What a line is, after the lines before it.
 #[derive(Clone, Copy, Debug, PartialEq, Eq)]
@@ -67,7 +67,7 @@ impl Follower {
         ensures { (past : List HistoryItem) → Stands job.now.config past self.old
             → IfOk result (λ v. Says job.now.config rate job.now.traces past line.now v self.new) }
     {
-        match number_of(first_piece(line).0) {
+        match number_of(first_token(line).0) {
             Some(thread) => self.entry(job, rate, thread, line, buffer),
             None => self.mark(job, line, buffer),
         }

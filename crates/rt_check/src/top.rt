@@ -3,7 +3,7 @@
 ghost use Rattle.std.specs.Prelude.{◌≡◌, ◌≢◌, ◌<◌, ◌≤◌, ◌⊎◌, ◌↔◌, [], length, map, string_bytes};
 ghost use Rattle.std.specs.Prelude.{Option, IfSome};
 ghost use Rattle.trace_text.specs.Faults.{Rose};
-ghost use Rattle.trace_text.specs.Streams.{Appends, AppendsFront};
+ghost use Rattle.trace_text.specs.Streams.{Appends, AppendsPrefix};
 ghost use Rattle.rt_check.specs.Answers.{IsAnswer, IsAnswerTo, IsCause, IsDue, IsDueOrFails};
 ghost use Rattle.rt_check.specs.Answers.{answer_line, status_of, IsJudged, refused_by};
 
@@ -109,8 +109,8 @@ fn told<K: Sink>(answer: Option<Refusal>, sink: &mut K) -> CheckExit
     ensures status { (result.status ≡ result.due) ⊎ (result.status ≡ 6) }
     ensures line { result.status ≢ 6
         → Appends (K.held sink.old) (K.held sink.new) (answer_line answer) }
-    ensures front { result.status ≡ 6
-        → AppendsFront (K.held sink.old) (K.held sink.new) (answer_line answer) }
+    ensures prefix { result.status ≡ 6
+        → AppendsPrefix (K.held sink.old) (K.held sink.new) (answer_line answer) }
     ensures still { result.status ≢ 6 → K.faults sink.new ≡ K.faults sink.old }
     ensures rose { result.status ≡ 6 → Rose (K.faults sink.old) (K.faults sink.new) }
 {

@@ -16,8 +16,8 @@ use Rattle.never_heap.specs.Graphs.{Graph, object_of, field_of, register_of, wit
 use Rattle.never_heap.specs.Steps.{at_object, at_field, same_value}
 use Rattle.never_heap.proofs.GraphMoves.{objects_with}
 use Rattle.never_heap.proofs.FieldStores.{count_with_field}
-use Rattle.shown_graph.specs.Layouts.{object_spot}
-use Rattle.shown_graph.specs.Shown.{IsValueOf, heads, Shows, every_name, never_late}
+use Rattle.shown_graph.specs.Layouts.{object_slot}
+use Rattle.shown_graph.specs.Shown.{IsValueOf, heads, Shows, every_name, none_pending}
 use Rattle.shown_graph.specs.Words.{block_words, value_word}
 use Rattle.shown_graph.proofs.Every.{every_register_store, every_field_store}
 use Rattle.shown_graph.proofs.Names.{same_self, same_is}
@@ -25,7 +25,7 @@ use Rattle.shown_graph.proofs.Reading.{register_read, field_read, one_value}
 use Rattle.rtheap_core.specs.declared.plain.PlainHeap.{PlainHeap}
 use Rattle.rtheap_core.specs.Cells.{heap_in, register_at}
 use Rattle.rtheap_core.specs.Objects.{length_of}
-use Rattle.rtheap_core.specs.Readings.{value_in, object_in, spot_from}
+use Rattle.rtheap_core.specs.Readings.{value_in, object_in, slot_from}
 use Rattle.rtheap_core.specs.Plain.{IsPlain, ShowsPlain, Answers}
 use Rattle.rtheap_core.proofs.Found.{HasObject, HasField, Refuses, RefusesField}
 use Rattle.rtheap_core.proofs.Reading.{value_shown, looked_object, looked_field}
@@ -42,7 +42,7 @@ module _ (W : Width) (h : PlainHeap) (at : Name → ℕ → ℕ) (g : Graph)
   register_word : (r : ℕ) → r < 16
       → heap_in h.store (register_at W r) ≡ value_word (heads at) (register_of g 0 r)
   register_word r small = register_read W 1 h.last (every_name g) g at
-      (block_words (heap_in h.store)) never_late sh.shows 0 r (omega arith) small refl
+      (block_words (heap_in h.store)) none_pending sh.shows 0 r (omega arith) small refl
 
   register_kept : (r : ℕ) → r < 16 → IsValueOf (every_name g) (register_of g 0 r)
   register_kept r small = sh.shows.closed.registers 0 r (omega arith) small
@@ -54,12 +54,12 @@ module _ (W : Width) (h : PlainHeap) (at : Name → ℕ → ℕ) (g : Graph)
       → new.made ≡ h.made → ShowsPlain W new at (with_register g 0 d v)
   shows_register new d word v small reads kept e n m = record {
     shows = subst (λ l. Shows W 1 l (every_name (with_register g 0 d v))
-        (with_register g 0 d v) at (block_words (heap_in new.store)) never_late) (sym n)
+        (with_register g 0 d v) at (block_words (heap_in new.store)) none_pending) (sym n)
         (subst (λ (q : Heap). Shows W 1 h.last (every_name (with_register g 0 d v))
-        (with_register g 0 d v) at (block_words q) never_late)
+        (with_register g 0 d v) at (block_words q) none_pending)
         (sym (e ∙ ap (put_at (heap_in h.store) (register_at W d)) reads))
         (every_register_store W 1 h.last g at
-        (block_words (heap_in h.store)) never_late sh.shows never_late 0 d v
+        (block_words (heap_in h.store)) none_pending sh.shows none_pending 0 d v
         (omega arith) small kept (λ u q f k. f)));
     made = ap length (objects_with g 0 0 _ there refl) ∙ sh.made ∙ sym m;
   }
@@ -146,7 +146,7 @@ module _ (W : Width) (h : PlainHeap) (at : Name → ℕ → ℕ) (g : Graph)
 
   -- what is found of field i of the object in a register
   pub field_found : (s i : ℕ) (r : Result (ℕ × ℕ) Reply) → IsPlain h → s < 16
-      → r ≡ spot_from W (heap_in h.store) h.last s i
+      → r ≡ slot_from W (heap_in h.store) h.last s i
       → MatchResult r (HasField W at g (register_of g 0 s) i) (RefusesField g (register_of g 0 s) i)
   field_found s i r plain small is =
       looked_field W (heap_in h.store) h.last g at sh.shows (few_blocks h plain)
@@ -159,21 +159,21 @@ module _ (W : Width) (h : PlainHeap) (at : Name → ℕ → ℕ) (g : Graph)
   step_at v i a act e l = ap (λ w. at_field g w i act) e
       ∙ ap (λ b. cond b (act a) (g, replies.Range)) (lt-ltb i (length (object_of g a).fields) l)
 
-  pub get_found : (new : PlainHeap) (d s i : ℕ) (spot : ℕ × ℕ) (word : ℕ) (value : Value)
-      → IsPlain h → d < 16 → HasField W at g (register_of g 0 s) i spot
-      → word ≡ heap_in h.store (PayloadOf spot.0 spot.1)
+  pub get_found : (new : PlainHeap) (d s i : ℕ) (slot : ℕ × ℕ) (word : ℕ) (value : Value)
+      → IsPlain h → d < 16 → HasField W at g (register_of g 0 s) i slot
+      → word ≡ heap_in h.store (PayloadOf slot.0 slot.1)
       → value ≡ value_in (heap_in h.store) h.last word
       → heap_in new.store ≡ put_at (heap_in h.store) (register_at W d) word → new.last ≡ h.last
       → new.made ≡ h.made → Answers W new g (commands.Get d s i) (replies.Val value)
-  get_found new d s i spot word value plain small f w is e n m =
+  get_found new d s i slot word value plain small f w is e n m =
       let kept : IsValueOf (every_name g) (field_of (object_of g f.name) i) =
       sh.shows.closed.fields f.name i f.there in
       let reads : word ≡ value_word (heads at) (field_of (object_of g f.name) i) =
-      w ∙ ap (λ x. heap_in h.store (PayloadOf x spot.1)) f.block
+      w ∙ ap (λ x. heap_in h.store (PayloadOf x slot.1)) f.block
       ∙ ap (λ j. heap_in h.store
-      (PayloadOf (at f.name (object_spot W (object_of g f.name) i).0) j)) f.payload
+      (PayloadOf (at f.name (object_slot W (object_of g f.name) i).0) j)) f.payload
       ∙ field_read W 1 h.last (every_name g) g at
-      (block_words (heap_in h.store)) never_late sh.shows f.name i f.there f.within in
+      (block_words (heap_in h.store)) none_pending sh.shows f.name i f.there f.within in
       let took = step_at (register_of g 0 s) i f.name
       (λ name. (
         with_register g 0 d (field_of (object_of g name) i),
@@ -202,20 +202,20 @@ module _ (W : Width) (h : PlainHeap) (at : Name → ℕ → ℕ) (g : Graph)
             (stays new e);
       }
 
-  pub put_found : (new : PlainHeap) (s i v : ℕ) (spot : ℕ × ℕ) (word : ℕ) → v < 16
-      → HasField W at g (register_of g 0 s) i spot → word ≡ heap_in h.store (register_at W v)
-      → heap_in new.store ≡ put_at (heap_in h.store) (PayloadOf spot.0 spot.1) word
+  pub put_found : (new : PlainHeap) (s i v : ℕ) (slot : ℕ × ℕ) (word : ℕ) → v < 16
+      → HasField W at g (register_of g 0 s) i slot → word ≡ heap_in h.store (register_at W v)
+      → heap_in new.store ≡ put_at (heap_in h.store) (PayloadOf slot.0 slot.1) word
       → new.last ≡ h.last → new.made ≡ h.made
       → Answers W new g (commands.Put s i v) replies.Stored
-  put_found new s i v spot word small f w e n m =
+  put_found new s i v slot word small f w e n m =
       let a = f.name in
-      let x = at a (object_spot W (object_of g a) i).0 in
-      let j = (object_spot W (object_of g a) i).1 in
+      let x = at a (object_slot W (object_of g a) i).0 in
+      let j = (object_slot W (object_of g a) i).1 in
       let took = step_at (register_of g 0 s) i a
       (λ name. (with_field g name i (register_of g 0 v), replies.Stored)) f.refers f.within in
       let stored : heap_in new.store
       ≡ put_at (heap_in h.store) (PayloadOf x j) (value_word (heads at) (register_of g 0 v)) =
-      e ∙ ap (λ y. put_at (heap_in h.store) (PayloadOf y spot.1) word) f.block
+      e ∙ ap (λ y. put_at (heap_in h.store) (PayloadOf y slot.1) word) f.block
       ∙ ap (λ k. put_at (heap_in h.store) (PayloadOf x k) word) f.payload
       ∙ ap (put_at (heap_in h.store) (PayloadOf x j)) (w ∙ register_word v small) in
       record {
@@ -224,13 +224,13 @@ module _ (W : Width) (h : PlainHeap) (at : Name → ℕ → ℕ) (g : Graph)
         shown = subst (λ (p : Graph × Reply). ShowsPlain W new at p.0) (sym took) (record {
           shows = subst (λ l. Shows W 1 l (every_name (with_field g a i (register_of g 0 v)))
               (with_field g a i (register_of g 0 v)) at
-              (block_words (heap_in new.store)) never_late) (sym n)
+              (block_words (heap_in new.store)) none_pending) (sym n)
               (subst (λ (q : Heap). Shows W 1 h.last
               (every_name (with_field g a i (register_of g 0 v)))
-              (with_field g a i (register_of g 0 v)) at (block_words q) never_late)
+              (with_field g a i (register_of g 0 v)) at (block_words q) none_pending)
               (sym stored)
               (every_field_store W 1 h.last g at
-              (block_words (heap_in h.store)) never_late sh.shows a i
+              (block_words (heap_in h.store)) none_pending sh.shows a i
               (register_of g 0 v) f.there f.within (register_kept v small)));
           made = count_with_field g a i (register_of g 0 v) f.there 0 ∙ sh.made ∙ sym m;
         });
@@ -271,7 +271,7 @@ module _ (W : Width) (h : PlainHeap) (at : Name → ℕ → ℕ) (g : Graph)
   same_found a b v u la lb ev eu e =
       let one : register_of g 0 a ≡ register_of g 0 b =
       one_value W 1 h.last (every_name g) g at
-      (block_words (heap_in h.store)) never_late sh.shows (register_of g 0 a)
+      (block_words (heap_in h.store)) none_pending sh.shows (register_of g 0 a)
       (register_of g 0 b) (register_kept a la) (register_kept b lb)
       (sym (register_word a la) ∙ sym ev ∙ e ∙ eu ∙ register_word b lb) in
       record {

@@ -1,3 +1,4 @@
+pub mod CarriedOut
 pub mod CellWrites
 pub mod NewObjects
 pub mod Found

@@ -18,7 +18,7 @@ use Rattle.never_heap.specs.Steps.{step, made}
 use Rattle.never_heap.proofs.GraphMoves.{objects_with}
 use Rattle.never_heap.proofs.FieldStores.{count_with_object}
 use Rattle.shown_graph.specs.Made.{new_object, with_blocks, IsMade, IsWritten}
-use Rattle.shown_graph.specs.Shown.{Shows, every_name, never_late}
+use Rattle.shown_graph.specs.Shown.{Shows, every_name, none_pending}
 use Rattle.shown_graph.specs.Words.{block_words}
 use Rattle.shown_graph.proofs.Every.{words_behind, every_new}
 use Rattle.shown_graph.proofs.ObjectLayouts.{layout_laws}
@@ -69,10 +69,10 @@ module _ (W : Width) (h new : PlainHeap) (w : Heap) (at : Name → ℕ → ℕ) 
   behind : registers_end W 1 + h.made < h.last
   behind = subst (λ (v : Width). registers_end v 1 + h.made < h.last) wide plain.given
 
-  shows_old : Shows W 1 (h.last + blocks_in W s) (every_name g) g at (block_words w) never_late
-  shows_old = later_last W 1 h.last (every_name g) g at (block_words w) never_late
+  shows_old : Shows W 1 (h.last + blocks_in W s) (every_name g) g at (block_words w) none_pending
+  shows_old = later_last W 1 h.last (every_name g) g at (block_words w) none_pending
       (words_behind W 1 h.last (every_name g) g at
-      (block_words (heap_in h.store)) never_late sh.shows (block_words w)
+      (block_words (heap_in h.store)) none_pending sh.shows (block_words w)
       (omega (arith, behind)) (λ x some low. written.before x (omega arith)))
       (h.last + blocks_in W s) (omega arith)
 
@@ -101,8 +101,8 @@ module _ (W : Width) (h new : PlainHeap) (w : Heap) (at : Name → ℕ → ℕ) 
       let stored : Shows W 1 (h.last + blocks_in W s) (every_name after) after
       (with_blocks at (next_name g 0) block_of)
       (block_words (put_at w (register_at W d)
-      (reference_word (h.last + 1 + 0)))) never_late =
-      every_new W 1 (h.last + blocks_in W s) g at (block_words w) never_late shows_old 0 d
+      (reference_word (h.last + 1 + 0)))) none_pending =
+      every_new W 1 (h.last + blocks_in W s) g at (block_words w) none_pending shows_old 0 d
       (kind_of s) (length_of s) block_of is_made small in
       let more : 0 < length grown.mutators = rw length-set there in
       record {
@@ -113,9 +113,9 @@ module _ (W : Width) (h new : PlainHeap) (w : Heap) (at : Name → ℕ → ℕ) 
             (with_blocks at (next_name g 0) block_of) p.0) (sym (step_making g d s)) (record {
               shows = subst (λ l. Shows W 1 l (every_name after) after
                   (with_blocks at (next_name g 0) block_of)
-                  (block_words (heap_in new.store)) never_late) (sym n)
+                  (block_words (heap_in new.store)) none_pending) (sym n)
                   (subst (λ (q : Heap). Shows W 1 (h.last + blocks_in W s) (every_name after) after
-                  (with_blocks at (next_name g 0) block_of) (block_words q) never_late)
+                  (with_blocks at (next_name g 0) block_of) (block_words q) none_pending)
                   (sym (e ∙ ap (λ x. put_at w (register_at W d) (reference_word x))
                   (sym first))) stored);
               made = ap length (objects_with grown 0 0 _ more refl)

@@ -18,16 +18,16 @@ use Rattle.block_store.proofs.Registers.{root_first, register_low, thread_of, or
 use Rattle.object_lists.specs.Layouts.{IsLayout}
 use Rattle.object_lists.specs.Parts.{Part, Link, Field, Blank, link_in}
 use Rattle.array_trees.specs.Trees.{tree, leaves, array_blocks}
-use Rattle.array_trees.specs.Levels.{tree_part, tree_spot, array_part, array_spot}
+use Rattle.array_trees.specs.Levels.{tree_part, tree_slot, array_part, array_slot}
 use Rattle.array_trees.specs.Openings.{opening_blocks}
 use Rattle.array_trees.proofs.Arrays.{tree_layout}
 use Rattle.array_trees.proofs.Counts.{many}
-use Rattle.array_trees.proofs.RegisterArrays.{spot_of}
+use Rattle.array_trees.proofs.RegisterArrays.{slot_of}
 use Rattle.never_heap.specs.Graphs.{start_graph, register_of, shared_name}
 use Rattle.never_heap.proofs.Starting.{register_of_start}
 use Rattle.shown_graph.specs.Made.{link_word}
 use Rattle.shown_graph.specs.Openings.{opening_at, opening_words, register_word, shared_word, by_block}
-use Rattle.shown_graph.specs.Shown.{Shows, every_name, never_late}
+use Rattle.shown_graph.specs.Shown.{Shows, every_name, none_pending}
 use Rattle.shown_graph.specs.Words.{Agrees, block_words, part_word, value_word}
 use Rattle.shown_graph.proofs.Every.{words_behind}
 use Rattle.shown_graph.proofs.Opening.{opening_shows}
@@ -62,14 +62,14 @@ module _ (W : Width) (blocks live object shared : ℕ) where
   end = registers_end W 1
 
   abbrev ordinal : ℕ
-  ordinal = (array_spot W REGISTERS 0).0
+  ordinal = (array_slot W REGISTERS 0).0
 
   abbrev slot : ℕ
-  slot = (array_spot W REGISTERS 0).1
+  slot = (array_slot W REGISTERS 0).1
 
   abbrev layout : IsLayout (payloads W) REGISTERS
       (tree (payloads W) (leaves (payloads W) REGISTERS)) (tree_part (payloads W) REGISTERS)
-      (tree_spot (payloads W) REGISTERS)
+      (tree_slot (payloads W) REGISTERS)
   layout = tree_layout (payloads W) REGISTERS (many W)
 
   root_is : root ≡ 1
@@ -79,13 +79,13 @@ module _ (W : Width) (blocks live object shared : ℕ) where
   length_is = one_end W
 
   block_is : register_block W 0 0 ≡ root + ordinal
-  block_is = (spot_of W 0 0).0
+  block_is = (slot_of W 0 0).0
 
   slot_is : register_slot W 0 ≡ slot
-  slot_is = (spot_of W 0 0).1
+  slot_is = (slot_of W 0 0).1
 
   only_first : (o j : ℕ) → array_part W REGISTERS o j ≡ Field 0 → (o ≡ ordinal) × (j ≡ slot)
-  only_first o j e = let place = layout.spots o j 0 e in (place.3, place.4)
+  only_first o j e = let place = layout.slots o j 0 e in (place.3, place.4)
 
   first_is : array_part W REGISTERS ordinal slot ≡ Field 0
   first_is = layout.fields 0 (omega arith)
@@ -164,7 +164,7 @@ module _ (W : Width) (blocks live object shared : ℕ) where
         (array.before (root + o) (omega (arith, within o ol))).payloads j jl
         ∙ (registers.blocks o ol).links j jl in
         let low : (i : ℕ) → array_part W REGISTERS o j ≡ Field i → i < REGISTERS =
-        λ i e. (layout.spots o j i e).0 in
+        λ i e. (layout.slots o j i e).0 in
         elim (cases_eq o ordinal) [
           | inr n ↦ other_block (root + o) j (λ e. n (omega (arith, block_is))) ∙ plain
               ∙ sym (other_part (array_part W REGISTERS o j) (λ e. n (only_first o j e).0) low)
@@ -233,9 +233,9 @@ module _ (W : Width) (blocks live object shared : ℕ) where
 
     shows_one : IsInBounds one
         → Shows W 1 (opening_blocks one) (every_name (start_graph one)) (start_graph one)
-        (opening_at W 1) (block_words opened) never_late
+        (opening_at W 1) (block_words opened) none_pending
     shows_one inside = words_behind W 1 (opening_blocks one) (every_name (start_graph one))
-        (start_graph one) (opening_at W 1) (opening_words one) never_late
+        (start_graph one) (opening_at W 1) (opening_words one) none_pending
         (opening_shows one inside) (block_words opened) (omega arith) agrees_opened
 
 -- the same of blocks that are counted otherwise
@@ -248,7 +248,7 @@ shows_counted : (c : Config) (z a b : Heap) (first last size : ℕ) → IsInBoun
     (last + 1) (array_blocks c.width c.shared)
     → Shows c.width 1 (opening_blocks c) (every_name (start_graph c)) (start_graph c)
     (opening_at c.width c.threads)
-    (block_words (put_at b (register_at c.width 0) (reference_word (last + 1)))) never_late
+    (block_words (put_at b (register_at c.width 0) (reference_word (last + 1)))) none_pending
 shows_counted c z a b first last size inside single er ee es registers array =
     let plain : Config = record {
       width = c.width;
@@ -274,13 +274,13 @@ shows_counted c z a b first last size inside single er ee es registers array =
     (shapes.Tree c.shared) (e + 1) (array_blocks c.width c.shared)) ee array in
     subst (λ e. Shows c.width 1 (opening_blocks c) (every_name (start_graph c)) (start_graph c)
     (opening_at c.width c.threads)
-    (block_words (put_at b (register_at c.width 0) (reference_word (e + 1)))) never_late)
+    (block_words (put_at b (register_at c.width 0) (reference_word (e + 1)))) none_pending)
     (sym ee)
     (subst (λ (k : Config). IsInBounds k
     → Shows c.width 1 (opening_blocks k) (every_name (start_graph k)) (start_graph k)
     (opening_at c.width k.threads)
     (block_words (put_at b (register_at c.width 0)
-    (reference_word (registers_end c.width 1 + 1)))) never_late) is
+    (reference_word (registers_end c.width 1 + 1)))) none_pending) is
     (shows_one c.width c.blocks c.live c.object c.shared z a b own array_there) inside)
 
 -- the registers' array, the shared array, and the reference to it in register 0
@@ -291,9 +291,9 @@ pub opened_shows : (c : Config) (z a b heap : Heap) → IsInBounds c → c.threa
     (register_blocks c.width + 1) (array_blocks c.width c.shared)
     → heap ≡ put_at b (register_at c.width 0) (reference_word (register_blocks c.width + 1))
     → Shows c.width 1 (opening_blocks c) (every_name (start_graph c)) (start_graph c)
-    (opening_at c.width c.threads) (block_words heap) never_late
+    (opening_at c.width c.threads) (block_words heap) none_pending
 opened_shows c z a b heap inside single registers array e =
     subst (λ (q : Heap). Shows c.width 1 (opening_blocks c) (every_name (start_graph c))
-    (start_graph c) (opening_at c.width c.threads) (block_words q) never_late) (sym e)
+    (start_graph c) (opening_at c.width c.threads) (block_words q) none_pending) (sym e)
     (shows_counted c z a b 1 (register_blocks c.width) (register_blocks c.width) inside single
     (sym (root_first c.width)) (sym (one_end c.width)) refl registers array)

@@ -23,14 +23,14 @@ use Rattle.array_trees.proofs.Arrays.{tree_is_way}
 use Rattle.never_heap.specs.declared.Reply.{Reply}
 use Rattle.never_heap.specs.declared.Reply.TheVariants as replies
 use Rattle.never_heap.specs.Graphs.{Graph, ObjectKind, Record, Array, object_of, has_name}
-use Rattle.shown_graph.specs.Layouts.{kind_shape, object_blocks, object_part, object_spot, layout_part}
+use Rattle.shown_graph.specs.Layouts.{kind_shape, object_blocks, object_part, object_slot, layout_part}
 use Rattle.shown_graph.specs.Read.{value_payload}
-use Rattle.shown_graph.specs.Shown.{IsValueOf, heads, Shows, every_name, never_late}
+use Rattle.shown_graph.specs.Shown.{IsValueOf, heads, Shows, every_name, none_pending}
 use Rattle.shown_graph.specs.Words.{block_words, value_word}
 use Rattle.shown_graph.proofs.ObjectLayouts.{object_layout}
 use Rattle.shown_graph.proofs.Reading.{owner_read, value_read, length_read, link_read}
 use Rattle.rtheap_core.specs.Objects.{length_of}
-use Rattle.rtheap_core.specs.Readings.{reference_of, reference_at, value_of_payload, value_in, with_shape, object_of_payload, object_in, block_or, walk, spot_of, spot_in}
+use Rattle.rtheap_core.specs.Readings.{reference_of, reference_at, value_of_payload, value_in, with_shape, object_of_payload, object_in, block_or, walk, slot_of, slot_in}
 use Rattle.rtheap_core.proofs.Found.{HasObject, HasField, Refuses, RefusesField}
 
 length_of_kind : (k : ObjectKind) (n : ℕ) → length_of (kind_shape k n) ≡ n
@@ -61,15 +61,15 @@ unfolding turn_of steps_of way_of end_of
 is_way W Record n i h = record_way W n i h
 is_way W Array n i h = tree_is_way (payloads W) n (many W) i h
 
-spot_is : (W : Width) (heap : Heap) (last x : ℕ) (k : ObjectKind) (n i : ℕ)
-    → spot_of W heap last x (kind_shape k n) i
+slot_is : (W : Width) (heap : Heap) (last x : ℕ) (k : ObjectKind) (n i : ℕ)
+    → slot_of W heap last x (kind_shape k n) i
     ≡ (walk heap last x (turn_of W k n i) (steps_of W k n i), end_of W k n i)
 unfolding turn_of steps_of end_of
-spot_is W heap last x Record n i = refl
-spot_is W heap last x Array n i = refl
+slot_is W heap last x Record n i = refl
+slot_is W heap last x Array n i = refl
 
 module _ (W : Width) (heap : Heap) (last : ℕ) (g : Graph) (at : Name → ℕ → ℕ)
-    (shows : Shows W 1 last (every_name g) g at (block_words heap) never_late)
+    (shows : Shows W 1 last (every_name g) g at (block_words heap) none_pending)
     (few : last ≤ 65535) where
   -- the first block of an object
   first_there : (a : Name) → has_name g a ≡ true → 0 < object_blocks W (object_of g a)
@@ -84,7 +84,7 @@ module _ (W : Width) (heap : Heap) (last : ℕ) (g : Graph) (at : Name → ℕ �
       ap (λ b. cond b (reference_of (owner_of (heap (OwnerOf (at a 0))))) values.Nil)
       (le-leb (at a 0) last (head_given a h))
       ∙ ap reference_of (owner_read W 1 last (every_name g) g at
-      (block_words heap) never_late shows a 0 h (first_there a h))
+      (block_words heap) none_pending shows a 0 h (first_there a h))
 
   -- a payload of the value's word shows the value
   payload_shown : (v : Value) → IsValueOf (every_name g) v
@@ -98,7 +98,7 @@ module _ (W : Width) (heap : Heap) (last : ℕ) (g : Graph) (at : Name → ℕ �
   value_shown word v e k =
       ap (λ w. value_of_payload heap last (payload_of w)) e
       ∙ ap (value_of_payload heap last)
-      (value_read W 1 last (every_name g) g at (block_words heap) never_late shows v few k)
+      (value_read W 1 last (every_name g) g at (block_words heap) none_pending shows v few k)
       ∙ payload_shown v k
 
   -- what is found of the object of a value
@@ -116,7 +116,7 @@ module _ (W : Width) (heap : Heap) (last : ℕ) (g : Graph) (at : Name → ℕ �
       ap (λ b. cond b (with_shape (at a 0) (shape_of (heap (ShapeOf (at a 0)))))
       (Err replies.Null)) (le-leb (at a 0) last (head_given a k))
       ∙ ap (with_shape (at a 0))
-      (length_read W 1 last (every_name g) g at (block_words heap) never_late shows a 0 k
+      (length_read W 1 last (every_name g) g at (block_words heap) none_pending shows a 0 k
       (first_there a k))
 
   object_shown : (word : ℕ) (v : Value) → word ≡ value_word (heads at) v
@@ -124,7 +124,7 @@ module _ (W : Width) (heap : Heap) (last : ℕ) (g : Graph) (at : Name → ℕ �
   object_shown word v e k =
       ap (λ w. object_of_payload heap last (payload_of w)) e
       ∙ ap (object_of_payload heap last)
-      (value_read W 1 last (every_name g) g at (block_words heap) never_late shows v few k)
+      (value_read W 1 last (every_name g) g at (block_words heap) none_pending shows v few k)
       ∙ object_payload v k
 
   found_object : (v : Value) → MatchResult (object_reply v) (HasObject g v) (Refuses g v)
@@ -160,7 +160,7 @@ module _ (W : Width) (heap : Heap) (last : ℕ) (g : Graph) (at : Name → ℕ �
         omega (arith, shows.placed.behind a (way (l + 1)) h onward.2) in
         let word : heap (PayloadOf (at a (way l)) (turn l))
         ≡ reference_word (at a (way (l + 1))) =
-        link_read W 1 last (every_name g) g at (block_words heap) never_late shows a (way l)
+        link_read W 1 last (every_name g) g at (block_words heap) none_pending shows a (way l)
         (turn l) (way (l + 1)) h (is.links l under) in
         ap (λ x. block_or last x (payload_of (heap (PayloadOf x (turn l))))) before
         ∙ ap (λ w. block_or last (at a (way l)) (payload_of w)) word
@@ -171,16 +171,16 @@ module _ (W : Width) (heap : Heap) (last : ℕ) (g : Graph) (at : Name → ℕ �
         ∙ ap (λ k. at a (way k)) (add-one l)
 
     pub walked_to : i < length (object_of g a).fields
-        → (walk heap last (at a 0) turn steps ≡ at a (object_spot W (object_of g a) i).0)
-        × (last_turn ≡ (object_spot W (object_of g a) i).1)
+        → (walk heap last (at a 0) turn steps ≡ at a (object_slot W (object_of g a) i).0)
+        × (last_turn ≡ (object_slot W (object_of g a) i).1)
     walked_to within =
-        let end = (object_layout W (object_of g a)).spots _ _ i is.ends in
+        let end = (object_layout W (object_of g a)).slots _ _ i is.ends in
         (walked steps (omega arith) ∙ ap (at a) end.3, end.4)
 
   -- a field that is there
   has_field : (a : Name) (i : ℕ) → has_name g a ≡ true → i < length (object_of g a).fields
       → HasField W at g (values.Ref a) i
-      (spot_of W heap last (at a 0)
+      (slot_of W heap last (at a 0)
       (kind_shape (object_of g a).kind (length (object_of g a).fields)) i)
   has_field a i h within =
       let k = (object_of g a).kind in
@@ -188,7 +188,7 @@ module _ (W : Width) (heap : Heap) (last : ℕ) (g : Graph) (at : Name → ℕ �
       let end = walked_to a i h (steps_of W k n i) (end_of W k n i) (way_of W k n i)
       (turn_of W k n i) (is_way W k n i within) within in
       subst (λ (p : ℕ × ℕ). HasField W at g (values.Ref a) i p)
-      (sym (spot_is W heap last (at a 0) k n i)) (record {
+      (sym (slot_is W heap last (at a 0) k n i)) (record {
         name = a;
         refers = refl;
         there = h;
@@ -198,21 +198,21 @@ module _ (W : Width) (heap : Heap) (last : ℕ) (g : Graph) (at : Name → ℕ �
       })
 
   found_field : (v : Value) (i : ℕ) → IsValueOf (every_name g) v
-      → MatchResult (spot_in W heap last (object_reply v) i) (HasField W at g v i)
+      → MatchResult (slot_in W heap last (object_reply v) i) (HasField W at g v i)
       (RefusesField g v i)
   found_field values.Nil i k = λ act. refl
   found_field (values.Int n) i k = λ act. refl
   found_field (values.Ref a) i k =
-      let spot = spot_of W heap last (at a 0)
+      let slot = slot_of W heap last (at a 0)
       (kind_shape (object_of g a).kind (length (object_of g a).fields)) i in
-      subst (λ l. MatchResult (cond (ltb i l) (Ok spot) (Err replies.Range))
+      subst (λ l. MatchResult (cond (ltb i l) (Ok slot) (Err replies.Range))
       (HasField W at g (values.Ref a) i) (RefusesField g (values.Ref a) i))
       (sym (length_of_kind (object_of g a).kind (length (object_of g a).fields)))
       (elim (cases_Bool (ltb i (length (object_of g a).fields))) [
-        | inl more ↦ subst (λ b. MatchResult (cond b (Ok spot) (Err replies.Range))
+        | inl more ↦ subst (λ b. MatchResult (cond b (Ok slot) (Err replies.Range))
             (HasField W at g (values.Ref a) i) (RefusesField g (values.Ref a) i)) (sym more)
             (has_field a i k (ltb-true i _ more))
-        | inr less ↦ subst (λ b. MatchResult (cond b (Ok spot) (Err replies.Range))
+        | inr less ↦ subst (λ b. MatchResult (cond b (Ok slot) (Err replies.Range))
             (HasField W at g (values.Ref a) i) (RefusesField g (values.Ref a) i)) (sym less)
             (λ act. ap (λ b. cond b (act a) (g, replies.Range)) less)
       ])
@@ -220,9 +220,9 @@ module _ (W : Width) (heap : Heap) (last : ℕ) (g : Graph) (at : Name → ℕ �
   -- the field of what a word shows, or the refusal
   pub looked_field : (word i : ℕ) (v : Value) (r : Result (ℕ × ℕ) Reply)
       → word ≡ value_word (heads at) v → IsValueOf (every_name g) v
-      → r ≡ spot_in W heap last (object_in heap last word) i
+      → r ≡ slot_in W heap last (object_in heap last word) i
       → MatchResult r (HasField W at g v i) (RefusesField g v i)
   looked_field word i v r e k is =
       subst (λ (q : Result (ℕ × ℕ) Reply). MatchResult q (HasField W at g v i)
       (RefusesField g v i)) (sym
-      (is ∙ ap (λ o. spot_in W heap last o i) (object_shown word v e k))) (found_field v i k)
+      (is ∙ ap (λ o. slot_in W heap last o i) (object_shown word v e k))) (found_field v i k)

@@ -6,7 +6,7 @@ use Rattle.never_heap.specs.PlainRuns.{IsPlainRun}
 use Rattle.rate_plan.specs.Rates.{IsAdmitted, IsRate}
 use Rattle.trace_text.specs.Jobs.{Job, IsJobInBounds, IsInput}
 use Rattle.trace_text.specs.Lines.{line_feed}
-use Rattle.trace_text.specs.Streams.{Appends, AppendsFront, IsAtEnd}
+use Rattle.trace_text.specs.Streams.{Appends, AppendsPrefix, IsAtEnd}
 use Rattle.trace_text.specs.Texts.{text_by_threads}
 use Rattle.rtheap_core.specs.declared.exit.RunEnd.{RunEnd}
 use Rattle.rtheap_core.specs.declared.exit.RunEnd.TheVariants.{Ran}
@@ -50,10 +50,10 @@ pub record IsReadAs (source : Sides) (job : Job) : Type 0 where
   pub input : IfSome source.bytes (λ bytes. IsInput bytes job)
   pub ended : IsAtEnd source.bytes source.bytes_now
 
--- the text was appended where the status is 0, and a front of it where the writing failed
+-- the text was appended where the status is 0, and a prefix of it where the writing failed
 pub record IsWritten (sink : Sides) (status : ℕ) (text : List ℕ) : Type 0 where
   pub whole : status ≡ 0 → Appends sink.bytes sink.bytes_now text
-  pub front : status ≡ 6 → AppendsFront sink.bytes sink.bytes_now text
+  pub prefix : status ≡ 6 → AppendsPrefix sink.bytes sink.bytes_now text
 
 -- The headline. There is one history of a heap that never frees: its replies, thread by thread in
 -- trace order, are those of the logs; each allocation made 0 units; and a reply `full 1` stands

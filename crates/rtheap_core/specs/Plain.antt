@@ -13,7 +13,7 @@ use Rattle.never_heap.specs.Graphs.{Graph, count_of}
 use Rattle.never_heap.specs.declared.Reply.TheVariants.{Full}
 use Rattle.never_heap.specs.Histories.{is_full}
 use Rattle.never_heap.specs.Steps.{step}
-use Rattle.shown_graph.specs.Shown.{Shows, every_name, never_late}
+use Rattle.shown_graph.specs.Shown.{Shows, every_name, none_pending}
 use Rattle.shown_graph.specs.Words.{block_words}
 use Rattle.rtheap_core.specs.declared.plain.PlainHeap.{PlainHeap}
 use Rattle.rtheap_core.specs.Cells.{heap_in}
@@ -31,7 +31,7 @@ pub record IsPlain (h : PlainHeap) : Type 0 where
 pub record ShowsPlain
     (W : Width) (h : PlainHeap) (at : Name → ℕ → ℕ) (g : Graph)
     : Type 0 where
-  pub shows : Shows W 1 h.last (every_name g) g at (block_words (heap_in h.store)) never_late
+  pub shows : Shows W 1 h.last (every_name g) g at (block_words (heap_in h.store)) none_pending
   pub made : count_of g 0 ≡ h.made
 
 -- the reply is the step's, and the words show the graph that the step gives

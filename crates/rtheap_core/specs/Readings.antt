@@ -13,7 +13,7 @@ use Rattle.block_store.specs.Owners.{owner_of}
 use Rattle.block_store.specs.Payloads.{payload_of}
 use Rattle.block_store.specs.Places.{OwnerOf, ShapeOf, PayloadOf}
 use Rattle.block_store.specs.Shapes.{shape_of}
-use Rattle.object_lists.specs.Records.{record_spot}
+use Rattle.object_lists.specs.Records.{record_slot}
 use Rattle.array_trees.specs.Levels.{array_depth, array_turn}
 use Rattle.rtheap_core.specs.Cells.{register_at}
 use Rattle.rtheap_core.specs.Objects.{length_of}
@@ -76,18 +76,18 @@ walk heap last x turn (suc l) =
     let y = walk heap last x turn l in block_or last y (payload_of (heap (PayloadOf y (turn l))))
 
 -- the block and the payload of field i of the object of this shape at block x
-abbrev pub spot_of : Width → Heap → ℕ → ℕ → Shape → ℕ → ℕ × ℕ
-spot_of W heap last x (shapes.List f) i =
-    (walk heap last x (λ _. 0) (record_spot W i).0, (record_spot W i).1)
-spot_of W heap last x (shapes.Tree e) i =
+abbrev pub slot_of : Width → Heap → ℕ → ℕ → Shape → ℕ → ℕ × ℕ
+slot_of W heap last x (shapes.List f) i =
+    (walk heap last x (λ _. 0) (record_slot W i).0, (record_slot W i).1)
+slot_of W heap last x (shapes.Tree e) i =
     (walk heap last x (array_turn W e i) (array_depth W e), array_turn W e i (array_depth W e))
 
 -- the same where there is a field i, and else the reply that refuses
-abbrev pub spot_in : Width → Heap → ℕ → Result (ℕ × Shape) Reply → ℕ → Result (ℕ × ℕ) Reply
-spot_in W heap last (Ok o) i =
-    if nat_lt i (length_of o.1) then Ok (spot_of W heap last o.0 o.1 i) else Err Range
-spot_in W heap last (Err reply) i = Err reply
+abbrev pub slot_in : Width → Heap → ℕ → Result (ℕ × Shape) Reply → ℕ → Result (ℕ × ℕ) Reply
+slot_in W heap last (Ok o) i =
+    if nat_lt i (length_of o.1) then Ok (slot_of W heap last o.0 o.1 i) else Err Range
+slot_in W heap last (Err reply) i = Err reply
 
 -- the block and the payload of field i of the object in register s, or the reply that refuses
-abbrev pub spot_from : Width → Heap → ℕ → ℕ → ℕ → Result (ℕ × ℕ) Reply
-spot_from W heap last s i = spot_in W heap last (object_in heap last (heap (register_at W s))) i
+abbrev pub slot_from : Width → Heap → ℕ → ℕ → ℕ → Result (ℕ × ℕ) Reply
+slot_from W heap last s i = slot_in W heap last (object_in heap last (heap (register_at W s))) i

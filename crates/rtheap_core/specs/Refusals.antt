@@ -10,7 +10,7 @@ use Rattle.trace_text.specs.Jobs.{Job, input_limit}
 use Rattle.trace_text.specs.Lines.{line_feed}
 use Rattle.trace_text.specs.Reasons.{reason_text}
 use Rattle.trace_text.specs.Refusals.{IsFirstBadLine}
-use Rattle.trace_text.specs.Streams.{Appends, AppendsFront, IsAtEnd, TookAtMost}
+use Rattle.trace_text.specs.Streams.{Appends, AppendsPrefix, IsAtEnd, TookAtMost}
 use Rattle.rtheap_core.specs.declared.refusal.Refusal.{Refusal}
 use Rattle.rtheap_core.specs.declared.refusal.Refusal.TheVariants.{Usage, BadLine, TooLong, LiveTooSmall, NoRate, Later, ReadFault, OutOfMemory}
 use Rattle.rtheap_core.specs.Exits.{AskForRun, Ask, IsReadAs}
@@ -88,7 +88,7 @@ IsCause words source OutOfMemory =
     Ask words × TookAtMost (input_limit + 1) source.bytes source.bytes_now × IsUnfailed source
 
 -- A refused call: its status is that of a refusal with its cause, and the refusal's line was
--- appended, or a front of it.
+-- appended, or a prefix of it.
 pub record Refused
     (words : List (List ℕ)) (source sink : Sides) (status due : ℕ)
     : Type 0 where
@@ -96,4 +96,4 @@ pub record Refused
   pub is_due : due ≡ status_of refusal
   pub cause : IsCause words source refusal
   pub line : status ≢ 6 → Appends sink.bytes sink.bytes_now (refusal_line refusal)
-  pub front : status ≡ 6 → AppendsFront sink.bytes sink.bytes_now (refusal_line refusal)
+  pub prefix : status ≡ 6 → AppendsPrefix sink.bytes sink.bytes_now (refusal_line refusal)

@@ -20,7 +20,7 @@ ghost use Rattle.array_trees.specs.Openings.{opening_blocks};
 ghost use Rattle.shown_graph.specs.Openings.{opening_at};
 ghost use Rattle.rtheap_core.specs.Cells.{heap_in, register_at};
 ghost use Rattle.rtheap_core.specs.Objects.{length_of, blocks_in};
-ghost use Rattle.rtheap_core.specs.Readings.{reference_at, value_in, object_at, object_in, block_or, walk, spot_of, spot_from};
+ghost use Rattle.rtheap_core.specs.Readings.{reference_at, value_in, object_at, object_in, block_or, walk, slot_of, slot_from};
 ghost use Rattle.rtheap_core.specs.Plain.{IsPlain, ShowsPlain, DoesStep, Takes, making};
 
 use crate::store::Store;
@@ -222,14 +222,14 @@ impl PlainHeap {
     }
 
     // The block and the payload of field `i` of the object of this shape at a block.
-    fn spot(&self, first: u32, shape: Shape, i: u32) -> (u32, u32)
+    fn slot(&self, first: u32, shape: Shape, i: u32) -> (u32, u32)
         requires plain { IsPlain self.now }
         requires block { IsBlock self.now.store.config first }
         requires shape { IsShape shape }
         requires field { i < length_of shape }
         ensures place { IsBlock self.now.store.config result.0
             × (result.1 < payloads self.now.store.config.width) }
-        ensures value { result ≡ spot_of self.now.store.config.width
+        ensures value { result ≡ slot_of self.now.store.config.width
             (heap_in self.now.store) self.now.last first shape i }
     {
         let width = self.store.width();
@@ -253,7 +253,7 @@ impl PlainHeap {
         requires register { s < 16 }
         ensures place { IfOk result (λ p. IsBlock self.now.store.config p.0
             × (p.1 < payloads self.now.store.config.width)) }
-        ensures value { result ≡ spot_from self.now.store.config.width
+        ensures value { result ≡ slot_from self.now.store.config.width
             (heap_in self.now.store) self.now.last s i }
     {
         match self.object(self.register(s)) {
@@ -261,7 +261,7 @@ impl PlainHeap {
                 if i >= length_of_shape(shape) as u64 {
                     return Err(Reply::Range);
                 }
-                Ok(self.spot(first, shape, i as u32))
+                Ok(self.slot(first, shape, i as u32))
             }
             Err(reply) => Err(reply),
         }

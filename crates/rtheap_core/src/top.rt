@@ -3,14 +3,15 @@
 ghost use Rattle.std.specs.Prelude.{◌≡◌, ◌≢◌, ◌<◌, ◌≤◌, ◌⊎◌, ◌↔◌, List, ℕ, [], ◌∷◌, length, map, string_bytes, IsSome, Some, None, IfSome, IfOk, IfErr, OnOk};
 ghost use Rattle.rate_plan.specs.Rates.{IsAdmitted, IsRate};
 ghost use Rattle.trace_text.specs.Faults.{Rose};
-ghost use Rattle.trace_text.specs.Streams.{Appends, AppendsFront};
+ghost use Rattle.trace_text.specs.Streams.{Appends, AppendsPrefix};
 ghost use Rattle.trace_text.specs.Texts.{run_text};
+ghost use Rattle.rtheap_core.specs.declared.exit.RunEnd.{RunEnd};
 ghost use Rattle.rtheap_core.specs.declared.exit.RunEnd.TheVariants as ends;
 ghost use Rattle.rtheap_core.specs.Calls.{IsCarriedOut, IsComplete};
-ghost use Rattle.rtheap_core.specs.Exits.{AskForRun, AskForPlan, Ask, Headline, Planned, IsReadAs, IsWritten, IsDue, rate_text};
+ghost use Rattle.rtheap_core.specs.Exits.{AskForRun, AskForPlan, Ask, IsReadAs, IsWritten, logs_of, cycles_of, units_of, rate_text};
 ghost use Rattle.rtheap_core.specs.Sides.{sides};
 ghost use Rattle.rtheap_core.specs.Outcomes.{HasRun, HasRate};
-ghost use Rattle.rtheap_core.specs.Refusals.{IsCause, Refused, status_of, refusal_line};
+ghost use Rattle.rtheap_core.specs.Refusals.{IsCause, status_of, refusal_line};
 
 use crate::exit::{Exit, RunEnd};
 use crate::refusal::Refusal;
@@ -30,6 +31,8 @@ const WRITE_FAULT: u8 = 6;
 /// Does what the words ask for: `run` reads a job from the source, runs it, and writes what each
 /// command answered and a line of totals; `plan` reads a job and writes the rate of its
 /// configuration. Any other words are refused with the line `rtheap: usage`.
+///
+/// The entries, cycles and units that an ended run shows by `Logs` are those that `done` is about.
 pub fn rtheap<R, S: Source, K: Sink, Q: Pace>(
     _rt: &R,
     alloc: Global,
@@ -38,6 +41,9 @@ pub fn rtheap<R, S: Source, K: Sink, Q: Pace>(
     sink: &mut K,
     _pace: &Q,
 ) -> Exit
+    ensures shown { (end : RunEnd) → (⟦<RunEnd as Logs>⟧.logs end ≡ logs_of end)
+        × (⟦<RunEnd as Logs>⟧.cycle_count end ≡ cycles_of end)
+        × (⟦<RunEnd as Logs>⟧.unit_count end ≡ units_of end) }
     ensures done { IsCarriedOut (record {
       words = map (λ w. string_bytes w) words.now;
       source = sides S.left S.faults source.old source.new;
@@ -63,24 +69,12 @@ fn carried_out<S: Source, K: Sink>(
     source: &mut S,
     sink: &mut K,
 ) -> Exit
-    ensures headline { IfSome result.run (λ end. Headline
-        (sides S.left S.faults source.old source.new)
-        (sides K.held K.faults sink.old sink.new) result.status end) }
-    ensures planned { AskForPlan (map (λ w. string_bytes w) words.now) → result.due ≡ 0 → Planned
-        (sides S.left S.faults source.old source.new)
-        (sides K.held K.faults sink.old sink.new) result.status }
-    ensures run { IsSome result.run
-        ↔ (AskForRun (map (λ w. string_bytes w) words.now) × (result.due ≡ 0)) }
-    ensures any_due { IsDue result.due }
-    ensures any_status { (result.status ≡ result.due) ⊎ (result.status ≡ 6) }
-    ensures refused { result.due ≢ 0 → Refused (map (λ w. string_bytes w) words.now)
-        (sides S.left S.faults source.old source.new)
-        (sides K.held K.faults sink.old sink.new) result.status result.due }
-    ensures usage { (result.due ≡ 2) ↔ (Ask (map (λ w. string_bytes w) words.now) → ⊥) }
-    ensures read_fault { result.due ≡ 5 → Rose (S.faults source.old) (S.faults source.new) }
-    ensures read_fault_told { S.faults source.old < S.faults source.new → result.due ≡ 5 }
-    ensures write_fault { result.status ≡ 6 → Rose (K.faults sink.old) (K.faults sink.new) }
-    ensures write_fault_told { K.faults sink.old < K.faults sink.new → result.status ≡ 6 }
+    ensures done { IsCarriedOut (record {
+      words = map (λ w. string_bytes w) words.now;
+      source = sides S.left S.faults source.old source.new;
+      sink = sides K.held K.faults sink.old sink.new;
+      exit = result;
+    }) }
 {
     match Task::of(words) {
         None => refused(Refusal::Usage, sink),
@@ -182,8 +176,8 @@ fn refused<K: Sink>(refusal: Refusal, sink: &mut K) -> Exit
     ensures status { (result.status ≡ result.due) ⊎ (result.status ≡ 6) }
     ensures line { result.status ≢ 6
         → Appends (K.held sink.old) (K.held sink.new) (refusal_line refusal) }
-    ensures front { result.status ≡ 6
-        → AppendsFront (K.held sink.old) (K.held sink.new) (refusal_line refusal) }
+    ensures prefix { result.status ≡ 6
+        → AppendsPrefix (K.held sink.old) (K.held sink.new) (refusal_line refusal) }
     ensures still { result.status ≢ 6 → K.faults sink.new ≡ K.faults sink.old }
     ensures rose { result.status ≡ 6 → Rose (K.faults sink.old) (K.faults sink.new) }
 {
@@ -197,7 +191,7 @@ fn told<K: Sink>(line: &LineBuffer, due: u8, sink: &mut K) -> Exit
     ensures run { result.run ≡ None }
     ensures status { (result.status ≡ due) ⊎ (result.status ≡ 6) }
     ensures line { result.status ≢ 6 → Appends (K.held sink.old) (K.held sink.new) line.now }
-    ensures front { result.status ≡ 6 → AppendsFront (K.held sink.old) (K.held sink.new) line.now }
+    ensures prefix { result.status ≡ 6 → AppendsPrefix (K.held sink.old) (K.held sink.new) line.now }
     ensures still { result.status ≢ 6 → K.faults sink.new ≡ K.faults sink.old }
     ensures rose { result.status ≡ 6 → Rose (K.faults sink.old) (K.faults sink.new) }
 {

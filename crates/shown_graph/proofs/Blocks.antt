@@ -9,7 +9,7 @@ use Rattle.block_store.specs.declared.Value.TheVariants.{Nil}
 use Rattle.never_heap.specs.Graphs.{Object, same_name, field_of, set_field}
 use Rattle.never_heap.proofs.GraphMoves.{get_or_set}
 use Rattle.object_lists.specs.Parts.{Part, Link, Field, Blank}
-use Rattle.shown_graph.specs.Layouts.{layout_blocks, layout_part, object_blocks, object_part, object_spot}
+use Rattle.shown_graph.specs.Layouts.{layout_blocks, layout_part, object_blocks, object_part, object_slot}
 use Rattle.shown_graph.specs.Words.{Agrees, BlockWords, value_word, part_word, kind_word, with_payload}
 use Rattle.shown_graph.specs.Shown.{heads, BlockShows, Written, Numbered}
 use Rattle.shown_graph.proofs.Names.{apart, same_is, true≢false}
@@ -69,39 +69,39 @@ module _ (W : Width) (head : Name → ℕ) (w : BlockWords) (a : Name) (object :
 
   -- a block of the object itself after the store, where no other ordinal stands at the field's
   -- block
-  own_block : (o : ℕ) → (block_of (object_spot W object i).0 ≡ block_of o
-      → (object_spot W object i).0 ≡ o) → BlockShows W head w a object block_of o
-      → BlockShows W head (with_payload w (block_of (object_spot W object i).0)
-      (object_spot W object i).1 (value_word head v)) a (set_field object i v) block_of o
+  own_block : (o : ℕ) → (block_of (object_slot W object i).0 ≡ block_of o
+      → (object_slot W object i).0 ≡ o) → BlockShows W head w a object block_of o
+      → BlockShows W head (with_payload w (block_of (object_slot W object i).0)
+      (object_slot W object i).1 (value_word head v)) a (set_field object i v) block_of o
   own_block o one k =
       let laws = object_layout W object in
       record {
         owned = k.owned;
         shaped = k.shaped ∙ ap (kind_word object.kind) (sym (length-set object.fields i v));
         words = λ j jl. elim (cases_Bool
-            (eqb (block_of (object_spot W object i).0) (block_of o) && eqb
-            (object_spot W object i).1 j)) [
+            (eqb (block_of (object_slot W object i).0) (block_of o) && eqb
+            (object_slot W object i).1 j)) [
               | inl is ↦
-                  let e = and_parts (eqb (block_of (object_spot W object i).0) (block_of o))
-                  (eqb (object_spot W object i).1 j) is in
-                  let os : (object_spot W object i).0 ≡ o = one (eqb-true _ _ e.0) in
-                  let js : (object_spot W object i).1 ≡ j = eqb-true _ _ e.1 in
+                  let e = and_parts (eqb (block_of (object_slot W object i).0) (block_of o))
+                  (eqb (object_slot W object i).1 j) is in
+                  let os : (object_slot W object i).0 ≡ o = one (eqb-true _ _ e.0) in
+                  let js : (object_slot W object i).1 ≡ j = eqb-true _ _ e.1 in
                   let here : object_part W object o j ≡ Field i =
                   subst (λ q. object_part W object o q ≡ Field i) js
-                  (subst (λ q. object_part W object q (object_spot W object i).1 ≡ Field i) os
+                  (subst (λ q. object_part W object q (object_slot W object i).1 ≡ Field i) os
                   (laws.fields i within)) in
                   payload_here w _ _ _ (block_of o) j is
                   ∙ sym (part_here head block_of object i v
                   (object_part W (set_field object i v) o j) within (part_set o j ∙ here))
               | inr is ↦
                   let away : object_part W (set_field object i v) o j ≡ Field i → ⊥ = λ f.
-                  (let p = laws.spots o j i (sym (part_set o j) ∙ f) in
-                  let yes : eqb (block_of (object_spot W object i).0) (block_of o) && eqb
-                  (object_spot W object i).1 j ≡ true =
+                  (let p = laws.slots o j i (sym (part_set o j) ∙ f) in
+                  let yes : eqb (block_of (object_slot W object i).0) (block_of o) && eqb
+                  (object_slot W object i).1 j ≡ true =
                   rw (
-                    eq-eqb (block_of (object_spot W object i).0) (block_of o)
+                    eq-eqb (block_of (object_slot W object i).0) (block_of o)
                         (ap block_of (sym p.3)),
-                    eq-eqb (object_spot W object i).1 j (sym p.4),
+                    eq-eqb (object_slot W object i).1 j (sym p.4),
                   ) refl in
                   true≢false (sym yes ∙ is)) in
                   payload_other w _ _ _ (block_of o) j is ∙ k.words j jl
@@ -117,12 +117,12 @@ pub field_written : (W : Width) (K : Name → Type 0) (object object' : Name →
     → K a → i < length (object a).fields
     → ((b : Name) → object' b ≡ cond (same_name a b) (set_field (object a) i v) (object b))
     → Written W K object at w
-    → Written W K object' at (with_payload w (at a (object_spot W (object a) i).0)
-    (object_spot W (object a) i).1 (value_word (heads at) v))
+    → Written W K object' at (with_payload w (at a (object_slot W (object a) i).0)
+    (object_slot W (object a) i).1 (value_word (heads at) v))
 field_written W K object object' at w a i v numbered ka within change written = record {
   blocks = λ b o kb ol.
-      let spot : (object_spot W (object a) i).0 < object_blocks W (object a) =
-      ((object_layout W (object a)).spots _ _ i
+      let slot : (object_slot W (object a) i).0 < object_blocks W (object a) =
+      ((object_layout W (object a)).slots _ _ i
       ((object_layout W (object a)).fields i within)).1 in
       elim (cases_Bool (same_name a b)) [
         | inl same ↦
@@ -134,14 +134,14 @@ field_written W K object object' at w a i v numbered ka within change written = 
             (length-set (object a).fields i v)
             (subst (λ (x : Object). o < object_blocks W x) is ol) in
             let old = own_block W (heads at) w a (object a) (at a) i v within o
-            (λ f. (apart W K object at w numbered written a a _ o ka ka spot low f).1)
+            (λ f. (apart W K object at w numbered written a a _ o ka ka slot low f).1)
             (written.blocks a o ka low) in
             subst (λ (x : Object). BlockShows W (heads at)
-            (with_payload w (at a (object_spot W (object a) i).0)
-            (object_spot W (object a) i).1 (value_word (heads at) v)) b x (at b) o) (sym is)
+            (with_payload w (at a (object_slot W (object a) i).0)
+            (object_slot W (object a) i).1 (value_word (heads at) v)) b x (at b) o) (sym is)
             (subst (λ (c : Name). BlockShows W (heads at)
-            (with_payload w (at a (object_spot W (object a) i).0)
-            (object_spot W (object a) i).1 (value_word (heads at) v)) c
+            (with_payload w (at a (object_slot W (object a) i).0)
+            (object_slot W (object a) i).1 (value_word (heads at) v)) c
             (set_field (object a) i v) (at c) o) e old)
         | inr other ↦
             let is : object' b ≡ object b =
@@ -149,14 +149,14 @@ field_written W K object object' at w a i v numbered ka within change written = 
             let low : o < object_blocks W (object b) =
             subst (λ (x : Object). o < object_blocks W x) is ol in
             subst (λ (x : Object). BlockShows W (heads at)
-            (with_payload w (at a (object_spot W (object a) i).0)
-            (object_spot W (object a) i).1 (value_word (heads at) v)) b x (at b) o) (sym is)
+            (with_payload w (at a (object_slot W (object a) i).0)
+            (object_slot W (object a) i).1 (value_word (heads at) v)) b x (at b) o) (sym is)
             (block_stays W (heads at) w
-            (with_payload w (at a (object_spot W (object a) i).0)
-            (object_spot W (object a) i).1 (value_word (heads at) v)) b (object b) (at b) o
+            (with_payload w (at a (object_slot W (object a) i).0)
+            (object_slot W (object a) i).1 (value_word (heads at) v)) b (object b) (at b) o
             (other_block W w _ _ _ (at b o)
             (λ f. true≢false
-            (sym (apart W K object at w numbered written a b _ o ka kb spot low f).0
+            (sym (apart W K object at w numbered written a b _ o ka kb slot low f).0
             ∙ other)))
             (written.blocks b o kb low))
       ];

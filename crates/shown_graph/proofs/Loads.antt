@@ -12,7 +12,7 @@ use Rattle.shown_graph.specs.Layouts.{kind_shape}
 use Rattle.shown_graph.specs.Words.{value_word}
 use Rattle.shown_graph.specs.Shown.{IsValueOf, heads}
 use Rattle.shown_graph.specs.Read.{value_payload}
-use Rattle.shown_graph.specs.Events.{ObjectLoad, ValueLoad, GraphState, lates, ObjectIs, ValueIs, Follows}
+use Rattle.shown_graph.specs.Events.{ObjectLoad, ValueLoad, GraphState, pending_registers, ObjectIs, ValueIs, Follows}
 use Rattle.shown_graph.proofs.ObjectLayouts.{object_layout}
 use Rattle.shown_graph.proofs.Reading.{value_read, owner_read}
 
@@ -21,7 +21,7 @@ module _ (W : Width) (n m : ℕ) (K : Name → Type 0) (at : Name → ℕ → �
   pub value_shown : (v : ValueLoad) → m ≤ 65535 → ValueIs s.graph at t v
       → payload_of v.word ≡ Some (value_payload (heads at) (register_of s.graph t v.origin))
   value_shown v few is = ap payload_of is.word
-      ∙ value_read W n m K s.graph at s.words (lates s.loads) k.shows
+      ∙ value_read W n m K s.graph at s.words (pending_registers s.loads) k.shows
       (register_of s.graph t v.origin) few
       (k.shows.closed.registers t v.origin there is.origin)
 
@@ -35,7 +35,7 @@ module _ (W : Width) (n m : ℕ) (K : Name → Type 0) (at : Name → ℕ → �
       let block : target v.word ≡ at a 0 =
       ap target (is.word ∙ ap (value_word (heads at)) refers) ∙ target-reference (at a 0) in
       ap (λ x. owner_of (s.words.owner x)) block
-      ∙ owner_read W n m K s.graph at s.words (lates s.loads) k.shows a 0 kept
+      ∙ owner_read W n m K s.graph at s.words (pending_registers s.loads) k.shows a 0 kept
       (object_layout W (object_of s.graph a)).first
 
 pub length_shown : (W : Width) (t : ℕ) (at : Name → ℕ → ℕ) (g : Graph) (l : ObjectLoad)

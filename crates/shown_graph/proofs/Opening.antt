@@ -16,16 +16,16 @@ use Rattle.block_store.specs.Widths.{payloads, register_blocks}
 use Rattle.block_store.proofs.Registers.{root_low, thread_of, ordinal_of, arrays_small}
 use Rattle.object_lists.specs.Parts.{Part, Link, Field, Blank, link_below}
 use Rattle.array_trees.specs.Trees.{array_blocks}
-use Rattle.array_trees.specs.Levels.{array_part, array_spot}
+use Rattle.array_trees.specs.Levels.{array_part, array_slot}
 use Rattle.array_trees.specs.Openings.{opening_blocks}
 use Rattle.array_trees.proofs.Arrays.{tree_layout}
 use Rattle.array_trees.proofs.Counts.{few_shared, many}
-use Rattle.array_trees.proofs.RegisterArrays.{array_of, spot_of, root_of}
+use Rattle.array_trees.proofs.RegisterArrays.{array_of, slot_of, root_of}
 use Rattle.never_heap.specs.Graphs.{Object, Array, shared_name, start_graph, object_of, field_of, register_of, has_name}
 use Rattle.never_heap.proofs.Starting.{threads_of_start, name_of_start, object_of_start, has_shared, register_of_start, sixteen_of_start}
 use Rattle.shown_graph.specs.Layouts.{object_blocks}
 use Rattle.shown_graph.specs.Words.{value_word, part_word}
-use Rattle.shown_graph.specs.Shown.{IsValueOf, heads, BlockShows, Shows, root_word, every_name, never_late}
+use Rattle.shown_graph.specs.Shown.{IsValueOf, heads, BlockShows, Shows, root_word, every_name, none_pending}
 use Rattle.shown_graph.specs.Made.{new_object}
 use Rattle.shown_graph.specs.Openings.{opening_at, shared_block, register_word, shared_word, opening_words}
 use Rattle.shown_graph.proofs.Publish.{field_of_new, blocks_of_new}
@@ -110,16 +110,16 @@ module _ (c : Config) (inside : IsInBounds c) where
   register_reads t r tn rl =
       let laws = tree_layout (payloads c.width) REGISTERS (many c.width) in
       let field = laws.fields r rl in
-      let place = laws.spots _ _ r field in
-      let low : (array_spot c.width REGISTERS r).0 < register_blocks c.width =
-      subst (λ b. (array_spot c.width REGISTERS r).0 < b) (sym (array_of c.width)) place.1 in
-      let spot = spot_of c.width t r in
+      let place = laws.slots _ _ r field in
+      let low : (array_slot c.width REGISTERS r).0 < register_blocks c.width =
+      subst (λ b. (array_slot c.width REGISTERS r).0 < b) (sym (array_of c.width)) place.1 in
+      let slot = slot_of c.width t r in
       let first : registers_end c.width c.threads + 1 ≡ registers_end c.width c.threads + 1 + 0 =
       omega arith in
-      ap (λ x. (opening_words c).payload x (register_slot c.width r)) spot.0
+      ap (λ x. (opening_words c).payload x (register_slot c.width r)) slot.0
       ∙ ap (λ j. (opening_words c).payload
-      (root_block c.width t + (array_spot c.width REGISTERS r).0) j) spot.1
-      ∙ array_at t (array_spot c.width REGISTERS r).0 (array_spot c.width REGISTERS r).1 tn low
+      (root_block c.width t + (array_slot c.width REGISTERS r).0) j) slot.1
+      ∙ array_at t (array_slot c.width REGISTERS r).0 (array_slot c.width REGISTERS r).1 tn low
       ∙ ap (part_word (shared_block c) (λ p. root_block c.width t + p)
       (register_of (start_graph c) t)) field
       ∙ ap (λ x. value_word (λ a. x) (register_of (start_graph c) t r)) first
@@ -142,7 +142,7 @@ module _ (c : Config) (inside : IsInBounds c) where
 
   -- The opening words show the start graph, all of whose names are kept.
   pub opening_shows : Shows c.width c.threads (opening_blocks c) (every_name (start_graph c))
-      (start_graph c) (opening_at c.width c.threads) (opening_words c) never_late
+      (start_graph c) (opening_at c.width c.threads) (opening_words c) none_pending
   opening_shows = record {
     sized = record { threads = threads_of_start c; sixteen = sixteen_of_start c };
     names = λ a h. h;

@@ -75,7 +75,7 @@ part_renamed K head other block_of object (Field i) same kept =
 part_renamed K head other block_of object Blank same kept = refl
 
 module _ (W : Width) (n m : ℕ) (K : Name → Type 0) (g : Graph) (at : Name → ℕ → ℕ)
-    (w : BlockWords) (late : ℕ → ℕ → Bool) (shows : Shows W n m K g at w late)
+    (w : BlockWords) (pending : ℕ → ℕ → Bool) (shows : Shows W n m K g at w pending)
     (t : ℕ) (k : ObjectKind) (f : ℕ) (block_of : ℕ → ℕ)
     (made : IsMade W n m g w t k f block_of) where
   in_graph : t < length g.mutators
@@ -149,7 +149,7 @@ module _ (W : Width) (n m : ℕ) (K : Name → Type 0) (g : Graph) (at : Name �
 
   -- The next name of thread t is kept from now on.
   pub publish : Shows W n m (and_name K (next_name g t)) (with_object g t (new_object k f))
-      (with_blocks at (next_name g t) block_of) w late
+      (with_blocks at (next_name g t) block_of) w pending
   publish = record {
     sized = record {
       threads = length-set g.mutators t
@@ -195,10 +195,10 @@ module _ (W : Width) (n m : ℕ) (K : Name → Type 0) (g : Graph) (at : Name �
     written = grown_written;
     registers = registers_stay W n (and_name K (next_name g t))
         (heads (with_blocks at (next_name g t) block_of)) (register_of g)
-        (register_of (with_object g t (new_object k f))) late late w w (λ x j some xl jl. refl)
+        (register_of (with_object g t (new_object k f))) pending pending w w (λ x j some xl jl. refl)
         (λ u q un ql e. (e, register_kept u q))
         (registers_renamed W n K (and_name K (next_name g t)) (heads at)
-        (heads (with_blocks at (next_name g t) block_of)) (register_of g) late w
+        (heads (with_blocks at (next_name g t) block_of)) (register_of g) pending w
         (λ a ka. inr ka) heads_old shows.registers);
   }
 

@@ -18,7 +18,7 @@ use Rattle.block_store.proofs.ShapeWords.{shape-code}
 use Rattle.never_heap.specs.Graphs.{Graph, ObjectKind, Record, Array, object_of, field_of, register_of}
 use Rattle.object_lists.specs.Parts.{Link}
 use Rattle.object_lists.specs.Layouts.{IsWay}
-use Rattle.shown_graph.specs.Layouts.{kind_shape, object_blocks, object_part, object_spot}
+use Rattle.shown_graph.specs.Layouts.{kind_shape, object_blocks, object_part, object_slot}
 use Rattle.shown_graph.specs.Words.{BlockWords, value_word, part_word, kind_word}
 use Rattle.shown_graph.specs.Shown.{IsValueOf, heads, Shows}
 use Rattle.shown_graph.specs.Read.{value_payload}
@@ -26,7 +26,7 @@ use Rattle.shown_graph.proofs.ObjectLayouts.{object_layout, few_fields}
 use Rattle.shown_graph.proofs.Names.{apart, same_is}
 
 module _ (W : Width) (n m : ℕ) (K : Name → Type 0) (g : Graph) (at : Name → ℕ → ℕ)
-    (w : BlockWords) (late : ℕ → ℕ → Bool) (shows : Shows W n m K g at w late) where
+    (w : BlockWords) (pending : ℕ → ℕ → Bool) (shows : Shows W n m K g at w pending) where
   first_block : (a : Name) → K a → 0 < object_blocks W (object_of g a)
   first_block a ka = (object_layout W (object_of g a)).first
 
@@ -69,21 +69,21 @@ module _ (W : Width) (n m : ℕ) (K : Name → Type 0) (g : Graph) (at : Name �
       (few_fields W (object_of g a).kind (length (object_of g a).fields)
       (shows.numbered.ordinals a ka))
 
-  -- the word of a register that is not late is that of its value
-  pub register_read : (t r : ℕ) → t < n → r < REGISTERS → late t r ≡ false
+  -- the word of a register that is not pending is that of its value
+  pub register_read : (t r : ℕ) → t < n → r < REGISTERS → pending t r ≡ false
       → w.payload (register_block W t r) (register_slot W r)
       ≡ value_word (heads at) (register_of g t r)
   register_read t r tn rl now = let h = shows.registers.holds t r tn rl in
       h.reads ∙ ap (value_word (heads at)) (h.now now)
 
-  -- the word at a field's spot is that of the field's value
+  -- the word at a field's slot is that of the field's value
   pub field_read : (a : Name) (i : ℕ) → K a → i < length (object_of g a).fields
-      → w.payload (at a (object_spot W (object_of g a) i).0) (object_spot W (object_of g a) i).1
+      → w.payload (at a (object_slot W (object_of g a) i).0) (object_slot W (object_of g a) i).1
       ≡ value_word (heads at) (field_of (object_of g a) i)
   field_read a i ka within =
       let laws = object_layout W (object_of g a) in
       let here = laws.fields i within in
-      let place = laws.spots _ _ i here in
+      let place = laws.slots _ _ i here in
       (shows.written.blocks a _ ka place.1).words _ place.2
       ∙ ap (part_word (heads at) (at a) (field_of (object_of g a))) here
 
@@ -114,21 +114,21 @@ module _ (W : Width) (n m : ℕ) (K : Name → Type 0) (g : Graph) (at : Name �
         ∙ link_read a (way l) (turn l) (way (l + 1)) ka (is.links l low) in
         subst (λ k. walked k ≡ at a (way k)) next (one_reference _ _ e)
 
-    -- a way ends at the field's spot
-    pub way_spot : (way steps ≡ (object_spot W (object_of g a) i).0)
-        × (last ≡ (object_spot W (object_of g a) i).1)
-    way_spot = let place = (object_layout W (object_of g a)).spots _ _ i is.ends in
+    -- a way ends at the field's slot
+    pub way_slot : (way steps ≡ (object_slot W (object_of g a) i).0)
+        × (last ≡ (object_slot W (object_of g a) i).1)
+    way_slot = let place = (object_layout W (object_of g a)).slots _ _ i is.ends in
         (place.3, place.4)
 
     -- and so at the field's word
-    pub walk_ends : (walked steps ≡ at a (object_spot W (object_of g a) i).0)
+    pub walk_ends : (walked steps ≡ at a (object_slot W (object_of g a) i).0)
         × (w.payload (walked steps) last ≡ value_word (heads at) (field_of (object_of g a) i))
     walk_ends =
-        let e : walked steps ≡ at a (object_spot W (object_of g a) i).0 =
-        walk_at steps (omega arith) ∙ ap (at a) way_spot.0 in (
+        let e : walked steps ≡ at a (object_slot W (object_of g a) i).0 =
+        walk_at steps (omega arith) ∙ ap (at a) way_slot.0 in (
           e,
           ap (λ x. w.payload x last) e
-              ∙ ap (λ j. w.payload (at a (object_spot W (object_of g a) i).0) j) way_spot.1
+              ∙ ap (λ j. w.payload (at a (object_slot W (object_of g a) i).0) j) way_slot.1
               ∙ field_read a i ka within,
         )
 

@@ -16,9 +16,9 @@ use Rattle.shown_graph.proofs.Blocks.{payload_other, payload_here}
 
 -- the same in an equal word, of an equal value, and no later than before
 pub register_at : (word word' : ℕ) (head : Name → ℕ) (K : Name → Type 0) (v v' : Value)
-    (late late' : Bool) → word' ≡ word → (late' ≡ false → (late ≡ false) × (v ≡ v'))
-    → RegisterShows word head K v late → RegisterShows word' head K v' late'
-register_at word word' head K v v' late late' e now k = record {
+    (pending pending' : Bool) → word' ≡ word → (pending' ≡ false → (pending ≡ false) × (v ≡ v'))
+    → RegisterShows word head K v pending → RegisterShows word' head K v' pending'
+register_at word word' head K v v' pending pending' e now k = record {
   value = k.value;
   kept = k.kept;
   reads = e ∙ k.reads;
@@ -26,15 +26,15 @@ register_at word word' head K v v' late late' e now k = record {
 }
 
 module _ (W : Width) (n : ℕ) (K : Name → Type 0) (head : Name → ℕ)
-    (register register' : ℕ → ℕ → Value) (late late' : ℕ → ℕ → Bool) (w : BlockWords) where
+    (register register' : ℕ → ℕ → Value) (pending pending' : ℕ → ℕ → Bool) (w : BlockWords) where
   -- Register r of thread t is written with the word of a kept value. It is the register's value,
-  -- or the register is late.
+  -- or the register is pending.
   pub registers_stored : (t r : ℕ) (v : Value) → t < n → r < REGISTERS → IsValueOf K v
-      → (late' t r ≡ false → v ≡ register' t r)
-      → ((u q : ℕ) → ((t ≡ u) → (r ≡ q) → ⊥) → late' u q ≡ false
-      → (late u q ≡ false) × (register u q ≡ register' u q))
-      → Registers W n K head register late w
-      → Registers W n K head register' late'
+      → (pending' t r ≡ false → v ≡ register' t r)
+      → ((u q : ℕ) → ((t ≡ u) → (r ≡ q) → ⊥) → pending' u q ≡ false
+      → (pending u q ≡ false) × (register u q ≡ register' u q))
+      → Registers W n K head register pending w
+      → Registers W n K head register' pending'
       (with_payload w (register_block W t r) (register_slot W r) (value_word head v))
   registers_stored t r v tn small kept now others k = record {
     holds = λ u q un ql. elim
@@ -48,10 +48,10 @@ module _ (W : Width) (n : ℕ) (K : Name → Type 0) (head : Name → ℕ)
                 value = v;
                 kept = kept;
                 reads = payload_here w _ _ _ (register_block W u q) (register_slot W q) is;
-                now = subst (λ x. late' x q ≡ false → v ≡ register' x q) one.0
-                    (subst (λ x. late' t x ≡ false → v ≡ register' t x) one.1 now);
+                now = subst (λ x. pending' x q ≡ false → v ≡ register' x q) one.0
+                    (subst (λ x. pending' t x ≡ false → v ≡ register' t x) one.1 now);
               }
-          | inr is ↦ register_at _ _ head K _ _ (late u q) (late' u q)
+          | inr is ↦ register_at _ _ head K _ _ (pending u q) (pending' u q)
               (payload_other w _ _ _ (register_block W u q) (register_slot W q) is)
               (others u q (λ e f. true≢false
               (sym (rw (e, f) (rw (
@@ -65,15 +65,15 @@ module _ (W : Width) (n : ℕ) (K : Name → Type 0) (head : Name → ℕ)
         ∙ k.roots u j un jl;
   }
 
-  -- the words of the register blocks stay, and a register that is not late has its value as before
+  -- the words of the register blocks stay, and a register that is not pending has its value as before
   pub registers_stay : (u : BlockWords)
       → ((x j : ℕ) → 0 < x → x ≤ registers_end W n → j < payloads W
       → u.payload x j ≡ w.payload x j)
-      → ((t r : ℕ) → t < n → r < REGISTERS → late' t r ≡ false
-      → (late t r ≡ false) × (register t r ≡ register' t r))
-      → Registers W n K head register late w → Registers W n K head register' late' u
+      → ((t r : ℕ) → t < n → r < REGISTERS → pending' t r ≡ false
+      → (pending t r ≡ false) × (register t r ≡ register' t r))
+      → Registers W n K head register pending w → Registers W n K head register' pending' u
   registers_stay u same now k = record {
-    holds = λ t r tn rl. register_at _ _ head K _ _ (late t r) (late' t r)
+    holds = λ t r tn rl. register_at _ _ head K _ _ (pending t r) (pending' t r)
         (same (register_block W t r) (register_slot W r) (register_some W t r)
         (register_low W n t r tn rl) (slot_low W r)) (now t r tn rl) (k.holds t r tn rl);
     roots = λ t j tn jl. same (root_block W t) j (root_some W t)
@@ -82,10 +82,10 @@ module _ (W : Width) (n : ℕ) (K : Name → Type 0) (head : Name → ℕ)
 
 -- other names are kept, and none of the old values moves
 pub registers_renamed : (W : Width) (n : ℕ) (K L : Name → Type 0) (head other : Name → ℕ)
-    (register : ℕ → ℕ → Value) (late : ℕ → ℕ → Bool) (w : BlockWords) → ((a : Name) → K a → L a)
+    (register : ℕ → ℕ → Value) (pending : ℕ → ℕ → Bool) (w : BlockWords) → ((a : Name) → K a → L a)
     → ((a : Name) → K a → other a ≡ head a)
-    → Registers W n K head register late w → Registers W n L other register late w
-registers_renamed W n K L head other register late w up same k = record {
+    → Registers W n K head register pending w → Registers W n L other register pending w
+registers_renamed W n K L head other register pending w up same k = record {
   holds = λ t r tn rl.
       let h = k.holds t r tn rl in
       record {
@@ -98,13 +98,13 @@ registers_renamed W n K L head other register late w up same k = record {
   roots = k.roots;
 }
 
--- where no register is late, fewer names serve as long as the registers' values are of them
+-- where no register is pending, fewer names serve as long as the registers' values are of them
 pub registers_fewer : (W : Width) (n : ℕ) (K L : Name → Type 0) (head : Name → ℕ)
-    (register : ℕ → ℕ → Value) (late : ℕ → ℕ → Bool) (w : BlockWords)
-    → ((t r : ℕ) → t < n → r < REGISTERS → late t r ≡ false)
+    (register : ℕ → ℕ → Value) (pending : ℕ → ℕ → Bool) (w : BlockWords)
+    → ((t r : ℕ) → t < n → r < REGISTERS → pending t r ≡ false)
     → ((t r : ℕ) → t < n → r < REGISTERS → IsValueOf L (register t r))
-    → Registers W n K head register late w → Registers W n L head register late w
-registers_fewer W n K L head register late w none kept k = record {
+    → Registers W n K head register pending w → Registers W n L head register pending w
+registers_fewer W n K L head register pending w none kept k = record {
   holds = λ t r tn rl.
       let h = k.holds t r tn rl in
       let e : h.value ≡ register t r = h.now (none t r tn rl) in

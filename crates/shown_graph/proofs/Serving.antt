@@ -17,28 +17,28 @@ use Rattle.block_store.specs.Shapes.{shape_of}
 use Rattle.block_store.proofs.PayloadWords.{target-reference, target-number, target-nil}
 use Rattle.never_heap.specs.Graphs.{Graph, Object, ObjectKind, Record, Array, start_graph, object_of, field_of, register_of, same_name, set_field, with_register, with_field}
 use Rattle.object_lists.specs.Parts.{Part, Link, Field}
-use Rattle.shown_graph.specs.Layouts.{layout_blocks, layout_part, object_blocks, object_part, object_spot, kind_shape, shape_part}
+use Rattle.shown_graph.specs.Layouts.{layout_blocks, layout_part, object_blocks, object_part, object_slot, kind_shape, shape_part}
 use Rattle.shown_graph.specs.Words.{value_word, part_word, with_payload}
 use Rattle.shown_graph.specs.Shown.{IsValueOf, heads, Shows, every_name}
 use Rattle.array_trees.specs.Openings.{opening_blocks}
 use Rattle.shown_graph.specs.Openings.{opening_at}
-use Rattle.shown_graph.specs.Events.{ObjectLoad, ValueLoad, Loading, unloaded, value_in, with_load, is_late, lates, IsPrompt, GraphState, Event, object_at, value_at, register_word_in, apply, HasObject, HasValue, IsAtField, IsAtLink, IsConstant, Guard, run, Guarded, ObjectIs, ValueIs, LoadIs, Follows, opening_state}
-use Rattle.shown_graph.specs.Events.Event.{ReadObject, ReadValue, ReadShape, ReadLink, ReadField, StoreLate, StoreValue, StoreConstant, StoreField, Finish}
+use Rattle.shown_graph.specs.Events.{ObjectLoad, ValueLoad, Loading, unloaded, value_in, with_load, is_pending, pending_registers, IsPrompt, GraphState, Event, object_at, value_at, register_word_in, apply, HasObject, HasValue, IsAtField, IsAtLink, IsConstant, Guard, run, Guarded, ObjectIs, ValueIs, LoadIs, Follows, opening_state}
+use Rattle.shown_graph.specs.Events.Event.{ReadObject, ReadValue, ReadShape, ReadLink, ReadField, StorePending, StoreValue, StoreConstant, StoreField, Finish}
 use Rattle.shown_graph.proofs.ObjectLayouts.{object_layout}
 use Rattle.shown_graph.proofs.Names.{same_is}
 use Rattle.shown_graph.proofs.Opening.{opening_shows}
 use Rattle.shown_graph.proofs.Reading.{length_read, link_read, register_read}
-use Rattle.shown_graph.proofs.Stores.{register_store, register_late, late_store, field_store, more_late, register_same, register_new, object_same, changed_object, register_kept}
+use Rattle.shown_graph.proofs.Stores.{register_store, register_pending, pending_store, field_store, more_pending, register_same, register_new, object_same, changed_object, register_kept}
 
-pub prompt_register : (v : Option ValueLoad) (r : ℕ) → (value_in v).late ≡ false → is_late v r ≡ false
+pub prompt_register : (v : Option ValueLoad) (r : ℕ) → (value_in v).pending ≡ false → is_pending v r ≡ false
 prompt_register None r h = refl
 prompt_register (Some v) r h = rw h refl
 
 other_register : (v : Option ValueLoad) (r : ℕ) → ((value_in v).origin ≡ r → ⊥)
-    → is_late v r ≡ false
+    → is_pending v r ≡ false
 other_register None r h = refl
 other_register (Some v) r h =
-    elim (cases_Bool v.late) [ inl e ↦ rw (e, ne_eqb v.origin r h) refl | inr e ↦ rw e refl ]
+    elim (cases_Bool v.pending) [ inl e ↦ rw (e, ne_eqb v.origin r h) refl | inr e ↦ rw e refl ]
 
 pub load_here : (ls : ℕ → Loading) (t u : ℕ) (l : Loading) → t ≡ u → with_load ls t l u ≡ l
 load_here ls t u l e = ap (λ b. cond b l (ls u)) (eq-eqb t u e)
@@ -53,23 +53,23 @@ each_load P ls t l u here others = elim (cases_eq t u) [
   | inr n ↦ subst (λ x. P u x) (sym (load_other ls t u l n)) (others n)
 ]
 
--- what is not late after a load was not late before, where the thread had nothing late
+-- what is not pending after a load was not pending before, where the thread had nothing pending
 was_prompt : (ls : ℕ → Loading) (t : ℕ) (l : Loading) → IsPrompt (ls t) → (u q : ℕ)
-    → lates (with_load ls t l) u q ≡ false → lates ls u q ≡ false
+    → pending_registers (with_load ls t l) u q ≡ false → pending_registers ls u q ≡ false
 was_prompt ls t l prompt u q e = elim (cases_eq t u) [
-  | inl same ↦ subst (λ x. lates ls x q ≡ false) same (prompt_register (ls t).value q prompt)
-  | inr other ↦ ap (λ (x : Loading). is_late x.value q) (sym (load_other ls t u l other)) ∙ e
+  | inl same ↦ subst (λ x. pending_registers ls x q ≡ false) same (prompt_register (ls t).value q prompt)
+  | inr other ↦ ap (λ (x : Loading). is_pending x.value q) (sym (load_other ls t u l other)) ∙ e
 ]
 
 -- or where the value that it had loaded stays
-same_late : (ls : ℕ → Loading) (t : ℕ) (o : Option ObjectLoad) (u q : ℕ)
-    → lates (with_load ls t (record { object = o; value = (ls t).value })) u q ≡ false
-    → lates ls u q ≡ false
-same_late ls t o u q e = elim (cases_eq t u) [
-  | inl same ↦ ap (λ x. lates ls x q) (sym same)
-      ∙ sym (ap (λ (x : Loading). is_late x.value q)
+same_pending : (ls : ℕ → Loading) (t : ℕ) (o : Option ObjectLoad) (u q : ℕ)
+    → pending_registers (with_load ls t (record { object = o; value = (ls t).value })) u q ≡ false
+    → pending_registers ls u q ≡ false
+same_pending ls t o u q e = elim (cases_eq t u) [
+  | inl same ↦ ap (λ x. pending_registers ls x q) (sym same)
+      ∙ sym (ap (λ (x : Loading). is_pending x.value q)
       (load_here ls t u (record { object = o; value = (ls t).value }) same)) ∙ e
-  | inr other ↦ ap (λ (x : Loading). is_late x.value q)
+  | inr other ↦ ap (λ (x : Loading). is_pending x.value q)
       (sym (load_other ls t u (record { object = o; value = (ls t).value }) other)) ∙ e
 ]
 
@@ -162,16 +162,16 @@ module _ (W : Width) (n m : ℕ) (K : Name → Type 0) (at : Name → ℕ → �
 
   -- a thread loads, and no word changes
   loads : (t : ℕ) (l : Loading)
-      → ((u q : ℕ) → lates (with_load s.loads t l) u q ≡ false → lates s.loads u q ≡ false)
+      → ((u q : ℕ) → pending_registers (with_load s.loads t l) u q ≡ false → pending_registers s.loads u q ≡ false)
       → LoadIs W s.graph at t l
       → Follows W n m K at (record {
         graph = s.graph;
         words = s.words;
         loads = with_load s.loads t l;
       })
-  loads t l late is = record {
-    shows = more_late W n m K s.graph at s.words (lates s.loads) k.shows
-        (lates (with_load s.loads t l)) (λ u q un ql e. late u q e);
+  loads t l pending is = record {
+    shows = more_pending W n m K s.graph at s.words (pending_registers s.loads) k.shows
+        (pending_registers (with_load s.loads t l)) (λ u q un ql e. pending u q e);
     loads = λ u un. each_load (λ u l. LoadIs W s.graph at u l) s.loads t l u is (λ _. k.loads u un);
   }
 
@@ -184,11 +184,11 @@ module _ (W : Width) (n m : ℕ) (K : Name → Type 0) (at : Name → ℕ → �
   reads_object t r tn rl prompt some =
       let word : register_word_in W s.words t r
       ≡ value_word (heads at) (register_of s.graph t r) =
-      register_read W n m K s.graph at s.words (lates s.loads) k.shows t r tn rl
+      register_read W n m K s.graph at s.words (pending_registers s.loads) k.shows t r tn rl
       (prompt_register (s.loads t).value r prompt) in
       let to = refers_to (heads at) (register_of s.graph t r)
       (register_word_in W s.words t r) word some in
-      loads t _ (λ u q e. same_late s.loads t _ u q e) (record {
+      loads t _ (λ u q e. same_pending s.loads t _ u q e) (record {
         value = (k.loads t tn).value;
         object = record {
           source = rl;
@@ -207,7 +207,7 @@ module _ (W : Width) (n m : ℕ) (K : Name → Type 0) (at : Name → ℕ → �
     object = (k.loads t tn).object;
     value = record {
       origin = rl;
-      word = register_read W n m K s.graph at s.words (lates s.loads) k.shows t r tn rl
+      word = register_read W n m K s.graph at s.words (pending_registers s.loads) k.shows t r tn rl
           (prompt_register (s.loads t).value r prompt);
     };
   })
@@ -217,12 +217,12 @@ module _ (W : Width) (n m : ℕ) (K : Name → Type 0) (at : Name → ℕ → �
       → Follows W n m K at (apply W s (ReadShape t f))
   reads_shape t f tn has read =
       let i = object_is t tn has in
-      let is = length_read W n m K s.graph at s.words (lates s.loads) k.shows i.name
+      let is = length_read W n m K s.graph at s.words (pending_registers s.loads) k.shows i.name
       (object_at s t).ordinal (kept_object t tn (object_at s t) i) i.ordinal in
       let one : Some f ≡ Some (kind_shape (object_of s.graph i.name).kind
       (length (object_of s.graph i.name).fields)) =
       sym read ∙ ap (λ x. shape_of (s.words.shape x)) i.block ∙ is in
-      loads t _ (λ u q e. same_late s.loads t _ u q e) (record {
+      loads t _ (λ u q e. same_pending s.loads t _ u q e) (record {
         value = (k.loads t tn).value;
         object = record {
           source = i.source;
@@ -239,9 +239,9 @@ module _ (W : Width) (n m : ℕ) (K : Name → Type 0) (at : Name → ℕ → �
   reads_link t j p tn q =
       let i = object_is t tn q.object in
       let link = part_is t (object_at s t) i q.shape j (Link p) q.read q.link in
-      let word = link_read W n m K s.graph at s.words (lates s.loads) k.shows i.name
+      let word = link_read W n m K s.graph at s.words (pending_registers s.loads) k.shows i.name
       (object_at s t).ordinal j p (kept_object t tn (object_at s t) i) link in
-      loads t _ (λ u q e. same_late s.loads t _ u q e) (record {
+      loads t _ (λ u q e. same_pending s.loads t _ u q e) (record {
         value = (k.loads t tn).value;
         object = record {
           source = i.source;
@@ -264,10 +264,10 @@ module _ (W : Width) (n m : ℕ) (K : Name → Type 0) (at : Name → ℕ → �
       → (t ≡ u → ⊥) → LoadIs W (with_register s.graph t d v) at u (s.loads u)
   other_load t d v tn dl kept u un ne =
       load_stays W s.graph (with_register s.graph t d v) at u (s.loads u)
-      (λ r. sym (register_same W n m K s.graph at s.words (lates s.loads) k.shows
-      (lates s.loads) t d tn dl v kept u r (λ e _. ne e)))
-      (λ a. let e = object_same W n m K s.graph at s.words (lates s.loads) k.shows
-      (lates s.loads) t d tn dl v kept a in
+      (λ r. sym (register_same W n m K s.graph at s.words (pending_registers s.loads) k.shows
+      (pending_registers s.loads) t d tn dl v kept u r (λ e _. ne e)))
+      (λ a. let e = object_same W n m K s.graph at s.words (pending_registers s.loads) k.shows
+      (pending_registers s.loads) t d tn dl v kept a in
       (ap (λ (x : Object). x.kind) e, ap (λ (x : Object). length x.fields) e)) (k.loads u un)
 
   -- a kept value is stored in a register, and the command is over
@@ -282,9 +282,9 @@ module _ (W : Width) (n m : ℕ) (K : Name → Type 0) (at : Name → ℕ → �
   stores_register t d word v tn dl prompt kept e = record {
     shows = subst (λ x. Shows W n m K (with_register s.graph t d v) at
         (with_payload s.words (register_block W t d) (register_slot W d) x)
-        (lates (with_load s.loads t unloaded))) (sym e)
-        (register_store W n m K s.graph at s.words (lates s.loads) k.shows
-        (lates (with_load s.loads t unloaded)) t d tn dl v kept
+        (pending_registers (with_load s.loads t unloaded))) (sym e)
+        (register_store W n m K s.graph at s.words (pending_registers s.loads) k.shows
+        (pending_registers (with_load s.loads t unloaded)) t d tn dl v kept
         (λ u q f _. was_prompt s.loads t unloaded prompt u q f));
     loads = λ u un. each_load
         (λ u l. LoadIs W (with_register s.graph t d v) at u l) s.loads t unloaded u
@@ -312,7 +312,7 @@ module _ (W : Width) (n m : ℕ) (K : Name → Type 0) (at : Name → ℕ → �
       let (ka, block, low, field) = at_field t a i j tn q in
       let v = field_of (object_of s.graph a) i in
       let kept : IsValueOf K (field_of (object_of s.graph a) i) = k.shows.closed.fields a i ka in
-      let place = (object_layout W (object_of s.graph a)).spots (object_at s t).ordinal j i field in
+      let place = (object_layout W (object_of s.graph a)).slots (object_at s t).ordinal j i field in
       let word : s.words.payload (object_at s t).block j
       ≡ value_word (heads at) (field_of (object_of s.graph a) i) =
       ap (λ x. s.words.payload x j) block
@@ -323,13 +323,13 @@ module _ (W : Width) (n m : ℕ) (K : Name → Type 0) (at : Name → ℕ → �
         value = Some (record {
           origin = d;
           word = s.words.payload (object_at s t).block j;
-          late = true;
+          pending = true;
         });
       } in
       record {
-        shows = register_late W n m K s.graph at s.words (lates s.loads) k.shows
-            (lates (with_load s.loads t l)) t d tn dl (field_of (object_of s.graph a) i) kept
-            (ap (λ (x : Loading). is_late x.value d) (load_here s.loads t t l refl)
+        shows = register_pending W n m K s.graph at s.words (pending_registers s.loads) k.shows
+            (pending_registers (with_load s.loads t l)) t d tn dl (field_of (object_of s.graph a) i) kept
+            (ap (λ (x : Loading). is_pending x.value d) (load_here s.loads t t l refl)
             ∙ eq-eqb d d refl) (λ u q e. was_prompt s.loads t l prompt u q e);
         loads = λ u un. each_load
             (λ u l. LoadIs W (with_register s.graph t d
@@ -340,27 +340,27 @@ module _ (W : Width) (n m : ℕ) (K : Name → Type 0) (at : Name → ℕ → �
                 origin = dl;
                 word = word
                     ∙ ap (value_word (heads at))
-                    (register_new W n m K s.graph at s.words (lates s.loads) k.shows
-                    (lates s.loads) t d tn dl (field_of (object_of s.graph a) i) kept);
+                    (register_new W n m K s.graph at s.words (pending_registers s.loads) k.shows
+                    (pending_registers s.loads) t d tn dl (field_of (object_of s.graph a) i) kept);
               };
             })
             (λ ne. other_load t d (field_of (object_of s.graph a) i) tn dl kept u un ne);
       }
 
-  stores_late : (t : ℕ) → t < n → HasValue s t → Follows W n m K at (apply W s (StoreLate t))
-  stores_late t tn has =
+  stores_pending : (t : ℕ) → t < n → HasValue s t → Follows W n m K at (apply W s (StorePending t))
+  stores_pending t tn has =
       let v = value_is t tn has in
       record {
         shows = subst (λ x. Shows W n m K s.graph at
             (with_payload s.words (register_block W t (value_at s t).origin)
-            (register_slot W (value_at s t).origin) x) (lates (with_load s.loads t unloaded)))
+            (register_slot W (value_at s t).origin) x) (pending_registers (with_load s.loads t unloaded)))
             (sym v.word)
-            (late_store W n m K s.graph at s.words (lates s.loads) k.shows
-            (lates (with_load s.loads t unloaded)) t (value_at s t).origin tn v.origin
+            (pending_store W n m K s.graph at s.words (pending_registers s.loads) k.shows
+            (pending_registers (with_load s.loads t unloaded)) t (value_at s t).origin tn v.origin
             (λ u q e ne. elim (cases_eq t u) [
-              | inl same ↦ subst (λ x. lates s.loads x q ≡ false) same
+              | inl same ↦ subst (λ x. pending_registers s.loads x q ≡ false) same
                   (other_register (s.loads t).value q (λ f. ne same f))
-              | inr other ↦ ap (λ (x : Loading). is_late x.value q)
+              | inr other ↦ ap (λ (x : Loading). is_pending x.value q)
                   (sym (load_other s.loads t u unloaded other)) ∙ e
             ]));
         loads = λ u un. each_load (λ u l. LoadIs W s.graph at u l) s.loads t unloaded u
@@ -375,26 +375,26 @@ module _ (W : Width) (n m : ℕ) (K : Name → Type 0) (at : Name → ℕ → �
       let x = register_of s.graph t (value_at s t).origin in
       let kept : IsValueOf K (register_of s.graph t (value_at s t).origin) =
       k.shows.closed.registers t (value_at s t).origin tn v.origin in
-      let place = (object_layout W (object_of s.graph a)).spots (object_at s t).ordinal j i field in
-      let spot : (object_at s t).block ≡ at a (object_spot W (object_of s.graph a) i).0 =
+      let place = (object_layout W (object_of s.graph a)).slots (object_at s t).ordinal j i field in
+      let slot : (object_at s t).block ≡ at a (object_slot W (object_of s.graph a) i).0 =
       block ∙ ap (at a) place.3 in
       let h = with_field s.graph a i (register_of s.graph t (value_at s t).origin) in
       record {
-        shows = more_late W n m K _ at _ (lates s.loads)
+        shows = more_pending W n m K _ at _ (pending_registers s.loads)
             (subst (λ b. Shows W n m K
             (with_field s.graph a i (register_of s.graph t (value_at s t).origin)) at
-            (with_payload s.words b j (value_at s t).word) (lates s.loads)) (sym spot)
+            (with_payload s.words b j (value_at s t).word) (pending_registers s.loads)) (sym slot)
             (subst (λ y. Shows W n m K
             (with_field s.graph a i (register_of s.graph t (value_at s t).origin)) at
-            (with_payload s.words (at a (object_spot W (object_of s.graph a) i).0) y
-            (value_at s t).word) (lates s.loads)) (sym place.4)
+            (with_payload s.words (at a (object_slot W (object_of s.graph a) i).0) y
+            (value_at s t).word) (pending_registers s.loads)) (sym place.4)
             (subst (λ y. Shows W n m K
             (with_field s.graph a i (register_of s.graph t (value_at s t).origin)) at
-            (with_payload s.words (at a (object_spot W (object_of s.graph a) i).0)
-            (object_spot W (object_of s.graph a) i).1 y) (lates s.loads)) (sym v.word)
-            (field_store W n m K s.graph at s.words (lates s.loads) k.shows a i
+            (with_payload s.words (at a (object_slot W (object_of s.graph a) i).0)
+            (object_slot W (object_of s.graph a) i).1 y) (pending_registers s.loads)) (sym v.word)
+            (field_store W n m K s.graph at s.words (pending_registers s.loads) k.shows a i
             (register_of s.graph t (value_at s t).origin) ka place.0 kept))))
-            (lates (with_load s.loads t unloaded))
+            (pending_registers (with_load s.loads t unloaded))
             (λ u q un ql e. was_prompt s.loads t unloaded prompt u q e);
         loads = λ u un. each_load
             (λ u l. LoadIs W (with_field s.graph a i
@@ -403,10 +403,10 @@ module _ (W : Width) (n m : ℕ) (K : Name → Type 0) (at : Name → ℕ → �
             (λ _. load_stays W s.graph
             (with_field s.graph a i (register_of s.graph t (value_at s t).origin)) at u
             (s.loads u)
-            (λ r. sym (register_kept W n m K s.graph at s.words (lates s.loads) k.shows a i
+            (λ r. sym (register_kept W n m K s.graph at s.words (pending_registers s.loads) k.shows a i
             (register_of s.graph t (value_at s t).origin) ka place.0 kept u r))
             (λ b. same_size a i (register_of s.graph t (value_at s t).origin) b
-            (changed_object W n m K s.graph at s.words (lates s.loads) k.shows a i
+            (changed_object W n m K s.graph at s.words (pending_registers s.loads) k.shows a i
             (register_of s.graph t (value_at s t).origin) ka place.0 kept b))
             (k.loads u un));
       }
@@ -446,7 +446,7 @@ module _ (W : Width) (n m : ℕ) (K : Name → Type 0) (at : Name → ℕ → �
   step_follows s (ReadShape t f) q k = reads_shape W n m K at s k t f q.0 q.1 q.2
   step_follows s (ReadLink t j p) q k = reads_link W n m K at s k t j p q.0 q.1
   step_follows s (ReadField t d a i j) q k = reads_field W n m K at s k t d a i j q.0 q.1 q.2 q.3
-  step_follows s (StoreLate t) q k = stores_late W n m K at s k t q.0 q.1
+  step_follows s (StorePending t) q k = stores_pending W n m K at s k t q.0 q.1
   step_follows s (StoreValue t d) q k =
       let v = value_is W n m K at s k t q.0 q.3 in
       stores_register W n m K at s k t d (value_at s t).word

@@ -14,7 +14,7 @@ use Rattle.block_store.specs.declared.Value.TheVariants.{Nil}
 use Rattle.never_heap.specs.Graphs.{Graph, Object, object_of, field_of, register_of, mutator_at, same_name, with_register, with_field, set_field}
 use Rattle.never_heap.proofs.GraphMoves.{get_or_set, object_with_register, has_name_with_register, register_with_register, sixteen_with_register}
 use Rattle.never_heap.proofs.FieldStores.{object_with_field, has_name_with_field, registers_with_field, threads_with_field}
-use Rattle.shown_graph.specs.Layouts.{layout_blocks, object_blocks, object_spot}
+use Rattle.shown_graph.specs.Layouts.{layout_blocks, object_blocks, object_slot}
 use Rattle.shown_graph.specs.Words.{Agrees, BlockWords, value_word, with_payload}
 use Rattle.shown_graph.specs.Shown.{IsValueOf, heads, Placed, Numbered, Closed, IsSized, Shows}
 use Rattle.shown_graph.proofs.Names.{same_is, true≢false, value_stays}
@@ -49,13 +49,13 @@ pub register_apart : (W : Width) (n m : ℕ) (K : Name → Type 0) (object : Nam
 register_apart W n m K object at placed x low a o ka ol e = omega (arith, placed.behind a o ka ol)
 
 module _ (W : Width) (n m : ℕ) (K : Name → Type 0) (g : Graph) (at : Name → ℕ → ℕ)
-    (w : BlockWords) (late : ℕ → ℕ → Bool) (shows : Shows W n m K g at w late) where
+    (w : BlockWords) (pending : ℕ → ℕ → Bool) (shows : Shows W n m K g at w pending) where
   -- Words change that are of no register block and of no block of a kept object.
   pub words_change : (u : BlockWords)
       → ((x j : ℕ) → 0 < x → x ≤ registers_end W n → j < payloads W
       → u.payload x j ≡ w.payload x j)
       → ((a : Name) (o : ℕ) → K a → o < object_blocks W (object_of g a) → Agrees W w u (at a o))
-      → Shows W n m K g at u late
+      → Shows W n m K g at u pending
   words_change u registers objects = record {
     sized = shows.sized;
     names = shows.names;
@@ -65,26 +65,26 @@ module _ (W : Width) (n m : ℕ) (K : Name → Type 0) (g : Graph) (at : Name �
     written = others_written W K K (object_of g) (object_of g) at w u (λ a k. k)
         (λ a k. refl) objects shows.written;
     registers = registers_stay W n K (heads at) (register_of g)
-        (register_of g) late late w u registers (λ t r tn rl e. (e, refl)) shows.registers;
+        (register_of g) pending pending w u registers (λ t r tn rl e. (e, refl)) shows.registers;
   }
 
-  -- A register that is late may have the value that it shows.
-  pub more_late : (late' : ℕ → ℕ → Bool)
-      → ((t r : ℕ) → t < n → r < REGISTERS → late' t r ≡ false → late t r ≡ false)
-      → Shows W n m K g at w late'
-  more_late late' more = record {
+  -- A register that is pending may have the value that it shows.
+  pub more_pending : (pending' : ℕ → ℕ → Bool)
+      → ((t r : ℕ) → t < n → r < REGISTERS → pending' t r ≡ false → pending t r ≡ false)
+      → Shows W n m K g at w pending'
+  more_pending pending' more = record {
     sized = shows.sized;
     names = shows.names;
     closed = shows.closed;
     numbered = shows.numbered;
     placed = shows.placed;
     written = shows.written;
-    registers = registers_stay W n K (heads at) (register_of g) (register_of g) late late' w w
+    registers = registers_stay W n K (heads at) (register_of g) (register_of g) pending pending' w w
         (λ x j some xl jl. refl) (λ t r tn rl e. (more t r tn rl e, refl)) shows.registers;
   }
 
   -- There is room behind the last block.
-  pub later_last : (l : ℕ) → m ≤ l → Shows W n l K g at w late
+  pub later_last : (l : ℕ) → m ≤ l → Shows W n l K g at w pending
   later_last l more = record {
     sized = shows.sized;
     names = shows.names;
@@ -98,10 +98,10 @@ module _ (W : Width) (n m : ℕ) (K : Name → Type 0) (g : Graph) (at : Name �
     };
   }
 
-  -- Fewer names are kept, where these refer to each other alone and no register is late.
+  -- Fewer names are kept, where these refer to each other alone and no register is pending.
   pub fewer_names : (L : Name → Type 0) → ((a : Name) → L a → K a)
       → Closed n L (object_of g) (register_of g)
-      → ((t r : ℕ) → t < n → r < REGISTERS → late t r ≡ false) → Shows W n m L g at w late
+      → ((t r : ℕ) → t < n → r < REGISTERS → pending t r ≡ false) → Shows W n m L g at w pending
   fewer_names L down closed none = record {
     sized = shows.sized;
     names = λ a la. shows.names a (down a la);
@@ -115,12 +115,12 @@ module _ (W : Width) (n m : ℕ) (K : Name → Type 0) (g : Graph) (at : Name �
           payloads = λ j jl. refl;
         }) shows.written;
     registers = registers_fewer W n K L (heads at)
-        (register_of g) late w none closed.registers shows.registers;
+        (register_of g) pending w none closed.registers shows.registers;
   }
 
   -- The same names, said otherwise.
   pub same_names : (L : Name → Type 0) → ((a : Name) → L a → K a) → ((a : Name) → K a → L a)
-      → Shows W n m L g at w late
+      → Shows W n m L g at w pending
   same_names L down up = record {
     sized = shows.sized;
     names = λ a la. shows.names a (down a la);
@@ -138,22 +138,22 @@ module _ (W : Width) (n m : ℕ) (K : Name → Type 0) (g : Graph) (at : Name �
           shapes = refl;
           payloads = λ j jl. refl;
         }) shows.written;
-    registers = registers_renamed W n K L (heads at) (heads at) (register_of g) late w up
+    registers = registers_renamed W n K L (heads at) (heads at) (register_of g) pending w up
         (λ a ka. refl) shows.registers;
   }
 
-  module _ (late' : ℕ → ℕ → Bool) (t r : ℕ) (there : t < n) (small : r < REGISTERS) where
+  module _ (pending' : ℕ → ℕ → Bool) (t r : ℕ) (there : t < n) (small : r < REGISTERS) where
     in_graph : t < length g.mutators
     in_graph = subst (λ k. t < k) (sym shows.sized.threads) there
 
     full : r < length (mutator_at g t).registers
     full = subst (λ k. r < k) (sym (shows.sized.sixteen t there)) small
 
-    -- The word of the value that the register has is stored. This ends a late store.
-    pub late_store : ((u q : ℕ) → late' u q ≡ false → ((t ≡ u) → (r ≡ q) → ⊥) → late u q ≡ false)
+    -- The word of the value that the register has is stored. This ends a pending store.
+    pub pending_store : ((u q : ℕ) → pending' u q ≡ false → ((t ≡ u) → (r ≡ q) → ⊥) → pending u q ≡ false)
         → Shows W n m K g at (with_payload w (register_block W t r) (register_slot W r)
-        (value_word (heads at) (register_of g t r))) late'
-    late_store others = record {
+        (value_word (heads at) (register_of g t r))) pending'
+    pending_store others = record {
       sized = shows.sized;
       names = shows.names;
       closed = shows.closed;
@@ -164,7 +164,7 @@ module _ (W : Width) (n m : ℕ) (K : Name → Type 0) (g : Graph) (at : Name �
           (register_apart W n m K (object_of g) at shows.placed (register_block W t r)
           (register_low W n t r there small) a o ka ol)) shows.written;
       registers = registers_stored W n K (heads at) (register_of g)
-          (register_of g) late late' w t r (register_of g t r) there small
+          (register_of g) pending pending' w t r (register_of g t r) there small
           (shows.closed.registers t r there small) (λ e. refl)
           (λ u q ne e. (others u q e ne, refl)) shows.registers;
     }
@@ -215,10 +215,10 @@ module _ (W : Width) (n m : ℕ) (K : Name → Type 0) (g : Graph) (at : Name �
       }
 
       -- A kept value is stored in a register, by the word and in the graph.
-      pub register_store : ((u q : ℕ) → late' u q ≡ false → ((t ≡ u) → (r ≡ q) → ⊥)
-          → late u q ≡ false) → Shows W n m K (with_register g t r v) at
+      pub register_store : ((u q : ℕ) → pending' u q ≡ false → ((t ≡ u) → (r ≡ q) → ⊥)
+          → pending u q ≡ false) → Shows W n m K (with_register g t r v) at
           (with_payload w (register_block W t r) (register_slot W r)
-          (value_word (heads at) v)) late'
+          (value_word (heads at) v)) pending'
       register_store others = record {
         sized = moved_sized;
         names = λ a ka. has_name_with_register g t r v a in_graph ∙ shows.names a ka;
@@ -233,15 +233,15 @@ module _ (W : Width) (n m : ℕ) (K : Name → Type 0) (g : Graph) (at : Name �
             (register_apart W n m K (object_of g) at shows.placed (register_block W t r)
             (register_low W n t r there small) a o ka ol)) shows.written;
         registers = registers_stored W n K (heads at) (register_of g)
-            (register_of (with_register g t r v)) late late' w t r v there small kept
+            (register_of (with_register g t r v)) pending pending' w t r v there small kept
             (λ e. register_new)
             (λ u q ne e. (others u q e ne, register_same u q ne)) shows.registers;
       }
 
-      -- A kept value is stored in a register of the graph, whose word is late from now on.
-      pub register_late : late' t r ≡ true → ((u q : ℕ) → late' u q ≡ false → late u q ≡ false)
-          → Shows W n m K (with_register g t r v) at w late'
-      register_late is others = record {
+      -- A kept value is stored in a register of the graph, whose word is pending from now on.
+      pub register_pending : pending' t r ≡ true → ((u q : ℕ) → pending' u q ≡ false → pending u q ≡ false)
+          → Shows W n m K (with_register g t r v) at w pending'
+      register_pending is others = record {
         sized = moved_sized;
         names = λ a ka. has_name_with_register g t r v a in_graph ∙ shows.names a ka;
         closed = moved_closed;
@@ -257,7 +257,7 @@ module _ (W : Width) (n m : ℕ) (K : Name → Type 0) (g : Graph) (at : Name �
               payloads = λ j jl. refl;
             }) shows.written;
         registers = registers_stay W n K (heads at) (register_of g)
-            (register_of (with_register g t r v)) late late' w w (λ x j some xl jl. refl)
+            (register_of (with_register g t r v)) pending pending' w w (λ x j some xl jl. refl)
             (λ u q un ql e. (
               others u q e,
               register_same u q (λ tu rq. true≢false
@@ -300,13 +300,13 @@ module _ (W : Width) (n m : ℕ) (K : Name → Type 0) (g : Graph) (at : Name �
           | inr other ↦ rw other (shows.closed.fields b k kb)
         ])
 
-    -- A kept value is stored in a field of a kept object, at the field's spot.
+    -- A kept value is stored in a field of a kept object, at the field's slot.
     pub field_store : Shows W n m K (with_field g a i v) at
-        (with_payload w (at a (object_spot W (object_of g a) i).0)
-        (object_spot W (object_of g a) i).1 (value_word (heads at) v)) late
+        (with_payload w (at a (object_slot W (object_of g a) i).0)
+        (object_slot W (object_of g a) i).1 (value_word (heads at) v)) pending
     field_store =
-        let spot : (object_spot W (object_of g a) i).0 < object_blocks W (object_of g a) =
-        ((object_layout W (object_of g a)).spots _ _ i
+        let slot : (object_slot W (object_of g a) i).0 < object_blocks W (object_of g a) =
+        ((object_layout W (object_of g a)).slots _ _ i
         ((object_layout W (object_of g a)).fields i within)).1 in
         record {
           sized = record {
@@ -328,10 +328,10 @@ module _ (W : Width) (n m : ℕ) (K : Name → Type 0) (g : Graph) (at : Name �
               (object_of (with_field g a i v)) at w a i v
               shows.numbered ka within changed_object shows.written;
           registers = registers_stay W n K (heads at) (register_of g)
-              (register_of (with_field g a i v)) late late w _
+              (register_of (with_field g a i v)) pending pending w _
               (λ x j some xl jl. payload_other w _ _ _ x j
-              (rw (ne_eqb (at a (object_spot W (object_of g a) i).0) x
-              (λ e. register_apart W n m K (object_of g) at shows.placed x xl a _ ka spot
+              (rw (ne_eqb (at a (object_slot W (object_of g a) i).0) x
+              (λ e. register_apart W n m K (object_of g) at shows.placed x xl a _ ka slot
               (sym e))) refl))
               (λ t r tn rl e. (e, register_kept t r)) shows.registers;
         }

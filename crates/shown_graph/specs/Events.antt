@@ -26,12 +26,12 @@ pub record ObjectLoad : Type 0 where
   pub ordinal : ℕ
   pub shape : Option Shape
 
--- the word of the value in register origin. It is late where the register has the value already,
+-- the word of the value in register origin. It is pending where the register has the value already,
 -- and its word is older.
 pub record ValueLoad : Type 0 where
   pub origin : ℕ
   pub word : ℕ
-  pub late : Bool
+  pub pending : Bool
 
 -- what a thread has loaded for its command
 pub record Loading : Type 0 where
@@ -46,24 +46,24 @@ object_in None = record { source = 0; block = 0; ordinal = 0; shape = None }
 object_in (Some l) = l
 
 abbrev pub value_in : Option ValueLoad → ValueLoad
-value_in None = record { origin = 0; word = 0; late = false }
+value_in None = record { origin = 0; word = 0; pending = false }
 value_in (Some v) = v
 
 -- the loads with those of thread t changed
 abbrev pub with_load : (ℕ → Loading) → ℕ → Loading → ℕ → Loading
 with_load ls t l = λ u. cond (t == u) l (ls u)
 
--- a register is late where its thread has loaded a late value for it
-abbrev pub is_late : Option ValueLoad → ℕ → Bool
-is_late None r = false
-is_late (Some v) r = v.late && (v.origin == r)
+-- a register is pending where its thread has loaded a pending value for it
+abbrev pub is_pending : Option ValueLoad → ℕ → Bool
+is_pending None r = false
+is_pending (Some v) r = v.pending && (v.origin == r)
 
-abbrev pub lates : (ℕ → Loading) → ℕ → ℕ → Bool
-lates ls t r = is_late (ls t).value r
+abbrev pub pending_registers : (ℕ → Loading) → ℕ → ℕ → Bool
+pending_registers ls t r = is_pending (ls t).value r
 
 -- no store of the thread is still to come
 abbrev pub IsPrompt : Loading → Type 0
-IsPrompt l = (value_in l.value).late ≡ false
+IsPrompt l = (value_in l.value).pending ≡ false
 
 -- the graph, the words of the blocks, and what each thread has loaded
 pub record GraphState : Type 0 where
@@ -79,7 +79,7 @@ pub data Event : Type 0 where
   ReadLink : (t j p : ℕ) → Event  -- payload j, which links to ordinal p
   -- payload j, which is field i of a; register d of the graph has it from now on
   ReadField : (t d : ℕ) (a : Name) (i j : ℕ) → Event
-  StoreLate : (t : ℕ) → Event  -- the word of that value is stored in its register
+  StorePending : (t : ℕ) → Event  -- the word of that value is stored in its register
   StoreValue : (t d : ℕ) → Event  -- the loaded value is stored in register d
   StoreConstant : (t d : ℕ) (v : Value) → Event  -- nil or a number is stored in register d
   -- the loaded value is stored at payload j, which is field i of a
@@ -122,20 +122,20 @@ apply W s (ReadObject t r) =
       shape = None;
     })
 apply W s (ReadValue t r) =
-    load_value s t (record { origin = r; word = register_word_in W s.words t r; late = false })
+    load_value s t (record { origin = r; word = register_word_in W s.words t r; pending = false })
 apply W s (ReadShape t f) = load_object s t (record (object_at s t) { shape = Some f })
 apply W s (ReadLink t j p) =
     let block = target (s.words.payload (object_at s t).block j) in
     load_object s t (record (object_at s t) { block = block; ordinal = p })
 apply W s (ReadField t d a i j) =
     let word = s.words.payload (object_at s t).block j in
-    let value : ValueLoad = record { origin = d; word = word; late = true } in
+    let value : ValueLoad = record { origin = d; word = word; pending = true } in
     record {
       graph = with_register s.graph t d (field_of (object_of s.graph a) i);
       words = s.words;
       loads = with_load s.loads t (record { object = None; value = Some value });
     }
-apply W s (StoreLate t) =
+apply W s (StorePending t) =
     let v = value_at s t in
     stored s t s.graph (with_register_word W s.words t v.origin v.word)
 apply W s (StoreValue t d) =
@@ -189,7 +189,7 @@ Guard W n s (ReadShape t f) =
 Guard W n s (ReadLink t j p) = (t < n) × IsAtLink W s t j p
 Guard W n s (ReadField t d a i j) =
     (t < n) × (d < REGISTERS) × IsPrompt (s.loads t) × IsAtField W s t a i j
-Guard W n s (StoreLate t) = (t < n) × HasValue s t × ((value_at s t).late ≡ true)
+Guard W n s (StorePending t) = (t < n) × HasValue s t × ((value_at s t).pending ≡ true)
 Guard W n s (StoreValue t d) = (t < n) × (d < REGISTERS) × IsPrompt (s.loads t) × HasValue s t
 Guard W n s (StoreConstant t d v) =
     (t < n) × (d < REGISTERS) × IsPrompt (s.loads t) × IsConstant v
@@ -230,7 +230,7 @@ pub record LoadIs (W : Width) (g : Graph) (at : Name → ℕ → ℕ) (t : ℕ) 
 -- The words show the graph, and what the threads have loaded is of it.
 pub record Follows (W : Width) (n m : ℕ) (K : Name → Type 0) (at : Name → ℕ → ℕ)
     (s : GraphState) : Type 0 where
-  pub shows : Shows W n m K s.graph at s.words (lates s.loads)
+  pub shows : Shows W n m K s.graph at s.words (pending_registers s.loads)
   pub loads : (t : ℕ) → t < n → LoadIs W s.graph at t (s.loads t)
 
 -- the opening words of the start graph, with nothing loaded

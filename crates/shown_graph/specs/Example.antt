@@ -13,7 +13,7 @@ use Rattle.block_store.specs.Payloads.{reference_word}
 use Rattle.block_store.specs.Shapes.{record_word}
 use Rattle.shown_graph.specs.Words.{BlockWords}
 use Rattle.shown_graph.specs.Events.{Event}
-use Rattle.shown_graph.specs.Events.Event.{ReadObject, ReadValue, ReadShape, ReadField, StoreLate, StoreConstant, StoreField}
+use Rattle.shown_graph.specs.Events.Event.{ReadObject, ReadValue, ReadShape, ReadField, StorePending, StoreConstant, StoreField}
 
 abbrev pub small_config : Width → Config
 small_config W = record {
@@ -42,7 +42,7 @@ abbrev pub some_events : List Event
 some_events =
     StoreConstant 0 1 (Int 7)
     ∷ ReadObject 0 0 ∷ ReadShape 0 (shapes.Tree 4) ∷ ReadValue 0 1 ∷ StoreField 0 shared_array 2 2
-    ∷ ReadObject 1 0 ∷ ReadShape 1 (shapes.Tree 4) ∷ ReadField 1 2 shared_array 2 2 ∷ StoreLate 1
+    ∷ ReadObject 1 0 ∷ ReadShape 1 (shapes.Tree 4) ∷ ReadField 1 2 shared_array 2 2 ∷ StorePending 1
     ∷ []
 
 -- A record of two blocks that thread 0 has written in blocks 12 and 13, at the opening: it has as

@@ -1,8 +1,8 @@
 -- How an object lies in blocks of the width W: a record as a list, an array as a tree.
 use Rattle.std.specs.Prelude.{ℕ, length}
 use Rattle.object_lists.specs.Parts.{Part}
-use Rattle.object_lists.specs.Records.{record_part, record_spot}
-use Rattle.array_trees.specs.Levels.{array_part, array_spot}
+use Rattle.object_lists.specs.Records.{record_part, record_slot}
+use Rattle.array_trees.specs.Levels.{array_part, array_slot}
 use Rattle.block_store.specs.declared.Shape.{Shape}
 use Rattle.block_store.specs.declared.Width.{Width}
 use Rattle.block_store.specs.declared.Shape.TheVariants as shapes
@@ -20,16 +20,16 @@ layout_part W Record n o j = record_part W n o j
 layout_part W Array n o j = array_part W n o j
 
 -- the ordinal and the payload where field i stands
-abbrev pub layout_spot : Width → ObjectKind → ℕ → ℕ → ℕ × ℕ
-layout_spot W Record n i = record_spot W i
-layout_spot W Array n i = array_spot W n i
+abbrev pub layout_slot : Width → ObjectKind → ℕ → ℕ → ℕ × ℕ
+layout_slot W Record n i = record_slot W i
+layout_slot W Array n i = array_slot W n i
 
 -- the same of an object; how many blocks it takes is said with the graph
 abbrev pub object_part : Width → Object → ℕ → ℕ → Part
 object_part W o = layout_part W o.kind (length o.fields)
 
-abbrev pub object_spot : Width → Object → ℕ → ℕ × ℕ
-object_spot W o = layout_spot W o.kind (length o.fields)
+abbrev pub object_slot : Width → Object → ℕ → ℕ × ℕ
+object_slot W o = layout_slot W o.kind (length o.fields)
 
 -- the shape of an object of this kind and length, and what stands in the blocks of a shape
 abbrev pub kind_shape : ObjectKind → ℕ → Shape

@@ -53,14 +53,14 @@ pub record Numbered (W : Width) (K : Name → Type 0) (object : Name → Object)
   pub serials : (a : Name) → K a → a.serial ≤ 131072
   pub ordinals : (a : Name) → K a → object_blocks W (object a) ≤ 1024
 
--- a register's word is that of its value; where the register is late, it is still that of an
+-- a register's word is that of its value; where the register is pending, it is still that of an
 -- earlier value
 pub record RegisterShows (word : ℕ) (head : Name → ℕ) (K : Name → Type 0) (v : Value)
-    (late : Bool) : Type 0 where
+    (pending : Bool) : Type 0 where
   pub value : Value
   pub kept : IsValueOf K value
   pub reads : word ≡ value_word head value
-  pub now : late ≡ false → value ≡ v
+  pub now : pending ≡ false → value ≡ v
 
 -- payload j of the root of thread t's register array: the root refers to the array's other blocks
 abbrev pub root_word : Width → ℕ → ℕ → ℕ
@@ -69,10 +69,10 @@ root_word W t j =
 
 -- the words show the registers of n threads, and each thread's register array has its root
 pub record Registers (W : Width) (n : ℕ) (K : Name → Type 0) (head : Name → ℕ)
-    (register : ℕ → ℕ → Value) (late : ℕ → ℕ → Bool) (w : BlockWords) : Type 0 where
+    (register : ℕ → ℕ → Value) (pending : ℕ → ℕ → Bool) (w : BlockWords) : Type 0 where
   pub holds : (t r : ℕ) → t < n → r < REGISTERS
       → RegisterShows (w.payload (register_block W t r) (register_slot W r)) head K (register t r)
-      (late t r)
+      (pending t r)
   pub roots : (t j : ℕ) → t < n → j < payloads W → w.payload (root_block W t) j ≡ root_word W t j
 
 -- what stands in a field of a kept object or in a register is kept
@@ -87,16 +87,16 @@ pub record IsSized (n : ℕ) (g : Graph) : Type 0 where
   pub sixteen : (t : ℕ) → t < n → length (mutator_at g t).registers ≡ REGISTERS
 
 -- The words show the kept part of a graph of n threads, where ordinal o of the object of name a
--- stands at block at a o, m at the latest. A late register is one whose store is still to come.
+-- stands at block at a o, m at the latest. A pending register is one whose store is still to come.
 pub record Shows (W : Width) (n m : ℕ) (K : Name → Type 0) (g : Graph) (at : Name → ℕ → ℕ)
-    (w : BlockWords) (late : ℕ → ℕ → Bool) : Type 0 where
+    (w : BlockWords) (pending : ℕ → ℕ → Bool) : Type 0 where
   pub sized : IsSized n g
   pub names : (a : Name) → K a → has_name g a ≡ true
   pub closed : Closed n K (object_of g) (register_of g)
   pub numbered : Numbered W K (object_of g)
   pub placed : Placed W n m K (object_of g) at
   pub written : Written W K (object_of g) at w
-  pub registers : Registers W n K (heads at) (register_of g) late w
+  pub registers : Registers W n K (heads at) (register_of g) pending w
 
 -- the names that a test keeps
 abbrev pub named : (Name → Bool) → Name → Type 0
@@ -106,6 +106,6 @@ named test a = test a ≡ true
 abbrev pub every_name : Graph → Name → Type 0
 every_name g a = has_name g a ≡ true
 
--- no register is late
-abbrev pub never_late : ℕ → ℕ → Bool
-never_late t r = false
+-- no register is pending
+abbrev pub none_pending : ℕ → ℕ → Bool
+none_pending t r = false

@@ -13,7 +13,7 @@ use Rattle.shown_graph.specs.Shown.{IsValueOf, heads, Shows, named}
 use Rattle.shown_graph.specs.Made.{new_object, with_blocks, IsMade}
 
 -- the width of the blocks, how many threads there are, the last block, the kept names, the graph,
--- where the ordinals of objects stand, the words, and which registers are late
+-- where the ordinals of objects stand, the words, and which registers are pending
 pub record Snapshot : Type 0 where
   pub width : Width
   pub threads : ℕ
@@ -22,11 +22,11 @@ pub record Snapshot : Type 0 where
   pub graph : Graph
   pub at : Name → ℕ → ℕ
   pub words : BlockWords
-  pub late : ℕ → ℕ → Bool
+  pub pending : ℕ → ℕ → Bool
 
 -- the words show the kept part of the graph
 abbrev pub IsShown : Snapshot → Type 0
-IsShown s = Shows s.width s.threads s.last (named s.kept) s.graph s.at s.words s.late
+IsShown s = Shows s.width s.threads s.last (named s.kept) s.graph s.at s.words s.pending
 
 abbrev pub IsRegister : Snapshot → ℕ → ℕ → Type 0
 IsRegister s t r = (t < s.threads) × (r < REGISTERS)
@@ -61,11 +61,11 @@ referred_new s t d k n block_of = record s {
   words = with_register_word s.width s.words t d (reference_word (block_of 0));
 }
 
--- no register becomes late, but that register r of thread t may be late no more
+-- no register becomes pending, but that register r of thread t may be pending no more
 abbrev pub CatchesUp : Snapshot → (ℕ → ℕ → Bool) → ℕ → ℕ → Type 0
 CatchesUp s later t r =
-    (u q : ℕ) → later u q ≡ false → ((t ≡ u) → (r ≡ q) → ⊥) → s.late u q ≡ false
+    (u q : ℕ) → later u q ≡ false → ((t ≡ u) → (r ≡ q) → ⊥) → s.pending u q ≡ false
 
--- registers may become late, and none is late no more
+-- registers may become pending, and none is pending no more
 abbrev pub FallsBehind : Snapshot → (ℕ → ℕ → Bool) → Type 0
-FallsBehind s later = (u q : ℕ) → later u q ≡ false → s.late u q ≡ false
+FallsBehind s later = (u q : ℕ) → later u q ≡ false → s.pending u q ≡ false

@@ -21,9 +21,9 @@ ghost use Rattle.block_store.specs.Widths.{payloads};
 ghost use Rattle.object_lists.specs.Layouts.{IsLayout, IsWay};
 ghost use Rattle.array_trees.specs.Openings.{opening_blocks};
 ghost use Rattle.never_heap.specs.Graphs.{Graph, ObjectKind, Record, start_graph, object_of, field_of, register_of, has_name, with_register, with_field, with_object, next_name};
-ghost use Rattle.shown_graph.specs.Layouts.{kind_shape, layout_blocks, layout_part, layout_spot, object_part, object_spot};
+ghost use Rattle.shown_graph.specs.Layouts.{kind_shape, layout_blocks, layout_part, layout_slot, object_part, object_slot};
 ghost use Rattle.shown_graph.specs.Words.{Agrees, BlockWords, with_payload, with_register_word};
-ghost use Rattle.shown_graph.specs.Shown.{heads, BlockShows, Closed, Shows, every_name, named, never_late};
+ghost use Rattle.shown_graph.specs.Shown.{heads, BlockShows, Closed, Shows, every_name, named, none_pending};
 ghost use Rattle.shown_graph.specs.Made.{new_object, with_blocks, and_name, IsMade, IsWritten};
 ghost use Rattle.shown_graph.specs.Snapshots.{Snapshot, IsShown, IsRegister, IsKeptValue, word_of, IsBlockOf, IsMadeIn, referred_new, CatchesUp, FallsBehind};
 ghost use Rattle.shown_graph.specs.Openings.{opening_at, opening_words};
@@ -34,14 +34,14 @@ ghost use Rattle.shown_graph.specs.Read.{value_payload};
 /// Objects of each kind and length have a layout in blocks of either width.
 pub fn objects_are_laid_out()
     ensures { (W : Width) (k : ObjectKind) (n : ℕ)
-        → IsLayout (payloads W) n (layout_blocks W k n) (layout_part W k n) (layout_spot W k n) }
+        → IsLayout (payloads W) n (layout_blocks W k n) (layout_part W k n) (layout_slot W k n) }
 {}
 
 /// The opening words show the start graph.
 pub fn opening_is_shown()
     ensures { (c : Config) → IsInBounds c
         → Shows c.width c.threads (opening_blocks c) (every_name (start_graph c)) (start_graph c)
-        (opening_at c.width c.threads) (opening_words c) never_late }
+        (opening_at c.width c.threads) (opening_words c) none_pending }
 {}
 
 /// Words of the opening heap of one thread and an empty shared array, in blocks of eight: the root
@@ -58,30 +58,30 @@ pub fn a_known_opening()
 {}
 
 /// A store of a kept value in a register, and in a field of a kept object. A register may take its
-/// value first, and be late until its word is stored.
+/// value first, and be pending until its word is stored.
 pub fn stores_are_shown()
     ensures register { (s : Snapshot) (t r : ℕ) (later : ℕ → ℕ → Bool) (v : Value) → IsShown s
         → IsRegister s t r → IsKeptValue s v → CatchesUp s later t r
         → IsShown (record s {
           graph = with_register s.graph t r v;
           words = with_register_word s.width s.words t r (word_of s v);
-          late = later;
+          pending = later;
         }) }
-    ensures late { (s : Snapshot) (t r : ℕ) (later : ℕ → ℕ → Bool) (v : Value) → IsShown s
+    ensures pending { (s : Snapshot) (t r : ℕ) (later : ℕ → ℕ → Bool) (v : Value) → IsShown s
         → IsRegister s t r → IsKeptValue s v → later t r ≡ true → FallsBehind s later
-        → IsShown (record s { graph = with_register s.graph t r v; late = later }) }
+        → IsShown (record s { graph = with_register s.graph t r v; pending = later }) }
     ensures caught_up { (s : Snapshot) (t r : ℕ) (later : ℕ → ℕ → Bool) → IsShown s
         → IsRegister s t r → CatchesUp s later t r
         → IsShown (record s {
           words = with_register_word s.width s.words t r (word_of s (register_of s.graph t r));
-          late = later;
+          pending = later;
         }) }
     ensures field { (s : Snapshot) (a : Name) (i : ℕ) (v : Value) → IsShown s
         → s.kept a ≡ true → i < length (object_of s.graph a).fields → IsKeptValue s v
         → IsShown (record s {
           graph = with_field s.graph a i v;
-          words = with_payload s.words (s.at a (object_spot s.width (object_of s.graph a) i).0)
-              (object_spot s.width (object_of s.graph a) i).1 (word_of s v);
+          words = with_payload s.words (s.at a (object_slot s.width (object_of s.graph a) i).0)
+              (object_slot s.width (object_of s.graph a) i).1 (word_of s v);
         }) }
 {}
 
@@ -100,14 +100,14 @@ pub fn new_objects_are_shown()
         → IsMadeIn s t k f block_of
         → Shows s.width s.threads s.last (and_name (named s.kept) (next_name s.graph t))
         (with_object s.graph t (new_object k f)) (with_blocks s.at (next_name s.graph t) block_of)
-        s.words s.late }
+        s.words s.pending }
     ensures referred { (s : Snapshot) (t d f : ℕ) (k : ObjectKind) (block_of : ℕ → ℕ)
         → IsShown (record s { kept = has_name s.graph }) → IsMadeIn s t k f block_of → d < REGISTERS
         → IsShown (referred_new s t d k f block_of) }
 {}
 
 /// Words that are of no register block and of no kept object may change, as those behind the last
-/// block. Fewer names may be kept, where these refer to each other alone and no register is late.
+/// block. Fewer names may be kept, where these refer to each other alone and no register is pending.
 pub fn other_words_are_free()
     ensures words { (s : Snapshot) (u : BlockWords) → IsShown s
         → ((x j : ℕ) → 0 < x → x ≤ registers_end s.width s.threads → j < payloads s.width
@@ -121,7 +121,7 @@ pub fn other_words_are_free()
     ensures fewer { (s : Snapshot) (fewer : Name → Bool) → IsShown s
         → ((a : Name) → fewer a ≡ true → s.kept a ≡ true)
         → Closed s.threads (named fewer) (object_of s.graph) (register_of s.graph)
-        → ((t r : ℕ) → IsRegister s t r → s.late t r ≡ false)
+        → ((t r : ℕ) → IsRegister s t r → s.pending t r ≡ false)
         → IsShown (record s { kept = fewer }) }
 {}
 
@@ -138,7 +138,7 @@ pub fn shown_words_are_read()
         → payload_of (word_of s v) ≡ Some (value_payload (heads s.at) v) }
     ensures one_value { (s : Snapshot) (v u : Value) → IsShown s → IsKeptValue s v
         → IsKeptValue s u → word_of s v ≡ word_of s u → v ≡ u }
-    ensures register { (s : Snapshot) (t r : ℕ) → IsShown s → IsRegister s t r → s.late t r ≡ false
+    ensures register { (s : Snapshot) (t r : ℕ) → IsShown s → IsRegister s t r → s.pending t r ≡ false
         → s.words.payload (register_block s.width t r) (register_slot s.width r)
         ≡ word_of s (register_of s.graph t r) }
     ensures field { (s : Snapshot) (a : Name) (i steps last : ℕ) (way turn walked : ℕ → ℕ)
@@ -147,7 +147,7 @@ pub fn shown_words_are_read()
         → walked 0 ≡ s.at a 0
         → ((l : ℕ) → l < steps
         → s.words.payload (walked l) (turn l) ≡ reference_word (walked (l + 1)))
-        → (walked steps ≡ s.at a (object_spot s.width (object_of s.graph a) i).0)
+        → (walked steps ≡ s.at a (object_slot s.width (object_of s.graph a) i).0)
         × (s.words.payload (walked steps) last ≡ word_of s (field_of (object_of s.graph a) i)) }
     ensures apart { (s : Snapshot) (a b : Name) (o p : ℕ) → IsShown s → IsBlockOf s a o
         → IsBlockOf s b p → s.at a o ≡ s.at b p → (a ≡ b) × (o ≡ p) }

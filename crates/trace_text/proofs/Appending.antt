@@ -6,7 +6,7 @@ use Rattle.std.proofs.Math.Numerals.{add-one}
 use Rattle.std.proofs.lemmas.Grind.{flat_map-append}
 use Rattle.std.specs.List.{flat_map}
 use Rattle.std.specs.Io.KnownBytes as known
-use Rattle.trace_text.specs.Streams.{Appends, AppendsFront}
+use Rattle.trace_text.specs.Streams.{Appends, AppendsPrefix}
 
 pub appends_none : (held : Option (List ℕ)) → Appends held held []
 appends_none None = tt
@@ -19,9 +19,9 @@ appends_in_turn (Some before) b c xs ys h i =
     let P : Option (List ℕ) → Type 0 = λ o. IfSome o (λ bytes. c ≡ Some (bytes ++ ys)) in
     subst P h i ∙ ap Some (append_assoc before xs ys)
 
--- a text, and then a front of another
+-- a text, and then a prefix of another
 pub front_in_turn : (a b c : Option (List ℕ)) (xs ys : List ℕ) → Appends a b xs
-    → AppendsFront b c ys → AppendsFront a c (xs ++ ys)
+    → AppendsPrefix b c ys → AppendsPrefix a c (xs ++ ys)
 front_in_turn None b c xs ys h i = tt
 front_in_turn (Some before) b c xs ys h i =
     let P : Option (List ℕ) → Type 0 =
@@ -33,16 +33,16 @@ front_in_turn (Some before) b c xs ys h i =
           ∙ ap (λ zs. before ++ zs) (sym (take-append-add xs ys at_b.0))),
     )
 
--- the whole of a text is a front of it and more
+-- the whole of a text is a prefix of it and more
 pub front_of_more : (a b : Option (List ℕ)) (xs ys : List ℕ) → Appends a b xs
-    → AppendsFront a b (xs ++ ys)
+    → AppendsPrefix a b (xs ++ ys)
 front_of_more None b xs ys h = tt
 front_of_more (Some before) b xs ys h =
     (length xs, h ∙ ap (λ zs. Some (before ++ zs)) (sym (take-append_seam xs ys)))
 
--- the first k of a text are a front of it
+-- the first k of a text are a prefix of it
 pub front_of_first : (a b : Option (List ℕ)) (xs : List ℕ) (k : ℕ) → Appends a b (take k xs)
-    → AppendsFront a b xs
+    → AppendsPrefix a b xs
 front_of_first None b xs k h = tt
 front_of_first (Some before) b xs k h = (k, h)
 
@@ -77,9 +77,9 @@ kept_more a b c text before h =
     let Q : List ℕ → Type 0 = λ ys. Appends a c ys in
     subst Q (append-nil text) (appends_in_turn a b c text [] before (keeps_known b c h))
 
--- a front of a text is a front of it and more
-pub front_longer : (a b : Option (List ℕ)) (xs ys : List ℕ) → AppendsFront a b xs
-    → AppendsFront a b (xs ++ ys)
+-- a prefix of a text is a prefix of it and more
+pub front_longer : (a b : Option (List ℕ)) (xs ys : List ℕ) → AppendsPrefix a b xs
+    → AppendsPrefix a b (xs ++ ys)
 front_longer None b xs ys h = tt
 front_longer (Some before) b xs ys h =
     let k = min h.0 (length xs) in
@@ -100,16 +100,16 @@ module _ {X : Type 0} (f : X → List ℕ) where
       ∙ flat_map-append f (take i xs) (get_or xs i d ∷ [])
       ∙ ap (λ zs. flat_map f (take i xs) ++ zs) (append-nil (f (get_or xs i d)))
 
-  -- the lines up to a place, and a front of the line there
+  -- the lines up to a place, and a prefix of the line there
   pub lines_front : (a b c : Option (List ℕ)) (xs : List X) (i : ℕ) (d : X) → i < length xs
       → Appends a b (flat_map f (take i xs))
-      → AppendsFront b c (f (get_or xs i d)) → AppendsFront a c (flat_map f xs)
+      → AppendsPrefix b c (f (get_or xs i d)) → AppendsPrefix a c (flat_map f xs)
   lines_front a b c xs i d lt before h =
-      let P : List ℕ → Type 0 = λ text. AppendsFront a c text in
+      let P : List ℕ → Type 0 = λ text. AppendsPrefix a c text in
       let whole : flat_map f (take (i + 1) xs) ++ flat_map f (drop (i + 1) xs) ≡ flat_map f xs =
       sym (flat_map-append f (take (i + 1) xs) (drop (i + 1) xs))
       ∙ ap (flat_map f) (take-append-drop (i + 1) xs) in
-      let so_far : AppendsFront a c (flat_map f (take (i + 1) xs)) =
+      let so_far : AppendsPrefix a c (flat_map f (take (i + 1) xs)) =
       subst P (sym (lines_next xs i d lt)) (front_in_turn a b c _ _ before h) in
       subst P whole (front_longer a c _ _ so_far)
 

@@ -7,7 +7,7 @@ use Rattle.trace_text.specs.declared.trace_faults.Why.{Why}
 use Rattle.trace_text.specs.declared.reading.lines.Line.{Line}
 use Rattle.trace_text.specs.declared.reading.lines.Line.TheVariants.{Thread, End, Told}
 use Rattle.trace_text.specs.Jobs.{Job, IsJob}
-use Rattle.trace_text.specs.Reading.{pieced}
+use Rattle.trace_text.specs.Reading.{tokenized}
 use Rattle.trace_text.specs.Said.{line_at, header_at}
 use Rattle.trace_text.specs.Refusals.{IsFirstBadLine}
 use Rattle.trace_text.specs.Wholes.{IsBegun}
@@ -88,7 +88,7 @@ follow bytes c (ps ∷ others) = λ done read left trace begun more so_far.
     (follow bytes c others) begun more so_far refl
 
 behind_thread : (bytes : List ℕ) (c : Config) (ps qs : List (List ℕ)) (more : Lines)
-    (said : Result Line Why) → pieced bytes ≡ ps ∷ qs ∷ more → header_at ps ≡ Ok c
+    (said : Result Line Why) → tokenized bytes ≡ ps ∷ qs ∷ more → header_at ps ≡ Ok c
     → line_at (place c 0 0) qs ≡ said → Outcome bytes
 behind_thread bytes c ps qs more (Err why) text is said =
     bad bytes 2 why (bad_thread bytes ps (qs ∷ more) c text is qs more why refl said)
@@ -97,16 +97,16 @@ behind_thread bytes c ps qs more (Ok l) text is said =
     (omega (arith, (header_sound ps c is).fits.some_thread)) (none_so_far c more)
 
 behind_header : (bytes : List ℕ) (ps : List (List ℕ)) (others : Lines) (named : Result Config Why)
-    → pieced bytes ≡ ps ∷ others → header_at ps ≡ named → Outcome bytes
+    → tokenized bytes ≡ ps ∷ others → header_at ps ≡ named → Outcome bytes
 behind_header bytes ps others (Err why) text is =
     bad bytes 1 why (bad_header bytes ps others why text is)
 behind_header bytes ps [] (Ok c) text is = bad bytes 2 _ (no_thread bytes ps [] c text is refl)
 behind_header bytes ps (qs ∷ more) (Ok c) text is =
     behind_thread bytes c ps qs more (line_at (place c 0 0) qs) text is refl
 
-by_lines : (bytes : List ℕ) (lines : Lines) → pieced bytes ≡ lines → Outcome bytes
+by_lines : (bytes : List ℕ) (lines : Lines) → tokenized bytes ≡ lines → Outcome bytes
 by_lines bytes [] text = bad bytes 1 _ (no_header bytes text)
 by_lines bytes (ps ∷ others) text = behind_header bytes ps others (header_at ps) text refl
 
 pub either : (bytes : List ℕ) → Outcome bytes
-either bytes = by_lines bytes (pieced bytes) refl
+either bytes = by_lines bytes (tokenized bytes) refl

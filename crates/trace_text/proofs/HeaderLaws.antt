@@ -64,7 +64,7 @@ five_numbers (Some n) (Some m) (Some l) (Some o) None g = refl
 five_numbers (Some n) (Some m) (Some l) (Some o) (Some s) g = refl
 
 abbrev of_labels : Option Labels → Result Config Why
-of_labels pieces = ok_or pieces whys.Header >>= λ p. spelled p.1 >>= λ n. spelled p.2 >>= λ m. spelled p.3 >>= λ l. spelled p.4 >>= λ o. spelled p.5 >>= λ s. ranged_config p.0 n m l o s
+of_labels tokens = ok_or tokens whys.Header >>= λ p. spelled p.1 >>= λ n. spelled p.2 >>= λ m. spelled p.3 >>= λ l. spelled p.4 >>= λ o. spelled p.5 >>= λ s. ranged_config p.0 n m l o s
 
 labels_agree : (o : Option Labels) → numbers_fault o ≡ reason (of_labels o)
 labels_agree None = refl
@@ -110,7 +110,7 @@ bounded_complete least most n low high =
     let within : (ltb n least || ltb most n) ≡ false = grind (arith, nat_tests) in
     rw within refl
 
--- five numbers in the place of five pieces
+-- five numbers in the place of five tokens
 placed : (ps : List (List ℕ)) (w : Width) (a b d f g : List ℕ) (n m l o s : ℕ)
     → ps ≡ labels w a b d f g → a ≡ decimal n → b ≡ decimal m → d ≡ decimal l → f ≡ decimal o
     → g ≡ decimal s → ps ≡ labels w (decimal n) (decimal m) (decimal l) (decimal o) (decimal s)
@@ -121,20 +121,20 @@ pub record SaysHeader (ps : List (List ℕ)) (c : Config) : Type 0 where
   pub fits : IsInBounds c
   pub config : config_of ps ≡ c
 
--- a piece that is a number in a range
-record IsRanged (least most : ℕ) (piece : List ℕ) (k : ℕ) : Type 0 where
-  text : piece ≡ decimal k
+-- a token that is a number in a range
+record IsRanged (least most : ℕ) (token : List ℕ) (k : ℕ) : Type 0 where
+  text : token ≡ decimal k
   low : least ≤ k
   high : k ≤ most
-  value : unwrap_or (number_at piece) 0 ≡ k
+  value : unwrap_or (number_at token) 0 ≡ k
 
-ranged : (least most : ℕ) (piece : List ℕ) (n k : ℕ) → spelled piece ≡ Ok n
-    → bounded_at least most n ≡ Ok k → IsRanged least most piece k
-ranged least most piece n k spells within =
-    let is = from_option (number_at piece) whys.Number n spells in
+ranged : (least most : ℕ) (token : List ℕ) (n k : ℕ) → spelled token ≡ Ok n
+    → bounded_at least most n ≡ Ok k → IsRanged least most token k
+ranged least most token n k spells within =
+    let is = from_option (number_at token) whys.Number n spells in
     let b = bounded_sound least most n k within in
     record {
-      text = (number_sound piece n is).0 ∙ ap decimal b.0;
+      text = (number_sound token n is).0 ∙ ap decimal b.0;
       low = omega (arith, b.0, b.1);
       high = omega (arith, b.0, b.2);
       value = ap (λ (o : Option ℕ). unwrap_or o 0) is ∙ b.0;

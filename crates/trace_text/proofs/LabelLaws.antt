@@ -1,4 +1,4 @@
--- The pieces behind the labels of a header.
+-- The tokens behind the labels of a header.
 use Rattle.std.proofs.Common.{◌≡◌, List, [], ◌∷◌, ℕ, codes, bytes_eq, Option, Some, None, cond, inl, inr, refl, ap, subst, ◌∙◌}
 use Rattle.std.proofs.lemmas.Option.{same_Some, some_pair_parts}
 use Rattle.std.proofs.lemmas.Slice.Eq.{bytes_eq-Decides}
@@ -63,22 +63,22 @@ labelled_sound label ps x e =
     behind_sound label ps a.at a.first
     ∙ ap (λ (r : List (List ℕ)). label ∷ r) (parted_some a.at x.0 x.1 a.second)
 
-labelled_complete : (label piece : List ℕ) (rest : List (List ℕ))
-    → labelled_at label (label ∷ piece ∷ rest) ≡ Some (piece, rest)
+labelled_complete : (label token : List ℕ) (rest : List (List ℕ))
+    → labelled_at label (label ∷ token ∷ rest) ≡ Some (token, rest)
 unfolding labelled_at
-labelled_complete label piece rest = rw (behind_complete label (piece ∷ rest)) refl
+labelled_complete label token rest = rw (behind_complete label (token ∷ rest)) refl
 
-width_sound : (piece : List ℕ) (w : Width) → width_at piece ≡ Some w → piece ≡ version w
-width_sound piece w e = elim (cases_Bool (bytes_eq piece (codes "1"))) [
-  | inl one ↦ (bytes_eq-Decides piece (codes "1")).0 one
+width_sound : (token : List ℕ) (w : Width) → width_at token ≡ Some w → token ≡ version w
+width_sound token w e = elim (cases_Bool (bytes_eq token (codes "1"))) [
+  | inl one ↦ (bytes_eq-Decides token (codes "1")).0 one
       ∙ ap version (same_Some Four w
-      (subst (λ b. cond b (Some Four) (cond (bytes_eq piece (codes "2")) (Some Eight) None)
+      (subst (λ b. cond b (Some Four) (cond (bytes_eq token (codes "2")) (Some Eight) None)
       ≡ Some w) one e))
   | inr not ↦
-      let t = then_some (bytes_eq piece (codes "2")) (Some Eight) w
-      (subst (λ b. cond b (Some Four) (cond (bytes_eq piece (codes "2")) (Some Eight) None)
+      let t = then_some (bytes_eq token (codes "2")) (Some Eight) w
+      (subst (λ b. cond b (Some Four) (cond (bytes_eq token (codes "2")) (Some Eight) None)
       ≡ Some w) not e) in
-      (bytes_eq-Decides piece (codes "2")).0 t.0 ∙ ap version (same_Some Eight w t.1)
+      (bytes_eq-Decides token (codes "2")).0 t.0 ∙ ap version (same_Some Eight w t.1)
 ]
 
 version_sound : (ps : List (List ℕ)) (x : Width × List (List ℕ)) → version_at ps ≡ Some x
@@ -91,7 +91,7 @@ version_sound (p ∷ ps) x e =
     ap (λ (q : List ℕ). q ∷ ps) (width_sound p a.at a.first)
     ∙ ap (λ (y : Width × List (List ℕ)). version y.0 ∷ y.1) same
 
--- the pieces of a header of this width with these five pieces behind its labels
+-- the tokens of a header of this width with these five tokens behind its labels
 abbrev pub labels : Width → List ℕ → List ℕ → List ℕ → List ℕ → List ℕ → List (List ℕ)
 labels w n m l b s =
     codes "rtheap" ∷ version w ∷ codes "threads" ∷ n ∷ codes "blocks" ∷ m ∷ codes "live" ∷ l ∷ codes "object" ∷ b ∷ codes "shared" ∷ s ∷ []

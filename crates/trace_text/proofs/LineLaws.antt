@@ -8,6 +8,7 @@ use Rattle.std.proofs.lemmas.Bool.Decides.{nat_tests}
 use Rattle.block_store.specs.declared.Config.{Config}
 use Rattle.object_lists.specs.Records.{record_blocks}
 use Rattle.array_trees.specs.Trees.{array_blocks}
+use Rattle.never_heap.specs.declared.Command.{Command}
 use Rattle.never_heap.specs.declared.Command.TheVariants as commands
 use Rattle.never_heap.specs.Bounds.{IsCommandInBounds}
 use Rattle.trace_text.specs.declared.trace_faults.Why.{Why}
@@ -19,8 +20,9 @@ use Rattle.trace_text.specs.declared.reading.words.Word.{Word}
 use Rattle.trace_text.specs.declared.reading.words.Word.TheVariants as words
 use Rattle.trace_text.specs.Spellings.{command_line}
 use Rattle.trace_text.specs.Words.{word_at, is_command, operands}
-use Rattle.trace_text.specs.Said.{◌>>=◌, count_is, numbers_at, checked, on_none, on_one, on_two, on_three, told_at, operands_at, in_turn, line_at}
+use Rattle.trace_text.specs.Said.{◌>>=◌, HasRegisters, is_oversized, register_at, length_at, fitted, count_is, numbers_at, on_none, on_one, on_two, on_three, told_at, operands_at, in_turn, line_at}
 use Rattle.trace_text.specs.Refusals.{Before, first_of, is_number, value_of, any_operand, is_high_register, is_too_large, is_out_of_turn, word_fault, later_fault}
+use Rattle.trace_text.proofs.Sizes.{in_ranges, not_oversized}
 use Rattle.trace_text.proofs.WordLaws.{word_text, word_sound, word_complete, count_map, count_length, values_are, AreWritten, numbers_complete, numbers_sound}
 
 -- the reason of an answer
@@ -89,18 +91,6 @@ from_three P (a ∷ b ∷ d ∷ g ∷ ns) f l e go = absurd cc
 
 -- ---- the tests of a word's numbers
 
-checks_are : (r s : Bool) (l : Line)
-    → reason (checked r s l) ≡ first_of ((r, whys.Register) ∷ (s, whys.Size) ∷ [])
-checks_are true s l = refl
-checks_are false true l = refl
-checks_are false false l = refl
-
-checks : (r r' s s' : Bool) (l : Line) → r ≡ r' → s ≡ s'
-    → reason (checked r s l) ≡ first_of ((r', whys.Register) ∷ (s', whys.Size) ∷ [])
-checks r r' s s' l e f =
-    checks_are r s l ∙ ap (λ (x : Bool). first_of ((x, whys.Register) ∷ (s, whys.Size) ∷ [])) e
-    ∙ ap (λ (x : Bool). first_of ((r', whys.Register) ∷ (x, whys.Size) ∷ [])) f
-
 turns : (x x' : Bool) (l : Line) → x ≡ x'
     → reason (cond x (Err whys.Order) (Ok l)) ≡ cond x' (Some whys.Order) None
 turns true x' l e = ap (λ (y : Bool). cond y (Some whys.Order) None) e
@@ -110,25 +100,41 @@ or_false : (a : Bool) → a ≡ (a || false)
 or_false true = refl
 or_false false = refl
 
-two_or_false : (a b : Bool) → (a || b) ≡ (a || (b || false))
-two_or_false a b = ap (λ (x : Bool). a || x) (or_false b)
-
 or_turn : (a b : Bool) → (a || b) ≡ ((a || false) || b)
 or_turn a b = ap (λ (x : Bool). x || b) (or_false a)
 
-full_last : (f a : Bool) → (f || a) ≡ ((a || false) || f)
-full_last true true = refl
-full_last true false = refl
-full_last false true = refl
-full_last false false = refl
+sized : (x x' : Bool) (l : Line) → x ≡ x'
+    → reason (cond x (Err whys.Size) (Ok l)) ≡ cond x' (Some whys.Size) None
+sized true x' l e = ap (λ (y : Bool). cond y (Some whys.Size) None) e
+sized false x' l e = ap (λ (y : Bool). cond y (Some whys.Size) None) e
 
-full_both : (f a b : Bool) → (f || a || b) ≡ ((a || b || false) || f)
-full_both true true b = refl
-full_both true false true = refl
-full_both true false false = refl
-full_both false true b = refl
-full_both false false true = refl
-full_both false false false = refl
+-- the tests of one register, and of two
+one_test : (r : Bool) (n : ℕ) (told : ℕ → Result Line Why) (o : Option Why)
+    → reason (told n) ≡ o
+    → reason (cond r (Err whys.Register) (Ok n) >>= told)
+    ≡ cond (r || false) (Some whys.Register) o
+one_test true n told o e = refl
+one_test false n told o e = e
+
+two_tests : (r s : Bool) (n m : ℕ) (told : ℕ → ℕ → Result Line Why) (o : Option Why)
+    → reason (told n m) ≡ o
+    → reason (cond r (Err whys.Register) (Ok n) >>= λ a.
+    cond s (Err whys.Register) (Ok m) >>= λ b. told a b)
+    ≡ cond (r || (s || false)) (Some whys.Register) o
+two_tests true s n m told o e = refl
+two_tests false true n m told o e = refl
+two_tests false false n m told o e = e
+
+-- a length that has more than 32 bits is too long
+length_test : (z x : Bool) (n : ℕ) (told : ℕ → Result Line Why) → (z ≡ true → x ≡ true)
+    → reason (told n) ≡ cond x (Some whys.Size) None
+    → reason (cond z (Err whys.Size) (Ok n) >>= told) ≡ cond x (Some whys.Size) None
+length_test true x n told h e = rw (h refl) refl
+length_test false x n told h e = e
+
+too_long : (n : ℕ) (b f : Bool) → leb (2 ^ 32) n ≡ true
+    → (((ltb 65535 n || b) || false) || f) ≡ true
+too_long n b f e = let long : ltb 65535 n ≡ true = grind (arith, nat_tests) in rw long refl
 
 abbrev Agrees : Config → ℕ → ℕ → Word → List ℕ → Type 0
 Agrees c t k w ns =
@@ -147,39 +153,45 @@ told_agree c t k words.Thread ns h =
 told_agree c t k words.End ns h = at_none (Agrees c t k words.End) ns h (turns _ _ End refl)
 told_agree c t k words.New ns h =
     at_two (Agrees c t k words.New) ns h
-    (λ d f. checks _ _ _ _ (Told (commands.New d f)) (or_false (ltb 15 d))
-    (full_both (leb 131072 k) (ltb 65535 f) (ltb c.object (record_blocks c.width f))))
+    (λ d n. one_test (leb 16 d) d _ _
+    (length_test (leb (2 ^ 32) n) _ n _
+    (too_long n (ltb c.object (record_blocks c.width n)) (leb 131072 k))
+    (sized _ _ (Told (commands.New d n))
+    (or_turn (ltb 65535 n || ltb c.object (record_blocks c.width n)) (leb 131072 k)))))
 told_agree c t k words.Arr ns h =
     at_two (Agrees c t k words.Arr) ns h
-    (λ d e. checks _ _ _ _ (Told (commands.Arr d e)) (or_false (ltb 15 d))
-    (full_both (leb 131072 k) (ltb 65535 e) (ltb c.object (array_blocks c.width e))))
+    (λ d n. one_test (leb 16 d) d _ _
+    (length_test (leb (2 ^ 32) n) _ n _
+    (too_long n (ltb c.object (array_blocks c.width n)) (leb 131072 k))
+    (sized _ _ (Told (commands.Arr d n))
+    (or_turn (ltb 65535 n || ltb c.object (array_blocks c.width n)) (leb 131072 k)))))
 told_agree c t k words.Set ns h =
     at_two (Agrees c t k words.Set) ns h
-    (λ d v. checks _ _ _ _ (Told (commands.Set d v)) (or_false (ltb 15 d))
-    (full_last (leb 131072 k) (leb (2 ^ 62) v)))
+    (λ d v. one_test (leb 16 d) d _ _
+    (sized _ _ (Told (commands.Set d v)) (or_turn (leb (2 ^ 62) v) (leb 131072 k))))
 told_agree c t k words.Nil ns h =
     at_one (Agrees c t k words.Nil) ns h
-    (λ d. checks _ _ _ _ (Told (commands.Nil d)) (or_false (ltb 15 d)) refl)
+    (λ s. one_test (leb 16 s) s _ _ (sized _ _ (Told (commands.Nil s)) refl))
 told_agree c t k words.Mov ns h =
     at_two (Agrees c t k words.Mov) ns h
-    (λ d s. checks _ _ _ _ (Told (commands.Mov d s)) (two_or_false (ltb 15 d) (ltb 15 s)) refl)
+    (λ a b. two_tests (leb 16 a) (leb 16 b) a b _ _ (sized _ _ (Told (commands.Mov a b)) refl))
 told_agree c t k words.Get ns h =
     at_three (Agrees c t k words.Get) ns h
-    (λ d s i. checks _ _ _ _ (Told (commands.Get d s i)) (two_or_false (ltb 15 d) (ltb 15 s))
-    (full_last (leb 131072 k) (leb (2 ^ 62) i)))
+    (λ d s i. two_tests (leb 16 d) (leb 16 s) d s _ _
+    (sized _ _ (Told (commands.Get d s i)) (or_turn (leb (2 ^ 62) i) (leb 131072 k))))
 told_agree c t k words.Put ns h =
     at_three (Agrees c t k words.Put) ns h
-    (λ s i v. checks _ _ _ _ (Told (commands.Put s i v)) (two_or_false (ltb 15 s) (ltb 15 v))
-    (full_last (leb 131072 k) (leb (2 ^ 62) i)))
+    (λ s i v. two_tests (leb 16 s) (leb 16 v) s v _ _
+    (sized _ _ (Told (commands.Put s i v)) (or_turn (leb (2 ^ 62) i) (leb 131072 k))))
 told_agree c t k words.Len ns h =
     at_one (Agrees c t k words.Len) ns h
-    (λ s. checks _ _ _ _ (Told (commands.Len s)) (or_false (ltb 15 s)) refl)
+    (λ s. one_test (leb 16 s) s _ _ (sized _ _ (Told (commands.Len s)) refl))
 told_agree c t k words.Same ns h =
     at_two (Agrees c t k words.Same) ns h
-    (λ a b. checks _ _ _ _ (Told (commands.Same a b)) (two_or_false (ltb 15 a) (ltb 15 b)) refl)
+    (λ a b. two_tests (leb 16 a) (leb 16 b) a b _ _ (sized _ _ (Told (commands.Same a b)) refl))
 told_agree c t k words.Say ns h =
     at_one (Agrees c t k words.Say) ns h
-    (λ s. checks _ _ _ _ (Told (commands.Say s)) (or_false (ltb 15 s)) refl)
+    (λ s. one_test (leb 16 s) s _ _ (sized _ _ (Told (commands.Say s)) refl))
 
 first_test : (x : Bool) (why : Why) (r : Result Line Why) (o : Option Why) → reason r ≡ o
     → reason (cond x (Err why) r) ≡ cond x (Some why) o
@@ -201,7 +213,7 @@ turn_agree c t k w ps =
     let n = length (operands w) in
     first_test (is_command w && eqb t 0) whys.Order _ _
     (rw (values_are ps, count_length ps n)
-    (counted (count_is n ps) (list_any (λ piece. not (is_number piece)) ps) (map value_of ps)
+    (counted (count_is n ps) (list_any (λ token. not (is_number token)) ps) (map value_of ps)
     (told_at (place c t k) w) _
     (λ h. told_agree c t k w (map value_of ps) (count_map value_of n ps ∙ h))))
 
@@ -240,36 +252,35 @@ pub record Says (c : Config) (t k : ℕ) (w : Word) (l : Line) (ns : List ℕ) :
 same_Ok : {A : Type 0} (x y : A) → ◌≡◌ {A = Result A Why} (Ok x) (Ok y) → x ≡ y
 same_Ok x y e = cc
 
-passed : (r s : Bool) (x l : Line) → checked r s x ≡ Ok l → (r ≡ false) × (s ≡ false) × (x ≡ l)
-passed true s x l e = absurd cc
-passed false true x l e = absurd cc
-passed false false x l e = (refl, refl, same_Ok x l e)
-
 in_order : (r : Bool) (x l : Line) → cond r (Err whys.Order) (Ok x) ≡ Ok l → (r ≡ false) × (x ≡ l)
 in_order true x l e = absurd cc
 in_order false x l e = (refl, same_Ok x l e)
 
 -- what the tests of the words mean
-one_low : (a k : ℕ) → ltb 15 a ≡ false → leb 131072 k ≡ false → (a < 16) × (k < 131072)
-one_low a k r s = (grind (arith, nat_tests), grind (arith, nat_tests))
+past : (b : Bool) (why : Why) (n : ℕ) (told : ℕ → Result Line Why) (l : Line)
+    → (cond b (Err why) (Ok n) >>= told) ≡ Ok l → (b ≡ false) × (told n ≡ Ok l)
+past true why n told l e = absurd cc
+past false why n told l e = (refl, e)
 
-two_low : (a b k : ℕ) → (ltb 15 a || ltb 15 b) ≡ false → leb 131072 k ≡ false
-    → (a < 16) × (b < 16) × (k < 131072)
-two_low a b k r s = (grind (arith, nat_tests), grind (arith, nat_tests), grind (arith, nat_tests))
+low : (n : ℕ) → leb 16 n ≡ false → n < 16
+low n e = grind (arith, nat_tests)
 
-few_numbers : (n k : ℕ) → (leb 131072 k || leb (2 ^ 62) n) ≡ false → (n < 2 ^ 62) × (k < 131072)
-few_numbers n k s = (grind (arith, nat_tests), grind (arith, nat_tests))
+from_low : (n : ℕ) (told : ℕ → Result Line Why) (l : Line) → (register_at n >>= told) ≡ Ok l
+    → (n < 16) × (told n ≡ Ok l)
+from_low n told l e = let p = past (leb 16 n) whys.Register n told l e in (low n p.0, p.1)
 
-few_blocks : (n blocks most k : ℕ) → (leb 131072 k || ltb 65535 n || ltb most blocks) ≡ false
-    → (n ≤ 65535) × (blocks ≤ most) × (k < 131072)
-few_blocks n blocks most k s =
-    (grind (arith, nat_tests), grind (arith, nat_tests), grind (arith, nat_tests))
+from_length : (n : ℕ) (told : ℕ → Result Line Why) (l : Line) → (length_at n >>= told) ≡ Ok l
+    → told n ≡ Ok l
+from_length n told l e = (past (leb (2 ^ 32) n) whys.Size n told l e).1
 
-low : (a : ℕ) → ltb 15 a ≡ false → a < 16
-low a r = grind (arith, nat_tests)
+sizes_fit : (x f : Bool) (l m : Line) → cond (x || f) (Err whys.Size) (Ok l) ≡ Ok m
+    → (x ≡ false) × (f ≡ false) × (l ≡ m)
+sizes_fit true f l m e = absurd cc
+sizes_fit false true l m e = absurd cc
+sizes_fit false false l m e = (refl, refl, same_Ok l m e)
 
-both_low : (a b : ℕ) → (ltb 15 a || ltb 15 b) ≡ false → (a < 16) × (b < 16)
-both_low a b r = (grind (arith, nat_tests), grind (arith, nat_tests))
+few : (k : ℕ) → leb 131072 k ≡ false → k < 131072
+few k e = grind (arith, nat_tests)
 
 abbrev says : (c : Config) (t k : ℕ) (w : Word) (x l : Line) (ns : List ℕ) → x ≡ l
     → Says c t k w x ns → Says c t k w l ns
@@ -280,6 +291,18 @@ thread_turn n t m r = (grind (arith, nat_tests), λ e. grind (arith, nat_tests, 
 
 end_turn : (t m : ℕ) → not (eqb t m) ≡ false → t ≡ m
 end_turn t m r = grind (arith, nat_tests)
+
+-- a command that is told stands on its line, and is in its ranges
+says_told : (c : Config) (t k : ℕ) (w : Word) (command : Command) (ns : List ℕ) (l : Line)
+    → HasRegisters command → word_text w ∷ map decimal ns ≡ command_line command
+    → is_command w ≡ true → fitted (place c t k) command ≡ Ok l → Says c t k w l ns
+says_told c t k w command ns l h text is e =
+    let p = sizes_fit (is_oversized c command) (leb 131072 k) (Told command) l e in
+    says c t k w (Told command) l ns p.2 record {
+      text = text;
+      fits = (in_ranges c command h p.0, few k p.1);
+      command = λ not'. let no : true ≡ false = sym is ∙ not' in absurd cc;
+    }
 
 told_sound : (c : Config) (t k : ℕ) (w : Word) (ns : List ℕ) (l : Line)
     → told_at (place c t k) w ns ≡ Ok l → Says c t k w l ns
@@ -300,97 +323,50 @@ told_sound c t k words.End ns l e =
     })
 told_sound c t k words.New ns l e =
     from_two (Says c t k words.New l) ns _ l e (λ d n f.
-    let p = passed (ltb 15 d)
-    (leb 131072 k || ltb 65535 n || ltb c.object (record_blocks c.width n))
-    (Told (commands.New d n)) l f in
-    let b = few_blocks n (record_blocks c.width n) c.object k p.1 in
-    says c t k words.New (Told (commands.New d n)) l
-    (d ∷ n ∷ []) p.2 record {
-      text = refl;
-      fits = ((low d p.0, b.0, b.1), b.2);
-      command = λ h. absurd cc;
-    })
+    let p = from_low d _ l f in
+    says_told c t k words.New (commands.New d n) (d ∷ n ∷ []) l p.0 refl refl
+    (from_length n _ l p.1))
 told_sound c t k words.Arr ns l e =
     from_two (Says c t k words.Arr l) ns _ l e (λ d n f.
-    let p = passed (ltb 15 d)
-    (leb 131072 k || ltb 65535 n || ltb c.object (array_blocks c.width n))
-    (Told (commands.Arr d n)) l f in
-    let b = few_blocks n (array_blocks c.width n) c.object k p.1 in
-    says c t k words.Arr (Told (commands.Arr d n)) l
-    (d ∷ n ∷ []) p.2 record {
-      text = refl;
-      fits = ((low d p.0, b.0, b.1), b.2);
-      command = λ h. absurd cc;
-    })
+    let p = from_low d _ l f in
+    says_told c t k words.Arr (commands.Arr d n) (d ∷ n ∷ []) l p.0 refl refl
+    (from_length n _ l p.1))
 told_sound c t k words.Set ns l e =
-    from_two (Says c t k words.Set l) ns _ l e (λ d n f.
-    let p = passed (ltb 15 d) (leb 131072 k || leb (2 ^ 62) n) (Told (commands.Set d n)) l f in
-    let b = few_numbers n k p.1 in
-    says c t k words.Set (Told (commands.Set d n)) l
-    (d ∷ n ∷ []) p.2 record {
-      text = refl;
-      fits = ((low d p.0, b.0), b.1);
-      command = λ h. absurd cc;
-    })
+    from_two (Says c t k words.Set l) ns _ l e (λ d v f.
+    let p = from_low d _ l f in
+    says_told c t k words.Set (commands.Set d v) (d ∷ v ∷ []) l p.0 refl refl p.1)
 told_sound c t k words.Nil ns l e =
-    from_one (Says c t k words.Nil l) ns _ l e (λ d f.
-    let p = passed (ltb 15 d) (leb 131072 k) (Told (commands.Nil d)) l f in
-    says c t k words.Nil (Told (commands.Nil d)) l
-    (d ∷ []) p.2 record { text = refl; fits = one_low d k p.0 p.1; command = λ h. absurd cc })
+    from_one (Says c t k words.Nil l) ns _ l e (λ s f.
+    let p = from_low s _ l f in
+    says_told c t k words.Nil (commands.Nil s) (s ∷ []) l p.0 refl refl p.1)
 told_sound c t k words.Mov ns l e =
-    from_two (Says c t k words.Mov l) ns _ l e (λ d s f.
-    let p = passed (ltb 15 d || ltb 15 s) (leb 131072 k) (Told (commands.Mov d s)) l f in
-    let b = two_low d s k p.0 p.1 in
-    says c t k words.Mov (Told (commands.Mov d s)) l
-    (d ∷ s ∷ []) p.2 record {
-      text = refl;
-      fits = ((b.0, b.1), b.2);
-      command = λ h. absurd cc;
-    })
+    from_two (Says c t k words.Mov l) ns _ l e (λ a b f.
+    let p = from_low a _ l f in
+    let q = from_low b _ l p.1 in
+    says_told c t k words.Mov (commands.Mov a b) (a ∷ b ∷ []) l (p.0, q.0) refl refl q.1)
 told_sound c t k words.Get ns l e =
     from_three (Says c t k words.Get l) ns _ l e (λ d s i f.
-    let p = passed (ltb 15 d || ltb 15 s) (leb 131072 k || leb (2 ^ 62) i)
-    (Told (commands.Get d s i)) l f in
-    let r = both_low d s p.0 in
-    let b = few_numbers i k p.1 in
-    says c t k words.Get (Told (commands.Get d s i)) l
-    (d ∷ s ∷ i ∷ []) p.2 record {
-      text = refl;
-      fits = ((r.0, r.1, b.0), b.1);
-      command = λ h. absurd cc;
-    })
+    let p = from_low d _ l f in
+    let q = from_low s _ l p.1 in
+    says_told c t k words.Get (commands.Get d s i) (d ∷ s ∷ i ∷ []) l (p.0, q.0) refl refl q.1)
 told_sound c t k words.Put ns l e =
     from_three (Says c t k words.Put l) ns _ l e (λ s i v f.
-    let p = passed (ltb 15 s || ltb 15 v) (leb 131072 k || leb (2 ^ 62) i)
-    (Told (commands.Put s i v)) l f in
-    let r = both_low s v p.0 in
-    let b = few_numbers i k p.1 in
-    says c t k words.Put (Told (commands.Put s i v)) l
-    (s ∷ i ∷ v ∷ []) p.2 record {
-      text = refl;
-      fits = ((r.0, b.0, r.1), b.1);
-      command = λ h. absurd cc;
-    })
+    let p = from_low s _ l f in
+    let q = from_low v _ l p.1 in
+    says_told c t k words.Put (commands.Put s i v) (s ∷ i ∷ v ∷ []) l (p.0, q.0) refl refl q.1)
 told_sound c t k words.Len ns l e =
     from_one (Says c t k words.Len l) ns _ l e (λ s f.
-    let p = passed (ltb 15 s) (leb 131072 k) (Told (commands.Len s)) l f in
-    says c t k words.Len (Told (commands.Len s)) l
-    (s ∷ []) p.2 record { text = refl; fits = one_low s k p.0 p.1; command = λ h. absurd cc })
+    let p = from_low s _ l f in
+    says_told c t k words.Len (commands.Len s) (s ∷ []) l p.0 refl refl p.1)
 told_sound c t k words.Same ns l e =
     from_two (Says c t k words.Same l) ns _ l e (λ a b f.
-    let p = passed (ltb 15 a || ltb 15 b) (leb 131072 k) (Told (commands.Same a b)) l f in
-    let r = two_low a b k p.0 p.1 in
-    says c t k words.Same (Told (commands.Same a b)) l
-    (a ∷ b ∷ []) p.2 record {
-      text = refl;
-      fits = ((r.0, r.1), r.2);
-      command = λ h. absurd cc;
-    })
+    let p = from_low a _ l f in
+    let q = from_low b _ l p.1 in
+    says_told c t k words.Same (commands.Same a b) (a ∷ b ∷ []) l (p.0, q.0) refl refl q.1)
 told_sound c t k words.Say ns l e =
     from_one (Says c t k words.Say l) ns _ l e (λ s f.
-    let p = passed (ltb 15 s) (leb 131072 k) (Told (commands.Say s)) l f in
-    says c t k words.Say (Told (commands.Say s)) l
-    (s ∷ []) p.2 record { text = refl; fits = one_low s k p.0 p.1; command = λ h. absurd cc })
+    let p = from_low s _ l f in
+    says_told c t k words.Say (commands.Say s) (s ∷ []) l p.0 refl refl p.1)
 
 -- the same for what follows from two steps
 pub bind_ok : {A B P : Type 0} (r : Result A Why) (f : A → Result B Why) (y : B)
@@ -507,28 +483,30 @@ small c t k (Told (commands.Len s)) le f = (omega (arith, f.0), tt)
 small c t k (Told (commands.Same a b)) le f = (omega (arith, f.0.0), (omega (arith, f.0.1), tt))
 small c t k (Told (commands.Say s)) le f = (omega (arith, f.0), tt)
 
-passes : (r s : Bool) (l : Line) → r ≡ false → s ≡ false → checked r s l ≡ Ok l
-passes r s l e f = rw (e, f) refl
+passes : (b : Bool) (why : Why) (n : ℕ) (told : ℕ → Result Line Why) (r : Result Line Why)
+    → b ≡ false → told n ≡ r → (cond b (Err why) (Ok n) >>= told) ≡ r
+passes true why n told r is e = absurd cc
+passes false why n told r is e = e
 
-is_low : (a : ℕ) → a < 16 → ltb 15 a ≡ false
-is_low a h = grind (arith, nat_tests)
-
-are_low : (a b : ℕ) → a < 16 → b < 16 → (ltb 15 a || ltb 15 b) ≡ false
-are_low a b h i = rw (is_low a h) (is_low b i)
+is_low : (n : ℕ) → n < 16 → leb 16 n ≡ false
+is_low n h = grind (arith, nat_tests)
 
 is_few : (k : ℕ) → k < 131072 → leb 131072 k ≡ false
 is_few k h = grind (arith, nat_tests)
 
-is_small : (n k : ℕ) → n < 2 ^ 62 → k < 131072 → (leb 131072 k || leb (2 ^ 62) n) ≡ false
-is_small n k h i = let big : leb (2 ^ 62) n ≡ false = grind (arith, nat_tests) in
-    rw (is_few k i) big
+has_low : (n : ℕ) (told : ℕ → Result Line Why) (r : Result Line Why) → n < 16 → told n ≡ r
+    → (register_at n >>= told) ≡ r
+has_low n told r h e = passes (leb 16 n) whys.Register n told r (is_low n h) e
 
-has_room : (n blocks most k : ℕ) → n ≤ 65535 → blocks ≤ most → k < 131072
-    → (leb 131072 k || ltb 65535 n || ltb most blocks) ≡ false
-has_room n blocks most k h i j =
-    let long : ltb 65535 n ≡ false = grind (arith, nat_tests) in
-    let large : ltb most blocks ≡ false = grind (arith, nat_tests) in
-    rw (is_few k j, long) large
+has_length : (n : ℕ) (told : ℕ → Result Line Why) (r : Result Line Why) → n ≤ 65535
+    → told n ≡ r → (length_at n >>= told) ≡ r
+has_length n told r h e =
+    let short : leb (2 ^ 32) n ≡ false = grind (arith, nat_tests) in
+    passes (leb (2 ^ 32) n) whys.Size n told r short e
+
+fitting : (c : Config) (t k : ℕ) (command : Command) → IsCommandInBounds c command × (k < 131072)
+    → fitted (place c t k) command ≡ Ok (Told command)
+fitting c t k command f = rw (not_oversized c command f.0, is_few k f.1) refl
 
 told_complete : (c : Config) (t k : ℕ) (l : Line) → Fits c t k l
     → told_at (place c t k) (line_word l) (line_numbers l) ≡ Ok l
@@ -536,27 +514,25 @@ unfolding told_at
 told_complete c t k (Thread n) f = rw (eq-eqb n t f.0, ne_eqb t c.threads f.1) refl
 told_complete c t k End f = rw (eq-eqb t c.threads f) refl
 told_complete c t k (Told (commands.New d n)) f =
-    passes _ _ (Told (commands.New d n)) (is_low d f.0.0)
-    (has_room n (record_blocks c.width n) c.object k f.0.1 f.0.2 f.1)
+    has_low d _ _ f.0.0 (has_length n _ _ f.0.1 (fitting c t k (commands.New d n) f))
 told_complete c t k (Told (commands.Arr d n)) f =
-    passes _ _ (Told (commands.Arr d n)) (is_low d f.0.0)
-    (has_room n (array_blocks c.width n) c.object k f.0.1 f.0.2 f.1)
+    has_low d _ _ f.0.0 (has_length n _ _ f.0.1 (fitting c t k (commands.Arr d n) f))
 told_complete c t k (Told (commands.Set d v)) f =
-    passes _ _ (Told (commands.Set d v)) (is_low d f.0.0) (is_small v k f.0.1 f.1)
+    has_low d _ _ f.0.0 (fitting c t k (commands.Set d v) f)
 told_complete c t k (Told (commands.Nil d)) f =
-    passes _ _ (Told (commands.Nil d)) (is_low d f.0) (is_few k f.1)
+    has_low d _ _ f.0 (fitting c t k (commands.Nil d) f)
 told_complete c t k (Told (commands.Mov d s)) f =
-    passes _ _ (Told (commands.Mov d s)) (are_low d s f.0.0 f.0.1) (is_few k f.1)
+    has_low d _ _ f.0.0 (has_low s _ _ f.0.1 (fitting c t k (commands.Mov d s) f))
 told_complete c t k (Told (commands.Get d s i)) f =
-    passes _ _ (Told (commands.Get d s i)) (are_low d s f.0.0 f.0.1) (is_small i k f.0.2 f.1)
+    has_low d _ _ f.0.0 (has_low s _ _ f.0.1 (fitting c t k (commands.Get d s i) f))
 told_complete c t k (Told (commands.Put s i v)) f =
-    passes _ _ (Told (commands.Put s i v)) (are_low s v f.0.0 f.0.2) (is_small i k f.0.1 f.1)
+    has_low s _ _ f.0.0 (has_low v _ _ f.0.2 (fitting c t k (commands.Put s i v) f))
 told_complete c t k (Told (commands.Len s)) f =
-    passes _ _ (Told (commands.Len s)) (is_low s f.0) (is_few k f.1)
+    has_low s _ _ f.0 (fitting c t k (commands.Len s) f)
 told_complete c t k (Told (commands.Same a b)) f =
-    passes _ _ (Told (commands.Same a b)) (are_low a b f.0.0 f.0.1) (is_few k f.1)
+    has_low a _ _ f.0.0 (has_low b _ _ f.0.1 (fitting c t k (commands.Same a b) f))
 told_complete c t k (Told (commands.Say s)) f =
-    passes _ _ (Told (commands.Say s)) (is_low s f.0) (is_few k f.1)
+    has_low s _ _ f.0 (fitting c t k (commands.Say s) f)
 
 abbrev pub is_told : Line → Bool
 is_told (Thread t) = false

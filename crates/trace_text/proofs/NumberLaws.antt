@@ -62,38 +62,38 @@ digits_complete n (b ∷ bs) h =
 
 -- the form of a number
 abbrev pub has_bad_form : List ℕ → Bool
-has_bad_form piece = eqb (length piece) 0 || ltb 19 (length piece) ||
-    (ltb 1 (length piece) && eqb (get_or piece 0 0) 48)
+has_bad_form token = eqb (length token) 0 || ltb 19 (length token) ||
+    (ltb 1 (length token) && eqb (get_or token 0 0) 48)
 
-pub record HasForm (piece : List ℕ) : Type 0 where
-  pub some : 0 < length piece
-  pub few : length piece ≤ 19
-  pub no_zero : get_or piece 0 0 ≡ 48 → length piece ≡ 1
+pub record HasForm (token : List ℕ) : Type 0 where
+  pub some : 0 < length token
+  pub few : length token ≤ 19
+  pub no_zero : get_or token 0 0 ≡ 48 → length token ≡ 1
 
-form_sound : (piece : List ℕ) → has_bad_form piece ≡ false → HasForm piece
-form_sound piece e = record {
+form_sound : (token : List ℕ) → has_bad_form token ≡ false → HasForm token
+form_sound token e = record {
   some = grind (arith, nat_tests);
   few = grind (arith, nat_tests);
   no_zero = λ z. grind (arith, nat_tests);
 }
 
-form_complete : (piece : List ℕ) → 0 < length piece → length piece ≤ 19
-    → (get_or piece 0 0 ≡ 48 → length piece ≡ 1) → has_bad_form piece ≡ false
-form_complete piece some few no_zero = grind (arith, nat_tests)
+form_complete : (token : List ℕ) → 0 < length token → length token ≤ 19
+    → (get_or token 0 0 ≡ 48 → length token ≡ 1) → has_bad_form token ≡ false
+form_complete token some few no_zero = grind (arith, nat_tests)
 
-pub number_sound : (piece : List ℕ) (n : ℕ) → number_at piece ≡ Some n
-    → (piece ≡ decimal n) × (n < 10 ^ 19)
+pub number_sound : (token : List ℕ) (n : ℕ) → number_at token ≡ Some n
+    → (token ≡ decimal n) × (n < 10 ^ 19)
 unfolding number_at
-number_sound piece n e =
-    let t = else_some (has_bad_form piece) (digits_on 0 piece) n e in
-    let form = form_sound piece t.0 in
-    let spelled = digits_sound 0 n piece t.1 in
-    let below : digits_value 10 piece < 10 ^ length piece =
-    digits_value-lt 10 piece spelled.digits in
-    let most : 10 ^ length piece ≤ 10 ^ 19 = pow-le-pow_right (omega arith) form.few in
-    let same : decimal (digits_value 10 piece) ≡ piece =
-    decimal-digits_value own piece spelled.digits form.some form.no_zero (omega arith) in
-    let value : digits_value 10 piece ≡ n = spelled.value in
+number_sound token n e =
+    let t = else_some (has_bad_form token) (digits_on 0 token) n e in
+    let form = form_sound token t.0 in
+    let spelled = digits_sound 0 n token t.1 in
+    let below : digits_value 10 token < 10 ^ length token =
+    digits_value-lt 10 token spelled.digits in
+    let most : 10 ^ length token ≤ 10 ^ 19 = pow-le-pow_right (omega arith) form.few in
+    let same : decimal (digits_value 10 token) ≡ token =
+    decimal-digits_value own token spelled.digits form.some form.no_zero (omega arith) in
+    let value : digits_value 10 token ≡ n = spelled.value in
     (sym same ∙ ap decimal value, omega arith)
 
 no_zero_in_front : (n : ℕ) → n < 10 ^ 19 → get_or (decimal n) 0 0 ≡ 48 → length (decimal n) ≡ 1

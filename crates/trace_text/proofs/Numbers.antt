@@ -1,9 +1,9 @@
--- The numbers of so many pieces, read one by one.
+-- The numbers of so many tokens, read one by one.
 use Rattle.std.proofs.Common.{◌≡◌, ℕ, List, [], ◌∷◌, Result, Ok, Err, refl}
 use Rattle.std.specs.Option.{ok_or}
 use Rattle.trace_text.specs.declared.trace_faults.Why.{Why}
 use Rattle.trace_text.specs.declared.trace_faults.Why.TheVariants as whys
-use Rattle.trace_text.specs.Reading.{no_more_of, one_piece_of, two_pieces_of, three_pieces_of}
+use Rattle.trace_text.specs.Reading.{no_more_of, one_token_of, two_tokens_of, three_tokens_of}
 use Rattle.trace_text.specs.Said.{◌>>=◌, spelled, numbers_at}
 
 pub none_is : (ps : List (List ℕ))
@@ -13,9 +13,9 @@ none_is [] = refl
 none_is (p ∷ ps) = refl
 
 pub one_is : (ps : List (List ℕ))
-    → numbers_at 1 ps ≡ (ok_or (one_piece_of ps) whys.Count >>= λ a. spelled a >>= λ m. Ok
+    → numbers_at 1 ps ≡ (ok_or (one_token_of ps) whys.Count >>= λ a. spelled a >>= λ m. Ok
     (m ∷ []))
-unfolding numbers_at one_piece_of no_more_of
+unfolding numbers_at one_token_of no_more_of
 one_is [] = refl
 one_is (p ∷ []) = refl
 one_is (p ∷ q ∷ ps) = refl
@@ -38,9 +38,9 @@ three_steps (Ok m) (Ok n) (Ok k) = refl
 
 pub two_is : (ps : List (List ℕ))
     → numbers_at 2 ps ≡ (ok_or
-    (two_pieces_of ps) whys.Count >>= λ x. spelled x.0 >>= λ m. spelled x.1 >>= λ n. Ok
+    (two_tokens_of ps) whys.Count >>= λ x. spelled x.0 >>= λ m. spelled x.1 >>= λ n. Ok
     (m ∷ n ∷ []))
-unfolding numbers_at two_pieces_of one_piece_of no_more_of
+unfolding numbers_at two_tokens_of one_token_of no_more_of
 two_is [] = refl
 two_is (p ∷ []) = refl
 two_is (p ∷ q ∷ []) = two_steps (spelled p) (spelled q)
@@ -48,8 +48,8 @@ two_is (p ∷ q ∷ r ∷ ps) = refl
 
 pub three_is : (ps : List (List ℕ))
     → numbers_at 3 ps ≡ (ok_or
-    (three_pieces_of ps) whys.Count >>= λ x. spelled x.0 >>= λ m. spelled x.1 >>= λ n. spelled x.2 >>= λ k. Ok (m ∷ n ∷ k ∷ []))
-unfolding numbers_at three_pieces_of two_pieces_of one_piece_of no_more_of
+    (three_tokens_of ps) whys.Count >>= λ x. spelled x.0 >>= λ m. spelled x.1 >>= λ n. spelled x.2 >>= λ k. Ok (m ∷ n ∷ k ∷ []))
+unfolding numbers_at three_tokens_of two_tokens_of one_token_of no_more_of
 three_is [] = refl
 three_is (p ∷ []) = refl
 three_is (p ∷ q ∷ []) = refl

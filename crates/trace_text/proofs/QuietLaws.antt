@@ -11,7 +11,7 @@ use Rattle.trace_text.specs.declared.trace_faults.Why.{Why}
 use Rattle.trace_text.specs.declared.reading.lines.Line.{Line}
 use Rattle.trace_text.specs.declared.reading.lines.Line.TheVariants.{Thread, End, Told}
 use Rattle.trace_text.specs.Spellings.{header, command_line, trace_lines, traces_lines}
-use Rattle.trace_text.specs.Reading.{pieced}
+use Rattle.trace_text.specs.Reading.{tokenized}
 use Rattle.trace_text.specs.Refusals.{Before, nothing_before, after_line, after_lines, later_fault, next_fault, header_fault, config_of, fault_at, IsFirstBadLine}
 use Rattle.never_heap.specs.Jobs.{IsTraceInBounds}
 use Rattle.trace_text.proofs.LineLaws.{reason, prior, line_text, Fits, is_told, line_agrees, line_complete}
@@ -185,7 +185,7 @@ module _ (c : Config) (fits : IsInBounds c) (ls rest : Lines)
       ∙ fault_behind c nothing_before ls rest
 
   pub first_bad : (bytes : List ℕ) (line : ℕ) (why : Why) (b : Before)
-      → pieced bytes ≡ header c ∷ (ls ++ rest) → line ≡ length ls + 2
+      → tokenized bytes ≡ header c ∷ (ls ++ rest) → line ≡ length ls + 2
       → after_lines nothing_before ls ≡ b → next_fault c b rest ≡ Some why
       → IsFirstBadLine bytes line why
   first_bad bytes line why b text is after fault =

@@ -3,8 +3,8 @@ use Rattle.std.proofs.Common.{◌≡◌, ℕ, zero, suc, ◌<◌, ◌≤◌, Boo
 use Rattle.std.specs.List.{position, position_or_len}
 use Rattle.std.proofs.lemmas.Bool.{ltb-false}
 use Rattle.std.proofs.lemmas.List.Sums.{fails_before_first}
-use Rattle.trace_text.specs.Lines.{lines_of, pieces_of}
-use Rattle.trace_text.specs.Reading.{parted, pieced}
+use Rattle.trace_text.specs.Lines.{lines_of, tokens_of}
+use Rattle.trace_text.specs.Reading.{parted, tokenized}
 
 -- before place i no byte is c
 abbrev pub NoneBefore : ℕ → List ℕ → ℕ → Type 0
@@ -21,13 +21,13 @@ lines_at (b ∷ bs) (suc i) lt is none =
     let first : eqb b 10 ≡ false = none 0 (omega arith) in
     rw (first, lines_at bs i (omega arith) is (tail_none 10 b bs i none)) refl
 
-pub pieces_at : (bs : List ℕ) (i : ℕ) → i < length bs → eqb (get_or bs i 0) 32 ≡ true
-    → NoneBefore 32 bs i → pieces_of bs ≡ take i bs ∷ pieces_of (drop (suc i) bs)
-pieces_at [] i lt is none = absurd (omega arith)
-pieces_at (b ∷ bs) zero lt is none = rw is refl
-pieces_at (b ∷ bs) (suc i) lt is none =
+pub tokens_at : (bs : List ℕ) (i : ℕ) → i < length bs → eqb (get_or bs i 0) 32 ≡ true
+    → NoneBefore 32 bs i → tokens_of bs ≡ take i bs ∷ tokens_of (drop (suc i) bs)
+tokens_at [] i lt is none = absurd (omega arith)
+tokens_at (b ∷ bs) zero lt is none = rw is refl
+tokens_at (b ∷ bs) (suc i) lt is none =
     let first : eqb b 32 ≡ false = none 0 (omega arith) in
-    rw (first, pieces_at bs i (omega arith) is (tail_none 32 b bs i none)) refl
+    rw (first, tokens_at bs i (omega arith) is (tail_none 32 b bs i none)) refl
 
 lines_one : (b : ℕ) (bs : List ℕ) → NoneBefore 10 (b ∷ bs) (length (b ∷ bs))
     → lines_of (b ∷ bs) ≡ (b ∷ bs) ∷ []
@@ -42,12 +42,12 @@ pub lines_none : (bs : List ℕ) → 0 < length bs → NoneBefore 10 bs (length 
 lines_none [] lt none = absurd (omega arith)
 lines_none (b ∷ bs) lt none = lines_one b bs none
 
--- with no space there is one piece
-pub pieces_none : (bs : List ℕ) → NoneBefore 32 bs (length bs) → pieces_of bs ≡ bs ∷ []
-pieces_none [] none = refl
-pieces_none (b ∷ bs) none =
+-- with no space there is one token
+pub tokens_none : (bs : List ℕ) → NoneBefore 32 bs (length bs) → tokens_of bs ≡ bs ∷ []
+tokens_none [] none = refl
+tokens_none (b ∷ bs) none =
     let first : eqb b 32 ≡ false = none 0 (omega arith) in
-    rw (first, pieces_none bs (tail_none 32 b bs (length bs) none)) refl
+    rw (first, tokens_none bs (tail_none 32 b bs (length bs) none)) refl
 
 none_past : (b : Bool) (i : ℕ) → cond b (Some i) None ≡ None → b ≡ false
 none_past true i e = absurd cc
@@ -68,5 +68,5 @@ pub first_at : (bs line rest : List ℕ) → lines_of bs ≡ line ∷ lines_of r
 first_at bs line rest e = ap (λ (ls : List (List ℕ)). parted ls) e
 
 pub parts_at : (bs line rest : List ℕ) → lines_of bs ≡ line ∷ lines_of rest
-    → parted (pieced bs) ≡ Some (pieces_of line, pieced rest)
-parts_at bs line rest e = ap (λ (ls : List (List ℕ)). parted (map pieces_of ls)) e
+    → parted (tokenized bs) ≡ Some (tokens_of line, tokenized rest)
+parts_at bs line rest e = ap (λ (ls : List (List ℕ)). parted (map tokens_of ls)) e

@@ -9,7 +9,7 @@ use Rattle.never_heap.specs.declared.Command.{Command}
 use Rattle.trace_text.specs.Jobs.{Job}
 use Rattle.trace_text.specs.Spellings.{header, trace_lines, traces_lines}
 use Rattle.trace_text.specs.JobTexts.{line_text, job_text}
-use Rattle.trace_text.specs.Streams.{Appends, AppendsFront}
+use Rattle.trace_text.specs.Streams.{Appends, AppendsPrefix}
 use Rattle.trace_text.proofs.Appending.{appends_in_turn, front_in_turn, front_longer}
 
 traces_lines-append : (s : ℕ) (xs ys : List (List Command))
@@ -59,16 +59,16 @@ module _ (xs : List (List Command)) (i : ℕ) (d : List Command) (lt : i < lengt
       let P : List ℕ → Type 0 = λ text. Appends a c text in
       subst P (sym text_next) (appends_in_turn a b c _ _ before h)
 
-  -- the traces before a thread, and a front of its own
+  -- the traces before a thread, and a prefix of its own
   pub traces_front : (a b c : Option (List ℕ)) → Appends a b (traces_text 0 (take i xs))
-      → AppendsFront b c (trace_text i (get_or xs i d)) → AppendsFront a c (traces_text 0 xs)
+      → AppendsPrefix b c (trace_text i (get_or xs i d)) → AppendsPrefix a c (traces_text 0 xs)
   traces_front a b c before h =
-      let P : List ℕ → Type 0 = λ text. AppendsFront a c text in
+      let P : List ℕ → Type 0 = λ text. AppendsPrefix a c text in
       let whole : traces_text 0 (take (i + 1) xs) ++ traces_text (0 + length (take (i + 1) xs))
       (drop (i + 1) xs) ≡ traces_text 0 xs =
       sym (traces_text-append 0 (take (i + 1) xs) (drop (i + 1) xs))
       ∙ ap (traces_text 0) (take-append-drop (i + 1) xs) in
-      let so_far : AppendsFront a c (traces_text 0 (take (i + 1) xs)) =
+      let so_far : AppendsPrefix a c (traces_text 0 (take (i + 1) xs)) =
       subst P (sym text_next) (front_in_turn a b c _ _ before h) in
       subst P whole (front_longer a c _ _ so_far)
 
@@ -90,27 +90,27 @@ module _ (job : Job) where
       ∙ sym (append_assoc (line_text (header job.config)) (traces_text 0 job.traces)
       (codes "end\n"))
 
-  -- a front of the first line
-  pub first_front : (a b : Option (List ℕ)) → AppendsFront a b (line_text (header job.config))
-      → AppendsFront a b (job_text job)
+  -- a prefix of the first line
+  pub first_front : (a b : Option (List ℕ)) → AppendsPrefix a b (line_text (header job.config))
+      → AppendsPrefix a b (job_text job)
   first_front a b h = front_longer a b (line_text (header job.config))
       (flat_map line_text (traces_lines 0 job.traces ++ (codes "end" ∷ []) ∷ [])) h
 
-  -- the first line, and a front of the traces
+  -- the first line, and a prefix of the traces
   pub middle_front : (a b c : Option (List ℕ)) → Appends a b (line_text (header job.config))
-      → AppendsFront b c (traces_text 0 job.traces) → AppendsFront a c (job_text job)
+      → AppendsPrefix b c (traces_text 0 job.traces) → AppendsPrefix a c (job_text job)
   middle_front a b c before h =
-      let P : List ℕ → Type 0 = λ text. AppendsFront a c text in
+      let P : List ℕ → Type 0 = λ text. AppendsPrefix a c text in
       subst P (sym parts) (front_longer a c _ (codes "end\n")
       (front_in_turn a b c (line_text (header job.config))
       (traces_text 0 job.traces) before h))
 
-  -- all but the last line, and a front of it
+  -- all but the last line, and a prefix of it
   pub last_front : (a b c d : Option (List ℕ)) → Appends a b (line_text (header job.config))
-      → Appends b c (traces_text 0 job.traces) → AppendsFront c d (codes "end\n")
-      → AppendsFront a d (job_text job)
+      → Appends b c (traces_text 0 job.traces) → AppendsPrefix c d (codes "end\n")
+      → AppendsPrefix a d (job_text job)
   last_front a b c d first before h =
-      let P : List ℕ → Type 0 = λ text. AppendsFront a d text in
+      let P : List ℕ → Type 0 = λ text. AppendsPrefix a d text in
       let so_far = appends_in_turn a b c (line_text (header job.config))
       (traces_text 0 job.traces) first before in
       subst P (sym parts) (front_in_turn a c d _ (codes "end\n") so_far h)

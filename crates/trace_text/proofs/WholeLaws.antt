@@ -16,7 +16,7 @@ use Rattle.trace_text.specs.declared.reading.lines.Line.{Line}
 use Rattle.trace_text.specs.declared.reading.lines.Line.TheVariants.{Thread, End, Told}
 use Rattle.trace_text.specs.Spellings.{header, command_line, trace_lines, traces_lines, job_lines}
 use Rattle.trace_text.specs.Jobs.{Job, IsJobInBounds, IsJob}
-use Rattle.trace_text.specs.Reading.{Gives, pieced}
+use Rattle.trace_text.specs.Reading.{Gives, tokenized}
 use Rattle.trace_text.specs.Said.{line_at, header_at}
 use Rattle.trace_text.specs.Refusals.{Before, nothing_before, after_lines, later_fault, next_fault, fault_at, IsFirstBadLine}
 use Rattle.never_heap.specs.Jobs.{IsTraceInBounds}
@@ -146,7 +146,7 @@ module _ (c : Config) (t : ℕ) (lines : Lines) (trace : List Command) (left : L
 
 -- ---- the opening
 
-pub no_header : (bytes : List ℕ) → pieced bytes ≡ [] → IsFirstBadLine bytes 1 whys.Header
+pub no_header : (bytes : List ℕ) → tokenized bytes ≡ [] → IsFirstBadLine bytes 1 whys.Header
 no_header bytes e = record {
   some = omega arith;
   before = λ i lt. absurd (omega arith);
@@ -154,7 +154,7 @@ no_header bytes e = record {
 }
 
 pub bad_header : (bytes : List ℕ) (ps : List (List ℕ)) (others : Lines) (why : Why)
-    → pieced bytes ≡ ps ∷ others → header_at ps ≡ Err why → IsFirstBadLine bytes 1 why
+    → tokenized bytes ≡ ps ∷ others → header_at ps ≡ Err why → IsFirstBadLine bytes 1 why
 bad_header bytes ps others why e bad =
     record {
       some = omega arith;
@@ -163,8 +163,8 @@ bad_header bytes ps others why e bad =
     }
 
 module _ (bytes : List ℕ) (ps : List (List ℕ)) (others : Lines) (c : Config)
-    (text : pieced bytes ≡ ps ∷ others) (said : header_at ps ≡ Ok c) where
-  begins : pieced bytes ≡ header c ∷ others
+    (text : tokenized bytes ≡ ps ∷ others) (said : header_at ps ≡ Ok c) where
+  begins : tokenized bytes ≡ header c ∷ others
   begins = text ∙ ap (λ (p : List (List ℕ)). p ∷ others) (header_sound ps c said).text
 
   pub no_thread : others ≡ [] → IsFirstBadLine bytes 2 whys.End
@@ -222,7 +222,7 @@ module _ (c : Config) (done : List (List Command)) (bytes : List ℕ) (read : �
 
   module _ (more : length done < c.threads) where
     text_on : (trace : List Command) (others : Lines) → left ≡ map command_line trace ++ others
-        → pieced bytes ≡ header c ∷
+        → tokenized bytes ≡ header c ∷
         (traces_lines 0 done ++ (trace_lines (length done) trace ++ others))
     text_on trace others e =
         begun.text ∙ ap (λ (p : List (List ℕ)). header c ∷ (traces_lines 0 done ++ p ∷ left))
@@ -273,7 +273,7 @@ module _ (c : Config) (done : List (List Command)) (bytes : List ℕ) (read : �
         all.after bad.fault
 
   module _ (last : length done ≡ c.threads) where
-    text_end : pieced bytes ≡ header c ∷ (traces_lines 0 done ++ (codes "end" ∷ []) ∷ left)
+    text_end : tokenized bytes ≡ header c ∷ (traces_lines 0 done ++ (codes "end" ∷ []) ∷ left)
     text_end = begun.text ∙ ap
         (λ (p : List (List ℕ)). header c ∷ (traces_lines 0 done ++ p ∷ left))
         (end_next c (length done) last)
@@ -352,7 +352,7 @@ job_quiet c traces (suc i) b =
 pub apart : (bytes : List ℕ) (job : Job) (line : ℕ) (why : Why) → IsJob bytes job
     → IsFirstBadLine bytes line why → ⊥
 apart bytes job line why is bad =
-    let none : fault_at (pieced bytes) (line - 1) ≡ None =
+    let none : fault_at (tokenized bytes) (line - 1) ≡ None =
     ap (λ (ls : Lines). fault_at ls (line - 1)) is.lines
     ∙ job_quiet job.config job.traces (line - 1) is.in_bounds in
     let fault = bad.fault in
@@ -361,7 +361,7 @@ apart bytes job line why is bad =
 not_below : (bytes : List ℕ) (line other : ℕ) (why reason : Why) → IsFirstBadLine bytes line why
     → IsFirstBadLine bytes other reason → line < other → ⊥
 not_below bytes line other why reason p q lt =
-    let none : fault_at (pieced bytes) (line - 1) ≡ None =
+    let none : fault_at (tokenized bytes) (line - 1) ≡ None =
     q.before (line - 1) (omega (arith, p.some)) in
     let fault = p.fault in
     absurd cc
@@ -381,7 +381,7 @@ one_first bytes line other why reason p q =
     ] in (
       same,
       same_Some why reason
-          (sym p.fault ∙ ap (λ (n : ℕ). fault_at (pieced bytes) (n - 1)) same ∙ q.fault),
+          (sym p.fault ∙ ap (λ (n : ℕ). fault_at (tokenized bytes) (n - 1)) same ∙ q.fault),
     )
 
 -- ---- as a loop reads
@@ -435,9 +435,9 @@ module _ (c : Config) (done : List (List Command)) (n : ℕ) (bytes : List ℕ) 
   pub ends_whole : c.threads ≤ n → left ≡ [] → IsJob bytes (record { config = c; traces = done })
   ends_whole le e = is_whole c done bytes read left begun (omega (arith, count, begun.threads)) e
 
-  pub ends_late : c.threads ≤ n → (p : List (List ℕ) × Lines) → left ≡ p.0 ∷ p.1
+  pub ends_pending : c.threads ≤ n → (p : List (List ℕ) × Lines) → left ≡ p.0 ∷ p.1
       → IsFirstBadLine bytes (read + 1) whys.End
-  ends_late le p e = is_too_long c done bytes read left begun
+  ends_pending le p e = is_too_long c done bytes read left begun
       (omega (arith, count, begun.threads)) p.0 p.1 e
 
 -- an error that is passed on

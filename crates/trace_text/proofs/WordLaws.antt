@@ -32,30 +32,30 @@ word_text words.Same = codes "same"
 word_text words.Say = codes "say"
 
 -- one more text is tried
-tried : (piece text : List ℕ) (w v : Word) (more : Option Word) → word_text w ≡ text
-    → (more ≡ Some v → piece ≡ word_text v) → cond (bytes_eq piece text) (Some w) more ≡ Some v
-    → piece ≡ word_text v
-tried piece text w v more is otherwise e =
-    elim (cases_Bool (bytes_eq piece text)) [
-      | inl yes' ↦ (bytes_eq-Decides piece text).0 yes' ∙ sym is
+tried : (token text : List ℕ) (w v : Word) (more : Option Word) → word_text w ≡ text
+    → (more ≡ Some v → token ≡ word_text v) → cond (bytes_eq token text) (Some w) more ≡ Some v
+    → token ≡ word_text v
+tried token text w v more is otherwise e =
+    elim (cases_Bool (bytes_eq token text)) [
+      | inl yes' ↦ (bytes_eq-Decides token text).0 yes' ∙ sym is
           ∙ ap word_text (same_Some w v (subst (λ b. cond b (Some w) more ≡ Some v) yes' e))
       | inr no' ↦ otherwise (subst (λ b. cond b (Some w) more ≡ Some v) no' e)
     ]
 
-pub word_sound : (piece : List ℕ) (v : Word) → word_at piece ≡ Some v → piece ≡ word_text v
-word_sound piece v e =
-    tried piece (codes "get") words.Get v _ refl
-    (tried piece (codes "put") words.Put v _ refl
-    (tried piece (codes "new") words.New v _ refl
-    (tried piece (codes "arr") words.Arr v _ refl
-    (tried piece (codes "set") words.Set v _ refl
-    (tried piece (codes "mov") words.Mov v _ refl
-    (tried piece (codes "nil") words.Nil v _ refl
-    (tried piece (codes "len") words.Len v _ refl
-    (tried piece (codes "same") words.Same v _ refl
-    (tried piece (codes "say") words.Say v _ refl
-    (tried piece (codes "thread") words.Thread v _ refl
-    (tried piece (codes "end") words.End v None refl (λ none. absurd cc))))))))))))
+pub word_sound : (token : List ℕ) (v : Word) → word_at token ≡ Some v → token ≡ word_text v
+word_sound token v e =
+    tried token (codes "get") words.Get v _ refl
+    (tried token (codes "put") words.Put v _ refl
+    (tried token (codes "new") words.New v _ refl
+    (tried token (codes "arr") words.Arr v _ refl
+    (tried token (codes "set") words.Set v _ refl
+    (tried token (codes "mov") words.Mov v _ refl
+    (tried token (codes "nil") words.Nil v _ refl
+    (tried token (codes "len") words.Len v _ refl
+    (tried token (codes "same") words.Same v _ refl
+    (tried token (codes "say") words.Say v _ refl
+    (tried token (codes "thread") words.Thread v _ refl
+    (tried token (codes "end") words.End v None refl (λ none. absurd cc))))))))))))
     e
 
 pub word_complete : (v : Word) → word_at (word_text v) ≡ Some v
@@ -104,13 +104,13 @@ one_value None ns t r e = refl
 one_value (Some n) ns true r e = rw e refl
 one_value (Some n) ns false r e = rw e refl
 
--- the values of pieces, where each is a number
+-- the values of tokens, where each is a number
 pub values_are : (ps : List (List ℕ))
-    → values_at ps ≡ cond (list_any (λ piece. not (is_number piece)) ps) (Err whys.Number)
+    → values_at ps ≡ cond (list_any (λ token. not (is_number token)) ps) (Err whys.Number)
     (Ok (map value_of ps))
 values_are [] = refl
 values_are (p ∷ ps) = one_value (number_at p) (map value_of ps)
-    (list_any (λ piece. not (is_number piece)) ps) (values_at ps) (values_are ps)
+    (list_any (λ token. not (is_number token)) ps) (values_at ps) (values_are ps)
 
 abbrev pub AreWritten : List ℕ → Type 0
 AreWritten ns = AllByRecursion (λ n. n < 10 ^ 19) ns

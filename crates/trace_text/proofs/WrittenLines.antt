@@ -13,8 +13,8 @@ use Rattle.never_heap.specs.declared.Command.{Command}
 use Rattle.never_heap.specs.declared.Command.TheVariants.{New, Arr, Set, Nil, Mov, Get, Put, Len, Same, Say}
 use Rattle.never_heap.specs.Bounds.{IsCommandInBounds}
 use Rattle.never_heap.specs.Jobs.{IsTraceInBounds}
-use Rattle.trace_text.specs.Lines.{lines_of, pieces_of, onto_first}
-use Rattle.trace_text.specs.Reading.{pieced}
+use Rattle.trace_text.specs.Lines.{lines_of, tokens_of, onto_first}
+use Rattle.trace_text.specs.Reading.{tokenized}
 use Rattle.trace_text.specs.Spellings.{version, header, command_line, trace_lines, traces_lines, job_lines}
 use Rattle.trace_text.specs.Jobs.{Job, IsJobInBounds, IsJob, IsInput}
 use Rattle.trace_text.specs.JobTexts.{line_text, job_text}
@@ -22,25 +22,25 @@ use Rattle.trace_text.specs.JobTexts.{line_text, job_text}
 -- ---- bytes
 
 -- bytes that stand behind the space
-abbrev is_piece : List ℕ → Bool
-is_piece [] = true
-is_piece (b ∷ bs) = ltb 32 b && is_piece bs
+abbrev is_token : List ℕ → Bool
+is_token [] = true
+is_token (b ∷ bs) = ltb 32 b && is_token bs
 
--- the first line of these bytes has these pieces, and the others these
+-- the first line of these bytes has these tokens, and the others these
 record Begins (bytes first : List ℕ) (others : List (List ℕ)) (more : List (List (List ℕ)))
     : Type 0 where
   line : List ℕ
   lines : List (List ℕ)
   parted : lines_of bytes ≡ line ∷ lines
-  pieces : pieces_of line ≡ first ∷ others
-  rest : map pieces_of lines ≡ more
+  tokens : tokens_of line ≡ first ∷ others
+  rest : map tokens_of lines ≡ more
 
-at_feed : (rest : List ℕ) → Begins (10 ∷ rest) [] [] (pieced rest)
+at_feed : (rest : List ℕ) → Begins (10 ∷ rest) [] [] (tokenized rest)
 at_feed rest = record {
   line = [];
   lines = lines_of rest;
   parted = refl;
-  pieces = refl;
+  tokens = refl;
   rest = refl;
 }
 
@@ -51,7 +51,7 @@ at_space bytes first others more h =
       line = 32 ∷ h.line;
       lines = h.lines;
       parted = ap (onto_first 32) h.parted;
-      pieces = ap (λ ps. [] ∷ ps) h.pieces;
+      tokens = ap (λ ps. [] ∷ ps) h.tokens;
       rest = h.rest;
     }
 
@@ -64,36 +64,36 @@ at_byte b bytes first others more above h =
       line = b ∷ h.line;
       lines = h.lines;
       parted = rw no_feed (ap (onto_first b) h.parted);
-      pieces = rw no_space (ap (onto_first b) h.pieces);
+      tokens = rw no_space (ap (onto_first b) h.tokens);
       rest = h.rest;
     }
 
 record Above (b : ℕ) (bs : List ℕ) : Type 0 where
   first : 32 < b
-  others : is_piece bs ≡ true
+  others : is_token bs ≡ true
 
-above : (b : ℕ) (bs : List ℕ) → is_piece (b ∷ bs) ≡ true → Above b bs
+above : (b : ℕ) (bs : List ℕ) → is_token (b ∷ bs) ≡ true → Above b bs
 above b bs e = record { first = grind (arith, nat_tests); others = grind (arith, nat_tests) }
 
-at_piece : (piece bytes first : List ℕ) (others : List (List ℕ)) (more : List (List (List ℕ)))
-    → is_piece piece ≡ true → Begins bytes first others more
-    → Begins (piece ++ bytes) (piece ++ first) others more
-at_piece [] bytes first others more is h = h
-at_piece (b ∷ bs) bytes first others more is h =
+at_token : (token bytes first : List ℕ) (others : List (List ℕ)) (more : List (List (List ℕ)))
+    → is_token token ≡ true → Begins bytes first others more
+    → Begins (token ++ bytes) (token ++ first) others more
+at_token [] bytes first others more is h = h
+at_token (b ∷ bs) bytes first others more is h =
     let a = above b bs is in
     at_byte b (bs ++ bytes) (bs ++ first) others more a.first
-    (at_piece bs bytes first others more a.others h)
+    (at_token bs bytes first others more a.others h)
 
 -- ---- lines
 
-abbrev are_pieces : List (List ℕ) → Bool
-are_pieces [] = true
-are_pieces (piece ∷ pieces) = is_piece piece && are_pieces pieces
+abbrev are_tokens : List (List ℕ) → Bool
+are_tokens [] = true
+are_tokens (token ∷ tokens) = is_token token && are_tokens tokens
 
--- at least one piece
+-- at least one token
 abbrev IsLine : List (List ℕ) → Type 0
 IsLine [] = ⊥
-IsLine (piece ∷ pieces) = are_pieces (piece ∷ pieces) ≡ true
+IsLine (token ∷ tokens) = are_tokens (token ∷ tokens) ≡ true
 
 both : (a b : Bool) → (a && b) ≡ true → (a ≡ true) × (b ≡ true)
 both true b e = (refl, e)
@@ -108,81 +108,81 @@ seen_as bytes as_bytes first as_first others more e f h =
       lines = h.lines;
       parted = ap lines_of (sym e)
           ∙ h.parted;
-      pieces = h.pieces ∙ ap (λ p. p ∷ others) f;
+      tokens = h.tokens ∙ ap (λ p. p ∷ others) f;
       rest = h.rest;
     }
 
-line_begins : (piece : List ℕ) (pieces : List (List ℕ)) (rest : List ℕ) → IsLine (piece ∷ pieces)
-    → Begins (line_text (piece ∷ pieces) ++ rest) piece pieces (pieced rest)
-line_begins piece [] rest is =
-    let own = both (is_piece piece) true is in
-    let h = at_piece piece (10 ∷ rest) [] [] (pieced rest) own.0 (at_feed rest) in
-    seen_as _ _ _ _ [] (pieced rest) (sym (append_assoc piece (10 ∷ []) rest)) (append-nil piece) h
-line_begins piece (next ∷ pieces) rest is =
-    let own = both (is_piece piece) (are_pieces (next ∷ pieces)) is in
-    let behind = line_begins next pieces rest own.1 in
-    let bytes : List ℕ = line_text (next ∷ pieces) ++ rest in
-    let spaced = at_space bytes next pieces (pieced rest) behind in
-    let h = at_piece piece (32 ∷ bytes) [] (next ∷ pieces) (pieced rest) own.0 spaced in
-    let joined : List ℕ = 32 ∷ join_with_byte 32 (next ∷ pieces) in
-    let text : (piece ++ joined) ++ 10 ∷ [] ++ rest ≡ piece ++ 32 ∷ bytes =
-    ap (λ l. l ++ rest) (append_assoc piece joined (10 ∷ []))
-    ∙ append_assoc piece (joined ++ 10 ∷ []) rest in
-    seen_as _ _ _ _ (next ∷ pieces) (pieced rest) (sym text) (append-nil piece) h
+line_begins : (token : List ℕ) (tokens : List (List ℕ)) (rest : List ℕ) → IsLine (token ∷ tokens)
+    → Begins (line_text (token ∷ tokens) ++ rest) token tokens (tokenized rest)
+line_begins token [] rest is =
+    let own = both (is_token token) true is in
+    let h = at_token token (10 ∷ rest) [] [] (tokenized rest) own.0 (at_feed rest) in
+    seen_as _ _ _ _ [] (tokenized rest) (sym (append_assoc token (10 ∷ []) rest)) (append-nil token) h
+line_begins token (next ∷ tokens) rest is =
+    let own = both (is_token token) (are_tokens (next ∷ tokens)) is in
+    let behind = line_begins next tokens rest own.1 in
+    let bytes : List ℕ = line_text (next ∷ tokens) ++ rest in
+    let spaced = at_space bytes next tokens (tokenized rest) behind in
+    let h = at_token token (32 ∷ bytes) [] (next ∷ tokens) (tokenized rest) own.0 spaced in
+    let joined : List ℕ = 32 ∷ join_with_byte 32 (next ∷ tokens) in
+    let text : (token ++ joined) ++ 10 ∷ [] ++ rest ≡ token ++ 32 ∷ bytes =
+    ap (λ l. l ++ rest) (append_assoc token joined (10 ∷ []))
+    ∙ append_assoc token (joined ++ 10 ∷ []) rest in
+    seen_as _ _ _ _ (next ∷ tokens) (tokenized rest) (sym text) (append-nil token) h
 
-pieced_first : (bytes first : List ℕ) (others : List (List ℕ)) (more : List (List (List ℕ)))
-    → Begins bytes first others more → pieced bytes ≡ (first ∷ others) ∷ more
-pieced_first bytes first others more h =
-    ap (map pieces_of) h.parted ∙ ap (λ ps. ps ∷ map pieces_of h.lines) h.pieces
+tokenized_first : (bytes first : List ℕ) (others : List (List ℕ)) (more : List (List (List ℕ)))
+    → Begins bytes first others more → tokenized bytes ≡ (first ∷ others) ∷ more
+tokenized_first bytes first others more h =
+    ap (map tokens_of) h.parted ∙ ap (λ ps. ps ∷ map tokens_of h.lines) h.tokens
     ∙ ap (λ ls. (first ∷ others) ∷ ls) h.rest
 
 lines_again : (lines : List (List (List ℕ))) → AllByRecursion IsLine lines
-    → pieced (flat_map line_text lines) ≡ lines
+    → tokenized (flat_map line_text lines) ≡ lines
 lines_again [] are = refl
 lines_again ([] ∷ lines) are = absurd are.0
-lines_again ((piece ∷ pieces) ∷ lines) are =
-    pieced_first _ piece pieces _ (line_begins piece pieces (flat_map line_text lines) are.0)
-    ∙ ap (λ ls. (piece ∷ pieces) ∷ ls) (lines_again lines are.1)
+lines_again ((token ∷ tokens) ∷ lines) are =
+    tokenized_first _ token tokens _ (line_begins token tokens (flat_map line_text lines) are.0)
+    ∙ ap (λ ls. (token ∷ tokens) ∷ ls) (lines_again lines are.1)
 
 -- ---- the lines of a job
 
-digits_piece : (bs : List ℕ) → AllDigits 10 bs → is_piece bs ≡ true
-digits_piece [] digits = refl
-digits_piece (b ∷ bs) digits =
+digits_token : (bs : List ℕ) → AllDigits 10 bs → is_token bs ≡ true
+digits_token [] digits = refl
+digits_token (b ∷ bs) digits =
     let range = digit_from_value b digits.0 in
     let above : ltb 32 b ≡ true = grind (arith, nat_tests) in
-    rw above (digits_piece bs digits.1)
+    rw above (digits_token bs digits.1)
 
-number_piece : (n : ℕ) → n < 2 ^ 64 → is_piece (decimal n) ≡ true
-number_piece n fits = let numeral = decimal_is_IsNumeral n fits in
-    digits_piece (decimal n) numeral.0.1
+number_token : (n : ℕ) → n < 2 ^ 64 → is_token (decimal n) ≡ true
+number_token n fits = let numeral = decimal_is_IsNumeral n fits in
+    digits_token (decimal n) numeral.0.1
 
-version_piece : (w : Width) → is_piece (version w) ≡ true
-version_piece Four = refl
-version_piece Eight = refl
+version_token : (w : Width) → is_token (version w) ≡ true
+version_token Four = refl
+version_token Eight = refl
 
 header_line : (c : Config) → IsInBounds c → IsLine (header c)
 header_line c b =
     rw (
-      version_piece c.width,
-      number_piece c.threads (omega (arith, b.threads)),
-      number_piece c.blocks (omega (arith, b.blocks)),
-      number_piece c.live (omega (arith, b.live)),
-      number_piece c.object (omega (arith, b.object)),
-      number_piece c.shared (omega (arith, b.shared)),
+      version_token c.width,
+      number_token c.threads (omega (arith, b.threads)),
+      number_token c.blocks (omega (arith, b.blocks)),
+      number_token c.live (omega (arith, b.live)),
+      number_token c.object (omega (arith, b.object)),
+      number_token c.shared (omega (arith, b.shared)),
     ) refl
 
 thread_line : (t : ℕ) → t < 16 → IsLine (codes "thread" ∷ decimal t ∷ [])
-thread_line t lt = rw (number_piece t (omega arith)) refl
+thread_line t lt = rw (number_token t (omega arith)) refl
 
-register : (d : ℕ) → d < 16 → is_piece (decimal d) ≡ true
-register d lt = number_piece d (omega arith)
+register : (d : ℕ) → d < 16 → is_token (decimal d) ≡ true
+register d lt = number_token d (omega arith)
 
-number : (v : ℕ) → v < 2 ^ 62 → is_piece (decimal v) ≡ true
-number v lt = number_piece v (omega arith)
+number : (v : ℕ) → v < 2 ^ 62 → is_token (decimal v) ≡ true
+number v lt = number_token v (omega arith)
 
-size : (f : ℕ) → f ≤ 65535 → is_piece (decimal f) ≡ true
-size f le = number_piece f (omega arith)
+size : (f : ℕ) → f ≤ 65535 → is_token (decimal f) ≡ true
+size f le = number_token f (omega arith)
 
 a_line : (c : Config) (x : Command) → IsCommandInBounds c x → IsLine (command_line x)
 a_line c (New d f) b = rw (register d b.0, size f b.1) refl

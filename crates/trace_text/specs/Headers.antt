@@ -1,33 +1,33 @@
--- The form of a header, by its pieces.
+-- The form of a header, by its tokens.
 use Rattle.std.specs.Prelude.{ℕ, List, [], ◌∷◌, Option, None, Some, codes, if◌then◌else◌}
 use Rattle.std.specs.Str.{bytes_eq}
 use Rattle.block_store.specs.declared.Width.{Width}
 use Rattle.block_store.specs.declared.Width.TheVariants.{Four, Eight}
 use Rattle.trace_text.specs.Reading.{◌>>=◌, parted, no_more_of}
 
--- the pieces behind this word
+-- the tokens behind this word
 unfoldable pub behind_at : List ℕ → List (List ℕ) → Option (List (List ℕ))
 behind_at word [] = None
 behind_at word (first ∷ others) = if bytes_eq first word then Some others else None
 
--- the piece behind this label, and the pieces behind it
+-- the token behind this label, and the tokens behind it
 unfoldable pub labelled_at : List ℕ → List (List ℕ) → Option (List ℕ × List (List ℕ))
-labelled_at label pieces = behind_at label pieces >>= parted
+labelled_at label tokens = behind_at label tokens >>= parted
 
 -- the width of the blocks in a job of this version
 abbrev pub width_at : List ℕ → Option Width
-width_at piece =
-    if bytes_eq piece (codes "1") then Some Four else
-    if bytes_eq piece (codes "2") then Some Eight else None
+width_at token =
+    if bytes_eq token (codes "1") then Some Four else
+    if bytes_eq token (codes "2") then Some Eight else None
 
--- the same of the version in front, and the pieces behind it
+-- the same of the version in front, and the tokens behind it
 unfoldable pub version_at : List (List ℕ) → Option (Width × List (List ℕ))
-version_at pieces = do
-  p ← parted pieces
+version_at tokens = do
+  p ← parted tokens
   width ← width_at p.0
   Some (width, p.1)
 
--- the width that the version names, and the pieces that the five labels name
+-- the width that the version names, and the tokens that the five labels name
 abbrev pub Labels : Type 0
 Labels = Width × List ℕ × List ℕ × List ℕ × List ℕ × List ℕ
 

@@ -5,9 +5,9 @@ use Rattle.trace_text.specs.Jobs.{Job}
 use Rattle.trace_text.specs.Lines.{line_feed, space}
 use Rattle.trace_text.specs.Spellings.{job_lines}
 
--- a line: its pieces, with a single space between each two, and a line feed
+-- a line: its tokens, with a single space between each two, and a line feed
 abbrev pub line_text : List (List ℕ) → List ℕ
-line_text pieces = join_with_byte space pieces ++ line_feed ∷ []
+line_text tokens = join_with_byte space tokens ++ line_feed ∷ []
 
 -- the text of a job: its lines in turn
 abbrev pub job_text : Job → List ℕ

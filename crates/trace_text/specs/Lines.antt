@@ -1,4 +1,4 @@
--- Lines, and the pieces of a line.
+-- Lines, and the tokens of a line.
 use Rattle.std.specs.Prelude.{ℕ, ◌==◌, if◌then◌else◌, List, [], ◌∷◌}
 
 abbrev pub line_feed : ℕ
@@ -17,7 +17,7 @@ abbrev pub lines_of : List ℕ → List (List ℕ)
 lines_of [] = []
 lines_of (b ∷ bs) = if b == line_feed then [] ∷ lines_of bs else onto_first b (lines_of bs)
 
--- the pieces of a line are what stands between its single spaces
-abbrev pub pieces_of : List ℕ → List (List ℕ)
-pieces_of [] = [] ∷ []
-pieces_of (b ∷ bs) = if b == space then [] ∷ pieces_of bs else onto_first b (pieces_of bs)
+-- the tokens of a line are what stands between its single spaces
+abbrev pub tokens_of : List ℕ → List (List ℕ)
+tokens_of [] = [] ∷ []
+tokens_of (b ∷ bs) = if b == space then [] ∷ tokens_of bs else onto_first b (tokens_of bs)

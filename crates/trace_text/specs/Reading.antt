@@ -1,6 +1,6 @@
--- Reading: what pieces spell, where they spell something.
+-- Reading: what tokens spell, where they spell something.
 use Rattle.std.specs.Prelude.{ℕ, ◌+◌, ◌-◌, ◌*◌, ◌≡◌, ◌==◌, nat_le, nat_lt, Bool, ◌&&◌, ◌||◌, List, [], ◌∷◌, map, length, slice_index, Option, None, Some, if◌then◌else◌}
-use Rattle.trace_text.specs.Lines.{lines_of, pieces_of}
+use Rattle.trace_text.specs.Lines.{lines_of, tokens_of}
 
 -- what a reader answers, seen by view
 abbrev pub Gives : {X Y : Type 0} → (X → Y) → Option X → Option Y → Type 0
@@ -18,14 +18,14 @@ abbrev pub parted : {A : Type 0} → List A → Option (A × List A)
 parted [] = None
 parted (first ∷ others) = Some (first, others)
 
--- the lines of an input, each as its pieces
-abbrev pub pieced : List ℕ → List (List (List ℕ))
-pieced input = map pieces_of (lines_of input)
+-- the lines of an input, each as its tokens
+abbrev pub tokenized : List ℕ → List (List (List ℕ))
+tokenized input = map tokens_of (lines_of input)
 
--- the pieces of what is left of a line
-abbrev pub pieces_left : Option (List ℕ) → List (List ℕ)
-pieces_left None = []
-pieces_left (Some line) = pieces_of line
+-- the tokens of what is left of a line
+abbrev pub tokens_left : Option (List ℕ) → List (List ℕ)
+tokens_left None = []
+tokens_left (Some line) = tokens_of line
 
 -- a decimal digit
 abbrev pub is_digit : ℕ → Bool
@@ -38,33 +38,33 @@ digits_on n (b ∷ bs) = if is_digit b then digits_on (10 * n + (b - 48)) bs els
 
 -- 1 to 19 digits, with a 0 in front only in the number 0
 unfoldable pub number_at : List ℕ → Option ℕ
-number_at piece =
-    if length piece == 0 || nat_lt 19 (length piece)
-    || (nat_lt 1 (length piece) && slice_index piece 0 == 48)
-    then None else digits_on 0 piece
+number_at token =
+    if length token == 0 || nat_lt 19 (length token)
+    || (nat_lt 1 (length token) && slice_index token 0 == 48)
+    then None else digits_on 0 token
 
--- that no piece is left
+-- that no token is left
 unfoldable pub no_more_of : List (List ℕ) → Option (Unit {0})
 no_more_of [] = Some tt
-no_more_of (a ∷ pieces) = None
+no_more_of (a ∷ tokens) = None
 
--- the piece, where there is one
-unfoldable pub one_piece_of : List (List ℕ) → Option (List ℕ)
-one_piece_of [] = None
-one_piece_of (a ∷ pieces) = do
-  _ ← no_more_of pieces
+-- the token, where there is one
+unfoldable pub one_token_of : List (List ℕ) → Option (List ℕ)
+one_token_of [] = None
+one_token_of (a ∷ tokens) = do
+  _ ← no_more_of tokens
   Some a
 
--- the pieces, where there are two
-unfoldable pub two_pieces_of : List (List ℕ) → Option (List ℕ × List ℕ)
-two_pieces_of [] = None
-two_pieces_of (a ∷ pieces) = do
-  b ← one_piece_of pieces
+-- the tokens, where there are two
+unfoldable pub two_tokens_of : List (List ℕ) → Option (List ℕ × List ℕ)
+two_tokens_of [] = None
+two_tokens_of (a ∷ tokens) = do
+  b ← one_token_of tokens
   Some (a, b)
 
--- the pieces, where there are three
-unfoldable pub three_pieces_of : List (List ℕ) → Option (List ℕ × List ℕ × List ℕ)
-three_pieces_of [] = None
-three_pieces_of (a ∷ pieces) = do
-  p ← two_pieces_of pieces
+-- the tokens, where there are three
+unfoldable pub three_tokens_of : List (List ℕ) → Option (List ℕ × List ℕ × List ℕ)
+three_tokens_of [] = None
+three_tokens_of (a ∷ tokens) = do
+  p ← two_tokens_of tokens
   Some (a, p.0, p.1)

@@ -3,6 +3,7 @@ use Rattle.std.specs.Prelude.{ℕ, zero, suc, ◌+◌, ◌-◌, ◌<◌, ◌≤�
 use Rattle.std.specs.Option.{unwrap_or}
 use Rattle.std.specs.List.{list_any}
 use Rattle.block_store.specs.declared.Config.{Config}
+use Rattle.block_store.specs.declared.TheConstants.{REGISTERS}
 use Rattle.block_store.specs.declared.Width.TheVariants.{Four}
 use Rattle.object_lists.specs.Records.{record_blocks}
 use Rattle.array_trees.specs.Trees.{array_blocks}
@@ -10,7 +11,7 @@ use Rattle.trace_text.specs.declared.trace_faults.Why.{Why}
 use Rattle.trace_text.specs.declared.trace_faults.Why.TheVariants as whys
 use Rattle.trace_text.specs.declared.reading.words.Word.{Word}
 use Rattle.trace_text.specs.declared.reading.words.Word.TheVariants.{Thread, End}
-use Rattle.trace_text.specs.Reading.{number_at, pieced}
+use Rattle.trace_text.specs.Reading.{number_at, tokenized}
 use Rattle.trace_text.specs.Headers.{Labels, labels_at}
 use Rattle.trace_text.specs.Words.{word_at, is_command, operands, Operand, OfThread, OfRegister, OfFields, OfElements, OfNumber}
 
@@ -19,13 +20,13 @@ abbrev pub first_of : List (Bool × Why) → Option Why
 first_of [] = None
 first_of (test ∷ tests) = if test.0 then Some test.1 else first_of tests
 
--- a piece is a number
+-- a token is a number
 abbrev pub is_number : List ℕ → Bool
-is_number piece = is_some (number_at piece)
+is_number token = is_some (number_at token)
 
--- the number that a piece is
+-- the number that a token is
 abbrev pub value_of : List ℕ → ℕ
-value_of piece = unwrap_or (number_at piece) 0
+value_of token = unwrap_or (number_at token) 0
 
 -- ---- the header
 
@@ -53,7 +54,7 @@ numbers_fault (Some p) =
 unfoldable pub header_fault : List (List ℕ) → Option Why
 header_fault line = numbers_fault (labels_at line)
 
--- the configuration of a width and five pieces
+-- the configuration of a width and five tokens
 abbrev pub numbers_config : Option Labels → Config
 numbers_config None =
     record { width = Four; threads = 0; blocks = 0; live = 0; object = 0; shared = 0 }
@@ -109,9 +110,9 @@ any_operand test [] numbers = false
 any_operand test (o ∷ os) [] = false
 any_operand test (o ∷ os) (n ∷ numbers) = test o n || any_operand test os numbers
 
--- a register above 15
+-- a number that no register has
 abbrev pub is_high_register : Operand → ℕ → Bool
-is_high_register OfRegister n = nat_lt 15 n
+is_high_register OfRegister n = nat_le REGISTERS n
 is_high_register o n = false
 
 -- an object that is too long or has too many blocks, or a number that is too large
@@ -131,13 +132,13 @@ is_out_of_turn c b word numbers = false
 
 -- what is wrong with a line that begins with a word
 abbrev pub word_fault : Config → Before → Option Word → List (List ℕ) → Option Why
-word_fault c b None pieces = Some whys.Word
-word_fault c b (Some word) pieces =
-    let numbers = map value_of pieces in
+word_fault c b None tokens = Some whys.Word
+word_fault c b (Some word) tokens =
+    let numbers = map value_of tokens in
     first_of (
     (is_command word && b.threads == 0, whys.Order)
-    ∷ (not (length pieces == length (operands word)), whys.Count)
-    ∷ (list_any (λ piece. not (is_number piece)) pieces, whys.Number)
+    ∷ (not (length tokens == length (operands word)), whys.Count)
+    ∷ (list_any (λ token. not (is_number token)) tokens, whys.Number)
     ∷ (is_out_of_turn c b word numbers, whys.Order)
     ∷ (any_operand is_high_register (operands word) numbers, whys.Register)
     ∷ (
@@ -150,8 +151,8 @@ word_fault c b (Some word) pieces =
 -- what is wrong with a line behind the header
 unfoldable pub later_fault : Config → Before → List (List ℕ) → Option Why
 later_fault c b [] = if b.ended then Some whys.End else Some whys.Word
-later_fault c b (first ∷ pieces) =
-    if b.ended then Some whys.End else word_fault c b (word_at first) pieces
+later_fault c b (first ∷ tokens) =
+    if b.ended then Some whys.End else word_fault c b (word_at first) tokens
 
 -- what is wrong with the first of the lines that are left; where none is left, one of them should
 -- have been the end
@@ -171,5 +172,5 @@ fault_at (header ∷ lines) (suc i) =
 -- the line with this number, counted from 1, is the first with something wrong
 pub record IsFirstBadLine (bytes : List ℕ) (line : ℕ) (why : Why) : Type 0 where
   pub some : 1 ≤ line
-  pub before : (i : ℕ) → i + 1 < line → fault_at (pieced bytes) i ≡ None
-  pub fault : fault_at (pieced bytes) (line - 1) ≡ Some why
+  pub before : (i : ℕ) → i + 1 < line → fault_at (tokenized bytes) i ≡ None
+  pub fault : fault_at (tokenized bytes) (line - 1) ≡ Some why

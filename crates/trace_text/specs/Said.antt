@@ -1,9 +1,11 @@
--- What a line says, by its pieces, or the reason why it says nothing.
-use Rattle.std.specs.Prelude.{ℕ, zero, suc, ◌≡◌, ◌==◌, ◌^◌, nat_le, nat_lt, Bool, true, false, not, ◌&&◌, ◌||◌, List, [], ◌∷◌, length, Result, Ok, Err, if◌then◌else◌}
+-- What a line says, by its tokens, or the reason why it says nothing.
+use Rattle.std.specs.Prelude.{ℕ, zero, suc, ◌≡◌, ◌==◌, ◌<◌, ◌^◌, nat_le, nat_lt, Bool, true, false, not, ◌&&◌, ◌||◌, List, [], ◌∷◌, length, Result, Ok, Err, if◌then◌else◌}
 use Rattle.std.specs.Option.{ok_or}
 use Rattle.block_store.specs.declared.Config.{Config}
+use Rattle.block_store.specs.declared.TheConstants.{REGISTERS}
 use Rattle.object_lists.specs.Records.{record_blocks}
 use Rattle.array_trees.specs.Trees.{array_blocks}
+use Rattle.never_heap.specs.declared.Command.{Command}
 use Rattle.never_heap.specs.declared.Command.TheVariants as commands
 use Rattle.trace_text.specs.declared.trace_faults.Why.{Why}
 use Rattle.trace_text.specs.declared.trace_faults.Why.TheVariants as whys
@@ -27,9 +29,9 @@ abbrev pub Tells : {X Y : Type 0} → (X → Y) → Result X Why → Result Y Wh
 Tells view (Ok x) read = read ≡ Ok (view x)
 Tells view (Err why) read = read ≡ Err why
 
--- the number of a piece
+-- the number of a token
 abbrev pub spelled : List ℕ → Result ℕ Why
-spelled piece = ok_or (number_at piece) whys.Number
+spelled token = ok_or (number_at token) whys.Number
 
 -- there are this many
 abbrev pub count_is : {A : Type 0} → ℕ → List A → Bool
@@ -38,22 +40,54 @@ count_is zero (x ∷ xs) = false
 count_is (suc n) [] = false
 count_is (suc n) (x ∷ xs) = count_is n xs
 
--- the numbers of pieces
+-- the numbers of tokens
 abbrev pub values_at : List (List ℕ) → Result (List ℕ) Why
 values_at [] = Ok []
-values_at (piece ∷ pieces) = do
-  n ← spelled piece
-  ns ← values_at pieces
+values_at (token ∷ tokens) = do
+  n ← spelled token
+  ns ← values_at tokens
   Ok (n ∷ ns)
 
--- the numbers of this many pieces
+-- the numbers of this many tokens
 unfoldable pub numbers_at : ℕ → List (List ℕ) → Result (List ℕ) Why
-numbers_at n pieces = if count_is n pieces then values_at pieces else Err whys.Count
+numbers_at n tokens = if count_is n tokens then values_at tokens else Err whys.Count
 
--- what is said, where the registers and sizes are in their ranges
-abbrev pub checked : Bool → Bool → Line → Result Line Why
-checked register size line =
-    if register then Err whys.Register else if size then Err whys.Size else Ok line
+-- the registers of a command are registers
+abbrev pub HasRegisters : Command → Type 0
+HasRegisters (commands.New d f) = d < REGISTERS
+HasRegisters (commands.Arr d e) = d < REGISTERS
+HasRegisters (commands.Set d v) = d < REGISTERS
+HasRegisters (commands.Nil d) = d < REGISTERS
+HasRegisters (commands.Mov d s) = (d < REGISTERS) × (s < REGISTERS)
+HasRegisters (commands.Get d s i) = (d < REGISTERS) × (s < REGISTERS)
+HasRegisters (commands.Put s i v) = (s < REGISTERS) × (v < REGISTERS)
+HasRegisters (commands.Len s) = s < REGISTERS
+HasRegisters (commands.Same a b) = (a < REGISTERS) × (b < REGISTERS)
+HasRegisters (commands.Say s) = s < REGISTERS
+
+-- a command has an object that is too long or has too many blocks, or a number that is too large
+abbrev pub is_oversized : Config → Command → Bool
+is_oversized c (commands.New d f) =
+    nat_lt 65535 f || nat_lt c.object (record_blocks c.width f)
+is_oversized c (commands.Arr d e) =
+    nat_lt 65535 e || nat_lt c.object (array_blocks c.width e)
+is_oversized c (commands.Set d v) = nat_le (2 ^ 62) v
+is_oversized c (commands.Get d s i) = nat_le (2 ^ 62) i
+is_oversized c (commands.Put s i v) = nat_le (2 ^ 62) i
+is_oversized c command = false
+
+-- the number of a register
+abbrev pub register_at : ℕ → Result ℕ Why
+register_at n = if nat_le REGISTERS n then Err whys.Register else Ok n
+
+-- a length, which has 32 bits
+abbrev pub length_at : ℕ → Result ℕ Why
+length_at n = if nat_le (2 ^ 32) n then Err whys.Size else Ok n
+
+-- a command of registers, where its sizes are in their ranges and the thread may have one more
+abbrev pub fitted : Place → Command → Result Line Why
+fitted p command =
+    if is_oversized p.config command || p.full then Err whys.Size else Ok (Told command)
 
 -- behind no number, one, two or three
 abbrev pub on_none : List ℕ → Result Line Why → Result Line Why
@@ -81,40 +115,36 @@ told_at p words.Thread ns =
 told_at p words.End ns =
     on_none ns (if not (p.threads == p.config.threads) then Err whys.Order else Ok End)
 told_at p words.New ns =
-    on_two ns (λ d f. checked (nat_lt 15 d)
-    (p.full || nat_lt 65535 f || nat_lt p.config.object (record_blocks p.config.width f))
-    (Told (commands.New d f)))
+    on_two ns (λ d f. register_at d >>= λ d. length_at f >>= λ f. fitted p (commands.New d f))
 told_at p words.Arr ns =
-    on_two ns (λ d e. checked (nat_lt 15 d)
-    (p.full || nat_lt 65535 e || nat_lt p.config.object (array_blocks p.config.width e))
-    (Told (commands.Arr d e)))
+    on_two ns (λ d e. register_at d >>= λ d. length_at e >>= λ e. fitted p (commands.Arr d e))
 told_at p words.Set ns =
-    on_two ns (λ d v. checked (nat_lt 15 d) (p.full || nat_le (2 ^ 62) v) (Told (commands.Set d v)))
+    on_two ns (λ d v. register_at d >>= λ d. fitted p (commands.Set d v))
 told_at p words.Nil ns =
-    on_one ns (λ d. checked (nat_lt 15 d) p.full (Told (commands.Nil d)))
+    on_one ns (λ d. register_at d >>= λ d. fitted p (commands.Nil d))
 told_at p words.Mov ns =
-    on_two ns (λ d s. checked (nat_lt 15 d || nat_lt 15 s) p.full (Told (commands.Mov d s)))
+    on_two ns (λ d s. register_at d >>= λ d. register_at s >>= λ s. fitted p (commands.Mov d s))
 told_at p words.Get ns =
-    on_three ns (λ d s i. checked (nat_lt 15 d || nat_lt 15 s)
-    (p.full || nat_le (2 ^ 62) i) (Told (commands.Get d s i)))
+    on_three ns (λ d s i.
+    register_at d >>= λ d. register_at s >>= λ s. fitted p (commands.Get d s i))
 told_at p words.Put ns =
-    on_three ns (λ s i v. checked (nat_lt 15 s || nat_lt 15 v)
-    (p.full || nat_le (2 ^ 62) i) (Told (commands.Put s i v)))
+    on_three ns (λ s i v.
+    register_at s >>= λ s. register_at v >>= λ v. fitted p (commands.Put s i v))
 told_at p words.Len ns =
-    on_one ns (λ s. checked (nat_lt 15 s) p.full (Told (commands.Len s)))
+    on_one ns (λ s. register_at s >>= λ s. fitted p (commands.Len s))
 told_at p words.Same ns =
-    on_two ns (λ a b. checked (nat_lt 15 a || nat_lt 15 b) p.full (Told (commands.Same a b)))
+    on_two ns (λ a b. register_at a >>= λ a. register_at b >>= λ b. fitted p (commands.Same a b))
 told_at p words.Say ns =
-    on_one ns (λ s. checked (nat_lt 15 s) p.full (Told (commands.Say s)))
+    on_one ns (λ s. register_at s >>= λ s. fitted p (commands.Say s))
 
--- what a word and the pieces behind it say
+-- what a word and the tokens behind it say
 unfoldable pub operands_at : Place → Word → List (List ℕ) → Result Line Why
-operands_at p word pieces = numbers_at (length (operands word)) pieces >>= told_at p word
+operands_at p word tokens = numbers_at (length (operands word)) tokens >>= told_at p word
 
 -- the same, where a command comes only behind a thread
 abbrev pub in_turn : Place → Word → List (List ℕ) → Result Line Why
-in_turn p word pieces =
-    if is_command word && p.threads == 0 then Err whys.Order else operands_at p word pieces
+in_turn p word tokens =
+    if is_command word && p.threads == 0 then Err whys.Order else operands_at p word tokens
 
 -- what a line says
 unfoldable pub line_at : Place → List (List ℕ) → Result Line Why
@@ -130,19 +160,19 @@ bounded_at least most n = if nat_lt n least || nat_lt most n then Err whys.Size 
 -- the configuration that a header names
 unfoldable pub header_at : List (List ℕ) → Result Config Why
 header_at line = do
-  pieces ← ok_or (labels_at line) whys.Header
-  threads ← spelled pieces.1
-  blocks ← spelled pieces.2
-  live ← spelled pieces.3
-  object ← spelled pieces.4
-  shared ← spelled pieces.5
+  tokens ← ok_or (labels_at line) whys.Header
+  threads ← spelled tokens.1
+  blocks ← spelled tokens.2
+  live ← spelled tokens.3
+  object ← spelled tokens.4
+  shared ← spelled tokens.5
   threads ← bounded_at 1 16 threads
   blocks ← bounded_at 1 65535 blocks
   live ← bounded_at 0 65535 live
   object ← bounded_at 1 1024 object
   shared ← bounded_at 0 1024 shared
   Ok (record {
-    width = pieces.0;
+    width = tokens.0;
     threads = threads;
     blocks = blocks;
     live = live;

@@ -1,4 +1,4 @@
--- How a job is spelled: its lines, each as its pieces. A number is written in decimal digits,
+-- How a job is spelled: its lines, each as its tokens. A number is written in decimal digits,
 -- without a leading zero.
 use Rattle.std.specs.Prelude.{ℕ, ◌+◌, List, [], ◌∷◌, ◌++◌, map, codes, decimal}
 use Rattle.block_store.specs.declared.Config.{Config}

@@ -12,9 +12,9 @@ pub record GivesFirst (k : ℕ) (piece bytes : List ℕ) (left : Option (List �
 abbrev pub Appends : Option (List ℕ) → Option (List ℕ) → List ℕ → Type 0
 Appends old new text = IfSome old (λ bytes. new ≡ Some (bytes ++ text))
 
--- the same with a front of the text
-abbrev pub AppendsFront : Option (List ℕ) → Option (List ℕ) → List ℕ → Type 0
-AppendsFront old new text = IfSome old (λ bytes. (k : ℕ) × (new ≡ Some (bytes ++ take k text)))
+-- the same with a prefix of the text
+abbrev pub AppendsPrefix : Option (List ℕ) → Option (List ℕ) → List ℕ → Type 0
+AppendsPrefix old new text = IfSome old (λ bytes. (k : ℕ) × (new ≡ Some (bytes ++ take k text)))
 
 -- the stream was read to its end
 abbrev pub IsAtEnd : Option (List ℕ) → Option (List ℕ) → Type 0

@@ -9,7 +9,7 @@ use Rattle.trace_text.specs.declared.trace_faults.TraceFault.{TraceFault}
 use Rattle.trace_text.specs.declared.trace_faults.TraceFault.TheVariants.{ReadFault, TooLong, BadLine, OutOfMemory}
 use Rattle.trace_text.specs.declared.trace_faults.Why.{Why}
 use Rattle.trace_text.specs.Spellings.{header, command_line, traces_lines}
-use Rattle.trace_text.specs.Reading.{pieced}
+use Rattle.trace_text.specs.Reading.{tokenized}
 use Rattle.trace_text.specs.Refusals.{next_fault}
 
 -- a reader of lines refuses for a line, or because memory ran out
@@ -50,6 +50,6 @@ pub record IsBegun
     : Type 0 where
   pub config : IsInBounds c
   pub threads : length done ≤ c.threads
-  pub text : pieced bytes ≡ header c ∷ (traces_lines 0 done ++ next_line c (length done) ∷ others)
+  pub text : tokenized bytes ≡ header c ∷ (traces_lines 0 done ++ next_line c (length done) ∷ others)
   pub traces : AllByRecursion (IsTraceInBounds c) done
   pub place : read ≡ length (traces_lines 0 done) + 2

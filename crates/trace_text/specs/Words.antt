@@ -4,21 +4,21 @@ use Rattle.std.specs.Str.{bytes_eq}
 use Rattle.trace_text.specs.declared.reading.words.Word.{Word}
 use Rattle.trace_text.specs.declared.reading.words.Word.TheVariants.{Thread, End, New, Arr, Set, Nil, Mov, Get, Put, Len, Same, Say}
 
--- the word that a piece is
+-- the word that a token is
 abbrev pub word_at : List ℕ → Option Word
-word_at piece =
-    if bytes_eq piece (codes "get") then Some Get else
-    if bytes_eq piece (codes "put") then Some Put else
-    if bytes_eq piece (codes "new") then Some New else
-    if bytes_eq piece (codes "arr") then Some Arr else
-    if bytes_eq piece (codes "set") then Some Set else
-    if bytes_eq piece (codes "mov") then Some Mov else
-    if bytes_eq piece (codes "nil") then Some Nil else
-    if bytes_eq piece (codes "len") then Some Len else
-    if bytes_eq piece (codes "same") then Some Same else
-    if bytes_eq piece (codes "say") then Some Say else
-    if bytes_eq piece (codes "thread") then Some Thread else
-    if bytes_eq piece (codes "end") then Some End else None
+word_at token =
+    if bytes_eq token (codes "get") then Some Get else
+    if bytes_eq token (codes "put") then Some Put else
+    if bytes_eq token (codes "new") then Some New else
+    if bytes_eq token (codes "arr") then Some Arr else
+    if bytes_eq token (codes "set") then Some Set else
+    if bytes_eq token (codes "mov") then Some Mov else
+    if bytes_eq token (codes "nil") then Some Nil else
+    if bytes_eq token (codes "len") then Some Len else
+    if bytes_eq token (codes "same") then Some Same else
+    if bytes_eq token (codes "say") then Some Say else
+    if bytes_eq token (codes "thread") then Some Thread else
+    if bytes_eq token (codes "end") then Some End else None
 
 -- a word that a command begins with
 abbrev pub is_command : Word → Bool

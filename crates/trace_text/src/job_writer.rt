@@ -5,7 +5,7 @@ ghost use Rattle.std.specs.List.{flat_map};
 ghost use Rattle.trace_text.specs.Jobs as jobs;
 ghost use Rattle.trace_text.specs.Faults.{Rose};
 ghost use Rattle.trace_text.specs.Lines.{space};
-ghost use Rattle.trace_text.specs.Streams.{Appends, AppendsFront};
+ghost use Rattle.trace_text.specs.Streams.{Appends, AppendsPrefix};
 ghost use Rattle.trace_text.specs.Spellings.{version, header, command_line, trace_lines, traces_lines};
 ghost use Rattle.trace_text.specs.Jobs.{input_limit, IsJobInBounds, IsJob, IsInput};
 ghost use Rattle.trace_text.specs.JobTexts.{line_text, job_text};
@@ -28,14 +28,14 @@ use never_heap::Command;
 /// ```
 ///
 /// The job has to be in its ranges, with one trace per thread and at most 131,072 commands in each.
-/// Each line is one `put`. At the first one that fails it stops, and a front of the text is
+/// Each line is one `put`. At the first one that fails it stops, and a prefix of the text is
 /// written.
 /// Where the text has at most 16,777,216 bytes, reading it gives the job back.
 pub fn write_job<K: Sink>(job: &Job, sink: &mut K) -> Result<(), Failed>
     requires { IsJobInBounds job.now }
     ensures written { OnOk result (Appends (K.held sink.old) (K.held sink.new) (job_text job.now)) }
-    ensures front { OnErr result
-        (AppendsFront (K.held sink.old) (K.held sink.new) (job_text job.now)) }
+    ensures prefix { OnErr result
+        (AppendsPrefix (K.held sink.old) (K.held sink.new) (job_text job.now)) }
     ensures rose { OnErr result (Rose (K.faults sink.old) (K.faults sink.new)) }
     ensures still { OnOk result (K.faults sink.new ≡ K.faults sink.old) }
     ensures is_job { IsJob (job_text job.now) job.now }
@@ -56,7 +56,7 @@ pub fn job_text_is_job()
 fn write_traces<K: Sink>(job: &Job, sink: &mut K) -> Result<(), Failed>
     ensures written { OnOk result (Appends (K.held sink.old) (K.held sink.new)
         (flat_map line_text (traces_lines 0 job.now.traces))) }
-    ensures front { OnErr result (AppendsFront (K.held sink.old) (K.held sink.new)
+    ensures prefix { OnErr result (AppendsPrefix (K.held sink.old) (K.held sink.new)
         (flat_map line_text (traces_lines 0 job.now.traces))) }
     ensures rose { OnErr result (Rose (K.faults sink.old) (K.faults sink.new)) }
     ensures still { OnOk result (K.faults sink.new ≡ K.faults sink.old) }
@@ -71,7 +71,7 @@ fn write_traces<K: Sink>(job: &Job, sink: &mut K) -> Result<(), Failed>
 fn write_trace<K: Sink>(t: usize, trace: &[Command], sink: &mut K) -> Result<(), Failed>
     ensures written { OnOk result (Appends (K.held sink.old) (K.held sink.new)
         (flat_map line_text (trace_lines t trace.now))) }
-    ensures front { OnErr result (AppendsFront (K.held sink.old) (K.held sink.new)
+    ensures prefix { OnErr result (AppendsPrefix (K.held sink.old) (K.held sink.new)
         (flat_map line_text (trace_lines t trace.now))) }
     ensures rose { OnErr result (Rose (K.faults sink.old) (K.faults sink.new)) }
     ensures still { OnOk result (K.faults sink.new ≡ K.faults sink.old) }
@@ -84,7 +84,7 @@ fn write_trace<K: Sink>(t: usize, trace: &[Command], sink: &mut K) -> Result<(),
 fn write_commands<K: Sink>(trace: &[Command], sink: &mut K) -> Result<(), Failed>
     ensures written { OnOk result (Appends (K.held sink.old) (K.held sink.new)
         (flat_map line_text (map command_line trace.now))) }
-    ensures front { OnErr result (AppendsFront (K.held sink.old) (K.held sink.new)
+    ensures prefix { OnErr result (AppendsPrefix (K.held sink.old) (K.held sink.new)
         (flat_map line_text (map command_line trace.now))) }
     ensures rose { OnErr result (Rose (K.faults sink.old) (K.faults sink.new)) }
     ensures still { OnOk result (K.faults sink.new ≡ K.faults sink.old) }

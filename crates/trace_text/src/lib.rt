@@ -21,7 +21,7 @@ pub use mem_sink::MemSink;
 pub use mem_source::MemSource;
 pub use printing::{fill_entry, fill_start, fill_totals, lines_are_short, write_run};
 pub use reading::{
-    INPUT_LIMIT, first_line, first_piece, input_of, inputs_are_told_apart, job_of, jobs_are_one,
+    INPUT_LIMIT, first_line, first_token, input_of, inputs_are_told_apart, job_of, jobs_are_one,
     number_of, read_trace,
 };
 pub use sinks::Sink;

@@ -3,7 +3,7 @@
 ghost use Rattle.std.specs.Prelude.{◌≡◌, ◌+◌, ◌≤◌, ◌++◌, length, codes, decimal, OnOk, OnErr};
 ghost use Rattle.std.specs.List.{flat_map};
 ghost use Rattle.trace_text.specs.Faults.{Rose};
-ghost use Rattle.trace_text.specs.Streams.{Appends, AppendsFront};
+ghost use Rattle.trace_text.specs.Streams.{Appends, AppendsPrefix};
 ghost use Rattle.trace_text.specs.Texts.{name_text, value_text, reply_text, entry_line, totals_line, start_line, run_text};
 
 use crate::line_buffer::LineBuffer;
@@ -20,12 +20,12 @@ use never_heap::{Entry, Logs, Reply};
 /// end cycles 2 work 36
 /// ```
 ///
-/// Each line is one `put`. At the first one that fails it stops, and a front of the text is
+/// Each line is one `put`. At the first one that fails it stops, and a prefix of the text is
 /// written.
 pub fn write_run<R: Logs, K: Sink>(run: &R, sink: &mut K) -> Result<(), Failed>
     ensures written { OnOk result (Appends (K.held sink.old) (K.held sink.new)
         (run_text (R.logs run.now) (R.cycle_count run.now) (R.unit_count run.now))) }
-    ensures front { OnErr result (AppendsFront (K.held sink.old) (K.held sink.new)
+    ensures prefix { OnErr result (AppendsPrefix (K.held sink.old) (K.held sink.new)
         (run_text (R.logs run.now) (R.cycle_count run.now) (R.unit_count run.now))) }
     ensures rose { OnErr result (Rose (K.faults sink.old) (K.faults sink.new)) }
     ensures still { OnOk result (K.faults sink.new ≡ K.faults sink.old) }
@@ -52,8 +52,8 @@ pub fn lines_are_short(entry: Entry, cycles: u64, units: u64)
 fn write_log<K: Sink>(log: &[Entry], sink: &mut K) -> Result<(), Failed>
     ensures written { OnOk result
         (Appends (K.held sink.old) (K.held sink.new) (flat_map entry_line log.now)) }
-    ensures front { OnErr result
-        (AppendsFront (K.held sink.old) (K.held sink.new) (flat_map entry_line log.now)) }
+    ensures prefix { OnErr result
+        (AppendsPrefix (K.held sink.old) (K.held sink.new) (flat_map entry_line log.now)) }
     ensures rose { OnErr result (Rose (K.faults sink.old) (K.faults sink.new)) }
     ensures still { OnOk result (K.faults sink.new ≡ K.faults sink.old) }
 {

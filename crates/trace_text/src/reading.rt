@@ -13,18 +13,18 @@ mod header;
 mod input;
 mod lines;
 mod numbers;
-mod pieces;
 #[cfg(test)]
 mod refused;
 #[cfg(test)]
 mod tests;
+mod tokens;
 mod whole;
 mod words;
 
 use crate::jobs::Job;
 pub use crate::reading::input::{INPUT_LIMIT, input_of};
 pub use crate::reading::numbers::number_of;
-pub use crate::reading::pieces::{first_line, first_piece};
+pub use crate::reading::tokens::{first_line, first_token};
 pub use crate::reading::whole::job_of;
 use crate::sources::Source;
 use crate::trace_faults::TraceFault;

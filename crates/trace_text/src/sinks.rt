@@ -2,7 +2,7 @@
 
 ghost use Rattle.std.specs.Prelude.{◌≡◌, ℕ, List, Option, OnOk, OnErr};
 ghost use Rattle.trace_text.specs.Faults.{Rose};
-ghost use Rattle.trace_text.specs.Streams.{Appends, AppendsFront};
+ghost use Rattle.trace_text.specs.Streams.{Appends, AppendsPrefix};
 
 use crate::Failed;
 
@@ -14,10 +14,10 @@ pub trait Sink {
     /// How many faults the sink has counted. The count never falls, and stands still at 2^64 - 1.
     ghost faults: { Self → ℕ };
 
-    /// Appends a piece. At `Failed` a front of it was appended.
+    /// Appends a piece. At `Failed` a prefix of it was appended.
     fn put(&mut self, piece: &[u8]) -> Result<(), Failed>
         ensures appended { OnOk result (Appends (held self.old) (held self.new) piece.now) }
-        ensures front { OnErr result (AppendsFront (held self.old) (held self.new) piece.now) }
+        ensures prefix { OnErr result (AppendsPrefix (held self.old) (held self.new) piece.now) }
         ensures rose { OnErr result (Rose (faults self.old) (faults self.new)) }
         ensures still { OnOk result (faults self.new ≡ faults self.old) };
 }

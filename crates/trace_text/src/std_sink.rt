@@ -1,7 +1,7 @@
 //! A sink over std's writers.
 
 ghost use Rattle.std.specs.Prelude.{◌≡◌, OnOk, OnErr};
-ghost use Rattle.trace_text.specs.Streams.{Appends, AppendsFront};
+ghost use Rattle.trace_text.specs.Streams.{Appends, AppendsPrefix};
 
 use crate::{Failed, Sink};
 use std::io::{ErrorKind, Write};
@@ -9,7 +9,7 @@ use std::io::{ErrorKind, Write};
 /// A sink over a writer.
 ///
 /// A piece is written by as many writes as it takes. A write that was interrupted is tried again;
-/// one that takes nothing, and any other error, is a fault, which may leave a front of the piece
+/// one that takes nothing, and any other error, is a fault, which may leave a prefix of the piece
 /// written.
 /// For example, over standard output `put` of a line returns once the whole line is written. A sink
 /// flushes nothing. What is held is known where the writer tells it; standard output does not.
@@ -44,11 +44,11 @@ impl<W: Write> Sink for StdSink<W> {
     }
 }
 
-/// Writes all of the piece. What was written before an error is a front of it.
+/// Writes all of the piece. What was written before an error is a prefix of it.
 fn write_whole<W: Write>(writer: &mut W, piece: &[u8]) -> Result<(), Failed>
     ensures ok { OnOk result (Appends (W.contents writer.old) (W.contents writer.new) piece.now) }
-    ensures front { OnErr result
-        (AppendsFront (W.contents writer.old) (W.contents writer.new) piece.now) }
+    ensures prefix { OnErr result
+        (AppendsPrefix (W.contents writer.old) (W.contents writer.new) piece.now) }
 {
     let mut done = 0;
     for _ in 0..u64::MAX {

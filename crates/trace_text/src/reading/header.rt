@@ -2,20 +2,20 @@
 
 ghost use Rattle.std.specs.Prelude.{◌≡◌};
 ghost use Rattle.std.specs.Option.{option_copied};
-ghost use Rattle.trace_text.specs.Lines.{pieces_of};
-ghost use Rattle.trace_text.specs.Reading.{Gives, pieces_left};
+ghost use Rattle.trace_text.specs.Lines.{tokens_of};
+ghost use Rattle.trace_text.specs.Reading.{Gives, tokens_left};
 ghost use Rattle.trace_text.specs.Headers.{behind_at, width_at, version_at, labelled_at, labels_at};
 ghost use Rattle.trace_text.specs.Said.{bounded_at, header_at};
 
 use crate::reading::lines::spelled;
-use crate::reading::pieces::{first_piece, no_more};
+use crate::reading::tokens::{first_token, no_more};
 use crate::trace_faults::Why;
 use block_store::{Config, Width};
 
 /// The configuration that a header names, each number in its range.
 #[tactic(auto, unfolding(crate::specs::Said::header_at))]
 pub fn header_of(line: &[u8]) -> Result<Config, Why>
-    ensures { result ≡ header_at (pieces_of line.now) }
+    ensures { result ≡ header_at (tokens_of line.now) }
 {
     let (width, threads, blocks, live, object, shared) = labels_of(line).ok_or(Why::Header)?;
     let (threads, blocks, live) = (spelled(threads)?, spelled(blocks)?, spelled(live)?);
@@ -30,11 +30,11 @@ pub fn header_of(line: &[u8]) -> Result<Config, Why>
     })
 }
 
-/// The width that a header's version names, and its five pieces that are to be numbers.
+/// The width that a header's version names, and its five tokens that are to be numbers.
 #[tactic(auto, unfolding(crate::specs::Headers::labels_at))]
 fn labels_of(line: &[u8]) -> Option<(Width, &[u8], &[u8], &[u8], &[u8], &[u8])>
     ensures { Gives (λ x. (x.0, x.1.now, x.2.now, x.3.now, x.4.now, x.5.now)) result
-        (labels_at (pieces_of line.now)) }
+        (labels_at (tokens_of line.now)) }
 {
     let rest = behind(Some(line), b"rtheap")?;
     let (width, rest) = version_of(rest)?;
@@ -47,13 +47,13 @@ fn labels_of(line: &[u8]) -> Option<(Width, &[u8], &[u8], &[u8], &[u8], &[u8])>
     Some((width, threads, blocks, live, object, shared))
 }
 
-/// The width that the version names with which the pieces begin, and the pieces behind it.
+/// The width that the version names with which the tokens begin, and the tokens behind it.
 #[tactic(auto, unfolding(crate::specs::Headers::version_at))]
-fn version_of(pieces: Option<&[u8]>) -> Option<(Width, Option<&[u8]>)>
-    ensures { Gives (λ x. (x.0, pieces_left (option_copied x.1))) result
-        (version_at (pieces_left (option_copied pieces.entry))) }
+fn version_of(tokens: Option<&[u8]>) -> Option<(Width, Option<&[u8]>)>
+    ensures { Gives (λ x. (x.0, tokens_left (option_copied x.1))) result
+        (version_at (tokens_left (option_copied tokens.entry))) }
 {
-    let (version, others) = first_piece(pieces?);
+    let (version, others) = first_token(tokens?);
     Some((width_of(version)?, others))
 }
 
@@ -68,23 +68,23 @@ fn width_of(version: &[u8]) -> Option<Width>
     }
 }
 
-/// The piece behind a label that the pieces begin with, and the pieces behind it.
+/// The token behind a label that the tokens begin with, and the tokens behind it.
 #[tactic(auto, unfolding(crate::specs::Headers::labelled_at))]
-fn labelled<'a>(pieces: Option<&'a [u8]>, label: &[u8]) -> Option<(&'a [u8], Option<&'a [u8]>)>
-    ensures { Gives (λ x. (x.0.now, pieces_left (option_copied x.1))) result
-        (labelled_at label.now (pieces_left (option_copied pieces.entry))) }
+fn labelled<'a>(tokens: Option<&'a [u8]>, label: &[u8]) -> Option<(&'a [u8], Option<&'a [u8]>)>
+    ensures { Gives (λ x. (x.0.now, tokens_left (option_copied x.1))) result
+        (labelled_at label.now (tokens_left (option_copied tokens.entry))) }
 {
-    let others = behind(pieces, label)?;
-    Some(first_piece(others?))
+    let others = behind(tokens, label)?;
+    Some(first_token(others?))
 }
 
-/// The pieces behind a word that the pieces begin with.
+/// The tokens behind a word that the tokens begin with.
 #[tactic(auto, unfolding(crate::specs::Headers::behind_at))]
-fn behind<'a>(pieces: Option<&'a [u8]>, word: &[u8]) -> Option<Option<&'a [u8]>>
-    ensures { Gives (λ x. pieces_left (option_copied x)) result
-        (behind_at word.now (pieces_left (option_copied pieces.entry))) }
+fn behind<'a>(tokens: Option<&'a [u8]>, word: &[u8]) -> Option<Option<&'a [u8]>>
+    ensures { Gives (λ x. tokens_left (option_copied x)) result
+        (behind_at word.now (tokens_left (option_copied tokens.entry))) }
 {
-    let (first, others) = first_piece(pieces?);
+    let (first, others) = first_token(tokens?);
     if first != word {
         return None;
     }

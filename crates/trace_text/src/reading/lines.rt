@@ -1,23 +1,18 @@
 //! The lines behind the header.
 
-ghost use Rattle.std.specs.Prelude.{◌≡◌, ◌∷◌, []};
+ghost use Rattle.std.specs.Prelude.{◌≡◌, ◌<◌, ◌∷◌, [], IfOk};
 ghost use Rattle.std.specs.Option.{option_copied};
-ghost use Rattle.trace_text.specs.Lines.{pieces_of};
-ghost use Rattle.trace_text.specs.Reading.{pieces_left};
-ghost use Rattle.trace_text.specs.Said.{Tells, spelled, numbers_at, operands_at, line_at};
+ghost use Rattle.trace_text.specs.Lines.{tokens_of};
+ghost use Rattle.trace_text.specs.Reading.{tokens_left};
+ghost use Rattle.trace_text.specs.Said.{Tells, HasRegisters, spelled, numbers_at, register_at, length_at, fitted, operands_at, line_at};
 ghost use Rattle.trace_text.specs.declared.reading.words.Word.TheVariants as words;
 
 use crate::reading::numbers::number_of;
-use crate::reading::pieces::{first_piece, no_more, one_piece, three_pieces, two_pieces};
+use crate::reading::tokens::{first_token, no_more, one_token, three_tokens, two_tokens};
 use crate::reading::words::{Word, word_of};
 use crate::trace_faults::Why;
-use array_trees::blocks_of_array;
-use block_store::Config;
-use never_heap::{Command, MOST_FIELDS, NUMBERS};
-use object_lists::blocks_of_record;
-
-/// The number of the last register.
-const LAST_REGISTER: u64 = 15;
+use block_store::{Config, REGISTERS};
+use never_heap::Command;
 
 /// What a line behind the header says.
 #[derive(Clone, Copy, Debug, PartialEq, Eq)]
@@ -45,9 +40,9 @@ pub struct Place {
 /// their ranges.
 #[tactic(auto, unfolding(crate::specs::Said::line_at))]
 pub fn line_of(place: &Place, line: &[u8]) -> Result<Line, Why>
-    ensures { result ≡ line_at place.now (pieces_of line.now) }
+    ensures { result ≡ line_at place.now (tokens_of line.now) }
 {
-    let (first, operands) = first_piece(line);
+    let (first, operands) = first_token(line);
     let word = word_of(first).ok_or(Why::Word)?;
     if word.is_command() && place.threads == 0 {
         return Err(Why::Order);
@@ -71,7 +66,7 @@ pub fn line_of(place: &Place, line: &[u8]) -> Result<Line, Why>
 #[tactic(auto, unfolding(crate::specs::Said::operands_at, crate::specs::Said::told_at))]
 fn thread_of(place: &Place, operands: Option<&[u8]>) -> Result<Line, Why>
     ensures { result ≡
-        operands_at place.now words.Thread (pieces_left (option_copied operands.entry)) }
+        operands_at place.now words.Thread (tokens_left (option_copied operands.entry)) }
 {
     let thread = one_number(operands)?;
     if thread != u64::from(place.threads) || place.threads == place.config.threads {
@@ -83,7 +78,7 @@ fn thread_of(place: &Place, operands: Option<&[u8]>) -> Result<Line, Why>
 #[tactic(auto, unfolding(crate::specs::Said::operands_at, crate::specs::Said::told_at))]
 fn end_of(place: &Place, operands: Option<&[u8]>) -> Result<Line, Why>
     ensures { result ≡
-        operands_at place.now words.End (pieces_left (option_copied operands.entry)) }
+        operands_at place.now words.End (tokens_left (option_copied operands.entry)) }
 {
     no_number(operands)?;
     if place.threads != place.config.threads {
@@ -95,217 +90,182 @@ fn end_of(place: &Place, operands: Option<&[u8]>) -> Result<Line, Why>
 #[tactic(auto, unfolding(crate::specs::Said::operands_at, crate::specs::Said::told_at))]
 fn new_of(place: &Place, operands: Option<&[u8]>) -> Result<Line, Why>
     ensures { result ≡
-        operands_at place.now words.New (pieces_left (option_copied operands.entry)) }
+        operands_at place.now words.New (tokens_left (option_copied operands.entry)) }
 {
     let (d, fields) = two_numbers(operands)?;
-    if d > LAST_REGISTER {
-        return Err(Why::Register);
-    }
-    if place.full || fields > u64::from(MOST_FIELDS) {
-        return Err(Why::Size);
-    }
-    let fields = fields as u32;
-    if blocks_of_record(place.config.width, fields) > place.config.object {
-        return Err(Why::Size);
-    }
-    Ok(Line::Told(Command::New { d: d as u8, fields }))
+    let d = register(d)?;
+    let fields = length(fields)?;
+    told(place, Command::New { d, fields })
 }
 
 #[tactic(auto, unfolding(crate::specs::Said::operands_at, crate::specs::Said::told_at))]
 fn arr_of(place: &Place, operands: Option<&[u8]>) -> Result<Line, Why>
     ensures { result ≡
-        operands_at place.now words.Arr (pieces_left (option_copied operands.entry)) }
+        operands_at place.now words.Arr (tokens_left (option_copied operands.entry)) }
 {
     let (d, elements) = two_numbers(operands)?;
-    if d > LAST_REGISTER {
-        return Err(Why::Register);
-    }
-    if place.full || elements > u64::from(MOST_FIELDS) {
-        return Err(Why::Size);
-    }
-    let elements = elements as u32;
-    if blocks_of_array(place.config.width, elements) > place.config.object {
-        return Err(Why::Size);
-    }
-    Ok(Line::Told(Command::Arr {
-        d: d as u8,
-        elements,
-    }))
+    let d = register(d)?;
+    let elements = length(elements)?;
+    told(place, Command::Arr { d, elements })
 }
 
 #[tactic(auto, unfolding(crate::specs::Said::operands_at, crate::specs::Said::told_at))]
 fn set_of(place: &Place, operands: Option<&[u8]>) -> Result<Line, Why>
     ensures { result ≡
-        operands_at place.now words.Set (pieces_left (option_copied operands.entry)) }
+        operands_at place.now words.Set (tokens_left (option_copied operands.entry)) }
 {
     let (d, value) = two_numbers(operands)?;
-    if d > LAST_REGISTER {
-        return Err(Why::Register);
-    }
-    if place.full || value >= NUMBERS {
-        return Err(Why::Size);
-    }
-    Ok(Line::Told(Command::Set { d: d as u8, value }))
+    let d = register(d)?;
+    told(place, Command::Set { d, value })
 }
 
 #[tactic(auto, unfolding(crate::specs::Said::operands_at, crate::specs::Said::told_at))]
 fn nil_of(place: &Place, operands: Option<&[u8]>) -> Result<Line, Why>
     ensures { result ≡
-        operands_at place.now words.Nil (pieces_left (option_copied operands.entry)) }
+        operands_at place.now words.Nil (tokens_left (option_copied operands.entry)) }
 {
     let d = one_number(operands)?;
-    if d > LAST_REGISTER {
-        return Err(Why::Register);
-    }
-    if place.full {
-        return Err(Why::Size);
-    }
-    Ok(Line::Told(Command::Nil { d: d as u8 }))
+    let d = register(d)?;
+    told(place, Command::Nil { d })
 }
 
 #[tactic(auto, unfolding(crate::specs::Said::operands_at, crate::specs::Said::told_at))]
 fn mov_of(place: &Place, operands: Option<&[u8]>) -> Result<Line, Why>
     ensures { result ≡
-        operands_at place.now words.Mov (pieces_left (option_copied operands.entry)) }
+        operands_at place.now words.Mov (tokens_left (option_copied operands.entry)) }
 {
     let (d, s) = two_numbers(operands)?;
-    if d > LAST_REGISTER || s > LAST_REGISTER {
-        return Err(Why::Register);
-    }
-    if place.full {
-        return Err(Why::Size);
-    }
-    Ok(Line::Told(Command::Mov {
-        d: d as u8,
-        s: s as u8,
-    }))
+    let d = register(d)?;
+    let s = register(s)?;
+    told(place, Command::Mov { d, s })
 }
 
 #[tactic(auto, unfolding(crate::specs::Said::operands_at, crate::specs::Said::told_at))]
 fn get_of(place: &Place, operands: Option<&[u8]>) -> Result<Line, Why>
     ensures { result ≡
-        operands_at place.now words.Get (pieces_left (option_copied operands.entry)) }
+        operands_at place.now words.Get (tokens_left (option_copied operands.entry)) }
 {
     let (d, s, i) = three_numbers(operands)?;
-    if d > LAST_REGISTER || s > LAST_REGISTER {
-        return Err(Why::Register);
-    }
-    if place.full || i >= NUMBERS {
-        return Err(Why::Size);
-    }
-    Ok(Line::Told(Command::Get {
-        d: d as u8,
-        s: s as u8,
-        i,
-    }))
+    let d = register(d)?;
+    let s = register(s)?;
+    told(place, Command::Get { d, s, i })
 }
 
 #[tactic(auto, unfolding(crate::specs::Said::operands_at, crate::specs::Said::told_at))]
 fn put_of(place: &Place, operands: Option<&[u8]>) -> Result<Line, Why>
     ensures { result ≡
-        operands_at place.now words.Put (pieces_left (option_copied operands.entry)) }
+        operands_at place.now words.Put (tokens_left (option_copied operands.entry)) }
 {
     let (s, i, v) = three_numbers(operands)?;
-    if s > LAST_REGISTER || v > LAST_REGISTER {
-        return Err(Why::Register);
-    }
-    if place.full || i >= NUMBERS {
-        return Err(Why::Size);
-    }
-    Ok(Line::Told(Command::Put {
-        s: s as u8,
-        i,
-        v: v as u8,
-    }))
+    let s = register(s)?;
+    let v = register(v)?;
+    told(place, Command::Put { s, i, v })
 }
 
 #[tactic(auto, unfolding(crate::specs::Said::operands_at, crate::specs::Said::told_at))]
 fn len_of(place: &Place, operands: Option<&[u8]>) -> Result<Line, Why>
     ensures { result ≡
-        operands_at place.now words.Len (pieces_left (option_copied operands.entry)) }
+        operands_at place.now words.Len (tokens_left (option_copied operands.entry)) }
 {
     let s = one_number(operands)?;
-    if s > LAST_REGISTER {
-        return Err(Why::Register);
-    }
-    if place.full {
-        return Err(Why::Size);
-    }
-    Ok(Line::Told(Command::Len { s: s as u8 }))
+    let s = register(s)?;
+    told(place, Command::Len { s })
 }
 
 #[tactic(auto, unfolding(crate::specs::Said::operands_at, crate::specs::Said::told_at))]
 fn same_of(place: &Place, operands: Option<&[u8]>) -> Result<Line, Why>
     ensures { result ≡
-        operands_at place.now words.Same (pieces_left (option_copied operands.entry)) }
+        operands_at place.now words.Same (tokens_left (option_copied operands.entry)) }
 {
     let (a, b) = two_numbers(operands)?;
-    if a > LAST_REGISTER || b > LAST_REGISTER {
-        return Err(Why::Register);
-    }
-    if place.full {
-        return Err(Why::Size);
-    }
-    Ok(Line::Told(Command::Same {
-        a: a as u8,
-        b: b as u8,
-    }))
+    let a = register(a)?;
+    let b = register(b)?;
+    told(place, Command::Same { a, b })
 }
 
 #[tactic(auto, unfolding(crate::specs::Said::operands_at, crate::specs::Said::told_at))]
 fn say_of(place: &Place, operands: Option<&[u8]>) -> Result<Line, Why>
     ensures { result ≡
-        operands_at place.now words.Say (pieces_left (option_copied operands.entry)) }
+        operands_at place.now words.Say (tokens_left (option_copied operands.entry)) }
 {
     let s = one_number(operands)?;
-    if s > LAST_REGISTER {
-        return Err(Why::Register);
-    }
-    if place.full {
+    let s = register(s)?;
+    told(place, Command::Say { s })
+}
+
+/// The command, where its sizes are in their ranges and the thread may have one more.
+#[tactic(auto, using(crate::proofs::Sizes::told_is))]
+fn told(place: &Place, command: Command) -> Result<Line, Why>
+    requires { HasRegisters command }
+    ensures { result ≡ fitted place.now command }
+{
+    let fits = command.in_bounds(&place.config);
+    if !fits || place.full {
         return Err(Why::Size);
     }
-    Ok(Line::Told(Command::Say { s: s as u8 }))
+    Ok(Line::Told(command))
 }
 
-/// That no piece is left.
+/// The register of a number.
+fn register(number: u64) -> Result<u8, Why>
+    ensures at { result ≡ register_at number }
+    ensures low { IfOk result (λ r. r < REGISTERS) }
+{
+    if number >= u64::from(REGISTERS) {
+        return Err(Why::Register);
+    }
+    Ok(number as u8)
+}
+
+/// The length that a number is.
+fn length(number: u64) -> Result<u32, Why>
+    ensures { result ≡ length_at number }
+{
+    if number > u64::from(u32::MAX) {
+        return Err(Why::Size);
+    }
+    Ok(number as u32)
+}
+
+/// That no token is left.
 #[tactic(auto, using(crate::proofs::Numbers::none_is))]
-fn no_number(pieces: Option<&[u8]>) -> Result<(), Why>
-    ensures { Tells (λ _. []) result (numbers_at 0 (pieces_left (option_copied pieces.entry))) }
+fn no_number(tokens: Option<&[u8]>) -> Result<(), Why>
+    ensures { Tells (λ _. []) result (numbers_at 0 (tokens_left (option_copied tokens.entry))) }
 {
-    no_more(pieces).ok_or(Why::Count)
+    no_more(tokens).ok_or(Why::Count)
 }
 
-/// The number that the one piece spells.
+/// The number that the one token spells.
 #[tactic(auto, using(crate::proofs::Numbers::one_is))]
-fn one_number(pieces: Option<&[u8]>) -> Result<u64, Why>
-    ensures { Tells (λ n. n ∷ []) result (numbers_at 1 (pieces_left (option_copied pieces.entry))) }
+fn one_number(tokens: Option<&[u8]>) -> Result<u64, Why>
+    ensures { Tells (λ n. n ∷ []) result (numbers_at 1 (tokens_left (option_copied tokens.entry))) }
 {
-    spelled(one_piece(pieces).ok_or(Why::Count)?)
+    spelled(one_token(tokens).ok_or(Why::Count)?)
 }
 
-/// The numbers that the two pieces spell.
+/// The numbers that the two tokens spell.
 #[tactic(auto, using(crate::proofs::Numbers::two_is))]
-fn two_numbers(pieces: Option<&[u8]>) -> Result<(u64, u64), Why>
+fn two_numbers(tokens: Option<&[u8]>) -> Result<(u64, u64), Why>
     ensures { Tells (λ n. n.0 ∷ n.1 ∷ []) result
-        (numbers_at 2 (pieces_left (option_copied pieces.entry))) }
+        (numbers_at 2 (tokens_left (option_copied tokens.entry))) }
 {
-    let (first, second) = two_pieces(pieces).ok_or(Why::Count)?;
+    let (first, second) = two_tokens(tokens).ok_or(Why::Count)?;
     Ok((spelled(first)?, spelled(second)?))
 }
 
-/// The numbers that the three pieces spell.
+/// The numbers that the three tokens spell.
 #[tactic(auto, using(crate::proofs::Numbers::three_is))]
-fn three_numbers(pieces: Option<&[u8]>) -> Result<(u64, u64, u64), Why>
+fn three_numbers(tokens: Option<&[u8]>) -> Result<(u64, u64, u64), Why>
     ensures { Tells (λ n. n.0 ∷ n.1 ∷ n.2 ∷ []) result
-        (numbers_at 3 (pieces_left (option_copied pieces.entry))) }
+        (numbers_at 3 (tokens_left (option_copied tokens.entry))) }
 {
-    let (first, second, third) = three_pieces(pieces).ok_or(Why::Count)?;
+    let (first, second, third) = three_tokens(tokens).ok_or(Why::Count)?;
     Ok((spelled(first)?, spelled(second)?, spelled(third)?))
 }
 
-/// The number that a piece spells.
-pub fn spelled(piece: &[u8]) -> Result<u64, Why>
-    ensures { result ≡ spelled piece.now }
+/// The number that a token spells.
+pub fn spelled(token: &[u8]) -> Result<u64, Why>
+    ensures { result ≡ spelled token.now }
 {
-    number_of(piece).ok_or(Why::Number)
+    number_of(token).ok_or(Why::Number)
 }

@@ -7,15 +7,15 @@ ghost use Rattle.trace_text.specs.Reading.{is_digit, digits_on, number_at};
 /// The most digits of a number.
 const MOST_DIGITS: usize = 19;
 
-/// The number that a piece spells: 1 to 19 digits, with a 0 in front only in the number 0.
+/// The number that a token spells: 1 to 19 digits, with a 0 in front only in the number 0.
 #[tactic(auto, unfolding(crate::specs::Reading::number_at))]
-pub fn number_of(piece: &[u8]) -> Option<u64>
-    ensures { result ≡ number_at piece.now }
+pub fn number_of(token: &[u8]) -> Option<u64>
+    ensures { result ≡ number_at token.now }
 {
-    if piece.is_empty() || piece.len() > MOST_DIGITS || (piece.len() > 1 && piece[0] == b'0') {
+    if token.is_empty() || token.len() > MOST_DIGITS || (token.len() > 1 && token[0] == b'0') {
         return None;
     }
-    value_of(piece)
+    value_of(token)
 }
 
 /// The value of at most 19 digits, and nothing where a byte is no digit.

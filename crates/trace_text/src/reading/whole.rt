@@ -2,7 +2,7 @@
 
 ghost use Rattle.std.specs.Prelude.{◌≡◌, ◌+◌, ◌≤◌, [], length, vec_len, MatchResult, IfOk};
 ghost use Rattle.trace_text.specs.Jobs.{IsJob};
-ghost use Rattle.trace_text.specs.Reading.{pieced};
+ghost use Rattle.trace_text.specs.Reading.{tokenized};
 ghost use Rattle.trace_text.specs.Refusals.{IsFirstBadLine};
 ghost use Rattle.trace_text.specs.Wholes.{IsLineFault, IsTrace, IsBadTrace, IsBegun};
 
@@ -10,7 +10,7 @@ use crate::jobs::Job;
 use crate::reading::header::header_of;
 use crate::reading::input::INPUT_LIMIT;
 use crate::reading::lines::{Line, Place, line_of};
-use crate::reading::pieces::first_line;
+use crate::reading::tokens::first_line;
 use crate::trace_faults::{TraceFault, Why};
 use block_store::Config;
 use never_heap::Command;
@@ -57,7 +57,7 @@ pub fn job_of(alloc: Global, input: &[u8]) -> Result<Job, TraceFault>
 fn opening_of(input: &[u8]) -> Result<(Config, Rest<'_>), TraceFault>
     requires { length input.now ≤ INPUT_LIMIT }
     ensures begun { MatchResult result
-        (λ x. IsBegun x.0 [] input.now x.1.read (pieced x.1.lines.now))
+        (λ x. IsBegun x.0 [] input.now x.1.read (tokenized x.1.lines.now))
         (IsLineFault (IsFirstBadLine input.now)) }
     ensures within { IfOk result (λ x. x.1.read + length x.1.lines.now ≤ INPUT_LIMIT) }
 {
@@ -98,9 +98,9 @@ fn trace_of<'a>(
 ) -> Result<(Vec<Command>, Rest<'a>), TraceFault>
     requires { rest.read + length rest.lines.now ≤ INPUT_LIMIT }
     ensures trace { MatchResult result
-        (λ x. IsTrace config threads (pieced rest.entry.lines.now) x.0.items
-        (pieced x.1.lines.now))
-        (IsLineFault (IsBadTrace config threads (pieced rest.entry.lines.now) rest.entry.read)) }
+        (λ x. IsTrace config threads (tokenized rest.entry.lines.now) x.0.items
+        (tokenized x.1.lines.now))
+        (IsLineFault (IsBadTrace config threads (tokenized rest.entry.lines.now) rest.entry.read)) }
     ensures read { IfOk result (λ x. x.1.read ≡ rest.entry.read + vec_len x.0 + 1) }
     ensures within { IfOk result (λ x. x.1.read + length x.1.lines.now ≤ INPUT_LIMIT) }
 {

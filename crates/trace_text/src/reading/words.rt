@@ -3,7 +3,7 @@
 ghost use Rattle.std.specs.Prelude.{◌≡◌};
 ghost use Rattle.trace_text.specs.Words.{word_at, is_command};
 
-/// The first piece of a line behind the header.
+/// The first token of a line behind the header.
 #[derive(Clone, Copy, Debug, PartialEq, Eq)]
 pub enum Word {
     Thread,
@@ -29,11 +29,11 @@ impl Word {
     }
 }
 
-/// The word that a piece is.
-pub fn word_of(piece: &[u8]) -> Option<Word>
-    ensures { result ≡ word_at piece.now }
+/// The word that a token is.
+pub fn word_of(token: &[u8]) -> Option<Word>
+    ensures { result ≡ word_at token.now }
 {
-    match piece {
+    match token {
         b"get" => Some(Word::Get),
         b"put" => Some(Word::Put),
         b"new" => Some(Word::New),

@@ -1,20 +1,20 @@
 use Rattle.std.proofs.Common.{◌≡◌, ◌<◌, ◌≤◌, ◌∙◌, ap, subst, List, ℕ, length, [], arith}
 use Rattle.std.specs.List.{flat_map}
 use Rattle.std.proofs.lemmas.Result.{on_ok_weaker, on_err_weaker}
-use Rattle.trace_text.specs.Streams.{Appends, AppendsFront}
+use Rattle.trace_text.specs.Streams.{Appends, AppendsPrefix}
 use Rattle.trace_text.specs.Texts.{entry_line, totals_line}
 use Rattle.trace_text.proofs.Appending.{appends_in_turn, front_in_turn, front_longer, at_err, lines_front, lines_whole}
 use Rattle.trace_text.proofs.printing.write_run.Given.{Over}
 use Rattle.trace_text.proofs.printing.write_run.Goals as goal
 
-pub returns-in_err-write_log-clause-front : goal.returns-in_err-write_log-clause-front
-returns-in_err-write_log-clause-front g c =
+pub returns-in_err-write_log-clause-prefix : goal.returns-in_err-write_log-clause-prefix
+returns-in_err-write_log-clause-prefix g c =
     let held = g.K.Sink.held in
     let logs = g.R.Logs.logs c.args.run.now in
     let P : List ℕ → Type 0 =
-    λ text. AppendsFront (held c.loop-t.sink) (held c.write_log.new.sink) text in
+    λ text. AppendsPrefix (held c.loop-t.sink) (held c.write_log.new.sink) text in
     let front = subst P
-    (ap (flat_map entry_line) c.entries.ensures) c.in_err-write_log.ensures.front in
+    (ap (flat_map entry_line) c.entries.ensures) c.in_err-write_log.ensures.prefix in
     let lt : c.loop-t.t < length logs =
     omega (arith, c.loop-t-test.true, c.threads-t-end.ensures) in
     at_err c.from_residual.result
@@ -48,11 +48,11 @@ returns-clause-written g c =
     (λ h. appends_in_turn _ _ _ _ _ (before_last g c)
     (subst P (last_line g c) h)) c.put.ensures.appended
 
-pub returns-clause-front : goal.returns-clause-front
-returns-clause-front g c =
+pub returns-clause-prefix : goal.returns-clause-prefix
+returns-clause-prefix g c =
     let held = g.K.Sink.held in
     let P : List ℕ → Type 0 =
-    λ text. AppendsFront (held c.loop-t.sink) (held c.put.new.self) text in
+    λ text. AppendsPrefix (held c.loop-t.sink) (held c.put.new.self) text in
     on_err_weaker c.put.result
     (λ h. front_in_turn _ _ _ _ _ (before_last g c)
-    (subst P (last_line g c) h)) c.put.ensures.front
+    (subst P (last_line g c) h)) c.put.ensures.prefix

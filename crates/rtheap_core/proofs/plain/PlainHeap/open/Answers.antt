@@ -13,7 +13,7 @@ use Rattle.never_heap.specs.Graphs.{start_graph}
 use Rattle.never_heap.proofs.Starting.{count_of_start}
 use Rattle.block_store.specs.Heaps.{put_at}
 use Rattle.shown_graph.specs.Openings.{opening_at}
-use Rattle.shown_graph.specs.Shown.{Shows, every_name, never_late}
+use Rattle.shown_graph.specs.Shown.{Shows, every_name, none_pending}
 use Rattle.shown_graph.specs.Words.{block_words}
 use Rattle.rtheap_core.specs.Cells.{heap_in, register_at}
 use Rattle.rtheap_core.specs.Objects.{blocks_in, AreBlocksWritten}
@@ -132,7 +132,7 @@ returns-clause-shown c =
     (c.payload_word.ensures ∙ ap (λ n. reference_word (n + 1)) ends) in
     record {
       shows = subst (λ l. Shows k.width 1 l (every_name g) g at
-          (block_words (heap_in c.set_register.new.self)) never_late)
+          (block_words (heap_in c.set_register.new.self)) none_pending)
           (omega (arith, end, ends, is))
           (opened_shows k (heap_in c.in_ok-store.store) (heap_in c.write_object.new.store)
           (heap_in c.write_object-2.new.store)

@@ -1,5 +1,5 @@
 use Rattle.std.proofs.Common.{◌≡◌, ◌+◌, ◌≤◌, length, map, vec_len}
-use Rattle.trace_text.specs.Reading.{pieced}
+use Rattle.trace_text.specs.Reading.{tokenized}
 use Rattle.trace_text.specs.Wholes.{IsBegun}
 use Rattle.trace_text.proofs.reading.whole.job_of.Given as goal
 
@@ -7,7 +7,7 @@ use Rattle.trace_text.proofs.reading.whole.job_of.Given as goal
 abbrev pub invariant-loop-thread : goal.invariant-loop-thread
 invariant-loop-thread l = record {
   begun : IsBegun l.config (map (λ v. v.items) l.traces.items) l.input l.rest.read
-      (pieced l.rest.lines.now);
+      (tokenized l.rest.lines.now);
   count : vec_len l.traces ≡ l.thread;
   within : l.rest.read + length l.rest.lines.now ≤ 16777216;
 }

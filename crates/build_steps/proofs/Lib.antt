@@ -1,0 +1,12 @@
+pub mod Parts
+pub mod Ranges
+pub mod Wanted
+pub mod Held
+pub mod Keeping
+pub mod Standing
+pub mod Publishing
+pub mod Marking
+pub mod Together
+pub mod Once
+pub mod Ends
+pub mod Zeros

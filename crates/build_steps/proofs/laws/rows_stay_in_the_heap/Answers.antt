@@ -1,0 +1,12 @@
+use Rattle.build_steps.proofs.Ranges.{first_fits, fits_next}
+use Rattle.build_steps.proofs.Wanted.{place_fits, sum_fits, stores_held}
+use Rattle.build_steps.proofs.laws.rows_stay_in_the_heap.Goals as goal
+
+pub returns : goal.returns
+returns c = record {
+  first = first_fits;
+  next = fits_next;
+  place = place_fits;
+  sum = sum_fits;
+  stores = stores_held;
+}

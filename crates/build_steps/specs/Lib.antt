@@ -1,0 +1,5 @@
+pub mod Objects
+pub mod Rows
+pub mod Fits
+pub mod Standing
+pub mod Ends
