@@ -14,3 +14,4 @@ pub mod Older
 pub mod Making
 pub mod Jobs
 pub mod Waived
+pub mod Wanted

@@ -19,7 +19,7 @@ pub use laws::{
 };
 pub use local::Local;
 pub use start::opening;
-pub use system::{Finished, System, Unfinished};
+pub use system::{Finished, System, Unfinished, sum_of_works};
 
 /// What a turn of a thread was.
 #[derive(Clone, Copy, Debug, PartialEq, Eq)]

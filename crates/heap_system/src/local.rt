@@ -2,10 +2,10 @@
 
 ghost use Rattle.std.specs.Prelude.{◌≡◌, ◌≤◌, ◌<◌, ◌+◌, ◌^◌, ◌-◌, ◌++◌, ◌∷◌, [], false, if◌then◌else◌, length, IfOk};
 ghost use Rattle.block_store.specs.Configs.{IsInBounds};
-ghost use Rattle.block_store.specs.Places.{extent};
+ghost use Rattle.block_store.specs.Places.{extent, words_count};
 ghost use Rattle.rate_plan.specs.Rates.{IsRate, IsAdmitted};
 ghost use Rattle.never_heap.specs.Steps.{makes_object};
-ghost use Rattle.heap_machine.specs.Operations.{op_at};
+ghost use Rattle.heap_machine.specs.Operations.{op_at, op_place};
 ghost use Rattle.heap_machine.specs.Passes.{IsPass};
 ghost use Rattle.never_heap.specs.Jobs.{IsTraceInBounds};
 ghost use Rattle.heap_system.specs.Locals.{PartReads, is_done, is_rest, part_want, part_step, local_got, at_start, turn_of, is_last, pass_by, first_part, command_of, owes, works, entry_of};
@@ -195,6 +195,13 @@ impl Local {
         &self.log
     }
 
+    /// How many units were made for the command in hand.
+    pub fn paid(&self) -> u64
+        ensures { result ≡ self.now.paid }
+    {
+        self.paid
+    }
+
     /// Whether the thread is at rest: before its first event of a command, and after its last.
     pub fn at_rest(&self) -> bool
         ensures { result ≡ is_rest self.now.part }
@@ -223,13 +230,15 @@ impl Local {
         matches!(&self.part, Part::Serve(pass) if pass.decided())
     }
 
-    /// The operation of the thread's next event. The thread is not done.
+    /// The operation of the thread's next event, on one of the heap's words. The thread is not
+    /// done.
     #[inline(always)]
-    #[tactic(auto, using(crate::proofs::Paying::going_at))]
+    #[tactic(auto, using(crate::proofs::Paying::going_at, crate::proofs::Wanted::want_low))]
     pub fn want(&self) -> Op
         requires { is_done self.now ≡ false }
-        ensures { result ≡ op_at (extent self.now.config)
+        ensures wants { result ≡ op_at (extent self.now.config)
             (part_want self.now.config self.now.part) }
+        ensures place { op_place result < words_count (extent self.now.config) }
     {
         let places = Places::new(&self.config);
         match &self.part {

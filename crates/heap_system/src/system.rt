@@ -85,6 +85,17 @@ fn first_undone(locals: &[Local]) -> Option<usize>
     locals.iter().position(|local| !local.done())
 }
 
+// A copy of these words.
+fn copied(alloc: Global, words: &Words) -> Result<Vec<u64>, OutOfMemory>
+    ensures { IfOk result (λ v. v.items ≡ words.now) }
+{
+    let mut copy = Vec::with_capacity(alloc, words.len())?;
+    for i in 0..words.len() {
+        copy.push(words.word(i))?;
+    }
+    Ok(copy)
+}
+
 impl System {
     /// The system of a configuration that has a rate, with a trace for each thread: the opening
     /// words, and each thread at rest. A trace has at most 131,072 commands, which are in bounds.
@@ -153,6 +164,24 @@ impl System {
         self.words.word(place)
     }
 
+    /// A copy of all words, in the order of their places.
+    ///
+    /// # Errors
+    ///
+    /// `OutOfMemory` where there is no room for them.
+    pub fn copied_words(&self, alloc: Global) -> Result<Vec<u64>, OutOfMemory>
+        ensures { IfOk result (λ v. v.items ≡ self.now.state.words) }
+    {
+        copied(alloc, &self.words)
+    }
+
+    /// The threads, by their numbers.
+    pub fn into_locals(self) -> Vec<Local>
+        ensures { result.items ≡ self.state.locals }
+    {
+        self.locals
+    }
+
     /// What a run shows whose threads are all done.
     ///
     /// # Errors
@@ -188,8 +217,8 @@ impl Finished {
     }
 }
 
-// The sum of the works of these threads.
-fn sum_of_works(locals: &[Local]) -> u64
+/// The sum of the works of all entries of these threads, of which there are at most 16.
+pub fn sum_of_works(locals: &[Local]) -> u64
     requires { length locals.now ≤ 16 }
     ensures { result ≡ units_of (map (λ (l : LocalState). l.log) locals.now) }
 {

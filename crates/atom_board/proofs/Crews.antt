@@ -1,0 +1,112 @@
+-- The mutators of a board: when it is made, and when it is closed.
+use Rattle.std.proofs.Common.{◌≡◌, ℕ, zero, suc, ◌<◌, ◌+◌, refl, arith, subst, sym, ap, ◌∙◌, List, [], ◌∷◌, ◌++◌, length, length-append, get_or, map}
+use Rattle.std.specs.Prelude.{remove}
+use Rattle.std.proofs.lemmas.List.{get_or_default, length-map}
+use mathlib.Core.Option.{some}
+use lib.ListN.{get_elem?}
+use Rattle.atomic_table.specs.Table as table
+use Rattle.atomic_table.specs.Seated.{TableId}
+use Rattle.block_store.specs.declared.Config.{Config}
+use Rattle.block_store.specs.Places.{extent, words_count}
+use Rattle.never_heap.specs.declared.Command.{Command}
+use Rattle.never_heap.specs.declared.Entry.{Entry}
+use Rattle.heap_system.specs.Locals.{LocalState, is_done, at_start}
+use Rattle.heap_system.specs.Machines.{State, no_local, IsJob, IsOpening}
+use Rattle.heap_system.specs.Systems.{Whole, traces_of, IsFinished}
+use Rattle.heap_system.proofs.Always.{here, length_starts}
+use Rattle.atom_board.specs.declared.rules.Held.{Held}
+use Rattle.atom_board.specs.declared.rules.View.{View}
+use Rattle.atom_board.specs.Boards.{BoardKept, first_view, one_view}
+use Rattle.atom_board.specs.Mutators.{BoardState, MutatorState, AreInOrder, AllAreDone, AreFresh, start_mutator, held_of, local_of, log_of}
+use Rattle.atom_board.proofs.Openings.{opens}
+use Rattle.atom_board.proofs.Endings.{ended}
+
+middle : {A : Type 0} (ys zs : List A) (x d : A) → get_or (ys ++ x ∷ zs) (length ys) d ≡ x
+middle [] zs x d = refl
+middle (y ∷ ys) zs x d = middle ys zs x d
+
+-- the element behind those that were taken
+pub at_middle : {A : Type 0} (ys zs rest all : List A) (x d : A) → ys ++ rest ≡ all → rest ≡ x ∷ zs → (get_or all (length ys) d ≡ x) × (length ys < length all)
+at_middle ys zs rest all x d split steps =
+    let whole : ys ++ (x ∷ zs) ≡ all = ap (λ r. ys ++ r) (sym steps) ∙ split in
+    let long : length ys + suc (length zs) ≡ length all = sym (length-append ys (x ∷ zs)) ∙ ap length whole in
+    (subst (λ l. get_or l (length ys) d ≡ x) whole (middle ys zs x d), omega arith)
+
+-- the first is taken out
+pub taken_first : (xs ys : List MutatorState) (x : MutatorState) → 0 < length xs → x ≡ get_or xs 0 x → ys ≡ remove xs 0 → x ∷ ys ≡ xs
+taken_first [] ys x low is are = absurd (omega arith)
+taken_first (z ∷ xs) ys x low is are = ap (λ u. u ∷ ys) is ∙ ap (λ us. z ∷ us) are
+
+-- mutators in order are their board's
+pub own_of : (b : BoardState) (who ms : List MutatorState) (id : TableId) → ms ≡ who → b.id ≡ id → AreInOrder b who → (i : ℕ) (d : MutatorState) → i < length ms → (get_or ms i d).board ≡ id
+own_of b who ms id same named order i d low =
+    let il : i < length who = omega (arith, ap length same) in
+    ap (λ (xs : List MutatorState). (get_or xs i d).board) same ∙ (order.each i d il).0 ∙ named
+
+-- what the first one's seat knows
+pub first_seat : (me : table.Me Unit View) (l : LocalState) (n : ℕ) (id : TableId) (m : MutatorState) → me ≡ (one_view l n, []) → record { board = id; local = l; turns = n } ≡ m → me ≡ (record { locals = held_of m ∷ [] }, [])
+first_seat me l n id m knows seen = subst (λ (x : MutatorState). me ≡ (record { locals = held_of x ∷ [] }, [])) seen knows
+
+pub first_local : (ls room : List LocalState) (l : LocalState) (m : MutatorState) → ls ≡ room ++ l ∷ [] → room ≡ [] → l ≡ m.local → ls ≡ local_of m ∷ []
+first_local ls room l m pushed none same = pushed ∙ ap (λ (xs : List LocalState). xs ++ l ∷ []) none ∙ ap (λ (x : LocalState). x ∷ []) same
+
+pub get_or_map : {A B : Type 0} (f : A → B) (l : List A) (i : ℕ) (d : B) (e : A) → i < length l → get_or (map f l) i d ≡ f (get_or l i e)
+get_or_map f [] i d e low = absurd (omega arith)
+get_or_map f (x ∷ l) zero d e low = refl
+get_or_map f (x ∷ l) (suc i) d e low = get_or_map f l i d e (omega arith)
+
+pub map_map : {A B C : Type 0} (f : A → B) (g : B → C) (l : List A) → map g (map f l) ≡ map (λ x. g (f x)) l
+map_map f g [] = refl
+map_map f g (x ∷ l) = ap (λ ys. g (f x) ∷ ys) (map_map f g l)
+
+module _ (c : Config) (traces : List (List Command)) (job : IsJob c traces) (s : State) (start : IsOpening c traces s) where
+  pub start_count : length s.locals ≡ c.threads
+  start_count = ap length start.locals ∙ length_starts c start.rate 0 traces ∙ job.bounds.threads
+
+  pub start_at : (i : ℕ) (d : LocalState) → i < length s.locals → get_or s.locals i d ≡ at_start c start.rate i (get_or traces i [])
+  start_at i d low = get_or_default s.locals i d (no_local c) low ∙ here c traces job s start i (omega (arith, start_count))
+
+  pub start_words : (ws : ℕ) → ws ≡ length s.words → (i : ℕ) (d : LocalState) → i < length s.locals → words_count (extent (get_or s.locals i d).config) ≡ ws
+  start_words ws long i d low = ap (λ (l : LocalState). words_count (extent l.config)) (start_at i d low) ∙ sym (long ∙ start.count)
+
+  pub start_in_order : (id : TableId) (d : MutatorState) → AreInOrder (record { id = id; config = c; traces = traces }) (map (start_mutator id) s.locals)
+  start_in_order id d = record {
+    count = length-map s.locals (start_mutator id) ∙ start_count;
+    each = λ t d low.
+        (let tl : t < length s.locals = omega (arith, length-map s.locals (start_mutator id)) in
+        let e = get_or_map (start_mutator id) s.locals t d (no_local c) tl in
+        (ap (λ (h : MutatorState). h.board) e, ap (λ (h : MutatorState). h.local.thread) e ∙ ap (λ (l : LocalState). l.thread) (start_at t (no_local c) tl)));
+  }
+
+  pub start_fresh : (id : TableId) → AreFresh traces (map (start_mutator id) s.locals)
+  start_fresh id t d low =
+      let tl : t < length s.locals = omega (arith, length-map s.locals (start_mutator id)) in
+      let e = get_or_map (start_mutator id) s.locals t d (no_local c) tl in
+      let a = start_at t (no_local c) tl in
+      (ap (λ (h : MutatorState). h.turns) e, ap (λ (h : MutatorState). h.local.log) e ∙ ap (λ (l : LocalState). l.log) a, ap (λ (h : MutatorState). h.local.trace) e ∙ ap (λ (l : LocalState). l.trace) a)
+
+-- the system from which a table is made
+pub opens_of : (k : Whole) (c : Config) (traces : List (List Command)) (ws : List ℕ) → k.config ≡ c → IsJob c traces → IsOpening c traces k.state → ws ≡ k.state.words → BoardKept k (table.opening ws [] (first_view k))
+opens_of k c traces ws same job start is =
+    subst (λ x. BoardKept k (table.opening x [] (first_view k))) (sym is) (opens k traces (subst (λ x. IsJob x traces) (sym same) job) (subst (λ x. IsOpening x traces k.state) (sym same) start))
+
+pub in_order_of : (b : BoardState) (c : Config) (traces : List (List Command)) (s : State) (mutators : List MutatorState) → b ≡ record { id = b.id; config = c; traces = traces } → IsJob c traces → IsOpening c traces s → mutators ≡ map (start_mutator b.id) s.locals → AreInOrder b mutators
+in_order_of b c traces s mutators is job start are =
+    subst (λ x. AreInOrder x mutators) (sym is) (subst (λ x. AreInOrder (record { id = b.id; config = c; traces = traces }) x) (sym are) (start_in_order c traces job s start b.id (record { board = b.id; local = no_local c; turns = 0 })))
+
+pub fresh_of : (id : TableId) (c : Config) (traces : List (List Command)) (s : State) (mutators : List MutatorState) → IsJob c traces → IsOpening c traces s → mutators ≡ map (start_mutator id) s.locals → AreFresh traces mutators
+fresh_of id c traces s mutators job start are = subst (λ x. AreFresh traces x) (sym are) (start_fresh c traces job s start id)
+
+-- a seat with the threads of all mutators, each done
+pub closes : (b : BoardState) (k : Whole) (s : table.State Unit View) (id : ℕ) (v : View) (mutators : List MutatorState) (logs : List (List Entry)) → BoardKept k s → get_elem? s.views id ≡ some v → v ≡ record { locals = map held_of mutators } → k.config ≡ b.config → traces_of k.state ≡ b.traces
+    → AreInOrder b mutators → AllAreDone mutators → logs ≡ map log_of mutators → IsFinished b.config b.traces logs
+closes b k s id v mutators logs kept at knows config traces crew done are =
+    let d : MutatorState = record { board = b.id; local = no_local b.config; turns = 0 } in
+    let long : length v.locals ≡ length mutators = ap (λ (x : View). length x.locals) knows ∙ length-map mutators held_of in
+    let seen : (t : ℕ) (e : Held) → t < length v.locals → get_or v.locals t e ≡ held_of (get_or mutators t d) = λ t e low.
+    ap (λ (x : View). get_or x.locals t e) knows ∙ get_or_map held_of mutators t e d (omega arith) in
+    let all : map (λ (h : Held). h.local.log) v.locals ≡ logs = ap (λ (x : View). map (λ (h : Held). h.local.log) x.locals) knows ∙ map_map held_of (λ (h : Held). h.local.log) mutators ∙ sym are in
+    let over : IsFinished k.config (traces_of k.state) (map (λ (h : Held). h.local.log) v.locals) = ended k s id v kept at (long ∙ crew.count ∙ sym (ap (λ (x : Config). x.threads) config))
+    (λ t e low. ap (λ (h : Held). h.local.thread) (seen t e low) ∙ (crew.each t d (omega arith)).1)
+    (λ t e low. ap (λ (h : Held). is_done h.local) (seen t e low) ∙ done t d (omega arith)) in
+    subst (λ x. IsFinished b.config x logs) traces (subst (λ x. IsFinished x (traces_of k.state) logs) config (subst (λ x. IsFinished k.config (traces_of k.state) x) all over))

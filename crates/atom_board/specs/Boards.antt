@@ -1,0 +1,119 @@
+-- The rule of the board: the words and the threads of all seats are the state after some list of
+-- turns.
+use Rattle.std.specs.Prelude.{ℕ, ◌+◌, ◌-◌, ◌%◌, ◌^◌, ◌<◌, ◌≡◌, ◌==◌, List, [], ◌∷◌, ◌++◌, map, slice_index_or}
+use mathlib.Core.Option.{some}
+use prog.Atomic.{either}
+use lib.ListN.{get_elem?}
+use Rattle.atomic_table.specs.Table as table
+use Rattle.block_store.specs.declared.Config.{Config}
+use Rattle.block_store.specs.Phases.{bit}
+use Rattle.heap_machine.specs.declared.op.Op.{Op}
+use Rattle.heap_machine.specs.declared.op.Op.TheVariants as ops
+use Rattle.heap_system.specs.Locals.{LocalState, PartReads, local_got}
+use Rattle.heap_system.specs.Machines.{State, Run, IsJob, IsRunOf}
+use Rattle.heap_system.specs.Systems.{Whole, traces_of}
+use Rattle.atom_board.specs.declared.rules.Held.{Held}
+use Rattle.atom_board.specs.declared.rules.View.{View}
+
+-- how often t stands in a list
+abbrev pub times : ℕ → List ℕ → ℕ
+times t [] = 0
+times t (u ∷ us) = bit (t == u) + times t us
+
+-- the state after this list of turns, over some job
+pub record IsStateAfter (c : Config) (ts : List ℕ) (s : State) : Type 0 where
+  pub job : IsJob c (traces_of s)
+  pub run : Run
+  pub by_turns : IsRunOf c (traces_of s) ts run
+  pub state : s ≡ run.state
+
+-- a thread that a seat holds is that of the state, and its count is that of its turns
+abbrev pub HeldFits : Config → List LocalState → List ℕ → Held → Type 0
+HeldFits c ls ts h = (h.local.thread < c.threads)
+    × (h.local ≡ slice_index_or ls h.local.thread h.local)
+    × (h.turns ≡ times h.local.thread ts)
+
+abbrev pub AllFit : Config → List LocalState → List ℕ → List Held → Type 0
+AllFit c ls ts [] = Unit {0}
+AllFit c ls ts (h ∷ hs) = HeldFits c ls ts h × AllFit c ls ts hs
+
+-- how many of these are thread t, and how many in all views
+abbrev pub helds_of : ℕ → List Held → ℕ
+helds_of t [] = 0
+helds_of t (h ∷ hs) = bit (t == h.local.thread) + helds_of t hs
+
+abbrev pub seats_of : ℕ → List View → ℕ
+seats_of t [] = 0
+seats_of t (v ∷ vs) = helds_of t v.locals + seats_of t vs
+
+-- The words of the table, and the threads of all views, each of which stands in one view once, are
+-- the state after some list of turns, of the job of the system that the table was made from.
+pub record BoardKept (k : Whole) (s : table.State Unit View) : Type 0 where
+  pub locals : List LocalState
+  pub turns : List ℕ
+  pub after : IsStateAfter k.config turns (record { words = s.words; locals = locals })
+  pub given : traces_of (record { words = s.words; locals = locals }) ≡ traces_of k.state
+  pub each : (id : ℕ) (v : View) → get_elem? s.views id ≡ some v
+      → AllFit k.config locals turns v.locals
+  pub once : (t : ℕ) → t < k.config.threads → seats_of t s.views ≡ 1
+
+abbrev pub held : LocalState → ℕ → Held
+held l n = record { local = l; turns = n }
+
+abbrev pub no_view : View
+no_view = record { locals = [] }
+
+abbrev pub one_view : LocalState → ℕ → View
+one_view l n = record { locals = held l n ∷ [] }
+
+abbrev pub start_held : LocalState → Held
+start_held l = held l 0
+
+-- the first seat has all threads
+abbrev pub first_view : Whole → View
+first_view k = record { locals = map start_held k.state.locals }
+
+abbrev pub first_in : List Held → List Held
+first_in [] = []
+first_in (h ∷ hs) = h ∷ []
+
+abbrev pub rest_in : List Held → List Held
+rest_in [] = []
+rest_in (h ∷ hs) = hs
+
+abbrev pub first_of : View → View
+first_of v = record { locals = first_in v.locals }
+
+abbrev pub rest_of : View → View
+rest_of v = record { locals = rest_in v.locals }
+
+abbrev pub joined : View → View → View
+joined v w = record { locals = v.locals ++ w.locals }
+
+abbrev pub held_after : ℕ → Held → Held
+held_after w h = held (local_got h.local w) (h.turns + 1)
+
+-- what each thread of a view is after an event that read w
+abbrev pub got_of : table.Me Unit View → ℕ → table.Me Unit View
+got_of me w = (record { locals = map (held_after w) me.0.locals }, me.1)
+
+abbrev pub AllRead : List Held → ℕ → Type 0
+AllRead [] w = Unit {0}
+AllRead (h ∷ hs) w = PartReads h.local.config h.local.part w × AllRead hs w
+
+-- what a step tells: the thread moved on by one row, and the word is one that its row may read
+abbrev pub moves_on : table.Me Unit View → ℕ → table.Me Unit View → Type 0
+moves_on me w after = (after ≡ got_of me w) × AllRead me.0.locals w
+
+-- the turns of a view's first thread
+abbrev pub turns_in : List Held → ℕ
+turns_in [] = 0
+turns_in (h ∷ hs) = h.turns
+
+-- the word that an operation leaves where it found w, as the table writes it
+abbrev pub written : Op → ℕ → ℕ
+written (ops.Load i) w = w
+written (ops.Exchange i v) w = v
+written (ops.CompareExchange i old v) w = either (w == old) v w
+written (ops.FetchAdd i v) w = (w + v) % 2 ^ 64
+written (ops.FetchSub i v) w = (w + (2 ^ 64 - v)) % 2 ^ 64

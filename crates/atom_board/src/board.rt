@@ -1,0 +1,319 @@
+//! The words as a table, and the turns of its mutators.
+
+ghost use Rattle.std.specs.Prelude.{◌≡◌, ◌+◌, ◌<◌, ◌≤◌, ℕ, List, [], ◌∷◌, ◌++◌, false, true, map, length, slice_index_or, IfOk};
+ghost use Rattle.block_store.specs.Places.{extent, words_count};
+ghost use Rattle.heap_machine.specs.Operations.{op_at, op_place};
+ghost use Rattle.never_heap.specs.declared.Command.{Command};
+ghost use Rattle.std.specs.Vec.{vec_capacity};
+ghost use Rattle.heap_system.specs.Locals.{LocalState, PartReads, part_want, part_step, local_got, is_done, turn_of};
+ghost use Rattle.heap_system.specs.Machines.{IsJob};
+ghost use Rattle.heap_system.specs.Systems.{IsFinished};
+ghost use Rattle.heap_system.specs.declared.Turn.TheVariants as turns;
+ghost use Rattle.atom_board.specs.Boards.{one_view, turns_in, start_held};
+ghost use Rattle.atom_board.specs.Mutators.{BoardState, MutatorState, AreInOrder, AreEachOnce, HasMutator, AreAmong, AreLogsOf, AllAreDone, AreFresh, Moved, IsLater, start_mutator, held_of, local_of, log_of};
+
+use crate::closed::Closed;
+use crate::mutator::Mutator;
+use crate::rules::{Both, Cut, Law, Turned, View};
+use atomic_table::{Seat, Shared, Table};
+use block_store::{Config, OutOfMemory, read_phase};
+use crossbeam_utils::Backoff;
+use heap_machine::Op;
+use heap_system::{Local, System, Turn};
+use never_heap::{Command, Pace};
+use std::alloc::Global;
+use std::marker::Model;
+use std::sync::Wait;
+use std::thread;
+
+/// The shared words of a heap, on which its mutators make their turns.
+#[derive(Drop)]
+pub struct AtomBoard {
+    pub(crate) table: Table<(), View, System, Law, Global>,
+    pub(crate) config: Config,
+    // For the threads, when it is closed.
+    pub(crate) room: Vec<Local>,
+}
+
+impl Model for AtomBoard {
+    ghost use Rattle.std.specs.Prelude.{◌≡◌, ◌<◌, ◌≤◌, []};
+    ghost use Rattle.std.specs.Vec.{vec_capacity};
+    ghost use Rattle.block_store.specs.Places.{extent, words_count};
+    ghost use Rattle.heap_system.specs.Systems.{traces_of};
+    ghost use Rattle.atom_board.specs.Mutators.{BoardState};
+
+    ghost Value = { BoardState };
+
+    ghost view = { λ b. record {
+      id = b.table.shared.table_id;
+      config = b.config;
+      traces = traces_of b.table.shared.key.state;
+    } };
+
+    ghost invariant = { λ b. (b.config ≡ b.table.shared.key.config)
+        × (b.table.shared.table_id.slots ≡ 0)
+        × (b.table.shared.table_id.words ≡ words_count (extent b.config))
+        × (0 < b.config.threads)
+        × (b.room.items ≡ [])
+        × (b.config.threads ≤ vec_capacity b.room) };
+}
+
+// Makes the event of the one thread that the seat has, as one step of the table.
+fn act(
+    shared: &Shared<(), View, System, Law>,
+    seat: &mut Seat<(), View>,
+    op: &Op,
+    local: &Local,
+) -> u64
+    requires table { (seat.old.table_id ≡ shared.now.table_id)
+        × (shared.now.table_id.slots ≡ 0) }
+    requires place { op_place op.now < shared.now.table_id.words }
+    requires knows { seat.old.me ≡ (one_view local.now (turns_in seat.old.me.0.locals), []) }
+    requires going { is_done local.now ≡ false }
+    requires wants { op.now
+        ≡ op_at (extent local.now.config) (part_want local.now.config local.now.part) }
+    ensures table { (seat.new.table_id ≡ seat.old.table_id) × (seat.new.id ≡ seat.old.id) }
+    ensures found { seat.new.me
+        ≡ (one_view (local_got local.now result) (turns_in seat.old.me.0.locals + 1), []) }
+    ensures reads { PartReads local.now.config local.now.part result }
+{
+    let _local = local;
+    match *op {
+        Op::Load { place } => shared.load::<Turned>(seat, place),
+        Op::Exchange { place, new } => shared.swap::<Turned>(seat, place, new),
+        Op::CompareExchange { place, old, new } => {
+            shared.compare_exchange::<Turned>(seat, place, old, new)
+        }
+        Op::FetchAdd { place, by } => shared.fetch_add::<Turned>(seat, place, by),
+        Op::FetchSub { place, by } => shared.fetch_sub::<Turned>(seat, place, by),
+    }
+}
+
+// A mutator for each thread of the seat, in order. Their room was taken before.
+fn dealt(
+    shared: &Shared<(), View, System, Law>,
+    seat: Seat<(), View>,
+    locals: Vec<Local>,
+    room: Vec<Mutator>,
+) -> Vec<Mutator>
+    requires table { (seat.table_id ≡ shared.now.table_id) × (shared.now.table_id.slots ≡ 0)
+        × (0 < shared.now.table_id.words) }
+    requires knows { seat.me ≡ (record { locals = map start_held locals.items }, []) }
+    requires words { (i : ℕ) (d : LocalState) → i < length locals.items
+        → words_count (extent (slice_index_or locals.items i d).config)
+        ≡ shared.now.table_id.words }
+    requires room { (room.items ≡ []) × (length locals.items ≤ vec_capacity room) }
+    ensures { result.items ≡ map (start_mutator shared.now.table_id) locals.items }
+{
+    let mut seat = seat;
+    let mut mutators = room;
+    for local in locals {
+        let place = shared.split_seat::<Cut>(&mut seat);
+        mutators.push_reserved(Mutator { seat: place, local });
+    }
+    mutators
+}
+
+// The place of the mutator of a thread, from place `from` on.
+fn place_of(who: &[Mutator], from: usize, thread: usize) -> usize
+    requires { (j : ℕ) × (from ≤ j) × (j < length who.now)
+        × ((d : MutatorState) → (slice_index_or who.now j d).local.thread ≡ thread) }
+    ensures low { (from ≤ result) × (result < length who.now) }
+    ensures here { (d : MutatorState) → (slice_index_or who.now result d).local.thread ≡ thread }
+{
+    for j in from..who.len() {
+        if who[j].thread() as usize == thread {
+            return j;
+        }
+    }
+    unreachable!()
+}
+
+// The mutators in the order of their threads.
+fn ordered(who: Vec<Mutator>, threads: usize) -> Vec<Mutator>
+    requires count { length who.items ≡ threads }
+    requires each { (t : ℕ) → t < threads → HasMutator t who.items }
+    ensures count { length result.items ≡ threads }
+    ensures order { (t : ℕ) (d : MutatorState) → t < threads
+        → (slice_index_or result.items t d).local.thread ≡ t }
+    ensures same { AreAmong result.items who.items }
+{
+    let mut mutators = who;
+    for t in 0..threads {
+        let at = place_of(&mutators, t, t);
+        mutators.swap(t, at);
+    }
+    mutators
+}
+
+// The first of the mutators, and the others.
+#[tactic(auto, using(crate::proofs::Crews::taken_first))]
+fn first_and_rest(who: Vec<Mutator>) -> (Mutator, Vec<Mutator>)
+    requires { 0 < length who.items }
+    ensures { result.0 ∷ result.1.items ≡ who.items }
+{
+    let mut rest = who;
+    let first = rest.remove(0);
+    (first, rest)
+}
+
+// The seat of the first mutator with the threads of all, and these threads. Their room was taken
+// before.
+fn gathered(
+    shared: &Shared<(), View, System, Law>,
+    first: Mutator,
+    rest: Vec<Mutator>,
+    room: Vec<Local>,
+) -> (Seat<(), View>, Vec<Local>)
+    requires table { (shared.now.table_id.slots ≡ 0) × (0 < shared.now.table_id.words) }
+    requires own { (i : ℕ) (d : MutatorState) → i < length (first ∷ rest.items)
+        → (slice_index_or (first ∷ rest.items) i d).board ≡ shared.now.table_id }
+    requires room { (room.items ≡ []) × (length (first ∷ rest.items) ≤ vec_capacity room) }
+    ensures table { result.0.table_id ≡ shared.now.table_id }
+    ensures knows { result.0.me ≡ (record { locals = map held_of (first ∷ rest.items) }, []) }
+    ensures locals { result.1.items ≡ map local_of (first ∷ rest.items) }
+{
+    let Mutator { seat, local } = first;
+    let mut seat = seat;
+    let mut locals = room;
+    locals.push_reserved(local);
+    for mutator in rest {
+        let Mutator { seat: place, local } = mutator;
+        shared.join_seat::<Both>(&mut seat, place);
+        locals.push_reserved(local);
+    }
+    (seat, locals)
+}
+
+impl AtomBoard {
+    /// The board of a configuration that has a rate, with a trace for each thread, and a mutator
+    /// for each thread, in order. A trace has at most 131,072 commands, which are in bounds.
+    ///
+    /// # Errors
+    ///
+    /// `OutOfMemory` where there is no room for the words, the threads or their logs.
+    pub fn new(
+        alloc: Global,
+        c: Config,
+        traces: Vec<Vec<Command>>,
+    ) -> Result<(AtomBoard, Vec<Mutator>), OutOfMemory>
+        requires { IsJob c (map (λ v. v.items) traces.items) }
+        ensures board { IfOk result (λ r. (r.0.config ≡ c)
+            × (r.0.traces ≡ map (λ v. v.items) traces.items)) }
+        ensures mutators { IfOk result (λ r. AreInOrder r.0 r.1.items) }
+        ensures start { IfOk result (λ r. AreFresh (map (λ v. v.items) traces.items) r.1.items) }
+    {
+        let system = System::new(alloc, c, traces)?;
+        let words = system.copied_words(alloc)?;
+        let places = Vec::with_capacity(alloc, c.threads as usize)?;
+        let room = Vec::with_capacity(alloc, c.threads as usize)?;
+        let (table, seat) = Table::of_words(alloc, words.as_slice(), &system)?;
+        let mutators = dealt(&table.shared, seat, system.into_locals(), places);
+        let board = AtomBoard {
+            table,
+            config: c,
+            room,
+        };
+        Ok((board, mutators))
+    }
+
+    /// The configuration.
+    pub fn config(&self) -> &Config
+        ensures { result.now ≡ self.now.config }
+    {
+        &self.config
+    }
+
+    /// Makes the event that a mutator of this board wants, as one step of the table. Nothing
+    /// changes where it is done.
+    pub fn turn(&self, who: &mut Mutator) -> Turn
+        requires { who.old.board ≡ self.now.id }
+        ensures done { is_done who.old.local ≡ true
+            → (result ≡ turns.Done) × (who.new ≡ who.old) }
+        ensures moved { is_done who.old.local ≡ false → Moved who.old who.new result }
+        ensures later { IsLater who.old who.new }
+    {
+        if who.local.done() {
+            return Turn::Done;
+        }
+        let op = who.local.want();
+        let word = act(&self.table.shared, &mut who.seat, &op, &who.local);
+        who.local.got(word)
+    }
+
+    /// Makes turns of a mutator of this board until it is done, and tells the pace before each
+    /// command. After a turn that waited it pauses, longer each time until it gets on: until it
+    /// has made a unit or ended a command.
+    #[tactic(auto, using(crate::proofs::Laters::later_same, crate::proofs::Laters::later_on))]
+    pub fn drive<R: Wait, Q: Pace>(&self, rt: &R, who: Mutator, pace: &Q) -> Mutator
+        requires { who.board ≡ self.now.id }
+        ensures later { IsLater who result }
+        ensures done { is_done result.local ≡ true }
+    {
+        let mut who = who;
+        let backoff = Backoff::new();
+        for _ in rt.forever() {
+            if who.at_rest() {
+                if who.done() {
+                    return who;
+                }
+                pace.before(rt, who.thread(), who.log().len() as u64);
+            }
+            let entries = who.local.log().len();
+            let units = who.local.paid();
+            match self.turn(&mut who) {
+                Turn::Waited => {
+                    backoff.snooze();
+                    thread::yield_now();
+                }
+                Turn::Went | Turn::Done => {
+                    if who.local.paid() != units || who.local.log().len() != entries {
+                        backoff.reset();
+                    }
+                }
+            }
+        }
+        unreachable!()
+    }
+
+    /// Ends a run whose mutators are all done. They are all of this board's, each once, in any
+    /// order.
+    pub fn close(self, who: Vec<Mutator>) -> Closed
+        requires mutators { AreEachOnce self who.items }
+        requires done { AllAreDone who.items }
+        ensures config { result.config ≡ self.config }
+        ensures logs { AreLogsOf result.logs who.items }
+        ensures finished { IsFinished self.config self.traces result.logs }
+        ensures cycles { result.cycles ≡ 1 }
+    {
+        let threads = self.config.threads as usize;
+        let mutators = ordered(who, threads);
+        self.close_in_order(mutators)
+    }
+
+    // The same of mutators in the order of their threads.
+    fn close_in_order(self, who: Vec<Mutator>) -> Closed
+        requires mutators { AreInOrder self who.items }
+        requires done { AllAreDone who.items }
+        ensures config { result.config ≡ self.config }
+        ensures logs { result.logs ≡ map log_of who.items }
+        ensures finished { IsFinished self.config self.traces result.logs }
+        ensures cycles { result.cycles ≡ 1 }
+    {
+        let AtomBoard {
+            table,
+            config,
+            room,
+        } = self;
+        let (first, rest) = first_and_rest(who);
+        let (seat, locals) = gathered(&table.shared, first, rest, room);
+        let closed = table.close_with(seat);
+        let cycles = read_phase(closed.word(0)).cycle;
+        closed.free();
+        Closed {
+            config,
+            cycles,
+            locals,
+        }
+    }
+}

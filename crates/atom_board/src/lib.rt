@@ -1,0 +1,14 @@
+//! The threads of a heap on shared atomic words, with no lock: one event is one step of a table.
+#![tactic(auto)]
+
+mod board;
+mod closed;
+mod mutator;
+mod rules;
+#[cfg(test)]
+mod tests;
+
+pub use board::AtomBoard;
+pub use closed::Closed;
+pub use mutator::Mutator;
+pub use rules::{Both, Cut, Held, Law, Turned, View};

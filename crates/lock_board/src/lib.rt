@@ -1,0 +1,108 @@
+//! All threads of a heap behind one lock: one event is one hold of it.
+#![tactic(auto)]
+
+ghost use Rattle.std.specs.Prelude.{◌≡◌, List, map, IfOk, IfErr};
+ghost use Rattle.never_heap.specs.declared.Command.{Command};
+ghost use Rattle.heap_system.specs.Machines.{IsJob};
+ghost use Rattle.heap_system.specs.Systems.{IsFinished, IsLeastUndone};
+
+use block_store::{Config, OutOfMemory};
+use heap_system::{Finished, System, Turn, Unfinished};
+use never_heap::{Command, Pace};
+use std::alloc::Global;
+use std::sync::{Mutex, Wait};
+use std::thread;
+
+#[cfg(test)]
+mod tests;
+
+/// A system behind a lock. Of it only its type is known: that it is one after some list of turns.
+#[derive(Drop)]
+pub struct LockBoard {
+    system: Mutex<System>,
+}
+
+// What a thread found in one hold of the lock.
+enum Held {
+    // It begins the command of this number, which the pace is to be told of first.
+    Begins(u64),
+    // It made an event.
+    Made(Turn),
+    // It is done, or there is no such thread.
+    Over,
+}
+
+// Looks at a thread, and makes its event, unless it begins a command that the pace was not told of.
+// It was told of this many.
+fn one_hold<R: Wait>(rt: &R, system: &Mutex<System>, thread: u32, told: u64) -> Held {
+    let mut system = system.lock(rt);
+    if thread >= system.config().threads {
+        return Held::Over;
+    }
+    let local = system.local(thread);
+    if local.at_rest() {
+        if local.done() {
+            return Held::Over;
+        }
+        let command = local.log().len() as u64;
+        if command >= told {
+            return Held::Begins(command);
+        }
+    }
+    Held::Made(system.turn(thread))
+}
+
+impl LockBoard {
+    /// The board of a configuration that has a rate, with a trace for each thread. A trace has at
+    /// most 131,072 commands, which are in bounds.
+    ///
+    /// # Errors
+    ///
+    /// `OutOfMemory` where there is no room for the words, the threads or their logs.
+    pub fn new(
+        alloc: Global,
+        c: Config,
+        traces: Vec<Vec<Command>>,
+    ) -> Result<LockBoard, OutOfMemory>
+        requires { IsJob c (map (λ v. v.items) traces.items) }
+    {
+        let system = System::new(alloc, c, traces)?;
+        Ok(LockBoard {
+            system: Mutex::new(system),
+        })
+    }
+
+    /// Makes turns of a thread until it is done, one event for each hold of the lock, and tells the
+    /// pace before each command, outside of the lock. Where there is no such thread it does
+    /// nothing.
+    pub fn drive<R: Wait, Q: Pace>(&self, rt: &R, thread: u32, pace: &Q) {
+        let mut told = 0;
+        for _ in rt.forever() {
+            match one_hold(rt, &self.system, thread, told) {
+                Held::Begins(command) => {
+                    pace.before(rt, thread, command);
+                    told = command.saturating_add(1);
+                }
+                Held::Made(Turn::Waited) => thread::yield_now(),
+                Held::Made(Turn::Went | Turn::Done) => {}
+                Held::Over => return,
+            }
+        }
+        unreachable!()
+    }
+
+    /// What the run shows, where all threads are done. It is a run of the configuration and of the
+    /// traces that it shows: the caller compares these with its job.
+    ///
+    /// # Errors
+    ///
+    /// The system, where a thread is not done, with the least such thread.
+    pub fn close(self) -> Result<Finished, Unfinished>
+        ensures finished { IfOk result (λ f. (traces : List (List Command))
+            × IsFinished f.config traces f.logs) }
+        ensures least { IfErr result (λ u.
+            IsLeastUndone u.system.config u.system.state u.thread) }
+    {
+        self.system.into_inner().finish()
+    }
+}
