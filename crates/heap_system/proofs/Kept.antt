@@ -353,9 +353,96 @@ inside_low : (w : ℕ) → 1 ≤ inside_of w → 1 ≤ w
 unfolding inside_of
 inside_low w h = omega arith
 
-module _ (c : Config) (bounds : IsInBounds c) (plan : IsAdmitted c) (g : Graph) (h : Heap) (gs : ℕ → Gating) (ls : ℕ → Loading) (hs : ℕ → GreyHolding) (t : ℕ) (tl : t < c.threads) (pass : Pass) (k : Command) (inside : IsCommandInBounds c k) (done all due paid : ℕ) (waived : Bool)
-    (gate : GateOf c.threads (h Phase) gs) (phase : IsMark (h Phase)) (shown : Follows c.width c.threads (opening_blocks c) (every_name (start_graph c)) (opening_at c.width c.threads) (state g h ls))
-    (rules : Rules c h hs) where
+-- what a turn sees: the graph of the order, the heap, and of each thread where it stands, what it has
+-- loaded and what it holds; of the thread whose turn it is its pass, its command, how many are done
+-- of all, and the units due and paid; and what holds of them
+pub record Seen (c : Config) : Type 0 where
+  pub graph : Graph
+  pub heap : Heap
+  pub gatings : ℕ → Gating
+  pub loads : ℕ → Loading
+  pub holds : ℕ → GreyHolding
+  pub thread : ℕ
+  pub pass : Pass
+  pub command : Command
+  pub done : ℕ
+  pub all : ℕ
+  pub due : ℕ
+  pub paid : ℕ
+  pub waived : Bool
+  pub bounds : IsInBounds c
+  pub plan : IsAdmitted c
+  pub low : thread < c.threads
+  pub inside : IsCommandInBounds c command
+  pub gate : GateOf c.threads (heap Phase) gatings
+  pub phase : IsMark (heap Phase)
+  pub shown : Follows c.width c.threads (opening_blocks c) (every_name (start_graph c)) (opening_at c.width c.threads) (state graph heap loads)
+  pub rules : Rules c heap holds
+
+module _ (c : Config) (s : Seen c) where
+  abbrev g : Graph
+  g = s.graph
+
+  abbrev h : Heap
+  h = s.heap
+
+  abbrev gs : ℕ → Gating
+  gs = s.gatings
+
+  abbrev ls : ℕ → Loading
+  ls = s.loads
+
+  abbrev hs : ℕ → GreyHolding
+  hs = s.holds
+
+  abbrev t : ℕ
+  t = s.thread
+
+  abbrev pass : Pass
+  pass = s.pass
+
+  abbrev k : Command
+  k = s.command
+
+  abbrev done : ℕ
+  done = s.done
+
+  abbrev all : ℕ
+  all = s.all
+
+  abbrev due : ℕ
+  due = s.due
+
+  abbrev paid : ℕ
+  paid = s.paid
+
+  abbrev waived : Bool
+  waived = s.waived
+
+  abbrev bounds : IsInBounds c
+  bounds = s.bounds
+
+  abbrev plan : IsAdmitted c
+  plan = s.plan
+
+  abbrev tl : s.thread < c.threads
+  tl = s.low
+
+  abbrev inside : IsCommandInBounds c s.command
+  inside = s.inside
+
+  abbrev gate : GateOf c.threads (s.heap Phase) s.gatings
+  gate = s.gate
+
+  abbrev phase : IsMark (s.heap Phase)
+  phase = s.phase
+
+  abbrev shown : Follows c.width c.threads (opening_blocks c) (every_name (start_graph c)) (opening_at c.width c.threads) (state s.graph s.heap s.loads)
+  shown = s.shown
+
+  abbrev rules : Rules c s.heap s.holds
+  rules = s.rules
+
   phase_is : IsPhaseWord (h Phase)
   phase_is = phase_word c.threads (h Phase) gs bounds.threads gate phase
 
@@ -683,10 +770,10 @@ module _ (c : Config) (bounds : IsInBounds c) (plan : IsAdmitted c) (g : Graph) 
   part_sum Leave stands kept = inside_low (h Phase) (inside_some c.threads (h Phase) gs gate t tl (ap (λ (x : Gating). x.stand) stands))
 
 pub part_place : (c : Config) (done all : ℕ) (p : Part) → PartFits c done all p → in_range (extent c) (place_of (part_want c p)) ≡ true
-part_place c done all Rest fits = refl
-part_place c done all (Enter a) fits = gate_place c a fits.0 (going_at c a fits.1)
-part_place c done all (Serve f) fits = field_place c f fits.0
-part_place c done all (Mark m) fits = marks.place_fits c m fits.0
-part_place c done all Count fits = refl
-part_place c done all Again fits = refl
-part_place c done all Leave fits = refl
+part_place c d a Rest fits = refl
+part_place c d a (Enter a) fits = gate_place c a fits.0 (going_at c a fits.1)
+part_place c d a (Serve f) fits = field_place c f fits.0
+part_place c d a (Mark m) fits = marks.place_fits c m fits.0
+part_place c d a Count fits = refl
+part_place c d a Again fits = refl
+part_place c d a Leave fits = refl

@@ -50,7 +50,7 @@ use Rattle.heap_machine.specs.declared.pass.Pass.{Pass}
 use Rattle.heap_system.proofs.Paying.{bounds_at, works_append, answered_in}
 use Rattle.heap_system.proofs.Moves.{state}
 use Rattle.heap_system.proofs.Steady.{never_full, register_stays}
-use Rattle.heap_system.proofs.Kept.{grey_of, PartKept, LocalKept, Rules, loads_in, gates_in, holdings_in, Kept, EventKept, graph_decided, told_by, IsLawful, part_event, part_reads, part_sum, part_place, IsMark}
+use Rattle.heap_system.proofs.Kept.{grey_of, PartKept, LocalKept, Rules, loads_in, gates_in, holdings_in, Kept, Seen, EventKept, graph_decided, told_by, IsLawful, part_event, part_reads, part_sum, part_place, IsMark}
 
 -- the order with an entry more, or as it was
 module _ (c : Config) (order : List HistoryItem) (t : ℕ) (k : Command) (work : ℕ) where
@@ -270,6 +270,32 @@ module _ (c : Config) (traces : List (List Command)) (bounds : IsInBounds c) (pl
       let none : owed (local_at c r.state t) ≡ (local_at c r.state t).rate * 0 = ap (λ n. (local_at c r.state t).rate * n) (others_have_none (local_at c r.state t).config.width (command_of (local_at c r.state t)) z) in
       omega (arith, (kept.locals t tl).fits.paid, none)
 
+  -- what the turn sees
+  abbrev pub seen : Seen c
+  seen = record {
+    graph = replay c r.order;
+    heap = heap_in c r.state;
+    gatings = gates_in c r.state;
+    loads = loads_in c r.state;
+    holds = holdings_in c r.state;
+    thread = t;
+    pass = (local_at c r.state t).pass;
+    command = command_of (local_at c r.state t);
+    done = length (local_at c r.state t).log;
+    all = length (local_at c r.state t).trace;
+    due = owed (local_at c r.state t);
+    paid = (local_at c r.state t).paid;
+    waived = (local_at c r.state t).waived;
+    bounds = bounds;
+    plan = plan;
+    low = tl;
+    inside = inside;
+    gate = kept.gate;
+    phase = kept.phase;
+    shown = kept.shown;
+    rules = kept.rules;
+  }
+
   -- the place of the next event, and the word that is read there
   pub place : in_range (extent c) (place_of (part_want c (local_at c r.state t).part)) ≡ true
   place = part_place c _ _ (local_at c r.state t).part fits
@@ -282,13 +308,11 @@ module _ (c : Config) (traces : List (List Command)) (bounds : IsInBounds c) (pl
 
   pub reads : PartReads c (local_at c r.state t).part (word_read c r.state (local_at c r.state t))
   reads = subst (λ w. PartReads c (local_at c r.state t).part w) (sym word_is)
-      (part_reads c bounds plan (replay c r.order) (heap_in c r.state) (gates_in c r.state) (loads_in c r.state) (holdings_in c r.state) t tl (local_at c r.state t).pass (command_of (local_at c r.state t)) inside (length (local_at c r.state t).log) (length (local_at c r.state t).trace) (owed (local_at c r.state t)) (local_at c r.state t).paid (local_at c r.state t).waived
-      kept.gate kept.phase kept.shown kept.rules (local_at c r.state t).part refl (kept.locals t tl).stands fits)
+      (part_reads c seen (local_at c r.state t).part refl (kept.locals t tl).stands fits)
 
   pub sums : SumFits (op_at (extent c) (part_want c (local_at c r.state t).part)) (word_read c r.state (local_at c r.state t))
   sums = subst (λ w. SumFits (op_at (extent c) (part_want c (local_at c r.state t).part)) w) (sym word_is) (sum_fits (extent c) (part_want c (local_at c r.state t).part) _
-      (part_sum c bounds plan (replay c r.order) (heap_in c r.state) (gates_in c r.state) (loads_in c r.state) (holdings_in c r.state) t tl (local_at c r.state t).pass (command_of (local_at c r.state t)) inside (length (local_at c r.state t).log) (length (local_at c r.state t).trace) (owed (local_at c r.state t)) (local_at c r.state t).paid (local_at c r.state t).waived
-      kept.gate kept.phase kept.shown kept.rules (local_at c r.state t).part refl (kept.locals t tl).stands))
+      (part_sum c seen (local_at c r.state t).part refl (kept.locals t tl).stands))
 
   pays : (local_at c r.state t).paid + unit_to_come c (local_at c r.state t).part ≤ owed (local_at c r.state t)
   pays = subst (λ (x : Config). (local_at c r.state t).paid + unit_to_come x (local_at c r.state t).part ≤ owed (local_at c r.state t)) (kept.locals t tl).config (kept.locals t tl).fits.paid
@@ -317,8 +341,7 @@ module _ (c : Config) (traces : List (List Command)) (bounds : IsInBounds c) (pl
   module _ (going : is_done (local_at c r.state t) ≡ false) where
     pub event : EventKept c (replay c r.order) new_heap (gates_in c r.state) (loads_in c r.state) (holdings_in c r.state) t (command_of (local_at c r.state t)) (length (local_at c r.state t).log) (length (local_at c r.state t).trace) (owed (local_at c r.state t)) (local_at c r.state t).paid (local_at c r.state t).waived
         (waiting (replay c r.order) (local_at c r.state t).part) decides_here new_pass new_part told_here makes_here finds_here
-    event = part_event c bounds plan (replay c r.order) (heap_in c r.state) (gates_in c r.state) (loads_in c r.state) (holdings_in c r.state) t tl (local_at c r.state t).pass (command_of (local_at c r.state t)) inside (length (local_at c r.state t).log) (length (local_at c r.state t).trace) (owed (local_at c r.state t)) (local_at c r.state t).paid (local_at c r.state t).waived
-        kept.gate kept.phase kept.shown kept.rules (local_at c r.state t).part refl refl refl (kept.locals t tl).stands fits pays (kept.locals t tl).settled unpaid
+    event = part_event c seen (local_at c r.state t).part refl refl refl (kept.locals t tl).stands fits pays (kept.locals t tl).settled unpaid
         (rest_low (local_at c r.state t) (kept.locals t tl).fits.log going)
 
     moved : LocalKept c (get_or traces t []) (graph_decided (replay c r.order) t (command_of (local_at c r.state t)) decides_here) (order_after c r.order t (command_of (local_at c r.state t)) (local_at c r.state t).paid decides_here) t (moved_on (local_at c r.state t) t c (heap_in c r.state (place_of (part_want c (local_at c r.state t).part))))
