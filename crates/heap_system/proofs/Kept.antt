@@ -770,10 +770,10 @@ module _ (c : Config) (s : Seen c) where
   part_sum Leave stands kept = inside_low (h Phase) (inside_some c.threads (h Phase) gs gate t tl (ap (λ (x : Gating). x.stand) stands))
 
 pub part_place : (c : Config) (done all : ℕ) (p : Part) → PartFits c done all p → in_range (extent c) (place_of (part_want c p)) ≡ true
-part_place c d a Rest fits = refl
-part_place c d a (Enter a) fits = gate_place c a fits.0 (going_at c a fits.1)
-part_place c d a (Serve f) fits = field_place c f fits.0
-part_place c d a (Mark m) fits = marks.place_fits c m fits.0
-part_place c d a Count fits = refl
-part_place c d a Again fits = refl
-part_place c d a Leave fits = refl
+part_place c d all Rest fits = refl
+part_place c d all (Enter a) fits = gate_place c a fits.0 (going_at c a fits.1)
+part_place c d all (Serve f) fits = field_place c f fits.0
+part_place c d all (Mark m) fits = marks.place_fits c m fits.0
+part_place c d all Count fits = refl
+part_place c d all Again fits = refl
+part_place c d all Leave fits = refl
