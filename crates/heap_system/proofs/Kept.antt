@@ -6,7 +6,7 @@ use Rattle.block_store.specs.Configs.{IsInBounds}
 use Rattle.block_store.specs.Heaps.{Heap, put_at}
 use Rattle.block_store.specs.Colours.{is_free}
 use Rattle.block_store.specs.Phases.{bit, phase_of, inside_of, is_closed, is_sweep, cycle_of}
-use Rattle.block_store.specs.Places.{Phase, FreeCount, ColourOf, extent, in_range, words_count}
+use Rattle.block_store.specs.Places.{Phase, ColourOf, extent, words_count}
 use Rattle.block_store.proofs.PhaseWords.{phase-more, phase-less}
 use Rattle.block_store.proofs.Registers.{end_more}
 use Rattle.block_store.specs.Widths.{payloads}
@@ -27,19 +27,18 @@ use Rattle.shown_graph.specs.Events.{Loading, unloaded, with_load, Follows}
 use Rattle.heap_machine.specs.Counts.{changed}
 use Rattle.heap_machine.specs.Gates.{gate_want, gate_got, gate_entered, SeenOpen}
 use Rattle.heap_machine.specs.Gating.{Gating, GateOf, Outside, Inside}
-use Rattle.heap_machine.specs.Operations.{heap_after, place_of, Fits}
+use Rattle.heap_machine.specs.Operations.{heap_after, place_of}
 use Rattle.heap_machine.specs.Grey.{GreyHolding, no_grey, GreyKept, is_of_grey}
 use Rattle.heap_machine.specs.Readings.{IsPhaseWord, IsHeld}
 use Rattle.heap_machine.specs.declared.gate.GateRow.{GateRow}
 use Rattle.heap_machine.specs.declared.gate.GateRow.TheVariants as gates
 use Rattle.heap_machine.proofs.Gatings.{gate_enters, gate_leaves, gate_stays, inside_most, inside_some}
-use Rattle.heap_machine.proofs.GateRows.{gate_place}
 use Rattle.heap_machine.proofs.Functions.{funext}
 use Rattle.heap_machine.proofs.GreyBlocks.{kept_other}
 use Rattle.heap_machine.proofs.Held.{held_put, held_after}
-use Rattle.heap_machine.specs.Holdings.{Holding, grey_held}
+use Rattle.heap_machine.specs.Holdings.{grey_held}
 use Rattle.heap_machine.specs.declared.pass.Pass.{Pass}
-use Rattle.grey_steps.specs.Rows.{GreyState, grey_want, grey_got, grey_over, grey_unit, holding_at, scanning}
+use Rattle.grey_steps.specs.Rows.{GreyState, grey_want, grey_got, grey_over, grey_unit, holding_at}
 use Rattle.grey_steps.specs.Ends.{is_blackening}
 use Rattle.grey_steps.specs.Fits.{GreyFits, GreyReads}
 use Rattle.grey_steps.proofs.Ends.{unit_after, unit_once, over_holds_none}
@@ -57,16 +56,16 @@ use Rattle.barrier_steps.proofs.Dues.{none_due}
 use Rattle.barrier_steps.specs.Rows.{FieldState, field_decided, first_row, row_want, field_want, field_got, field_reply}
 use Rattle.shown_graph.specs.Words.{block_words}
 use Rattle.rate_plan.specs.Rates.{IsAdmitted}
-use Rattle.barrier_steps.proofs.FieldRows.{field_fits, field_sum, field_place, stores_held}
+use Rattle.barrier_steps.proofs.FieldRows.{field_fits, stores_held}
 use Rattle.heap_system.specs.declared.local.Part.{Part}
 use Rattle.heap_system.specs.declared.local.Part.TheVariants.{Rest, Enter, Serve, Mark, Count, Again, Leave}
-use Rattle.heap_system.specs.Locals.{LocalState, command_of, owed, pass_by, first_part, if_entered, pass_got, if_replied, part_entered, part_want, part_got, part_reply, Verdict, Open, AsStep, Refused, if_decides, verdict, makes_unit, finds_nothing, paid_got, waived_got, entry_of, entries_of, works, unit_to_come, PartFits, IsLocal, PartReads}
+use Rattle.heap_system.specs.Locals.{LocalState, command_of, owed, pass_by, first_part, if_entered, pass_got, if_replied, Verdict, Open, AsStep, Refused, if_decides, makes_unit, finds_nothing, paid_got, waived_got, entry_of, entries_of, works, unit_to_come, PartFits, IsLocal}
 use Rattle.heap_system.specs.Machines.{State, Run, local_at}
 use Rattle.heap_system.specs.Systems.{logs_of, units_of}
 use Rattle.heap_system.specs.Units.{IsWithin}
 use Rattle.heap_system.specs.Pictures.{gating, stand_of, holding, loading, waiting, entries_waiting, heap_in, graph_state}
 use Rattle.heap_system.proofs.Marks.{mark_phase, mark_words, mark_solid}
-use Rattle.heap_system.proofs.Paying.{first_part_fits, first_part_pays, going_at}
+use Rattle.heap_system.proofs.Paying.{first_part_fits, first_part_pays}
 use Rattle.heap_system.proofs.Moves.{state, graph_after, FieldStep, field_reads, field_moves, load_self, undecided}
 
 -- what a thread holds of the grey blocks
@@ -349,7 +348,7 @@ pub is_thread : (c : Config) → IsInBounds c → IsAdmitted c → (t : ℕ) →
 is_thread c bounds plan t tl = record { few = bounds.threads; thread = tl; registers = omega (arith, end_more c.width (t + 1) c.threads (omega arith), plan.opens, plan.room) }
 
 -- a word that counts one inside is not 0
-inside_low : (w : ℕ) → 1 ≤ inside_of w → 1 ≤ w
+pub inside_low : (w : ℕ) → 1 ≤ inside_of w → 1 ≤ w
 unfolding inside_of
 inside_low w h = omega arith
 
@@ -443,7 +442,7 @@ module _ (c : Config) (s : Seen c) where
   abbrev rules : Rules c s.heap s.holds
   rules = s.rules
 
-  phase_is : IsPhaseWord (h Phase)
+  pub phase_is : IsPhaseWord (h Phase)
   phase_is = phase_word c.threads (h Phase) gs bounds.threads gate phase
 
   abbrev Event : Heap → Option Reply → Verdict → Pass → Part → Option Reply → Bool → Bool → Type 0
@@ -503,7 +502,7 @@ module _ (c : Config) (s : Seen c) where
   }
 
   -- on the way in
-  look_event : (gs t).stand ≡ Outside → ls t ≡ unloaded → hs t ≡ no_grey → done < all → paid ≤ due → Event h None Open (pass_got (gate_entered (gate_got gates.Look (h Phase))) t c.threads pass) (if_entered (gate_entered (gate_got gates.Look (h Phase))) t c.threads k more (gate_got gates.Look (h Phase))) None false false
+  pub look_event : (gs t).stand ≡ Outside → ls t ≡ unloaded → hs t ≡ no_grey → done < all → paid ≤ due → Event h None Open (pass_got (gate_entered (gate_got gates.Look (h Phase))) t c.threads pass) (if_entered (gate_entered (gate_got gates.Look (h Phase))) t c.threads k more (gate_got gates.Look (h Phase))) None false false
   look_event out is empty low pays = rw phase.opened (look_at (Enter (gates.Enter (h Phase))) (gate_stays c.threads (h Phase) gs gate t tl _ (sym out) (λ e. absurd cc)) is refl empty refl refl tt (record { word = phase_is; opened = phase.opened }, refl, low) (omega (arith, pays)) tt)
 
   -- the part of a thread that has entered, in its pass
@@ -539,7 +538,7 @@ module _ (c : Config) (s : Seen c) where
   more_due : more ≡ true → paid < due
   more_due e = ltb-true paid due (and_parts (not waived) (ltb paid due) e).1
 
-  enter_event : (seen : ℕ) → SeenOpen seen → (gs t).stand ≡ Outside → ls t ≡ unloaded → hs t ≡ no_grey → done < all → paid ≤ due
+  pub enter_event : (seen : ℕ) → SeenOpen seen → (gs t).stand ≡ Outside → ls t ≡ unloaded → hs t ≡ no_grey → done < all → paid ≤ due
       → Event (heap_after h (gate_want (gates.Enter seen))) None Open (pass_got (gate_entered (gate_got (gates.Enter seen) (h Phase))) t c.threads pass) (if_entered (gate_entered (gate_got (gates.Enter seen) (h Phase))) t c.threads k more (gate_got (gates.Enter seen) (h Phase))) None false false
   enter_event seen fit out is empty low pays = elim (cases_Bool (eqb (h Phase) seen)) [
     | inl e ↦ rw e (won (eqb-true (h Phase) seen e))
@@ -568,7 +567,7 @@ module _ (c : Config) (s : Seen c) where
           kept.settled)
 
   -- on the way out, at rest or to come in again
-  leave_event : (p : Part) → (gs t).stand ≡ Inside → gating c pass p ≡ gating c pass Rest → ls t ≡ unloaded → loading c p ≡ unloaded → hs t ≡ no_grey → grey_of c p ≡ no_grey → waiting g p ≡ None
+  pub leave_event : (p : Part) → (gs t).stand ≡ Inside → gating c pass p ≡ gating c pass Rest → ls t ≡ unloaded → loading c p ≡ unloaded → hs t ≡ no_grey → grey_of c p ≡ no_grey → waiting g p ≡ None
       → PartKept g t pass k p → PartFits c done all p → paid + unit_to_come c p ≤ due → IsSettled due paid waived p → Event (heap_after h (gate_want gates.Leave)) None Open pass p None false false
   leave_event p is out unl loads empty holds waits kept fits low settled =
       let some : 1 ≤ inside_of (h Phase) = inside_some c.threads (h Phase) gs gate t tl is in
@@ -594,7 +593,7 @@ module _ (c : Config) (s : Seen c) where
     mark_kept : GreyKept c.threads (heap_after h (grey_want m)) (changed hs t (grey_held (holding_at (extent c) (grey_got (extent c) m mark_word))))
     mark_kept = subst (λ x. GreyKept c.threads (heap_after h (grey_want m)) (changed hs x (grey_held (holding_at (extent c) (grey_got (extent c) m mark_word))))) kept.thread (keeps c h hs m fits rules.grey (ap hs kept.thread ∙ holds))
 
-    mark_event : (b : Bool) → grey_over (grey_got (extent c) m mark_word).row ≡ b
+    pub mark_event : (b : Bool) → grey_over (grey_got (extent c) m mark_word).row ≡ b
         → Event (heap_after h (grey_want m)) None Open pass (cond b Again (Mark (grey_got (extent c) m mark_word))) None (makes_unit c (Mark m) mark_word) (finds_nothing c (Mark m) mark_word)
     mark_event true e = record {
       gate = stays (heap_after h (grey_want m)) Again (Mark m) (mark_phase h m.pass.thread m.pass.threads m.pass.cycle m.row) stands refl refl;
@@ -634,7 +633,7 @@ module _ (c : Config) (s : Seen c) where
     }
 
   -- an allocation is answered full, and leaves the graph
-  count_event : ls t ≡ unloaded → gs t ≡ gating c pass Count → hs t ≡ no_grey → makes_object k ≡ true → Event h None (Refused (Full 1)) pass Leave (Some (Full 1)) false false
+  pub count_event : ls t ≡ unloaded → gs t ≡ gating c pass Count → hs t ≡ no_grey → makes_object k ≡ true → Event h None (Refused (Full 1)) pass Leave (Some (Full 1)) false false
   count_event is stands empty allocates = record {
     gate = stays h Leave Count refl stands refl refl;
     phase = phase;
@@ -728,52 +727,6 @@ module _ (c : Config) (s : Seen c) where
       lawful = step_lawful k row_decides;
     }
 
-  -- the event of each part
-  pub part_event : (p : Part) → gs t ≡ gating c pass p → ls t ≡ loading c p → hs t ≡ grey_of c p → PartKept g t pass k p → PartFits c done all p → paid + unit_to_come c p ≤ due → IsSettled due paid waived p → (makes_object k ≡ false → paid ≡ 0) → (p ≡ Rest → done < all)
-      → Event (heap_after h (part_want c p)) (waiting g p) (verdict c p (h (place_of (part_want c p)))) (pass_got (part_entered c p (h (place_of (part_want c p)))) t c.threads pass) (part_got c t k more p (h (place_of (part_want c p)))) (part_reply c p (h (place_of (part_want c p)))) (makes_unit c p (h (place_of (part_want c p)))) (finds_nothing c p (h (place_of (part_want c p))))
-  part_event Rest stands is empty kept fits pays settled served low = look_event (ap (λ (x : Gating). x.stand) stands) is empty (low refl) (omega (arith, pays))
-  part_event (Enter gates.Look) stands is empty kept fits pays settled served low = look_event (ap (λ (x : Gating). x.stand) stands) is empty fits.2 (omega (arith, pays))
-  part_event (Enter (gates.Enter seen)) stands is empty kept fits pays settled served low = enter_event seen fits.0 (ap (λ (x : Gating). x.stand) stands) is empty fits.2 (omega (arith, pays))
-  part_event (Enter _) stands is empty kept fits pays settled served low = absurd kept
-  part_event (Serve f) stands is empty kept fits pays settled served low = serve_event f is stands empty kept fits.0 fits.1 (served kept.serves) (field_reply (field_got (extent c) f (h (place_of (field_want (extent c) f)))).row) refl
-  part_event (Mark m) stands is empty kept fits pays settled served low = mark_event m is stands empty kept fits.0 fits.1 pays (grey_over (grey_got (extent c) m (h (place_of (grey_want m)))).row) refl
-  part_event Count stands is empty kept fits pays settled served low = count_event is stands empty kept
-  part_event Again stands is empty kept fits pays settled served low = leave_event (Enter gates.Look) (ap (λ (x : Gating). x.stand) stands) refl is refl empty refl refl tt (tt, refl, fits) pays tt
-  part_event Leave stands is empty kept fits pays settled served low = leave_event Rest (ap (λ (x : Gating). x.stand) stands) refl is refl empty refl refl tt tt pays settled
-
   -- the phase word is that of cycle 1
-  began : 1 ≤ cycle_of (h Phase)
+  pub began : 1 ≤ cycle_of (h Phase)
   began = omega (arith, phase.cycle)
-
-  -- and the word that it reads is one that it may read
-  pub part_reads : (p : Part) → ls t ≡ loading c p → PartKept g t pass k p → PartFits c done all p → PartReads c p (h (place_of (part_want c p)))
-  part_reads Rest is kept fits = (phase_is, began)
-  part_reads (Enter gates.Look) is kept fits = (phase_is, began)
-  part_reads (Enter (gates.Enter seen)) is kept fits = (phase_is, began)
-  part_reads (Enter _) is kept fits = absurd kept
-  part_reads (Serve f) is kept fits = field_reads c bounds (opening_blocks c) (opening_low c plan) (every_name (start_graph c)) (opening_at c.width c.threads) g h ls shown t f fits.0 kept.thread is kept.going
-  part_reads (Mark m) is kept fits = rules.held (place_of (grey_want m)) (marks.place_fits c m fits.0)
-  part_reads Count is kept fits = rules.held FreeCount refl
-  part_reads Again is kept fits = phase_is
-  part_reads Leave is kept fits = phase_is
-
-  -- no sum or difference leaves 64 bits
-  pub part_sum : (p : Part) → gs t ≡ gating c pass p → PartKept g t pass k p → Fits (part_want c p) (h (place_of (part_want c p)))
-  part_sum Rest stands kept = tt
-  part_sum (Enter gates.Look) stands kept = tt
-  part_sum (Enter (gates.Enter seen)) stands kept = tt
-  part_sum (Enter _) stands kept = absurd kept
-  part_sum (Serve f) stands kept = field_sum c f (h (place_of (field_want (extent c) f)))
-  part_sum (Mark m) stands kept = marks.sum_fits m (h (place_of (grey_want m)))
-  part_sum Count stands kept = tt
-  part_sum Again stands kept = inside_low (h Phase) (inside_some c.threads (h Phase) gs gate t tl (ap (λ (x : Gating). x.stand) stands))
-  part_sum Leave stands kept = inside_low (h Phase) (inside_some c.threads (h Phase) gs gate t tl (ap (λ (x : Gating). x.stand) stands))
-
-pub part_place : (c : Config) (done all : ℕ) (p : Part) → PartFits c done all p → in_range (extent c) (place_of (part_want c p)) ≡ true
-part_place c d a Rest fits = refl
-part_place c d a (Enter a) fits = gate_place c a fits.0 (going_at c a fits.1)
-part_place c d a (Serve f) fits = field_place c f fits.0
-part_place c d a (Mark m) fits = marks.place_fits c m fits.0
-part_place c d a Count fits = refl
-part_place c d a Again fits = refl
-part_place c d a Leave fits = refl

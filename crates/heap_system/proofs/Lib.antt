@@ -5,6 +5,9 @@ pub mod Marks
 pub mod Grounds
 pub mod Moves
 pub mod Kept
+pub mod PartLaws
+pub mod parts
+pub mod LawsOf
 pub mod Turning
 pub mod Always
 pub mod Reached
