@@ -5,6 +5,7 @@ pub mod Marks
 pub mod Grounds
 pub mod Moves
 pub mod Kept
+pub mod Pending
 pub mod PartLaws
 pub mod parts
 pub mod LawsOf

@@ -1,10 +1,10 @@
 -- The laws of a part of a thread's work: one record, which each part makes.
 use Rattle.heap_system.proofs.Kept.{grey_of, PartKept, IsSettled, EventKept, Seen}
-use Rattle.std.proofs.Common.{◌≡◌, ℕ, ◌+◌, ◌<◌, ◌≤◌, true, false, not, ◌&&◌, cond, ltb, Some}
+use Rattle.std.proofs.Common.{◌≡◌, ℕ, ◌+◌, ◌<◌, ◌≤◌, true, false, not, ◌&&◌, cond, ltb, Some, Bool}
 use Rattle.block_store.specs.declared.Config.{Config}
 use Rattle.block_store.specs.Heaps.{Heap}
 use Rattle.block_store.specs.Phases.{bit, cycle_of}
-use Rattle.block_store.specs.Places.{Phase, extent, in_range}
+use Rattle.block_store.specs.Places.{Phase, extent, in_range, PayloadOf}
 use Rattle.never_heap.specs.declared.Command.{Command}
 use Rattle.never_heap.specs.declared.Reply.{Reply}
 use Rattle.never_heap.specs.Graphs.{Graph, register_of}
@@ -19,6 +19,11 @@ use Rattle.heap_system.specs.Locals.{pass_got, part_entered, part_want, part_got
 use Rattle.heap_system.specs.Pictures.{gating, stand_of, loading, waiting}
 use Rattle.heap_machine.specs.Gating.{is_outside}
 use Rattle.heap_system.specs.Units.{blackens}
+use Rattle.heap_system.proofs.Pending.{pending_in, Pending}
+use Rattle.block_store.specs.declared.TheConstants.{REGISTERS}
+use Rattle.block_store.specs.Registers.{register_block, register_slot}
+use Rattle.shown_graph.specs.Openings.{opening_at}
+use Rattle.shown_graph.specs.Events.{LoadIs}
 use Rattle.heap_system.specs.declared.Turn.TheVariants as turns
 
 -- a Mark pass that found nothing to mark
@@ -52,3 +57,8 @@ pub record PartLaws (c : Config) (p : Part) : Type 0 where
   pub units : (t : ℕ) (k : Command) (paid w : ℕ) → works (entries_of t k paid (part_reply c p w)) + paid_got (part_reply c p w) (makes_unit c p w) paid ≡ paid + bit (makes_unit c p w)
   -- and the rest is waived only where a Mark pass found nothing
   pub found : (w : ℕ) → waived_got (part_reply c p w) (finds_nothing c p w) false ≡ true → Found c p w
+  -- an event after which a register is pending only reads, and decides unless it was pending before
+  pub older : (h : Heap) (t : ℕ) (k : Command) (more : Bool) (w q : ℕ) → pending_in c (part_got c t k more p w) q ≡ true → Pending c h p w q
+  -- and it leaves the words of another thread's registers
+  pub frame : (s : Seen c) (u q : ℕ) → u < c.threads → q < REGISTERS → (s.thread ≡ u → ⊥) → PartKept s.graph s.thread s.pass s.command p → PartFits c s.done s.all p → LoadIs c.width s.graph (opening_at c.width c.threads) s.thread (loading c p)
+      → heap_after s.heap (part_want c p) (PayloadOf (register_block c.width u q) (register_slot c.width q)) ≡ s.heap (PayloadOf (register_block c.width u q) (register_slot c.width q))

@@ -21,4 +21,6 @@ again_laws c = record {
   black = λ h hs t done all g pass k w grey is one stands fits. refl;
   units = λ t k paid w. omega arith;
   found = λ w h. absurd cc;
+  older = λ h t k more w q e. absurd cc;
+  frame = λ s u q ul ql other kept fits loads. refl;
 }

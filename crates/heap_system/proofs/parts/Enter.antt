@@ -9,7 +9,7 @@ use Rattle.block_store.specs.Phases.{is_closed}
 use Rattle.shown_graph.specs.Events.{unloaded}
 use Rattle.heap_machine.specs.Gates.{gate_want, is_of_pass, is_empty}
 use Rattle.heap_machine.specs.Gating.{Gating, Outside}
-use Rattle.heap_machine.specs.Operations.{place_of, Fits}
+use Rattle.heap_machine.specs.Operations.{place_of, Fits, heap_after}
 use Rattle.heap_machine.specs.Grey.{no_grey}
 use Rattle.heap_machine.specs.declared.gate.GateRow.{GateRow}
 use Rattle.heap_machine.proofs.GateRows.{gate_place}
@@ -17,6 +17,9 @@ use Rattle.heap_system.specs.declared.local.Part.TheVariants.{Enter}
 use Rattle.heap_system.specs.Locals.{part_want, PartFits, PartReads, part_step, turn_of, waits}
 use Rattle.heap_system.proofs.Paying.{going_at}
 use Rattle.heap_system.specs.Units.{blackens}
+use Rattle.heap_system.proofs.Pending.{no_way, entered_quiet}
+use Rattle.block_store.specs.Registers.{register_block, register_slot}
+use Rattle.block_store.specs.Places.{Phase, PayloadOf}
 use Rattle.heap_system.specs.declared.Turn.TheVariants as turns
 use Rattle.heap_machine.specs.declared.gate.GateRow.TheVariants as gates
 
@@ -59,6 +62,11 @@ event_at c s gates.Look stands is empty kept fits pays = look_event c s stands i
 event_at c s (gates.Enter seen) stands is empty kept fits pays = enter_event c s seen fits.0 stands is empty fits.2 pays
 event_at c s _ stands is empty kept fits pays = absurd kept
 
+frame_at : (c : Config) (h : Heap) (u q : ℕ) (g : GateRow) → IsEntering g → heap_after h (part_want c (Enter g)) (PayloadOf (register_block c.width u q) (register_slot c.width q)) ≡ h (PayloadOf (register_block c.width u q) (register_slot c.width q))
+frame_at c h u q gates.Look stands = refl
+frame_at c h u q (gates.Enter seen) stands = elim (cases_Bool (eqb (h Phase) seen)) [ inl e ↦ rw e refl | inr e ↦ rw e refl ]
+frame_at c h u q _ stands = absurd stands
+
 pub enter_laws : (c : Config) (g : GateRow) → PartLaws c (Enter g)
 enter_laws c g = record {
   place = λ done all fits. gate_place c g fits.0 (going_at c g fits.1);
@@ -71,4 +79,6 @@ enter_laws c g = record {
   black = λ h hs t done all graph pass k w grey is one stands fits. gate_blackens h g;
   units = λ t k paid w. omega arith;
   found = λ w h. absurd cc;
+  older = λ h t k more w q e. no_way _ (entered_quiet c _ t c.threads k more _ q) e;
+  frame = λ s u q ul ql other kept fits loads. frame_at c s.heap u q g kept;
 }

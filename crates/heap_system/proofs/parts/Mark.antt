@@ -13,13 +13,17 @@ use Rattle.block_store.specs.Widths.{payloads}
 use Rattle.heap_machine.specs.Operations.{place_of}
 use Rattle.heap_machine.specs.declared.pass.Pass.{Pass}
 use Rattle.grey_steps.specs.Ends.{is_blackening}
-use Rattle.heap_system.specs.declared.local.Part.TheVariants.{Mark}
+use Rattle.heap_system.specs.declared.local.Part.TheVariants.{Mark, Again}
 use Rattle.block_store.specs.Colours.{is_grey, grey_word, black_word, white_word}
 use Rattle.block_store.proofs.ColourWords.{not_grey_black, not_grey_white}
 use Rattle.grey_steps.specs.declared.rows.GreyRow.{GreyRow}
 use Rattle.grey_steps.proofs.Ends.{unit_grey}
 use Rattle.heap_system.specs.Units.{blackens}
-use Rattle.heap_system.specs.Locals.{turn_of}
+use Rattle.heap_system.specs.Locals.{turn_of, if_marked}
+use Rattle.heap_system.proofs.Pending.{pending_in, no_way}
+use Rattle.block_store.specs.Registers.{register_block, register_slot}
+use Rattle.shown_graph.specs.Words.{BlockWords}
+use Rattle.heap_system.proofs.Marks.{mark_words}
 use Rattle.heap_system.specs.declared.Turn.TheVariants as turns
 use Rattle.grey_steps.specs.declared.rows.GreyRow.TheVariants as marks
 use Rattle.grey_steps.proofs.Ranges as ranges
@@ -67,6 +71,13 @@ or_false : (b : Bool) → (b || false) ≡ true → b ≡ true
 or_false true h = refl
 or_false false h = absurd cc
 
+marked_quiet : (c : Config) (m : GreyState) (q : ℕ) → pending_in c (if_marked m) q ≡ false
+marked_quiet c m q = by (grey_over m.row)
+  where
+    by : (b : Bool) → pending_in c (cond b Again (Mark m)) q ≡ false
+    by true = refl
+    by false = refl
+
 pub mark_laws : (c : Config) (m : GreyState) → PartLaws c (Mark m)
 mark_laws c m = record {
   place = λ done all fits. ranges.place_fits c m fits.0;
@@ -79,4 +90,6 @@ mark_laws c m = record {
   black = λ h hs t done all g pass k w grey is one stands fits. row_blackens (payloads c.width) h m.pass.thread m.pass.threads m.pass.cycle m.row (ap (λ (x : Pass). x.cycle) stands.passes ∙ one refl) (λ x b scan. (unit_grey c h hs m x fits.0 grey (ap hs stands.thread ∙ is) b scan).0);
   units = λ t k paid w. unit_sum paid (is_blackening m.row);
   found = λ w h. (m, refl, or_false (grey_nothing (grey_got (extent c) m w).row) h);
+  older = λ h t k more w q e. no_way _ (marked_quiet c (grey_got (extent c) m w) q) e;
+  frame = λ s u q ul ql other kept fits loads. ap (λ (w : BlockWords). w.payload (register_block c.width u q) (register_slot c.width q)) (mark_words s.heap m.pass.thread m.pass.threads m.pass.cycle m.row);
 }

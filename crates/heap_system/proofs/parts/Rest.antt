@@ -7,6 +7,7 @@ use Rattle.block_store.specs.declared.Config.{Config}
 use Rattle.block_store.specs.Phases.{is_closed}
 use Rattle.heap_machine.specs.Gating.{Gating}
 use Rattle.heap_system.specs.declared.local.Part.TheVariants.{Rest}
+use Rattle.heap_system.proofs.Pending.{no_way, entered_quiet}
 
 pub rest_laws : (c : Config) → PartLaws c Rest
 rest_laws c = record {
@@ -20,4 +21,6 @@ rest_laws c = record {
   black = λ h hs t done all g pass k w grey is one stands fits. refl;
   units = λ t k paid w. omega arith;
   found = λ w h. absurd cc;
+  older = λ h t k more w q e. no_way _ (entered_quiet c _ t c.threads k more _ q) e;
+  frame = λ s u q ul ql other kept fits loads. refl;
 }
