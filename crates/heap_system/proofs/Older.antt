@@ -1,55 +1,26 @@
 -- The word of a pending register is the one that it had before its command was decided.
-use Rattle.std.proofs.Common.{◌≡◌, ℕ, ◌<◌, Bool, true, false, cond, eqb, ltb, ne_eqb, eq-eqb, lt-ltb, le-ltb, ◌⊎◌, inl, inr, ⊎_elim, Option, Some, None, List, [], ◌∷◌, ◌++◌, append_assoc, append-nil, refl, sym, ap, ◌∙◌, subst}
+use Rattle.std.proofs.Common.{◌≡◌, ℕ, ◌<◌, Bool, true, false, cond, ne_eqb, eq-eqb, lt-ltb, le-ltb, inl, inr, List, [], ◌∷◌, ◌++◌, append_assoc, append-nil, refl, sym, ap, ◌∙◌, subst}
 use Rattle.std.proofs.lemmas.Bool.{cases_Bool, cases_eq, cases_lt}
 use Rattle.block_store.specs.declared.Config.{Config}
 use Rattle.block_store.specs.declared.TheConstants.{REGISTERS}
-use Rattle.block_store.specs.declared.Name.{Name}
-use Rattle.block_store.specs.declared.Payload.{Payload}
-use Rattle.block_store.specs.declared.Payload.TheVariants as payloads
-use Rattle.block_store.specs.declared.Shape.{Shape}
 use Rattle.block_store.specs.Configs.{IsInBounds}
 use Rattle.rate_plan.specs.Rates.{IsAdmitted}
 use Rattle.block_store.specs.Registers.{register_block, register_slot}
-use Rattle.block_store.specs.Heaps.{Heap, put_at}
-use Rattle.block_store.specs.Payloads.{target}
-use Rattle.block_store.specs.Places.{extent, Phase, PayloadOf}
-use Rattle.barrier_steps.specs.Rows.{at_first_row}
-use Rattle.barrier_steps.specs.Deciding.{is_deciding}
+use Rattle.block_store.specs.Places.{PayloadOf}
 use Rattle.never_heap.specs.declared.Command.{Command}
-use Rattle.never_heap.specs.declared.Command.TheVariants as commands
-use Rattle.never_heap.specs.Graphs.{Graph, start_graph, object_of}
 use Rattle.never_heap.specs.Histories.{HistoryItem, Did, part, replay}
-use Rattle.never_heap.specs.Steps.{step, makes_object}
+use Rattle.never_heap.specs.Steps.{step}
 use Rattle.never_heap.proofs.Growing.{part_append}
-use Rattle.shown_graph.specs.Words.{BlockWords, block_words, value_word}
-use Rattle.shown_graph.specs.Shown.{Shows, IsValueOf, every_name, heads}
+use Rattle.shown_graph.specs.Words.{value_word}
+use Rattle.shown_graph.specs.Shown.{heads}
 use Rattle.shown_graph.specs.Openings.{opening_at}
-use Rattle.array_trees.specs.Openings.{opening_blocks}
-use Rattle.shown_graph.specs.Events.{ObjectLoad, ObjectIs, LoadIs, object_in, is_pending, pending_registers}
-use Rattle.block_store.proofs.Registers.{register_low, own_array}
-use Rattle.shown_graph.proofs.Stores.{register_apart}
-use Rattle.heap_machine.specs.Operations.{heap_after, place_of}
-use Rattle.heap_machine.specs.declared.gate.GateRow.TheVariants as gates
-use Rattle.grey_steps.specs.Rows.{GreyState, grey_got, grey_over}
-use Rattle.heap_system.proofs.Marks.{mark_words}
-use Rattle.barrier_steps.specs.declared.rows.FieldRow.{FieldRow}
-use Rattle.barrier_steps.specs.declared.rows.FieldRow.TheVariants as rows
-use Rattle.barrier_steps.specs.declared.rows.Way.{Way}
-use Rattle.barrier_steps.specs.Fits.{FitsAt, FieldFits}
-use Rattle.barrier_steps.specs.Operands.{to_register, field_index}
-use Rattle.barrier_steps.specs.Rows.{FieldState, first_row, row_want, row_got, field_want, field_got, field_reply, after_object, after_shape, after_said, at_block, on_way, payload_in, shape_in, way_from, way_on}
-use Rattle.barrier_steps.proofs.Named.{to_low}
-use Rattle.barrier_steps.specs.Walks.{links_to, shape_length}
-use Rattle.heap_system.specs.declared.local.Part.{Part}
-use Rattle.heap_system.specs.declared.local.Part.TheVariants.{Rest, Enter, Serve, Mark, Count, Again, Leave}
-use Rattle.heap_system.specs.Locals.{LocalState, owes, pass_by, first_part, if_replied, if_entered, if_marked, part_want, part_got, Verdict, Open, AsStep, Refused, if_decides, verdict, is_done, command_of, entry_of, PartFits}
+use Rattle.heap_machine.specs.Operations.{place_of}
+use Rattle.heap_system.specs.Locals.{LocalState, owes, part_want, Verdict, Open, AsStep, Refused, verdict, is_done, command_of, entry_of}
 use Rattle.heap_system.specs.Machines.{Run, State, IsJob, IsRunOf, local_at, word_read, event_done, has_event, entries_by, next, after_turns, opened, IsOpening}
-use Rattle.heap_system.specs.Pictures.{loading, heap_in, IsOlder}
-use Rattle.barrier_steps.specs.Projection.{row_loading, loading_of, object_on}
-use Rattle.heap_machine.specs.declared.pass.Pass.{Pass}
+use Rattle.heap_system.specs.Pictures.{heap_in, IsOlder}
 use Rattle.heap_system.proofs.LawsOf.{laws_of}
 use Rattle.heap_system.proofs.Pending.{pending_in, Pending}
-use Rattle.heap_system.proofs.Kept.{PartKept, Kept, loads_in}
+use Rattle.heap_system.proofs.Kept.{Kept}
 use Rattle.heap_system.proofs.Always.{here, opening_kept, turn_kept}
 use Rattle.heap_system.proofs.Turning.{seen, local_new, heap_new, fits, word_is}
 

@@ -1,29 +1,37 @@
 -- A thread in a Mark pass.
-use Rattle.heap_system.proofs.Kept.{mark_event}
 use Rattle.heap_system.proofs.PartLaws.{PartLaws}
-use Rattle.grey_steps.specs.Rows.{row_want, GreyState, grey_want, grey_got, grey_over, grey_holding, grey_nothing}
+use Rattle.grey_steps.specs.Rows.{row_want, GreyState, grey_want, grey_got, grey_over, grey_holding, grey_nothing, grey_unit, holding_at}
 use Rattle.heap_machine.specs.declared.Step.TheVariants.{Over, Went}
-use Rattle.std.proofs.Common.{◌≡◌, ℕ, ◌+◌, Bool, true, false, ◌&&◌, ◌||◌, cond, eqb, ne_eqb, eq-eqb, eqb-true, Some, refl, ap, ◌∙◌, arith, inl, inr}
+use Rattle.std.proofs.Common.{◌≡◌, ℕ, ◌+◌, Bool, true, false, ◌&&◌, ◌||◌, cond, eqb, ne_eqb, eq-eqb, eqb-true, Some, refl, ap, ◌∙◌, arith, inl, inr, ◌<◌, ◌≤◌, not, None, sym, subst}
 use Rattle.std.proofs.lemmas.Bool.{cases_eq}
 use Rattle.block_store.specs.declared.Config.{Config}
 use Rattle.block_store.specs.Heaps.{Heap, put_at}
 use Rattle.block_store.specs.Phases.{bit, cycle_of}
 use Rattle.block_store.specs.Places.{Phase, ColourOf, extent}
 use Rattle.block_store.specs.Widths.{payloads}
-use Rattle.heap_machine.specs.Operations.{place_of}
+use Rattle.heap_machine.specs.Operations.{place_of, heap_after}
 use Rattle.heap_machine.specs.declared.pass.Pass.{Pass}
 use Rattle.grey_steps.specs.Ends.{is_blackening}
 use Rattle.heap_system.specs.declared.local.Part.TheVariants.{Mark, Again}
 use Rattle.block_store.specs.Colours.{is_grey, grey_word, black_word, white_word}
 use Rattle.block_store.proofs.ColourWords.{not_grey_black, not_grey_white}
 use Rattle.grey_steps.specs.declared.rows.GreyRow.{GreyRow}
-use Rattle.grey_steps.proofs.Ends.{unit_grey}
+use Rattle.grey_steps.proofs.Ends.{unit_grey, unit_after, unit_once, over_holds_none}
 use Rattle.heap_system.specs.Units.{blackens}
-use Rattle.heap_system.specs.Locals.{turn_of, if_marked}
+use Rattle.heap_system.specs.Locals.{turn_of, if_marked, Open, makes_unit, finds_nothing, unit_to_come}
 use Rattle.heap_system.proofs.Pending.{pending_in, no_way}
 use Rattle.block_store.specs.Registers.{register_block, register_slot}
 use Rattle.shown_graph.specs.Words.{BlockWords}
-use Rattle.heap_system.proofs.Marks.{mark_words}
+use Rattle.heap_system.proofs.Marks.{mark_words, mark_phase, mark_solid}
+use Rattle.heap_system.proofs.Kept.{still, stays, Event, Seen, IsMark, MarkKept}
+use Rattle.shown_graph.specs.Events.{unloaded}
+use Rattle.heap_machine.specs.Counts.{changed}
+use Rattle.heap_machine.specs.Grey.{GreyKept}
+use Rattle.heap_machine.proofs.Held.{held_after}
+use Rattle.heap_machine.specs.Holdings.{grey_held}
+use Rattle.grey_steps.specs.Fits.{GreyFits, GreyReads}
+use Rattle.grey_steps.proofs.Marking.{keeps}
+use Rattle.heap_system.specs.Pictures.{gating}
 use Rattle.heap_system.specs.declared.Turn.TheVariants as turns
 use Rattle.grey_steps.specs.declared.rows.GreyRow.TheVariants as marks
 use Rattle.grey_steps.proofs.Ranges as ranges
@@ -77,6 +85,69 @@ marked_quiet c m q = by (grey_over m.row)
     by : (b : Bool) → pending_in c (cond b Again (Mark m)) q ≡ false
     by true = refl
     by false = refl
+
+-- the unit of a Mark pass is paid once
+units_paid : (c : Config) (m : GreyState) (w paid due : ℕ) → paid + bit (not (grey_unit m.row)) ≤ due → cond (is_blackening m.row) (paid + 1) paid + bit (not (grey_unit (grey_got (extent c) m w).row)) ≤ due
+units_paid c m w paid due low = by (grey_unit m.row) (grey_unit (grey_got (extent c) m w).row) (is_blackening m.row) low (unit_after (extent c) m w) (unit_once m)
+  where
+    by : (a b u : Bool) → paid + bit (not a) ≤ due → b ≡ (a || u) → (a ≡ true → u ≡ false) → cond u (paid + 1) paid + bit (not b) ≤ due
+    by true b true l e once = absurd (let z : true ≡ false = once refl in cc)
+    by true true false l e once = omega (arith, l)
+    by true false false l e once = absurd cc
+    by false true true l e once = omega (arith, l)
+    by false false true l e once = absurd cc
+    by false true false l e once = absurd cc
+    by false false false l e once = omega (arith, l)
+
+-- in a Mark pass
+module _ (c : Config) (s : Seen c) (m : GreyState) (is : s.loads s.thread ≡ unloaded) (stands : s.gatings s.thread ≡ gating c s.pass (Mark m)) (holds : s.holds s.thread ≡ grey_held (holding_at (extent c) m)) (kept : MarkKept s.thread s.pass m) (fits : GreyFits c m) (low : s.done < s.all) (pays : s.paid + unit_to_come c (Mark m) ≤ s.due) where
+  abbrev mark_word : ℕ
+  mark_word = s.heap (place_of (grey_want m))
+
+  pub mark_reads : GreyReads c m (s.heap (place_of (grey_want m)))
+  mark_reads = s.rules.held (place_of (grey_want m)) (ranges.place_fits c m fits)
+
+  mark_kept : GreyKept c.threads (heap_after s.heap (grey_want m)) (changed s.holds s.thread (grey_held (holding_at (extent c) (grey_got (extent c) m mark_word))))
+  mark_kept = subst (λ x. GreyKept c.threads (heap_after s.heap (grey_want m)) (changed s.holds x (grey_held (holding_at (extent c) (grey_got (extent c) m mark_word))))) kept.thread (keeps c s.heap s.holds m fits s.rules.grey (ap s.holds kept.thread ∙ holds))
+
+  pub mark_event : (b : Bool) → grey_over (grey_got (extent c) m mark_word).row ≡ b
+      → Event c s (heap_after s.heap (grey_want m)) None Open s.pass (cond b Again (Mark (grey_got (extent c) m mark_word))) None (makes_unit c (Mark m) mark_word) (finds_nothing c (Mark m) mark_word)
+  mark_event true e = record {
+    gate = stays c s (heap_after s.heap (grey_want m)) Again (Mark m) (mark_phase s.heap m.pass.thread m.pass.threads m.pass.cycle m.row) stands refl refl;
+    phase = subst (λ w. IsMark w) (sym (mark_phase s.heap m.pass.thread m.pass.threads m.pass.cycle m.row)) s.phase;
+    shown = still c s (heap_after s.heap (grey_want m)) Again (mark_words s.heap m.pass.thread m.pass.threads m.pass.cycle m.row) is refl;
+    part = tt;
+    fits = low;
+    over = λ r z. absurd cc;
+    told = refl;
+    rules = record {
+      grey = subst (λ x. GreyKept c.threads (heap_after s.heap (grey_want m)) (changed s.holds s.thread x)) (over_holds_none (payloads c.width) (grey_got (extent c) m mark_word).row e) mark_kept;
+      held = held_after c s.heap (grey_want m) (ranges.stores_held c m fits) s.rules.held;
+      taken = λ x some last. mark_solid s.heap m.pass.thread m.pass.threads m.pass.cycle m.row x (s.rules.taken x some last);
+    };
+    low = omega (arith, units_paid c m mark_word s.paid s.due pays);
+    settled = tt;
+    counted = refl;
+    lawful = tt;
+  }
+  mark_event false e = record {
+    gate = stays c s (heap_after s.heap (grey_want m)) (Mark (grey_got (extent c) m mark_word)) (Mark m) (mark_phase s.heap m.pass.thread m.pass.threads m.pass.cycle m.row) stands refl refl;
+    phase = subst (λ w. IsMark w) (sym (mark_phase s.heap m.pass.thread m.pass.threads m.pass.cycle m.row)) s.phase;
+    shown = still c s (heap_after s.heap (grey_want m)) (Mark (grey_got (extent c) m mark_word)) (mark_words s.heap m.pass.thread m.pass.threads m.pass.cycle m.row) is refl;
+    part = record { passes = kept.passes; thread = kept.thread };
+    fits = (ranges.next_fits c m mark_word fits mark_reads, low);
+    over = λ r z. absurd cc;
+    told = refl;
+    rules = record {
+      grey = mark_kept;
+      held = held_after c s.heap (grey_want m) (ranges.stores_held c m fits) s.rules.held;
+      taken = λ x some last. mark_solid s.heap m.pass.thread m.pass.threads m.pass.cycle m.row x (s.rules.taken x some last);
+    };
+    low = units_paid c m mark_word s.paid s.due pays;
+    settled = tt;
+    counted = refl;
+    lawful = tt;
+  }
 
 pub mark_laws : (c : Config) (m : GreyState) → PartLaws c (Mark m)
 mark_laws c m = record {

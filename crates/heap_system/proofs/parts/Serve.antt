@@ -1,12 +1,12 @@
 -- A thread in a command that allocates nothing.
-use Rattle.heap_system.proofs.Kept.{serve_event, opening_low}
+use Rattle.heap_system.proofs.Kept.{opening_low, stays, Event, holding_self, Seen, AreTaken, IsMark, RowKept, graph_decided, told_by, grey_of, IsLawful}
 use Rattle.heap_system.proofs.PartLaws.{PartLaws, Found}
 use Rattle.barrier_steps.specs.Rows.{step_of, FieldState, field_want, field_got, field_reply, row_want, row_got, after_object, after_shape, after_said, at_block, on_way, payload_in, shape_in, way_from, way_on}
-use Rattle.heap_system.proofs.Moves.{field_reads}
-use Rattle.std.proofs.Common.{◌≡◌, ℕ, ◌+◌, true, false, Option, Some, None, refl, sym, ◌∙◌, subst, arith, ◌<◌, Bool, ltb, ne_eqb, ◌⊎◌, inl, inr, ⊎_elim, ap}
+use Rattle.heap_system.proofs.Moves.{field_reads, state, graph_after, FieldStep, field_moves, undecided}
+use Rattle.std.proofs.Common.{◌≡◌, ℕ, ◌+◌, true, false, Option, Some, None, refl, sym, ◌∙◌, subst, arith, ◌<◌, Bool, ltb, ne_eqb, ◌⊎◌, inl, inr, ⊎_elim, ap, cond, append-nil, [], ◌∷◌, ◌++◌}
 use Rattle.block_store.specs.declared.Config.{Config}
 use Rattle.block_store.specs.Heaps.{Heap, put_at}
-use Rattle.block_store.specs.Places.{extent, PayloadOf}
+use Rattle.block_store.specs.Places.{extent, PayloadOf, Phase, ColourOf}
 use Rattle.never_heap.specs.declared.Command.{Command}
 use Rattle.never_heap.specs.declared.Reply.{Reply}
 use Rattle.never_heap.specs.Graphs.{Graph, start_graph, register_of, object_of}
@@ -16,9 +16,9 @@ use Rattle.array_trees.specs.Openings.{opening_blocks}
 use Rattle.heap_machine.specs.Operations.{place_of, heap_after}
 use Rattle.barrier_steps.specs.declared.rows.FieldRow.{FieldRow}
 use Rattle.barrier_steps.specs.Replies.{due_at, reply_due, IsKnown, KnownAt}
-use Rattle.barrier_steps.proofs.FieldRows.{field_sum, field_place}
-use Rattle.heap_system.specs.declared.local.Part.TheVariants.{Serve}
-use Rattle.heap_system.specs.Locals.{paid_got, waived_got, entries_of, works, turn_of, if_replied, if_decides}
+use Rattle.barrier_steps.proofs.FieldRows.{field_sum, field_place, field_fits, stores_held}
+use Rattle.heap_system.specs.declared.local.Part.TheVariants.{Serve, Leave}
+use Rattle.heap_system.specs.Locals.{paid_got, waived_got, entries_of, works, turn_of, if_replied, if_decides, entry_of}
 use Rattle.barrier_steps.specs.Operands.{to_register, from_register, field_index}
 use Rattle.heap_system.specs.Units.{blackens}
 use Rattle.heap_system.proofs.Pending.{pending_in, pending_at, Pending, no_way}
@@ -31,15 +31,23 @@ use Rattle.block_store.specs.Registers.{register_block, register_slot}
 use Rattle.block_store.specs.Payloads.{target}
 use Rattle.barrier_steps.specs.Deciding.{is_deciding}
 use Rattle.shown_graph.specs.Words.{BlockWords, block_words}
-use Rattle.shown_graph.specs.Events.{ObjectLoad, ObjectIs, LoadIs, object_in, pending_registers}
+use Rattle.shown_graph.specs.Events.{ObjectLoad, ObjectIs, LoadIs, object_in, pending_registers, Loading, unloaded, with_load, Follows}
 use Rattle.block_store.proofs.Registers.{register_low, own_array}
 use Rattle.shown_graph.proofs.Stores.{register_apart}
 use Rattle.barrier_steps.specs.declared.rows.Way.{Way}
-use Rattle.barrier_steps.specs.Fits.{FitsAt, FieldFits}
+use Rattle.barrier_steps.specs.Fits.{FitsAt, FieldFits, FieldReads}
 use Rattle.barrier_steps.proofs.Named.{to_low}
 use Rattle.barrier_steps.specs.Walks.{links_to, shape_length}
 use Rattle.barrier_steps.specs.Projection.{row_loading, loading_of, object_on}
-use Rattle.block_store.specs.Widths.{payloads}
+use Rattle.block_store.specs.Colours.{is_free}
+use Rattle.never_heap.specs.Steps.{step}
+use Rattle.heap_machine.specs.Counts.{changed}
+use Rattle.heap_machine.specs.Grey.{no_grey, GreyKept, is_of_grey}
+use Rattle.heap_machine.proofs.GreyBlocks.{kept_other}
+use Rattle.heap_machine.proofs.Held.{held_after}
+use Rattle.barrier_steps.proofs.Dues.{none_due}
+use Rattle.heap_system.specs.declared.local.Part.{Part}
+use Rattle.heap_system.specs.Pictures.{gating}
 use Rattle.heap_system.specs.declared.Turn.TheVariants as turns
 use Rattle.barrier_steps.specs.declared.rows.FieldRow.TheVariants as rows
 use Rattle.barrier_steps.specs.Rows as fields
@@ -195,6 +203,190 @@ module _ (c : Config) (g : Graph) (m : ℕ) (K : Name → Type 0) (at : Name →
   field_frame : (f : FieldState) → f.pass.thread ≡ t → FieldFits c f → LoadIs c.width g at t (loading_of (extent c) f) → heap_after h (field_want (extent c) f) (PayloadOf (register_block c.width u q) (register_slot c.width q)) ≡ h (PayloadOf (register_block c.width u q) (register_slot c.width q))
   field_frame f e fits loads =
       ap (λ s. heap_after h (row_want (extent c) s f.command f.row) (PayloadOf (register_block c.width u q) (register_slot c.width q))) e ∙ row_frame f.command f.row (subst (λ s. FitsAt c s f.command f.row) e fits) loads
+
+-- a row of a command leaves the phase word
+row_phase : (c : Config) (h : Heap) (t : ℕ) (k : Command) (r : FieldRow) → heap_after h (row_want (extent c) t k r) Phase ≡ h Phase
+row_phase c h t k rows.StoreNumber = refl
+row_phase c h t k rows.StoreNil = refl
+row_phase c h t k rows.LoadMoved = refl
+row_phase c h t k (rows.StoreMoved word) = refl
+row_phase c h t k rows.LoadObject = refl
+row_phase c h t k (rows.LoadShape x) = refl
+row_phase c h t k (rows.LoadValue way) = refl
+row_phase c h t k (rows.LoadLink way word) = refl
+row_phase c h t k (rows.LoadField way) = refl
+row_phase c h t k (rows.LoadOwner word) = refl
+row_phase c h t k (rows.StorePending word value) = refl
+row_phase c h t k (rows.StoreField way word) = refl
+row_phase c h t k rows.LoadFirst = refl
+row_phase c h t k (rows.LoadSecond word) = refl
+row_phase c h t k rows.LoadSaid = refl
+row_phase c h t k (rows.LoadSaidOwner word) = refl
+row_phase c h t k (rows.Answered reply) = refl
+
+pub field_phase : (c : Config) (h : Heap) (f : FieldState) → heap_after h (field_want (extent c) f) Phase ≡ h Phase
+field_phase c h f = row_phase c h f.pass.thread f.command f.row
+
+-- a command that allocates nothing writes no colour and no grey list
+row_colour : (c : Config) (h : Heap) (t : ℕ) (k : Command) (r : FieldRow) (y : ℕ) → heap_after h (row_want (extent c) t k r) (ColourOf y) ≡ h (ColourOf y)
+row_colour c h t k rows.StoreNumber y = refl
+row_colour c h t k rows.StoreNil y = refl
+row_colour c h t k rows.LoadMoved y = refl
+row_colour c h t k (rows.StoreMoved word) y = refl
+row_colour c h t k rows.LoadObject y = refl
+row_colour c h t k (rows.LoadShape x) y = refl
+row_colour c h t k (rows.LoadValue way) y = refl
+row_colour c h t k (rows.LoadLink way word) y = refl
+row_colour c h t k (rows.LoadField way) y = refl
+row_colour c h t k (rows.LoadOwner word) y = refl
+row_colour c h t k (rows.StorePending word value) y = refl
+row_colour c h t k (rows.StoreField way word) y = refl
+row_colour c h t k rows.LoadFirst y = refl
+row_colour c h t k (rows.LoadSecond word) y = refl
+row_colour c h t k rows.LoadSaid y = refl
+row_colour c h t k (rows.LoadSaidOwner word) y = refl
+row_colour c h t k (rows.Answered reply) y = refl
+
+pub field_colour : (c : Config) (h : Heap) (f : FieldState) (y : ℕ) → heap_after h (field_want (extent c) f) (ColourOf y) ≡ h (ColourOf y)
+field_colour c h f y = row_colour c h f.pass.thread f.command f.row y
+
+row_other : (c : Config) (t : ℕ) (k : Command) (r : FieldRow) → is_of_grey (place_of (row_want (extent c) t k r)) ≡ false
+row_other c t k rows.StoreNumber = refl
+row_other c t k rows.StoreNil = refl
+row_other c t k rows.LoadMoved = refl
+row_other c t k (rows.StoreMoved word) = refl
+row_other c t k rows.LoadObject = refl
+row_other c t k (rows.LoadShape x) = refl
+row_other c t k (rows.LoadValue way) = refl
+row_other c t k (rows.LoadLink way word) = refl
+row_other c t k (rows.LoadField way) = refl
+row_other c t k (rows.LoadOwner word) = refl
+row_other c t k (rows.StorePending word value) = refl
+row_other c t k (rows.StoreField way word) = refl
+row_other c t k rows.LoadFirst = refl
+row_other c t k (rows.LoadSecond word) = refl
+row_other c t k rows.LoadSaid = refl
+row_other c t k (rows.LoadSaidOwner word) = refl
+row_other c t k (rows.Answered reply) = refl
+
+field_other : (c : Config) (f : FieldState) → is_of_grey (place_of (field_want (extent c) f)) ≡ false
+field_other c f = row_other c f.pass.thread f.command f.row
+
+-- a reply that is there is the one that was decided
+row_waits : (g : Graph) (t : ℕ) (k : Command) (r : FieldRow) (y : Reply) → field_reply r ≡ Some y → due_at g t k r ≡ Some y
+row_waits g t k (rows.Answered reply) y e = e
+row_waits g t k _ y e = absurd cc
+
+reply_waits : (g : Graph) (f : FieldState) (y : Reply) → field_reply f.row ≡ Some y → reply_due g f ≡ Some y
+reply_waits g f y e = row_waits g f.pass.thread f.command f.row y e
+
+-- and a row with a reply has nothing loaded
+row_unloads : (c : Config) (k : Command) (r : FieldRow) (y : Reply) → field_reply r ≡ Some y → row_loading (extent c) k r ≡ unloaded
+row_unloads c k (rows.Answered reply) y e = refl
+row_unloads c k _ y e = absurd cc
+
+reply_unloads : (c : Config) (f : FieldState) (y : Reply) → field_reply f.row ≡ Some y → loading_of (extent c) f ≡ unloaded
+reply_unloads c f y e = row_unloads c f.command f.row y e
+
+-- what is decided is told once
+tell : (t : ℕ) (k : Command) (paid : ℕ) (before : Option Reply) (b : Bool) (r : Reply) → (b ≡ true → before ≡ None) → entries_of t k paid before ++ cond b (entry_of t k paid r ∷ []) [] ≡ entries_of t k paid (cond b (Some r) before)
+tell t k paid before true r none = ap (λ o. entries_of t k paid o ++ entry_of t k paid r ∷ []) (none refl)
+tell t k paid before false r none = append-nil (entries_of t k paid before)
+
+-- a command that allocates nothing is decided as its step, with no work
+step_graph : (g : Graph) (t : ℕ) (k : Command) (b : Bool) → graph_decided g t k (if_decides b) ≡ graph_after g t k b
+step_graph g t k true = refl
+step_graph g t k false = refl
+
+step_told : (g : Graph) (t : ℕ) (k : Command) (paid : ℕ) (b : Bool) → told_by g t k paid (if_decides b) ≡ cond b (entry_of t k paid (step g t k).1 ∷ []) []
+step_told g t k paid true = refl
+step_told g t k paid false = refl
+
+step_lawful : (k : Command) (b : Bool) → IsLawful k (if_decides b)
+step_lawful k true = tt
+step_lawful k false = tt
+
+no_works : (t : ℕ) (k : Command) (paid : ℕ) (r : Reply) (b : Bool) → paid ≡ 0 → works (cond b (entry_of t k paid r ∷ []) []) ≡ 0
+no_works t k paid r true z = omega (arith, z)
+no_works t k paid r false z = refl
+
+no_work : (t : ℕ) (k : Command) (paid : ℕ) (o : Option Reply) → paid ≡ 0 → works (entries_of t k paid o) ≡ 0
+no_work t k paid None z = refl
+no_work t k paid (Some r) z = omega (arith, z)
+
+-- in a command
+module _ (c : Config) (s : Seen c) (f : FieldState) (is : s.loads s.thread ≡ loading_of (extent c) f) (stands : s.gatings s.thread ≡ gating c s.pass (Serve f)) (empty : s.holds s.thread ≡ no_grey) (kept : RowKept s.graph s.thread s.pass s.command f) (fits : FieldFits c f) (low : s.done < s.all) (unpaid : s.paid ≡ 0) where
+  pub reads : FieldReads c f (s.heap (place_of (field_want (extent c) f)))
+  reads = field_reads c s.bounds (opening_blocks c) (opening_low c s.plan) (every_name (start_graph c)) (opening_at c.width c.threads) s.graph s.heap s.loads s.shown s.thread f fits kept.thread is kept.going
+
+  moves : FieldStep c (opening_blocks c) (every_name (start_graph c)) (opening_at c.width c.threads) s.graph (heap_after s.heap (field_want (extent c) f)) s.loads s.thread s.command (reply_due s.graph f) (is_deciding f.command f.row (s.heap (place_of (field_want (extent c) f)))) (field_got (extent c) f (s.heap (place_of (field_want (extent c) f))))
+  moves = field_moves c s.bounds (opening_blocks c) (opening_low c s.plan) (every_name (start_graph c)) (opening_at c.width c.threads) s.graph s.heap s.loads s.shown s.thread s.command f fits kept.thread kept.command is kept.going kept.known
+
+  abbrev row_decides : Bool
+  row_decides = is_deciding f.command f.row (s.heap (place_of (field_want (extent c) f)))
+
+  graph_is : graph_decided s.graph s.thread s.command (if_decides row_decides) ≡ graph_after s.graph s.thread s.command row_decides
+  graph_is = step_graph s.graph s.thread s.command row_decides
+
+  told_is : entries_of s.thread s.command s.paid (reply_due s.graph f) ++ told_by s.graph s.thread s.command s.paid (if_decides row_decides)
+      ≡ entries_of s.thread s.command s.paid (reply_due (graph_decided s.graph s.thread s.command (if_decides row_decides)) (field_got (extent c) f (s.heap (place_of (field_want (extent c) f)))))
+  told_is =
+      ap (λ x. entries_of s.thread s.command s.paid (reply_due s.graph f) ++ x) (step_told s.graph s.thread s.command s.paid row_decides)
+      ∙ tell s.thread s.command s.paid (reply_due s.graph f) row_decides (step s.graph s.thread s.command).1 (λ e. (none_due s.graph f.pass.thread f.command f.row (undecided f.command f.row (s.heap (place_of (field_want (extent c) f))) e)).0) ∙ ap (entries_of s.thread s.command s.paid) (sym moves.reply)
+      ∙ sym (ap (λ x. entries_of s.thread s.command s.paid (reply_due x (field_got (extent c) f (s.heap (place_of (field_want (extent c) f)))))) graph_is)
+
+  row_grey : (p : Part) → grey_of c p ≡ no_grey → GreyKept c.threads (heap_after s.heap (field_want (extent c) f)) (changed s.holds s.thread (grey_of c p))
+  row_grey p e = subst (λ x. GreyKept c.threads (heap_after s.heap (field_want (extent c) f)) x) (sym (ap (changed s.holds s.thread) e ∙ holding_self s.holds s.thread no_grey empty)) (kept_other c.threads s.heap s.holds (field_want (extent c) f) (field_other c f) s.rules.grey)
+
+  row_taken : AreTaken c (heap_after s.heap (field_want (extent c) f))
+  row_taken x some last = ap is_free (field_colour c s.heap f x) ∙ s.rules.taken x some last
+
+  row_shown : (l : Loading) → loading_of (extent c) (field_got (extent c) f (s.heap (place_of (field_want (extent c) f)))) ≡ l
+      → Follows c.width c.threads (opening_blocks c) (every_name (start_graph c)) (opening_at c.width c.threads) (state (graph_decided s.graph s.thread s.command (if_decides row_decides)) (heap_after s.heap (field_want (extent c) f)) (with_load s.loads s.thread l))
+  row_shown l e = subst (λ x. Follows c.width c.threads (opening_blocks c) (every_name (start_graph c)) (opening_at c.width c.threads) (state x (heap_after s.heap (field_want (extent c) f)) (with_load s.loads s.thread l))) (sym graph_is)
+      (subst (λ x. Follows c.width c.threads (opening_blocks c) (every_name (start_graph c)) (opening_at c.width c.threads) (state (graph_after s.graph s.thread s.command row_decides) (heap_after s.heap (field_want (extent c) f)) (with_load s.loads s.thread x))) e moves.follows)
+
+  counted_is : (o : Option Reply) → works (told_by s.graph s.thread s.command s.paid (if_decides row_decides)) ≡ works (entries_of s.thread s.command s.paid o)
+  counted_is o = ap works (step_told s.graph s.thread s.command s.paid row_decides) ∙ no_works s.thread s.command s.paid (step s.graph s.thread s.command).1 row_decides unpaid ∙ sym (no_work s.thread s.command s.paid o unpaid)
+
+  pub serve_event : (o : Option Reply) → field_reply (field_got (extent c) f (s.heap (place_of (field_want (extent c) f)))).row ≡ o
+      → Event c s (heap_after s.heap (field_want (extent c) f)) (reply_due s.graph f) (if_decides row_decides) s.pass (if_replied o (field_got (extent c) f (s.heap (place_of (field_want (extent c) f))))) o false false
+  serve_event None e = record {
+    gate = stays c s (heap_after s.heap (field_want (extent c) f)) (Serve (field_got (extent c) f (s.heap (place_of (field_want (extent c) f))))) (Serve f) (field_phase c s.heap f) stands refl refl;
+    phase = subst (λ w. IsMark w) (sym (field_phase c s.heap f)) s.phase;
+    shown = row_shown (loading_of (extent c) (field_got (extent c) f (s.heap (place_of (field_want (extent c) f))))) refl;
+    part = record { serves = kept.serves; passes = kept.passes; thread = kept.thread; command = kept.command; known = subst (λ x. IsKnown x (field_got (extent c) f (s.heap (place_of (field_want (extent c) f))))) (sym graph_is) moves.known; going = e };
+    fits = (field_fits c f (s.heap (place_of (field_want (extent c) f))) fits reads, low);
+    over = λ r z. absurd cc;
+    told = told_is;
+    rules = record {
+      grey = row_grey (Serve (field_got (extent c) f (s.heap (place_of (field_want (extent c) f))))) refl;
+      held = held_after c s.heap (field_want (extent c) f) (stores_held c f fits) s.rules.held;
+      taken = row_taken;
+    };
+    low = omega (arith, unpaid);
+    settled = tt;
+    counted = counted_is None;
+    lawful = step_lawful s.command row_decides;
+  }
+  serve_event (Some r) e = record {
+    gate = stays c s (heap_after s.heap (field_want (extent c) f)) Leave (Serve f) (field_phase c s.heap f) stands refl refl;
+    phase = subst (λ w. IsMark w) (sym (field_phase c s.heap f)) s.phase;
+    shown = row_shown unloaded (reply_unloads c (field_got (extent c) f (s.heap (place_of (field_want (extent c) f)))) r e);
+    part = tt;
+    fits = tt;
+    over = λ r z. refl;
+    told = told_is ∙ ap (entries_of s.thread s.command s.paid) (reply_waits (graph_decided s.graph s.thread s.command (if_decides row_decides)) (field_got (extent c) f (s.heap (place_of (field_want (extent c) f)))) r e);
+    rules = record {
+      grey = row_grey Leave refl;
+      held = held_after c s.heap (field_want (extent c) f) (stores_held c f fits) s.rules.held;
+      taken = row_taken;
+    };
+    low = omega arith;
+    settled = (refl, refl);
+    counted = counted_is (Some r);
+    lawful = step_lawful s.command row_decides;
+  }
 
 pub serve_laws : (c : Config) (f : FieldState) → PartLaws c (Serve f)
 serve_laws c f = record {
