@@ -223,99 +223,36 @@ pub record Seen (c : Config) : Type 0 where
   pub rules : Rules c heap holds
 
 module _ (c : Config) (s : Seen c) where
-  abbrev g : Graph
-  g = s.graph
-
-  abbrev h : Heap
-  h = s.heap
-
-  abbrev gs : ℕ → Gating
-  gs = s.gatings
-
-  abbrev ls : ℕ → Loading
-  ls = s.loads
-
-  abbrev hs : ℕ → GreyHolding
-  hs = s.holds
-
-  abbrev t : ℕ
-  t = s.thread
-
-  abbrev pass : Pass
-  pass = s.pass
-
-  abbrev k : Command
-  k = s.command
-
-  abbrev done : ℕ
-  done = s.done
-
-  abbrev all : ℕ
-  all = s.all
-
-  abbrev due : ℕ
-  due = s.due
-
-  abbrev paid : ℕ
-  paid = s.paid
-
-  abbrev waived : Bool
-  waived = s.waived
-
-  abbrev bounds : IsInBounds c
-  bounds = s.bounds
-
-  abbrev plan : IsAdmitted c
-  plan = s.plan
-
-  abbrev tl : s.thread < c.threads
-  tl = s.low
-
-  abbrev inside : IsCommandInBounds c s.command
-  inside = s.inside
-
-  abbrev gate : GateOf c.threads (s.heap Phase) s.gatings
-  gate = s.gate
-
-  abbrev phase : IsMark (s.heap Phase)
-  phase = s.phase
-
-  abbrev shown : Follows c.width c.threads (opening_blocks c) (every_name (start_graph c)) (opening_at c.width c.threads) (state s.graph s.heap s.loads)
-  shown = s.shown
-
-  abbrev rules : Rules c s.heap s.holds
-  rules = s.rules
-
-  pub phase_is : IsPhaseWord (h Phase)
-  phase_is = phase_word c.threads (h Phase) gs bounds.threads gate phase
+  pub phase_is : IsPhaseWord (s.heap Phase)
+  phase_is = phase_word c.threads (s.heap Phase) s.gatings s.bounds.threads s.gate s.phase
 
   abbrev pub Event : Heap → Option Reply → Verdict → Pass → Part → Option Reply → Bool → Bool → Type 0
-  Event new before b q p reply unit nothing = EventKept c g new gs ls hs t k done all due paid waived before b q p reply unit nothing
+  Event new before b q p reply unit nothing = EventKept c s.graph new s.gatings s.loads s.holds s.thread s.command s.done s.all s.due s.paid s.waived before b q p reply unit nothing
 
   abbrev more : Bool
-  more = not waived && ltb paid due
+  more = not s.waived && ltb s.paid s.due
 
   -- an event that leaves the graph and what was loaded, where nothing is
-  pub still : (new : Heap) (p : Part) → block_words new ≡ block_words h → ls t ≡ unloaded → loading c p ≡ unloaded → Follows c.width c.threads (opening_blocks c) (every_name (start_graph c)) (opening_at c.width c.threads) (state g new (with_load ls t (loading c p)))
+  pub still : (new : Heap) (p : Part) → block_words new ≡ block_words s.heap → s.loads s.thread ≡ unloaded → loading c p ≡ unloaded → Follows c.width c.threads (opening_blocks c) (every_name (start_graph c)) (opening_at c.width c.threads) (state s.graph new (with_load s.loads s.thread (loading c p)))
   still new p words is e =
-      subst (λ s. Follows c.width c.threads (opening_blocks c) (every_name (start_graph c)) (opening_at c.width c.threads) s)
-      (ap (λ w. record { graph = g; words = w; loads = ls }) (sym words) ∙ ap (λ l. state g new l) (sym (ap (λ l. with_load ls t l) e ∙ load_self ls t unloaded is))) shown
+      subst (λ x. Follows c.width c.threads (opening_blocks c) (every_name (start_graph c)) (opening_at c.width c.threads) x)
+      (ap (λ w. record { graph = s.graph; words = w; loads = s.loads }) (sym words) ∙ ap (λ l. state s.graph new l) (sym (ap (λ l. with_load s.loads s.thread l) e ∙ load_self s.loads s.thread unloaded is))) s.shown
 
   -- an event at the gate
-  pub gate_event : (v : ℕ) (q : Pass) (p : Part) → GateOf c.threads v (changed gs t (gating c q p)) → IsMark v → ls t ≡ unloaded → loading c p ≡ unloaded → hs t ≡ no_grey → grey_of c p ≡ no_grey → waiting g p ≡ None
-      → PartKept g t q k p → PartFits c done all p → paid + unit_to_come c p ≤ due → IsSettled due paid waived p → Event (put_at h Phase v) None Open q p None false false
+  pub gate_event : (v : ℕ) (q : Pass) (p : Part) → GateOf c.threads v (changed s.gatings s.thread (gating c q p)) → IsMark v → s.loads s.thread ≡ unloaded → loading c p ≡ unloaded → s.holds s.thread ≡ no_grey → grey_of c p ≡ no_grey → waiting s.graph p ≡ None
+      → PartKept s.graph s.thread q s.command p → PartFits c s.done s.all p → s.paid + unit_to_come c p ≤ s.due → IsSettled s.due s.paid s.waived p → Event (put_at s.heap Phase v) None Open q p None false false
   gate_event v q p new mark is unl empty holds waits kept fits low settled = record {
     gate = new;
     phase = mark;
-    shown = still (put_at h Phase v) p refl is unl;
+    shown = still (put_at s.heap Phase v) p refl is unl;
     part = kept;
     fits = fits;
     over = λ r e. absurd cc;
-    told = sym (ap (entries_of t k paid) waits);
+    told = sym (ap (entries_of s.thread s.command s.paid) waits);
     rules = record {
-      grey = subst (λ x. GreyKept c.threads (put_at h Phase v) x) (sym (ap (changed hs t) holds ∙ holding_self hs t no_grey empty)) rules.grey;
-      held = held_put c h Phase v (phase_word c.threads v (changed gs t (gating c q p)) bounds.threads new mark) rules.held;
-      taken = rules.taken;
+      grey = subst (λ x. GreyKept c.threads (put_at s.heap Phase v) x) (sym (ap (changed s.holds s.thread) holds ∙ holding_self s.holds s.thread no_grey empty)) s.rules.grey;
+      held = held_put c s.heap Phase v (phase_word c.threads v (changed s.gatings s.thread (gating c q p)) s.bounds.threads new mark) s.rules.held;
+      taken = s.rules.taken;
     };
     low = low;
     settled = settled;
@@ -324,20 +261,20 @@ module _ (c : Config) (s : Seen c) where
   }
 
   -- and one that only looks
-  pub look_at : (p : Part) → GateOf c.threads (h Phase) (changed gs t (gating c pass p)) → ls t ≡ unloaded → loading c p ≡ unloaded → hs t ≡ no_grey → grey_of c p ≡ no_grey → waiting g p ≡ None
-      → PartKept g t pass k p → PartFits c done all p → paid + unit_to_come c p ≤ due → IsSettled due paid waived p → Event h None Open pass p None false false
+  pub look_at : (p : Part) → GateOf c.threads (s.heap Phase) (changed s.gatings s.thread (gating c s.pass p)) → s.loads s.thread ≡ unloaded → loading c p ≡ unloaded → s.holds s.thread ≡ no_grey → grey_of c p ≡ no_grey → waiting s.graph p ≡ None
+      → PartKept s.graph s.thread s.pass s.command p → PartFits c s.done s.all p → s.paid + unit_to_come c p ≤ s.due → IsSettled s.due s.paid s.waived p → Event s.heap None Open s.pass p None false false
   look_at p new is unl empty holds waits kept fits low settled = record {
     gate = new;
-    phase = phase;
-    shown = still h p refl is unl;
+    phase = s.phase;
+    shown = still s.heap p refl is unl;
     part = kept;
     fits = fits;
     over = λ r e. absurd cc;
-    told = sym (ap (entries_of t k paid) waits);
+    told = sym (ap (entries_of s.thread s.command s.paid) waits);
     rules = record {
-      grey = subst (λ x. GreyKept c.threads h x) (sym (ap (changed hs t) holds ∙ holding_self hs t no_grey empty)) rules.grey;
-      held = rules.held;
-      taken = rules.taken;
+      grey = subst (λ x. GreyKept c.threads s.heap x) (sym (ap (changed s.holds s.thread) holds ∙ holding_self s.holds s.thread no_grey empty)) s.rules.grey;
+      held = s.rules.held;
+      taken = s.rules.taken;
     };
     low = low;
     settled = settled;
@@ -346,25 +283,25 @@ module _ (c : Config) (s : Seen c) where
   }
 
   -- on the way in
-  pub look_event : (gs t).stand ≡ Outside → ls t ≡ unloaded → hs t ≡ no_grey → done < all → paid ≤ due → Event h None Open (pass_got (gate_entered (gate_got gates.Look (h Phase))) t c.threads pass) (if_entered (gate_entered (gate_got gates.Look (h Phase))) t c.threads k more (gate_got gates.Look (h Phase))) None false false
-  look_event out is empty low pays = rw phase.opened (look_at (Enter (gates.Enter (h Phase))) (gate_stays c.threads (h Phase) gs gate t tl _ (sym out) (λ e. absurd cc)) is refl empty refl refl tt (record { word = phase_is; opened = phase.opened }, refl, low) (omega (arith, pays)) tt)
+  pub look_event : (s.gatings s.thread).stand ≡ Outside → s.loads s.thread ≡ unloaded → s.holds s.thread ≡ no_grey → s.done < s.all → s.paid ≤ s.due → Event s.heap None Open (pass_got (gate_entered (gate_got gates.Look (s.heap Phase))) s.thread c.threads s.pass) (if_entered (gate_entered (gate_got gates.Look (s.heap Phase))) s.thread c.threads s.command more (gate_got gates.Look (s.heap Phase))) None false false
+  look_event out is empty low pays = rw s.phase.opened (look_at (Enter (gates.Enter (s.heap Phase))) (gate_stays c.threads (s.heap Phase) s.gatings s.gate s.thread s.low _ (sym out) (λ e. absurd cc)) is refl empty refl refl tt (record { word = phase_is; opened = s.phase.opened }, refl, low) (omega (arith, pays)) tt)
 
   -- on the way out, at rest or to come in again
-  pub leave_event : (p : Part) → (gs t).stand ≡ Inside → gating c pass p ≡ gating c pass Rest → ls t ≡ unloaded → loading c p ≡ unloaded → hs t ≡ no_grey → grey_of c p ≡ no_grey → waiting g p ≡ None
-      → PartKept g t pass k p → PartFits c done all p → paid + unit_to_come c p ≤ due → IsSettled due paid waived p → Event (heap_after h (gate_want gates.Leave)) None Open pass p None false false
+  pub leave_event : (p : Part) → (s.gatings s.thread).stand ≡ Inside → gating c s.pass p ≡ gating c s.pass Rest → s.loads s.thread ≡ unloaded → loading c p ≡ unloaded → s.holds s.thread ≡ no_grey → grey_of c p ≡ no_grey → waiting s.graph p ≡ None
+      → PartKept s.graph s.thread s.pass s.command p → PartFits c s.done s.all p → s.paid + unit_to_come c p ≤ s.due → IsSettled s.due s.paid s.waived p → Event (heap_after s.heap (gate_want gates.Leave)) None Open s.pass p None false false
   leave_event p is out unl loads empty holds waits kept fits low settled =
-      let some : 1 ≤ inside_of (h Phase) = inside_some c.threads (h Phase) gs gate t tl is in
-      let less = phase-less (h Phase) some in
-      gate_event (h Phase - 1) pass p
-      (subst (λ x. GateOf c.threads (h Phase - 1) (changed gs t x)) (sym out) (gate_leaves c.threads (h Phase) gs gate t tl (gating c pass Rest) is refl))
-      (mark_moves (h Phase - 1) (h Phase) (ap (λ (p : PhaseWord). p.closed) less) (ap (λ (p : PhaseWord). p.cycle) less) (ap (λ (p : PhaseWord). p.sweep) less) phase)
+      let some : 1 ≤ inside_of (s.heap Phase) = inside_some c.threads (s.heap Phase) s.gatings s.gate s.thread s.low is in
+      let less = phase-less (s.heap Phase) some in
+      gate_event (s.heap Phase - 1) s.pass p
+      (subst (λ x. GateOf c.threads (s.heap Phase - 1) (changed s.gatings s.thread x)) (sym out) (gate_leaves c.threads (s.heap Phase) s.gatings s.gate s.thread s.low (gating c s.pass Rest) is refl))
+      (mark_moves (s.heap Phase - 1) (s.heap Phase) (ap (λ (p : PhaseWord). p.closed) less) (ap (λ (p : PhaseWord). p.cycle) less) (ap (λ (p : PhaseWord). p.sweep) less) s.phase)
       unl loads empty holds waits kept fits low settled
 
   -- inside, where the phase word stays
-  pub stays : (new : Heap) (p q : Part) → new Phase ≡ h Phase → gs t ≡ gating c pass q → stand_of c q ≡ Inside → stand_of c p ≡ Inside → GateOf c.threads (new Phase) (changed gs t (gating c pass p))
-  stays new p q same stands from to = subst (λ w. GateOf c.threads w (changed gs t (gating c pass p))) (sym same)
-      (gate_stays c.threads (h Phase) gs gate t tl (gating c pass p) (to ∙ sym (ap (λ (x : Gating). x.stand) stands ∙ from)) (λ _. (sym (ap (λ (x : Gating). x.cycle) stands), sym (ap (λ (x : Gating). x.sweep) stands))))
+  pub stays : (new : Heap) (p q : Part) → new Phase ≡ s.heap Phase → s.gatings s.thread ≡ gating c s.pass q → stand_of c q ≡ Inside → stand_of c p ≡ Inside → GateOf c.threads (new Phase) (changed s.gatings s.thread (gating c s.pass p))
+  stays new p q same stands from to = subst (λ w. GateOf c.threads w (changed s.gatings s.thread (gating c s.pass p))) (sym same)
+      (gate_stays c.threads (s.heap Phase) s.gatings s.gate s.thread s.low (gating c s.pass p) (to ∙ sym (ap (λ (x : Gating). x.stand) stands ∙ from)) (λ _. (sym (ap (λ (x : Gating). x.cycle) stands), sym (ap (λ (x : Gating). x.sweep) stands))))
 
   -- the phase word is that of cycle 1
-  pub began : 1 ≤ cycle_of (h Phase)
-  began = omega (arith, phase.cycle)
+  pub began : 1 ≤ cycle_of (s.heap Phase)
+  began = omega (arith, s.phase.cycle)
