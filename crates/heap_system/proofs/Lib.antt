@@ -5,6 +5,10 @@ pub mod Marks
 pub mod Grounds
 pub mod Moves
 pub mod Kept
+pub mod Pending
+pub mod PartLaws
+pub mod parts
+pub mod LawsOf
 pub mod Turning
 pub mod Always
 pub mod Reached

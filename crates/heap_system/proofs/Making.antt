@@ -1,135 +1,27 @@
 -- The units that a thread has made are the turns at which it made a grey block black.
-use Rattle.std.proofs.Common.{◌≡◌, ℕ, ◌+◌, ◌<◌, Bool, true, false, ◌&&◌, cond, eqb, eqb-true, eq-eqb, ne_eqb, lt-ltb, le-ltb, Option, Some, None, List, [], ◌∷◌, ◌++◌, append-nil, refl, sym, ap, ◌∙◌, subst, arith, inl, inr}
+use Rattle.std.proofs.Common.{◌≡◌, ℕ, ◌+◌, ◌<◌, Bool, true, false, cond, eqb, eq-eqb, ne_eqb, lt-ltb, le-ltb, List, [], ◌∷◌, ◌++◌, append-nil, refl, sym, ap, ◌∙◌, subst, arith, inl, inr}
 use Rattle.std.proofs.lemmas.Bool.{cases_Bool, cases_eq, cases_lt}
 use Rattle.block_store.specs.declared.Config.{Config}
-use Rattle.block_store.specs.Colours.{is_grey, grey_word, black_word, white_word}
-use Rattle.block_store.specs.Heaps.{Heap, put_at}
-use Rattle.block_store.specs.Phases.{bit, cycle_of}
-use Rattle.block_store.specs.Widths.{payloads}
-use Rattle.block_store.specs.Places.{extent, Phase, ColourOf}
-use Rattle.block_store.proofs.ColourWords.{not_grey_black, not_grey_white}
+use Rattle.block_store.specs.Phases.{bit}
 use Rattle.never_heap.specs.declared.Command.{Command}
-use Rattle.never_heap.specs.declared.Reply.{Reply}
 use Rattle.never_heap.specs.Histories.{part, replay}
-use Rattle.heap_machine.specs.Gates.{gate_want}
-use Rattle.heap_machine.specs.Gating.{is_outside}
-use Rattle.heap_machine.specs.Grey.{GreyHolding, GreyKept}
-use Rattle.heap_machine.specs.declared.pass.Pass.{Pass}
 use Rattle.heap_machine.specs.Operations.{place_of}
-use Rattle.heap_machine.specs.declared.gate.GateRow.{GateRow}
-use Rattle.heap_machine.specs.declared.gate.GateRow.TheVariants as gates
-use Rattle.barrier_steps.specs.declared.rows.FieldRow.{FieldRow}
-use Rattle.barrier_steps.specs.declared.rows.FieldRow.TheVariants as rows
-use Rattle.barrier_steps.specs.Rows as fields
-use Rattle.barrier_steps.specs.Rows.{field_got, field_reply}
-use Rattle.grey_steps.specs.declared.rows.GreyRow.{GreyRow}
-use Rattle.grey_steps.specs.declared.rows.GreyRow.TheVariants as marks
-use Rattle.grey_steps.specs.Rows.{row_want, grey_holding}
-use Rattle.grey_steps.specs.Ends.{is_blackening}
-use Rattle.grey_steps.proofs.Ends.{unit_grey}
-use Rattle.heap_system.specs.declared.local.Part.{Part}
-use Rattle.heap_system.specs.declared.local.Part.TheVariants.{Rest, Enter, Serve, Mark, Count, Again, Leave}
-use Rattle.heap_system.specs.Locals.{LocalState, command_of, is_done, part_want, part_reply, makes_unit, paid_got, entry_of, entries_of, works, Verdict, verdict, PartFits}
+use Rattle.heap_system.specs.Locals.{LocalState, command_of, is_done, part_want, part_reply, makes_unit, paid_got, works, Verdict, verdict}
 use Rattle.heap_system.specs.Machines.{Run, IsJob, IsRunOf, local_at, word_read, event_done, has_event, entries_by, next, after_turns, opened}
-use Rattle.heap_system.specs.Pictures.{heap_in, stand_of}
-use Rattle.heap_system.specs.Units.{blackens, is_unit, turn_blackens, units_made, blacks_made}
+use Rattle.heap_system.specs.Pictures.{heap_in}
+use Rattle.heap_system.specs.Units.{is_unit, turn_blackens, units_made, blacks_made}
 use Rattle.heap_system.proofs.Paying.{works_append}
-use Rattle.heap_system.proofs.Kept.{grey_of, told_by, PartKept, Kept, holdings_in}
+use Rattle.heap_system.proofs.LawsOf.{laws_of}
+use Rattle.heap_system.proofs.Kept.{told_by, Kept, holdings_in}
 use Rattle.heap_system.proofs.Turning.{order_after, part_grows, part_stays, local_new, fits, word_is, event}
 use Rattle.heap_system.proofs.Always.{here, opening_kept, turn_kept}
-
--- only a Mark pass makes a block black
-gate_blackens : (h : Heap) (g : GateRow) → blackens h (gate_want g) ≡ false
-gate_blackens h gates.Look = refl
-gate_blackens h (gates.Enter seen) = refl
-gate_blackens h _ = refl
-
-field_blackens : (c : Config) (h : Heap) (t : ℕ) (k : Command) (r : FieldRow) → blackens h (fields.row_want (extent c) t k r) ≡ false
-field_blackens c h t k rows.StoreNumber = refl
-field_blackens c h t k rows.StoreNil = refl
-field_blackens c h t k rows.LoadMoved = refl
-field_blackens c h t k (rows.StoreMoved word) = refl
-field_blackens c h t k rows.LoadObject = refl
-field_blackens c h t k (rows.LoadShape x) = refl
-field_blackens c h t k (rows.LoadValue way) = refl
-field_blackens c h t k (rows.LoadLink way word) = refl
-field_blackens c h t k (rows.LoadField way) = refl
-field_blackens c h t k (rows.LoadOwner word) = refl
-field_blackens c h t k (rows.StorePending word value) = refl
-field_blackens c h t k (rows.StoreField way word) = refl
-field_blackens c h t k rows.LoadFirst = refl
-field_blackens c h t k (rows.LoadSecond word) = refl
-field_blackens c h t k rows.LoadSaid = refl
-field_blackens c h t k (rows.LoadSaidOwner word) = refl
-field_blackens c h t k (rows.Answered reply) = refl
-
--- no word is grey and black
-both : (a b : Bool) → (b ≡ true → a ≡ false) → (a && b) ≡ false
-both true true f = absurd (let z : true ≡ false = f refl in cc)
-both true false f = refl
-both false b f = refl
-
-never_both : (c w : ℕ) → (is_grey w && eqb w (black_word c)) ≡ false
-never_both c w = both (is_grey w) (eqb w (black_word c)) (λ e. ap is_grey (eqb-true w (black_word c) e) ∙ not_grey_black c)
-
--- a shade makes white grey
-shade_blackens : (h : Heap) (c d y hand : ℕ) → (is_grey (h (ColourOf y)) && eqb (cond (eqb (h (ColourOf y)) (white_word c)) (put_at h (ColourOf y) (grey_word hand)) h (ColourOf y)) (black_word d)) ≡ false
-shade_blackens h c d y hand = elim (cases_eq (h (ColourOf y)) (white_word c)) [
-  | inl e ↦ both (is_grey (h (ColourOf y))) (eqb (cond (eqb (h (ColourOf y)) (white_word c)) (put_at h (ColourOf y) (grey_word hand)) h (ColourOf y)) (black_word d)) (λ z. ap is_grey e ∙ not_grey_white c)
-  | inr n ↦ rw (ne_eqb (h (ColourOf y)) (white_word c) n) (never_both d (h (ColourOf y)))
-]
-
--- and that at the event that makes the block under scan black, which is grey
-row_blackens : (m : ℕ) (h : Heap) (t n c : ℕ) (r : GreyRow) → c ≡ cycle_of (h Phase) → ((x : ℕ) → is_blackening r ≡ true → (grey_holding m r).scan ≡ Some x → is_grey (h (ColourOf x)) ≡ true) → blackens h (row_want t n c r) ≡ is_blackening r
-row_blackens m h t n c (marks.Take u) same grey = refl
-row_blackens m h t n c (marks.Pop hand) same grey = never_both (cycle_of (h Phase)) (h (ColourOf hand))
-row_blackens m h t n c (marks.ScanWord x j hand) same grey = refl
-row_blackens m h t n c (marks.Shade x j y hand) same grey = shade_blackens h c (cycle_of (h Phase)) y hand
-row_blackens m h t n c (marks.Blacken x hand) same grey = rw (grey x refl refl, eq-eqb x x refl) (eq-eqb (black_word c) (black_word (cycle_of (h Phase))) (ap black_word same))
-row_blackens m h t n c (marks.Put hand) same grey = refl
-row_blackens m h t n c marks.Scanned same grey = refl
-row_blackens m h t n c marks.NothingGrey same grey = refl
-row_blackens m h t n c (marks.TakeOwn y) same grey = refl
-row_blackens m h t n c (marks.ShadeStored y hand) same grey = shade_blackens h c (cycle_of (h Phase)) y hand
-row_blackens m h t n c (marks.PutOwn y hand) same grey = refl
-row_blackens m h t n c (marks.Shaded y) same grey = refl
-
--- the events of a thread that are units
-part_blackens : (c : Config) (h : Heap) (hs : ℕ → GreyHolding) (t done all : ℕ) (g : _) (pass : Pass) (k : Command) (p : Part) (w : ℕ) → GreyKept c.threads h hs → hs t ≡ grey_of c p → (is_outside (stand_of c p) ≡ false → pass.cycle ≡ cycle_of (h Phase)) → PartKept g t pass k p → PartFits c done all p
-    → blackens h (part_want c p) ≡ makes_unit c p w
-part_blackens c h hs t done all g pass k Rest w grey is one stands inside = refl
-part_blackens c h hs t done all g pass k (Enter a) w grey is one stands inside = gate_blackens h a
-part_blackens c h hs t done all g pass k (Serve f) w grey is one stands inside = field_blackens c h f.pass.thread f.command f.row
-part_blackens c h hs t done all g pass k (Mark m) w grey is one stands inside =
-    row_blackens (payloads c.width) h m.pass.thread m.pass.threads m.pass.cycle m.row (ap (λ (x : Pass). x.cycle) stands.passes ∙ one refl) (λ x b scan. (unit_grey c h hs m x inside.0 grey (ap hs stands.thread ∙ is) b scan).0)
-part_blackens c h hs t done all g pass k Count w grey is one stands inside = refl
-part_blackens c h hs t done all g pass k Again w grey is one stands inside = refl
-part_blackens c h hs t done all g pass k Leave w grey is one stands inside = refl
 
 -- a turn is a unit where it makes a grey block black
 pub unit_blackens : (c : Config) (traces : List (List Command)) → IsJob c traces → (r : Run) → Kept c traces r → (t : ℕ) → t < c.threads → is_unit c t r.state ≡ turn_blackens c t r.state
 unit_blackens c traces job r kept t tl =
     let l = local_at c r.state t in
     ap (λ b. cond (has_event c t r.state) b false)
-    (sym (part_blackens c (heap_in c r.state) (holdings_in c r.state) t _ _ (replay c r.order) l.pass (command_of l) l.part (word_read c r.state l) kept.rules.grey refl (λ out. (kept.gate.passes t tl out).0) (kept.locals t tl).stands (fits c traces job.bounds.config job.plan r kept t tl)))
-
--- what is in the log and what is paid grow by the unit
-replied_sum : (t : ℕ) (k : Command) (paid : ℕ) (o : Option Reply) → works (entries_of t k paid o) + paid_got o false paid ≡ paid
-replied_sum t k paid None = omega arith
-replied_sum t k paid (Some r) = omega arith
-
-unit_sum : (paid : ℕ) (b : Bool) → 0 + cond b (paid + 1) paid ≡ paid + bit b
-unit_sum paid true = omega arith
-unit_sum paid false = omega arith
-
-part_sums : (c : Config) (t : ℕ) (k : Command) (paid : ℕ) (p : Part) (w : ℕ) → works (entries_of t k paid (part_reply c p w)) + paid_got (part_reply c p w) (makes_unit c p w) paid ≡ paid + bit (makes_unit c p w)
-part_sums c t k paid Rest w = omega arith
-part_sums c t k paid (Enter a) w = omega arith
-part_sums c t k paid (Serve f) w = omega (arith, replied_sum t k paid (field_reply (field_got (extent c) f w).row))
-part_sums c t k paid (Mark m) w = unit_sum paid (is_blackening m.row)
-part_sums c t k paid Count w = omega arith
-part_sums c t k paid Again w = omega arith
-part_sums c t k paid Leave w = omega arith
+    (sym ((laws_of c l.part).black (heap_in c r.state) (holdings_in c r.state) t _ _ (replay c r.order) l.pass (command_of l) (word_read c r.state l) kept.rules.grey refl (λ out. (kept.gate.passes t tl out).0) (kept.locals t tl).stands (fits c traces job.bounds.config job.plan r kept t tl)))
 
 -- the works of thread t's entries, and its units for the command in hand
 abbrev pub made_by : Config → ℕ → Run → ℕ
@@ -158,7 +50,7 @@ module _ (c : Config) (traces : List (List Command)) (job : IsJob c traces) (r :
       ap works (part_grows c r.order u (command_of l) l.paid deciding) ∙ works_append (part u r.order) (told_by (replay c r.order) u (command_of l) l.paid deciding) in
       let paid : (local_at c after.state u).paid ≡ paid_got (part_reply c l.part word_here) (makes_unit c l.part word_here) l.paid =
       ap (λ (x : LocalState). x.paid) (local_new c traces job.bounds.config job.plan r kept u ul going u ∙ cond_yes _ _ _ (eq-eqb u u refl)) in
-      omega (arith, parts, paid, (event c traces job.bounds.config job.plan r kept u ul going).counted, part_sums c u (command_of l) l.paid l.part word_here)
+      omega (arith, parts, paid, (event c traces job.bounds.config job.plan r kept u ul going).counted, (laws_of c l.part).units u (command_of l) l.paid word_here)
 
   other_makes : (t : ℕ) → (u ≡ t → ⊥) → made_by c t after ≡ made_by c t r
   other_makes t n =

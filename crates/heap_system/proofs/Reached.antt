@@ -11,7 +11,7 @@ use Rattle.never_heap.specs.Histories.{HistoryItem, replay, part, parts_from}
 use Rattle.heap_machine.specs.Operations.{op_at, op_place, words_after, SumFits}
 use Rattle.heap_machine.specs.declared.op.Op.{Op}
 use Rattle.heap_system.specs.declared.local.Part.{Part}
-use Rattle.heap_system.specs.declared.local.Part.TheVariants.{Rest, Enter, Serve, Mark, Count, Again, Leave}
+use Rattle.heap_system.specs.declared.local.Part.TheVariants.{Rest}
 use Rattle.heap_system.specs.declared.Turn.{Turn}
 use Rattle.never_heap.specs.Jobs.{IsTraceInBounds}
 use Rattle.heap_system.specs.Locals.{LocalState, works, command_of, owed, entries_of, is_rest, is_done, part_want, part_step, turn_of, local_got, at_start, PartReads}
@@ -132,12 +132,7 @@ module _ (c : Config) (s : State) (t : ℕ) (l : LocalState) (k : IsReached c s)
 -- a thread that is done is at rest, with its whole trace in its log
 pub rest_is : (p : Part) → is_rest p ≡ true → p ≡ Rest
 rest_is Rest e = refl
-rest_is (Enter g) e = absurd cc
-rest_is (Serve f) e = absurd cc
-rest_is (Mark g) e = absurd cc
-rest_is Count e = absurd cc
-rest_is Again e = absurd cc
-rest_is Leave e = absurd cc
+rest_is _ e = absurd cc
 
 logs_are : (ls : List LocalState) (t : ℕ) (order : List HistoryItem) (d : LocalState) → ((i : ℕ) → i < length ls → part (t + i) order ≡ (get_or ls i d).log) → map (λ (l : LocalState). l.log) ls ≡ parts_from t (length ls) order
 logs_are [] t order d each = refl

@@ -1,5 +1,5 @@
 -- A turn keeps what every list of turns keeps.
-use Rattle.std.proofs.Common.{zero, suc, ◌*◌, ◌≡◌, ℕ, ◌+◌, ◌<◌, ◌≤◌, Bool, true, false, not, cond, eqb, lt-ltb, eq-eqb, ne_eqb, ◌&&◌, Option, Some, None, List, [], ◌∷◌, ◌++◌, length, get_or, append_assoc, append-nil, length-append, length-set, set, refl, sym, ap, ◌∙◌, subst, arith, inl, inr, All, map, take}
+use Rattle.std.proofs.Common.{zero, suc, ◌*◌, ◌≡◌, ℕ, ◌+◌, ◌<◌, ◌≤◌, Bool, true, false, cond, eqb, lt-ltb, eq-eqb, ne_eqb, ◌&&◌, Option, Some, None, List, [], ◌∷◌, ◌++◌, length, get_or, append_assoc, append-nil, length-append, length-set, set, refl, sym, ap, ◌∙◌, subst, arith, inl, inr, map, take}
 use Rattle.std.proofs.lemmas.Bool.{cases_Bool, cases_eq}
 use Rattle.block_store.specs.declared.Config.{Config}
 use Rattle.block_store.specs.declared.Width.{Width}
@@ -12,7 +12,6 @@ use Rattle.never_heap.specs.declared.Command.TheVariants as commands
 use Rattle.never_heap.specs.declared.Entry.{Entry}
 use Rattle.never_heap.specs.declared.Reply.{Reply}
 use Rattle.never_heap.specs.Graphs.{Graph, start_graph, register_of}
-use Rattle.never_heap.specs.declared.Reply.TheVariants.{Full}
 use Rattle.std.specs.List.{AllByRecursion}
 use Rattle.never_heap.specs.Bounds.{IsCommandInBounds}
 use Rattle.never_heap.specs.Histories.{HistoryItem, Did, replay, part, Legal, starts_in, work_in}
@@ -29,28 +28,23 @@ use Rattle.array_trees.specs.Openings.{opening_blocks}
 use Rattle.shown_graph.specs.Events.{Loading, with_load, Follows}
 use Rattle.heap_machine.specs.Counts.{changed}
 use Rattle.heap_machine.specs.Gating.{Gating, GateOf}
-use Rattle.heap_machine.specs.Grey.{GreyHolding, GreyKept}
-use Rattle.heap_machine.specs.Readings.{IsHeld}
+use Rattle.heap_machine.specs.Grey.{GreyHolding}
 use Rattle.heap_machine.specs.Operations.{heap_after, place_of, op_at, op_place, SumFits}
 use Rattle.heap_machine.proofs.Functions.{funext}
 use Rattle.heap_machine.proofs.HeapAfter.{heap_of-after, length-after, op_place_below, sum_fits, word_before}
-use Rattle.barrier_steps.specs.declared.rows.FieldRow.{FieldRow}
-use Rattle.barrier_steps.specs.declared.rows.FieldRow.TheVariants as rows
 use Rattle.heap_system.specs.declared.local.Part.{Part}
-use Rattle.heap_system.specs.declared.local.Part.TheVariants.{Rest, Enter, Serve, Mark, Count, Again, Leave}
+use Rattle.heap_system.specs.declared.local.Part.TheVariants.{Rest, Leave}
 use Rattle.heap_system.specs.Locals.{LocalState, command_of, owed, owes, is_rest, is_done, part_want, part_got, part_reply, Verdict, Open, AsStep, Refused, verdict, part_entered, pass_got, makes_unit, finds_nothing, paid_got, waived_got, entry_of, entries_of, works, local_got, unit_to_come, IsLocal, PartFits, PartReads}
 use Rattle.heap_system.specs.Systems.{logs_of, units_of}
 use Rattle.heap_system.specs.Machines.{no_local, local_at, word_read, event_done, has_event, entries_by, Run, next}
 use Rattle.heap_system.specs.Units.{IsWithin}
 use Rattle.heap_system.specs.Pictures.{gating, loading, waiting, heap_in}
-use Rattle.barrier_steps.specs.Operands.{to_register, from_register}
-use Rattle.barrier_steps.specs.Replies.{due_at, KnownAt, reply_due, IsKnown}
-use Rattle.barrier_steps.specs.Rows.{FieldState}
 use Rattle.heap_machine.specs.declared.pass.Pass.{Pass}
 use Rattle.heap_system.proofs.Paying.{bounds_at, works_append, answered_in}
 use Rattle.heap_system.proofs.Moves.{state}
 use Rattle.heap_system.proofs.Steady.{never_full, register_stays}
-use Rattle.heap_system.proofs.Kept.{grey_of, PartKept, LocalKept, Rules, loads_in, gates_in, holdings_in, Kept, Seen, EventKept, graph_decided, told_by, IsLawful, part_event, part_reads, part_sum, part_place, IsMark}
+use Rattle.heap_system.proofs.LawsOf.{laws_of}
+use Rattle.heap_system.proofs.Kept.{grey_of, LocalKept, Rules, loads_in, gates_in, holdings_in, Kept, Seen, EventKept, graph_decided, told_by, IsLawful, IsMark}
 
 -- the order with an entry more, or as it was
 module _ (c : Config) (order : List HistoryItem) (t : ℕ) (k : Command) (work : ℕ) where
@@ -116,30 +110,10 @@ said_more log trace e k is following low said =
     map-append (λ (x : Entry). x.command) log (e ∷ []) ∙ ap (λ ks. ks ++ e.command ∷ []) said ∙ ap (λ x. take (length log) trace ++ x ∷ []) (is ∙ following)
     ∙ sym (take-suc trace (length log) (commands.Nil 0) low) ∙ sym (ap (λ n. take n trace) longer)
 
--- the other threads' rows say the same of a graph in which their registers are the same
-row_stays : (g new : Graph) (u : ℕ) (k : Command) (r : FieldRow) → ((q : ℕ) → register_of new u q ≡ register_of g u q) → (KnownAt g u k r → KnownAt new u k r) × (due_at new u k r ≡ due_at g u k r)
-row_stays g new u k (rows.LoadOwner word) same = (λ x. x, rw (same (to_register k)) refl)
-row_stays g new u k (rows.StorePending word value) same = (let s : register_of new u (to_register k) ≡ register_of g u (to_register k) = same (to_register k) in (λ x. x ∙ sym s, rw s refl))
-row_stays g new u k (rows.LoadSaidOwner word) same = (λ x. x, rw (same (from_register k)) refl)
-row_stays g new u k _ same = (λ x. x, refl)
-
-field_stays : (g new : Graph) (u : ℕ) (f : FieldState) → f.pass.thread ≡ u → ((q : ℕ) → register_of new u q ≡ register_of g u q) → (IsKnown g f → IsKnown new f) × (reply_due new f ≡ reply_due g f)
-field_stays g new u f e same = row_stays g new f.pass.thread f.command f.row (subst (λ v. (q : ℕ) → register_of new v q ≡ register_of g v q) (sym e) same)
-
-part_kept_stays : (g new : Graph) (u : ℕ) (pass : Pass) (k : Command) (p : Part) → PartKept g u pass k p → ((q : ℕ) → register_of new u q ≡ register_of g u q) → PartKept new u pass k p × (waiting new p ≡ waiting g p)
-part_kept_stays g new u pass k Rest kept same = (tt, refl)
-part_kept_stays g new u pass k (Enter a) kept same = (kept, refl)
-part_kept_stays g new u pass k (Serve f) kept same =
-    let s = field_stays g new u f kept.thread same in
-    (record { serves = kept.serves; passes = kept.passes; thread = kept.thread; command = kept.command; known = s.0 kept.known; going = kept.going }, s.1)
-part_kept_stays g new u pass k (Mark m) kept same = (kept, refl)
-part_kept_stays g new u pass k Count kept same = (kept, refl)
-part_kept_stays g new u pass k Again kept same = (kept, refl)
-part_kept_stays g new u pass k Leave kept same = (tt, refl)
-
+-- another thread, where its registers are the same
 local_stays : (c : Config) (given : List Command) (g new : Graph) (order later : List HistoryItem) (u : ℕ) (l : LocalState) → LocalKept c given g order u l → ((q : ℕ) → register_of new u q ≡ register_of g u q) → part u later ≡ part u order → LocalKept c given new later u l
 local_stays c given g new order later u l kept same more =
-    let s = part_kept_stays g new u l.pass (command_of l) l.part kept.stands same in
+    let s = (laws_of c l.part).stays g new u l.pass (command_of l) kept.stands same in
     record {
       config = kept.config;
       thread = kept.thread;
@@ -236,15 +210,6 @@ moved_on l t c w = record {
   part = part_got c t (command_of l) (owes l) l.part w;
 }
 
-reply_low : (c : Config) (done all : ℕ) (p : Part) (w : ℕ) (r : Reply) → PartFits c done all p → part_reply c p w ≡ Some r → done < all
-reply_low c done all Rest w r fits e = absurd cc
-reply_low c done all (Enter a) w r fits e = absurd cc
-reply_low c done all (Serve f) w r fits e = fits.1
-reply_low c done all (Mark m) w r fits e = absurd cc
-reply_low c done all Count w r fits e = fits
-reply_low c done all Again w r fits e = absurd cc
-reply_low c done all Leave w r fits e = absurd cc
-
 -- a thread at rest that is not done has a command left
 rest_low : (l : LocalState) → length l.log ≤ length l.trace → is_done l ≡ false → l.part ≡ Rest → length l.log < length l.trace
 rest_low l low going rest = elim (cases_eq (length l.log) (length l.trace)) [
@@ -298,7 +263,7 @@ module _ (c : Config) (traces : List (List Command)) (bounds : IsInBounds c) (pl
 
   -- the place of the next event, and the word that is read there
   pub place : in_range (extent c) (place_of (part_want c (local_at c r.state t).part)) ≡ true
-  place = part_place c _ _ (local_at c r.state t).part fits
+  place = (laws_of c (local_at c r.state t).part).place _ _ fits
 
   pub word_is : word_read c r.state (local_at c r.state t) ≡ heap_in c r.state (place_of (part_want c (local_at c r.state t).part))
   word_is = word_before (extent c) r.state.words (part_want c (local_at c r.state t).part) place
@@ -308,11 +273,11 @@ module _ (c : Config) (traces : List (List Command)) (bounds : IsInBounds c) (pl
 
   pub reads : PartReads c (local_at c r.state t).part (word_read c r.state (local_at c r.state t))
   reads = subst (λ w. PartReads c (local_at c r.state t).part w) (sym word_is)
-      (part_reads c seen (local_at c r.state t).part refl (kept.locals t tl).stands fits)
+      ((laws_of c (local_at c r.state t).part).reads seen refl (kept.locals t tl).stands fits)
 
   pub sums : SumFits (op_at (extent c) (part_want c (local_at c r.state t).part)) (word_read c r.state (local_at c r.state t))
   sums = subst (λ w. SumFits (op_at (extent c) (part_want c (local_at c r.state t).part)) w) (sym word_is) (sum_fits (extent c) (part_want c (local_at c r.state t).part) _
-      (part_sum c seen (local_at c r.state t).part refl (kept.locals t tl).stands))
+      ((laws_of c (local_at c r.state t).part).sum seen refl (kept.locals t tl).stands))
 
   pays : (local_at c r.state t).paid + unit_to_come c (local_at c r.state t).part ≤ owed (local_at c r.state t)
   pays = subst (λ (x : Config). (local_at c r.state t).paid + unit_to_come x (local_at c r.state t).part ≤ owed (local_at c r.state t)) (kept.locals t tl).config (kept.locals t tl).fits.paid
@@ -341,12 +306,12 @@ module _ (c : Config) (traces : List (List Command)) (bounds : IsInBounds c) (pl
   module _ (going : is_done (local_at c r.state t) ≡ false) where
     pub event : EventKept c (replay c r.order) new_heap (gates_in c r.state) (loads_in c r.state) (holdings_in c r.state) t (command_of (local_at c r.state t)) (length (local_at c r.state t).log) (length (local_at c r.state t).trace) (owed (local_at c r.state t)) (local_at c r.state t).paid (local_at c r.state t).waived
         (waiting (replay c r.order) (local_at c r.state t).part) decides_here new_pass new_part told_here makes_here finds_here
-    event = part_event c seen (local_at c r.state t).part refl refl refl (kept.locals t tl).stands fits pays (kept.locals t tl).settled unpaid
+    event = (laws_of c (local_at c r.state t).part).event seen refl refl refl (kept.locals t tl).stands fits pays (kept.locals t tl).settled unpaid
         (rest_low (local_at c r.state t) (kept.locals t tl).fits.log going)
 
     moved : LocalKept c (get_or traces t []) (graph_decided (replay c r.order) t (command_of (local_at c r.state t)) decides_here) (order_after c r.order t (command_of (local_at c r.state t)) (local_at c r.state t).paid decides_here) t (moved_on (local_at c r.state t) t c (heap_in c r.state (place_of (part_want c (local_at c r.state t).part))))
     moved = local_moves c (get_or traces t []) (replay c r.order) r.order (order_after c r.order t (command_of (local_at c r.state t)) (local_at c r.state t).paid decides_here) t (local_at c r.state t) new_heap (gates_in c r.state) (loads_in c r.state) (holdings_in c r.state) decides_here new_pass new_part makes_here finds_here
-        (kept.locals t tl) (part_grows c r.order t (command_of (local_at c r.state t)) (local_at c r.state t).paid decides_here) told_here event (λ x e. reply_low c _ _ (local_at c r.state t).part _ x fits e)
+        (kept.locals t tl) (part_grows c r.order t (command_of (local_at c r.state t)) (local_at c r.state t).paid decides_here) told_here event (λ x e. (laws_of c (local_at c r.state t).part).low _ _ _ x fits e)
 
     moved_is : local_got (local_at c r.state t) (word_read c r.state (local_at c r.state t)) ≡ moved_on (local_at c r.state t) t c (heap_in c r.state (place_of (part_want c (local_at c r.state t).part)))
     moved_is =
