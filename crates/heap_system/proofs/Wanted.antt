@@ -6,7 +6,7 @@ use Rattle.heap_machine.specs.declared.op.Op.{Op}
 use Rattle.heap_machine.specs.Operations.{op_at, op_place, place_of}
 use Rattle.heap_machine.proofs.HeapAfter.{op_place-at}
 use Rattle.heap_system.specs.Locals.{LocalState, IsLocal, part_want}
-use Rattle.heap_system.proofs.Kept.{part_place}
+use Rattle.heap_system.proofs.LawsOf.{laws_of}
 
 pub want_low : (l : LocalState) → IsLocal l → (o : Op)
     → o ≡ op_at (extent l.config) (part_want l.config l.part)
@@ -15,7 +15,7 @@ want_low l k o wants =
     let e = extent l.config in
     let w = part_want l.config l.part in
     let low : index e (place_of w) < words_count e =
-    below e (place_of w) (part_place l.config (length l.log) (length l.trace) l.part k.part) in
+    below e (place_of w) ((laws_of l.config l.part).place (length l.log) (length l.trace) k.part) in
     let at : op_place (op_at e w) ≡ index e (place_of w) = op_place-at e w in
     let same : op_place o ≡ op_place (op_at e w) = ap op_place wants in
     omega arith
