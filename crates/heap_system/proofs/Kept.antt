@@ -155,22 +155,37 @@ IsLawful k Open = Unit {0}
 IsLawful k AsStep = Unit {0}
 IsLawful k (Refused r) = (is_full r ≡ true) × (makes_object k ≡ true)
 
--- one event of thread t in command k: the heap after it, its verdict, the pass and the part after it, the reply that it brings, and whether it makes a unit or finds nothing. Before it a
--- reply was decided or none, and so many units were made of those due, or the rest was waived.
-pub record EventKept (c : Config) (g : Graph) (new : Heap) (gs : ℕ → Gating) (ls : ℕ → Loading) (hs : ℕ → GreyHolding) (t : ℕ) (k : Command) (done all due paid : ℕ) (waived : Bool) (before : Option Reply) (b : Verdict) (pass : Pass) (p : Part) (reply : Option Reply)
-    (unit nothing : Bool) : Type 0 where
-  pub gate : GateOf c.threads (new Phase) (changed gs t (gating c pass p))
+-- what is there before a turn: the graph of the order, and of each thread where it stands, what it has
+-- loaded and what it holds; the thread whose turn it is, its command, how many it has done of all, the
+-- units due and paid, and whether the rest is waived
+pub record Sight : Type 0 where
+  pub graph : Graph
+  pub gatings : ℕ → Gating
+  pub loads : ℕ → Loading
+  pub holds : ℕ → GreyHolding
+  pub thread : ℕ
+  pub command : Command
+  pub done : ℕ
+  pub all : ℕ
+  pub due : ℕ
+  pub paid : ℕ
+  pub waived : Bool
+
+-- one event of that thread: the heap after it, the reply that was decided before it, its verdict, the pass
+-- and the part after it, the reply that it brings, and whether it makes a unit or finds nothing
+pub record EventKept (c : Config) (s : Sight) (new : Heap) (before : Option Reply) (b : Verdict) (pass : Pass) (p : Part) (reply : Option Reply) (unit nothing : Bool) : Type 0 where
+  pub gate : GateOf c.threads (new Phase) (changed s.gatings s.thread (gating c pass p))
   pub phase : IsMark (new Phase)
-  pub shown : Follows c.width c.threads (opening_blocks c) (every_name (start_graph c)) (opening_at c.width c.threads) (state (graph_decided g t k b) new (with_load ls t (loading c p)))
-  pub part : PartKept (graph_decided g t k b) t pass k p
-  pub fits : PartFits c done all p
+  pub shown : Follows c.width c.threads (opening_blocks c) (every_name (start_graph c)) (opening_at c.width c.threads) (state (graph_decided s.graph s.thread s.command b) new (with_load s.loads s.thread (loading c p)))
+  pub part : PartKept (graph_decided s.graph s.thread s.command b) s.thread pass s.command p
+  pub fits : PartFits c s.done s.all p
   pub over : (r : Reply) → reply ≡ Some r → p ≡ Leave
-  pub told : entries_of t k paid before ++ told_by g t k paid b ≡ entries_of t k paid reply ++ entries_of t k (paid_got reply unit paid) (waiting (graph_decided g t k b) p)
-  pub rules : Rules c new (changed hs t (grey_of c p))
-  pub low : paid_got reply unit paid + unit_to_come c p ≤ due
-  pub settled : IsSettled due (paid_got reply unit paid) (waived_got reply nothing waived) p
-  pub counted : works (told_by g t k paid b) ≡ works (entries_of t k paid reply)
-  pub lawful : IsLawful k b
+  pub told : entries_of s.thread s.command s.paid before ++ told_by s.graph s.thread s.command s.paid b ≡ entries_of s.thread s.command s.paid reply ++ entries_of s.thread s.command (paid_got reply unit s.paid) (waiting (graph_decided s.graph s.thread s.command b) p)
+  pub rules : Rules c new (changed s.holds s.thread (grey_of c p))
+  pub low : paid_got reply unit s.paid + unit_to_come c p ≤ s.due
+  pub settled : IsSettled s.due (paid_got reply unit s.paid) (waived_got reply nothing s.waived) p
+  pub counted : works (told_by s.graph s.thread s.command s.paid b) ≡ works (entries_of s.thread s.command s.paid reply)
+  pub lawful : IsLawful s.command b
 
 -- what a thread holds stays
 pub holding_self : (hs : ℕ → GreyHolding) (t : ℕ) (w : GreyHolding) → hs t ≡ w → changed hs t w ≡ hs
@@ -222,12 +237,16 @@ pub record Seen (c : Config) : Type 0 where
   pub shown : Follows c.width c.threads (opening_blocks c) (every_name (start_graph c)) (opening_at c.width c.threads) (state graph heap loads)
   pub rules : Rules c heap holds
 
+-- that alone
+abbrev pub sight : (c : Config) → Seen c → Sight
+sight c s = record { graph = s.graph; gatings = s.gatings; loads = s.loads; holds = s.holds; thread = s.thread; command = s.command; done = s.done; all = s.all; due = s.due; paid = s.paid; waived = s.waived }
+
 module _ (c : Config) (s : Seen c) where
   pub phase_is : IsPhaseWord (s.heap Phase)
   phase_is = phase_word c.threads (s.heap Phase) s.gatings s.bounds.threads s.gate s.phase
 
   abbrev pub Event : Heap → Option Reply → Verdict → Pass → Part → Option Reply → Bool → Bool → Type 0
-  Event new before b q p reply unit nothing = EventKept c s.graph new s.gatings s.loads s.holds s.thread s.command s.done s.all s.due s.paid s.waived before b q p reply unit nothing
+  Event new before b q p reply unit nothing = EventKept c (sight c s) new before b q p reply unit nothing
 
   abbrev more : Bool
   more = not s.waived && ltb s.paid s.due

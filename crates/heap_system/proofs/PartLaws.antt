@@ -1,5 +1,5 @@
 -- The laws of a part of a thread's work: one record, which each part makes.
-use Rattle.heap_system.proofs.Kept.{grey_of, PartKept, IsSettled, EventKept, Seen}
+use Rattle.heap_system.proofs.Kept.{grey_of, PartKept, IsSettled, EventKept, Seen, sight}
 use Rattle.std.proofs.Common.{◌≡◌, ℕ, ◌+◌, ◌<◌, ◌≤◌, true, false, not, ◌&&◌, cond, ltb, Some, Bool}
 use Rattle.block_store.specs.declared.Config.{Config}
 use Rattle.block_store.specs.Heaps.{Heap}
@@ -32,7 +32,7 @@ Found c p w = (m : GreyState) × (p ≡ Mark m) × (grey_nothing (grey_got (exte
 
 -- what the event of a part keeps, in what its turn sees
 abbrev pub PartEvent : (c : Config) → Seen c → Part → Type 0
-PartEvent c s p = EventKept c s.graph (heap_after s.heap (part_want c p)) s.gatings s.loads s.holds s.thread s.command s.done s.all s.due s.paid s.waived (waiting s.graph p) (verdict c p (s.heap (place_of (part_want c p)))) (pass_got (part_entered c p (s.heap (place_of (part_want c p)))) s.thread c.threads s.pass)
+PartEvent c s p = EventKept c (sight c s) (heap_after s.heap (part_want c p)) (waiting s.graph p) (verdict c p (s.heap (place_of (part_want c p)))) (pass_got (part_entered c p (s.heap (place_of (part_want c p)))) s.thread c.threads s.pass)
     (part_got c s.thread s.command (not s.waived && ltb s.paid s.due) p (s.heap (place_of (part_want c p)))) (part_reply c p (s.heap (place_of (part_want c p)))) (makes_unit c p (s.heap (place_of (part_want c p)))) (finds_nothing c p (s.heap (place_of (part_want c p))))
 
 -- what is to be proved of a part: all that this crate's laws ask of it

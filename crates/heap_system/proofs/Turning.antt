@@ -44,7 +44,7 @@ use Rattle.heap_system.proofs.Paying.{bounds_at, works_append, answered_in}
 use Rattle.heap_system.proofs.Moves.{state}
 use Rattle.heap_system.proofs.Steady.{never_full, register_stays}
 use Rattle.heap_system.proofs.LawsOf.{laws_of}
-use Rattle.heap_system.proofs.Kept.{grey_of, LocalKept, Rules, loads_in, gates_in, holdings_in, Kept, Seen, EventKept, graph_decided, told_by, IsLawful, IsMark}
+use Rattle.heap_system.proofs.Kept.{grey_of, LocalKept, Rules, loads_in, gates_in, holdings_in, Kept, Seen, sight, EventKept, graph_decided, told_by, IsLawful, IsMark}
 
 -- the order with an entry more, or as it was
 module _ (c : Config) (order : List HistoryItem) (t : ℕ) (k : Command) (work : ℕ) where
@@ -137,7 +137,7 @@ within_more w rate (x ∷ es) g t k work v is low = (is.0, within_more w rate es
 module _ (c : Config) (given : List Command) (g : Graph) (order later : List HistoryItem) (t : ℕ) (l : LocalState) (new : Heap) (gs : ℕ → Gating) (ls : ℕ → Loading) (hs : ℕ → GreyHolding) (b : Verdict) (pass : Pass) (p : Part) (unit nothing : Bool) (kept : LocalKept c given g order t l)
     (more : part t later ≡ part t order ++ told_by g t (command_of l) l.paid b) where
   abbrev Event : Option Reply → Type 0
-  Event o = EventKept c g new gs ls hs t (command_of l) (length l.log) (length l.trace) (owed l) l.paid l.waived (waiting g l.part) b pass p o unit nothing
+  Event o = EventKept c (record { graph = g; gatings = gs; loads = ls; holds = hs; thread = t; command = command_of l; done = length l.log; all = length l.trace; due = owed l; paid = l.paid; waived = l.waived }) new (waiting g l.part) b pass p o unit nothing
 
   abbrev after_part : List Entry → ℕ → Bool → Part → LocalState
   after_part log paid waived q = record { config = l.config; rate = l.rate; thread = t; trace = l.trace; log = log; paid = paid; waived = waived; pass = pass; part = q }
@@ -304,8 +304,7 @@ module _ (c : Config) (traces : List (List Command)) (bounds : IsInBounds c) (pl
   new_part = part_got c t (command_of (local_at c r.state t)) (owes (local_at c r.state t)) (local_at c r.state t).part (heap_in c r.state (place_of (part_want c (local_at c r.state t).part)))
 
   module _ (going : is_done (local_at c r.state t) ≡ false) where
-    pub event : EventKept c (replay c r.order) new_heap (gates_in c r.state) (loads_in c r.state) (holdings_in c r.state) t (command_of (local_at c r.state t)) (length (local_at c r.state t).log) (length (local_at c r.state t).trace) (owed (local_at c r.state t)) (local_at c r.state t).paid (local_at c r.state t).waived
-        (waiting (replay c r.order) (local_at c r.state t).part) decides_here new_pass new_part told_here makes_here finds_here
+    pub event : EventKept c (sight c seen) new_heap (waiting (replay c r.order) (local_at c r.state t).part) decides_here new_pass new_part told_here makes_here finds_here
     event = (laws_of c (local_at c r.state t).part).event seen refl refl refl (kept.locals t tl).stands fits pays (kept.locals t tl).settled unpaid
         (rest_low (local_at c r.state t) (kept.locals t tl).fits.log going)
 
