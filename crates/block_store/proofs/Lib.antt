@@ -1,3 +1,4 @@
+pub mod Functions
 pub mod PayloadWords
 pub mod OwnerWords
 pub mod ShapeWords

@@ -8,3 +8,4 @@ pub mod Colours
 pub mod Phases
 pub mod Places
 pub mod Heaps
+pub mod Counts

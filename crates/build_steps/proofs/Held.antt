@@ -20,7 +20,7 @@ use Rattle.std.proofs.Common.{
 }
 use Rattle.std.proofs.lemmas.List.{length-take, take_all}
 use Rattle.block_store.specs.Phases.{bit}
-use Rattle.heap_machine.specs.Counts.{times}
+use Rattle.block_store.specs.Counts.{times}
 use Rattle.build_steps.specs.Objects.{block_at}
 
 pub times_more : (xs : List ℕ) (x y : ℕ) → times y (xs ++ x ∷ []) ≡ bit (eqb y x) + times y xs

@@ -49,7 +49,7 @@ use Rattle.block_store.specs.Places.{
   FreeList,
   ColourOf,
 }
-use Rattle.heap_machine.specs.Counts.{changed, times}
+use Rattle.block_store.specs.Counts.{changed, times}
 use Rattle.heap_machine.specs.FreeBlocks.{FreeHolding, FreeKept}
 use Rattle.heap_machine.specs.Holdings.{Holding, holds_nothing, free_held, sweep_held}
 use Rattle.heap_machine.specs.Operations.{Operation, Exchange, place_of, heap_after}
@@ -65,7 +65,7 @@ use Rattle.heap_machine.proofs.FreeBlocks.{
   free_empty,
   free_held as held_is_free,
 }
-use Rattle.heap_machine.proofs.Functions.{funext, changed_here, bit_one}
+use Rattle.block_store.proofs.Functions.{funext, changed_here, bit_one}
 use Rattle.heap_machine.proofs.Reusing.{reuse_goes, reuse_stays, reuse_other}
 use Rattle.heap_machine.proofs.Sweeping.{sweep_other, sweep_stays, sweep_colour}
 use Rattle.build_steps.specs.declared.rows.BuildRow.{BuildRow}

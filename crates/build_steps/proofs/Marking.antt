@@ -36,7 +36,7 @@ use Rattle.block_store.specs.Widths.{payloads}
 use Rattle.block_store.specs.Registers.{register_block, register_slot}
 use Rattle.block_store.proofs.PayloadWords.{target-reference}
 use Rattle.block_store.specs.Places.{extent, ColourOf, PayloadOf}
-use Rattle.heap_machine.specs.Counts.{changed}
+use Rattle.block_store.specs.Counts.{changed}
 use Rattle.heap_machine.specs.Grey.{GreyHolding, no_grey, GreyKept}
 use Rattle.heap_machine.specs.HeapKept.{CanRefer, CanColour}
 use Rattle.heap_machine.specs.Holdings.{Holding, grey_held, tricolour_held}
@@ -49,7 +49,7 @@ use Rattle.heap_machine.specs.Tricolour.{
   TricolourKept,
   is_of_tricolour,
 }
-use Rattle.heap_machine.proofs.Functions.{funext}
+use Rattle.block_store.proofs.Functions.{funext}
 use Rattle.heap_machine.proofs.GreyBlocks.{kept_other, kept_other_colour}
 use Rattle.heap_machine.proofs.Solids.{solid_other, solid_colour, solid_payload}
 use Rattle.heap_machine.proofs.Tricolours.{tricolour_other, kept_colour, kept_payload}

@@ -23,13 +23,13 @@ use Rattle.block_store.specs.declared.Config.{Config}
 use Rattle.block_store.specs.Colours.{is_free, link}
 use Rattle.block_store.specs.Heaps.{Heap}
 use Rattle.block_store.specs.Places.{extent, is_block, ColourOf}
-use Rattle.heap_machine.specs.Counts.{changed, times}
+use Rattle.block_store.specs.Counts.{changed, times}
 use Rattle.heap_machine.specs.FreeBlocks.{FreeHolding}
 use Rattle.heap_machine.specs.Holdings.{Holding, free_held}
 use Rattle.heap_machine.specs.Operations.{place_of}
 use Rattle.heap_machine.specs.ReuseKept.{ReuseKept}
 use Rattle.heap_machine.proofs.FreeBlocks.{free_held as held_is_free}
-use Rattle.heap_machine.proofs.Functions.{changed_here, bit_le, bit_one}
+use Rattle.block_store.proofs.Functions.{changed_here, bit_le, bit_one}
 use Rattle.build_steps.specs.declared.rows.BuildRow.{BuildRow}
 use Rattle.build_steps.specs.declared.rows.BuildRow.TheVariants.{
   ReadCount,

@@ -38,7 +38,7 @@ use Rattle.block_store.specs.Places.{Extent, extent, ColourOf, PayloadOf}
 use Rattle.object_lists.specs.Parts.{Link, Field, Blank, link_in}
 use Rattle.never_heap.specs.declared.Command.{Command}
 use Rattle.never_heap.specs.Steps.{blocks_of}
-use Rattle.heap_machine.specs.Counts.{times}
+use Rattle.block_store.specs.Counts.{times}
 use Rattle.heap_machine.specs.Operations.{Exchange, heap_after}
 use Rattle.build_steps.specs.declared.rows.BuildRow.{BuildRow}
 use Rattle.build_steps.specs.declared.rows.BuildRow.TheVariants.{

@@ -51,7 +51,7 @@ use Rattle.block_store.specs.Places.{
   PayloadOf,
 }
 use Rattle.block_store.specs.Phases.{bit}
-use Rattle.heap_machine.specs.Counts.{times}
+use Rattle.block_store.specs.Counts.{times}
 use Rattle.heap_machine.specs.Operations.{heap_after}
 use Rattle.never_heap.specs.declared.Command.{Command}
 use Rattle.build_steps.specs.declared.rows.BuildRow.{BuildRow}

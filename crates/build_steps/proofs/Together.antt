@@ -6,7 +6,7 @@ use Rattle.block_store.specs.declared.Width.{Width}
 use Rattle.block_store.specs.Heaps.{Heap}
 use Rattle.block_store.specs.Phases.{is_sweep, cycle_of}
 use Rattle.block_store.specs.Places.{extent, Phase, FreeCount}
-use Rattle.heap_machine.specs.Counts.{changed}
+use Rattle.block_store.specs.Counts.{changed}
 use Rattle.heap_machine.specs.Grey.{GreyHolding, GreyKept}
 use Rattle.heap_machine.specs.Holdings.{Holding, grey_held, tricolour_held}
 use Rattle.heap_machine.specs.Operations.{place_of, heap_after}

@@ -28,7 +28,7 @@ use Rattle.block_store.specs.Places.{
   ShapeOf,
   PayloadOf,
 }
-use Rattle.heap_machine.specs.Counts.{times}
+use Rattle.block_store.specs.Counts.{times}
 use Rattle.heap_machine.specs.Operations.{heap_after}
 use Rattle.build_steps.specs.declared.rows.BuildRow.{BuildRow}
 use Rattle.build_steps.specs.declared.rows.BuildRow.TheVariants.{

@@ -14,7 +14,7 @@ ghost use Rattle.never_heap.specs.declared.Command.{Command};
 ghost use Rattle.never_heap.specs.declared.Reply.TheVariants as replies;
 ghost use Rattle.never_heap.specs.Bounds.{IsCommandInRange};
 ghost use Rattle.never_heap.specs.Steps.{makes_object, blocks_of};
-ghost use Rattle.heap_machine.specs.Counts.{changed, times};
+ghost use Rattle.block_store.specs.Counts.{changed, times};
 ghost use Rattle.heap_machine.specs.Grey.{no_grey, GreyKept};
 ghost use Rattle.heap_machine.specs.Tricolour.{no_tricolour, TricolourKept};
 ghost use Rattle.heap_machine.specs.Solid.{SolidKept};

@@ -14,9 +14,8 @@ use Rattle.never_heap.specs.Licensed.{IsLicensedReply}
 use Rattle.never_heap.specs.LiveBlocks.{live_blocks}
 use Rattle.never_heap.specs.Taken.{taken_by, blocks_if_new}
 use Rattle.never_heap.proofs.Cycling.{graph_at_more, given_more, given_past}
-use Rattle.work_account.specs.Sums.{total}
-use Rattle.cycle_tally.specs.Tallies.{changed}
-use Rattle.cycle_tally.proofs.Functions.{changed_both, bit_le}
+use Rattle.block_store.specs.Counts.{changed, total}
+use Rattle.block_store.proofs.Functions.{changed_both, bit_le}
 use Rattle.work_account.proofs.Balances.{all_given, whole_paid}
 use Rattle.cycle_tally.specs.Tallies.{Spending, Tally, units_now, given_now}
 use Rattle.cycle_tally.specs.Entries.{entries_in, InThreads}

@@ -13,10 +13,9 @@ use Rattle.never_heap.specs.Taken.{taken_by}
 use Rattle.never_heap.specs.Steps.{blocks_of}
 use Rattle.never_heap.proofs.Growing.{starts_append, work_append}
 use Rattle.never_heap.proofs.Cycling.{right_work_more, licensed_more}
-use Rattle.work_account.specs.Sums.{total}
-use Rattle.cycle_tally.specs.Tallies.{changed}
+use Rattle.block_store.specs.Counts.{changed, total}
 use Rattle.work_account.specs.Accounts.{published, refused, units_in, given_in}
-use Rattle.cycle_tally.proofs.Functions.{changed_both, total_changed}
+use Rattle.block_store.proofs.Functions.{changed_both, total_changed}
 use Rattle.work_account.proofs.Balances.{published_sound, refused_sound}
 use Rattle.cycle_tally.specs.Tallies.{Spending, Tally, claims, given_now, reserved_now}
 use Rattle.cycle_tally.specs.Events.{Credit, Reserve, Publish, Refuse, Answer, apply, Decides, NoClaim}

@@ -21,7 +21,7 @@ use Rattle.never_heap.proofs.ReachSteps.{reachable_named}
 use Rattle.never_heap.proofs.Staying.{replay_shape}
 use Rattle.never_heap.proofs.Starting.{threads_of_start}
 use Rattle.never_heap.proofs.Naming.{same_itself, any_of_names, name_of_place, length_of_thread}
-use Rattle.work_account.specs.Sums.{total}
+use Rattle.block_store.specs.Counts.{total}
 use Rattle.cycle_tally.specs.InUse.{IsBlockOfThese, IsCovered, count_free}
 use Rattle.cycle_tally.specs.Entries.{InThreads}
 use Rattle.cycle_tally.proofs.Listing.{times, times_append, length_both, listed, these, length_these, times_these, blocks_at, length_blocks, times_blocks}

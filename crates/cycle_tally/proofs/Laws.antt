@@ -11,9 +11,9 @@ use Rattle.never_heap.specs.Given.{given}
 use Rattle.never_heap.specs.Licensed.{Licensed}
 use Rattle.never_heap.specs.LiveBlocks.{live_blocks}
 use Rattle.never_heap.specs.RightWork.{RightWork}
-use Rattle.work_account.specs.Sums.{total}
+use Rattle.block_store.specs.Counts.{total}
 use Rattle.work_account.specs.Accounts.{Balance, opened, IsSound, units_in, given_in}
-use Rattle.cycle_tally.proofs.Functions.{total_none, bit_le}
+use Rattle.block_store.proofs.Functions.{total_none, bit_le}
 use Rattle.work_account.proofs.Balances.{opened_sound}
 use Rattle.cycle_tally.specs.Tallies.{Tally, claims, units, given_now, paid_now}
 use Rattle.cycle_tally.specs.Events.{Event, apply, run, Guarded}

@@ -1,4 +1,3 @@
-pub mod Functions
 pub mod Sums
 pub mod Counting
 pub mod Moving

@@ -7,8 +7,8 @@ use Rattle.block_store.specs.declared.Name.{Name}
 use Rattle.block_store.specs.Phases.{bit}
 use Rattle.never_heap.specs.Graphs.{same_name}
 use Rattle.never_heap.proofs.Naming.{one_name}
-use Rattle.work_account.specs.Sums.{total}
-use Rattle.cycle_tally.proofs.Functions.{bit_le}
+use Rattle.block_store.specs.Counts.{total}
+use Rattle.block_store.proofs.Functions.{bit_le}
 use Rattle.cycle_tally.proofs.Sums.{total_below, total_nought}
 
 -- how often x stands in the list

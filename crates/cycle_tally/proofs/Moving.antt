@@ -9,9 +9,9 @@ use Rattle.never_heap.specs.Given.{given}
 use Rattle.never_heap.specs.LiveBlocks.{live_blocks}
 use Rattle.never_heap.proofs.Growing.{starts_append, work_append}
 use Rattle.never_heap.proofs.Cycling.{right_work_more, licensed_more, graph_at_more, given_ended, given_none}
-use Rattle.work_account.specs.Sums.{total}
+use Rattle.block_store.specs.Counts.{total}
 use Rattle.work_account.specs.Accounts.{entered, units_in, given_in}
-use Rattle.cycle_tally.proofs.Functions.{total_changed, total_none}
+use Rattle.block_store.proofs.Functions.{total_changed, total_none}
 use Rattle.work_account.proofs.Balances.{entered_sound}
 use Rattle.cycle_tally.specs.Tallies.{Spending, Tally, claims, given_now}
 use Rattle.cycle_tally.specs.Events.{Enter, Leave, SetCursor, Flip, Start, Clear, Next, with_thread, apply, FewInUse, NoClaim}

@@ -7,8 +7,7 @@ use Rattle.never_heap.specs.Histories.{HistoryItem, Started, Did}
 use Rattle.never_heap.specs.Given.{given}
 use Rattle.never_heap.specs.Cycles.{before_start, after_start}
 use Rattle.never_heap.specs.Taken.{taken_in}
-use Rattle.work_account.specs.Sums.{total}
-use Rattle.cycle_tally.specs.Tallies.{changed}
+use Rattle.block_store.specs.Counts.{changed, total}
 use Rattle.work_account.specs.Accounts.{Balance, entered, with_unit, published, units_in, given_in}
 use Rattle.cycle_tally.specs.Tallies.{Spending, claims}
 

@@ -4,10 +4,9 @@ use Rattle.std.proofs.lemmas.Bool.{cases_eq, cases_lt, cases_Bool, both_ways, le
 use Rattle.std.proofs.lemmas.Nat.{le-div, div-add-mod'}
 use Rattle.block_store.specs.declared.Config.{Config}
 use Rattle.block_store.specs.Phases.{bit}
-use Rattle.work_account.specs.Sums.{total}
-use Rattle.cycle_tally.specs.Tallies.{changed}
+use Rattle.block_store.specs.Counts.{changed, total}
 use Rattle.work_account.specs.Accounts.{Balance, with_unit, IsSound, units_in, given_in}
-use Rattle.cycle_tally.proofs.Functions.{total_changed, total_part, bit_le, bit_one}
+use Rattle.block_store.proofs.Functions.{total_changed, total_part, bit_le, bit_one}
 use Rattle.work_account.proofs.Balances.{unit_sound}
 use Rattle.cycle_tally.specs.Tallies.{Spending, Tally, claims}
 use Rattle.cycle_tally.specs.Events.{Paint, Scan, Claim, Pass, apply, NoClaim}

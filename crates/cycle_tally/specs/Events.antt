@@ -10,7 +10,8 @@ use Rattle.never_heap.specs.LiveBlocks.{live_blocks}
 use Rattle.never_heap.specs.Taken.{taken_by}
 use Rattle.never_heap.specs.Steps.{blocks_of}
 use Rattle.work_account.specs.Accounts.{Balance, entered, with_unit, published, refused}
-use Rattle.cycle_tally.specs.Tallies.{Spending, Tally, changed, units_now}
+use Rattle.cycle_tally.specs.Tallies.{Spending, Tally, units_now}
+use Rattle.block_store.specs.Counts.{changed}
 
 pub data Event : Type 0 where
   Enter : (t : ℕ) → Event  -- thread t goes in at the gate

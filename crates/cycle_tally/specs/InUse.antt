@@ -10,7 +10,7 @@ use Rattle.never_heap.specs.Histories.{HistoryItem, replay, starts_in}
 use Rattle.never_heap.specs.Cycles.{graph_at}
 use Rattle.never_heap.specs.LiveBlocks.{object_blocks}
 use Rattle.never_heap.specs.Reach.{reachable}
-use Rattle.work_account.specs.Sums.{total}
+use Rattle.block_store.specs.Counts.{total}
 
 -- the graph at the last start
 abbrev pub graph_then : Config → List HistoryItem → Graph

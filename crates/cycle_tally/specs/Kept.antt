@@ -8,7 +8,7 @@ use Rattle.never_heap.specs.Given.{given}
 use Rattle.never_heap.specs.Licensed.{Licensed}
 use Rattle.never_heap.specs.LiveBlocks.{live_blocks}
 use Rattle.never_heap.specs.RightWork.{RightWork}
-use Rattle.work_account.specs.Sums.{total}
+use Rattle.block_store.specs.Counts.{total}
 use Rattle.work_account.specs.Accounts.{IsSound, units_in}
 use Rattle.cycle_tally.specs.Entries.{entries_in, InThreads}
 use Rattle.cycle_tally.specs.Tallies.{Spending, Tally, claims, units_now, given_now, reserved_now, paid_now}

@@ -3,12 +3,8 @@
 use Rattle.std.specs.Prelude.{ℕ, suc, ◌+◌, ◌==◌, ◌&&◌, nat_lt, nat_le, cond, Bool, List}
 use Rattle.block_store.specs.Phases.{bit}
 use Rattle.never_heap.specs.Histories.{HistoryItem}
-use Rattle.work_account.specs.Sums.{total}
+use Rattle.block_store.specs.Counts.{total}
 use Rattle.work_account.specs.Accounts.{Balance, given_in}
-
--- the function that is v at t, and f elsewhere
-abbrev pub changed : {A : Type 0} → (ℕ → A) → ℕ → A → ℕ → A
-changed f t v = λ u. cond (t == u) v (f u)
 
 -- what is counted of a thread
 pub record Spending : Type 0 where

@@ -8,7 +8,7 @@ use Rattle.block_store.specs.Heaps.{Heap, put_at}
 use Rattle.block_store.specs.Payloads.{target}
 use Rattle.block_store.specs.Widths.{payloads}
 use Rattle.block_store.specs.Places.{extent, GreyList, ColourOf, PayloadOf}
-use Rattle.heap_machine.specs.Counts.{changed}
+use Rattle.block_store.specs.Counts.{changed}
 use Rattle.heap_machine.specs.Grey.{GreyHolding, no_grey, GreyKept}
 use Rattle.heap_machine.specs.Holdings.{grey_held}
 use Rattle.heap_machine.specs.Operations.{place_of, heap_after}

@@ -9,7 +9,7 @@ use Rattle.block_store.specs.Heaps.{Heap, put_at}
 use Rattle.block_store.specs.Phases.{is_sweep, cycle_of}
 use Rattle.block_store.specs.Places.{Extent, extent, Phase, GreyList, ColourOf}
 use Rattle.block_store.specs.Widths.{payloads}
-use Rattle.heap_machine.specs.Counts.{changed}
+use Rattle.block_store.specs.Counts.{changed}
 use Rattle.heap_machine.specs.FreeBlocks.{no_free}
 use Rattle.heap_machine.specs.Grey.{GreyHolding, GreyKept}
 use Rattle.heap_machine.specs.Holdings.{Holding, grey_held, free_held, sweep_held}

@@ -7,7 +7,7 @@ ghost use Rattle.block_store.specs.Heaps.{Heap};
 ghost use Rattle.block_store.specs.Widths.{payloads};
 ghost use Rattle.block_store.specs.Places.{Extent, extent, in_range, GreyList, ColourOf, PayloadOf, IsBlock};
 ghost use Rattle.block_store.specs.Payloads.{target};
-ghost use Rattle.heap_machine.specs.Counts.{changed};
+ghost use Rattle.block_store.specs.Counts.{changed};
 ghost use Rattle.heap_machine.specs.Grey.{GreyHolding, no_grey, GreyKept};
 ghost use Rattle.heap_machine.specs.Tricolour.{TricolourHolding, no_tricolour, TricolourKept};
 ghost use Rattle.heap_machine.specs.Solid.{SolidKept};

@@ -6,7 +6,7 @@ ghost use Rattle.block_store.specs.declared.Config.{Config};
 ghost use Rattle.block_store.specs.Heaps.{Heap};
 ghost use Rattle.block_store.specs.Phases.{is_sweep, cycle_of};
 ghost use Rattle.block_store.specs.Places.{extent, Phase};
-ghost use Rattle.heap_machine.specs.Counts.{changed};
+ghost use Rattle.block_store.specs.Counts.{changed};
 ghost use Rattle.heap_machine.specs.Grey.{GreyKept};
 ghost use Rattle.heap_machine.specs.Holdings.{Holding, grey_held};
 ghost use Rattle.heap_machine.specs.Operations.{place_of, heap_after};

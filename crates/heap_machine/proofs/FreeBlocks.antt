@@ -7,12 +7,12 @@ use Rattle.block_store.specs.Heaps.{Heap, put_at}
 use Rattle.block_store.specs.Phases.{bit}
 use Rattle.block_store.specs.Places.{Extent, Place, Phase, Cursor, FreeCount, GreyList, FreeList, ColourOf, OwnerOf, ShapeOf, PayloadOf, is_block}
 use Rattle.heap_machine.specs.Chains.{Chain}
-use Rattle.heap_machine.specs.Counts.{times, total, changed}
+use Rattle.block_store.specs.Counts.{changed, times, total}
 use Rattle.heap_machine.specs.FreeBlocks.{FreeHolding, FreeOf, FreeKept, is_of_free}
 use Rattle.heap_machine.specs.Operations.{Operation, Load, Exchange, CompareExchange, FetchAdd, FetchSub, place_of, heap_after}
 use Rattle.heap_machine.proofs.Chaining.{Chain-zero, Chain-step, Chain-outside, Chain-front}
 use Rattle.heap_machine.proofs.GreyBlocks.{first_stands}
-use Rattle.heap_machine.proofs.Functions.{changed_both, total_changed, total_part, total_parts, total_same, total_bits, bit_one, bit_le}
+use Rattle.block_store.proofs.Functions.{changed_both, total_changed, total_part, total_parts, total_same, total_bits, bit_one, bit_le}
 
 abbrev pub colours : Heap → ℕ → ℕ
 colours h x = h (ColourOf x)

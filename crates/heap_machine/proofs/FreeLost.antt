@@ -6,11 +6,11 @@ use Rattle.block_store.specs.Heaps.{Heap, put_at}
 use Rattle.block_store.specs.Phases.{bit}
 use Rattle.block_store.specs.Places.{Extent, FreeList, ColourOf, is_block}
 use Rattle.heap_machine.specs.Chains.{Chain}
-use Rattle.heap_machine.specs.Counts.{times, total, changed}
+use Rattle.block_store.specs.Counts.{changed, times, total}
 use Rattle.heap_machine.specs.FreeBlocks.{FreeHolding, FreeKept}
 use Rattle.heap_machine.proofs.Chaining.{Chain-zero, Chain-one}
 use Rattle.heap_machine.proofs.FreeBlocks.{colours, free_first}
-use Rattle.heap_machine.proofs.Functions.{total_none, total_part, total_parts, bit_le}
+use Rattle.block_store.proofs.Functions.{total_none, total_part, total_parts, bit_le}
 use Rattle.heap_machine.proofs.GreyBlocks.{first_stands}
 
 module _ (ex : Extent) (h : Heap) (fs : ℕ → FreeHolding) (k : FreeKept ex h fs) (t : ℕ)

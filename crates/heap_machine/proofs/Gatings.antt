@@ -4,9 +4,9 @@ use Rattle.std.proofs.lemmas.Bool.{cases_eq}
 use Rattle.block_store.specs.Phases.{bit, phase_of, inside_of, is_sweep, is_closed, cycle_of}
 use Rattle.block_store.proofs.PhaseWords.{phase-more, phase-less, phase-code}
 use Rattle.block_store.specs.declared.PhaseWord.{PhaseWord}
-use Rattle.heap_machine.specs.Counts.{changed, total}
+use Rattle.block_store.specs.Counts.{changed, total}
 use Rattle.heap_machine.specs.Gating.{Stand, Outside, Inside, Closing, is_outside, is_inside, is_closing, Gating, GateOf, closed_word, open_word}
-use Rattle.heap_machine.proofs.Functions.{bit_one, bit_le, changed_both, total_changed, total_part, total_parts, total_bits, total_none}
+use Rattle.block_store.proofs.Functions.{bit_one, bit_le, changed_both, total_changed, total_part, total_parts, total_bits, total_none}
 
 -- the four parts of one word are those of another, but for the inside count
 parts : (v w i : ℕ) → phase_of v ≡ record (phase_of w) { inside = i } → (inside_of v ≡ i) × (is_sweep v ≡ is_sweep w) × (is_closed v ≡ is_closed w) × (cycle_of v ≡ cycle_of w)

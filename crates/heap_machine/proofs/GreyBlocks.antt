@@ -6,11 +6,11 @@ use Rattle.block_store.specs.Colours.{is_grey}
 use Rattle.block_store.specs.Heaps.{Heap, put_at}
 use Rattle.block_store.specs.Phases.{bit}
 use Rattle.heap_machine.specs.Chains.{Chain}
-use Rattle.heap_machine.specs.Counts.{times, total, changed}
+use Rattle.block_store.specs.Counts.{changed, times, total}
 use Rattle.heap_machine.specs.Grey.{GreyHolding, GreyKept, Stands, is_of_grey}
 use Rattle.heap_machine.specs.Operations.{Operation, Load, Exchange, CompareExchange, FetchAdd, FetchSub, place_of, heap_after}
 use Rattle.heap_machine.proofs.Chaining.{Chain-zero, Chain-step, Chain-outside}
-use Rattle.heap_machine.proofs.Functions.{changed_both, total_changed, total_part, total_parts, total_none, bit_one, bit_zero, bit_le}
+use Rattle.block_store.proofs.Functions.{changed_both, total_changed, total_part, total_parts, total_none, bit_one, bit_zero, bit_le}
 
 pub Stands-outside : (c : ℕ → ℕ) (y v : ℕ) (o : Option ℕ) (a : ℕ) (xs : List ℕ) → times y xs ≡ 0 → Stands c o a xs → Stands (λ x. cond (eqb y x) v (c x)) o a xs
 Stands-outside c y v None a xs out k = Chain-outside c y v xs a out k

@@ -7,10 +7,10 @@ use Rattle.block_store.proofs.ColourWords.{link-grey, grey_grey}
 use Rattle.block_store.specs.Heaps.{Heap, put_at}
 use Rattle.block_store.specs.Phases.{bit}
 use Rattle.heap_machine.specs.Chains.{Chain}
-use Rattle.heap_machine.specs.Counts.{times, total, changed}
+use Rattle.block_store.specs.Counts.{changed, times, total}
 use Rattle.heap_machine.specs.Grey.{GreyHolding, no_grey, GreyKept, Stands}
 use Rattle.heap_machine.proofs.Chaining.{Chain-zero, Chain-step, Chain-outside, Chain-front}
-use Rattle.heap_machine.proofs.Functions.{total_part, bit_le}
+use Rattle.block_store.proofs.Functions.{total_part, bit_le}
 use Rattle.heap_machine.proofs.GreyBlocks.{Stands-scan, none_stands, colours, kept_held, kept_list, kept_colour}
 
 -- the hand with y in front, behind the block under scan

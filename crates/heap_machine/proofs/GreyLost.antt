@@ -4,10 +4,10 @@ use Rattle.std.proofs.lemmas.Bool.{cases_eq, cases_lt}
 use Rattle.block_store.specs.Places.{GreyList}
 use Rattle.block_store.specs.Heaps.{Heap, put_at}
 use Rattle.heap_machine.specs.Chains.{Chain}
-use Rattle.heap_machine.specs.Counts.{times, changed}
+use Rattle.block_store.specs.Counts.{changed, times}
 use Rattle.heap_machine.specs.Grey.{GreyHolding, no_grey, GreyKept, Stands}
 use Rattle.heap_machine.proofs.Chaining.{Chain-zero, Chain-one}
-use Rattle.heap_machine.proofs.Functions.{total_none}
+use Rattle.block_store.proofs.Functions.{total_none}
 use Rattle.heap_machine.proofs.GreyBlocks.{Stands-scan, colours, stands_once, one_list, list_or_hand, first_is_grey, first_stands}
 
 Stands-one : (c : ℕ → ℕ) (o : Option ℕ) (a : ℕ) (xs ys : List ℕ) → Stands c o a xs → Stands c o a ys → xs ≡ ys

@@ -4,13 +4,13 @@ use Rattle.std.proofs.lemmas.Bool.{cases_eq}
 use Rattle.block_store.specs.Heaps.{Heap, put_at}
 use Rattle.block_store.specs.Payloads.{target}
 use Rattle.block_store.specs.Places.{Extent, Place, ColourOf, PayloadOf}
-use Rattle.heap_machine.specs.Counts.{changed}
+use Rattle.block_store.specs.Counts.{changed}
 use Rattle.heap_machine.specs.Grey.{is_of_grey}
 use Rattle.heap_machine.specs.HeapKept.{HeapKept, is_ruled, CanColour, CanRefer}
 use Rattle.heap_machine.specs.Holdings.{Holding, grey_held, tricolour_held}
 use Rattle.heap_machine.specs.Operations.{Operation, Exchange, place_of, heap_after}
 use Rattle.heap_machine.specs.Tricolour.{is_of_tricolour}
-use Rattle.heap_machine.proofs.Functions.{funext}
+use Rattle.block_store.proofs.Functions.{funext}
 use Rattle.heap_machine.proofs.GreyBlocks.{kept_other, kept_other_colour}
 use Rattle.heap_machine.proofs.Solids.{solid_other, solid_colour, solid_payload}
 use Rattle.heap_machine.proofs.Tricolours.{tricolour_other, kept_colour, kept_payload}

@@ -1,4 +1,3 @@
-pub mod Functions
 pub mod Chaining
 pub mod HeapAfter
 pub mod GateRows

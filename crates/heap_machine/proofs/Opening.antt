@@ -7,10 +7,10 @@ use Rattle.block_store.specs.Heaps.{Heap}
 use Rattle.block_store.specs.Phases.{bit}
 use Rattle.block_store.specs.Places.{Extent, FreeCount, FreeList, ColourOf, is_block}
 use Rattle.heap_machine.specs.Chains.{Chain}
-use Rattle.heap_machine.specs.Counts.{times, total, changed}
+use Rattle.block_store.specs.Counts.{changed, times, total}
 use Rattle.heap_machine.specs.FreeBlocks.{FreeHolding, no_free, FreeKept, FreeFrom}
 use Rattle.heap_machine.proofs.FreeBlocks.{colours, block_is}
-use Rattle.heap_machine.proofs.Functions.{total_changed, total_none}
+use Rattle.block_store.proofs.Functions.{total_changed, total_none}
 
 -- n blocks from x on
 abbrev ascending : ℕ → ℕ → List ℕ

@@ -4,7 +4,7 @@ use Rattle.block_store.specs.Colours.{is_free, white_word}
 use Rattle.block_store.specs.Heaps.{Heap, put_at}
 use Rattle.block_store.specs.Phases.{is_sweep, cycle_of}
 use Rattle.block_store.specs.Places.{Extent, Phase, Cursor, ColourOf}
-use Rattle.heap_machine.specs.Counts.{changed}
+use Rattle.block_store.specs.Counts.{changed}
 use Rattle.heap_machine.specs.FreeBlocks.{FreeHolding, FreeKept, is_of_free}
 use Rattle.heap_machine.specs.Holdings.{Holding, free_held, sweep_held}
 use Rattle.heap_machine.specs.Operations.{Operation, Exchange, place_of, heap_after}

@@ -5,10 +5,10 @@ use Rattle.block_store.specs.Colours.{white_word}
 use Rattle.block_store.specs.Heaps.{Heap, put_at}
 use Rattle.block_store.specs.Phases.{bit, is_sweep, cycle_of}
 use Rattle.block_store.specs.Places.{Extent, Place, Phase, Cursor, FreeCount, GreyList, FreeList, ColourOf, OwnerOf, ShapeOf, PayloadOf}
-use Rattle.heap_machine.specs.Counts.{changed}
+use Rattle.block_store.specs.Counts.{changed}
 use Rattle.heap_machine.specs.Operations.{Operation, Load, Exchange, CompareExchange, FetchAdd, FetchSub, place_of, heap_after}
 use Rattle.heap_machine.specs.Sweeping.{SweepHolding, no_claim, rest_of, has_claimed, claims, IsRange, SweepOf, SweepKept, is_of_sweep}
-use Rattle.heap_machine.proofs.Functions.{changed_both, total_changed, total_parts, total_none, bit_le}
+use Rattle.block_store.proofs.Functions.{changed_both, total_changed, total_parts, total_none, bit_le}
 
 -- a block in the range, below it, and behind it
 pub claimed_in : (w : SweepHolding) (x : ℕ) → w.low ≤ x → x < w.high → has_claimed w x ≡ true

@@ -6,10 +6,10 @@ use Rattle.block_store.specs.Heaps.{Heap, put_at}
 use Rattle.block_store.specs.Payloads.{target}
 use Rattle.block_store.specs.Widths.{payloads}
 use Rattle.block_store.specs.Places.{Extent, Place, Phase, Cursor, FreeCount, GreyList, FreeList, ColourOf, OwnerOf, ShapeOf, PayloadOf}
-use Rattle.heap_machine.specs.Counts.{changed}
+use Rattle.block_store.specs.Counts.{changed}
 use Rattle.heap_machine.specs.Operations.{Operation, Load, Exchange, CompareExchange, FetchAdd, FetchSub, place_of, heap_after}
 use Rattle.heap_machine.specs.Tricolour.{TricolourHolding, no_tricolour, NotWhite, TricolourKept, is_of_tricolour}
-use Rattle.heap_machine.proofs.Functions.{changed_both}
+use Rattle.block_store.proofs.Functions.{changed_both}
 
 abbrev pub colours : Heap → ℕ → ℕ
 colours h x = h (ColourOf x)

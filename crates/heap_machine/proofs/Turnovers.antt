@@ -4,7 +4,7 @@ use Rattle.std.proofs.lemmas.Bool.{cases_Bool, cases_eq, and_parts, lt-ltb, le-l
 use Rattle.block_store.specs.Heaps.{Heap, put_at}
 use Rattle.block_store.specs.Places.{Phase, Cursor, GreyList}
 use Rattle.block_store.specs.Phases.{inside_of, is_sweep, is_closed, cycle_of}
-use Rattle.heap_machine.specs.Counts.{changed}
+use Rattle.block_store.specs.Counts.{changed}
 use Rattle.heap_machine.specs.Gating.{Outside, Closing, is_outside, Gating, GateOf, closed_word}
 use Rattle.heap_machine.specs.Operations.{Load, Exchange, place_of, heap_after}
 use Rattle.heap_machine.specs.Gates.{gate_want, gate_got, is_of_pass, is_empty, look_to_close, list_checked, IsIdle, SeenEmpty, GateFits}

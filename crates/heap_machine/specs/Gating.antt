@@ -2,7 +2,7 @@
 -- and nobody is inside; and a thread inside has the phase and cycle of the word.
 use Rattle.std.specs.Prelude.{ℕ, ◌<◌, ◌≡◌, Bool, true, false}
 use Rattle.block_store.specs.Phases.{bit, phase_code, phase_of, inside_of, is_sweep, is_closed, cycle_of}
-use Rattle.heap_machine.specs.Counts.{total}
+use Rattle.block_store.specs.Counts.{total}
 
 -- the word w with the gate closed
 abbrev pub closed_word : ℕ → ℕ

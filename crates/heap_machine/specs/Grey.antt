@@ -7,7 +7,7 @@ use Rattle.block_store.specs.Heaps.{Heap}
 use Rattle.block_store.specs.Phases.{bit}
 use Rattle.block_store.specs.Places.{Place, GreyList, ColourOf}
 use Rattle.heap_machine.specs.Chains.{Chain}
-use Rattle.heap_machine.specs.Counts.{times, total}
+use Rattle.block_store.specs.Counts.{times, total}
 
 -- what a thread holds of the grey blocks: the first block of the list in its hand, or 0; the block
 -- that it scans; and whether its own list is known to be empty: it was taken in this pass, or

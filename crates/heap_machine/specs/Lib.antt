@@ -3,7 +3,6 @@ pub mod Readings
 pub mod Passes
 pub mod Gates
 pub mod Turning
-pub mod Counts
 pub mod Chains
 pub mod Gating
 pub mod Grey

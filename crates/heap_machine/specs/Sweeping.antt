@@ -5,7 +5,7 @@ use Rattle.block_store.specs.Colours.{white_word}
 use Rattle.block_store.specs.Heaps.{Heap}
 use Rattle.block_store.specs.Phases.{bit, is_sweep, cycle_of}
 use Rattle.block_store.specs.Places.{Extent, Place, Phase, Cursor, ColourOf}
-use Rattle.heap_machine.specs.Counts.{total}
+use Rattle.block_store.specs.Counts.{total}
 
 -- the blocks that a thread has claimed and not yet passed: those from low on below high, where
 -- (0, 0) is none; and the block among them that it has read white and is about to free, or 0

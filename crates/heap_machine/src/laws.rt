@@ -10,7 +10,7 @@ ghost use Rattle.block_store.specs.Phases.{bit, inside_of, is_closed, is_sweep, 
 ghost use Rattle.block_store.specs.Heaps.{Heap, heap_of, put_at};
 ghost use Rattle.heap_machine.specs.Operations.{Operation, Load, Exchange, Fits, place_of, heap_after, op_at, op_place, words_after};
 ghost use Rattle.heap_machine.specs.Readings.{CanHold, StoresHeld, IsHeld};
-ghost use Rattle.heap_machine.specs.Counts.{changed, times, total};
+ghost use Rattle.block_store.specs.Counts.{changed, times, total};
 ghost use Rattle.heap_machine.specs.Chains.{Chain};
 ghost use Rattle.heap_machine.specs.Grey.{GreyHolding, no_grey, GreyKept, is_of_grey};
 ghost use Rattle.heap_machine.specs.Tricolour.{TricolourHolding, no_tricolour, NotWhite, TricolourKept, Tricolour, is_of_tricolour};

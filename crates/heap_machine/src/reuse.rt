@@ -7,7 +7,7 @@ ghost use Rattle.block_store.specs.Colours.{link, is_free, free_word, white_word
 ghost use Rattle.block_store.specs.Phases.{bit, inside_of, is_sweep, cycle_of};
 ghost use Rattle.block_store.specs.Heaps.{Heap, put_at};
 ghost use Rattle.heap_machine.specs.Operations.{Operation, place_of, heap_after};
-ghost use Rattle.heap_machine.specs.Counts.{changed, times, total};
+ghost use Rattle.block_store.specs.Counts.{changed, times, total};
 ghost use Rattle.heap_machine.specs.FreeBlocks.{FreeHolding, no_free, FreeFrom, FreeKept, count_free, is_of_free};
 ghost use Rattle.heap_machine.specs.Sweeping.{SweepHolding, no_claim, rest_of, has_claimed, claims, SweepKept, is_of_sweep};
 ghost use Rattle.heap_machine.specs.Grey.{GreyKept};

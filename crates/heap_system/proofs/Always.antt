@@ -21,7 +21,7 @@ use Rattle.shown_graph.proofs.Opening.{opening_shows}
 use Rattle.shown_graph.proofs.Stores.{words_change, more_pending}
 use Rattle.heap_machine.specs.Grey.{no_grey}
 use Rattle.heap_machine.specs.Gating.{Gating, is_outside, is_inside, is_closing}
-use Rattle.heap_machine.proofs.Functions.{total_none}
+use Rattle.block_store.proofs.Functions.{total_none}
 use Rattle.heap_system.specs.declared.local.Part.TheVariants.{Rest}
 use Rattle.heap_system.specs.Locals.{LocalState, no_pass, at_start, command_of, verdict}
 use Rattle.heap_system.specs.Machines.{State, no_local, local_at, event_done, has_event, word_read, entries_by, Run, next, after_turns, starts_from, IsOpening, IsJob, opened, IsRunOf}

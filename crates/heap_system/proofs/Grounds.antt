@@ -39,10 +39,10 @@ use Rattle.never_heap.proofs.Starting.{register_of_start}
 use Rattle.shown_graph.specs.Words.{part_word, value_word}
 use Rattle.shown_graph.specs.Openings.{register_word, shared_word}
 use Rattle.array_trees.specs.Openings.{opening_blocks}
-use Rattle.heap_machine.specs.Counts.{total}
+use Rattle.block_store.specs.Counts.{total}
 use Rattle.heap_machine.specs.Grey.{GreyHolding, no_grey, Stands, GreyKept}
 use Rattle.heap_machine.specs.Readings.{CanHold, IsPhaseWord, IsHeld}
-use Rattle.heap_machine.proofs.Functions.{total_none}
+use Rattle.block_store.proofs.Functions.{total_none}
 use Rattle.heap_system.specs.Openings.{is_root, opening_colour, opening_heap}
 
 some_is : {A : Type 0} (o : Option A) (x : A) → o ≡ Some x → IsSome o

@@ -21,7 +21,7 @@ use Rattle.shown_graph.specs.Shown.{every_name}
 use Rattle.shown_graph.specs.Openings.{opening_at}
 use Rattle.array_trees.specs.Openings.{opening_blocks}
 use Rattle.shown_graph.specs.Events.{Loading, unloaded, with_load, Follows}
-use Rattle.heap_machine.specs.Counts.{changed}
+use Rattle.block_store.specs.Counts.{changed}
 use Rattle.heap_machine.specs.Gates.{gate_want, gate_got, gate_entered}
 use Rattle.heap_machine.specs.Gating.{Gating, GateOf, Outside, Inside}
 use Rattle.heap_machine.specs.Operations.{heap_after}
@@ -30,7 +30,7 @@ use Rattle.heap_machine.specs.Readings.{IsPhaseWord, IsHeld}
 use Rattle.heap_machine.specs.declared.gate.GateRow.{GateRow}
 use Rattle.heap_machine.specs.declared.gate.GateRow.TheVariants as gates
 use Rattle.heap_machine.proofs.Gatings.{gate_leaves, gate_stays, inside_most, inside_some}
-use Rattle.heap_machine.proofs.Functions.{funext}
+use Rattle.block_store.proofs.Functions.{funext}
 use Rattle.heap_machine.proofs.Held.{held_put}
 use Rattle.heap_machine.specs.Holdings.{grey_held}
 use Rattle.heap_machine.specs.declared.pass.Pass.{Pass}

@@ -16,7 +16,7 @@ use Rattle.shown_graph.specs.Events.{Loading, with_load, GraphState, Event, Guar
 use Rattle.shown_graph.proofs.Serving.{run_follows}
 use Rattle.shown_graph.proofs.Names.{true≢false}
 use Rattle.heap_machine.specs.Operations.{heap_after, place_of}
-use Rattle.heap_machine.proofs.Functions.{funext}
+use Rattle.block_store.proofs.Functions.{funext}
 use Rattle.barrier_steps.specs.declared.rows.FieldRow.{FieldRow}
 use Rattle.barrier_steps.specs.declared.rows.FieldRow.TheVariants as rows
 use Rattle.barrier_steps.specs.Deciding.{is_deciding}

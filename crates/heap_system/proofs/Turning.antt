@@ -26,11 +26,11 @@ use Rattle.shown_graph.specs.Shown.{every_name}
 use Rattle.shown_graph.specs.Openings.{opening_at}
 use Rattle.array_trees.specs.Openings.{opening_blocks}
 use Rattle.shown_graph.specs.Events.{Loading, with_load, Follows}
-use Rattle.heap_machine.specs.Counts.{changed}
+use Rattle.block_store.specs.Counts.{changed}
 use Rattle.heap_machine.specs.Gating.{Gating, GateOf}
 use Rattle.heap_machine.specs.Grey.{GreyHolding}
 use Rattle.heap_machine.specs.Operations.{heap_after, place_of, op_at, op_place, SumFits}
-use Rattle.heap_machine.proofs.Functions.{funext}
+use Rattle.block_store.proofs.Functions.{funext}
 use Rattle.heap_machine.proofs.HeapAfter.{heap_of-after, length-after, op_place_below, sum_fits, word_before}
 use Rattle.heap_system.specs.declared.local.Part.{Part}
 use Rattle.heap_system.specs.declared.local.Part.TheVariants.{Rest, Leave}

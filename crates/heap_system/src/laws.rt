@@ -21,7 +21,7 @@ ghost use Rattle.shown_graph.specs.Shown.{every_name, Shows};
 ghost use Rattle.shown_graph.specs.Openings.{opening_at, opening_words};
 ghost use Rattle.array_trees.specs.Openings.{opening_blocks};
 ghost use Rattle.shown_graph.specs.Events.{unloaded, pending_registers, Follows};
-ghost use Rattle.heap_machine.specs.Counts.{total};
+ghost use Rattle.block_store.specs.Counts.{total};
 ghost use Rattle.heap_machine.specs.Gating.{is_inside};
 ghost use Rattle.heap_machine.specs.Grey.{GreyKept};
 ghost use Rattle.heap_machine.specs.Holdings.{holds_nothing, grey_held};

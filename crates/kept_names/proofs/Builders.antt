@@ -18,7 +18,8 @@ use Rattle.shown_graph.proofs.Blocks.{other_block}
 use Rattle.shown_graph.proofs.ObjectLayouts.{layout_laws}
 use Rattle.shown_graph.proofs.Stores.{words_change}
 use Rattle.kept_names.specs.Building.{Build, build_blocks, build_owner, build_shape, build_payload, with_owner, with_shape, IsBuild, IsBuilt, NotHeld, IsHeldOnce}
-use Rattle.kept_names.specs.Colouring.{changed, IfRefers, IsDark, NotRoot, SweepColours}
+use Rattle.kept_names.specs.Colouring.{IfRefers, IsDark, NotRoot, SweepColours}
+use Rattle.block_store.specs.Counts.{changed}
 use Rattle.kept_names.specs.States.{KeptState, sizes, Known, Kept}
 use Rattle.kept_names.specs.Events.{apply, build_at, held_at, reserved, collected, with_words, with_build, IsBuilding, HasAll, IsFreeBlock, Guard}
 use Rattle.kept_names.specs.Events.KeptEvent.{Reserve, Collect, WriteOwner, WriteShape, WritePayload, WriteColour}

@@ -11,7 +11,7 @@ use Rattle.shown_graph.specs.Layouts.{layout_blocks}
 use Rattle.shown_graph.specs.Made.{IsWritten}
 use Rattle.shown_graph.specs.Words.{Agrees, BlockWords, with_payload}
 use Rattle.shown_graph.proofs.Blocks.{other_block}
-use Rattle.kept_names.specs.Colouring.{changed}
+use Rattle.block_store.specs.Counts.{changed}
 use Rattle.kept_names.specs.Building.{Build, build_blocks, build_owner, build_shape, build_payload, with_owner, with_shape, IsBegun, IsBuild}
 use Rattle.kept_names.specs.Events.{collected}
 use Rattle.kept_names.proofs.Colours.{differ, changed_case, changed_here, changed_else, black_solid}

@@ -9,7 +9,8 @@ use Rattle.block_store.specs.Registers.{root_block}
 use Rattle.block_store.specs.Widths.{payloads}
 use Rattle.block_store.proofs.ColourWords.{black-white, not_free_black, not_free_white, not_grey_black, not_grey_white}
 use Rattle.block_store.proofs.Registers.{one_root}
-use Rattle.kept_names.specs.Colouring.{changed, IfRefers, IsDark, IsColoured, IsRegisterBlock, NotRoot, IsBlockOf, Belongs, IsShadedRoot, SweepColours}
+use Rattle.kept_names.specs.Colouring.{IfRefers, IsDark, IsColoured, IsRegisterBlock, NotRoot, IsBlockOf, Belongs, IsShadedRoot, SweepColours}
+use Rattle.block_store.specs.Counts.{changed}
 use Rattle.kept_names.specs.Kept.{IsPainted}
 use Rattle.kept_names.proofs.Referring.{root_in}
 

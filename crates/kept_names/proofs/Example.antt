@@ -20,7 +20,8 @@ use Rattle.never_heap.specs.Graphs.{register_of}
 use Rattle.never_heap.specs.Reach.{reachable}
 use Rattle.shown_graph.specs.Events.{unloaded}
 use Rattle.kept_names.specs.Building.{Build, build_blocks, IsHeldOnce}
-use Rattle.kept_names.specs.Colouring.{changed, IfRefers, IsTricolour, NotRoot}
+use Rattle.kept_names.specs.Colouring.{IfRefers, IsTricolour, NotRoot}
+use Rattle.block_store.specs.Counts.{changed}
 use Rattle.kept_names.specs.States.{KeptState}
 use Rattle.kept_names.specs.Events.{KeptEvent, apply, run, Guarded, IsAlone, IsWriting, build_at, held_at}
 use Rattle.kept_names.specs.Events.KeptEvent.{ShadeRoot}

@@ -5,7 +5,7 @@ use Rattle.block_store.specs.declared.Width.{Width}
 use Rattle.block_store.specs.Colours.{is_free, black_word}
 use Rattle.block_store.specs.Registers.{registers_end}
 use Rattle.shown_graph.specs.Words.{Agrees, BlockWords}
-use Rattle.kept_names.specs.Colouring.{changed}
+use Rattle.block_store.specs.Counts.{changed}
 use Rattle.kept_names.specs.Building.{Build, build_blocks, IsBuild, NotHeld}
 use Rattle.kept_names.proofs.Colours.{differ, changed_else}
 

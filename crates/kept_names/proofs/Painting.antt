@@ -9,7 +9,7 @@ use Rattle.block_store.proofs.ColourWords.{not_free_black, not_free_grey, grey_g
 use Rattle.shown_graph.specs.Events.{HasValue, pending_registers}
 use Rattle.block_store.specs.declared.Width.{Width}
 use Rattle.shown_graph.specs.Words.{BlockWords}
-use Rattle.kept_names.specs.Colouring.{changed}
+use Rattle.block_store.specs.Counts.{changed}
 use Rattle.kept_names.specs.States.{KeptState, sizes, Kept, IsKnownBlock}
 use Rattle.kept_names.specs.Events.{apply, with_colour, loaded_word}
 use Rattle.kept_names.specs.Events.KeptEvent.{ReadWord, ShadeRead, Blacken, ShadeLoaded, Free, ShadeRoot}

@@ -33,7 +33,8 @@ use Rattle.shown_graph.proofs.Publish.{blocks_of_new, written_shows, publish, fr
 use Rattle.shown_graph.proofs.Serving.{some_map}
 use Rattle.shown_graph.proofs.Stores.{same_names, register_store, register_same}
 use Rattle.kept_names.specs.Building.{Build, build_blocks, IsBuild, IsBuilt}
-use Rattle.kept_names.specs.Colouring.{changed, NotRoot, Belongs, SweepColours}
+use Rattle.kept_names.specs.Colouring.{NotRoot, Belongs, SweepColours}
+use Rattle.block_store.specs.Counts.{changed}
 use Rattle.kept_names.specs.States.{KeptState, sizes, Known, Kept, IsKnownBlock, with_name}
 use Rattle.kept_names.specs.Events.{apply, build_at, made_entry, making, published, IsBuilding, HasAll}
 use Rattle.kept_names.specs.Events.KeptEvent.{Publish}

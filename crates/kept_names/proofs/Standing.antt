@@ -14,7 +14,8 @@ use Rattle.shown_graph.specs.Shown.{IsValueOf, heads, Shows}
 use Rattle.shown_graph.specs.Events.{pending_registers, value_at, HasValue, ValueIs}
 use Rattle.shown_graph.proofs.Names.{not_next, is_same}
 use Rattle.kept_names.specs.Building.{Build, build_blocks, IsBuild, IsBuilt, NotHeld, IsHeldOnce}
-use Rattle.kept_names.specs.Colouring.{changed, IfRefers, IsDark, IsColoured, IsRegisterBlock, NotRoot, IsBlockOf, Belongs, SweepColours}
+use Rattle.kept_names.specs.Colouring.{IfRefers, IsDark, IsColoured, IsRegisterBlock, NotRoot, IsBlockOf, Belongs, SweepColours}
+use Rattle.block_store.specs.Counts.{changed}
 use Rattle.kept_names.specs.States.{KeptState, sizes, Known, Kept, IsKnownBlock, IsKeptBlock}
 use Rattle.kept_names.specs.Events.{with_colour, loaded_word}
 use Rattle.kept_names.specs.Kept.{IsKept}

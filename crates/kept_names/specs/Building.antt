@@ -13,7 +13,7 @@ use Rattle.never_heap.specs.Graphs.{ObjectKind, Record}
 use Rattle.shown_graph.specs.Layouts.{layout_blocks, layout_part}
 use Rattle.shown_graph.specs.Made.{link_word, IsWritten}
 use Rattle.shown_graph.specs.Words.{BlockWords, kind_word}
-use Rattle.kept_names.specs.Colouring.{changed}
+use Rattle.block_store.specs.Counts.{changed}
 
 pub record Build : Type 0 where
   pub name : Name  -- that the object will have

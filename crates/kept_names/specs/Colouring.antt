@@ -8,10 +8,6 @@ use Rattle.block_store.specs.Payloads.{target}
 use Rattle.block_store.specs.Registers.{root_block, registers_end}
 use Rattle.block_store.specs.Widths.{payloads}
 
--- the function that is v at x, and f elsewhere
-abbrev pub changed : {A : Type 0} → (ℕ → A) → ℕ → A → ℕ → A
-changed f x v = λ y. cond (x == y) v (f y)
-
 -- P holds of the block to which a payload word refers, if it refers to one
 abbrev pub IfRefers : (ℕ → Type 0) → ℕ → Type 0
 IfRefers P word = target word ≢ 0 → P (target word)

@@ -23,7 +23,8 @@ use Rattle.shown_graph.specs.Events as commanded
 use Rattle.shown_graph.specs.Events.{GraphState, Event, HasValue, IsPrompt, unloaded, value_at}
 use Rattle.shown_graph.specs.Events.Event.{ReadObject, ReadValue, ReadShape, ReadLink, ReadField, StorePending, StoreValue, StoreConstant, StoreField, Finish}
 use Rattle.kept_names.specs.Building.{Build, build_in, build_blocks, build_owner, build_shape, build_payload, with_owner, with_shape, IsHeldOnce}
-use Rattle.kept_names.specs.Colouring.{changed, IsTricolour}
+use Rattle.kept_names.specs.Colouring.{IsTricolour}
+use Rattle.block_store.specs.Counts.{changed}
 use Rattle.kept_names.specs.States.{KeptState, with_name}
 
 pub data KeptEvent : Type 0 where

@@ -6,3 +6,4 @@ pub mod Kept
 pub mod Openings
 pub mod Reached
 pub mod Example
+pub mod Pictures

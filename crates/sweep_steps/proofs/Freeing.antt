@@ -9,7 +9,7 @@ use Rattle.block_store.specs.Heaps.{Heap, put_at}
 use Rattle.block_store.specs.Phases.{is_sweep, cycle_of}
 use Rattle.block_store.specs.Places.{Extent, extent, Place, Phase, Cursor, FreeCount, FreeList, ColourOf, same_place}
 use Rattle.block_store.proofs.Indexes.{one_place}
-use Rattle.heap_machine.specs.Counts.{changed}
+use Rattle.block_store.specs.Counts.{changed}
 use Rattle.heap_machine.specs.Grey.{GreyHolding, no_grey, GreyKept}
 use Rattle.heap_machine.specs.Holdings.{Holding, grey_held, free_held}
 use Rattle.heap_machine.specs.Operations.{Exchange, CompareExchange, FetchAdd, place_of, heap_after}

@@ -7,7 +7,7 @@ use Rattle.block_store.proofs.ColourWords.{not_free_white, free-white}
 use Rattle.block_store.specs.Heaps.{Heap, put_at}
 use Rattle.block_store.specs.Phases.{is_sweep, cycle_of}
 use Rattle.block_store.specs.Places.{Extent, extent, Phase, Cursor, FreeCount, FreeList, ColourOf}
-use Rattle.heap_machine.specs.Counts.{changed}
+use Rattle.block_store.specs.Counts.{changed}
 use Rattle.heap_machine.specs.FreeBlocks.{FreeHolding, FreeKept}
 use Rattle.heap_machine.specs.Holdings.{Holding, holds_nothing, free_held, sweep_held}
 use Rattle.heap_machine.specs.Operations.{Exchange, FetchAdd, place_of, heap_after}

@@ -6,7 +6,7 @@ ghost use Rattle.block_store.specs.Heaps.{Heap};
 ghost use Rattle.block_store.specs.Phases.{bit};
 ghost use Rattle.block_store.specs.Colours.{is_free, white_word};
 ghost use Rattle.block_store.specs.Places.{Extent, Place, extent, in_range, FreeList, ColourOf};
-ghost use Rattle.heap_machine.specs.Counts.{changed};
+ghost use Rattle.block_store.specs.Counts.{changed};
 ghost use Rattle.heap_machine.specs.Grey.{GreyKept};
 ghost use Rattle.heap_machine.specs.Holdings.{Holding, holds_nothing, grey_held};
 ghost use Rattle.heap_machine.specs.Operations.{Exchange, place_of, heap_after, Fits};

@@ -2,7 +2,7 @@
 use Rattle.std.proofs.Common.{◌≡◌, ℕ, zero, suc, ◌+◌, ◌-◌, ◌*◌, ◌/◌, ◌%◌, ◌≤◌, ◌<◌, arith, ap, inl, inr, eq-eqb, ne_eqb, lt-ltb}
 use Rattle.std.proofs.lemmas.Bool.{cases_eq, cases_lt, le-ltb}
 use Rattle.std.proofs.lemmas.Nat.{div-add-mod', le-div}
-use Rattle.work_account.specs.Sums.{total}
+use Rattle.block_store.specs.Counts.{total}
 use Rattle.work_account.specs.Accounts.{Balance, opened, entered, with_unit, published, refused, IsSound, units_in, given_in}
 
 pub opened_sound : (rate object : ℕ) → IsSound rate object opened

@@ -6,7 +6,7 @@
 mod tests;
 
 ghost use Rattle.std.specs.Prelude.{ℕ, ◌+◌, ◌*◌, ◌/◌, ◌<◌, ◌≤◌, ◌≡◌, ◌^◌};
-ghost use Rattle.work_account.specs.Sums.{total};
+ghost use Rattle.block_store.specs.Counts.{total};
 ghost use Rattle.work_account.specs.Accounts.{AccountState, Balance, IsSound, opened, entered, with_unit, published, refused, units_in, given_in};
 
 use std::marker::Model;

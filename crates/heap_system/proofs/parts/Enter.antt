@@ -24,7 +24,7 @@ use Rattle.block_store.proofs.PhaseWords.{phase-more}
 use Rattle.block_store.specs.declared.PhaseWord.{PhaseWord}
 use Rattle.never_heap.specs.declared.Command.{Command}
 use Rattle.never_heap.specs.Steps.{makes_object}
-use Rattle.heap_machine.specs.Counts.{changed}
+use Rattle.block_store.specs.Counts.{changed}
 use Rattle.heap_machine.proofs.Gatings.{gate_enters, gate_stays}
 use Rattle.heap_machine.specs.declared.pass.Pass.{Pass}
 use Rattle.barrier_steps.specs.Rows.{at_first_row, field_decided, first_row, field_reply}

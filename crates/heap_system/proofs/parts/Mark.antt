@@ -25,7 +25,7 @@ use Rattle.shown_graph.specs.Words.{BlockWords}
 use Rattle.heap_system.proofs.Marks.{mark_words, mark_phase, mark_solid}
 use Rattle.heap_system.proofs.Kept.{still, stays, Event, Seen, IsMark, MarkKept}
 use Rattle.shown_graph.specs.Events.{unloaded}
-use Rattle.heap_machine.specs.Counts.{changed}
+use Rattle.block_store.specs.Counts.{changed}
 use Rattle.heap_machine.specs.Grey.{GreyKept}
 use Rattle.heap_machine.proofs.Held.{held_after}
 use Rattle.heap_machine.specs.Holdings.{grey_held}

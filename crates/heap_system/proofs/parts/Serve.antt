@@ -41,7 +41,7 @@ use Rattle.barrier_steps.specs.Walks.{links_to, shape_length}
 use Rattle.barrier_steps.specs.Projection.{row_loading, loading_of, object_on}
 use Rattle.block_store.specs.Colours.{is_free}
 use Rattle.never_heap.specs.Steps.{step}
-use Rattle.heap_machine.specs.Counts.{changed}
+use Rattle.block_store.specs.Counts.{changed}
 use Rattle.heap_machine.specs.Grey.{no_grey, GreyKept, is_of_grey}
 use Rattle.heap_machine.proofs.GreyBlocks.{kept_other}
 use Rattle.heap_machine.proofs.Held.{held_after}
