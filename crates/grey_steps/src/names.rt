@@ -23,9 +23,9 @@ ghost use Rattle.grey_steps.specs.Ends.{is_shading, block_stored};
 ghost use Rattle.grey_steps.specs.Fits.{GreyFits};
 ghost use Rattle.grey_steps.specs.Rows.{GreyState, grey_want, grey_got, holding_at, scanning, shading};
 
-/// While the phase is Mark, in the cycle of the part, each event of a scan keeps what is kept of the
-/// names, where the thread's task is at the block that its row has found in a payload, and then at
-/// that of the next row. Each event of a shading keeps it with the task as it was, where the
+/// While the phase is Mark, in the cycle of the part, each event of a scan keeps what is kept of
+/// the names, where the thread's task is at the block that its row has found in a payload, and then
+/// at that of the next row. Each event of a shading keeps it with the task as it was, where the
 /// thread has loaded a value that refers to the block of the shading. A scan stays a scan, and a
 /// shading stays one of its block.
 pub fn rows_keep_the_names()
