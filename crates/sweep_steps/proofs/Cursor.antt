@@ -1,5 +1,5 @@
 -- Where the cursor goes: over the blocks that are claimed.
-use Rattle.std.proofs.Common.{◌≡◌, ℕ, ◌<◌, ◌≤◌, ◌+◌, ◌-◌, ◌||◌, cond, true, false, is_some, refl, arith, subst, sym, ap, ◌∙◌, inl, inr, eqb, ltb, eqb-true, ltb-true, ltb-false}
+use Rattle.std.proofs.Common.{◌≡◌, ℕ, zero, suc, length, ◌<◌, ◌+◌, ◌-◌, ◌||◌, cond, true, false, is_some, refl, arith, subst, sym, ap, ◌∙◌, inl, inr, eqb, ltb, eqb-true, ltb-true, ltb-false}
 use Rattle.std.proofs.lemmas.Bool.{cases_Bool}
 use Rattle.block_store.specs.declared.Config.{Config}
 use Rattle.block_store.specs.Colours.{white_word}
@@ -9,7 +9,7 @@ use Rattle.block_store.specs.Places.{Cursor, ColourOf}
 use Rattle.heap_machine.specs.Operations.{place_of, heap_after}
 use Rattle.sweep_steps.specs.declared.rows.SweepRow.{SweepRow}
 use Rattle.sweep_steps.specs.declared.rows.SweepRow.TheVariants.{ReadCursor, ClaimRange, PassBlock, TakeFree, FreeBlock, PutFree, Credit, Swept, NothingLeft}
-use Rattle.sweep_steps.specs.Ends.{row_passes, is_reading, unpassed}
+use Rattle.sweep_steps.specs.Ends.{row_passes, row_claims, blocks_from, is_reading, unpassed}
 use Rattle.sweep_steps.specs.Fits.{IsLeft, RowFits, SweepFits}
 use Rattle.sweep_steps.proofs.Passing.{nothing_read}
 use Rattle.sweep_steps.specs.Rows.{SweepState, row_want, row_got, after_read, after_range, next_block, before_free, range_end, sweep_want, sweep_got, sweep_holding, sweep_nothing}
@@ -39,37 +39,41 @@ white_left x high p a v = elim (cases_Bool (eqb v 0)) [ inl z ↦ rw z refl | in
 row_of : (c : Config) (s : SweepState) → SweepFits c s → RowFits s.blocks s.owed s.row
 row_of c s f = subst (λ m. RowFits m s.owed s.row) (sym f.blocks) f.row
 
-module _ (h : Heap) (t c m owed : ℕ) where
-  -- the cursor goes on by what is claimed, and what is claimed gets less by what is passed
-  abbrev Moves : SweepRow → Type 0
-  Moves r =
-      let w = h (place_of (row_want t c r)) in
-      heap_after h (row_want t c r) Cursor + left_at r
-      ≡ h Cursor + left_at (row_got c m owed r w) + bit (is_some (row_passes c r w))
+-- n blocks are n
+from_length : (x n : ℕ) → length (blocks_from x n) ≡ n
+from_length x zero = refl
+from_length x (suc n) = omega (arith, from_length (x + 1) n)
 
-  moves : (r : SweepRow) → RowFits m owed r → Moves r
-  moves ReadCursor f = omega (arith, read_left m owed (h Cursor))
-  moves (ClaimRange x high) f = elim (cases_Bool (eqb (h Cursor) x)) [
-    | inl won ↦ rw won (omega (arith, eqb-true (h Cursor) x won, f.left))
-    | inr lost ↦ rw lost (omega arith)
-  ]
-  moves (PassBlock x high p a v) f = elim (cases_Bool (eqb (h (ColourOf x)) (white_word c))) [
-    | inl white ↦ rw white (omega (arith, white_left x high p a v))
-    | inr dark ↦ rw dark (omega (arith, next_left x high p a v f.0.left))
-  ]
-  moves (TakeFree x high p) f = omega arith
-  moves (FreeBlock x high p a v) f = omega (arith, next_left x high p x (v + 1) f.0.left)
-  moves (PutFree a p v) f = omega arith
-  moves (Credit p v) f = omega arith
-  moves (Swept p v) f = omega arith
-  moves NothingLeft f = omega arith
+-- the cursor goes on by what is claimed
+claims : (h : Heap) (t c m owed : ℕ) (r : SweepRow) → RowFits m owed r
+    → heap_after h (row_want t c r) Cursor
+    ≡ h Cursor + length (row_claims r (h (place_of (row_want t c r))))
+claims h t c m owed (ClaimRange x high) f = elim (cases_Bool (eqb (h Cursor) x)) [
+  | inl won ↦ rw won (omega (arith, eqb-true (h Cursor) x won, f.left, from_length x (high - x)))
+  | inr lost ↦ rw lost (omega arith)
+]
+claims h t c m owed _ f = omega arith
 
-  rises : (r : SweepRow) → RowFits m owed r → h Cursor ≤ heap_after h (row_want t c r) Cursor
-  rises (ClaimRange x high) f = elim (cases_Bool (eqb (h Cursor) x)) [
-    | inl won ↦ rw won (omega (arith, eqb-true (h Cursor) x won, f.left))
-    | inr lost ↦ rw lost (omega arith)
-  ]
-  rises _ f = omega arith
+-- what a thread has left gets more by what is claimed, and less by what is passed
+leaves : (c m owed : ℕ) (r : SweepRow) (w : ℕ) → RowFits m owed r
+    → left_at r + length (row_claims r w)
+    ≡ left_at (row_got c m owed r w) + bit (is_some (row_passes c r w))
+leaves c m owed ReadCursor w f = omega (arith, read_left m owed w)
+leaves c m owed (ClaimRange x high) w f = elim (cases_Bool (eqb w x)) [
+  | inl won ↦ rw won (omega (arith, f.left, from_length x (high - x)))
+  | inr lost ↦ rw lost (omega arith)
+]
+leaves c m owed (PassBlock x high p a v) w f = elim (cases_Bool (eqb w (white_word c))) [
+  | inl white ↦ rw white (omega (arith, white_left x high p a v))
+  | inr dark ↦ rw dark (omega (arith, next_left x high p a v f.0.left))
+]
+leaves c m owed (TakeFree x high p) w f = omega arith
+leaves c m owed (FreeBlock x high p a v) w f =
+    omega (arith, next_left x high p x (v + 1) f.0.left)
+leaves c m owed (PutFree a p v) w f = omega arith
+leaves c m owed (Credit p v) w f = omega arith
+leaves c m owed (Swept p v) w f = omega arith
+leaves c m owed NothingLeft w f = omega arith
 
 -- a part that finds nothing does so where the cursor is behind the last block
 found_none : (r : SweepRow) (m w : ℕ)
@@ -89,11 +93,18 @@ nothing_behind c h s f before after =
     omega (arith, f.blocks, read.1)
 
 pub cursor_moves : (c : Config) (h : Heap) (s : SweepState) → SweepFits c s
+    → heap_after h (sweep_want s) Cursor
+    ≡ h Cursor + length (row_claims s.row (h (place_of (sweep_want s))))
+cursor_moves c h s f = claims h s.thread s.cycle s.blocks s.owed s.row (row_of c s f)
+
+pub left_moves : (c : Config) (s : SweepState) (w : ℕ) → SweepFits c s
+    → unpassed (sweep_holding s.row) + length (row_claims s.row w)
+    ≡ unpassed (sweep_holding (sweep_got s w).row) + bit (is_some (row_passes s.cycle s.row w))
+left_moves c s w f = leaves s.cycle s.blocks s.owed s.row w (row_of c s f)
+
+pub both_move : (c : Config) (h : Heap) (s : SweepState) → SweepFits c s
     → heap_after h (sweep_want s) Cursor + unpassed (sweep_holding s.row)
     ≡ h Cursor + unpassed (sweep_holding (sweep_got s (h (place_of (sweep_want s)))).row)
     + bit (is_some (row_passes s.cycle s.row (h (place_of (sweep_want s)))))
-cursor_moves c h s f = moves h s.thread s.cycle s.blocks s.owed s.row (row_of c s f)
-
-pub cursor_rises : (c : Config) (h : Heap) (s : SweepState) → SweepFits c s
-    → h Cursor ≤ heap_after h (sweep_want s) Cursor
-cursor_rises c h s f = rises h s.thread s.cycle s.blocks s.owed s.row (row_of c s f)
+both_move c h s f =
+    omega (arith, cursor_moves c h s f, left_moves c s (h (place_of (sweep_want s))) f)
