@@ -24,10 +24,11 @@ use Rattle.heap_machine.specs.declared.pass.Pass.{Pass}
 use Rattle.barrier_steps.specs.declared.rows.FieldRow.{FieldRow}
 use Rattle.barrier_steps.specs.declared.rows.FieldRow.TheVariants.{StoreNumber, StoreNil, LoadMoved, StoreMoved, LoadObject, LoadShape, LoadValue, LoadLink, LoadField, LoadOwner, StorePending, StoreField, Shade, LoadFirst, LoadSecond, LoadSaid, LoadSaidOwner, Answered}
 use Rattle.grey_steps.specs.declared.rows.GreyRow.{GreyRow}
-use Rattle.grey_steps.specs.declared.rows.GreyRow.TheVariants.{Take, Pop, ScanWord, Blacken, Put, Scanned, NothingGrey, TakeOwn, ShadeStored, PutOwn, Shaded}
-use Rattle.grey_steps.specs.Rows as grey_rows
+use Rattle.grey_steps.specs.declared.rows.GreyRow.TheVariants.{TakeOwn, ShadeStored, PutOwn, Shaded}
+use Rattle.grey_steps.specs.Rows as marking
 use Rattle.grey_steps.specs.Fits.{GreyFits}
-use Rattle.grey_steps.specs.Rows.{grey_over, shaded_hand, after_stored}
+use Rattle.grey_steps.specs.Ends.{is_shading, block_stored}
+use Rattle.grey_steps.proofs.Ends.{block_stays}
 use Rattle.grey_steps.proofs.Ranges as ranges
 use Rattle.barrier_steps.specs.declared.rows.FieldStore.{FieldStore}
 use Rattle.barrier_steps.specs.declared.rows.FieldStore.TheVariants.{Moved, Pending, InField}
@@ -35,7 +36,7 @@ use Rattle.barrier_steps.specs.declared.rows.Way.{Way}
 use Rattle.barrier_steps.specs.Operands.{to_register, from_register, other_register, field_index, number_set, is_put, is_get, goes_to_field, looks_at_object}
 use Rattle.barrier_steps.specs.Walks.{shape_length, links_to}
 use Rattle.barrier_steps.specs.Rows.{FieldState, register_place, payload_in, shape_in, object_in, stored_word, store_row, shaded_for, before_store, in_barrier, first_row, at_first_row, row_want, row_got, field_want, field_got, after_object, after_shape, after_field, after_said, on_way, at_block, way_from, way_on}
-use Rattle.barrier_steps.specs.Fits.{IsThread, IsLoaded, IsWalk, IsThere, shaded_by, IsBarrier, is_store_of, StoreFits, is_row_of, RowFits, FitsAt, FieldFits, ReadsAt, FieldReads}
+use Rattle.barrier_steps.specs.Fits.{IsThread, IsLoaded, IsWalk, IsThere, IsBarrier, is_store_of, StoreFits, is_row_of, RowFits, FitsAt, FieldFits, ReadsAt, FieldReads}
 use Rattle.barrier_steps.proofs.Named.{to_low, from_low, other_low, number_low}
 use Rattle.barrier_steps.proofs.Walking.{link_low, field_low}
 use Rattle.barrier_steps.proofs.ReadWords.{payload_cases, shape_fits}
@@ -228,7 +229,7 @@ before_fits c p k store own fits = before_is (λ row. RowFits c p k row) p store
       record {
         mark = is.0;
         refers = refers;
-        shades = is.1;
+        stores = is.1;
         fits = ranges.shade_fits c p (shaded_for p (stored_word store)) own.threads few own.blocks low block;
       },
       fits,
@@ -238,30 +239,22 @@ block_fits : (c : Config) (p : Pass) (k : Command) (way : Way) (word : ℕ) → 
 block_fits c p (commands.Put s i v) way word own is there fits = before_fits c p (commands.Put s i v) (InField way word) own (is, there, fits)
 block_fits c p _ way word own is there fits = (is, there)
 
-abbrev marking_got : ℕ → ℕ → ℕ → GreyRow → ℕ → GreyRow
-marking_got = grey_rows.row_got
-
-stored_on : (y a x : ℕ) → y ≡ x → grey_over (after_stored y a) ≡ false → shaded_by (after_stored y a) ≡ x
-stored_on y a x is goes = elim (cases_eq a 0) [
-  | inl e ↦ absurd (let z : true ≡ false = ap (λ b. grey_over (cond b (Shaded y) (PutOwn y a))) (sym (eq-eqb a 0 e)) ∙ goes in cc)
-  | inr ne ↦ ap (λ b. shaded_by (cond b (Shaded y) (PutOwn y a))) (ne_eqb a 0 ne) ∙ is
-]
-
--- the barrier goes on with the block that it shades until it is over
-shades_on : (width n cycle : ℕ) (r : GreyRow) (w y : ℕ) → shaded_by r ≡ y → y ≢ 0 → grey_over (marking_got width n cycle r w) ≡ false → shaded_by (marking_got width n cycle r w) ≡ y
-shades_on width n cycle (TakeOwn y) w x is some goes = is
-shades_on width n cycle (ShadeStored y a) w x is some goes = stored_on y (shaded_hand cycle y a w) x is goes
-shades_on width n cycle (PutOwn y a) w x is some goes = absurd cc
-shades_on width n cycle _ w x is some goes = absurd (some (sym is))
+-- a row that shades a block is one of a barrier
+pub stored_shades : (r : GreyRow) → block_stored r ≢ 0 → is_shading r ≡ true
+stored_shades (TakeOwn y) some = refl
+stored_shades (ShadeStored y a) some = refl
+stored_shades (PutOwn y a) some = refl
+stored_shades (Shaded y) some = refl
+stored_shades _ some = absurd (some refl)
 
 barrier_fits : (c : Config) (p : Pass) (k : Command) (r : GreyRow) (store : FieldStore) (w : ℕ) → IsBarrier c p r (stored_word store) → StoreFits c k store → ReadsAt c p k (Shade r store) w → RowFits c p k (row_got (extent c) p k (Shade r store) w)
 barrier_fits c p k r store w is fits reads =
-    barrier_is (λ row. RowFits c p k row) (marking_got (payloads c.width) p.threads p.cycle r w) store (λ _. store_fits c p k store fits)
+    barrier_is (λ row. RowFits c p k row) (marking.row_got (payloads c.width) p.threads p.cycle r w) store (λ _. store_fits c p k store fits)
     (λ goes. (
       record {
         mark = is.mark;
         refers = is.refers;
-        shades = shades_on (payloads c.width) p.threads p.cycle r w (target (stored_word store)) is.shades is.refers goes;
+        stores = block_stays (payloads c.width) p.threads p.cycle r w (stored_shades r (λ none. is.refers (sym is.stores ∙ none))) ∙ is.stores;
         fits = ranges.next_fits c (record { pass = p; row = r }) w is.fits reads.0;
       },
       fits,

@@ -12,7 +12,7 @@ use Rattle.heap_machine.specs.Operations.{place_of}
 use Rattle.heap_machine.specs.Readings.{CanHold}
 use Rattle.heap_machine.specs.declared.pass.Pass.{Pass}
 use Rattle.grey_steps.specs.declared.rows.GreyRow.{GreyRow}
-use Rattle.grey_steps.specs.declared.rows.GreyRow.TheVariants.{TakeOwn, ShadeStored, PutOwn}
+use Rattle.grey_steps.specs.Ends.{block_stored}
 use Rattle.grey_steps.specs.Fits.{GreyFits}
 use Rattle.barrier_steps.specs.declared.rows.FieldRow.{FieldRow}
 use Rattle.barrier_steps.specs.declared.rows.FieldRow.TheVariants.{StoreNumber, StoreNil, LoadMoved, StoreMoved, LoadObject, LoadShape, LoadValue, LoadLink, LoadField, LoadOwner, StorePending, StoreField, Shade, LoadFirst, LoadSecond, LoadSaid, LoadSaidOwner, Answered}
@@ -46,18 +46,11 @@ pub record IsWalk (c : Config) (i : ℕ) (way : Way) : Type 0 where
 abbrev pub IsThere : Config → ℕ → Way → Type 0
 IsThere c i way = way.level ≡ links_to (extent c) way.shape i
 
--- the block that a row of the write barrier shades, or 0 where it is no row before its end
-abbrev pub shaded_by : GreyRow → ℕ
-shaded_by (TakeOwn y) = y
-shaded_by (ShadeStored y hand) = y
-shaded_by (PutOwn y hand) = y
-shaded_by _ = 0
-
--- in this pass, in Mark, the barrier of the word has come to row r
+-- in this pass, in Mark, the barrier of a word that refers to a block has come to row r
 pub record IsBarrier (c : Config) (p : Pass) (r : GreyRow) (word : ℕ) : Type 0 where
   pub mark : p.sweep ≡ false
   pub refers : target word ≢ 0
-  pub shades : shaded_by r ≡ target word
+  pub stores : block_stored r ≡ target word
   pub fits : GreyFits c (record { pass = p; row = r })
 
 -- whether command k makes this store
