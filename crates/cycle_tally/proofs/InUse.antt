@@ -1,27 +1,25 @@
 -- Where each block that is not Free is of a register array, or of a name that was reachable at the
 -- last start or made since, they are at most the live blocks of that start and those given since.
-use Rattle.std.proofs.Common.{◌≡◌, ℕ, zero, suc, ◌+◌, ◌-◌, ◌≤◌, ◌<◌, ◌⊎◌, not, Bool, true, false, cond, eqb, leb, refl, arith, ap, sym, ◌∙◌, subst, List, [], ◌∷◌, ◌++◌, length, length-append, get_or, inl, inr, eq-eqb, ne_eqb}
-use Rattle.std.specs.List.{sum_by, All}
-use Rattle.std.proofs.lemmas.Bool.{le-leb, not-true}
-use Rattle.std.proofs.lemmas.List.Elements.{All-append}
-use Rattle.std.proofs.lemmas.List.Sums.{sum_by-cons}
+use Rattle.std.proofs.Common.{◌≡◌, ℕ, zero, suc, ◌+◌, ◌-◌, ◌≤◌, ◌<◌, ◌⊎◌, not, Bool, true, false, cond, refl, arith, ap, sym, ◌∙◌, subst, List, [], ◌∷◌, ◌++◌, length, length-append, get_or, inl, inr}
+use Rattle.std.specs.List.{sum_by}
+use Rattle.std.proofs.lemmas.Bool.{not-true}
 use Rattle.block_store.specs.declared.Config.{Config}
 use Rattle.block_store.specs.declared.Name.{Name}
 use Rattle.block_store.specs.declared.Width.{Width}
 use Rattle.block_store.specs.Phases.{bit}
 use Rattle.block_store.specs.Registers.{registers_end}
-use Rattle.never_heap.specs.Graphs.{Graph, start_graph, object_of, has_name, count_of, same_name, shared_name}
+use Rattle.never_heap.specs.Graphs.{Graph, start_graph, object_of, has_name, same_name}
 use Rattle.never_heap.specs.Histories.{HistoryItem, Started, Did, replay, replay_from, starts_in, Legal, LegalFrom}
 use Rattle.never_heap.specs.Cycles.{before_start, after_start, graph_at}
 use Rattle.never_heap.specs.Given.{given}
 use Rattle.never_heap.specs.LiveBlocks.{object_blocks, live_of, live_blocks}
-use Rattle.never_heap.specs.Reach.{reachable, names, names_below, thread_names}
+use Rattle.never_heap.specs.Reach.{reachable, names}
 use Rattle.never_heap.specs.Taken.{taken_in}
 use Rattle.never_heap.proofs.ReachSteps.{reachable_named}
 use Rattle.never_heap.proofs.Staying.{replay_shape}
 use Rattle.never_heap.proofs.Sums.{sum_same, all_named}
 use Rattle.never_heap.proofs.Starting.{threads_of_start}
-use Rattle.never_heap.proofs.Naming.{same_itself, any_of_names, name_of_place, length_of_thread}
+use Rattle.never_heap.proofs.Naming.{same_itself, any_of_names}
 use Rattle.block_store.specs.Counts.{times, total}
 use Rattle.cycle_tally.specs.InUse.{IsBlockOfThese, IsCovered, count_free}
 use Rattle.cycle_tally.specs.Entries.{InThreads}
