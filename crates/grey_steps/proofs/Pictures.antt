@@ -174,4 +174,5 @@ module _ (c : Config) (g : Graph) (order : List HistoryItem) (h : Heap) (names :
       let n = s.pass.threads in
       subst (λ y. IsKept c (picture g order (heap_after h (row_want t n y s.row)) names tasks))
       cycle
-      (shading_names c g order names tasks h mark t (low_thread c s f) k n s.row f.row shading has is)
+      (shading_names c g order names tasks h mark t (low_thread c s f) k n s.row f.row shading has
+          is)
