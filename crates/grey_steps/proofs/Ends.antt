@@ -19,6 +19,7 @@ use Rattle.grey_steps.specs.declared.rows.GreyRow.TheVariants.{Take, Pop, ScanWo
 use Rattle.grey_steps.specs.Rows.{GreyState, list_of, row_got, row_want, after_take, after_word, shaded_hand, grey_want, grey_got, grey_over, grey_unit, grey_nothing, grey_holding, holding_at, scanning}
 use Rattle.grey_steps.specs.Fits.{GreyFits}
 use Rattle.grey_steps.specs.Ends.{is_blackening, is_putting, is_shading, block_stored, grey_after, begins_with_zeros}
+use Rattle.grey_steps.proofs.Marking.{low_thread}
 
 -- what a test says of both rows of a choice it says of the one that is taken
 either : (P : GreyRow → Type 0) (b : Bool) (p q : GreyRow) → P p → P q → P (cond b p q)
@@ -171,22 +172,21 @@ writes_black h o x v e = rw e (rw (eq-eqb x x refl) refl)
 one_block : (x y : ℕ) (o : Option ℕ) → o ≡ Some x → o ≡ Some y → x ≡ y
 one_block x y o a b = (let e : Some x ≡ Some y = sym a ∙ b in cc)
 
-low_thread : (c : Config) (s : GreyState) → GreyFits c s → s.pass.thread < c.threads
-low_thread c s f = subst (λ n. s.pass.thread < n) f.threads f.thread
-
 pub unit_grey : (c : Config) (h : Heap) (hs : ℕ → GreyHolding) (s : GreyState) (x : ℕ)
     → GreyFits c s → GreyKept c.threads h hs → hs s.pass.thread ≡ grey_held
     (holding_at (extent c) s) → is_blackening s.row ≡ true → (holding_at (extent c) s).scan ≡ Some x
     → (is_grey (h (ColourOf x)) ≡ true)
-        × (heap_after h (grey_want s) (ColourOf x) ≡ black_word s.pass.cycle)
+    × (heap_after h (grey_want s) (ColourOf x) ≡ black_word s.pass.cycle)
 unit_grey c h hs s x f k e is scan =
     let b = unit_event (extent c) s is in
     let same : b.0 ≡ x = one_block b.0 x (holding_at (extent c) s).scan b.1 scan in
     let wants : grey_want s ≡ Exchange (ColourOf x) (black_word s.pass.cycle) =
-        subst (λ y. grey_want s ≡ Exchange (ColourOf y) (black_word s.pass.cycle)) same b.2 in
-    (scan_is_grey c.threads h hs k s.pass.thread x (low_thread c s f)
-        (ap (λ (w : GreyHolding). w.scan) e ∙ scan), writes_black h (grey_want s) x
-        (black_word s.pass.cycle) wants)
+    subst (λ y. grey_want s ≡ Exchange (ColourOf y) (black_word s.pass.cycle)) same b.2 in (
+      scan_is_grey c.threads h hs k s.pass.thread x (low_thread c s f)
+          (ap (λ (w : GreyHolding). w.scan) e ∙ scan),
+      writes_black h (grey_want s) x
+          (black_word s.pass.cycle) wants,
+    )
 
 put_row : (m t n c : ℕ) (r : GreyRow) → is_putting r ≡ true
     → (row_want t n c r ≡ Exchange (GreyList t) (grey_holding m r).hand)
@@ -208,11 +208,13 @@ pub put_on_empty : (c : Config) (h : Heap) (hs : ℕ → GreyHolding) (s : GreyS
     → GreyKept c.threads h hs → hs s.pass.thread ≡ grey_held (holding_at (extent c) s)
     → is_putting s.row ≡ true
     → (grey_want s ≡ Exchange (GreyList s.pass.thread) (holding_at (extent c) s).hand)
-        × (h (GreyList s.pass.thread) ≡ 0)
+    × (h (GreyList s.pass.thread) ≡ 0)
 put_on_empty c h hs s f k e is =
-    let p = put_row (payloads c.width) s.pass.thread s.pass.threads s.pass.cycle s.row is in
-    (p.0, own_empty c.threads h hs k s.pass.thread (low_thread c s f)
-        (grey_held (holding_at (extent c) s)) e p.1)
+    let p = put_row (payloads c.width) s.pass.thread s.pass.threads s.pass.cycle s.row is in (
+      p.0,
+      own_empty c.threads h hs k s.pass.thread (low_thread c s f)
+          (grey_held (holding_at (extent c) s)) e p.1,
+    )
 
 -- each list is one of those that are taken
 pub each_list : (t n v : ℕ) → t < n → v < n → (u : ℕ) × (u < n) × (list_of t n u ≡ v)
@@ -308,7 +310,7 @@ module _ (e : Extent) (p : Pass) where
   nothing_is_zeros ws low =
       let split : suc (p.threads - 1) ≡ p.threads = omega arith in
       subst (λ m. grey_nothing (grey_after e (scanning p) ws).row ≡ begins_with_zeros m ws) split
-          (from_take (p.threads - 1) 0 ws (omega arith))
+      (from_take (p.threads - 1) 0 ws (omega arith))
 
   -- while each list was read 0, the next is taken
   takes_from : (u : ℕ) (ws : List ℕ) → u + length ws < p.threads
@@ -321,9 +323,9 @@ module _ (e : Extent) (p : Pass) where
       let sum : u + 1 + length ws ≡ u + length (w ∷ ws) = omega arith in
       let empty : eqb w 0 ≡ true = z.0 in
       let step : after_take p.threads u w ≡ Take (u + 1) =
-          rw (empty, lt-ltb (u + 1) p.threads next) refl in
+      rw (empty, lt-ltb (u + 1) p.threads next) refl in
       subst (λ r. (grey_after e (at p r) ws).row ≡ Take (u + length (w ∷ ws))) (sym step)
-          (takes_from (u + 1) ws (omega arith) z.1 ∙ ap Take sum)
+      (takes_from (u + 1) ws (omega arith) z.1 ∙ ap Take sum)
 
   same_numbers : (r : GreyRow) (ws : List ℕ) → grey_after e (at p r) ws ≡ at p
       (grey_after e (at p r) ws).row
@@ -336,4 +338,4 @@ module _ (e : Extent) (p : Pass) where
       ≡ Exchange (GreyList (list_of p.thread p.threads (length ws))) 0
   each_is_taken ws low h =
       ap grey_want (same_numbers (Take 0) ws) ∙ ap (row_want p.thread p.threads p.cycle)
-          (takes_from 0 ws (omega arith) h ∙ ap Take (omega arith))
+      (takes_from 0 ws (omega arith) h ∙ ap Take (omega arith))

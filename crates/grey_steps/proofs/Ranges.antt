@@ -18,7 +18,7 @@ use Rattle.grey_steps.specs.declared.rows.GreyRow.{GreyRow}
 use Rattle.grey_steps.specs.declared.rows.GreyRow.TheVariants.{Take, Pop, ScanWord, Shade, Blacken, Put, Scanned, NothingGrey, TakeOwn, ShadeStored, PutOwn, Shaded}
 use Rattle.grey_steps.specs.Rows.{GreyState, list_of, row_want, row_got, after_word, after_stored, shaded_hand, grey_want, grey_got, scanning, shading}
 use Rattle.grey_steps.specs.Fits.{RowFits, GreyFits, GreyReads}
-use Rattle.grey_steps.proofs.Marking.{list_low}
+use Rattle.grey_steps.proofs.Marking.{list_low, low_thread}
 
 pub scan_fits : (c : Config) (p : Pass) → p.threads ≡ c.threads → p.threads ≤ 16 → c.blocks ≤ 65535
     → p.thread < p.threads → GreyFits c (scanning p)
@@ -150,10 +150,10 @@ next_fits c s w f reads = record {
   thread = f.thread;
   row =
       let word = subst
-          (λ n. CanHold (extent c) (place_of (row_want s.pass.thread n s.pass.cycle s.row)) w)
-          f.threads reads in
+      (λ n. CanHold (extent c) (place_of (row_want s.pass.thread n s.pass.cycle s.row)) w)
+      f.threads reads in
       subst (λ n. RowFits c (row_got (payloads c.width) n s.pass.cycle s.row w)) (sym f.threads)
-          (row_fits c s.pass.thread s.pass.cycle s.row w f.row word);
+      (row_fits c s.pass.thread s.pass.cycle s.row w f.row word);
 }
 
 pub place_fits : (c : Config) (s : GreyState) → GreyFits c s
@@ -162,7 +162,7 @@ place_fits c s f = subst
     (λ n. in_range (extent c) (place_of (row_want s.pass.thread n s.pass.cycle s.row)) ≡ true)
     (sym f.threads)
     (row_place c s.pass.thread s.pass.cycle s.row
-    (subst (λ n. s.pass.thread < n) f.threads f.thread) f.row)
+    (low_thread c s f) f.row)
 
 pub sum_fits : (s : GreyState) (w : ℕ) → Fits (grey_want s) w
 sum_fits s w = row_sum s.pass.thread s.pass.threads s.pass.cycle s.row w

@@ -19,11 +19,11 @@ use Rattle.grey_steps.proofs.Tricolours.{keeps_tricolour}
 pub keeps_heap : (c : Config) (h : Heap) (hs : ℕ → Holding) (s : GreyState) → GreyFits c s
     → HeapKept (extent c) s.pass.cycle h hs → hs s.pass.thread ≡ holding_at (extent c) s
     → HeapKept (extent c) s.pass.cycle (heap_after h (grey_want s))
-        (changed hs s.pass.thread
-        (holding_at (extent c) (grey_got (extent c) s (h (place_of (grey_want s))))))
+    (changed hs s.pass.thread
+    (holding_at (extent c) (grey_got (extent c) s (h (place_of (grey_want s))))))
 keeps_heap c h hs s f k e =
     let next : Holding =
-        holding_at (extent c) (grey_got (extent c) s (h (place_of (grey_want s)))) in
+    holding_at (extent c) (grey_got (extent c) s (h (place_of (grey_want s)))) in
     record {
       grey = subst (λ (ws : ℕ → GreyHolding). GreyKept c.threads (heap_after h (grey_want s)) ws)
           (part_changed grey_held hs s.pass.thread next)

@@ -20,6 +20,7 @@ use Rattle.grey_steps.specs.Ends.{is_blackening, is_shading, grey_after}
 use Rattle.grey_steps.proofs.Ends.{shade_is_over, scan_is_over}
 use Rattle.grey_steps.specs.Rows.{GreyState, list_of, row_want, row_got, after_word, after_take, after_scan, after_black, after_stored, shaded_hand, grey_want, grey_got, grey_over, grey_holding, holding_at, scanning, shading}
 use Rattle.grey_steps.specs.Fits.{RowFits, GreyFits}
+use Rattle.grey_steps.proofs.Marking.{low_thread}
 
 -- a thread that has dealt with j payloads of x, one that has found z in the next, and one that has
 -- shaded y
@@ -118,12 +119,12 @@ module _ (g : Config) (n c : ℕ) (h : Heap) (hs : ℕ → TricolourHolding)
       elim (cases_Bool (eqb (h (ColourOf z)) (white_word c))) [
         | inl is ↦
             let new : HeldAt c (put_at h (ColourOf z) (grey_word a)) (refers x j z) =
-                held_colour c h z (grey_word a) (refers x j z) (grey-white a c) held in
+            held_colour c h z (grey_word a) (refers x j z) (grey-white a c) held in
             rw is (goes_on ex c (put_at h (ColourOf z) (grey_word a)) hs t
-                (held_tri m (after_word m x j z))
-                (word_held m c (put_at h (ColourOf z) (grey_word a)) x j z few
-                (found_dealt c (put_at h (ColourOf z) (grey_word a)) x j z some new
-                (grey_now c h z a))) (greys z a))
+            (held_tri m (after_word m x j z))
+            (word_held m c (put_at h (ColourOf z) (grey_word a)) x j z few
+            (found_dealt c (put_at h (ColourOf z) (grey_word a)) x j z some new
+            (grey_now c h z a))) (greys z a))
         | inr is ↦ rw is
             (goes_on ex c h hs t (held_tri m (after_word m x j a))
             (word_held m c h x j a few
@@ -134,21 +135,21 @@ module _ (g : Config) (n c : ℕ) (h : Heap) (hs : ℕ → TricolourHolding)
       (changed hs t (held_tri m (after_stored z (shaded_hand c z a (h (ColourOf z))))))
   stored_step z a = rw (stored_shaded m z (shaded_hand c z a (h (ColourOf z))))
       (elim (cases_Bool (eqb (h (ColourOf z)) (white_word c))) [
-    | inl is ↦ rw is
-        (goes_on ex c (put_at h (ColourOf z) (grey_word a)) hs t (stores z)
-        (stores_held c (put_at h (ColourOf z) (grey_word a)) z (λ _. grey_now c h z a)) (greys z a))
-    | inr is ↦ rw is
-        (goes_on ex c h hs t (stores z)
-        (stores_held c h z (λ _. eqb-false (h (ColourOf z)) (white_word c) is)) k)
-  ])
+        | inl is ↦ rw is
+            (goes_on ex c (put_at h (ColourOf z) (grey_word a)) hs t (stores z)
+            (stores_held c (put_at h (ColourOf z) (grey_word a)) z (λ _. grey_now c h z a)) (greys z a))
+        | inr is ↦ rw is
+            (goes_on ex c h hs t (stores z)
+            (stores_held c h z (λ _. eqb-false (h (ColourOf z)) (white_word c) is)) k)
+      ])
 
   black_step : (x a : ℕ) → hs t ≡ scans x m → TricolourKept ex c
       (put_at h (ColourOf x) (black_word c)) (changed hs t (held_tri m (after_black a)))
   black_step x a e =
       let held : HeldAt c h (scans x m) = held_as ex c h hs k t (scans x m) low e in
       rw (black_none m a)
-          (lets_go ex c (put_at h (ColourOf x) (black_word c)) hs t
-          (kept_colour ex c h hs x (black_word c) (black-white c) (λ _. held.dealt) k))
+      (lets_go ex c (put_at h (ColourOf x) (black_word c)) hs t
+      (kept_colour ex c h hs x (black_word c) (black-white c) (λ _. held.dealt) k))
 
   row_keeps : (r : GreyRow) → RowFits g r → hs t ≡ held_tri m r
       → TricolourKept ex c (heap_after h (row_want t n c r))
@@ -181,16 +182,13 @@ module _ (g : Config) (n c : ℕ) (h : Heap) (hs : ℕ → TricolourHolding)
       subst (λ q. Dealt c h q m) same held.dealt
   black_all _ is e x o = absurd cc
 
-low_thread : (c : Config) (s : GreyState) → GreyFits c s → s.pass.thread < c.threads
-low_thread c s f = subst (λ n. s.pass.thread < n) f.threads f.thread
-
 pub keeps_tricolour : (c : Config) (h : Heap) (hs : ℕ → TricolourHolding) (s : GreyState)
     → GreyFits c s → TricolourKept (extent c) s.pass.cycle h hs
     → hs s.pass.thread ≡ tricolour_held (holding_at (extent c) s)
     → TricolourKept (extent c) s.pass.cycle (heap_after h (grey_want s))
-        (changed hs s.pass.thread
-        (tricolour_held
-        (holding_at (extent c) (grey_got (extent c) s (h (place_of (grey_want s)))))))
+    (changed hs s.pass.thread
+    (tricolour_held
+    (holding_at (extent c) (grey_got (extent c) s (h (place_of (grey_want s)))))))
 keeps_tricolour c h hs s f k e =
     row_keeps c s.pass.threads s.pass.cycle h hs k s.pass.thread (low_thread c s f) s.row f.row e
 
@@ -209,11 +207,11 @@ pub shaded_dark : (c : Config) (h : Heap) (hs : ℕ → TricolourHolding) (s : G
     → h (ColourOf y) ≢ white_word s.pass.cycle
 shaded_dark c h hs s y f k e is =
     let same : (hs s.pass.thread).shaded ≡ y =
-        ap (λ (w : TricolourHolding). w.shaded) e
-        ∙ ap (λ (r : GreyRow). (held_tri (payloads c.width) r).shaded) is in
+    ap (λ (w : TricolourHolding). w.shaded) e
+    ∙ ap (λ (r : GreyRow). (held_tri (payloads c.width) r).shaded) is in
     let block : IsBlock c y = subst (RowFits c) is f.row in
     subst (NotWhite s.pass.cycle (colours h)) same (k.shaded s.pass.thread (low_thread c s f))
-        (λ z. omega (arith, block.0))
+    (λ z. omega (arith, block.0))
 
 -- and so at the end of a part that began with its shading
 pub shade_dark : (c : Config) (h : Heap) (hs : ℕ → TricolourHolding) (p : Pass) (y : ℕ)
@@ -223,7 +221,7 @@ pub shade_dark : (c : Config) (h : Heap) (hs : ℕ → TricolourHolding) (p : Pa
     → h (ColourOf y) ≢ white_word s.pass.cycle
 shade_dark c h hs p y ws s began f k e over =
     let is : s.row ≡ Shaded y = subst (λ (z : GreyState). grey_over z.row ≡ true → z.row ≡ Shaded y)
-        (sym began) (shade_is_over (extent c) y (shading p y) refl ws) over in
+    (sym began) (shade_is_over (extent c) y (shading p y) refl ws) over in
     shaded_dark c h hs s y f k e is
 
 pub blackened_whole : (c : Config) (h : Heap) (hs : ℕ → TricolourHolding) (s : GreyState) (x j : ℕ)
@@ -231,7 +229,7 @@ pub blackened_whole : (c : Config) (h : Heap) (hs : ℕ → TricolourHolding) (s
     → hs s.pass.thread ≡ tricolour_held (holding_at (extent c) s) → is_blackening s.row ≡ true
     → (holding_at (extent c) s).scan ≡ Some x → j < (payloads c.width)
     → target (h (PayloadOf x j)) ≢ 0 → h (ColourOf (target (h (PayloadOf x j)))) ≢ white_word
-        s.pass.cycle
+    s.pass.cycle
 blackened_whole c h hs s x j f k e is scan low =
     black_all c s.pass.threads s.pass.cycle h hs k s.pass.thread (low_thread c s f) s.row is e x
     scan j low
