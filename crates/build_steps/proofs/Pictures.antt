@@ -9,12 +9,12 @@ use Rattle.block_store.specs.Colours.{black_word}
 use Rattle.block_store.specs.Configs.{IsInBounds}
 use Rattle.block_store.specs.Counts.{changed}
 use Rattle.block_store.specs.Heaps.{Heap, put_at}
-use Rattle.block_store.specs.Phases.{is_sweep, cycle_of}
+use Rattle.block_store.specs.Phases.{cycle_of}
 use Rattle.block_store.specs.Payloads.{reference_word}
 use Rattle.block_store.specs.Places.{Place, Phase, FreeCount, ColourOf, OwnerOf, ShapeOf, PayloadOf}
 use Rattle.block_store.specs.Registers.{register_block, register_slot}
 use Rattle.block_store.specs.Widths.{payloads}
-use Rattle.block_store.proofs.Functions.{changed_map, changed_self}
+use Rattle.block_store.proofs.Functions.{changed_self}
 use Rattle.never_heap.specs.declared.Entry.{Entry}
 use Rattle.never_heap.specs.declared.Reply.TheVariants as replies
 use Rattle.never_heap.specs.Graphs.{Graph, ObjectKind, count_of, next_name, with_object, with_register}
@@ -22,67 +22,24 @@ use Rattle.never_heap.specs.Histories.{HistoryItem, Did, IsAnswered, after}
 use Rattle.shown_graph.specs.Events.{Loading, IsPrompt, unloaded}
 use Rattle.shown_graph.specs.Layouts.{layout_blocks}
 use Rattle.shown_graph.specs.Made.{new_object}
-use Rattle.shown_graph.specs.Words.{block_words}
 use Rattle.kept_names.specs.Building.{Build, build_in, build_blocks, build_owner, build_shape, build_payload, IsHeldOnce}
 use Rattle.kept_names.specs.Events.{KeptEvent, apply, Guard, collected, making, reserved, IsBuilding, IsFreeBlock, IsWriting}
 use Rattle.kept_names.specs.Events.KeptEvent.{Answer, Reserve, Collect, WriteOwner, WriteShape, WritePayload, WriteColour, Publish}
 use Rattle.kept_names.specs.Kept.{IsKept}
 use Rattle.kept_names.specs.Pictures.{Names, Task, picture}
 use Rattle.kept_names.specs.States.{KeptState}
+use Rattle.kept_names.proofs.Pictured.{build_changed}
 use Rattle.kept_names.proofs.Steps.{step_kept}
 use Rattle.build_steps.specs.Naming.{names_made, with_task_build}
 
-loads_stay : (tasks : ℕ → Task) (t : ℕ) (o : Option Build)
-    → ◌≡◌ {A = ℕ → Loading} (λ u. (with_task_build tasks t o u).loading) (λ u. (tasks u).loading)
-loads_stay tasks t o =
-    let part : Task → Loading = λ (x : Task). x.loading in
-    changed_map part tasks t (record (tasks t) { build = o })
-    ∙ changed_self (λ u. (tasks u).loading) t (tasks t).loading refl
-
-scans_stay : (tasks : ℕ → Task) (t : ℕ) (o : Option Build)
-    → ◌≡◌ {A = ℕ → ℕ} (λ u. (with_task_build tasks t o u).scan) (λ u. (tasks u).scan)
-scans_stay tasks t o =
-    let part : Task → ℕ = λ (x : Task). x.scan in
-    changed_map part tasks t (record (tasks t) { build = o })
-    ∙ changed_self (λ u. (tasks u).scan) t (tasks t).scan refl
-
-builds_change : (tasks : ℕ → Task) (t : ℕ) (o : Option Build)
-    → (λ u. (with_task_build tasks t o u).build) ≡ changed (λ u. (tasks u).build) t o
-builds_change tasks t o =
-    let part : Task → Option Build = λ (x : Task). x.build in
-    changed_map part tasks t (record (tasks t) { build = o })
-
--- to picture thread t at a build changes what it builds, and nothing else
-pub pictured : (g : Graph) (order : List HistoryItem) (h : Heap) (names : Names) (tasks : ℕ → Task)
-    (t : ℕ) (o : Option Build)
-    → record (picture g order h names tasks) { builds = changed (λ u. (tasks u).build) t o }
-    ≡ picture g order h names (with_task_build tasks t o)
-pictured g order h names tasks t o = λ i. record {
-  seen = record {
-    graph = g;
-    words = block_words h;
-    loads = sym (loads_stay tasks t o) i;
-  };
-  order = order;
-  cycle = cycle_of (h Phase);
-  sweep = is_sweep (h Phase);
-  colour = λ x. h (ColourOf x);
-  at = names.at;
-  known = names.known;
-  kept = names.kept;
-  shaded = names.shaded;
-  builds = sym (builds_change tasks t o) i;
-  scans = sym (scans_stay tasks t o) i;
-}
-
--- and where it is at it already, nothing
+-- to picture a thread at the build that it is at changes nothing
 pub pictured_self : (g : Graph) (order : List HistoryItem) (h : Heap) (names : Names)
     (tasks : ℕ → Task) (t : ℕ) (o : Option Build) → (tasks t).build ≡ o
     → picture g order h names tasks ≡ picture g order h names (with_task_build tasks t o)
 pictured_self g order h names tasks t o is =
     ap (λ (bs : ℕ → Option Build). record (picture g order h names tasks) { builds = bs })
     (sym (changed_self (λ u. (tasks u).build) t o is))
-    ∙ pictured g order h names tasks t o
+    ∙ sym (build_changed g order h names tasks t o)
 
 module _ (c : Config) (s : KeptState) (t : ℕ) (b : Build) (low : t < c.threads)
     (is : s.builds t ≡ Some b) where
@@ -115,7 +72,7 @@ module _ (c : Config) (inside : IsInBounds c) (g : Graph) (order : List HistoryI
       ≡ record (picture g' order' j names' tasks) { builds = changed (λ u. (tasks u).build) t o }
       → IsKept c (picture g' order' j names' (with_task_build tasks t o))
   goes g' order' j names' o e guard same =
-      subst (λ s. IsKept c s) (same ∙ pictured g' order' j names' tasks t o)
+      subst (λ s. IsKept c s) (same ∙ sym (build_changed g' order' j names' tasks t o))
       (step_kept c inside now e k guard)
 
   pub reserves : (v : ℕ) (kind : ObjectKind) (size : ℕ) → (tasks t).build ≡ None
@@ -127,11 +84,11 @@ module _ (c : Config) (inside : IsInBounds c) (g : Graph) (order : List HistoryI
       (Reserve t kind size) (low, none, few, most) refl
 
   -- a command is answered that changes nothing
-  pub answers : (entry : Entry) → entry.thread < c.threads → (tasks entry.thread).loading ≡ unloaded
+  pub answered : (entry : Entry) → entry.thread < c.threads → (tasks entry.thread).loading ≡ unloaded
       → IsAnswered g (Did entry) → after g (Did entry) ≡ g
       → IsKept c (picture g (order ++ Did entry ∷ []) h names tasks)
-  answers entry there idle answered same = step_kept c inside now (Answer entry) k (
-    (there, subst (λ (l : Loading). IsPrompt l) (sym idle) refl, answered),
+  answered entry there idle legal same = step_kept c inside now (Answer entry) k (
+    (there, subst (λ (l : Loading). IsPrompt l) (sym idle) refl, legal),
     same,
   )
 

@@ -1,6 +1,5 @@
 -- A thread that builds, as the rules of kept names see it: the object that it builds, from the
--- reservation on until it is published; and what its events make of the names, of the graph and of
--- its order.
+-- reservation on until it is published; and the names and the order when that is decided.
 use Rattle.std.specs.Prelude.{
   ℕ,
   ◌<◌,
@@ -45,7 +44,6 @@ use Rattle.build_steps.specs.declared.rows.BuildRow.{BuildRow}
 use Rattle.build_steps.specs.declared.rows.BuildRow.TheVariants.{
   ReadCount,
   Reserve,
-  Publish,
   Built,
   Refused,
 }
@@ -109,14 +107,6 @@ names_made names a blocks = record {
   kept = with_name names.kept a;
   shaded = names.shaded;
 }
-
--- the names after the event of a row: with the one that it publishes
-abbrev pub row_names : BuildState → BuildRow → Names → Names
-row_names s Publish names = names_made names (built_name s) (built_at s)
-row_names s _ names = names
-
-abbrev pub build_names : BuildState → Names → Names
-build_names s = row_names s s.row
 
 -- the word that the event reads
 abbrev pub word_read : Config → Heap → BuildState → ℕ
