@@ -42,7 +42,7 @@ use Rattle.sweep_steps.specs.declared.rows.SweepRow.TheVariants as sweeps
 use Rattle.build_steps.specs.Rows.{BuildState, build_want, build_got, build_step, build_reply, build_holding, built_at, building, full_cycle}
 use Rattle.build_steps.specs.Fits.{BuildFits, BuildReads}
 use Rattle.build_steps.specs.Ends.{is_counting, is_publishing}
-use Rattle.build_steps.specs.Pictures.{build_of}
+use Rattle.build_steps.specs.Naming.{build_of}
 use Rattle.build_steps.specs.declared.rows.BuildRow.{BuildRow}
 use Rattle.build_steps.specs.declared.rows.BuildRow.TheVariants as builds
 use Rattle.shown_graph.specs.Events.{Loading, unloaded}
