@@ -1,6 +1,7 @@
 pub mod Named
 pub mod Walking
 pub mod ReadWords
+pub mod Stores
 pub mod FieldRows
 pub mod Decisions
 pub mod Promising

@@ -15,4 +15,4 @@ pub use laws::{
     rows_stay_in_the_heap, ways_lead_to_fields,
 };
 pub use pass::FieldPass;
-pub use rows::{FieldRow, Way};
+pub use rows::{FieldRow, FieldStore, Way};

@@ -18,30 +18,33 @@ use Rattle.grey_steps.specs.declared.rows.GreyRow.{GreyRow}
 use Rattle.grey_steps.specs.declared.rows.GreyRow.TheVariants.{Take, Pop, ScanWord, Shade, Blacken, Put, Scanned, NothingGrey, TakeOwn, ShadeStored, PutOwn, Shaded}
 use Rattle.grey_steps.specs.Rows.{GreyState, list_of, row_got, row_want, after_take, after_word, shaded_hand, grey_want, grey_got, grey_over, grey_unit, grey_nothing, grey_holding, holding_at, scanning}
 use Rattle.grey_steps.specs.Fits.{GreyFits}
-use Rattle.grey_steps.specs.Ends.{is_blackening, is_putting, grey_after, begins_with_zeros}
+use Rattle.grey_steps.specs.Ends.{is_blackening, is_putting, is_shading, block_stored, grey_after, begins_with_zeros}
 
 -- what a test says of both rows of a choice it says of the one that is taken
 either : (P : GreyRow → Type 0) (b : Bool) (p q : GreyRow) → P p → P q → P (cond b p q)
 either P true p q a c = a
 either P false p q a c = c
 
--- the rows of a shading before a store
-abbrev pub is_shading : GreyRow → Bool
-is_shading (TakeOwn y) = true
-is_shading (ShadeStored y a) = true
-is_shading (PutOwn y a) = true
-is_shading (Shaded y) = true
-is_shading _ = false
-
 abbrev IsShading : GreyRow → Type 0
 IsShading r = is_shading r ≡ true
 
-shading_goes_on : (m n c : ℕ) (r : GreyRow) (w : ℕ) → IsShading r → IsShading (row_got m n c r w)
+pub shading_goes_on : (m n c : ℕ) (r : GreyRow) (w : ℕ) → IsShading r → IsShading (row_got m n c r w)
 shading_goes_on m n c (TakeOwn y) w is = refl
 shading_goes_on m n c (ShadeStored y a) w is = either IsShading (eqb (shaded_hand c y a w) 0) (Shaded y) (PutOwn y (shaded_hand c y a w)) refl refl
 shading_goes_on m n c (PutOwn y a) w is = refl
 shading_goes_on m n c (Shaded y) w is = refl
 shading_goes_on m n c _ w is = absurd cc
+
+-- of the same block
+pub block_stays : (m n c : ℕ) (r : GreyRow) (w : ℕ) → IsShading r
+    → block_stored (row_got m n c r w) ≡ block_stored r
+block_stays m n c (TakeOwn y) w is = refl
+block_stays m n c (ShadeStored y a) w is =
+    let next = shaded_hand c y a w in
+    either (λ r. block_stored r ≡ y) (eqb next 0) (Shaded y) (PutOwn y next) refl refl
+block_stays m n c (PutOwn y a) w is = refl
+block_stays m n c (Shaded y) w is = refl
+block_stays m n c _ w is = absurd cc
 
 shading_is_none : (r : GreyRow) → IsShading r → (grey_nothing r ≡ false) × (grey_unit r ≡ false)
 shading_is_none (TakeOwn y) is = (refl, refl)
@@ -59,7 +62,7 @@ shading_ends e s is (w ∷ ws) = shading_ends e (grey_got e s w) (shading_goes_o
 abbrev IsScan : GreyRow → Type 0
 IsScan r = is_shading r ≡ false
 
-scan_goes_on : (m n c : ℕ) (r : GreyRow) (w : ℕ) → IsScan r → IsScan (row_got m n c r w)
+pub scan_goes_on : (m n c : ℕ) (r : GreyRow) (w : ℕ) → IsScan r → IsScan (row_got m n c r w)
 scan_goes_on m n c (Take u) w is = either IsScan (eqb w 0) _ _ (either IsScan (ltb (u + 1) n) (Take (u + 1)) NothingGrey refl refl) refl
 scan_goes_on m n c (Pop a) w is = refl
 scan_goes_on m n c (ScanWord x j a) w is = either IsScan (eqb (target w) 0) (after_word m x j a) (Shade x j (target w) a) (either IsScan (ltb (j + 1) m) (ScanWord x (j + 1) a) (Blacken x a) refl refl) refl

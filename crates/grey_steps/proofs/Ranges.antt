@@ -6,12 +6,14 @@ use Rattle.block_store.specs.declared.Colour.TheVariants.{Grey}
 use Rattle.block_store.specs.Colours.{grey_word, black_word, white_word}
 use Rattle.block_store.proofs.ColourWords.{colour-code, colour-black, link-grey, link-black}
 use Rattle.block_store.proofs.Registers.{wide}
+use Rattle.block_store.specs.Heaps.{Heap}
 use Rattle.block_store.specs.Payloads.{target}
 use Rattle.block_store.specs.Widths.{payloads}
 use Rattle.block_store.specs.Places.{extent, in_range, is_block, IsBlock, ColourOf}
-use Rattle.heap_machine.specs.Operations.{place_of, Fits}
+use Rattle.heap_machine.specs.Operations.{place_of, heap_after, Fits}
 use Rattle.heap_machine.specs.declared.pass.Pass.{Pass}
-use Rattle.heap_machine.specs.Readings.{CanHold, StoresHeld}
+use Rattle.heap_machine.specs.Readings.{CanHold, StoresHeld, IsHeld}
+use Rattle.heap_machine.proofs.Held.{held_after}
 use Rattle.grey_steps.specs.declared.rows.GreyRow.{GreyRow}
 use Rattle.grey_steps.specs.declared.rows.GreyRow.TheVariants.{Take, Pop, ScanWord, Shade, Blacken, Put, Scanned, NothingGrey, TakeOwn, ShadeStored, PutOwn, Shaded}
 use Rattle.grey_steps.specs.Rows.{GreyState, list_of, row_want, row_got, after_word, after_stored, shaded_hand, grey_want, grey_got, scanning, shading}
@@ -143,3 +145,7 @@ sum_fits s w = row_sum s.pass.thread s.pass.threads s.pass.cycle s.row w
 
 pub stores_held : (c : Config) (s : GreyState) → GreyFits c s → StoresHeld c (grey_want s)
 stores_held c s f = subst (λ n. StoresHeld c (row_want s.pass.thread n s.pass.cycle s.row)) (sym f.threads) (row_stores c s.pass.thread s.pass.cycle s.row f.blocks f.row)
+
+pub keeps_words : (c : Config) (h : Heap) (s : GreyState) → GreyFits c s → IsHeld c h
+    → IsHeld c (heap_after h (grey_want s))
+keeps_words c h s f k = held_after c h (grey_want s) (stores_held c s f) k
