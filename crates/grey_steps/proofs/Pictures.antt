@@ -29,6 +29,7 @@ use Rattle.grey_steps.specs.declared.rows.GreyRow.TheVariants.{Take, Pop, ScanWo
 use Rattle.grey_steps.specs.Ends.{is_shading, block_stored}
 use Rattle.grey_steps.specs.Fits.{RowFits, GreyFits}
 use Rattle.grey_steps.specs.Rows.{GreyState, list_of, row_want, row_got, after_take, after_word, after_scan, after_black, shaded_hand, grey_want, grey_got, grey_holding, holding_at}
+use Rattle.grey_steps.proofs.Marking.{low_thread}
 
 -- the block that a row has found in a payload
 abbrev found_at : ℕ → GreyRow → ℕ
@@ -138,9 +139,6 @@ module _ (c : Config) (g : Graph) (order : List HistoryItem) (names : Names) (ta
   shading_names n (Shaded z) f shading has is = k
   shading_names n _ f shading has is = absurd cc
 
-low_thread : (c : Config) (s : GreyState) → GreyFits c s → s.pass.thread < c.threads
-low_thread c s f = subst (λ n. s.pass.thread < n) f.threads f.thread
-
 module _ (c : Config) (g : Graph) (order : List HistoryItem) (h : Heap) (names : Names)
     (tasks : ℕ → Task) (s : GreyState) (f : GreyFits c s) (mark : is_sweep (h Phase) ≡ false)
     (cycle : cycle_of (h Phase) ≡ s.pass.cycle) where
@@ -174,4 +172,5 @@ module _ (c : Config) (g : Graph) (order : List HistoryItem) (h : Heap) (names :
       let n = s.pass.threads in
       subst (λ y. IsKept c (picture g order (heap_after h (row_want t n y s.row)) names tasks))
       cycle
-      (shading_names c g order names tasks h mark t (low_thread c s f) k n s.row f.row shading has is)
+      (shading_names c g order names tasks h mark t (low_thread c s f) k n s.row f.row shading has
+      is)

@@ -6,8 +6,10 @@ use Rattle.grey_steps.proofs.names.rows_keep_the_names.Goals as goal
 
 pub returns : goal.returns
 returns c = record {
-  scan = λ k g order h names tasks s hs f mark cycle. scan_keeps_names k g order h names tasks s f mark cycle hs;
-  shade = λ k g order h names tasks s f mark cycle. shading_keeps_names k g order h names tasks s f mark cycle;
+  scan = λ k g order h names tasks s hs f mark cycle. scan_keeps_names k g order h names tasks s f
+      mark cycle hs;
+  shade = λ k g order h names tasks s f mark cycle. shading_keeps_names k g order h names tasks s f
+      mark cycle;
   scans = λ p. refl;
   still_scans = λ e s w. scan_goes_on (payloads e.width) s.pass.threads s.pass.cycle s.row w;
   shades = λ p y. (refl, refl);
