@@ -10,3 +10,4 @@ pub mod Stepping
 pub mod Showing
 pub mod Registers
 pub mod Dues
+pub mod Keeping

@@ -216,6 +216,13 @@ abbrev pub shades : FieldRow → Bool
 shades (Shade r store) = true
 shades _ = false
 
+-- the word that a row stores of those that it has loaded; 0, which is nil, where it stores none
+abbrev pub word_stored : FieldRow → ℕ
+word_stored (StoreMoved word) = word
+word_stored (StorePending word value) = word
+word_stored (StoreField way word) = word
+word_stored _ = 0
+
 -- the reply, once the part is over
 abbrev pub field_reply : FieldRow → Option Reply
 field_reply (Answered reply) = Some reply

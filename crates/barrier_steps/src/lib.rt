@@ -6,6 +6,7 @@ mod laws;
 mod operands;
 mod pass;
 mod rows;
+mod rules;
 #[cfg(test)]
 mod tests;
 mod walks;
@@ -16,3 +17,4 @@ pub use laws::{
 };
 pub use pass::FieldPass;
 pub use rows::{FieldRow, FieldStore, Way};
+pub use rules::rows_keep_the_heap;

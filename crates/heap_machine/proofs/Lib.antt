@@ -14,6 +14,8 @@ pub mod FreeBlocks
 pub mod Sweeping
 pub mod Reusing
 pub mod GateReuse
+pub mod TurningRules
+pub mod TurningKnown
 pub mod Opening
 pub mod FreeLost
 pub mod Phasing
