@@ -374,16 +374,20 @@ local_got l w =
       part = part_got l.config l.thread (errand_of l) l.pass l.part w;
     }
 
+-- a pass of a thread of the heap
+abbrev pub IsPassAt : Config → Pass → Type 0
+IsPassAt c q = IsPass q × (q.threads ≡ c.threads)
+
 -- the numbers of a row are in range, and a thread that has begun a command has one
 abbrev pub PartFits : Config → ℕ → ℕ → Pass → Part → Type 0
 PartFits c done all q Rest = Unit {0}
 PartFits c done all q (Enter g) = GateFits g × (is_going_in g ≡ true) × (done < all)
 PartFits c done all q (Serve f) = FieldFits c f × (done < all)
-PartFits c done all q (Mark m) = GreyFits c m × (done < all)
-PartFits c done all q (Sweep s) = SweepFits c s × (done < all)
+PartFits c done all q (Mark m) = GreyFits c m × (done < all) × IsPassAt c q
+PartFits c done all q (Sweep s) = SweepFits c s × (done < all) × IsPassAt c q
 PartFits c done all q (Build b) = BuildFits c b × (done < all)
 PartFits c done all q Again = done < all
-PartFits c done all q Idle = IsPass q × (q.threads ≡ c.threads) × (done < all)
+PartFits c done all q Idle = (done < all) × IsPassAt c q
 PartFits c done all q (TurnOver g) =
     GateFits g × GateAt c g × (turns_over g ≡ true) × (done < all)
 PartFits c done all q Leave = Unit {0}

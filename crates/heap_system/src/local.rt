@@ -13,12 +13,15 @@ ghost use Rattle.heap_system.specs.Locals.{PartReads, is_done, is_rest, part_wan
 use crate::Turn;
 use barrier_steps::FieldPass;
 use block_store::{Config, OutOfMemory, PhaseWord, Places};
+use build_steps::BuildPass;
 use grey_steps::GreyPass;
 use heap_machine::{Gate, Op, Pass, Step};
 use never_heap::{Command, Entry, Reply};
 use rate_plan::plan;
 use std::alloc::Global;
 use std::marker::Model;
+use std::mem;
+use sweep_steps::SweepPass;
 
 /// The part of its work at which a thread is.
 #[derive(Drop)]
@@ -27,15 +30,22 @@ pub enum Part {
     Rest,
     /// On its way in.
     Enter(Gate),
-    /// Inside, in a command that makes no object and owes no more.
+    /// Inside, in a command that makes no object.
     Serve(FieldPass),
-    /// Inside, in a command that owes units, of which it makes one at most: none where nothing is
-    /// grey.
+    /// Inside while the phase is Mark, in an allocation that owes units, of which it makes one at
+    /// most: none where nothing is grey.
     Mark(GreyPass),
-    /// Inside, in an allocation that owes no more: it looks how many blocks are free.
-    Count,
+    /// Inside while the phase is Sweep, in an allocation that owes units: it makes up to eight, and
+    /// none where each block is claimed.
+    Sweep(SweepPass),
+    /// Inside, in an allocation that owes no more: it makes the object, or is refused.
+    Build(BuildPass),
     /// On its way out, to come in again for the command in hand.
     Again,
+    /// On its way out after a pass that found nothing to do, to turn the phase over.
+    Idle,
+    /// Outside, to turn the phase over or to start the next cycle, and then to come in again.
+    TurnOver(Gate),
     /// On its way out, with its command in the log.
     Leave,
 }
@@ -52,8 +62,13 @@ pub struct Local {
     log: Vec<Entry>,
     // The units made for the command in hand.
     paid: u64,
-    // Whether the rest of them is waived.
-    waived: bool,
+    // The objects made so far.
+    made: u32,
+    // For how many blocks the room has capacity.
+    space: usize,
+    // The room for the blocks that are held while an object is built: empty, and a build has it.
+    room: Vec<u32>,
+    alloc: Global,
     // The pass of the last entry at the gate.
     pass: Pass,
     part: Part,
@@ -73,7 +88,8 @@ impl Model for Local {
       trace = l.trace.items;
       log = l.log.items;
       paid = l.paid;
-      waived = l.waived;
+      made = l.made;
+      space = l.space;
       pass = l.pass;
       part = l.part;
     } };
@@ -85,10 +101,11 @@ impl Model for Local {
       trace = l.trace.items;
       log = l.log.items;
       paid = l.paid;
-      waived = l.waived;
+      made = l.made;
+      space = l.space;
       pass = l.pass;
       part = l.part;
-    }) × (length l.trace.items ≤ vec_capacity l.log) };
+    }) × (length l.trace.items ≤ vec_capacity l.log) × HasRoom l.part l.space l.room };
 }
 
 // What a turn answers after this step of a part.
@@ -126,6 +143,28 @@ fn makes_object(command: Command) -> bool
     matches!(command, Command::New { .. } | Command::Arr { .. })
 }
 
+// A pass that pays: a sweep or marking, by the phase.
+fn paying(pass: Pass, blocks: u32, due: u64) -> Part
+{
+    if pass.sweep {
+        Part::Sweep(SweepPass::new(pass.thread, pass.cycle, blocks, due))
+    } else {
+        Part::Mark(GreyPass::scan_in(pass))
+    }
+}
+
+// On the way out after a pass that pays.
+fn after_pass(nothing: bool) -> Part
+{
+    if nothing { Part::Idle } else { Part::Again }
+}
+
+// The part that turns the phase over, after a pass that found nothing to do.
+fn turning(pass: Pass) -> Gate
+{
+    Gate::turn_over(pass.thread, pass.threads, pass.cycle, pass.sweep)
+}
+
 // The sum of the works of the entries.
 fn sum_of_works(entries: &[Entry]) -> u64
     requires { works entries.now ≤ 2 ^ 60 }
@@ -139,13 +178,13 @@ fn sum_of_works(entries: &[Entry]) -> u64
 }
 
 impl Local {
-    /// A thread at rest before its first command, with room for all entries of its log. The
-    /// configuration has a rate, the thread is one of it, and the trace has at most 131,072
-    /// commands, which are in bounds.
+    /// A thread at rest before its first command, with room for all entries of its log and for the
+    /// blocks of the largest object. The configuration has a rate, the thread is one of it, and the
+    /// trace has at most 131,072 commands, which are in bounds.
     ///
     /// # Errors
     ///
-    /// `OutOfMemory` where there is no room for the log.
+    /// `OutOfMemory` where there is no room for the log or the blocks.
     pub fn new(
         alloc: Global,
         c: &Config,
@@ -156,10 +195,11 @@ impl Local {
         requires plan { IsAdmitted c.now }
         requires thread { thread < c.now.threads }
         requires trace { IsTraceInBounds c.now trace.items }
-        ensures { IfOk result (λ l. IsRate c.now l.rate
-            × (l ≡ at_start c.now l.rate thread trace.items)) }
+        ensures { IfOk result (λ l. IsRate c.now l.rate × (c.now.object ≤ l.space)
+            × (l ≡ at_start c.now l.rate l.space thread trace.items)) }
     {
         let log = Vec::with_capacity(alloc, trace.len())?;
+        let room = Vec::with_capacity(alloc, c.object as usize)?;
         let Ok(rate) = plan(c) else {
             unreachable!();
         };
@@ -170,7 +210,10 @@ impl Local {
             trace,
             log,
             paid: 0,
-            waived: false,
+            made: 0,
+            space: room.capacity(),
+            room,
+            alloc,
             pass: Pass {
                 thread,
                 threads: c.threads,
@@ -246,8 +289,10 @@ impl Local {
             Part::Enter(gate) => gate.want_in(&places),
             Part::Serve(pass) => pass.want(&places),
             Part::Mark(pass) => pass.want(&places),
-            Part::Count => Op::load(places.free_count()),
-            Part::Again | Part::Leave => Op::FetchSub {
+            Part::Sweep(pass) => pass.want(&places),
+            Part::Build(pass) => pass.want(&places),
+            Part::TurnOver(gate) => gate.want(&places),
+            Part::Again | Part::Idle | Part::Leave => Op::FetchSub {
                 place: places.phase(),
                 by: 1,
             },
@@ -277,8 +322,7 @@ impl Local {
                 match gate.entered() {
                     Some(phase) => {
                         self.part = Part::Rest;
-                        self.pass = self.pass_by(phase);
-                        self.part = self.first_part(self.pass);
+                        self.goes_in(phase);
                         turn
                     }
                     None => turn,
@@ -299,21 +343,50 @@ impl Local {
                 let unit = pass.unit();
                 let step = pass.got(&places, word);
                 self.paid = counted(self.paid, pass.unit() && !unit);
-                self.waived = pass.nothing() || self.waived;
                 if is_last(step) {
-                    self.part = Part::Again;
+                    self.part = after_pass(pass.nothing());
                     turn_after(step)
                 } else {
                     turn_after(step)
                 }
             }
-            Part::Count => {
-                self.answer(Reply::Full(1));
-                Turn::Went
+            Part::Sweep(pass) => {
+                let passed = pass.passed();
+                let step = pass.got(&places, word);
+                self.paid = counted(self.paid, pass.passed() > passed);
+                if is_last(step) {
+                    self.part = after_pass(pass.nothing());
+                    turn_after(step)
+                } else {
+                    turn_after(step)
+                }
+            }
+            Part::Build(pass) => {
+                let turn = turn_after(pass.got(&places, word));
+                match pass.reply() {
+                    Some(reply) => {
+                        self.built(reply);
+                        turn
+                    }
+                    None => turn,
+                }
             }
             Part::Again => {
                 self.part = Part::Enter(Gate::enter());
                 Turn::Went
+            }
+            Part::Idle => {
+                self.part = Part::TurnOver(turning(self.pass));
+                Turn::Went
+            }
+            Part::TurnOver(gate) => {
+                let step = gate.got(&places, word);
+                if is_last(step) {
+                    self.part = Part::Enter(Gate::enter());
+                    turn_after(step)
+                } else {
+                    turn_after(step)
+                }
             }
             Part::Leave => {
                 self.part = Part::Rest;
@@ -336,29 +409,50 @@ impl Local {
         }
     }
 
-    // What the thread does in a pass that begins.
-    fn first_part(&self, pass: Pass) -> Part
-        requires command { length self.now.log < length self.now.trace }
-        requires pass { IsPass pass }
-        ensures { result ≡ first_part pass (command_of self.now) (owes self.now) }
+    // The thread is inside by this phase word, and begins what it went in for.
+    fn goes_in(&mut self, phase: PhaseWord)
     {
+        let pass = self.pass_by(phase);
+        self.pass = pass;
         let command = self.trace[self.log.len()];
-        if self.owes(&command) {
-            Part::Mark(GreyPass::scan_in(pass))
+        let due = self.due(&command);
+        if due > 0 {
+            self.part = paying(pass, self.config.blocks, due);
         } else if makes_object(command) {
-            Part::Count
+            let room = mem::replace(&mut self.room, Vec::new(self.alloc));
+            self.part = Part::Build(BuildPass::new(
+                self.config.width,
+                pass.thread,
+                pass.threads,
+                pass.cycle,
+                self.made + 1,
+                command,
+                room,
+            ));
         } else {
-            Part::Serve(FieldPass::new_in(pass, command))
+            self.part = Part::Serve(FieldPass::new_in(pass, command));
         }
     }
 
-    // Whether the command in hand still owes units.
-    fn owes(&self, command: &Command) -> bool
+    // The units that the command in hand still owes.
+    fn due(&self, command: &Command) -> u64
         requires command { command.now ≡ command_of self.now }
         requires there { length self.now.log < length self.now.trace }
-        ensures { result ≡ owes self.now }
+        ensures { result ≡ owed self.now - self.now.paid }
     {
-        !self.waived && self.paid < self.rate * u64::from(command.blocks(self.config.width))
+        self.rate * u64::from(command.blocks(self.config.width)) - self.paid
+    }
+
+    // The command in hand, which made an object or was refused, is done.
+    fn built(&mut self, reply: Reply)
+    {
+        if let Part::Build(pass) = mem::replace(&mut self.part, Part::Rest) {
+            self.room = pass.into_room();
+        }
+        if let Reply::New(_) = reply {
+            self.made += 1;
+        }
+        self.answer(reply);
     }
 
     // The command in hand is done.
@@ -370,8 +464,6 @@ impl Local {
               log = self.old.log ++ entry_of
                   self.old.thread (command_of self.old) self.old.paid reply ∷ [];
               paid = 0;
-              waived
-                  = false;
             } }
     {
         let command = self.trace[self.log.len()];
@@ -382,7 +474,6 @@ impl Local {
             work: self.paid,
         });
         self.paid = 0;
-        self.waived = false;
         self.part = Part::Leave;
     }
 }
