@@ -1,7 +1,7 @@
 //! Laws of the rows on the rules of the heap, for the proofs above: each is the contract of a
 //! function that does nothing.
 
-ghost use Rattle.std.specs.Prelude.{◌≡◌, ℕ, IsSome, None, List, true};
+ghost use Rattle.std.specs.Prelude.{◌≡◌, ℕ, IsSome, None, Some, if◌then◌else◌, List, true};
 ghost use Rattle.block_store.specs.declared.Config.{Config};
 ghost use Rattle.block_store.specs.Colours.{is_grey};
 ghost use Rattle.block_store.specs.Counts.{changed};
@@ -24,6 +24,8 @@ ghost use Rattle.heap_machine.specs.declared.pass.Pass.{Pass};
 ghost use Rattle.barrier_steps.specs.Rows.{FieldState, at_first_row, word_stored, field_want, field_got, field_reply, field_holding};
 ghost use Rattle.barrier_steps.specs.Fits.{FieldFits, FieldReads};
 ghost use Rattle.barrier_steps.specs.Decided.{field_task, graph_on, order_on};
+ghost use Rattle.barrier_steps.specs.Deciding.{is_deciding};
+ghost use Rattle.barrier_steps.specs.Replies.{answer, reply_due, IsKnown};
 
 /// In the phase and cycle of its pass each event keeps all that a heap keeps in either phase, while
 /// the other threads hold what they held, where the block to which it stores a reference is not
@@ -48,7 +50,8 @@ pub fn rows_keep_the_heap()
 /// In the phase and cycle of its pass each event keeps what is kept of the names, where the thread's
 /// task is its row's, and then the next row's. At the deciding event the graph makes the command's
 /// step and the order gets its entry; else both stay. The block to which a loaded reference is to be
-/// stored is not Free.
+/// stored is not Free. From the deciding event on the step's answer is due. Each event reads what it
+/// may read, where each word is one that its place can hold.
 pub fn rows_keep_the_names()
     ensures kept { (c : Config) (g : Graph) (order : List HistoryItem) (h : Heap) (names : Names)
         (tasks : ℕ → Task) (f : FieldState) → FieldFits c f → field_reply f.row ≡ None
@@ -65,6 +68,21 @@ pub fn rows_keep_the_names()
         → tasks f.pass.thread ≡ field_task (extent c) f
         → IsKept c (picture g order h names tasks)
         → NotFree (λ x. h (ColourOf x)) (target (word_stored f.row)) }
+    ensures due { (c : Config) (g : Graph) (order : List HistoryItem) (h : Heap) (names : Names)
+        (tasks : ℕ → Task) (f : FieldState) → FieldFits c f
+        → tasks f.pass.thread ≡ field_task (extent c) f
+        → IsKept c (picture g order h names tasks) → IsKnown g f
+        → (reply_due (graph_on g f (h (place_of (field_want (extent c) f))))
+        (field_got (extent c) f (h (place_of (field_want (extent c) f))))
+        ≡ (if is_deciding f.command f.row (h (place_of (field_want (extent c) f)))
+        then Some (answer g f.pass.thread f.command) else reply_due g f))
+        × IsKnown (graph_on g f (h (place_of (field_want (extent c) f))))
+        (field_got (extent c) f (h (place_of (field_want (extent c) f)))) }
+    ensures reads { (c : Config) (g : Graph) (order : List HistoryItem) (h : Heap) (names : Names)
+        (tasks : ℕ → Task) (f : FieldState) → FieldFits c f
+        → tasks f.pass.thread ≡ field_task (extent c) f
+        → IsKept c (picture g order h names tasks) → IsHeld c h → field_reply f.row ≡ None
+        → FieldReads c f (h (place_of (field_want (extent c) f))) }
 {}
 
 /// No event changes the phase word or the sweep's cursor, or makes a grey block black. A command
