@@ -29,9 +29,10 @@ use Rattle.heap_system.specs.declared.Turn.TheVariants as turns
 use Rattle.heap_system.specs.declared.local.Part.TheVariants.{Mark, Again, Idle}
 use Rattle.heap_system.specs.Locals.{turn_of, task, paid_got}
 use Rattle.heap_system.specs.Units.{blackens}
+use Rattle.heap_system.proofs.Passing.{inside_open}
 use Rattle.heap_system.proofs.PartLaws.{AtPart, PartLaws}
 use Rattle.heap_system.proofs.Seeing.{Seen, EventKept}
-use Rattle.heap_system.proofs.parts.Passes.{not_both, grey_or_black, of_pass, PassEvent, pass_is, pass_kept, opened, units_are}
+use Rattle.heap_system.proofs.parts.InPass.{not_both, grey_or_black, of_pass, PassEvent, pass_is, pass_kept, stands, units_are}
 
 -- no event of marking writes the cursor
 shade_cursor : (h : Heap) (y old v : ℕ)
@@ -290,7 +291,7 @@ mark_laws c m = record {
       event c s m at (grey_over next.row) (grey_nothing next.row) refl);
   stays = λ g new u pass k kept same count. (kept, refl);
   knows = λ h new ns later pass forward cursor behind closing known. tt;
-  rests = λ s at closed outside. absurd (opened c s (Mark m) at refl closed);
+  rests = λ s at closed outside. absurd (inside_open c s (stands c s (Mark m) at refl) closed);
   idle = λ out. absurd (let z : true ≡ false = out in cc);
   empty = λ out. absurd (let z : false ≡ true = out in cc);
   builds = λ done all pass fits. tt;

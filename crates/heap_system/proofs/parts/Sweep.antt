@@ -30,9 +30,10 @@ use Rattle.heap_system.specs.declared.Turn.TheVariants as turns
 use Rattle.heap_system.specs.declared.local.Part.TheVariants.{Sweep, Again, Idle}
 use Rattle.heap_system.specs.Locals.{turn_of, sweep_waits, task, paid_got}
 use Rattle.heap_system.specs.Units.{blackens}
+use Rattle.heap_system.proofs.Passing.{inside_open}
 use Rattle.heap_system.proofs.PartLaws.{AtPart, PartLaws}
 use Rattle.heap_system.proofs.Seeing.{Seen, EventKept}
-use Rattle.heap_system.proofs.parts.Passes.{not_both, grey_or_black, of_pass, PassEvent, pass_is, pass_kept, opened, paid_more, units_are}
+use Rattle.heap_system.proofs.parts.InPass.{not_both, grey_or_black, of_pass, PassEvent, pass_is, pass_kept, stands, paid_more, units_are}
 
 -- the sweep reads no payload
 none_found : (r : SweepRow) → (sweep_holding r).found ≡ 0
@@ -273,7 +274,7 @@ sweep_laws c p = record {
       event c s p at (sweep_over next.row) (sweep_nothing next.row) refl refl);
   stays = λ g new u pass k kept same count. (kept, refl);
   knows = λ h new ns later pass forward cursor behind closing known. tt;
-  rests = λ s at closed outside. absurd (opened c s (Sweep p) at refl closed);
+  rests = λ s at closed outside. absurd (inside_open c s (stands c s (Sweep p) at refl) closed);
   idle = λ out. absurd (let z : true ≡ false = out in cc);
   empty = λ out. absurd (let z : false ≡ true = out in cc);
   builds = λ done all pass fits. tt;

@@ -12,7 +12,7 @@ use Rattle.heap_machine.specs.Gating.{Gating, GateOf, Inside, is_outside}
 use Rattle.heap_machine.specs.PhaseKept.{PhaseKept}
 use Rattle.heap_machine.specs.Readings.{IsHeld}
 use Rattle.heap_machine.specs.declared.Step.{Step}
-use Rattle.heap_machine.proofs.Gatings.{gate_stays, inside_some}
+use Rattle.heap_machine.proofs.Gatings.{gate_stays}
 use Rattle.kept_names.specs.Kept.{IsKept}
 use Rattle.kept_names.specs.Pictures.{picture}
 use Rattle.sweep_steps.specs.Ends.{unpassed}
@@ -61,7 +61,7 @@ paid_more false paid = omega arith
 
 module _ (c : Config) (s : Seen c) (p : Part) (at : AtPart c s p)
     (inside : stand_of c p ≡ Inside) where
-  stands : (s.gatings s.thread).stand ≡ Inside
+  pub stands : (s.gatings s.thread).stand ≡ Inside
   stands = ap (λ (g : Gating). g.stand) at.gating ∙ inside
 
   -- the pass has the phase word's cycle and phase
@@ -125,14 +125,6 @@ module _ (c : Config) (s : Seen c) (p : Part) (at : AtPart c s p)
         counted = refl;
         counts = s.count;
       }
-
-  -- while it is inside the gate is open
-  pub opened : is_closed (s.heap Phase) ≡ true → ⊥
-  opened closed = omega (
-    arith,
-    s.gate.alone closed,
-    inside_some c.threads (s.heap Phase) s.gatings s.gate s.thread s.low stands,
-  )
 
 -- what was paid before an event and at it
 pub units_are : (paid : ℕ) (unit : Bool) → 0 + paid_got None unit paid ≡ paid + bit unit
