@@ -541,7 +541,6 @@ module _ (c : Config) (s : Seen c) (b : BuildState) (at : AtPart c s (Build b)) 
 
 pub build_laws : (c : Config) (b : BuildState) → PartLaws c (Build b)
 build_laws c b = record {
-  place = λ done all pass fits. place_fits c b fits.0;
   reads = λ s at. reads c s b at;
   sum = λ s at. sum_fits c b (s.heap (place_of (build_want (extent c) b)));
   event = λ s at some. build_event c s b at;

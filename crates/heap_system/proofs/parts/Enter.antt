@@ -78,7 +78,7 @@ module _ (c : Config) (s : Seen c) (q : Pass) (own : q.thread ≡ s.thread) (is 
       task = refl;
       holds = refl;
       waits = refl;
-      part = record { thread = own; cycle = refl; sweep = sweep; going = refl };
+      part = record { thread = own; own = own; cycle = refl; sweep = sweep; going = refl };
       fits = (sweeping_ranges.first_fits c q.thread q.cycle (s.due - s.paid) (omega (arith, own, s.low)) s.bounds.blocks (omega (arith, more)), low, is);
       roomy = tt;
       low = omega (arith, pays);

@@ -318,7 +318,6 @@ module _ (c : Config) (s : Seen c) (f : FieldState) (at : AtPart c s (Serve f)) 
 
 pub serve_laws : (c : Config) (f : FieldState) → PartLaws c (Serve f)
 serve_laws c f = record {
-  place = λ done all pass fits. field_place c f fits.0;
   reads = λ s at. reads c s f at;
   sum = λ s at. field_sum c f (s.heap (place_of (field_want (extent c) f)));
   event = λ s at low. serve_event c s f at (field_reply (field_got (extent c) f (s.heap (place_of (field_want (extent c) f)))).row) refl;
