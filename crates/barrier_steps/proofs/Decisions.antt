@@ -18,7 +18,7 @@ use Rattle.barrier_steps.specs.declared.rows.FieldStore.TheVariants.{Moved, Pend
 use Rattle.barrier_steps.specs.declared.rows.Way.{Way}
 use Rattle.barrier_steps.specs.Operands.{field_index}
 use Rattle.barrier_steps.specs.Walks.{shape_length, links_to}
-use Rattle.barrier_steps.specs.Rows.{payload_in, shape_in, object_in, before_store, first_row, row_got, field_reply, field_decided, after_object, after_shape, after_field, after_said, at_block, on_way, way_from, way_on, in_barrier}
+use Rattle.barrier_steps.specs.Rows.{payload_in, shape_in, object_in, before_store, first_row, row_got, field_reply, field_decided, after_object, after_shape, after_field, after_said, at_block, on_way, way_from, in_barrier}
 use Rattle.barrier_steps.specs.Deciding.{refers, length_decides, is_deciding}
 use Rattle.barrier_steps.proofs.Stores.{before_is, barrier_is}
 

@@ -1,7 +1,6 @@
 -- What holds of the rows: their places are in range, and a row that fits becomes one that fits.
-use Rattle.std.proofs.Common.{◌≡◌, ◌≢◌, ℕ, ◌<◌, ◌≤◌, ◌+◌, ◌*◌, ◌/◌, ◌%◌, Bool, true, false, cond, IsSome, is_some, arith, refl, sym, subst, ap, ◌∙◌, inl, inr, ltb, leb, eq-eqb}
-use Rattle.std.proofs.lemmas.Bool.{cases_Bool, cases_eq, cases_lt, lt-ltb, le-ltb, le-leb, ne_eqb}
-use Rattle.std.proofs.lemmas.Nat.{mod_below}
+use Rattle.std.proofs.Common.{◌≡◌, ◌≢◌, ℕ, ◌<◌, ◌≤◌, ◌+◌, Bool, true, false, cond, IsSome, is_some, arith, refl, sym, subst, ap, ◌∙◌, inl, inr, ltb, leb}
+use Rattle.std.proofs.lemmas.Bool.{cases_Bool, cases_lt, lt-ltb, le-ltb, le-leb}
 use Rattle.block_store.specs.declared.Config.{Config}
 use Rattle.block_store.specs.declared.TheConstants.{REGISTERS}
 use Rattle.block_store.specs.declared.Payload.{Payload}
@@ -17,7 +16,6 @@ use Rattle.block_store.specs.Shapes.{IsShape}
 use Rattle.never_heap.specs.declared.Command.{Command}
 use Rattle.never_heap.specs.declared.Command.TheVariants as commands
 use Rattle.never_heap.specs.Bounds.{IsCommandInRange}
-use Rattle.never_heap.specs.Steps.{blocks_of}
 use Rattle.heap_machine.specs.Operations.{place_of, Fits}
 use Rattle.heap_machine.specs.Readings.{StoresHeld}
 use Rattle.heap_machine.specs.declared.pass.Pass.{Pass}
@@ -26,7 +24,6 @@ use Rattle.barrier_steps.specs.declared.rows.FieldRow.TheVariants.{StoreNumber, 
 use Rattle.grey_steps.specs.declared.rows.GreyRow.{GreyRow}
 use Rattle.grey_steps.specs.declared.rows.GreyRow.TheVariants.{TakeOwn, ShadeStored, PutOwn, Shaded}
 use Rattle.grey_steps.specs.Rows as marking
-use Rattle.grey_steps.specs.Fits.{GreyFits}
 use Rattle.grey_steps.specs.Ends.{is_shading, block_stored}
 use Rattle.grey_steps.proofs.Ends.{block_stays}
 use Rattle.grey_steps.proofs.Ranges as ranges
@@ -35,7 +32,7 @@ use Rattle.barrier_steps.specs.declared.rows.FieldStore.TheVariants.{Moved, Pend
 use Rattle.barrier_steps.specs.declared.rows.Way.{Way}
 use Rattle.barrier_steps.specs.Operands.{to_register, from_register, other_register, field_index, number_set, is_put, is_get, goes_to_field, looks_at_object}
 use Rattle.barrier_steps.specs.Walks.{shape_length, links_to}
-use Rattle.barrier_steps.specs.Rows.{FieldState, register_place, payload_in, shape_in, object_in, stored_word, store_row, shaded_for, before_store, in_barrier, first_row, at_first_row, row_want, row_got, field_want, field_got, after_object, after_shape, after_field, after_said, on_way, at_block, way_from, way_on}
+use Rattle.barrier_steps.specs.Rows.{FieldState, register_place, payload_in, shape_in, object_in, stored_word, store_row, shaded_for, before_store, first_row, at_first_row, row_want, row_got, field_want, field_got, after_object, after_shape, after_field, after_said, on_way, at_block, way_from, way_on}
 use Rattle.barrier_steps.specs.Fits.{IsThread, IsLoaded, IsWalk, IsThere, IsBarrier, is_store_of, StoreFits, is_row_of, RowFits, FitsAt, FieldFits, ReadsAt, FieldReads}
 use Rattle.barrier_steps.proofs.Named.{to_low, from_low, other_low, number_low}
 use Rattle.barrier_steps.proofs.Walking.{link_low, field_low}

@@ -1,5 +1,5 @@
 -- Each event of a command keeps all that a heap keeps in either phase.
-use Rattle.std.proofs.Common.{◌≡◌, ◌≢◌, ℕ, ◌<◌, true, false, cond, ltb, IsSome, is_some, Option, None, Some, refl, sym, ap, ◌∙◌, subst, inl, inr}
+use Rattle.std.proofs.Common.{◌≡◌, ℕ, ◌<◌, true, false, cond, ltb, IsSome, Option, None, Some, refl, sym, ap, ◌∙◌, subst, inl, inr}
 use Rattle.std.proofs.lemmas.Bool.{cases_Bool}
 use Rattle.block_store.specs.declared.Config.{Config}
 use Rattle.block_store.specs.declared.Payload.{Payload}
@@ -30,7 +30,7 @@ use Rattle.heap_machine.proofs.Held.{held_after}
 use Rattle.heap_machine.proofs.Keeping.{part_changed}
 use Rattle.heap_machine.proofs.Reusing.{reuse_other, reuse_stays}
 use Rattle.heap_machine.proofs.Solids.{solid_payload}
-use Rattle.heap_machine.proofs.Tricolours.{goes_on, lets_go, kept_payload}
+use Rattle.heap_machine.proofs.Tricolours.{lets_go, kept_payload}
 use Rattle.grey_steps.specs.declared.rows.GreyRow.{GreyRow}
 use Rattle.grey_steps.specs.declared.rows.GreyRow.TheVariants.{Shaded}
 use Rattle.grey_steps.specs.Ends.{is_shading, block_stored}
@@ -43,9 +43,9 @@ use Rattle.barrier_steps.specs.declared.rows.FieldRow.TheVariants.{StoreNumber, 
 use Rattle.barrier_steps.specs.declared.rows.FieldStore.{FieldStore}
 use Rattle.barrier_steps.specs.declared.rows.FieldStore.TheVariants.{Moved, Pending, InField}
 use Rattle.barrier_steps.specs.declared.rows.Way.{Way}
-use Rattle.barrier_steps.specs.Fits.{IsBarrier, RowFits, FitsAt, FieldFits, ReadsAt, FieldReads}
+use Rattle.barrier_steps.specs.Fits.{IsBarrier, FitsAt, FieldFits, ReadsAt, FieldReads}
 use Rattle.barrier_steps.specs.Operands.{field_index, number_set}
-use Rattle.barrier_steps.specs.Rows.{FieldState, payload_or_nil, payload_in, shape_in, object_in, at_first_row, first_row, stored_word, store_row, shaded_for, before_store, in_barrier, at_block, on_way, way_from, way_on, after_object, after_shape, after_field, after_said, row_want, row_got, word_stored, field_want, field_got, field_reply, held_before_store, row_holding, field_holding}
+use Rattle.barrier_steps.specs.Rows.{FieldState, payload_or_nil, payload_in, shape_in, object_in, at_first_row, stored_word, store_row, shaded_for, before_store, at_block, on_way, way_from, way_on, after_object, after_shape, after_field, after_said, row_want, row_got, word_stored, field_want, field_got, field_reply, held_before_store, row_holding, field_holding}
 use Rattle.barrier_steps.specs.Walks.{shape_length, links_to}
 use Rattle.barrier_steps.proofs.FieldRows.{stored_shades, stores_held}
 use Rattle.barrier_steps.proofs.Stores.{before_is, barrier_is}

@@ -11,3 +11,4 @@ pub mod Showing
 pub mod Registers
 pub mod Dues
 pub mod Keeping
+pub mod Naming

@@ -1,5 +1,5 @@
 -- A row is its event: the words and what the thread has loaded are those after it, and it may come where it does.
-use Rattle.std.proofs.Common.{◌≡◌, ◌≢◌, ℕ, ◌+◌, ◌%◌, ◌<◌, Bool, true, false, cond, Option, None, Some, IfSome, IsSome, refl, sym, ap, ◌∙◌, subst, inl, inr, ltb, eqb, eq-eqb, ltb-true}
+use Rattle.std.proofs.Common.{◌≡◌, ◌≢◌, ℕ, ◌+◌, ◌<◌, true, cond, Option, None, Some, IfSome, IsSome, refl, sym, ap, ◌∙◌, subst, inl, inr, ltb, eqb, eq-eqb, ltb-true}
 use Rattle.std.proofs.lemmas.Bool.{cases_Bool, cases_eq, ne_eqb}
 use Rattle.block_store.specs.declared.Config.{Config}
 use Rattle.block_store.specs.declared.Name.{Name}
@@ -103,7 +103,7 @@ stored_loading c k (InField way word) = refl
 before_loading : (c : Config) (p : Pass) (k : Command) (store : FieldStore) → row_loading (extent c) k (before_store p store) ≡ store_loading (extent c) k store
 before_loading c p k store = before_is (λ row. row_loading (extent c) k row ≡ store_loading (extent c) k store) p store (λ _. stored_loading c k store) (λ _. refl)
 
-barrier_loading : (c : Config) (k : Command) (r : GreyRow) (store : FieldStore) → row_loading (extent c) k (in_barrier r store) ≡ store_loading (extent c) k store
+pub barrier_loading : (c : Config) (k : Command) (r : GreyRow) (store : FieldStore) → row_loading (extent c) k (in_barrier r store) ≡ store_loading (extent c) k store
 barrier_loading c k r store = barrier_is (λ row. row_loading (extent c) k row ≡ store_loading (extent c) k store) r store (λ _. stored_loading c k store) (λ _. refl)
 
 block_loading : (c : Config) (p : Pass) (k : Command) (way : Way) (word : ℕ) → row_loading (extent c) k (at_block p k way word) ≡ pair (object_on (extent c) k way) (carried_load k word)
@@ -223,7 +223,7 @@ loads_moved c h s a p k (Answered reply) w fits reads at u = unmoved s.loads p.t
 has_object : (s : GraphState) (t : ℕ) (o : ObjectLoad) → (s.loads t).object ≡ Some o → HasObject s t
 has_object s t o e = e ∙ ap (λ x. Some (object_in x)) (sym e)
 
-has_value : (s : GraphState) (t : ℕ) (v : ValueLoad) → (s.loads t).value ≡ Some v → HasValue s t
+pub has_value : (s : GraphState) (t : ℕ) (v : ValueLoad) → (s.loads t).value ≡ Some v → HasValue s t
 has_value s t v e = e ∙ ap (λ x. Some (value_in x)) (sym e)
 
 shape_read : (w : ℕ) → IsSome (shape_of w) → shape_of w ≡ Some (shape_in w)

@@ -21,11 +21,11 @@ use Rattle.shown_graph.specs.Layouts.{kind_shape}
 use Rattle.shown_graph.specs.Read.{value_payload}
 use Rattle.heap_machine.specs.declared.pass.Pass.{Pass}
 use Rattle.barrier_steps.specs.declared.rows.FieldRow.{FieldRow}
-use Rattle.barrier_steps.specs.declared.rows.FieldRow.TheVariants.{StoreNumber, StoreNil, LoadMoved, StoreMoved, LoadObject, LoadShape, LoadValue, LoadLink, LoadField, LoadOwner, StorePending, StoreField, Shade, LoadFirst, LoadSecond, LoadSaid, LoadSaidOwner, Answered}
+use Rattle.barrier_steps.specs.declared.rows.FieldRow.TheVariants.{StoreNumber, StoreNil, StoreMoved, LoadObject, LoadShape, LoadField, LoadOwner, StorePending, StoreField, Shade, LoadSecond, LoadSaid, LoadSaidOwner, Answered}
 use Rattle.barrier_steps.specs.declared.rows.FieldStore.TheVariants.{Pending}
 use Rattle.barrier_steps.specs.Operands.{from_register, other_register, field_index, is_set, is_nil, is_mov, is_get, is_put, looks_at_object, is_same, is_say}
 use Rattle.barrier_steps.specs.Walks.{shape_length}
-use Rattle.barrier_steps.specs.Rows.{payload_or_nil, payload_in, shape_or_empty, shape_in, object_or_nil, object_in, row_got, field_reply, after_object, after_shape, after_field, after_said, on_way, way_from}
+use Rattle.barrier_steps.specs.Rows.{payload_or_nil, payload_in, shape_or_empty, shape_in, object_or_nil, object_in, row_got, field_reply, after_object, after_shape, after_field, after_said}
 use Rattle.barrier_steps.specs.Fits.{is_row_of}
 use Rattle.barrier_steps.specs.Deciding.{refers, length_decides, is_deciding}
 use Rattle.barrier_steps.specs.Replies.{answer, IsWordOf, ShapeShown, FieldFound, BothShown, ShownAt, Promises, NameShown}

@@ -18,20 +18,19 @@ use Rattle.never_heap.proofs.GraphMoves.{register_with_register}
 use Rattle.shown_graph.specs.Shown.{IsSized}
 use Rattle.shown_graph.specs.Events.{GraphState}
 use Rattle.heap_machine.specs.declared.pass.Pass.{Pass}
-use Rattle.grey_steps.specs.declared.rows.GreyRow.{GreyRow}
 use Rattle.barrier_steps.specs.declared.rows.FieldRow.{FieldRow}
 use Rattle.barrier_steps.specs.declared.rows.FieldRow.TheVariants.{StoreNumber, StoreNil, StoreMoved, LoadObject, LoadShape, LoadField, StorePending, StoreField, Shade, LoadSecond, LoadSaid}
 use Rattle.barrier_steps.specs.declared.rows.FieldStore.TheVariants.{Pending, InField}
 use Rattle.barrier_steps.specs.declared.rows.Way.{Way}
 use Rattle.barrier_steps.specs.Operands.{to_register, from_register, field_index}
 use Rattle.barrier_steps.specs.Walks.{shape_length, links_to}
-use Rattle.barrier_steps.specs.Rows.{payload_in, shape_in, before_store, row_got, after_object, after_shape, after_field, after_said, at_block, on_way, way_from}
+use Rattle.barrier_steps.specs.Rows.{payload_in, shape_in, row_got, after_object, after_shape, after_field, after_said, at_block, on_way, way_from}
 use Rattle.barrier_steps.specs.Fits.{FitsAt}
 use Rattle.barrier_steps.specs.Deciding.{refers, is_deciding}
 use Rattle.barrier_steps.specs.Replies.{answer, ShownAt, ShowsAt}
 use Rattle.barrier_steps.specs.Projection.{row_event, after_event, InHandAt}
 use Rattle.barrier_steps.proofs.Named.{to_low}
-use Rattle.barrier_steps.proofs.Stores.{before_is, barrier_is}
+use Rattle.barrier_steps.proofs.Stores.{before_is}
 use Rattle.barrier_steps.proofs.Promising.{get_answers, say_answers}
 use Rattle.barrier_steps.proofs.Stepping.{one_name, chosen_value}
 

@@ -1,5 +1,5 @@
 -- Where the words show the graph, a row reads words that its places can hold, and these are what the graph says.
-use Rattle.std.proofs.Common.{◌≡◌, ◌≢◌, ℕ, ◌+◌, ◌%◌, ◌<◌, ◌≤◌, Bool, true, false, None, Some, IfSome, IsSome, is_some, length, refl, sym, ap, ◌∙◌, subst, arith}
+use Rattle.std.proofs.Common.{◌≡◌, ◌≢◌, ℕ, ◌+◌, ◌<◌, ◌≤◌, Bool, true, false, None, Some, IfSome, IsSome, is_some, length, refl, sym, ap, ◌∙◌, subst, arith}
 use Rattle.block_store.specs.declared.Config.{Config}
 use Rattle.block_store.specs.declared.TheConstants.{REGISTERS}
 use Rattle.block_store.specs.declared.Name.{Name}

@@ -1,7 +1,6 @@
 -- The ranges of the numbers in a row, and the words that it may read.
 use Rattle.std.specs.Prelude.{ℕ, ◌+◌, ◌<◌, ◌≤◌, ◌≡◌, ◌≢◌, IsSome, Bool, true, false}
 use Rattle.block_store.specs.declared.Config.{Config}
-use Rattle.block_store.specs.declared.Shape.{Shape}
 use Rattle.block_store.specs.Payloads.{payload_of, target}
 use Rattle.block_store.specs.Places.{extent, IsBlock}
 use Rattle.block_store.specs.Registers.{registers_end}

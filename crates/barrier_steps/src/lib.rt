@@ -17,4 +17,4 @@ pub use laws::{
 };
 pub use pass::FieldPass;
 pub use rows::{FieldRow, FieldStore, Way};
-pub use rules::rows_keep_the_heap;
+pub use rules::{rows_keep_the_heap, rows_keep_the_names};

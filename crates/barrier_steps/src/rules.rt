@@ -1,7 +1,7 @@
 //! Laws of the rows on the rules of the heap, for the proofs above: each is the contract of a
 //! function that does nothing.
 
-ghost use Rattle.std.specs.Prelude.{◌≡◌, ℕ, IsSome};
+ghost use Rattle.std.specs.Prelude.{◌≡◌, ℕ, IsSome, None, List};
 ghost use Rattle.block_store.specs.declared.Config.{Config};
 ghost use Rattle.block_store.specs.Counts.{changed};
 ghost use Rattle.block_store.specs.Heaps.{Heap};
@@ -9,6 +9,10 @@ ghost use Rattle.block_store.specs.Payloads.{target};
 ghost use Rattle.block_store.specs.Phases.{is_sweep, cycle_of};
 ghost use Rattle.block_store.specs.Places.{Extent, extent, Phase, ColourOf};
 ghost use Rattle.never_heap.specs.declared.Command.{Command};
+ghost use Rattle.never_heap.specs.Graphs.{Graph};
+ghost use Rattle.never_heap.specs.Histories.{HistoryItem};
+ghost use Rattle.kept_names.specs.Kept.{IsKept};
+ghost use Rattle.kept_names.specs.Pictures.{Task, Names, picture};
 ghost use Rattle.heap_machine.specs.Holdings.{Holding, holds_nothing};
 ghost use Rattle.heap_machine.specs.Operations.{place_of, heap_after};
 ghost use Rattle.heap_machine.specs.PhaseKept.{PhaseKept};
@@ -17,6 +21,7 @@ ghost use Rattle.heap_machine.specs.Solid.{NotFree};
 ghost use Rattle.heap_machine.specs.declared.pass.Pass.{Pass};
 ghost use Rattle.barrier_steps.specs.Rows.{FieldState, at_first_row, word_stored, field_want, field_got, field_reply, field_holding};
 ghost use Rattle.barrier_steps.specs.Fits.{FieldFits, FieldReads};
+ghost use Rattle.barrier_steps.specs.Decided.{field_task, graph_on, order_on};
 
 /// In the phase and cycle of its pass each event keeps all that a heap keeps in either phase, while
 /// the other threads hold what they held, where the block to which it stores a reference is not
@@ -36,4 +41,26 @@ pub fn rows_keep_the_heap()
         → field_holding e f ≡ holds_nothing }
     ensures words { (c : Config) (h : Heap) (f : FieldState) → FieldFits c f → IsHeld c h
         → IsHeld c (heap_after h (field_want (extent c) f)) }
+{}
+
+/// In the phase and cycle of its pass each event keeps what is kept of the names, where the thread's
+/// task is its row's, and then the next row's. At the deciding event the graph makes the command's
+/// step and the order gets its entry; else both stay. The block to which a loaded reference is to be
+/// stored is not Free.
+pub fn rows_keep_the_names()
+    ensures kept { (c : Config) (g : Graph) (order : List HistoryItem) (h : Heap) (names : Names)
+        (tasks : ℕ → Task) (f : FieldState) → FieldFits c f → field_reply f.row ≡ None
+        → is_sweep (h Phase) ≡ f.pass.sweep → cycle_of (h Phase) ≡ f.pass.cycle
+        → tasks f.pass.thread ≡ field_task (extent c) f
+        → IsKept c (picture g order h names tasks)
+        → IsKept c (picture (graph_on g f (h (place_of (field_want (extent c) f))))
+        (order_on g order f (h (place_of (field_want (extent c) f))))
+        (heap_after h (field_want (extent c) f)) names
+        (changed tasks f.pass.thread (field_task (extent c)
+        (field_got (extent c) f (h (place_of (field_want (extent c) f))))))) }
+    ensures solid { (c : Config) (g : Graph) (order : List HistoryItem) (h : Heap) (names : Names)
+        (tasks : ℕ → Task) (f : FieldState) → FieldFits c f
+        → tasks f.pass.thread ≡ field_task (extent c) f
+        → IsKept c (picture g order h names tasks)
+        → NotFree (λ x. h (ColourOf x)) (target (word_stored f.row)) }
 {}

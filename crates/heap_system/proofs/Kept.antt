@@ -14,12 +14,13 @@ use Rattle.heap_machine.specs.PhaseKept.{PhaseKept}
 use Rattle.heap_machine.specs.Readings.{IsHeld}
 use Rattle.kept_names.specs.Kept.{IsKept}
 use Rattle.kept_names.specs.Pictures.{Names}
+use Rattle.sweep_steps.specs.Ends.{unpassed}
 use Rattle.heap_system.specs.Locals.{LocalState, command_of, owed, works, IsLocal}
 use Rattle.heap_system.specs.Machines.{Run, local_at, heap_in}
 use Rattle.heap_system.specs.Pictures.{holding, entries_waiting, gates_in, holdings_in, kept_state}
 use Rattle.heap_system.specs.Systems.{logs_of, units_of}
 use Rattle.heap_system.specs.Units.{IsRight}
-use Rattle.heap_system.proofs.Seeing.{stage, stage_of, PartKept, Knows, IsSettled, claimed, lead}
+use Rattle.heap_system.proofs.Seeing.{stage, stage_of, PartKept, Knows, IsSettled, lead}
 
 -- thread t, where the order led to graph g, on this heap and with these names
 pub record LocalKept (c : Config) (given : List Command) (g : Graph) (order : List HistoryItem) (h : Heap) (ns : Names) (t : ℕ) (l : LocalState) : Type 0 where
@@ -38,7 +39,7 @@ pub record LocalKept (c : Config) (given : List Command) (g : Graph) (order : Li
 
 -- the units of a thread, and the blocks that it has claimed and not passed
 abbrev pub progress : Config → LocalState → ℕ
-progress c l = works l.log + l.paid + claimed (holding c l.part)
+progress c l = works l.log + l.paid + unpassed (holding c l.part)
 
 pub record Kept (c : Config) (traces : List (List Command)) (r : Run) : Type 0 where
   pub long : length r.state.words ≡ words_count (extent c)

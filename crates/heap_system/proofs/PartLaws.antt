@@ -11,6 +11,7 @@ use Rattle.heap_machine.specs.Gating.{is_outside, is_inside, is_closing}
 use Rattle.heap_machine.specs.Holdings.{holds_nothing}
 use Rattle.heap_machine.specs.Operations.{heap_after, place_of, Fits}
 use Rattle.heap_machine.specs.declared.pass.Pass.{Pass}
+use Rattle.build_steps.specs.Naming.{HoldsBuild}
 use Rattle.kept_names.specs.Pictures.{Names, no_task}
 use Rattle.heap_system.specs.declared.local.Part.{Part}
 use Rattle.heap_system.specs.declared.local.Part.TheVariants.{Rest}
@@ -19,7 +20,7 @@ use Rattle.heap_system.specs.Locals.{view, task, effect, part_want, part_got, pa
 use Rattle.heap_system.specs.Naming.{Same}
 use Rattle.heap_system.specs.Pictures.{gating, stand_of, holding, waiting}
 use Rattle.heap_system.specs.Units.{blackens, passes}
-use Rattle.heap_system.proofs.Seeing.{stage, stage_of, PartKept, Knows, IsSettled, AreHeld, Forward, Seen, errand, EventKept}
+use Rattle.heap_system.proofs.Seeing.{stage, stage_of, PartKept, Knows, IsSettled, Forward, Seen, errand, EventKept}
 
 -- the thread whose turn it is stands at part p
 pub record AtPart (c : Config) (s : Seen c) (p : Part) : Type 0 where
@@ -58,7 +59,7 @@ pub record PartLaws (c : Config) (p : Part) : Type 0 where
   -- outside it is at nothing and holds nothing; and what it builds with it holds
   pub idle : is_inside (stand_of c p) ≡ false → task c p ≡ no_task
   pub empty : is_outside (stand_of c p) ≡ true → holding c p ≡ holds_nothing
-  pub builds : (done all : ℕ) (pass : Pass) → PartFits c done all pass p → AreHeld (view c p).build (holding c p)
+  pub builds : (done all : ℕ) (pass : Pass) → PartFits c done all pass p → HoldsBuild (view c p).build (holding c p)
   -- only a thread with a command left has a reply
   pub low : (done all w : ℕ) (pass : Pass) (r : Reply) → PartFits c done all pass p → (effect c p w).reply ≡ Some r → done < all
   -- a turn waits where the table says so

@@ -3,7 +3,7 @@
 use Rattle.std.proofs.Common.{◌≡◌, ℕ, ◌+◌, ◌-◌, ◌*◌, ◌^◌, ◌<◌, ◌≤◌, Bool, true, false, cond, ltb, Option, Some, None, List, [], ◌∷◌, ◌++◌}
 use Rattle.block_store.specs.declared.Config.{Config}
 use Rattle.block_store.specs.Configs.{IsInBounds}
-use Rattle.block_store.specs.Counts.{changed, times}
+use Rattle.block_store.specs.Counts.{changed}
 use Rattle.block_store.specs.Heaps.{Heap}
 use Rattle.block_store.specs.Phases.{bit, is_closed, is_sweep, cycle_of}
 use Rattle.block_store.specs.Places.{Phase, Cursor, GreyList, ColourOf, extent, is_block}
@@ -23,13 +23,14 @@ use Rattle.heap_machine.specs.Turning.{lists_read}
 use Rattle.heap_machine.specs.declared.gate.GateRow.{GateRow}
 use Rattle.heap_machine.specs.declared.gate.GateRow.TheVariants as gates
 use Rattle.heap_machine.specs.declared.pass.Pass.{Pass}
+use Rattle.grey_steps.specs.Ends.{is_shading}
 use Rattle.grey_steps.specs.Rows.{GreyState, grey_over}
 use Rattle.barrier_steps.specs.Replies.{IsKnown}
 use Rattle.barrier_steps.specs.Rows.{FieldState, field_reply}
+use Rattle.sweep_steps.specs.Ends.{unpassed}
 use Rattle.sweep_steps.specs.Rows.{SweepState, sweep_over, sweep_passed}
 use Rattle.build_steps.specs.Rows.{BuildState, build_over}
-use Rattle.build_steps.specs.Standing.{HeldOnce}
-use Rattle.kept_names.specs.Building.{Build as Builder}
+use Rattle.build_steps.specs.Naming.{HoldsBuild}
 use Rattle.kept_names.specs.Kept.{IsKept}
 use Rattle.kept_names.specs.Pictures.{Names, Task, no_task, picture}
 use Rattle.heap_system.specs.declared.local.Part.{Part}
@@ -55,11 +56,12 @@ pub record RowKept (g : Graph) (t : ℕ) (pass : Pass) (k : Command) (f : FieldS
   pub known : IsKnown g f
   pub going : field_reply f.row ≡ None
 
--- a Mark pass of thread t
+-- a Mark pass of thread t, which scans
 pub record MarkKept (t : ℕ) (pass : Pass) (m : GreyState) : Type 0 where
   pub passes : m.pass ≡ pass
   pub thread : m.pass.thread ≡ t
   pub mark : pass.sweep ≡ false
+  pub scans : is_shading m.row ≡ false
   pub going : grey_over m.row ≡ false
 
 -- a Sweep pass
@@ -69,7 +71,7 @@ pub record SweepingKept (c : Config) (t : ℕ) (pass : Pass) (s : SweepState) : 
   pub sweep : pass.sweep ≡ true
   pub going : sweep_over s.row ≡ false
 
--- a builder of the thread's next object, which holds no block twice
+-- a builder of the thread's next object
 pub record BuildKept (c : Config) (g : Graph) (t : ℕ) (pass : Pass) (k : Command) (b : BuildState) : Type 0 where
   pub thread : b.thread ≡ t
   pub threads : b.threads ≡ c.threads
@@ -77,7 +79,6 @@ pub record BuildKept (c : Config) (g : Graph) (t : ℕ) (pass : Pass) (k : Comma
   pub serial : b.serial ≡ count_of g t + 1
   pub command : b.command ≡ k
   pub makes : makes_object k ≡ true
-  pub once : HeldOnce b.held
   pub going : build_over b.row ≡ false
 
 -- a part on its way in is not over
@@ -145,15 +146,6 @@ IsSettled due paid (Build b) = paid ≡ due
 IsSettled due paid Leave = paid ≡ 0
 IsSettled due paid _ = Unit {0}
 
--- what a builder holds and has not coloured is among what its thread holds of the Free blocks
-abbrev pub AreHeld : Option Builder → Holding → Type 0
-AreHeld None w = Unit {0}
-AreHeld (Some b) w = (o : ℕ) → o < b.collected → o < b.left → 1 ≤ times (b.held o) w.held
-
--- how many blocks a thread has claimed and not passed
-abbrev pub claimed : Holding → ℕ
-claimed w = w.high - w.low
-
 -- the blocks that were passed or claimed over all cycles: all in each cycle before, and those below
 -- the cursor in this one, while it is swept
 abbrev pub lead : Config → Heap → ℕ
@@ -204,7 +196,7 @@ pub record Seen (c : Config) : Type 0 where
   pub behind : stage pass.cycle pass.sweep ≤ stage_of heap
   pub resting : (u : ℕ) → u < c.threads → is_inside (gatings u).stand ≡ false → tasks u ≡ no_task
   pub empty : (u : ℕ) → u < c.threads → is_outside (gatings u).stand ≡ true → holds u ≡ holds_nothing
-  pub builders : (u : ℕ) → u < c.threads → AreHeld (tasks u).build (holds u)
+  pub builders : (u : ℕ) → u < c.threads → HoldsBuild (tasks u).build (holds u)
 
 abbrev pub errand : (c : Config) → Seen c → Errand
 errand c s = record { command = s.command; due = s.due - s.paid; serial = s.made + 1; space = s.space }
@@ -242,7 +234,7 @@ pub record EventKept (c : Config) (s : Seen c) (new : Heap) (e : Effect) (before
   pub unshaded : is_sweep (new Phase) ≡ true → is_closed (new Phase) ≡ false → (t : ℕ) → t < c.threads → (renamed s.thread s.graph s.heap e.naming s.names).shaded t ≡ false
   pub forward : Forward s.heap new
   pub behind : stage (pass_got e.entered s.thread c.threads s.pass).cycle (pass_got e.entered s.thread c.threads s.pass).sweep ≤ stage_of new
-  pub leads : lead c new + (s.paid + claimed (s.holds s.thread)) ≤ lead c s.heap + (works (entries_of s.thread s.command s.paid e.reply) + paid_got e.reply e.unit s.paid + claimed (holding c p))
+  pub leads : lead c new + (s.paid + unpassed (s.holds s.thread)) ≤ lead c s.heap + (works (entries_of s.thread s.command s.paid e.reply) + paid_got e.reply e.unit s.paid + unpassed (holding c p))
   pub part : PartKept c (graph_decided s.graph s.thread s.command e.verdict) s.thread (pass_got e.entered s.thread c.threads s.pass) s.command p
   pub knows : Knows c new (renamed s.thread s.graph s.heap e.naming s.names) (pass_got e.entered s.thread c.threads s.pass) p
   pub fits : PartFits c s.done s.all (pass_got e.entered s.thread c.threads s.pass) p

@@ -31,6 +31,7 @@ use Rattle.kept_names.specs.Kept.{IsKept}
 use Rattle.kept_names.specs.Pictures.{Names, Task, no_task, picture}
 use Rattle.heap_system.specs.declared.local.Part.{Part}
 use Rattle.heap_system.specs.declared.local.Part.TheVariants.{Rest}
+use Rattle.sweep_steps.specs.Ends.{unpassed}
 use Rattle.heap_system.specs.Locals.{LocalState, Effect, command_of, owed, errand_of, effect, is_rest, is_done, part_want, part_got, pass_got, paid_got, local_got, entries_of, works, task, unit_to_come, PartFits, PartReads, IsRoomy}
 use Rattle.heap_system.specs.Machines.{State, Run, no_local, local_at, word_read, next_effect, event_done, has_event, items_by, heap_in, next}
 use Rattle.heap_system.specs.Naming.{renamed}
@@ -41,7 +42,7 @@ use Rattle.heap_system.proofs.Kept.{LocalKept, progress, Kept}
 use Rattle.heap_system.proofs.Moving.{moved_on, local_moves, local_stays}
 use Rattle.heap_system.proofs.PartLaws.{AtPart, PartEvent, PartLaws}
 use Rattle.heap_system.proofs.Paying.{bounds_at, works_append, worked_low, paid_low}
-use Rattle.heap_system.proofs.Seeing.{AreHeld, claimed, lead, Forward, Seen, graph_decided}
+use Rattle.heap_system.proofs.Seeing.{lead, Forward, Seen, graph_decided}
 
 -- a thread at rest that is not done has a command left
 rest_low : (l : LocalState) → length l.log ≤ length l.trace → is_done l ≡ false → l.part ≡ Rest → length l.log < length l.trace
@@ -59,7 +60,7 @@ total_most : (n : ℕ) (f : ℕ → ℕ) (m : ℕ) → ((u : ℕ) → u < n → 
 total_most zero f m each = omega arith
 total_most (suc n) f m each = omega (arith, total_most n f m (λ u ul. each u (omega arith)), each n (omega arith))
 
-claimed_few : (cursor : ℕ) (w : Holding) → IsRange cursor (sweep_held w) → claimed w ≤ cursor
+claimed_few : (cursor : ℕ) (w : Holding) → IsRange cursor (sweep_held w) → unpassed w ≤ cursor
 claimed_few cursor w (inl none) = omega (arith, none.1)
 claimed_few cursor w (inr some) = omega (arith, some.2)
 

@@ -1,7 +1,5 @@
 pub mod Rest
-pub mod Enter
-pub mod Serve
-pub mod Mark
-pub mod Count
 pub mod Again
+pub mod Idle
 pub mod Leave
+pub mod Enter
