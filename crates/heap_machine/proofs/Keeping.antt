@@ -1,9 +1,9 @@
 -- What keeps all rules of a heap at once, and what a thread does that goes on.
-use Rattle.std.proofs.Common.{◌≡◌, ℕ, ◌||◌, Bool, true, false, refl, ap, sym, subst, inl, inr, eq-eqb, ne_eqb}
+use Rattle.std.proofs.Common.{◌≡◌, ℕ, ◌||◌, Bool, true, false, refl, inl, inr, eq-eqb, ne_eqb}
 use Rattle.std.proofs.lemmas.Bool.{cases_eq}
 use Rattle.block_store.specs.Heaps.{Heap, put_at}
 use Rattle.block_store.specs.Payloads.{target}
-use Rattle.block_store.specs.Places.{Extent, Place, ColourOf, PayloadOf}
+use Rattle.block_store.specs.Places.{Extent, ColourOf, PayloadOf}
 use Rattle.block_store.specs.Counts.{changed}
 use Rattle.heap_machine.specs.Grey.{is_of_grey}
 use Rattle.heap_machine.specs.HeapKept.{HeapKept, is_ruled, CanColour, CanRefer}

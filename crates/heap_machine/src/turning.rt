@@ -1,23 +1,43 @@
 //! Laws of a part that closes the gate and turns the phase over or starts a cycle, for the proofs
 //! above: each is the contract of a function that does nothing.
 
-ghost use Rattle.std.specs.Prelude.{◌≡◌, ◌<◌, ◌≤◌, ◌+◌, ◌⊎◌, ℕ, true, false};
+ghost use Rattle.std.specs.Prelude.{◌≡◌, ◌<◌, ◌≤◌, ◌+◌, ◌⊎◌, ℕ, List, ◌∷◌, length, true, false};
 ghost use Rattle.block_store.specs.declared.Config.{Config};
 ghost use Rattle.block_store.specs.declared.Width.{Width};
-ghost use Rattle.block_store.specs.Colours.{is_grey};
+ghost use Rattle.block_store.specs.Colours.{grey_word, is_grey};
 ghost use Rattle.block_store.specs.Counts.{changed};
 ghost use Rattle.block_store.specs.Heaps.{Heap};
 ghost use Rattle.block_store.specs.Phases.{inside_of};
-ghost use Rattle.block_store.specs.Places.{Extent, extent, Phase, ColourOf};
-ghost use Rattle.heap_machine.specs.Gates.{gate_want, gate_got, GateFits, GateAt};
+ghost use Rattle.block_store.specs.Places.{Extent, extent, Phase, GreyList, ColourOf};
+ghost use Rattle.block_store.specs.Registers.{root_block};
+ghost use Rattle.heap_machine.specs.Gates.{gate_want, gate_got, GateFits, GateAt, IsSwept};
 ghost use Rattle.heap_machine.specs.Gating.{Gating, GateOf, Closing};
 ghost use Rattle.heap_machine.specs.Holdings.{Holding};
-ghost use Rattle.heap_machine.specs.Operations.{place_of, heap_after};
+ghost use Rattle.heap_machine.specs.Operations.{Exchange, place_of, heap_after};
 ghost use Rattle.heap_machine.specs.PhaseKept.{PhaseKept};
 ghost use Rattle.heap_machine.specs.Readings.{IsHeld};
-ghost use Rattle.heap_machine.specs.Turning.{turns_over, turning_holding, stands_outside, TurningKnows, MayTurn, HasRoom, IsTurnOf, IsTurning};
+ghost use Rattle.heap_machine.specs.Turning.{turns_over, gate_after, root_before, CanClose, turning_holding, stands_outside, TurningKnows, MayTurn, HasRoom, IsTurnOf, IsTurning};
 ghost use Rattle.heap_machine.specs.declared.gate.GateRow.{GateRow};
 ghost use Rattle.heap_machine.specs.declared.pass.Pass.{Pass};
+
+/// A part that starts a cycle, after a Sweep pass, comes to the start only where it read one word of
+/// an empty gate of its cycle and phase twice, and so had closed it, and then made one event for each
+/// thread and one more: they make the root of each thread grey, each with a link to the root before
+/// it, and put the last one in the thread's own list.
+pub fn start_shades_every_root()
+    ensures only { (W : Width) (p : Pass) (ws : List ℕ) → IsSwept p
+        → gate_after W (GateRow.CloseLook p) ws ≡ GateRow.Start p
+        → (v : ℕ) × (us : List ℕ) × (ws ≡ v ∷ v ∷ us) × (length us ≡ p.threads + 1)
+        × CanClose p v }
+    ensures each { (W : Width) (p : Pass) (v : ℕ) (us : List ℕ) → IsSwept p → CanClose p v
+        → length us < p.threads
+        → gate_want W (gate_after W (GateRow.CloseLook p) (v ∷ v ∷ us))
+        ≡ Exchange (ColourOf (root_block W (length us))) (grey_word (root_before W (length us))) }
+    ensures puts { (W : Width) (p : Pass) (v : ℕ) (us : List ℕ) → IsSwept p → CanClose p v
+        → length us ≡ p.threads
+        → gate_want W (gate_after W (GateRow.CloseLook p) (v ∷ v ∷ us))
+        ≡ Exchange (GreyList p.thread) (root_before W p.threads) }
+{}
 
 /// What a thread that has closed the gate knows of the heap stays so over its own events: which grey
 /// lists are empty, that the cursor is at the first block before the flip, and which roots are grey
