@@ -159,6 +159,10 @@ abbrev pub is_rest : Part → Bool
 is_rest Rest = true
 is_rest _ = false
 
+abbrev pub is_build : Part → Bool
+is_build (Build b) = true
+is_build _ = false
+
 -- at rest with a log as long as the trace
 abbrev pub is_done : LocalState → Bool
 is_done l = is_rest l.part && (length l.log == length l.trace)
@@ -405,6 +409,11 @@ works (e ∷ es) = e.work + works es
 abbrev pub IsRoomy : ℕ → Part → Type 0
 IsRoomy space (Build b) = b.capacity ≡ space
 IsRoomy space _ = Unit {0}
+
+-- and where none is at work the room is there, empty
+abbrev pub HasRoom : Part → ℕ → List ℕ → ℕ → Type 0
+HasRoom (Build b) space held capacity = Unit {0}
+HasRoom _ space held capacity = (held ≡ []) × (capacity ≡ space)
 
 -- A thread of a configuration that has a rate. No command has made more units than it owes; at
 -- most one object is made for each entry, and there is room for the blocks of the largest.

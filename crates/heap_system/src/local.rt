@@ -1,6 +1,6 @@
 //! One thread's whole state, one event at a time.
 
-ghost use Rattle.std.specs.Prelude.{◌≡◌, ◌≤◌, ◌<◌, ◌+◌, ◌^◌, ◌-◌, ◌++◌, ◌∷◌, [], false, if◌then◌else◌, length, IfOk};
+ghost use Rattle.std.specs.Prelude.{◌≡◌, ◌≤◌, ◌<◌, ◌+◌, ◌^◌, ◌-◌, ◌++◌, ◌∷◌, [], true, false, Some, if◌then◌else◌, length, IfOk};
 ghost use Rattle.block_store.specs.Configs.{IsInBounds};
 ghost use Rattle.block_store.specs.Places.{extent, words_count};
 ghost use Rattle.rate_plan.specs.Rates.{IsRate, IsAdmitted};
@@ -8,7 +8,10 @@ ghost use Rattle.never_heap.specs.Steps.{makes_object};
 ghost use Rattle.heap_machine.specs.Operations.{op_at, op_place};
 ghost use Rattle.heap_machine.specs.Passes.{IsPass};
 ghost use Rattle.never_heap.specs.Jobs.{IsTraceInBounds};
-ghost use Rattle.heap_system.specs.Locals.{PartReads, is_done, is_rest, part_want, part_step, local_got, at_start, turn_of, is_last, pass_by, first_part, command_of, owes, works, entry_of};
+ghost use Rattle.heap_machine.specs.declared.gate.GateRow.{GateRow};
+ghost use Rattle.grey_steps.specs.Rows.{scanning};
+ghost use Rattle.sweep_steps.specs.Rows.{sweeping};
+ghost use Rattle.heap_system.specs.Locals.{PartReads, is_done, is_rest, is_build, part_want, part_step, local_got, at_start, turn_of, is_last, pass_by, first_part, errand_of, command_of, owed, made_got, works, entry_of};
 
 use crate::Turn;
 use barrier_steps::FieldPass;
@@ -77,7 +80,7 @@ pub struct Local {
 impl Model for Local {
     ghost use Rattle.std.specs.Prelude.{◌≤◌, length};
     ghost use Rattle.std.specs.Vec.{vec_capacity};
-    ghost use Rattle.heap_system.specs.Locals.{LocalState, IsLocal};
+    ghost use Rattle.heap_system.specs.Locals.{LocalState, IsLocal, HasRoom};
 
     ghost Value = { LocalState };
 
@@ -105,7 +108,8 @@ impl Model for Local {
       space = l.space;
       pass = l.pass;
       part = l.part;
-    }) × (length l.trace.items ≤ vec_capacity l.log) × HasRoom l.part l.space l.room };
+    }) × (length l.trace.items ≤ vec_capacity l.log)
+        × HasRoom l.part l.space l.room.items (vec_capacity l.room) };
 }
 
 // What a turn answers after this step of a part.
@@ -145,6 +149,11 @@ fn makes_object(command: Command) -> bool
 
 // A pass that pays: a sweep or marking, by the phase.
 fn paying(pass: Pass, blocks: u32, due: u64) -> Part
+    requires pass { IsPass pass }
+    requires blocks { (1 ≤ blocks) × (blocks ≤ 65535) }
+    requires due { 1 ≤ due }
+    ensures { result ≡ (if pass.sweep
+        then Part.Sweep (sweeping pass.thread pass.cycle blocks due) else Part.Mark (scanning pass)) }
 {
     if pass.sweep {
         Part::Sweep(SweepPass::new(pass.thread, pass.cycle, blocks, due))
@@ -155,14 +164,28 @@ fn paying(pass: Pass, blocks: u32, due: u64) -> Part
 
 // On the way out after a pass that pays.
 fn after_pass(nothing: bool) -> Part
+    ensures { result ≡ (if nothing then Part.Idle else Part.Again) }
 {
     if nothing { Part::Idle } else { Part::Again }
 }
 
 // The part that turns the phase over, after a pass that found nothing to do.
 fn turning(pass: Pass) -> Gate
+    requires { IsPass pass }
+    ensures { result ≡ GateRow.CloseLook pass }
 {
     Gate::turn_over(pass.thread, pass.threads, pass.cycle, pass.sweep)
+}
+
+// How many objects are made after this reply.
+fn made_after(made: u32, reply: Reply) -> u32
+    requires { made < 2 ^ 31 }
+    ensures { result ≡ made_got (Some reply) made }
+{
+    match reply {
+        Reply::New(_) => made + 1,
+        _ => made,
+    }
 }
 
 // The sum of the works of the entries.
@@ -304,7 +327,7 @@ impl Local {
     // Before a method is called on `self` the part is put at rest, so that it may be any; and no
     // arm makes a part, a gate or a pass before it puts it in its place.
     #[inline(always)]
-    #[tactic(auto, using(crate::proofs::Paying::unit_is_new))]
+    #[tactic(auto, using(crate::proofs::Paying::unit_is_new, crate::proofs::Paying::passed_more, crate::proofs::Paying::swept_last, crate::proofs::Paying::turns_on))]
     pub fn got(&mut self, word: u64) -> Turn
         requires open { is_done self.old ≡ false }
         requires word { PartReads self.old.config self.old.part word }
@@ -411,6 +434,15 @@ impl Local {
 
     // The thread is inside by this phase word, and begins what it went in for.
     fn goes_in(&mut self, phase: PhaseWord)
+        requires rest { self.old.part ≡ Part.Rest }
+        requires command { length self.old.log < length self.old.trace }
+        requires cycle { (1 ≤ phase.cycle) × (phase.cycle ≤ 2 ^ 54 - 2) }
+        ensures { self.new
+            ≡ record self.old {
+              pass = pass_by self.old.thread self.old.config.threads phase;
+              part = first_part self.old.config
+                  (pass_by self.old.thread self.old.config.threads phase) (errand_of self.old);
+            } }
     {
         let pass = self.pass_by(phase);
         self.pass = pass;
@@ -445,18 +477,27 @@ impl Local {
 
     // The command in hand, which made an object or was refused, is done.
     fn built(&mut self, reply: Reply)
+        requires command { length self.old.log < length self.old.trace }
+        requires build { is_build self.old.part ≡ true }
+        ensures { self.new
+            ≡ record self.old {
+              part = Part.Leave;
+              log = self.old.log ++ entry_of
+                  self.old.thread (command_of self.old) self.old.paid reply ∷ [];
+              paid = 0;
+              made = made_got (Some reply) self.old.made;
+            } }
     {
-        if let Part::Build(pass) = mem::replace(&mut self.part, Part::Rest) {
-            self.room = pass.into_room();
-        }
-        if let Reply::New(_) = reply {
-            self.made += 1;
-        }
+        let Part::Build(pass) = mem::replace(&mut self.part, Part::Rest) else {
+            unreachable!();
+        };
+        self.room = pass.into_room();
         self.answer(reply);
     }
 
     // The command in hand is done.
     fn answer(&mut self, reply: Reply)
+        requires rest { self.old.part ≡ Part.Rest }
         requires command { length self.old.log < length self.old.trace }
         ensures { self.new
             ≡ record self.old {
@@ -464,6 +505,7 @@ impl Local {
               log = self.old.log ++ entry_of
                   self.old.thread (command_of self.old) self.old.paid reply ∷ [];
               paid = 0;
+              made = made_got (Some reply) self.old.made;
             } }
     {
         let command = self.trace[self.log.len()];
@@ -474,6 +516,7 @@ impl Local {
             work: self.paid,
         });
         self.paid = 0;
+        self.made = made_after(self.made, reply);
         self.part = Part::Leave;
     }
 }
