@@ -26,7 +26,7 @@ use Rattle.heap_system.proofs.Growing.{items_are}
 use Rattle.heap_system.proofs.Kept.{Kept}
 use Rattle.heap_system.proofs.PartLaws.{PartLaws}
 use Rattle.heap_system.proofs.Seeing.{items_told}
-use Rattle.heap_system.proofs.Supply.{stock, IsNeeded, event_moves, refusal_needs}
+use Rattle.heap_system.proofs.Stocks.{stock, IsNeeded, event_moves, refusal_needs}
 use Rattle.heap_system.proofs.Turning.{seen, at_part, new_run, new_local, effect_here, local_new, heap_new, next_is}
 
 -- what all threads have of Free blocks
