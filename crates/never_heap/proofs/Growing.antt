@@ -5,6 +5,7 @@ use Rattle.block_store.specs.declared.Width.{Width}
 use Rattle.never_heap.specs.declared.Entry.{Entry}
 use Rattle.never_heap.specs.Graphs.{Graph, start_graph}
 use Rattle.never_heap.specs.Histories.{HistoryItem, Started, Did, after, replay_from, IsAnswered, Legal, LegalFrom, replay, part, starts_in, work_in}
+use Rattle.never_heap.specs.FreeingRuns.{FullsNeedBlocks}
 use Rattle.never_heap.specs.PlainRuns.{FullsExactly, NoWork}
 use Rattle.never_heap.specs.Taken.{taken_by, taken_in}
 
@@ -69,6 +70,19 @@ fulls_append c used (Did e ∷ h) k f g = (
   fulls_append c (used + taken_by c.width e) h k f.2
       (subst (λ u. FullsExactly c u k)
       (sym (add_assoc used (taken_by c.width e) (taken_in c.width h))) g),
+)
+
+-- fulls go on needing blocks, where those of what comes need them
+pub needs_append : (c : Config) (given : ℕ) (h k : List HistoryItem)
+    → FullsNeedBlocks c given h → FullsNeedBlocks c (given + taken_in c.width h) k
+    → FullsNeedBlocks c given (h ++ k)
+needs_append c given [] k f g = subst (λ u. FullsNeedBlocks c u k) (add-zero given) g
+needs_append c given (Started ∷ h) k f g = needs_append c given h k f g
+needs_append c given (Did e ∷ h) k f g = (
+  f.0,
+  needs_append c (given + taken_by c.width e) h k f.1
+      (subst (λ u. FullsNeedBlocks c u k)
+      (sym (add_assoc given (taken_by c.width e) (taken_in c.width h))) g),
 )
 
 pub taken_append : (w : Width) (h k : List HistoryItem)
