@@ -12,6 +12,8 @@ pub mod Openings
 pub mod Passing
 pub mod parts
 pub mod LawsOf
+pub mod Stocks
+pub mod Supplying
 pub mod Always
 pub mod Starting
 pub mod Reached

@@ -14,7 +14,7 @@ use Rattle.heap_machine.specs.declared.pass.Pass.{Pass}
 use Rattle.kept_names.specs.Pictures.{Names}
 use Rattle.heap_system.specs.declared.local.Part.{Part}
 use Rattle.heap_system.specs.declared.local.Part.TheVariants.{Leave}
-use Rattle.heap_system.specs.Locals.{LocalState, command_of, owed, errand_of, effect, part_got, pass_got, paid_got, made_got, Verdict, entry_of, entries_of, works, unit_to_come, PartFits, IsRoomy, IsLocal}
+use Rattle.heap_system.specs.Locals.{LocalState, command_of, owed, errand_of, effect, part_got, pass_got, paid_got, made_got, Verdict, entry_of, entries_of, works, unit_to_come, PartFits, IsRoomy}
 use Rattle.heap_system.specs.Pictures.{stand_of, waiting}
 use Rattle.heap_system.specs.Units.{IsRight}
 use Rattle.heap_system.proofs.Growing.{said_more, right_more, made_more}

@@ -1,5 +1,5 @@
 -- The laws, from what every run keeps.
-use Rattle.std.proofs.Common.{◌≤◌, ◌≡◌, ℕ, ◌<◌, ◌+◌, ◌*◌, true, false, List, ◌++◌, ◌∷◌, [], append-nil, length, sym, ap, ◌∙◌, subst, arith}
+use Rattle.std.proofs.Common.{◌≤◌, ◌≡◌, ℕ, ◌<◌, ◌*◌, true, false, List, ◌++◌, ◌∷◌, [], append-nil, length, sym, ap, ◌∙◌, subst, arith}
 use Rattle.block_store.specs.Places.{extent, GreyList}
 use Rattle.block_store.specs.declared.Config.{Config}
 use Rattle.never_heap.specs.declared.Command.{Command}

@@ -1,8 +1,8 @@
 -- A thread that goes out after a pass that found nothing to do, to turn the phase over.
-use Rattle.std.proofs.Common.{◌≡◌, ℕ, ◌+◌, ◌*◌, ◌<◌, ◌≤◌, Bool, true, false, refl, ap, sym, ◌∙◌, arith}
+use Rattle.std.proofs.Common.{◌≡◌, ◌+◌, ◌≤◌, true, refl, ap, sym, ◌∙◌, arith}
 use Rattle.block_store.specs.declared.Config.{Config}
 use Rattle.block_store.specs.Heaps.{Heap, put_at}
-use Rattle.block_store.specs.Phases.{bit, is_sweep, cycle_of}
+use Rattle.block_store.specs.Phases.{bit, is_sweep}
 use Rattle.block_store.specs.Places.{Phase, Cursor}
 use Rattle.block_store.proofs.Functions.{bit_le, bit_one}
 use Rattle.rate_plan.specs.Rates.{IsAdmitted}
