@@ -59,9 +59,6 @@ first_phase w is =
     }
 
 module _ (c : Config) (traces : List (List Command)) (job : IsJob c traces) (s : State) (start : IsOpening c traces s) where
-  abbrev starting : ℕ → LocalState
-  starting t = at_start c start.rate (start.space t) t (get_or traces t [])
-
   pub here : (t : ℕ) → t < c.threads → local_at c s t ≡ at_start c start.rate (start.space t) t (get_or traces t [])
   here t tl =
       let e : 0 + t ≡ t = omega arith in

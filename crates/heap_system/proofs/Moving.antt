@@ -125,9 +125,6 @@ module _ (c : Config) (given : List Command) (g : Graph) (order longer : List Hi
   }
 
   module _ (r : Reply) where
-    abbrev log_with : List Entry
-    log_with = l.log ++ entry_of t (command_of l) l.paid r ∷ []
-
     longer_by : length (l.log ++ entry_of t (command_of l) l.paid r ∷ []) ≡ suc (length l.log)
     longer_by = length-append l.log (entry_of t (command_of l) l.paid r ∷ []) ∙ omega arith
 

@@ -79,9 +79,6 @@ leads_on c n t f g new old later more low is lead grows =
     omega (arith, same, moved, lead, grows)
 
 module _ (c : Config) (traces : List (List Command)) (laws : (p : Part) → PartLaws c p) (bounds : IsInBounds c) (plan : IsAdmitted c) (r : Run) (kept : Kept c traces r) (t : ℕ) (tl : t < c.threads) where
-  abbrev me : LocalState
-  me = local_at c r.state t
-
   pub fits_at : (u : ℕ) → u < c.threads → PartFits c (length (local_at c r.state u).log) (length (local_at c r.state u).trace) (local_at c r.state u).pass (local_at c r.state u).part
   fits_at u ul = subst (λ x. PartFits x (length (local_at c r.state u).log) (length (local_at c r.state u).trace) (local_at c r.state u).pass (local_at c r.state u).part) (kept.locals u ul).config (kept.locals u ul).fits.part
 

@@ -14,6 +14,7 @@ use Rattle.heap_machine.specs.declared.pass.Pass.{Pass}
 use Rattle.heap_machine.proofs.Gatings.{inside_some}
 use Rattle.heap_system.specs.declared.local.Part.TheVariants.{Idle, TurnOver}
 use Rattle.heap_system.proofs.Passing.{phase_is, inside_low, leave_event, inside_open, same_stage}
+use Rattle.heap_system.proofs.Paying.{opening_room}
 use Rattle.heap_system.proofs.PartLaws.{AtPart, PartEvent, PartLaws}
 use Rattle.heap_system.proofs.Seeing.{stage, stage_of, Forward, IsSwept, Seen}
 
@@ -24,9 +25,6 @@ swept_stays c h new q on cursor behind swept sweep at =
     let one : bit q.sweep ≡ 1 = ap bit sweep in
     let phase : is_sweep (h Phase) ≡ true = bit_one (is_sweep (h Phase)) (omega (arith, same, one, bit_le (is_sweep (h Phase)))) in
     omega (arith, swept sweep same, on.cursor (same ∙ sym at) phase, cursor)
-
-opening_room : (c : Config) → IsAdmitted c → registers_end c.width c.threads ≤ c.blocks
-opening_room c plan = omega (arith, plan.opens, plan.room)
 
 idle_event : (c : Config) (s : Seen c) → AtPart c s Idle → PartEvent c s Idle
 idle_event c s at = leave_event c s steps.Over (TurnOver (gates.CloseLook s.pass)) (ap (λ (x : Gating). x.stand) at.gating) refl
