@@ -3,7 +3,7 @@ use Rattle.block_store.specs.declared.Config.{Config}
 use Rattle.never_heap.specs.declared.Entry.{Entry}
 use Rattle.never_heap.specs.declared.Reply.TheVariants as replies
 use Rattle.trace_text.specs.Jobs.{Job}
-use Rattle.trace_text.specs.Orders.{entry_text}
+use Rattle.trace_text.specs.Texts.{entry_text}
 use Rattle.rt_check.specs.declared.follower.Follower.{Follower}
 use Rattle.rt_check.specs.Standing.{IsFullHere, Counted, entry_here, graph_here}
 use Rattle.rt_check.proofs.Judging.{full_taken, step_taken, none_taken, work_is}
