@@ -87,7 +87,8 @@ abbrev pub IsAnswered : Option Refusal → Option (List ℕ) → Option (List �
 IsAnswered a left left_now =
     IfSome left (λ bytes. IsAnswerTo bytes a × IsReadThrough bytes left_now)
 
--- what caused an answer: the words, or what the source had left and its count of faults before and now
+-- what caused an answer: the words, or what the source had left and its count of faults before and
+-- now
 abbrev pub IsCause :
     List (List ℕ) → Option (List ℕ) → Option (List ℕ) → ℕ → ℕ → Option Refusal → Type 0
 IsCause words left left_now before now (Some Usage) =

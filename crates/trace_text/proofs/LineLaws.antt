@@ -175,7 +175,8 @@ told_agree c t k words.Nil ns h =
     (λ s. one_test (leb REGISTERS s) s _ _ (sized _ _ (Told (commands.Nil s)) refl))
 told_agree c t k words.Mov ns h =
     at_two (Agrees c t k words.Mov) ns h
-    (λ a b. two_tests (leb REGISTERS a) (leb REGISTERS b) a b _ _ (sized _ _ (Told (commands.Mov a b)) refl))
+    (λ a b. two_tests (leb REGISTERS a) (leb REGISTERS b) a b _ _
+    (sized _ _ (Told (commands.Mov a b)) refl))
 told_agree c t k words.Get ns h =
     at_three (Agrees c t k words.Get) ns h
     (λ d s i. two_tests (leb REGISTERS d) (leb REGISTERS s) d s _ _
@@ -189,7 +190,8 @@ told_agree c t k words.Len ns h =
     (λ s. one_test (leb REGISTERS s) s _ _ (sized _ _ (Told (commands.Len s)) refl))
 told_agree c t k words.Same ns h =
     at_two (Agrees c t k words.Same) ns h
-    (λ a b. two_tests (leb REGISTERS a) (leb REGISTERS b) a b _ _ (sized _ _ (Told (commands.Same a b)) refl))
+    (λ a b. two_tests (leb REGISTERS a) (leb REGISTERS b) a b _ _
+    (sized _ _ (Told (commands.Same a b)) refl))
 told_agree c t k words.Say ns h =
     at_one (Agrees c t k words.Say) ns h
     (λ s. one_test (leb REGISTERS s) s _ _ (sized _ _ (Told (commands.Say s)) refl))

@@ -118,7 +118,8 @@ line_begins : (token : List ℕ) (tokens : List (List ℕ)) (rest : List ℕ) �
 line_begins token [] rest is =
     let own = both (is_token token) true is in
     let h = at_token token (10 ∷ rest) [] [] (tokenized rest) own.0 (at_feed rest) in
-    seen_as _ _ _ _ [] (tokenized rest) (sym (append_assoc token (10 ∷ []) rest)) (append-nil token) h
+    seen_as _ _ _ _ [] (tokenized rest) (sym (append_assoc token (10 ∷ []) rest))
+    (append-nil token) h
 line_begins token (next ∷ tokens) rest is =
     let own = both (is_token token) (are_tokens (next ∷ tokens)) is in
     let behind = line_begins next tokens rest own.1 in
