@@ -11,14 +11,15 @@ use Rattle.never_heap.proofs.Growing.{starts_append, work_append}
 use Rattle.never_heap.proofs.Cycling.{right_work_more, licensed_more, graph_at_more, given_ended, given_none}
 use Rattle.block_store.specs.Counts.{total}
 use Rattle.work_account.specs.Accounts.{entered, units_in, given_in}
-use Rattle.block_store.proofs.Functions.{total_changed, total_none}
+use Rattle.block_store.proofs.Functions.{total_none}
 use Rattle.work_account.proofs.Balances.{entered_sound}
 use Rattle.cycle_tally.specs.Tallies.{Spending, Tally, claims, given_now}
 use Rattle.cycle_tally.specs.Events.{Enter, Leave, SetCursor, Flip, Start, Clear, Next, with_thread, apply, FewInUse, NoClaim}
 use Rattle.cycle_tally.specs.Entries.{entries_in}
 use Rattle.cycle_tally.specs.Kept.{SpendingKept, live_before, TallyKept}
 use Rattle.cycle_tally.proofs.Sums.{total_least, total_nought, paid_entered, cycle_entered, units_entered, given_entered, units_later, given_later, no_claims}
-use Rattle.cycle_tally.proofs.Counting.{one_less, entries_started, in_threads_more, bool_no, scanned_one, few_units, all_given_now, given_then, each_changed}
+use Rattle.cycle_tally.proofs.Going.{goes}
+use Rattle.cycle_tally.proofs.Counting.{one_less, entries_started, in_threads_more, bool_no, scanned_one, few_units, all_given_now, given_then}
 
 module _ (c : Config) (rate : ℕ) (black : ℕ → ℕ) (some : 0 < rate) (s : Tally)
     (k : TallyKept c rate black s) where
@@ -29,32 +30,15 @@ module _ (c : Config) (rate : ℕ) (black : ℕ → ℕ) (some : 0 < rate) (s : 
       → given_in s.cycle w.balance ≡ given_in s.cycle (s.threads t).balance
       → w.reserved ≡ (s.threads t).reserved → w.balance.paid ≡ (s.threads t).balance.paid
       → TallyKept c rate black (with_thread s t w)
-  moved t tl w kw same u g r p = record {
-    starts = k.starts;
-    some = k.some;
+  moved t tl w kw same u g r p = goes c rate black some s k t w s tl kw (record {
     cursor = k.cursor;
     scans = k.scans;
-    ended = k.ended;
-    few = k.few;
-    many = k.many;
-    cheap = k.cheap;
-    right = k.right;
-    entries = k.entries;
-    licensed = k.licensed;
-    each = each_changed c rate black some s k s.cycle t w k.each kw;
-    passes = λ x pos. (let q = total_changed (claims x) c.threads s.threads t w tl in
-        omega (arith, k.passes x pos, same x));
-    counted = (let q = total_changed (λ (v : Spending).
-        units_in s.cycle v.balance) c.threads s.threads t w tl in omega (arith, k.counted));
-    handed = (let q = total_changed (λ (v : Spending).
-        given_in s.cycle v.balance) c.threads s.threads t w tl in omega (arith, k.handed));
-    room = (let q = total_changed (λ (v : Spending).
-        given_in s.cycle v.balance) c.threads s.threads t w tl in
-        let y = total_changed (λ (v : Spending). v.reserved) c.threads s.threads t w tl in
-        omega (arith, k.room));
-    works = (let q = total_changed (λ (v : Spending). v.balance.paid) c.threads s.threads t w tl in
-        omega (arith, k.works));
-  }
+    passes = λ x pos. omega (arith, same x);
+    made = omega (arith, u);
+    given = g;
+    free = omega (arith, r);
+    paid = omega (arith, p);
+  })
 
   pub enters : (t : ℕ) → t < c.threads → TallyKept c rate black (apply c rate black s (Enter t))
   enters t tl =

@@ -4,15 +4,15 @@ use Rattle.std.proofs.lemmas.Bool.{cases_eq, cases_lt, cases_Bool, both_ways, le
 use Rattle.std.proofs.lemmas.Nat.{le-div, div-add-mod'}
 use Rattle.block_store.specs.declared.Config.{Config}
 use Rattle.block_store.specs.Phases.{bit}
-use Rattle.block_store.specs.Counts.{changed, total}
-use Rattle.work_account.specs.Accounts.{Balance, with_unit, IsSound, units_in, given_in}
-use Rattle.block_store.proofs.Functions.{total_changed, total_part, bit_le, bit_one}
+use Rattle.block_store.specs.Counts.{total}
+use Rattle.work_account.specs.Accounts.{Balance, with_unit, IsSound, units_in}
+use Rattle.block_store.proofs.Functions.{total_part, bit_le, bit_one}
 use Rattle.work_account.proofs.Balances.{unit_sound}
 use Rattle.cycle_tally.specs.Tallies.{Spending, Tally, claims}
 use Rattle.cycle_tally.specs.Events.{Paint, Scan, Claim, Pass, apply, NoClaim}
 use Rattle.cycle_tally.specs.Kept.{SpendingKept, TallyKept}
 use Rattle.cycle_tally.proofs.Sums.{rises, units_more, no_claims, claims_within, claims_below, claims_above}
-use Rattle.cycle_tally.proofs.Counting.{each_changed}
+use Rattle.cycle_tally.proofs.Going.{goes}
 
 module _ (c : Config) (rate : ℕ) (black : ℕ → ℕ) (some : 0 < rate) (s : Tally)
     (k : TallyKept c rate black s) where
@@ -86,23 +86,12 @@ module _ (c : Config) (rate : ℕ) (black : ℕ → ℕ) (some : 0 < rate) (s : 
       let w : Spending = record w0 { balance = with_unit w0.balance } in
       let o = k.each t tl in
       let up = rises c.blocks s.scanned x pos low in
-      let u = total_changed
-      (λ (v : Spending). units_in s.cycle v.balance) c.threads s.threads t w tl in
       let uu : units_in s.cycle (with_unit w0.balance) ≡ units_in s.cycle w0.balance + 1 =
       units_more s.cycle w0.balance (o.present inside) in
-      record {
-        starts = k.starts;
-        some = k.some;
+      goes c rate black some s k t w (apply c rate black s (Scan t x)) tl
+      (spends t w tl inside less inside refl refl refl (λ h. absurd (omega arith)))
+      (record {
         cursor = k.cursor;
-        ended = k.ended;
-        few = k.few;
-        many = k.many;
-        cheap = k.cheap;
-        right = k.right;
-        entries = k.entries;
-        licensed = k.licensed;
-        each = each_changed c rate black some s k s.cycle t w k.each
-            (spends t w tl inside less inside refl refl refl (λ h. absurd (omega arith)));
         scans = λ y. elim (cases_eq x y) [
           | inl e ↦
               let new : bit (s.sweep || true) ≡ 1 =
@@ -115,18 +104,12 @@ module _ (c : Config) (rate : ℕ) (black : ℕ → ℕ) (some : 0 < rate) (s : 
               (omega (arith, k.scans x))
           | inr ne ↦ rw (ne_eqb x y ne) (k.scans y)
         ];
-        passes = λ y yp. (let q = total_changed (claims y) c.threads s.threads t w tl in
-            omega (arith, k.passes y yp));
-        counted = omega (arith, k.counted);
-        handed = (let q = total_changed (λ (v : Spending).
-            given_in s.cycle v.balance) c.threads s.threads t w tl in omega (arith, k.handed));
-        room = (let q = total_changed (λ (v : Spending).
-            given_in s.cycle v.balance) c.threads s.threads t w tl in
-            let y = total_changed (λ (v : Spending). v.reserved) c.threads s.threads t w tl in
-            omega (arith, k.room));
-        works = (let q = total_changed (λ (v : Spending).
-            v.balance.paid) c.threads s.threads t w tl in omega (arith, k.works));
-      }
+        passes = λ y yp. refl;
+        made = omega arith;
+        given = refl;
+        free = omega arith;
+        paid = omega arith;
+      })
 
   pub claims_more : (t r : ℕ) → t < c.threads → (s.threads t).inside ≡ true → s.sweep ≡ true
       → s.cursor + r ≤ c.blocks + 1 → (s.threads t).balance.paid + r ≤ rate * (s.threads t).asked
@@ -136,31 +119,20 @@ module _ (c : Config) (rate : ℕ) (black : ℕ → ℕ) (some : 0 < rate) (s : 
       let w0 : Spending = s.threads t in
       let w : Spending = record w0 { low = s.cursor; high = s.cursor + r } in
       let o = k.each t tl in
-      record {
-        starts = k.starts;
-        some = k.some;
-        ended = k.ended;
-        few = k.few;
-        many = k.many;
-        cheap = k.cheap;
-        right = k.right;
-        entries = k.entries;
-        licensed = k.licensed;
-        scans = k.scans;
-        each = each_changed c rate black some s k s.cycle t w k.each (record {
-          sound = o.sound;
-          entered = o.entered;
-          present = o.present;
-          asked = o.asked;
-          owed = o.owed;
-          reserved = o.reserved;
-          claimed = λ h. (k.cursor.0, inside, omega arith);
-        });
+      goes c rate black some s k t w (apply c rate black s (Claim t r)) tl
+      (record {
+        sound = o.sound;
+        entered = o.entered;
+        present = o.present;
+        asked = o.asked;
+        owed = o.owed;
+        reserved = o.reserved;
+        claimed = λ h. (k.cursor.0, inside, omega arith);
+      })
+      (record {
         cursor = (omega (arith, k.cursor.0), low);
+        scans = k.scans;
         passes = λ x pos.
-            let q : total c.threads (λ u. claims x (changed s.threads t w u)) + claims x w0
-            ≡ total c.threads (λ u. claims x (s.threads u)) + claims x w =
-            total_changed (claims x) c.threads s.threads t w tl in
             let before : claims x w0 ≡ 0 = no_claims x w0 none in
             let old : bit (s.sweep && ltb x s.cursor) ≡ bit (ltb x s.cursor) =
             ap (λ b. bit (b && ltb x s.cursor)) sw in
@@ -188,17 +160,11 @@ module _ (c : Config) (rate : ℕ) (black : ℕ → ℕ) (some : 0 < rate) (s : 
                         omega (arith, k.passes x pos)
                   ]
             ];
-        counted = (let q = total_changed (λ (v : Spending).
-            units_in s.cycle v.balance) c.threads s.threads t w tl in omega (arith, k.counted));
-        handed = (let q = total_changed (λ (v : Spending).
-            given_in s.cycle v.balance) c.threads s.threads t w tl in omega (arith, k.handed));
-        room = (let q = total_changed (λ (v : Spending).
-            given_in s.cycle v.balance) c.threads s.threads t w tl in
-            let y = total_changed (λ (v : Spending). v.reserved) c.threads s.threads t w tl in
-            omega (arith, k.room));
-        works = (let q = total_changed (λ (v : Spending).
-            v.balance.paid) c.threads s.threads t w tl in omega (arith, k.works));
-      }
+        made = refl;
+        given = refl;
+        free = omega arith;
+        paid = refl;
+      })
 
   pub claims_step : (x : ℕ) (w v : Spending) → v.low ≡ w.low + 1 → v.high ≡ w.high → (w.low ≡ x → ⊥)
       → claims x v ≡ claims x w
@@ -232,29 +198,15 @@ module _ (c : Config) (rate : ℕ) (black : ℕ → ℕ) (some : 0 < rate) (s : 
       let cl = o.claimed some_left in
       let low : w0.low ≤ c.blocks = claim_low t tl cl.0 some_left in
       let up = rises c.blocks s.passed w0.low cl.0 low in
-      let u = total_changed
-      (λ (v : Spending). units_in s.cycle v.balance) c.threads s.threads t w tl in
       let uu : units_in s.cycle (with_unit w0.balance) ≡ units_in s.cycle w0.balance + 1 =
       units_more s.cycle w0.balance (o.present cl.1) in
-      record {
-        starts = k.starts;
-        some = k.some;
+      goes c rate black some s k t w (apply c rate black s (Pass t)) tl
+      (spends t w tl cl.1 (omega (arith, cl.2)) cl.1 refl refl refl
+      (λ h. (omega arith, omega (arith, cl.2))))
+      (record {
         cursor = k.cursor;
-        ended = k.ended;
-        few = k.few;
-        many = k.many;
-        cheap = k.cheap;
-        right = k.right;
-        entries = k.entries;
-        licensed = k.licensed;
         scans = k.scans;
-        each = each_changed c rate black some s k s.cycle t w k.each
-            (spends t w tl cl.1 (omega (arith, cl.2)) cl.1 refl refl refl
-            (λ h. (omega arith, omega (arith, cl.2))));
         passes = λ x pos.
-            let q : total c.threads (λ v. claims x (changed s.threads t w v)) + claims x w0
-            ≡ total c.threads (λ v. claims x (s.threads v)) + claims x w =
-            total_changed (claims x) c.threads s.threads t w tl in
             elim (cases_eq w0.low x) [
               | inl e ↦
                   let a : claims x w0 ≡ 1 = claims_within x w0 (omega arith) (omega arith) in
@@ -265,13 +217,8 @@ module _ (c : Config) (rate : ℕ) (black : ℕ → ℕ) (some : 0 < rate) (s : 
                   let a : claims x w ≡ claims x w0 = claims_step x w0 w refl refl ne in
                   rw (ne_eqb w0.low x ne) (omega (arith, k.passes x pos))
             ];
-        counted = omega (arith, k.counted);
-        handed = (let q = total_changed (λ (v : Spending).
-            given_in s.cycle v.balance) c.threads s.threads t w tl in omega (arith, k.handed));
-        room = (let q = total_changed (λ (v : Spending).
-            given_in s.cycle v.balance) c.threads s.threads t w tl in
-            let y = total_changed (λ (v : Spending). v.reserved) c.threads s.threads t w tl in
-            omega (arith, k.room));
-        works = (let q = total_changed (λ (v : Spending).
-            v.balance.paid) c.threads s.threads t w tl in omega (arith, k.works));
-      }
+        made = omega arith;
+        given = refl;
+        free = omega arith;
+        paid = omega arith;
+      })
