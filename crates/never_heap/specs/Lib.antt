@@ -8,11 +8,11 @@ pub mod Bounds
 pub mod Histories
 pub mod Orders
 pub mod Taken
-pub mod PlainRuns
 pub mod Cycles
 pub mod Given
 pub mod Licensed
 pub mod RightWork
+pub mod FreeingRuns
 pub mod Runs
 pub mod Coming
 pub mod Jobs
