@@ -8,6 +8,7 @@ mod lone;
 #[cfg(test)]
 mod schedules;
 mod start;
+mod supply;
 mod system;
 #[cfg(test)]
 mod tests;
@@ -23,6 +24,7 @@ pub use laws::{
 };
 pub use local::Local;
 pub use start::opening;
+pub use supply::fulls_need_blocks;
 pub use system::{Finished, System, Unfinished, sum_of_works};
 
 /// What a turn of a thread was.
