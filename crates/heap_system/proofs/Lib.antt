@@ -15,6 +15,8 @@ pub mod LawsOf
 pub mod Stocks
 pub mod Supplying
 pub mod Always
+pub mod Stocks
+pub mod Supplying
 pub mod Starting
 pub mod Reached
 pub mod Told

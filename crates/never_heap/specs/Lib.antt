@@ -11,7 +11,6 @@ pub mod Taken
 pub mod Cycles
 pub mod Given
 pub mod Licensed
-pub mod PlainRuns
 pub mod RightWork
 pub mod FreeingRuns
 pub mod Runs
