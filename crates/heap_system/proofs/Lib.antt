@@ -15,11 +15,10 @@ pub mod LawsOf
 pub mod Stocks
 pub mod Supplying
 pub mod Always
-pub mod Stocks
-pub mod Supplying
 pub mod Starting
 pub mod Reached
 pub mod Told
+pub mod Collecting
 pub mod Waiting
 pub mod Making
 pub mod Jobs
