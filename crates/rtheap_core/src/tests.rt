@@ -648,6 +648,7 @@ fn runs_agree(rt: &(impl Abort + Wait), alloc: Global, input: &str) -> Result<()
     let Some(RunEnd::Ran(run)) = exit.run else {
         return Err("nothing was run".into());
     };
+    assert!(rt; run.threads() == 1);
     let config = run.config();
     let entries = run.entries(0);
     assert!(rt; config.in_bounds() && config.threads == 1);
@@ -685,7 +686,6 @@ say 11
 put 11 0 11
 get 12 5 0
 say 12
-end
 ";
 
 /// The same on blocks of eight payload words: an array of two leaves and a record of three blocks.
@@ -715,14 +715,30 @@ get 7 2 21
 put 0 17 1
 say 5
 say 4
-end
 ";
+
+/// A job of rings, of allocations of which none is kept, and of looks at what the rings still hold.
+fn ringed(alloc: Global, rings: &str, count: u32) -> Result<String, AllocError> {
+    let mut text = String::from_str(alloc, rings)?;
+    for _ in 0..count {
+        text.push_str("new 13 2\n")?;
+    }
+    text.push_str(
+        "get 12 5 0\nget 12 5 4\nget 12 5 20\nget 11 0 16\nsay 11\nlen 5\nsame 11 5\nend\n",
+    )?;
+    Ok(text)
+}
 
 #[test]
 fn a_heap_of_words_answers_as_the_heap_that_never_frees(rt: HostRuntime) -> Result<(), Fail> {
     let (commands, _written) = EACH_KIND;
     let text = job(rt.alloc(), commands)?;
     runs_agree(&rt, rt.alloc(), text.as_str())?;
-    runs_agree(&rt, rt.alloc(), RINGS)?;
-    runs_agree(&rt, rt.alloc(), WIDE_RINGS)
+    for rings in [RINGS, WIDE_RINGS] {
+        for count in [0, 300] {
+            let text = ringed(rt.alloc(), rings, count)?;
+            runs_agree(&rt, rt.alloc(), text.as_str())?;
+        }
+    }
+    Ok(())
 }
