@@ -15,6 +15,9 @@ use trace_text::{MemSink, MemSource};
 /// A job without commands, with the lines `thread 0` and `end` left out.
 const HEADER: &str = "rtheap 1 threads 1 blocks 64 live 20 object 2 shared 0\nthread 0\n";
 
+/// The most bytes that a sink of these tests takes.
+const ROOM: usize = 1 << 22;
+
 /// What a call is given: its words, its input and in which pieces it comes, and which calls of the
 /// source and the sink fail.
 #[derive(Drop)]
@@ -52,7 +55,7 @@ fn made<R: Wait>(rt: &R, alloc: Global, call: &Call<'_>) -> Result<(Exit, MemSin
     let bytes = Vec::from_slice(alloc, call.input.as_bytes())?;
     let most = call.most.max(1);
     let mut source = MemSource::new(bytes, most, Vec::from_slice(alloc, call.read_fails)?);
-    let mut sink = MemSink::new(alloc, 4096, Vec::from_slice(alloc, call.write_fails)?)
+    let mut sink = MemSink::new(alloc, ROOM, Vec::from_slice(alloc, call.write_fails)?)
         .ok()
         .ok_or("memory")?;
     let exit = rtheap(rt, alloc, &words, &mut source, &mut sink, &NoPace);
