@@ -1,7 +1,6 @@
 -- What holds of the rows: their places are in range, and a row that fits becomes one that fits.
-use Rattle.std.proofs.Common.{◌≡◌, ◌≢◌, ℕ, ◌<◌, ◌≤◌, ◌+◌, ◌*◌, ◌/◌, ◌%◌, Bool, true, false, cond, IsSome, is_some, arith, refl, sym, subst, ap, inl, inr, ltb, leb}
-use Rattle.std.proofs.lemmas.Bool.{cases_lt, lt-ltb, le-ltb, le-leb}
-use Rattle.std.proofs.lemmas.Nat.{mod_below}
+use Rattle.std.proofs.Common.{◌≡◌, ◌≢◌, ℕ, ◌<◌, ◌≤◌, ◌+◌, Bool, true, false, cond, IsSome, is_some, arith, refl, sym, subst, ap, ◌∙◌, inl, inr, ltb, leb}
+use Rattle.std.proofs.lemmas.Bool.{cases_Bool, cases_lt, lt-ltb, le-ltb, le-leb}
 use Rattle.block_store.specs.declared.Config.{Config}
 use Rattle.block_store.specs.declared.TheConstants.{REGISTERS}
 use Rattle.block_store.specs.declared.Payload.{Payload}
@@ -17,20 +16,28 @@ use Rattle.block_store.specs.Shapes.{IsShape}
 use Rattle.never_heap.specs.declared.Command.{Command}
 use Rattle.never_heap.specs.declared.Command.TheVariants as commands
 use Rattle.never_heap.specs.Bounds.{IsCommandInRange}
-use Rattle.never_heap.specs.Steps.{blocks_of}
 use Rattle.heap_machine.specs.Operations.{place_of, Fits}
 use Rattle.heap_machine.specs.Readings.{StoresHeld}
 use Rattle.heap_machine.specs.declared.pass.Pass.{Pass}
 use Rattle.barrier_steps.specs.declared.rows.FieldRow.{FieldRow}
-use Rattle.barrier_steps.specs.declared.rows.FieldRow.TheVariants.{StoreNumber, StoreNil, LoadMoved, StoreMoved, LoadObject, LoadShape, LoadValue, LoadLink, LoadField, LoadOwner, StorePending, StoreField, LoadFirst, LoadSecond, LoadSaid, LoadSaidOwner, Answered}
+use Rattle.barrier_steps.specs.declared.rows.FieldRow.TheVariants.{StoreNumber, StoreNil, LoadMoved, StoreMoved, LoadObject, LoadShape, LoadValue, LoadLink, LoadField, LoadOwner, StorePending, StoreField, Shade, LoadFirst, LoadSecond, LoadSaid, LoadSaidOwner, Answered}
+use Rattle.grey_steps.specs.declared.rows.GreyRow.{GreyRow}
+use Rattle.grey_steps.specs.declared.rows.GreyRow.TheVariants.{TakeOwn, ShadeStored, PutOwn, Shaded}
+use Rattle.grey_steps.specs.Rows as marking
+use Rattle.grey_steps.specs.Ends.{is_shading, block_stored}
+use Rattle.grey_steps.proofs.Ends.{block_stays}
+use Rattle.grey_steps.proofs.Ranges as ranges
+use Rattle.barrier_steps.specs.declared.rows.FieldStore.{FieldStore}
+use Rattle.barrier_steps.specs.declared.rows.FieldStore.TheVariants.{Moved, Pending, InField}
 use Rattle.barrier_steps.specs.declared.rows.Way.{Way}
 use Rattle.barrier_steps.specs.Operands.{to_register, from_register, other_register, field_index, number_set, is_put, is_get, goes_to_field, looks_at_object}
 use Rattle.barrier_steps.specs.Walks.{shape_length, links_to}
-use Rattle.barrier_steps.specs.Rows.{FieldState, register_place, payload_in, shape_in, first_row, at_first_row, row_want, row_got, field_want, field_got, after_object, after_shape, after_field, after_said, on_way, at_block, way_from, way_on}
-use Rattle.barrier_steps.specs.Fits.{IsThread, IsLoaded, IsWalk, IsThere, is_row_of, RowFits, FitsAt, FieldFits, ReadsAt, FieldReads}
+use Rattle.barrier_steps.specs.Rows.{FieldState, register_place, payload_in, shape_in, object_in, stored_word, store_row, shaded_for, before_store, first_row, at_first_row, row_want, row_got, field_want, field_got, after_object, after_shape, after_field, after_said, on_way, at_block, way_from, way_on}
+use Rattle.barrier_steps.specs.Fits.{IsThread, IsLoaded, IsWalk, IsThere, IsBarrier, is_store_of, StoreFits, is_row_of, RowFits, FitsAt, FieldFits, ReadsAt, FieldReads}
 use Rattle.barrier_steps.proofs.Named.{to_low, from_low, other_low, number_low}
 use Rattle.barrier_steps.proofs.Walking.{link_low, field_low}
 use Rattle.barrier_steps.proofs.ReadWords.{payload_cases, shape_fits}
+use Rattle.barrier_steps.proofs.Stores.{before_is, barrier_is}
 
 block_in : (c : Config) (x : ℕ) → IsBlock c x → is_block (extent c) x ≡ true
 block_in c x h = let low : leb 1 x ≡ true = le-leb 1 x h.0 in rw low (le-leb x c.blocks h.1)
@@ -58,85 +65,96 @@ target_block : (c : Config) (w : ℕ) → IsLoaded c w → target w ≢ 0 → Is
 target_block c w h some = let high : target w ≤ c.blocks = h.block in (omega (arith, some), high)
 
 -- the place that a row wants is in range
-place_at : (c : Config) (t : ℕ) (k : Command) (row : FieldRow) → FitsAt c t k row → in_range (extent c) (place_of (row_want (extent c) t k row)) ≡ true
-place_at c t k StoreNumber f = register_in c t (to_register k) f.thread (to_low k f.command)
-place_at c t k StoreNil f = register_in c t (to_register k) f.thread (to_low k f.command)
-place_at c t k LoadMoved f = register_in c t (from_register k) f.thread (from_low k f.command)
-place_at c t k (StoreMoved word) f = register_in c t (to_register k) f.thread (to_low k f.command)
-place_at c t k LoadObject f = register_in c t (from_register k) f.thread (from_low k f.command)
-place_at c t k (LoadShape x) f = block_in c x f.row
-place_at c t k (LoadValue way) f = register_in c t (other_register k) f.thread (other_low k f.command)
-place_at c t k (LoadLink way word) f = payload_in_range c way.block _ f.row.0.block (link_low c way.shape (field_index k) way.level)
-place_at c t k (LoadField way) f = payload_in_range c way.block _ f.row.0.block (field_low c way.shape (field_index k))
-place_at c t k (LoadOwner word) f = block_in c (target word) (target_block c word f.row.0 f.row.1)
-place_at c t k (StorePending word value) f = register_in c t (to_register k) f.thread (to_low k f.command)
-place_at c t k (StoreField way word) f = payload_in_range c way.block _ f.row.0.block (field_low c way.shape (field_index k))
-place_at c t k LoadFirst f = register_in c t (from_register k) f.thread (from_low k f.command)
-place_at c t k (LoadSecond word) f = register_in c t (other_register k) f.thread (other_low k f.command)
-place_at c t k LoadSaid f = register_in c t (from_register k) f.thread (from_low k f.command)
-place_at c t k (LoadSaidOwner word) f = block_in c (target word) (target_block c word f.row.0 f.row.1)
-place_at c t k (Answered reply) f = refl
+pub place_at : (c : Config) (p : Pass) (k : Command) (row : FieldRow) → FitsAt c p k row → in_range (extent c) (place_of (row_want (extent c) p k row)) ≡ true
+place_at c p k StoreNumber f = register_in c p.thread (to_register k) f.thread (to_low k f.command)
+place_at c p k StoreNil f = register_in c p.thread (to_register k) f.thread (to_low k f.command)
+place_at c p k LoadMoved f = register_in c p.thread (from_register k) f.thread (from_low k f.command)
+place_at c p k (StoreMoved word) f = register_in c p.thread (to_register k) f.thread (to_low k f.command)
+place_at c p k LoadObject f = register_in c p.thread (from_register k) f.thread (from_low k f.command)
+place_at c p k (LoadShape x) f = block_in c x f.row
+place_at c p k (LoadValue way) f = register_in c p.thread (other_register k) f.thread (other_low k f.command)
+place_at c p k (LoadLink way word) f = payload_in_range c way.block _ f.row.0.block (link_low c way.shape (field_index k) way.level)
+place_at c p k (LoadField way) f = payload_in_range c way.block _ f.row.0.block (field_low c way.shape (field_index k))
+place_at c p k (LoadOwner word) f = block_in c (target word) (target_block c word f.row.0 f.row.1)
+place_at c p k (StorePending word value) f = register_in c p.thread (to_register k) f.thread (to_low k f.command)
+place_at c p k (StoreField way word) f = payload_in_range c way.block _ f.row.0.block (field_low c way.shape (field_index k))
+place_at c p k (Shade r store) f = ranges.place_fits c (record { pass = p; row = r }) f.row.0.fits
+place_at c p k LoadFirst f = register_in c p.thread (from_register k) f.thread (from_low k f.command)
+place_at c p k (LoadSecond word) f = register_in c p.thread (other_register k) f.thread (other_low k f.command)
+place_at c p k LoadSaid f = register_in c p.thread (from_register k) f.thread (from_low k f.command)
+place_at c p k (LoadSaidOwner word) f = block_in c (target word) (target_block c word f.row.0 f.row.1)
+place_at c p k (Answered reply) f = refl
 
 pub field_place : (c : Config) (s : FieldState) → FieldFits c s → in_range (extent c) (place_of (field_want (extent c) s)) ≡ true
-field_place c s f = place_at c s.pass.thread s.command s.row f
+field_place c s f = place_at c s.pass s.command s.row f
 
 -- no row adds or takes away
-sum_at : (c : Config) (t : ℕ) (k : Command) (row : FieldRow) (w : ℕ) → Fits (row_want (extent c) t k row) w
-sum_at c t k StoreNumber w = tt
-sum_at c t k StoreNil w = tt
-sum_at c t k LoadMoved w = tt
-sum_at c t k (StoreMoved word) w = tt
-sum_at c t k LoadObject w = tt
-sum_at c t k (LoadShape x) w = tt
-sum_at c t k (LoadValue way) w = tt
-sum_at c t k (LoadLink way word) w = tt
-sum_at c t k (LoadField way) w = tt
-sum_at c t k (LoadOwner word) w = tt
-sum_at c t k (StorePending word value) w = tt
-sum_at c t k (StoreField way word) w = tt
-sum_at c t k LoadFirst w = tt
-sum_at c t k (LoadSecond word) w = tt
-sum_at c t k LoadSaid w = tt
-sum_at c t k (LoadSaidOwner word) w = tt
-sum_at c t k (Answered reply) w = tt
+sum_at : (c : Config) (p : Pass) (k : Command) (row : FieldRow) (w : ℕ) → Fits (row_want (extent c) p k row) w
+sum_at c p k StoreNumber w = tt
+sum_at c p k StoreNil w = tt
+sum_at c p k LoadMoved w = tt
+sum_at c p k (StoreMoved word) w = tt
+sum_at c p k LoadObject w = tt
+sum_at c p k (LoadShape x) w = tt
+sum_at c p k (LoadValue way) w = tt
+sum_at c p k (LoadLink way word) w = tt
+sum_at c p k (LoadField way) w = tt
+sum_at c p k (LoadOwner word) w = tt
+sum_at c p k (StorePending word value) w = tt
+sum_at c p k (StoreField way word) w = tt
+sum_at c p k (Shade r store) w = ranges.sum_fits (record { pass = p; row = r }) w
+sum_at c p k LoadFirst w = tt
+sum_at c p k (LoadSecond word) w = tt
+sum_at c p k LoadSaid w = tt
+sum_at c p k (LoadSaidOwner word) w = tt
+sum_at c p k (Answered reply) w = tt
 
 pub field_sum : (c : Config) (s : FieldState) (w : ℕ) → Fits (field_want (extent c) s) w
-field_sum c s w = sum_at c s.pass.thread s.command s.row w
+field_sum c s w = sum_at c s.pass s.command s.row w
 
 -- the first row of a command fits
 first_belongs : (k : Command) → is_row_of k (first_row k) ≡ true
 first_belongs (commands.New d f) = refl
 first_belongs _ = refl
 
-first_numbers : (c : Config) (k : Command) → RowFits c k (first_row k)
-first_numbers c (commands.New d f) = tt
-first_numbers c _ = tt
+first_numbers : (c : Config) (p : Pass) (k : Command) → RowFits c p k (first_row k)
+first_numbers c p (commands.New d f) = tt
+first_numbers c p _ = tt
 
-pub first_fits : (c : Config) (p : Pass) (k : Command) → IsThread c p.thread → IsCommandInRange k → FieldFits c (at_first_row p k)
-first_fits c p k thread range = record { thread = thread; command = range; belongs = first_belongs k; row = first_numbers c k }
+pub first_fits : (c : Config) (p : Pass) (k : Command) → IsThread c p.thread → p.threads ≡ c.threads → c.blocks ≤ 65535 → IsCommandInRange k → FieldFits c (at_first_row p k)
+first_fits c p k thread threads blocks range = record { thread = thread; threads = threads; blocks = blocks; command = range; belongs = first_belongs k; row = first_numbers c p k }
 
 -- a row that fits becomes one that fits: first, that the command comes to it
 either : (P : FieldRow → Type 0) (b : Bool) (p q : FieldRow) → P p → P q → P (cond b p q)
 either P true p q a c = a
 either P false p q a c = c
 
-block_belongs : (k : Command) (way : Way) (word : ℕ) → goes_to_field k ≡ true → is_row_of k (at_block k way word) ≡ true
-block_belongs (commands.Get d s i) way word is = refl
-block_belongs (commands.Put s i v) way word is = refl
-block_belongs _ way word is = absurd cc
+-- a store that belongs to a command does so at once and behind its barrier
+store_belongs : (k : Command) (store : FieldStore) → is_store_of k store ≡ true → is_row_of k (store_row store) ≡ true
+store_belongs k (Moved word) is = is
+store_belongs k (Pending word value) is = is
+store_belongs k (InField way word) is = is
 
-way_belongs : (c : Config) (k : Command) (way : Way) (word : ℕ) → goes_to_field k ≡ true → is_row_of k (on_way (extent c) k way word) ≡ true
-way_belongs c k way word is = either (λ row. is_row_of k row ≡ true) (ltb way.level (links_to (extent c) way.shape (field_index k))) (LoadLink way word) (at_block k way word) is (block_belongs k way word is)
+before_belongs : (p : Pass) (k : Command) (store : FieldStore) → is_store_of k store ≡ true → is_row_of k (before_store p store) ≡ true
+before_belongs p k store is = before_is (λ row. is_row_of k row ≡ true) p store (λ _. store_belongs k store is) (λ _. is)
+
+block_belongs : (p : Pass) (k : Command) (way : Way) (word : ℕ) → goes_to_field k ≡ true → is_row_of k (at_block p k way word) ≡ true
+block_belongs p (commands.Get d s i) way word is = refl
+block_belongs p (commands.Put s i v) way word is = before_belongs p (commands.Put s i v) (InField way word) refl
+block_belongs p _ way word is = absurd cc
+
+way_belongs : (c : Config) (p : Pass) (k : Command) (way : Way) (word : ℕ) → goes_to_field k ≡ true → is_row_of k (on_way (extent c) p k way word) ≡ true
+way_belongs c p k way word is = either (λ row. is_row_of k row ≡ true) (ltb way.level (links_to (extent c) way.shape (field_index k))) (LoadLink way word) (at_block p k way word) is (block_belongs p k way word is)
 
 put_goes : (k : Command) → is_put k ≡ true → goes_to_field k ≡ true
 put_goes (commands.Put s i v) is = refl
 put_goes _ is = absurd cc
 
-shape_belongs : (c : Config) (k : Command) (x : ℕ) (f : Shape) → looks_at_object k ≡ true → is_row_of k (after_shape (extent c) k x f) ≡ true
-shape_belongs c (commands.Get d s i) x f is = either (λ row. is_row_of (commands.Get d s i) row ≡ true) (ltb i (shape_length f)) _ _ (way_belongs c (commands.Get d s i) (way_from f x) 0 refl) refl
-shape_belongs c (commands.Put s i v) x f is = either (λ row. is_row_of (commands.Put s i v) row ≡ true) (ltb i (shape_length f)) _ _ refl refl
-shape_belongs c (commands.Len s) x f is = refl
-shape_belongs c _ x f is = absurd cc
+shape_belongs : (c : Config) (p : Pass) (k : Command) (x : ℕ) (f : Shape) → looks_at_object k ≡ true → is_row_of k (after_shape (extent c) p k x f) ≡ true
+shape_belongs c p (commands.Get d s i) x f is = either (λ row. is_row_of (commands.Get d s i) row ≡ true) (ltb i (shape_length f)) _ _ (way_belongs c p (commands.Get d s i) (way_from f x) 0 refl) refl
+shape_belongs c p (commands.Put s i v) x f is = either (λ row. is_row_of (commands.Put s i v) row ≡ true) (ltb i (shape_length f)) _ _ refl refl
+shape_belongs c p (commands.Len s) x f is = refl
+shape_belongs c p _ x f is = absurd cc
 
 object_belongs : (k : Command) (p : Payload) → looks_at_object k ≡ true → is_row_of k (after_object p) ≡ true
 object_belongs k payloads.Nil is = refl
@@ -153,36 +171,101 @@ said_belongs k w payloads.Nil is = refl
 said_belongs k w (payloads.Int v) is = refl
 said_belongs k w (payloads.Block x) is = is
 
-belongs_on : (c : Config) (k : Command) (row : FieldRow) (w : ℕ) → is_row_of k row ≡ true → is_row_of k (row_got (extent c) k row w) ≡ true
-belongs_on c k StoreNumber w is = refl
-belongs_on c k StoreNil w is = refl
-belongs_on c k LoadMoved w is = is
-belongs_on c k (StoreMoved word) w is = refl
-belongs_on c k LoadObject w is = object_belongs k (payload_in w) is
-belongs_on c k (LoadShape x) w is = shape_belongs c k x (shape_in w) is
-belongs_on c k (LoadValue way) w is = way_belongs c k way w (put_goes k is)
-belongs_on c k (LoadLink way word) w is = way_belongs c k (way_on way (target w)) word is
-belongs_on c k (LoadField way) w is = field_belongs k w (payload_in w) is
-belongs_on c k (LoadOwner word) w is = is
-belongs_on c k (StorePending word value) w is = refl
-belongs_on c k (StoreField way word) w is = refl
-belongs_on c k LoadFirst w is = is
-belongs_on c k (LoadSecond word) w is = refl
-belongs_on c k LoadSaid w is = said_belongs k w (payload_in w) is
-belongs_on c k (LoadSaidOwner word) w is = refl
-belongs_on c k (Answered reply) w is = refl
+belongs_on : (c : Config) (p : Pass) (k : Command) (row : FieldRow) (w : ℕ) → is_row_of k row ≡ true → is_row_of k (row_got (extent c) p k row w) ≡ true
+belongs_on c p k StoreNumber w is = refl
+belongs_on c p k StoreNil w is = refl
+belongs_on c p k LoadMoved w is = before_belongs p k (Moved w) is
+belongs_on c p k (StoreMoved word) w is = refl
+belongs_on c p k LoadObject w is = object_belongs k (payload_in w) is
+belongs_on c p k (LoadShape x) w is = shape_belongs c p k x (shape_in w) is
+belongs_on c p k (LoadValue way) w is = way_belongs c p k way w (put_goes k is)
+belongs_on c p k (LoadLink way word) w is = way_belongs c p k (way_on way (target w)) word is
+belongs_on c p k (LoadField way) w is = field_belongs k w (payload_in w) is
+belongs_on c p k (LoadOwner word) w is = before_belongs p k (Pending word (object_in w)) is
+belongs_on c p k (StorePending word value) w is = refl
+belongs_on c p k (StoreField way word) w is = refl
+belongs_on c p k (Shade r store) w is = barrier_is (λ row. is_row_of k row ≡ true) _ store (λ _. store_belongs k store is) (λ _. is)
+belongs_on c p k LoadFirst w is = is
+belongs_on c p k (LoadSecond word) w is = refl
+belongs_on c p k LoadSaid w is = said_belongs k w (payload_in w) is
+belongs_on c p k (LoadSaidOwner word) w is = refl
+belongs_on c p k (Answered reply) w is = refl
 
 -- and then its numbers
-block_fits : (c : Config) (k : Command) (way : Way) (word : ℕ) → IsWalk c (field_index k) way → IsThere c (field_index k) way → IsLoaded c word → RowFits c k (at_block k way word)
-block_fits c (commands.Put s i v) way word is there fits = (is, there, fits)
-block_fits c _ way word is there fits = (is, there)
+store_fits : (c : Config) (p : Pass) (k : Command) (store : FieldStore) → StoreFits c k store → RowFits c p k (store_row store)
+store_fits c p k (Moved word) fits = fits
+store_fits c p k (Pending word value) fits = fits
+store_fits c p k (InField way word) fits = fits
 
-way_fits : (c : Config) (k : Command) (way : Way) (word : ℕ) → IsWalk c (field_index k) way → IsLoaded c word → RowFits c k (on_way (extent c) k way word)
-way_fits c k way word is fits = elim (cases_lt way.level (links_to (extent c) way.shape (field_index k))) [
+store_loaded : (c : Config) (k : Command) (store : FieldStore) → StoreFits c k store → IsLoaded c (stored_word store)
+store_loaded c k (Moved word) fits = fits
+store_loaded c k (Pending word value) fits = fits
+store_loaded c k (InField way word) fits = fits.2
+
+-- a thread of the heap's in this pass
+pub record IsOwn (c : Config) (p : Pass) : Type 0 where
+  pub thread : IsThread c p.thread
+  pub threads : p.threads ≡ c.threads
+  pub blocks : c.blocks ≤ 65535
+
+-- what is shaded before a store is a block, and the phase is Mark
+pub is_shaded : (p : Pass) (word : ℕ) → shaded_for p word ≢ 0 → (p.sweep ≡ false) × (shaded_for p word ≡ target word)
+is_shaded p word ne = elim (cases_Bool p.sweep) [
+  | inl e ↦ absurd (ne (ap (λ b. cond b 0 (target word)) e))
+  | inr e ↦ (e, ap (λ b. cond b 0 (target word)) e)
+]
+
+before_fits : (c : Config) (p : Pass) (k : Command) (store : FieldStore) → IsOwn c p → StoreFits c k store → RowFits c p k (before_store p store)
+before_fits c p k store own fits = before_is (λ row. RowFits c p k row) p store (λ _. store_fits c p k store fits)
+    (λ ne.
+    let is = is_shaded p (stored_word store) ne in
+    let refers : target (stored_word store) ≢ 0 = subst (λ y. y ≢ 0) is.1 ne in
+    let few : p.threads ≤ 16 = subst (λ n. n ≤ 16) (sym own.threads) own.thread.few in
+    let low : p.thread < p.threads = subst (λ n. p.thread < n) (sym own.threads) own.thread.thread in
+    let block : IsBlock c (shaded_for p (stored_word store)) = subst (IsBlock c) (sym is.1) (target_block c (stored_word store) (store_loaded c k store fits) refers) in (
+      record {
+        mark = is.0;
+        refers = refers;
+        stores = is.1;
+        fits = ranges.shade_fits c p (shaded_for p (stored_word store)) own.threads few own.blocks low block;
+      },
+      fits,
+    ))
+
+block_fits : (c : Config) (p : Pass) (k : Command) (way : Way) (word : ℕ) → IsOwn c p → IsWalk c (field_index k) way → IsThere c (field_index k) way → IsLoaded c word → RowFits c p k (at_block p k way word)
+block_fits c p (commands.Put s i v) way word own is there fits = before_fits c p (commands.Put s i v) (InField way word) own (is, there, fits)
+block_fits c p _ way word own is there fits = (is, there)
+
+-- a row that shades a block is one of a barrier
+stored_shades : (r : GreyRow) → block_stored r ≢ 0 → is_shading r ≡ true
+stored_shades (TakeOwn y) some = refl
+stored_shades (ShadeStored y a) some = refl
+stored_shades (PutOwn y a) some = refl
+stored_shades (Shaded y) some = refl
+stored_shades _ some = absurd (some refl)
+
+pub barrier_shades : (c : Config) (p : Pass) (r : GreyRow) (store : FieldStore) → IsBarrier c p r (stored_word store) → is_shading r ≡ true
+barrier_shades c p r store is = stored_shades r (λ none. is.refers (sym is.stores ∙ none))
+
+barrier_fits : (c : Config) (p : Pass) (k : Command) (r : GreyRow) (store : FieldStore) (w : ℕ) → IsBarrier c p r (stored_word store) → StoreFits c k store → ReadsAt c p k (Shade r store) w → RowFits c p k (row_got (extent c) p k (Shade r store) w)
+barrier_fits c p k r store w is fits reads =
+    barrier_is (λ row. RowFits c p k row) (marking.row_got (payloads c.width) p.threads p.cycle r w) store (λ _. store_fits c p k store fits)
+    (λ goes. (
+      record {
+        mark = is.mark;
+        refers = is.refers;
+        stores = block_stays (payloads c.width) p.threads p.cycle r w (barrier_shades c p r store is) ∙ is.stores;
+        fits = ranges.next_fits c (record { pass = p; row = r }) w is.fits reads.0;
+      },
+      fits,
+    ))
+
+way_fits : (c : Config) (p : Pass) (k : Command) (way : Way) (word : ℕ) → IsOwn c p → IsWalk c (field_index k) way → IsLoaded c word → RowFits c p k (on_way (extent c) p k way word)
+way_fits c p k way word own is fits = elim (cases_lt way.level (links_to (extent c) way.shape (field_index k))) [
   | inl less ↦ rw (lt-ltb way.level (links_to (extent c) way.shape (field_index k)) less) (is, less, fits)
   | inr more ↦
       let low : way.level ≤ links_to (extent c) way.shape (field_index k) = is.level in
-      rw (le-ltb way.level (links_to (extent c) way.shape (field_index k)) more) (block_fits c k way word is (omega arith) fits)
+      rw (le-ltb way.level (links_to (extent c) way.shape (field_index k)) more) (block_fits c p k way word own is (omega arith) fits)
 ]
 
 start_is_walk : (c : Config) (x : ℕ) (f : Shape) (i : ℕ) → IsBlock c x → IsShape f → i < shape_length f → IsWalk c i (way_from f x)
@@ -191,28 +274,28 @@ start_is_walk c x f i block shape index = record { shape = shape; index = index;
 nil_loaded : (c : Config) → IsLoaded c 0
 nil_loaded c = let nil = held c payloads.Nil tt (omega (arith, target-nil)) in record { payload = nil.0; block = nil.1 }
 
-shape_row_fits : (c : Config) (k : Command) (x : ℕ) (f : Shape) → IsBlock c x → IsShape f → RowFits c k (after_shape (extent c) k x f)
-shape_row_fits c (commands.Get d s i) x f block shape = elim (cases_lt i (shape_length f)) [
-  | inl less ↦ rw (lt-ltb i (shape_length f) less) (way_fits c (commands.Get d s i) (way_from f x) 0 (start_is_walk c x f i block shape less) (nil_loaded c))
+shape_row_fits : (c : Config) (p : Pass) (k : Command) (x : ℕ) (f : Shape) → IsOwn c p → IsBlock c x → IsShape f → RowFits c p k (after_shape (extent c) p k x f)
+shape_row_fits c p (commands.Get d s i) x f own block shape = elim (cases_lt i (shape_length f)) [
+  | inl less ↦ rw (lt-ltb i (shape_length f) less) (way_fits c p (commands.Get d s i) (way_from f x) 0 own (start_is_walk c x f i block shape less) (nil_loaded c))
   | inr more ↦ rw (le-ltb i (shape_length f) more) tt
 ]
-shape_row_fits c (commands.Put s i v) x f block shape = elim (cases_lt i (shape_length f)) [
+shape_row_fits c p (commands.Put s i v) x f own block shape = elim (cases_lt i (shape_length f)) [
   | inl less ↦ rw (lt-ltb i (shape_length f) less) (start_is_walk c x f i block shape less, refl)
   | inr more ↦ rw (le-ltb i (shape_length f) more) tt
 ]
-shape_row_fits c _ x f block shape = tt
+shape_row_fits c p _ x f own block shape = tt
 
-row_fits : (c : Config) (t : ℕ) (k : Command) (row : FieldRow) (w : ℕ) → RowFits c k row → ReadsAt c t k row w → RowFits c k (row_got (extent c) k row w)
-row_fits c t k StoreNumber w h r = tt
-row_fits c t k StoreNil w h r = tt
-row_fits c t k LoadMoved w h r = loaded c w r.0
-row_fits c t k (StoreMoved word) w h r = tt
-row_fits c t k LoadObject w h r =
-    payload_cases w r.0.0 (λ p. RowFits c k (after_object p)) tt (λ v low. tt)
+row_fits : (c : Config) (p : Pass) (k : Command) (row : FieldRow) (w : ℕ) → IsOwn c p → RowFits c p k row → ReadsAt c p k row w → RowFits c p k (row_got (extent c) p k row w)
+row_fits c p k StoreNumber w own h r = tt
+row_fits c p k StoreNil w own h r = tt
+row_fits c p k LoadMoved w own h r = before_fits c p k (Moved w) own (loaded c w r.0)
+row_fits c p k (StoreMoved word) w own h r = tt
+row_fits c p k LoadObject w own h r =
+    payload_cases w r.0.0 (λ q. RowFits c p k (after_object q)) tt (λ v low. tt)
     (λ x is some. let high : target w ≤ c.blocks = r.0.1 in (some, omega (arith, is, high)))
-row_fits c t k (LoadShape x) w h r = shape_row_fits c k x (shape_in w) h (shape_fits w r.0)
-row_fits c t k (LoadValue way) w h r = way_fits c k way w h.0 (loaded c w r.0)
-row_fits c t k (LoadLink way word) w h r =
+row_fits c p k (LoadShape x) w own h r = shape_row_fits c p k x (shape_in w) own h (shape_fits w r.0)
+row_fits c p k (LoadValue way) w own h r = way_fits c p k way w own h.0 (loaded c w r.0)
+row_fits c p k (LoadLink way word) w own h r =
     let is = h.0 in
     let next : IsWalk c (field_index k) (way_on way (target w)) = record {
       shape = is.shape;
@@ -220,57 +303,61 @@ row_fits c t k (LoadLink way word) w h r =
       level = less_suc way.level (links_to (extent c) way.shape (field_index k)) h.1;
       block = target_block c w (loaded c w r.0) r.1;
     } in
-    way_fits c k (way_on way (target w)) word next h.2
+    way_fits c p k (way_on way (target w)) word own next h.2
   where
     less_suc : (a b : ℕ) → a < b → a + 1 ≤ b
     less_suc a b h = omega arith
-row_fits c t k (LoadField way) w h r =
-    payload_cases w r.0.0 (λ p. RowFits c k (after_field w p)) (loaded c w r.0) (λ v low. loaded c w r.0)
+row_fits c p k (LoadField way) w own h r =
+    payload_cases w r.0.0 (λ q. RowFits c p k (after_field w q)) (loaded c w r.0) (λ v low. loaded c w r.0)
     (λ x is some. (loaded c w r.0, reference x w is some))
-row_fits c t k (LoadOwner word) w h r = h.0
-row_fits c t k (StorePending word value) w h r = tt
-row_fits c t k (StoreField way word) w h r = tt
-row_fits c t k LoadFirst w h r = loaded c w r.0
-row_fits c t k (LoadSecond word) w h r = tt
-row_fits c t k LoadSaid w h r =
-    payload_cases w r.0.0 (λ p. RowFits c k (after_said w p)) tt (λ v low. tt)
+row_fits c p k (LoadOwner word) w own h r = before_fits c p k (Pending word (object_in w)) own h.0
+row_fits c p k (StorePending word value) w own h r = tt
+row_fits c p k (StoreField way word) w own h r = tt
+row_fits c p k (Shade r store) w own h reads = barrier_fits c p k r store w h.0 h.1 reads
+row_fits c p k LoadFirst w own h r = loaded c w r.0
+row_fits c p k (LoadSecond word) w own h r = tt
+row_fits c p k LoadSaid w own h r =
+    payload_cases w r.0.0 (λ q. RowFits c p k (after_said w q)) tt (λ v low. tt)
     (λ x is some. (loaded c w r.0, reference x w is some))
-row_fits c t k (LoadSaidOwner word) w h r = tt
-row_fits c t k (Answered reply) w h r = tt
+row_fits c p k (LoadSaidOwner word) w own h r = tt
+row_fits c p k (Answered reply) w own h r = tt
 
 pub field_fits : (c : Config) (s : FieldState) (w : ℕ) → FieldFits c s → FieldReads c s w → FieldFits c (field_got (extent c) s w)
 field_fits c s w f r = record {
   thread = f.thread;
+  threads = f.threads;
+  blocks = f.blocks;
   command = f.command;
-  belongs = belongs_on c s.command s.row w f.belongs;
-  row = row_fits c s.pass.thread s.command s.row w f.row r;
+  belongs = belongs_on c s.pass s.command s.row w f.belongs;
+  row = row_fits c s.pass s.command s.row w (record { thread = f.thread; threads = f.threads; blocks = f.blocks }) f.row r;
 }
 
 -- what a row stores is what its place can hold
-stores_at : (c : Config) (t : ℕ) (k : Command) (row : FieldRow) → FitsAt c t k row → StoresHeld c (row_want (extent c) t k row)
-stores_at c t k StoreNumber f = held c (payloads.Int (number_set k)) (number_low k f.command) (omega (arith, target-number (number_set k)))
-stores_at c t k StoreNil f = held c payloads.Nil tt (omega (arith, target-nil))
-stores_at c t k LoadMoved f = tt
-stores_at c t k (StoreMoved word) f = (f.row.payload, f.row.block)
-stores_at c t k LoadObject f = tt
-stores_at c t k (LoadShape x) f = tt
-stores_at c t k (LoadValue way) f = tt
-stores_at c t k (LoadLink way word) f = tt
-stores_at c t k (LoadField way) f = tt
-stores_at c t k (LoadOwner word) f = tt
-stores_at c t k (StorePending word value) f = (f.row.payload, f.row.block)
-stores_at c t k (StoreField way word) f = (f.row.2.payload, f.row.2.block)
-stores_at c t k LoadFirst f = tt
-stores_at c t k (LoadSecond word) f = tt
-stores_at c t k LoadSaid f = tt
-stores_at c t k (LoadSaidOwner word) f = tt
-stores_at c t k (Answered reply) f = tt
+stores_at : (c : Config) (p : Pass) (k : Command) (row : FieldRow) → FitsAt c p k row → StoresHeld c (row_want (extent c) p k row)
+stores_at c p k StoreNumber f = held c (payloads.Int (number_set k)) (number_low k f.command) (omega (arith, target-number (number_set k)))
+stores_at c p k StoreNil f = held c payloads.Nil tt (omega (arith, target-nil))
+stores_at c p k LoadMoved f = tt
+stores_at c p k (StoreMoved word) f = (f.row.payload, f.row.block)
+stores_at c p k LoadObject f = tt
+stores_at c p k (LoadShape x) f = tt
+stores_at c p k (LoadValue way) f = tt
+stores_at c p k (LoadLink way word) f = tt
+stores_at c p k (LoadField way) f = tt
+stores_at c p k (LoadOwner word) f = tt
+stores_at c p k (StorePending word value) f = (f.row.payload, f.row.block)
+stores_at c p k (StoreField way word) f = (f.row.2.payload, f.row.2.block)
+stores_at c p k (Shade r store) f = ranges.stores_held c (record { pass = p; row = r }) f.row.0.fits
+stores_at c p k LoadFirst f = tt
+stores_at c p k (LoadSecond word) f = tt
+stores_at c p k LoadSaid f = tt
+stores_at c p k (LoadSaidOwner word) f = tt
+stores_at c p k (Answered reply) f = tt
 
 pub stores_held : (c : Config) (s : FieldState) → FieldFits c s → StoresHeld c (field_want (extent c) s)
-stores_held c s f = stores_at c s.pass.thread s.command s.row f
+stores_held c s f = stores_at c s.pass s.command s.row f
 
 -- the same of a part as it is seen
-pub moved_fits : (c : Config) (p : Pass) (k : Command) (row r : FieldRow) (s : FieldState) (w : ℕ) → record { pass = p; command = k; row = row } ≡ s → r ≡ (field_got (extent c) s w).row → FieldFits c s → FieldReads c s w → FitsAt c p.thread k r
+pub moved_fits : (c : Config) (p : Pass) (k : Command) (row r : FieldRow) (s : FieldState) (w : ℕ) → record { pass = p; command = k; row = row } ≡ s → r ≡ (field_got (extent c) s w).row → FieldFits c s → FieldReads c s w → FitsAt c p k r
 moved_fits c p k row r s w same is f reads =
-    subst (λ (x : FieldState). r ≡ (field_got (extent c) x w).row → FieldFits c x → FieldReads c x w → FitsAt c p.thread k r) same
-    (λ e g rd. subst (FitsAt c p.thread k) (sym e) (field_fits c (record { pass = p; command = k; row = row }) w g rd)) is f reads
+    subst (λ (x : FieldState). r ≡ (field_got (extent c) x w).row → FieldFits c x → FieldReads c x w → FitsAt c p k r) same
+    (λ e g rd. subst (FitsAt c p k) (sym e) (field_fits c (record { pass = p; command = k; row = row }) w g rd)) is f reads

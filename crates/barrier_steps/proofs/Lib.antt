@@ -1,6 +1,7 @@
 pub mod Named
 pub mod Walking
 pub mod ReadWords
+pub mod Stores
 pub mod FieldRows
 pub mod Decisions
 pub mod Promising
@@ -9,3 +10,6 @@ pub mod Stepping
 pub mod Showing
 pub mod Registers
 pub mod Dues
+pub mod Keeping
+pub mod Leaving
+pub mod Naming

@@ -1,5 +1,5 @@
 -- A row is its event: the words and what the thread has loaded are those after it, and it may come where it does.
-use Rattle.std.proofs.Common.{◌≡◌, ◌≢◌, ℕ, ◌+◌, ◌%◌, ◌<◌, Bool, true, false, cond, Option, None, Some, IfSome, IsSome, refl, sym, ap, ◌∙◌, subst, inl, inr, ltb, eq-eqb, ltb-true}
+use Rattle.std.proofs.Common.{◌≡◌, ◌≢◌, ℕ, ◌+◌, ◌<◌, true, cond, Option, None, Some, IfSome, IsSome, refl, sym, ap, ◌∙◌, subst, inl, inr, ltb, eqb, eq-eqb, ltb-true}
 use Rattle.std.proofs.lemmas.Bool.{cases_Bool, cases_eq, ne_eqb}
 use Rattle.block_store.specs.declared.Config.{Config}
 use Rattle.block_store.specs.declared.Name.{Name}
@@ -9,8 +9,9 @@ use Rattle.block_store.specs.declared.Shape.{Shape}
 use Rattle.block_store.specs.declared.Value.TheVariants as values
 use Rattle.block_store.specs.Heaps.{Heap}
 use Rattle.block_store.specs.Payloads.{target}
-use Rattle.block_store.specs.Places.{extent, PayloadOf}
-use Rattle.heap_machine.specs.Operations.{heap_after}
+use Rattle.block_store.specs.Colours.{white_word, grey_word}
+use Rattle.block_store.specs.Places.{extent, ColourOf, PayloadOf}
+use Rattle.heap_machine.specs.Operations.{CompareExchange, heap_after}
 use Rattle.block_store.specs.Shapes.{shape_of}
 use Rattle.never_heap.specs.declared.Command.{Command}
 use Rattle.never_heap.specs.declared.Command.TheVariants as commands
@@ -21,45 +22,63 @@ use Rattle.block_store.specs.Registers.{register_block, register_slot}
 use Rattle.shown_graph.specs.Words.{block_words, with_payload, value_word}
 use Rattle.shown_graph.specs.Events as events
 use Rattle.shown_graph.specs.Events.{ObjectLoad, ValueLoad, Loading, unloaded, object_in, value_in, with_load, GraphState, Event, apply, Guard, IsPrompt, HasObject, HasValue, object_at, value_at, register_word_in, IsAtField, IsAtLink}
+use Rattle.heap_machine.specs.declared.pass.Pass.{Pass}
+use Rattle.grey_steps.specs.declared.rows.GreyRow.{GreyRow}
+use Rattle.grey_steps.specs.declared.rows.GreyRow.TheVariants as greys
+use Rattle.grey_steps.specs.Rows as marking
 use Rattle.barrier_steps.specs.declared.rows.FieldRow.{FieldRow}
-use Rattle.barrier_steps.specs.declared.rows.FieldRow.TheVariants.{StoreNumber, StoreNil, LoadMoved, StoreMoved, LoadObject, LoadShape, LoadValue, LoadLink, LoadField, LoadOwner, StorePending, StoreField, LoadFirst, LoadSecond, LoadSaid, LoadSaidOwner, Answered}
+use Rattle.barrier_steps.specs.declared.rows.FieldRow.TheVariants.{StoreNumber, StoreNil, LoadMoved, StoreMoved, LoadObject, LoadShape, LoadValue, LoadLink, LoadField, LoadOwner, StorePending, StoreField, Shade, LoadFirst, LoadSecond, LoadSaid, LoadSaidOwner, Answered}
+use Rattle.barrier_steps.specs.declared.rows.FieldStore.{FieldStore}
+use Rattle.barrier_steps.specs.declared.rows.FieldStore.TheVariants.{Moved, Pending, InField}
 use Rattle.barrier_steps.specs.declared.rows.Way.{Way}
 use Rattle.barrier_steps.specs.Operands.{to_register, from_register, other_register, field_index, number_set, is_put, looks_at_object}
 use Rattle.barrier_steps.specs.Walks.{shape_length, links_to, link_at, field_at, ordinal_at}
-use Rattle.barrier_steps.specs.Rows.{payload_in, shape_or_empty, shape_in, row_want, row_got, after_object, after_shape, after_field, after_said, at_block, on_way, way_from, way_on}
+use Rattle.barrier_steps.specs.Rows as rows
+use Rattle.barrier_steps.specs.Rows.{payload_in, shape_or_empty, shape_in, store_row, before_store, in_barrier, row_want, row_got, after_object, after_shape, after_field, after_said, at_block, on_way, way_from, way_on}
 use Rattle.barrier_steps.specs.Fits.{IsWalk, IsThere, FitsAt, ReadsAt}
 use Rattle.barrier_steps.specs.Deciding.{refers, length_decides}
 use Rattle.barrier_steps.proofs.Named.{to_low, from_low, other_low, number_low}
 use Rattle.barrier_steps.proofs.Walking.{way_is}
 use Rattle.barrier_steps.proofs.ReadWords.{payload_cases}
+use Rattle.barrier_steps.proofs.Stores.{before_is, barrier_is}
 use Rattle.barrier_steps.proofs.FieldRows.{reference}
-use Rattle.barrier_steps.specs.Projection.{row_loading, row_event, after_event, IsAt, InHandAt, walk_load, object_on, carried_load, object_load, value_load, pending_load}
+use Rattle.barrier_steps.specs.Projection.{store_loading, row_loading, row_event, after_event, IsAt, InHandAt, walk_load, object_on, carried_load, object_load, value_load, pending_load}
+
+-- marking writes neither owner nor shape nor payload
+shaded_words : (h : Heap) (y old v : ℕ) → block_words (heap_after h (CompareExchange (ColourOf y) old v)) ≡ block_words h
+shaded_words h y old v = elim (cases_Bool (eqb (h (ColourOf y)) old)) [ inl e ↦ rw e refl | inr e ↦ rw e refl ]
+
+pub marking_words : (h : Heap) (t n cycle : ℕ) (r : GreyRow) → block_words (heap_after h (marking.row_want t n cycle r)) ≡ block_words h
+marking_words h t n cycle (greys.Shade x j y a) = shaded_words h y (white_word cycle) (grey_word a)
+marking_words h t n cycle (greys.ShadeStored y a) = shaded_words h y (white_word cycle) (grey_word a)
+marking_words h t n cycle _ = refl
 
 -- the words are those that the row's operation leaves
-pub words_moved : (c : Config) (h : Heap) (s : GraphState) (a : Name) (t : ℕ) (k : Command) (row : FieldRow) (w : ℕ) → s.words ≡ block_words h → s.loads t ≡ row_loading (extent c) k row
-    → (after_event (extent c) s (row_event (extent c) a t k row w)).words ≡ block_words (heap_after h (row_want (extent c) t k row))
-words_moved c h s a t k StoreNumber w is l = ap (λ x. with_payload x (register_block c.width t (to_register k)) (register_slot c.width (to_register k)) (value_word (λ b. 0) (values.Int (number_set k)))) is
-words_moved c h s a t k StoreNil w is l = ap (λ x. with_payload x (register_block c.width t (to_register k)) (register_slot c.width (to_register k)) 0) is
-words_moved c h s a t k LoadMoved w is l = is
-words_moved c h s a t k (StoreMoved word) w is l =
-    ap (λ x. with_payload x (register_block c.width t (to_register k)) (register_slot c.width (to_register k)) (value_at s t).word) is ∙ ap (λ x. with_payload (block_words h) (register_block c.width t (to_register k)) (register_slot c.width (to_register k)) (value_in x.value).word) l
-words_moved c h s a t k LoadObject w is l = elim (cases_Bool (refers (payload_in w))) [ inl e ↦ rw e is | inr e ↦ rw e is ]
-words_moved c h s a t k (LoadShape x) w is l = elim (cases_Bool (length_decides k (shape_length (shape_in w)))) [ inl e ↦ rw e is | inr e ↦ rw e is ]
-words_moved c h s a t k (LoadValue way) w is l = is
-words_moved c h s a t k (LoadLink way word) w is l = is
-words_moved c h s a t k (LoadField way) w is l = is
-words_moved c h s a t k (LoadOwner word) w is l = is
-words_moved c h s a t k (StorePending word value) w is l =
-    ap (λ x. with_payload x (register_block c.width t (value_at s t).origin) (register_slot c.width (value_at s t).origin) (value_at s t).word) is
-    ∙ ap (λ x. with_payload (block_words h) (register_block c.width t (value_in x.value).origin) (register_slot c.width (value_in x.value).origin) (value_in x.value).word) l
-words_moved c h s a t k (StoreField way word) w is l =
-    ap (λ x. with_payload x (object_at s t).block (field_at (extent c) way.shape (field_index k)) (value_at s t).word) is
+pub words_moved : (c : Config) (h : Heap) (s : GraphState) (a : Name) (p : Pass) (k : Command) (row : FieldRow) (w : ℕ) → s.words ≡ block_words h → s.loads p.thread ≡ row_loading (extent c) k row
+    → (after_event (extent c) s (row_event (extent c) a p.thread k row w)).words ≡ block_words (heap_after h (row_want (extent c) p k row))
+words_moved c h s a p k StoreNumber w is l = ap (λ x. with_payload x (register_block c.width p.thread (to_register k)) (register_slot c.width (to_register k)) (value_word (λ b. 0) (values.Int (number_set k)))) is
+words_moved c h s a p k StoreNil w is l = ap (λ x. with_payload x (register_block c.width p.thread (to_register k)) (register_slot c.width (to_register k)) 0) is
+words_moved c h s a p k LoadMoved w is l = is
+words_moved c h s a p k (StoreMoved word) w is l =
+    ap (λ x. with_payload x (register_block c.width p.thread (to_register k)) (register_slot c.width (to_register k)) (value_at s p.thread).word) is ∙ ap (λ x. with_payload (block_words h) (register_block c.width p.thread (to_register k)) (register_slot c.width (to_register k)) (value_in x.value).word) l
+words_moved c h s a p k LoadObject w is l = elim (cases_Bool (refers (payload_in w))) [ inl e ↦ rw e is | inr e ↦ rw e is ]
+words_moved c h s a p k (LoadShape x) w is l = elim (cases_Bool (length_decides k (shape_length (shape_in w)))) [ inl e ↦ rw e is | inr e ↦ rw e is ]
+words_moved c h s a p k (LoadValue way) w is l = is
+words_moved c h s a p k (LoadLink way word) w is l = is
+words_moved c h s a p k (LoadField way) w is l = is
+words_moved c h s a p k (LoadOwner word) w is l = is
+words_moved c h s a p k (StorePending word value) w is l =
+    ap (λ x. with_payload x (register_block c.width p.thread (value_at s p.thread).origin) (register_slot c.width (value_at s p.thread).origin) (value_at s p.thread).word) is
+    ∙ ap (λ x. with_payload (block_words h) (register_block c.width p.thread (value_in x.value).origin) (register_slot c.width (value_in x.value).origin) (value_in x.value).word) l
+words_moved c h s a p k (StoreField way word) w is l =
+    ap (λ x. with_payload x (object_at s p.thread).block (field_at (extent c) way.shape (field_index k)) (value_at s p.thread).word) is
     ∙ ap (λ x. with_payload (block_words h) (object_in x.object).block (field_at (extent c) way.shape (field_index k)) (value_in x.value).word) l
-words_moved c h s a t k LoadFirst w is l = is
-words_moved c h s a t k (LoadSecond word) w is l = is
-words_moved c h s a t k LoadSaid w is l = elim (cases_Bool (refers (payload_in w))) [ inl e ↦ rw e is | inr e ↦ rw e is ]
-words_moved c h s a t k (LoadSaidOwner word) w is l = is
-words_moved c h s a t k (Answered reply) w is l = is
+words_moved c h s a p k (Shade r store) w is l = is ∙ sym (marking_words h p.thread p.threads p.cycle r)
+words_moved c h s a p k LoadFirst w is l = is
+words_moved c h s a p k (LoadSecond word) w is l = is
+words_moved c h s a p k LoadSaid w is l = elim (cases_Bool (refers (payload_in w))) [ inl e ↦ rw e is | inr e ↦ rw e is ]
+words_moved c h s a p k (LoadSaidOwner word) w is l = is
+words_moved c h s a p k (Answered reply) w is l = is
 
 -- the parts of a load, one by one
 abbrev pair : Option ObjectLoad → Option ValueLoad → Loading
@@ -75,14 +94,26 @@ unmoved ls t l u e = elim (cases_eq t u) [
   | inr ne ↦ rw (ne_eqb t u ne) refl
 ]
 
-block_loading : (c : Config) (k : Command) (way : Way) (word : ℕ) → row_loading (extent c) k (at_block k way word) ≡ pair (object_on (extent c) k way) (carried_load k word)
-block_loading c (commands.Put s i v) way word = refl
-block_loading c _ way word = refl
+-- what is loaded stays until the store, at once or behind its barrier
+stored_loading : (c : Config) (k : Command) (store : FieldStore) → row_loading (extent c) k (store_row store) ≡ store_loading (extent c) k store
+stored_loading c k (Moved word) = refl
+stored_loading c k (Pending word value) = refl
+stored_loading c k (InField way word) = refl
 
-way_loading : (c : Config) (k : Command) (way : Way) (word : ℕ) → row_loading (extent c) k (on_way (extent c) k way word) ≡ pair (object_on (extent c) k way) (carried_load k word)
-way_loading c k way word = elim (cases_Bool (ltb way.level (links_to (extent c) way.shape (field_index k)))) [
+before_loading : (c : Config) (p : Pass) (k : Command) (store : FieldStore) → row_loading (extent c) k (before_store p store) ≡ store_loading (extent c) k store
+before_loading c p k store = before_is (λ row. row_loading (extent c) k row ≡ store_loading (extent c) k store) p store (λ _. stored_loading c k store) (λ _. refl)
+
+pub barrier_loading : (c : Config) (k : Command) (r : GreyRow) (store : FieldStore) → row_loading (extent c) k (in_barrier r store) ≡ store_loading (extent c) k store
+barrier_loading c k r store = barrier_is (λ row. row_loading (extent c) k row ≡ store_loading (extent c) k store) r store (λ _. stored_loading c k store) (λ _. refl)
+
+block_loading : (c : Config) (p : Pass) (k : Command) (way : Way) (word : ℕ) → row_loading (extent c) k (at_block p k way word) ≡ pair (object_on (extent c) k way) (carried_load k word)
+block_loading c p (commands.Put s i v) way word = before_loading c p (commands.Put s i v) (InField way word)
+block_loading c p _ way word = refl
+
+way_loading : (c : Config) (p : Pass) (k : Command) (way : Way) (word : ℕ) → row_loading (extent c) k (on_way (extent c) p k way word) ≡ pair (object_on (extent c) k way) (carried_load k word)
+way_loading c p k way word = elim (cases_Bool (ltb way.level (links_to (extent c) way.shape (field_index k)))) [
   | inl is ↦ rw is refl
-  | inr is ↦ rw is (block_loading c k way word)
+  | inr is ↦ rw is (block_loading c p k way word)
 ]
 
 field_loading : (c : Config) (k : Command) (word : ℕ) (p : Payload) → row_loading (extent c) k (after_field word p) ≡ pair None (pending_load (to_register k) word)
@@ -113,30 +144,30 @@ shape_moved c s t r x u i f l loads within is =
     ap (λ y. Some (record (object_in y.object) { shape = Some f })) loads ∙ ap (λ o. Some (record { source = r; block = x; ordinal = o; shape = Some f })) (sym start) in
     ap (λ y. with_load s.loads t y u) (load_is _ (walk_load (extent c) r i (way_from f x)) (s.loads t).value None object (ap (λ y. y.value) loads) ∙ sym is)
 
-shape_case : (c : Config) (s : GraphState) (t x u : ℕ) (k : Command) (f : Shape) → looks_at_object k ≡ true → s.loads t ≡ pair (object_load (from_register k) x) None
-    → (after_event (extent c) s (cond (length_decides k (shape_length f)) (Some (events.Finish t)) (Some (events.ReadShape t f)))).loads u ≡ with_load s.loads t (row_loading (extent c) k (after_shape (extent c) k x f)) u
-shape_case c s t x u (commands.Get d r i) f looks loads = elim (cases_Bool (ltb i (shape_length f))) [
-  | inl is ↦ rw is (shape_moved c s t r x u i f (row_loading (extent c) (commands.Get d r i) (on_way (extent c) (commands.Get d r i) (way_from f x) 0)) loads (ltb-true i (shape_length f) is) (way_loading c (commands.Get d r i) (way_from f x) 0))
+shape_case : (c : Config) (p : Pass) (s : GraphState) (t x u : ℕ) (k : Command) (f : Shape) → looks_at_object k ≡ true → s.loads t ≡ pair (object_load (from_register k) x) None
+    → (after_event (extent c) s (cond (length_decides k (shape_length f)) (Some (events.Finish t)) (Some (events.ReadShape t f)))).loads u ≡ with_load s.loads t (row_loading (extent c) k (after_shape (extent c) p k x f)) u
+shape_case c p s t x u (commands.Get d r i) f looks loads = elim (cases_Bool (ltb i (shape_length f))) [
+  | inl is ↦ rw is (shape_moved c s t r x u i f (row_loading (extent c) (commands.Get d r i) (on_way (extent c) p (commands.Get d r i) (way_from f x) 0)) loads (ltb-true i (shape_length f) is) (way_loading c p (commands.Get d r i) (way_from f x) 0))
   | inr is ↦ rw is refl
 ]
-shape_case c s t x u (commands.Put r i v) f looks loads = elim (cases_Bool (ltb i (shape_length f))) [
+shape_case c p s t x u (commands.Put r i v) f looks loads = elim (cases_Bool (ltb i (shape_length f))) [
   | inl is ↦ rw is (shape_moved c s t r x u i f (row_loading (extent c) (commands.Put r i v) (LoadValue (way_from f x))) loads (ltb-true i (shape_length f) is) refl)
   | inr is ↦ rw is refl
 ]
-shape_case c s t x u (commands.Len r) f looks loads = refl
-shape_case c s t x u _ f looks loads = absurd cc
+shape_case c p s t x u (commands.Len r) f looks loads = refl
+shape_case c p s t x u _ f looks loads = absurd cc
 
 -- after a link the thread is at the next block of the way
-link_moved : (c : Config) (s : GraphState) (t w u : ℕ) (k : Command) (way : Way) (word : ℕ) → s.loads t ≡ pair (object_on (extent c) k way) (carried_load k word)
+link_moved : (c : Config) (p : Pass) (s : GraphState) (t w u : ℕ) (k : Command) (way : Way) (word : ℕ) → s.loads t ≡ pair (object_on (extent c) k way) (carried_load k word)
     → s.words.payload (object_at s t).block (link_at (extent c) way.shape (field_index k) way.level) ≡ w
     → (apply c.width s (events.ReadLink t (link_at (extent c) way.shape (field_index k) way.level) (ordinal_at (extent c) way.shape (field_index k) (way.level + 1)))).loads u
-    ≡ with_load s.loads t (row_loading (extent c) k (on_way (extent c) k (way_on way (target w)) word)) u
-link_moved c s t w u k way word loads read =
+    ≡ with_load s.loads t (row_loading (extent c) k (on_way (extent c) p k (way_on way (target w)) word)) u
+link_moved c p s t w u k way word loads read =
     let next = ordinal_at (extent c) way.shape (field_index k) (way.level + 1) in
     let object : Some (record (object_at s t) { block = target (s.words.payload (object_at s t).block (link_at (extent c) way.shape (field_index k) way.level)); ordinal = next }) ≡ object_on (extent c) k (way_on way (target w)) =
     ap (λ x. Some (record (object_at s t) { block = target x; ordinal = next })) read
     ∙ ap (λ y. Some (record (object_in y.object) { block = target w; ordinal = next })) loads in
-    ap (λ y. with_load s.loads t y u) (load_is _ (object_on (extent c) k (way_on way (target w))) (s.loads t).value (carried_load k word) object (ap (λ y. y.value) loads) ∙ sym (way_loading c k (way_on way (target w)) word))
+    ap (λ y. with_load s.loads t y u) (load_is _ (object_on (extent c) k (way_on way (target w))) (s.loads t).value (carried_load k word) object (ap (λ y. y.value) loads) ∙ sym (way_loading c p k (way_on way (target w)) word))
 
 -- what `put` has loaded is its value
 put_carries : (c : Config) (k : Command) (way : Way) (w : ℕ) → is_put k ≡ true → pair (object_on (extent c) k way) (carried_load k w) ≡ pair (object_on (extent c) k way) (value_load (other_register k) w)
@@ -144,50 +175,55 @@ put_carries c (commands.Put s i v) way w is = refl
 put_carries c _ way w is = absurd cc
 
 -- what the thread has loaded is what its next row has loaded
-pub loads_moved : (c : Config) (h : Heap) (s : GraphState) (a : Name) (t : ℕ) (k : Command) (row : FieldRow) (w : ℕ) → FitsAt c t k row → ReadsAt c t k row w → IsAt (extent c) s h t k row w
-    → (u : ℕ) → (after_event (extent c) s (row_event (extent c) a t k row w)).loads u ≡ with_load s.loads t (row_loading (extent c) k (row_got (extent c) k row w)) u
-loads_moved c h s a t k StoreNumber w fits reads at u = refl
-loads_moved c h s a t k StoreNil w fits reads at u = refl
-loads_moved c h s a t k LoadMoved w fits reads at u =
-    value_moved c s t (from_register k) w u None (row_loading (extent c) k (StoreMoved w)) (ap (λ x. x.object) at.loads) (payload_read s h _ _ w at.words at.reads) refl
-loads_moved c h s a t k (StoreMoved word) w fits reads at u = refl
-loads_moved c h s a t k LoadObject w fits reads at u =
+pub loads_moved : (c : Config) (h : Heap) (s : GraphState) (a : Name) (p : Pass) (k : Command) (row : FieldRow) (w : ℕ) → FitsAt c p k row → ReadsAt c p k row w → IsAt (extent c) s h p k row w
+    → (u : ℕ) → (after_event (extent c) s (row_event (extent c) a p.thread k row w)).loads u ≡ with_load s.loads p.thread (row_loading (extent c) k (row_got (extent c) p k row w)) u
+loads_moved c h s a p k StoreNumber w fits reads at u = refl
+loads_moved c h s a p k StoreNil w fits reads at u = refl
+loads_moved c h s a p k LoadMoved w fits reads at u =
+    value_moved c s p.thread (from_register k) w u None (row_loading (extent c) k (before_store p (Moved w))) (ap (λ x. x.object) at.loads) (payload_read s h _ _ w at.words at.reads) (before_loading c p k (Moved w))
+loads_moved c h s a p k (StoreMoved word) w fits reads at u = refl
+loads_moved c h s a p k LoadObject w fits reads at u =
     payload_cases w reads.0.0
-    (λ p. (after_event (extent c) s (cond (refers p) (Some (events.ReadObject t (from_register k))) None)).loads u ≡ with_load s.loads t (row_loading (extent c) k (after_object p)) u)
-    (unmoved s.loads t unloaded u at.loads) (λ v low. unmoved s.loads t unloaded u at.loads)
-    (λ x is some. object_moved c s t (from_register k) x u (ap (λ y. y.value) at.loads) (ap target (payload_read s h _ _ w at.words at.reads) ∙ sym is))
-loads_moved c h s a t k (LoadShape x) w fits reads at u = shape_case c s t x u k (shape_in w) fits.belongs at.loads
-loads_moved c h s a t k (LoadValue way) w fits reads at u =
-    value_moved c s t (other_register k) w u (object_on (extent c) k way) (row_loading (extent c) k (on_way (extent c) k way w)) (ap (λ x. x.object) at.loads) (payload_read s h _ _ w at.words at.reads) (way_loading c k way w ∙ put_carries c k way w fits.belongs)
-loads_moved c h s a t k (LoadLink way word) w fits reads at u =
-    let block : (object_at s t).block ≡ way.block = ap (λ y. (object_in y.object).block) at.loads in
-    let read : s.words.payload (object_at s t).block (link_at (extent c) way.shape (field_index k) way.level) ≡ w =
+    (λ q. (after_event (extent c) s (cond (refers q) (Some (events.ReadObject p.thread (from_register k))) None)).loads u ≡ with_load s.loads p.thread (row_loading (extent c) k (after_object q)) u)
+    (unmoved s.loads p.thread unloaded u at.loads) (λ v low. unmoved s.loads p.thread unloaded u at.loads)
+    (λ x is some. object_moved c s p.thread (from_register k) x u (ap (λ y. y.value) at.loads) (ap target (payload_read s h _ _ w at.words at.reads) ∙ sym is))
+loads_moved c h s a p k (LoadShape x) w fits reads at u = shape_case c p s p.thread x u k (shape_in w) fits.belongs at.loads
+loads_moved c h s a p k (LoadValue way) w fits reads at u =
+    value_moved c s p.thread (other_register k) w u (object_on (extent c) k way) (row_loading (extent c) k (on_way (extent c) p k way w)) (ap (λ x. x.object) at.loads) (payload_read s h _ _ w at.words at.reads) (way_loading c p k way w ∙ put_carries c k way w fits.belongs)
+loads_moved c h s a p k (LoadLink way word) w fits reads at u =
+    let block : (object_at s p.thread).block ≡ way.block = ap (λ y. (object_in y.object).block) at.loads in
+    let read : s.words.payload (object_at s p.thread).block (link_at (extent c) way.shape (field_index k) way.level) ≡ w =
     ap (λ x. s.words.payload x (link_at (extent c) way.shape (field_index k) way.level)) block ∙ payload_read s h _ _ w at.words at.reads in
-    link_moved c s t w u k way word at.loads read
-loads_moved c h s a t k (LoadField way) w fits reads at u =
-    let block : (object_at s t).block ≡ way.block = ap (λ y. (object_in y.object).block) at.loads in
-    let word : s.words.payload (object_at s t).block (field_at (extent c) way.shape (field_index k)) ≡ w =
+    link_moved c p s p.thread w u k way word at.loads read
+loads_moved c h s a p k (LoadField way) w fits reads at u =
+    let block : (object_at s p.thread).block ≡ way.block = ap (λ y. (object_in y.object).block) at.loads in
+    let word : s.words.payload (object_at s p.thread).block (field_at (extent c) way.shape (field_index k)) ≡ w =
     ap (λ x. s.words.payload x (field_at (extent c) way.shape (field_index k))) block ∙ payload_read s h _ _ w at.words at.reads in
-    ap (λ l. with_load s.loads t l u) (ap (λ x. pair None (pending_load (to_register k) x)) word ∙ sym (field_loading c k w (payload_in w)))
-loads_moved c h s a t k (LoadOwner word) w fits reads at u = unmoved s.loads t (row_loading (extent c) k (LoadOwner word)) u at.loads
-loads_moved c h s a t k (StorePending word value) w fits reads at u = refl
-loads_moved c h s a t k (StoreField way word) w fits reads at u = refl
-loads_moved c h s a t k LoadFirst w fits reads at u =
-    value_moved c s t (from_register k) w u None (row_loading (extent c) k (LoadSecond w)) (ap (λ x. x.object) at.loads) (payload_read s h _ _ w at.words at.reads) refl
-loads_moved c h s a t k (LoadSecond word) w fits reads at u = refl
-loads_moved c h s a t k LoadSaid w fits reads at u =
+    ap (λ l. with_load s.loads p.thread l u) (ap (λ x. pair None (pending_load (to_register k) x)) word ∙ sym (field_loading c k w (payload_in w)))
+loads_moved c h s a p k (LoadOwner word) w fits reads at u =
+    let store : FieldStore = Pending word (rows.object_in w) in
+    unmoved s.loads p.thread (row_loading (extent c) k (before_store p store)) u (at.loads ∙ sym (before_loading c p k store))
+loads_moved c h s a p k (StorePending word value) w fits reads at u = refl
+loads_moved c h s a p k (StoreField way word) w fits reads at u = refl
+loads_moved c h s a p k (Shade r store) w fits reads at u =
+    let next : FieldRow = row_got (extent c) p k (Shade r store) w in
+    unmoved s.loads p.thread (row_loading (extent c) k next) u (at.loads ∙ sym (barrier_loading c k _ store))
+loads_moved c h s a p k LoadFirst w fits reads at u =
+    value_moved c s p.thread (from_register k) w u None (row_loading (extent c) k (LoadSecond w)) (ap (λ x. x.object) at.loads) (payload_read s h _ _ w at.words at.reads) refl
+loads_moved c h s a p k (LoadSecond word) w fits reads at u = refl
+loads_moved c h s a p k LoadSaid w fits reads at u =
     payload_cases w reads.0.0
-    (λ p. (after_event (extent c) s (cond (refers p) (Some (events.ReadValue t (from_register k))) None)).loads u ≡ with_load s.loads t (row_loading (extent c) k (after_said w p)) u)
-    (unmoved s.loads t unloaded u at.loads) (λ v low. unmoved s.loads t unloaded u at.loads)
-    (λ x is some. value_moved c s t (from_register k) w u None (row_loading (extent c) k (LoadSaidOwner w)) (ap (λ y. y.object) at.loads) (payload_read s h _ _ w at.words at.reads) refl)
-loads_moved c h s a t k (LoadSaidOwner word) w fits reads at u = refl
-loads_moved c h s a t k (Answered reply) w fits reads at u = unmoved s.loads t unloaded u at.loads
+    (λ q. (after_event (extent c) s (cond (refers q) (Some (events.ReadValue p.thread (from_register k))) None)).loads u ≡ with_load s.loads p.thread (row_loading (extent c) k (after_said w q)) u)
+    (unmoved s.loads p.thread unloaded u at.loads) (λ v low. unmoved s.loads p.thread unloaded u at.loads)
+    (λ x is some. value_moved c s p.thread (from_register k) w u None (row_loading (extent c) k (LoadSaidOwner w)) (ap (λ y. y.object) at.loads) (payload_read s h _ _ w at.words at.reads) refl)
+loads_moved c h s a p k (LoadSaidOwner word) w fits reads at u = refl
+loads_moved c h s a p k (Answered reply) w fits reads at u = unmoved s.loads p.thread unloaded u at.loads
 
 -- what is loaded is there
 has_object : (s : GraphState) (t : ℕ) (o : ObjectLoad) → (s.loads t).object ≡ Some o → HasObject s t
 has_object s t o e = e ∙ ap (λ x. Some (object_in x)) (sym e)
 
-has_value : (s : GraphState) (t : ℕ) (v : ValueLoad) → (s.loads t).value ≡ Some v → HasValue s t
+pub has_value : (s : GraphState) (t : ℕ) (v : ValueLoad) → (s.loads t).value ≡ Some v → HasValue s t
 has_value s t v e = e ∙ ap (λ x. Some (value_in x)) (sym e)
 
 shape_read : (w : ℕ) → IsSome (shape_of w) → shape_of w ≡ Some (shape_in w)
@@ -230,42 +266,43 @@ prompt : (s : GraphState) (t : ℕ) (l : Loading) → s.loads t ≡ l → IsProm
 prompt s t l e h = ap (λ x. (value_in x.value).pending) e ∙ h
 
 -- the event of a row may come
-pub row_guarded : (c : Config) (h : Heap) (s : GraphState) (a : Name) (t : ℕ) (k : Command) (row : FieldRow) (w : ℕ) → FitsAt c t k row → ReadsAt c t k row w → IsAt (extent c) s h t k row w → InHandAt s a t k row
-    → IfSome (row_event (extent c) a t k row w) (Guard c.width c.threads s)
-row_guarded c h s a t k StoreNumber w fits reads at hand = (fits.thread.thread, to_low k fits.command, prompt s t unloaded at.loads refl, number_low k fits.command)
-row_guarded c h s a t k StoreNil w fits reads at hand = (fits.thread.thread, to_low k fits.command, prompt s t unloaded at.loads refl, tt)
-row_guarded c h s a t k LoadMoved w fits reads at hand = (fits.thread.thread, from_low k fits.command, prompt s t unloaded at.loads refl)
-row_guarded c h s a t k (StoreMoved word) w fits reads at hand =
-    (fits.thread.thread, to_low k fits.command, prompt s t (row_loading (extent c) k (StoreMoved word)) at.loads refl, has_value s t (value_in (value_load (from_register k) word)) (ap (λ l. l.value) at.loads))
-row_guarded c h s a t k LoadObject w fits reads at hand =
-    let word : register_word_in c.width s.words t (from_register k) ≡ w = payload_read s h _ _ w at.words at.reads in
-    payload_cases w reads.0.0 (λ p. IfSome (cond (refers p) (Some (events.ReadObject t (from_register k))) None) (Guard c.width c.threads s)) tt (λ v low. tt)
-    (λ x is some. (fits.thread.thread, from_low k fits.command, prompt s t unloaded at.loads refl, subst (λ y. target y ≢ 0) (sym word) (reference x w is some)))
-row_guarded c h s a t k (LoadShape x) w fits reads at hand =
-    let load : object_at s t ≡ object_in (object_load (from_register k) x) = ap (λ l. object_in l.object) at.loads in
-    let word : s.words.shape (object_at s t).block ≡ w = ap (λ o. s.words.shape o.block) load ∙ ap (λ b. b.shape x) at.words ∙ sym at.reads in
-    let shape : shape_of (s.words.shape (object_at s t).block) ≡ Some (shape_in w) = ap shape_of word ∙ shape_read w reads.0 in
+pub row_guarded : (c : Config) (h : Heap) (s : GraphState) (a : Name) (p : Pass) (k : Command) (row : FieldRow) (w : ℕ) → FitsAt c p k row → ReadsAt c p k row w → IsAt (extent c) s h p k row w → InHandAt s a p.thread k row
+    → IfSome (row_event (extent c) a p.thread k row w) (Guard c.width c.threads s)
+row_guarded c h s a p k StoreNumber w fits reads at hand = (fits.thread.thread, to_low k fits.command, prompt s p.thread unloaded at.loads refl, number_low k fits.command)
+row_guarded c h s a p k StoreNil w fits reads at hand = (fits.thread.thread, to_low k fits.command, prompt s p.thread unloaded at.loads refl, tt)
+row_guarded c h s a p k LoadMoved w fits reads at hand = (fits.thread.thread, from_low k fits.command, prompt s p.thread unloaded at.loads refl)
+row_guarded c h s a p k (StoreMoved word) w fits reads at hand =
+    (fits.thread.thread, to_low k fits.command, prompt s p.thread (row_loading (extent c) k (StoreMoved word)) at.loads refl, has_value s p.thread (value_in (value_load (from_register k) word)) (ap (λ l. l.value) at.loads))
+row_guarded c h s a p k LoadObject w fits reads at hand =
+    let word : register_word_in c.width s.words p.thread (from_register k) ≡ w = payload_read s h _ _ w at.words at.reads in
+    payload_cases w reads.0.0 (λ q. IfSome (cond (refers q) (Some (events.ReadObject p.thread (from_register k))) None) (Guard c.width c.threads s)) tt (λ v low. tt)
+    (λ x is some. (fits.thread.thread, from_low k fits.command, prompt s p.thread unloaded at.loads refl, subst (λ y. target y ≢ 0) (sym word) (reference x w is some)))
+row_guarded c h s a p k (LoadShape x) w fits reads at hand =
+    let load : object_at s p.thread ≡ object_in (object_load (from_register k) x) = ap (λ l. object_in l.object) at.loads in
+    let word : s.words.shape (object_at s p.thread).block ≡ w = ap (λ o. s.words.shape o.block) load ∙ ap (λ b. b.shape x) at.words ∙ sym at.reads in
+    let shape : shape_of (s.words.shape (object_at s p.thread).block) ≡ Some (shape_in w) = ap shape_of word ∙ shape_read w reads.0 in
     elim (cases_Bool (length_decides k (shape_length (shape_in w)))) [
-      | inl is ↦ rw is (fits.thread.thread, prompt s t (row_loading (extent c) k (LoadShape x)) at.loads refl)
-      | inr is ↦ rw is (fits.thread.thread, has_object s t (object_in (object_load (from_register k) x)) (ap (λ l. l.object) at.loads), shape)
+      | inl is ↦ rw is (fits.thread.thread, prompt s p.thread (row_loading (extent c) k (LoadShape x)) at.loads refl)
+      | inr is ↦ rw is (fits.thread.thread, has_object s p.thread (object_in (object_load (from_register k) x)) (ap (λ l. l.object) at.loads), shape)
     ]
-row_guarded c h s a t k (LoadValue way) w fits reads at hand = (fits.thread.thread, other_low k fits.command, prompt s t (row_loading (extent c) k (LoadValue way)) at.loads refl)
-row_guarded c h s a t k (LoadLink way word) w fits reads at hand = (fits.thread.thread, at_link c s t (from_register k) (field_index k) way (ap (λ l. l.object) at.loads) fits.row.0 fits.row.1)
-row_guarded c h s a t k (LoadField way) w fits reads at hand =
-    (fits.thread.thread, to_low k fits.command, prompt s t (row_loading (extent c) k (LoadField way)) at.loads refl, at_field c s t (from_register k) (field_index k) way a (ap (λ l. l.object) at.loads) fits.row.0 fits.row.1 hand)
-row_guarded c h s a t k (LoadOwner word) w fits reads at hand = tt
-row_guarded c h s a t k (StorePending word value) w fits reads at hand =
-    (fits.thread.thread, has_value s t (value_in (pending_load (to_register k) word)) (ap (λ l. l.value) at.loads), ap (λ l. (value_in l.value).pending) at.loads)
-row_guarded c h s a t k (StoreField way word) w fits reads at hand = (
+row_guarded c h s a p k (LoadValue way) w fits reads at hand = (fits.thread.thread, other_low k fits.command, prompt s p.thread (row_loading (extent c) k (LoadValue way)) at.loads refl)
+row_guarded c h s a p k (LoadLink way word) w fits reads at hand = (fits.thread.thread, at_link c s p.thread (from_register k) (field_index k) way (ap (λ l. l.object) at.loads) fits.row.0 fits.row.1)
+row_guarded c h s a p k (LoadField way) w fits reads at hand =
+    (fits.thread.thread, to_low k fits.command, prompt s p.thread (row_loading (extent c) k (LoadField way)) at.loads refl, at_field c s p.thread (from_register k) (field_index k) way a (ap (λ l. l.object) at.loads) fits.row.0 fits.row.1 hand)
+row_guarded c h s a p k (LoadOwner word) w fits reads at hand = tt
+row_guarded c h s a p k (StorePending word value) w fits reads at hand =
+    (fits.thread.thread, has_value s p.thread (value_in (pending_load (to_register k) word)) (ap (λ l. l.value) at.loads), ap (λ l. (value_in l.value).pending) at.loads)
+row_guarded c h s a p k (StoreField way word) w fits reads at hand = (
   fits.thread.thread,
-  prompt s t (row_loading (extent c) k (StoreField way word)) at.loads refl,
-  has_value s t (value_in (value_load (other_register k) word)) (ap (λ l. l.value) at.loads),
-  at_field c s t (from_register k) (field_index k) way a (ap (λ l. l.object) at.loads) fits.row.0 fits.row.1 hand,
+  prompt s p.thread (row_loading (extent c) k (StoreField way word)) at.loads refl,
+  has_value s p.thread (value_in (value_load (other_register k) word)) (ap (λ l. l.value) at.loads),
+  at_field c s p.thread (from_register k) (field_index k) way a (ap (λ l. l.object) at.loads) fits.row.0 fits.row.1 hand,
 )
-row_guarded c h s a t k LoadFirst w fits reads at hand = (fits.thread.thread, from_low k fits.command, prompt s t unloaded at.loads refl)
-row_guarded c h s a t k (LoadSecond word) w fits reads at hand = (fits.thread.thread, prompt s t (row_loading (extent c) k (LoadSecond word)) at.loads refl)
-row_guarded c h s a t k LoadSaid w fits reads at hand =
-    payload_cases w reads.0.0 (λ p. IfSome (cond (refers p) (Some (events.ReadValue t (from_register k))) None) (Guard c.width c.threads s)) tt (λ v low. tt)
-    (λ x is some. (fits.thread.thread, from_low k fits.command, prompt s t unloaded at.loads refl))
-row_guarded c h s a t k (LoadSaidOwner word) w fits reads at hand = (fits.thread.thread, prompt s t (row_loading (extent c) k (LoadSaidOwner word)) at.loads refl)
-row_guarded c h s a t k (Answered reply) w fits reads at hand = tt
+row_guarded c h s a p k (Shade r store) w fits reads at hand = tt
+row_guarded c h s a p k LoadFirst w fits reads at hand = (fits.thread.thread, from_low k fits.command, prompt s p.thread unloaded at.loads refl)
+row_guarded c h s a p k (LoadSecond word) w fits reads at hand = (fits.thread.thread, prompt s p.thread (row_loading (extent c) k (LoadSecond word)) at.loads refl)
+row_guarded c h s a p k LoadSaid w fits reads at hand =
+    payload_cases w reads.0.0 (λ q. IfSome (cond (refers q) (Some (events.ReadValue p.thread (from_register k))) None) (Guard c.width c.threads s)) tt (λ v low. tt)
+    (λ x is some. (fits.thread.thread, from_low k fits.command, prompt s p.thread unloaded at.loads refl))
+row_guarded c h s a p k (LoadSaidOwner word) w fits reads at hand = (fits.thread.thread, prompt s p.thread (row_loading (extent c) k (LoadSaidOwner word)) at.loads refl)
+row_guarded c h s a p k (Answered reply) w fits reads at hand = tt

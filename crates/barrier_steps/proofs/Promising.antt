@@ -19,14 +19,17 @@ use Rattle.shown_graph.proofs.Names.{same_is}
 use Rattle.never_heap.specs.Steps.{at_object, at_field, same_value}
 use Rattle.shown_graph.specs.Layouts.{kind_shape}
 use Rattle.shown_graph.specs.Read.{value_payload}
+use Rattle.heap_machine.specs.declared.pass.Pass.{Pass}
 use Rattle.barrier_steps.specs.declared.rows.FieldRow.{FieldRow}
-use Rattle.barrier_steps.specs.declared.rows.FieldRow.TheVariants.{StoreNumber, StoreNil, LoadMoved, StoreMoved, LoadObject, LoadShape, LoadValue, LoadLink, LoadField, LoadOwner, StorePending, StoreField, LoadFirst, LoadSecond, LoadSaid, LoadSaidOwner, Answered}
+use Rattle.barrier_steps.specs.declared.rows.FieldRow.TheVariants.{StoreNumber, StoreNil, StoreMoved, LoadObject, LoadShape, LoadField, LoadOwner, StorePending, StoreField, Shade, LoadSecond, LoadSaid, LoadSaidOwner, Answered}
+use Rattle.barrier_steps.specs.declared.rows.FieldStore.TheVariants.{Pending}
 use Rattle.barrier_steps.specs.Operands.{from_register, other_register, field_index, is_set, is_nil, is_mov, is_get, is_put, looks_at_object, is_same, is_say}
 use Rattle.barrier_steps.specs.Walks.{shape_length}
-use Rattle.barrier_steps.specs.Rows.{payload_or_nil, payload_in, shape_or_empty, shape_in, object_or_nil, row_got, field_reply, after_object, after_shape, after_field, after_said, on_way, way_from}
+use Rattle.barrier_steps.specs.Rows.{payload_or_nil, payload_in, shape_or_empty, shape_in, object_or_nil, object_in, row_got, field_reply, after_object, after_shape, after_field, after_said}
 use Rattle.barrier_steps.specs.Fits.{is_row_of}
 use Rattle.barrier_steps.specs.Deciding.{refers, length_decides, is_deciding}
 use Rattle.barrier_steps.specs.Replies.{answer, IsWordOf, ShapeShown, FieldFound, BothShown, ShownAt, Promises, NameShown}
+use Rattle.barrier_steps.proofs.Stores.{before_is, barrier_is}
 
 pub is_false : (b : Bool) → not b ≡ true → b ≡ false
 is_false true h = absurd cc
@@ -83,19 +86,19 @@ shown_length g t s w h = ap (λ o. shape_length (shape_or_empty o)) h.shape ∙ 
 range_row : (i n : ℕ) (row : FieldRow) → not (ltb i n) ≡ true → cond (ltb i n) row (Answered replies.Range) ≡ Answered replies.Range
 range_row i n row h = rw (is_false (ltb i n) h) refl
 
-shape_promised : (c : Config) (head : Name → ℕ) (g : Graph) (t x w : ℕ) (k : Command) → looks_at_object k ≡ true → ShapeShown g t (from_register k) w → length_decides k (shape_length (shape_in w)) ≡ true
-    → Promises head (after_shape (extent c) k x (shape_in w)) (answer g t k)
-shape_promised c head g t x w (commands.Get d s i) is h n =
+shape_promised : (c : Config) (p : Pass) (head : Name → ℕ) (g : Graph) (t x w : ℕ) (k : Command) → looks_at_object k ≡ true → ShapeShown g t (from_register k) w → length_decides k (shape_length (shape_in w)) ≡ true
+    → Promises head (after_shape (extent c) p k x (shape_in w)) (answer g t k)
+shape_promised c p head g t x w (commands.Get d s i) is h n =
     let long = shown_length g t s w h in
     let range : ltb i (length (object_of g h.name).fields) ≡ false = ap (ltb i) (sym long) ∙ is_false (ltb i (shape_length (shape_in w))) n in
     subst (λ row. Promises head row (answer g t (commands.Get d s i))) (sym (range_row i (shape_length (shape_in w)) _ n)) (out_field g (register_of g t s) h.name i _ h.refers range)
-shape_promised c head g t x w (commands.Put s i v) is h n =
+shape_promised c p head g t x w (commands.Put s i v) is h n =
     let long = shown_length g t s w h in
     let range : ltb i (length (object_of g h.name).fields) ≡ false = ap (ltb i) (sym long) ∙ is_false (ltb i (shape_length (shape_in w))) n in
     subst (λ row. Promises head row (answer g t (commands.Put s i v))) (sym (range_row i (shape_length (shape_in w)) _ n)) (out_field g (register_of g t s) h.name i _ h.refers range)
-shape_promised c head g t x w (commands.Len s) is h n =
+shape_promised c p head g t x w (commands.Len s) is h n =
     ap replies.Len (shown_length g t s w h) ∙ sym (in_object g (register_of g t s) h.name _ h.refers)
-shape_promised c head g t x w _ is h n = absurd cc
+shape_promised c p head g t x w _ is h n = absurd cc
 
 -- a loaded reference is to the first block of its name
 points : (head : Name → ℕ) (a : Name) (w : ℕ) → IsWordOf head (values.Ref a) w → target w ≡ head a
@@ -178,26 +181,29 @@ say_answers g t (commands.Say s) is = refl
 say_answers g t _ is = absurd cc
 
 -- a deciding event answers as the step does
-pub promised : (c : Config) (head : Name → ℕ) (g : Graph) (t : ℕ) (k : Command) (row : FieldRow) (w : ℕ) → is_row_of k row ≡ true → is_deciding k row w ≡ true → ShownAt head g t k row w → Promises head (row_got (extent c) k row w) (answer g t k)
-promised c head g t k StoreNumber w is n h = set_stored g t k is
-promised c head g t k StoreNil w is n h = nil_stored g t k is
-promised c head g t k (StoreMoved word) w is n h = mov_stored g t k is
-promised c head g t k LoadObject w is n h = object_promised head g t w k is h n
-promised c head g t k (LoadShape x) w is n h = shape_promised c head g t x w k is h n
-promised c head g t k (LoadField way) w is n h =
+pub promised : (c : Config) (head : Name → ℕ) (g : Graph) (t : ℕ) (p : Pass) (k : Command) (row : FieldRow) (w : ℕ) → is_row_of k row ≡ true → is_deciding k row w ≡ true → ShownAt head g t k row w → Promises head (row_got (extent c) p k row w) (answer g t k)
+promised c head g t p k StoreNumber w is n h = set_stored g t k is
+promised c head g t p k StoreNil w is n h = nil_stored g t k is
+promised c head g t p k (StoreMoved word) w is n h = mov_stored g t k is
+promised c head g t p k LoadObject w is n h = object_promised head g t w k is h n
+promised c head g t p k (LoadShape x) w is n h = shape_promised c p head g t x w k is h n
+promised c head g t p k (LoadField way) w is n h =
     subst (Promises head (after_field w (payload_in w))) (sym (get_answers g t k h.0.name is h.0.refers h.0.within)) (field_value head w (field_of (object_of g h.0.name) (field_index k)) h.1)
-promised c head g t k (StoreField way word) w is n h = put_stored g t k is h
-promised c head g t k (LoadSecond word) w is n h = same_answers head g t word w k is h
-promised c head g t k LoadSaid w is n h = subst (Promises head (after_said w (payload_in w))) (say_answers g t k is) (said_value head w (register_of g t (from_register k)) h)
-promised c head g t k _ w is n h = absurd cc
+promised c head g t p k (StoreField way word) w is n h = put_stored g t k is h
+promised c head g t p k (LoadSecond word) w is n h = same_answers head g t word w k is h
+promised c head g t p k LoadSaid w is n h = subst (Promises head (after_said w (payload_in w))) (say_answers g t k is) (said_value head w (register_of g t (from_register k)) h)
+promised c head g t p k _ w is n h = absurd cc
 
 -- a decided row keeps its promise
-pub kept : (c : Config) (head : Name → ℕ) (k : Command) (row : FieldRow) (w : ℕ) (reply : Reply) → Promises head row reply → NameShown head row reply w → Promises head (row_got (extent c) k row w) reply
-kept c head k (LoadOwner word) w reply p shown = p.says ∙ ap (λ o. replies.Val (object_or_nil o)) (sym (shown p.name p.says p.block))
-kept c head k (StorePending word value) w reply p shown = sym p
-kept c head k (LoadSaidOwner word) w reply p shown = ap (λ o. replies.Val (object_or_nil o)) (shown p.name p.says p.block) ∙ sym p.says
-kept c head k (Answered given) w reply p shown = p
-kept c head k _ w reply p shown = absurd p
+pub kept : (c : Config) (head : Name → ℕ) (p : Pass) (k : Command) (row : FieldRow) (w : ℕ) (reply : Reply) → Promises head row reply → NameShown head row reply w → Promises head (row_got (extent c) p k row w) reply
+kept c head p k (LoadOwner word) w reply h shown =
+    let says : reply ≡ replies.Val (object_in w) = h.says ∙ ap (λ o. replies.Val (object_or_nil o)) (sym (shown h.name h.says h.block)) in
+    before_is (λ row. Promises head row reply) p (Pending word (object_in w)) (λ _. says) (λ _. says)
+kept c head p k (StorePending word value) w reply h shown = sym h
+kept c head p k (Shade r (Pending word value)) w reply h shown = barrier_is (λ row. Promises head row reply) _ (Pending word value) (λ _. h) (λ _. h)
+kept c head p k (LoadSaidOwner word) w reply h shown = ap (λ o. replies.Val (object_or_nil o)) (shown h.name h.says h.block) ∙ sym h.says
+kept c head p k (Answered given) w reply h shown = h
+kept c head p k _ w reply h shown = absurd h
 
 -- and fulfils it
 pub given : (head : Name → ℕ) (row : FieldRow) (q reply : Reply) → field_reply row ≡ Some q → Promises head row reply → q ≡ reply

@@ -17,8 +17,10 @@ use Rattle.never_heap.specs.Graphs.{Graph, mutator_at, object_of, field_of, regi
 use Rattle.never_heap.proofs.GraphMoves.{register_with_register}
 use Rattle.shown_graph.specs.Shown.{IsSized}
 use Rattle.shown_graph.specs.Events.{GraphState}
+use Rattle.heap_machine.specs.declared.pass.Pass.{Pass}
 use Rattle.barrier_steps.specs.declared.rows.FieldRow.{FieldRow}
-use Rattle.barrier_steps.specs.declared.rows.FieldRow.TheVariants.{StoreNumber, StoreNil, StoreMoved, LoadObject, LoadShape, LoadField, StorePending, StoreField, LoadSecond, LoadSaid}
+use Rattle.barrier_steps.specs.declared.rows.FieldRow.TheVariants.{StoreNumber, StoreNil, StoreMoved, LoadObject, LoadShape, LoadField, StorePending, StoreField, Shade, LoadSecond, LoadSaid}
+use Rattle.barrier_steps.specs.declared.rows.FieldStore.TheVariants.{Pending, InField}
 use Rattle.barrier_steps.specs.declared.rows.Way.{Way}
 use Rattle.barrier_steps.specs.Operands.{to_register, from_register, field_index}
 use Rattle.barrier_steps.specs.Walks.{shape_length, links_to}
@@ -28,16 +30,19 @@ use Rattle.barrier_steps.specs.Deciding.{refers, is_deciding}
 use Rattle.barrier_steps.specs.Replies.{answer, ShownAt, ShowsAt}
 use Rattle.barrier_steps.specs.Projection.{row_event, after_event, InHandAt}
 use Rattle.barrier_steps.proofs.Named.{to_low}
+use Rattle.barrier_steps.proofs.Stores.{before_is}
 use Rattle.barrier_steps.proofs.Promising.{get_answers, say_answers}
 use Rattle.barrier_steps.proofs.Stepping.{one_name, chosen_value}
 
 -- a decided row that reads a name, or stores the value, replies with the value of its register
 abbrev pub HasRegister : Graph → ℕ → Command → FieldRow → Reply → Type 0
 HasRegister g t k (StorePending word value) reply = reply ≡ replies.Val (register_of g t (to_register k))
+HasRegister g t k (Shade r (Pending word value)) reply = reply ≡ replies.Val (register_of g t (to_register k))
 HasRegister g t k row reply = ShowsAt g t k row reply
 
 pub has_shows : (g : Graph) (t : ℕ) (k : Command) (row : FieldRow) (reply : Reply) → HasRegister g t k row reply → ShowsAt g t k row reply
 has_shows g t k (StorePending word value) reply h = tt
+has_shows g t k (Shade r store) reply h = tt
 has_shows g t k _ reply h = h
 
 -- rows that neither read a name nor store a value show no register
@@ -46,26 +51,26 @@ object_row g t k reply payloads.Nil = tt
 object_row g t k reply (payloads.Int v) = tt
 object_row g t k reply (payloads.Block x) = tt
 
-block_row : (g : Graph) (t : ℕ) (k : Command) (reply : Reply) (way : Way) (word : ℕ) → HasRegister g t k (at_block k way word) reply
-block_row g t (commands.Put s i v) reply way word = tt
-block_row g t _ reply way word = tt
+block_row : (g : Graph) (t : ℕ) (p : Pass) (k : Command) (reply : Reply) (way : Way) (word : ℕ) → HasRegister g t k (at_block p k way word) reply
+block_row g t p (commands.Put s i v) reply way word = before_is (λ row. HasRegister g t (commands.Put s i v) row reply) p (InField way word) (λ _. tt) (λ _. tt)
+block_row g t p _ reply way word = tt
 
-way_row : (c : Config) (g : Graph) (t : ℕ) (k : Command) (reply : Reply) (way : Way) (word : ℕ) → HasRegister g t k (on_way (extent c) k way word) reply
-way_row c g t k reply way word = elim (cases_Bool (ltb way.level (links_to (extent c) way.shape (field_index k)))) [
+way_row : (c : Config) (g : Graph) (t : ℕ) (p : Pass) (k : Command) (reply : Reply) (way : Way) (word : ℕ) → HasRegister g t k (on_way (extent c) p k way word) reply
+way_row c g t p k reply way word = elim (cases_Bool (ltb way.level (links_to (extent c) way.shape (field_index k)))) [
   | inl is ↦ rw is tt
-  | inr is ↦ rw is (block_row g t k reply way word)
+  | inr is ↦ rw is (block_row g t p k reply way word)
 ]
 
-shape_row : (c : Config) (g : Graph) (t : ℕ) (k : Command) (reply : Reply) (x : ℕ) (f : Shape) → HasRegister g t k (after_shape (extent c) k x f) reply
-shape_row c g t (commands.Get d s i) reply x f = elim (cases_Bool (ltb i (shape_length f))) [
-  | inl is ↦ rw is (way_row c g t (commands.Get d s i) reply (way_from f x) 0)
+shape_row : (c : Config) (g : Graph) (t : ℕ) (p : Pass) (k : Command) (reply : Reply) (x : ℕ) (f : Shape) → HasRegister g t k (after_shape (extent c) p k x f) reply
+shape_row c g t p (commands.Get d s i) reply x f = elim (cases_Bool (ltb i (shape_length f))) [
+  | inl is ↦ rw is (way_row c g t p (commands.Get d s i) reply (way_from f x) 0)
   | inr is ↦ rw is tt
 ]
-shape_row c g t (commands.Put s i v) reply x f = elim (cases_Bool (ltb i (shape_length f))) [
+shape_row c g t p (commands.Put s i v) reply x f = elim (cases_Bool (ltb i (shape_length f))) [
   | inl is ↦ rw is tt
   | inr is ↦ rw is tt
 ]
-shape_row c g t _ reply x f = tt
+shape_row c g t p _ reply x f = tt
 
 field_row : (g : Graph) (t : ℕ) (k : Command) (reply : Reply) (w : ℕ) (p : Payload) → reply ≡ replies.Val (register_of g t (to_register k)) → HasRegister g t k (after_field w p) reply
 field_row g t k reply w payloads.Nil e = e
@@ -85,27 +90,27 @@ stored n g t d v sized tn dl =
     register_with_register g t d t d v threads sixteen ∙ rw (eq-eqb t t refl, eq-eqb d d refl) refl
 
 -- the deciding event gives such a reply
-pub row_has : (c : Config) (head : Name → ℕ) (s : GraphState) (a : Name) (t : ℕ) (k : Command) (row : FieldRow) (w : ℕ) → IsSized c.threads s.graph → FitsAt c t k row → ShownAt head s.graph t k row w → InHandAt s a t k row
-    → is_deciding k row w ≡ true → HasRegister (after_event (extent c) s (row_event (extent c) a t k row w)).graph t k (row_got (extent c) k row w) (answer s.graph t k)
-row_has c head s a t k StoreNumber w sized fits h hand n = tt
-row_has c head s a t k StoreNil w sized fits h hand n = tt
-row_has c head s a t k (StoreMoved word) w sized fits h hand n = tt
-row_has c head s a t k LoadObject w sized fits h hand n = object_row (after_event (extent c) s (row_event (extent c) a t k LoadObject w)).graph t k (answer s.graph t k) (payload_in w)
-row_has c head s a t k (LoadShape x) w sized fits h hand n = shape_row c (after_event (extent c) s (row_event (extent c) a t k (LoadShape x) w)).graph t k (answer s.graph t k) x (shape_in w)
-row_has c head s a t k (LoadField way) w sized fits h hand n =
+pub row_has : (c : Config) (head : Name → ℕ) (s : GraphState) (a : Name) (p : Pass) (k : Command) (row : FieldRow) (w : ℕ) → IsSized c.threads s.graph → FitsAt c p k row → ShownAt head s.graph p.thread k row w → InHandAt s a p.thread k row
+    → is_deciding k row w ≡ true → HasRegister (after_event (extent c) s (row_event (extent c) a p.thread k row w)).graph p.thread k (row_got (extent c) p k row w) (answer s.graph p.thread k)
+row_has c head s a p k StoreNumber w sized fits h hand n = tt
+row_has c head s a p k StoreNil w sized fits h hand n = tt
+row_has c head s a p k (StoreMoved word) w sized fits h hand n = tt
+row_has c head s a p k LoadObject w sized fits h hand n = object_row (after_event (extent c) s (row_event (extent c) a p.thread k LoadObject w)).graph p.thread k (answer s.graph p.thread k) (payload_in w)
+row_has c head s a p k (LoadShape x) w sized fits h hand n = shape_row c (after_event (extent c) s (row_event (extent c) a p.thread k (LoadShape x) w)).graph p.thread p k (answer s.graph p.thread k) x (shape_in w)
+row_has c head s a p k (LoadField way) w sized fits h hand n =
     let v = field_of (object_of s.graph a) (field_index k) in
-    let one : h.0.name ≡ a = one_name (register_of s.graph t (from_register k)) h.0.name a h.0.refers hand in
+    let one : h.0.name ≡ a = one_name (register_of s.graph p.thread (from_register k)) h.0.name a h.0.refers hand in
     let within : field_index k < length (object_of s.graph a).fields = subst (λ b. field_index k < length (object_of s.graph b).fields) one h.0.within in
-    field_row (with_register s.graph t (to_register k) v) t k (answer s.graph t k) w (payload_in w)
-    (get_answers s.graph t k a fits.belongs hand within ∙ ap replies.Val (sym (stored c.threads s.graph t (to_register k) v sized fits.thread.thread (to_low k fits.command))))
-row_has c head s a t k (StoreField way word) w sized fits h hand n = tt
-row_has c head s a t k (LoadSecond word) w sized fits h hand n = tt
-row_has c head s a t k LoadSaid w sized fits h hand n =
-    said_row (after_event (extent c) s (row_event (extent c) a t k LoadSaid w)).graph t k (answer s.graph t k) w (payload_in w)
-    (sym (say_answers s.graph t k fits.belongs) ∙ ap (λ g. replies.Val (register_of g t (from_register k))) (sym (chosen_value c s (refers (payload_in w)) t (from_register k))))
-row_has c head s a t k _ w sized fits h hand n = absurd cc
+    field_row (with_register s.graph p.thread (to_register k) v) p.thread k (answer s.graph p.thread k) w (payload_in w)
+    (get_answers s.graph p.thread k a fits.belongs hand within ∙ ap replies.Val (sym (stored c.threads s.graph p.thread (to_register k) v sized fits.thread.thread (to_low k fits.command))))
+row_has c head s a p k (StoreField way word) w sized fits h hand n = tt
+row_has c head s a p k (LoadSecond word) w sized fits h hand n = tt
+row_has c head s a p k LoadSaid w sized fits h hand n =
+    said_row (after_event (extent c) s (row_event (extent c) a p.thread k LoadSaid w)).graph p.thread k (answer s.graph p.thread k) w (payload_in w)
+    (sym (say_answers s.graph p.thread k fits.belongs) ∙ ap (λ g. replies.Val (register_of g p.thread (from_register k))) (sym (chosen_value c s (refers (payload_in w)) p.thread (from_register k))))
+row_has c head s a p k _ w sized fits h hand n = absurd cc
 
-pub row_shows : (c : Config) (head : Name → ℕ) (s : GraphState) (a : Name) (t : ℕ) (k : Command) (row : FieldRow) (w : ℕ) → IsSized c.threads s.graph → FitsAt c t k row → ShownAt head s.graph t k row w → InHandAt s a t k row
-    → is_deciding k row w ≡ true → ShowsAt (after_event (extent c) s (row_event (extent c) a t k row w)).graph t k (row_got (extent c) k row w) (answer s.graph t k)
-row_shows c head s a t k row w sized fits h hand n =
-    has_shows (after_event (extent c) s (row_event (extent c) a t k row w)).graph t k (row_got (extent c) k row w) (answer s.graph t k) (row_has c head s a t k row w sized fits h hand n)
+pub row_shows : (c : Config) (head : Name → ℕ) (s : GraphState) (a : Name) (p : Pass) (k : Command) (row : FieldRow) (w : ℕ) → IsSized c.threads s.graph → FitsAt c p k row → ShownAt head s.graph p.thread k row w → InHandAt s a p.thread k row
+    → is_deciding k row w ≡ true → ShowsAt (after_event (extent c) s (row_event (extent c) a p.thread k row w)).graph p.thread k (row_got (extent c) p k row w) (answer s.graph p.thread k)
+row_shows c head s a p k row w sized fits h hand n =
+    has_shows (after_event (extent c) s (row_event (extent c) a p.thread k row w)).graph p.thread k (row_got (extent c) p k row w) (answer s.graph p.thread k) (row_has c head s a p k row w sized fits h hand n)

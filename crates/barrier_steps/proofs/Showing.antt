@@ -1,5 +1,5 @@
 -- Where the words show the graph, a row reads words that its places can hold, and these are what the graph says.
-use Rattle.std.proofs.Common.{◌≡◌, ◌≢◌, ℕ, ◌+◌, ◌%◌, ◌<◌, ◌≤◌, Bool, true, false, None, Some, IfSome, IsSome, is_some, length, refl, sym, ap, ◌∙◌, subst, arith}
+use Rattle.std.proofs.Common.{◌≡◌, ◌≢◌, ℕ, ◌+◌, ◌<◌, ◌≤◌, Bool, true, false, None, Some, IfSome, IsSome, is_some, length, refl, sym, ap, ◌∙◌, subst, arith}
 use Rattle.block_store.specs.declared.Config.{Config}
 use Rattle.block_store.specs.declared.TheConstants.{REGISTERS}
 use Rattle.block_store.specs.declared.Name.{Name}
@@ -26,16 +26,21 @@ use Rattle.shown_graph.proofs.ObjectLayouts.{object_layout}
 use Rattle.shown_graph.proofs.Reading.{value_read, owner_read, length_read, register_read, link_read, blocks_apart}
 use Rattle.shown_graph.proofs.Loads.{name_shown}
 use Rattle.barrier_steps.specs.declared.rows.Way.{Way}
+use Rattle.heap_machine.specs.declared.pass.Pass.{Pass}
+use Rattle.heap_machine.specs.Operations.{place_of}
+use Rattle.heap_machine.specs.Readings.{CanHold, IsHeld}
 use Rattle.barrier_steps.specs.declared.rows.FieldRow.{FieldRow}
-use Rattle.barrier_steps.specs.declared.rows.FieldRow.TheVariants.{StoreNumber, StoreNil, LoadMoved, StoreMoved, LoadObject, LoadShape, LoadValue, LoadLink, LoadField, LoadOwner, StorePending, StoreField, LoadFirst, LoadSecond, LoadSaid, LoadSaidOwner, Answered}
+use Rattle.barrier_steps.specs.declared.rows.FieldRow.TheVariants.{StoreNumber, StoreNil, LoadMoved, StoreMoved, LoadObject, LoadShape, LoadValue, LoadLink, LoadField, LoadOwner, StorePending, StoreField, Shade, LoadFirst, LoadSecond, LoadSaid, LoadSaidOwner, Answered}
+use Rattle.barrier_steps.specs.declared.rows.FieldStore.TheVariants.{Pending}
 use Rattle.barrier_steps.specs.Walks.{shape_length, links_to, link_at, field_at, ordinal_at}
 use Rattle.barrier_steps.specs.Operands.{to_register, from_register, other_register, field_index}
-use Rattle.barrier_steps.specs.Rows.{register_place, field_reply}
+use Rattle.barrier_steps.specs.Rows.{register_place, row_want, shades, field_reply}
 use Rattle.barrier_steps.specs.Fits.{IsWalk, IsThere, FitsAt, ReadsAt}
 use Rattle.barrier_steps.specs.Replies.{IsWordOf, ShapeShown, FieldFound, ShownAt, RefersTo, Promises, OwnerShown, NameShown, ShowsAt, due_at, KnownAt}
 use Rattle.barrier_steps.specs.Projection.{walk_load, object_on, object_load, value_load, pending_load, IsAt}
 use Rattle.barrier_steps.proofs.Named.{to_low, from_low, other_low}
 use Rattle.barrier_steps.proofs.Walking.{way_is, field_low}
+use Rattle.barrier_steps.proofs.FieldRows.{place_at}
 use Rattle.barrier_steps.proofs.Projecting.{payload_read}
 use Rattle.barrier_steps.proofs.Promising.{kind_length}
 
@@ -199,116 +204,123 @@ module _ (c : Config) (m : ℕ) (K : Name → Type 0) (at : Name → ℕ → ℕ
   way_object t k way l tn e there = object_is t l (object_in (object_on (extent c) k way)) tn e there
 
   -- what a row has loaded and reads is what the graph says
-  pub row_shown : (t : ℕ) (k : Command) (row : FieldRow) (w : ℕ) → FitsAt c t k row → IsAt (extent c) s h t k row w → ShownAt (heads at) s.graph t k row w
-  row_shown t k StoreNumber w fits is = tt
-  row_shown t k StoreNil w fits is = tt
-  row_shown t k LoadMoved w fits is = tt
-  row_shown t k (StoreMoved word) w fits is = tt
-  row_shown t k LoadObject w fits is =
-      register_shown t (from_register k) w fits.thread.thread (from_low k fits.command) (not_pending t (from_register k) _ is.loads refl) (register_at t (from_register k) w is.words is.reads)
-  row_shown t k (LoadShape x) w fits is =
-      shape_word t (from_register k) x w (object_is t _ _ fits.thread.thread is.loads refl) fits.thread.thread (from_low k fits.command) (ap (λ b. b.shape x) is.words ∙ sym is.reads)
-  row_shown t k (LoadValue way) w fits is = tt
-  row_shown t k (LoadLink way word) w fits is = tt
-  row_shown t k (LoadField way) w fits is =
-      let object = way_object t k way _ fits.thread.thread is.loads refl in (
-        found_field t (from_register k) (field_index k) way object fits.row.0 fits.thread.thread (from_low k fits.command),
-        read_word (field_of (object_of s.graph object.name) (field_index k)) w (field_kept t (from_register k) (field_index k) way object fits.row.0 fits.thread.thread (from_low k fits.command))
-            (field_word t (from_register k) (field_index k) way object fits.row.0 fits.thread.thread (from_low k fits.command) w fits.row.1 (payload_read s h _ _ w is.words is.reads)),
+  pub row_shown : (p : Pass) (k : Command) (row : FieldRow) (w : ℕ) → FitsAt c p k row → IsAt (extent c) s h p k row w → ShownAt (heads at) s.graph p.thread k row w
+  row_shown p k StoreNumber w fits is = tt
+  row_shown p k StoreNil w fits is = tt
+  row_shown p k LoadMoved w fits is = tt
+  row_shown p k (StoreMoved word) w fits is = tt
+  row_shown p k LoadObject w fits is =
+      register_shown p.thread (from_register k) w fits.thread.thread (from_low k fits.command) (not_pending p.thread (from_register k) _ is.loads refl) (register_at p.thread (from_register k) w is.words is.reads)
+  row_shown p k (LoadShape x) w fits is =
+      shape_word p.thread (from_register k) x w (object_is p.thread _ _ fits.thread.thread is.loads refl) fits.thread.thread (from_low k fits.command) (ap (λ b. b.shape x) is.words ∙ sym is.reads)
+  row_shown p k (LoadValue way) w fits is = tt
+  row_shown p k (LoadLink way word) w fits is = tt
+  row_shown p k (LoadField way) w fits is =
+      let object = way_object p.thread k way _ fits.thread.thread is.loads refl in (
+        found_field p.thread (from_register k) (field_index k) way object fits.row.0 fits.thread.thread (from_low k fits.command),
+        read_word (field_of (object_of s.graph object.name) (field_index k)) w (field_kept p.thread (from_register k) (field_index k) way object fits.row.0 fits.thread.thread (from_low k fits.command))
+            (field_word p.thread (from_register k) (field_index k) way object fits.row.0 fits.thread.thread (from_low k fits.command) w fits.row.1 (payload_read s h _ _ w is.words is.reads)),
       )
-  row_shown t k (LoadOwner word) w fits is = tt
-  row_shown t k (StorePending word value) w fits is = tt
-  row_shown t k (StoreField way word) w fits is =
-      found_field t (from_register k) (field_index k) way (way_object t k way _ fits.thread.thread is.loads refl) fits.row.0 fits.thread.thread (from_low k fits.command)
-  row_shown t k LoadFirst w fits is = tt
-  row_shown t k (LoadSecond word) w fits is =
+  row_shown p k (LoadOwner word) w fits is = tt
+  row_shown p k (StorePending word value) w fits is = tt
+  row_shown p k (StoreField way word) w fits is =
+      found_field p.thread (from_register k) (field_index k) way (way_object p.thread k way _ fits.thread.thread is.loads refl) fits.row.0 fits.thread.thread (from_low k fits.command)
+  row_shown p k (Shade r store) w fits is = tt
+  row_shown p k LoadFirst w fits is = tt
+  row_shown p k (LoadSecond word) w fits is =
       let a = from_register k in
       let b = other_register k in
-      let value = value_is t _ (value_in (value_load a word)) fits.thread.thread is.loads refl in
+      let value = value_is p.thread _ (value_in (value_load a word)) fits.thread.thread is.loads refl in
       record {
-        first = read_word (register_of s.graph t a) word (follows.shows.closed.registers t a fits.thread.thread (from_low k fits.command)) (sym value.word);
-        second = register_shown t b w fits.thread.thread (other_low k fits.command) (not_pending t b _ is.loads refl) (register_at t b w is.words is.reads);
+        first = read_word (register_of s.graph p.thread a) word (follows.shows.closed.registers p.thread a fits.thread.thread (from_low k fits.command)) (sym value.word);
+        second = register_shown p.thread b w fits.thread.thread (other_low k fits.command) (not_pending p.thread b _ is.loads refl) (register_at p.thread b w is.words is.reads);
         apart = λ x y ex ey e.
-            (blocks_apart c.width c.threads m K s.graph at s.words (pending_registers s.loads) follows.shows x y 0 0 (is_kept t a x fits.thread.thread (from_low k fits.command) ex) (is_kept t b y fits.thread.thread (other_low k fits.command) ey)
+            (blocks_apart c.width c.threads m K s.graph at s.words (pending_registers s.loads) follows.shows x y 0 0 (is_kept p.thread a x fits.thread.thread (from_low k fits.command) ex) (is_kept p.thread b y fits.thread.thread (other_low k fits.command) ey)
             (object_layout c.width (object_of s.graph x)).first (object_layout c.width (object_of s.graph y)).first e).0;
       }
-  row_shown t k LoadSaid w fits is =
-      register_shown t (from_register k) w fits.thread.thread (from_low k fits.command) (not_pending t (from_register k) _ is.loads refl) (register_at t (from_register k) w is.words is.reads)
-  row_shown t k (LoadSaidOwner word) w fits is = tt
-  row_shown t k (Answered reply) w fits is = tt
+  row_shown p k LoadSaid w fits is =
+      register_shown p.thread (from_register k) w fits.thread.thread (from_low k fits.command) (not_pending p.thread (from_register k) _ is.loads refl) (register_at p.thread (from_register k) w is.words is.reads)
+  row_shown p k (LoadSaidOwner word) w fits is = tt
+  row_shown p k (Answered reply) w fits is = tt
 
-  to_held : (t : ℕ) (k : Command) (row : FieldRow) (w : ℕ) → FitsAt c t k row → w ≡ h (register_place (extent c) t (to_register k)) → s.words ≡ block_words h → IsSome (payload_of w) × (target w ≤ c.blocks)
-  to_held t k row w fits reads is = register_held t (to_register k) w fits.thread.thread (to_low k fits.command) (register_at t (to_register k) w is reads)
+  to_held : (p : Pass) (k : Command) (row : FieldRow) (w : ℕ) → FitsAt c p k row → w ≡ h (register_place (extent c) p.thread (to_register k)) → s.words ≡ block_words h → IsSome (payload_of w) × (target w ≤ c.blocks)
+  to_held p k row w fits reads is = register_held p.thread (to_register k) w fits.thread.thread (to_low k fits.command) (register_at p.thread (to_register k) w is reads)
 
-  from_held : (t : ℕ) (k : Command) (row : FieldRow) (w : ℕ) → FitsAt c t k row → w ≡ h (register_place (extent c) t (from_register k)) → s.words ≡ block_words h → IsSome (payload_of w) × (target w ≤ c.blocks)
-  from_held t k row w fits reads is = register_held t (from_register k) w fits.thread.thread (from_low k fits.command) (register_at t (from_register k) w is reads)
+  from_held : (p : Pass) (k : Command) (row : FieldRow) (w : ℕ) → FitsAt c p k row → w ≡ h (register_place (extent c) p.thread (from_register k)) → s.words ≡ block_words h → IsSome (payload_of w) × (target w ≤ c.blocks)
+  from_held p k row w fits reads is = register_held p.thread (from_register k) w fits.thread.thread (from_low k fits.command) (register_at p.thread (from_register k) w is reads)
 
-  other_held : (t : ℕ) (k : Command) (row : FieldRow) (w : ℕ) → FitsAt c t k row → w ≡ h (register_place (extent c) t (other_register k)) → s.words ≡ block_words h → IsSome (payload_of w) × (target w ≤ c.blocks)
-  other_held t k row w fits reads is = register_held t (other_register k) w fits.thread.thread (other_low k fits.command) (register_at t (other_register k) w is reads)
+  other_held : (p : Pass) (k : Command) (row : FieldRow) (w : ℕ) → FitsAt c p k row → w ≡ h (register_place (extent c) p.thread (other_register k)) → s.words ≡ block_words h → IsSome (payload_of w) × (target w ≤ c.blocks)
+  other_held p k row w fits reads is = register_held p.thread (other_register k) w fits.thread.thread (other_low k fits.command) (register_at p.thread (other_register k) w is reads)
 
   -- the words that a row reads are among those that it may read
-  pub row_reads : (t : ℕ) (k : Command) (row : FieldRow) (w : ℕ) → FitsAt c t k row → IsAt (extent c) s h t k row w → field_reply row ≡ None → ReadsAt c t k row w
-  row_reads t k StoreNumber w fits is goes = (to_held t k StoreNumber w fits is.reads is.words, tt)
-  row_reads t k StoreNil w fits is goes = (to_held t k StoreNil w fits is.reads is.words, tt)
-  row_reads t k LoadMoved w fits is goes = (from_held t k LoadMoved w fits is.reads is.words, tt)
-  row_reads t k (StoreMoved word) w fits is goes = (to_held t k (StoreMoved word) w fits is.reads is.words, tt)
-  row_reads t k LoadObject w fits is goes = (from_held t k LoadObject w fits is.reads is.words, tt)
-  row_reads t k (LoadShape x) w fits is goes = (ap is_some (row_shown t k (LoadShape x) w fits is).shape, tt)
-  row_reads t k (LoadValue way) w fits is goes = (other_held t k (LoadValue way) w fits is.reads is.words, tt)
-  row_reads t k (LoadLink way word) w fits is goes =
-      link_held t (from_register k) (field_index k) way (way_object t k way _ fits.thread.thread is.loads refl) fits.row.0 fits.thread.thread (from_low k fits.command) w fits.row.1 (payload_read s h _ _ w is.words is.reads)
-  row_reads t k (LoadField way) w fits is goes =
-      let object = way_object t k way _ fits.thread.thread is.loads refl in (
-        value_held (field_of (object_of s.graph object.name) (field_index k)) w (field_kept t (from_register k) (field_index k) way object fits.row.0 fits.thread.thread (from_low k fits.command))
-            (field_word t (from_register k) (field_index k) way object fits.row.0 fits.thread.thread (from_low k fits.command) w fits.row.1 (payload_read s h _ _ w is.words is.reads)),
+  pub row_reads : (p : Pass) (k : Command) (row : FieldRow) (w : ℕ) → FitsAt c p k row → IsAt (extent c) s h p k row w → (shades row ≡ true → IsHeld c h) → field_reply row ≡ None → ReadsAt c p k row w
+  row_reads p k StoreNumber w fits is held goes = (to_held p k StoreNumber w fits is.reads is.words, tt)
+  row_reads p k StoreNil w fits is held goes = (to_held p k StoreNil w fits is.reads is.words, tt)
+  row_reads p k LoadMoved w fits is held goes = (from_held p k LoadMoved w fits is.reads is.words, tt)
+  row_reads p k (StoreMoved word) w fits is held goes = (to_held p k (StoreMoved word) w fits is.reads is.words, tt)
+  row_reads p k LoadObject w fits is held goes = (from_held p k LoadObject w fits is.reads is.words, tt)
+  row_reads p k (LoadShape x) w fits is held goes = (ap is_some (row_shown p k (LoadShape x) w fits is).shape, tt)
+  row_reads p k (LoadValue way) w fits is held goes = (other_held p k (LoadValue way) w fits is.reads is.words, tt)
+  row_reads p k (LoadLink way word) w fits is held goes =
+      link_held p.thread (from_register k) (field_index k) way (way_object p.thread k way _ fits.thread.thread is.loads refl) fits.row.0 fits.thread.thread (from_low k fits.command) w fits.row.1 (payload_read s h _ _ w is.words is.reads)
+  row_reads p k (LoadField way) w fits is held goes =
+      let object = way_object p.thread k way _ fits.thread.thread is.loads refl in (
+        value_held (field_of (object_of s.graph object.name) (field_index k)) w (field_kept p.thread (from_register k) (field_index k) way object fits.row.0 fits.thread.thread (from_low k fits.command))
+            (field_word p.thread (from_register k) (field_index k) way object fits.row.0 fits.thread.thread (from_low k fits.command) w fits.row.1 (payload_read s h _ _ w is.words is.reads)),
         tt,
       )
-  row_reads t k (LoadOwner word) w fits is goes =
-      (value_named t (to_register k) word w fits.thread.thread (on_time t (to_register k) word true (value_is t _ (value_in (pending_load (to_register k) word)) fits.thread.thread is.loads refl)) fits.row.1 (owner_word_read (target word) w is.words is.reads), tt)
-  row_reads t k (StorePending word value) w fits is goes = (to_held t k (StorePending word value) w fits is.reads is.words, tt)
-  row_reads t k (StoreField way word) w fits is goes =
-      let object = way_object t k way _ fits.thread.thread is.loads refl in (
-        value_held (field_of (object_of s.graph object.name) (field_index k)) w (field_kept t (from_register k) (field_index k) way object fits.row.0 fits.thread.thread (from_low k fits.command))
-            (field_word t (from_register k) (field_index k) way object fits.row.0 fits.thread.thread (from_low k fits.command) w fits.row.1 (payload_read s h _ _ w is.words is.reads)),
+  row_reads p k (LoadOwner word) w fits is held goes =
+      (value_named p.thread (to_register k) word w fits.thread.thread (on_time p.thread (to_register k) word true (value_is p.thread _ (value_in (pending_load (to_register k) word)) fits.thread.thread is.loads refl)) fits.row.1 (owner_word_read (target word) w is.words is.reads), tt)
+  row_reads p k (StorePending word value) w fits is held goes = (to_held p k (StorePending word value) w fits is.reads is.words, tt)
+  row_reads p k (StoreField way word) w fits is held goes =
+      let object = way_object p.thread k way _ fits.thread.thread is.loads refl in (
+        value_held (field_of (object_of s.graph object.name) (field_index k)) w (field_kept p.thread (from_register k) (field_index k) way object fits.row.0 fits.thread.thread (from_low k fits.command))
+            (field_word p.thread (from_register k) (field_index k) way object fits.row.0 fits.thread.thread (from_low k fits.command) w fits.row.1 (payload_read s h _ _ w is.words is.reads)),
         tt,
       )
-  row_reads t k LoadFirst w fits is goes = (from_held t k LoadFirst w fits is.reads is.words, tt)
-  row_reads t k (LoadSecond word) w fits is goes = (other_held t k (LoadSecond word) w fits is.reads is.words, tt)
-  row_reads t k LoadSaid w fits is goes = (from_held t k LoadSaid w fits is.reads is.words, tt)
-  row_reads t k (LoadSaidOwner word) w fits is goes =
-      (value_named t (from_register k) word w fits.thread.thread (value_is t _ (value_in (value_load (from_register k) word)) fits.thread.thread is.loads refl) fits.row.1 (owner_word_read (target word) w is.words is.reads), tt)
-  row_reads t k (Answered reply) w fits is goes = absurd cc
+  row_reads p k (Shade r store) w fits is held goes =
+      (subst (CanHold (extent c) (place_of (row_want (extent c) p k (Shade r store)))) (sym is.reads) (held refl (place_of (row_want (extent c) p k (Shade r store))) (place_at c p k (Shade r store) fits)), tt)
+  row_reads p k LoadFirst w fits is held goes = (from_held p k LoadFirst w fits is.reads is.words, tt)
+  row_reads p k (LoadSecond word) w fits is held goes = (other_held p k (LoadSecond word) w fits is.reads is.words, tt)
+  row_reads p k LoadSaid w fits is held goes = (from_held p k LoadSaid w fits is.reads is.words, tt)
+  row_reads p k (LoadSaidOwner word) w fits is held goes =
+      (value_named p.thread (from_register k) word w fits.thread.thread (value_is p.thread _ (value_in (value_load (from_register k) word)) fits.thread.thread is.loads refl) fits.row.1 (owner_word_read (target word) w is.words is.reads), tt)
+  row_reads p k (Answered reply) w fits is held goes = absurd cc
 
   -- and where its reply shows a register, it reads the name of the object to which that refers
-  pub row_named : (t : ℕ) (k : Command) (row : FieldRow) (w : ℕ) (reply : Reply) → FitsAt c t k row → IsAt (extent c) s h t k row w → ShowsAt s.graph t k row reply → NameShown (heads at) row reply w
-  row_named t k (LoadOwner word) w reply fits is shows =
-      register_named t (to_register k) word w reply fits.thread.thread (on_time t (to_register k) word true (value_is t _ (value_in (pending_load (to_register k) word)) fits.thread.thread is.loads refl)) (owner_word_read (target word) w is.words is.reads) shows
-  row_named t k (LoadSaidOwner word) w reply fits is shows =
-      register_named t (from_register k) word w reply fits.thread.thread (value_is t _ (value_in (value_load (from_register k) word)) fits.thread.thread is.loads refl) (owner_word_read (target word) w is.words is.reads) shows
-  row_named t k StoreNumber w reply fits is shows = tt
-  row_named t k StoreNil w reply fits is shows = tt
-  row_named t k LoadMoved w reply fits is shows = tt
-  row_named t k (StoreMoved word) w reply fits is shows = tt
-  row_named t k LoadObject w reply fits is shows = tt
-  row_named t k (LoadShape x) w reply fits is shows = tt
-  row_named t k (LoadValue way) w reply fits is shows = tt
-  row_named t k (LoadLink way word) w reply fits is shows = tt
-  row_named t k (LoadField way) w reply fits is shows = tt
-  row_named t k (StorePending word value) w reply fits is shows = tt
-  row_named t k (StoreField way word) w reply fits is shows = tt
-  row_named t k LoadFirst w reply fits is shows = tt
-  row_named t k (LoadSecond word) w reply fits is shows = tt
-  row_named t k LoadSaid w reply fits is shows = tt
-  row_named t k (Answered given) w reply fits is shows = tt
+  pub row_named : (p : Pass) (k : Command) (row : FieldRow) (w : ℕ) (reply : Reply) → FitsAt c p k row → IsAt (extent c) s h p k row w → ShowsAt s.graph p.thread k row reply → NameShown (heads at) row reply w
+  row_named p k (LoadOwner word) w reply fits is shows =
+      register_named p.thread (to_register k) word w reply fits.thread.thread (on_time p.thread (to_register k) word true (value_is p.thread _ (value_in (pending_load (to_register k) word)) fits.thread.thread is.loads refl)) (owner_word_read (target word) w is.words is.reads) shows
+  row_named p k (LoadSaidOwner word) w reply fits is shows =
+      register_named p.thread (from_register k) word w reply fits.thread.thread (value_is p.thread _ (value_in (value_load (from_register k) word)) fits.thread.thread is.loads refl) (owner_word_read (target word) w is.words is.reads) shows
+  row_named p k StoreNumber w reply fits is shows = tt
+  row_named p k StoreNil w reply fits is shows = tt
+  row_named p k LoadMoved w reply fits is shows = tt
+  row_named p k (StoreMoved word) w reply fits is shows = tt
+  row_named p k LoadObject w reply fits is shows = tt
+  row_named p k (LoadShape x) w reply fits is shows = tt
+  row_named p k (LoadValue way) w reply fits is shows = tt
+  row_named p k (LoadLink way word) w reply fits is shows = tt
+  row_named p k (LoadField way) w reply fits is shows = tt
+  row_named p k (StorePending word value) w reply fits is shows = tt
+  row_named p k (StoreField way word) w reply fits is shows = tt
+  row_named p k (Shade r store) w reply fits is shows = tt
+  row_named p k LoadFirst w reply fits is shows = tt
+  row_named p k (LoadSecond word) w reply fits is shows = tt
+  row_named p k LoadSaid w reply fits is shows = tt
+  row_named p k (Answered given) w reply fits is shows = tt
 
   -- a decided row promises the reply that is due
-  pub row_promises : (t : ℕ) (k : Command) (row : FieldRow) (w : ℕ) (reply : Reply) → FitsAt c t k row → IsAt (extent c) s h t k row w → KnownAt s.graph t k row → due_at s.graph t k row ≡ Some reply → Promises (heads at) row reply
-  row_promises t k (LoadOwner word) w reply fits is known due =
-      refers_to t (to_register k) word reply (on_time t (to_register k) word true (value_is t _ (value_in (pending_load (to_register k) word)) fits.thread.thread is.loads refl)) fits.row.1 cc
-  row_promises t k (StorePending word value) w reply fits is known due =
-      let says : reply ≡ replies.Val (register_of s.graph t (to_register k)) = cc in
+  pub row_promises : (p : Pass) (k : Command) (row : FieldRow) (w : ℕ) (reply : Reply) → FitsAt c p k row → IsAt (extent c) s h p k row w → KnownAt s.graph p.thread k row → due_at s.graph p.thread k row ≡ Some reply → Promises (heads at) row reply
+  row_promises p k (LoadOwner word) w reply fits is known due =
+      refers_to p.thread (to_register k) word reply (on_time p.thread (to_register k) word true (value_is p.thread _ (value_in (pending_load (to_register k) word)) fits.thread.thread is.loads refl)) fits.row.1 cc
+  row_promises p k (StorePending word value) w reply fits is known due =
+      let says : reply ≡ replies.Val (register_of s.graph p.thread (to_register k)) = cc in
       says ∙ ap replies.Val (sym known)
-  row_promises t k (LoadSaidOwner word) w reply fits is known due =
-      refers_to t (from_register k) word reply (value_is t _ (value_in (value_load (from_register k) word)) fits.thread.thread is.loads refl) fits.row.1 cc
-  row_promises t k (Answered given) w reply fits is known due = cc
-  row_promises t k _ w reply fits is known due = absurd cc
+  row_promises p k (Shade r (Pending word value)) w reply fits is known due =
+      let says : reply ≡ replies.Val (register_of s.graph p.thread (to_register k)) = cc in
+      says ∙ ap replies.Val (sym known)
+  row_promises p k (LoadSaidOwner word) w reply fits is known due =
+      refers_to p.thread (from_register k) word reply (value_is p.thread _ (value_in (value_load (from_register k) word)) fits.thread.thread is.loads refl) fits.row.1 cc
+  row_promises p k (Answered given) w reply fits is known due = cc
+  row_promises p k _ w reply fits is known due = absurd cc

@@ -14,7 +14,7 @@ use Rattle.never_heap.specs.Steps.{at_object, at_field}
 use Rattle.shown_graph.specs.Events as events
 use Rattle.shown_graph.specs.Events.{GraphState, value_in}
 use Rattle.barrier_steps.specs.declared.rows.FieldRow.{FieldRow}
-use Rattle.barrier_steps.specs.declared.rows.FieldRow.TheVariants.{StoreNumber, StoreNil, LoadMoved, StoreMoved, LoadObject, LoadShape, LoadValue, LoadLink, LoadField, LoadOwner, StorePending, StoreField, LoadFirst, LoadSecond, LoadSaid, LoadSaidOwner, Answered}
+use Rattle.barrier_steps.specs.declared.rows.FieldRow.TheVariants.{StoreNumber, StoreNil, LoadMoved, StoreMoved, LoadObject, LoadShape, LoadValue, LoadLink, LoadField, LoadOwner, StorePending, StoreField, Shade, LoadFirst, LoadSecond, LoadSaid, LoadSaidOwner, Answered}
 use Rattle.barrier_steps.specs.Operands.{to_register, from_register, other_register, field_index, number_set, is_set, is_nil, is_mov, is_get, is_put, looks_at_object, is_same, is_say}
 use Rattle.barrier_steps.specs.Walks.{shape_length}
 use Rattle.barrier_steps.specs.Rows.{payload_or_nil, payload_in, shape_in}
@@ -46,6 +46,7 @@ graph_stays c s a t k (LoadValue way) w n = refl
 graph_stays c s a t k (LoadLink way word) w n = refl
 graph_stays c s a t k (LoadOwner word) w n = refl
 graph_stays c s a t k (StorePending word value) w n = refl
+graph_stays c s a t k (Shade r store) w n = refl
 graph_stays c s a t k LoadFirst w n = refl
 graph_stays c s a t k (LoadSaidOwner word) w n = refl
 graph_stays c s a t k (Answered reply) w n = refl

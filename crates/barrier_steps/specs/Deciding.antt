@@ -6,7 +6,7 @@ use Rattle.block_store.specs.declared.Payload.TheVariants as payloads
 use Rattle.never_heap.specs.declared.Command.{Command}
 use Rattle.never_heap.specs.declared.Command.TheVariants as commands
 use Rattle.barrier_steps.specs.declared.rows.FieldRow.{FieldRow}
-use Rattle.barrier_steps.specs.declared.rows.FieldRow.TheVariants.{StoreNumber, StoreNil, LoadMoved, StoreMoved, LoadObject, LoadShape, LoadValue, LoadLink, LoadField, LoadOwner, StorePending, StoreField, LoadFirst, LoadSecond, LoadSaid, LoadSaidOwner, Answered}
+use Rattle.barrier_steps.specs.declared.rows.FieldRow.TheVariants.{StoreNumber, StoreNil, LoadMoved, StoreMoved, LoadObject, LoadShape, LoadValue, LoadLink, LoadField, LoadOwner, StorePending, StoreField, Shade, LoadFirst, LoadSecond, LoadSaid, LoadSaidOwner, Answered}
 use Rattle.barrier_steps.specs.Walks.{shape_length}
 use Rattle.barrier_steps.specs.Rows.{payload_in, shape_in}
 
@@ -38,6 +38,7 @@ is_deciding k (LoadField way) w = true
 is_deciding k (LoadOwner word) w = false
 is_deciding k (StorePending word value) w = false
 is_deciding k (StoreField way word) w = true
+is_deciding k (Shade r store) w = false
 is_deciding k LoadFirst w = false
 is_deciding k (LoadSecond word) w = true
 is_deciding k LoadSaid w = true

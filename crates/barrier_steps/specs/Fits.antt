@@ -1,7 +1,6 @@
 -- The ranges of the numbers in a row, and the words that it may read.
-use Rattle.std.specs.Prelude.{ℕ, ◌+◌, ◌<◌, ◌≤◌, ◌≡◌, ◌≢◌, IsSome, Bool, true}
+use Rattle.std.specs.Prelude.{ℕ, ◌+◌, ◌<◌, ◌≤◌, ◌≡◌, ◌≢◌, IsSome, Bool, true, false}
 use Rattle.block_store.specs.declared.Config.{Config}
-use Rattle.block_store.specs.declared.Shape.{Shape}
 use Rattle.block_store.specs.Payloads.{payload_of, target}
 use Rattle.block_store.specs.Places.{extent, IsBlock}
 use Rattle.block_store.specs.Registers.{registers_end}
@@ -10,12 +9,18 @@ use Rattle.never_heap.specs.declared.Command.{Command}
 use Rattle.never_heap.specs.Bounds.{IsCommandInRange}
 use Rattle.heap_machine.specs.Operations.{place_of}
 use Rattle.heap_machine.specs.Readings.{CanHold}
+use Rattle.heap_machine.specs.declared.pass.Pass.{Pass}
+use Rattle.grey_steps.specs.declared.rows.GreyRow.{GreyRow}
+use Rattle.grey_steps.specs.Ends.{block_stored}
+use Rattle.grey_steps.specs.Fits.{GreyFits}
 use Rattle.barrier_steps.specs.declared.rows.FieldRow.{FieldRow}
-use Rattle.barrier_steps.specs.declared.rows.FieldRow.TheVariants.{StoreNumber, StoreNil, LoadMoved, StoreMoved, LoadObject, LoadShape, LoadValue, LoadLink, LoadField, LoadOwner, StorePending, StoreField, LoadFirst, LoadSecond, LoadSaid, LoadSaidOwner, Answered}
+use Rattle.barrier_steps.specs.declared.rows.FieldRow.TheVariants.{StoreNumber, StoreNil, LoadMoved, StoreMoved, LoadObject, LoadShape, LoadValue, LoadLink, LoadField, LoadOwner, StorePending, StoreField, Shade, LoadFirst, LoadSecond, LoadSaid, LoadSaidOwner, Answered}
 use Rattle.barrier_steps.specs.declared.rows.Way.{Way}
+use Rattle.barrier_steps.specs.declared.rows.FieldStore.{FieldStore}
+use Rattle.barrier_steps.specs.declared.rows.FieldStore.TheVariants.{Moved, Pending, InField}
 use Rattle.barrier_steps.specs.Operands.{field_index, is_set, is_nil, is_mov, is_get, is_put, goes_to_field, looks_at_object, is_same, is_say}
 use Rattle.barrier_steps.specs.Walks.{shape_length, links_to}
-use Rattle.barrier_steps.specs.Rows.{FieldState, row_want}
+use Rattle.barrier_steps.specs.Rows.{FieldState, stored_word, row_want}
 
 -- thread t is one of the heap's, which has at most 16, and the blocks of its registers are in the
 -- heap
@@ -40,6 +45,26 @@ pub record IsWalk (c : Config) (i : ℕ) (way : Way) : Type 0 where
 abbrev pub IsThere : Config → ℕ → Way → Type 0
 IsThere c i way = way.level ≡ links_to (extent c) way.shape i
 
+-- in this pass, in Mark, the barrier of a word that refers to a block has come to row r
+pub record IsBarrier (c : Config) (p : Pass) (r : GreyRow) (word : ℕ) : Type 0 where
+  pub mark : p.sweep ≡ false
+  pub refers : target word ≢ 0
+  pub stores : block_stored r ≡ target word
+  pub fits : GreyFits c (record { pass = p; row = r })
+
+-- whether command k makes this store
+abbrev pub is_store_of : Command → FieldStore → Bool
+is_store_of k (Moved word) = is_mov k
+is_store_of k (Pending word value) = is_get k
+is_store_of k (InField way word) = is_put k
+
+-- the numbers in a store are in range
+abbrev pub StoreFits : Config → Command → FieldStore → Type 0
+StoreFits c k (Moved word) = IsLoaded c word
+StoreFits c k (Pending word value) = IsLoaded c word
+StoreFits c k (InField way word) = IsWalk c (field_index k) way × IsThere c (field_index k) way
+    × IsLoaded c word
+
 -- whether command k comes to this row
 abbrev pub is_row_of : Command → FieldRow → Bool
 is_row_of k StoreNumber = is_set k
@@ -54,44 +79,48 @@ is_row_of k (LoadField way) = is_get k
 is_row_of k (LoadOwner word) = is_get k
 is_row_of k (StorePending word value) = is_get k
 is_row_of k (StoreField way word) = is_put k
+is_row_of k (Shade r store) = is_store_of k store
 is_row_of k LoadFirst = is_same k
 is_row_of k (LoadSecond word) = is_same k
 is_row_of k LoadSaid = is_say k
 is_row_of k (LoadSaidOwner word) = is_say k
 is_row_of k (Answered reply) = true
 
--- the numbers that a row of command k names are in range
-abbrev pub RowFits : Config → Command → FieldRow → Type 0
-RowFits c k StoreNumber = Unit {0}
-RowFits c k StoreNil = Unit {0}
-RowFits c k LoadMoved = Unit {0}
-RowFits c k (StoreMoved word) = IsLoaded c word
-RowFits c k LoadObject = Unit {0}
-RowFits c k (LoadShape x) = IsBlock c x
-RowFits c k (LoadValue way) = IsWalk c (field_index k) way × (way.level ≡ 0)
-RowFits c k (LoadLink way word) = IsWalk c (field_index k) way
+-- the numbers that a row of command k in this pass names are in range
+abbrev pub RowFits : Config → Pass → Command → FieldRow → Type 0
+RowFits c p k StoreNumber = Unit {0}
+RowFits c p k StoreNil = Unit {0}
+RowFits c p k LoadMoved = Unit {0}
+RowFits c p k (StoreMoved word) = IsLoaded c word
+RowFits c p k LoadObject = Unit {0}
+RowFits c p k (LoadShape x) = IsBlock c x
+RowFits c p k (LoadValue way) = IsWalk c (field_index k) way × (way.level ≡ 0)
+RowFits c p k (LoadLink way word) = IsWalk c (field_index k) way
     × (way.level < links_to (extent c) way.shape (field_index k)) × IsLoaded c word
-RowFits c k (LoadField way) = IsWalk c (field_index k) way × IsThere c (field_index k) way
-RowFits c k (LoadOwner word) = IsLoaded c word × (target word ≢ 0)
-RowFits c k (StorePending word value) = IsLoaded c word
-RowFits c k (StoreField way word) = IsWalk c (field_index k) way × IsThere c (field_index k) way
+RowFits c p k (LoadField way) = IsWalk c (field_index k) way × IsThere c (field_index k) way
+RowFits c p k (LoadOwner word) = IsLoaded c word × (target word ≢ 0)
+RowFits c p k (StorePending word value) = IsLoaded c word
+RowFits c p k (StoreField way word) = IsWalk c (field_index k) way × IsThere c (field_index k) way
     × IsLoaded c word
-RowFits c k LoadFirst = Unit {0}
-RowFits c k (LoadSecond word) = IsLoaded c word
-RowFits c k LoadSaid = Unit {0}
-RowFits c k (LoadSaidOwner word) = IsLoaded c word × (target word ≢ 0)
-RowFits c k (Answered reply) = Unit {0}
+RowFits c p k (Shade r store) = IsBarrier c p r (stored_word store) × StoreFits c k store
+RowFits c p k LoadFirst = Unit {0}
+RowFits c p k (LoadSecond word) = IsLoaded c word
+RowFits c p k LoadSaid = Unit {0}
+RowFits c p k (LoadSaidOwner word) = IsLoaded c word × (target word ≢ 0)
+RowFits c p k (Answered reply) = Unit {0}
 
--- the thread is one of the heap's, the command is in range and comes to the row, and the row's
--- numbers are in range
-pub record FitsAt (c : Config) (t : ℕ) (k : Command) (r : FieldRow) : Type 0 where
-  pub thread : IsThread c t
+-- the heap has the pass's threads, of which this is one, and at most 65,535 blocks; the command is
+-- in range and comes to the row, and the row's numbers are in range
+pub record FitsAt (c : Config) (p : Pass) (k : Command) (r : FieldRow) : Type 0 where
+  pub thread : IsThread c p.thread
+  pub threads : p.threads ≡ c.threads
+  pub blocks : c.blocks ≤ 65535
   pub command : IsCommandInRange k
   pub belongs : is_row_of k r ≡ true
-  pub row : RowFits c k r
+  pub row : RowFits c p k r
 
 abbrev pub FieldFits : Config → FieldState → Type 0
-FieldFits c s = FitsAt c s.pass.thread s.command s.row
+FieldFits c s = FitsAt c s.pass s.command s.row
 
 -- a link is a reference
 abbrev pub LinkReads : FieldRow → ℕ → Type 0
@@ -99,9 +128,9 @@ LinkReads (LoadLink way word) w = target w ≢ 0
 LinkReads _ w = Unit {0}
 
 -- the words that a row may read: those that the wanted place can hold, and at a link a reference
-abbrev pub ReadsAt : Config → ℕ → Command → FieldRow → ℕ → Type 0
-ReadsAt c t k row w = CanHold (extent c) (place_of (row_want (extent c) t k row)) w
+abbrev pub ReadsAt : Config → Pass → Command → FieldRow → ℕ → Type 0
+ReadsAt c p k row w = CanHold (extent c) (place_of (row_want (extent c) p k row)) w
     × LinkReads row w
 
 abbrev pub FieldReads : Config → FieldState → ℕ → Type 0
-FieldReads c s w = ReadsAt c s.pass.thread s.command s.row w
+FieldReads c s w = ReadsAt c s.pass s.command s.row w

@@ -5,3 +5,4 @@ pub mod Fits
 pub mod Deciding
 pub mod Replies
 pub mod Projection
+pub mod Decided

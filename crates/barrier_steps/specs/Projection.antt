@@ -8,12 +8,15 @@ use Rattle.never_heap.specs.declared.Command.{Command}
 use Rattle.never_heap.specs.declared.Command.TheVariants as commands
 use Rattle.never_heap.specs.Graphs.{register_of}
 use Rattle.heap_machine.specs.Operations.{place_of}
+use Rattle.heap_machine.specs.declared.pass.Pass.{Pass}
 use Rattle.shown_graph.specs.Words.{block_words}
 use Rattle.shown_graph.specs.Events as events
 use Rattle.shown_graph.specs.Events.{ObjectLoad, ValueLoad, Loading, unloaded, GraphState, Event, apply}
 use Rattle.barrier_steps.specs.declared.rows.FieldRow.{FieldRow}
-use Rattle.barrier_steps.specs.declared.rows.FieldRow.TheVariants.{StoreNumber, StoreNil, LoadMoved, StoreMoved, LoadObject, LoadShape, LoadValue, LoadLink, LoadField, LoadOwner, StorePending, StoreField, LoadFirst, LoadSecond, LoadSaid, LoadSaidOwner, Answered}
+use Rattle.barrier_steps.specs.declared.rows.FieldRow.TheVariants.{StoreNumber, StoreNil, LoadMoved, StoreMoved, LoadObject, LoadShape, LoadValue, LoadLink, LoadField, LoadOwner, StorePending, StoreField, Shade, LoadFirst, LoadSecond, LoadSaid, LoadSaidOwner, Answered}
 use Rattle.barrier_steps.specs.declared.rows.Way.{Way}
+use Rattle.barrier_steps.specs.declared.rows.FieldStore.{FieldStore}
+use Rattle.barrier_steps.specs.declared.rows.FieldStore.TheVariants.{Moved, Pending, InField}
 use Rattle.barrier_steps.specs.Operands.{to_register, from_register, other_register, field_index, number_set}
 use Rattle.barrier_steps.specs.Walks.{shape_length, link_at, field_at, ordinal_at}
 use Rattle.barrier_steps.specs.Rows.{FieldState, payload_in, shape_in, row_want}
@@ -49,12 +52,24 @@ carried_load _ word = None
 abbrev pub object_on : Extent → Command → Way → Option ObjectLoad
 object_on e k way = walk_load e (from_register k) (field_index k) way
 
--- what a row of command k has loaded
-abbrev pub row_loading : Extent → Command → FieldRow → Loading
-row_loading e k (StoreMoved word) = record {
+-- what command k has loaded that it is about to store
+abbrev pub store_loading : Extent → Command → FieldStore → Loading
+store_loading e k (Moved word) = record {
   object = None;
   value = value_load (from_register k) word;
 }
+store_loading e k (Pending word value) = record {
+  object = None;
+  value = pending_load (to_register k) word;
+}
+store_loading e k (InField way word) = record {
+  object = object_on e k way;
+  value = value_load (other_register k) word;
+}
+
+-- what a row of command k has loaded
+abbrev pub row_loading : Extent → Command → FieldRow → Loading
+row_loading e k (StoreMoved word) = store_loading e k (Moved word)
 row_loading e k (LoadShape x) = record { object = object_load (from_register k) x; value = None }
 row_loading e k (LoadValue way) = record { object = object_on e k way; value = None }
 row_loading e k (LoadLink way word) = record {
@@ -63,14 +78,9 @@ row_loading e k (LoadLink way word) = record {
 }
 row_loading e k (LoadField way) = record { object = object_on e k way; value = None }
 row_loading e k (LoadOwner word) = record { object = None; value = pending_load (to_register k) word }
-row_loading e k (StorePending word value) = record {
-  object = None;
-  value = pending_load (to_register k) word;
-}
-row_loading e k (StoreField way word) = record {
-  object = object_on e k way;
-  value = value_load (other_register k) word;
-}
+row_loading e k (StorePending word value) = store_loading e k (Pending word value)
+row_loading e k (StoreField way word) = store_loading e k (InField way word)
+row_loading e k (Shade r store) = store_loading e k store
 row_loading e k (LoadSecond word) = record {
   object = None;
   value = value_load (from_register k) word;
@@ -103,6 +113,7 @@ row_event e a t k (LoadOwner word) w = None
 row_event e a t k (StorePending word value) w = Some (events.StorePending t)
 row_event e a t k (StoreField way word) w = Some
     (events.StoreField t a (field_index k) (field_at e way.shape (field_index k)))
+row_event e a t k (Shade r store) w = None
 row_event e a t k LoadFirst w = Some (events.ReadValue t (from_register k))
 row_event e a t k (LoadSecond word) w = Some (events.Finish t)
 row_event e a t k LoadSaid w = if refers (payload_in w)
@@ -121,13 +132,12 @@ InHandAt s a t k (LoadField way) = register_of s.graph t (from_register k) ≡ v
 InHandAt s a t k (StoreField way word) = register_of s.graph t (from_register k) ≡ values.Ref a
 InHandAt s a t k _ = Unit {0}
 
--- the words and loads of a state are those of a heap and of a row of its thread, which reads w
--- there
-pub record IsAt (e : Extent) (s : GraphState) (h : Heap) (t : ℕ) (k : Command) (row : FieldRow)
+-- the words and loads of a state are those of a heap and of a row of this pass, which reads w there
+pub record IsAt (e : Extent) (s : GraphState) (h : Heap) (p : Pass) (k : Command) (row : FieldRow)
     (w : ℕ) : Type 0 where
   pub words : s.words ≡ block_words h
-  pub loads : s.loads t ≡ row_loading e k row
-  pub reads : w ≡ h (place_of (row_want e t k row))
+  pub loads : s.loads p.thread ≡ row_loading e k row
+  pub reads : w ≡ h (place_of (row_want e p k row))
 
 -- the same of the state of a part
 abbrev pub loading_of : Extent → FieldState → Loading
@@ -140,4 +150,4 @@ abbrev pub IsInHand : GraphState → Name → FieldState → Type 0
 IsInHand s a f = InHandAt s a f.pass.thread f.command f.row
 
 abbrev pub IsAtRow : Extent → GraphState → Heap → FieldState → ℕ → Type 0
-IsAtRow e s h f w = IsAt e s h f.pass.thread f.command f.row w
+IsAtRow e s h f w = IsAt e s h f.pass f.command f.row w

@@ -14,7 +14,8 @@ use Rattle.never_heap.specs.Steps.{step}
 use Rattle.shown_graph.specs.Layouts.{kind_shape}
 use Rattle.shown_graph.specs.Read.{value_payload}
 use Rattle.barrier_steps.specs.declared.rows.FieldRow.{FieldRow}
-use Rattle.barrier_steps.specs.declared.rows.FieldRow.TheVariants.{StoreNumber, StoreNil, LoadMoved, StoreMoved, LoadObject, LoadShape, LoadValue, LoadLink, LoadField, LoadOwner, StorePending, StoreField, LoadFirst, LoadSecond, LoadSaid, LoadSaidOwner, Answered}
+use Rattle.barrier_steps.specs.declared.rows.FieldRow.TheVariants.{LoadObject, LoadShape, LoadField, LoadOwner, StorePending, StoreField, Shade, LoadSecond, LoadSaid, LoadSaidOwner, Answered}
+use Rattle.barrier_steps.specs.declared.rows.FieldStore.TheVariants.{Pending}
 use Rattle.barrier_steps.specs.Operands.{to_register, from_register, other_register, field_index}
 use Rattle.barrier_steps.specs.Rows.{FieldState}
 
@@ -73,6 +74,7 @@ pub record RefersTo (head : Name → ℕ) (word : ℕ) (reply : Reply) : Type 0 
 abbrev pub Promises : (Name → ℕ) → FieldRow → Reply → Type 0
 Promises head (LoadOwner word) reply = RefersTo head word reply
 Promises head (StorePending word value) reply = reply ≡ Val value
+Promises head (Shade r (Pending word value)) reply = reply ≡ Val value
 Promises head (LoadSaidOwner word) reply = RefersTo head word reply
 Promises head (Answered given) reply = given ≡ reply
 Promises head _ reply = ⊥
@@ -102,6 +104,7 @@ ShowsAt g t k _ reply = Unit {0}
 abbrev pub due_at : Graph → ℕ → Command → FieldRow → Option Reply
 due_at g t k (LoadOwner word) = Some (Val (register_of g t (to_register k)))
 due_at g t k (StorePending word value) = Some (Val (register_of g t (to_register k)))
+due_at g t k (Shade r (Pending word value)) = Some (Val (register_of g t (to_register k)))
 due_at g t k (LoadSaidOwner word) = Some (Val (register_of g t (from_register k)))
 due_at g t k (Answered reply) = Some reply
 due_at g t k _ = None
@@ -109,6 +112,7 @@ due_at g t k _ = None
 -- the value that `get` has still to store is the one that its register has in the graph
 abbrev pub KnownAt : Graph → ℕ → Command → FieldRow → Type 0
 KnownAt g t k (StorePending word value) = value ≡ register_of g t (to_register k)
+KnownAt g t k (Shade r (Pending word value)) = value ≡ register_of g t (to_register k)
 KnownAt g t k _ = Unit {0}
 
 -- the same of the state of a part

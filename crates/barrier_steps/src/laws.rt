@@ -9,6 +9,7 @@ ghost use Rattle.block_store.specs.Places.{extent, in_range};
 ghost use Rattle.object_lists.specs.Layouts.{IsWay};
 ghost use Rattle.never_heap.specs.declared.Command.{Command};
 ghost use Rattle.never_heap.specs.declared.Reply.{Reply};
+ghost use Rattle.never_heap.specs.declared.Reply.TheVariants as replies;
 ghost use Rattle.never_heap.specs.Graphs.{Graph};
 ghost use Rattle.never_heap.specs.Bounds.{IsCommandInRange};
 ghost use Rattle.never_heap.specs.Steps.{makes_object};
@@ -17,11 +18,11 @@ ghost use Rattle.shown_graph.specs.Words.{block_words};
 ghost use Rattle.shown_graph.specs.Shown.{heads, named, IsSized};
 ghost use Rattle.shown_graph.specs.Events.{GraphState, Follows, Guard, with_load};
 ghost use Rattle.heap_machine.specs.Operations.{place_of, heap_after, Fits};
-ghost use Rattle.heap_machine.specs.Readings.{StoresHeld};
+ghost use Rattle.heap_machine.specs.Readings.{StoresHeld, IsHeld};
 ghost use Rattle.heap_machine.specs.declared.pass.Pass.{Pass};
 ghost use Rattle.barrier_steps.specs.declared.rows.FieldRow.{FieldRow};
 ghost use Rattle.barrier_steps.specs.Walks.{shape_length, links_to, link_at, field_at, ordinal_at};
-ghost use Rattle.barrier_steps.specs.Rows.{FieldState, first_row, at_first_row, field_want, field_got, field_reply, field_decided};
+ghost use Rattle.barrier_steps.specs.Rows.{FieldState, shades, first_row, at_first_row, field_want, field_got, field_reply, field_decided};
 ghost use Rattle.barrier_steps.specs.Fits.{IsThread, FieldFits, FieldReads, is_row_of};
 ghost use Rattle.barrier_steps.specs.Deciding.{is_deciding};
 ghost use Rattle.barrier_steps.specs.Replies.{answer, graph_after, Shown, Promises, NameShown, ShowsRegister, reply_due, IsKnown};
@@ -37,7 +38,8 @@ pub fn ways_lead_to_fields()
 /// The first row of a command fits its heap, and a row that fits becomes one that fits. Such a row
 /// wants a place of the heap, adds and takes away nothing, and stores what the place can hold.
 pub fn rows_stay_in_the_heap()
-    ensures first { (c : Config) (p : Pass) (k : Command) → IsThread c p.thread → IsCommandInRange k
+    ensures first { (c : Config) (p : Pass) (k : Command) → IsThread c p.thread
+        → p.threads ≡ c.threads → c.blocks ≤ 65535 → IsCommandInRange k
         → FieldFits c (at_first_row p k) }
     ensures next { (c : Config) (f : FieldState) (w : ℕ) → FieldFits c f → FieldReads c f w
         → FieldFits c (field_got (extent c) f w) }
@@ -49,7 +51,7 @@ pub fn rows_stay_in_the_heap()
 {}
 
 /// A part is decided exactly behind its deciding event, of which there is one at most, and it has a
-/// reply only behind it.
+/// reply only behind it. That never says that an object was made.
 pub fn rows_decide_once()
     ensures first { (k : Command) → makes_object k ≡ false → field_decided (first_row k) ≡ false }
     ensures after { (c : Config) (f : FieldState) (w : ℕ)
@@ -58,6 +60,8 @@ pub fn rows_decide_once()
     ensures once { (f : FieldState) (w : ℕ) → field_decided f.row ≡ true
         → is_deciding f.command f.row w ≡ false }
     ensures reply { (row : FieldRow) → IsSome (field_reply row) → field_decided row ≡ true }
+    ensures made { (c : Config) (f : FieldState) (w : ℕ) (n : Name) → field_reply f.row ≡ None
+        → field_reply (field_got (extent c) f w).row ≡ Some (replies.New n) → ⊥ }
 {}
 
 /// At the deciding event the command answers what its step does on the graph of which the words
@@ -110,7 +114,7 @@ pub fn rows_read_the_graph()
         → ℕ) (s : GraphState) (h : Heap)
         (f : FieldState) (w : ℕ) → c.blocks ≤ 65535 → m ≤ c.blocks
         → Follows c.width c.threads m (named kept) at s → FieldFits c f → IsAtRow (extent c) s h f w
-        → field_reply f.row ≡ None → FieldReads c f w }
+        → (shades f.row ≡ true → IsHeld c h) → field_reply f.row ≡ None → FieldReads c f w }
     ensures shown { (c : Config) (m : ℕ) (kept : Name → Bool) (at : Name → ℕ
         → ℕ) (s : GraphState) (h : Heap)
         (f : FieldState) (w : ℕ) → c.blocks ≤ 65535 → m ≤ c.blocks

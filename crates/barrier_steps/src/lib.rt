@@ -6,6 +6,9 @@ mod laws;
 mod operands;
 mod pass;
 mod rows;
+mod rules;
+#[cfg(test)]
+mod shading_tests;
 #[cfg(test)]
 mod tests;
 mod walks;
@@ -15,4 +18,5 @@ pub use laws::{
     rows_stay_in_the_heap, ways_lead_to_fields,
 };
 pub use pass::FieldPass;
-pub use rows::{FieldRow, Way};
+pub use rows::{FieldRow, FieldStore, Way};
+pub use rules::{rows_keep_the_heap, rows_keep_the_names, rows_leave_the_gate};

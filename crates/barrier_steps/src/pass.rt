@@ -11,6 +11,8 @@ ghost use Rattle.block_store.specs.Shapes.{IsShape, shape_of};
 ghost use Rattle.never_heap.specs.Bounds.{IsCommandInRange};
 ghost use Rattle.never_heap.specs.Steps.{makes_object};
 ghost use Rattle.heap_machine.specs.Operations.{op_at, Load, Exchange};
+ghost use Rattle.grey_steps.specs.Fits.{GreyFits, GreyReads};
+ghost use Rattle.grey_steps.specs.Rows.{grey_got};
 ghost use Rattle.barrier_steps.specs.Operands as operands;
 ghost use Rattle.barrier_steps.specs.Walks;
 ghost use Rattle.barrier_steps.specs.Walks.{shape_length, links_to};
@@ -20,11 +22,12 @@ ghost use Rattle.barrier_steps.specs.Fits.{IsThread, IsWalk, FieldFits, FieldRea
 
 use crate::operands::{field_index, from_register, number_set, other_register, to_register};
 use crate::walks::{field_at, length_of, link_at, links_to};
-use crate::{FieldRow, Way};
+use crate::{FieldRow, FieldStore, Way};
 use block_store::{
     Name, Payload, PhaseWord, Places, Shape, Value, Width, payload_word, read_owner, read_payload,
     read_shape,
 };
+use grey_steps::{GreyPass, GreyRow};
 use heap_machine::{Op, Pass, Step};
 use never_heap::{Command, Reply};
 use std::marker::Model;
@@ -96,6 +99,72 @@ fn register(places: &Places, thread: u32, r: u8) -> usize
     places.payload(block, slot)
 }
 
+// The word that is stored.
+fn word_of(store: FieldStore) -> u64
+    ensures { result ≡ Rows.stored_word store }
+{
+    match store {
+        FieldStore::Moved { word } => word,
+        FieldStore::Pending { word, .. } => word,
+        FieldStore::InField { word, .. } => word,
+    }
+}
+
+// The row that stores it.
+fn store_row(store: FieldStore) -> FieldRow
+    ensures { result ≡ Rows.store_row store }
+{
+    match store {
+        FieldStore::Moved { word } => FieldRow::StoreMoved { word },
+        FieldStore::Pending { word, value } => FieldRow::StorePending { word, value },
+        FieldStore::InField { way, word } => FieldRow::StoreField { way, word },
+    }
+}
+
+// The block that is shaded before this word is stored, or 0.
+fn shaded_for(pass: Pass, word: u64) -> u32
+    requires { IsSome (payload_of word) }
+    ensures { result ≡ Rows.shaded_for pass word }
+{
+    if pass.sweep { 0 } else { target(word) }
+}
+
+// Before a store: the write barrier, where a block is to be shaded.
+fn before_store(pass: Pass, store: FieldStore) -> FieldRow
+    requires { IsSome (payload_of (Rows.stored_word store)) }
+    ensures { result ≡ Rows.before_store pass store }
+{
+    let block = shaded_for(pass, word_of(store));
+    if block == 0 {
+        store_row(store)
+    } else {
+        FieldRow::Shade {
+            shade: GreyRow::TakeOwn { target: block },
+            store,
+        }
+    }
+}
+
+// After an event of the barrier: once it is over the store follows.
+fn in_barrier(places: &Places, pass: Pass, row: GreyRow, store: FieldStore, read: u64) -> FieldRow
+    requires fits { GreyFits places.now (record { pass = pass; row = row }) }
+    requires word { GreyReads places.now (record { pass = pass; row = row }) read }
+    ensures { result
+        ≡ Rows.in_barrier (grey_got (extent places.now) (record { pass = pass; row = row }) read).row
+        store }
+{
+    let mut part = GreyPass::at_row(pass, row);
+    part.got(places, read);
+    if part.over() {
+        store_row(store)
+    } else {
+        FieldRow::Shade {
+            shade: part.row(),
+            store,
+        }
+    }
+}
+
 // The first row of a command.
 fn first_row(command: Command) -> FieldRow
     requires { makes_object command ≡ false }
@@ -131,13 +200,14 @@ fn after_object(payload: Payload) -> FieldRow
 }
 
 // At the block of the field.
-fn at_block(command: Command, way: Way, word: u64) -> FieldRow
-    ensures { result ≡ Rows.at_block command way word }
+fn at_block(pass: Pass, command: Command, way: Way, word: u64) -> FieldRow
+    requires { IsSome (payload_of word) }
+    ensures { result ≡ Rows.at_block pass command way word }
 {
     use Command::*;
 
     match command {
-        Put { .. } => FieldRow::StoreField { way, word },
+        Put { .. } => before_store(pass, FieldStore::InField { way, word }),
         New { .. } | Arr { .. } | Set { .. } | Nil { .. } => FieldRow::LoadField { way },
         Mov { .. } | Get { .. } | Len { .. } | Same { .. } | Say { .. } => {
             FieldRow::LoadField { way }
@@ -146,15 +216,16 @@ fn at_block(command: Command, way: Way, word: u64) -> FieldRow
 }
 
 // The next link of the way, while there is one.
-fn on_way(places: &Places, command: Command, way: Way, word: u64) -> FieldRow
+fn on_way(places: &Places, pass: Pass, command: Command, way: Way, word: u64) -> FieldRow
+    requires word { IsSome (payload_of word) }
     requires shape { IsShape way.shape }
     requires index { operands.field_index command < shape_length way.shape }
-    ensures { result ≡ Rows.on_way (extent places.now) command way word }
+    ensures { result ≡ Rows.on_way (extent places.now) pass command way word }
 {
     if way.level < links_to(places, way.shape, field_index(command, way.shape)) {
         FieldRow::LoadLink { way, word }
     } else {
-        at_block(command, way, word)
+        at_block(pass, command, way, word)
     }
 }
 
@@ -170,16 +241,17 @@ fn way_from(shape: Shape, block: u32) -> Way
 }
 
 // After the object's shape.
-fn after_shape(places: &Places, command: Command, block: u32, shape: Shape) -> FieldRow
+#[tactic(auto, unfolding(block_store::specs::Payloads::payload_of))]
+fn after_shape(places: &Places, pass: Pass, command: Command, block: u32, shape: Shape) -> FieldRow
     requires { IsShape shape }
-    ensures { result ≡ Rows.after_shape (extent places.now) command block shape }
+    ensures { result ≡ Rows.after_shape (extent places.now) pass command block shape }
 {
     use Command::*;
 
     let length = length_of(shape) as u64;
     let way = way_from(shape, block);
     match command {
-        Get { i, .. } if i < length => on_way(places, command, way, 0),
+        Get { i, .. } if i < length => on_way(places, pass, command, way, 0),
         Put { i, .. } if i < length => FieldRow::LoadValue { way },
         Get { .. } | Put { .. } => answered(Reply::Range),
         New { .. } | Arr { .. } | Set { .. } | Nil { .. } => answered(Reply::Len(length)),
@@ -188,19 +260,27 @@ fn after_shape(places: &Places, command: Command, block: u32, shape: Shape) -> F
 }
 
 // After a link.
-fn after_link(places: &Places, command: Command, way: Way, word: u64, block: u32) -> FieldRow
+fn after_link(
+    places: &Places,
+    pass: Pass,
+    command: Command,
+    way: Way,
+    word: u64,
+    block: u32,
+) -> FieldRow
+    requires word { IsSome (payload_of word) }
     requires shape { IsShape way.shape }
     requires index { operands.field_index command < shape_length way.shape }
     requires level { way.level < links_to (extent places.now) way.shape
         (operands.field_index command) }
-    ensures { result ≡ Rows.on_way (extent places.now) command (Rows.way_on way block) word }
+    ensures { result ≡ Rows.on_way (extent places.now) pass command (Rows.way_on way block) word }
 {
     let next = Way {
         level: way.level + 1,
         block,
         ..way
     };
-    on_way(places, command, next, word)
+    on_way(places, pass, command, next, word)
 }
 
 // The store of a field's word, once its value is known.
@@ -332,6 +412,7 @@ impl FieldPass {
             LoadLink { way, .. } => Op::load(link(places, command, way)),
             LoadField { way } => Op::load(field(places, command, way)),
             StoreField { way, word } => Op::exchange(field(places, command, way), word),
+            Shade { shade, .. } => GreyPass::at_row(self.pass, shade).want(places),
             LoadOwner { word } | LoadSaidOwner { word } => Op::load(places.owner(target(word))),
             Answered { .. } => Op::load(places.phase()),
         }
@@ -386,19 +467,23 @@ impl FieldPass {
     {
         use FieldRow::*;
 
-        let command = self.command;
+        let (pass, command) = (self.pass, self.command);
         match self.row {
             StoreNumber | StoreNil | StoreMoved { .. } | StoreField { .. } => {
                 answered(Reply::Stored)
             }
-            LoadMoved => StoreMoved { word: read },
+            LoadMoved => before_store(pass, FieldStore::Moved { word: read }),
             LoadObject => after_object(payload_in(read)),
-            LoadShape { block } => after_shape(places, command, block, shape_in(read)),
-            LoadValue { way } => on_way(places, command, way, read),
-            LoadLink { way, word } => after_link(places, command, way, word, target(read)),
+            LoadShape { block } => after_shape(places, pass, command, block, shape_in(read)),
+            LoadValue { way } => on_way(places, pass, command, way, read),
+            LoadLink { way, word } => after_link(places, pass, command, way, word, target(read)),
             LoadField { .. } => after_field(read, payload_in(read)),
-            LoadOwner { word } => store_pending(word, object_in(read)),
+            LoadOwner { word } => {
+                let value = object_in(read);
+                before_store(pass, FieldStore::Pending { word, value })
+            }
             StorePending { value, .. } => answered(Reply::Val(value)),
+            Shade { shade, store } => in_barrier(places, pass, shade, store, read),
             LoadFirst => LoadSecond { word: read },
             LoadSecond { word } => after_both(word, read),
             LoadSaid => after_said(read, payload_in(read)),
@@ -415,6 +500,10 @@ impl FieldPass {
         match self.row {
             FieldRow::LoadOwner { .. }
             | FieldRow::StorePending { .. }
+            | FieldRow::Shade {
+                store: FieldStore::Pending { .. },
+                ..
+            }
             | FieldRow::LoadSaidOwner { .. }
             | FieldRow::Answered { .. } => true,
             _ => false,

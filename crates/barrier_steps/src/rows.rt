@@ -1,6 +1,7 @@
 //! The rows of the commands that allocate nothing: one variant for each event.
 
 use block_store::{Shape, Value};
+use grey_steps::GreyRow;
 use never_heap::Reply;
 
 /// How far a thread has come on the way to a field.
@@ -12,6 +13,17 @@ pub struct Way {
     pub level: u32,
     /// The block that they led to.
     pub block: u32,
+}
+
+/// What a command stores next: the word, and where it goes.
+#[derive(Clone, Copy, Debug, PartialEq, Eq)]
+pub enum FieldStore {
+    /// `mov`: the word of the register that it copies, in the other one.
+    Moved { word: u64 },
+    /// `get`: the field's word, which shows this value, in its register.
+    Pending { word: u64, value: Value },
+    /// `put`: the word in the field.
+    InField { way: Way, word: u64 },
 }
 
 /// The next event of a command that allocates nothing, or its reply. A row has what was loaded for
@@ -43,6 +55,9 @@ pub enum FieldRow {
     StorePending { word: u64, value: Value },
     /// `put`: stores the word in the field.
     StoreField { way: Way, word: u64 },
+    /// `mov`, `get` and `put` in Mark, where a reference is stored: the write barrier of its block has
+    /// come to this row of its own.
+    Shade { shade: GreyRow, store: FieldStore },
     /// `same`: loads the first register.
     LoadFirst,
     /// `same`: loads the second register, to be compared with the word of the first.

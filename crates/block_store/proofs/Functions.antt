@@ -1,5 +1,5 @@
 -- Functions that change at one number, and sums over them.
-use Rattle.std.proofs.Common.{◌≡◌, ℕ, zero, suc, ◌+◌, ◌≤◌, ◌<◌, Bool, true, false, refl, arith, ap, inl, inr, eq-eqb, ne_eqb}
+use Rattle.std.proofs.Common.{◌≡◌, ℕ, zero, suc, ◌+◌, ◌≤◌, ◌<◌, Bool, true, false, refl, arith, ap, sym, ◌∙◌, inl, inr, eq-eqb, ne_eqb}
 use Rattle.std.proofs.lemmas.Bool.{cases_eq}
 use Rattle.block_store.specs.Phases.{bit}
 use Rattle.block_store.specs.Counts.{changed, total}
@@ -32,6 +32,21 @@ changed_both P f t v u here away = elim (cases_eq t u) [
   | inl e ↦ rw (eq-eqb t u e) (here e)
   | inr ne ↦ rw (ne_eqb t u ne) (away ne)
 ]
+
+-- a part of a changed function is the part, changed
+pub changed_map : {A B : Type 0} (g : A → B) (f : ℕ → A) (t : ℕ) (v : A)
+    → (λ u. g (changed f t v u)) ≡ changed (λ u. g (f u)) t (g v)
+changed_map g f t v = funext _ _ (λ u. elim (cases_eq t u) [
+  | inl e ↦ rw (eq-eqb t u e) refl
+  | inr ne ↦ rw (ne_eqb t u ne) refl
+])
+
+-- to change a function to what it is there changes nothing
+pub changed_self : {A : Type 0} (f : ℕ → A) (t : ℕ) (v : A) → f t ≡ v → changed f t v ≡ f
+changed_self f t v is = funext _ _ (λ u. elim (cases_eq t u) [
+  | inl e ↦ rw (eq-eqb t u e) (sym is ∙ ap f e)
+  | inr ne ↦ rw (ne_eqb t u ne) refl
+])
 
 total_above : {A : Type 0} (g : A → ℕ) (n : ℕ) (f : ℕ → A) (t : ℕ) (v : A) → n ≤ t → total n (λ u. g (changed f t v u)) ≡ total n (λ u. g (f u))
 total_above g zero f t v h = refl

@@ -72,7 +72,7 @@ row_present s _ = refl
 pub present : (s : BuildState) → is_some (build_reply s) ≡ build_over s.row
 present s = row_present s s.row
 
-either : (P : BuildRow → Type 0) (b : Bool) (q r : BuildRow) → P q → P r → P (cond b q r)
+pub either : (P : BuildRow → Type 0) (b : Bool) (q r : BuildRow) → P q → P r → P (cond b q r)
 either P true q r x y = x
 either P false q r x y = y
 

@@ -11,3 +11,8 @@ pub mod Once
 pub mod Ends
 pub mod Order
 pub mod Zeros
+pub mod Shapes
+pub mod Building
+pub mod Pictures
+pub mod Naming
+pub mod Deciding

@@ -100,7 +100,7 @@ module _ (c : Config) (h : Heap) (hs : ℕ → Holding) (s : BuildState) (f : Bu
       → HeldOnce (build_got (extent c) s (h (place_of (build_want (extent c) s)))).held
   keeps_once e once = row_once s.row f.row e once
 
-row_holds : (c : Config) (k : ℕ) (held : List ℕ) (r : BuildRow) (o : ℕ) → RowFits c k held r
+pub row_holds : (c : Config) (k : ℕ) (held : List ℕ) (r : BuildRow) (o : ℕ) → RowFits c k held r
     → o < length held → o < left_of k r
     → 1 ≤ times (block_at held o) (row_holding k held r).held
 row_holds c k held ReadCount o f low left =

@@ -1,22 +1,5 @@
 -- In which order the words of the held blocks are written.
-use Rattle.std.proofs.Common.{
-  ◌≡◌,
-  ℕ,
-  ◌<◌,
-  ◌+◌,
-  ◌⊎◌,
-  true,
-  false,
-  refl,
-  arith,
-  inl,
-  inr,
-  eqb,
-  ltb,
-  eq-eqb,
-  ne_eqb,
-  ltb-false,
-}
+use Rattle.std.proofs.Common.{◌≡◌, ℕ, ◌+◌, true, false, refl, arith, inl, inr, ltb, eq-eqb, ne_eqb, ltb-false}
 use Rattle.std.proofs.lemmas.Bool.{cases_Bool, cases_eq}
 use Rattle.block_store.specs.declared.Config.{Config}
 use Rattle.block_store.specs.Places.{extent}
@@ -31,7 +14,7 @@ use Rattle.build_steps.specs.declared.rows.BuildRow.TheVariants.{
 use Rattle.build_steps.specs.Ends.{is_writing}
 use Rattle.build_steps.specs.Fits.{RowFits, BuildFits}
 use Rattle.build_steps.specs.Rows.{BuildState, row_got, build_got}
-use Rattle.build_steps.specs.Standing.{left_of, begun_of, IsNextWord}
+use Rattle.build_steps.specs.Standing.{IsNextWord}
 
 row_next : (c : Config) (s : BuildState) (r : BuildRow) (v : ℕ) → RowFits c s.blocks s.held r
     → is_writing r ≡ true → IsNextWord (payloads c.width) s.blocks r (row_got c.width s r v)

@@ -3,3 +3,4 @@ pub mod Rows
 pub mod Fits
 pub mod Standing
 pub mod Ends
+pub mod Naming

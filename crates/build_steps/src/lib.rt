@@ -4,6 +4,7 @@
 #![tactic(auto)]
 
 mod laws;
+mod names;
 mod objects;
 mod pass;
 mod rows;
@@ -15,5 +16,6 @@ pub use laws::{
     rows_keep_the_heap, rows_stay_in_the_heap, what_is_published, what_is_written_stands,
     words_are_written_in_order,
 };
+pub use names::{rows_keep_the_names, states_build_what_they_hold, written_blocks_stand};
 pub use pass::BuildPass;
 pub use rows::BuildRow;

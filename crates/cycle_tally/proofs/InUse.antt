@@ -1,30 +1,29 @@
 -- Where each block that is not Free is of a register array, or of a name that was reachable at the
 -- last start or made since, they are at most the live blocks of that start and those given since.
-use Rattle.std.proofs.Common.{◌≡◌, ℕ, zero, suc, ◌+◌, ◌-◌, ◌≤◌, ◌<◌, ◌⊎◌, not, Bool, true, false, cond, eqb, leb, refl, arith, ap, sym, ◌∙◌, subst, List, [], ◌∷◌, ◌++◌, length, get_or, inl, inr, eq-eqb, ne_eqb}
-use Rattle.std.specs.List.{sum_by, All}
-use Rattle.std.proofs.lemmas.Bool.{le-leb, not-true}
-use Rattle.std.proofs.lemmas.List.Elements.{All-append}
-use Rattle.std.proofs.lemmas.List.Sums.{sum_by-cons}
+use Rattle.std.proofs.Common.{◌≡◌, ℕ, zero, suc, ◌+◌, ◌-◌, ◌≤◌, ◌<◌, ◌⊎◌, not, Bool, true, false, cond, refl, arith, ap, sym, ◌∙◌, subst, List, [], ◌∷◌, ◌++◌, length, length-append, get_or, inl, inr}
+use Rattle.std.specs.List.{sum_by}
+use Rattle.std.proofs.lemmas.Bool.{not-true}
 use Rattle.block_store.specs.declared.Config.{Config}
 use Rattle.block_store.specs.declared.Name.{Name}
 use Rattle.block_store.specs.declared.Width.{Width}
 use Rattle.block_store.specs.Phases.{bit}
 use Rattle.block_store.specs.Registers.{registers_end}
-use Rattle.never_heap.specs.Graphs.{Graph, start_graph, object_of, has_name, count_of, same_name, shared_name}
+use Rattle.never_heap.specs.Graphs.{Graph, start_graph, object_of, has_name, same_name}
 use Rattle.never_heap.specs.Histories.{HistoryItem, Started, Did, replay, replay_from, starts_in, Legal, LegalFrom}
 use Rattle.never_heap.specs.Cycles.{before_start, after_start, graph_at}
 use Rattle.never_heap.specs.Given.{given}
 use Rattle.never_heap.specs.LiveBlocks.{object_blocks, live_of, live_blocks}
-use Rattle.never_heap.specs.Reach.{reachable, names, names_below, thread_names}
+use Rattle.never_heap.specs.Reach.{reachable, names}
 use Rattle.never_heap.specs.Taken.{taken_in}
 use Rattle.never_heap.proofs.ReachSteps.{reachable_named}
 use Rattle.never_heap.proofs.Staying.{replay_shape}
+use Rattle.never_heap.proofs.Sums.{sum_same, all_named}
 use Rattle.never_heap.proofs.Starting.{threads_of_start}
-use Rattle.never_heap.proofs.Naming.{same_itself, any_of_names, name_of_place, length_of_thread}
-use Rattle.block_store.specs.Counts.{total}
+use Rattle.never_heap.proofs.Naming.{same_itself, any_of_names}
+use Rattle.block_store.specs.Counts.{times, total}
 use Rattle.cycle_tally.specs.InUse.{IsBlockOfThese, IsCovered, count_free}
 use Rattle.cycle_tally.specs.Entries.{InThreads}
-use Rattle.cycle_tally.proofs.Listing.{times, times_append, length_both, listed, these, length_these, times_these, blocks_at, length_blocks, times_blocks}
+use Rattle.cycle_tally.proofs.Listing.{times_append, listed, these, length_these, times_these, blocks_at, length_blocks, times_blocks}
 use Rattle.cycle_tally.proofs.Making.{made_from, threads_of_replay, in_made, replay_parts, legal_rest, threads_rest, starts_rest, taken_first, same_blocks, made_taken}
 
 legal_from : (c : Config) (h : List HistoryItem) → Legal c h
@@ -32,28 +31,6 @@ legal_from : (c : Config) (h : List HistoryItem) → Legal c h
 legal_from c [] l = absurd l
 legal_from c (Started ∷ h) l = (omega arith, (tt, l))
 legal_from c (Did e ∷ h) l = absurd l
-
-sum_same : {X : Type 0} (f h : X → ℕ) (xs : List X) → All (λ x. f x ≡ h x) xs
-    → sum_by f xs ≡ sum_by h xs
-sum_same f h [] all = refl
-sum_same f h (x ∷ xs) all =
-    sum_by-cons f x xs ∙ ap (λ k. k + sum_by f xs) (all 0 x (omega arith))
-    ∙ ap (λ k. h x + k) (sum_same f h xs (λ k d l. all (suc k) d (omega arith)))
-    ∙ sym (sum_by-cons h x xs)
-
-has_serial : (g : Graph) (t s : ℕ) → s < count_of g t
-    → has_name g (record { thread = t; serial = s + 1 }) ≡ true
-has_serial g t s l = ap (λ b. cond b (eqb t (length g.mutators)) (leb (s + 1) (count_of g t)))
-    (ne_eqb (s + 1) 0 (λ e. absurd (omega arith))) ∙ le-leb (s + 1) (count_of g t) (omega arith)
-
-all_named : (g : Graph) (u : ℕ) → All (λ (a : Name). has_name g a ≡ true) (names_below g u)
-all_named g zero = λ k d l. let first : k ≡ 0 = omega arith in
-    ap (λ j. has_name g (get_or (shared_name (length g.mutators) ∷ []) j d)) first
-    ∙ eq-eqb (length g.mutators) (length g.mutators) refl
-all_named g (suc u) = All-append (λ (a : Name). has_name g a ≡ true) (names_below g u)
-    (thread_names u (count_of g u)) (all_named g u)
-    (λ k d l. let few : k < count_of g u = omega (arith, length_of_thread u (count_of g u)) in
-    ap (has_name g) (name_of_place u (count_of g u) k d few) ∙ has_serial g u k few)
 
 live_sum : (w : Width) (g : Graph)
     → live_blocks w g ≡ registers_end w (length g.mutators) + sum_by (live_of w g) (names g)
@@ -170,8 +147,8 @@ module _ (c : Config) (h : List HistoryItem) (at : Name → ℕ → ℕ) (free :
       ≤ live_blocks c.width g + given c.width h (starts_in h)
   few_blocks =
       let count = listed c.blocks (λ x. not (free x)) places placed in
-      let l1 = length_both root_places (live_places ++ made_places) in
-      let l2 = length_both live_places made_places in
+      let l1 = length-append root_places (live_places ++ made_places) in
+      let l2 = length-append live_places made_places in
       let r = length_these (λ i. suc i) roots in
       let a = length_blocks at live_size (names g) in
       let b = length_blocks at size (made_from g rest) in

@@ -1,5 +1,6 @@
 pub mod Sums
 pub mod Counting
+pub mod Going
 pub mod Moving
 pub mod Working
 pub mod Deciding

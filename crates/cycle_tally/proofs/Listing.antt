@@ -1,5 +1,5 @@
 -- What stands in a list of blocks is at most its length.
-use Rattle.std.proofs.Common.{◌≡◌, ℕ, zero, suc, ◌+◌, ◌≤◌, ◌<◌, Bool, true, false, eqb, refl, arith, ap, subst, List, [], ◌∷◌, ◌++◌, length, inl, inr, eq-eqb, ne_eqb}
+use Rattle.std.proofs.Common.{◌≡◌, ℕ, zero, suc, ◌+◌, ◌≤◌, ◌<◌, Bool, true, false, eqb, refl, arith, ap, subst, List, [], ◌∷◌, ◌++◌, length, length-append, inl, inr, eq-eqb, ne_eqb}
 use Rattle.std.specs.List.{list_any, sum_by}
 use Rattle.std.proofs.lemmas.Bool.{cases_eq, or_cases}
 use Rattle.std.proofs.lemmas.List.Sums.{sum_by-cons}
@@ -7,22 +7,13 @@ use Rattle.block_store.specs.declared.Name.{Name}
 use Rattle.block_store.specs.Phases.{bit}
 use Rattle.never_heap.specs.Graphs.{same_name}
 use Rattle.never_heap.proofs.Naming.{one_name}
-use Rattle.block_store.specs.Counts.{total}
+use Rattle.block_store.specs.Counts.{times, total}
 use Rattle.block_store.proofs.Functions.{bit_le}
 use Rattle.cycle_tally.proofs.Sums.{total_below, total_nought}
-
--- how often x stands in the list
-abbrev pub times : ℕ → List ℕ → ℕ
-times x [] = 0
-times x (y ∷ ys) = bit (eqb x y) + times x ys
 
 pub times_append : (x : ℕ) (xs ys : List ℕ) → times x (xs ++ ys) ≡ times x xs + times x ys
 times_append x [] ys = omega arith
 times_append x (y ∷ xs) ys = omega (arith, times_append x xs ys)
-
-pub length_both : (xs ys : List ℕ) → length (xs ++ ys) ≡ length xs + length ys
-length_both [] ys = omega arith
-length_both (x ∷ xs) ys = omega (arith, length_both xs ys)
 
 total_plus : (n : ℕ) (f g : ℕ → ℕ) → total n (λ x. f x + g x) ≡ total n f + total n g
 total_plus zero f g = refl
@@ -91,7 +82,7 @@ pub length_blocks : (at : Name → ℕ → ℕ) (k : Name → ℕ) (xs : List Na
     → length (blocks_at at k xs) ≡ sum_by k xs
 length_blocks at k [] = refl
 length_blocks at k (a ∷ xs) =
-    let both = length_both (these (at a) (k a)) (blocks_at at k xs) in
+    let both = length-append (these (at a) (k a)) (blocks_at at k xs) in
     let first = length_these (at a) (k a) in
     let rest = length_blocks at k xs in
     let sum : sum_by k (a ∷ xs) ≡ k a + sum_by k xs = sum_by-cons k a xs in

@@ -2,17 +2,18 @@
 use Rattle.std.proofs.Common.{◌≡◌, ◌≢◌, ℕ, ◌+◌, ◌*◌, ◌≤◌, ◌<◌, Bool, true, false, ◌&&◌, ◌||◌, eqb, ltb, refl, arith, ap, sym, ◌∙◌, subst, inl, inr, eq-eqb, ne_eqb, lt-ltb}
 use Rattle.std.proofs.lemmas.Bool.{cases_eq, cases_lt, cases_Bool, both_ways, le-leb, lt-leb, le-ltb, ltb-true, and_left, and_right, and_parts}
 use Rattle.std.proofs.lemmas.Nat.{le-div, div-add-mod'}
+use Rattle.std.proofs.lemmas.Bool.Decides.{nat_tests}
 use Rattle.block_store.specs.declared.Config.{Config}
 use Rattle.block_store.specs.Phases.{bit}
-use Rattle.block_store.specs.Counts.{changed, total}
-use Rattle.work_account.specs.Accounts.{Balance, with_unit, IsSound, units_in, given_in}
-use Rattle.block_store.proofs.Functions.{total_changed, total_part, bit_le, bit_one}
+use Rattle.block_store.specs.Counts.{total}
+use Rattle.work_account.specs.Accounts.{Balance, with_unit, IsSound, units_in}
+use Rattle.block_store.proofs.Functions.{total_part, bit_le, bit_one}
 use Rattle.work_account.proofs.Balances.{unit_sound}
 use Rattle.cycle_tally.specs.Tallies.{Spending, Tally, claims}
-use Rattle.cycle_tally.specs.Events.{Paint, Scan, Claim, Pass, apply, NoClaim}
+use Rattle.cycle_tally.specs.Events.{Paint, Scan, Claim, Pass, apply, Guard}
 use Rattle.cycle_tally.specs.Kept.{SpendingKept, TallyKept}
 use Rattle.cycle_tally.proofs.Sums.{rises, units_more, no_claims, claims_within, claims_below, claims_above}
-use Rattle.cycle_tally.proofs.Counting.{each_changed}
+use Rattle.cycle_tally.proofs.Going.{goes, stays}
 
 module _ (c : Config) (rate : ℕ) (black : ℕ → ℕ) (some : 0 < rate) (s : Tally)
     (k : TallyKept c rate black s) where
@@ -24,31 +25,18 @@ module _ (c : Config) (rate : ℕ) (black : ℕ → ℕ) (some : 0 < rate) (s : 
     | inr ne ↦ (let z : bit (eqb a b) ≡ 0 = ap bit (ne_eqb a b ne) in omega (arith, h))
   ]
 
-  pub paints : (x w : ℕ) → (s.sweep ≡ false → s.colour x ≡ black s.cycle → w ≡ black s.cycle)
+  pub paints : (x w : ℕ) → Guard c rate black s (Paint x w)
       → TallyKept c rate black (apply c rate black s (Paint x w))
-  paints x w stays = record {
-    starts = k.starts;
-    some = k.some;
-    each = k.each;
+  paints x w g = stays c rate black some s k (apply c rate black s (Paint x w)) (record {
     cursor = k.cursor;
-    passes = k.passes;
-    counted = k.counted;
-    handed = k.handed;
-    ended = k.ended;
-    room = k.room;
-    few = k.few;
-    many = k.many;
-    works = k.works;
-    cheap = k.cheap;
-    right = k.right;
-    entries = k.entries;
-    licensed = k.licensed;
     scans = λ y. elim (cases_eq x y) [
       | inl e ↦ rw (eq-eqb x y e) (repaint s.sweep (s.colour y) w (black s.cycle) (s.scanned y)
-          (k.scans y) (λ mark is. stays mark (ap s.colour e ∙ is)))
+          (k.scans y) (λ mark is. g mark (ap s.colour e ∙ is)))
       | inr ne ↦ rw (ne_eqb x y ne) (k.scans y)
     ];
-  }
+    passes = λ x pos. refl;
+    free = omega arith;
+  })
 
   -- a thread makes a unit
   pub spends : (t : ℕ) (w : Spending) → t < c.threads → (s.threads t).inside ≡ true
@@ -77,95 +65,63 @@ module _ (c : Config) (rate : ℕ) (black : ℕ → ℕ) (some : 0 < rate) (s : 
         reserved = λ h. absurd (let q = (o.reserved (λ e. h (r ∙ e))).2 in omega arith);
       }
 
-  pub scans_one : (t x : ℕ) → t < c.threads → (s.threads t).inside ≡ true → s.sweep ≡ false → 0 < x
-      → x ≤ c.blocks → s.colour x ≢ black s.cycle
-      → (s.threads t).balance.paid < rate * (s.threads t).asked → NoClaim (s.threads t)
+  pub scans_one : (t x : ℕ) → Guard c rate black s (Scan t x)
       → TallyKept c rate black (apply c rate black s (Scan t x))
-  scans_one t x tl inside mark pos low grey less none =
+  scans_one t x g =
       let w0 : Spending = s.threads t in
       let w : Spending = record w0 { balance = with_unit w0.balance } in
-      let o = k.each t tl in
-      let up = rises c.blocks s.scanned x pos low in
-      let u = total_changed
-      (λ (v : Spending). units_in s.cycle v.balance) c.threads s.threads t w tl in
+      let o = k.each t g.0 in
+      let up = rises c.blocks s.scanned x g.3 g.4 in
       let uu : units_in s.cycle (with_unit w0.balance) ≡ units_in s.cycle w0.balance + 1 =
-      units_more s.cycle w0.balance (o.present inside) in
-      record {
-        starts = k.starts;
-        some = k.some;
+      units_more s.cycle w0.balance (o.present g.1) in
+      goes c rate black some s k t w (apply c rate black s (Scan t x)) g.0
+      (spends t w g.0 g.1 g.6 g.1 refl refl refl (λ h. absurd (omega (arith, g.7))))
+      (record {
         cursor = k.cursor;
-        ended = k.ended;
-        few = k.few;
-        many = k.many;
-        cheap = k.cheap;
-        right = k.right;
-        entries = k.entries;
-        licensed = k.licensed;
-        each = each_changed c rate black some s k s.cycle t w k.each
-            (spends t w tl inside less inside refl refl refl (λ h. absurd (omega arith)));
         scans = λ y. elim (cases_eq x y) [
           | inl e ↦
               let new : bit (s.sweep || true) ≡ 1 =
               ap bit (Rattle.std.proofs.lemmas.Bool.or_right s.sweep true refl) in
               let old : bit (s.sweep || eqb (s.colour x) (black s.cycle)) ≡ 0 =
               ap bit (Rattle.std.proofs.lemmas.Bool.or_from s.sweep
-              (eqb (s.colour x) (black s.cycle)) mark
-              (ne_eqb (s.colour x) (black s.cycle) grey)) in
+              (eqb (s.colour x) (black s.cycle)) g.2
+              (grind (arith, nat_tests, g.5))) in
               rw (eq-eqb x y e, eq-eqb (black s.cycle) (black s.cycle) refl)
               (omega (arith, k.scans x))
           | inr ne ↦ rw (ne_eqb x y ne) (k.scans y)
         ];
-        passes = λ y yp. (let q = total_changed (claims y) c.threads s.threads t w tl in
-            omega (arith, k.passes y yp));
-        counted = omega (arith, k.counted);
-        handed = (let q = total_changed (λ (v : Spending).
-            given_in s.cycle v.balance) c.threads s.threads t w tl in omega (arith, k.handed));
-        room = (let q = total_changed (λ (v : Spending).
-            given_in s.cycle v.balance) c.threads s.threads t w tl in
-            let y = total_changed (λ (v : Spending). v.reserved) c.threads s.threads t w tl in
-            omega (arith, k.room));
-        works = (let q = total_changed (λ (v : Spending).
-            v.balance.paid) c.threads s.threads t w tl in omega (arith, k.works));
-      }
+        passes = λ y yp. refl;
+        made = omega arith;
+        given = refl;
+        free = omega arith;
+        paid = omega arith;
+      })
 
-  pub claims_more : (t r : ℕ) → t < c.threads → (s.threads t).inside ≡ true → s.sweep ≡ true
-      → s.cursor + r ≤ c.blocks + 1 → (s.threads t).balance.paid + r ≤ rate * (s.threads t).asked
-      → NoClaim (s.threads t) → TallyKept c rate black
-      (apply c rate black s (Claim t r))
-  claims_more t r tl inside sw low owed none =
+  pub claims_more : (t r : ℕ) → Guard c rate black s (Claim t r)
+      → TallyKept c rate black (apply c rate black s (Claim t r))
+  claims_more t r g =
       let w0 : Spending = s.threads t in
       let w : Spending = record w0 { low = s.cursor; high = s.cursor + r } in
-      let o = k.each t tl in
-      record {
-        starts = k.starts;
-        some = k.some;
-        ended = k.ended;
-        few = k.few;
-        many = k.many;
-        cheap = k.cheap;
-        right = k.right;
-        entries = k.entries;
-        licensed = k.licensed;
+      let o = k.each t g.0 in
+      goes c rate black some s k t w (apply c rate black s (Claim t r)) g.0
+      (record {
+        sound = o.sound;
+        entered = o.entered;
+        present = o.present;
+        asked = o.asked;
+        owed = o.owed;
+        reserved = o.reserved;
+        claimed = λ h. (k.cursor.0, g.1, omega (arith, g.4));
+      })
+      (record {
+        cursor = (omega (arith, k.cursor.0), omega (arith, g.3));
         scans = k.scans;
-        each = each_changed c rate black some s k s.cycle t w k.each (record {
-          sound = o.sound;
-          entered = o.entered;
-          present = o.present;
-          asked = o.asked;
-          owed = o.owed;
-          reserved = o.reserved;
-          claimed = λ h. (k.cursor.0, inside, omega arith);
-        });
-        cursor = (omega (arith, k.cursor.0), low);
         passes = λ x pos.
-            let q : total c.threads (λ u. claims x (changed s.threads t w u)) + claims x w0
-            ≡ total c.threads (λ u. claims x (s.threads u)) + claims x w =
-            total_changed (claims x) c.threads s.threads t w tl in
-            let before : claims x w0 ≡ 0 = no_claims x w0 none in
+            let before : claims x w0 ≡ 0 = no_claims x w0 g.5 in
             let old : bit (s.sweep && ltb x s.cursor) ≡ bit (ltb x s.cursor) =
-            ap (λ b. bit (b && ltb x s.cursor)) sw in
+            ap (λ b. bit (b && ltb x s.cursor)) g.2 in
             let new : bit (s.sweep && ltb x (s.cursor + r)) ≡ bit (ltb x (s.cursor + r)) =
-            ap (λ b. bit (b && ltb x (s.cursor + r))) sw in
+            ap (λ b. bit (b && ltb x (s.cursor + r))) g.2 in
             elim (cases_lt x s.cursor) [
               | inl l ↦
                   let a : bit (ltb x s.cursor) ≡ 1 = ap bit (lt-ltb x s.cursor l) in
@@ -173,13 +129,13 @@ module _ (c : Config) (rate : ℕ) (black : ℕ → ℕ) (some : 0 < rate) (s : 
                   ap bit (lt-ltb x (s.cursor + r) (omega arith)) in
                   let d : claims x w ≡ 0 = claims_below x w l in
                   omega (arith, k.passes x pos)
-              | inr g ↦
-                  let a : bit (ltb x s.cursor) ≡ 0 = ap bit (le-ltb x s.cursor g) in
+              | inr past ↦
+                  let a : bit (ltb x s.cursor) ≡ 0 = ap bit (le-ltb x s.cursor past) in
                   elim (cases_lt x (s.cursor + r)) [
                     | inl l ↦
                         let b : bit (ltb x (s.cursor + r)) ≡ 1 =
                         ap bit (lt-ltb x (s.cursor + r) l) in
-                        let d : claims x w ≡ 1 = claims_within x w g l in
+                        let d : claims x w ≡ 1 = claims_within x w past l in
                         omega (arith, k.passes x pos)
                     | inr h ↦
                         let b : bit (ltb x (s.cursor + r)) ≡ 0 =
@@ -188,17 +144,11 @@ module _ (c : Config) (rate : ℕ) (black : ℕ → ℕ) (some : 0 < rate) (s : 
                         omega (arith, k.passes x pos)
                   ]
             ];
-        counted = (let q = total_changed (λ (v : Spending).
-            units_in s.cycle v.balance) c.threads s.threads t w tl in omega (arith, k.counted));
-        handed = (let q = total_changed (λ (v : Spending).
-            given_in s.cycle v.balance) c.threads s.threads t w tl in omega (arith, k.handed));
-        room = (let q = total_changed (λ (v : Spending).
-            given_in s.cycle v.balance) c.threads s.threads t w tl in
-            let y = total_changed (λ (v : Spending). v.reserved) c.threads s.threads t w tl in
-            omega (arith, k.room));
-        works = (let q = total_changed (λ (v : Spending).
-            v.balance.paid) c.threads s.threads t w tl in omega (arith, k.works));
-      }
+        made = refl;
+        given = refl;
+        free = omega arith;
+        paid = refl;
+      })
 
   pub claims_step : (x : ℕ) (w v : Spending) → v.low ≡ w.low + 1 → v.high ≡ w.high → (w.low ≡ x → ⊥)
       → claims x v ≡ claims x w
@@ -223,41 +173,27 @@ module _ (c : Config) (rate : ℕ) (black : ℕ → ℕ) (some : 0 < rate) (s : 
       let below : x < s.cursor = ltb-true x s.cursor (and_parts s.sweep (ltb x s.cursor) there).1 in
       omega (arith, k.cursor.1)
 
-  pub passes_one : (t : ℕ) → t < c.threads → (s.threads t).low < (s.threads t).high
+  pub passes_one : (t : ℕ) → Guard c rate black s (Pass t)
       → TallyKept c rate black (apply c rate black s (Pass t))
-  passes_one t tl some_left =
+  passes_one t g =
       let w0 : Spending = s.threads t in
       let w : Spending = record w0 { low = w0.low + 1; balance = with_unit w0.balance } in
-      let o = k.each t tl in
-      let cl = o.claimed some_left in
-      let low : w0.low ≤ c.blocks = claim_low t tl cl.0 some_left in
+      let o = k.each t g.0 in
+      let cl = o.claimed g.1 in
+      let low : w0.low ≤ c.blocks = claim_low t g.0 cl.0 g.1 in
       let up = rises c.blocks s.passed w0.low cl.0 low in
-      let u = total_changed
-      (λ (v : Spending). units_in s.cycle v.balance) c.threads s.threads t w tl in
       let uu : units_in s.cycle (with_unit w0.balance) ≡ units_in s.cycle w0.balance + 1 =
       units_more s.cycle w0.balance (o.present cl.1) in
-      record {
-        starts = k.starts;
-        some = k.some;
+      goes c rate black some s k t w (apply c rate black s (Pass t)) g.0
+      (spends t w g.0 cl.1 (omega (arith, cl.2)) cl.1 refl refl refl
+      (λ h. (omega arith, omega (arith, cl.2))))
+      (record {
         cursor = k.cursor;
-        ended = k.ended;
-        few = k.few;
-        many = k.many;
-        cheap = k.cheap;
-        right = k.right;
-        entries = k.entries;
-        licensed = k.licensed;
         scans = k.scans;
-        each = each_changed c rate black some s k s.cycle t w k.each
-            (spends t w tl cl.1 (omega (arith, cl.2)) cl.1 refl refl refl
-            (λ h. (omega arith, omega (arith, cl.2))));
         passes = λ x pos.
-            let q : total c.threads (λ v. claims x (changed s.threads t w v)) + claims x w0
-            ≡ total c.threads (λ v. claims x (s.threads v)) + claims x w =
-            total_changed (claims x) c.threads s.threads t w tl in
             elim (cases_eq w0.low x) [
               | inl e ↦
-                  let a : claims x w0 ≡ 1 = claims_within x w0 (omega arith) (omega arith) in
+                  let a : claims x w0 ≡ 1 = claims_within x w0 (omega arith) (omega (arith, g.1)) in
                   let b : claims x w ≡ 0 = claims_below x w (omega arith) in
                   let same : s.passed w0.low ≡ s.passed x = ap s.passed e in
                   rw (eq-eqb w0.low x e) (omega (arith, k.passes x pos))
@@ -265,13 +201,8 @@ module _ (c : Config) (rate : ℕ) (black : ℕ → ℕ) (some : 0 < rate) (s : 
                   let a : claims x w ≡ claims x w0 = claims_step x w0 w refl refl ne in
                   rw (ne_eqb w0.low x ne) (omega (arith, k.passes x pos))
             ];
-        counted = omega (arith, k.counted);
-        handed = (let q = total_changed (λ (v : Spending).
-            given_in s.cycle v.balance) c.threads s.threads t w tl in omega (arith, k.handed));
-        room = (let q = total_changed (λ (v : Spending).
-            given_in s.cycle v.balance) c.threads s.threads t w tl in
-            let y = total_changed (λ (v : Spending). v.reserved) c.threads s.threads t w tl in
-            omega (arith, k.room));
-        works = (let q = total_changed (λ (v : Spending).
-            v.balance.paid) c.threads s.threads t w tl in omega (arith, k.works));
-      }
+        made = omega arith;
+        given = refl;
+        free = omega arith;
+        paid = omega arith;
+      })

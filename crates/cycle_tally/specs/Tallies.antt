@@ -1,6 +1,6 @@
 -- What is counted of a heap over its cycles: each thread's account, claim and reservation, the free
 -- count, the sweep cursor, the colours, the order; and how often each block was scanned and passed.
-use Rattle.std.specs.Prelude.{ℕ, suc, ◌+◌, ◌==◌, ◌&&◌, nat_lt, nat_le, cond, Bool, List}
+use Rattle.std.specs.Prelude.{ℕ, suc, ◌+◌, ◌&&◌, nat_lt, nat_le, Bool, List}
 use Rattle.block_store.specs.Phases.{bit}
 use Rattle.never_heap.specs.Histories.{HistoryItem}
 use Rattle.block_store.specs.Counts.{total}

@@ -5,3 +5,4 @@ pub mod Tricolours
 pub mod Solids
 pub mod Together
 pub mod Reuses
+pub mod Pictures

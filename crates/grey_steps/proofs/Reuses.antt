@@ -1,6 +1,6 @@
 -- While the phase is Mark each event of marking keeps where Free blocks stand, what is claimed and
 -- what was passed.
-use Rattle.std.proofs.Common.{◌≡◌, ◌≢◌, ℕ, ◌<◌, true, false, eqb, refl, arith, subst, sym, ap, ◌∙◌, inl, inr, eqb-true}
+use Rattle.std.proofs.Common.{◌≡◌, ℕ, ◌<◌, true, false, eqb, refl, arith, subst, sym, ap, ◌∙◌, inl, inr, eqb-true}
 use Rattle.std.proofs.lemmas.Bool.{cases_Bool}
 use Rattle.block_store.specs.declared.Config.{Config}
 use Rattle.block_store.specs.Colours.{kind, is_free, is_grey, grey_word, white_word, black_word}
@@ -11,7 +11,7 @@ use Rattle.block_store.specs.Places.{Extent, extent, Phase, GreyList, ColourOf}
 use Rattle.block_store.specs.Widths.{payloads}
 use Rattle.block_store.specs.Counts.{changed}
 use Rattle.heap_machine.specs.FreeBlocks.{no_free}
-use Rattle.heap_machine.specs.Grey.{GreyHolding, GreyKept}
+use Rattle.heap_machine.specs.Grey.{GreyKept}
 use Rattle.heap_machine.specs.Holdings.{Holding, grey_held, free_held, sweep_held}
 use Rattle.heap_machine.specs.Operations.{Exchange, CompareExchange, place_of, heap_after}
 use Rattle.heap_machine.specs.HeapKept.{HeapKept}
@@ -26,35 +26,23 @@ use Rattle.grey_steps.specs.declared.rows.GreyRow.TheVariants.{Take, Pop, ScanWo
 use Rattle.grey_steps.specs.Rows.{GreyState, list_of, row_want, grey_want, grey_got, grey_holding, holding_at}
 use Rattle.grey_steps.specs.Fits.{GreyFits}
 use Rattle.grey_steps.proofs.Together.{keeps_heap}
+use Rattle.grey_steps.proofs.Marking.{low_thread}
 
 -- marking holds nothing of either rule
-none_free : (m : ℕ) (r : GreyRow) → free_held (grey_holding m r) ≡ no_free
-none_free m (Take u) = refl
-none_free m (Pop a) = refl
-none_free m (ScanWord x j a) = refl
-none_free m (Shade x j y a) = refl
-none_free m (Blacken x a) = refl
-none_free m (Put a) = refl
-none_free m Scanned = refl
-none_free m NothingGrey = refl
-none_free m (TakeOwn y) = refl
-none_free m (ShadeStored y a) = refl
-none_free m (PutOwn y a) = refl
-none_free m (Shaded y) = refl
-
-none_claimed : (m : ℕ) (r : GreyRow) → sweep_held (grey_holding m r) ≡ no_claim
-none_claimed m (Take u) = refl
-none_claimed m (Pop a) = refl
-none_claimed m (ScanWord x j a) = refl
-none_claimed m (Shade x j y a) = refl
-none_claimed m (Blacken x a) = refl
-none_claimed m (Put a) = refl
-none_claimed m Scanned = refl
-none_claimed m NothingGrey = refl
-none_claimed m (TakeOwn y) = refl
-none_claimed m (ShadeStored y a) = refl
-none_claimed m (PutOwn y a) = refl
-none_claimed m (Shaded y) = refl
+none_held : (m : ℕ) (r : GreyRow)
+    → (free_held (grey_holding m r) ≡ no_free) × (sweep_held (grey_holding m r) ≡ no_claim)
+none_held m (Take u) = (refl, refl)
+none_held m (Pop a) = (refl, refl)
+none_held m (ScanWord x j a) = (refl, refl)
+none_held m (Shade x j y a) = (refl, refl)
+none_held m (Blacken x a) = (refl, refl)
+none_held m (Put a) = (refl, refl)
+none_held m Scanned = (refl, refl)
+none_held m NothingGrey = (refl, refl)
+none_held m (TakeOwn y) = (refl, refl)
+none_held m (ShadeStored y a) = (refl, refl)
+none_held m (PutOwn y a) = (refl, refl)
+none_held m (Shaded y) = (refl, refl)
 
 -- a grey block is not Free
 grey_live : (w : ℕ) → is_grey w ≡ true → is_free w ≡ false
@@ -111,14 +99,14 @@ pub keeps_reuse : (c : Config) (h : Heap) (hs : ℕ → Holding) (s : GreyState)
     (changed hs s.pass.thread
     (holding_at (extent c) (grey_got (extent c) s (h (place_of (grey_want s))))))
 keeps_reuse c h hs s f mark grey k is =
-    let low : s.pass.thread < c.threads = subst (λ n. s.pass.thread < n) f.threads f.thread in
+    let low = low_thread c s f in
     let m = payloads c.width in
     let next : GreyRow = (grey_got (extent c) s (h (place_of (grey_want s)))).row in
     reuse_stays (extent c) (heap_after h (grey_want s)) hs
     (row_keeps (extent c) h hs k s.pass.threads s.pass.cycle s.pass.thread low mark grey s.row is)
     s.pass.thread (grey_holding m next) low
-    (ap free_held is ∙ none_free m s.row ∙ sym (none_free m next))
-    (ap sweep_held is ∙ none_claimed m s.row ∙ sym (none_claimed m next))
+    (ap free_held is ∙ (none_held m s.row).0 ∙ sym (none_held m next).0)
+    (ap sweep_held is ∙ (none_held m s.row).1 ∙ sym (none_held m next).1)
 
 -- no event of marking writes the phase word
 shade_leaves : (h : Heap) (y old v : ℕ)

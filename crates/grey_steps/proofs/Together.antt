@@ -16,12 +16,21 @@ use Rattle.grey_steps.proofs.Marking.{keeps}
 use Rattle.grey_steps.proofs.Solids.{keeps_solid}
 use Rattle.grey_steps.proofs.Tricolours.{keeps_tricolour}
 
-pub keeps_heap : (c : Config) (h : Heap) (hs : ℕ → Holding) (s : GreyState) → GreyFits c s → HeapKept (extent c) s.pass.cycle h hs → hs s.pass.thread ≡ holding_at (extent c) s
-    → HeapKept (extent c) s.pass.cycle (heap_after h (grey_want s)) (changed hs s.pass.thread (holding_at (extent c) (grey_got (extent c) s (h (place_of (grey_want s))))))
+pub keeps_heap : (c : Config) (h : Heap) (hs : ℕ → Holding) (s : GreyState) → GreyFits c s
+    → HeapKept (extent c) s.pass.cycle h hs → hs s.pass.thread ≡ holding_at (extent c) s
+    → HeapKept (extent c) s.pass.cycle (heap_after h (grey_want s))
+    (changed hs s.pass.thread
+    (holding_at (extent c) (grey_got (extent c) s (h (place_of (grey_want s))))))
 keeps_heap c h hs s f k e =
-    let next : Holding = holding_at (extent c) (grey_got (extent c) s (h (place_of (grey_want s)))) in
+    let next : Holding =
+    holding_at (extent c) (grey_got (extent c) s (h (place_of (grey_want s)))) in
     record {
-      grey = subst (λ (ws : ℕ → GreyHolding). GreyKept c.threads (heap_after h (grey_want s)) ws) (part_changed grey_held hs s.pass.thread next) (keeps c h (λ t. grey_held (hs t)) s f k.grey (ap grey_held e));
-      tricolour = subst (λ (ws : ℕ → TricolourHolding). TricolourKept (extent c) s.pass.cycle (heap_after h (grey_want s)) ws) (part_changed tricolour_held hs s.pass.thread next) (keeps_tricolour c h (λ t. tricolour_held (hs t)) s f k.tricolour (ap tricolour_held e));
+      grey = subst (λ (ws : ℕ → GreyHolding). GreyKept c.threads (heap_after h (grey_want s)) ws)
+          (part_changed grey_held hs s.pass.thread next)
+          (keeps c h (λ t. grey_held (hs t)) s f k.grey (ap grey_held e));
+      tricolour = subst
+          (λ (ws : ℕ → TricolourHolding). TricolourKept (extent c) s.pass.cycle
+          (heap_after h (grey_want s)) ws) (part_changed tricolour_held hs s.pass.thread next)
+          (keeps_tricolour c h (λ t. tricolour_held (hs t)) s f k.tricolour (ap tricolour_held e));
       solid = keeps_solid c h (λ t. grey_held (hs t)) s f k.grey (ap grey_held e) k.solid;
     }

@@ -1,8 +1,9 @@
--- Which event is a unit of marking, and what was read where a part has found nothing.
+-- Which event is a unit of marking, which rows shade a block before a store, and what was read
+-- where a part has found nothing.
 use Rattle.std.specs.Prelude.{ℕ, zero, suc, ◌==◌, ◌&&◌, Bool, true, false, List, [], ◌∷◌}
 use Rattle.block_store.specs.Places.{Extent}
 use Rattle.grey_steps.specs.declared.rows.GreyRow.{GreyRow}
-use Rattle.grey_steps.specs.declared.rows.GreyRow.TheVariants.{Blacken, Put, PutOwn}
+use Rattle.grey_steps.specs.declared.rows.GreyRow.TheVariants.{Blacken, Put, TakeOwn, ShadeStored, PutOwn, Shaded}
 use Rattle.grey_steps.specs.Rows.{GreyState, grey_got}
 
 -- the event that makes the block under scan black
@@ -15,6 +16,22 @@ abbrev pub is_putting : GreyRow → Bool
 is_putting (Put hand) = true
 is_putting (PutOwn y hand) = true
 is_putting _ = false
+
+-- the rows of the write barrier; the others are those of a scan
+abbrev pub is_shading : GreyRow → Bool
+is_shading (TakeOwn y) = true
+is_shading (ShadeStored y hand) = true
+is_shading (PutOwn y hand) = true
+is_shading (Shaded y) = true
+is_shading _ = false
+
+-- the block to which a command is about to store a reference, or 0 in a scan
+abbrev pub block_stored : GreyRow → ℕ
+block_stored (TakeOwn y) = y
+block_stored (ShadeStored y hand) = y
+block_stored (PutOwn y hand) = y
+block_stored (Shaded y) = y
+block_stored _ = 0
 
 -- the state after events that read these words, in this order
 abbrev pub grey_after : Extent → GreyState → List ℕ → GreyState

@@ -230,6 +230,20 @@ impl GreyPass {
         }
     }
 
+    /// The part of this pass that has come to this row.
+    pub fn at_row(pass: Pass, row: GreyRow) -> GreyPass
+        ensures { result ≡ record { pass = pass; row = row } }
+    {
+        GreyPass { pass, row }
+    }
+
+    /// The row to which the part has come.
+    pub fn row(&self) -> GreyRow
+        ensures { result ≡ self.now.row }
+    {
+        self.row
+    }
+
     /// The operation of the next event. A part that is over wants no more than a look at the phase.
     /// The places are those of a heap that has the part's threads and its row's blocks, the same
     /// heap at all calls of one part.
@@ -317,8 +331,8 @@ impl GreyPass {
         }
     }
 
-    // Whether there is no event more.
-    fn over(&self) -> bool
+    /// Whether there is no event more.
+    pub fn over(&self) -> bool
         ensures { result ≡ grey_over self.now.row }
     {
         matches!(

@@ -1,5 +1,5 @@
-//! Laws of the rows on Free blocks and on the sweep, for the proofs above: each is the contract of a
-//! function that does nothing.
+//! Laws of the rows on Free blocks and on the sweep, for the proofs above: each is the contract of
+//! a function that does nothing.
 
 ghost use Rattle.std.specs.Prelude.{◌≡◌, ℕ, false};
 ghost use Rattle.block_store.specs.declared.Config.{Config};
@@ -27,8 +27,8 @@ pub fn rows_keep_reuse()
         (holding_at (extent c) (grey_got (extent c) s (h (place_of (grey_want s)))))) }
 {}
 
-/// While the phase is Mark, in the cycle of the part, each event keeps all that a heap keeps in either
-/// phase, while the other threads hold what they held.
+/// While the phase is Mark, in the cycle of the part, each event keeps all that a heap keeps in
+/// either phase, while the other threads hold what they held.
 pub fn rows_keep_each_phase()
     ensures { (c : Config) (h : Heap) (hs : ℕ → Holding) (s : GreyState)
         → GreyFits c s → is_sweep (h Phase) ≡ false → cycle_of (h Phase) ≡ s.pass.cycle

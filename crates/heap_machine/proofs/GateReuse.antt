@@ -1,23 +1,26 @@
 -- The events of the gate keep where Free blocks stand, what is claimed and what was passed.
-use Rattle.std.proofs.Common.{◌≡◌, ◌≢◌, ℕ, ◌+◌, ◌-◌, ◌≤◌, ◌<◌, Bool, true, false, not, eqb, refl, arith, sym, ap, ◌∙◌, inl, inr, eqb-true}
+use Rattle.std.proofs.Common.{◌≡◌, ℕ, ◌+◌, ◌-◌, ◌≤◌, ◌<◌, true, false, not, eqb, refl, arith, sym, ap, ◌∙◌, inl, inr, eqb-true}
 use Rattle.std.proofs.lemmas.Bool.{cases_Bool, and_parts}
 use Rattle.block_store.proofs.PhaseWords.{phase-more, phase-less}
 use Rattle.block_store.specs.declared.PhaseWord.{PhaseWord}
+use Rattle.block_store.proofs.ColourWords.{black-white, grey-white, not_free_black, not_free_grey}
+use Rattle.block_store.specs.Colours.{is_free, grey_word, white_word}
 use Rattle.block_store.specs.Heaps.{Heap}
+use Rattle.block_store.specs.Registers.{root_block}
 use Rattle.block_store.specs.Phases.{inside_of, is_sweep, is_closed, cycle_of}
-use Rattle.block_store.specs.Places.{Extent, Phase, Cursor}
+use Rattle.block_store.specs.Places.{Extent, Phase, Cursor, GreyList}
 use Rattle.heap_machine.specs.Gates.{gate_want, is_empty, GateFits}
 use Rattle.heap_machine.specs.Gating.{Gating, GateOf, is_closing, is_outside, closed_word, open_word}
 use Rattle.heap_machine.specs.Holdings.{Holding, sweep_held}
-use Rattle.heap_machine.specs.Operations.{heap_after}
+use Rattle.heap_machine.specs.Operations.{Exchange, heap_after}
 use Rattle.heap_machine.specs.ReuseKept.{ReuseKept}
 use Rattle.heap_machine.specs.Sweeping.{no_claim}
-use Rattle.heap_machine.specs.Turning.{turns_over, turning_gating}
+use Rattle.heap_machine.specs.Turning.{turns_over, turning_gating, MayTurn}
 use Rattle.heap_machine.specs.declared.gate.GateRow.{GateRow}
-use Rattle.heap_machine.specs.declared.gate.GateRow.TheVariants.{Look, Enter, Entered, Leave, Left, CloseLook, Close, CheckList, SetCursor, Flip, Reopen, TurnedOver, KeptOut}
+use Rattle.heap_machine.specs.declared.gate.GateRow.TheVariants.{Look, Enter, Entered, Leave, Left, CloseLook, Close, CheckList, SetCursor, Flip, Reopen, ShadeRoot, PutRoots, Start, TurnedOver, StartedCycle, KeptOut}
 use Rattle.heap_machine.specs.declared.pass.Pass.{Pass}
 use Rattle.heap_machine.proofs.Gatings.{open_parts, closed_phase}
-use Rattle.heap_machine.proofs.Reusing.{reuse_phase, reuse_turns, reuse_cursor}
+use Rattle.heap_machine.proofs.Reusing.{reuse_phase, reuse_turns, reuse_cursor, reuse_colour, reuse_other}
 
 -- the word of an empty gate counts nobody
 nobody : (w : ℕ) → is_empty w ≡ true → inside_of w ≡ 0
@@ -29,7 +32,7 @@ module _ (e : Extent) (h : Heap) (hs : ℕ → Holding) (k : ReuseKept e h hs) w
   NoClaims = (u : ℕ) → u < e.threads → sweep_held (hs u) ≡ no_claim
 
   enters : (seen : ℕ) → inside_of seen < 255
-      → ReuseKept e (heap_after h (gate_want (Enter seen))) hs
+      → ReuseKept e (heap_after h (gate_want e.width (Enter seen))) hs
   enters seen small = elim (cases_Bool (eqb (h Phase) seen)) [
     | inl is ↦
         let at : seen ≡ h Phase = sym (eqb-true (h Phase) seen is) in
@@ -40,14 +43,14 @@ module _ (e : Extent) (h : Heap) (hs : ℕ → Holding) (k : ReuseKept e h hs) w
     | inr is ↦ rw is k
   ]
 
-  leaves : 1 ≤ inside_of (h Phase) → ReuseKept e (heap_after h (gate_want Leave)) hs
+  leaves : 1 ≤ inside_of (h Phase) → ReuseKept e (heap_after h (gate_want e.width Leave)) hs
   leaves some =
       let less = phase-less (h Phase) some in
       reuse_phase e h hs k (h Phase - 1) (ap (λ (p : PhaseWord). p.cycle) less)
       (ap (λ (p : PhaseWord). p.sweep) less)
 
   closes : (p : Pass) (seen : ℕ) → inside_of seen ≡ 0
-      → ReuseKept e (heap_after h (gate_want (Close p seen))) hs
+      → ReuseKept e (heap_after h (gate_want e.width (Close p seen))) hs
   closes p seen none = elim (cases_Bool (eqb (h Phase) seen)) [
     | inl is ↦
         let at : seen ≡ h Phase = sym (eqb-true (h Phase) seen is) in
@@ -60,7 +63,7 @@ module _ (e : Extent) (h : Heap) (hs : ℕ → Holding) (k : ReuseKept e h hs) w
   -- in or out
   pub passing_keeps : (r : GateRow) → turns_over r ≡ false → GateFits r
       → (r ≡ Leave → 1 ≤ inside_of (h Phase))
-      → ReuseKept e (heap_after h (gate_want r)) hs
+      → ReuseKept e (heap_after h (gate_want e.width r)) hs
   passing_keeps Look away f some = k
   passing_keeps (Enter seen) away f some = enters seen f.word.inside
   passing_keeps (Entered seen) away f some = k
@@ -72,21 +75,36 @@ module _ (e : Extent) (h : Heap) (hs : ℕ → Holding) (k : ReuseKept e h hs) w
   pub turning_keeps : (gs : ℕ → Gating) → GateOf e.threads (h Phase) gs → (t : ℕ) → t < e.threads
       → (r : GateRow) → turns_over r ≡ true → GateFits r → gs t ≡ turning_gating r
       → (is_closing (turning_gating r).stand ≡ true → NoClaims)
-      → ((p : Pass) → r ≡ Flip p → h Cursor ≡ 1)
-      → ReuseKept e (heap_after h (gate_want r)) hs
-  turning_keeps gs g t low (Close p seen) is f at none first = closes p seen (nobody seen f.1.empty)
-  turning_keeps gs g t low (SetCursor p) is f at none first =
+      → ((p : Pass) → r ≡ Flip p → h Cursor ≡ 1) → MayTurn e r h
+      → ReuseKept e (heap_after h (gate_want e.width r)) hs
+  turning_keeps gs g t low (Close p seen) is f at none first may = closes p seen (nobody seen f.1.empty)
+  turning_keeps gs g t low (SetCursor p) is f at none first may =
       let of = g.passes t low (ap (λ (w : Gating). is_outside w.stand) at) in
       let mark : is_sweep (h Phase) ≡ false = sym of.1 ∙ ap (λ (w : Gating). w.sweep) at ∙ f.mark in
       reuse_cursor e h hs k 1 (none refl) mark (omega arith, omega arith)
-  turning_keeps gs g t low (Flip p) is f at none first =
+  turning_keeps gs g t low (Flip p) is f at none first may =
       reuse_turns e h hs k (open_word p.cycle true) (none refl) (λ _. first p refl)
-  turning_keeps gs g t low (Reopen p) is f at none first =
+  turning_keeps gs g t low (Reopen p) is f at none first may =
       let parts = open_parts p.cycle false in
       reuse_turns e h hs k (open_word p.cycle false) (none refl)
       (λ sweep. absurd (let z : false ≡ true = sym parts.1 ∙ sweep in cc))
-  turning_keeps gs g t low (CloseLook p) is f at none first = k
-  turning_keeps gs g t low (CheckList p u) is f at none first = k
-  turning_keeps gs g t low TurnedOver is f at none first = k
-  turning_keeps gs g t low KeptOut is f at none first = k
-  turning_keeps gs g t low _ is f at none first = absurd cc
+  turning_keeps gs g t low (ShadeRoot p u hand) is f at none first may =
+      let of = g.passes t low (ap (λ (w : Gating). is_outside w.stand) at) in
+      let cycle : p.cycle ≡ cycle_of (h Phase) = sym (ap (λ (w : Gating). w.cycle) at) ∙ of.0 in
+      reuse_colour e h hs k (root_block e.width u) (grey_word hand)
+      (ap is_free may ∙ not_free_black p.cycle) (not_free_grey hand) (λ _. (
+        grey-white hand (cycle_of (h Phase)),
+        λ z. black-white p.cycle (sym may ∙ z ∙ ap white_word (sym cycle)),
+      ))
+  turning_keeps gs g t low (PutRoots p hand) is f at none first may =
+      reuse_other e h hs k (Exchange (GreyList p.thread) hand) refl
+  turning_keeps gs g t low (Start p) is f at none first may =
+      let parts = open_parts (p.cycle + 1) false in
+      reuse_turns e h hs k (open_word (p.cycle + 1) false) (none refl)
+      (λ sweep. absurd (let z : false ≡ true = sym parts.1 ∙ sweep in cc))
+  turning_keeps gs g t low (CloseLook p) is f at none first may = k
+  turning_keeps gs g t low (CheckList p u) is f at none first may = k
+  turning_keeps gs g t low TurnedOver is f at none first may = k
+  turning_keeps gs g t low (StartedCycle y) is f at none first may = k
+  turning_keeps gs g t low KeptOut is f at none first may = k
+  turning_keeps gs g t low _ is f at none first may = absurd cc

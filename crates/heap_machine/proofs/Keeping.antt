@@ -1,26 +1,23 @@
 -- What keeps all rules of a heap at once, and what a thread does that goes on.
-use Rattle.std.proofs.Common.{◌≡◌, ℕ, ◌||◌, Bool, true, false, refl, ap, sym, subst, inl, inr, eq-eqb, ne_eqb}
-use Rattle.std.proofs.lemmas.Bool.{cases_eq}
+use Rattle.std.proofs.Common.{◌≡◌, ℕ, ◌||◌, Bool, true, false, refl, sym}
 use Rattle.block_store.specs.Heaps.{Heap, put_at}
 use Rattle.block_store.specs.Payloads.{target}
-use Rattle.block_store.specs.Places.{Extent, Place, ColourOf, PayloadOf}
+use Rattle.block_store.specs.Places.{Extent, ColourOf, PayloadOf}
 use Rattle.block_store.specs.Counts.{changed}
 use Rattle.heap_machine.specs.Grey.{is_of_grey}
 use Rattle.heap_machine.specs.HeapKept.{HeapKept, is_ruled, CanColour, CanRefer}
 use Rattle.heap_machine.specs.Holdings.{Holding, grey_held, tricolour_held}
 use Rattle.heap_machine.specs.Operations.{Operation, Exchange, place_of, heap_after}
 use Rattle.heap_machine.specs.Tricolour.{is_of_tricolour}
-use Rattle.block_store.proofs.Functions.{funext}
+use Rattle.block_store.proofs.Functions.{changed_map}
 use Rattle.heap_machine.proofs.GreyBlocks.{kept_other, kept_other_colour}
 use Rattle.heap_machine.proofs.Solids.{solid_other, solid_colour, solid_payload}
 use Rattle.heap_machine.proofs.Tricolours.{tricolour_other, kept_colour, kept_payload}
 
 -- a part of what the threads hold, after one of them has gone on
-pub part_changed : {A : Type 0} (part : Holding → A) (hs : ℕ → Holding) (t : ℕ) (w : Holding) → changed (λ u. part (hs u)) t (part w) ≡ (λ u. part (changed hs t w u))
-part_changed part hs t w = funext _ _ (λ u. elim (cases_eq t u) [
-  | inl e ↦ rw (eq-eqb t u e) refl
-  | inr ne ↦ rw (ne_eqb t u ne) refl
-])
+pub part_changed : {A : Type 0} (part : Holding → A) (hs : ℕ → Holding) (t : ℕ) (w : Holding)
+    → changed (λ u. part (hs u)) t (part w) ≡ (λ u. part (changed hs t w u))
+part_changed part hs t w = sym (changed_map part hs t w)
 
 neither : (a b : Bool) → (a || b) ≡ false → (a ≡ false) × (b ≡ false)
 neither true b e = absurd cc

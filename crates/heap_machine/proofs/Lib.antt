@@ -14,6 +14,9 @@ pub mod FreeBlocks
 pub mod Sweeping
 pub mod Reusing
 pub mod GateReuse
+pub mod TurningRules
+pub mod TurningKnown
+pub mod Starting
 pub mod Opening
 pub mod FreeLost
 pub mod Phasing

@@ -1,16 +1,18 @@
 -- The part that turns the phase over keeps the gate, and looks at every list.
-use Rattle.std.proofs.Common.{◌≡◌, ℕ, zero, suc, ◌+◌, ◌-◌, ◌<◌, Bool, true, false, not, cond, eqb, ltb, refl, arith, subst, sym, ap, ◌∙◌, inl, inr, eqb-true, eq-eqb, ne_eqb, List, [], ◌∷◌, ◌++◌, replicate}
+use Rattle.std.proofs.Common.{◌≡◌, ℕ, zero, suc, ◌+◌, ◌-◌, ◌<◌, Bool, true, false, not, cond, eqb, ltb, refl, arith, subst, sym, ap, ◌∙◌, inl, inr, eqb-true, eq-eqb, ne_eqb, List, [], ◌∷◌, ◌++◌, replicate, Some}
 use Rattle.std.proofs.lemmas.Bool.{cases_Bool, cases_eq, and_parts, lt-ltb, le-ltb}
+use Rattle.block_store.specs.declared.Width.{Width}
 use Rattle.block_store.specs.Heaps.{Heap, put_at}
 use Rattle.block_store.specs.Places.{Phase, Cursor, GreyList}
 use Rattle.block_store.specs.Phases.{inside_of, is_sweep, is_closed, cycle_of}
 use Rattle.block_store.specs.Counts.{changed}
+use Rattle.block_store.specs.Registers.{root_block}
 use Rattle.heap_machine.specs.Gating.{Outside, Closing, is_outside, Gating, GateOf, closed_word}
 use Rattle.heap_machine.specs.Operations.{Load, Exchange, place_of, heap_after}
-use Rattle.heap_machine.specs.Gates.{gate_want, gate_got, is_of_pass, is_empty, look_to_close, list_checked, IsIdle, SeenEmpty, GateFits}
+use Rattle.heap_machine.specs.Gates.{gate_want, gate_got, gate_started, is_of_pass, is_empty, look_to_close, closed_by, list_checked, root_shaded, IsIdle, SeenEmpty, GateFits}
 use Rattle.heap_machine.specs.Turning.{turns_over, in_pass, turning_gating, lists_read, CanClose, gate_after}
 use Rattle.heap_machine.specs.declared.gate.GateRow.{GateRow}
-use Rattle.heap_machine.specs.declared.gate.GateRow.TheVariants.{Enter, Leave, CloseLook, Close, CheckList, SetCursor, Flip, Reopen, TurnedOver, KeptOut}
+use Rattle.heap_machine.specs.declared.gate.GateRow.TheVariants.{Enter, Leave, CloseLook, Close, CheckList, SetCursor, Flip, Reopen, ShadeRoot, PutRoots, Start, TurnedOver, StartedCycle, KeptOut}
 use Rattle.heap_machine.specs.declared.pass.Pass.{Pass}
 use Rattle.heap_machine.proofs.Gatings.{open_parts, closed_phase, gate_closes, gate_closing, gate_opens, gate_stays}
 
@@ -20,7 +22,7 @@ same_phase false true e = cc
 same_phase false false e = refl
 
 -- a word of the pass says its cycle and phase
-of_pass : (p : Pass) (w : ℕ) → is_of_pass p w ≡ true → (p.cycle ≡ cycle_of w) × (p.sweep ≡ is_sweep w)
+pub of_pass : (p : Pass) (w : ℕ) → is_of_pass p w ≡ true → (p.cycle ≡ cycle_of w) × (p.sweep ≡ is_sweep w)
 of_pass p w e =
     let parts = and_parts (eqb (cycle_of w) p.cycle) (cond (is_sweep w) p.sweep (not p.sweep)) e in
     (sym (eqb-true _ _ parts.0), same_phase (is_sweep w) p.sweep parts.1)
@@ -30,7 +32,7 @@ not_true true e = cc
 not_true false e = refl
 
 -- the word of an empty gate is open and counts nobody
-empty_gate : (w : ℕ) → is_empty w ≡ true → (is_closed w ≡ false) × (inside_of w ≡ 0)
+pub empty_gate : (w : ℕ) → is_empty w ≡ true → (is_closed w ≡ false) × (inside_of w ≡ 0)
 empty_gate w e =
     let parts = and_parts (not (is_closed w)) (eqb (inside_of w) 0) e in
     (not_true (is_closed w) parts.0, eqb-true _ _ parts.1)
@@ -53,7 +55,13 @@ checks_closing : (p : Pass) (u w : ℕ) → IsAt (in_pass p Closing) (list_check
 checks_closing p u w =
     either (IsAt (in_pass p Closing)) (eqb w 0) (cond (ltb (u + 1) p.threads) (CheckList p (u + 1)) (SetCursor p)) (Reopen p) (either (IsAt (in_pass p Closing)) (ltb (u + 1) p.threads) (CheckList p (u + 1)) (SetCursor p) refl refl) refl
 
-module _ (n : ℕ) (h : Heap) (gs : ℕ → Gating) (k : GateOf n (h Phase) gs) (t : ℕ) (tl : t < n) where
+closed_closing : (p : Pass) → IsAt (in_pass p Closing) (closed_by p)
+closed_closing p = either (IsAt (in_pass p Closing)) p.sweep (ShadeRoot p 0 0) (CheckList p 0) refl refl
+
+shades_closing : (W : Width) (p : Pass) (u : ℕ) → IsAt (in_pass p Closing) (root_shaded W p u)
+shades_closing W p u = either (IsAt (in_pass p Closing)) (ltb (u + 1) p.threads) (ShadeRoot p (u + 1) (root_block W u)) (PutRoots p (root_block W u)) refl refl
+
+module _ (W : Width) (n : ℕ) (h : Heap) (gs : ℕ → Gating) (k : GateOf n (h Phase) gs) (t : ℕ) (tl : t < n) where
   -- a thread outside stays there
   stays_out : (r r' : GateRow) → IsOut r → IsOut r' → gs t ≡ turning_gating r → GateOf n (h Phase) (changed gs t (turning_gating r'))
   stays_out r r' out out' is =
@@ -66,30 +74,34 @@ module _ (n : ℕ) (h : Heap) (gs : ℕ → Gating) (k : GateOf n (h Phase) gs) 
       let same : turning_gating r' ≡ gs t = at' ∙ sym at ∙ sym is in
       gate_stays n (h Phase) gs k t tl (turning_gating r') (ap (λ (g : Gating). g.stand) same) (λ _. (ap (λ (g : Gating). g.cycle) same, ap (λ (g : Gating). g.sweep) same))
 
-  closes : (p : Pass) (seen : ℕ) → SeenEmpty p seen → gs t ≡ in_pass p Outside → GateOf n (cond (eqb (h Phase) seen) (put_at h Phase (closed_word seen)) h Phase) (changed gs t (turning_gating (cond (eqb (h Phase) seen) (CheckList p 0) KeptOut)))
+  closes : (p : Pass) (seen : ℕ) → SeenEmpty p seen → gs t ≡ in_pass p Outside → GateOf n (cond (eqb (h Phase) seen) (put_at h Phase (closed_word seen)) h Phase) (changed gs t (turning_gating (cond (eqb (h Phase) seen) (closed_by p) KeptOut)))
   closes p seen f is = elim (cases_Bool (eqb (h Phase) seen)) [
     | inl won ↦
         let e : h Phase ≡ seen = eqb-true _ _ won in
         let of = of_pass p seen f.pass in
         let none = empty_gate seen f.empty in
-        rw won (subst (λ w. GateOf n (closed_word w) (changed gs t (in_pass p Closing))) e
-        (gate_closes n (h Phase) gs k t tl (in_pass p Closing) (ap is_closed e ∙ none.0) (ap inside_of e ∙ none.1) (ap (λ (g : Gating). g.stand) is) refl (of.0 ∙ sym (ap cycle_of e)) (of.1 ∙ sym (ap is_sweep e))))
+        rw won (subst (λ (g : Gating). GateOf n (closed_word seen) (changed gs t g)) (sym (closed_closing p)) (subst (λ w. GateOf n (closed_word w) (changed gs t (in_pass p Closing))) e
+        (gate_closes n (h Phase) gs k t tl (in_pass p Closing) (ap is_closed e ∙ none.0) (ap inside_of e ∙ none.1) (ap (λ (g : Gating). g.stand) is) refl (of.0 ∙ sym (ap cycle_of e)) (of.1 ∙ sym (ap is_sweep e)))))
     | inr lost ↦ rw lost (stays_out (Close p seen) KeptOut refl refl is)
   ]
 
-  pub turning_kept : (r : GateRow) → turns_over r ≡ true → GateFits r → gs t ≡ turning_gating r → GateOf n (heap_after h (gate_want r) Phase) (changed gs t (turning_gating (gate_got r (h (place_of (gate_want r))))))
+  pub turning_kept : (r : GateRow) → turns_over r ≡ true → GateFits r → gs t ≡ turning_gating r → GateOf n (heap_after h (gate_want W r) Phase) (changed gs t (turning_gating (gate_got W r (h (place_of (gate_want W r))))))
   turning_kept (CloseLook p) e f is = stays_out (CloseLook p) (look_to_close p (h Phase)) refl (looks_out p (h Phase)) is
   turning_kept (Close p seen) e f is = closes p seen f.1 is
   turning_kept (CheckList p u) e f is = stays_closing p (CheckList p u) (list_checked p u (h (GreyList u))) refl (checks_closing p u (h (GreyList u))) is
   turning_kept (SetCursor p) e f is = stays_closing p (SetCursor p) (Flip p) refl refl is
   turning_kept (Flip p) e f is = gate_opens n (h Phase) gs k t tl (turning_gating TurnedOver) p.cycle true (ap (λ (g : Gating). g.stand) is) refl
   turning_kept (Reopen p) e f is = gate_opens n (h Phase) gs k t tl (turning_gating TurnedOver) p.cycle false (ap (λ (g : Gating). g.stand) is) refl
+  turning_kept (ShadeRoot p u hand) e f is = stays_closing p (ShadeRoot p u hand) (root_shaded W p u) refl (shades_closing W p u) is
+  turning_kept (PutRoots p hand) e f is = stays_closing p (PutRoots p hand) (Start p) refl refl is
+  turning_kept (Start p) e f is = gate_opens n (h Phase) gs k t tl (turning_gating (StartedCycle (p.cycle + 1))) (p.cycle + 1) false (ap (λ (g : Gating). g.stand) is) refl
   turning_kept TurnedOver e f is = stays_out TurnedOver TurnedOver refl refl is
+  turning_kept (StartedCycle y) e f is = stays_out (StartedCycle y) (StartedCycle y) refl refl is
   turning_kept KeptOut e f is = stays_out KeptOut KeptOut refl refl is
   turning_kept _ e f is = absurd cc
 
   -- the thread that has closed the gate has the cycle and phase of the word
-  closing_pass : (p : Pass) → gs t ≡ in_pass p Closing → (p.cycle ≡ cycle_of (h Phase)) × (p.sweep ≡ is_sweep (h Phase))
+  pub closing_pass : (p : Pass) → gs t ≡ in_pass p Closing → (p.cycle ≡ cycle_of (h Phase)) × (p.sweep ≡ is_sweep (h Phase))
   closing_pass p is =
       let of = k.passes t tl (ap (λ (g : Gating). is_outside g.stand) is) in
       (sym (ap (λ (g : Gating). g.cycle) is) ∙ of.0, sym (ap (λ (g : Gating). g.sweep) is) ∙ of.1)
@@ -104,61 +116,43 @@ module _ (n : ℕ) (h : Heap) (gs : ℕ → Gating) (k : GateOf n (h Phase) gs) 
     | inr lost ↦ rw lost (refl, refl)
   ]
 
-  pub turning_cycle : (r : GateRow) → turns_over r ≡ true → GateFits r → gs t ≡ turning_gating r → cycle_of (heap_after h (gate_want r) Phase) ≡ cycle_of (h Phase)
-  turning_cycle (Enter seen) e f is = absurd cc
-  turning_cycle Leave e f is = absurd cc
-  turning_cycle (Close p seen) e f is = (let none = empty_gate seen f.1.empty in let same = close_phase seen none.1 in same.0)
-  turning_cycle (Flip p) e f is = (let parts = open_parts p.cycle true in let of = closing_pass p is in parts.3 ∙ of.0)
-  turning_cycle (Reopen p) e f is = (let parts = open_parts p.cycle false in let of = closing_pass p is in parts.3 ∙ of.0)
-  turning_cycle _ e f is = refl
+  pub turning_cycle : (r : GateRow) → turns_over r ≡ true → GateFits r → gs t ≡ turning_gating r → ((p : Pass) → r ≡ Start p → ⊥) → cycle_of (heap_after h (gate_want W r) Phase) ≡ cycle_of (h Phase)
+  turning_cycle (Enter seen) e f is other = absurd cc
+  turning_cycle Leave e f is other = absurd cc
+  turning_cycle (Close p seen) e f is other = (let none = empty_gate seen f.1.empty in let same = close_phase seen none.1 in same.0)
+  turning_cycle (Flip p) e f is other = (let parts = open_parts p.cycle true in let of = closing_pass p is in parts.3 ∙ of.0)
+  turning_cycle (Reopen p) e f is other = (let parts = open_parts p.cycle false in let of = closing_pass p is in parts.3 ∙ of.0)
+  turning_cycle (Start p) e f is other = absurd (other p refl)
+  turning_cycle _ e f is other = refl
 
-  pub turning_phase : (r : GateRow) → turns_over r ≡ true → GateFits r → gs t ≡ turning_gating r → ((p : Pass) → r ≡ Flip p → ⊥) → is_sweep (heap_after h (gate_want r) Phase) ≡ is_sweep (h Phase)
-  turning_phase (Enter seen) e f is other = absurd cc
-  turning_phase Leave e f is other = absurd cc
-  turning_phase (Close p seen) e f is other = (let none = empty_gate seen f.1.empty in let same = close_phase seen none.1 in same.1)
-  turning_phase (Flip p) e f is other = absurd (other p refl)
-  turning_phase (Reopen p) e f is other = (let parts = open_parts p.cycle false in let of = closing_pass p is in parts.1 ∙ sym f.mark ∙ of.1)
-  turning_phase _ e f is other = refl
+  pub turning_phase : (r : GateRow) → turns_over r ≡ true → GateFits r → gs t ≡ turning_gating r → ((p : Pass) → r ≡ Flip p → ⊥) → ((p : Pass) → r ≡ Start p → ⊥) → is_sweep (heap_after h (gate_want W r) Phase) ≡ is_sweep (h Phase)
+  turning_phase (Enter seen) e f is other more = absurd cc
+  turning_phase Leave e f is other more = absurd cc
+  turning_phase (Close p seen) e f is other more = (let none = empty_gate seen f.1.empty in let same = close_phase seen none.1 in same.1)
+  turning_phase (Flip p) e f is other more = absurd (other p refl)
+  turning_phase (Reopen p) e f is other more = (let parts = open_parts p.cycle false in let of = closing_pass p is in parts.1 ∙ sym f.mark ∙ of.1)
+  turning_phase (Start p) e f is other more = absurd (more p refl)
+  turning_phase _ e f is other more = refl
 
-  pub flip_phase : (p : Pass) → GateFits (Flip p) → gs t ≡ turning_gating (Flip p) → (is_sweep (h Phase) ≡ false) × (is_sweep (heap_after h (gate_want (Flip p)) Phase) ≡ true) × (inside_of (h Phase) ≡ 0) × ((u : ℕ) → u < n → (t ≡ u → ⊥) → (gs u).stand ≡ Outside)
+  pub flip_phase : (p : Pass) → GateFits (Flip p) → gs t ≡ turning_gating (Flip p) → (is_sweep (h Phase) ≡ false) × (is_sweep (heap_after h (gate_want W (Flip p)) Phase) ≡ true) × (inside_of (h Phase) ≡ 0) × ((u : ℕ) → u < n → (t ≡ u → ⊥) → (gs u).stand ≡ Outside)
   flip_phase p f is =
       let parts = open_parts p.cycle true in
       let of = closing_pass p is in
       let closing = gate_closing n (h Phase) gs k t tl (ap (λ (g : Gating). g.stand) is) in
       (sym of.1 ∙ f.mark, parts.1, closing.1, closing.2)
 
+  pub start_phase : (p : Pass) → GateFits (Start p) → gs t ≡ turning_gating (Start p)
+      → (is_sweep (h Phase) ≡ true) × (is_sweep (heap_after h (gate_want W (Start p)) Phase) ≡ false)
+      × (cycle_of (heap_after h (gate_want W (Start p)) Phase) ≡ cycle_of (h Phase) + 1)
+      × (gate_started (gate_got W (Start p) (h Phase)) ≡ Some (cycle_of (h Phase) + 1))
+      × (inside_of (h Phase) ≡ 0) × ((u : ℕ) → u < n → (t ≡ u → ⊥) → (gs u).stand ≡ Outside)
+  start_phase p f is =
+      let parts = open_parts (p.cycle + 1) false in
+      let of = closing_pass p is in
+      let closing = gate_closing n (h Phase) gs k t tl (ap (λ (g : Gating). g.stand) is) in
+      (sym of.1 ∙ f.sweep, parts.1, parts.3 ∙ ap (λ y. y + 1) of.0, ap (λ y. Some (y + 1)) of.0, closing.1, closing.2)
+
 module _ (p : Pass) where
-  -- a part that is over, or opens the gate, does not flip any more
-  no_flip_over : (ws : List ℕ) → gate_after TurnedOver ws ≡ Flip p → ⊥
-  no_flip_over [] e = cc
-  no_flip_over (w ∷ ws) e = no_flip_over ws e
-
-  no_flip_out : (ws : List ℕ) → gate_after KeptOut ws ≡ Flip p → ⊥
-  no_flip_out [] e = cc
-  no_flip_out (w ∷ ws) e = no_flip_out ws e
-
-  no_flip_reopened : (ws : List ℕ) → gate_after (Reopen p) ws ≡ Flip p → ⊥
-  no_flip_reopened [] e = cc
-  no_flip_reopened (w ∷ ws) e = no_flip_over ws e
-
-  flip_here : (ws : List ℕ) → gate_after (Flip p) ws ≡ Flip p → ws ≡ []
-  flip_here [] e = refl
-  flip_here (w ∷ ws) e = absurd (no_flip_over ws e)
-
-  -- from the row that sets the cursor it is one event to the flip
-  cursor_first : (ws : List ℕ) → gate_after (SetCursor p) ws ≡ Flip p → (x : ℕ) × (ws ≡ x ∷ [])
-  cursor_first [] e = absurd cc
-  cursor_first (w ∷ ws) e = (w, ap (λ xs. w ∷ xs) (flip_here ws e))
-
-  went : (r s : GateRow) (w : ℕ) (ws : List ℕ) (P : GateRow → Type 0) → gate_got r w ≡ s → P (gate_after r (w ∷ ws)) → P (gate_after s ws)
-  went r s w ws P e k = subst (λ q. P (gate_after q ws)) e k
-
-  came : (r s : GateRow) (w : ℕ) (ws : List ℕ) (P : GateRow → Type 0) → gate_got r w ≡ s → P (gate_after s ws) → P (gate_after r (w ∷ ws))
-  came r s w ws P e k = subst (λ q. P (gate_after q ws)) (sym e) k
-
-  abbrev IsFlip : GateRow → Type 0
-  IsFlip r = r ≡ Flip p
-
   next_list : (u w : ℕ) → w ≡ 0 → u + 1 < p.threads → list_checked p u w ≡ CheckList p (u + 1)
   next_list u w e low = rw (eq-eqb w 0 e, lt-ltb (u + 1) p.threads low) refl
 
@@ -178,70 +172,102 @@ module _ (p : Pass) where
   grey_read : (u w : ℕ) → eqb w 0 ≡ false → lists_read (list_checked p u w) ≡ 0
   grey_read u w e = ap lists_read (grey_list u w e)
 
+module _ (W : Width) (p : Pass) where
+  -- a part that is over, or opens the gate, does not flip any more
+  no_flip_over : (ws : List ℕ) → gate_after W TurnedOver ws ≡ Flip p → ⊥
+  no_flip_over [] e = cc
+  no_flip_over (w ∷ ws) e = no_flip_over ws e
+
+  no_flip_out : (ws : List ℕ) → gate_after W KeptOut ws ≡ Flip p → ⊥
+  no_flip_out [] e = cc
+  no_flip_out (w ∷ ws) e = no_flip_out ws e
+
+  no_flip_reopened : (ws : List ℕ) → gate_after W (Reopen p) ws ≡ Flip p → ⊥
+  no_flip_reopened [] e = cc
+  no_flip_reopened (w ∷ ws) e = no_flip_over ws e
+
+  flip_here : (ws : List ℕ) → gate_after W (Flip p) ws ≡ Flip p → ws ≡ []
+  flip_here [] e = refl
+  flip_here (w ∷ ws) e = absurd (no_flip_over ws e)
+
+  -- from the row that sets the cursor it is one event to the flip
+  cursor_first : (ws : List ℕ) → gate_after W (SetCursor p) ws ≡ Flip p → (x : ℕ) × (ws ≡ x ∷ [])
+  cursor_first [] e = absurd cc
+  cursor_first (w ∷ ws) e = (w, ap (λ xs. w ∷ xs) (flip_here ws e))
+
+  went : (r s : GateRow) (w : ℕ) (ws : List ℕ) (P : GateRow → Type 0) → gate_got W r w ≡ s → P (gate_after W r (w ∷ ws)) → P (gate_after W s ws)
+  went r s w ws P e k = subst (λ q. P (gate_after W q ws)) e k
+
+  came : (r s : GateRow) (w : ℕ) (ws : List ℕ) (P : GateRow → Type 0) → gate_got W r w ≡ s → P (gate_after W s ws) → P (gate_after W r (w ∷ ws))
+  came r s w ws P e k = subst (λ q. P (gate_after W q ws)) (sym e) k
+
+  abbrev IsFlip : GateRow → Type 0
+  IsFlip r = r ≡ Flip p
+
   one_more : (d x w : ℕ) (ws : List ℕ) → w ≡ 0 → ws ≡ replicate d 0 ++ x ∷ [] → w ∷ ws ≡ replicate (suc d) 0 ++ x ∷ []
   one_more d x w ws e k = rw (e, k) refl
 
   -- d lists are left behind list u: a flip has read 0 from each
-  from_list : (d u : ℕ) (ws : List ℕ) → u + suc d ≡ p.threads → gate_after (CheckList p u) ws ≡ Flip p → (x : ℕ) × (ws ≡ replicate (suc d) 0 ++ x ∷ [])
+  from_list : (d u : ℕ) (ws : List ℕ) → u + suc d ≡ p.threads → gate_after W (CheckList p u) ws ≡ Flip p → (x : ℕ) × (ws ≡ replicate (suc d) 0 ++ x ∷ [])
   from_list d u [] e k = absurd cc
   from_list zero u (w ∷ ws) e k = elim (cases_Bool (eqb w 0)) [
     | inl none ↦
         let z : w ≡ 0 = eqb-true w 0 none in
-        let last = cursor_first ws (went (CheckList p u) (SetCursor p) w ws IsFlip (last_list u w z (omega arith)) k) in
+        let last = cursor_first ws (went (CheckList p u) (SetCursor p) w ws IsFlip (last_list p u w z (omega arith)) k) in
         (last.0, one_more 0 last.0 w ws z last.1)
-    | inr some ↦ absurd (no_flip_reopened ws (went (CheckList p u) (Reopen p) w ws IsFlip (grey_list u w some) k))
+    | inr some ↦ absurd (no_flip_reopened ws (went (CheckList p u) (Reopen p) w ws IsFlip (grey_list p u w some) k))
   ]
   from_list (suc d) u (w ∷ ws) e k = elim (cases_Bool (eqb w 0)) [
     | inl none ↦
         let z : w ≡ 0 = eqb-true w 0 none in
-        let rest = from_list d (u + 1) ws (omega arith) (went (CheckList p u) (CheckList p (u + 1)) w ws IsFlip (next_list u w z (omega arith)) k) in
+        let rest = from_list d (u + 1) ws (omega arith) (went (CheckList p u) (CheckList p (u + 1)) w ws IsFlip (next_list p u w z (omega arith)) k) in
         (rest.0, one_more (suc d) rest.0 w ws z rest.1)
-    | inr some ↦ absurd (no_flip_reopened ws (went (CheckList p u) (Reopen p) w ws IsFlip (grey_list u w some) k))
+    | inr some ↦ absurd (no_flip_reopened ws (went (CheckList p u) (Reopen p) w ws IsFlip (grey_list p u w some) k))
   ]
 
   -- with 0 read from each of d lists the part stands at the next
-  zeros_from : (d u : ℕ) → u + d < p.threads → gate_after (CheckList p u) (replicate d 0) ≡ CheckList p (u + d)
+  zeros_from : (d u : ℕ) → u + d < p.threads → gate_after W (CheckList p u) (replicate d 0) ≡ CheckList p (u + d)
   zeros_from zero u low = ap (CheckList p) (omega arith)
   zeros_from (suc d) u low =
       let sum : u + 1 + d ≡ u + suc d = omega arith in
-      came (CheckList p u) (CheckList p (u + 1)) 0 (replicate d 0) (λ q. q ≡ CheckList p (u + suc d)) (next_list u 0 refl (omega arith)) (zeros_from d (u + 1) (omega arith) ∙ ap (CheckList p) sum)
+      came (CheckList p u) (CheckList p (u + 1)) 0 (replicate d 0) (λ q. q ≡ CheckList p (u + suc d)) (next_list p u 0 refl (omega arith)) (zeros_from d (u + 1) (omega arith) ∙ ap (CheckList p) sum)
 
-  zeros_here : (u : ℕ) → u < p.threads → gate_after (CheckList p 0) (replicate u 0) ≡ CheckList p u
+  zeros_here : (u : ℕ) → u < p.threads → gate_after W (CheckList p 0) (replicate u 0) ≡ CheckList p u
   zeros_here u low = (let sum : 0 + u ≡ u = omega arith in zeros_from u 0 (omega arith) ∙ ap (CheckList p) sum)
 
-  after_both : (r : GateRow) (xs ys : List ℕ) → gate_after r (xs ++ ys) ≡ gate_after (gate_after r xs) ys
+  after_both : (r : GateRow) (xs ys : List ℕ) → gate_after W r (xs ++ ys) ≡ gate_after W (gate_after W r xs) ys
   after_both r [] ys = refl
-  after_both r (x ∷ xs) ys = after_both (gate_got r x) xs ys
+  after_both r (x ∷ xs) ys = after_both (gate_got W r x) xs ys
 
-  all_zeros : (d u : ℕ) → u + suc d ≡ p.threads → gate_after (CheckList p u) (replicate (suc d) 0) ≡ SetCursor p
-  all_zeros zero u e = last_list u 0 refl (omega arith)
-  all_zeros (suc d) u e = came (CheckList p u) (CheckList p (u + 1)) 0 (replicate (suc d) 0) (λ q. q ≡ SetCursor p) (next_list u 0 refl (omega arith)) (all_zeros d (u + 1) (omega arith))
+  all_zeros : (d u : ℕ) → u + suc d ≡ p.threads → gate_after W (CheckList p u) (replicate (suc d) 0) ≡ SetCursor p
+  all_zeros zero u e = last_list p u 0 refl (omega arith)
+  all_zeros (suc d) u e = came (CheckList p u) (CheckList p (u + 1)) 0 (replicate (suc d) 0) (λ q. q ≡ SetCursor p) (next_list p u 0 refl (omega arith)) (all_zeros d (u + 1) (omega arith))
 
-  closed : (v : ℕ) (ws : List ℕ) → CanClose p v → gate_after (CloseLook p) (v ∷ v ∷ ws) ≡ gate_after (CheckList p 0) ws
-  closed v ws can =
+  closed : (v : ℕ) (ws : List ℕ) → IsIdle p → CanClose p v → gate_after W (CloseLook p) (v ∷ v ∷ ws) ≡ gate_after W (CheckList p 0) ws
+  closed v ws f can =
       let look : look_to_close p v ≡ Close p v = rw (can.pass, can.empty) refl in
-      let close : gate_got (Close p v) v ≡ CheckList p 0 = rw (eq-eqb v v refl) refl in
-      came (CloseLook p) (Close p v) v (v ∷ ws) (λ q. q ≡ gate_after (CheckList p 0) ws) look (came (Close p v) (CheckList p 0) v ws (λ q. q ≡ gate_after (CheckList p 0) ws) close refl)
+      let close : gate_got W (Close p v) v ≡ CheckList p 0 = rw (eq-eqb v v refl, f.mark) refl in
+      came (CloseLook p) (Close p v) v (v ∷ ws) (λ q. q ≡ gate_after W (CheckList p 0) ws) look (came (Close p v) (CheckList p 0) v ws (λ q. q ≡ gate_after W (CheckList p 0) ws) close refl)
 
-  pub each_list : (v u : ℕ) → IsIdle p → CanClose p v → u < p.threads → gate_want (gate_after (CloseLook p) (v ∷ v ∷ replicate u 0)) ≡ Load (GreyList u)
-  each_list v u f can low = ap gate_want (closed v (replicate u 0) can ∙ zeros_here u low)
+  pub each_list : (v u : ℕ) → IsIdle p → CanClose p v → u < p.threads → gate_want W (gate_after W (CloseLook p) (v ∷ v ∷ replicate u 0)) ≡ Load (GreyList u)
+  each_list v u f can low = ap (gate_want W) (closed v (replicate u 0) f can ∙ zeros_here u low)
 
-  pub reopens_at : (v u w : ℕ) → IsIdle p → CanClose p v → u < p.threads → (w ≡ 0 → ⊥) → gate_after (CloseLook p) (v ∷ v ∷ (replicate u 0 ++ w ∷ [])) ≡ Reopen p
+  pub reopens_at : (v u w : ℕ) → IsIdle p → CanClose p v → u < p.threads → (w ≡ 0 → ⊥) → gate_after W (CloseLook p) (v ∷ v ∷ (replicate u 0 ++ w ∷ [])) ≡ Reopen p
   reopens_at v u w f can low ne =
-      let at = closed v (replicate u 0 ++ w ∷ []) can ∙ after_both (CheckList p 0) (replicate u 0) (w ∷ []) in
-      at ∙ ap (λ r. gate_after r (w ∷ [])) (zeros_here u low) ∙ grey_list u w (ne_eqb w 0 ne)
+      let at = closed v (replicate u 0 ++ w ∷ []) f can ∙ after_both (CheckList p 0) (replicate u 0) (w ∷ []) in
+      at ∙ ap (λ r. gate_after W r (w ∷ [])) (zeros_here u low) ∙ grey_list p u w (ne_eqb w 0 ne)
 
   -- with 0 read from each list it sets the cursor
-  zeros_read : IsIdle p → gate_after (CheckList p 0) (replicate p.threads 0) ≡ SetCursor p
+  zeros_read : IsIdle p → gate_after W (CheckList p 0) (replicate p.threads 0) ≡ SetCursor p
   zeros_read f =
       let split : suc (p.threads - 1) ≡ p.threads = omega (arith, f.pass.thread) in
-      subst (λ n. gate_after (CheckList p 0) (replicate n 0) ≡ SetCursor p) split (all_zeros (p.threads - 1) 0 (omega arith))
+      subst (λ n. gate_after W (CheckList p 0) (replicate n 0) ≡ SetCursor p) split (all_zeros (p.threads - 1) 0 (omega arith))
 
-  pub sets_cursor : (v : ℕ) → IsIdle p → CanClose p v → gate_want (gate_after (CloseLook p) (v ∷ v ∷ replicate p.threads 0)) ≡ Exchange Cursor 1
-  sets_cursor v f can = ap gate_want (closed v (replicate p.threads 0) can ∙ zeros_read f)
+  pub sets_cursor : (v : ℕ) → IsIdle p → CanClose p v → gate_want W (gate_after W (CloseLook p) (v ∷ v ∷ replicate p.threads 0)) ≡ Exchange Cursor 1
+  sets_cursor v f can = ap (gate_want W) (closed v (replicate p.threads 0) f can ∙ zeros_read f)
 
-  pub flips_after : (v x : ℕ) → IsIdle p → CanClose p v → gate_after (CloseLook p) (v ∷ v ∷ (replicate p.threads 0 ++ x ∷ [])) ≡ Flip p
-  flips_after v x f can = closed v (replicate p.threads 0 ++ x ∷ []) can ∙ after_both (CheckList p 0) (replicate p.threads 0) (x ∷ []) ∙ ap (λ r. gate_after r (x ∷ [])) (zeros_read f)
+  pub flips_after : (v x : ℕ) → IsIdle p → CanClose p v → gate_after W (CloseLook p) (v ∷ v ∷ (replicate p.threads 0 ++ x ∷ [])) ≡ Flip p
+  flips_after v x f can = closed v (replicate p.threads 0 ++ x ∷ []) f can ∙ after_both (CheckList p 0) (replicate p.threads 0) (x ∷ []) ∙ ap (λ r. gate_after W r (x ∷ [])) (zeros_read f)
 
   twice : (v w : ℕ) (ws xs : List ℕ) → w ≡ v → ws ≡ xs → v ∷ w ∷ ws ≡ v ∷ v ∷ xs
   twice v w ws xs e k = rw (e, k) refl
@@ -249,20 +275,20 @@ module _ (p : Pass) where
   abbrev Flips : List ℕ → Type 0
   Flips ws = (v : ℕ) × (x : ℕ) × (ws ≡ v ∷ v ∷ (replicate p.threads 0 ++ x ∷ [])) × CanClose p v
 
-  from_close : (v : ℕ) (ws : List ℕ) → IsIdle p → CanClose p v → gate_after (Close p v) ws ≡ Flip p → Flips (v ∷ ws)
+  from_close : (v : ℕ) (ws : List ℕ) → IsIdle p → CanClose p v → gate_after W (Close p v) ws ≡ Flip p → Flips (v ∷ ws)
   from_close v [] f can e = absurd cc
   from_close v (w ∷ ws) f can e = elim (cases_Bool (eqb w v)) [
     | inl won ↦
         let split : suc (p.threads - 1) ≡ p.threads = omega (arith, f.pass.thread) in
         let z : w ≡ v = eqb-true w v won in
-        let is : gate_got (Close p v) w ≡ CheckList p 0 = rw won refl in
+        let is : gate_got W (Close p v) w ≡ CheckList p 0 = rw (won, f.mark) refl in
         let rest = from_list (p.threads - 1) 0 ws (omega arith) (went (Close p v) (CheckList p 0) w ws IsFlip is e) in
         let same : ws ≡ replicate p.threads 0 ++ rest.0 ∷ [] = subst (λ n. ws ≡ replicate n 0 ++ rest.0 ∷ []) split rest.1 in
         (v, rest.0, twice v w ws (replicate p.threads 0 ++ rest.0 ∷ []) z same, can)
-    | inr lost ↦ (let is : gate_got (Close p v) w ≡ KeptOut = rw lost refl in absurd (no_flip_out ws (went (Close p v) KeptOut w ws IsFlip is e)))
+    | inr lost ↦ (let is : gate_got W (Close p v) w ≡ KeptOut = rw lost refl in absurd (no_flip_out ws (went (Close p v) KeptOut w ws IsFlip is e)))
   ]
 
-  pub flips_only : (ws : List ℕ) → IsIdle p → gate_after (CloseLook p) ws ≡ Flip p → Flips ws
+  pub flips_only : (ws : List ℕ) → IsIdle p → gate_after W (CloseLook p) ws ≡ Flip p → Flips ws
   flips_only [] f e = absurd cc
   flips_only (w ∷ ws) f e = elim (cases_Bool (is_of_pass p w)) [
     | inl of ↦ elim (cases_Bool (is_empty w)) [
@@ -293,20 +319,27 @@ ReadNone r = lists_read r ≡ 0
 close_look_read : (p : Pass) (w : ℕ) → ReadNone (look_to_close p w)
 close_look_read p w = either ReadNone (is_of_pass p w) (cond (is_empty w) (Close p w) KeptOut) KeptOut (either ReadNone (is_empty w) (Close p w) KeptOut refl refl) refl
 
-close_read : (p : Pass) (seen w : ℕ) → ReadNone (gate_got (Close p seen) w)
-close_read p seen w = either ReadNone (eqb w seen) (CheckList p 0) KeptOut refl refl
+close_read : (W : Width) (p : Pass) (seen w : ℕ) → ReadNone (gate_got W (Close p seen) w)
+close_read W p seen w = either ReadNone (eqb w seen) (closed_by p) KeptOut (either ReadNone p.sweep (ShadeRoot p 0 0) (CheckList p 0) refl refl) refl
+
+shade_read : (W : Width) (p : Pass) (u : ℕ) → ReadNone (root_shaded W p u)
+shade_read W p u = either ReadNone (ltb (u + 1) p.threads) (ShadeRoot p (u + 1) (root_block W u)) (PutRoots p (root_block W u)) refl refl
 
 none_below : (r : GateRow) (v : ℕ) → ReadNone r → v < lists_read r → ⊥
 none_below r v e low = omega arith
 
 -- no event of the part fills a list that it has read
-pub checked_empty : (h : Heap) (r : GateRow) → turns_over r ≡ true → GateFits r → ((u : ℕ) → u < lists_read r → h (GreyList u) ≡ 0) → (u : ℕ) → u < lists_read (gate_got r (h (place_of (gate_want r)))) → heap_after h (gate_want r) (GreyList u) ≡ 0
-checked_empty h (CloseLook p) e f empty u low = absurd (none_below (look_to_close p (h Phase)) u (close_look_read p (h Phase)) low)
-checked_empty h (Close p seen) e f empty u low = absurd (none_below (gate_got (Close p seen) (h Phase)) u (close_read p seen (h Phase)) low)
-checked_empty h (CheckList p v) e f empty u low = list_empty p (λ x. h (GreyList x)) v f.1 empty u low
-checked_empty h (SetCursor p) e f empty u low = empty u low
-checked_empty h (Flip p) e f empty u low = absurd (omega arith)
-checked_empty h (Reopen p) e f empty u low = absurd (omega arith)
-checked_empty h TurnedOver e f empty u low = absurd (omega arith)
-checked_empty h KeptOut e f empty u low = absurd (omega arith)
-checked_empty h _ e f empty u low = absurd cc
+pub checked_empty : (W : Width) (h : Heap) (r : GateRow) → turns_over r ≡ true → GateFits r → ((u : ℕ) → u < lists_read r → h (GreyList u) ≡ 0) → (u : ℕ) → u < lists_read (gate_got W r (h (place_of (gate_want W r)))) → heap_after h (gate_want W r) (GreyList u) ≡ 0
+checked_empty W h (CloseLook p) e f empty u low = absurd (none_below (look_to_close p (h Phase)) u (close_look_read p (h Phase)) low)
+checked_empty W h (Close p seen) e f empty u low = absurd (none_below (gate_got W (Close p seen) (h Phase)) u (close_read W p seen (h Phase)) low)
+checked_empty W h (CheckList p v) e f empty u low = list_empty p (λ x. h (GreyList x)) v f.1 empty u low
+checked_empty W h (SetCursor p) e f empty u low = empty u low
+checked_empty W h (Flip p) e f empty u low = absurd (omega arith)
+checked_empty W h (Reopen p) e f empty u low = absurd (omega arith)
+checked_empty W h (ShadeRoot p v hand) e f empty u low = absurd (none_below (root_shaded W p v) u (shade_read W p v) low)
+checked_empty W h (PutRoots p hand) e f empty u low = absurd (omega arith)
+checked_empty W h (Start p) e f empty u low = absurd (omega arith)
+checked_empty W h TurnedOver e f empty u low = absurd (omega arith)
+checked_empty W h (StartedCycle y) e f empty u low = absurd (omega arith)
+checked_empty W h KeptOut e f empty u low = absurd (omega arith)
+checked_empty W h _ e f empty u low = absurd cc

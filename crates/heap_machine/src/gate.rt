@@ -1,14 +1,18 @@
 //! The gate: a thread goes in where the gate is not closed, and is counted in the phase word while
-//! it is inside. A thread outside closes it where nobody is inside, to turn the phase over.
+//! it is inside. A thread outside closes it where nobody is inside, to turn the phase over or to
+//! start the next cycle.
 
 ghost use Rattle.std.specs.Prelude.{◌+◌, false, true, ◌≡◌, ◌<◌, ◌≤◌, ◌-◌, ◌^◌, IfSome};
 ghost use Rattle.block_store.specs.Places.{extent};
 ghost use Rattle.heap_machine.specs.Operations.{op_at, place_of};
 ghost use Rattle.heap_machine.specs.Passes.{IsPass};
 ghost use Rattle.heap_machine.specs.Readings.{CanHold, IsPhaseWord};
-ghost use Rattle.heap_machine.specs.Gates.{gate_want, gate_got, gate_step, gate_entered, gate_started, is_going_in, GateFits, GateAt, SeenOpen};
+ghost use Rattle.heap_machine.specs.Gates.{gate_want, gate_got, going_got, gate_step, gate_entered, gate_started, is_going_in, GateFits, GateAt, SeenOpen};
 
-use crate::turnover::{check, close, flip, list_checked, look_to_close, reopen, tried_to_close};
+use crate::turnover::{
+    check, close, flip, list_checked, look_to_close, put_roots, reopen, root_shaded, shade_root,
+    start, tried_to_close,
+};
 use crate::{Op, Pass, Step};
 use block_store::{PhaseWord, Places, read_phase};
 use std::marker::Model;
@@ -39,8 +43,17 @@ pub enum GateRow {
     Flip { pass: Pass },
     /// A grey list was not empty: opens the gate again, in Mark.
     Reopen { pass: Pass },
-    /// Is over: the gate was closed, and is open again.
+    /// Makes the root block of thread `u` grey for the next cycle, in front of the hand, after a
+    /// Sweep pass. The hand is the root block that was made grey before it, or 0.
+    ShadeRoot { pass: Pass, u: u32, hand: u32 },
+    /// Each root block is grey: puts them in the thread's own grey list.
+    PutRoots { pass: Pass, hand: u32 },
+    /// Begins Mark in the next cycle, and opens the gate.
+    Start { pass: Pass },
+    /// Is over: the gate was closed, and is open again in the same cycle.
     TurnedOver,
+    /// Is over: the gate was closed, and is open again in this cycle, which was started.
+    StartedCycle { cycle: u64 },
     /// Is over: the gate was not closed.
     KeptOut,
 }
@@ -88,15 +101,14 @@ impl Gate {
         }
     }
 
-    /// The part that closes the gate after this pass found nothing to do, and changes the phase: to
-    /// Sweep where each grey list is empty, else it opens the gate again in Mark. It is over at
-    /// once where the phase word says another cycle or phase than the pass had, the gate is closed,
-    /// somebody is inside, or another thread changes the phase word first. A Sweep pass cannot be
-    /// turned over yet: `sweep` has to be false.
+    /// The part that closes the gate after this pass found nothing to do. After a Mark pass it
+    /// changes the phase to Sweep where each grey list is empty, and else opens the gate again in
+    /// Mark. After a Sweep pass it makes the root of each thread grey and starts the next cycle. It
+    /// is over at once where the phase word says another cycle or phase than the pass had, the gate
+    /// is closed, somebody is inside, or another thread changes the phase word first.
     pub fn turn_over(thread: u32, threads: u32, cycle: u64, sweep: bool) -> Gate
         requires thread { (thread < threads) × (threads ≤ 16) }
         requires cycle { (1 ≤ cycle) × (cycle ≤ 2 ^ 54 - 2) }
-        requires mark { sweep ≡ false }
         ensures { result
             ≡ GateRow.CloseLook
             (record { thread = thread; threads = threads; cycle = cycle; sweep = sweep }) }
@@ -116,15 +128,19 @@ impl Gate {
     /// are those of a heap with the part's threads.
     pub fn want(&self, places: &Places) -> Op
         requires { GateAt places.now self.now }
-        ensures { result ≡ op_at (extent places.now) (gate_want self.now) }
+        ensures { result ≡ op_at (extent places.now) (gate_want places.now.width self.now) }
     {
         use GateRow::*;
 
         let place = places.phase();
         match self.row {
-            Look | Entered { seen: _ } | Left | CloseLook { pass: _ } | TurnedOver | KeptOut => {
-                Op::load(place)
-            }
+            Look
+            | Entered { seen: _ }
+            | Left
+            | CloseLook { pass: _ }
+            | TurnedOver
+            | StartedCycle { cycle: _ }
+            | KeptOut => Op::load(place),
             Enter { seen } => entering(place, seen),
             Leave => Op::FetchSub { place, by: 1 },
             Close { pass: _, seen } => close(place, seen),
@@ -132,6 +148,9 @@ impl Gate {
             SetCursor { pass: _ } => Op::exchange(places.cursor(), 1),
             Flip { pass } => flip(place, pass),
             Reopen { pass } => reopen(place, pass),
+            ShadeRoot { pass, u, hand } => shade_root(places, pass, u, hand),
+            PutRoots { pass, hand } => put_roots(places, pass, hand),
+            Start { pass } => start(place, pass),
         }
     }
 
@@ -141,24 +160,34 @@ impl Gate {
     /// thread changed the phase word first.
     pub fn got(&mut self, places: &Places, word: u64) -> Step
         requires places { GateAt places.now self.old }
-        requires word { CanHold (extent places.now) (place_of (gate_want self.old)) word }
-        ensures row { self.new ≡ gate_got self.old word }
+        requires word { CanHold (extent places.now)
+            (place_of (gate_want places.now.width self.old)) word }
+        ensures row { self.new ≡ gate_got places.now.width self.old word }
         ensures step { result ≡ gate_step self.old word }
         ensures places { GateAt places.now self.new }
     {
         use GateRow::*;
 
-        let _places = places;
+        let width = places.width();
         match self.row {
             Look => self.looked(word),
             Enter { seen } => self.tried(seen, word),
-            Entered { seen: _ } | Left | TurnedOver | KeptOut => Step::Over,
+            Entered { seen: _ } | Left | TurnedOver | StartedCycle { cycle: _ } | KeptOut =>
+                Step::Over,
             Leave => self.goes(Left, Step::Over),
             CloseLook { pass } => self.goes_by(look_to_close(pass, word)),
             Close { pass, seen } => self.goes_by(tried_to_close(pass, seen, word)),
             CheckList { pass, u } => self.goes_by(list_checked(pass, u, word)),
             SetCursor { pass } => self.goes(Flip { pass }, Step::Went),
             Flip { pass: _ } | Reopen { pass: _ } => self.goes(TurnedOver, Step::Over),
+            ShadeRoot { pass, u, hand: _ } => self.goes(root_shaded(width, pass, u), Step::Went),
+            PutRoots { pass, hand: _ } => self.goes(Start { pass }, Step::Went),
+            Start { pass } => self.goes(
+                StartedCycle {
+                    cycle: pass.cycle + 1,
+                },
+                Step::Over,
+            ),
         }
     }
 
@@ -187,7 +216,7 @@ impl Gate {
     fn looked(&mut self, word: u64) -> Step
         requires row { self.old ≡ GateRow.Look }
         requires word { IsPhaseWord word }
-        ensures row { self.new ≡ gate_got GateRow.Look word }
+        ensures row { self.new ≡ going_got GateRow.Look word }
         ensures step { result ≡ gate_step GateRow.Look word }
     {
         if read_phase(word).closed {
@@ -201,7 +230,7 @@ impl Gate {
     // After the phase word was to be counted up.
     fn tried(&mut self, seen: u64, word: u64) -> Step
         requires row { self.old ≡ GateRow.Enter seen }
-        ensures row { self.new ≡ gate_got (GateRow.Enter seen) word }
+        ensures row { self.new ≡ going_got (GateRow.Enter seen) word }
         ensures step { result ≡ gate_step (GateRow.Enter seen) word }
     {
         if word == seen {
@@ -216,7 +245,7 @@ impl Gate {
     /// The part that goes in, after its first look read the word.
     pub fn after_look(word: u64) -> Gate
         requires { IsPhaseWord word }
-        ensures { result ≡ gate_got GateRow.Look word }
+        ensures { result ≡ going_got GateRow.Look word }
     {
         if read_phase(word).closed {
             Gate { row: GateRow::Look }
@@ -242,7 +271,7 @@ impl Gate {
     /// `want`, of a part on its way in.
     pub fn want_in(&self, places: &Places) -> Op
         requires { is_going_in self.now ≡ true }
-        ensures { result ≡ op_at (extent places.now) (gate_want self.now) }
+        ensures { result ≡ op_at (extent places.now) (gate_want places.now.width self.now) }
     {
         let place = places.phase();
         match self.row {
@@ -256,7 +285,7 @@ impl Gate {
     pub fn got_in(&mut self, word: u64) -> Step
         requires way { is_going_in self.old ≡ true }
         requires word { IsPhaseWord word }
-        ensures row { self.new ≡ gate_got self.old word }
+        ensures row { self.new ≡ going_got self.old word }
         ensures step { result ≡ gate_step self.old word }
     {
         match self.row {
@@ -278,11 +307,13 @@ impl Gate {
         }
     }
 
-    /// The cycle that this part started; `None` where it started none, which is so of each part
-    /// until a Sweep pass can be turned over.
+    /// The cycle that this part started; `None` where it started none, or has not yet.
     pub fn started(&self) -> Option<u64>
         ensures { result ≡ gate_started self.now }
     {
-        None
+        match self.row {
+            GateRow::StartedCycle { cycle } => Some(cycle),
+            _ => None,
+        }
     }
 }

@@ -17,11 +17,12 @@ ghost use Rattle.heap_machine.specs.Tricolour.{TricolourHolding, no_tricolour, N
 ghost use Rattle.heap_machine.specs.Solid.{NotFree, IsMarked, SolidKept};
 ghost use Rattle.block_store.specs.Registers.{root_block};
 ghost use Rattle.block_store.specs.Widths.{payloads};
+ghost use Rattle.block_store.specs.declared.Width.{Width};
 ghost use Rattle.heap_machine.specs.Holdings.{Holding};
 ghost use Rattle.heap_machine.specs.HeapKept.{HeapKept, is_ruled, CanColour, CanRefer};
 ghost use Rattle.heap_machine.specs.Gating.{Gating, GateOf, Outside, Inside, Closing, is_outside, closed_word, open_word};
-ghost use Rattle.heap_machine.specs.Gates.{gate_want, gate_got, GateFits, GateAt, IsIdle};
-ghost use Rattle.heap_machine.specs.Turning.{turns_over, turning_gating, lists_read, gate_after, CanClose};
+ghost use Rattle.heap_machine.specs.Gates.{gate_want, gate_got, gate_started, GateFits, GateAt, IsIdle};
+ghost use Rattle.heap_machine.specs.Turning.{turns_over, turning_gating, lists_read, gate_after, CanClose, HasRoom};
 ghost use Rattle.heap_machine.specs.declared.gate.GateRow.{GateRow};
 ghost use Rattle.heap_machine.specs.declared.pass.Pass.{Pass};
 
@@ -94,43 +95,57 @@ pub fn gate_counts()
 
 /// A row of the gate that fits its heap becomes one that fits. It wants a place of the heap; where
 /// the phase word counts a thread inside, nothing falls below 0; and a part that turns the phase
-/// over stores what the place can hold.
+/// over or starts a cycle, which a phase word can hold, stores what the place can hold.
 pub fn gate_rows_stay_in_the_heap()
     ensures next { (c : Config) (r : GateRow) (w : ℕ) → GateFits r
-        → CanHold (extent c) (place_of (gate_want r)) w → GateFits (gate_got r w) }
-    ensures threads { (c : Config) (r : GateRow) (w : ℕ) → GateAt c r → GateAt c (gate_got r w) }
+        → CanHold (extent c) (place_of (gate_want c.width r)) w → GateFits (gate_got c.width r w) }
+    ensures threads { (c : Config) (r : GateRow) (w : ℕ) → GateFits r → GateAt c r
+        → GateAt c (gate_got c.width r w) }
     ensures place { (c : Config) (r : GateRow) → GateFits r → GateAt c r
-        → in_range (extent c) (place_of (gate_want r)) ≡ true }
-    ensures sum { (r : GateRow) (w : ℕ) → 1 ≤ inside_of w → Fits (gate_want r) w }
-    ensures stores { (c : Config) (r : GateRow) → turns_over r ≡ true → GateFits r
-        → StoresHeld c (gate_want r) }
+        → in_range (extent c) (place_of (gate_want c.width r)) ≡ true }
+    ensures sum { (W : Width) (r : GateRow) (w : ℕ) → 1 ≤ inside_of w → Fits (gate_want W r) w }
+    ensures stores { (c : Config) (r : GateRow) → turns_over r ≡ true → GateFits r → GateAt c r
+        → HasRoom r → StoresHeld c (gate_want c.width r) }
 {}
 
-/// Each event of a part that turns the phase over keeps that the phase word counts the threads
-/// inside, while the other threads stay where they are. Its thread has closed the gate from the
-/// event that closes it to the one that opens it again.
+/// Each event of a part that turns the phase over or starts a cycle keeps that the phase word counts
+/// the threads inside, while the other threads stay where they are. Its thread has closed the gate
+/// from the event that closes it to the one that opens it again.
 pub fn turn_over_keeps_the_gate()
-    ensures { (n : ℕ) (h : Heap) (gs : ℕ → Gating) → GateOf n (h Phase) gs → (t : ℕ) → t < n
+    ensures { (W : Width) (n : ℕ) (h : Heap) (gs : ℕ → Gating) → GateOf n (h Phase) gs
+        → (t : ℕ) → t < n
         → (r : GateRow) → turns_over r ≡ true → GateFits r → gs t ≡ turning_gating r
-        → GateOf n (heap_after h (gate_want r) Phase) (changed gs t (turning_gating (gate_got r (h
-        (place_of (gate_want r)))))) }
+        → GateOf n (heap_after h (gate_want W r) Phase) (changed gs t (turning_gating (gate_got W r
+        (h (place_of (gate_want W r)))))) }
 {}
 
-/// Of the events of a part that turns the phase over only the flip changes the phase: from Mark to
-/// Sweep, with nobody inside and each other thread outside. None changes the cycle.
-pub fn only_the_flip_turns_the_phase()
-    ensures cycle { (n : ℕ) (h : Heap) (gs : ℕ → Gating) → GateOf n (h Phase) gs → (t : ℕ) → t < n
+/// Of the events of a part that turns the phase over or starts a cycle only the flip and the start
+/// change the phase word's cycle or phase: the flip the phase, from Mark to Sweep, and the start
+/// both, to Mark of the next cycle. At both nobody is inside, and each other thread is outside.
+pub fn phase_changes_at_the_flip_and_the_start()
+    ensures cycle { (W : Width) (n : ℕ) (h : Heap) (gs : ℕ → Gating) → GateOf n (h Phase) gs
+        → (t : ℕ) → t < n
         → (r : GateRow) → turns_over r ≡ true → GateFits r → gs t ≡ turning_gating r
-        → cycle_of (heap_after h (gate_want r) Phase) ≡ cycle_of (h Phase) }
-    ensures phase { (n : ℕ) (h : Heap) (gs : ℕ → Gating) → GateOf n (h Phase) gs → (t : ℕ) → t < n
+        → ((p : Pass) → r ≢ GateRow.Start p)
+        → cycle_of (heap_after h (gate_want W r) Phase) ≡ cycle_of (h Phase) }
+    ensures phase { (W : Width) (n : ℕ) (h : Heap) (gs : ℕ → Gating) → GateOf n (h Phase) gs
+        → (t : ℕ) → t < n
         → (r : GateRow) → turns_over r ≡ true → GateFits r → gs t ≡ turning_gating r
-        → ((p : Pass) → r ≢ GateRow.Flip p)
-        → is_sweep (heap_after h (gate_want r) Phase) ≡ is_sweep (h Phase) }
-    ensures flip { (n : ℕ) (h : Heap) (gs : ℕ → Gating) → GateOf n (h Phase) gs → (t : ℕ) → t < n
-        → (p : Pass)
+        → ((p : Pass) → r ≢ GateRow.Flip p) → ((p : Pass) → r ≢ GateRow.Start p)
+        → is_sweep (heap_after h (gate_want W r) Phase) ≡ is_sweep (h Phase) }
+    ensures flip { (W : Width) (n : ℕ) (h : Heap) (gs : ℕ → Gating) → GateOf n (h Phase) gs
+        → (t : ℕ) → t < n → (p : Pass)
         → GateFits (GateRow.Flip p) → gs t ≡ turning_gating (GateRow.Flip p)
         → (is_sweep (h Phase) ≡ false)
-        × (is_sweep (heap_after h (gate_want (GateRow.Flip p)) Phase) ≡ true)
+        × (is_sweep (heap_after h (gate_want W (GateRow.Flip p)) Phase) ≡ true)
+        × (inside_of (h Phase) ≡ 0) × ((u : ℕ) → u < n → (t ≡ u → ⊥) → (gs u).stand ≡ Outside) }
+    ensures start { (W : Width) (n : ℕ) (h : Heap) (gs : ℕ → Gating) → GateOf n (h Phase) gs
+        → (t : ℕ) → t < n → (p : Pass)
+        → GateFits (GateRow.Start p) → gs t ≡ turning_gating (GateRow.Start p)
+        → (is_sweep (h Phase) ≡ true)
+        × (is_sweep (heap_after h (gate_want W (GateRow.Start p)) Phase) ≡ false)
+        × (cycle_of (heap_after h (gate_want W (GateRow.Start p)) Phase) ≡ cycle_of (h Phase) + 1)
+        × (gate_started (gate_got W (GateRow.Start p) (h Phase)) ≡ Some (cycle_of (h Phase) + 1))
         × (inside_of (h Phase) ≡ 0) × ((u : ℕ) → u < n → (t ≡ u → ⊥) → (gs u).stand ≡ Outside) }
 {}
 
@@ -139,29 +154,32 @@ pub fn only_the_flip_turns_the_phase()
 /// had closed it; and behind the lists it set the cursor to 1. At the first list that is not empty
 /// it opens the gate again. All of this is of a Mark pass.
 pub fn turn_over_checks_every_list()
-    ensures flips { (p : Pass) (v x : ℕ) → IsIdle p → CanClose p v
-        → gate_after (GateRow.CloseLook p) (v ∷ v ∷ (replicate p.threads 0 ++ x ∷ []))
+    ensures flips { (W : Width) (p : Pass) (v x : ℕ) → IsIdle p → CanClose p v
+        → gate_after W (GateRow.CloseLook p) (v ∷ v ∷ (replicate p.threads 0 ++ x ∷ []))
         ≡ GateRow.Flip p }
-    ensures only { (p : Pass) (ws : List ℕ) → IsIdle p
-        → gate_after (GateRow.CloseLook p) ws ≡ GateRow.Flip p
+    ensures only { (W : Width) (p : Pass) (ws : List ℕ) → IsIdle p
+        → gate_after W (GateRow.CloseLook p) ws ≡ GateRow.Flip p
         → (v : ℕ) × (x : ℕ) × (ws ≡ v ∷ v ∷ (replicate p.threads 0 ++ x ∷ [])) × CanClose p v }
-    ensures each { (p : Pass) (v u : ℕ) → IsIdle p → CanClose p v → u < p.threads
-        → gate_want (gate_after (GateRow.CloseLook p) (v ∷ v ∷ replicate u 0)) ≡ Load (GreyList u) }
-    ensures cursor { (p : Pass) (v : ℕ) → IsIdle p → CanClose p v
-        → gate_want (gate_after (GateRow.CloseLook p) (v ∷ v ∷ replicate p.threads 0))
+    ensures each { (W : Width) (p : Pass) (v u : ℕ) → IsIdle p → CanClose p v → u < p.threads
+        → gate_want W (gate_after W (GateRow.CloseLook p) (v ∷ v ∷ replicate u 0))
+        ≡ Load (GreyList u) }
+    ensures cursor { (W : Width) (p : Pass) (v : ℕ) → IsIdle p → CanClose p v
+        → gate_want W (gate_after W (GateRow.CloseLook p) (v ∷ v ∷ replicate p.threads 0))
         ≡ Exchange Cursor 1 }
-    ensures reopens { (p : Pass) (v u w : ℕ) → IsIdle p → CanClose p v → u < p.threads → w ≢ 0
-        → gate_after (GateRow.CloseLook p) (v ∷ v ∷ (replicate u 0 ++ w ∷ [])) ≡ GateRow.Reopen p }
+    ensures reopens { (W : Width) (p : Pass) (v u w : ℕ) → IsIdle p → CanClose p v → u < p.threads
+        → w ≢ 0
+        → gate_after W (GateRow.CloseLook p) (v ∷ v ∷ (replicate u 0 ++ w ∷ []))
+        ≡ GateRow.Reopen p }
 {}
 
 /// Where the grey lists that such a part has read 0 since it closed the gate are empty, those of
 /// its next row are empty after its event. So at the flip the list of each thread is empty, where
 /// no other thread has changed one since.
 pub fn checked_lists_are_empty()
-    ensures { (h : Heap) (r : GateRow) → turns_over r ≡ true → GateFits r
+    ensures { (W : Width) (h : Heap) (r : GateRow) → turns_over r ≡ true → GateFits r
         → ((u : ℕ) → u < lists_read r → h (GreyList u) ≡ 0) → (u : ℕ)
-        → u < lists_read (gate_got r (h (place_of (gate_want r))))
-        → heap_after h (gate_want r) (GreyList u) ≡ 0 }
+        → u < lists_read (gate_got W r (h (place_of (gate_want W r))))
+        → heap_after h (gate_want W r) (GreyList u) ≡ 0 }
 {}
 
 /// Where each place has a word that it can hold, a write of such a word keeps that, and so does an

@@ -12,6 +12,7 @@ mod pass;
 mod reuse;
 #[cfg(test)]
 mod tests;
+mod turning;
 mod turnover;
 mod words;
 
@@ -19,7 +20,7 @@ pub use gate::{Gate, GateRow};
 pub use laws::{
     black_blocks_refer_to_none_white, chains_are_lists, checked_lists_are_empty, gate_counts,
     gate_rows_stay_in_the_heap, grey_blocks_stand_once, lists_are_lost_at_a_put,
-    only_the_flip_turns_the_phase, operations_are_of_places, other_writes_keep_grey,
+    operations_are_of_places, other_writes_keep_grey, phase_changes_at_the_flip_and_the_start,
     stores_are_held, turn_over_checks_every_list, turn_over_keeps_the_gate,
     unshaded_stores_break_tricolour, what_keeps_solid, what_keeps_the_heap, what_keeps_tricolour,
 };
@@ -29,6 +30,10 @@ pub use reuse::{
     free_blocks_stand_at_the_opening, free_blocks_stand_once, free_lists_are_lost_at_a_put,
     gate_rows_keep_reuse, rules_hold_by_the_phase, sweep_claims_do_not_overlap,
     what_keeps_free_blocks, what_keeps_reuse, what_keeps_the_sweep,
+};
+pub use turning::{
+    closed_gates_keep_others_out, gate_rows_keep_each_word, gate_rows_keep_the_rules,
+    nothing_is_grey_at_the_flip, start_shades_every_root, what_the_closing_thread_knows,
 };
 pub use words::Words;
 

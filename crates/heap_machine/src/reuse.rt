@@ -17,7 +17,7 @@ ghost use Rattle.heap_machine.specs.PhaseKept.{PhaseKept};
 ghost use Rattle.heap_machine.specs.ReuseKept.{ReuseKept, is_of_reuse};
 ghost use Rattle.heap_machine.specs.Gates.{gate_want, GateFits};
 ghost use Rattle.heap_machine.specs.Gating.{Gating, GateOf, is_closing};
-ghost use Rattle.heap_machine.specs.Turning.{turns_over, turning_gating};
+ghost use Rattle.heap_machine.specs.Turning.{turns_over, turning_gating, MayTurn};
 ghost use Rattle.heap_machine.specs.declared.gate.GateRow.{GateRow};
 ghost use Rattle.heap_machine.specs.declared.pass.Pass.{Pass};
 
@@ -246,20 +246,21 @@ pub fn what_keeps_reuse()
 {}
 
 /// The events of the gate keep both rules: to go in and out, where the phase word counts a thread
-/// inside; and to close the gate and turn the phase over, where nothing is claimed while it is
-/// closed, and the cursor is at the first block before the flip.
+/// inside; and to close the gate, and turn the phase over or start a cycle, where nothing is claimed
+/// while it is closed, the cursor is at the first block before the flip, and a root that becomes
+/// grey was black.
 pub fn gate_rows_keep_reuse()
     ensures passes { (e : Extent) (h : Heap) (hs : ℕ → Holding) → ReuseKept e h hs
         → (r : GateRow) → turns_over r ≡ false → GateFits r
         → (r ≡ GateRow.Leave → 1 ≤ inside_of (h Phase))
-        → ReuseKept e (heap_after h (gate_want r)) hs }
+        → ReuseKept e (heap_after h (gate_want e.width r)) hs }
     ensures turns { (e : Extent) (h : Heap) (hs : ℕ → Holding) → ReuseKept e h hs
         → (gs : ℕ → Gating) → GateOf e.threads (h Phase) gs → (t : ℕ) → t < e.threads
         → (r : GateRow) → turns_over r ≡ true → GateFits r → gs t ≡ turning_gating r
         → (is_closing (turning_gating r).stand ≡ true
         → (u : ℕ) → u < e.threads → sweep_held (hs u) ≡ no_claim)
-        → ((p : Pass) → r ≡ GateRow.Flip p → h Cursor ≡ 1)
-        → ReuseKept e (heap_after h (gate_want r)) hs }
+        → ((p : Pass) → r ≡ GateRow.Flip p → h Cursor ≡ 1) → MayTurn e r h
+        → ReuseKept e (heap_after h (gate_want e.width r)) hs }
 {}
 
 /// What a heap keeps in each phase: while the phase is Mark it is what marking keeps in the cycle of

@@ -1,10 +1,13 @@
 //! Operations and the gate on a few words.
 
 ghost use Rattle.std.specs.Prelude.{◌≡◌, ◌<◌, ◌%◌, false};
+ghost use Rattle.block_store.specs.declared.Width.TheVariants.{Four};
+ghost use Rattle.block_store.specs.Registers.{root_block};
 ghost use Rattle.heap_machine.specs.declared.gate.GateRow.{GateRow};
 
 use crate::*;
 use block_store::{Config, OutOfMemory, Places, Width};
+use std::process::Abort;
 
 // Phase words of cycle 1: Mark with the gate open, with one thread inside, and closed; Sweep; and
 // Sweep closed. Then Mark of cycle 2, with nobody and with one thread inside.
@@ -19,6 +22,13 @@ const SWEEP: u64 = 1280;
 const SWEEP_CLOSED: u64 = 1792;
 
 const NEXT: u64 = 2048;
+
+// Colour words: black of cycle 1, and grey with no link and with a link to block 1.
+const BLACK: u64 = 2;
+
+const GREY: u64 = 3;
+
+const GREY_TO_FIRST: u64 = 11;
 
 const NEXT_ONE_INSIDE: u64 = 2049;
 
@@ -90,10 +100,17 @@ fn turn_over(t: u32) -> Gate
 
 // The places of two threads, whose grey lists are words 3 and 4.
 fn places() -> Places
-    ensures { (result.threads ≡ 2) × (result.blocks ≡ 64) }
+    ensures { (result.threads ≡ 2) × (result.blocks ≡ 64) × (result.width ≡ Four) }
+{
+    places_of(Width::Four)
+}
+
+// The same in blocks of this width.
+fn places_of(width: Width) -> Places
+    ensures { (result.threads ≡ 2) × (result.blocks ≡ 64) × (result.width ≡ width) }
 {
     Places::new(&Config {
-        width: Width::Four,
+        width,
         threads: 2,
         blocks: 64,
         live: 20,
@@ -163,4 +180,43 @@ fn a_turn_over_waits_where_the_gate_is_in_use(rt: HostRuntime) {
     assert_eq!(rt; lost.got(&places, OPEN), Step::Went);
     assert_eq!(rt; lost.got(&places, ONE_INSIDE), Step::WaitedOver);
     assert_eq!(rt; lost.want(&places), Op::load(places.phase()));
+}
+
+// The start of the next cycle by thread 1 of two, after a Sweep pass of cycle 1. The words that it
+// reads are those of a heap whose roots are black.
+#[tactic(auto, unfolding(block_store::specs::Phases::inside_of, block_store::specs::Phases::cycle_of, block_store::specs::Colours::colour_of, block_store::specs::Colours::link))]
+fn started_by(rt: &impl Abort, width: Width, second: u32) -> Option<u64>
+    requires { second ≡ root_block width 1 }
+{
+    let places = places_of(width);
+    let mut gate = Gate::turn_over(1, 2, 1, true);
+    assert_eq!(rt; gate.want(&places), Op::load(places.phase()));
+    assert_eq!(rt; gate.got(&places, SWEEP), Step::Went);
+    assert_eq!(rt;
+        gate.want(&places),
+        Op::compare_exchange(places.phase(), SWEEP, SWEEP_CLOSED)
+    );
+    assert_eq!(rt; gate.got(&places, SWEEP), Step::Went);
+    assert_eq!(rt; gate.want(&places), Op::exchange(places.colour(1), GREY));
+    assert_eq!(rt; gate.got(&places, BLACK), Step::Went);
+    assert_eq!(rt;
+        gate.want(&places),
+        Op::exchange(places.colour(second), GREY_TO_FIRST)
+    );
+    assert_eq!(rt; gate.got(&places, BLACK), Step::Went);
+    assert_eq!(rt;
+        gate.want(&places),
+        Op::exchange(places.grey_list(1), second as u64)
+    );
+    assert_eq!(rt; gate.got(&places, 0), Step::Went);
+    assert_eq!(rt; gate.started(), None);
+    assert_eq!(rt; gate.want(&places), Op::exchange(places.phase(), NEXT));
+    assert_eq!(rt; gate.got(&places, SWEEP_CLOSED), Step::Over);
+    gate.started()
+}
+
+#[test]
+fn a_sweep_pass_that_finds_nothing_starts_a_cycle(rt: HostRuntime) {
+    assert_eq!(rt; started_by(&rt, Width::Four, 6), Some(2));
+    assert_eq!(rt; started_by(&rt, Width::Eight, 4), Some(2));
 }

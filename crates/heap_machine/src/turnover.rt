@@ -1,15 +1,21 @@
-//! The rows of a part that closes the gate and turns the phase over.
+//! The rows of a part that closes the gate, and turns the phase over or starts the next cycle.
 
-ghost use Rattle.std.specs.Prelude.{◌≡◌, ◌<◌, ◌≤◌, false, true};
-ghost use Rattle.block_store.specs.Places.{extent, GreyList};
-ghost use Rattle.heap_machine.specs.Operations.{op_at, Load};
+ghost use Rattle.std.specs.Prelude.{◌≡◌, ◌<◌, ◌≤◌, ◌+◌, ◌^◌, ◌==◌, if◌then◌else◌, false, true};
+ghost use Rattle.block_store.specs.Colours.{grey_word};
+ghost use Rattle.block_store.specs.declared.Config.{Config};
+ghost use Rattle.block_store.specs.Places.{extent, GreyList, ColourOf};
+ghost use Rattle.block_store.specs.Registers.{root_block, registers_end};
+ghost use Rattle.heap_machine.specs.Operations.{op_at, Load, Exchange};
 ghost use Rattle.heap_machine.specs.Readings.{IsPhaseWord};
 ghost use Rattle.heap_machine.specs.Gating.{closed_word, open_word};
-ghost use Rattle.heap_machine.specs.Gates.{gate_got, gate_step, GateFits, IsIdle, SeenEmpty};
+ghost use Rattle.heap_machine.specs.Passes.{IsPass};
+ghost use Rattle.heap_machine.specs.Gates.{gate_step, GateAt, GateFits, IsAt, IsIdle, IsSwept, SeenEmpty};
+ghost use Rattle.heap_machine.specs.Gates as gates;
+ghost use Rattle.heap_machine.specs.declared.gate.GateRow.{GateRow};
 
 use crate::gate::GateRow;
 use crate::{Op, Pass, Step};
-use block_store::{PhaseWord, Places, phase_word, read_phase};
+use block_store::{Colour, PhaseWord, Places, Width, colour_word, phase_word, read_phase};
 
 // Closes the gate, where the phase word is still the one that was seen.
 pub fn close(place: usize, seen: u64) -> Op
@@ -32,15 +38,15 @@ pub fn check(places: &Places, u: u32) -> Op
 }
 
 // Opens the gate, with nobody inside.
-fn open(place: usize, pass: Pass, sweep: bool) -> Op
-    requires { IsIdle pass }
-    ensures { result ≡ Op.Exchange place (open_word pass.cycle sweep) }
+fn open(place: usize, cycle: u64, sweep: bool) -> Op
+    requires { cycle < 2 ^ 54 }
+    ensures { result ≡ Op.Exchange place (open_word cycle sweep) }
 {
     let opened = PhaseWord {
         inside: 0,
         sweep,
         closed: false,
-        cycle: pass.cycle,
+        cycle,
     };
     Op::exchange(place, phase_word(opened))
 }
@@ -50,7 +56,7 @@ pub fn flip(place: usize, pass: Pass) -> Op
     requires { IsIdle pass }
     ensures { result ≡ Op.Exchange place (open_word pass.cycle true) }
 {
-    open(place, pass, true)
+    open(place, pass.cycle, true)
 }
 
 // Opens the gate in Mark.
@@ -58,14 +64,42 @@ pub fn reopen(place: usize, pass: Pass) -> Op
     requires { IsIdle pass }
     ensures { result ≡ Op.Exchange place (open_word pass.cycle false) }
 {
-    open(place, pass, false)
+    open(place, pass.cycle, false)
+}
+
+// Opens the gate in Mark of the next cycle.
+pub fn start(place: usize, pass: Pass) -> Op
+    requires { IsSwept pass }
+    ensures { result ≡ Op.Exchange place (open_word (pass.cycle + 1) false) }
+{
+    open(place, pass.cycle + 1, false)
+}
+
+// Makes the root block of thread u grey, in front of the hand.
+pub fn shade_root(places: &Places, pass: Pass, u: u32, hand: u32) -> Op
+    requires pass { GateFits (GateRow.ShadeRoot pass u hand) }
+    requires places { GateAt places.now (GateRow.ShadeRoot pass u hand) }
+    ensures { result ≡ op_at (extent places.now)
+        (Exchange (ColourOf (root_block places.now.width u)) (grey_word hand)) }
+{
+    let root = places.width().root(u);
+    Op::exchange(places.colour(root), colour_word(Colour::Grey(hand)))
+}
+
+// Puts the roots in the own list.
+pub fn put_roots(places: &Places, pass: Pass, hand: u32) -> Op
+    requires pass { IsSwept pass }
+    requires places { IsAt places.now pass }
+    ensures { result ≡ op_at (extent places.now) (Exchange (GreyList pass.thread) hand) }
+{
+    Op::exchange(places.grey_list(pass.thread), hand as u64)
 }
 
 // After the look whether the gate can be closed.
 pub fn look_to_close(pass: Pass, word: u64) -> (GateRow, Step)
-    requires pass { IsIdle pass }
+    requires pass { IsPass pass }
     requires word { IsPhaseWord word }
-    ensures row { result.0 ≡ gate_got (GateRow.CloseLook pass) word }
+    ensures row { result.0 ≡ gates.look_to_close pass word }
     ensures step { result.1 ≡ gate_step (GateRow.CloseLook pass) word }
     ensures fits { GateFits result.0 }
 {
@@ -79,16 +113,35 @@ pub fn look_to_close(pass: Pass, word: u64) -> (GateRow, Step)
     }
 }
 
+// Where the gate is closed: to the first grey list in Mark, and in Sweep to the first root.
+fn closed_by(pass: Pass) -> GateRow
+    requires { IsPass pass }
+    ensures row { result ≡ gates.closed_by pass }
+    ensures fits { GateFits result }
+    ensures places { (c : Config) → IsAt c pass → GateAt c result }
+{
+    if pass.sweep {
+        GateRow::ShadeRoot {
+            pass,
+            u: 0,
+            hand: 0,
+        }
+    } else {
+        GateRow::CheckList { pass, u: 0 }
+    }
+}
+
 // After the gate was to be closed.
 pub fn tried_to_close(pass: Pass, seen: u64, word: u64) -> (GateRow, Step)
-    requires pass { IsIdle pass }
+    requires pass { IsPass pass }
     requires seen { SeenEmpty pass seen }
-    ensures row { result.0 ≡ gate_got (GateRow.Close pass seen) word }
+    ensures row { result.0 ≡ (if word == seen then gates.closed_by pass else GateRow.KeptOut) }
     ensures step { result.1 ≡ gate_step (GateRow.Close pass seen) word }
     ensures fits { GateFits result.0 }
+    ensures places { (c : Config) → IsAt c pass → GateAt c result.0 }
 {
     if word == seen {
-        (GateRow::CheckList { pass, u: 0 }, Step::Went)
+        (closed_by(pass), Step::Went)
     } else {
         (GateRow::KeptOut, Step::WaitedOver)
     }
@@ -98,7 +151,7 @@ pub fn tried_to_close(pass: Pass, seen: u64, word: u64) -> (GateRow, Step)
 pub fn list_checked(pass: Pass, u: u32, word: u64) -> (GateRow, Step)
     requires pass { IsIdle pass }
     requires list { u < pass.threads }
-    ensures row { result.0 ≡ gate_got (GateRow.CheckList pass u) word }
+    ensures row { result.0 ≡ gates.list_checked pass u word }
     ensures step { result.1 ≡ gate_step (GateRow.CheckList pass u) word }
     ensures fits { GateFits result.0 }
 {
@@ -108,5 +161,24 @@ pub fn list_checked(pass: Pass, u: u32, word: u64) -> (GateRow, Step)
         (GateRow::CheckList { pass, u: u + 1 }, Step::Went)
     } else {
         (GateRow::SetCursor { pass }, Step::Went)
+    }
+}
+
+// After the root block of thread u became grey.
+pub fn root_shaded(width: Width, pass: Pass, u: u32) -> GateRow
+    requires pass { IsSwept pass }
+    requires thread { u < pass.threads }
+    ensures row { result ≡ gates.root_shaded width pass u }
+    ensures fits { GateFits result }
+{
+    let hand = width.root(u);
+    if u + 1 < pass.threads {
+        GateRow::ShadeRoot {
+            pass,
+            u: u + 1,
+            hand,
+        }
+    } else {
+        GateRow::PutRoots { pass, hand }
     }
 }

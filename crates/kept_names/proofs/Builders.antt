@@ -122,7 +122,8 @@ module _ (c : Config) (s : KeptState) (k : IsKept c s) where
   rebuilt t b u title new others more shows registers sweeping = record {
     ordered = k.ordered;
     follows = record { shows = shows; loads = k.follows.loads };
-    older = λ v r vn rl pending. older_words c s.order w (Kept s) s.at v r (k.older v r vn rl pending) u
+    older = λ v r vn rl pending. older_words c s.order w (Kept s) s.at v r
+        (k.older v r vn rl pending) u
         (registers (register_block W v r) (register_slot W r) (register_some W v r)
         (register_low W n v r vn rl) (slot_low W r));
     known = k.known;

@@ -125,7 +125,8 @@ module _ (c : Config) (s : KeptState) (k : IsKept c s) where
   served_moves (ReadShape t f) q = still w unwritten
   served_moves (ReadLink t j p) q = still w unwritten
   served_moves (ReadField t d a i j) q = in_register w t d _ q.0 unwritten
-  served_moves (StorePending t) q = still _ (stored (register_block W t (value_at s.seen t).origin) _ _
+  served_moves (StorePending t) q = still _
+      (stored (register_block W t (value_at s.seen t).origin) _ _
       (in_array t (value_at s.seen t).origin q.0 (value_is c s k t q.0 q.1).origin)
       (loaded_kept c s k t q.0 q.1))
   served_moves (StoreValue t d) q = in_register _ t d _ q.0

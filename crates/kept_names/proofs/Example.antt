@@ -63,8 +63,8 @@ held_once builds b o is all apart ol u p d un builds_it pl lo e = only_zero
       refl,
       two (λ o. b.held o ≡ b.held p → o ≡ p)
           (two (λ p. b.held 0 ≡ b.held p → 0 ≡ p) (λ _. refl) (λ h. absurd (apart h)) p pl2)
-          (two (λ p. b.held 1 ≡ b.held p → 1 ≡ p) (λ h. absurd (apart (sym h))) (λ _. refl) p pl2) o ol
-          held,
+          (two (λ p. b.held 1 ≡ b.held p → 1 ≡ p) (λ h. absurd (apart (sym h))) (λ _. refl) p pl2)
+          o ol held,
     ))) u un builds_it
 
 -- colours that were written one after another, the last one first

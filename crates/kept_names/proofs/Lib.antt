@@ -14,3 +14,4 @@ pub mod Steps
 pub mod Opening
 pub mod Showing
 pub mod Example
+pub mod Pictured

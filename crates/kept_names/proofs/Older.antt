@@ -228,7 +228,8 @@ module _ (c : Config) (s : KeptState) (k : IsKept c s) where
         (k.older u r un rl (ap (λ (l : Loading). is_pending l.value r) (sym (other_loads e u ne))
         ∙ pending)) (served c s e).words (other_word e guard u r un rl ne)
     | inl same ↦
-        let own = own_late e guard is r (ap (λ v. pending_registers (served c s e).loads v r) same ∙ pending) in
+        let own = own_late e guard is r
+        (ap (λ v. pending_registers (served c s e).loads v r) same ∙ pending) in
         older_words c s.order w (Kept s) s.at u r
         (k.older u r un rl (subst (λ v. pending_registers s.seen.loads v r ≡ true) same own.0))
         (served c s e).words

@@ -49,8 +49,8 @@ module _ (c : Config) (s : KeptState) (k : IsKept c s) where
       → IsKept c (apply c s (ReadWord t x j))
   reads_word t x j mark grey jl = scanned c s k t (target (w.payload x j))
       (λ some. kept_is_known c s k (target (w.payload x j))
-      (belongs_refers W n m (Kept s) s.seen.graph s.at w (pending_registers s.seen.loads) (shown c s k) x j
-      (known_is_kept c s k mark x (grey_known c s k x grey)) jl some).0)
+      (belongs_refers W n m (Kept s) s.seen.graph s.at w (pending_registers s.seen.loads)
+      (shown c s k) x j (known_is_kept c s k mark x (grey_known c s k x grey)) jl some).0)
 
   pub shades_read : (t a : ℕ) → s.sweep ≡ false → t < n → s.scans t ≢ 0
       → s.colour (s.scans t) ≡ white_word s.cycle → IsKept c (apply c s (ShadeRead t a))

@@ -161,7 +161,8 @@ module _ (W : Width) (n m : ℕ) (K : Name → Type 0) (g : Graph) (at : Name �
 
   register_refers : (word : ℕ) (v : Value) (is_pending : Bool)
       → RegisterShows word (heads at) K v is_pending → IfRefers IsOf word
-  register_refers word v is_pending r = refers_same IsOf _ _ r.reads (kept_value_refers r.value r.kept)
+  register_refers word v is_pending r =
+      refers_same IsOf _ _ r.reads (kept_value_refers r.value r.kept)
 
   -- a payload of a register array's block
   pub array_refers : (x j : ℕ) → IsRegisterBlock W n x → j < payloads W

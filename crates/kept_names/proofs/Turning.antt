@@ -137,8 +137,8 @@ module _ (c : Config) (s : KeptState) (k : IsKept c s) where
         closed : Closed n (λ a. s.kept a && eqb (s.colour (s.at a 0)) (black_word s.cycle) ≡ true)
             (object_of g) (register_of g)
         closed = flip_closed W n m s.cycle (Kept s)
-            (λ a. s.kept a && eqb (s.colour (s.at a 0)) (black_word s.cycle) ≡ true) g s.at w pending
-            s.colour (shown c s k) k.painted.fits solid marked no_late none tricolour
+            (λ a. s.kept a && eqb (s.colour (s.at a 0)) (black_word s.cycle) ≡ true) g s.at w
+            pending s.colour (shown c s k) k.painted.fits solid marked no_late none tricolour
             (k.marking mark).roots down up
 
     reached_closed : Closed n (λ a. reachable g a ≡ true) (object_of g) (register_of g)

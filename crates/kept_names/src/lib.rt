@@ -45,9 +45,9 @@ pub fn openings_are_kept()
 {}
 
 /// The graph is the replay of the order, which is legal. All that it reaches is kept, and the words
-/// show what is kept; a register alone is pending whose thread has loaded a value for it that is still
-/// to be stored, and it has the value from before that command. No block that the graph reaches is
-/// Free, or held by a builder.
+/// show what is kept; a register alone is pending whose thread has loaded a value for it that is
+/// still to be stored, and it has the value from before that command. No block that the graph
+/// reaches is Free, or held by a builder.
 pub fn words_show_what_is_reached()
     ensures legal { (c : Config) (s : KeptState) → IsKept c s → Legal c s.order }
     ensures graph { (c : Config) (s : KeptState) → IsKept c s → s.seen.graph ≡ replay c s.order }

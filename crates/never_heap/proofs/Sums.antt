@@ -20,7 +20,7 @@ marked_blocks w g m xs =
     sum_by (λ (a : Name). cond (has_mark m a) (object_blocks w (object_of g a)) 0) xs
 
 -- sums of what is the same at each element
-sum_same : {X : Type 0} (f h : X → ℕ) (xs : List X) → All (λ x. f x ≡ h x) xs
+pub sum_same : {X : Type 0} (f h : X → ℕ) (xs : List X) → All (λ x. f x ≡ h x) xs
     → sum_by f xs ≡ sum_by h xs
 sum_same f h [] all = refl
 sum_same f h (x ∷ xs) all =
@@ -34,7 +34,7 @@ has_serial g t s l = ap (λ b. cond b (eqb t (length g.mutators)) (leb (s + 1) (
     (ne_eqb (s + 1) 0 (λ e. absurd (omega arith))) ∙ le-leb (s + 1) (count_of g t) (omega arith)
 
 -- each name of the list is the name of an object
-all_named : (g : Graph) (u : ℕ) → All (λ (a : Name). has_name g a ≡ true) (names_below g u)
+pub all_named : (g : Graph) (u : ℕ) → All (λ (a : Name). has_name g a ≡ true) (names_below g u)
 all_named g zero = λ k d l. let first : k ≡ 0 = omega arith in
     ap (λ j. has_name g (get_or (shared_name (length g.mutators) ∷ []) j d)) first
     ∙ eq-eqb (length g.mutators) (length g.mutators) refl

@@ -5,8 +5,8 @@ ghost use Rattle.never_heap.specs.Histories.{HistoryItem};
 ghost use Rattle.never_heap.specs.Bounds.{IsCommandInRange};
 ghost use Rattle.never_heap.specs.Graphs.{count_of};
 ghost use Rattle.trace_text.specs.Jobs.{IsJobInBounds};
-ghost use Rattle.trace_text.specs.Lines.{line_feed};
-ghost use Rattle.trace_text.specs.Orders.{entry_text};
+ghost use Rattle.trace_text.specs.Lines.{ended};
+ghost use Rattle.trace_text.specs.Texts.{entry_text};
 ghost use Rattle.rt_check.specs.Standing.{Stands, Says, HasFollowed, HasNext, Begins, CanCount};
 ghost use Rattle.rt_check.specs.Standing.{Counted, IsFullHere, entry_here, graph_here, rest_of};
 
@@ -273,7 +273,7 @@ fn is_entry(entry: &Entry, line: &[u8], buffer: &mut LineBuffer) -> bool
 
 // Whether a line is the one in the buffer, which has a line feed.
 fn is_line(buffer: &LineBuffer, line: &[u8]) -> bool
-    ensures { (text : List ℕ) → buffer.now ≡ text ++ line_feed ∷ []
+    ensures { (text : List ℕ) → buffer.now ≡ ended text
         → (result ≡ true ↔ (line.now ≡ text)) }
 {
     let made = buffer.bytes();

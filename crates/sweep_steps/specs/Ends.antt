@@ -2,6 +2,7 @@
 use Rattle.std.specs.Prelude.{ℕ, zero, suc, ◌+◌, ◌-◌, ◌==◌, Bool, true, false, if◌then◌else◌, Option, Some, None, List, [], ◌∷◌, ◌++◌}
 use Rattle.block_store.specs.Colours.{white_word}
 use Rattle.block_store.specs.Places.{Place, Cursor, FreeCount, FreeList, ColourOf}
+use Rattle.heap_machine.specs.Holdings.{Holding}
 use Rattle.sweep_steps.specs.declared.rows.SweepRow.{SweepRow}
 use Rattle.sweep_steps.specs.declared.rows.SweepRow.TheVariants.{ReadCursor, ClaimRange, PassBlock, FreeBlock, PutFree}
 use Rattle.sweep_steps.specs.Rows.{SweepState, sweep_got, sweep_holding}
@@ -34,9 +35,13 @@ abbrev pub row_claims : SweepRow → ℕ → List ℕ
 row_claims (ClaimRange x high) w = if w == x then blocks_from x (high - x) else []
 row_claims r w = []
 
--- the blocks that are claimed before the event of a row, and not yet passed
+-- how many blocks a thread has claimed and not yet passed
+abbrev pub unpassed : Holding → ℕ
+unpassed w = w.high - w.low
+
+-- those of them before the event of a row
 abbrev pub blocks_left : SweepRow → List ℕ
-blocks_left r = blocks_from (sweep_holding r).low ((sweep_holding r).high - (sweep_holding r).low)
+blocks_left r = blocks_from (sweep_holding r).low (unpassed (sweep_holding r))
 
 -- the state after events that read these words, in this order
 abbrev pub sweep_after : SweepState → List ℕ → SweepState

@@ -5,7 +5,7 @@ ghost use Rattle.block_store.specs.declared.Config.{Config};
 ghost use Rattle.block_store.specs.Heaps.{Heap};
 ghost use Rattle.block_store.specs.Phases.{bit};
 ghost use Rattle.block_store.specs.Colours.{is_free, white_word};
-ghost use Rattle.block_store.specs.Places.{Extent, Place, extent, in_range, FreeList, ColourOf};
+ghost use Rattle.block_store.specs.Places.{Extent, Place, extent, in_range, Cursor, FreeList, ColourOf};
 ghost use Rattle.block_store.specs.Counts.{changed};
 ghost use Rattle.heap_machine.specs.Grey.{GreyKept};
 ghost use Rattle.heap_machine.specs.Holdings.{Holding, holds_nothing, grey_held};
@@ -14,7 +14,7 @@ ghost use Rattle.heap_machine.specs.Readings.{IsHeld};
 ghost use Rattle.heap_machine.specs.PhaseKept.{PhaseKept};
 ghost use Rattle.heap_machine.specs.ReuseKept.{ReuseKept};
 ghost use Rattle.sweep_steps.specs.Rows.{SweepState, sweep_want, sweep_got, sweep_over, sweep_unit, sweep_passed, sweep_nothing, sweeping, sweep_holding};
-ghost use Rattle.sweep_steps.specs.Ends.{is_reading, is_freeing, is_putting, is_unswept, row_passes, blocks_from, blocks_left, blocks_passed, blocks_claimed, sweep_after};
+ghost use Rattle.sweep_steps.specs.Ends.{is_reading, is_freeing, is_putting, is_unswept, row_passes, row_claims, unpassed, blocks_from, blocks_left, blocks_passed, blocks_claimed, sweep_after};
 ghost use Rattle.sweep_steps.specs.Fits.{SweepFits, SweepReads, IsSweeping};
 ghost use Rattle.sweep_steps.specs.declared.rows.SweepRow.{SweepRow};
 
@@ -139,4 +139,26 @@ pub fn passed_blocks_are_those_claimed()
     ensures count { (t c m owed : ℕ) (ws : List ℕ)
         → length (blocks_passed (sweeping t c m owed) ws)
         ≡ sweep_passed (sweep_after (sweeping t c m owed) ws).row }
+{}
+
+/// Each event moves the cursor on by the blocks that it claims. What its thread has claimed and not
+/// yet passed gets more by these, and less by the block that it passes; so the cursor without what
+/// is claimed moves exactly with what is passed. A part that finds nothing does so where the cursor
+/// is behind the last block.
+pub fn claims_move_the_cursor()
+    ensures claimed { (c : Config) (h : Heap) (s : SweepState) → SweepFits c s
+        → heap_after h (sweep_want s) Cursor
+        ≡ h Cursor + length (row_claims s.row (h (place_of (sweep_want s)))) }
+    ensures left { (c : Config) (s : SweepState) (w : ℕ) → SweepFits c s
+        → unpassed (sweep_holding s.row) + length (row_claims s.row w)
+        ≡ unpassed (sweep_holding (sweep_got s w).row)
+        + bit (is_some (row_passes s.cycle s.row w)) }
+    ensures both { (c : Config) (h : Heap) (s : SweepState) → SweepFits c s
+        → heap_after h (sweep_want s) Cursor + unpassed (sweep_holding s.row)
+        ≡ h Cursor + unpassed (sweep_holding (sweep_got s (h (place_of (sweep_want s)))).row)
+        + bit (is_some (row_passes s.cycle s.row (h (place_of (sweep_want s))))) }
+    ensures nothing { (c : Config) (h : Heap) (s : SweepState) → SweepFits c s
+        → sweep_nothing s.row ≡ false
+        → sweep_nothing (sweep_got s (h (place_of (sweep_want s)))).row ≡ true
+        → c.blocks < h Cursor }
 {}

@@ -4,14 +4,17 @@
 #![tactic(auto)]
 
 mod laws;
+mod names;
 mod pass;
 mod rows;
 #[cfg(test)]
 mod tests;
 
 pub use laws::{
-    a_unit_is_a_passed_block, only_white_blocks_are_freed, passed_blocks_are_those_claimed,
-    rows_keep_reuse, rows_keep_the_heap, rows_keep_the_words, rows_stay_in_the_heap,
+    a_unit_is_a_passed_block, claims_move_the_cursor, only_white_blocks_are_freed,
+    passed_blocks_are_those_claimed, rows_keep_reuse, rows_keep_the_heap, rows_keep_the_words,
+    rows_stay_in_the_heap,
 };
+pub use names::rows_keep_the_names;
 pub use pass::SweepPass;
 pub use rows::SweepRow;

@@ -5,4 +5,11 @@ use Rattle.grey_steps.proofs.Ends.{nothing_is_zeros, each_is_taken, each_list, s
 use Rattle.grey_steps.proofs.laws.nothing_is_each_list_empty.Goals as goal
 
 pub returns : goal.returns
-returns c = record { zeros = nothing_is_zeros; taken = each_is_taken; own = λ t n low. own_first t n low; each = each_list; shade = λ e p x ws. shading_ends e (shading p x) refl ws }
+returns c = record {
+  zeros = nothing_is_zeros;
+  taken = each_is_taken;
+  own = λ t n low. own_first t n low;
+  each =
+      each_list;
+  shade = λ e p x ws. shading_ends e (shading p x) refl ws;
+}

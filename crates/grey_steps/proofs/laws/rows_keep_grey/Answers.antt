@@ -5,4 +5,11 @@ use Rattle.grey_steps.proofs.Ends.{over_holds_none, put_on_empty}
 use Rattle.grey_steps.proofs.laws.rows_keep_grey.Goals as goal
 
 pub returns : goal.returns
-returns c = record { kept = keeps; scan = λ e p. refl; shade = λ e p x. refl; over = λ e s over. over_holds_none (payloads e.width) s.row over; put = put_on_empty }
+returns c = record {
+  kept = keeps;
+  scan = λ e p. refl;
+  shade = λ e p x. refl;
+  over =
+      λ e s over. over_holds_none (payloads e.width) s.row over;
+  put = put_on_empty;
+}

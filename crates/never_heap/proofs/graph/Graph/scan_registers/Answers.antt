@@ -1,7 +1,5 @@
-use Rattle.std.proofs.Common.{◌≡◌, ◌≤◌, ◌∙◌, ap, sym, subst, length, true, false, List}
+use Rattle.std.proofs.Common.{◌≡◌, ◌≤◌, sym, subst, length, true, false, List}
 use Rattle.block_store.specs.declared.Name.{Name}
-use Rattle.block_store.specs.declared.Width.{Width}
-use Rattle.block_store.specs.Registers.{registers_end}
 use Rattle.never_heap.specs.Reach.{stands_in}
 use Rattle.never_heap.specs.Scans.{Scanned, Finds}
 use Rattle.never_heap.proofs.Scanning.{scanned_none, register_reached, first_more}
@@ -16,12 +14,8 @@ loop-mutator-init c =
           (λ (l : List Name). Scanned c.args.self.now.width g c.in_ok-no_marks.field-0 l blocks)
           (sym c.new.ensures.items)
           (scanned_none c.args.self.now.width g c.in_ok-no_marks.field-0 blocks c.in_ok-no_marks.ensures.places c.in_ok-no_marks.ensures.marks
-          (c.register_blocks.ensures.value
-          ∙ (ap (λ (w : Width). registers_end w
-          (length c.mutators.result.now)) c.width.ensures
-          ∙ ap (λ l. registers_end c.args.self.now.width
-          (length l)) c.mutators.ensures.mutators))
-          (subst (λ l. length l ≤ 16) c.mutators.ensures.mutators c.mutators.ensures.few));
+          c.register_blocks.ensures.value
+          (subst (λ l. length l ≤ 16) c.mutators-mutator-items.ensures.mutators c.mutators-mutator-items.ensures.few));
       registers = λ b h has. absurd (let e : false ≡ true = h in cc);
     }
 

@@ -1,0 +1,5 @@
+use Rattle.barrier_steps.proofs.Keeping.{keeps_phase, first_nothing, over_nothing, keeps_words}
+use Rattle.barrier_steps.proofs.rules.rows_keep_the_heap.Goals as goal
+
+pub returns : goal.returns
+returns c = record { kept = keeps_phase; first = first_nothing; over = over_nothing; words = keeps_words }
