@@ -1,3 +1,4 @@
+pub mod Naming
 pub mod Openings
 pub mod Locals
 pub mod Machines

@@ -26,8 +26,8 @@ pub use system::{Finished, System, Unfinished, sum_of_works};
 pub enum Turn {
     /// An event that did not wait.
     Went,
-    /// An event that waited: the gate was closed, or another thread changed the phase word first.
-    /// The thread looks again.
+    /// An event that waited: the gate was closed or could not be closed, another thread changed the
+    /// word first, or the last of all free lists was empty. The thread looks again.
     Waited,
     /// Nothing: the thread was done.
     Done,
