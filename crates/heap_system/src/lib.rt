@@ -4,11 +4,15 @@
 mod laws;
 mod local;
 #[cfg(test)]
+mod lone;
+#[cfg(test)]
 mod schedules;
 mod start;
 mod system;
 #[cfg(test)]
 mod tests;
+#[cfg(test)]
+mod traces;
 #[cfg(test)]
 mod ways;
 
