@@ -13,6 +13,8 @@ pub mod Passing
 pub mod parts
 pub mod LawsOf
 pub mod Always
+pub mod Stocks
+pub mod Supplying
 pub mod Starting
 pub mod Reached
 pub mod Told
