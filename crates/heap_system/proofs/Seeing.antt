@@ -67,6 +67,7 @@ pub record MarkKept (t : ℕ) (pass : Pass) (m : GreyState) : Type 0 where
 -- a Sweep pass
 pub record SweepingKept (c : Config) (t : ℕ) (pass : Pass) (s : SweepState) : Type 0 where
   pub thread : s.thread ≡ t
+  pub own : pass.thread ≡ t
   pub cycle : s.cycle ≡ pass.cycle
   pub sweep : pass.sweep ≡ true
   pub going : sweep_over s.row ≡ false
