@@ -1,5 +1,5 @@
 -- The part is decided behind its deciding event, and over once it has its reply.
-use Rattle.std.proofs.Common.{◌≡◌, ℕ, true, false, ◌||◌, not, IsSome, ltb, refl, inl, inr}
+use Rattle.std.proofs.Common.{◌≡◌, ℕ, Bool, true, false, ◌||◌, not, cond, None, Some, IsSome, ltb, eqb, refl, inl, inr}
 use Rattle.std.proofs.lemmas.Bool.{cases_Bool}
 use Rattle.block_store.specs.declared.Config.{Config}
 use Rattle.block_store.specs.declared.Payload.{Payload}
@@ -8,6 +8,9 @@ use Rattle.block_store.specs.declared.Shape.{Shape}
 use Rattle.block_store.specs.Places.{extent}
 use Rattle.never_heap.specs.declared.Command.{Command}
 use Rattle.never_heap.specs.declared.Command.TheVariants as commands
+use Rattle.never_heap.specs.declared.Reply.TheVariants as replies
+use Rattle.block_store.specs.declared.Name.{Name}
+use Rattle.block_store.specs.Payloads.{target}
 use Rattle.never_heap.specs.Steps.{makes_object}
 use Rattle.barrier_steps.specs.declared.rows.FieldRow.{FieldRow}
 use Rattle.barrier_steps.specs.declared.rows.FieldRow.TheVariants.{StoreNumber, StoreNil, LoadMoved, StoreMoved, LoadObject, LoadShape, LoadValue, LoadLink, LoadField, LoadOwner, StorePending, StoreField, Shade, LoadFirst, LoadSecond, LoadSaid, LoadSaidOwner, Answered}
@@ -18,7 +21,7 @@ use Rattle.barrier_steps.specs.declared.rows.FieldStore.TheVariants.{Moved, Pend
 use Rattle.barrier_steps.specs.declared.rows.Way.{Way}
 use Rattle.barrier_steps.specs.Operands.{field_index}
 use Rattle.barrier_steps.specs.Walks.{shape_length, links_to}
-use Rattle.barrier_steps.specs.Rows.{payload_in, shape_in, object_in, before_store, first_row, row_got, field_reply, field_decided, after_object, after_shape, after_field, after_said, at_block, on_way, way_from, in_barrier}
+use Rattle.barrier_steps.specs.Rows.{payload_in, shape_in, object_in, store_row, before_store, first_row, row_got, field_reply, field_decided, after_object, after_shape, after_field, after_said, at_block, on_way, way_from, way_on, in_barrier}
 use Rattle.barrier_steps.specs.Deciding.{refers, length_decides, is_deciding}
 use Rattle.barrier_steps.proofs.Stores.{before_is, barrier_is}
 
@@ -104,3 +107,72 @@ pub first_undecided : (k : Command) → makes_object k ≡ false → field_decid
 first_undecided (commands.New d f) h = absurd cc
 first_undecided (commands.Arr d e) h = absurd cc
 first_undecided _ h = refl
+
+-- no command of these makes an object
+abbrev MakesNone : FieldRow → Type 0
+MakesNone row = (n : Name) → field_reply row ≡ Some (replies.New n) → ⊥
+
+object_makes : (p : Payload) → MakesNone (after_object p)
+object_makes payloads.Nil n e = cc
+object_makes (payloads.Int v) n e = cc
+object_makes (payloads.Block x) n e = cc
+
+field_makes : (word : ℕ) (p : Payload) → MakesNone (after_field word p)
+field_makes word payloads.Nil n e = cc
+field_makes word (payloads.Int v) n e = cc
+field_makes word (payloads.Block x) n e = cc
+
+said_makes : (word : ℕ) (p : Payload) → MakesNone (after_said word p)
+said_makes word payloads.Nil n e = cc
+said_makes word (payloads.Int v) n e = cc
+said_makes word (payloads.Block x) n e = cc
+
+store_makes : (store : FieldStore) → MakesNone (store_row store)
+store_makes (Moved word) n e = cc
+store_makes (Pending word value) n e = cc
+store_makes (InField way word) n e = cc
+
+before_makes : (p : Pass) (store : FieldStore) → MakesNone (before_store p store)
+before_makes p store = before_is MakesNone p store (λ _. store_makes store) (λ _ n e. cc)
+
+chosen_makes : (b : Bool) (r s : FieldRow) → MakesNone r → MakesNone s → MakesNone (cond b r s)
+chosen_makes true r s x y = x
+chosen_makes false r s x y = y
+
+block_makes : (p : Pass) (k : Command) (way : Way) (word : ℕ) → MakesNone (at_block p k way word)
+block_makes p (commands.Put s i v) way word n e = before_makes p (InField way word) n e
+block_makes p _ way word n e = cc
+
+way_makes : (c : Config) (p : Pass) (k : Command) (way : Way) (word : ℕ)
+    → MakesNone (on_way (extent c) p k way word)
+way_makes c p k way word =
+    chosen_makes (ltb way.level (links_to (extent c) way.shape (field_index k))) (LoadLink way word)
+    (at_block p k way word) (λ n e. cc) (block_makes p k way word)
+
+shape_makes : (c : Config) (p : Pass) (k : Command) (x : ℕ) (f : Shape)
+    → MakesNone (after_shape (extent c) p k x f)
+shape_makes c p (commands.Get d s i) x f = chosen_makes (ltb i (shape_length f)) _ _
+    (way_makes c p (commands.Get d s i) (way_from f x) 0) (λ n e. cc)
+shape_makes c p (commands.Put s i v) x f = chosen_makes (ltb i (shape_length f)) _ _
+    (λ n e. cc) (λ n e. cc)
+shape_makes c p _ x f = λ n e. cc
+
+pub makes_none : (c : Config) (p : Pass) (k : Command) (row : FieldRow) (w : ℕ)
+    → field_reply row ≡ None → MakesNone (row_got (extent c) p k row w)
+makes_none c p k LoadMoved w going = before_makes p (Moved w)
+makes_none c p k LoadObject w going = object_makes (payload_in w)
+makes_none c p k (LoadShape x) w going = shape_makes c p k x (shape_in w)
+makes_none c p k (LoadValue way) w going = way_makes c p k way w
+makes_none c p k (LoadLink way word) w going = way_makes c p k (way_on way (target w)) word
+makes_none c p k (LoadField way) w going = field_makes w (payload_in w)
+makes_none c p k (LoadOwner word) w going = before_makes p (Pending word (object_in w))
+makes_none c p k (Shade r store) w going = barrier_is MakesNone _ store (λ _. store_makes store)
+    (λ _ n e. cc)
+makes_none c p k (LoadSecond word) w going = both (eqb word w)
+  where
+    both : (b : Bool) → MakesNone (Answered (cond b replies.Yes replies.No))
+    both true n e = cc
+    both false n e = cc
+makes_none c p k LoadSaid w going = said_makes w (payload_in w)
+makes_none c p k (Answered reply) w going = absurd cc
+makes_none c p k _ w going = λ n e. cc

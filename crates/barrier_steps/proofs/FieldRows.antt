@@ -237,12 +237,15 @@ block_fits c p (commands.Put s i v) way word own is there fits = before_fits c p
 block_fits c p _ way word own is there fits = (is, there)
 
 -- a row that shades a block is one of a barrier
-pub stored_shades : (r : GreyRow) → block_stored r ≢ 0 → is_shading r ≡ true
+stored_shades : (r : GreyRow) → block_stored r ≢ 0 → is_shading r ≡ true
 stored_shades (TakeOwn y) some = refl
 stored_shades (ShadeStored y a) some = refl
 stored_shades (PutOwn y a) some = refl
 stored_shades (Shaded y) some = refl
 stored_shades _ some = absurd (some refl)
+
+pub barrier_shades : (c : Config) (p : Pass) (r : GreyRow) (store : FieldStore) → IsBarrier c p r (stored_word store) → is_shading r ≡ true
+barrier_shades c p r store is = stored_shades r (λ none. is.refers (sym is.stores ∙ none))
 
 barrier_fits : (c : Config) (p : Pass) (k : Command) (r : GreyRow) (store : FieldStore) (w : ℕ) → IsBarrier c p r (stored_word store) → StoreFits c k store → ReadsAt c p k (Shade r store) w → RowFits c p k (row_got (extent c) p k (Shade r store) w)
 barrier_fits c p k r store w is fits reads =
@@ -251,7 +254,7 @@ barrier_fits c p k r store w is fits reads =
       record {
         mark = is.mark;
         refers = is.refers;
-        stores = block_stays (payloads c.width) p.threads p.cycle r w (stored_shades r (λ none. is.refers (sym is.stores ∙ none))) ∙ is.stores;
+        stores = block_stays (payloads c.width) p.threads p.cycle r w (barrier_shades c p r store is) ∙ is.stores;
         fits = ranges.next_fits c (record { pass = p; row = r }) w is.fits reads.0;
       },
       fits,

@@ -47,7 +47,7 @@ use Rattle.barrier_steps.specs.Fits.{IsBarrier, FitsAt, FieldFits, ReadsAt, Fiel
 use Rattle.barrier_steps.specs.Operands.{field_index, number_set}
 use Rattle.barrier_steps.specs.Rows.{FieldState, payload_or_nil, payload_in, shape_in, object_in, at_first_row, stored_word, store_row, shaded_for, before_store, at_block, on_way, way_from, way_on, after_object, after_shape, after_field, after_said, row_want, row_got, word_stored, field_want, field_got, field_reply, held_before_store, row_holding, field_holding}
 use Rattle.barrier_steps.specs.Walks.{shape_length, links_to}
-use Rattle.barrier_steps.proofs.FieldRows.{stored_shades, stores_held}
+use Rattle.barrier_steps.proofs.FieldRows.{barrier_shades, stores_held}
 use Rattle.barrier_steps.proofs.Stores.{before_is, barrier_is}
 
 -- a part of what the threads hold, where thread t holds as much of it as before
@@ -220,7 +220,7 @@ module _ (c : Config) (h : Heap) (hs : ℕ → Holding) (p : Pass) (k : Command)
       let w : ℕ = read (Shade r store) in
       let q : Heap = heap_after h (row_want (extent c) p k (Shade r store)) in
       let on : GreyRow = marking.row_got m p.threads p.cycle r w in
-      let shading = stored_shades r (λ none. is.refers (sym is.stores ∙ none)) in
+      let shading = barrier_shades c p r store is in
       let goes = reuses.keeps_phase c h hs (record { pass = p; row = r }) is.fits (sweep ∙ is.mark) cycle kept holds in
       barrier_is (After q) on store
       (λ over.

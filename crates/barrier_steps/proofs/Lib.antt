@@ -11,4 +11,5 @@ pub mod Showing
 pub mod Registers
 pub mod Dues
 pub mod Keeping
+pub mod Leaving
 pub mod Naming

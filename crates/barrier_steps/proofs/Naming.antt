@@ -27,6 +27,7 @@ use Rattle.kept_names.specs.States.{KeptState, Kept}
 use Rattle.kept_names.proofs.Commands.{serves, decides, answers}
 use Rattle.kept_names.proofs.Standing.{loaded_kept}
 use Rattle.heap_machine.specs.Operations.{place_of, heap_after}
+use Rattle.heap_machine.specs.Readings.{IsHeld}
 use Rattle.heap_machine.specs.Solid.{NotFree}
 use Rattle.heap_machine.specs.declared.pass.Pass.{Pass}
 use Rattle.grey_steps.specs.declared.rows.GreyRow.{GreyRow}
@@ -40,10 +41,12 @@ use Rattle.barrier_steps.specs.Decided.{field_task, entry_on, graph_on, order_on
 use Rattle.barrier_steps.specs.Deciding.{refers, length_decides, is_deciding}
 use Rattle.barrier_steps.specs.Fits.{FitsAt, FieldFits, FieldReads}
 use Rattle.barrier_steps.specs.Projection.{store_loading, row_loading, row_event, after_event, event_of, IsAtRow, InHandAt, IsInHand}
-use Rattle.barrier_steps.specs.Replies.{graph_after, ShownAt, Shown}
+use Rattle.barrier_steps.specs.Replies.{answer, graph_after, ShownAt, Shown, reply_due, IsKnown}
 use Rattle.barrier_steps.specs.Rows.{FieldState, payload_in, shape_in, stored_word, shades, word_stored, row_want, row_got, field_want, field_got, field_reply}
 use Rattle.barrier_steps.specs.Walks.{shape_length}
-use Rattle.barrier_steps.proofs.FieldRows.{stored_shades}
+use Rattle.barrier_steps.proofs.Dues.{row_due}
+use Rattle.barrier_steps.proofs.FieldRows.{barrier_shades}
+use Rattle.barrier_steps.proofs.Leaving.{row_colour, field_phase}
 use Rattle.barrier_steps.proofs.Projecting.{has_value, words_moved, loads_moved, row_guarded, barrier_loading}
 use Rattle.barrier_steps.proofs.Showing.{row_reads, row_shown}
 use Rattle.barrier_steps.proofs.Stepping.{graph_stays, graph_steps}
@@ -135,17 +138,6 @@ module _ (c : Config) (s : KeptState) (k : IsKept c s) (entry : Entry) where
   moved (Some x) true guard leaves own may graph =
       decides c s k x entry (guard, may refl, own, graph refl)
 
--- neither the phase nor a colour changes but by the barrier
-row_phase : (c : Config) (h : Heap) (p : Pass) (k : Command) (row : FieldRow) → shades row ≡ false
-    → heap_after h (row_want (extent c) p k row) Phase ≡ h Phase
-row_phase c h p k (Shade r store) none = absurd cc
-row_phase c h p k _ none = refl
-
-row_colour : (c : Config) (h : Heap) (p : Pass) (k : Command) (row : FieldRow) → shades row ≡ false
-    → (x : ℕ) → heap_after h (row_want (extent c) p k row) (ColourOf x) ≡ h (ColourOf x)
-row_colour c h p k (Shade r store) none x = absurd cc
-row_colour c h p k _ none x = refl
-
 module _ (c : Config) (g : Graph) (order : List HistoryItem) (h : Heap) (names : Names)
     (tasks : ℕ → Task) (f : FieldState) (fits : FieldFits c f)
     (is : tasks f.pass.thread ≡ field_task (extent c) f)
@@ -189,6 +181,20 @@ module _ (c : Config) (g : Graph) (order : List HistoryItem) (h : Heap) (names :
         ∙ ap (λ b. cond b (graph_after g t f.command) g) (sym d)
   ]
 
+  -- from the deciding event on the step's answer is due
+  pub due_on : IsKnown g f → (reply_due (graph_on g f w) (field_got (extent c) f w)
+      ≡ cond (is_deciding f.command f.row w) (Some (answer g t f.command)) (reply_due g f))
+      × IsKnown (graph_on g f w) (field_got (extent c) f w)
+  due_on known = subst (λ (x : Graph). (reply_due x (field_got (extent c) f w)
+      ≡ cond (is_deciding f.command f.row w) (Some (answer g t f.command)) (reply_due g f))
+      × IsKnown x (field_got (extent c) f w)) graph_is
+      (row_due c c.blocks (Kept now) names.at fits.blocks whole now.seen k.follows h hand.0 f.pass
+      f.command f.row w fits at_row hand.1 known)
+
+  pub reads_on : IsHeld c h → field_reply f.row ≡ None → FieldReads c f w
+  reads_on held going = row_reads c c.blocks (Kept now) names.at fits.blocks whole now.seen
+      k.follows h f.pass f.command f.row w fits at_row (λ _. held) going
+
   decided : is_deciding f.command f.row w ≡ true → MayDecide c now (entry_on g f)
   decided d = (
     fits.thread.thread,
@@ -230,7 +236,7 @@ module _ (c : Config) (g : Graph) (order : List HistoryItem) (h : Heap) (names :
         ∙ changed_self (λ u. (tasks u).scan) t 0 (ap (λ (x : Task). x.scan) is))
 
     phase_is : h Phase ≡ q Phase
-    phase_is = sym (row_phase c h f.pass f.command f.row plain)
+    phase_is = sym (field_phase c h f)
 
     colour_is : (x : ℕ) → h (ColourOf x) ≡ q (ColourOf x)
     colour_is x = sym (row_colour c h f.pass f.command f.row plain x)
@@ -299,7 +305,7 @@ module _ (c : Config) (g : Graph) (order : List HistoryItem) (h : Heap) (names :
       subst (λ (ts : ℕ → Task). IsKept c (picture g order q names ts))
       (sym (changed_self tasks p.thread next (is ∙ same)))
       (shading_keeps_names c g order h names tasks (record { pass = p; row = r }) b.fits (sweep ∙ b.mark) cycle
-      (stored_shades r (λ none. b.refers (sym b.stores ∙ none)))
+      (barrier_shades c p r store b)
       (has_value seen p.thread _ value) block kept)
     where
       field_at : Loading → Task

@@ -9,6 +9,7 @@ ghost use Rattle.block_store.specs.Places.{extent, in_range};
 ghost use Rattle.object_lists.specs.Layouts.{IsWay};
 ghost use Rattle.never_heap.specs.declared.Command.{Command};
 ghost use Rattle.never_heap.specs.declared.Reply.{Reply};
+ghost use Rattle.never_heap.specs.declared.Reply.TheVariants as replies;
 ghost use Rattle.never_heap.specs.Graphs.{Graph};
 ghost use Rattle.never_heap.specs.Bounds.{IsCommandInRange};
 ghost use Rattle.never_heap.specs.Steps.{makes_object};
@@ -50,7 +51,7 @@ pub fn rows_stay_in_the_heap()
 {}
 
 /// A part is decided exactly behind its deciding event, of which there is one at most, and it has a
-/// reply only behind it.
+/// reply only behind it. That never says that an object was made.
 pub fn rows_decide_once()
     ensures first { (k : Command) → makes_object k ≡ false → field_decided (first_row k) ≡ false }
     ensures after { (c : Config) (f : FieldState) (w : ℕ)
@@ -59,6 +60,8 @@ pub fn rows_decide_once()
     ensures once { (f : FieldState) (w : ℕ) → field_decided f.row ≡ true
         → is_deciding f.command f.row w ≡ false }
     ensures reply { (row : FieldRow) → IsSome (field_reply row) → field_decided row ≡ true }
+    ensures made { (c : Config) (f : FieldState) (w : ℕ) (n : Name) → field_reply f.row ≡ None
+        → field_reply (field_got (extent c) f w).row ≡ Some (replies.New n) → ⊥ }
 {}
 
 /// At the deciding event the command answers what its step does on the graph of which the words

@@ -8,6 +8,8 @@ mod pass;
 mod rows;
 mod rules;
 #[cfg(test)]
+mod shading_tests;
+#[cfg(test)]
 mod tests;
 mod walks;
 
@@ -17,4 +19,4 @@ pub use laws::{
 };
 pub use pass::FieldPass;
 pub use rows::{FieldRow, FieldStore, Way};
-pub use rules::{rows_keep_the_heap, rows_keep_the_names};
+pub use rules::{rows_keep_the_heap, rows_keep_the_names, rows_leave_the_gate};

@@ -1,27 +1,31 @@
 //! Laws of the rows on the rules of the heap, for the proofs above: each is the contract of a
 //! function that does nothing.
 
-ghost use Rattle.std.specs.Prelude.{◌≡◌, ℕ, IsSome, None, List};
+ghost use Rattle.std.specs.Prelude.{◌≡◌, ℕ, IsSome, None, Some, if◌then◌else◌, List, true};
 ghost use Rattle.block_store.specs.declared.Config.{Config};
+ghost use Rattle.block_store.specs.Colours.{is_grey};
 ghost use Rattle.block_store.specs.Counts.{changed};
 ghost use Rattle.block_store.specs.Heaps.{Heap};
 ghost use Rattle.block_store.specs.Payloads.{target};
 ghost use Rattle.block_store.specs.Phases.{is_sweep, cycle_of};
-ghost use Rattle.block_store.specs.Places.{Extent, extent, Phase, ColourOf};
+ghost use Rattle.block_store.specs.Places.{Extent, extent, Phase, Cursor, ColourOf};
 ghost use Rattle.never_heap.specs.declared.Command.{Command};
 ghost use Rattle.never_heap.specs.Graphs.{Graph};
 ghost use Rattle.never_heap.specs.Histories.{HistoryItem};
 ghost use Rattle.kept_names.specs.Kept.{IsKept};
 ghost use Rattle.kept_names.specs.Pictures.{Task, Names, picture};
-ghost use Rattle.heap_machine.specs.Holdings.{Holding, holds_nothing};
+ghost use Rattle.heap_machine.specs.Holdings.{Holding, holds_nothing, sweep_held};
 ghost use Rattle.heap_machine.specs.Operations.{place_of, heap_after};
 ghost use Rattle.heap_machine.specs.PhaseKept.{PhaseKept};
 ghost use Rattle.heap_machine.specs.Readings.{IsHeld};
 ghost use Rattle.heap_machine.specs.Solid.{NotFree};
+ghost use Rattle.heap_machine.specs.Sweeping.{no_claim};
 ghost use Rattle.heap_machine.specs.declared.pass.Pass.{Pass};
 ghost use Rattle.barrier_steps.specs.Rows.{FieldState, at_first_row, word_stored, field_want, field_got, field_reply, field_holding};
 ghost use Rattle.barrier_steps.specs.Fits.{FieldFits, FieldReads};
 ghost use Rattle.barrier_steps.specs.Decided.{field_task, graph_on, order_on};
+ghost use Rattle.barrier_steps.specs.Deciding.{is_deciding};
+ghost use Rattle.barrier_steps.specs.Replies.{answer, reply_due, IsKnown};
 
 /// In the phase and cycle of its pass each event keeps all that a heap keeps in either phase, while
 /// the other threads hold what they held, where the block to which it stores a reference is not
@@ -46,7 +50,8 @@ pub fn rows_keep_the_heap()
 /// In the phase and cycle of its pass each event keeps what is kept of the names, where the thread's
 /// task is its row's, and then the next row's. At the deciding event the graph makes the command's
 /// step and the order gets its entry; else both stay. The block to which a loaded reference is to be
-/// stored is not Free.
+/// stored is not Free. From the deciding event on the step's answer is due. Each event reads what it
+/// may read, where each word is one that its place can hold.
 pub fn rows_keep_the_names()
     ensures kept { (c : Config) (g : Graph) (order : List HistoryItem) (h : Heap) (names : Names)
         (tasks : ℕ → Task) (f : FieldState) → FieldFits c f → field_reply f.row ≡ None
@@ -63,4 +68,35 @@ pub fn rows_keep_the_names()
         → tasks f.pass.thread ≡ field_task (extent c) f
         → IsKept c (picture g order h names tasks)
         → NotFree (λ x. h (ColourOf x)) (target (word_stored f.row)) }
+    ensures due { (c : Config) (g : Graph) (order : List HistoryItem) (h : Heap) (names : Names)
+        (tasks : ℕ → Task) (f : FieldState) → FieldFits c f
+        → tasks f.pass.thread ≡ field_task (extent c) f
+        → IsKept c (picture g order h names tasks) → IsKnown g f
+        → (reply_due (graph_on g f (h (place_of (field_want (extent c) f))))
+        (field_got (extent c) f (h (place_of (field_want (extent c) f))))
+        ≡ (if is_deciding f.command f.row (h (place_of (field_want (extent c) f)))
+        then Some (answer g f.pass.thread f.command) else reply_due g f))
+        × IsKnown (graph_on g f (h (place_of (field_want (extent c) f))))
+        (field_got (extent c) f (h (place_of (field_want (extent c) f)))) }
+    ensures reads { (c : Config) (g : Graph) (order : List HistoryItem) (h : Heap) (names : Names)
+        (tasks : ℕ → Task) (f : FieldState) → FieldFits c f
+        → tasks f.pass.thread ≡ field_task (extent c) f
+        → IsKept c (picture g order h names tasks) → IsHeld c h → field_reply f.row ≡ None
+        → FieldReads c f (h (place_of (field_want (extent c) f))) }
+{}
+
+/// No event changes the phase word or the sweep's cursor, or makes a grey block black. A command
+/// scans nothing, and has claimed nothing.
+pub fn rows_leave_the_gate()
+    ensures phase { (c : Config) (h : Heap) (f : FieldState)
+        → heap_after h (field_want (extent c) f) Phase ≡ h Phase }
+    ensures cursor { (c : Config) (h : Heap) (f : FieldState)
+        → heap_after h (field_want (extent c) f) Cursor ≡ h Cursor }
+    ensures grey { (c : Config) (h : Heap) (f : FieldState) (x : ℕ) → FieldFits c f
+        → is_grey (h (ColourOf x)) ≡ true
+        → heap_after h (field_want (extent c) f) (ColourOf x) ≡ h (ColourOf x) }
+    ensures scans { (c : Config) (f : FieldState) → FieldFits c f
+        → (field_holding (extent c) f).found ≡ 0 }
+    ensures claims { (c : Config) (f : FieldState)
+        → sweep_held (field_holding (extent c) f) ≡ no_claim }
 {}

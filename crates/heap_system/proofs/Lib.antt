@@ -13,6 +13,7 @@ pub mod Passing
 pub mod parts
 pub mod LawsOf
 pub mod Always
+pub mod Starting
 pub mod Reached
 pub mod Told
 pub mod Waiting

@@ -3,7 +3,7 @@ use Rattle.std.proofs.Common.{◌≡◌, ℕ, ◌+◌, ◌<◌, ◌≤◌, true,
 use Rattle.block_store.specs.declared.Config.{Config}
 use Rattle.block_store.specs.Heaps.{Heap}
 use Rattle.block_store.specs.Phases.{bit, is_closed}
-use Rattle.block_store.specs.Places.{Phase, Cursor, extent, in_range}
+use Rattle.block_store.specs.Places.{Phase, Cursor, extent}
 use Rattle.never_heap.specs.declared.Command.{Command}
 use Rattle.never_heap.specs.declared.Reply.{Reply}
 use Rattle.never_heap.specs.Graphs.{Graph, register_of, count_of}
@@ -44,8 +44,6 @@ PartEvent c s p = EventKept c s (heap_after s.heap (part_want c p)) (effect c p 
 
 -- what is to be proved of a part: all that this crate's laws ask of it
 pub record PartLaws (c : Config) (p : Part) : Type 0 where
-  -- the place of its event is one of the heap
-  pub place : (done all : ℕ) (pass : Pass) → PartFits c done all pass p → in_range (extent c) (place_of (part_want c p)) ≡ true
   -- it reads what it may read, and no sum or difference leaves 64 bits
   pub reads : (s : Seen c) → AtPart c s p → PartReads c p (word_at c s p)
   pub sum : (s : Seen c) → AtPart c s p → Fits (part_want c p) (word_at c s p)

@@ -58,7 +58,7 @@ abbrev pub view_of : Inside → LocalState
 view_of l = record { config = l.config; rate = l.rate; thread = l.thread; trace = l.trace.items; log = l.log.items; paid = l.paid; made = l.made; space = l.space; pass = l.pass; part = l.part }
 
 -- an object takes no more blocks than one object may
-blocks_low : (c : Config) (k : Command) → IsCommandInBounds c k → blocks_of c.width k ≤ c.object
+pub blocks_low : (c : Config) (k : Command) → IsCommandInBounds c k → blocks_of c.width k ≤ c.object
 blocks_low c (commands.New d f) h = h.2
 blocks_low c (commands.Arr d e) h = h.2
 blocks_low c (commands.Set d v) h = omega arith

@@ -42,6 +42,7 @@ use Rattle.heap_system.proofs.Kept.{LocalKept, progress, Kept}
 use Rattle.heap_system.proofs.Moving.{moved_on, local_moves, local_stays}
 use Rattle.heap_system.proofs.PartLaws.{AtPart, PartEvent, PartLaws}
 use Rattle.heap_system.proofs.Paying.{bounds_at, works_append, worked_low, paid_low}
+use Rattle.heap_system.proofs.Wanted.{place_at}
 use Rattle.heap_system.proofs.Seeing.{lead, Forward, Seen, graph_decided}
 
 -- a thread at rest that is not done has a command left
@@ -165,7 +166,7 @@ module _ (c : Config) (traces : List (List Command)) (laws : (p : Part) → Part
 
   -- the place of the next event, and the word that is read there
   pub place : in_range (extent c) (place_of (part_want c (local_at c r.state t).part)) ≡ true
-  place = (laws (local_at c r.state t).part).place _ _ _ (fits_at t tl)
+  place = place_at c _ _ _ (local_at c r.state t).part (fits_at t tl)
 
   pub word_is : word_read c r.state (local_at c r.state t) ≡ heap_in c r.state (place_of (part_want c (local_at c r.state t).part))
   word_is = word_before (extent c) r.state.words (part_want c (local_at c r.state t).part) place

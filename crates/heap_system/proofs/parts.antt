@@ -1,5 +1,11 @@
+pub mod InPass
 pub mod Rest
+pub mod Enter
+pub mod Serve
+pub mod Mark
+pub mod Sweep
+pub mod Build
 pub mod Again
 pub mod Idle
 pub mod Leave
-pub mod Enter
+pub mod TurnOver

@@ -163,6 +163,29 @@ abbrev pub is_build : Part → Bool
 is_build (Build b) = true
 is_build _ = false
 
+-- what a part is about: it is at the gate outside, makes units, does the command, or goes out
+abbrev pub is_at_gate : Part → Bool
+is_at_gate Rest = true
+is_at_gate (Enter g) = true
+is_at_gate (TurnOver g) = true
+is_at_gate _ = false
+
+abbrev pub is_paying : Part → Bool
+is_paying (Mark m) = true
+is_paying (Sweep s) = true
+is_paying _ = false
+
+abbrev pub is_in_command : Part → Bool
+is_in_command (Serve f) = true
+is_in_command (Build b) = true
+is_in_command _ = false
+
+abbrev pub is_on_way_out : Part → Bool
+is_on_way_out Again = true
+is_on_way_out Idle = true
+is_on_way_out Leave = true
+is_on_way_out _ = false
+
 -- at rest with a log as long as the trace
 abbrev pub is_done : LocalState → Bool
 is_done l = is_rest l.part && (length l.log == length l.trace)

@@ -11,7 +11,7 @@ ghost use Rattle.never_heap.specs.Jobs.{IsTraceInBounds};
 ghost use Rattle.heap_machine.specs.declared.gate.GateRow.{GateRow};
 ghost use Rattle.grey_steps.specs.Rows.{scanning};
 ghost use Rattle.sweep_steps.specs.Rows.{sweeping};
-ghost use Rattle.heap_system.specs.Locals.{PartReads, is_done, is_rest, is_build, part_want, part_step, local_got, at_start, turn_of, is_last, pass_by, first_part, errand_of, command_of, owed, made_got, works, entry_of};
+ghost use Rattle.heap_system.specs.Locals.{PartReads, is_done, is_rest, is_build, is_at_gate, is_in_command, is_paying, is_on_way_out, part_want, part_step, local_got, at_start, turn_of, is_last, pass_by, first_part, errand_of, command_of, owed, made_got, works, entry_of};
 
 use crate::Turn;
 use barrier_steps::FieldPass;
@@ -148,7 +148,7 @@ fn makes_object(command: Command) -> bool
 }
 
 // A pass that pays: a sweep or marking, by the phase.
-fn paying(pass: Pass, blocks: u32, due: u64) -> Part
+fn first_units(pass: Pass, blocks: u32, due: u64) -> Part
     requires pass { IsPass pass }
     requires blocks { (1 ≤ blocks) × (blocks ≤ 65535) }
     requires due { 1 ≤ due }
@@ -324,17 +324,38 @@ impl Local {
 
     /// Moves on by one event, whose operation read the word. The thread is not done, and the word
     /// is one that its row may read: on the way in a phase word of cycle 1 or later.
-    // Before a method is called on `self` the part is put at rest, so that it may be any; and no
-    // arm makes a part, a gate or a pass before it puts it in its place.
     #[inline(always)]
-    #[tactic(auto, using(crate::proofs::Paying::unit_is_new, crate::proofs::Paying::passed_more, crate::proofs::Paying::swept_last, crate::proofs::Paying::turns_on))]
     pub fn got(&mut self, word: u64) -> Turn
         requires open { is_done self.old ≡ false }
         requires word { PartReads self.old.config self.old.part word }
         ensures local { self.new ≡ local_got self.old word }
         ensures turn { result ≡ turn_of (part_step self.old.config self.old.part word) }
     {
-        let places = Places::new(&self.config);
+        match &self.part {
+            Part::Rest => self.at_gate(word),
+            Part::Enter(_) => self.at_gate(word),
+            Part::TurnOver(_) => self.at_gate(word),
+            Part::Serve(_) => self.in_command(word),
+            Part::Build(_) => self.in_command(word),
+            Part::Mark(_) => self.paying(word),
+            Part::Sweep(_) => self.paying(word),
+            Part::Again => self.out(word),
+            Part::Idle => self.out(word),
+            Part::Leave => self.out(word),
+        }
+    }
+
+    // `got`, of a part outside. Before a method is called on `self` the part is put at rest, so
+    // that it may be any; and no arm makes a part, a gate or a pass before it puts it in its place.
+    #[inline(always)]
+    #[tactic(auto, using(crate::proofs::Paying::turns_on))]
+    fn at_gate(&mut self, word: u64) -> Turn
+        requires part { is_at_gate self.old.part ≡ true }
+        requires open { is_done self.old ≡ false }
+        requires word { PartReads self.old.config self.old.part word }
+        ensures local { self.new ≡ local_got self.old word }
+        ensures turn { result ≡ turn_of (part_step self.old.config self.old.part word) }
+    {
         match &mut self.part {
             Part::Rest => {
                 self.part = Part::Enter(Gate::after_look(word));
@@ -351,6 +372,29 @@ impl Local {
                     None => turn,
                 }
             }
+            Part::TurnOver(gate) => {
+                let step = gate.got(&Places::new(&self.config), word);
+                if is_last(step) {
+                    self.part = Part::Enter(Gate::enter());
+                    turn_after(step)
+                } else {
+                    turn_after(step)
+                }
+            }
+            _ => unreachable!(),
+        }
+    }
+
+    // `got`, of a part that does the command.
+    #[inline(always)]
+    fn in_command(&mut self, word: u64) -> Turn
+        requires part { is_in_command self.old.part ≡ true }
+        requires word { PartReads self.old.config self.old.part word }
+        ensures local { self.new ≡ local_got self.old word }
+        ensures turn { result ≡ turn_of (part_step self.old.config self.old.part word) }
+    {
+        let places = Places::new(&self.config);
+        match &mut self.part {
             Part::Serve(pass) => {
                 let turn = turn_after(pass.got(&places, word));
                 match pass.reply() {
@@ -362,6 +406,31 @@ impl Local {
                     None => turn,
                 }
             }
+            Part::Build(pass) => {
+                let turn = turn_after(pass.got(&places, word));
+                match pass.reply() {
+                    Some(reply) => {
+                        self.built(reply);
+                        turn
+                    }
+                    None => turn,
+                }
+            }
+            _ => unreachable!(),
+        }
+    }
+
+    // `got`, of a part that makes units.
+    #[inline(always)]
+    #[tactic(auto, using(crate::proofs::Paying::unit_is_new, crate::proofs::Paying::passed_more, crate::proofs::Paying::swept_last))]
+    fn paying(&mut self, word: u64) -> Turn
+        requires part { is_paying self.old.part ≡ true }
+        requires word { PartReads self.old.config self.old.part word }
+        ensures local { self.new ≡ local_got self.old word }
+        ensures turn { result ≡ turn_of (part_step self.old.config self.old.part word) }
+    {
+        let places = Places::new(&self.config);
+        match &mut self.part {
             Part::Mark(pass) => {
                 let unit = pass.unit();
                 let step = pass.got(&places, word);
@@ -384,16 +453,19 @@ impl Local {
                     turn_after(step)
                 }
             }
-            Part::Build(pass) => {
-                let turn = turn_after(pass.got(&places, word));
-                match pass.reply() {
-                    Some(reply) => {
-                        self.built(reply);
-                        turn
-                    }
-                    None => turn,
-                }
-            }
+            _ => unreachable!(),
+        }
+    }
+
+    // `got`, of a part on its way out.
+    #[inline(always)]
+    fn out(&mut self, word: u64) -> Turn
+        requires part { is_on_way_out self.old.part ≡ true }
+        ensures local { self.new ≡ local_got self.old word }
+        ensures turn { result ≡ turn_of (part_step self.old.config self.old.part word) }
+    {
+        let _word = word;
+        match self.part {
             Part::Again => {
                 self.part = Part::Enter(Gate::enter());
                 Turn::Went
@@ -402,19 +474,11 @@ impl Local {
                 self.part = Part::TurnOver(turning(self.pass));
                 Turn::Went
             }
-            Part::TurnOver(gate) => {
-                let step = gate.got(&places, word);
-                if is_last(step) {
-                    self.part = Part::Enter(Gate::enter());
-                    turn_after(step)
-                } else {
-                    turn_after(step)
-                }
-            }
             Part::Leave => {
                 self.part = Part::Rest;
                 Turn::Went
             }
+            _ => unreachable!(),
         }
     }
 
@@ -449,7 +513,7 @@ impl Local {
         let command = self.trace[self.log.len()];
         let due = self.due(&command);
         if due > 0 {
-            self.part = paying(pass, self.config.blocks, due);
+            self.part = first_units(pass, self.config.blocks, due);
         } else if makes_object(command) {
             let room = mem::replace(&mut self.room, Vec::new(self.alloc));
             self.part = Part::Build(BuildPass::new(

@@ -2,8 +2,12 @@
 
 ghost use Rattle.std.specs.Prelude.{◌≡◌, ◌<◌, ◌≤◌, ℕ, List, [], length, map, slice_index, slice_index_or, IfOk, IfErr, IfSome, IfNone, true, false};
 ghost use Rattle.block_store.specs.declared.Config.{Config};
-ghost use Rattle.block_store.specs.Places.{extent, words_count};
+ghost use Rattle.block_store.specs.Configs.{IsInBounds};
+ghost use Rattle.block_store.specs.Heaps.{heap_of};
+ghost use Rattle.block_store.specs.Phases.{cycle_of};
+ghost use Rattle.block_store.specs.Places.{extent, words_count, Phase};
 ghost use Rattle.never_heap.specs.declared.Command.{Command};
+ghost use Rattle.heap_machine.specs.Readings.{CanHold};
 ghost use Rattle.heap_system.specs.Locals.{LocalState, is_done};
 ghost use Rattle.heap_system.specs.Machines.{turned, answer, local_at, IsJob, IsOpening};
 ghost use Rattle.heap_system.specs.Systems.{Whole, Finish, traces_of, logs_of, units_of, AllDone, IsReached, IsFinished, IsLeastUndone};
@@ -101,6 +105,10 @@ fn copied(alloc: Global, words: &Words) -> Result<Vec<u64>, OutOfMemory>
 
 // The cycle that the phase word says.
 fn cycle_in(c: &Config, words: &Words) -> u64
+    requires bounds { IsInBounds c.now }
+    requires there { length words.now ≡ words_count (extent c.now) }
+    requires phase { CanHold (extent c.now) Phase (heap_of (extent c.now) words.now Phase) }
+    ensures { result ≡ cycle_of (heap_of (extent c.now) words.now Phase) }
 {
     read_phase(words.word(Places::new(c).phase())).cycle
 }

@@ -14,7 +14,7 @@ use Rattle.never_heap.specs.Bounds.{IsCommandInBounds}
 use Rattle.never_heap.specs.Steps.{blocks_of, makes_object}
 use Rattle.never_heap.proofs.Ranges as ranges
 use Rattle.shown_graph.specs.Events.{unloaded}
-use Rattle.heap_machine.specs.Gates.{gate_step, is_of_pass, is_empty, is_going_in, GateFits, GateAt, SeenOpen}
+use Rattle.heap_machine.specs.Gates.{gate_step, is_of_pass, is_empty, is_going_in, GateFits, SeenOpen}
 use Rattle.heap_machine.specs.Gating.{Gating, GateOf, Outside, Inside}
 use Rattle.heap_machine.specs.Holdings.{Holding, holds_nothing}
 use Rattle.heap_machine.specs.Operations.{Fits, place_of, heap_after}
@@ -23,7 +23,6 @@ use Rattle.heap_machine.specs.declared.Step.TheVariants as steps
 use Rattle.heap_machine.specs.declared.gate.GateRow.{GateRow}
 use Rattle.heap_machine.specs.declared.gate.GateRow.TheVariants as gates
 use Rattle.heap_machine.specs.declared.pass.Pass.{Pass}
-use Rattle.heap_machine.proofs.GateRows.{gate_place}
 use Rattle.heap_machine.proofs.Gatings.{gate_enters, gate_stays, inside_most}
 use Rattle.grey_steps.specs.Rows.{scanning}
 use Rattle.grey_steps.proofs.Ranges.{scan_fits}
@@ -79,7 +78,7 @@ module _ (c : Config) (s : Seen c) (q : Pass) (own : q.thread ≡ s.thread) (is 
       task = refl;
       holds = refl;
       waits = refl;
-      part = record { thread = own; cycle = refl; sweep = sweep; going = refl };
+      part = record { thread = own; own = own; cycle = refl; sweep = sweep; going = refl };
       fits = (sweeping_ranges.first_fits c q.thread q.cycle (s.due - s.paid) (omega (arith, own, s.low)) s.bounds.blocks (omega (arith, more)), low, is);
       roomy = tt;
       low = omega (arith, pays);
@@ -116,9 +115,11 @@ module _ (c : Config) (s : Seen c) (q : Pass) (own : q.thread ≡ s.thread) (is 
           waits = refl;
           part = record { thread = own; threads = is.1; cycle = refl; serial = ap (λ n. n + 1) s.count; command = refl; makes = makes; going = refl };
           fits = (subst (λ n. PartFits c s.done s.all q (Build (building c.width q.thread n q.cycle (s.made + 1) s.command s.space))) (sym is.1)
-              (subst (λ t. PartFits c s.done s.all q (Build (building c.width t c.threads q.cycle (s.made + 1) s.command s.space))) (sym own)
-              (building_ranges.first_fits c s.thread q.cycle (s.made + 1) s.command s.space s.low s.bounds.threads s.bounds.blocks thread.registers (omega (arith, s.few, low, s.many))
-              (ranges.in_range c s.command s.inside) makes (omega (arith, small, s.bounds.object)) (omega (arith, small, s.room)), low)));
+              (subst (λ t. PartFits c s.done s.all q (Build (building c.width t c.threads q.cycle (s.made + 1) s.command s.space))) (sym own) (
+                building_ranges.first_fits c s.thread q.cycle (s.made + 1) s.command s.space s.low s.bounds.threads s.bounds.blocks thread.registers (omega (arith, s.few, low, s.many))
+                    (ranges.in_range c s.command s.inside) makes (omega (arith, small, s.bounds.object)) (omega (arith, small, s.room)),
+                low,
+              )));
           roomy = refl;
           low = omega (arith, pays);
           settled = all;
@@ -209,11 +210,6 @@ event_at c s g at = by g at.part (ap (λ (x : Gating). x.stand) at.gating) at.ta
     by (gates.Enter seen) kept out task empty fits pays = enters c s out task empty fits.2 pays seen fits.0
     by _ kept out task empty fits pays = absurd kept
 
-going_at : (c : Config) (g : GateRow) → is_going_in g ≡ true → GateAt c g
-going_at c gates.Look e = tt
-going_at c (gates.Enter seen) e = tt
-going_at c _ e = absurd cc
-
 -- which turns at the gate wait
 pub gate_turns : (g : GateRow) (w : ℕ) → turn_of (gate_step g w) ≡ cond (gate_waits g w) turns.Waited turns.Went
 gate_turns gates.Look w = elim (cases_Bool (is_closed w)) [ inl e ↦ rw e refl | inr e ↦ rw e refl ]
@@ -250,7 +246,6 @@ rests_at c h _ kept fits closed = absurd kept
 
 pub enter_laws : (c : Config) (g : GateRow) → PartLaws c (Enter g)
 enter_laws c g = record {
-  place = λ done all pass fits. gate_place c g fits.0 (going_at c g fits.1);
   reads = λ s at. reads_at c s g at.part;
   sum = λ s at. sum_at c s.heap g at.part;
   event = λ s at low. event_at c s g at;

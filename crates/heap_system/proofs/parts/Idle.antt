@@ -48,7 +48,6 @@ idle_event c s at = leave_event c s steps.Over (TurnOver (gates.CloseLook s.pass
 
 pub idle_laws : (c : Config) → PartLaws c Idle
 idle_laws c = record {
-  place = λ done all pass fits. refl;
   reads = λ s at. phase_is c s;
   sum = λ s at. inside_low (s.heap Phase) (inside_some c.threads (s.heap Phase) s.gatings s.gate s.thread s.low (ap (λ (x : Gating). x.stand) at.gating));
   event = λ s at low. idle_event c s at;

@@ -11,7 +11,6 @@ use Rattle.heap_system.proofs.PartLaws.{PartLaws}
 
 pub leave_laws : (c : Config) → PartLaws c Leave
 leave_laws c = record {
-  place = λ done all pass fits. refl;
   reads = λ s at. phase_is c s;
   sum = λ s at. inside_low (s.heap Phase) (inside_some c.threads (s.heap Phase) s.gatings s.gate s.thread s.low (ap (λ (x : Gating). x.stand) at.gating));
   event = λ s at low. leave_event c s steps.Over Rest (ap (λ (x : Gating). x.stand) at.gating) refl

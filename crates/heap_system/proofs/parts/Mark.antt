@@ -284,7 +284,6 @@ turns_on false = refl
 
 pub mark_laws : (c : Config) (m : GreyState) → PartLaws c (Mark m)
 mark_laws c m = record {
-  place = λ done all pass fits. place_fits c m fits.0;
   reads = λ s at. reads c s m at;
   sum = λ s at. sum_fits m (s.heap (place_of (grey_want m)));
   event = λ s at more. (let next = grey_got (extent c) m (s.heap (place_of (grey_want m))) in

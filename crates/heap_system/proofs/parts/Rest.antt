@@ -23,7 +23,6 @@ rest_event c s at low = elim (cases_Bool (is_closed (s.heap Phase))) [
 
 pub rest_laws : (c : Config) → PartLaws c Rest
 rest_laws c = record {
-  place = λ done all pass fits. refl;
   reads = λ s at. (phase_is c s, began c s);
   sum = λ s at. tt;
   event = λ s at low. rest_event c s at (low refl);

@@ -267,7 +267,6 @@ not_itself false = refl
 
 pub sweep_laws : (c : Config) (p : SweepState) → PartLaws c (Sweep p)
 sweep_laws c p = record {
-  place = λ done all pass fits. place_fits c p fits.0;
   reads = λ s at. reads c s p at;
   sum = λ s at. sum_fits c p (s.heap (place_of (sweep_want p))) at.fits.0 (reads c s p at);
   event = λ s at more. (let next = sweep_got p (s.heap (place_of (sweep_want p))) in

@@ -1,4 +1,4 @@
-use Rattle.barrier_steps.proofs.Decisions.{first_undecided, decided_after, decided_once, answered_decided}
+use Rattle.barrier_steps.proofs.Decisions.{first_undecided, decided_after, decided_once, answered_decided, makes_none}
 use Rattle.barrier_steps.proofs.laws.rows_decide_once.Goals as goal
 
 pub returns : goal.returns
@@ -7,4 +7,5 @@ returns c = record {
   after = λ c f w. decided_after c f.pass f.command f.row w;
   once = λ f w. decided_once f.command f.row w;
   reply = answered_decided;
+  made = λ c f w n going. makes_none c f.pass f.command f.row w going n;
 }
