@@ -20,3 +20,5 @@ pub mod Waiting
 pub mod Making
 pub mod Jobs
 pub mod Wanted
+pub mod Tallying
+pub mod tallies

@@ -30,29 +30,41 @@ reserved_for w None = 0
 reserved_for w (Some b) = build_blocks w b
 
 -- a thread at part p that has paid so much of a command that asks for so many blocks
-pub record IsSpending (c : Config) (p : Part) (paid asked : ℕ) (w : Spending) : Type 0 where
+pub record IsSpending (c : Config) (p : Part) (units blocks : ℕ) (w : Spending) : Type 0 where
   pub inside : w.inside ≡ is_inside (stand_of c p)
-  pub paid : w.balance.paid ≡ paid
-  pub asked : w.asked ≡ asked
+  pub paid : w.balance.paid ≡ units
+  pub asked : w.asked ≡ blocks
   pub low : w.low ≡ (holding c p).low
   pub high : w.high ≡ (holding c p).high
   pub reserved : w.reserved ≡ reserved_for c.width (view c p).build
 
 -- the tally has the heap's cycle and phase, cursor, free count and colours, and this order
-pub record IsTallyOf (h : Heap) (order : List HistoryItem) (s : Tally) : Type 0 where
+pub record IsTallyOf (h : Heap) (items : List HistoryItem) (s : Tally) : Type 0 where
   pub cycle : s.cycle ≡ cycle_of (h Phase)
   pub sweep : s.sweep ≡ is_sweep (h Phase)
   pub cursor : s.cursor ≡ h Cursor
   pub free : s.free ≡ h FreeCount
   pub colour : (x : ℕ) → s.colour x ≡ h (ColourOf x)
-  pub order : s.order ≡ order
+  pub order : s.order ≡ items
 
 -- the blocks that a thread asks for after an event: with a reply those of its next command
 abbrev pub asked_got : Option Reply → ℕ → ℕ → ℕ
 asked_got None asked next = asked
 asked_got (Some r) asked next = next
 
--- a tally after an event of the thread, whose part it was
+-- Before an event of the thread, which is at part p: a tally of what the turn sees is kept, and has
+-- each thread where it stands.
+pub record Counted (c : Config) (rate : ℕ) (s : Seen c) (p : Part) (t : Tally) : Type 0 where
+  pub some : 0 < rate
+  pub plan : KeepsUp c rate
+  pub due : s.due ≡ rate * blocks_of c.width s.command
+  pub kept : TallyKept c rate black_word t
+  pub of : IsTallyOf s.heap s.order t
+  pub own : IsSpending c p s.paid (blocks_of c.width s.command) (t.threads s.thread)
+  pub inside : (u : ℕ) → u < c.threads → (t.threads u).inside ≡ is_inside (s.gatings u).stand
+
+-- And after it, where the thread is at part p: one is kept of the heap and the order then, and it has
+-- the other threads as before.
 pub record TallyEvent (c : Config) (rate : ℕ) (s : Seen c) (new : Heap) (e : Effect) (p : Part) (next : ℕ) (before : Tally) : Type 0 where
   pub tally : Tally
   pub kept : TallyKept c rate black_word tally
@@ -60,9 +72,8 @@ pub record TallyEvent (c : Config) (rate : ℕ) (s : Seen c) (new : Heap) (e : E
   pub own : IsSpending c p (paid_got e.reply e.unit s.paid) (asked_got e.reply (blocks_of c.width s.command) next) (tally.threads s.thread)
   pub others : (u : ℕ) → (s.thread ≡ u → ⊥) → tally.threads u ≡ before.threads u
 
--- the law of a part: where a tally is kept of what the turn sees, one is kept after its event
+-- The law of a part: a tally that is kept of what the turn sees goes on to one that is kept after
+-- its event. Where that has the reply, the next command asks for so many blocks.
 abbrev pub TallyLaw : (c : Config) → Part → Type 0
-TallyLaw c p = (rate : ℕ) → 0 < rate → KeepsUp c rate → (s : Seen c) → AtPart c s p → PartEvent c s p → s.due ≡ rate * blocks_of c.width s.command → (next : ℕ) → next ≤ c.object
-    → (before : Tally) → TallyKept c rate black_word before → IsTallyOf s.heap s.order before → IsSpending c p s.paid (blocks_of c.width s.command) (before.threads s.thread)
-    → ((u : ℕ) → u < c.threads → (before.threads u).inside ≡ is_inside (s.gatings u).stand)
+TallyLaw c p = (rate : ℕ) (s : Seen c) → AtPart c s p → PartEvent c s p → (next : ℕ) → next ≤ c.object → (before : Tally) → Counted c rate s p before
     → TallyEvent c rate s (heap_after s.heap (part_want c p)) (effect c p (word_at c s p)) (part_got c s.thread (errand c s) s.pass p (word_at c s p)) next before
