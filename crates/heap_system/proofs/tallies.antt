@@ -1,3 +1,5 @@
 pub mod Moves
 pub mod Entering
 pub mod Going
+pub mod Mark
+pub mod Sweep
