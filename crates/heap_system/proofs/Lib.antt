@@ -22,3 +22,4 @@ pub mod Jobs
 pub mod Wanted
 pub mod Tallying
 pub mod tallies
+pub mod Tallied

@@ -58,14 +58,17 @@ not_less m n e = elim (cases_lt m n) [
 ]
 
 module _ (c : Config) (rate : ℕ) (s : Seen c) (p : SweepState) (at : AtPart c s (Sweep p)) (before : Tally) (k : Counted c rate s (Sweep p) before) (next : ℕ) where
-  -- a thread inside in a command of so many units paid, that claims what the row says
-  record AtRow (paid : ℕ) (r : SweepRow) (w : Spending) : Type 0 where
+  -- a thread inside in a command of so many units paid, that claims this
+  record AtClaim (units from until : ℕ) (w : Spending) : Type 0 where
     pub inside : w.inside ≡ true
-    pub paid_is : w.balance.paid ≡ paid
+    pub paid_is : w.balance.paid ≡ units
     pub asked : w.asked ≡ blocks_of c.width s.command
-    pub low : w.low ≡ (sweep_holding r).low
-    pub high : w.high ≡ (sweep_holding r).high
+    pub low : w.low ≡ from
+    pub high : w.high ≡ until
     pub reserved : w.reserved ≡ 0
+
+  abbrev AtRow : ℕ → SweepRow → Spending → Type 0
+  AtRow units r w = AtClaim units (sweep_holding r).low (sweep_holding r).high w
 
   -- the part of that row
   comes : (n : SweepState) (over none : Bool) → sweep_over n.row ≡ over → (paid : ℕ) (w : Spending) → AtRow paid n.row w → IsSpending c (cond over (cond none Idle Again) (Sweep n)) paid (blocks_of c.width s.command) w
@@ -106,7 +109,7 @@ module _ (c : Config) (rate : ℕ) (s : Seen c) (p : SweepState) (at : AtPart c 
       abbrev passed : Tally
       passed = apply c rate black_word (record before { colour = painted }) (events.Pass s.thread)
 
-      pub passes : TallyEvent c rate s new (of_pass step true) q next before
+      passes : TallyEvent c rate s new (of_pass step true) q next before
       passes = elim (cases_Bool (ltb (x + 1) high)) [
         | inl more ↦ record {
             tally = passed;
@@ -119,7 +122,7 @@ module _ (c : Config) (rate : ℕ) (s : Seen c) (p : SweepState) (at : AtPart c 
         | inr last ↦ record {
             tally = apply c rate black_word passed (events.Clear s.thread);
             kept = run_kept c rate black_word k.some k.plan (events.Pass s.thread ∷ events.Clear s.thread ∷ []) (record before { colour = painted }) kept
-                ((s.low, omega (arith, low, until, some)), (s.low, spends_here (λ w. w.high ≤ w.low) before.threads s.thread one (omega (arith, low, until, not_less (x + 1) high last))), tt);
+                ((s.low, omega (arith, low, until, some)), ((s.low, spends_here (λ w. w.high ≤ w.low) before.threads s.thread one (omega (arith, low, until, not_less (x + 1) high last))), tt));
             of = record { cycle = of.cycle; sweep = of.sweep; cursor = of.cursor; free = of.free; colour = of.colour; order = of.order };
             own = spends_twice (IsSpending c q (s.paid + 1) (blocks_of c.width s.command)) before.threads s.thread one (λ w. record w { low = 0; high = 0 })
                 (spends (record one { low = 0; high = 0 }) (record { inside = k.own.inside; paid_is = omega (arith, k.own.paid); asked = k.own.asked; low = sym (next_last x high y a f last).0; high = sym (next_last x high y a f last).1; reserved = k.own.reserved }));
