@@ -19,6 +19,7 @@ use Rattle.never_heap.specs.Histories.{HistoryItem, Started, replay}
 use Rattle.never_heap.specs.Steps.{blocks_of}
 use Rattle.never_heap.proofs.Opening.{opening_live}
 use Rattle.heap_machine.specs.Operations.{heap_after}
+use Rattle.work_account.specs.Accounts as accounts
 use Rattle.cycle_tally.specs.Kept.{TallyKept}
 use Rattle.cycle_tally.specs.Openings.{opening_tally}
 use Rattle.cycle_tally.specs.Tallies.{Spending, Tally}
@@ -61,13 +62,11 @@ asks_on c trace log t k paid None is = ap (blocks_of c.width) (is ∙ ap (λ xs.
 asks_on c trace log t k paid (Some r) is = refl
 
 module _ (c : Config) (traces : List (List Command)) (job : IsJob c traces) (rate : ℕ) (planned : IsRate c rate) where
+  -- each command of a thread asks for no more than one object may take
+  commands_at : (r : Run) → Kept c traces r → (t i : ℕ) → t < c.threads → blocks_of c.width (get_or (local_at c r.state t).trace i (commands.Nil 0)) ≤ c.object
+  commands_at r kept t i tl = blocks_low c _ (bounds_at c (local_at c r.state t).trace i (subst (λ x. AllByRecursion (IsCommandInBounds x) (local_at c r.state t).trace) (kept.locals t tl).config (kept.locals t tl).fits.trace.commands))
+
   module _ (s : State) (start : IsOpening c traces s) where
-    first_asks : ℕ → ℕ
-    first_asks t = asked_by c (local_at c s t)
-
-    commands_at : (r : Run) → Kept c traces r → (t i : ℕ) → t < c.threads → blocks_of c.width (get_or (local_at c r.state t).trace i (commands.Nil 0)) ≤ c.object
-    commands_at r kept t i tl = blocks_low c _ (bounds_at c (local_at c r.state t).trace i (subst (λ x. AllByRecursion (IsCommandInBounds x) (local_at c r.state t).trace) (kept.locals t tl).config (kept.locals t tl).fits.trace.commands))
-
     -- the opening
     pub opening_tallied : RunTallied c rate (opened c s)
     opening_tallied =
@@ -84,9 +83,18 @@ module _ (c : Config) (traces : List (List Command)) (job : IsJob c traces) (rat
             colour = λ x. refl;
             order = refl;
           };
-          threads = λ t tl. subst (λ (l : LocalState). IsSpending c l.part l.paid (asked_by c l) (record { inside = false; balance = _; asked = asked_by c l; low = 0; high = 0; reserved = 0 })) (sym (here c traces job s start t tl))
+          threads = λ t tl. subst (λ (l : LocalState). IsSpending c l.part l.paid (asked_by c l) (record { inside = false; balance = accounts.opened; asked = asked_by c l; low = 0; high = 0; reserved = 0 })) (sym (here c traces job s start t tl))
               (record { inside = refl; paid = refl; asked = refl; low = refl; high = refl; reserved = refl });
         }
+
+  -- a turn that has no event
+  turn_idle : (r : Run) (t : ℕ) → RunTallied c rate r → has_event c t r.state ≡ false → RunTallied c rate (next c t r)
+  turn_idle r t counts none = subst (λ x. RunTallied c rate (record {
+    state = cond x (event_done c t r.state) r.state;
+    order = r.order ++ cond x (items_by c t (command_of (local_at c r.state t)) (local_at c r.state t).paid r.order (next_effect c r.state t)) [];
+    names = cond x (renamed t (replay c r.order) (heap_in c r.state) (next_effect c r.state t).naming r.names) r.names;
+  })) (sym none)
+      (subst (λ o. RunTallied c rate (record { state = r.state; order = o; names = r.names })) (sym (append-nil r.order)) (record { tally = counts.tally; kept = counts.kept; of = counts.of; threads = counts.threads }))
 
   module _ (laws : (p : Part) → PartLaws c p) (tally_laws : (p : Part) → TallyLaw c p) (r : Run) (kept : Kept c traces r) (counts : RunTallied c rate r) (t : ℕ) (tl : t < c.threads) where
     abbrev me : LocalState
@@ -109,3 +117,53 @@ module _ (c : Config) (traces : List (List Command)) (job : IsJob c traces) (rat
       own = counts.threads t tl;
       inside = λ u ul. (counts.threads u ul).inside;
     }
+
+    -- what the thread asks for next
+    abbrev later : LocalState
+    later = new_local c traces laws job.bounds.config job.plan r kept t tl
+
+    module _ (going : is_done me ≡ false) where
+      after : TallyEvent c rate (seen c traces laws job.bounds.config job.plan r kept t tl) (new_heap c traces laws job.bounds.config job.plan r kept t tl) (effect_here c traces laws job.bounds.config job.plan r kept t tl) later.part (asked_by c later) counts.tally
+      after = tally_laws me.part rate (seen c traces laws job.bounds.config job.plan r kept t tl) (at_part c traces laws job.bounds.config job.plan r kept t tl) (event c traces laws job.bounds.config job.plan r kept t tl going) (asked_by c later) (commands_at r kept t (length later.log) tl) counts.tally counted
+
+      -- the thread, and the others
+      each : (u : ℕ) → u < c.threads → IsSpending c (local_at c (event_done c t r.state) u).part (local_at c (event_done c t r.state) u).paid (asked_by c (local_at c (event_done c t r.state) u)) (after.tally.threads u)
+      each u ul = subst (λ (l : LocalState). IsSpending c l.part l.paid (asked_by c l) (after.tally.threads u)) (sym (local_new c traces laws job.bounds.config job.plan r kept t tl going u))
+          (elim (cases_eq t u) [
+            | inl e ↦ rw (eq-eqb t u e) (subst (λ v. IsSpending c later.part later.paid (asked_by c later) (after.tally.threads v)) e
+                (subst (λ n. IsSpending c later.part later.paid n (after.tally.threads t)) (asks_on c me.trace me.log t (command_of me) me.paid (effect_here c traces laws job.bounds.config job.plan r kept t tl).reply refl) after.own))
+            | inr n ↦ rw (ne_eqb t u n) (subst (λ w. IsSpending c (local_at c r.state u).part (local_at c r.state u).paid (asked_by c (local_at c r.state u)) w) (sym (after.others u n)) (counts.threads u ul))
+          ])
+
+      event_tallied : RunTallied c rate (new_run c traces laws job.bounds.config job.plan r kept t tl)
+      event_tallied = record {
+        tally = after.tally;
+        kept = after.kept;
+        of = subst (λ h. IsTallyOf h (new_run c traces laws job.bounds.config job.plan r kept t tl).order after.tally) (sym (heap_new c traces laws job.bounds.config job.plan r kept t tl going))
+            (subst (λ xs. IsTallyOf (new_heap c traces laws job.bounds.config job.plan r kept t tl) (r.order ++ xs) after.tally) (items_are c r.order t (command_of me) me.paid (effect_here c traces laws job.bounds.config job.plan r kept t tl).verdict (effect_here c traces laws job.bounds.config job.plan r kept t tl).naming) after.of);
+        threads = each;
+      }
+
+    -- a turn of a thread
+    tallied_next : RunTallied c rate (next c t r)
+    tallied_next = elim (cases_Bool (is_done me)) [
+      | inl done ↦
+          let none : has_event c t r.state ≡ false = rw (lt-ltb t c.threads tl, done) refl in
+          turn_idle r t counts none
+      | inr going ↦ subst (λ x. RunTallied c rate x) (sym (next_is c traces laws job.bounds.config job.plan r kept t tl going)) (event_tallied going)
+    ]
+
+  module _ (laws : (p : Part) → PartLaws c p) (tally_laws : (p : Part) → TallyLaw c p) where
+    turn_tallied : (r : Run) → Kept c traces r → RunTallied c rate r → (t : ℕ) → RunTallied c rate (next c t r)
+    turn_tallied r kept counts t = elim (cases_lt t c.threads) [
+      | inl tl ↦ tallied_next laws tally_laws r kept counts t tl
+      | inr out ↦ turn_idle r t counts (rw (le-ltb t c.threads out) refl)
+    ]
+
+    turns_tallied : (ts : List ℕ) (r : Run) → Kept c traces r → RunTallied c rate r → RunTallied c rate (after_turns c r ts)
+    turns_tallied [] r kept counts = counts
+    turns_tallied (t ∷ ts) r kept counts = turns_tallied ts (next c t r) (turn_kept c traces laws job r kept t) (turn_tallied r kept counts t)
+
+    -- every run
+    pub run_tallied : (ts : List ℕ) (r : Run) → IsRunOf c traces ts r → RunTallied c rate r
+    run_tallied ts r is = subst (λ x. RunTallied c rate x) (sym is.turns) (turns_tallied ts (opened c is.first) (opening_kept c traces job is.first is.opening) (opening_tallied is.first is.opening))
