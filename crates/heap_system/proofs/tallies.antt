@@ -3,3 +3,4 @@ pub mod Entering
 pub mod Going
 pub mod Mark
 pub mod Sweep
+pub mod Build
