@@ -4,3 +4,4 @@ pub mod Going
 pub mod Mark
 pub mod Sweep
 pub mod Build
+pub mod TurnOver
