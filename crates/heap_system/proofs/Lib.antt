@@ -23,3 +23,4 @@ pub mod Wanted
 pub mod Tallying
 pub mod tallies
 pub mod Tallied
+pub mod TalliesOf

@@ -4,4 +4,5 @@ pub mod Going
 pub mod Mark
 pub mod Sweep
 pub mod Build
+pub mod Serve
 pub mod TurnOver

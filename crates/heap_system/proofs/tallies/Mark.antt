@@ -37,7 +37,7 @@ use Rattle.heap_system.proofs.parts.InPass.{of_pass, pass_is}
 use Rattle.heap_system.proofs.tallies.Moves.{SameWords, same_words, spends_on, spends_here, told_none, stays, moves}
 
 -- marking claims nothing
-no_claim : (m : ℕ) (r : GreyRow) → ((grey_holding m r).low ≡ 0) × ((grey_holding m r).high ≡ 0)
+pub no_claim : (m : ℕ) (r : GreyRow) → ((grey_holding m r).low ≡ 0) × ((grey_holding m r).high ≡ 0)
 no_claim m (marks.Take u) = (refl, refl)
 no_claim m (marks.Pop a) = (refl, refl)
 no_claim m (marks.ScanWord x j a) = (refl, refl)
