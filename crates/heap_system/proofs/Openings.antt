@@ -1,37 +1,34 @@
 -- The opening keeps the rules on its blocks, and on its names.
-use Rattle.std.proofs.Common.{◌≡◌, ◌≢◌, ℕ, zero, suc, ◌+◌, ◌-◌, ◌<◌, ◌≤◌, ◌&&◌, Bool, true, false, cond, eqb, leb, ltb, eqb-true, leb-true, eq-eqb, ne_eqb, lt-ltb, le-ltb, le-leb, None, [], ◌∷◌, refl, sym, ap, ◌∙◌, subst, arith, inl, inr, ◌⊎◌}
-use Rattle.std.proofs.lemmas.Bool.{cases_Bool, cases_lt, cases_eq, and_parts, and_from}
+use Rattle.std.proofs.Common.{◌≡◌, ◌≢◌, ℕ, ◌+◌, ◌-◌, ◌<◌, ◌≤◌, ◌&&◌, Bool, true, false, cond, eqb, leb, ltb, leb-true, ne_eqb, lt-ltb, le-ltb, le-leb, [], ◌∷◌, refl, sym, ap, ◌∙◌, subst, arith, inl, inr, ◌⊎◌}
+use Rattle.std.proofs.lemmas.Bool.{cases_Bool, cases_lt, cases_eq, and_from}
 use Rattle.block_store.specs.declared.Config.{Config}
-use Rattle.block_store.specs.declared.Name.{Name}
 use Rattle.block_store.specs.Configs.{IsInBounds}
 use Rattle.block_store.specs.Colours.{is_grey, is_free, grey_word, white_word, black_word, free_word}
-use Rattle.block_store.specs.Counts.{total}
 use Rattle.block_store.specs.Heaps.{Heap}
-use Rattle.block_store.specs.Payloads.{target, reference_word}
+use Rattle.block_store.specs.Payloads.{target}
 use Rattle.block_store.specs.Phases.{bit, is_sweep, cycle_of}
 use Rattle.block_store.specs.Places.{Place, Phase, Cursor, FreeCount, FreeList, ColourOf, OwnerOf, ShapeOf, PayloadOf, extent, in_range, is_block}
 use Rattle.block_store.specs.Registers.{root_block, registers_end, register_ordinal, register_thread}
 use Rattle.block_store.specs.Widths.{payloads}
-use Rattle.block_store.proofs.ColourWords.{kind-zero, not_grey_white, not_grey_free, not_grey_black, not_free_grey, not_free_white, not_free_black, black-white, grey-black, free-black, grey_grey, free_free}
+use Rattle.block_store.proofs.ColourWords.{kind-zero, not_free_black, black-white, grey-black, grey_grey, free_free}
 use Rattle.block_store.proofs.Functions.{total_none}
 use Rattle.block_store.proofs.PayloadWords.{target-reference, target-nil}
-use Rattle.block_store.proofs.Registers.{root_in, root_some, root_is, thread_low}
+use Rattle.block_store.proofs.Registers.{root_in, root_some}
 use Rattle.rate_plan.specs.Rates.{IsAdmitted}
 use Rattle.array_trees.specs.Openings.{opening_blocks}
 use Rattle.never_heap.specs.Graphs.{start_graph}
 use Rattle.never_heap.specs.Histories.{Started}
-use Rattle.shown_graph.specs.Events.{opening_state, unloaded}
+use Rattle.shown_graph.specs.Events.{opening_state}
 use Rattle.shown_graph.specs.Openings.{opening_at, opening_words}
-use Rattle.shown_graph.specs.Shown.{none_pending}
 use Rattle.shown_graph.specs.Words.{BlockWords, block_words, Agrees}
 use Rattle.shown_graph.proofs.Opening.{opening_shows}
 use Rattle.shown_graph.proofs.Stores.{words_change}
-use Rattle.heap_machine.specs.FreeBlocks.{FreeKept, no_free}
+use Rattle.heap_machine.specs.FreeBlocks.{FreeKept}
 use Rattle.heap_machine.specs.Holdings.{Holding, holds_nothing, grey_held, free_held, sweep_held, tricolour_held}
 use Rattle.heap_machine.specs.PhaseKept.{PhaseKept}
-use Rattle.heap_machine.specs.Sweeping.{SweepHolding, SweepKept, no_claim, has_claimed}
+use Rattle.heap_machine.specs.Sweeping.{SweepKept, no_claim, has_claimed}
 use Rattle.heap_machine.specs.Solid.{SolidKept}
-use Rattle.heap_machine.specs.Tricolour.{TricolourHolding, TricolourKept, no_tricolour}
+use Rattle.heap_machine.specs.Tricolour.{TricolourKept}
 use Rattle.heap_machine.proofs.Opening.{free_opens}
 use Rattle.kept_names.specs.Colouring.{NotRoot}
 use Rattle.kept_names.specs.Kept.{IsKept}
@@ -79,6 +76,16 @@ words_kept c bounds room colour colours w agrees =
       scans = k.scans;
       marking = k.marking;
       sweeping = λ e. absurd (differ false e refl);
+    }
+
+-- the words of an opening are those of the start graph, up to the last block of the shared array
+pub opening_agrees : (c : Config) → IsInBounds c → IsAdmitted c → (h : Heap) → ((p : Place) → in_range (extent c) p ≡ true → h p ≡ opening_heap c p) → (x : ℕ) → 0 < x → x ≤ opening_blocks c → Agrees c.width (opening_words c) (block_words h) x
+opening_agrees c bounds plan h words x pos within =
+    let block = block_in c bounds plan x pos (omega (arith, within, plan.opens, plan.room)) in
+    record {
+      owners = words (OwnerOf x) block;
+      shapes = words (ShapeOf x) block;
+      payloads = λ j jl. words (PayloadOf x j) (and_from _ _ block (lt-ltb j (payloads c.width) jl));
     }
 
 module _ (c : Config) (bounds : IsInBounds c) (plan : IsAdmitted c) (h : Heap) (words : (p : Place) → in_range (extent c) p ≡ true → h p ≡ opening_heap c p) (outside : (x : ℕ) → is_block (extent c) x ≡ false → h (ColourOf x) ≡ 0) (cycle : cycle_of (h Phase) ≡ 1) (sweep : is_sweep (h Phase) ≡ false) where
@@ -209,17 +216,7 @@ module _ (c : Config) (bounds : IsInBounds c) (plan : IsAdmitted c) (h : Heap) (
       solid = λ _. subst (λ n. SolidKept (extent c) n h) (sym cycle) solid_kept;
     }
 
-  -- the words of the opening are those of the start graph, up to the last block of the shared array
-  agrees : (x : ℕ) → 0 < x → x ≤ opening_blocks c → Agrees c.width (opening_words c) (block_words h) x
-  agrees x pos within =
-      let block = block_in c bounds plan x pos (omega (arith, low)) in
-      record {
-        owners = words (OwnerOf x) block;
-        shapes = words (ShapeOf x) block;
-        payloads = λ j jl. words (PayloadOf x j) (and_from _ _ block (lt-ltb j (payloads c.width) jl));
-      }
-
   pub opening_names_kept : (tasks : ℕ → Task) → tasks ≡ (λ t. no_task) → IsKept c (picture (start_graph c) (Started ∷ []) h (opening_names c) tasks)
   opening_names_kept tasks none = subst (λ ts. IsKept c (picture (start_graph c) (Started ∷ []) h (opening_names c) ts)) (sym none)
       (subst (λ s. IsKept c s) (λ i. record (picture (start_graph c) (Started ∷ []) h (opening_names c) (λ t. no_task)) { cycle = sym cycle i; sweep = sym sweep i })
-      (words_kept c bounds (omega (arith, low)) (λ x. h (ColourOf x)) colours (block_words h) agrees))
+      (words_kept c bounds (omega (arith, low)) (λ x. h (ColourOf x)) colours (block_words h) (opening_agrees c bounds plan h words)))
