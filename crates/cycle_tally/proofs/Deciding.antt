@@ -1,12 +1,11 @@
 -- Events that decide allocations and other commands.
-use Rattle.std.proofs.Common.{◌≡◌, ℕ, ◌+◌, ◌-◌, ◌*◌, ◌/◌, ◌≤◌, ◌<◌, max, true, false, refl, arith, ap, sym, ◌∙◌, subst, inl, inr}
+use Rattle.std.proofs.Common.{◌≡◌, ℕ, ◌+◌, ◌-◌, ◌*◌, ◌/◌, ◌≤◌, ◌<◌, refl, arith, ap, sym, ◌∙◌, subst, inl, inr}
 use Rattle.std.proofs.lemmas.Bool.{cases_eq}
 use Rattle.std.proofs.lemmas.Nat.{le-div}
 use Rattle.block_store.specs.declared.Config.{Config}
 use Rattle.rate_plan.specs.Rates.{KeepsUp, ceiling}
 use Rattle.never_heap.specs.declared.Entry.{Entry}
-use Rattle.never_heap.specs.declared.Reply.TheVariants.{Full}
-use Rattle.never_heap.specs.Histories.{Did, is_full, starts_in}
+use Rattle.never_heap.specs.Histories.{Did}
 use Rattle.never_heap.specs.Given.{given}
 use Rattle.never_heap.specs.Licensed.{IsLicensedReply}
 use Rattle.never_heap.specs.Taken.{taken_by}

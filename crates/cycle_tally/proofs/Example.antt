@@ -1,5 +1,5 @@
 -- The events of the example may come one after another.
-use Rattle.std.proofs.Common.{◌≡◌, ℕ, zero, suc, ◌≤◌, true, leb, refl, arith, inl, false, inr, sym, subst, [], ◌∷◌}
+use Rattle.std.proofs.Common.{◌≡◌, ℕ, ◌≤◌, true, leb, refl, inl, false, inr, sym, subst, [], ◌∷◌}
 use Rattle.std.proofs.lemmas.Bool.{leb-true}
 use Rattle.block_store.specs.declared.Width.{Width}
 use Rattle.block_store.specs.declared.Width.TheVariants.{Four, Eight}
@@ -7,7 +7,6 @@ use Rattle.block_store.specs.Configs.{IsInBounds}
 use Rattle.array_trees.specs.Openings.{opening_blocks}
 use Rattle.array_trees.specs.Trees.{tree}
 use Rattle.rate_plan.specs.Rates.{KeepsUp}
-use Rattle.never_heap.specs.Cycles.{graph_at}
 use Rattle.never_heap.specs.declared.Reply.TheVariants as replies
 use Rattle.never_heap.specs.Histories.{HistoryItem, Started, Did, Legal}
 use Rattle.never_heap.specs.Licensed.{StartsSmall, NoFulls}

@@ -1,5 +1,5 @@
 -- Tests of guards: an event may come where its test says so.
-use Rattle.std.proofs.Common.{◌≡◌, ◌≢◌, ℕ, zero, suc, ◌+◌, ◌-◌, ◌*◌, ◌<◌, max, not, Bool, true, false, ◌&&◌, ◌||◌, eqb, ltb, leb, arith, List, [], ◌∷◌, eq-eqb, inl, inr}
+use Rattle.std.proofs.Common.{◌≡◌, ◌≢◌, ℕ, zero, suc, ◌+◌, ◌-◌, ◌*◌, ◌≤◌, ◌<◌, max, not, Bool, true, false, ◌&&◌, ◌||◌, eqb, ltb, leb, arith, List, [], ◌∷◌, eq-eqb, inl, inr}
 use Rattle.std.proofs.lemmas.Bool.{both_ways, ltb-true, leb-true, eqb-true, and_parts, or_cases, cases_eq, not-true}
 use Rattle.block_store.specs.declared.Config.{Config}
 use Rattle.block_store.specs.Configs.{IsInBounds}

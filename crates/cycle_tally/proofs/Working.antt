@@ -1,5 +1,5 @@
 -- Events that mark and sweep.
-use Rattle.std.proofs.Common.{◌≡◌, ◌≢◌, ℕ, ◌+◌, ◌*◌, ◌≤◌, ◌<◌, Bool, true, false, ◌&&◌, ◌||◌, eqb, ltb, refl, arith, ap, sym, ◌∙◌, subst, inl, inr, eq-eqb, ne_eqb, lt-ltb}
+use Rattle.std.proofs.Common.{◌≡◌, ℕ, ◌+◌, ◌*◌, ◌≤◌, ◌<◌, Bool, true, false, ◌&&◌, ◌||◌, eqb, ltb, refl, arith, ap, sym, ◌∙◌, subst, inl, inr, eq-eqb, ne_eqb, lt-ltb}
 use Rattle.std.proofs.lemmas.Bool.{cases_eq, cases_lt, cases_Bool, both_ways, le-leb, lt-leb, le-ltb, ltb-true, and_left, and_right, and_parts}
 use Rattle.std.proofs.lemmas.Nat.{le-div, div-add-mod'}
 use Rattle.std.proofs.lemmas.Bool.Decides.{nat_tests}

@@ -116,7 +116,7 @@ shade_leaves h y old v = elim (cases_Bool (eqb (h (ColourOf y)) old)) [
   | inr is ↦ rw is refl
 ]
 
-leaves_phase : (h : Heap) (t n c : ℕ) (r : GreyRow)
+pub leaves_phase : (h : Heap) (t n c : ℕ) (r : GreyRow)
     → heap_after h (row_want t n c r) Phase ≡ h Phase
 leaves_phase h t n c (Take u) = refl
 leaves_phase h t n c (Pop a) = refl

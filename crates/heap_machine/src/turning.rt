@@ -20,10 +20,10 @@ ghost use Rattle.heap_machine.specs.Turning.{turns_over, gate_after, root_before
 ghost use Rattle.heap_machine.specs.declared.gate.GateRow.{GateRow};
 ghost use Rattle.heap_machine.specs.declared.pass.Pass.{Pass};
 
-/// A part that starts a cycle, after a Sweep pass, comes to the start only where it read one word of
-/// an empty gate of its cycle and phase twice, and so had closed it, and then made one event for each
-/// thread and one more: they make the root of each thread grey, each with a link to the root before
-/// it, and put the last one in the thread's own list.
+/// A part that starts a cycle, after a Sweep pass, comes to the start only where it read one word
+/// of an empty gate of its cycle and phase twice, and so had closed it, and then made one event
+/// for each thread and one more: they make the root of each thread grey, each with a link to the
+/// root before it, and put the last one in the thread's own list.
 pub fn start_shades_every_root()
     ensures only { (W : Width) (p : Pass) (ws : List ℕ) → IsSwept p
         → gate_after W (GateRow.CloseLook p) ws ≡ GateRow.Start p
@@ -39,9 +39,9 @@ pub fn start_shades_every_root()
         ≡ Exchange (GreyList p.thread) (root_before W p.threads) }
 {}
 
-/// What a thread that has closed the gate knows of the heap stays so over its own events: which grey
-/// lists are empty, that the cursor is at the first block before the flip, and which roots are grey
-/// before the start. The part stays one of its thread.
+/// What a thread that has closed the gate knows of the heap stays so over its own events: which
+/// grey lists are empty, that the cursor is at the first block before the flip, and which roots
+/// are grey before the start. The part stays one of its thread.
 pub fn what_the_closing_thread_knows()
     ensures kept { (W : Width) (h : Heap) (r : GateRow) → turns_over r ≡ true → GateFits r
         → TurningKnows W r h
@@ -51,8 +51,8 @@ pub fn what_the_closing_thread_knows()
         → IsTurnOf t (gate_got W r w) }
 {}
 
-/// While a thread has closed the gate, an event of another thread at the gate changes no word of the
-/// heap, and that thread stays outside: it looks again, or its part that turns over ends.
+/// While a thread has closed the gate, an event of another thread at the gate changes no word of
+/// the heap, and that thread stays outside: it looks again, or its part that turns over ends.
 pub fn closed_gates_keep_others_out()
     ensures heap { (W : Width) (n : ℕ) (h : Heap) (gs : ℕ → Gating) → GateOf n (h Phase) gs
         → (t : ℕ) → t < n → (gs t).stand ≡ Closing
@@ -64,9 +64,9 @@ pub fn closed_gates_keep_others_out()
         → (gate_got W r (h Phase) ≡ GateRow.Look) ⊎ (gate_got W r (h Phase) ≡ GateRow.KeptOut) }
 {}
 
-/// The events of the gate keep that each place has a word that it can hold: to go in and out, where
-/// the phase word counts the threads inside; and to close the gate, and turn the phase over or start
-/// a cycle, which a phase word can hold.
+/// The events of the gate keep that each place has a word that it can hold: to go in and out,
+/// where the phase word counts the threads inside; and to close the gate, and turn the phase over
+/// or start a cycle, which a phase word can hold.
 pub fn gate_rows_keep_each_word()
     ensures passes { (c : Config) (h : Heap) → IsHeld c h
         → (gs : ℕ → Gating) → GateOf c.threads (h Phase) gs → c.threads ≤ 16

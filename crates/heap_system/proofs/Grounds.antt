@@ -1,5 +1,5 @@
--- The opening's grey blocks are the roots, each alone in its list; the blocks of its arrays are not Free; and each place has a word that it can hold.
-use Rattle.std.proofs.Common.{◌≡◌, ℕ, zero, suc, ◌+◌, ◌-◌, ◌*◌, ◌/◌, ◌%◌, ◌<◌, ◌≤◌, Bool, true, false, cond, ◌&&◌, eqb, leb, ltb, eqb-true, leb-true, ltb-true, eq-eqb, ne_eqb, lt-ltb, le-ltb, le-leb, Option, Some, IsSome, [], ◌∷◌, refl, sym, ap, ◌∙◌, subst, arith, inl, inr}
+-- The opening's grey blocks are the roots, each alone in its list; the blocks of its arrays are not Free; each place has a word that it can hold; and each payload refers to a block of the arrays.
+use Rattle.std.proofs.Common.{◌≡◌, ℕ, zero, suc, ◌+◌, ◌-◌, ◌<◌, ◌≤◌, Bool, true, false, cond, ◌&&◌, eqb, leb, ltb, eqb-true, leb-true, ltb-true, eq-eqb, ne_eqb, lt-ltb, le-ltb, le-leb, Option, Some, IsSome, [], ◌∷◌, refl, sym, ap, ◌∙◌, subst, arith, inl, inr}
 use Rattle.std.proofs.lemmas.Bool.{cases_Bool, cases_eq, cases_lt, and_parts, and_from}
 use Rattle.block_store.specs.declared.Config.{Config}
 use Rattle.block_store.specs.declared.Colour.{Colour}
@@ -64,12 +64,12 @@ root_once w (suc n) x t tl e = elim (cases_eq t n) [
 ]
 
 -- a root is the first block of a thread's registers
-is_of_thread : (w : Width) (n x : ℕ) → 1 ≤ x → (leb x (registers_end w n) && eqb (register_ordinal w x) 0) ≡ true → (register_thread w x < n) × (x ≡ root_block w (register_thread w x))
+pub is_of_thread : (w : Width) (n x : ℕ) → 1 ≤ x → (leb x (registers_end w n) && eqb (register_ordinal w x) 0) ≡ true → (register_thread w x < n) × (x ≡ root_block w (register_thread w x))
 is_of_thread w n x some e =
     let p = and_parts (leb x (registers_end w n)) (eqb (register_ordinal w x) 0) e in
     (thread_low w n x some (leb-true x (registers_end w n) p.0), root_is w x some (eqb-true (register_ordinal w x) 0 p.1))
 
-is_the_root : (w : Width) (n t : ℕ) → t < n → (leb (root_block w t) (registers_end w n) && eqb (register_ordinal w (root_block w t)) 0) ≡ true
+pub is_the_root : (w : Width) (n t : ℕ) → t < n → (leb (root_block w t) (registers_end w n) && eqb (register_ordinal w (root_block w t)) 0) ≡ true
 is_the_root w n t tl = and_from _ _ (le-leb (root_block w t) (registers_end w n) (root_in w n t tl)) (eq-eqb (register_ordinal w (root_block w t)) 0 (root_ordinal w t))
 
 white_even : white_word 1 ≡ 1
@@ -88,7 +88,10 @@ module _ (c : Config) (bounds : IsInBounds c) (plan : IsAdmitted c) where
   last_low : opening_blocks c + 1 ≤ c.blocks
   last_low = omega (arith, plan.opens, plan.room)
 
-  block_in : (x : ℕ) → 1 ≤ x → x ≤ c.blocks → is_block (extent c) x ≡ true
+  some_shared : 1 ≤ array_blocks c.width c.shared
+  some_shared = omega (arith, (tree_layout (payloads c.width) c.shared (many c.width)).first)
+
+  pub block_in : (x : ℕ) → 1 ≤ x → x ≤ c.blocks → is_block (extent c) x ≡ true
   block_in x some low = and_from _ _ (le-leb 1 x some) (le-leb x c.blocks low)
 
   -- the colours of the opening
@@ -140,48 +143,52 @@ module _ (c : Config) (bounds : IsInBounds c) (plan : IsAdmitted c) where
   no_shape : IsSome (shape_of 0)
   no_shape = subst (λ w. IsSome (shape_of w)) record_zero (some_is (shape_of (record_word 0)) (shapes.List 0) (shape-code (shapes.List 0) (omega arith)))
 
-  -- the payloads
-  nothing_held : (x j : ℕ) → CanHold (extent c) (PayloadOf x j) 0
-  nothing_held x j = (some_is (payload_of 0) held.Nil (payload-code held.Nil tt), omega (arith, target-nil))
-
-  block_held : (x j y : ℕ) → 1 ≤ y → y ≤ c.blocks → CanHold (extent c) (PayloadOf x j) (reference_word y)
-  block_held x j y some low = (some_is (payload_of (reference_word y)) (held.Block y) (payload-code (held.Block y) (some, omega (arith, bounds.blocks))), omega (arith, target-reference y))
-
-  -- a part of an array whose blocks are those from this one on, where its fields are nil or refer to a block
-  part_held : (x j : ℕ) (head : Name → ℕ) (first : ℕ) (field : ℕ → Value) (e o : ℕ) → 1 ≤ first → first + array_blocks c.width e ≤ c.blocks + 1
-      → ((i : ℕ) → i < e → CanHold (extent c) (PayloadOf x j) (value_word head (field i))) → CanHold (extent c) (PayloadOf x j) (part_word head (λ p. first + p) field (array_part c.width e o j))
-  part_held x j head first field e o some low fields = by (array_part c.width e o j) refl
-    where
-      by : (p : Part) → array_part c.width e o j ≡ p → CanHold (extent c) (PayloadOf x j) (part_word head (λ p. first + p) field p)
-      by (Link q) is = let within = ((tree_layout (payloads c.width) e (many c.width)).onward o j q is).2 in block_held x j (first + q) (omega arith) (omega arith)
-      by (Field i) is = fields i ((tree_layout (payloads c.width) e (many c.width)).slots o j i is).0
-      by Blank is = nothing_held x j
-
   abbrev shared_first : ℕ
   shared_first = registers_end c.width c.threads + 1
 
-  array_room : (t : ℕ) → t < c.threads → root_block c.width t + array_blocks c.width REGISTERS ≤ c.blocks + 1
-  array_room t tl = omega (arith, root_low c.width c.threads t tl, array_of c.width, last_low)
+  array_room : (t : ℕ) → t < c.threads → root_block c.width t + array_blocks c.width REGISTERS ≤ opening_blocks c + 1
+  array_room t tl = omega (arith, root_low c.width c.threads t tl, array_of c.width)
 
-  register_held : (x j t o : ℕ) → t < c.threads → CanHold (extent c) (PayloadOf x j) (register_word c t o j)
-  register_held x j t o tl = part_held x j (λ a. shared_first) (root_block c.width t) (register_of (start_graph c) t) REGISTERS o (root_some c.width t) (array_room t tl)
-      (λ i il. subst (λ v. CanHold (extent c) (PayloadOf x j) (value_word (λ a. shared_first) v)) (sym (register_of_start c t i tl il)) (by (eqb i 0)))
-    where
-      by : (b : Bool) → CanHold (extent c) (PayloadOf x j) (value_word (λ a. shared_first) (cond b (values.Ref (shared_name c.threads)) values.Nil))
-      by true = block_held x j shared_first (omega arith) (omega (arith, last_low))
-      by false = nothing_held x j
+  -- what holds of nothing, and of a reference to a block of the arrays, holds of each payload
+  module _ (P : ℕ → Type 0) (nothing : P 0) (block : (y : ℕ) → 1 ≤ y → y ≤ opening_blocks c → P (reference_word y)) where
+    -- a part of an array whose blocks are those from this one on
+    part_is : (head : Name → ℕ) (first : ℕ) (field : ℕ → Value) (e o j : ℕ) → 1 ≤ first → first + array_blocks c.width e ≤ opening_blocks c + 1
+        → ((i : ℕ) → i < e → P (value_word head (field i))) → P (part_word head (λ p. first + p) field (array_part c.width e o j))
+    part_is head first field e o j some low fields = by (array_part c.width e o j) refl
+      where
+        by : (p : Part) → array_part c.width e o j ≡ p → P (part_word head (λ p. first + p) field p)
+        by (Link q) is = let within = ((tree_layout (payloads c.width) e (many c.width)).onward o j q is).2 in block (first + q) (omega arith) (omega arith)
+        by (Field i) is = fields i ((tree_layout (payloads c.width) e (many c.width)).slots o j i is).0
+        by Blank is = nothing
 
-  shared_held : (x j o : ℕ) → CanHold (extent c) (PayloadOf x j) (shared_word c o j)
-  shared_held x j o = part_held x j (λ a. shared_first) shared_first (λ i. values.Nil) c.shared o (omega arith) (omega (arith, last_low)) (λ i il. nothing_held x j)
+    register_is : (t o j : ℕ) → t < c.threads → P (register_word c t o j)
+    register_is t o j tl = part_is (λ a. shared_first) (root_block c.width t) (register_of (start_graph c) t) REGISTERS o j (root_some c.width t) (array_room t tl)
+        (λ i il. subst (λ v. P (value_word (λ a. shared_first) v)) (sym (register_of_start c t i tl il)) (by (eqb i 0)))
+      where
+        by : (b : Bool) → P (value_word (λ a. shared_first) (cond b (values.Ref (shared_name c.threads)) values.Nil))
+        by true = block shared_first (omega arith) (omega (arith, some_shared))
+        by false = nothing
+
+    shared_is : (o j : ℕ) → P (shared_word c o j)
+    shared_is o j = part_is (λ a. shared_first) shared_first (λ i. values.Nil) c.shared o j (omega arith) (omega arith) (λ i il. nothing)
+
+    pub payload_is : (x j : ℕ) → 1 ≤ x → P (opening_heap c (PayloadOf x j))
+    payload_is x j some = elim (cases_Bool (leb x (registers_end c.width c.threads))) [
+      | inl e ↦ rw e (register_is (register_thread c.width x) (register_ordinal c.width x) j (thread_low c.width c.threads x some (leb-true x (registers_end c.width c.threads) e)))
+      | inr e ↦ rw e (elim (cases_Bool (leb x (opening_blocks c))) [
+        | inl f ↦ rw f (shared_is (x - shared_first) j)
+        | inr f ↦ rw f nothing
+      ])
+    ]
+
+  nothing_held : (x j : ℕ) → CanHold (extent c) (PayloadOf x j) 0
+  nothing_held x j = (some_is (payload_of 0) held.Nil (payload-code held.Nil tt), omega (arith, target-nil))
+
+  block_held : (x j y : ℕ) → 1 ≤ y → y ≤ opening_blocks c → CanHold (extent c) (PayloadOf x j) (reference_word y)
+  block_held x j y some low = (some_is (payload_of (reference_word y)) (held.Block y) (payload-code (held.Block y) (some, omega (arith, bounds.blocks, last_low))), omega (arith, target-reference y, last_low))
 
   payload_held : (x j : ℕ) → 1 ≤ x → CanHold (extent c) (PayloadOf x j) (opening_heap c (PayloadOf x j))
-  payload_held x j some = elim (cases_Bool (leb x (registers_end c.width c.threads))) [
-    | inl e ↦ rw e (register_held x j (register_thread c.width x) (register_ordinal c.width x) (thread_low c.width c.threads x some (leb-true x (registers_end c.width c.threads) e)))
-    | inr e ↦ rw e (elim (cases_Bool (leb x (opening_blocks c))) [
-      | inl f ↦ rw f (shared_held x j (x - shared_first))
-      | inr f ↦ rw f (nothing_held x j)
-    ])
-  ]
+  payload_held x j some = payload_is (CanHold (extent c) (PayloadOf x j)) (nothing_held x j) (block_held x j) x j some
 
   owner_here : (x : ℕ) → 1 ≤ x → CanHold (extent c) (OwnerOf x) (opening_heap c (OwnerOf x))
   owner_here x some = elim (cases_Bool (leb x (registers_end c.width c.threads))) [

@@ -1,27 +1,34 @@
--- The units that a thread has made are the turns at which it made a grey block black.
-use Rattle.std.proofs.Common.{◌≡◌, ℕ, ◌+◌, ◌<◌, Bool, true, false, cond, eqb, eq-eqb, ne_eqb, lt-ltb, le-ltb, List, [], ◌∷◌, ◌++◌, append-nil, refl, sym, ap, ◌∙◌, subst, arith, inl, inr}
+-- The units that a thread has made are its turns that make a grey block black or pass a block.
+use Rattle.std.proofs.Common.{◌≡◌, ℕ, ◌+◌, ◌<◌, ◌⊎◌, Bool, true, false, not, ◌&&◌, cond, eqb, eq-eqb, ne_eqb, lt-ltb, le-ltb, List, [], ◌∷◌, ◌++◌, append-nil, refl, sym, ap, ◌∙◌, subst, arith, inl, inr}
 use Rattle.std.proofs.lemmas.Bool.{cases_Bool, cases_eq, cases_lt}
 use Rattle.block_store.specs.declared.Config.{Config}
 use Rattle.block_store.specs.Phases.{bit}
 use Rattle.never_heap.specs.declared.Command.{Command}
 use Rattle.never_heap.specs.Histories.{part, replay}
-use Rattle.heap_machine.specs.Operations.{place_of}
-use Rattle.heap_system.specs.Locals.{LocalState, command_of, is_done, part_want, part_reply, makes_unit, paid_got, works, Verdict, verdict}
-use Rattle.heap_system.specs.Machines.{Run, IsJob, IsRunOf, local_at, word_read, event_done, has_event, entries_by, next, after_turns, opened}
-use Rattle.heap_system.specs.Pictures.{heap_in}
-use Rattle.heap_system.specs.Units.{is_unit, turn_blackens, units_made, blacks_made}
-use Rattle.heap_system.proofs.Paying.{works_append}
+use Rattle.heap_system.specs.declared.local.Part.{Part}
+use Rattle.heap_system.specs.declared.local.Part.TheVariants.{Sweep}
+use Rattle.heap_system.specs.Locals.{LocalState, command_of, is_done, effect, part_want, makes_unit, paid_got, works}
+use Rattle.heap_system.specs.Machines.{Run, IsJob, IsRunOf, local_at, word_read, next_effect, items_by, event_done, has_event, next, after_turns, opened, heap_in}
+use Rattle.heap_system.specs.Naming.{renamed}
+use Rattle.heap_system.specs.Units.{passes, is_unit, turn_blackens, turn_passes, units_made, blacks_made, passes_made, blackens}
+use Rattle.heap_system.proofs.Growing.{part_grows, part_stays}
+use Rattle.heap_system.proofs.Kept.{Kept}
 use Rattle.heap_system.proofs.LawsOf.{laws_of}
-use Rattle.heap_system.proofs.Kept.{told_by, Kept, holdings_in}
-use Rattle.heap_system.proofs.Turning.{order_after, part_grows, part_stays, local_new, fits, word_is, event}
+use Rattle.heap_system.proofs.Paying.{works_append}
+use Rattle.heap_system.proofs.Seeing.{told_by}
+use Rattle.heap_system.proofs.Turning.{seen, at_part, local_new, word_is, word_here, new_run, next_is, event}
 use Rattle.heap_system.proofs.Always.{here, opening_kept, turn_kept}
 
--- a turn is a unit where it makes a grey block black
-pub unit_blackens : (c : Config) (traces : List (List Command)) → IsJob c traces → (r : Run) → Kept c traces r → (t : ℕ) → t < c.threads → is_unit c t r.state ≡ turn_blackens c t r.state
-unit_blackens c traces job r kept t tl =
-    let l = local_at c r.state t in
-    ap (λ b. cond (has_event c t r.state) b false)
-    (sym ((laws_of c l.part).black (heap_in c r.state) (holdings_in c r.state) t _ _ (replay c r.order) l.pass (command_of l) (word_read c r.state l) kept.rules.grey refl (λ out. (kept.gate.passes t tl out).0) (kept.locals t tl).stands (fits c traces job.bounds.config job.plan r kept t tl)))
+-- the events that pass a block are units
+passes_unit : (c : Config) (p : Part) (w : ℕ) → (passes c p w ≡ makes_unit c p w) ⊎ (passes c p w ≡ false)
+passes_unit c (Sweep s) w = inl refl
+passes_unit c _ w = inr refl
+
+split : (u p : Bool) → (p ≡ u) ⊎ (p ≡ false) → bit u ≡ bit (u && not p) + bit p
+split true p (inl e) = rw e refl
+split false p (inl e) = rw e refl
+split true p (inr e) = rw e refl
+split false p (inr e) = rw e refl
 
 -- the works of thread t's entries, and its units for the command in hand
 abbrev pub made_by : Config → ℕ → Run → ℕ
@@ -33,85 +40,101 @@ cond_no b x y e = rw e refl
 cond_yes : {A : Type 0} (b : Bool) (x y : A) → b ≡ true → cond b x y ≡ x
 cond_yes b x y e = rw e refl
 
+-- a turn without an event changes nothing
+pub idle_next : (c : Config) (u : ℕ) (r : Run) → has_event c u r.state ≡ false → next c u r ≡ r
+idle_next c u r none =
+    ap (λ b. let x : Run = record {
+      state = cond b (event_done c u r.state) r.state;
+      order = r.order ++ cond b (items_by c u (command_of (local_at c r.state u)) (local_at c r.state u).paid r.order (next_effect c r.state u)) [];
+      names = cond b (renamed u (replay c r.order) (heap_in c r.state) (next_effect c r.state u).naming r.names) r.names;
+    } in x) none
+    ∙ ap (λ o. let x : Run = record { state = r.state; order = o; names = r.names } in x) (append-nil r.order)
+
 module _ (c : Config) (traces : List (List Command)) (job : IsJob c traces) (r : Run) (kept : Kept c traces r) (u : ℕ) (ul : u < c.threads) (going : is_done (local_at c r.state u) ≡ false) where
-  abbrev word_here : ℕ
-  word_here = heap_in c r.state (place_of (part_want c (local_at c r.state u).part))
-
-  abbrev deciding : Verdict
-  deciding = verdict c (local_at c r.state u).part word_here
-
   abbrev after : Run
-  after = record { state = event_done c u r.state; order = order_after c r.order u (command_of (local_at c r.state u)) (local_at c r.state u).paid deciding }
+  after = new_run c traces (laws_of c) job.bounds.config job.plan r kept u ul
 
-  own_makes : made_by c u after ≡ made_by c u r + bit (makes_unit c (local_at c r.state u).part word_here)
+  abbrev word : ℕ
+  word = word_here c traces (laws_of c) job.bounds.config job.plan r kept u ul
+
+  own_makes : made_by c u after ≡ made_by c u r + bit (makes_unit c (local_at c r.state u).part word)
   own_makes =
       let l = local_at c r.state u in
-      let parts : works (part u after.order) ≡ works (part u r.order) + works (told_by (replay c r.order) u (command_of l) l.paid deciding) =
-      ap works (part_grows c r.order u (command_of l) l.paid deciding) ∙ works_append (part u r.order) (told_by (replay c r.order) u (command_of l) l.paid deciding) in
-      let paid : (local_at c after.state u).paid ≡ paid_got (part_reply c l.part word_here) (makes_unit c l.part word_here) l.paid =
-      ap (λ (x : LocalState). x.paid) (local_new c traces job.bounds.config job.plan r kept u ul going u ∙ cond_yes _ _ _ (eq-eqb u u refl)) in
-      omega (arith, parts, paid, (event c traces job.bounds.config job.plan r kept u ul going).counted, (laws_of c l.part).units u (command_of l) l.paid word_here)
+      let e = effect c l.part word in
+      let parts : works (part u after.order) ≡ works (part u r.order) + works (told_by (replay c r.order) u (command_of l) l.paid e.verdict) =
+      ap works (part_grows c r.order u (command_of l) l.paid e.verdict e.naming) ∙ works_append (part u r.order) (told_by (replay c r.order) u (command_of l) l.paid e.verdict) in
+      let paid : (local_at c after.state u).paid ≡ paid_got e.reply e.unit l.paid =
+      ap (λ (x : LocalState). x.paid) (local_new c traces (laws_of c) job.bounds.config job.plan r kept u ul going u ∙ cond_yes _ _ _ (eq-eqb u u refl)) in
+      omega (arith, parts, paid, (event c traces (laws_of c) job.bounds.config job.plan r kept u ul going).counted, (laws_of c l.part).units u (command_of l) l.paid word)
 
   other_makes : (t : ℕ) → (u ≡ t → ⊥) → made_by c t after ≡ made_by c t r
   other_makes t n =
-      let parts : works (part t after.order) ≡ works (part t r.order) = ap works (part_stays c r.order u (command_of (local_at c r.state u)) (local_at c r.state u).paid deciding t n) in
-      let paid : (local_at c after.state t).paid ≡ (local_at c r.state t).paid = ap (λ (x : LocalState). x.paid) (local_new c traces job.bounds.config job.plan r kept u ul going t ∙ cond_no _ _ _ (ne_eqb u t n)) in
+      let l = local_at c r.state u in
+      let e = effect c l.part word in
+      let parts : works (part t after.order) ≡ works (part t r.order) = ap works (part_stays c r.order u (command_of l) l.paid e.verdict e.naming t n) in
+      let paid : (local_at c after.state t).paid ≡ (local_at c r.state t).paid = ap (λ (x : LocalState). x.paid) (local_new c traces (laws_of c) job.bounds.config job.plan r kept u ul going t ∙ cond_no _ _ _ (ne_eqb u t n)) in
       omega (arith, parts, paid)
 
-  some : has_event c u r.state ≡ true
-  some = rw (lt-ltb u c.threads ul, going) refl
-
-  -- the run after the turn
-  next_is : next c u r ≡ after
-  next_is =
-      ap (λ b. let x : Run = record { state = cond b (event_done c u r.state) r.state; order = r.order ++ cond b (entries_by c u (command_of (local_at c r.state u)) (local_at c r.state u).paid r.order (verdict c (local_at c r.state u).part (word_read c r.state (local_at c r.state u)))) [] } in x) some
-      ∙ ap (λ w. let x : Run = record { state = event_done c u r.state; order = r.order ++ entries_by c u (command_of (local_at c r.state u)) (local_at c r.state u).paid r.order (verdict c (local_at c r.state u).part w) } in x) (word_is c traces job.bounds.config job.plan r kept u ul)
-
   event_makes : (t : ℕ) → made_by c t (next c u r) ≡ made_by c t r + cond (eqb u t) (bit (is_unit c t r.state)) 0
-  event_makes t = ap (made_by c t) next_is ∙ elim (cases_eq u t) [
-    | inl e ↦ rw (eq-eqb u t e) (subst (λ v. made_by c v after ≡ made_by c v r + bit (is_unit c v r.state)) e
-        (own_makes ∙ ap (λ w. made_by c u r + bit (makes_unit c (local_at c r.state u).part w)) (sym (word_is c traces job.bounds.config job.plan r kept u ul))
-        ∙ ap (λ b. made_by c u r + bit (cond b (makes_unit c (local_at c r.state u).part (word_read c r.state (local_at c r.state u))) false)) (sym some)))
-    | inr n ↦ rw (ne_eqb u t n) (omega (arith, other_makes t n))
-  ]
+  event_makes t =
+      let some : has_event c u r.state ≡ true = rw (lt-ltb u c.threads ul, going) refl in
+      ap (made_by c t) (next_is c traces (laws_of c) job.bounds.config job.plan r kept u ul going) ∙ elim (cases_eq u t) [
+        | inl e ↦ rw (eq-eqb u t e) (subst (λ v. made_by c v after ≡ made_by c v r + bit (is_unit c v r.state)) e
+            (own_makes ∙ ap (λ w. made_by c u r + bit (makes_unit c (local_at c r.state u).part w)) (sym (word_is c traces (laws_of c) job.bounds.config job.plan r kept u ul))
+            ∙ ap (λ b. made_by c u r + bit (cond b (makes_unit c (local_at c r.state u).part (word_read c r.state (local_at c r.state u))) false)) (sym some)))
+        | inr n ↦ rw (ne_eqb u t n) (omega (arith, other_makes t n))
+      ]
 
 -- a turn without an event
 idle_makes : (c : Config) (t u : ℕ) (r : Run) → has_event c u r.state ≡ false → made_by c t (next c u r) ≡ made_by c t r + cond (eqb u t) (bit (is_unit c t r.state)) 0
-idle_makes c t u r none =
-    let same : next c u r ≡ r =
-    ap (λ b. let x : Run = record { state = cond b (event_done c u r.state) r.state; order = r.order ++ cond b (entries_by c u (command_of (local_at c r.state u)) (local_at c r.state u).paid r.order (verdict c (local_at c r.state u).part (word_read c r.state (local_at c r.state u)))) [] } in x) none
-    ∙ ap (λ o. let x : Run = record { state = r.state; order = o } in x) (append-nil r.order) in
-    ap (made_by c t) same ∙ elim (cases_eq u t) [
-      | inl e ↦
-          let no_unit : bit (is_unit c t r.state) ≡ 0 = ap (λ b. bit (cond b (makes_unit c (local_at c r.state t).part (word_read c r.state (local_at c r.state t))) false)) (sym (ap (λ v. has_event c v r.state) e) ∙ none) in
-          rw (eq-eqb u t e) (omega (arith, no_unit))
-      | inr n ↦ rw (ne_eqb u t n) (omega arith)
-    ]
-
-turn_makes : (c : Config) (traces : List (List Command)) → IsJob c traces → (r : Run) → Kept c traces r → (t u : ℕ) → made_by c t (next c u r) ≡ made_by c t r + cond (eqb u t) (bit (is_unit c t r.state)) 0
-turn_makes c traces job r kept t u = elim (cases_lt u c.threads) [
-  | inl ul ↦ elim (cases_Bool (is_done (local_at c r.state u))) [
-    | inl done ↦ idle_makes c t u r (rw (lt-ltb u c.threads ul, done) refl)
-    | inr going ↦ event_makes c traces job r kept u ul going t
-  ]
-  | inr out ↦ idle_makes c t u r (rw (le-ltb u c.threads out) refl)
+idle_makes c t u r none = ap (made_by c t) (idle_next c u r none) ∙ elim (cases_eq u t) [
+  | inl e ↦
+      let no_unit : bit (is_unit c t r.state) ≡ 0 = ap (λ b. bit (cond b (makes_unit c (local_at c r.state t).part (word_read c r.state (local_at c r.state t))) false)) (sym (ap (λ v. has_event c v r.state) e) ∙ none) in
+      rw (eq-eqb u t e) (omega (arith, no_unit))
+  | inr n ↦ rw (ne_eqb u t n) (omega arith)
 ]
 
-turns_make : (c : Config) (traces : List (List Command)) → IsJob c traces → (ts : List ℕ) (r : Run) → Kept c traces r → (t : ℕ) → made_by c t (after_turns c r ts) ≡ made_by c t r + units_made c t r ts
-turns_make c traces job [] r kept t = omega arith
-turns_make c traces job (u ∷ ts) r kept t = omega (arith, turns_make c traces job ts (next c u r) (turn_kept c traces job r kept u) t, turn_makes c traces job r kept t u)
+module _ (c : Config) (traces : List (List Command)) (job : IsJob c traces) where
+  turn_makes : (r : Run) → Kept c traces r → (t u : ℕ) → made_by c t (next c u r) ≡ made_by c t r + cond (eqb u t) (bit (is_unit c t r.state)) 0
+  turn_makes r kept t u = elim (cases_lt u c.threads) [
+    | inl ul ↦ elim (cases_Bool (is_done (local_at c r.state u))) [
+      | inl done ↦ idle_makes c t u r (rw (lt-ltb u c.threads ul, done) refl)
+      | inr going ↦ event_makes c traces job r kept u ul going t
+    ]
+    | inr out ↦ idle_makes c t u r (rw (le-ltb u c.threads out) refl)
+  ]
 
--- every run
-pub run_makes : (c : Config) (traces : List (List Command)) (ts : List ℕ) (r : Run) → IsJob c traces → (is : IsRunOf c traces ts r) → (t : ℕ) → t < c.threads → works (part t r.order) + (local_at c r.state t).paid ≡ units_made c t (opened is.first) ts
-run_makes c traces ts r job is t tl =
-    let start : (local_at c is.first t).paid ≡ 0 = ap (λ (l : LocalState). l.paid) (here c traces job is.first is.opening t tl) in
-    ap (made_by c t) is.turns ∙ turns_make c traces job ts (opened is.first) (opening_kept c traces job is.first is.opening) t ∙ omega (arith, start)
+  turns_make : (ts : List ℕ) (r : Run) → Kept c traces r → (t : ℕ) → made_by c t (after_turns c r ts) ≡ made_by c t r + units_made c t r ts
+  turns_make [] r kept t = omega arith
+  turns_make (u ∷ ts) r kept t = omega (arith, turns_make ts (next c u r) (turn_kept c traces (laws_of c) job r kept u) t, turn_makes r kept t u)
 
-turns_blacken : (c : Config) (traces : List (List Command)) → IsJob c traces → (ts : List ℕ) (r : Run) → Kept c traces r → (t : ℕ) → t < c.threads → units_made c t r ts ≡ blacks_made c t r ts
-turns_blacken c traces job [] r kept t tl = refl
-turns_blacken c traces job (u ∷ ts) r kept t tl =
-    ap (λ b. cond (eqb u t) (bit b) 0 + units_made c t (next c u r) ts) (unit_blackens c traces job r kept t tl)
-    ∙ ap (λ n. cond (eqb u t) (bit (turn_blackens c t r.state)) 0 + n) (turns_blacken c traces job ts (next c u r) (turn_kept c traces job r kept u) t tl)
+  -- every run
+  pub run_makes : (ts : List ℕ) (r : Run) (is : IsRunOf c traces ts r) (t : ℕ) → t < c.threads → works (part t r.order) + (local_at c r.state t).paid ≡ units_made c t (opened c is.first) ts
+  run_makes ts r is t tl =
+      let start : (local_at c is.first t).paid ≡ 0 = ap (λ (l : LocalState). l.paid) (here c traces job is.first is.opening t tl) in
+      ap (made_by c t) is.turns ∙ turns_make ts (opened c is.first) (opening_kept c traces job is.first is.opening) t ∙ omega (arith, start)
 
-pub run_blackens : (c : Config) (traces : List (List Command)) (ts : List ℕ) (r : Run) → IsJob c traces → (is : IsRunOf c traces ts r) → (t : ℕ) → t < c.threads → units_made c t (opened is.first) ts ≡ blacks_made c t (opened is.first) ts
-run_blackens c traces ts r job is t tl = turns_blacken c traces job ts (opened is.first) (opening_kept c traces job is.first is.opening) t tl
+  -- a turn is a unit where it makes a grey block black or passes a block, and not both
+  unit_is : (r : Run) → Kept c traces r → (t : ℕ) → t < c.threads → bit (is_unit c t r.state) ≡ bit (turn_blackens c t r.state) + bit (turn_passes c t r.state)
+  unit_is r kept t tl = elim (cases_Bool (has_event c t r.state)) [
+    | inl some ↦
+        let p = (local_at c r.state t).part in
+        let w = word_here c traces (laws_of c) job.bounds.config job.plan r kept t tl in
+        let read : word_read c r.state (local_at c r.state t) ≡ w = word_is c traces (laws_of c) job.bounds.config job.plan r kept t tl in
+        let black : bit (blackens (heap_in c r.state) (part_want c p)) ≡ bit (makes_unit c p w && not (passes c p w)) = ap bit ((laws_of c p).black (seen c traces (laws_of c) job.bounds.config job.plan r kept t tl) (at_part c traces (laws_of c) job.bounds.config job.plan r kept t tl)) in
+        rw some (rw read (split (makes_unit c p w) (passes c p w) (passes_unit c p w) ∙ ap (λ n. n + bit (passes c p w)) (sym black)))
+    | inr none ↦ rw none refl
+  ]
+
+  turns_are : (ts : List ℕ) (r : Run) → Kept c traces r → (t : ℕ) → t < c.threads → units_made c t r ts ≡ blacks_made c t r ts + passes_made c t r ts
+  turns_are [] r kept t tl = refl
+  turns_are (u ∷ ts) r kept t tl =
+      let rest = turns_are ts (next c u r) (turn_kept c traces (laws_of c) job r kept u) t tl in
+      let one = unit_is r kept t tl in
+      elim (cases_Bool (eqb u t)) [
+        | inl e ↦ rw e (omega (arith, rest, one))
+        | inr e ↦ rw e (omega (arith, rest))
+      ]
+
+  pub run_units : (ts : List ℕ) (r : Run) (is : IsRunOf c traces ts r) (t : ℕ) → t < c.threads → units_made c t (opened c is.first) ts ≡ blacks_made c t (opened c is.first) ts + passes_made c t (opened c is.first) ts
+  run_units ts r is t tl = turns_are ts (opened c is.first) (opening_kept c traces job is.first is.opening) t tl

@@ -1,32 +1,35 @@
 -- What a thread owes and has paid, and the ranges of the parts that it comes to.
-use Rattle.std.proofs.Common.{◌≡◌, ℕ, zero, suc, ◌+◌, ◌*◌, ◌<◌, ◌≤◌, ◌^◌, Bool, true, false, not, ◌&&◌, ◌||◌, cond, ltb, eqb, ltb-true, eqb-true, refl, sym, ap, ◌∙◌, subst, arith, List, [], ◌∷◌, ◌++◌, length, length-append, get_or, take, Option, Some, None, IfSome, All, inl, inr, mul_comm}
-use Rattle.std.proofs.lemmas.Bool.{cases_Bool, cases_lt, and_parts}
+use Rattle.std.proofs.Common.{◌≡◌, ℕ, zero, suc, ◌+◌, ◌*◌, ◌<◌, ◌≤◌, ◌^◌, Bool, true, false, not, ◌&&◌, ◌||◌, cond, ltb, eqb, ltb-true, refl, sym, ap, ◌∙◌, subst, arith, List, [], ◌∷◌, ◌++◌, length, length-append, append-nil, get_or, take, Some, is_some, inl, inr, mul_comm}
+use Rattle.std.proofs.lemmas.Bool.{cases_Bool, cases_lt, lt-ltb}
 use Rattle.std.proofs.lemmas.List.{get_or_past}
 use Rattle.std.proofs.Math.Nat.{mul-le-mul_right}
 use Rattle.block_store.specs.declared.Config.{Config}
 use Rattle.block_store.specs.declared.PhaseWord.{PhaseWord}
+use Rattle.block_store.specs.declared.Width.{Width}
 use Rattle.block_store.specs.Configs.{IsInBounds}
-use Rattle.block_store.specs.Phases.{is_closed, cycle_of}
+use Rattle.block_store.specs.Phases.{bit}
+use Rattle.block_store.specs.Places.{Extent}
+use Rattle.block_store.specs.Registers.{registers_end, root_block}
+use Rattle.block_store.proofs.Registers.{end_more}
 use Rattle.rate_plan.specs.Rates.{IsRate, IsAdmitted}
 use Rattle.rate_plan.proofs.Plans.{small}
 use Rattle.never_heap.specs.declared.Command.{Command}
 use Rattle.never_heap.specs.declared.Command.TheVariants as commands
 use Rattle.never_heap.specs.declared.Entry.{Entry}
 use Rattle.never_heap.specs.declared.Reply.{Reply}
+use Rattle.never_heap.specs.declared.Reply.TheVariants as replies
 use Rattle.std.specs.List.{AllByRecursion}
 use Rattle.std.proofs.lemmas.List.Elements.{All-from_recursion}
 use Rattle.never_heap.specs.Bounds.{IsCommandInBounds}
 use Rattle.never_heap.specs.Jobs.{IsTraceInBounds}
-use Rattle.heap_system.specs.Machines.{IsJob}
-use Rattle.never_heap.specs.RightWork.{units_owed}
 use Rattle.never_heap.specs.Steps.{blocks_of, makes_object}
-use Rattle.block_store.proofs.Registers.{end_more}
 use Rattle.never_heap.proofs.Ranges as ranges
-use Rattle.block_store.specs.Places.{Extent}
-use Rattle.block_store.specs.Registers.{registers_end}
-use Rattle.heap_machine.specs.Gates.{gate_got, gate_entered, is_going_in, GateFits, GateAt}
+use Rattle.heap_machine.specs.Gates.{gate_got, closed_by, is_going_in, is_of_pass, is_empty, GateFits, GateAt}
+use Rattle.heap_machine.proofs.GateRows.{gate_fits}
+use Rattle.heap_machine.specs.Passes.{IsPass}
+use Rattle.heap_machine.specs.Turning.{turns_over}
+use Rattle.heap_machine.specs.declared.Step.{Step}
 use Rattle.heap_machine.specs.declared.pass.Pass.{Pass}
-use Rattle.heap_machine.specs.Readings.{IsPhaseWord}
 use Rattle.heap_machine.specs.declared.gate.GateRow.{GateRow}
 use Rattle.heap_machine.specs.declared.gate.GateRow.TheVariants as gates
 use Rattle.barrier_steps.specs.Rows.{at_first_row}
@@ -35,17 +38,27 @@ use Rattle.barrier_steps.proofs.FieldRows.{first_fits}
 use Rattle.grey_steps.specs.Rows.{GreyState, grey_got, grey_unit, scanning}
 use Rattle.grey_steps.specs.Ends.{is_blackening}
 use Rattle.grey_steps.proofs.Ends.{unit_after, unit_once}
+use Rattle.grey_steps.proofs.Ranges.{scan_fits}
+use Rattle.sweep_steps.specs.Rows.{SweepState, sweep_got, sweep_over, sweep_passed, sweep_nothing, sweep_step, step_to, sweeping}
+use Rattle.sweep_steps.specs.Ends.{row_passes}
+use Rattle.sweep_steps.specs.declared.rows.SweepRow.{SweepRow}
+use Rattle.sweep_steps.specs.declared.rows.SweepRow.TheVariants as sweeps
+use Rattle.sweep_steps.proofs.Passing.{passed_bits}
+use Rattle.sweep_steps.proofs.Ranges as sweeping_ranges
+use Rattle.build_steps.specs.Rows.{BuildState, building}
+use Rattle.build_steps.proofs.Ranges as building_ranges
 use Rattle.heap_system.specs.declared.local.Local.TheInside.{Inside}
 use Rattle.heap_system.specs.declared.local.Part.{Part}
-use Rattle.heap_system.specs.declared.local.Part.TheVariants.{Enter, Serve, Mark, Count, Leave}
-use Rattle.heap_system.specs.Locals.{LocalState, IsLocal, PartFits, command_of, owed, owes, pass_by, first_part, if_entered, unit_to_come, works, entry_of}
+use Rattle.heap_system.specs.declared.local.Part.TheVariants.{Rest, Enter, Serve, Mark, Sweep, Build, TurnOver, Leave}
+use Rattle.heap_system.specs.Machines.{IsJob}
+use Rattle.heap_system.specs.Locals.{LocalState, IsLocal, PartFits, PartReads, IsRoomy, HasRoom, errand_of, command_of, owed, pass_by, if_over, local_got, is_last, unit_to_come, works, entry_of, made_got}
 
 -- what is seen of a thread
 abbrev pub view_of : Inside → LocalState
-view_of l = record { config = l.config; rate = l.rate; thread = l.thread; trace = l.trace.items; log = l.log.items; paid = l.paid; waived = l.waived; pass = l.pass; part = l.part }
+view_of l = record { config = l.config; rate = l.rate; thread = l.thread; trace = l.trace.items; log = l.log.items; paid = l.paid; made = l.made; space = l.space; pass = l.pass; part = l.part }
 
 -- an object takes no more blocks than one object may
-blocks_low : (c : Config) (k : Command) → IsCommandInBounds c k → blocks_of c.width k ≤ c.object
+pub blocks_low : (c : Config) (k : Command) → IsCommandInBounds c k → blocks_of c.width k ≤ c.object
 blocks_low c (commands.New d f) h = h.2
 blocks_low c (commands.Arr d e) h = h.2
 blocks_low c (commands.Set d v) h = omega arith
@@ -85,25 +98,83 @@ units_low l k =
     let a : l.rate * l.config.object ≤ 131070 * l.config.object = mul-le-mul_right l.config.object low in
     omega (arith, k.bounds.object)
 
--- the first part of a command that its thread has entered for
-pub first_part_fits : (c : Config) (done all : ℕ) (p : Pass) (k : Command) (more : Bool) → p.threads ≡ c.threads → IsThread c p.thread → c.blocks ≤ 65535 → IsCommandInBounds c k → done < all → PartFits c done all (first_part p k more)
-first_part_fits c done all p k true same thread blocks inside low = (record { threads = same; few = omega (arith, same, thread.few); blocks = blocks; thread = omega (arith, same, thread.thread); row = omega (arith, thread.thread) }, low)
-first_part_fits c done all p k false same thread blocks inside low = here (makes_object k)
-  where
-    here : (b : Bool) → PartFits c done all (cond b Count (Serve (at_first_row p k)))
-    here true = low
-    here false = (first_fits c p k thread (ranges.in_range c k inside), low)
-
 pub opening_room : (c : Config) → IsAdmitted c → registers_end c.width c.threads ≤ c.blocks
 opening_room c plan = omega (arith, plan.opens, plan.room)
 
-pub first_part_pays : (c : Config) (p : Pass) (k : Command) (more : Bool) (paid due : ℕ) → paid ≤ due → (more ≡ true → paid < due) → paid + unit_to_come c (first_part p k more) ≤ due
-first_part_pays c p k true paid due low some = omega (arith, some refl)
-first_part_pays c p k false paid due low some = here (makes_object k)
-  where
-    here : (b : Bool) → paid + unit_to_come c (cond b Count (Serve (at_first_row p k))) ≤ due
-    here true = omega arith
-    here false = omega arith
+pub thread_is : (l : LocalState) → IsLocal l → IsThread l.config l.thread
+thread_is l k = record { few = k.bounds.threads; thread = k.thread; registers = omega (arith, opening_room l.config k.plan, end_more l.config.width (l.thread + 1) l.config.threads (omega (arith, k.thread))) }
+
+-- the command in hand is in bounds
+pub command_fits : (l : LocalState) → IsLocal l → IsCommandInBounds l.config (command_of l)
+command_fits l k = bounds_at l.config l.trace (length l.log) k.trace.commands
+
+pub command_small : (l : LocalState) → IsLocal l → blocks_of l.config.width (command_of l) ≤ l.config.object
+command_small l k = blocks_low l.config (command_of l) (command_fits l k)
+
+-- the part with which a thread begins what it went in for fits, and pays
+module _ (l : LocalState) (k : IsLocal l) (low : length l.log < length l.trace) (p : Pass)
+    (mine : p.thread ≡ l.thread) (same : p.threads ≡ l.config.threads) (pass : IsPass p) where
+  thread : IsThread l.config p.thread
+  thread = subst (λ t. IsThread l.config t) (sym mine) (thread_is l k)
+
+  serial : l.made + 1 ≤ 131072
+  serial = omega (arith, k.made, low, k.trace.few)
+
+  build_fits : makes_object (command_of l) ≡ true → PartFits l.config (length l.log) (length l.trace) p (Build (building l.config.width p.thread p.threads p.cycle (l.made + 1) (command_of l) l.space))
+  build_fits makes = subst (λ n. PartFits l.config (length l.log) (length l.trace) p (Build (building l.config.width p.thread n p.cycle (l.made + 1) (command_of l) l.space))) (sym same) (
+    building_ranges.first_fits l.config p.thread p.cycle (l.made + 1) (command_of l) l.space thread.thread thread.few k.bounds.blocks thread.registers serial (ranges.in_range l.config (command_of l) (command_fits l k)) makes
+        (omega (arith, command_small l k, k.bounds.object)) (omega (arith, command_small l k, k.space)),
+    low,
+  )
+
+  sweep_fits : 1 ≤ (errand_of l).due → PartFits l.config (length l.log) (length l.trace) p (Sweep (sweeping p.thread p.cycle l.config.blocks (errand_of l).due))
+  sweep_fits some = (sweeping_ranges.first_fits l.config p.thread p.cycle (errand_of l).due thread.thread k.bounds.blocks some, low, (pass, same))
+
+  mark_fits : PartFits l.config (length l.log) (length l.trace) p (Mark (scanning p))
+  mark_fits = (scan_fits l.config p same pass.few k.bounds.blocks pass.thread, low, (pass, same))
+
+  serve_fits : PartFits l.config (length l.log) (length l.trace) p (Serve (at_first_row p (command_of l)))
+  serve_fits = (first_fits l.config p (command_of l) thread same k.bounds.blocks (ranges.in_range l.config (command_of l) (command_fits l k)), low)
+
+-- a thread at rest has its room
+pub room_at_rest : (p : Part) (space capacity : ℕ) (held : List ℕ) → p ≡ Rest → HasRoom p space held capacity → (held ≡ []) × (capacity ≡ space)
+room_at_rest p space capacity held e h = subst (λ x. HasRoom x space held capacity) e h
+
+-- and one that turns over
+pub room_there : (p : Part) (g : GateRow) (space capacity : ℕ) (held : List ℕ) → p ≡ TurnOver g → HasRoom p space held capacity → (held ≡ []) × (capacity ≡ space)
+room_there p g space capacity held e h = subst (λ x. HasRoom x space held capacity) e h
+
+-- a thread in another pass and part
+pub begins : (l : LocalState) (p : Pass) (part : Part) → IsLocal l → PartFits l.config (length l.log) (length l.trace) p part → l.paid + unit_to_come l.config part ≤ owed l → IsRoomy l.space part → IsLocal (record l { pass = p; part = part })
+begins l p part k fits pays roomy = record { bounds = k.bounds; plan = k.plan; rate = k.rate; thread = k.thread; trace = k.trace; log = k.log; part = fits; paid = pays; worked = k.worked; made = k.made; space = k.space; roomy = roomy }
+
+-- a build that begins in a room of this capacity
+pub begins_build : (l : LocalState) (phase : PhaseWord) (p : Pass) (command : Command) (capacity : ℕ) (b : BuildState) → IsLocal l → length l.log < length l.trace → p ≡ pass_by l.thread l.config.threads phase → IsPass p → command ≡ command_of l → makes_object command ≡ true → capacity ≡ l.space → b ≡ building l.config.width p.thread p.threads p.cycle (l.made + 1) command capacity → IsLocal (record l { pass = p; part = Build b })
+begins_build l phase p command capacity b k low by pass is makes space built =
+    let whole : b ≡ building l.config.width p.thread p.threads p.cycle (l.made + 1) (command_of l) l.space = built ∙ ap (λ n. building l.config.width p.thread p.threads p.cycle (l.made + 1) command n) space ∙ ap (λ q. building l.config.width p.thread p.threads p.cycle (l.made + 1) q l.space) is in
+    subst (λ x. IsLocal (record l { pass = p; part = Build x })) (sym whole)
+    (begins l p (Build (building l.config.width p.thread p.threads p.cycle (l.made + 1) (command_of l) l.space)) k
+    (build_fits l k low p (ap (λ (q : Pass). q.thread) by) (ap (λ (q : Pass). q.threads) by) pass (ap makes_object (sym is) ∙ makes)) (omega (arith, k.paid)) refl)
+
+-- a part that turns over goes on with such rows
+turns_either : (b : Bool) (p q : GateRow) → turns_over p ≡ true → turns_over q ≡ true → turns_over (cond b p q) ≡ true
+turns_either true p q a c = a
+turns_either false p q a c = c
+
+pub turns_on : (W : Width) (g : GateRow) (w : ℕ) → turns_over g ≡ true → turns_over (gate_got W g w) ≡ true
+turns_on W (gates.CloseLook p) w e = turns_either (is_of_pass p w) (cond (is_empty w) (gates.Close p w) gates.KeptOut) gates.KeptOut (turns_either (is_empty w) (gates.Close p w) gates.KeptOut refl refl) refl
+turns_on W (gates.Close p seen) w e = turns_either (eqb w seen) (closed_by p) gates.KeptOut (turns_either p.sweep (gates.ShadeRoot p 0 0) (gates.CheckList p 0) refl refl) refl
+turns_on W (gates.CheckList p u) w e = turns_either (eqb w 0) (cond (ltb (u + 1) p.threads) (gates.CheckList p (u + 1)) (gates.SetCursor p)) (gates.Reopen p) (turns_either (ltb (u + 1) p.threads) (gates.CheckList p (u + 1)) (gates.SetCursor p) refl refl) refl
+turns_on W (gates.SetCursor p) w e = refl
+turns_on W (gates.Flip p) w e = refl
+turns_on W (gates.Reopen p) w e = refl
+turns_on W (gates.ShadeRoot p u hand) w e = turns_either (ltb (u + 1) p.threads) (gates.ShadeRoot p (u + 1) (root_block W u)) (gates.PutRoots p (root_block W u)) refl refl
+turns_on W (gates.PutRoots p hand) w e = refl
+turns_on W (gates.Start p) w e = refl
+turns_on W gates.TurnedOver w e = refl
+turns_on W (gates.StartedCycle y) w e = refl
+turns_on W gates.KeptOut w e = refl
+turns_on W _ w e = absurd cc
 
 -- a unit is new behind the event that makes the block under scan black
 new_unit : (a b u : Bool) → b ≡ (a || u) → (a ≡ true → u ≡ false) → (b && not a) ≡ u
@@ -114,53 +185,59 @@ new_unit false false u e once = e
 pub unit_is_new : (e : Extent) (m : GreyState) (w : ℕ) → (grey_unit (grey_got e m w).row && not (grey_unit m.row)) ≡ is_blackening m.row
 unit_is_new e m w = new_unit (grey_unit m.row) (grey_unit (grey_got e m w).row) (is_blackening m.row) (unit_after e m w) (unit_once m)
 
-owes_some : (l : LocalState) → owes l ≡ true → l.paid < owed l
-owes_some l e = ltb-true l.paid (owed l) (and_parts (not l.waived) (ltb l.paid (owed l)) e).1
-
--- a part on its way in fits each heap
-abbrev pub IsOnWay : GateRow → Type 0
-IsOnWay g = GateFits g × (is_going_in g ≡ true)
-
 pub going_at : (c : Config) (g : GateRow) → is_going_in g ≡ true → GateAt c g
 going_at c gates.Look e = tt
 going_at c (gates.Enter seen) e = tt
 going_at c _ e = absurd cc
 
-entered_fits : (c : Config) (done all t : ℕ) (k : Command) (more : Bool) (o : Option PhaseWord) (g : GateRow) → IsThread c t → c.blocks ≤ 65535 → IsCommandInBounds c k → done < all → (o ≡ None → IsOnWay g) → PartFits c done all (if_entered o t c.threads k more g)
-entered_fits c done all t k more None g thread blocks inside low fits = (let f = fits refl in (f.0, f.1, low))
-entered_fits c done all t k more (Some p) g thread blocks inside low fits = first_part_fits c done all (pass_by t c.threads p) k more refl thread blocks inside low
+-- a sweep is over at its last step, and a unit is a block more that was passed
+pub swept_last : (s : SweepState) (w : ℕ) → is_last (step_to (sweep_got s w).row) ≡ sweep_over (sweep_got s w).row
+swept_last s w = here (sweep_got s w).row
+  where
+    here : (r : SweepRow) → is_last (step_to r) ≡ sweep_over r
+    here (sweeps.Swept passed freed) = refl
+    here sweeps.NothingLeft = refl
+    here _ = refl
 
-entered_pays : (c : Config) (t n : ℕ) (k : Command) (more : Bool) (o : Option PhaseWord) (g : GateRow) (paid due : ℕ) → paid ≤ due → (more ≡ true → paid < due) → paid + unit_to_come c (if_entered o t n k more g) ≤ due
-entered_pays c t n k more None g paid due low some = omega arith
-entered_pays c t n k more (Some p) g paid due low some = first_part_pays c (pass_by t n p) k more paid due low some
+more_than : (n : ℕ) (u : Bool) → ltb n (n + bit u) ≡ u
+more_than n true = lt-ltb n (n + 1) (omega arith)
+more_than n false = elim (cases_Bool (ltb n (n + 0))) [
+  | inl is ↦ absurd (let l : n < n + 0 = ltb-true n (n + 0) is in omega arith)
+  | inr is ↦ is
+]
 
--- a thread with another part
-abbrev pub with_part : LocalState → Part → LocalState
-with_part l p = record l { part = p }
+pub passed_more : (s : SweepState) (w : ℕ) → ltb (sweep_passed s.row) (sweep_passed (sweep_got s w).row) ≡ is_some (row_passes s.cycle s.row w)
+passed_more s w = ap (ltb (sweep_passed s.row)) (passed_bits s w) ∙ more_than (sweep_passed s.row) (is_some (row_passes s.cycle s.row w))
 
-pub thread_is : (l : LocalState) → IsLocal l → IsThread l.config l.thread
-thread_is l k = record { few = k.bounds.threads; thread = k.thread; registers = omega (arith, opening_room l.config k.plan, end_more l.config.width (l.thread + 1) l.config.threads (omega (arith, k.thread))) }
+-- a sweep that is not over goes on
+pub swept_on : (l : LocalState) (s n : SweepState) (w before after paid : ℕ) (step : Step) → l.part ≡ Sweep s → n ≡ sweep_got s w → before ≡ sweep_passed s.row → after ≡ sweep_passed n.row → paid ≡ cond (ltb before after) (l.paid + 1) l.paid → step ≡ sweep_step s w → is_last step ≡ false
+    → ◌≡◌ {A = LocalState} (record l { paid = paid; part = Sweep n }) (local_got l w)
+swept_on l s n w before after paid step at is low high pays does goes = subst (λ (p : Part). ◌≡◌ {A = LocalState} (record l { paid = paid; part = Sweep n }) (local_got (record l { part = p }) w)) (sym at)
+    (λ i. record { config = l.config; rate = l.rate; thread = l.thread; trace = l.trace; log = sym (append-nil l.log) i; paid = pays_so i; made = l.made; space = l.space; pass = l.pass; part = part i })
+  where
+    open_yet : sweep_over (sweep_got s w).row ≡ false
+    open_yet = sym (swept_last s w) ∙ sym (ap is_last does) ∙ goes
 
-pub other_part : (l : LocalState) (p : Part) → IsLocal l → PartFits l.config (length l.log) (length l.trace) p → l.paid + unit_to_come l.config p ≤ owed l → IsLocal (with_part l p)
-other_part l p k fits pays = record { bounds = k.bounds; plan = k.plan; rate = k.rate; thread = k.thread; trace = k.trace; log = k.log; part = fits; paid = pays; worked = k.worked }
+    unit : ltb before after ≡ is_some (row_passes s.cycle s.row w)
+    unit = ap (λ n. ltb n after) low ∙ ap (ltb (sweep_passed s.row)) (high ∙ ap (λ (x : SweepState). sweep_passed x.row) is) ∙ passed_more s w
 
-pub entered_local : (l : LocalState) (o : Option PhaseWord) (g : GateRow) → IsLocal l → length l.log < length l.trace → (o ≡ None → IsOnWay g) → IsLocal (with_part l (if_entered o l.thread l.config.threads (command_of l) (owes l) g))
-entered_local l o g k low fits = other_part l (if_entered o l.thread l.config.threads (command_of l) (owes l) g) k
-    (entered_fits l.config (length l.log) (length l.trace) l.thread (command_of l) (owes l) o g (thread_is l k) k.bounds.blocks (bounds_at l.config l.trace (length l.log) k.trace.commands) low fits)
-    (entered_pays l.config l.thread l.config.threads (command_of l) (owes l) o g l.paid (owed l) (omega (arith, k.paid)) (owes_some l))
+    pays_so : paid ≡ cond (is_some (row_passes s.cycle s.row w)) (l.paid + 1) l.paid
+    pays_so = pays ∙ ap (λ b. cond b (l.paid + 1) l.paid) unit
+
+    part : Sweep n ≡ if_over (sweep_over (sweep_got s w).row) (sweep_nothing (sweep_got s w).row) (Sweep (sweep_got s w))
+    part = ap Sweep is ∙ sym (ap (λ b. if_over b (sweep_nothing (sweep_got s w).row) (Sweep (sweep_got s w))) open_yet)
+
+-- a part that turns over goes on
+pub turned_on : (l : LocalState) (g n : GateRow) (w : ℕ) (c : Config) → IsLocal l → PartReads l.config l.part w → l.part ≡ TurnOver g → c ≡ l.config → n ≡ gate_got c.width g w → GateAt c n → IsLocal (record l { part = TurnOver n })
+turned_on l g n w c k reads at same is there =
+    let was = subst (λ (p : Part). PartFits l.config (length l.log) (length l.trace) l.pass p) at k.part in
+    let read = subst (λ (p : Part). PartReads l.config p w) at reads in
+    let next : n ≡ gate_got l.config.width g w = is ∙ ap (λ (x : Config). gate_got x.width g w) same in
+    begins l l.pass (TurnOver n) k (subst GateFits (sym next) (gate_fits l.config g w was.0 read), subst (λ x. GateAt x n) same there, ap turns_over next ∙ turns_on l.config.width g w was.2, was.3) (omega (arith, k.paid)) tt
 
 -- a thread on its way in has a command
 pub on_way_low : (l : LocalState) (g : GateRow) → IsLocal l → l.part ≡ Enter g → length l.log < length l.trace
-on_way_low l g k e = (subst (λ (p : Part). PartFits l.config (length l.log) (length l.trace) p) e k.part).2
-
--- the cycle of the word by which a thread enters is that of the word that it read
-pub entered_cycle : (g : GateRow) (w : ℕ) → is_going_in g ≡ true → IfSome (gate_entered (gate_got g w)) (λ p. p.cycle ≡ cycle_of w)
-entered_cycle gates.Look w e = elim (cases_Bool (is_closed w)) [ inl c ↦ rw c tt | inr c ↦ rw c tt ]
-entered_cycle (gates.Enter seen) w e = elim (cases_Bool (eqb w seen)) [
-  | inl c ↦ rw c (ap cycle_of (sym (eqb-true w seen c)))
-  | inr c ↦ rw c tt
-]
-entered_cycle _ w e = absurd cc
+on_way_low l g k e = (subst (λ (p : Part). PartFits l.config (length l.log) (length l.trace) l.pass p) e k.part).2
 
 -- the works of a log
 pub works_append : (xs ys : List Entry) → works (xs ++ ys) ≡ works xs + works ys
@@ -181,9 +258,21 @@ works_suc (x ∷ xs) (suc i) d low = omega (arith, works_suc xs i d (omega arith
 pub works_at : (xs : List Entry) (i : ℕ) (d : Entry) → i < length xs → works (take (i + 1) xs) ≡ works (take i xs) + (get_or xs i d).work
 works_at xs i d low = let e : i + 1 ≡ suc i = omega arith in ap (λ n. works (take n xs)) e ∙ works_suc xs i d low
 
+-- at most one object is made for each reply
+made_low : (r : Reply) (n : ℕ) → made_got (Some r) n ≤ n + 1
+made_low (replies.New a) n = omega arith
+made_low _ n = omega arith
+
 -- a thread with its command in the log
-pub answered_local : (l : LocalState) (reply : Reply) → IsLocal l → length l.log < length l.trace
-    → IsLocal (record { config = l.config; rate = l.rate; thread = l.thread; trace = l.trace; log = l.log ++ entry_of l.thread (command_of l) l.paid reply ∷ []; paid = 0; waived = false; pass = l.pass; part = Leave })
+abbrev pub answered : LocalState → Reply → LocalState
+answered l reply = record l {
+  log = l.log ++ entry_of l.thread (command_of l) l.paid reply ∷ [];
+  paid = 0;
+  made = made_got (Some reply) l.made;
+  part = Leave;
+}
+
+pub answered_local : (l : LocalState) (reply : Reply) → IsLocal l → length l.log < length l.trace → IsLocal (answered l reply)
 answered_local l reply k low = record {
   bounds = k.bounds;
   plan = k.plan;
@@ -193,7 +282,10 @@ answered_local l reply k low = record {
   log = omega (arith, longer);
   part = tt;
   paid = omega arith;
-  worked = subst (λ n. works (l.log ++ entry_of l.thread (command_of l) l.paid reply ∷ []) ≤ n * (l.rate * l.config.object)) (sym longer) (omega (arith, more, k.worked, k.paid, most));
+  worked = subst (λ n. works (l.log ++ entry_of l.thread (command_of l) l.paid reply ∷ []) ≤ n * (l.rate * l.config.object)) (sym longer) (omega (arith, more, k.worked, k.paid, owed_low l k));
+  made = omega (arith, longer, made_low reply l.made, k.made);
+  space = k.space;
+  roomy = tt;
 }
   where
     longer : length (l.log ++ entry_of l.thread (command_of l) l.paid reply ∷ []) ≡ suc (length l.log)
@@ -202,19 +294,12 @@ answered_local l reply k low = record {
     more : works (l.log ++ entry_of l.thread (command_of l) l.paid reply ∷ []) ≡ works l.log + (l.paid + 0)
     more = works_append l.log (entry_of l.thread (command_of l) l.paid reply ∷ [])
 
-    most : owed l ≤ l.rate * l.config.object
-    most = owed_low l k
-
--- the same in any pass
-pub answered_in : (l : LocalState) (pass : Pass) (reply : Reply) → IsLocal l → length l.log < length l.trace
-    → IsLocal (record { config = l.config; rate = l.rate; thread = l.thread; trace = l.trace; log = l.log ++ entry_of l.thread (command_of l) l.paid reply ∷ []; paid = 0; waived = false; pass = pass; part = Leave })
-answered_in l pass reply k low = (let is = answered_local l reply k low in record { bounds = is.bounds; plan = is.plan; rate = is.rate; thread = is.thread; trace = is.trace; log = is.log; part = is.part; paid = is.paid; worked = is.worked })
-
-pub answered_with : (l : LocalState) (reply : Reply) (log : List Entry) (k : Command) → IsLocal l → length l.log < length l.trace → log ≡ l.log ++ entry_of l.thread k l.paid reply ∷ [] → k ≡ command_of l
-    → IsLocal (record { config = l.config; rate = l.rate; thread = l.thread; trace = l.trace; log = log; paid = 0; waived = false; pass = l.pass; part = Leave })
-answered_with l reply log k inside low is e =
-    subst (λ x. IsLocal (record { config = l.config; rate = l.rate; thread = l.thread; trace = l.trace; log = x; paid = 0; waived = false; pass = l.pass; part = Leave }))
-    (sym (is ∙ ap (λ y. l.log ++ entry_of l.thread y l.paid reply ∷ []) e)) (answered_local l reply inside low)
+pub answered_with : (l : LocalState) (reply : Reply) (log : List Entry) (k : Command) (made : ℕ) → IsLocal l → length l.log < length l.trace → log ≡ l.log ++ entry_of l.thread k l.paid reply ∷ [] → k ≡ command_of l → made ≡ made_got (Some reply) l.made
+    → IsLocal (record l { log = log; paid = 0; made = made; part = Leave })
+answered_with l reply log k made inside low is e more =
+    subst (λ x. IsLocal (record l { log = log; paid = 0; made = x; part = Leave })) (sym more)
+    (subst (λ x. IsLocal (record l { log = x; paid = 0; made = made_got (Some reply) l.made; part = Leave }))
+    (sym (is ∙ ap (λ y. l.log ++ entry_of l.thread y l.paid reply ∷ []) e)) (answered_local l reply inside low))
 
 -- the units owed fit
 pub product_low : (l : LocalState) (n : ℕ) → IsLocal l → n ≡ blocks_of l.config.width (command_of l) → l.rate * n ≤ 134215680
@@ -227,13 +312,3 @@ pub worked_low : (l : LocalState) → IsLocal l → works l.log ≤ 2 ^ 45
 worked_low l k =
     let a : length l.log * (l.rate * l.config.object) ≤ 131072 * (l.rate * l.config.object) = mul-le-mul_right (l.rate * l.config.object) (omega (arith, k.log, k.trace.few)) in
     omega (arith, k.worked, units_low l k)
-
--- a thread in the first part of a pass that begins
-pub entered_in : (l : LocalState) (phase : PhaseWord) (g : GateRow) (pass : Pass) (p : Part) → pass ≡ pass_by l.thread l.config.threads phase → p ≡ first_part pass (command_of l) (owes l) → IsLocal l → l.part ≡ Enter g
-    → IsLocal (record { config = l.config; rate = l.rate; thread = l.thread; trace = l.trace; log = l.log; paid = l.paid; waived = l.waived; pass = pass; part = p })
-entered_in l phase g pass p same is k at =
-    let low : length l.log < length l.trace = on_way_low l g k at in
-    let new : IsLocal (with_part l (first_part (pass_by l.thread l.config.threads phase) (command_of l) (owes l))) = entered_local l (Some phase) g k low (λ e. absurd cc) in
-    let part : first_part (pass_by l.thread l.config.threads phase) (command_of l) (owes l) ≡ p = sym (is ∙ ap (λ x. first_part x (command_of l) (owes l)) same) in
-    let all : IsLocal (with_part l p) = subst (λ x. IsLocal (with_part l x)) part new in
-    record { bounds = all.bounds; plan = all.plan; rate = all.rate; thread = all.thread; trace = all.trace; log = all.log; part = all.part; paid = all.paid; worked = all.worked }

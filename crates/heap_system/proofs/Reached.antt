@@ -1,43 +1,42 @@
 -- What the code of a turn and of a finish meets, in a state that some list of turns reaches.
-use Rattle.std.proofs.Common.{◌≡◌, ℕ, zero, suc, ◌+◌, ◌<◌, Bool, true, false, cond, lt-ltb, eqb, eqb-true, List, [], ◌∷◌, ◌++◌, length, length-append, append_assoc, get_or, set, map, take, append-nil, refl, sym, ap, ◌∙◌, subst, arith, inl, inr}
+use Rattle.std.proofs.Common.{◌≡◌, ℕ, zero, suc, ◌+◌, ◌<◌, Bool, true, false, cond, lt-ltb, eqb, eq-eqb, eqb-true, List, [], ◌∷◌, ◌++◌, length, get_or, set, map, take, append-nil, refl, sym, ap, ◌∙◌, subst, arith, inl, inr}
 use Rattle.std.proofs.lemmas.Bool.{cases_lt, and_parts}
-use Rattle.std.proofs.lemmas.List.{get_or_default, get_or_past, map-append, length-map}
+use Rattle.std.proofs.lemmas.List.{get_or_default, get_or_past}
 use Rattle.std.proofs.Math.Seq.{take-length}
 use Rattle.block_store.specs.declared.Config.{Config}
-use Rattle.block_store.specs.Places.{extent, words_count}
+use Rattle.block_store.specs.declared.Width.{Width}
+use Rattle.block_store.specs.Phases.{cycle_of}
+use Rattle.block_store.specs.Places.{Phase, extent, words_count}
+use Rattle.rate_plan.specs.Rates.{IsRate}
 use Rattle.never_heap.specs.declared.Command.{Command}
 use Rattle.never_heap.specs.declared.Entry.{Entry}
-use Rattle.never_heap.specs.Histories.{HistoryItem, replay, part, parts_from}
+use Rattle.never_heap.specs.Histories.{HistoryItem, Started, Did, replay, part, parts_from}
+use Rattle.never_heap.specs.RightWork.{RightWork, units_owed}
 use Rattle.heap_machine.specs.Operations.{op_at, op_place, words_after, SumFits}
 use Rattle.heap_machine.specs.declared.op.Op.{Op}
 use Rattle.heap_system.specs.declared.local.Part.{Part}
 use Rattle.heap_system.specs.declared.local.Part.TheVariants.{Rest}
 use Rattle.heap_system.specs.declared.Turn.{Turn}
-use Rattle.never_heap.specs.Jobs.{IsTraceInBounds}
-use Rattle.heap_system.specs.Locals.{LocalState, works, command_of, owed, entries_of, is_rest, is_done, part_want, part_step, turn_of, local_got, at_start, PartReads}
-use Rattle.heap_system.specs.Machines.{State, no_local, local_at, word_read, event_done, has_event, turned, answer, Run, next, after_turns, IsJob, IsOpening, starts_from, opened, IsRunOf}
+use Rattle.heap_system.specs.Locals.{LocalState, works, command_of, owed, entries_of, is_rest, is_done, part_want, part_step, turn_of, local_got, PartReads}
+use Rattle.heap_system.specs.Machines.{State, no_local, local_at, heap_in, word_read, event_done, has_event, turned, answer, Run, next, after_turns, IsJob, opened, IsRunOf}
 use Rattle.heap_system.specs.Pictures.{waiting}
-use Rattle.heap_system.specs.Systems.{Whole, traces_of, logs_of, units_of, AllDone, IsReached, IsFinished}
-use Rattle.heap_system.specs.Units.{units_made}
-use Rattle.rate_plan.specs.Rates.{IsRate, IsAdmitted}
-use Rattle.rate_plan.proofs.Plans.{found}
-use Rattle.heap_system.proofs.Paying.{each_at}
-use Rattle.heap_system.proofs.Kept.{Kept, IsSettled}
-use Rattle.heap_system.proofs.Turning.{cell, sums, reads}
-use Rattle.heap_system.proofs.Always.{length_starts, run_kept}
+use Rattle.heap_system.specs.Systems.{Whole, traces_of, logs_of, AllDone, IsReached, IsFinished}
+use Rattle.heap_system.specs.Units.{units_made, IsRight}
+use Rattle.heap_system.proofs.Always.{run_kept}
+use Rattle.heap_system.proofs.Kept.{Kept}
+use Rattle.heap_system.proofs.LawsOf.{laws_of}
 use Rattle.heap_system.proofs.Making.{run_makes}
+use Rattle.heap_system.proofs.Seeing.{IsSettled}
+use Rattle.heap_system.proofs.Starting.{one_rate}
+use Rattle.heap_system.proofs.Turning.{cell, sums, reads}
 
 -- what is kept of a reached state
-pub reached_kept : (c : Config) (s : State) (k : IsReached c s) → Kept c (traces_of s) (record { state = s; order = k.run.order })
-reached_kept c s k = subst (λ x. Kept c (traces_of s) (record { state = x; order = k.run.order })) (sym k.state) (run_kept c (traces_of s) k.turns k.run k.job k.by_turns)
+pub reached_kept : (c : Config) (s : State) (k : IsReached c s) → Kept c (traces_of s) (record { state = s; order = k.run.order; names = k.run.names })
+reached_kept c s k = subst (λ x. Kept c (traces_of s) (record { state = x; order = k.run.order; names = k.run.names })) (sym k.state) (run_kept c (traces_of s) (laws_of c) k.job k.turns k.run k.by_turns)
 
 -- a place of the configuration's heap has a word
 pub place_low : (c : Config) (s : State) → IsReached c s → (w : Whole) → record { config = c; state = s } ≡ w → (place : ℕ) → place < words_count (extent w.config) → place < length s.words
 place_low c s k w is place low = let all : place < words_count (extent c) = subst (λ (v : Whole). place < words_count (extent v.config)) (sym is) low in omega (arith, all, (reached_kept c s k).long)
-
--- there is one rate
-pub one_rate : (c : Config) (p q : ℕ) → IsRate c p → IsRate c q → p ≡ q
-one_rate c p q a b = let low = a.least q b.some b.enough in let high = b.least p a.some a.enough in omega arith
 
 -- what the code of a turn reads of its thread
 pub record TurnFacts (c : Config) (s : State) (t : ℕ) (l : LocalState) : Type 0 where
@@ -55,9 +54,9 @@ turn_facts c s t l k tl is =
     record {
       same = same;
       config = config;
-      cell = rw config (rw same (cell c (traces_of s) k.job.bounds.config k.job.plan (record { state = s; order = k.run.order }) kept t tl));
-      sums = rw config (rw same (sums c (traces_of s) k.job.bounds.config k.job.plan (record { state = s; order = k.run.order }) kept t tl));
-      reads = rw config (rw same (reads c (traces_of s) k.job.bounds.config k.job.plan (record { state = s; order = k.run.order }) kept t tl));
+      cell = rw config (rw same (cell c (traces_of s) (laws_of c) k.job.bounds.config k.job.plan (record { state = s; order = k.run.order; names = k.run.names }) kept t tl));
+      sums = rw config (rw same (sums c (traces_of s) (laws_of c) k.job.bounds.config k.job.plan (record { state = s; order = k.run.order; names = k.run.names }) kept t tl));
+      reads = rw config (rw same (reads c (traces_of s) (laws_of c) k.job.bounds.config k.job.plan (record { state = s; order = k.run.order; names = k.run.names }) kept t tl));
     }
 
 -- the traces stay
@@ -86,7 +85,7 @@ turned_reached c s t k = record {
   by_turns = subst (λ x. IsRunOf c x (k.turns ++ t ∷ []) (next c t k.run)) (sym (turned_traces c t s)) (record {
     first = k.by_turns.first;
     opening = k.by_turns.opening;
-    turns = ap (next c t) k.by_turns.turns ∙ sym (after_last c (opened k.by_turns.first) k.turns t);
+    turns = ap (next c t) k.by_turns.turns ∙ sym (after_last c (opened c k.by_turns.first) k.turns t);
   });
   state = ap (turned c t) k.state;
 }
@@ -146,117 +145,67 @@ log_at [] t d = refl
 log_at (l ∷ ls) zero d = refl
 log_at (l ∷ ls) (suc t) d = log_at ls t d
 
--- a reached state in which all threads are done is finished
-pub all_done : (c : Config) (s : State) (k : IsReached c s) → AllDone c s → IsFinished c (traces_of s) (logs_of s)
-all_done c s k done = record {
-  turns = k.turns;
-  run = k.run;
-  job = k.job;
-  by_turns = k.by_turns;
-  done = subst (λ x. AllDone c x) k.state done;
-  logged = ap logs_of k.state;
-  parts_logged = logs_are s.locals 0 k.run.order (no_local c) (λ i low. (let e : 0 + i ≡ i = omega arith in ap (λ u. part u k.run.order) e ∙ logged i (omega (arith, kept.threads)))) ∙ ap (λ n. parts_from 0 n k.run.order) kept.threads;
-  legal = kept.legal;
-  traces_whole = whole;
-  one_start = kept.counts.0;
-  made = made;
-  works = kept.counts.1;
-}
+-- what each thread's part of an order owes, the order owes
+right_parts : (w : Width) (rate : ℕ) (order : List HistoryItem) → ((t : ℕ) → IsRight w rate (part t order)) → RightWork w rate order
+right_parts w rate [] each = tt
+right_parts w rate (Started ∷ order) each = (tt, right_parts w rate order each)
+right_parts w rate (Did e ∷ order) each = (first, right_parts w rate order (λ t. rest t (eqb e.thread t) refl))
   where
-    kept : Kept c (traces_of s) (record { state = s; order = k.run.order })
-    kept = reached_kept c s k
+    first : e.work ≡ units_owed w rate e.command
+    first = (subst (λ b. IsRight w rate (cond b (e ∷ part e.thread order) (part e.thread order))) (eq-eqb e.thread e.thread refl) (each e.thread)).0
 
-    logged : (t : ℕ) → t < c.threads → part t k.run.order ≡ (local_at c s t).log
-    logged t tl =
-        let d = and_parts (is_rest (local_at c s t).part) (eqb (length (local_at c s t).log) (length (local_at c s t).trace)) (done t tl) in
-        (kept.locals t tl).told ∙ ap (λ p. (local_at c s t).log ++ entries_of (local_at c s t).thread (command_of (local_at c s t)) (local_at c s t).paid (waiting (replay c k.run.order) p)) (rest_is (local_at c s t).part d.0) ∙ append-nil (local_at c s t).log
+    rest : (t : ℕ) (b : Bool) → eqb e.thread t ≡ b → IsRight w rate (part t order)
+    rest t true is = (subst (λ b. IsRight w rate (cond b (e ∷ part t order) (part t order))) is (each t)).1
+    rest t false is = subst (λ b. IsRight w rate (cond b (e ∷ part t order) (part t order))) is (each t)
 
-    made : (t : ℕ) → t < c.threads → works (get_or (logs_of s) t []) ≡ units_made c t (opened k.by_turns.first) k.turns
-    made t tl =
-        let d = and_parts (is_rest (local_at c s t).part) (eqb (length (local_at c s t).log) (length (local_at c s t).trace)) (done t tl) in
-        let settled : IsSettled (owed (local_at c s t)) (local_at c s t).paid (local_at c s t).waived Rest = subst (λ p. IsSettled (owed (local_at c s t)) (local_at c s t).paid (local_at c s t).waived p) (rest_is (local_at c s t).part d.0) (kept.locals t tl).settled in
-        let paid : (local_at c k.run.state t).paid ≡ 0 = ap (λ x. (local_at c x t).paid) (sym k.state) ∙ settled.0 in
-        let log : works (get_or (logs_of s) t []) ≡ works (part t k.run.order) = ap works (log_at s.locals t (no_local c) ∙ sym (logged t tl)) in
-        log ∙ omega (arith, paid, run_makes c (traces_of s) k.turns k.run k.job k.by_turns t tl)
+-- each entry of the order has right work
+pub right_work : (c : Config) (traces : List (List Command)) (r : Run) → Kept c traces r → (rate : ℕ) → IsRate c rate → RightWork c.width rate r.order
+right_work c traces r kept rate is = right_parts c.width rate r.order (λ t. elim (cases_lt t c.threads) [
+  | inl tl ↦
+      let mine : IsRate c (local_at c r.state t).rate = subst (λ x. IsRate x (local_at c r.state t).rate) (kept.locals t tl).config (kept.locals t tl).fits.rate in
+      subst (λ n. IsRight c.width n (part t r.order)) (one_rate c (local_at c r.state t).rate rate mine is) (kept.locals t tl).right
+  | inr out ↦ subst (λ es. IsRight c.width rate es) (sym (kept.foreign t (omega arith))) tt
+])
 
-    whole : (t : ℕ) → map (λ (e : Entry). e.command) (part t k.run.order) ≡ get_or (traces_of s) t []
-    whole t = elim (cases_lt t c.threads) [
-      | inl tl ↦
-          let d = and_parts (is_rest (local_at c s t).part) (eqb (length (local_at c s t).log) (length (local_at c s t).trace)) (done t tl) in
-          ap (map (λ (e : Entry). e.command)) (logged t tl) ∙ (kept.locals t tl).said ∙ ap (λ n. take n (local_at c s t).trace) (eqb-true _ _ d.1) ∙ take-length (local_at c s t).trace ∙ (kept.locals t tl).trace
-      | inr out ↦ ap (map (λ (e : Entry). e.command)) (kept.foreign t out) ∙ sym (get_or_past (traces_of s) t [] (omega (arith, k.job.bounds.threads)))
-    ]
+-- a reached state in which all threads are done is finished
+module _ (c : Config) (s : State) (k : IsReached c s) (done : AllDone c s) where
+  kept : Kept c (traces_of s) (record { state = s; order = k.run.order; names = k.run.names })
+  kept = reached_kept c s k
 
-starts_more : (c : Config) (rate t : ℕ) (traces : List (List Command)) (trace : List Command) → starts_from c rate t (traces ++ trace ∷ []) ≡ starts_from c rate t traces ++ at_start c rate (t + length traces) trace ∷ []
-starts_more c rate t [] trace = let e : t ≡ t + 0 = omega arith in ap (λ u. at_start c rate u trace ∷ []) e
-starts_more c rate t (x ∷ traces) trace =
-    let e : t + 1 + length traces ≡ t + suc (length traces) = omega arith in
-    ap (λ ls. at_start c rate t x ∷ ls) (starts_more c rate (t + 1) traces trace ∙ ap (λ u. starts_from c rate (t + 1) traces ++ at_start c rate u trace ∷ []) e)
+  over : (t : ℕ) → t < c.threads → (is_rest (local_at c s t).part ≡ true) × (eqb (length (local_at c s t).log) (length (local_at c s t).trace) ≡ true)
+  over t tl = and_parts (is_rest (local_at c s t).part) (eqb (length (local_at c s t).log) (length (local_at c s t).trace)) (done t tl)
 
-starts_traces : (c : Config) (rate t : ℕ) (traces : List (List Command)) → map (λ (l : LocalState). l.trace) (starts_from c rate t traces) ≡ traces
-starts_traces c rate t [] = refl
-starts_traces c rate t (x ∷ traces) = ap (λ xs. x ∷ xs) (starts_traces c rate (t + 1) traces)
+  logged : (t : ℕ) → t < c.threads → part t k.run.order ≡ (local_at c s t).log
+  logged t tl =
+      (kept.locals t tl).told ∙ ap (λ p. (local_at c s t).log ++ entries_of (local_at c s t).thread (command_of (local_at c s t)) (local_at c s t).paid (waiting (replay c k.run.order) p)) (rest_is (local_at c s t).part (over t tl).0) ∙ append-nil (local_at c s t).log
 
--- the threads are those of these traces at rest, with the rate of the configuration
-abbrev pub AllStart : Config → List LocalState → List (List Command) → Type 0
-AllStart c ls traces = (rate : ℕ) → IsRate c rate → ls ≡ starts_from c rate 0 traces
+  made : (t : ℕ) → t < c.threads → works (get_or (logs_of s) t []) ≡ units_made c t (opened c k.by_turns.first) k.turns
+  made t tl =
+      let settled : IsSettled (owed (local_at c s t)) (local_at c s t).paid Rest = subst (λ p. IsSettled (owed (local_at c s t)) (local_at c s t).paid p) (rest_is (local_at c s t).part (over t tl).0) (kept.locals t tl).settled in
+      let paid : (local_at c k.run.state t).paid ≡ 0 = ap (λ x. (local_at c x t).paid) (sym k.state) ∙ settled in
+      let log : works (get_or (logs_of s) t []) ≡ works (part t k.run.order) = ap works (log_at s.locals t (no_local c) ∙ sym (logged t tl)) in
+      log ∙ omega (arith, paid, run_makes c (traces_of s) k.job k.turns k.run k.by_turns t tl)
 
--- one thread more
-pub thread_more : {V : Type 0} (f : V → List Command) (c : Config) (rate : ℕ) (ls : List LocalState) (xs : List V) (x : V) (l : LocalState) → ls ≡ starts_from c rate 0 (map f xs) → l ≡ at_start c rate (length ls) (f x) → ls ++ l ∷ [] ≡ starts_from c rate 0 (map f (xs ++ x ∷ []))
-thread_more f c rate ls xs x l is new =
-    let long : length ls ≡ 0 + length (map f xs) = ap length is ∙ length_starts c rate 0 (map f xs) ∙ omega arith in
-    ap (λ y. ls ++ y ∷ []) (new ∙ ap (λ n. at_start c rate n (f x)) long) ∙ ap (λ ys. ys ++ at_start c rate (0 + length (map f xs)) (f x) ∷ []) is ∙ sym (starts_more c rate 0 (map f xs) (f x)) ∙ ap (starts_from c rate 0) (sym (map-append f xs (x ∷ [])))
+  whole : (t : ℕ) → map (λ (e : Entry). e.command) (part t k.run.order) ≡ get_or (traces_of s) t []
+  whole t = elim (cases_lt t c.threads) [
+    | inl tl ↦
+        ap (map (λ (e : Entry). e.command)) (logged t tl) ∙ (kept.locals t tl).said ∙ ap (λ n. take n (local_at c s t).trace) (eqb-true _ _ (over t tl).1) ∙ take-length (local_at c s t).trace ∙ (kept.locals t tl).trace
+    | inr out ↦ ap (map (λ (e : Entry). e.command)) (kept.foreign t (omega arith)) ∙ sym (get_or_past (traces_of s) t [] (omega (arith, k.job.bounds.threads, out)))
+  ]
 
-pub threads_long : {V : Type 0} (f : V → List Command) (c : Config) (ls : List LocalState) (xs : List V) → AllStart c ls (map f xs) → IsAdmitted c → length ls ≡ length xs
-threads_long f c ls xs all plan = let rate = found c plan in ap length (all rate.0 rate.1) ∙ length_starts c rate.0 0 (map f xs) ∙ length-map xs f
-
--- the trace in the middle
-pub at_middle : {V : Type 0} (f : V → List Command) (xs ys : List V) (x : V) → get_or (map f (xs ++ x ∷ ys)) (length xs) [] ≡ f x
-at_middle f [] ys x = refl
-at_middle f (z ∷ xs) ys x = at_middle f xs ys x
-
-pub opened_traces : (c : Config) (traces : List (List Command)) (s : State) → IsOpening c traces s → traces_of s ≡ traces
-opened_traces c traces s start = ap (map (λ (l : LocalState). l.trace)) start.locals ∙ starts_traces c start.rate 0 traces
-
--- the opening is reached by no turn
-pub opened_reached : (c : Config) (traces : List (List Command)) (s : State) → IsJob c traces → IsOpening c traces s → IsReached c s
-opened_reached c traces s job start =
-    let same : traces_of s ≡ traces = opened_traces c traces s start in
-    record {
-      job = subst (λ x. IsJob c x) (sym same) job;
-      turns = [];
-      run = opened s;
-      by_turns = subst (λ x. IsRunOf c x [] (opened s)) (sym same) (record { first = s; opening = start; turns = refl });
-      state = refl;
-    }
-
--- what is so of the trace x, where those of ys have their threads and zs are left
-module _ {V : Type 0} (f : V → List Command) (c : Config) (all ys rest zs : List V) (x : V) (ls : List LocalState) (n : ℕ) (job : IsJob c (map f all)) (split : ys ++ rest ≡ all) (steps : rest ≡ x ∷ zs) (so_far : AllStart c ls (map f ys)) (long : n ≡ length ls) where
-  whole_is : ys ++ (x ∷ zs) ≡ all
-  whole_is = sym (ap (λ r. ys ++ r) steps) ∙ split
-
-  number : n ≡ length ys
-  number = long ∙ threads_long f c ls ys so_far job.plan
-
-  pub number_low : n < c.threads
-  number_low =
-      let e : length ys + suc (length zs) ≡ length all = sym (length-append ys (x ∷ zs)) ∙ ap length whole_is in
-      let m : length (map f all) ≡ length all = length-map all f in
-      omega (arith, number, job.bounds.threads)
-
-  pub trace_fits : IsTraceInBounds c (f x)
-  trace_fits = subst (λ k. IsTraceInBounds c k) (ap (λ i. get_or (map f all) i []) number ∙ sym (ap (λ k. get_or (map f k) (length ys) []) whole_is) ∙ at_middle f ys zs x) (each_at c (map f all) job n number_low)
-
-  pub splits_on : (ys ++ x ∷ []) ++ zs ≡ all
-  splits_on = append_assoc ys (x ∷ []) zs ∙ whole_is
-
--- one log more
-units_suc : (ls : List LocalState) (i : ℕ) (d : LocalState) → i < length ls → units_of (map (λ (l : LocalState). l.log) (take (suc i) ls)) ≡ units_of (map (λ (l : LocalState). l.log) (take i ls)) + works (get_or ls i d).log
-units_suc [] i d low = absurd (omega arith)
-units_suc (l ∷ ls) zero d low = omega arith
-units_suc (l ∷ ls) (suc i) d low = omega (arith, units_suc ls i d (omega arith))
-
-pub units_at : (ls : List LocalState) (i : ℕ) (l : LocalState) → i < length ls → l ≡ get_or ls i l → units_of (map (λ (x : LocalState). x.log) (take (i + 1) ls)) ≡ units_of (map (λ (x : LocalState). x.log) (take i ls)) + works l.log
-units_at ls i l low is =
-    let e : i + 1 ≡ suc i = omega arith in
-    ap (λ n. units_of (map (λ (x : LocalState). x.log) (take n ls))) e ∙ units_suc ls i l low ∙ ap (λ (x : LocalState). units_of (map (λ (y : LocalState). y.log) (take i ls)) + works x.log) (sym is)
+  pub all_done : IsFinished c (traces_of s) (logs_of s) (cycle_of (heap_in c s Phase))
+  all_done = record {
+    turns = k.turns;
+    run = k.run;
+    job = k.job;
+    by_turns = k.by_turns;
+    done = subst (λ x. AllDone c x) k.state done;
+    logged = ap logs_of k.state;
+    parts_logged = logs_are s.locals 0 k.run.order (no_local c) (λ i low. (let e : 0 + i ≡ i = omega arith in ap (λ u. part u k.run.order) e ∙ logged i (omega (arith, kept.threads, low)))) ∙ ap (λ n. parts_from 0 n k.run.order) kept.threads;
+    legal = kept.names.ordered.legal;
+    traces_whole = whole;
+    starts = sym kept.names.ordered.started;
+    right_work = right_work c (traces_of s) (record { state = s; order = k.run.order; names = k.run.names }) kept;
+    made = made;
+    works = kept.counted;
+  }

@@ -1,7 +1,12 @@
+pub mod InPass
 pub mod Rest
 pub mod Enter
 pub mod Serve
 pub mod Mark
-pub mod Count
+pub mod Sweep
+pub mod Build
 pub mod Again
+pub mod Idle
 pub mod Leave
+pub mod Closing
+pub mod TurnOver

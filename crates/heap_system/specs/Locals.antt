@@ -1,11 +1,11 @@
 -- One thread's state, and its events as a table of rows: what each row wants, and what it becomes
 -- on the word that it read.
-use Rattle.std.specs.Prelude.{ℕ, ◌+◌, ◌*◌, ◌==◌, ◌&&◌, ◌||◌, ◌++◌, ◌<◌, ◌≤◌, ◌≡◌, nat_lt, if◌then◌else◌, Bool, true, false, Option, Some, None, List, [], ◌∷◌, length, slice_index_or, All, not}
+use Rattle.std.specs.Prelude.{ℕ, ◌+◌, ◌-◌, ◌*◌, ◌==◌, ◌&&◌, ◌++◌, ◌<◌, ◌≤◌, ◌≡◌, nat_lt, if◌then◌else◌, Bool, true, false, Option, Some, None, List, [], ◌∷◌, length, slice_index_or, not, is_some}
 use Rattle.block_store.specs.declared.Config.{Config}
 use Rattle.block_store.specs.declared.PhaseWord.{PhaseWord}
 use Rattle.block_store.specs.Configs.{IsInBounds}
 use Rattle.block_store.specs.Phases.{bit, is_closed, cycle_of}
-use Rattle.block_store.specs.Places.{Phase, FreeCount, extent}
+use Rattle.block_store.specs.Places.{Phase, extent}
 use Rattle.rate_plan.specs.Rates.{IsRate, IsAdmitted}
 use Rattle.never_heap.specs.declared.Command.{Command}
 use Rattle.never_heap.specs.declared.Command.TheVariants as commands
@@ -15,33 +15,49 @@ use Rattle.never_heap.specs.declared.Reply.TheVariants as replies
 use Rattle.never_heap.specs.Jobs.{IsTraceInBounds}
 use Rattle.never_heap.specs.RightWork.{units_owed}
 use Rattle.never_heap.specs.Steps.{makes_object}
-use Rattle.heap_machine.specs.Operations.{Operation, Load}
+use Rattle.heap_machine.specs.Operations.{Operation, place_of}
 use Rattle.heap_machine.specs.Readings.{CanHold}
-use Rattle.heap_machine.specs.Gates.{gate_want, gate_got, gate_step, gate_entered, is_going_in, is_of_pass, is_empty, GateFits}
+use Rattle.heap_machine.specs.Gates.{gate_want, gate_got, gate_step, gate_entered, is_going_in, is_of_pass, is_empty, GateFits, GateAt}
 use Rattle.heap_machine.specs.Gating.{Stand, Outside, Inside}
+use Rattle.heap_machine.specs.Turning.{turns_over, turning_gating, turning_holding}
 use Rattle.heap_machine.specs.Holdings.{Holding, holds_nothing}
+use Rattle.heap_machine.specs.Passes.{IsPass}
 use Rattle.heap_machine.specs.declared.pass.Pass.{Pass}
 use Rattle.heap_machine.specs.declared.gate.GateRow.{GateRow}
 use Rattle.heap_machine.specs.declared.gate.GateRow.TheVariants as gates
 use Rattle.heap_machine.specs.declared.Step.{Step}
 use Rattle.heap_machine.specs.declared.Step.TheVariants as steps
-use Rattle.grey_steps.specs.Rows.{GreyState, grey_want, grey_got, grey_step, grey_over, grey_unit, grey_nothing, holding_at, scanning}
+use Rattle.grey_steps.specs.Rows.{grey_want, grey_got, grey_step, grey_over, grey_unit, grey_nothing, holding_at, scanning}
 use Rattle.grey_steps.specs.Fits.{GreyFits, GreyReads}
 use Rattle.grey_steps.specs.Ends.{is_blackening}
-use Rattle.barrier_steps.specs.Rows.{FieldState, at_first_row, field_want, field_got, field_step, field_reply}
+use Rattle.barrier_steps.specs.Rows.{at_first_row, field_want, field_got, field_step, field_reply, field_holding}
 use Rattle.barrier_steps.specs.Deciding.{is_deciding}
 use Rattle.barrier_steps.specs.Fits.{FieldFits, FieldReads}
 use Rattle.barrier_steps.specs.Projection.{loading_of}
+use Rattle.sweep_steps.specs.Rows.{sweep_want, sweep_got, sweep_step, sweep_over, sweep_passed, sweep_nothing, sweep_holding, sweeping}
+use Rattle.sweep_steps.specs.Fits.{SweepFits, SweepReads}
+use Rattle.sweep_steps.specs.Ends.{row_passes}
+use Rattle.sweep_steps.specs.declared.rows.SweepRow.{SweepRow}
+use Rattle.sweep_steps.specs.declared.rows.SweepRow.TheVariants as sweeps
+use Rattle.build_steps.specs.Rows.{BuildState, build_want, build_got, build_step, build_reply, build_holding, built_at, building, full_cycle}
+use Rattle.build_steps.specs.Fits.{BuildFits, BuildReads}
+use Rattle.build_steps.specs.Ends.{is_counting, is_publishing}
+use Rattle.build_steps.specs.Naming.{build_of}
+use Rattle.build_steps.specs.declared.rows.BuildRow.{BuildRow}
+use Rattle.build_steps.specs.declared.rows.BuildRow.TheVariants as builds
 use Rattle.shown_graph.specs.Events.{Loading, unloaded}
+use Rattle.kept_names.specs.Building.{Build as Builder}
+use Rattle.kept_names.specs.Pictures.{Task}
+use Rattle.heap_system.specs.Naming.{Naming, Same, Lost, Begun, Shaded, Made}
 use Rattle.heap_system.specs.declared.local.Part.{Part}
-use Rattle.heap_system.specs.declared.local.Part.TheVariants.{Rest, Enter, Serve, Mark, Count, Again, Leave}
+use Rattle.heap_system.specs.declared.local.Part.TheVariants.{Rest, Enter, Serve, Mark, Sweep, Build, Again, Idle, TurnOver, Leave}
 use Rattle.heap_system.specs.declared.Turn.{Turn}
 use Rattle.heap_system.specs.declared.Turn.TheVariants as turns
 
 -- A thread of a heap: its commands, the entries of those that are done, and the row at which it
 -- stands. The rate is the number of units that an allocation owes for each of its blocks; paid are
--- those made for the command in hand; the rest is waived where nothing was found to mark. The pass
--- is the one of its last entry.
+-- those made for the command in hand. It has made so many objects, and has room to hold so many
+-- blocks. The pass is the one of its last entry.
 pub record LocalState : Type 0 where
   pub config : Config
   pub rate : ℕ
@@ -49,7 +65,8 @@ pub record LocalState : Type 0 where
   pub trace : List Command
   pub log : List Entry
   pub paid : ℕ
-  pub waived : Bool
+  pub made : ℕ
+  pub space : ℕ
   pub pass : Pass
   pub part : Part
 
@@ -61,17 +78,31 @@ command_of l = slice_index_or l.trace (length l.log) (commands.Nil 0)
 abbrev pub owed : LocalState → ℕ
 owed l = units_owed l.config.width l.rate (command_of l)
 
--- whether it still owes some
-abbrev pub owes : LocalState → Bool
-owes l = not l.waived && nat_lt l.paid (owed l)
+-- what a thread goes in for: its command, the units that it still owes, the serial of the object
+-- that it would make, and for how many blocks it has room
+pub record Errand : Type 0 where
+  pub command : Command
+  pub due : ℕ
+  pub serial : ℕ
+  pub space : ℕ
+
+abbrev pub errand_of : LocalState → Errand
+errand_of l = record {
+  command = command_of l;
+  due = owed l - l.paid;
+  serial = l.made + 1;
+  space = l.space;
+}
 
 -- what a part of a thread's work says before its next event: the operation that it wants, where the
--- thread stands at the gate, what it holds and has loaded, and the units that it may still make
+-- thread stands at the gate, what it holds, has loaded and builds, and the units that it may still
+-- make
 pub record View : Type 0 where
   pub want : Operation
   pub stand : Stand
   pub holding : Holding
   pub loading : Loading
+  pub build : Option Builder
   pub to_come : ℕ
 
 -- what most say: inside, and no more than an operation
@@ -81,28 +112,79 @@ quiet o = record {
   stand = Inside;
   holding = holds_nothing;
   loading = unloaded;
+  build = None;
   to_come = 0;
 }
 
 -- what each says; a thread at rest begins with the look at the gate
 abbrev pub view : Config → Part → View
-view c Rest = record (quiet (gate_want gates.Look)) { stand = Outside }
-view c (Enter g) = record (quiet (gate_want g)) { stand = Outside }
-view c (Serve f) = record (quiet (field_want (extent c) f)) { loading = loading_of (extent c) f }
+view c Rest = record (quiet (gate_want c.width gates.Look)) { stand = Outside }
+view c (Enter g) = record (quiet (gate_want c.width g)) { stand = Outside }
+view c (Serve f) = record (quiet (field_want (extent c) f)) {
+  holding = field_holding (extent c) f;
+  loading = loading_of (extent c) f;
+}
 view c (Mark m) = record (quiet (grey_want m)) {
   holding = holding_at (extent c) m;
   to_come = bit (not (grey_unit m.row));
 }
-view c Count = quiet (Load FreeCount)
-view c Again = quiet (gate_want gates.Leave)
-view c Leave = quiet (gate_want gates.Leave)
+view c (Sweep s) = record (quiet (sweep_want s)) {
+  holding = sweep_holding s.row;
+  to_come = s.owed - sweep_passed s.row;
+}
+view c (Build b) = record (quiet (build_want (extent c) b)) {
+  holding = build_holding b;
+  build = build_of c.width b;
+}
+view c Again = quiet (gate_want c.width gates.Leave)
+view c Idle = quiet (gate_want c.width gates.Leave)
+view c (TurnOver g) = record (quiet (gate_want c.width g)) {
+  stand = (turning_gating g).stand;
+  holding = turning_holding g;
+}
+view c Leave = quiet (gate_want c.width gates.Leave)
 
 abbrev pub part_want : Config → Part → Operation
 part_want c p = (view c p).want
 
+-- what a thread is at, as the rules on names see it
+abbrev pub task : Config → Part → Task
+task c p = record {
+  loading = (view c p).loading;
+  build = (view c p).build;
+  scan = (view c p).holding.found;
+}
+
 abbrev pub is_rest : Part → Bool
 is_rest Rest = true
 is_rest _ = false
+
+abbrev pub is_build : Part → Bool
+is_build (Build b) = true
+is_build _ = false
+
+-- what a part is about: it is at the gate outside, makes units, does the command, or goes out
+abbrev pub is_at_gate : Part → Bool
+is_at_gate Rest = true
+is_at_gate (Enter g) = true
+is_at_gate (TurnOver g) = true
+is_at_gate _ = false
+
+abbrev pub is_paying : Part → Bool
+is_paying (Mark m) = true
+is_paying (Sweep s) = true
+is_paying _ = false
+
+abbrev pub is_in_command : Part → Bool
+is_in_command (Serve f) = true
+is_in_command (Build b) = true
+is_in_command _ = false
+
+abbrev pub is_on_way_out : Part → Bool
+is_on_way_out Again = true
+is_on_way_out Idle = true
+is_on_way_out Leave = true
+is_on_way_out _ = false
 
 -- at rest with a log as long as the trace
 abbrev pub is_done : LocalState → Bool
@@ -112,44 +194,63 @@ is_done l = is_rest l.part && (length l.log == length l.trace)
 abbrev pub pass_by : ℕ → ℕ → PhaseWord → Pass
 pass_by t n p = record { thread = t; threads = n; cycle = p.cycle; sweep = p.sweep }
 
--- what a thread does in a pass that begins: a Mark pass where units are owed; where none are, the
--- look at how many blocks are free for an allocation, and any other command at once
-abbrev pub first_part : Pass → Command → Bool → Part
-first_part p k more =
-    if more
-    then Mark (scanning p)
-    else (if makes_object k then Count else Serve (at_first_row p k))
+-- what a thread does in a pass that begins: where units are owed it sweeps or marks, by the phase;
+-- where none are it builds, for an allocation, and does any other command
+abbrev pub first_part : Config → Pass → Errand → Part
+first_part c p e =
+    if nat_lt 0 e.due
+    then (if p.sweep then Sweep (sweeping p.thread p.cycle c.blocks e.due) else Mark (scanning p))
+    else (if makes_object e.command
+    then Build (building c.width p.thread p.threads p.cycle e.serial e.command e.space)
+    else Serve (at_first_row p e.command))
 
-abbrev pub if_entered : Option PhaseWord → ℕ → ℕ → Command → Bool → GateRow → Part
-if_entered None t n k more g = Enter g
-if_entered (Some p) t n k more g = first_part (pass_by t n p) k more
+abbrev pub if_entered : Option PhaseWord → Config → ℕ → Errand → GateRow → Part
+if_entered None c t e g = Enter g
+if_entered (Some p) c t e g = first_part c (pass_by t c.threads p) e
 
 abbrev pub pass_got : Option PhaseWord → ℕ → ℕ → Pass → Pass
 pass_got None t n q = q
 pass_got (Some p) t n q = pass_by t n p
 
 -- a command that has its reply is over, and the thread goes out
-abbrev pub if_replied : Option Reply → FieldState → Part
-if_replied None f = Serve f
-if_replied (Some r) f = Leave
+abbrev pub if_replied : Option Reply → Part → Part
+if_replied None p = p
+if_replied (Some r) p = Leave
 
--- a Mark pass that is over makes one unit at most: the thread goes out, and in again
-abbrev pub if_marked : GreyState → Part
-if_marked g = if grey_over g.row then Again else Mark g
+-- a pass that is over: the thread goes out, to come in again, or, where the pass found nothing to
+-- do, to turn the phase over
+abbrev pub if_over : Bool → Bool → Part → Part
+if_over over nothing p = if over then (if nothing then Idle else Again) else p
 
--- the part after it, in thread t and for command k, of which units are still owed or not, where it
--- read w
-abbrev pub part_got : Config → ℕ → Command → Bool → Part → ℕ → Part
-part_got c t k more Rest w = if_entered (gate_entered (gate_got gates.Look w)) t c.threads k more
-    (gate_got gates.Look w)
-part_got c t k more (Enter g) w = if_entered (gate_entered (gate_got g w)) t c.threads k more
-    (gate_got g w)
-part_got c t k more (Serve f) w = if_replied (field_reply (field_got (extent c) f w).row)
-    (field_got (extent c) f w)
-part_got c t k more (Mark g) w = if_marked (grey_got (extent c) g w)
-part_got c t k more Count w = Leave
-part_got c t k more Again w = Enter gates.Look
-part_got c t k more Leave w = Rest
+-- whether the step is the last of its part
+abbrev pub is_last : Step → Bool
+is_last steps.Went = false
+is_last steps.Over = true
+is_last steps.Waited = false
+is_last steps.WaitedOver = true
+
+-- a part that turns the phase over, and then the thread comes in again
+abbrev pub if_turned : Bool → GateRow → Part
+if_turned over g = if over then Enter gates.Look else TurnOver g
+
+-- the part after it, of thread t in this pass and for this errand, where it read w
+abbrev pub part_got : Config → ℕ → Errand → Pass → Part → ℕ → Part
+part_got c t e q Rest w = if_entered (gate_entered (gate_got c.width gates.Look w)) c t e
+    (gate_got c.width gates.Look w)
+part_got c t e q (Enter g) w =
+    let n = gate_got c.width g w in if_entered (gate_entered n) c t e n
+part_got c t e q (Serve f) w = if_replied (field_reply (field_got (extent c) f w).row)
+    (Serve (field_got (extent c) f w))
+part_got c t e q (Mark m) w =
+    let n = grey_got (extent c) m w in if_over (grey_over n.row) (grey_nothing n.row) (Mark n)
+part_got c t e q (Sweep s) w =
+    let n = sweep_got s w in if_over (sweep_over n.row) (sweep_nothing n.row) (Sweep n)
+part_got c t e q (Build b) w = if_replied (build_reply (build_got (extent c) b w))
+    (Build (build_got (extent c) b w))
+part_got c t e q Again w = Enter gates.Look
+part_got c t e q Idle w = TurnOver (gates.CloseLook q)
+part_got c t e q (TurnOver g) w = if_turned (is_last (gate_step g w)) (gate_got c.width g w)
+part_got c t e q Leave w = Rest
 
 -- how an event decides the command: not; as the heap that never frees answers it there; or it is
 -- refused with this reply
@@ -161,16 +262,23 @@ pub data Verdict : Type 0 where
 abbrev pub if_decides : Bool → Verdict
 if_decides b = if b then AsStep else Open
 
+-- an allocation is refused where fewer blocks are free than it takes, and made where it is
+-- published
+abbrev pub build_verdict : BuildState → ℕ → Verdict
+build_verdict b w =
+    if is_counting b.row && nat_lt w b.blocks then Refused (replies.Full (full_cycle b.cycle))
+    else if_decides (is_publishing b.row)
+
 -- what an event is: its step; the phase word by which the thread went in; the reply that it brings,
 -- at the last event before the thread goes out; its verdict on the command; whether it makes a
--- unit, or leads to where nothing was found
+-- unit; and what it changes of the names
 pub record Effect : Type 0 where
   pub step : Step
   pub entered : Option PhaseWord
   pub reply : Option Reply
   pub verdict : Verdict
   pub unit : Bool
-  pub nothing : Bool
+  pub naming : Naming
 
 -- what most are: no more than a step
 abbrev pub plain : Step → Effect
@@ -180,60 +288,59 @@ plain s = record {
   reply = None;
   verdict = Open;
   unit = false;
-  nothing = false;
+  naming = Same;
 }
 
--- what the event of each part is that reads w. An allocation is answered full, whatever the free
--- count was; a unit is the event that makes the block under scan black
+-- the flip and a start change the names, and so does a root that is shaded
+abbrev pub turn_naming : GateRow → Naming
+turn_naming (gates.Flip p) = Lost
+turn_naming (gates.ShadeRoot p u hand) = Shaded u
+turn_naming (gates.Start p) = Begun
+turn_naming _ = Same
+
+-- what the event of each part is that reads w. A unit is the event that makes the block under scan
+-- black, or passes a block of the sweep
 abbrev pub effect : Config → Part → ℕ → Effect
 effect c Rest w = record (plain (gate_step gates.Look w)) {
-  entered =
-      gate_entered (gate_got gates.Look w);
+  entered = gate_entered (gate_got c.width gates.Look w);
 }
-effect c (Enter g) w = record (plain (gate_step g w)) { entered = gate_entered (gate_got g w) }
+effect c (Enter g) w = record (plain (gate_step g w)) {
+  entered = gate_entered (gate_got c.width g w);
+}
 effect c (Serve f) w = record (plain (field_step (extent c) f w)) {
-  reply =
-      field_reply (field_got (extent c) f w).row;
+  reply = field_reply (field_got (extent c) f w).row;
   verdict = if_decides (is_deciding f.command f.row w);
 }
-effect c (Mark m) w = record (plain (grey_step (extent c) m w)) {
-  unit = is_blackening m.row;
-  nothing = grey_nothing (grey_got (extent c) m w).row;
+effect c (Mark m) w = record (plain (grey_step (extent c) m w)) { unit = is_blackening m.row }
+effect c (Sweep s) w = record (plain (sweep_step s w)) {
+  unit = is_some (row_passes s.cycle s.row w);
 }
-effect c Count w = record (plain steps.Over) {
-  reply = Some (replies.Full 1);
-  verdict = Refused (replies.Full 1);
+effect c (Build b) w = record (plain (build_step b w)) {
+  reply = build_reply (build_got (extent c) b w);
+  verdict = build_verdict b w;
+  naming = if is_publishing b.row then Made (built_at b) else Same;
 }
 effect c Again w = plain (gate_step gates.Leave w)
+effect c Idle w = plain (gate_step gates.Leave w)
+effect c (TurnOver g) w = record (plain (gate_step g w)) { naming = turn_naming g }
 effect c Leave w = plain (gate_step gates.Leave w)
 
 abbrev pub part_step : Config → Part → ℕ → Step
 part_step c p w = (effect c p w).step
 
-abbrev pub part_entered : Config → Part → ℕ → Option PhaseWord
-part_entered c p w = (effect c p w).entered
-
-abbrev pub part_reply : Config → Part → ℕ → Option Reply
-part_reply c p w = (effect c p w).reply
-
-abbrev pub verdict : Config → Part → ℕ → Verdict
-verdict c p w = (effect c p w).verdict
-
 abbrev pub makes_unit : Config → Part → ℕ → Bool
 makes_unit c p w = (effect c p w).unit
 
-abbrev pub finds_nothing : Config → Part → ℕ → Bool
-finds_nothing c p w = (effect c p w).nothing
-
--- the units made for the command in hand after an event, and whether the rest is waived: where it
--- brings a reply the next command has none
+-- the units made for the command in hand after an event: where it brings a reply the next command
+-- has none
 abbrev pub paid_got : Option Reply → Bool → ℕ → ℕ
 paid_got None unit paid = if unit then paid + 1 else paid
 paid_got (Some r) unit paid = 0
 
-abbrev pub waived_got : Option Reply → Bool → Bool → Bool
-waived_got None nothing waived = nothing || waived
-waived_got (Some r) nothing waived = false
+-- and the objects made
+abbrev pub made_got : Option Reply → ℕ → ℕ
+made_got (Some (replies.New name)) made = made + 1
+made_got _ made = made
 
 -- what a turn answers
 abbrev pub turn_of : Step → Turn
@@ -242,22 +349,34 @@ turn_of steps.Over = turns.Went
 turn_of steps.Waited = turns.Waited
 turn_of steps.WaitedOver = turns.Waited
 
--- whether the step is the last of its part
-abbrev pub is_last : Step → Bool
-is_last steps.Went = false
-is_last steps.Over = true
-is_last steps.Waited = false
-is_last steps.WaitedOver = true
+-- whether a turn at the gate that reads w waits: at a look on a closed gate, where the phase word
+-- was changed since the look, and at a look whether the gate can be closed where it is closed or
+-- somebody is inside
+abbrev pub gate_waits : GateRow → ℕ → Bool
+gate_waits gates.Look w = is_closed w
+gate_waits (gates.Enter seen) w = not (w == seen)
+gate_waits (gates.CloseLook p) w = is_of_pass p w && not (is_empty w)
+gate_waits (gates.Close p seen) w = not (w == seen)
+gate_waits _ w = false
 
--- whether a turn that reads w waits: at a look on a closed gate, where the phase word was changed
--- since the look, and at a look whether the gate can be closed where it is closed or somebody is
--- inside
+-- at the cursor and at the free count a turn waits where the word was changed since it was read
+abbrev pub sweep_waits : SweepRow → ℕ → Bool
+sweep_waits (sweeps.ClaimRange x high) w = not (w == x)
+sweep_waits _ w = false
+
+-- and where the last of all free lists was empty
+abbrev pub build_waits : ℕ → BuildRow → ℕ → Bool
+build_waits n (builds.Reserve seen) w = not (w == seen)
+build_waits n (builds.TakeFree u) w = (w == 0) && not (nat_lt (u + 1) n)
+build_waits n _ w = false
+
+-- whether a turn that reads w waits
 abbrev pub waits : Part → ℕ → Bool
-waits Rest w = is_closed w
-waits (Enter gates.Look) w = is_closed w
-waits (Enter (gates.Enter seen)) w = not (w == seen)
-waits (Enter (gates.CloseLook p)) w = is_of_pass p w && not (is_empty w)
-waits (Enter (gates.Close p seen)) w = not (w == seen)
+waits Rest w = gate_waits gates.Look w
+waits (Enter g) w = gate_waits g w
+waits (TurnOver g) w = gate_waits g w
+waits (Sweep s) w = sweep_waits s.row w
+waits (Build b) w = build_waits b.threads b.row w
 waits _ w = false
 
 -- the entry of a command for which this many units were made
@@ -270,29 +389,40 @@ entries_of t k work (Some r) = entry_of t k work r ∷ []
 
 -- the thread after its event, which read w
 abbrev pub local_got : LocalState → ℕ → LocalState
-local_got l w = record {
-  config = l.config;
-  rate = l.rate;
-  thread = l.thread;
-  trace = l.trace;
-  log = l.log ++ entries_of l.thread (command_of l) l.paid (part_reply l.config l.part w);
-  paid = paid_got (part_reply l.config l.part w) (makes_unit l.config l.part w) l.paid;
-  waived = waived_got (part_reply l.config l.part w) (finds_nothing l.config l.part w) l.waived;
-  pass = pass_got (part_entered l.config l.part w) l.thread l.config.threads l.pass;
-  part = part_got l.config l.thread (command_of l) (owes l) l.part w;
-}
+local_got l w =
+    let e = effect l.config l.part w in
+    record {
+      config = l.config;
+      rate = l.rate;
+      thread = l.thread;
+      trace = l.trace;
+      log = l.log ++ entries_of l.thread (command_of l) l.paid e.reply;
+      paid = paid_got e.reply e.unit l.paid;
+      made = made_got e.reply l.made;
+      space = l.space;
+      pass = pass_got e.entered l.thread l.config.threads l.pass;
+      part = part_got l.config l.thread (errand_of l) l.pass l.part w;
+    }
+
+-- a pass of a thread of the heap
+abbrev pub IsPassAt : Config → Pass → Type 0
+IsPassAt c q = IsPass q × (q.threads ≡ c.threads)
 
 -- the numbers of a row are in range, and a thread that has begun a command has one
-abbrev pub PartFits : Config → ℕ → ℕ → Part → Type 0
-PartFits c done all Rest = Unit {0}
-PartFits c done all (Enter g) = GateFits g × (is_going_in g ≡ true) × (done < all)
-PartFits c done all (Serve f) = FieldFits c f × (done < all)
-PartFits c done all (Mark g) = GreyFits c g × (done < all)
-PartFits c done all Count = done < all
-PartFits c done all Again = done < all
-PartFits c done all Leave = Unit {0}
+abbrev pub PartFits : Config → ℕ → ℕ → Pass → Part → Type 0
+PartFits c done all q Rest = Unit {0}
+PartFits c done all q (Enter g) = GateFits g × (is_going_in g ≡ true) × (done < all)
+PartFits c done all q (Serve f) = FieldFits c f × (done < all)
+PartFits c done all q (Mark m) = GreyFits c m × (done < all) × IsPassAt c q
+PartFits c done all q (Sweep s) = SweepFits c s × (done < all) × IsPassAt c q
+PartFits c done all q (Build b) = BuildFits c b × (done < all)
+PartFits c done all q Again = done < all
+PartFits c done all q Idle = (done < all) × IsPassAt c q
+PartFits c done all q (TurnOver g) =
+    GateFits g × GateAt c g × (turns_over g ≡ true) × (done < all)
+PartFits c done all q Leave = Unit {0}
 
--- the unit that a Mark pass may still make
+-- the units that a part may still make
 abbrev pub unit_to_come : Config → Part → ℕ
 unit_to_come c p = (view c p).to_come
 
@@ -301,7 +431,18 @@ abbrev pub works : List Entry → ℕ
 works [] = 0
 works (e ∷ es) = e.work + works es
 
--- a thread of a configuration that has a rate. No command has made more units than it owes
+-- a builder has the thread's room, which it gives back
+abbrev pub IsRoomy : ℕ → Part → Type 0
+IsRoomy space (Build b) = b.capacity ≡ space
+IsRoomy space _ = Unit {0}
+
+-- and where none is at work the room is there, empty
+abbrev pub HasRoom : Part → ℕ → List ℕ → ℕ → Type 0
+HasRoom (Build b) space held capacity = Unit {0}
+HasRoom _ space held capacity = (held ≡ []) × (capacity ≡ space)
+
+-- A thread of a configuration that has a rate. No command has made more units than it owes; at
+-- most one object is made for each entry, and there is room for the blocks of the largest.
 pub record IsLocal (l : LocalState) : Type 0 where
   pub bounds : IsInBounds l.config
   pub plan : IsAdmitted l.config
@@ -309,34 +450,41 @@ pub record IsLocal (l : LocalState) : Type 0 where
   pub thread : l.thread < l.config.threads
   pub trace : IsTraceInBounds l.config l.trace
   pub log : length l.log ≤ length l.trace
-  pub part : PartFits l.config (length l.log) (length l.trace) l.part
+  pub part : PartFits l.config (length l.log) (length l.trace) l.pass l.part
   pub paid : l.paid + unit_to_come l.config l.part ≤ owed l
   pub worked : works l.log ≤ length l.log * (l.rate * l.config.object)
+  pub made : l.made ≤ length l.log
+  pub space : l.config.object ≤ l.space
+  pub roomy : IsRoomy l.space l.part
 
 -- the words that a row may read. A thread goes in by the word of a cycle that has begun
 abbrev pub PartReads : Config → Part → ℕ → Type 0
 PartReads c Rest w = CanHold (extent c) Phase w × (1 ≤ cycle_of w)
 PartReads c (Enter g) w = CanHold (extent c) Phase w × (1 ≤ cycle_of w)
 PartReads c (Serve f) w = FieldReads c f w
-PartReads c (Mark g) w = GreyReads c g w
-PartReads c Count w = CanHold (extent c) FreeCount w
+PartReads c (Mark m) w = GreyReads c m w
+PartReads c (Sweep s) w = SweepReads c s w
+PartReads c (Build b) w = BuildReads c b w
 PartReads c Again w = CanHold (extent c) Phase w
+PartReads c Idle w = CanHold (extent c) Phase w
+PartReads c (TurnOver g) w = CanHold (extent c) (place_of (gate_want c.width g)) w
 PartReads c Leave w = CanHold (extent c) Phase w
 
 -- the pass of a thread that has not yet gone in
 abbrev pub no_pass : ℕ → ℕ → Pass
 no_pass t n = record { thread = t; threads = n; cycle = 0; sweep = false }
 
--- a thread at rest before its first command, with this rate
-abbrev pub at_start : Config → ℕ → ℕ → List Command → LocalState
-at_start c rate t trace = record {
+-- a thread at rest before its first command, with this rate and room
+abbrev pub at_start : Config → ℕ → ℕ → ℕ → List Command → LocalState
+at_start c rate space t trace = record {
   config = c;
   rate = rate;
   thread = t;
   trace = trace;
   log = [];
   paid = 0;
-  waived = false;
+  made = 0;
+  space = space;
   pass = no_pass t c.threads;
   part = Rest;
 }

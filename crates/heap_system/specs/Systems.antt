@@ -4,6 +4,8 @@ use Rattle.block_store.specs.declared.Config.{Config}
 use Rattle.never_heap.specs.declared.Command.{Command}
 use Rattle.never_heap.specs.declared.Entry.{Entry}
 use Rattle.never_heap.specs.Histories.{Legal, HasTraces, parts, starts_in, work_in}
+use Rattle.never_heap.specs.RightWork.{RightWork}
+use Rattle.rate_plan.specs.Rates.{IsRate}
 use Rattle.heap_system.specs.Locals.{LocalState, is_done, works}
 use Rattle.heap_system.specs.Machines.{State, local_at, Run, opened, IsJob, IsRunOf}
 use Rattle.heap_system.specs.Units.{units_made}
@@ -13,10 +15,11 @@ pub record Whole : Type 0 where
   pub config : Config
   pub state : State
 
--- the configuration and the logs of a finished run
+-- the configuration, the logs and the number of cycles of a finished run
 pub record Finish : Type 0 where
   pub config : Config
   pub logs : List (List Entry)
+  pub cycles : ℕ
 
 -- what each thread was told to do
 abbrev pub traces_of : State → List (List Command)
@@ -42,11 +45,12 @@ abbrev pub units_of : List (List Entry) → ℕ
 units_of [] = 0
 units_of (log ∷ logs) = works log + units_of logs
 
--- The logs are the parts of the order of some list of turns after which all threads are done. The
--- order is legal, its parts are the traces, whole, it has one start, and its work is that of the
--- logs. The works of each log are the units that the turns of its thread made.
-pub record IsFinished (c : Config) (traces : List (List Command)) (logs : List (List Entry)) :
-    Type 0 where
+-- The logs are the parts of the order of some list of turns after which all threads are done, and
+-- the cycles are its starts. The order is legal, its parts are the traces, whole, and each of its
+-- entries has the work that its command owes. The works of each log are the units that the turns
+-- of its thread made, and those of all logs the work of the order.
+pub record IsFinished (c : Config) (traces : List (List Command)) (logs : List (List Entry))
+    (cycles : ℕ) : Type 0 where
   pub turns : List ℕ
   pub run : Run
   pub job : IsJob c traces
@@ -56,9 +60,10 @@ pub record IsFinished (c : Config) (traces : List (List Command)) (logs : List (
   pub parts_logged : logs ≡ parts c.threads run.order
   pub legal : Legal c run.order
   pub traces_whole : HasTraces traces run.order
-  pub one_start : starts_in run.order ≡ 1
+  pub starts : cycles ≡ starts_in run.order
+  pub right_work : (rate : ℕ) → IsRate c rate → RightWork c.width rate run.order
   pub made : (t : ℕ) → t < c.threads → works (slice_index_or logs t [])
-      ≡ units_made c t (opened by_turns.first) turns
+      ≡ units_made c t (opened c by_turns.first) turns
   pub works : work_in run.order ≡ units_of logs
 
 -- thread t is the least that is not done

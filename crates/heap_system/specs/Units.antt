@@ -1,6 +1,5 @@
--- The units that a run makes, which its rows tell; what a unit of marking does to the heap; and
--- what a command owes.
-use Rattle.std.specs.Prelude.{ℕ, ◌+◌, ◌≤◌, ◌==◌, ◌&&◌, if◌then◌else◌, Bool, false, List, [], ◌∷◌}
+-- The units that a run makes, which its rows tell, and what a unit does.
+use Rattle.std.specs.Prelude.{ℕ, ◌+◌, ◌≡◌, ◌==◌, ◌&&◌, if◌then◌else◌, Bool, false, List, [], ◌∷◌}
 use Rattle.block_store.specs.declared.Config.{Config}
 use Rattle.block_store.specs.declared.Width.{Width}
 use Rattle.block_store.specs.Colours.{is_grey, black_word}
@@ -10,9 +9,10 @@ use Rattle.block_store.specs.Places.{Place, Phase, ColourOf}
 use Rattle.never_heap.specs.declared.Entry.{Entry}
 use Rattle.never_heap.specs.RightWork.{units_owed}
 use Rattle.heap_machine.specs.Operations.{Operation, place_of, heap_after}
+use Rattle.heap_system.specs.declared.local.Part.{Part}
+use Rattle.heap_system.specs.declared.local.Part.TheVariants.{Sweep}
 use Rattle.heap_system.specs.Locals.{part_want, makes_unit}
-use Rattle.heap_system.specs.Machines.{State, local_at, word_read, has_event, Run, next}
-use Rattle.heap_system.specs.Pictures.{heap_in}
+use Rattle.heap_system.specs.Machines.{State, local_at, heap_in, word_read, has_event, Run, next}
 
 -- whether a place is the colour of a block, and of its words before and after the first is grey and
 -- the second black in cycle c
@@ -25,29 +25,42 @@ abbrev pub blackens : Heap → Operation → Bool
 blackens h o = turns_black (cycle_of (h Phase)) (place_of o) (h (place_of o))
     (heap_after h o (place_of o))
 
--- whether a turn of thread t does
+-- whether an event passes a block of the sweep
+abbrev pub passes : Config → Part → ℕ → Bool
+passes c (Sweep s) w = makes_unit c (Sweep s) w
+passes c _ w = false
+
+-- whether a turn of thread t makes a grey block black
 abbrev pub turn_blackens : Config → ℕ → State → Bool
 turn_blackens c t s = if has_event c t s then blackens (heap_in c s)
     (part_want c (local_at c s t).part) else false
 
--- whether a turn of thread t makes a unit
+-- whether it passes a block of the sweep
+abbrev pub turn_passes : Config → ℕ → State → Bool
+turn_passes c t s = if has_event c t s then passes c (local_at c s t).part
+    (word_read c s (local_at c s t)) else false
+
+-- whether it makes a unit
 abbrev pub is_unit : Config → ℕ → State → Bool
 is_unit c t s = if has_event c t s then makes_unit c (local_at c s t).part
     (word_read c s (local_at c s t)) else false
 
--- how many of the turns of thread t do, over a list of turns from a run on
+-- how many turns of thread t are so, over a list of turns from a run on
+abbrev pub turns_that : (ℕ → State → Bool) → Config → ℕ → Run → List ℕ → ℕ
+turns_that is c t r [] = 0
+turns_that is c t r (u ∷ us) = (if u == t then bit (is t r.state) else 0)
+    + turns_that is c t (next c u r) us
+
 abbrev pub units_made : Config → ℕ → Run → List ℕ → ℕ
-units_made c t r [] = 0
-units_made c t r (u ∷ us) = (if u == t then bit (is_unit c t r.state) else 0)
-    + units_made c t (next c u r) us
+units_made c = turns_that (is_unit c) c
 
--- and how many make a grey block black
 abbrev pub blacks_made : Config → ℕ → Run → List ℕ → ℕ
-blacks_made c t r [] = 0
-blacks_made c t r (u ∷ us) = (if u == t then bit (turn_blackens c t r.state) else 0)
-    + blacks_made c t (next c u r) us
+blacks_made c = turns_that (turn_blackens c) c
 
--- no entry has more work than its command owes on blocks of this width
-abbrev pub IsWithin : Width → ℕ → List Entry → Type 0
-IsWithin w rate [] = Unit {0}
-IsWithin w rate (e ∷ es) = (e.work ≤ units_owed w rate e.command) × IsWithin w rate es
+abbrev pub passes_made : Config → ℕ → Run → List ℕ → ℕ
+passes_made c = turns_that (turn_passes c) c
+
+-- each entry has the work that its command owes at this rate, on blocks of this width
+abbrev pub IsRight : Width → ℕ → List Entry → Type 0
+IsRight w rate [] = Unit {0}
+IsRight w rate (e ∷ es) = (e.work ≡ units_owed w rate e.command) × IsRight w rate es

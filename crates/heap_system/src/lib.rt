@@ -1,24 +1,36 @@
 //! The whole heap: one thread's state, and all threads with the words that they share.
 #![tactic(auto)]
 
+mod collector;
 mod laws;
 mod local;
 #[cfg(test)]
+mod lone;
+#[cfg(test)]
 mod schedules;
 mod start;
+mod supply;
 mod system;
 #[cfg(test)]
 mod tests;
 #[cfg(test)]
+mod traces;
+#[cfg(test)]
 mod ways;
 
+pub use collector::{
+    free_blocks_stand_once, grey_blocks_stand_once, marking_is_tricolour,
+    phases_turn_with_nobody_inside, starts_find_no_white, sweeping_spares_what_is_reached,
+    the_flip_finds_what_is_reached,
+};
 pub use laws::{
-    events_are_safe, finished_runs_show_their_logs, grey_blocks_stand_once, logs_are_parts,
-    opening_shows_the_start, order_is_legal, threads_inside_are_counted, turns_wait_at_the_gate,
+    events_are_safe, finished_runs_show_their_logs, logs_are_parts, opening_shows_the_start,
+    order_is_legal, threads_inside_are_counted, turns_keep_the_rules, turns_wait,
     words_show_the_order, works_are_units,
 };
 pub use local::Local;
 pub use start::opening;
+pub use supply::fulls_need_blocks;
 pub use system::{Finished, System, Unfinished, sum_of_works};
 
 /// What a turn of a thread was.
@@ -26,8 +38,8 @@ pub use system::{Finished, System, Unfinished, sum_of_works};
 pub enum Turn {
     /// An event that did not wait.
     Went,
-    /// An event that waited: the gate was closed, or another thread changed the phase word first.
-    /// The thread looks again.
+    /// An event that waited: the gate was closed or could not be closed, another thread changed the
+    /// word first, or the last of all free lists was empty. The thread looks again.
     Waited,
     /// Nothing: the thread was done.
     Done,

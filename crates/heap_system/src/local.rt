@@ -1,6 +1,6 @@
 //! One thread's whole state, one event at a time.
 
-ghost use Rattle.std.specs.Prelude.{◌≡◌, ◌≤◌, ◌<◌, ◌+◌, ◌^◌, ◌-◌, ◌++◌, ◌∷◌, [], false, if◌then◌else◌, length, IfOk};
+ghost use Rattle.std.specs.Prelude.{◌≡◌, ◌≤◌, ◌<◌, ◌+◌, ◌^◌, ◌-◌, ◌++◌, ◌∷◌, [], true, false, Some, if◌then◌else◌, length, IfOk};
 ghost use Rattle.block_store.specs.Configs.{IsInBounds};
 ghost use Rattle.block_store.specs.Places.{extent, words_count};
 ghost use Rattle.rate_plan.specs.Rates.{IsRate, IsAdmitted};
@@ -8,17 +8,23 @@ ghost use Rattle.never_heap.specs.Steps.{makes_object};
 ghost use Rattle.heap_machine.specs.Operations.{op_at, op_place};
 ghost use Rattle.heap_machine.specs.Passes.{IsPass};
 ghost use Rattle.never_heap.specs.Jobs.{IsTraceInBounds};
-ghost use Rattle.heap_system.specs.Locals.{PartReads, is_done, is_rest, part_want, part_step, local_got, at_start, turn_of, is_last, pass_by, first_part, command_of, owes, works, entry_of};
+ghost use Rattle.heap_machine.specs.declared.gate.GateRow.{GateRow};
+ghost use Rattle.grey_steps.specs.Rows.{scanning};
+ghost use Rattle.sweep_steps.specs.Rows.{sweeping};
+ghost use Rattle.heap_system.specs.Locals.{PartReads, is_done, is_rest, is_build, is_at_gate, is_in_command, is_paying, is_on_way_out, part_want, part_step, local_got, at_start, turn_of, is_last, pass_by, first_part, errand_of, command_of, owed, made_got, works, entry_of};
 
 use crate::Turn;
 use barrier_steps::FieldPass;
 use block_store::{Config, OutOfMemory, PhaseWord, Places};
+use build_steps::BuildPass;
 use grey_steps::GreyPass;
 use heap_machine::{Gate, Op, Pass, Step};
 use never_heap::{Command, Entry, Reply};
 use rate_plan::plan;
 use std::alloc::Global;
 use std::marker::Model;
+use std::mem;
+use sweep_steps::SweepPass;
 
 /// The part of its work at which a thread is.
 #[derive(Drop)]
@@ -27,15 +33,22 @@ pub enum Part {
     Rest,
     /// On its way in.
     Enter(Gate),
-    /// Inside, in a command that makes no object and owes no more.
+    /// Inside, in a command that makes no object.
     Serve(FieldPass),
-    /// Inside, in a command that owes units, of which it makes one at most: none where nothing is
-    /// grey.
+    /// Inside while the phase is Mark, in an allocation that owes units, of which it makes one at
+    /// most: none where nothing is grey.
     Mark(GreyPass),
-    /// Inside, in an allocation that owes no more: it looks how many blocks are free.
-    Count,
+    /// Inside while the phase is Sweep, in an allocation that owes units: it makes up to eight, and
+    /// none where each block is claimed.
+    Sweep(SweepPass),
+    /// Inside, in an allocation that owes no more: it makes the object, or is refused.
+    Build(BuildPass),
     /// On its way out, to come in again for the command in hand.
     Again,
+    /// On its way out after a pass that found nothing to do, to turn the phase over.
+    Idle,
+    /// Outside, to turn the phase over or to start the next cycle, and then to come in again.
+    TurnOver(Gate),
     /// On its way out, with its command in the log.
     Leave,
 }
@@ -52,8 +65,13 @@ pub struct Local {
     log: Vec<Entry>,
     // The units made for the command in hand.
     paid: u64,
-    // Whether the rest of them is waived.
-    waived: bool,
+    // The objects made so far.
+    made: u32,
+    // For how many blocks the room has capacity.
+    space: usize,
+    // The room for the blocks that are held while an object is built: empty, and a build has it.
+    room: Vec<u32>,
+    alloc: Global,
     // The pass of the last entry at the gate.
     pass: Pass,
     part: Part,
@@ -62,7 +80,7 @@ pub struct Local {
 impl Model for Local {
     ghost use Rattle.std.specs.Prelude.{◌≤◌, length};
     ghost use Rattle.std.specs.Vec.{vec_capacity};
-    ghost use Rattle.heap_system.specs.Locals.{LocalState, IsLocal};
+    ghost use Rattle.heap_system.specs.Locals.{LocalState, IsLocal, HasRoom};
 
     ghost Value = { LocalState };
 
@@ -73,7 +91,8 @@ impl Model for Local {
       trace = l.trace.items;
       log = l.log.items;
       paid = l.paid;
-      waived = l.waived;
+      made = l.made;
+      space = l.space;
       pass = l.pass;
       part = l.part;
     } };
@@ -85,10 +104,12 @@ impl Model for Local {
       trace = l.trace.items;
       log = l.log.items;
       paid = l.paid;
-      waived = l.waived;
+      made = l.made;
+      space = l.space;
       pass = l.pass;
       part = l.part;
-    }) × (length l.trace.items ≤ vec_capacity l.log) };
+    }) × (length l.trace.items ≤ vec_capacity l.log)
+        × HasRoom l.part l.space l.room.items (vec_capacity l.room) };
 }
 
 // What a turn answers after this step of a part.
@@ -126,6 +147,47 @@ fn makes_object(command: Command) -> bool
     matches!(command, Command::New { .. } | Command::Arr { .. })
 }
 
+// A pass that pays: a sweep or marking, by the phase.
+fn first_units(pass: Pass, blocks: u32, due: u64) -> Part
+    requires pass { IsPass pass }
+    requires blocks { (1 ≤ blocks) × (blocks ≤ 65535) }
+    requires due { 1 ≤ due }
+    ensures { result ≡ (if pass.sweep
+        then Part.Sweep (sweeping pass.thread pass.cycle blocks due) else Part.Mark (scanning pass)) }
+{
+    if pass.sweep {
+        Part::Sweep(SweepPass::new(pass.thread, pass.cycle, blocks, due))
+    } else {
+        Part::Mark(GreyPass::scan_in(pass))
+    }
+}
+
+// On the way out after a pass that pays.
+fn after_pass(nothing: bool) -> Part
+    ensures { result ≡ (if nothing then Part.Idle else Part.Again) }
+{
+    if nothing { Part::Idle } else { Part::Again }
+}
+
+// The part that turns the phase over, after a pass that found nothing to do.
+fn turning(pass: Pass) -> Gate
+    requires { IsPass pass }
+    ensures { result ≡ GateRow.CloseLook pass }
+{
+    Gate::turn_over(pass.thread, pass.threads, pass.cycle, pass.sweep)
+}
+
+// How many objects are made after this reply.
+fn made_after(made: u32, reply: Reply) -> u32
+    requires { made < 2 ^ 31 }
+    ensures { result ≡ made_got (Some reply) made }
+{
+    match reply {
+        Reply::New(_) => made + 1,
+        _ => made,
+    }
+}
+
 // The sum of the works of the entries.
 fn sum_of_works(entries: &[Entry]) -> u64
     requires { works entries.now ≤ 2 ^ 60 }
@@ -139,13 +201,13 @@ fn sum_of_works(entries: &[Entry]) -> u64
 }
 
 impl Local {
-    /// A thread at rest before its first command, with room for all entries of its log. The
-    /// configuration has a rate, the thread is one of it, and the trace has at most 131,072
-    /// commands, which are in bounds.
+    /// A thread at rest before its first command, with room for all entries of its log and for the
+    /// blocks of the largest object. The configuration has a rate, the thread is one of it, and the
+    /// trace has at most 131,072 commands, which are in bounds.
     ///
     /// # Errors
     ///
-    /// `OutOfMemory` where there is no room for the log.
+    /// `OutOfMemory` where there is no room for the log or the blocks.
     pub fn new(
         alloc: Global,
         c: &Config,
@@ -156,10 +218,11 @@ impl Local {
         requires plan { IsAdmitted c.now }
         requires thread { thread < c.now.threads }
         requires trace { IsTraceInBounds c.now trace.items }
-        ensures { IfOk result (λ l. IsRate c.now l.rate
-            × (l ≡ at_start c.now l.rate thread trace.items)) }
+        ensures { IfOk result (λ l. IsRate c.now l.rate × (c.now.object ≤ l.space)
+            × (l ≡ at_start c.now l.rate l.space thread trace.items)) }
     {
         let log = Vec::with_capacity(alloc, trace.len())?;
+        let room = Vec::with_capacity(alloc, c.object as usize)?;
         let Ok(rate) = plan(c) else {
             unreachable!();
         };
@@ -170,7 +233,10 @@ impl Local {
             trace,
             log,
             paid: 0,
-            waived: false,
+            made: 0,
+            space: room.capacity(),
+            room,
+            alloc,
             pass: Pass {
                 thread,
                 threads: c.threads,
@@ -246,8 +312,10 @@ impl Local {
             Part::Enter(gate) => gate.want_in(&places),
             Part::Serve(pass) => pass.want(&places),
             Part::Mark(pass) => pass.want(&places),
-            Part::Count => Op::load(places.free_count()),
-            Part::Again | Part::Leave => Op::FetchSub {
+            Part::Sweep(pass) => pass.want(&places),
+            Part::Build(pass) => pass.want(&places),
+            Part::TurnOver(gate) => gate.want(&places),
+            Part::Again | Part::Idle | Part::Leave => Op::FetchSub {
                 place: places.phase(),
                 by: 1,
             },
@@ -256,17 +324,38 @@ impl Local {
 
     /// Moves on by one event, whose operation read the word. The thread is not done, and the word
     /// is one that its row may read: on the way in a phase word of cycle 1 or later.
-    // Before a method is called on `self` the part is put at rest, so that it may be any; and no
-    // arm makes a part, a gate or a pass before it puts it in its place.
     #[inline(always)]
-    #[tactic(auto, using(crate::proofs::Paying::unit_is_new))]
     pub fn got(&mut self, word: u64) -> Turn
         requires open { is_done self.old ≡ false }
         requires word { PartReads self.old.config self.old.part word }
         ensures local { self.new ≡ local_got self.old word }
         ensures turn { result ≡ turn_of (part_step self.old.config self.old.part word) }
     {
-        let places = Places::new(&self.config);
+        match &self.part {
+            Part::Rest => self.at_gate(word),
+            Part::Enter(_) => self.at_gate(word),
+            Part::TurnOver(_) => self.at_gate(word),
+            Part::Serve(_) => self.in_command(word),
+            Part::Build(_) => self.in_command(word),
+            Part::Mark(_) => self.paying(word),
+            Part::Sweep(_) => self.paying(word),
+            Part::Again => self.out(word),
+            Part::Idle => self.out(word),
+            Part::Leave => self.out(word),
+        }
+    }
+
+    // `got`, of a part outside. Before a method is called on `self` the part is put at rest, so
+    // that it may be any; and no arm makes a part, a gate or a pass before it puts it in its place.
+    #[inline(always)]
+    #[tactic(auto, using(crate::proofs::Paying::turns_on))]
+    fn at_gate(&mut self, word: u64) -> Turn
+        requires part { is_at_gate self.old.part ≡ true }
+        requires open { is_done self.old ≡ false }
+        requires word { PartReads self.old.config self.old.part word }
+        ensures local { self.new ≡ local_got self.old word }
+        ensures turn { result ≡ turn_of (part_step self.old.config self.old.part word) }
+    {
         match &mut self.part {
             Part::Rest => {
                 self.part = Part::Enter(Gate::after_look(word));
@@ -277,13 +366,35 @@ impl Local {
                 match gate.entered() {
                     Some(phase) => {
                         self.part = Part::Rest;
-                        self.pass = self.pass_by(phase);
-                        self.part = self.first_part(self.pass);
+                        self.goes_in(phase);
                         turn
                     }
                     None => turn,
                 }
             }
+            Part::TurnOver(gate) => {
+                let step = gate.got(&Places::new(&self.config), word);
+                if is_last(step) {
+                    self.part = Part::Enter(Gate::enter());
+                    turn_after(step)
+                } else {
+                    turn_after(step)
+                }
+            }
+            _ => unreachable!(),
+        }
+    }
+
+    // `got`, of a part that does the command.
+    #[inline(always)]
+    fn in_command(&mut self, word: u64) -> Turn
+        requires part { is_in_command self.old.part ≡ true }
+        requires word { PartReads self.old.config self.old.part word }
+        ensures local { self.new ≡ local_got self.old word }
+        ensures turn { result ≡ turn_of (part_step self.old.config self.old.part word) }
+    {
+        let places = Places::new(&self.config);
+        match &mut self.part {
             Part::Serve(pass) => {
                 let turn = turn_after(pass.got(&places, word));
                 match pass.reply() {
@@ -295,30 +406,79 @@ impl Local {
                     None => turn,
                 }
             }
+            Part::Build(pass) => {
+                let turn = turn_after(pass.got(&places, word));
+                match pass.reply() {
+                    Some(reply) => {
+                        self.built(reply);
+                        turn
+                    }
+                    None => turn,
+                }
+            }
+            _ => unreachable!(),
+        }
+    }
+
+    // `got`, of a part that makes units.
+    #[inline(always)]
+    #[tactic(auto, using(crate::proofs::Paying::unit_is_new, crate::proofs::Paying::passed_more, crate::proofs::Paying::swept_last))]
+    fn paying(&mut self, word: u64) -> Turn
+        requires part { is_paying self.old.part ≡ true }
+        requires word { PartReads self.old.config self.old.part word }
+        ensures local { self.new ≡ local_got self.old word }
+        ensures turn { result ≡ turn_of (part_step self.old.config self.old.part word) }
+    {
+        let places = Places::new(&self.config);
+        match &mut self.part {
             Part::Mark(pass) => {
                 let unit = pass.unit();
                 let step = pass.got(&places, word);
                 self.paid = counted(self.paid, pass.unit() && !unit);
-                self.waived = pass.nothing() || self.waived;
                 if is_last(step) {
-                    self.part = Part::Again;
+                    self.part = after_pass(pass.nothing());
                     turn_after(step)
                 } else {
                     turn_after(step)
                 }
             }
-            Part::Count => {
-                self.answer(Reply::Full(1));
-                Turn::Went
+            Part::Sweep(pass) => {
+                let passed = pass.passed();
+                let step = pass.got(&places, word);
+                self.paid = counted(self.paid, pass.passed() > passed);
+                if is_last(step) {
+                    self.part = after_pass(pass.nothing());
+                    turn_after(step)
+                } else {
+                    turn_after(step)
+                }
             }
+            _ => unreachable!(),
+        }
+    }
+
+    // `got`, of a part on its way out.
+    #[inline(always)]
+    fn out(&mut self, word: u64) -> Turn
+        requires part { is_on_way_out self.old.part ≡ true }
+        ensures local { self.new ≡ local_got self.old word }
+        ensures turn { result ≡ turn_of (part_step self.old.config self.old.part word) }
+    {
+        let _word = word;
+        match self.part {
             Part::Again => {
                 self.part = Part::Enter(Gate::enter());
+                Turn::Went
+            }
+            Part::Idle => {
+                self.part = Part::TurnOver(turning(self.pass));
                 Turn::Went
             }
             Part::Leave => {
                 self.part = Part::Rest;
                 Turn::Went
             }
+            _ => unreachable!(),
         }
     }
 
@@ -336,33 +496,72 @@ impl Local {
         }
     }
 
-    // What the thread does in a pass that begins.
-    fn first_part(&self, pass: Pass) -> Part
-        requires command { length self.now.log < length self.now.trace }
-        requires pass { IsPass pass }
-        ensures { result ≡ first_part pass (command_of self.now) (owes self.now) }
+    // The thread is inside by this phase word, and begins what it went in for.
+    fn goes_in(&mut self, phase: PhaseWord)
+        requires rest { self.old.part ≡ Part.Rest }
+        requires command { length self.old.log < length self.old.trace }
+        requires cycle { (1 ≤ phase.cycle) × (phase.cycle ≤ 2 ^ 54 - 2) }
+        ensures { self.new
+            ≡ record self.old {
+              pass = pass_by self.old.thread self.old.config.threads phase;
+              part = first_part self.old.config
+                  (pass_by self.old.thread self.old.config.threads phase) (errand_of self.old);
+            } }
     {
+        let pass = self.pass_by(phase);
+        self.pass = pass;
         let command = self.trace[self.log.len()];
-        if self.owes(&command) {
-            Part::Mark(GreyPass::scan_in(pass))
+        let due = self.due(&command);
+        if due > 0 {
+            self.part = first_units(pass, self.config.blocks, due);
         } else if makes_object(command) {
-            Part::Count
+            let room = mem::replace(&mut self.room, Vec::new(self.alloc));
+            self.part = Part::Build(BuildPass::new(
+                self.config.width,
+                pass.thread,
+                pass.threads,
+                pass.cycle,
+                self.made + 1,
+                command,
+                room,
+            ));
         } else {
-            Part::Serve(FieldPass::new_in(pass, command))
+            self.part = Part::Serve(FieldPass::new_in(pass, command));
         }
     }
 
-    // Whether the command in hand still owes units.
-    fn owes(&self, command: &Command) -> bool
+    // The units that the command in hand still owes.
+    fn due(&self, command: &Command) -> u64
         requires command { command.now ≡ command_of self.now }
         requires there { length self.now.log < length self.now.trace }
-        ensures { result ≡ owes self.now }
+        ensures { result ≡ owed self.now - self.now.paid }
     {
-        !self.waived && self.paid < self.rate * u64::from(command.blocks(self.config.width))
+        self.rate * u64::from(command.blocks(self.config.width)) - self.paid
+    }
+
+    // The command in hand, which made an object or was refused, is done.
+    fn built(&mut self, reply: Reply)
+        requires command { length self.old.log < length self.old.trace }
+        requires build { is_build self.old.part ≡ true }
+        ensures { self.new
+            ≡ record self.old {
+              part = Part.Leave;
+              log = self.old.log ++ entry_of
+                  self.old.thread (command_of self.old) self.old.paid reply ∷ [];
+              paid = 0;
+              made = made_got (Some reply) self.old.made;
+            } }
+    {
+        let Part::Build(pass) = mem::replace(&mut self.part, Part::Rest) else {
+            unreachable!();
+        };
+        self.room = pass.into_room();
+        self.answer(reply);
     }
 
     // The command in hand is done.
     fn answer(&mut self, reply: Reply)
+        requires rest { self.old.part ≡ Part.Rest }
         requires command { length self.old.log < length self.old.trace }
         ensures { self.new
             ≡ record self.old {
@@ -370,8 +569,7 @@ impl Local {
               log = self.old.log ++ entry_of
                   self.old.thread (command_of self.old) self.old.paid reply ∷ [];
               paid = 0;
-              waived
-                  = false;
+              made = made_got (Some reply) self.old.made;
             } }
     {
         let command = self.trace[self.log.len()];
@@ -382,7 +580,7 @@ impl Local {
             work: self.paid,
         });
         self.paid = 0;
-        self.waived = false;
+        self.made = made_after(self.made, reply);
         self.part = Part::Leave;
     }
 }

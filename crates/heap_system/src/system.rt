@@ -2,8 +2,12 @@
 
 ghost use Rattle.std.specs.Prelude.{◌≡◌, ◌<◌, ◌≤◌, ℕ, List, [], length, map, slice_index, slice_index_or, IfOk, IfErr, IfSome, IfNone, true, false};
 ghost use Rattle.block_store.specs.declared.Config.{Config};
-ghost use Rattle.block_store.specs.Places.{extent, words_count};
+ghost use Rattle.block_store.specs.Configs.{IsInBounds};
+ghost use Rattle.block_store.specs.Heaps.{heap_of};
+ghost use Rattle.block_store.specs.Phases.{cycle_of};
+ghost use Rattle.block_store.specs.Places.{extent, words_count, Phase};
 ghost use Rattle.never_heap.specs.declared.Command.{Command};
+ghost use Rattle.heap_machine.specs.Readings.{CanHold};
 ghost use Rattle.heap_system.specs.Locals.{LocalState, is_done};
 ghost use Rattle.heap_system.specs.Machines.{turned, answer, local_at, IsJob, IsOpening};
 ghost use Rattle.heap_system.specs.Systems.{Whole, Finish, traces_of, logs_of, units_of, AllDone, IsReached, IsFinished, IsLeastUndone};
@@ -11,7 +15,7 @@ ghost use Rattle.heap_system.specs.Systems.{Whole, Finish, traces_of, logs_of, u
 use crate::Turn;
 use crate::local::Local;
 use crate::start::opening;
-use block_store::{Config, OutOfMemory};
+use block_store::{Config, OutOfMemory, Places, read_phase};
 use heap_machine::Words;
 use never_heap::{Command, Entry, Logs};
 use std::alloc::Global;
@@ -39,10 +43,12 @@ impl Model for System {
         (record { words = s.words; locals = s.locals.items }) };
 }
 
-/// What is left of a system after a run: its configuration, and what its threads answered.
+/// What is left of a system after a run: its configuration, how many cycles were started, and what
+/// its threads answered.
 #[derive(Drop)]
 pub struct Finished {
     config: Config,
+    cycles: u64,
     locals: Vec<Local>,
 }
 
@@ -56,6 +62,7 @@ impl Model for Finished {
     ghost view = { λ f. record {
       config = f.config;
       logs = map (λ (l : LocalState). l.log) f.locals.items;
+      cycles = f.cycles;
     } };
 
     ghost invariant = { λ f. (length f.locals.items ≡ f.config.threads) × (f.config.threads ≤ 16) };
@@ -96,13 +103,25 @@ fn copied(alloc: Global, words: &Words) -> Result<Vec<u64>, OutOfMemory>
     Ok(copy)
 }
 
+// The cycle that the phase word says.
+fn cycle_in(c: &Config, words: &Words) -> u64
+    requires bounds { IsInBounds c.now }
+    requires there { length words.now ≡ words_count (extent c.now) }
+    requires phase { CanHold (extent c.now) Phase (heap_of (extent c.now) words.now Phase) }
+    ensures { result ≡ cycle_of (heap_of (extent c.now) words.now Phase) }
+{
+    read_phase(words.word(Places::new(c).phase())).cycle
+}
+
 impl System {
     /// The system of a configuration that has a rate, with a trace for each thread: the opening
     /// words, and each thread at rest. A trace has at most 131,072 commands, which are in bounds.
+    /// What the threads do from then on takes no memory.
     ///
     /// # Errors
     ///
-    /// `OutOfMemory` where there is no room for the words, the threads or their logs.
+    /// `OutOfMemory` where there is no room for the words, the threads, their logs or the blocks
+    /// that they hold while they build an object.
     pub fn new(alloc: Global, c: Config, traces: Vec<Vec<Command>>) -> Result<System, OutOfMemory>
         requires { IsJob c (map (λ v. v.items) traces.items) }
         ensures config { IfOk result (λ s. s.config ≡ c) }
@@ -191,7 +210,7 @@ impl System {
         ensures done { IfOk result (λ f. AllDone self.config self.state) }
         ensures finished { IfOk result (λ f. (f.config ≡ self.config)
             × (f.logs ≡ logs_of self.state) × IsFinished
-            self.config (traces_of self.state) f.logs) }
+            self.config (traces_of self.state) f.logs f.cycles) }
         ensures unchanged { IfErr result (λ u. u.system ≡ self) }
         ensures least { IfErr result (λ u. IsLeastUndone self.config self.state u.thread) }
     {
@@ -202,6 +221,7 @@ impl System {
             }),
             None => Ok(Finished {
                 config: self.config,
+                cycles: cycle_in(&self.config, &self.words),
                 locals: self.locals,
             }),
         }
@@ -232,7 +252,7 @@ pub fn sum_of_works(locals: &[Local]) -> u64
 impl Logs for Finished {
     ghost logs = { λ f. f.logs };
 
-    ghost cycle_count = { λ f. 1 };
+    ghost cycle_count = { λ f. f.cycles };
 
     ghost unit_count = { λ f. units_of f.logs };
 
@@ -245,7 +265,7 @@ impl Logs for Finished {
     }
 
     fn cycles(&self) -> u64 {
-        1
+        self.cycles
     }
 
     fn units(&self) -> u64 {

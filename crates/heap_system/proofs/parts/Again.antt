@@ -1,26 +1,29 @@
 -- A thread that goes out, to come in again.
-use Rattle.heap_system.proofs.Kept.{phase_is, inside_low, leave_event}
-use Rattle.heap_system.proofs.PartLaws.{PartLaws}
 use Rattle.std.proofs.Common.{refl, ap, arith}
 use Rattle.block_store.specs.declared.Config.{Config}
 use Rattle.block_store.specs.Places.{Phase}
 use Rattle.heap_machine.specs.Gating.{Gating}
+use Rattle.heap_machine.specs.declared.Step.TheVariants as steps
+use Rattle.heap_machine.specs.declared.gate.GateRow.TheVariants as gates
 use Rattle.heap_machine.proofs.Gatings.{inside_some}
 use Rattle.heap_system.specs.declared.local.Part.TheVariants.{Enter, Again}
-use Rattle.heap_machine.specs.declared.gate.GateRow.TheVariants as gates
+use Rattle.heap_system.proofs.Passing.{phase_is, inside_low, leave_event, inside_open}
+use Rattle.heap_system.proofs.PartLaws.{PartLaws}
 
 pub again_laws : (c : Config) → PartLaws c Again
 again_laws c = record {
-  place = λ done all fits. refl;
-  reads = λ s is kept fits. phase_is c s;
-  sum = λ s stands kept. inside_low (s.heap Phase) (inside_some c.threads (s.heap Phase) s.gatings s.gate s.thread s.low (ap (λ (x : Gating). x.stand) stands));
-  event = λ s stands is empty kept fits pays settled served low. leave_event c s (Enter gates.Look) (ap (λ (x : Gating). x.stand) stands) refl is refl empty refl refl tt (tt, refl, fits) pays tt;
-  stays = λ g new u pass k kept same. (tt, refl);
-  low = λ done all w r fits e. absurd cc;
+  reads = λ s at. phase_is c s;
+  sum = λ s at. inside_low (s.heap Phase) (inside_some c.threads (s.heap Phase) s.gatings s.gate s.thread s.low (ap (λ (x : Gating). x.stand) at.gating));
+  event = λ s at low. leave_event c s steps.Over (Enter gates.Look) (ap (λ (x : Gating). x.stand) at.gating) refl
+      (record { task = refl; holds = refl; waits = refl; part = tt; fits = (tt, refl, at.fits); roomy = tt; low = at.pays; settled = tt }) at.task at.holds (λ v cycle sweep. tt);
+  stays = λ g new u pass k kept same count. (tt, refl);
+  knows = λ h new ns later pass on cursor behind still is. tt;
+  rests = λ s at closed out. absurd (inside_open c s (ap (λ (x : Gating). x.stand) at.gating) closed);
+  idle = λ out. refl;
+  empty = λ out. refl;
+  builds = λ done all pass fits. tt;
+  low = λ done all w pass r fits e. absurd cc;
   turn = λ w. refl;
-  black = λ h hs t done all g pass k w grey is one stands fits. refl;
+  black = λ s at. refl;
   units = λ t k paid w. omega arith;
-  found = λ w h. absurd cc;
-  older = λ h t k more w q e. absurd cc;
-  frame = λ s u q ul ql other kept fits loads. refl;
 }

@@ -1,171 +1,259 @@
 -- A thread on its way in.
-use Rattle.heap_system.proofs.Kept.{IsEntering, Seen, phase_is, began, look_event, gate_event, look_at, Event, mark_moves, is_thread, PartKept, IsSettled, grey_of}
-use Rattle.heap_system.proofs.PartLaws.{PartLaws, PartEvent}
-use Rattle.std.proofs.Common.{◌≡◌, ℕ, ◌≤◌, false, cond, eqb, refl, ap, arith, inl, inr, ◌+◌, ◌<◌, Bool, true, not, ◌&&◌, ltb, ltb-true, eqb-true, None, sym, subst}
-use Rattle.std.proofs.lemmas.Bool.{cases_Bool, and_parts}
+use Rattle.std.proofs.Common.{◌≡◌, ℕ, ◌+◌, ◌-◌, ◌≤◌, ◌<◌, Bool, true, false, cond, eqb, ltb, eqb-true, ltb-true, lt-ltb, Some, None, refl, sym, ap, ◌∙◌, subst, arith, inl, inr}
+use Rattle.std.proofs.lemmas.Bool.{cases_Bool, cases_lt}
 use Rattle.block_store.specs.declared.Config.{Config}
-use Rattle.block_store.specs.Heaps.{Heap, put_at}
-use Rattle.block_store.specs.Phases.{is_closed, phase_of, inside_of, is_sweep, cycle_of}
-use Rattle.shown_graph.specs.Events.{unloaded}
-use Rattle.heap_machine.specs.Gates.{gate_want, is_of_pass, is_empty, gate_got, gate_entered, SeenOpen}
-use Rattle.heap_machine.specs.Gating.{Gating, Outside, GateOf}
-use Rattle.heap_machine.specs.Operations.{place_of, Fits, heap_after}
-use Rattle.heap_machine.specs.Grey.{no_grey}
-use Rattle.heap_machine.specs.declared.gate.GateRow.{GateRow}
-use Rattle.heap_machine.proofs.GateRows.{gate_place}
-use Rattle.heap_system.specs.declared.local.Part.TheVariants.{Enter, Serve, Count}
-use Rattle.heap_system.specs.Locals.{part_want, PartFits, PartReads, part_step, turn_of, waits, pass_by, first_part, if_entered, pass_got, Open}
-use Rattle.heap_system.proofs.Paying.{going_at, first_part_fits, first_part_pays}
-use Rattle.heap_system.specs.Units.{blackens}
-use Rattle.heap_system.proofs.Pending.{no_way, entered_quiet}
-use Rattle.block_store.specs.Registers.{register_block, register_slot}
-use Rattle.block_store.specs.Places.{Phase, PayloadOf, extent}
-use Rattle.block_store.proofs.PhaseWords.{phase-more}
 use Rattle.block_store.specs.declared.PhaseWord.{PhaseWord}
-use Rattle.never_heap.specs.declared.Command.{Command}
-use Rattle.never_heap.specs.Steps.{makes_object}
 use Rattle.block_store.specs.Counts.{changed}
-use Rattle.heap_machine.proofs.Gatings.{gate_enters, gate_stays}
+use Rattle.block_store.specs.Heaps.{Heap, put_at}
+use Rattle.block_store.specs.Phases.{phase_of, inside_of, is_closed, is_sweep, cycle_of}
+use Rattle.block_store.specs.Places.{Phase, extent}
+use Rattle.block_store.proofs.PhaseWords.{phase-more}
+use Rattle.never_heap.specs.declared.Command.{Command}
+use Rattle.never_heap.specs.declared.Command.TheVariants as commands
+use Rattle.never_heap.specs.Steps.{blocks_of, makes_object}
+use Rattle.never_heap.proofs.Ranges as ranges
+use Rattle.shown_graph.specs.Events.{unloaded}
+use Rattle.heap_machine.specs.Gates.{gate_step, is_of_pass, is_empty, is_going_in, GateFits, SeenOpen}
+use Rattle.heap_machine.specs.Gating.{Gating, GateOf, Outside, Inside}
+use Rattle.heap_machine.specs.Holdings.{Holding, holds_nothing}
+use Rattle.heap_machine.specs.Operations.{Fits, place_of, heap_after}
+use Rattle.heap_machine.specs.declared.Step.TheVariants as steps
+use Rattle.heap_machine.specs.declared.gate.GateRow.{GateRow}
+use Rattle.heap_machine.specs.declared.gate.GateRow.TheVariants as gates
 use Rattle.heap_machine.specs.declared.pass.Pass.{Pass}
-use Rattle.barrier_steps.specs.Rows.{at_first_row, field_decided, first_row, field_reply}
+use Rattle.heap_machine.proofs.Gatings.{gate_enters, gate_stays, inside_most}
+use Rattle.grey_steps.specs.Rows.{scanning}
+use Rattle.grey_steps.proofs.Ranges.{scan_fits}
+use Rattle.barrier_steps.specs.Rows.{at_first_row, field_decided, first_row, field_reply, field_holding}
+use Rattle.barrier_steps.specs.Fits.{IsThread}
+use Rattle.barrier_steps.specs.Projection.{loading_of}
 use Rattle.barrier_steps.specs.declared.rows.FieldRow.{FieldRow}
-use Rattle.barrier_steps.specs.Projection.{row_loading}
+use Rattle.barrier_steps.specs.declared.rows.FieldRow.TheVariants as rows
 use Rattle.barrier_steps.proofs.Decisions.{first_undecided}
 use Rattle.barrier_steps.proofs.Dues.{none_due}
+use Rattle.barrier_steps.proofs.FieldRows.{first_fits}
+use Rattle.sweep_steps.specs.Rows.{sweeping}
+use Rattle.sweep_steps.proofs.Ranges as sweeping_ranges
+use Rattle.build_steps.specs.Rows.{building}
+use Rattle.build_steps.proofs.Ranges as building_ranges
+use Rattle.kept_names.specs.Pictures.{no_task}
 use Rattle.heap_system.specs.declared.local.Part.{Part}
-use Rattle.heap_system.specs.Pictures.{gating, loading, waiting}
+use Rattle.heap_system.specs.declared.local.Part.TheVariants.{Enter, Serve, Mark, Sweep, Build}
 use Rattle.heap_system.specs.declared.Turn.TheVariants as turns
-use Rattle.heap_machine.specs.declared.gate.GateRow.TheVariants as gates
-use Rattle.barrier_steps.specs.declared.rows.FieldRow.TheVariants as rows
-use Rattle.never_heap.specs.declared.Command.TheVariants as commands
+use Rattle.heap_system.specs.Locals.{part_want, plain, pass_by, first_part, task, turn_of, gate_waits, PartFits, PartReads, IsPassAt}
+use Rattle.heap_system.specs.Pictures.{gating}
+use Rattle.heap_system.specs.Units.{blackens}
+use Rattle.heap_system.proofs.PartLaws.{AtPart, PartEvent, PartLaws, word_at}
+use Rattle.heap_system.proofs.Passing.{Comes, phase_is, began, look_event, gate_event, is_thread}
+use Rattle.heap_system.proofs.Paying.{blocks_low}
+use Rattle.heap_system.proofs.Seeing.{IsEntering, Knows, Seen, EventKept, errand}
 
--- the first row of a command
-first_unloaded : (c : Config) (k : Command) → row_loading (extent c) k (first_row k) ≡ unloaded
-first_unloaded c (commands.New d f) = refl
-first_unloaded c _ = refl
+-- at the first row of a command nothing is loaded or held
+first_unloaded : (c : Config) (q : Pass) (k : Command) → loading_of (extent c) (at_first_row q k) ≡ unloaded
+first_unloaded c q (commands.New d f) = refl
+first_unloaded c q _ = refl
+
+first_empty : (c : Config) (q : Pass) (k : Command) → field_holding (extent c) (at_first_row q k) ≡ holds_nothing
+first_empty c q (commands.New d f) = refl
+first_empty c q _ = refl
 
 not_over : (r : FieldRow) → field_decided r ≡ false → field_reply r ≡ None
 not_over (rows.Answered reply) e = absurd cc
 not_over _ e = refl
 
-module _ (c : Config) (s : Seen c) where
-  -- the part of a thread that has entered, in its pass
-  pub record EnteredKept (q : Pass) (p : Part) : Type 0 where
-    pub gates : gating c q p ≡ gating c q Count
-    pub loads : loading c p ≡ unloaded
-    pub holds : grey_of c p ≡ no_grey
-    pub waits : waiting s.graph p ≡ None
-    pub stands : PartKept s.graph s.thread q s.command p
-    pub settled : IsSettled s.due s.paid s.waived p
+-- the part of a thread that has entered
+pub record Entered (c : Config) (s : Seen c) (q : Pass) (p : Part) : Type 0 where
+  pub gates : gating c q p ≡ record { stand = Inside; cycle = q.cycle; sweep = q.sweep }
+  pub comes : Comes c s q p
+  pub knows : (h : Heap) → Knows c h s.names q p
 
-  entered_kept : (q : Pass) → q.thread ≡ s.thread → EnteredKept q (first_part q s.command (not s.waived && ltb s.paid s.due))
-  entered_kept q own = by (not s.waived && ltb s.paid s.due) refl
-    where
-      here : (b : Bool) → makes_object s.command ≡ b → (not s.waived && ltb s.paid s.due) ≡ false → EnteredKept q (cond b Count (Serve (at_first_row q s.command)))
-      here true n e = record { gates = refl; loads = refl; holds = refl; waits = refl; stands = n; settled = e }
-      here false z e =
-          let first = first_undecided s.command z in
-          let none = none_due s.graph q.thread s.command (first_row s.command) first in
-          record {
-            gates = refl;
-            loads = first_unloaded c s.command;
-            holds = refl;
-            waits = none.0;
-            stands = record { serves = z; passes = refl; thread = own; command = refl; known = none.1; going = not_over (first_row s.command) first };
-            settled = tt;
-          }
+module _ (c : Config) (s : Seen c) (q : Pass) (own : q.thread ≡ s.thread) (is : IsPassAt c q) (low : s.done < s.all) (pays : s.paid ≤ s.due) where
+  sweeps : q.sweep ≡ true → s.paid < s.due → Entered c s q (Sweep (sweeping q.thread q.cycle c.blocks (s.due - s.paid)))
+  sweeps sweep more = record {
+    gates = refl;
+    comes = record {
+      task = refl;
+      holds = refl;
+      waits = refl;
+      part = record { thread = own; own = own; cycle = refl; sweep = sweep; going = refl };
+      fits = (sweeping_ranges.first_fits c q.thread q.cycle (s.due - s.paid) (omega (arith, own, s.low)) s.bounds.blocks (omega (arith, more)), low, is);
+      roomy = tt;
+      low = omega (arith, pays);
+      settled = omega (arith, pays);
+    };
+    knows = λ h. tt;
+  }
 
-      by : (b : Bool) → (not s.waived && ltb s.paid s.due) ≡ b → EnteredKept q (first_part q s.command b)
-      by true e = record { gates = refl; loads = refl; holds = refl; waits = refl; stands = record { passes = refl; thread = own }; settled = tt }
-      by false e = here (makes_object s.command) refl e
+  marks : q.sweep ≡ false → s.paid < s.due → Entered c s q (Mark (scanning q))
+  marks mark more = record {
+    gates = refl;
+    comes = record {
+      task = refl;
+      holds = refl;
+      waits = refl;
+      part = record { passes = refl; thread = own; mark = mark; scans = refl; going = refl };
+      fits = (scan_fits c q is.1 is.0.few s.bounds.blocks is.0.thread, low, is);
+      roomy = tt;
+      low = omega (arith, more);
+      settled = tt;
+    };
+    knows = λ h. tt;
+  }
 
-  more_due : (not s.waived && ltb s.paid s.due) ≡ true → s.paid < s.due
-  more_due e = ltb-true s.paid s.due (and_parts (not s.waived) (ltb s.paid s.due) e).1
+  builds : makes_object s.command ≡ true → s.paid ≡ s.due → Entered c s q (Build (building c.width q.thread q.threads q.cycle (s.made + 1) s.command s.space))
+  builds makes all =
+      let small : blocks_of c.width s.command ≤ c.object = blocks_low c s.command s.inside in
+      let thread = is_thread c s.plan s.bounds.threads s.thread s.low in
+      record {
+        gates = refl;
+        comes = record {
+          task = refl;
+          holds = refl;
+          waits = refl;
+          part = record { thread = own; threads = is.1; cycle = refl; serial = ap (λ n. n + 1) s.count; command = refl; makes = makes; going = refl };
+          fits = (subst (λ n. PartFits c s.done s.all q (Build (building c.width q.thread n q.cycle (s.made + 1) s.command s.space))) (sym is.1)
+              (subst (λ t. PartFits c s.done s.all q (Build (building c.width t c.threads q.cycle (s.made + 1) s.command s.space))) (sym own) (
+                building_ranges.first_fits c s.thread q.cycle (s.made + 1) s.command s.space s.low s.bounds.threads s.bounds.blocks thread.registers (omega (arith, s.few, low, s.many))
+                    (ranges.in_range c s.command s.inside) makes (omega (arith, small, s.bounds.object)) (omega (arith, small, s.room)),
+                low,
+              )));
+          roomy = refl;
+          low = omega (arith, pays);
+          settled = all;
+        };
+        knows = λ h. tt;
+      }
 
-  pub enter_event : (seen : ℕ) → SeenOpen seen → (s.gatings s.thread).stand ≡ Outside → s.loads s.thread ≡ unloaded → s.holds s.thread ≡ no_grey → s.done < s.all → s.paid ≤ s.due
-      → Event c s (heap_after s.heap (gate_want (gates.Enter seen))) None Open (pass_got (gate_entered (gate_got (gates.Enter seen) (s.heap Phase))) s.thread c.threads s.pass) (if_entered (gate_entered (gate_got (gates.Enter seen) (s.heap Phase))) s.thread c.threads s.command (not s.waived && ltb s.paid s.due) (gate_got (gates.Enter seen) (s.heap Phase))) None false false
-  enter_event seen fit out is empty low pays = elim (cases_Bool (eqb (s.heap Phase) seen)) [
-    | inl e ↦ rw e (won (eqb-true (s.heap Phase) seen e))
-    | inr e ↦ rw e (look_at c s (Enter gates.Look) (gate_stays c.threads (s.heap Phase) s.gatings s.gate s.thread s.low _ (sym out) (λ e. absurd cc)) is refl empty refl refl tt (tt, refl, low) (omega (arith, pays)) tt)
+  serves : makes_object s.command ≡ false → Entered c s q (Serve (at_first_row q s.command))
+  serves none =
+      let first = first_undecided s.command none in
+      let due = none_due s.graph q.thread s.command (first_row s.command) first in
+      record {
+        gates = refl;
+        comes = record {
+          task = λ i. record no_task { loading = first_unloaded c q s.command i; scan = ap (λ (w : Holding). w.found) (first_empty c q s.command) i };
+          holds = first_empty c q s.command;
+          waits = due.0;
+          part = record { serves = none; passes = refl; thread = own; command = refl; known = due.1; going = not_over (first_row s.command) first };
+          fits = (first_fits c q s.command (subst (λ t. IsThread c t) (sym own) (is_thread c s.plan s.bounds.threads s.thread s.low)) is.1 s.bounds.blocks (ranges.in_range c s.command s.inside), low);
+          roomy = tt;
+          low = omega (arith, pays);
+          settled = tt;
+        };
+        knows = λ h. tt;
+      }
+
+  owing : (b : Bool) → q.sweep ≡ b → s.paid < s.due → Entered c s q (cond b (Sweep (sweeping q.thread q.cycle c.blocks (s.due - s.paid))) (Mark (scanning q)))
+  owing true e more = sweeps e more
+  owing false e more = marks e more
+
+  paid : (b : Bool) → makes_object s.command ≡ b → s.paid ≡ s.due → Entered c s q (cond b (Build (building c.width q.thread q.threads q.cycle (s.made + 1) s.command s.space)) (Serve (at_first_row q s.command)))
+  paid true e all = builds e all
+  paid false e all = serves e
+
+  either : (b : Bool) → ltb 0 (s.due - s.paid) ≡ b → Entered c s q (cond b (cond q.sweep (Sweep (sweeping q.thread q.cycle c.blocks (s.due - s.paid))) (Mark (scanning q))) (cond (makes_object s.command) (Build (building c.width q.thread q.threads q.cycle (s.made + 1) s.command s.space)) (Serve (at_first_row q s.command))))
+  either true e = (let some : 0 < s.due - s.paid = ltb-true 0 (s.due - s.paid) e in owing q.sweep refl (omega (arith, some)))
+  either false e = paid (makes_object s.command) refl (elim (cases_lt 0 (s.due - s.paid)) [
+    | inl some ↦ absurd (let z : true ≡ false = sym (lt-ltb 0 (s.due - s.paid) some) ∙ e in cc)
+    | inr none ↦ omega (arith, none, pays)
+  ])
+
+  -- what a thread does in a pass that begins
+  pub entered : Entered c s q (first_part c q (errand c s))
+  entered = either (ltb 0 (s.due - s.paid)) refl
+
+module _ (c : Config) (s : Seen c) (out : (s.gatings s.thread).stand ≡ Outside) (at : s.tasks s.thread ≡ no_task) (empty : s.holds s.thread ≡ holds_nothing) (low : s.done < s.all) (pays : s.paid ≤ s.due) where
+  -- on its way in still
+  stays_out : (p : GateRow) → IsEntering p → GateFits p → is_going_in p ≡ true → GateOf c.threads (s.heap Phase) (changed s.gatings s.thread (gating c s.pass (Enter p)))
+  stays_out p going fits in_ = gate_stays c.threads (s.heap Phase) s.gatings s.gate s.thread s.low (gating c s.pass (Enter p)) (sym out) (λ e. absurd cc)
+
+  comes_in : (p : GateRow) → IsEntering p → GateFits p → is_going_in p ≡ true → Comes c s s.pass (Enter p)
+  comes_in p going fits in_ = record { task = refl; holds = refl; waits = refl; part = going; fits = (fits, in_, low); roomy = tt; low = omega (arith, pays); settled = tt }
+
+  pub looks : PartEvent c s (Enter gates.Look)
+  looks = elim (cases_Bool (is_closed (s.heap Phase))) [
+    | inl e ↦ rw e (look_event c s steps.Waited _ (Enter gates.Look) (comes_in gates.Look tt tt refl) at empty (stays_out gates.Look tt tt refl) s.behind tt)
+    | inr e ↦ rw e (look_event c s steps.Went _ (Enter (gates.Enter (s.heap Phase))) (comes_in (gates.Enter (s.heap Phase)) tt (record { word = phase_is c s; opened = e }) refl) at empty (stays_out (gates.Enter (s.heap Phase)) tt (record { word = phase_is c s; opened = e }) refl) s.behind tt)
   ]
-    where
-      more_inside : phase_of (s.heap Phase + 1) ≡ record (phase_of (s.heap Phase)) { inside = inside_of (s.heap Phase) + 1 }
-      more_inside = phase-more (s.heap Phase) (phase_is c s).inside
 
-      cycle_is : s.heap Phase ≡ seen → cycle_of seen ≡ cycle_of (s.heap Phase)
-      cycle_is e = ap cycle_of (sym e)
+  abbrev pass_seen : ℕ → Pass
+  pass_seen seen = pass_by s.thread c.threads (phase_of seen)
 
-      sweep_is : s.heap Phase ≡ seen → is_sweep seen ≡ is_sweep (s.heap Phase)
-      sweep_is e = ap is_sweep (sym e)
+  won : (seen : ℕ) → is_closed seen ≡ false → s.heap Phase ≡ seen → EventKept c s (put_at s.heap Phase (seen + 1)) (record (plain steps.Over) { entered = Some (phase_of seen) }) None (first_part c (pass_seen seen) (errand c s))
+  won seen opened same =
+      let more = phase-more (s.heap Phase) (phase_is c s).inside in
+      let cycle : cycle_of (s.heap Phase + 1) ≡ cycle_of (s.heap Phase) = ap (λ (w : PhaseWord). w.cycle) more in
+      let sweep : is_sweep (s.heap Phase + 1) ≡ is_sweep (s.heap Phase) = ap (λ (w : PhaseWord). w.sweep) more in
+      let inside : inside_of (s.heap Phase + 1) ≡ inside_of (s.heap Phase) + 1 = ap (λ (w : PhaseWord). w.inside) more in
+      subst (λ x. EventKept c s (put_at s.heap Phase (x + 1)) (record (plain steps.Over) { entered = Some (phase_of x) }) None (first_part c (pass_seen x) (errand c s))) same
+      (let e = entered c s (pass_seen (s.heap Phase)) refl (record { thread = s.low; few = s.bounds.threads; first = began c s; last = omega (arith, s.cycle) }, refl) low pays in
+      gate_event c s steps.Over (Some (phase_of (s.heap Phase))) (first_part c (pass_seen (s.heap Phase)) (errand c s)) e.comes at empty (s.heap Phase + 1) cycle sweep (ap (λ (w : PhaseWord). w.closed) more)
+      (record { inside = omega (arith, inside, inside_most c.threads (s.heap Phase) s.gatings s.gate, s.bounds.threads); cycle = omega (arith, cycle, (phase_is c s).cycle) })
+      (subst (λ x. GateOf c.threads (s.heap Phase + 1) (changed s.gatings s.thread x)) (sym e.gates)
+      (gate_enters c.threads (s.heap Phase) s.gatings s.gate s.thread s.low (record { stand = Inside; cycle = cycle_of (s.heap Phase); sweep = is_sweep (s.heap Phase) }) (omega (arith, s.bounds.threads)) (ap is_closed same ∙ opened) out refl refl refl))
+      (omega arith) (e.knows (put_at s.heap Phase (s.heap Phase + 1))))
 
-      won : s.heap Phase ≡ seen → Event c s (put_at s.heap Phase (seen + 1)) None Open (pass_by s.thread c.threads (phase_of seen)) (first_part (pass_by s.thread c.threads (phase_of seen)) s.command (not s.waived && ltb s.paid s.due)) None false false
-      won e =
-          let kept = entered_kept (pass_by s.thread c.threads (phase_of seen)) refl in
-          subst (λ x. Event c s (put_at s.heap Phase (x + 1)) None Open (pass_by s.thread c.threads (phase_of seen)) (first_part (pass_by s.thread c.threads (phase_of seen)) s.command (not s.waived && ltb s.paid s.due)) None false false) e
-          (gate_event c s (s.heap Phase + 1) (pass_by s.thread c.threads (phase_of seen)) (first_part (pass_by s.thread c.threads (phase_of seen)) s.command (not s.waived && ltb s.paid s.due))
-          (subst (λ x. GateOf c.threads (s.heap Phase + 1) (changed s.gatings s.thread x)) (sym kept.gates) (gate_enters c.threads (s.heap Phase) s.gatings s.gate s.thread s.low (gating c (pass_by s.thread c.threads (phase_of seen)) Count) (omega (arith, s.bounds.threads)) s.phase.opened out refl (cycle_is e) (sweep_is e)))
-          (mark_moves (s.heap Phase + 1) (s.heap Phase) (ap (λ (p : PhaseWord). p.closed) more_inside) (ap (λ (p : PhaseWord). p.cycle) more_inside) (ap (λ (p : PhaseWord). p.sweep) more_inside) s.phase)
-          is kept.loads empty kept.holds kept.waits kept.stands
-          (first_part_fits c s.done s.all (pass_by s.thread c.threads (phase_of seen)) s.command (not s.waived && ltb s.paid s.due) refl (is_thread c s.bounds s.plan s.thread s.low) s.bounds.blocks s.inside low)
-          (first_part_pays c (pass_by s.thread c.threads (phase_of seen)) s.command (not s.waived && ltb s.paid s.due) s.paid s.due pays more_due)
-          kept.settled)
+  pub enters : (seen : ℕ) → SeenOpen seen → PartEvent c s (Enter (gates.Enter seen))
+  enters seen fits = elim (cases_Bool (eqb (s.heap Phase) seen)) [
+    | inl e ↦ rw e (won seen fits.opened (eqb-true (s.heap Phase) seen e))
+    | inr e ↦ rw e (look_event c s steps.Waited _ (Enter gates.Look) (comes_in gates.Look tt tt refl) at empty (stays_out gates.Look tt tt refl) s.behind tt)
+  ]
 
--- only a Mark pass makes a block black
-gate_blackens : (h : Heap) (g : GateRow) → blackens h (gate_want g) ≡ false
-gate_blackens h gates.Look = refl
-gate_blackens h (gates.Enter seen) = refl
-gate_blackens h _ = refl
+event_at : (c : Config) (s : Seen c) (g : GateRow) → AtPart c s (Enter g) → PartEvent c s (Enter g)
+event_at c s g at = by g at.part (ap (λ (x : Gating). x.stand) at.gating) at.task at.holds at.fits (omega (arith, at.pays))
+  where
+    by : (g : GateRow) → IsEntering g → (s.gatings s.thread).stand ≡ Outside → s.tasks s.thread ≡ no_task → s.holds s.thread ≡ holds_nothing → PartFits c s.done s.all s.pass (Enter g) → s.paid ≤ s.due → PartEvent c s (Enter g)
+    by gates.Look kept out task empty fits pays = looks c s out task empty fits.2 pays
+    by (gates.Enter seen) kept out task empty fits pays = enters c s out task empty fits.2 pays seen fits.0
+    by _ kept out task empty fits pays = absurd kept
 
-turns_at : (c : Config) (g : GateRow) (w : ℕ) → turn_of (part_step c (Enter g) w) ≡ cond (waits (Enter g) w) turns.Waited turns.Went
-turns_at c gates.Look w = elim (cases_Bool (is_closed w)) [ inl e ↦ rw e refl | inr e ↦ rw e refl ]
-turns_at c (gates.Enter seen) w = elim (cases_Bool (eqb w seen)) [ inl e ↦ rw e refl | inr e ↦ rw e refl ]
-turns_at c (gates.Entered seen) w = refl
-turns_at c gates.Leave w = refl
-turns_at c gates.Left w = refl
-turns_at c (gates.CloseLook p) w = elim (cases_Bool (is_of_pass p w)) [
+-- which turns at the gate wait
+pub gate_turns : (g : GateRow) (w : ℕ) → turn_of (gate_step g w) ≡ cond (gate_waits g w) turns.Waited turns.Went
+gate_turns gates.Look w = elim (cases_Bool (is_closed w)) [ inl e ↦ rw e refl | inr e ↦ rw e refl ]
+gate_turns (gates.Enter seen) w = elim (cases_Bool (eqb w seen)) [ inl e ↦ rw e refl | inr e ↦ rw e refl ]
+gate_turns (gates.CloseLook p) w = elim (cases_Bool (is_of_pass p w)) [
   | inl of ↦ elim (cases_Bool (is_empty w)) [ inl e ↦ rw (of, e) refl | inr e ↦ rw (of, e) refl ]
   | inr other ↦ rw other refl
 ]
-turns_at c (gates.Close p seen) w = elim (cases_Bool (eqb w seen)) [ inl e ↦ rw e refl | inr e ↦ rw e refl ]
-turns_at c (gates.CheckList p u) w = refl
-turns_at c (gates.SetCursor p) w = refl
-turns_at c (gates.Flip p) w = refl
-turns_at c (gates.Reopen p) w = refl
-turns_at c gates.TurnedOver w = refl
-turns_at c gates.KeptOut w = refl
+gate_turns (gates.Close p seen) w = elim (cases_Bool (eqb w seen)) [ inl e ↦ rw e refl | inr e ↦ rw e refl ]
+gate_turns _ w = refl
 
-reads_at : (c : Config) (s : Seen c) (g : GateRow) → IsEntering g → PartReads c (Enter g) (s.heap (place_of (part_want c (Enter g))))
+blackens_none : (c : Config) (h : Heap) (g : GateRow) → IsEntering g → blackens h (part_want c (Enter g)) ≡ false
+blackens_none c h gates.Look kept = refl
+blackens_none c h (gates.Enter seen) kept = refl
+blackens_none c h _ kept = absurd kept
+
+reads_at : (c : Config) (s : Seen c) (g : GateRow) → IsEntering g → PartReads c (Enter g) (word_at c s (Enter g))
 reads_at c s gates.Look kept = (phase_is c s, began c s)
 reads_at c s (gates.Enter seen) kept = (phase_is c s, began c s)
 reads_at c s _ kept = absurd kept
 
-sum_at : (c : Config) (s : Seen c) (g : GateRow) → IsEntering g → Fits (part_want c (Enter g)) (s.heap (place_of (part_want c (Enter g))))
-sum_at c s gates.Look kept = tt
-sum_at c s (gates.Enter seen) kept = tt
-sum_at c s _ kept = absurd kept
+sum_at : (c : Config) (h : Heap) (g : GateRow) → IsEntering g → Fits (part_want c (Enter g)) (h (place_of (part_want c (Enter g))))
+sum_at c h gates.Look kept = tt
+sum_at c h (gates.Enter seen) kept = tt
+sum_at c h _ kept = absurd kept
 
-event_at : (c : Config) (s : Seen c) (g : GateRow) → (s.gatings s.thread).stand ≡ Outside → s.loads s.thread ≡ unloaded → s.holds s.thread ≡ no_grey → IsEntering g → PartFits c s.done s.all (Enter g) → s.paid ≤ s.due → PartEvent c s (Enter g)
-event_at c s gates.Look stands is empty kept fits pays = look_event c s stands is empty fits.2 pays
-event_at c s (gates.Enter seen) stands is empty kept fits pays = enter_event c s seen fits.0 stands is empty fits.2 pays
-event_at c s _ stands is empty kept fits pays = absurd kept
-
-frame_at : (c : Config) (h : Heap) (u q : ℕ) (g : GateRow) → IsEntering g → heap_after h (part_want c (Enter g)) (PayloadOf (register_block c.width u q) (register_slot c.width q)) ≡ h (PayloadOf (register_block c.width u q) (register_slot c.width q))
-frame_at c h u q gates.Look stands = refl
-frame_at c h u q (gates.Enter seen) stands = elim (cases_Bool (eqb (h Phase) seen)) [ inl e ↦ rw e refl | inr e ↦ rw e refl ]
-frame_at c h u q _ stands = absurd stands
+rests_at : (c : Config) (h : Heap) (g : GateRow) → IsEntering g → GateFits g → is_closed (h Phase) ≡ true → heap_after h (part_want c (Enter g)) ≡ h
+rests_at c h gates.Look kept fits closed = refl
+rests_at c h (gates.Enter seen) kept fits closed = elim (cases_Bool (eqb (h Phase) seen)) [
+  | inl e ↦ absurd (let z : true ≡ false = sym closed ∙ ap is_closed (eqb-true (h Phase) seen e) ∙ fits.opened in cc)
+  | inr e ↦ rw e refl
+]
+rests_at c h _ kept fits closed = absurd kept
 
 pub enter_laws : (c : Config) (g : GateRow) → PartLaws c (Enter g)
 enter_laws c g = record {
-  place = λ done all fits. gate_place c g fits.0 (going_at c g fits.1);
-  reads = λ s is kept fits. reads_at c s g kept;
-  sum = λ s stands kept. sum_at c s g kept;
-  event = λ s stands is empty kept fits pays settled served low. event_at c s g (ap (λ (x : Gating). x.stand) stands) is empty kept fits (omega (arith, pays));
-  stays = λ new later u pass k kept same. (kept, refl);
-  low = λ done all w r fits e. absurd cc;
-  turn = λ w. turns_at c g w;
-  black = λ h hs t done all graph pass k w grey is one stands fits. gate_blackens h g;
+  reads = λ s at. reads_at c s g at.part;
+  sum = λ s at. sum_at c s.heap g at.part;
+  event = λ s at low. event_at c s g at;
+  stays = λ new later u pass k kept same count. (kept, refl);
+  knows = λ h new ns later pass on cursor behind still is. tt;
+  rests = λ s at closed out. (rests_at c s.heap g at.part at.fits.0 closed, refl);
+  idle = λ out. refl;
+  empty = λ out. refl;
+  builds = λ done all pass fits. tt;
+  low = λ done all w pass r fits e. absurd cc;
+  turn = λ w. gate_turns g w;
+  black = λ s at. blackens_none c s.heap g at.part;
   units = λ t k paid w. omega arith;
-  found = λ w h. absurd cc;
-  older = λ h t k more w q e. no_way _ (entered_quiet c _ t c.threads k more _ q) e;
-  frame = λ s u q ul ql other kept fits loads. frame_at c s.heap u q g kept;
 }

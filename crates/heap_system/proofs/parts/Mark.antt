@@ -1,166 +1,301 @@
 -- A thread in a Mark pass.
-use Rattle.heap_system.proofs.PartLaws.{PartLaws}
-use Rattle.grey_steps.specs.Rows.{row_want, GreyState, grey_want, grey_got, grey_over, grey_holding, grey_nothing, grey_unit, holding_at}
-use Rattle.heap_machine.specs.declared.Step.TheVariants.{Over, Went}
-use Rattle.std.proofs.Common.{◌≡◌, ℕ, ◌+◌, Bool, true, false, ◌&&◌, ◌||◌, cond, eqb, ne_eqb, eq-eqb, eqb-true, Some, refl, ap, ◌∙◌, arith, inl, inr, ◌<◌, ◌≤◌, not, None, sym, subst}
-use Rattle.std.proofs.lemmas.Bool.{cases_eq}
+use Rattle.std.proofs.Common.{◌≡◌, ℕ, ◌+◌, ◌≤◌, Bool, true, false, ◌&&◌, ◌||◌, not, cond, eqb, Some, None, refl, sym, ap, ◌∙◌, subst, arith, inl, inr, eq-eqb, ne_eqb}
+use Rattle.std.proofs.lemmas.Bool.{cases_Bool, cases_eq}
 use Rattle.block_store.specs.declared.Config.{Config}
-use Rattle.block_store.specs.Heaps.{Heap, put_at}
-use Rattle.block_store.specs.Phases.{bit, cycle_of}
-use Rattle.block_store.specs.Places.{Phase, ColourOf, extent}
-use Rattle.block_store.specs.Widths.{payloads}
-use Rattle.heap_machine.specs.Operations.{place_of, heap_after}
-use Rattle.heap_machine.specs.declared.pass.Pass.{Pass}
-use Rattle.grey_steps.specs.Ends.{is_blackening}
-use Rattle.heap_system.specs.declared.local.Part.TheVariants.{Mark, Again}
 use Rattle.block_store.specs.Colours.{is_grey, grey_word, black_word, white_word}
-use Rattle.block_store.proofs.ColourWords.{not_grey_black, not_grey_white}
-use Rattle.grey_steps.specs.declared.rows.GreyRow.{GreyRow}
-use Rattle.grey_steps.proofs.Ends.{unit_grey, unit_after, unit_once, over_holds_none}
-use Rattle.heap_system.specs.Units.{blackens}
-use Rattle.heap_system.specs.Locals.{turn_of, if_marked, Open, makes_unit, finds_nothing, unit_to_come}
-use Rattle.heap_system.proofs.Pending.{pending_in, no_way}
-use Rattle.block_store.specs.Registers.{register_block, register_slot}
-use Rattle.shown_graph.specs.Words.{BlockWords}
-use Rattle.heap_system.proofs.Marks.{mark_words, mark_phase, mark_solid}
-use Rattle.heap_system.proofs.Kept.{still, stays, Event, Seen, IsMark, MarkKept}
-use Rattle.shown_graph.specs.Events.{unloaded}
 use Rattle.block_store.specs.Counts.{changed}
-use Rattle.heap_machine.specs.Grey.{GreyKept}
-use Rattle.heap_machine.proofs.Held.{held_after}
-use Rattle.heap_machine.specs.Holdings.{grey_held}
-use Rattle.grey_steps.specs.Fits.{GreyFits, GreyReads}
-use Rattle.grey_steps.proofs.Marking.{keeps}
-use Rattle.heap_system.specs.Pictures.{gating}
-use Rattle.heap_system.specs.declared.Turn.TheVariants as turns
+use Rattle.block_store.specs.Heaps.{Heap, put_at}
+use Rattle.block_store.specs.Phases.{bit, is_sweep, cycle_of}
+use Rattle.block_store.specs.Places.{Phase, Cursor, ColourOf, extent}
+use Rattle.block_store.specs.Widths.{payloads}
+use Rattle.block_store.proofs.ColourWords.{not_grey_white}
+use Rattle.heap_machine.specs.Holdings.{Holding, holds_nothing, grey_held}
+use Rattle.heap_machine.specs.Operations.{CompareExchange, place_of, heap_after}
+use Rattle.heap_machine.specs.PhaseKept.{PhaseKept}
+use Rattle.heap_machine.specs.declared.Step.TheVariants.{Over, Went}
+use Rattle.heap_machine.specs.declared.pass.Pass.{Pass}
+use Rattle.kept_names.specs.Kept.{IsKept}
+use Rattle.kept_names.specs.Pictures.{Task, no_task, picture}
+use Rattle.grey_steps.specs.declared.rows.GreyRow.{GreyRow}
 use Rattle.grey_steps.specs.declared.rows.GreyRow.TheVariants as marks
-use Rattle.grey_steps.proofs.Ranges as ranges
+use Rattle.grey_steps.specs.Ends.{is_blackening, is_shading}
+use Rattle.grey_steps.specs.Fits.{GreyFits, GreyReads}
+use Rattle.grey_steps.specs.Rows.{GreyState, row_want, grey_want, grey_got, grey_over, grey_step, grey_unit, grey_nothing, grey_holding, holding_at}
+use Rattle.grey_steps.proofs.Ends.{scan_goes_on, unit_after, unit_grey, unit_once}
+use Rattle.grey_steps.proofs.Pictures.{scan_keeps_names}
+use Rattle.grey_steps.proofs.Ranges.{next_fits, place_fits, sum_fits, keeps_words}
+use Rattle.grey_steps.proofs.Reuses.{keeps_phase, leaves_phase}
+use Rattle.heap_system.specs.declared.Turn.TheVariants as turns
+use Rattle.heap_system.specs.declared.local.Part.TheVariants.{Mark, Again, Idle}
+use Rattle.heap_system.specs.Locals.{turn_of, task, paid_got}
+use Rattle.heap_system.specs.Units.{blackens}
+use Rattle.heap_system.proofs.Passing.{inside_open}
+use Rattle.heap_system.proofs.PartLaws.{AtPart, PartLaws}
+use Rattle.heap_system.proofs.Seeing.{Seen, EventKept}
+use Rattle.heap_system.proofs.parts.InPass.{not_both, grey_or_black, of_pass, PassEvent, pass_is, pass_kept, stands, units_are}
 
--- no word is grey and black
-both : (a b : Bool) → (b ≡ true → a ≡ false) → (a && b) ≡ false
-both true true f = absurd (let z : true ≡ false = f refl in cc)
-both true false f = refl
-both false b f = refl
-
-never_both : (c w : ℕ) → (is_grey w && eqb w (black_word c)) ≡ false
-never_both c w = both (is_grey w) (eqb w (black_word c)) (λ e. ap is_grey (eqb-true w (black_word c) e) ∙ not_grey_black c)
-
--- a shade makes white grey
-shade_blackens : (h : Heap) (c d y hand : ℕ) → (is_grey (h (ColourOf y)) && eqb (cond (eqb (h (ColourOf y)) (white_word c)) (put_at h (ColourOf y) (grey_word hand)) h (ColourOf y)) (black_word d)) ≡ false
-shade_blackens h c d y hand = elim (cases_eq (h (ColourOf y)) (white_word c)) [
-  | inl e ↦ both (is_grey (h (ColourOf y))) (eqb (cond (eqb (h (ColourOf y)) (white_word c)) (put_at h (ColourOf y) (grey_word hand)) h (ColourOf y)) (black_word d)) (λ z. ap is_grey e ∙ not_grey_white c)
-  | inr n ↦ rw (ne_eqb (h (ColourOf y)) (white_word c) n) (never_both d (h (ColourOf y)))
+-- no event of marking writes the cursor
+shade_cursor : (h : Heap) (y old v : ℕ)
+    → heap_after h (CompareExchange (ColourOf y) old v) Cursor ≡ h Cursor
+shade_cursor h y old v = elim (cases_Bool (eqb (h (ColourOf y)) old)) [
+  | inl is ↦ rw is refl
+  | inr is ↦ rw is refl
 ]
 
--- and that at the event that makes the block under scan black, which is grey
-row_blackens : (m : ℕ) (h : Heap) (t n c : ℕ) (r : GreyRow) → c ≡ cycle_of (h Phase) → ((x : ℕ) → is_blackening r ≡ true → (grey_holding m r).scan ≡ Some x → is_grey (h (ColourOf x)) ≡ true) → blackens h (row_want t n c r) ≡ is_blackening r
-row_blackens m h t n c (marks.Take u) same grey = refl
-row_blackens m h t n c (marks.Pop hand) same grey = never_both (cycle_of (h Phase)) (h (ColourOf hand))
-row_blackens m h t n c (marks.ScanWord x j hand) same grey = refl
-row_blackens m h t n c (marks.Shade x j y hand) same grey = shade_blackens h c (cycle_of (h Phase)) y hand
-row_blackens m h t n c (marks.Blacken x hand) same grey = rw (grey x refl refl, eq-eqb x x refl) (eq-eqb (black_word c) (black_word (cycle_of (h Phase))) (ap black_word same))
-row_blackens m h t n c (marks.Put hand) same grey = refl
-row_blackens m h t n c marks.Scanned same grey = refl
-row_blackens m h t n c marks.NothingGrey same grey = refl
-row_blackens m h t n c (marks.TakeOwn y) same grey = refl
-row_blackens m h t n c (marks.ShadeStored y hand) same grey = shade_blackens h c (cycle_of (h Phase)) y hand
-row_blackens m h t n c (marks.PutOwn y hand) same grey = refl
-row_blackens m h t n c (marks.Shaded y) same grey = refl
+leaves_cursor : (h : Heap) (t n c : ℕ) (r : GreyRow)
+    → heap_after h (row_want t n c r) Cursor ≡ h Cursor
+leaves_cursor h t n c (marks.Shade x j y a) = shade_cursor h y (white_word c) (grey_word a)
+leaves_cursor h t n c (marks.ShadeStored y a) = shade_cursor h y (white_word c) (grey_word a)
+leaves_cursor h t n c _ = refl
 
-turns_in : (b : Bool) → turn_of (cond b Over Went) ≡ turns.Went
-turns_in true = refl
-turns_in false = refl
+-- marking claims nothing
+no_claim : (m : ℕ) (r : GreyRow)
+    → ((grey_holding m r).low ≡ 0) × ((grey_holding m r).high ≡ 0)
+no_claim m (marks.Take u) = (refl, refl)
+no_claim m (marks.Pop a) = (refl, refl)
+no_claim m (marks.ScanWord x j a) = (refl, refl)
+no_claim m (marks.Shade x j y a) = (refl, refl)
+no_claim m (marks.Blacken x a) = (refl, refl)
+no_claim m (marks.Put a) = (refl, refl)
+no_claim m marks.Scanned = (refl, refl)
+no_claim m marks.NothingGrey = (refl, refl)
+no_claim m (marks.TakeOwn y) = (refl, refl)
+no_claim m (marks.ShadeStored y a) = (refl, refl)
+no_claim m (marks.PutOwn y a) = (refl, refl)
+no_claim m (marks.Shaded y) = (refl, refl)
 
-unit_sum : (paid : ℕ) (b : Bool) → 0 + cond b (paid + 1) paid ≡ paid + bit b
-unit_sum paid true = omega arith
-unit_sum paid false = omega arith
+-- a scan that is over holds nothing
+over_nothing : (m : ℕ) (r : GreyRow) → grey_over r ≡ true → is_shading r ≡ false
+    → grey_holding m r ≡ holds_nothing
+over_nothing m marks.Scanned over scan = refl
+over_nothing m marks.NothingGrey over scan = refl
+over_nothing m (marks.Shaded y) over scan = absurd cc
+over_nothing m _ over scan = absurd cc
 
-or_false : (b : Bool) → (b || false) ≡ true → b ≡ true
-or_false true h = refl
-or_false false h = absurd cc
+-- a shade makes white grey
+shade_blackens : (h : Heap) (c d y hand : ℕ) → (is_grey (h (ColourOf y))
+    && eqb (cond (eqb (h (ColourOf y)) (white_word c))
+    (put_at h (ColourOf y) (grey_word hand)) h (ColourOf y)) (black_word d)) ≡ false
+shade_blackens h c d y hand = elim (cases_eq (h (ColourOf y)) (white_word c)) [
+  | inl e ↦ not_both (is_grey (h (ColourOf y)))
+      (eqb (cond (eqb (h (ColourOf y)) (white_word c))
+      (put_at h (ColourOf y) (grey_word hand)) h (ColourOf y)) (black_word d))
+      (λ z. ap is_grey e ∙ not_grey_white c)
+  | inr n ↦ rw (ne_eqb (h (ColourOf y)) (white_word c) n) (grey_or_black d (h (ColourOf y)))
+]
 
-marked_quiet : (c : Config) (m : GreyState) (q : ℕ) → pending_in c (if_marked m) q ≡ false
-marked_quiet c m q = by (grey_over m.row)
-  where
-    by : (b : Bool) → pending_in c (cond b Again (Mark m)) q ≡ false
-    by true = refl
-    by false = refl
+-- a grey block becomes black at the event that makes the block under scan black
+row_blackens : (m : ℕ) (h : Heap) (t n c : ℕ) (r : GreyRow) → c ≡ cycle_of (h Phase)
+    → ((x : ℕ) → is_blackening r ≡ true → (grey_holding m r).scan ≡ Some x
+    → is_grey (h (ColourOf x)) ≡ true)
+    → blackens h (row_want t n c r) ≡ is_blackening r
+row_blackens m h t n c (marks.Pop hand) same grey =
+    grey_or_black (cycle_of (h Phase)) (h (ColourOf hand))
+row_blackens m h t n c (marks.Shade x j y hand) same grey =
+    shade_blackens h c (cycle_of (h Phase)) y hand
+row_blackens m h t n c (marks.Blacken x hand) same grey = rw (grey x refl refl, eq-eqb x x refl)
+    (eq-eqb (black_word c) (black_word (cycle_of (h Phase))) (ap black_word same))
+row_blackens m h t n c (marks.ShadeStored y hand) same grey =
+    shade_blackens h c (cycle_of (h Phase)) y hand
+row_blackens m h t n c _ same grey = refl
 
 -- the unit of a Mark pass is paid once
-units_paid : (c : Config) (m : GreyState) (w paid due : ℕ) → paid + bit (not (grey_unit m.row)) ≤ due → cond (is_blackening m.row) (paid + 1) paid + bit (not (grey_unit (grey_got (extent c) m w).row)) ≤ due
-units_paid c m w paid due low = by (grey_unit m.row) (grey_unit (grey_got (extent c) m w).row) (is_blackening m.row) low (unit_after (extent c) m w) (unit_once m)
-  where
-    by : (a b u : Bool) → paid + bit (not a) ≤ due → b ≡ (a || u) → (a ≡ true → u ≡ false) → cond u (paid + 1) paid + bit (not b) ≤ due
-    by true b true l e once = absurd (let z : true ≡ false = once refl in cc)
-    by true true false l e once = omega (arith, l)
-    by true false false l e once = absurd cc
-    by false true true l e once = omega (arith, l)
-    by false false true l e once = absurd cc
-    by false true false l e once = absurd cc
-    by false false false l e once = omega (arith, l)
+units_paid : (a b u : Bool) (paid due : ℕ) → paid + bit (not a) ≤ due → b ≡ (a || u)
+    → (a ≡ true → u ≡ false) → paid_got None u paid + bit (not b) ≤ due
+units_paid true b true paid due l e once = absurd (let z : true ≡ false = once refl in cc)
+units_paid true true false paid due l e once = omega (arith, l)
+units_paid true false false paid due l e once = absurd cc
+units_paid false true true paid due l e once = omega (arith, l)
+units_paid false false true paid due l e once = absurd cc
+units_paid false true false paid due l e once = absurd cc
+units_paid false false false paid due l e once = omega (arith, l)
 
--- in a Mark pass
-module _ (c : Config) (s : Seen c) (m : GreyState) (is : s.loads s.thread ≡ unloaded) (stands : s.gatings s.thread ≡ gating c s.pass (Mark m)) (holds : s.holds s.thread ≡ grey_held (holding_at (extent c) m)) (kept : MarkKept s.thread s.pass m) (fits : GreyFits c m) (low : s.done < s.all) (pays : s.paid + unit_to_come c (Mark m) ≤ s.due) where
-  abbrev mark_word : ℕ
-  mark_word = s.heap (place_of (grey_want m))
+module _ (c : Config) (s : Seen c) (m : GreyState) (at : AtPart c s (Mark m)) where
+  abbrev read : ℕ
+  read = s.heap (place_of (grey_want m))
 
-  pub mark_reads : GreyReads c m (s.heap (place_of (grey_want m)))
-  mark_reads = s.rules.held (place_of (grey_want m)) (ranges.place_fits c m fits)
+  abbrev next : GreyState
+  next = grey_got (extent c) m read
 
-  mark_kept : GreyKept c.threads (heap_after s.heap (grey_want m)) (changed s.holds s.thread (grey_held (holding_at (extent c) (grey_got (extent c) m mark_word))))
-  mark_kept = subst (λ x. GreyKept c.threads (heap_after s.heap (grey_want m)) (changed s.holds x (grey_held (holding_at (extent c) (grey_got (extent c) m mark_word))))) kept.thread (keeps c s.heap s.holds m fits s.rules.grey (ap s.holds kept.thread ∙ holds))
+  abbrev new : Heap
+  new = heap_after s.heap (grey_want m)
 
-  pub mark_event : (b : Bool) → grey_over (grey_got (extent c) m mark_word).row ≡ b
-      → Event c s (heap_after s.heap (grey_want m)) None Open s.pass (cond b Again (Mark (grey_got (extent c) m mark_word))) None (makes_unit c (Mark m) mark_word) (finds_nothing c (Mark m) mark_word)
-  mark_event true e = record {
-    gate = stays c s (heap_after s.heap (grey_want m)) Again (Mark m) (mark_phase s.heap m.pass.thread m.pass.threads m.pass.cycle m.row) stands refl refl;
-    phase = subst (λ w. IsMark w) (sym (mark_phase s.heap m.pass.thread m.pass.threads m.pass.cycle m.row)) s.phase;
-    shown = still c s (heap_after s.heap (grey_want m)) Again (mark_words s.heap m.pass.thread m.pass.threads m.pass.cycle m.row) is refl;
+  fits : GreyFits c m
+  fits = at.fits.0
+
+  pub reads : GreyReads c m read
+  reads = s.held (place_of (grey_want m)) (place_fits c m fits)
+
+  -- the phase is Mark, in the cycle of the pass
+  mark : is_sweep (s.heap Phase) ≡ false
+  mark = sym (pass_is c s (Mark m) at refl).1 ∙ at.part.mark
+
+  cycle : cycle_of (s.heap Phase) ≡ m.pass.cycle
+  cycle = sym (pass_is c s (Mark m) at refl).0
+      ∙ sym (ap (λ (p : Pass). p.cycle) at.part.passes)
+
+  holds : s.holds m.pass.thread ≡ holding_at (extent c) m
+  holds = ap s.holds at.part.thread ∙ at.holds
+
+  rules : PhaseKept (extent c) new (changed s.holds s.thread (holding_at (extent c) next))
+  rules = subst
+      (λ t. PhaseKept (extent c) new (changed s.holds t (holding_at (extent c) next)))
+      at.part.thread (keeps_phase c s.heap s.holds m fits mark cycle s.rules holds)
+
+  -- the thread is at this, where it has found x
+  abbrev finds : ℕ → Task
+  finds x = record no_task { scan = x }
+
+  kept : IsKept c (picture s.graph s.order new s.names
+      (changed s.tasks s.thread (finds (holding_at (extent c) next).found)))
+  kept =
+      let x : ℕ = (holding_at (extent c) next).found in
+      let own : s.tasks m.pass.thread ≡ task c (Mark m) = ap s.tasks at.part.thread ∙ at.task in
+      subst (λ t. IsKept c (picture s.graph s.order new s.names (changed s.tasks t (finds x))))
+      at.part.thread
+      (subst (λ (w : Task). IsKept c (picture s.graph s.order new s.names
+      (changed s.tasks m.pass.thread w)))
+      (ap (λ (w : Task). record w { scan = x }) own)
+      (scan_keeps_names c s.graph s.order s.heap s.names s.tasks m fits mark cycle s.holds
+      s.rules.grey holds at.part.scans (ap (λ (w : Task). w.scan) own) s.kept))
+
+  phase : new Phase ≡ s.heap Phase
+  phase = leaves_phase s.heap m.pass.thread m.pass.threads m.pass.cycle m.row
+
+  cursor : new Cursor ≡ s.heap Cursor
+  cursor = leaves_cursor s.heap m.pass.thread m.pass.threads m.pass.cycle m.row
+
+  scan : is_shading next.row ≡ false
+  scan = scan_goes_on (payloads c.width) m.pass.threads m.pass.cycle m.row read at.part.scans
+
+  unclaimed : ((s.holds s.thread).low ≡ 0) × ((s.holds s.thread).high ≡ 0)
+  unclaimed =
+      let none = no_claim (payloads c.width) m.row in (
+        ap (λ (w : Holding). w.low) at.holds ∙ none.0,
+        ap (λ (w : Holding). w.high) at.holds ∙ none.1,
+      )
+
+  pays : paid_got None (is_blackening m.row) s.paid + bit (not (grey_unit next.row)) ≤ s.due
+  pays = units_paid (grey_unit m.row) (grey_unit next.row) (is_blackening m.row) s.paid s.due
+      at.pays (unit_after (extent c) m read) (unit_once m)
+
+  -- the part goes on
+  goes_on : grey_over next.row ≡ false → PassEvent c s new (is_blackening m.row) (Mark next)
+  goes_on more = record {
+    phase = phase;
+    rises = omega (arith, cursor);
+    passed = omega (arith, cursor, unclaimed.0, unclaimed.1);
+    held = keeps_words c s.heap m fits s.held;
+    rules = rules;
+    kept = kept;
+    inside = refl;
+    part = record {
+      passes = at.part.passes;
+      thread = at.part.thread;
+      mark = at.part.mark;
+      scans = scan;
+      going = more;
+    };
+    knows = tt;
+    fits = (next_fits c m read fits reads, at.fits.1, at.fits.2);
+    roomy = tt;
+    undecided = refl;
+    low = pays;
+    settled = tt;
+  }
+
+  -- it is over, with nothing in hand
+  nothing : grey_over next.row ≡ true → holding_at (extent c) next ≡ holds_nothing
+  nothing over = over_nothing (payloads c.width) next.row over scan
+
+  ended_rules : grey_over next.row ≡ true
+      → PhaseKept (extent c) new (changed s.holds s.thread holds_nothing)
+  ended_rules over = subst (λ (w : Holding). PhaseKept (extent c) new (changed s.holds s.thread w))
+      (nothing over) rules
+
+  ended_kept : grey_over next.row ≡ true
+      → IsKept c (picture s.graph s.order new s.names (changed s.tasks s.thread no_task))
+  ended_kept over = subst
+      (λ (w : Holding). IsKept c (picture s.graph s.order new s.names
+      (changed s.tasks s.thread (finds w.found))))
+      (nothing over) kept
+
+  again : grey_over next.row ≡ true → PassEvent c s new (is_blackening m.row) Again
+  again over = record {
+    phase = phase;
+    rises = omega (arith, cursor);
+    passed = omega (arith, cursor, unclaimed.0, unclaimed.1);
+    held = keeps_words c s.heap m fits s.held;
+    rules = ended_rules over;
+    kept = ended_kept over;
+    inside = refl;
     part = tt;
-    fits = low;
-    over = λ r z. absurd cc;
-    told = refl;
-    rules = record {
-      grey = subst (λ x. GreyKept c.threads (heap_after s.heap (grey_want m)) (changed s.holds s.thread x)) (over_holds_none (payloads c.width) (grey_got (extent c) m mark_word).row e) mark_kept;
-      held = held_after c s.heap (grey_want m) (ranges.stores_held c m fits) s.rules.held;
-      taken = λ x some last. mark_solid s.heap m.pass.thread m.pass.threads m.pass.cycle m.row x (s.rules.taken x some last);
-    };
-    low = omega (arith, units_paid c m mark_word s.paid s.due pays);
+    knows = tt;
+    fits = at.fits.1;
+    roomy = tt;
+    undecided = refl;
+    low = omega (arith, pays);
     settled = tt;
-    counted = refl;
-    lawful = tt;
   }
-  mark_event false e = record {
-    gate = stays c s (heap_after s.heap (grey_want m)) (Mark (grey_got (extent c) m mark_word)) (Mark m) (mark_phase s.heap m.pass.thread m.pass.threads m.pass.cycle m.row) stands refl refl;
-    phase = subst (λ w. IsMark w) (sym (mark_phase s.heap m.pass.thread m.pass.threads m.pass.cycle m.row)) s.phase;
-    shown = still c s (heap_after s.heap (grey_want m)) (Mark (grey_got (extent c) m mark_word)) (mark_words s.heap m.pass.thread m.pass.threads m.pass.cycle m.row) is refl;
-    part = record { passes = kept.passes; thread = kept.thread };
-    fits = (ranges.next_fits c m mark_word fits mark_reads, low);
-    over = λ r z. absurd cc;
-    told = refl;
-    rules = record {
-      grey = mark_kept;
-      held = held_after c s.heap (grey_want m) (ranges.stores_held c m fits) s.rules.held;
-      taken = λ x some last. mark_solid s.heap m.pass.thread m.pass.threads m.pass.cycle m.row x (s.rules.taken x some last);
-    };
-    low = units_paid c m mark_word s.paid s.due pays;
+
+  idle : grey_over next.row ≡ true → PassEvent c s new (is_blackening m.row) Idle
+  idle over = record {
+    phase = phase;
+    rises = omega (arith, cursor);
+    passed = omega (arith, cursor, unclaimed.0, unclaimed.1);
+    held = keeps_words c s.heap m fits s.held;
+    rules = ended_rules over;
+    kept = ended_kept over;
+    inside = refl;
+    part = ap (λ (p : Pass). p.thread) (sym at.part.passes) ∙ at.part.thread;
+    knows = λ sweep. absurd (let z : true ≡ false = sym sweep ∙ at.part.mark in cc);
+    fits = (at.fits.1, at.fits.2);
+    roomy = tt;
+    undecided = refl;
+    low = omega (arith, pays);
     settled = tt;
-    counted = refl;
-    lawful = tt;
   }
+
+  event : (over none : Bool) → grey_over next.row ≡ over → EventKept c s new
+      (of_pass (grey_step (extent c) m read) (is_blackening m.row)) None
+      (cond over (cond none Idle Again) (Mark next))
+  event true true is = pass_kept c s (Mark m) at refl new (grey_step (extent c) m read)
+      (is_blackening m.row) Idle (idle is)
+  event true false is = pass_kept c s (Mark m) at refl new (grey_step (extent c) m read)
+      (is_blackening m.row) Again (again is)
+  event false none is = pass_kept c s (Mark m) at refl new (grey_step (extent c) m read)
+      (is_blackening m.row) (Mark next) (goes_on is)
+
+  black : blackens s.heap (grey_want m) ≡ (is_blackening m.row && true)
+  black =
+      row_blackens (payloads c.width) s.heap m.pass.thread m.pass.threads m.pass.cycle m.row
+      (sym cycle)
+      (λ x is scan. (unit_grey c s.heap (λ u. grey_held (s.holds u)) m x fits s.rules.grey
+      (ap grey_held holds) is scan).0)
+      ∙ sym (and_yes (is_blackening m.row))
+    where
+      and_yes : (b : Bool) → (b && true) ≡ b
+      and_yes true = refl
+      and_yes false = refl
+
+turns_on : (over : Bool) → turn_of (cond over Over Went) ≡ turns.Went
+turns_on true = refl
+turns_on false = refl
 
 pub mark_laws : (c : Config) (m : GreyState) → PartLaws c (Mark m)
 mark_laws c m = record {
-  place = λ done all fits. ranges.place_fits c m fits.0;
-  reads = λ s is kept fits. s.rules.held (place_of (grey_want m)) (ranges.place_fits c m fits.0);
-  sum = λ s stands kept. ranges.sum_fits m (s.heap (place_of (grey_want m)));
-  event = λ s stands is empty kept fits pays settled served low. mark_event c s m is stands empty kept fits.0 fits.1 pays (grey_over (grey_got (extent c) m (s.heap (place_of (grey_want m)))).row) refl;
-  stays = λ g new u pass k kept same. (kept, refl);
-  low = λ done all w r fits e. absurd cc;
-  turn = λ w. turns_in (grey_over (grey_got (extent c) m w).row);
-  black = λ h hs t done all g pass k w grey is one stands fits. row_blackens (payloads c.width) h m.pass.thread m.pass.threads m.pass.cycle m.row (ap (λ (x : Pass). x.cycle) stands.passes ∙ one refl) (λ x b scan. (unit_grey c h hs m x fits.0 grey (ap hs stands.thread ∙ is) b scan).0);
-  units = λ t k paid w. unit_sum paid (is_blackening m.row);
-  found = λ w h. (m, refl, or_false (grey_nothing (grey_got (extent c) m w).row) h);
-  older = λ h t k more w q e. no_way _ (marked_quiet c (grey_got (extent c) m w) q) e;
-  frame = λ s u q ul ql other kept fits loads. ap (λ (w : BlockWords). w.payload (register_block c.width u q) (register_slot c.width q)) (mark_words s.heap m.pass.thread m.pass.threads m.pass.cycle m.row);
+  reads = λ s at. reads c s m at;
+  sum = λ s at. sum_fits m (s.heap (place_of (grey_want m)));
+  event = λ s at more. (let next = grey_got (extent c) m (s.heap (place_of (grey_want m))) in
+      event c s m at (grey_over next.row) (grey_nothing next.row) refl);
+  stays = λ g new u pass k kept same count. (kept, refl);
+  knows = λ h new ns later pass forward cursor behind closing known. tt;
+  rests = λ s at closed outside. absurd (inside_open c s (stands c s (Mark m) at refl) closed);
+  idle = λ out. absurd (let z : true ≡ false = out in cc);
+  empty = λ out. absurd (let z : false ≡ true = out in cc);
+  builds = λ done all pass fits. tt;
+  low = λ done all w pass r fits e. absurd cc;
+  turn = λ w. turns_on (grey_over (grey_got (extent c) m w).row);
+  black = λ s at. black c s m at;
+  units = λ t k paid w. units_are paid (is_blackening m.row);
 }

@@ -1,26 +1,39 @@
 -- A thread at rest.
-use Rattle.heap_system.proofs.Kept.{phase_is, began, look_event}
-use Rattle.heap_system.proofs.PartLaws.{PartLaws}
-use Rattle.std.proofs.Common.{refl, ap, arith, inl, inr}
+use Rattle.std.proofs.Common.{◌<◌, refl, sym, ap, arith, inl, inr}
 use Rattle.std.proofs.lemmas.Bool.{cases_Bool}
 use Rattle.block_store.specs.declared.Config.{Config}
 use Rattle.block_store.specs.Phases.{is_closed}
+use Rattle.block_store.specs.Places.{Phase}
 use Rattle.heap_machine.specs.Gating.{Gating}
-use Rattle.heap_system.specs.declared.local.Part.TheVariants.{Rest}
-use Rattle.heap_system.proofs.Pending.{no_way, entered_quiet}
+use Rattle.heap_machine.specs.declared.Step.TheVariants as steps
+use Rattle.heap_machine.specs.declared.gate.GateRow.TheVariants as gates
+use Rattle.heap_machine.proofs.Gatings.{gate_stays}
+use Rattle.heap_system.specs.declared.local.Part.TheVariants.{Rest, Enter}
+use Rattle.heap_system.proofs.Passing.{phase_is, began, look_event}
+use Rattle.heap_system.proofs.PartLaws.{AtPart, PartEvent, PartLaws}
+use Rattle.heap_system.proofs.Seeing.{Seen}
+
+rest_event : (c : Config) (s : Seen c) → AtPart c s Rest → s.done < s.all → PartEvent c s Rest
+rest_event c s at low = elim (cases_Bool (is_closed (s.heap Phase))) [
+  | inl e ↦ rw e (look_event c s steps.Waited _ (Enter gates.Look) (record { task = refl; holds = refl; waits = refl; part = tt; fits = (tt, refl, low); roomy = tt; low = omega (arith, at.pays); settled = tt }) at.task at.holds
+      (gate_stays c.threads (s.heap Phase) s.gatings s.gate s.thread s.low _ (sym (ap (λ (x : Gating). x.stand) at.gating)) (λ e. absurd cc)) s.behind tt)
+  | inr e ↦ rw e (look_event c s steps.Went _ (Enter (gates.Enter (s.heap Phase))) (record { task = refl; holds = refl; waits = refl; part = tt; fits = (record { word = phase_is c s; opened = e }, refl, low); roomy = tt; low = omega (arith, at.pays); settled = tt }) at.task at.holds
+      (gate_stays c.threads (s.heap Phase) s.gatings s.gate s.thread s.low _ (sym (ap (λ (x : Gating). x.stand) at.gating)) (λ e. absurd cc)) s.behind tt)
+]
 
 pub rest_laws : (c : Config) → PartLaws c Rest
 rest_laws c = record {
-  place = λ done all fits. refl;
-  reads = λ s is kept fits. (phase_is c s, began c s);
-  sum = λ s stands kept. tt;
-  event = λ s stands is empty kept fits pays settled served low. look_event c s (ap (λ (x : Gating). x.stand) stands) is empty (low refl) (omega (arith, pays));
-  stays = λ g new u pass k kept same. (tt, refl);
-  low = λ done all w r fits e. absurd cc;
+  reads = λ s at. (phase_is c s, began c s);
+  sum = λ s at. tt;
+  event = λ s at low. rest_event c s at (low refl);
+  stays = λ g new u pass k kept same count. (tt, refl);
+  knows = λ h new ns later pass on cursor behind still is. tt;
+  rests = λ s at closed out. (refl, refl);
+  idle = λ out. refl;
+  empty = λ out. refl;
+  builds = λ done all pass fits. tt;
+  low = λ done all w pass r fits e. absurd cc;
   turn = λ w. elim (cases_Bool (is_closed w)) [ inl e ↦ rw e refl | inr e ↦ rw e refl ];
-  black = λ h hs t done all g pass k w grey is one stands fits. refl;
+  black = λ s at. refl;
   units = λ t k paid w. omega arith;
-  found = λ w h. absurd cc;
-  older = λ h t k more w q e. no_way _ (entered_quiet c _ t c.threads k more _ q) e;
-  frame = λ s u q ul ql other kept fits loads. refl;
 }

@@ -1,405 +1,334 @@
 -- A thread in a command that allocates nothing.
-use Rattle.heap_system.proofs.Kept.{opening_low, stays, Event, holding_self, Seen, AreTaken, IsMark, RowKept, graph_decided, told_by, grey_of, IsLawful}
-use Rattle.heap_system.proofs.PartLaws.{PartLaws, Found}
-use Rattle.barrier_steps.specs.Rows.{step_of, FieldState, field_want, field_got, field_reply, row_want, row_got, after_object, after_shape, after_said, at_block, on_way, payload_in, shape_in, way_from, way_on}
-use Rattle.heap_system.proofs.Moves.{field_reads, state, graph_after, FieldStep, field_moves, undecided}
-use Rattle.std.proofs.Common.{◌≡◌, ℕ, ◌+◌, true, false, Option, Some, None, refl, sym, ◌∙◌, subst, arith, ◌<◌, Bool, ltb, ne_eqb, ◌⊎◌, inl, inr, ⊎_elim, ap, cond, append-nil, [], ◌∷◌, ◌++◌}
+use Rattle.std.proofs.Common.{◌≡◌, ℕ, ◌+◌, ◌*◌, ◌-◌, ◌<◌, ◌≤◌, Bool, true, false, cond, eqb, Option, Some, None, is_some, List, [], ◌∷◌, ◌++◌, append-nil, length, refl, sym, ap, ◌∙◌, subst, arith, inl, inr, ne_eqb}
+use Rattle.std.proofs.lemmas.Bool.{cases_Bool}
 use Rattle.block_store.specs.declared.Config.{Config}
-use Rattle.block_store.specs.Heaps.{Heap, put_at}
-use Rattle.block_store.specs.Places.{extent, PayloadOf, Phase, ColourOf}
+use Rattle.block_store.specs.Colours.{is_grey, black_word}
+use Rattle.block_store.specs.Counts.{changed}
+use Rattle.block_store.specs.Heaps.{Heap}
+use Rattle.block_store.specs.Phases.{is_closed, is_sweep, cycle_of}
+use Rattle.block_store.specs.Places.{Place, extent, Phase, Cursor, ColourOf}
+use Rattle.block_store.proofs.ColourWords.{not_grey_black}
 use Rattle.never_heap.specs.declared.Command.{Command}
 use Rattle.never_heap.specs.declared.Reply.{Reply}
-use Rattle.never_heap.specs.Graphs.{Graph, start_graph, register_of, object_of}
-use Rattle.shown_graph.specs.Shown.{every_name, Shows, IsValueOf}
-use Rattle.shown_graph.specs.Openings.{opening_at}
-use Rattle.array_trees.specs.Openings.{opening_blocks}
+use Rattle.never_heap.specs.declared.Reply.TheVariants as replies
+use Rattle.never_heap.specs.Graphs.{Graph, register_of, count_of}
+use Rattle.never_heap.specs.Histories.{HistoryItem, Did}
+use Rattle.never_heap.specs.Steps.{step, makes_object}
+use Rattle.never_heap.proofs.Stepping.{change_of, count_stays}
+use Rattle.heap_machine.specs.Gating.{Gating, GateOf, is_outside}
+use Rattle.heap_machine.specs.Holdings.{Holding}
 use Rattle.heap_machine.specs.Operations.{place_of, heap_after}
+use Rattle.heap_machine.specs.PhaseKept.{PhaseKept}
+use Rattle.heap_machine.specs.Sweeping.{SweepHolding}
+use Rattle.heap_machine.specs.declared.pass.Pass.{Pass}
+use Rattle.heap_machine.proofs.Gatings.{gate_stays}
+use Rattle.kept_names.specs.Kept.{IsKept}
+use Rattle.kept_names.specs.Pictures.{picture}
+use Rattle.kept_names.specs.States.{KeptState}
+use Rattle.shown_graph.specs.Events.{Loading, unloaded}
 use Rattle.barrier_steps.specs.declared.rows.FieldRow.{FieldRow}
-use Rattle.barrier_steps.specs.Replies.{due_at, reply_due, IsKnown, KnownAt}
-use Rattle.barrier_steps.proofs.FieldRows.{field_sum, field_place, field_fits, stores_held}
-use Rattle.heap_system.specs.declared.local.Part.TheVariants.{Serve, Leave}
-use Rattle.heap_system.specs.Locals.{paid_got, waived_got, entries_of, works, turn_of, if_replied, if_decides, entry_of}
-use Rattle.barrier_steps.specs.Operands.{to_register, from_register, field_index}
-use Rattle.heap_system.specs.Units.{blackens}
-use Rattle.heap_system.proofs.Pending.{pending_in, pending_at, Pending, no_way}
-use Rattle.std.proofs.lemmas.Bool.{cases_Bool}
-use Rattle.block_store.specs.declared.TheConstants.{REGISTERS}
-use Rattle.block_store.specs.declared.Name.{Name}
-use Rattle.block_store.specs.declared.Payload.{Payload}
-use Rattle.block_store.specs.declared.Shape.{Shape}
-use Rattle.block_store.specs.Registers.{register_block, register_slot}
-use Rattle.block_store.specs.Payloads.{target}
-use Rattle.barrier_steps.specs.Deciding.{is_deciding}
-use Rattle.shown_graph.specs.Words.{BlockWords, block_words}
-use Rattle.shown_graph.specs.Events.{ObjectLoad, ObjectIs, LoadIs, object_in, pending_registers, Loading, unloaded, with_load, Follows}
-use Rattle.block_store.proofs.Registers.{register_low, own_array}
-use Rattle.shown_graph.proofs.Stores.{register_apart}
-use Rattle.barrier_steps.specs.declared.rows.Way.{Way}
-use Rattle.barrier_steps.specs.Fits.{FitsAt, FieldFits, FieldReads}
-use Rattle.barrier_steps.proofs.Named.{to_low}
-use Rattle.barrier_steps.specs.Walks.{links_to, shape_length}
-use Rattle.barrier_steps.specs.Projection.{row_loading, loading_of, object_on}
-use Rattle.block_store.specs.Colours.{is_free}
-use Rattle.never_heap.specs.Steps.{step}
-use Rattle.block_store.specs.Counts.{changed}
-use Rattle.heap_machine.specs.Grey.{no_grey, GreyKept, is_of_grey}
-use Rattle.heap_machine.proofs.GreyBlocks.{kept_other}
-use Rattle.heap_machine.proofs.Held.{held_after}
-use Rattle.barrier_steps.proofs.Dues.{none_due}
-use Rattle.heap_system.specs.declared.local.Part.{Part}
-use Rattle.heap_system.specs.Pictures.{gating}
-use Rattle.heap_system.specs.declared.Turn.TheVariants as turns
 use Rattle.barrier_steps.specs.declared.rows.FieldRow.TheVariants as rows
-use Rattle.barrier_steps.specs.Rows as fields
-use Rattle.block_store.specs.declared.Payload.TheVariants as payloads
-use Rattle.never_heap.specs.declared.Command.TheVariants as commands
+use Rattle.barrier_steps.specs.declared.rows.FieldStore.TheVariants as stores
+use Rattle.barrier_steps.specs.Decided.{field_task, graph_on, order_on}
+use Rattle.barrier_steps.specs.Deciding.{is_deciding}
+use Rattle.barrier_steps.specs.Fits.{FieldFits, FieldReads}
+use Rattle.barrier_steps.specs.Operands.{to_register, from_register}
+use Rattle.barrier_steps.specs.Projection.{row_loading, loading_of}
+use Rattle.barrier_steps.specs.Replies.{due_at, reply_due, IsKnown, KnownAt}
+use Rattle.barrier_steps.specs.Rows.{FieldState, field_want, field_got, field_reply, field_decided, field_holding, field_step, step_of}
+use Rattle.barrier_steps.proofs.Decisions.{decided_once, makes_none}
+use Rattle.barrier_steps.proofs.Dues.{none_due}
+use Rattle.barrier_steps.proofs.FieldRows.{field_sum, field_fits}
+use Rattle.barrier_steps.proofs.Keeping.{keeps_phase, keeps_words, over_nothing}
+use Rattle.barrier_steps.proofs.Leaving.{field_phase, field_cursor, grey_stays, field_found, field_claims}
+use Rattle.barrier_steps.proofs.Naming.{keeps_names, loaded_solid, due_on, reads_on}
+use Rattle.sweep_steps.specs.Ends.{unpassed}
+use Rattle.heap_system.specs.declared.local.Part.{Part}
+use Rattle.heap_system.specs.declared.local.Part.TheVariants.{Serve, Leave}
+use Rattle.heap_system.specs.declared.Turn.TheVariants as turns
+use Rattle.heap_system.specs.Locals.{Verdict, Effect, plain, task, paid_got, made_got, if_replied, if_decides, turn_of, entry_of, entries_of, works}
+use Rattle.heap_system.specs.Pictures.{gating, holding}
+use Rattle.heap_system.specs.Units.{blackens, turns_black}
+use Rattle.heap_system.proofs.Passing.{inside_open}
+use Rattle.heap_system.proofs.PartLaws.{AtPart, PartLaws}
+use Rattle.heap_system.proofs.Seeing.{stage, stage_of, lead, Seen, EventKept, graph_decided, told_by, items_told, IsDecided}
 
 -- the other threads' rows say the same of a graph in which their registers are the same
 row_stays : (g new : Graph) (u : ℕ) (k : Command) (r : FieldRow) → ((q : ℕ) → register_of new u q ≡ register_of g u q) → (KnownAt g u k r → KnownAt new u k r) × (due_at new u k r ≡ due_at g u k r)
 row_stays g new u k (rows.LoadOwner word) same = (λ x. x, rw (same (to_register k)) refl)
 row_stays g new u k (rows.StorePending word value) same = (let s : register_of new u (to_register k) ≡ register_of g u (to_register k) = same (to_register k) in (λ x. x ∙ sym s, rw s refl))
+row_stays g new u k (rows.Shade r (stores.Pending word value)) same = (let s : register_of new u (to_register k) ≡ register_of g u (to_register k) = same (to_register k) in (λ x. x ∙ sym s, rw s refl))
 row_stays g new u k (rows.LoadSaidOwner word) same = (λ x. x, rw (same (from_register k)) refl)
 row_stays g new u k _ same = (λ x. x, refl)
 
 field_stays : (g new : Graph) (u : ℕ) (f : FieldState) → f.pass.thread ≡ u → ((q : ℕ) → register_of new u q ≡ register_of g u q) → (IsKnown g f → IsKnown new f) × (reply_due new f ≡ reply_due g f)
 field_stays g new u f e same = row_stays g new f.pass.thread f.command f.row (subst (λ v. (q : ℕ) → register_of new v q ≡ register_of g v q) (sym e) same)
 
--- a row of a command makes no block black
-field_blackens : (c : Config) (h : Heap) (t : ℕ) (k : Command) (r : FieldRow) → blackens h (fields.row_want (extent c) t k r) ≡ false
-field_blackens c h t k rows.StoreNumber = refl
-field_blackens c h t k rows.StoreNil = refl
-field_blackens c h t k rows.LoadMoved = refl
-field_blackens c h t k (rows.StoreMoved word) = refl
-field_blackens c h t k rows.LoadObject = refl
-field_blackens c h t k (rows.LoadShape x) = refl
-field_blackens c h t k (rows.LoadValue way) = refl
-field_blackens c h t k (rows.LoadLink way word) = refl
-field_blackens c h t k (rows.LoadField way) = refl
-field_blackens c h t k (rows.LoadOwner word) = refl
-field_blackens c h t k (rows.StorePending word value) = refl
-field_blackens c h t k (rows.StoreField way word) = refl
-field_blackens c h t k rows.LoadFirst = refl
-field_blackens c h t k (rows.LoadSecond word) = refl
-field_blackens c h t k rows.LoadSaid = refl
-field_blackens c h t k (rows.LoadSaidOwner word) = refl
-field_blackens c h t k (rows.Answered reply) = refl
-
-turns_in : (o : Option Reply) → turn_of (step_of o) ≡ turns.Went
-turns_in None = refl
-turns_in (Some r) = refl
-
-replied_sum : (t : ℕ) (k : Command) (paid : ℕ) (o : Option Reply) → works (entries_of t k paid o) + paid_got o false paid ≡ paid
-replied_sum t k paid None = omega arith
-replied_sum t k paid (Some r) = omega arith
-
-never : (o : Option Reply) (P : Type 0) → waived_got o false false ≡ true → P
-never None P h = absurd cc
-never (Some r) P h = absurd cc
-
--- the part that a row leads to is pending where the row is
-led_pending : (c : Config) (f : FieldState) (q : ℕ) → pending_in c (if_replied (field_reply f.row) f) q ≡ true → pending_at c f.command f.row q ≡ true
-led_pending c f q = by (field_reply f.row)
-  where
-    by : (o : Option _) → pending_in c (if_replied o f) q ≡ true → pending_at c f.command f.row q ≡ true
-    by None e = e
-    by (Some y) e = absurd cc
-
--- rows after which no register is pending
-object_quiet : (c : Config) (k : Command) (y : Payload) (q : ℕ) → pending_at c k (after_object y) q ≡ false
-object_quiet c k payloads.Nil q = refl
-object_quiet c k (payloads.Int v) q = refl
-object_quiet c k (payloads.Block x) q = refl
-
-said_quiet : (c : Config) (k : Command) (w : ℕ) (y : Payload) (q : ℕ) → pending_at c k (after_said w y) q ≡ false
-said_quiet c k w payloads.Nil q = refl
-said_quiet c k w (payloads.Int v) q = refl
-said_quiet c k w (payloads.Block x) q = refl
-
-carried_quiet : (c : Config) (k : Command) (way : Way) (word q : ℕ) → pending_at c k (rows.LoadLink way word) q ≡ false
-carried_quiet c (commands.Put s i v) way word q = refl
-carried_quiet c _ way word q = refl
-
-block_quiet : (c : Config) (k : Command) (way : Way) (word q : ℕ) → pending_at c k (at_block k way word) q ≡ false
-block_quiet c (commands.Put s i v) way word q = refl
-block_quiet c _ way word q = refl
-
-way_quiet : (c : Config) (k : Command) (way : Way) (word q : ℕ) → pending_at c k (on_way (extent c) k way word) q ≡ false
-way_quiet c k way word q = elim (cases_Bool (ltb way.level (links_to (extent c) way.shape (field_index k)))) [
-  | inl e ↦ rw e (carried_quiet c k way word q)
-  | inr e ↦ rw e (block_quiet c k way word q)
+-- a grey block does not become black
+turns_none : (cycle : ℕ) (p : Place) (before after : ℕ) → ((x : ℕ) → p ≡ ColourOf x → is_grey before ≡ true → after ≡ before) → turns_black cycle p before after ≡ false
+turns_none cycle (ColourOf x) before after same = elim (cases_Bool (is_grey before)) [
+  | inl grey ↦
+      let away : eqb after (black_word cycle) ≡ false = ne_eqb after (black_word cycle) (λ e. (let z : true ≡ false = sym grey ∙ ap is_grey (sym (same x refl grey) ∙ e) ∙ not_grey_black cycle in cc)) in
+      rw (grey, away) refl
+  | inr none ↦ rw none refl
 ]
+turns_none cycle _ before after same = refl
 
-shape_quiet : (c : Config) (k : Command) (x : ℕ) (f : Shape) (q : ℕ) → pending_at c k (after_shape (extent c) k x f) q ≡ false
-shape_quiet c (commands.Get d s i) x f q = elim (cases_Bool (ltb i (shape_length f))) [
-  | inl e ↦ rw e (way_quiet c (commands.Get d s i) (way_from f x) 0 q)
-  | inr e ↦ rw e refl
-]
-shape_quiet c (commands.Put s i v) x f q = elim (cases_Bool (ltb i (shape_length f))) [
-  | inl e ↦ rw e refl
-  | inr e ↦ rw e refl
-]
-shape_quiet c _ x f q = refl
+field_blackens : (c : Config) (h : Heap) (f : FieldState) → FieldFits c f → blackens h (field_want (extent c) f) ≡ false
+field_blackens c h f fits =
+    turns_none (cycle_of (h Phase)) (place_of (field_want (extent c) f)) (h (place_of (field_want (extent c) f))) (heap_after h (field_want (extent c) f) (place_of (field_want (extent c) f)))
+    (λ x e grey. subst (λ p. is_grey (h p) ≡ true → heap_after h (field_want (extent c) f) p ≡ h p) (sym e) (grey_stays c h f x fits) grey)
 
-record PendingAt (c : Config) (h : Heap) (t : ℕ) (k : Command) (r : FieldRow) (w q : ℕ) : Type 0 where
-  pub reads : heap_after h (row_want (extent c) t k r) ≡ h
-  pub how : ((is_deciding k r w ≡ true) × (pending_at c k r q ≡ false)) ⊎ ((is_deciding k r w ≡ false) × (pending_at c k r q ≡ true))
-
-row_pending : (c : Config) (h : Heap) (t : ℕ) (k : Command) (r : FieldRow) (w q : ℕ) → pending_at c k (row_got (extent c) k r w) q ≡ true → PendingAt c h t k r w q
-row_pending c h t k rows.StoreNumber w q e = absurd cc
-row_pending c h t k rows.StoreNil w q e = absurd cc
-row_pending c h t k rows.LoadMoved w q e = absurd cc
-row_pending c h t k (rows.StoreMoved word) w q e = absurd cc
-row_pending c h t k rows.LoadObject w q e = no_way _ (object_quiet c k (payload_in w) q) e
-row_pending c h t k (rows.LoadShape x) w q e = no_way _ (shape_quiet c k x (shape_in w) q) e
-row_pending c h t k (rows.LoadValue way) w q e = no_way _ (way_quiet c k way w q) e
-row_pending c h t k (rows.LoadLink way word) w q e = no_way _ (way_quiet c k (way_on way (target w)) word q) e
-row_pending c h t k (rows.LoadField way) w q e = record { reads = refl; how = inl (refl, refl) }
-row_pending c h t k (rows.LoadOwner word) w q e = record { reads = refl; how = inr (refl, e) }
-row_pending c h t k (rows.StorePending word value) w q e = absurd cc
-row_pending c h t k (rows.StoreField way word) w q e = absurd cc
-row_pending c h t k rows.LoadFirst w q e = absurd cc
-row_pending c h t k (rows.LoadSecond word) w q e = absurd cc
-row_pending c h t k rows.LoadSaid w q e = no_way _ (said_quiet c k w (payload_in w) q) e
-row_pending c h t k (rows.LoadSaidOwner word) w q e = absurd cc
-row_pending c h t k (rows.Answered reply) w q e = absurd cc
-
-field_pending : (c : Config) (h : Heap) (f : FieldState) (w q : ℕ) → pending_in c (if_replied (field_reply (field_got (extent c) f w).row) (field_got (extent c) f w)) q ≡ true → Pending c h (Serve f) w q
-field_pending c h f w q e =
-    let l : PendingAt c h f.pass.thread f.command f.row w q = row_pending c h f.pass.thread f.command f.row w q (led_pending c (field_got (extent c) f w) q e) in
-    record { reads = l.reads; how = ⊎_elim (λ d. inl (ap if_decides d.0, d.1)) (λ d. inr (ap if_decides d.0, d.1)) l.how }
-
--- another thread's event leaves a register's word
-module _ (c : Config) (g : Graph) (m : ℕ) (K : Name → Type 0) (at : Name → ℕ → ℕ) (words : BlockWords) (pending : ℕ → ℕ → Bool) (shows : Shows c.width c.threads m K g at words pending) (u q : ℕ) (ul : u < c.threads) (ql : q < REGISTERS) (h : Heap) (t : ℕ) (tl : t < c.threads) (other : t ≡ u → ⊥) where
-  object_apart : (l : ObjectLoad) → ObjectIs c.width g at t l → l.block ≡ register_block c.width u q → ⊥
-  object_apart l o e =
-      register_apart c.width c.threads m K (object_of g) at shows.placed (register_block c.width u q) (register_low c.width c.threads u q ul ql) o.name l.ordinal
-      (subst (λ v. IsValueOf K v) o.refers (shows.closed.registers t l.source tl o.source)) o.ordinal (sym e ∙ o.block)
-
-  stays_at : (x j v : ℕ) → (x ≡ register_block c.width u q → ⊥) → put_at h (PayloadOf x j) v (PayloadOf (register_block c.width u q) (register_slot c.width q)) ≡ h (PayloadOf (register_block c.width u q) (register_slot c.width q))
-  stays_at x j v n = rw (ne_eqb x (register_block c.width u q) n) refl
-
-  register_other : (s d : ℕ) → s ≡ t → d < REGISTERS → register_block c.width s d ≡ register_block c.width u q → ⊥
-  register_other s d e dl f = other (sym e ∙ own_array c.width s d u q dl ql f)
-
-  row_frame : (k : Command) (r : FieldRow) → FitsAt c t k r → LoadIs c.width g at t (row_loading (extent c) k r) → heap_after h (row_want (extent c) t k r) (PayloadOf (register_block c.width u q) (register_slot c.width q)) ≡ h (PayloadOf (register_block c.width u q) (register_slot c.width q))
-  row_frame k rows.StoreNumber fits loads = stays_at _ _ _ (register_other t (to_register k) refl (to_low k fits.command))
-  row_frame k rows.StoreNil fits loads = stays_at _ _ _ (register_other t (to_register k) refl (to_low k fits.command))
-  row_frame k rows.LoadMoved fits loads = refl
-  row_frame k (rows.StoreMoved word) fits loads = stays_at _ _ _ (register_other t (to_register k) refl (to_low k fits.command))
-  row_frame k rows.LoadObject fits loads = refl
-  row_frame k (rows.LoadShape x) fits loads = refl
-  row_frame k (rows.LoadValue way) fits loads = refl
-  row_frame k (rows.LoadLink way word) fits loads = refl
-  row_frame k (rows.LoadField way) fits loads = refl
-  row_frame k (rows.LoadOwner word) fits loads = refl
-  row_frame k (rows.StorePending word value) fits loads = stays_at _ _ _ (register_other t (to_register k) refl (to_low k fits.command))
-  row_frame k (rows.StoreField way word) fits loads = stays_at _ _ _ (object_apart (object_in (object_on (extent c) k way)) loads.object)
-  row_frame k rows.LoadFirst fits loads = refl
-  row_frame k (rows.LoadSecond word) fits loads = refl
-  row_frame k rows.LoadSaid fits loads = refl
-  row_frame k (rows.LoadSaidOwner word) fits loads = refl
-  row_frame k (rows.Answered reply) fits loads = refl
-
-  field_frame : (f : FieldState) → f.pass.thread ≡ t → FieldFits c f → LoadIs c.width g at t (loading_of (extent c) f) → heap_after h (field_want (extent c) f) (PayloadOf (register_block c.width u q) (register_slot c.width q)) ≡ h (PayloadOf (register_block c.width u q) (register_slot c.width q))
-  field_frame f e fits loads =
-      ap (λ s. heap_after h (row_want (extent c) s f.command f.row) (PayloadOf (register_block c.width u q) (register_slot c.width q))) e ∙ row_frame f.command f.row (subst (λ s. FitsAt c s f.command f.row) e fits) loads
-
--- a row of a command leaves the phase word
-row_phase : (c : Config) (h : Heap) (t : ℕ) (k : Command) (r : FieldRow) → heap_after h (row_want (extent c) t k r) Phase ≡ h Phase
-row_phase c h t k rows.StoreNumber = refl
-row_phase c h t k rows.StoreNil = refl
-row_phase c h t k rows.LoadMoved = refl
-row_phase c h t k (rows.StoreMoved word) = refl
-row_phase c h t k rows.LoadObject = refl
-row_phase c h t k (rows.LoadShape x) = refl
-row_phase c h t k (rows.LoadValue way) = refl
-row_phase c h t k (rows.LoadLink way word) = refl
-row_phase c h t k (rows.LoadField way) = refl
-row_phase c h t k (rows.LoadOwner word) = refl
-row_phase c h t k (rows.StorePending word value) = refl
-row_phase c h t k (rows.StoreField way word) = refl
-row_phase c h t k rows.LoadFirst = refl
-row_phase c h t k (rows.LoadSecond word) = refl
-row_phase c h t k rows.LoadSaid = refl
-row_phase c h t k (rows.LoadSaidOwner word) = refl
-row_phase c h t k (rows.Answered reply) = refl
-
-pub field_phase : (c : Config) (h : Heap) (f : FieldState) → heap_after h (field_want (extent c) f) Phase ≡ h Phase
-field_phase c h f = row_phase c h f.pass.thread f.command f.row
-
--- a command that allocates nothing writes no colour and no grey list
-row_colour : (c : Config) (h : Heap) (t : ℕ) (k : Command) (r : FieldRow) (y : ℕ) → heap_after h (row_want (extent c) t k r) (ColourOf y) ≡ h (ColourOf y)
-row_colour c h t k rows.StoreNumber y = refl
-row_colour c h t k rows.StoreNil y = refl
-row_colour c h t k rows.LoadMoved y = refl
-row_colour c h t k (rows.StoreMoved word) y = refl
-row_colour c h t k rows.LoadObject y = refl
-row_colour c h t k (rows.LoadShape x) y = refl
-row_colour c h t k (rows.LoadValue way) y = refl
-row_colour c h t k (rows.LoadLink way word) y = refl
-row_colour c h t k (rows.LoadField way) y = refl
-row_colour c h t k (rows.LoadOwner word) y = refl
-row_colour c h t k (rows.StorePending word value) y = refl
-row_colour c h t k (rows.StoreField way word) y = refl
-row_colour c h t k rows.LoadFirst y = refl
-row_colour c h t k (rows.LoadSecond word) y = refl
-row_colour c h t k rows.LoadSaid y = refl
-row_colour c h t k (rows.LoadSaidOwner word) y = refl
-row_colour c h t k (rows.Answered reply) y = refl
-
-pub field_colour : (c : Config) (h : Heap) (f : FieldState) (y : ℕ) → heap_after h (field_want (extent c) f) (ColourOf y) ≡ h (ColourOf y)
-field_colour c h f y = row_colour c h f.pass.thread f.command f.row y
-
-row_other : (c : Config) (t : ℕ) (k : Command) (r : FieldRow) → is_of_grey (place_of (row_want (extent c) t k r)) ≡ false
-row_other c t k rows.StoreNumber = refl
-row_other c t k rows.StoreNil = refl
-row_other c t k rows.LoadMoved = refl
-row_other c t k (rows.StoreMoved word) = refl
-row_other c t k rows.LoadObject = refl
-row_other c t k (rows.LoadShape x) = refl
-row_other c t k (rows.LoadValue way) = refl
-row_other c t k (rows.LoadLink way word) = refl
-row_other c t k (rows.LoadField way) = refl
-row_other c t k (rows.LoadOwner word) = refl
-row_other c t k (rows.StorePending word value) = refl
-row_other c t k (rows.StoreField way word) = refl
-row_other c t k rows.LoadFirst = refl
-row_other c t k (rows.LoadSecond word) = refl
-row_other c t k rows.LoadSaid = refl
-row_other c t k (rows.LoadSaidOwner word) = refl
-row_other c t k (rows.Answered reply) = refl
-
-field_other : (c : Config) (f : FieldState) → is_of_grey (place_of (field_want (extent c) f)) ≡ false
-field_other c f = row_other c f.pass.thread f.command f.row
-
--- a reply that is there is the one that was decided
-row_waits : (g : Graph) (t : ℕ) (k : Command) (r : FieldRow) (y : Reply) → field_reply r ≡ Some y → due_at g t k r ≡ Some y
-row_waits g t k (rows.Answered reply) y e = e
-row_waits g t k _ y e = absurd cc
-
-reply_waits : (g : Graph) (f : FieldState) (y : Reply) → field_reply f.row ≡ Some y → reply_due g f ≡ Some y
-reply_waits g f y e = row_waits g f.pass.thread f.command f.row y e
-
--- and a row with a reply has nothing loaded
+-- a row with a reply has nothing loaded, and that reply is due
 row_unloads : (c : Config) (k : Command) (r : FieldRow) (y : Reply) → field_reply r ≡ Some y → row_loading (extent c) k r ≡ unloaded
 row_unloads c k (rows.Answered reply) y e = refl
 row_unloads c k _ y e = absurd cc
 
-reply_unloads : (c : Config) (f : FieldState) (y : Reply) → field_reply f.row ≡ Some y → loading_of (extent c) f ≡ unloaded
-reply_unloads c f y e = row_unloads c f.command f.row y e
+row_waits : (g : Graph) (t : ℕ) (k : Command) (r : FieldRow) (y : Reply) → field_reply r ≡ Some y → due_at g t k r ≡ Some y
+row_waits g t k (rows.Answered reply) y e = e
+row_waits g t k _ y e = absurd cc
+
+-- a deciding row was not decided
+undecided : (k : Command) (r : FieldRow) (w : ℕ) → is_deciding k r w ≡ true → field_decided r ≡ false
+undecided k r w e = elim (cases_Bool (field_decided r)) [
+  | inl d ↦ absurd (let z : true ≡ false = sym e ∙ decided_once k r w d in cc)
+  | inr u ↦ u
+]
+
+-- the graph and the order after an event that decides as the step answers, or does not
+decided_graph : (g : Graph) (t : ℕ) (k : Command) (b : Bool) → cond b (step g t k).0 g ≡ graph_decided g t k (if_decides b)
+decided_graph g t k true = refl
+decided_graph g t k false = refl
+
+decided_order : (g : Graph) (order : List HistoryItem) (t : ℕ) (k : Command) (paid : ℕ) (b : Bool) → paid ≡ 0 → cond b (order ++ Did (entry_of t k 0 (step g t k).1) ∷ []) order ≡ order ++ (items_told g t k paid (if_decides b) ++ [])
+decided_order g order t k paid true none = ap (λ x. order ++ Did (entry_of t k x (step g t k).1) ∷ []) (sym none)
+decided_order g order t k paid false none = sym (append-nil order)
 
 -- what is decided is told once
-tell : (t : ℕ) (k : Command) (paid : ℕ) (before : Option Reply) (b : Bool) (r : Reply) → (b ≡ true → before ≡ None) → entries_of t k paid before ++ cond b (entry_of t k paid r ∷ []) [] ≡ entries_of t k paid (cond b (Some r) before)
-tell t k paid before true r none = ap (λ o. entries_of t k paid o ++ entry_of t k paid r ∷ []) (none refl)
-tell t k paid before false r none = append-nil (entries_of t k paid before)
+tell : (g : Graph) (t : ℕ) (k : Command) (paid : ℕ) (before : Option Reply) (b : Bool) → (b ≡ true → before ≡ None)
+    → entries_of t k paid before ++ told_by g t k paid (if_decides b) ≡ entries_of t k paid (cond b (Some (step g t k).1) before)
+tell g t k paid before true none = ap (λ o. entries_of t k paid o ++ entry_of t k paid (step g t k).1 ∷ []) (none refl)
+tell g t k paid before false none = append-nil (entries_of t k paid before)
 
--- a command that allocates nothing is decided as its step, with no work
-step_graph : (g : Graph) (t : ℕ) (k : Command) (b : Bool) → graph_decided g t k (if_decides b) ≡ graph_after g t k b
-step_graph g t k true = refl
-step_graph g t k false = refl
-
-step_told : (g : Graph) (t : ℕ) (k : Command) (paid : ℕ) (b : Bool) → told_by g t k paid (if_decides b) ≡ cond b (entry_of t k paid (step g t k).1 ∷ []) []
-step_told g t k paid true = refl
-step_told g t k paid false = refl
-
-step_lawful : (k : Command) (b : Bool) → IsLawful k (if_decides b)
-step_lawful k true = tt
-step_lawful k false = tt
-
-no_works : (t : ℕ) (k : Command) (paid : ℕ) (r : Reply) (b : Bool) → paid ≡ 0 → works (cond b (entry_of t k paid r ∷ []) []) ≡ 0
-no_works t k paid r true z = omega (arith, z)
-no_works t k paid r false z = refl
+no_works : (g : Graph) (t : ℕ) (k : Command) (paid : ℕ) (b : Bool) → paid ≡ 0 → works (told_by g t k paid (if_decides b)) ≡ 0
+no_works g t k paid true z = omega (arith, z)
+no_works g t k paid false z = refl
 
 no_work : (t : ℕ) (k : Command) (paid : ℕ) (o : Option Reply) → paid ≡ 0 → works (entries_of t k paid o) ≡ 0
 no_work t k paid None z = refl
 no_work t k paid (Some r) z = omega (arith, z)
 
--- in a command
-module _ (c : Config) (s : Seen c) (f : FieldState) (is : s.loads s.thread ≡ loading_of (extent c) f) (stands : s.gatings s.thread ≡ gating c s.pass (Serve f)) (empty : s.holds s.thread ≡ no_grey) (kept : RowKept s.graph s.thread s.pass s.command f) (fits : FieldFits c f) (low : s.done < s.all) (unpaid : s.paid ≡ 0) where
-  pub reads : FieldReads c f (s.heap (place_of (field_want (extent c) f)))
-  reads = field_reads c s.bounds (opening_blocks c) (opening_low c s.plan) (every_name (start_graph c)) (opening_at c.width c.threads) s.graph s.heap s.loads s.shown s.thread f fits kept.thread is kept.going
+exact_at : (b : Bool) (paid due : ℕ) → paid ≡ 0 → due ≡ 0 → IsDecided (if_decides b) → paid ≡ due
+exact_at b paid due p d is = omega (arith, p, d)
 
-  moves : FieldStep c (opening_blocks c) (every_name (start_graph c)) (opening_at c.width c.threads) s.graph (heap_after s.heap (field_want (extent c) f)) s.loads s.thread s.command (reply_due s.graph f) (is_deciding f.command f.row (s.heap (place_of (field_want (extent c) f)))) (field_got (extent c) f (s.heap (place_of (field_want (extent c) f))))
-  moves = field_moves c s.bounds (opening_blocks c) (opening_low c s.plan) (every_name (start_graph c)) (opening_at c.width c.threads) s.graph s.heap s.loads s.shown s.thread s.command f fits kept.thread kept.command is kept.going kept.known
+-- a command that makes no object leaves how many there are
+counts_on : (g : Graph) (t : ℕ) (k : Command) (b : Bool) → t < length g.mutators → makes_object k ≡ false → count_of (graph_decided g t k (if_decides b)) t ≡ count_of g t
+counts_on g t k true there none = count_stays g t t (makes_object k) (step g t k).0 there (λ _. none) (change_of g t k)
+counts_on g t k false there none = refl
 
-  abbrev row_decides : Bool
-  row_decides = is_deciding f.command f.row (s.heap (place_of (field_want (extent c) f)))
+made_on : (o : Option Reply) (made : ℕ) → ((n : _) → o ≡ Some (replies.New n) → ⊥) → made_got o made ≡ made
+made_on (Some (replies.New name)) made never = absurd (never name refl)
+made_on _ made never = refl
 
-  graph_is : graph_decided s.graph s.thread s.command (if_decides row_decides) ≡ graph_after s.graph s.thread s.command row_decides
-  graph_is = step_graph s.graph s.thread s.command row_decides
+paid_on : (o : Option Reply) (paid : ℕ) → paid ≡ 0 → paid_got o false paid ≡ 0
+paid_on None paid z = z
+paid_on (Some r) paid z = refl
 
-  told_is : entries_of s.thread s.command s.paid (reply_due s.graph f) ++ told_by s.graph s.thread s.command s.paid (if_decides row_decides)
-      ≡ entries_of s.thread s.command s.paid (reply_due (graph_decided s.graph s.thread s.command (if_decides row_decides)) (field_got (extent c) f (s.heap (place_of (field_want (extent c) f)))))
+turns_in : (o : Option Reply) → turn_of (step_of o) ≡ turns.Went
+turns_in None = refl
+turns_in (Some r) = refl
+
+replied_sum : (t : ℕ) (k : Command) (paid : ℕ) (o : Option Reply) → works (entries_of t k paid o) + paid_got o false paid ≡ paid + 0
+replied_sum t k paid None = omega arith
+replied_sum t k paid (Some r) = omega arith
+
+module _ (c : Config) (s : Seen c) (f : FieldState) (at : AtPart c s (Serve f)) where
+  abbrev w : ℕ
+  w = s.heap (place_of (field_want (extent c) f))
+
+  abbrev new : Heap
+  new = heap_after s.heap (field_want (extent c) f)
+
+  abbrev next : FieldState
+  next = field_got (extent c) f w
+
+  abbrev decides : Bool
+  decides = is_deciding f.command f.row w
+
+  abbrev verdict : Verdict
+  verdict = if_decides decides
+
+  fits : FieldFits c f
+  fits = at.fits.0
+
+  task_is : s.tasks f.pass.thread ≡ field_task (extent c) f
+  task_is = ap s.tasks at.part.thread ∙ at.task ∙ ap (λ x. record { loading = loading_of (extent c) f; build = None; scan = x }) (field_found c f fits)
+
+  holds_is : s.holds f.pass.thread ≡ field_holding (extent c) f
+  holds_is = ap s.holds at.part.thread ∙ at.holds
+
+  -- the heap is in the cycle and phase of the pass
+  passes : (cycle_of (s.heap Phase) ≡ f.pass.cycle) × (is_sweep (s.heap Phase) ≡ f.pass.sweep)
+  passes =
+      let word = s.gate.passes s.thread s.low (ap (λ (x : Gating). is_outside x.stand) at.gating) in (
+        sym word.0 ∙ ap (λ (x : Gating). x.cycle) at.gating ∙ sym (ap (λ (x : Pass). x.cycle) at.part.passes),
+        sym word.1 ∙ ap (λ (x : Gating). x.sweep) at.gating ∙ sym (ap (λ (x : Pass). x.sweep) at.part.passes),
+      )
+
+  pub reads : FieldReads c f w
+  reads = reads_on c s.graph s.order s.heap s.names s.tasks f fits task_is s.kept s.held at.part.going
+
+  due_is : (reply_due (graph_on s.graph f w) next ≡ cond decides (Some (step s.graph f.pass.thread f.command).1) (reply_due s.graph f)) × IsKnown (graph_on s.graph f w) next
+  due_is = due_on c s.graph s.order s.heap s.names s.tasks f fits task_is s.kept at.part.known
+
+  none_due_yet : s.due ≡ 0
+  none_due_yet = s.free at.part.serves
+
+  unpaid : s.paid ≡ 0
+  unpaid = let low : s.paid + 0 ≤ s.due = at.pays in omega (arith, low, none_due_yet)
+
+  graph_is : graph_on s.graph f w ≡ graph_decided s.graph s.thread s.command verdict
+  graph_is =
+      ap (λ t. cond decides (step s.graph t f.command).0 s.graph) at.part.thread
+      ∙ ap (λ k. cond decides (step s.graph s.thread k).0 s.graph) at.part.command
+      ∙ decided_graph s.graph s.thread s.command decides
+
+  order_is : order_on s.graph s.order f w ≡ s.order ++ (items_told s.graph s.thread s.command s.paid verdict ++ [])
+  order_is =
+      ap (λ t. cond decides (s.order ++ Did (entry_of t f.command 0 (step s.graph t f.command).1) ∷ []) s.order) at.part.thread
+      ∙ ap (λ k. cond decides (s.order ++ Did (entry_of s.thread k 0 (step s.graph s.thread k).1) ∷ []) s.order) at.part.command
+      ∙ decided_order s.graph s.order s.thread s.command s.paid decides unpaid
+
+  known_is : IsKnown (graph_decided s.graph s.thread s.command verdict) next
+  known_is = subst (λ (g : Graph). IsKnown g next) graph_is due_is.1
+
+  told_is : entries_of s.thread s.command s.paid (reply_due s.graph f) ++ told_by s.graph s.thread s.command s.paid verdict
+      ≡ entries_of s.thread s.command s.paid (reply_due (graph_decided s.graph s.thread s.command verdict) next)
   told_is =
-      ap (λ x. entries_of s.thread s.command s.paid (reply_due s.graph f) ++ x) (step_told s.graph s.thread s.command s.paid row_decides)
-      ∙ tell s.thread s.command s.paid (reply_due s.graph f) row_decides (step s.graph s.thread s.command).1 (λ e. (none_due s.graph f.pass.thread f.command f.row (undecided f.command f.row (s.heap (place_of (field_want (extent c) f))) e)).0) ∙ ap (entries_of s.thread s.command s.paid) (sym moves.reply)
-      ∙ sym (ap (λ x. entries_of s.thread s.command s.paid (reply_due x (field_got (extent c) f (s.heap (place_of (field_want (extent c) f)))))) graph_is)
+      tell s.graph s.thread s.command s.paid (reply_due s.graph f) decides (λ e. (none_due s.graph f.pass.thread f.command f.row (undecided f.command f.row w e)).0)
+      ∙ ap (λ k. entries_of s.thread s.command s.paid (cond decides (Some (step s.graph s.thread k).1) (reply_due s.graph f))) (sym at.part.command)
+      ∙ ap (λ t. entries_of s.thread s.command s.paid (cond decides (Some (step s.graph t f.command).1) (reply_due s.graph f))) (sym at.part.thread)
+      ∙ ap (entries_of s.thread s.command s.paid) (sym due_is.0)
+      ∙ ap (λ g. entries_of s.thread s.command s.paid (reply_due g next)) graph_is
 
-  row_grey : (p : Part) → grey_of c p ≡ no_grey → GreyKept c.threads (heap_after s.heap (field_want (extent c) f)) (changed s.holds s.thread (grey_of c p))
-  row_grey p e = subst (λ x. GreyKept c.threads (heap_after s.heap (field_want (extent c) f)) x) (sym (ap (changed s.holds s.thread) e ∙ holding_self s.holds s.thread no_grey empty)) (kept_other c.threads s.heap s.holds (field_want (extent c) f) (field_other c f) s.rules.grey)
+  phase_is : new Phase ≡ s.heap Phase
+  phase_is = field_phase c s.heap f
 
-  row_taken : AreTaken c (heap_after s.heap (field_want (extent c) f))
-  row_taken x some last = ap is_free (field_colour c s.heap f x) ∙ s.rules.taken x some last
+  cursor_is : new Cursor ≡ s.heap Cursor
+  cursor_is = field_cursor c s.heap f
 
-  row_shown : (l : Loading) → loading_of (extent c) (field_got (extent c) f (s.heap (place_of (field_want (extent c) f)))) ≡ l
-      → Follows c.width c.threads (opening_blocks c) (every_name (start_graph c)) (opening_at c.width c.threads) (state (graph_decided s.graph s.thread s.command (if_decides row_decides)) (heap_after s.heap (field_want (extent c) f)) (with_load s.loads s.thread l))
-  row_shown l e = subst (λ x. Follows c.width c.threads (opening_blocks c) (every_name (start_graph c)) (opening_at c.width c.threads) (state x (heap_after s.heap (field_want (extent c) f)) (with_load s.loads s.thread l))) (sym graph_is)
-      (subst (λ x. Follows c.width c.threads (opening_blocks c) (every_name (start_graph c)) (opening_at c.width c.threads) (state (graph_after s.graph s.thread s.command row_decides) (heap_after s.heap (field_want (extent c) f)) (with_load s.loads s.thread x))) e moves.follows)
+  stage_is : stage_of new ≡ stage_of s.heap
+  stage_is = ap (λ v. stage (cycle_of v) (is_sweep v)) phase_is
 
-  counted_is : (o : Option Reply) → works (told_by s.graph s.thread s.command s.paid (if_decides row_decides)) ≡ works (entries_of s.thread s.command s.paid o)
-  counted_is o = ap works (step_told s.graph s.thread s.command s.paid row_decides) ∙ no_works s.thread s.command s.paid (step s.graph s.thread s.command).1 row_decides unpaid ∙ sym (no_work s.thread s.command s.paid o unpaid)
+  lead_is : lead c new ≡ lead c s.heap
+  lead_is = λ i. (cycle_of (phase_is i) - 1) * c.blocks + cond (is_sweep (phase_is i)) (cursor_is i - 1) 0
 
-  pub serve_event : (o : Option Reply) → field_reply (field_got (extent c) f (s.heap (place_of (field_want (extent c) f)))).row ≡ o
-      → Event c s (heap_after s.heap (field_want (extent c) f)) (reply_due s.graph f) (if_decides row_decides) s.pass (if_replied o (field_got (extent c) f (s.heap (place_of (field_want (extent c) f))))) o false false
-  serve_event None e = record {
-    gate = stays c s (heap_after s.heap (field_want (extent c) f)) (Serve (field_got (extent c) f (s.heap (place_of (field_want (extent c) f))))) (Serve f) (field_phase c s.heap f) stands refl refl;
-    phase = subst (λ w. IsMark w) (sym (field_phase c s.heap f)) s.phase;
-    shown = row_shown (loading_of (extent c) (field_got (extent c) f (s.heap (place_of (field_want (extent c) f))))) refl;
-    part = record { serves = kept.serves; passes = kept.passes; thread = kept.thread; command = kept.command; known = subst (λ x. IsKnown x (field_got (extent c) f (s.heap (place_of (field_want (extent c) f))))) (sym graph_is) moves.known; going = e };
-    fits = (field_fits c f (s.heap (place_of (field_want (extent c) f))) fits reads, low);
-    over = λ r z. absurd cc;
+  none_claimed : unpassed (s.holds s.thread) ≡ 0
+  none_claimed = ap unpassed at.holds ∙ ap (λ (x : SweepHolding). x.high - x.low) (field_claims c f)
+
+  next_fits : FieldFits c next
+  next_fits = field_fits c f w fits reads
+
+  names_are : (p : Part) → field_task (extent c) next ≡ task c p
+      → IsKept c (picture (graph_decided s.graph s.thread s.command verdict) (s.order ++ (items_told s.graph s.thread s.command s.paid verdict ++ [])) new s.names (changed s.tasks s.thread (task c p)))
+  names_are p same = subst (λ (x : KeptState). IsKept c x)
+      (λ i. picture (graph_is i) (order_is i) new s.names (changed s.tasks (at.part.thread i) (same i)))
+      (keeps_names c s.graph s.order s.heap s.names s.tasks f fits at.part.going passes.1 passes.0 task_is s.kept)
+
+  rules_are : (p : Part) → field_holding (extent c) next ≡ holding c p → PhaseKept (extent c) new (changed s.holds s.thread (holding c p))
+  rules_are p same = subst (λ (hs : ℕ → Holding). PhaseKept (extent c) new hs) (λ i. changed s.holds (at.part.thread i) (same i))
+      (keeps_phase c s.heap s.holds f fits reads passes.1 passes.0 (loaded_solid c s.graph s.order s.heap s.names s.tasks f fits task_is s.kept) s.rules holds_is)
+
+  gate_is : GateOf c.threads (new Phase) (changed s.gatings s.thread (gating c s.pass (Serve f)))
+  gate_is = subst (λ v. GateOf c.threads v (changed s.gatings s.thread (gating c s.pass (Serve f)))) (sym phase_is)
+      (gate_stays c.threads (s.heap Phase) s.gatings s.gate s.thread s.low (gating c s.pass (Serve f)) (sym (ap (λ (x : Gating). x.stand) at.gating))
+      (λ out. (sym (ap (λ (x : Gating). x.cycle) at.gating), sym (ap (λ (x : Gating). x.sweep) at.gating))))
+
+  there : s.thread < length s.graph.mutators
+  there = subst (λ n. s.thread < n) (sym s.kept.follows.shows.sized.threads) s.low
+
+  -- what is the same whether the command goes on or is over
+  module _ (p : Part) (o : Option Reply) (is : field_reply next.row ≡ o) where
+    counted_is : works (told_by s.graph s.thread s.command s.paid verdict) ≡ works (entries_of s.thread s.command s.paid o)
+    counted_is = no_works s.graph s.thread s.command s.paid decides unpaid ∙ sym (no_work s.thread s.command s.paid o unpaid)
+
+    counts_is : made_got o s.made ≡ count_of (graph_decided s.graph s.thread s.command verdict) s.thread
+    counts_is = made_on o s.made (λ n e. makes_none c f.pass f.command f.row w at.part.going n (is ∙ e)) ∙ s.count ∙ sym (counts_on s.graph s.thread s.command decides there at.part.serves)
+
+    paid_is : paid_got o false s.paid ≡ 0
+    paid_is = paid_on o s.paid unpaid
+
+  abbrev effect_at : Option Reply → Effect
+  effect_at o = record (plain (field_step (extent c) f w)) { reply = o; verdict = verdict }
+
+  -- the command goes on
+  goes_event : field_reply next.row ≡ None → EventKept c s new (effect_at None) (reply_due s.graph f) (Serve next)
+  goes_event is = record {
+    gate = gate_is;
+    held = keeps_words c s.heap f fits s.held;
+    rules = rules_are (Serve next) refl;
+    kept = names_are (Serve next) (ap (λ x. record { loading = loading_of (extent c) next; build = None; scan = x }) (sym (field_found c next next_fits)));
+    unshaded = λ sweep opened. s.unshaded (sym (ap is_sweep phase_is) ∙ sweep) (sym (ap is_closed phase_is) ∙ opened);
+    forward = record { stages = omega (arith, stage_is); cursor = λ e sweep. omega (arith, cursor_is) };
+    behind = omega (arith, stage_is, s.behind);
+    leads =
+        let after : unpassed (holding c (Serve next)) ≡ 0 = ap (λ (x : SweepHolding). x.high - x.low) (field_claims c next) in
+        omega (arith, lead_is, none_claimed, after, unpaid);
+    part = record { serves = at.part.serves; passes = at.part.passes; thread = at.part.thread; command = at.part.command; known = known_is; going = is };
+    knows = tt;
+    fits = (next_fits, at.fits.1);
+    roomy = tt;
+    over = λ r e. absurd cc;
     told = told_is;
-    rules = record {
-      grey = row_grey (Serve (field_got (extent c) f (s.heap (place_of (field_want (extent c) f))))) refl;
-      held = held_after c s.heap (field_want (extent c) f) (stores_held c f fits) s.rules.held;
-      taken = row_taken;
-    };
     low = omega (arith, unpaid);
     settled = tt;
-    counted = counted_is None;
-    lawful = step_lawful s.command row_decides;
+    exact = exact_at decides s.paid s.due unpaid none_due_yet;
+    counted = counted_is (Serve next) None is;
+    counts = counts_is (Serve next) None is;
   }
-  serve_event (Some r) e = record {
-    gate = stays c s (heap_after s.heap (field_want (extent c) f)) Leave (Serve f) (field_phase c s.heap f) stands refl refl;
-    phase = subst (λ w. IsMark w) (sym (field_phase c s.heap f)) s.phase;
-    shown = row_shown unloaded (reply_unloads c (field_got (extent c) f (s.heap (place_of (field_want (extent c) f)))) r e);
+
+  -- or is over
+  over_event : (r : Reply) → field_reply next.row ≡ Some r → EventKept c s new (effect_at (Some r)) (reply_due s.graph f) Leave
+  over_event r is = record {
+    gate = gate_is;
+    held = keeps_words c s.heap f fits s.held;
+    rules = rules_are Leave (over_nothing (extent c) next (ap is_some is));
+    kept = names_are Leave (ap (λ (l : Loading). record { loading = l; build = None; scan = 0 }) (row_unloads c f.command next.row r is));
+    unshaded = λ sweep opened. s.unshaded (sym (ap is_sweep phase_is) ∙ sweep) (sym (ap is_closed phase_is) ∙ opened);
+    forward = record { stages = omega (arith, stage_is); cursor = λ e sweep. omega (arith, cursor_is) };
+    behind = omega (arith, stage_is, s.behind);
+    leads = omega (arith, lead_is, none_claimed, unpaid);
     part = tt;
+    knows = tt;
     fits = tt;
-    over = λ r z. refl;
-    told = told_is ∙ ap (entries_of s.thread s.command s.paid) (reply_waits (graph_decided s.graph s.thread s.command (if_decides row_decides)) (field_got (extent c) f (s.heap (place_of (field_want (extent c) f)))) r e);
-    rules = record {
-      grey = row_grey Leave refl;
-      held = held_after c s.heap (field_want (extent c) f) (stores_held c f fits) s.rules.held;
-      taken = row_taken;
-    };
+    roomy = tt;
+    over = λ y e. refl;
+    told = told_is ∙ ap (entries_of s.thread s.command s.paid) (row_waits (graph_decided s.graph s.thread s.command verdict) f.pass.thread f.command next.row r is);
     low = omega arith;
-    settled = (refl, refl);
-    counted = counted_is (Some r);
-    lawful = step_lawful s.command row_decides;
+    settled = refl;
+    exact = exact_at decides s.paid s.due unpaid none_due_yet;
+    counted = counted_is Leave (Some r) is;
+    counts = counts_is Leave (Some r) is;
   }
+
+  pub serve_event : (o : Option Reply) → field_reply next.row ≡ o
+      → EventKept c s new (effect_at o) (reply_due s.graph f) (if_replied o (Serve next))
+  serve_event None is = goes_event is
+  serve_event (Some r) is = over_event r is
 
 pub serve_laws : (c : Config) (f : FieldState) → PartLaws c (Serve f)
 serve_laws c f = record {
-  place = λ done all fits. field_place c f fits.0;
-  reads = λ s is kept fits. field_reads c s.bounds (opening_blocks c) (opening_low c s.plan) (every_name (start_graph c)) (opening_at c.width c.threads) s.graph s.heap s.loads s.shown s.thread f fits.0 kept.thread is kept.going;
-  sum = λ s stands kept. field_sum c f (s.heap (place_of (field_want (extent c) f)));
-  event = λ s stands is empty kept fits pays settled served low. serve_event c s f is stands empty kept fits.0 fits.1 (served kept.serves) (field_reply (field_got (extent c) f (s.heap (place_of (field_want (extent c) f)))).row) refl;
-  stays = λ g new u pass k kept same. (let s = field_stays g new u f kept.thread same in (record { serves = kept.serves; passes = kept.passes; thread = kept.thread; command = kept.command; known = s.0 kept.known; going = kept.going }, s.1));
-  low = λ done all w r fits e. fits.1;
+  reads = λ s at. reads c s f at;
+  sum = λ s at. field_sum c f (s.heap (place_of (field_want (extent c) f)));
+  event = λ s at low. serve_event c s f at (field_reply (field_got (extent c) f (s.heap (place_of (field_want (extent c) f)))).row) refl;
+  stays = λ g new u pass k kept same count. (let s = field_stays g new u f kept.thread same in (record { serves = kept.serves; passes = kept.passes; thread = kept.thread; command = kept.command; known = s.0 kept.known; going = kept.going }, s.1));
+  knows = λ h new ns later pass on cursor behind still is. tt;
+  rests = λ s at closed out. absurd (inside_open c s (ap (λ (x : Gating). x.stand) at.gating) closed);
+  idle = λ out. absurd cc;
+  empty = λ out. absurd cc;
+  builds = λ done all pass fits. tt;
+  low = λ done all w pass r fits e. fits.1;
   turn = λ w. turns_in (field_reply (field_got (extent c) f w).row);
-  black = λ h hs t done all g pass k w grey is one stands fits. field_blackens c h f.pass.thread f.command f.row;
-  units = λ t k paid w. omega (arith, replied_sum t k paid (field_reply (field_got (extent c) f w).row));
-  found = λ w h. never (field_reply (field_got (extent c) f w).row) (Found c (Serve f) w) h;
-  older = λ h t k more w q e. field_pending c h f w q e;
-  frame = λ s u q ul ql other kept fits loads. field_frame c s.graph (opening_blocks c) (every_name (start_graph c)) (opening_at c.width c.threads) (block_words s.heap) (pending_registers s.loads) s.shown.shows u q ul ql s.heap s.thread s.low other f kept.thread fits.0 loads;
+  black = λ s at. field_blackens c s.heap f at.fits.0;
+  units = λ t k paid w. replied_sum t k paid (field_reply (field_got (extent c) f w).row);
 }

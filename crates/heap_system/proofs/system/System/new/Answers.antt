@@ -1,10 +1,10 @@
-use Rattle.std.proofs.Common.{◌≡◌, ◌∷◌, [], ◌++◌, List, length, map, refl, sym, ap, ◌∙◌, append-nil, arith, Vec, Global}
+use Rattle.std.proofs.Common.{◌≡◌, ◌∷◌, [], ◌++◌, List, length, map, refl, sym, ap, subst, ◌∙◌, append-nil, arith, Vec, Global}
 use Rattle.std.specs.Vec.Iter.{into_iter_items}
 use Rattle.never_heap.specs.declared.Command.{Command}
 use Rattle.rate_plan.proofs.Plans.{found}
 use Rattle.heap_system.specs.Locals.{at_start}
 use Rattle.heap_system.specs.Machines.{starts_from, IsOpening}
-use Rattle.heap_system.proofs.Reached.{one_rate, thread_more, opened_traces, opened_reached, number_low, trace_fits, splits_on}
+use Rattle.heap_system.proofs.Starting.{AreAtStart, spaces, one_rate, thread_more, opened_traces, opened_reached, number_low, trace_fits, splits_on}
 use Rattle.heap_system.proofs.system.System.new.Goals as goal
 
 -- the trace of a vector
@@ -29,7 +29,10 @@ loop-trace-preserved c =
     let long : c.len-thread.result ≡ length c.loop-trace.locals.items = c.len-thread.ensures ∙ omega (arith, c.loop-trace.locals.ok.0) in (
       splits_on items_of c.args.c c.args.traces.items c.loop-trace.yielded (into_iter_items c.loop-trace.trace-iterator) (into_iter_items c.next.new.self) c.in-Some.trace c.loop-trace.locals.items c.len-thread.result c.requires c.loop-trace.invariant.0 c.in-Some.ensures.steps.0 c.loop-trace.invariant.2 long,
       (let was = c.loop-trace.invariant.1 in let gone = c.in-Some.ensures.steps.1 in let short = ap length c.in-Some.ensures.steps.0 in omega arith),
-      λ rate is. c.in_ok-push.ensures.items ∙ thread_more items_of c.args.c rate c.loop-trace.locals.items c.loop-trace.yielded c.in-Some.trace c.in_ok-new.field-0 (c.loop-trace.invariant.2 rate is) (c.in_ok-new.ensures.1 ∙ ap (λ x. at_start c.args.c x c.len-thread.result c.in-Some.trace.items) (one_rate c.args.c c.in_ok-new.field-0.rate rate c.in_ok-new.ensures.0 is) ∙ ap (λ u. at_start c.args.c rate u c.in-Some.trace.items) long),
+      λ rate is. subst (λ ls. AreAtStart c.args.c ls (map items_of (c.loop-trace.yielded ++ c.in-Some.trace ∷ [])) rate) (sym c.in_ok-push.ensures.items)
+          (thread_more items_of c.args.c rate c.loop-trace.locals.items c.loop-trace.yielded c.in-Some.trace c.in_ok-new.field-0 (c.loop-trace.invariant.2 rate is)
+          (c.in_ok-new.ensures.2 ∙ ap (λ x. at_start c.args.c x c.in_ok-new.field-0.space c.len-thread.result c.in-Some.trace.items) (one_rate c.args.c c.in_ok-new.field-0.rate rate c.in_ok-new.ensures.0 is) ∙ ap (λ u. at_start c.args.c rate c.in_ok-new.field-0.space u c.in-Some.trace.items) long)
+          c.in_ok-new.ensures.1),
       tt,
       tt,
     )
@@ -40,12 +43,15 @@ opens c =
     let none : into_iter_items c.loop-trace.trace-iterator ≡ [] = nothing_left (into_iter_items c.loop-trace.trace-iterator) (sym c.loop-trace.invariant.1 ∙ c.in-None.ensures.steps.0) in
     let all : c.loop-trace.yielded ≡ c.args.traces.items = sym (append-nil c.loop-trace.yielded) ∙ sym (ap (λ r. c.loop-trace.yielded ++ r) none) ∙ c.loop-trace.invariant.0 in
     let rate = found c.args.c c.requires.plan in
+    let threads = c.loop-trace.invariant.2 rate.0 rate.1 in
     record {
       rate = rate.0;
       planned = rate.1;
       count = c.in_ok-words.ensures.count;
       words = c.in_ok-words.ensures.words;
-      locals = c.loop-trace.invariant.2 rate.0 rate.1 ∙ ap (λ xs. starts_from c.args.c rate.0 0 (map items_of xs)) all;
+      space = spaces c.args.c c.loop-trace.locals.items;
+      roomy = λ t tl. threads.roomy t (omega (arith, tl, c.requires.bounds.threads, ap (λ xs. length (map items_of xs)) all));
+      locals = threads.starts ∙ ap (λ xs. starts_from c.args.c rate.0 (spaces c.args.c c.loop-trace.locals.items) 0 (map items_of xs)) all;
     }
 
 pub invariant_of-result : goal.invariant_of-result

@@ -1,0 +1,170 @@
+-- What a thread keeps at its own event, and at those of other threads.
+use Rattle.std.proofs.Common.{◌≡◌, ℕ, ◌+◌, ◌*◌, ◌<◌, ◌≤◌, Bool, true, Option, Some, None, List, [], ◌∷◌, ◌++◌, length, append_assoc, append-nil, length-append, refl, sym, ap, ◌∙◌, subst, arith, suc}
+use Rattle.block_store.specs.declared.Config.{Config}
+use Rattle.block_store.specs.Heaps.{Heap}
+use Rattle.block_store.specs.Places.{Cursor}
+use Rattle.never_heap.specs.declared.Command.{Command}
+use Rattle.never_heap.specs.declared.Entry.{Entry}
+use Rattle.never_heap.specs.declared.Reply.{Reply}
+use Rattle.never_heap.specs.Graphs.{Graph, register_of, count_of}
+use Rattle.never_heap.specs.Histories.{HistoryItem, part}
+use Rattle.never_heap.specs.RightWork.{units_owed}
+use Rattle.heap_machine.specs.Gating.{is_closing}
+use Rattle.heap_machine.specs.declared.pass.Pass.{Pass}
+use Rattle.kept_names.specs.Pictures.{Names}
+use Rattle.heap_system.specs.declared.local.Part.{Part}
+use Rattle.heap_system.specs.declared.local.Part.TheVariants.{Leave}
+use Rattle.heap_system.specs.Locals.{LocalState, command_of, owed, errand_of, effect, part_got, pass_got, paid_got, made_got, Verdict, entry_of, entries_of, works, unit_to_come, PartFits, IsRoomy}
+use Rattle.heap_system.specs.Pictures.{stand_of, waiting}
+use Rattle.heap_system.specs.Units.{IsRight}
+use Rattle.heap_system.proofs.Growing.{said_more, right_more, made_more}
+use Rattle.heap_system.proofs.Kept.{LocalKept}
+use Rattle.heap_system.proofs.PartLaws.{PartLaws}
+use Rattle.heap_system.proofs.Paying.{works_append, owed_low}
+use Rattle.heap_system.proofs.Seeing.{stage, stage_of, PartKept, Knows, IsSettled, Forward, graph_decided, told_by, IsDecided}
+
+-- another thread, whose registers and objects are as before
+pub local_stays : (c : Config) (given : List Command) (g later : Graph) (order longer : List HistoryItem) (h new : Heap) (ns names : Names) (u : ℕ) (l : LocalState) → PartLaws c l.part → LocalKept c given g order h ns u l
+    → ((q : ℕ) → register_of later u q ≡ register_of g u q) → count_of later u ≡ count_of g u → part u longer ≡ part u order → Forward h new → new Cursor ≤ c.blocks + 1 → (is_closing (stand_of c l.part) ≡ true → (new ≡ h) × (names ≡ ns)) → LocalKept c given later longer new names u l
+local_stays c given g later order longer h new ns names u l laws kept same count more forward cursor rests =
+    let s = laws.stays g later u l.pass (command_of l) kept.stands same count in
+    record {
+      config = kept.config;
+      thread = kept.thread;
+      trace = kept.trace;
+      fits = kept.fits;
+      stands = s.0;
+      knows = laws.knows h new ns names l.pass forward cursor kept.behind rests kept.knows;
+      behind = omega (arith, kept.behind, forward.stages);
+      settled = kept.settled;
+      made = kept.made ∙ sym count;
+      right = subst (λ x. IsRight c.width l.rate x) (sym more) kept.right;
+      told = more ∙ kept.told ∙ sym (ap (λ o. l.log ++ entries_of l.thread (command_of l) l.paid o) s.1);
+      said = kept.said;
+    }
+
+-- a thread with its event done, by its number, its configuration, and the word that it read
+abbrev pub moved_on : LocalState → ℕ → Config → ℕ → LocalState
+moved_on l t c w = record {
+  config = l.config;
+  rate = l.rate;
+  thread = t;
+  trace = l.trace;
+  log = l.log ++ entries_of t (command_of l) l.paid (effect c l.part w).reply;
+  paid = paid_got (effect c l.part w).reply (effect c l.part w).unit l.paid;
+  made = made_got (effect c l.part w).reply l.made;
+  space = l.space;
+  pass = pass_got (effect c l.part w).entered t c.threads l.pass;
+  part = part_got c t (errand_of l) l.pass l.part w;
+}
+
+-- what its event says of it alone, by the reply that it brings
+pub record Moved (c : Config) (g : Graph) (order longer : List HistoryItem) (new : Heap) (names : Names) (t : ℕ) (l : LocalState) (v : Verdict) (unit : Bool) (q : Pass) (p : Part) (o : Option Reply) : Type 0 where
+  pub more : part t longer ≡ part t order ++ told_by g t (command_of l) l.paid v
+  pub stands : PartKept c (graph_decided g t (command_of l) v) t q (command_of l) p
+  pub knows : Knows c new names q p
+  pub fits : PartFits c (length l.log) (length l.trace) q p
+  pub roomy : IsRoomy l.space p
+  pub behind : stage q.cycle q.sweep ≤ stage_of new
+  pub over : (r : Reply) → o ≡ Some r → p ≡ Leave
+  pub told : entries_of t (command_of l) l.paid (waiting g l.part) ++ told_by g t (command_of l) l.paid v
+      ≡ entries_of t (command_of l) l.paid o ++ entries_of t (command_of l) (paid_got o unit l.paid) (waiting (graph_decided g t (command_of l) v) p)
+  pub low : paid_got o unit l.paid + unit_to_come c p ≤ owed l
+  pub settled : IsSettled (owed l) (paid_got o unit l.paid) p
+  pub exact : IsDecided v → l.paid ≡ owed l
+  pub counts : made_got o l.made ≡ count_of (graph_decided g t (command_of l) v) t
+  pub some : (r : Reply) → o ≡ Some r → length l.log < length l.trace
+
+-- the thread itself
+module _ (c : Config) (given : List Command) (g : Graph) (order longer : List HistoryItem) (h new : Heap) (ns names : Names) (t : ℕ) (l : LocalState) (v : Verdict) (unit : Bool) (q : Pass) (p : Part) (kept : LocalKept c given g order h ns t l) where
+  abbrev Event : Option Reply → Type 0
+  Event o = Moved c g order longer new names t l v unit q p o
+
+  abbrev after_part : List Entry → ℕ → ℕ → Part → LocalState
+  after_part log paid made x = record { config = l.config; rate = l.rate; thread = t; trace = l.trace; log = log; paid = paid; made = made; space = l.space; pass = q; part = x }
+
+  abbrev Later : LocalState → Type 0
+  Later x = LocalKept c given (graph_decided g t (command_of l) v) longer new names t x
+
+  told_so : (o : Option Reply) → Event o → part t longer ≡ l.log ++ (entries_of t (command_of l) l.paid o ++ entries_of t (command_of l) (paid_got o unit l.paid) (waiting (graph_decided g t (command_of l) v) p))
+  told_so o event =
+      event.more ∙ ap (λ x. x ++ told_by g t (command_of l) l.paid v) (kept.told ∙ ap (λ x. l.log ++ entries_of x (command_of l) l.paid (waiting g l.part)) kept.thread)
+      ∙ append_assoc l.log _ _ ∙ ap (λ x. l.log ++ x) event.told
+
+  right_so : (o : Option Reply) → Event o → IsRight c.width l.rate (part t longer)
+  right_so o event = subst (λ x. IsRight c.width l.rate x) (sym event.more) (right_more c.width l.rate (part t order) g t (command_of l) l.paid v kept.right
+      (λ d. event.exact d ∙ ap (λ (x : Config). units_owed x.width l.rate (command_of l)) kept.config))
+
+  none_moves : Event None → Later (after_part l.log (paid_got None unit l.paid) l.made p)
+  none_moves event = record {
+    config = kept.config;
+    thread = refl;
+    trace = kept.trace;
+    fits = record {
+      bounds = kept.fits.bounds;
+      plan = kept.fits.plan;
+      rate = kept.fits.rate;
+      thread = subst (λ x. x < l.config.threads) kept.thread kept.fits.thread;
+      trace = kept.fits.trace;
+      log = kept.fits.log;
+      part = subst (λ x. PartFits x (length l.log) (length l.trace) q p) (sym kept.config) event.fits;
+      paid = subst (λ x. paid_got None unit l.paid + unit_to_come x p ≤ owed l) (sym kept.config) event.low;
+      worked = kept.fits.worked;
+      made = kept.fits.made;
+      space = kept.fits.space;
+      roomy = event.roomy;
+    };
+    stands = event.stands;
+    knows = event.knows;
+    behind = event.behind;
+    settled = event.settled;
+    made = event.counts;
+    right = right_so None event;
+    told = told_so None event;
+    said = kept.said;
+  }
+
+  module _ (r : Reply) where
+    longer_by : length (l.log ++ entry_of t (command_of l) l.paid r ∷ []) ≡ suc (length l.log)
+    longer_by = length-append l.log (entry_of t (command_of l) l.paid r ∷ []) ∙ omega arith
+
+    worked_so : works (l.log ++ entry_of t (command_of l) l.paid r ∷ []) ≤ length (l.log ++ entry_of t (command_of l) l.paid r ∷ []) * (l.rate * l.config.object)
+    worked_so =
+        let more : works (l.log ++ entry_of t (command_of l) l.paid r ∷ []) ≡ works l.log + (l.paid + 0) = works_append l.log (entry_of t (command_of l) l.paid r ∷ []) in
+        subst (λ n. works (l.log ++ entry_of t (command_of l) l.paid r ∷ []) ≤ n * (l.rate * l.config.object)) (sym longer_by) (omega (arith, more, kept.fits.worked, kept.fits.paid, owed_low l kept.fits))
+
+    some_moves : length l.log < length l.trace → Event (Some r) → Later (after_part (l.log ++ entry_of t (command_of l) l.paid r ∷ []) 0 (made_got (Some r) l.made) Leave)
+    some_moves low event =
+        let over : p ≡ Leave = event.over r refl in
+        record {
+          config = kept.config;
+          thread = refl;
+          trace = kept.trace;
+          fits = record {
+            bounds = kept.fits.bounds;
+            plan = kept.fits.plan;
+            rate = kept.fits.rate;
+            thread = subst (λ x. x < l.config.threads) kept.thread kept.fits.thread;
+            trace = kept.fits.trace;
+            log = omega (arith, longer_by);
+            part = tt;
+            paid = omega arith;
+            worked = worked_so;
+            made = omega (arith, longer_by, kept.fits.made, made_more r l.made);
+            space = kept.fits.space;
+            roomy = tt;
+          };
+          stands = tt;
+          knows = tt;
+          behind = event.behind;
+          settled = refl;
+          made = event.counts;
+          right = right_so (Some r) event;
+          told = told_so (Some r) event ∙ ap (λ x. l.log ++ (entry_of t (command_of l) l.paid r ∷ entries_of t (command_of l) 0 (waiting (graph_decided g t (command_of l) v) x))) over
+              ∙ sym (append-nil (l.log ++ entry_of t (command_of l) l.paid r ∷ []));
+          said = said_more l.log l.trace (entry_of t (command_of l) l.paid r) (command_of l) refl refl low kept.said;
+        }
+
+  pub local_moves : (o : Option Reply) → Event o → Later (after_part (l.log ++ entries_of t (command_of l) l.paid o) (paid_got o unit l.paid) (made_got o l.made) p)
+  local_moves None event = subst (λ x. Later (after_part x (paid_got None unit l.paid) l.made p)) (sym (append-nil l.log)) (none_moves event)
+  local_moves (Some r) event = subst (λ x. Later (after_part (l.log ++ entry_of t (command_of l) l.paid r ∷ []) 0 (made_got (Some r) l.made) x)) (sym (event.over r refl)) (some_moves r (event.some r refl) event)
