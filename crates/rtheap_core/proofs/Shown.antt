@@ -1,18 +1,17 @@
--- What a finished system of one thread shows.
+-- What a finished system shows.
 use Rattle.std.proofs.Common.{ℕ, zero, suc, ◌+◌, ◌≡◌, List, [], ◌∷◌, map, length, get_or, refl, sym, ap, ◌∙◌, subst, arith, zero-add}
 use Rattle.block_store.specs.declared.Config.{Config}
 use Rattle.never_heap.specs.declared.Command.{Command}
 use Rattle.never_heap.specs.declared.Entry.{Entry}
-use Rattle.never_heap.specs.FreeingRuns.{FullsNeedBlocks, IsFreeingRun}
-use Rattle.array_trees.specs.Openings.{opening_blocks}
 use Rattle.never_heap.specs.Histories.{HistoryItem, part, parts, parts_from}
+use Rattle.never_heap.specs.Licensed.{Licensed, StartsSmall, NoFulls}
+use Rattle.never_heap.specs.Runs.{IsRun}
 use Rattle.rate_plan.specs.Rates.{IsRate}
 use Rattle.trace_text.specs.Jobs.{Job}
 use Rattle.heap_system.specs.Machines.{Run, IsAfterTurns}
 use Rattle.heap_system.specs.Systems.{Finish, IsFinished}
 use Rattle.rtheap_core.specs.declared.exit.RunEnd.TheVariants.{Ran}
 use Rattle.rtheap_core.specs.Exits.{HasHistory, commands_of, job_of}
-use Rattle.rtheap_core.specs.Runnable.{CanRun}
 
 -- where the commands of each part are the trace of its thread, those of all parts are all traces
 traces_from : (h : List HistoryItem) (t n : ℕ) (traces : List (List Command)) → length traces ≡ n
@@ -51,51 +50,53 @@ job_shown c traces f same ended job is =
     let shown = traces_shown c traces f.logs f.cycles ended in
     (λ i. record { config = same i; traces = shown i }) ∙ sym is
 
--- each full on one thread stands where the blocks are too few, whatever the turns were
-abbrev pub FullsAlwaysNeedBlocks : Type 0
-FullsAlwaysNeedBlocks = (c : Config) (r : Run) → IsAfterTurns c r → c.threads ≡ 1
-    → FullsNeedBlocks c (opening_blocks c) r.order
+-- the order of the turns is the history, of which this holds after all turns
+module _ (licensed : (c : Config) (r : Run) → IsAfterTurns c r → Licensed c r.order)
+    (never : (c : Config) (r : Run) → IsAfterTurns c r → StartsSmall c r.order → NoFulls r.order)
+  where
+    by_turns_of : (c : Config) (traces : List (List Command)) (logs : List (List Entry)) (cycles : ℕ)
+        → (e : IsFinished c traces logs cycles) → IsAfterTurns c e.run
+    by_turns_of c traces logs cycles e =
+        record { traces = traces; job = e.job; turns = e.turns; by_turns = e.by_turns }
 
-module _ (needs : FullsAlwaysNeedBlocks) where
-  order_is_run : (c : Config) (traces : List (List Command)) (logs : List (List Entry)) (cycles : ℕ)
-      → c.threads ≡ 1 → (e : IsFinished c traces logs cycles)
-      → IsFreeingRun c e.by_turns.opening.rate traces e.run.order
-  order_is_run c traces logs cycles one e = record {
-    legal = e.legal;
-    traces_whole = e.traces_whole;
-    right_work = e.right_work e.by_turns.opening.rate e.by_turns.opening.planned;
-    fulls = needs c e.run
-        (record { traces = traces; job = e.job; turns = e.turns; by_turns = e.by_turns }) one;
-  }
+    order_is_run : (c : Config) (traces : List (List Command)) (logs : List (List Entry)) (cycles : ℕ)
+        → (e : IsFinished c traces logs cycles)
+        → IsRun c e.by_turns.opening.rate traces e.run.order
+    order_is_run c traces logs cycles e = record {
+      legal = e.legal;
+      traces_whole = e.traces_whole;
+      licensed = licensed c e.run (by_turns_of c traces logs cycles e);
+      right_work = e.right_work e.by_turns.opening.rate e.by_turns.opening.planned;
+    }
 
-  -- the order of the turns is the history
-  has_history : (c : Config) (traces : List (List Command)) (f : Finish) → f.config ≡ c
-      → c.threads ≡ 1 → IsFinished c traces f.logs f.cycles → HasHistory (Ran f)
-  has_history c traces f same one e =
-      let rate : ℕ = e.by_turns.opening.rate in
-      let shown = traces_shown c traces f.logs f.cycles e in
-      record {
-        rate = rate;
-        is_rate = subst (λ k. IsRate k rate) (sym same) e.by_turns.opening.planned;
-        history = e.run.order;
-        is_run = subst (λ k. IsFreeingRun k rate (map commands_of f.logs) e.run.order) (sym same)
-            (subst (λ ts. IsFreeingRun c rate ts e.run.order) (sym shown)
-            (order_is_run c traces f.logs f.cycles one e));
-        parts_logged = ap (λ (k : Config). parts k.threads e.run.order) same ∙ sym e.parts_logged;
-        starts_counted = sym e.starts;
-        work_counted = e.works;
-      }
+    has_history : (c : Config) (traces : List (List Command)) (f : Finish) → f.config ≡ c
+        → IsFinished c traces f.logs f.cycles → HasHistory (Ran f)
+    has_history c traces f same e =
+        let rate : ℕ = e.by_turns.opening.rate in
+        let shown = traces_shown c traces f.logs f.cycles e in
+        record {
+          rate = rate;
+          is_rate = subst (λ k. IsRate k rate) (sym same) e.by_turns.opening.planned;
+          history = e.run.order;
+          is_run = subst (λ k. IsRun k rate (map commands_of f.logs) e.run.order) (sym same)
+              (subst (λ ts. IsRun c rate ts e.run.order) (sym shown)
+              (order_is_run c traces f.logs f.cycles e));
+          parts_logged = ap (λ (k : Config). parts k.threads e.run.order) same ∙ sym e.parts_logged;
+          starts_counted = sym e.starts;
+          work_counted = e.works;
+          none_full = subst (λ k. StartsSmall k e.run.order → NoFulls e.run.order) (sym same)
+              (never c e.run (by_turns_of c traces f.logs f.cycles e));
+        }
 
-  -- both, where the job is known by its parts
-  pub run_shows : (c k : Config) (ts traces : List (List Command)) (f : Finish) (job : Job)
-      → f.config ≡ k → k ≡ c → ts ≡ traces → IsFinished k ts f.logs f.cycles
-      → record { config = c; traces = traces } ≡ job → CanRun job
-      → (job_of (Ran f) ≡ job) × HasHistory (Ran f)
-  run_shows c k ts traces f job same config whole ended is can =
-      let made : IsFinished c traces f.logs f.cycles =
-      subst (λ xs. IsFinished c xs f.logs f.cycles) whole
-      (subst (λ q. IsFinished q ts f.logs f.cycles) config ended) in
-      let one : c.threads ≡ 1 = ap (λ (j : Job). j.config.threads) is ∙ can.one_thread in (
-        job_shown c traces f (same ∙ config) made job (sym is),
-        has_history c traces f (same ∙ config) one made,
-      )
+    -- both, where the job is known by its parts
+    pub run_shows : (c k : Config) (ts traces : List (List Command)) (f : Finish) (job : Job)
+        → f.config ≡ k → k ≡ c → ts ≡ traces → IsFinished k ts f.logs f.cycles
+        → record { config = c; traces = traces } ≡ job
+        → (job_of (Ran f) ≡ job) × HasHistory (Ran f)
+    run_shows c k ts traces f job same config whole ended is =
+        let made : IsFinished c traces f.logs f.cycles =
+        subst (λ xs. IsFinished c xs f.logs f.cycles) whole
+        (subst (λ q. IsFinished q ts f.logs f.cycles) config ended) in (
+          job_shown c traces f (same ∙ config) made job (sym is),
+          has_history c traces f (same ∙ config) made,
+        )

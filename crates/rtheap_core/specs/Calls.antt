@@ -21,7 +21,7 @@ pub record Call : Type 0 where
 
 -- what a call did, whatever it was given
 pub record IsCarriedOut (c : Call) : Type 0 where
-  -- What was run is a run on a heap that never frees, and what was written is its text.
+  -- What was run is a run of the job that was read, and what was written is its text.
   pub headline : IfSome c.exit.run (λ end. Headline c.source c.sink c.exit.status end)
   pub planned : AskForPlan c.words → c.exit.due ≡ 0 → Planned c.source c.sink c.exit.status
   -- A run is there exactly where the words ask for it and nothing refused it.

@@ -2,8 +2,9 @@
 use Rattle.std.specs.Prelude.{ℕ, ◌≡◌, ◌⊎◌, List, [], ◌∷◌, ◌++◌, map, codes, decimal, IfSome}
 use Rattle.never_heap.specs.declared.Command.{Command}
 use Rattle.never_heap.specs.declared.Entry.{Entry}
-use Rattle.never_heap.specs.FreeingRuns.{IsFreeingRun}
 use Rattle.never_heap.specs.Histories.{HistoryItem, parts, starts_in, work_in}
+use Rattle.never_heap.specs.Licensed.{StartsSmall, NoFulls}
+use Rattle.never_heap.specs.Runs.{IsRun}
 use Rattle.heap_system.specs.Systems.{Finish}
 use Rattle.heap_system.specs.Systems as systems
 use Rattle.rate_plan.specs.Rates.{IsAdmitted, IsRate}
@@ -50,16 +51,18 @@ commands_of log = map (λ (e : Entry). e.command) log
 abbrev pub job_of : RunEnd → Job
 job_of end = record { config = (run_of end).config; traces = map commands_of (logs_of end) }
 
--- An ended run has a history: one of its job on a heap that frees, at the rate of its
--- configuration. The logs, cycles and units that the run shows are those of the history.
+-- An ended run has a history: a run of its job, at the rate of its configuration. The logs, cycles
+-- and units that it shows are those of the history. Where each cycle of the history began with at
+-- most L live blocks, none of its commands was answered full.
 pub record HasHistory (end : RunEnd) : Type 0 where
   pub rate : ℕ
   pub is_rate : IsRate (job_of end).config rate
   pub history : List HistoryItem
-  pub is_run : IsFreeingRun (job_of end).config rate (job_of end).traces history
+  pub is_run : IsRun (job_of end).config rate (job_of end).traces history
   pub parts_logged : parts (job_of end).config.threads history ≡ logs_of end
   pub starts_counted : starts_in history ≡ cycles_of end
   pub work_counted : work_in history ≡ units_of end
+  pub none_full : StartsSmall (job_of end).config history → NoFulls history
 
 -- where the source told its bytes, they were the input that is this job, and all were read
 pub record IsReadAs (source : Sides) (job : Job) : Type 0 where
@@ -72,9 +75,10 @@ pub record IsWritten (sink : Sides) (status : ℕ) (text : List ℕ) : Type 0 wh
   pub whole : status ≡ 0 → Appends sink.bytes sink.bytes_now text
   pub prefix : status ≡ 6 → AppendsPrefix sink.bytes sink.bytes_now text
 
--- The headline. There is one history of a heap that frees: its replies, thread by thread in trace
--- order, are those of the logs. The job that was run is the input, the logs, cycles and units are
--- those that the ended run shows, and the history's text is what was written.
+-- The headline. There is one history: its replies, thread by thread in trace order, are those of
+-- the logs, and they are those of a heap that never frees, but for the fulls, each of which is
+-- licensed. The job that was run is the input, the logs, cycles and units are those that the ended
+-- run shows, and the history's text is what was written.
 pub record Headline (source sink : Sides) (status : ℕ) (end : RunEnd) : Type 0 where
   pub read : IsReadAs source (job_of end)
   pub admitted : IsAdmitted (job_of end).config

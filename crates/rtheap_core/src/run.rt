@@ -11,7 +11,7 @@ ghost use Rattle.rtheap_core.specs.Exits.{HasHistory, job_of};
 ghost use Rattle.rtheap_core.specs.Runnable.{CanRun};
 
 use block_store::OutOfMemory;
-use heap_system::{Finished, System, Turn, fulls_need_blocks};
+use heap_system::{Finished, System, Turn, fulls_are_licensed};
 use std::alloc::Global;
 use std::sync::Wait;
 use trace_text::Job;
@@ -28,7 +28,7 @@ pub fn run_job<R: Wait>(rt: &R, alloc: Global, job: Job) -> Result<Finished, Out
     ensures job { IfOk result (λ f. job_of (ends.Ran f) ≡ job) }
     ensures ran { IfOk result (λ f. HasHistory (ends.Ran f)) }
 {
-    fulls_need_blocks();
+    fulls_are_licensed();
     let system = System::new(alloc, job.config, job.traces)?;
     Ok(finished(driven(rt, system)))
 }

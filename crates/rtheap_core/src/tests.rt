@@ -556,16 +556,41 @@ fn a_refusal_that_cannot_be_written_is_a_write_fault(rt: HostRuntime) -> Result<
     Ok(())
 }
 
-/// Does the commands of a run on the heap that never frees, and compares each reply.
+/// How many blocks are reachable at the start of a cycle that comes behind so many units, at least
+/// `before` and fewer than `after`.
+fn blocks_at_start(starts: &[(u64, u64)], before: u64, after: u64) -> Option<u64> {
+    for (units, blocks) in starts {
+        if before <= *units && *units < after {
+            return Some(*blocks);
+        }
+    }
+    None
+}
+
+/// Does the commands of a run on the heap that never frees, and compares each reply, and how many
+/// blocks are reachable at these starts of cycles.
 #[tactic(auto, using(never_heap::proofs::Stepping::step_threads, never_heap::proofs::Stepping::step_count))]
-fn agrees(rt: &impl Abort, alloc: Global, config: &Config, entries: &[Entry]) -> Result<(), Fail>
+fn agrees(
+    rt: &impl Abort,
+    alloc: Global,
+    config: &Config,
+    entries: &[Entry],
+    starts: &[(u64, u64)],
+) -> Result<(), Fail>
     requires bounds { IsInBounds config.now }
     requires one_thread { config.now.threads ≡ 1 }
     requires few { length entries.now ≤ 131072 }
 {
     let mut graph = Graph::start(alloc, config).ok().ok_or("memory")?;
+    let mut units: u64 = 0;
     for k in 0..entries.len() {
         let entry = &entries[k];
+        let after = units.saturating_add(entry.work);
+        if let Some(blocks) = blocks_at_start(starts, units, after) {
+            let counted = graph.reach_blocks().ok().ok_or("memory")?;
+            assert_eq!(rt; counted, blocks, "entry {k}");
+        }
+        units = after;
         assert!(rt; entry.command.in_bounds(config));
         let reply = graph.apply(0, &entry.command).ok().ok_or("memory")?;
         assert_eq!(rt; reply, entry.reply, "entry {k}");
@@ -645,8 +670,13 @@ fn the_largest_heap_takes_the_largest_object(rt: HostRuntime) -> Result<(), Fail
     )
 }
 
-/// Runs a job, and its commands on the heap that never frees.
-fn runs_agree(rt: &(impl Abort + Wait), alloc: Global, input: &str) -> Result<(), Fail> {
+/// Runs a job, and its commands on the heap that never frees, with these starts of cycles.
+fn runs_agree(
+    rt: &(impl Abort + Wait),
+    alloc: Global,
+    input: &str,
+    starts: &[(u64, u64)],
+) -> Result<(), Fail> {
     let (exit, _sink) = made(rt, alloc, &Call::run(input))?;
     let Some(RunEnd::Ran(run)) = exit.run else {
         return Err("nothing was run".into());
@@ -656,7 +686,7 @@ fn runs_agree(rt: &(impl Abort + Wait), alloc: Global, input: &str) -> Result<()
     let entries = run.entries(0);
     assert!(rt; config.in_bounds() && config.threads == 1);
     assert!(rt; !entries.is_empty() && entries.len() <= 131_072);
-    agrees(rt, alloc, config, entries)
+    agrees(rt, alloc, config, entries, starts)
 }
 
 /// Objects that refer to each other in rings, an array in several registers, and a link that is
@@ -736,12 +766,24 @@ fn ringed(alloc: Global, rings: &str, count: u32) -> Result<String, AllocError> 
 fn a_heap_of_words_answers_as_the_heap_that_never_frees(rt: HostRuntime) -> Result<(), Fail> {
     let (commands, _written) = EACH_KIND;
     let text = job(rt.alloc(), commands)?;
-    runs_agree(&rt, rt.alloc(), text.as_str())?;
+    runs_agree(&rt, rt.alloc(), text.as_str(), &[])?;
     for rings in [RINGS, WIDE_RINGS] {
         for count in [0, 300] {
             let text = ringed(rt.alloc(), rings, count)?;
-            runs_agree(&rt, rt.alloc(), text.as_str())?;
+            runs_agree(&rt, rt.alloc(), text.as_str(), &[])?;
         }
     }
     Ok(())
+}
+
+#[test]
+fn each_cycle_of_a_growing_chain_starts_with_more_blocks(rt: HostRuntime) -> Result<(), Fail> {
+    let alloc = rt.alloc();
+    let mut text = job_begun(alloc)?;
+    for _ in 0..58 {
+        text.push_str("new 1 1\nput 1 0 2\nmov 2 1\n")?;
+    }
+    text.push_str("end\n")?;
+    let starts = [(0, 6), (70, 16), (150, 27), (241, 40), (345, 55)];
+    runs_agree(&rt, alloc, text.as_str(), &starts)
 }

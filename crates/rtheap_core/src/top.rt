@@ -36,6 +36,8 @@ const WRITE_FAULT: u8 = 6;
 /// configuration. Any other words are refused with the line `rtheap: usage`.
 ///
 /// The entries, cycles and units that an ended run shows by `Logs` are those that `done` is about.
+/// An allocation is answered `full` only where more blocks than the job's live limit were reachable
+/// at the start of the cycle that the reply names.
 ///
 /// That a call with the word `run` returns is not promised, for it makes turns of the job's thread
 /// until that is done. A call with any other words returns.
