@@ -166,9 +166,10 @@ module _ (c : Config) (rate : ℕ) (s : Seen c) (b : BuildState) (at : AtPart c 
       let w : Spending = before.threads s.thread in
       let r : Reply = replies.Full (full_cycle b.cycle) in
       let new : Spending = record w { balance = refused w.balance } in
-      moves c rate s (Build b) before k (events.Refuse s.thread (entry r) ∷ events.Next s.thread next ∷ [])
-      ((s.low, k.own.inside, omega (arith, low, high), decides r, none, paid_all, omega (arith, k.own.asked, size, less, k.of.free), ap replies.Full (full_is b.cycle (omega (arith, cycle, k.kept.some)) ∙ ap (λ z. max 1 (z - 1)) cycle)),
-      ((s.low, spends_here (λ v. v.high ≤ v.low) before.threads s.thread new (omega (arith, low, high)), spends_here (λ v. v.reserved ≡ 0) before.threads s.thread new none, spends_here (λ v. v.balance.paid ≡ 0) before.threads s.thread new refl, few), tt))
+      moves c rate s (Build b) before k (events.Refuse s.thread (entry r) ∷ events.Next s.thread next ∷ []) (
+        (s.low, k.own.inside, omega (arith, low, high), decides r, none, paid_all, omega (arith, k.own.asked, size, less, k.of.free), ap replies.Full (full_is b.cycle (omega (arith, cycle, k.kept.some)) ∙ ap (λ z. max 1 (z - 1)) cycle)),
+        ((s.low, spends_here (λ v. v.high ≤ v.low) before.threads s.thread new (omega (arith, low, high)), spends_here (λ v. v.reserved ≡ 0) before.threads s.thread new none, spends_here (λ v. v.balance.paid ≡ 0) before.threads s.thread new refl, few), tt),
+      )
       s.heap (record (plain step) { reply = Some r; verdict = Refused r; naming = Same }) Leave next
       (record { cycle = k.of.cycle; sweep = k.of.sweep; cursor = k.of.cursor; free = k.of.free; colour = k.of.colour; order = ap (λ o. o ++ Did (entry r) ∷ []) k.of.order })
       (spends_twice (IsSpending c Leave 0 next) before.threads s.thread new (λ v. record v { asked = next }) (record { inside = k.own.inside; paid = refl; asked = refl; low = low; high = high; reserved = none }))
@@ -182,9 +183,10 @@ module _ (c : Config) (rate : ℕ) (s : Seen c) (b : BuildState) (at : AtPart c 
       let makes : makes_object s.command ≡ true = at.part.makes in
       let made : r ≡ replies.New (next_name s.graph s.thread) = reply_made s.graph s.thread s.command makes in
       let later : Spending = record w { reserved = 0; balance = published w.asked w.balance } in
-      moves c rate s (Build b) before k (events.Publish s.thread (entry r) ∷ events.Next s.thread next ∷ [])
-      ((s.low, k.own.inside, omega (arith, low, high), decides r, all ∙ sym k.own.asked, paid_all, ap (λ x. blocks_if_new x asked) made ∙ sym k.own.asked, ap is_full made),
-      ((s.low, spends_here (λ v. v.high ≤ v.low) before.threads s.thread later (omega (arith, low, high)), spends_here (λ v. v.reserved ≡ 0) before.threads s.thread later refl, spends_here (λ v. v.balance.paid ≡ 0) before.threads s.thread later refl, few), tt))
+      moves c rate s (Build b) before k (events.Publish s.thread (entry r) ∷ events.Next s.thread next ∷ []) (
+        (s.low, k.own.inside, omega (arith, low, high), decides r, all ∙ sym k.own.asked, paid_all, ap (λ x. blocks_if_new x asked) made ∙ sym k.own.asked, ap is_full made),
+        ((s.low, spends_here (λ v. v.high ≤ v.low) before.threads s.thread later (omega (arith, low, high)), spends_here (λ v. v.reserved ≡ 0) before.threads s.thread later refl, spends_here (λ v. v.balance.paid ≡ 0) before.threads s.thread later refl, few), tt),
+      )
       new (record (plain step_is) { reply = Some (replies.New name); verdict = AsStep; naming = Made (built_at b) }) Leave next
       (record { cycle = k.of.cycle ∙ sym same.cycle; sweep = k.of.sweep ∙ sym same.sweep; cursor = k.of.cursor ∙ sym same.cursor; free = k.of.free ∙ sym same.free; colour = λ x. k.of.colour x ∙ sym (same.colour x); order = ap (λ o. o ++ Did (entry r) ∷ []) k.of.order })
       (spends_twice (IsSpending c Leave 0 next) before.threads s.thread later (λ v. record v { asked = next }) (record { inside = k.own.inside; paid = refl; asked = refl; low = low; high = high; reserved = refl }))

@@ -84,10 +84,10 @@ module _ (c : Config) (rate : ℕ) (s : Seen c) (p : Part) (before : Tally) (k :
       let sweep : is_sweep (seen + 1) ≡ is_sweep (s.heap Phase) = ap (λ w. is_sweep (w + 1)) (sym same) ∙ ap (λ (w : PhaseWord). w.sweep) more in
       let w : Spending = before.threads s.thread in
       moves c rate s p before k (events.Enter s.thread ∷ []) (s.low, tt) (put_at s.heap Phase (seen + 1)) (record (plain steps.Over) { entered = Some (phase_of seen) }) (first_part c (pass_by s.thread c.threads (phase_of seen)) (errand c s)) next
-          (record { cycle = k.of.cycle ∙ sym cycle; sweep = k.of.sweep ∙ sym sweep; cursor = k.of.cursor; free = k.of.free; colour = k.of.colour; order = told_none c rate s p before k (record (plain steps.Over) { entered = Some (phase_of seen) }) refl refl })
-          (spends_here (IsSpending c (first_part c (pass_by s.thread c.threads (phase_of seen)) (errand c s)) s.paid (blocks_of c.width s.command)) before.threads s.thread (record w { inside = true; balance = entered before.cycle w.balance })
-          (begins c (pass_by s.thread c.threads (phase_of seen)) (errand c s) s.paid (blocks_of c.width s.command) (record w { inside = true; balance = entered before.cycle w.balance }) refl (paid_entered before.cycle w.balance ∙ own.paid) own.asked own.low own.high own.reserved))
-          (λ u other. changed_else before.threads s.thread u _ other)
+      (record { cycle = k.of.cycle ∙ sym cycle; sweep = k.of.sweep ∙ sym sweep; cursor = k.of.cursor; free = k.of.free; colour = k.of.colour; order = told_none c rate s p before k (record (plain steps.Over) { entered = Some (phase_of seen) }) refl refl })
+      (spends_here (IsSpending c (first_part c (pass_by s.thread c.threads (phase_of seen)) (errand c s)) s.paid (blocks_of c.width s.command)) before.threads s.thread (record w { inside = true; balance = entered before.cycle w.balance })
+      (begins c (pass_by s.thread c.threads (phase_of seen)) (errand c s) s.paid (blocks_of c.width s.command) (record w { inside = true; balance = entered before.cycle w.balance }) refl (paid_entered before.cycle w.balance ∙ own.paid) own.asked own.low own.high own.reserved))
+      (λ u other. changed_else before.threads s.thread u _ other)
 
   enters : (seen : ℕ) → TallyEvent c rate s (cond (eqb (s.heap Phase) seen) (put_at s.heap Phase (seen + 1)) s.heap) (effect c (Enter (gates.Enter seen)) (s.heap Phase)) (part_got c s.thread (errand c s) s.pass (Enter (gates.Enter seen)) (s.heap Phase)) next before
   enters seen = elim (cases_Bool (eqb (s.heap Phase) seen)) [

@@ -107,11 +107,11 @@ module _ (c : Config) (rate : ℕ) (s : Seen c) (m : GreyState) (at : AtPart c s
         let less : w.balance.paid < rate * w.asked = (let e : rate * w.asked ≡ rate * blocks_of c.width s.command = ap (λ n. rate * n) k.own.asked in omega (arith, e, k.due, pays, k.own.paid)) in
         let not_black : before.colour x ≡ black_word before.cycle → ⊥ = (λ e. let z : true ≡ false = sym grey ∙ ap is_grey (sym (k.of.colour x) ∙ e) ∙ not_grey_black before.cycle in cc) in
         moves c rate s (Mark m) before k (events.Scan s.thread x ∷ []) ((s.low, k.own.inside, mark, inside.0, inside.1, not_black, less, omega (arith, low, high)), tt)
-            (put_at s.heap (ColourOf x) (black_word m.pass.cycle)) (of_pass step true) q next
-            (record { cycle = k.of.cycle; sweep = k.of.sweep; cursor = k.of.cursor; free = k.of.free; colour = λ y. (λ i. cond (eqb x y) (black_word (black i)) (k.of.colour y i)); order = told_none c rate s (Mark m) before k (of_pass step true) refl refl })
-            (spends_here (IsSpending c q (s.paid + 1) (blocks_of c.width s.command)) before.threads s.thread new
-            (spends (s.paid + 1) new k.own.inside (omega (arith, k.own.paid)) k.own.asked low high k.own.reserved))
-            (λ u other. changed_else before.threads s.thread u new other)
+        (put_at s.heap (ColourOf x) (black_word m.pass.cycle)) (of_pass step true) q next
+        (record { cycle = k.of.cycle; sweep = k.of.sweep; cursor = k.of.cursor; free = k.of.free; colour = λ y. (λ i. cond (eqb x y) (black_word (black i)) (k.of.colour y i)); order = told_none c rate s (Mark m) before k (of_pass step true) refl refl })
+        (spends_here (IsSpending c q (s.paid + 1) (blocks_of c.width s.command)) before.threads s.thread new
+        (spends (s.paid + 1) new k.own.inside (omega (arith, k.own.paid)) k.own.asked low high k.own.reserved))
+        (λ u other. changed_else before.threads s.thread u new other)
 
     quiet : (new : Heap) → SameWords s.heap new → TallyEvent c rate s new (of_pass step false) q next before
     quiet new same = stays c rate s (Mark m) before k new (of_pass step false) q next same refl refl here

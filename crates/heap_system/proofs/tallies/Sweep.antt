@@ -85,11 +85,11 @@ module _ (c : Config) (rate : ℕ) (s : Seen c) (p : SweepState) (at : AtPart c 
         let cost : rate * w.asked ≡ rate * blocks_of c.width s.command = ap (λ n. rate * n) k.own.asked in
         let ends : before.cursor + (high - x) ≡ high = omega (arith, k.of.cursor, is, some) in
         moves c rate s (Sweep p) before k (events.Claim s.thread (high - x) ∷ []) ((s.low, k.own.inside, sweep, omega (arith, ends, last), omega (arith, cost, k.due, k.own.paid, due, some), omega (arith, low, none)), tt)
-            (put_at s.heap Cursor high) (of_pass step false) q next
-            (record { cycle = k.of.cycle; sweep = k.of.sweep; cursor = ends; free = k.of.free; colour = k.of.colour; order = told_none c rate s (Sweep p) before k (of_pass step false) refl refl })
-            (spends_here (IsSpending c q s.paid (blocks_of c.width s.command)) before.threads s.thread new
-            (spends new (record { inside = k.own.inside; paid_is = k.own.paid; asked = k.own.asked; low = k.of.cursor ∙ is; high = ends; reserved = k.own.reserved })))
-            (λ u other. changed_else before.threads s.thread u new other)
+        (put_at s.heap Cursor high) (of_pass step false) q next
+        (record { cycle = k.of.cycle; sweep = k.of.sweep; cursor = ends; free = k.of.free; colour = k.of.colour; order = told_none c rate s (Sweep p) before k (of_pass step false) refl refl })
+        (spends_here (IsSpending c q s.paid (blocks_of c.width s.command)) before.threads s.thread new
+        (spends new (record { inside = k.own.inside; paid_is = k.own.paid; asked = k.own.asked; low = k.of.cursor ∙ is; high = ends; reserved = k.own.reserved })))
+        (λ u other. changed_else before.threads s.thread u new other)
 
     -- a block is passed, and its colour written or not
     module _ (x high y a f : ℕ) (low : (before.threads s.thread).low ≡ x) (until : (before.threads s.thread).high ≡ high) (some : x < high) (spends : (w : Spending) → AtRow (s.paid + 1) (next_block x high y a f) w → IsSpending c q (s.paid + 1) (blocks_of c.width s.command) w)
@@ -103,22 +103,22 @@ module _ (c : Config) (rate : ℕ) (s : Seen c) (p : SweepState) (at : AtPart c 
       passes : TallyEvent c rate s new (of_pass step true) q next before
       passes = elim (cases_Bool (ltb (x + 1) high)) [
         | inl more ↦ record {
-            tally = passed;
-            kept = run_kept c rate black_word k.some k.plan (events.Pass s.thread ∷ []) (record before { colour = painted }) kept ((s.low, omega (arith, low, until, some)), tt);
-            of = record { cycle = of.cycle; sweep = of.sweep; cursor = of.cursor; free = of.free; colour = of.colour; order = of.order };
-            own = spends_here (IsSpending c q (s.paid + 1) (blocks_of c.width s.command)) before.threads s.thread one
-                (spends one (record { inside = k.own.inside; paid_is = omega (arith, k.own.paid); asked = k.own.asked; low = omega (arith, low, (next_more x high y a f more).0); high = until ∙ sym (next_more x high y a f more).1; reserved = k.own.reserved }));
-            others = λ u other. changed_else before.threads s.thread u one other;
-          }
+          tally = passed;
+          kept = run_kept c rate black_word k.some k.plan (events.Pass s.thread ∷ []) (record before { colour = painted }) kept ((s.low, omega (arith, low, until, some)), tt);
+          of = record { cycle = of.cycle; sweep = of.sweep; cursor = of.cursor; free = of.free; colour = of.colour; order = of.order };
+          own = spends_here (IsSpending c q (s.paid + 1) (blocks_of c.width s.command)) before.threads s.thread one
+              (spends one (record { inside = k.own.inside; paid_is = omega (arith, k.own.paid); asked = k.own.asked; low = omega (arith, low, (next_more x high y a f more).0); high = until ∙ sym (next_more x high y a f more).1; reserved = k.own.reserved }));
+          others = λ u other. changed_else before.threads s.thread u one other;
+        }
         | inr last ↦ record {
-            tally = apply c rate black_word passed (events.Clear s.thread);
-            kept = run_kept c rate black_word k.some k.plan (events.Pass s.thread ∷ events.Clear s.thread ∷ []) (record before { colour = painted }) kept
-                ((s.low, omega (arith, low, until, some)), ((s.low, spends_here (λ w. w.high ≤ w.low) before.threads s.thread one (omega (arith, low, until, ltb-false (x + 1) high last))), tt));
-            of = record { cycle = of.cycle; sweep = of.sweep; cursor = of.cursor; free = of.free; colour = of.colour; order = of.order };
-            own = spends_twice (IsSpending c q (s.paid + 1) (blocks_of c.width s.command)) before.threads s.thread one (λ w. record w { low = 0; high = 0 })
-                (spends (record one { low = 0; high = 0 }) (record { inside = k.own.inside; paid_is = omega (arith, k.own.paid); asked = k.own.asked; low = sym (next_last x high y a f last).0; high = sym (next_last x high y a f last).1; reserved = k.own.reserved }));
-            others = λ u other. others_twice before.threads s.thread one _ u other;
-          }
+          tally = apply c rate black_word passed (events.Clear s.thread);
+          kept = run_kept c rate black_word k.some k.plan (events.Pass s.thread ∷ events.Clear s.thread ∷ []) (record before { colour = painted }) kept
+              ((s.low, omega (arith, low, until, some)), ((s.low, spends_here (λ w. w.high ≤ w.low) before.threads s.thread one (omega (arith, low, until, ltb-false (x + 1) high last))), tt));
+          of = record { cycle = of.cycle; sweep = of.sweep; cursor = of.cursor; free = of.free; colour = of.colour; order = of.order };
+          own = spends_twice (IsSpending c q (s.paid + 1) (blocks_of c.width s.command)) before.threads s.thread one (λ w. record w { low = 0; high = 0 })
+              (spends (record one { low = 0; high = 0 }) (record { inside = k.own.inside; paid_is = omega (arith, k.own.paid); asked = k.own.asked; low = sym (next_last x high y a f last).0; high = sym (next_last x high y a f last).1; reserved = k.own.reserved }));
+          others = λ u other. others_twice before.threads s.thread one _ u other;
+        }
       ]
 
     -- what comes after a claim, won or lost
@@ -133,7 +133,13 @@ module _ (c : Config) (rate : ℕ) (s : Seen c) (p : SweepState) (at : AtPart c 
         → ((paid : ℕ) (w : Spending) → AtRow paid (cond b (before_free x high y a f) (next_block x high y a f)) w → IsSpending c q paid (blocks_of c.width s.command) w)
         → TallyEvent c rate s s.heap (of_pass step (is_some (cond b None (Some x)))) q next before
     reading x high y a f true some own spends = quiet s.heap (same_words s.heap) (spends s.paid (before.threads s.thread) (record {
-      inside = own.inside; paid_is = own.paid_is; asked = own.asked; low = own.low ∙ sym (free_claims x high y a f).0; high = own.high ∙ sym (free_claims x high y a f).1; reserved = own.reserved }))
+      inside = own.inside;
+      paid_is = own.paid_is;
+      asked = own.asked;
+      low = own.low ∙ sym (free_claims x high y a f).0;
+      high = own.high ∙ sym (free_claims x high y a f).1;
+      reserved = own.reserved;
+    }))
     reading x high y a f false some own spends = passes x high y a f own.low own.high some (spends (s.paid + 1)) s.heap before.colour k.kept
         (record { cycle = k.of.cycle; sweep = k.of.sweep; cursor = k.of.cursor; free = k.of.free; colour = k.of.colour; order = told_none c rate s (Sweep p) before k (of_pass step false) refl refl })
 
@@ -141,7 +147,13 @@ module _ (c : Config) (rate : ℕ) (s : Seen c) (p : SweepState) (at : AtPart c 
         → ((paid : ℕ) (w : Spending) → AtRow paid (row_got p.cycle p.blocks p.owed r (s.heap (place_of (row_want p.thread p.cycle r)))) w → IsSpending c q paid (blocks_of c.width s.command) w)
         → TallyEvent c rate s (heap_after s.heap (row_want p.thread p.cycle r)) (of_pass step (is_some (row_passes p.cycle r (s.heap (place_of (row_want p.thread p.cycle r)))))) q next before
     by sweeps.ReadCursor fits going settled own spends = quiet s.heap (same_words s.heap) (spends s.paid (before.threads s.thread) (record {
-      inside = own.inside; paid_is = own.paid_is; asked = own.asked; low = own.low ∙ sym (read_claims p.blocks p.owed (s.heap Cursor)).0; high = own.high ∙ sym (read_claims p.blocks p.owed (s.heap Cursor)).1; reserved = own.reserved }))
+      inside = own.inside;
+      paid_is = own.paid_is;
+      asked = own.asked;
+      low = own.low ∙ sym (read_claims p.blocks p.owed (s.heap Cursor)).0;
+      high = own.high ∙ sym (read_claims p.blocks p.owed (s.heap Cursor)).1;
+      reserved = own.reserved;
+    }))
     by (sweeps.ClaimRange x high) fits going settled own spends = claiming x high (eqb (s.heap Cursor) x) refl fits (omega (arith, settled)) own (spends s.paid)
     by (sweeps.PassBlock x high y a f) fits going settled own spends = reading x high y a f (eqb (s.heap (ColourOf x)) (white_word p.cycle)) fits.0.left own spends
     by (sweeps.TakeFree x high y) fits going settled own spends = quiet _ (record { cycle = refl; sweep = refl; cursor = refl; free = refl; colour = λ x. refl }) (spends s.paid (before.threads s.thread) own)
