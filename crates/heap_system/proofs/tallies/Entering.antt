@@ -22,7 +22,6 @@ use Rattle.grey_steps.specs.Rows.{scanning}
 use Rattle.sweep_steps.specs.Rows.{sweeping}
 use Rattle.build_steps.specs.Rows.{building}
 use Rattle.work_account.specs.Accounts.{entered}
-use Rattle.cycle_tally.specs.Events.{Event}
 use Rattle.cycle_tally.specs.Events as events
 use Rattle.cycle_tally.specs.Tallies.{Spending, Tally}
 use Rattle.cycle_tally.proofs.Sums.{paid_entered}

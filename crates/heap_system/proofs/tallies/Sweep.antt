@@ -18,7 +18,7 @@ use Rattle.sweep_steps.specs.Fits.{RowFits, IsLeft}
 use Rattle.sweep_steps.specs.Rows.{SweepState, row_want, row_got, after_read, after_range, next_block, before_free, sweep_want, sweep_got, sweep_over, sweep_step, sweep_passed, sweep_nothing, sweep_holding}
 use Rattle.sweep_steps.proofs.Keeping.{over_holds_none}
 use Rattle.work_account.specs.Accounts.{with_unit}
-use Rattle.cycle_tally.specs.Events.{Event, apply, run, Guarded}
+use Rattle.cycle_tally.specs.Events.{apply}
 use Rattle.cycle_tally.specs.Events as events
 use Rattle.cycle_tally.specs.Kept.{TallyKept}
 use Rattle.cycle_tally.proofs.Laws.{run_kept}
