@@ -283,8 +283,7 @@ impl AtomBoard {
         requires done { AllAreDone who.items }
         ensures config { result.config ≡ self.config }
         ensures logs { AreLogsOf result.logs who.items }
-        ensures finished { IsFinished self.config self.traces result.logs }
-        ensures cycles { result.cycles ≡ 1 }
+        ensures finished { IsFinished self.config self.traces result.logs result.cycles }
     {
         let threads = self.config.threads as usize;
         let mutators = ordered(who, threads);
@@ -297,8 +296,7 @@ impl AtomBoard {
         requires done { AllAreDone who.items }
         ensures config { result.config ≡ self.config }
         ensures logs { result.logs ≡ map log_of who.items }
-        ensures finished { IsFinished self.config self.traces result.logs }
-        ensures cycles { result.cycles ≡ 1 }
+        ensures finished { IsFinished self.config self.traces result.logs result.cycles }
     {
         let AtomBoard {
             table,

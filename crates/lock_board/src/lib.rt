@@ -99,7 +99,7 @@ impl LockBoard {
     /// The system, where a thread is not done, with the least such thread.
     pub fn close(self) -> Result<Finished, Unfinished>
         ensures finished { IfOk result (λ f. (traces : List (List Command))
-            × IsFinished f.config traces f.logs) }
+            × IsFinished f.config traces f.logs f.cycles) }
         ensures least { IfErr result (λ u.
             IsLeastUndone u.system.config u.system.state u.thread) }
     {
