@@ -1,12 +1,12 @@
 -- A hand that is put on a free list that is not empty loses the blocks of that list.
-use Rattle.std.proofs.Common.{◌≡◌, ℕ, ◌≤◌, ◌<◌, ◌+◌, ◌&&◌, Bool, true, false, refl, arith, subst, sym, ap, ◌∙◌, List, [], inl, inr, eq-eqb, ne_eqb}
+use Rattle.std.proofs.Common.{◌≡◌, ℕ, ◌≤◌, ◌<◌, ◌&&◌, false, refl, arith, subst, ap, ◌∙◌, inl, inr, eq-eqb, ne_eqb}
 use Rattle.std.proofs.lemmas.Bool.{cases_eq}
 use Rattle.block_store.specs.Colours.{is_free}
 use Rattle.block_store.specs.Heaps.{Heap, put_at}
 use Rattle.block_store.specs.Phases.{bit}
 use Rattle.block_store.specs.Places.{Extent, FreeList, ColourOf, is_block}
 use Rattle.heap_machine.specs.Chains.{Chain}
-use Rattle.block_store.specs.Counts.{changed, times, total}
+use Rattle.block_store.specs.Counts.{changed, times}
 use Rattle.heap_machine.specs.FreeBlocks.{FreeHolding, FreeKept}
 use Rattle.heap_machine.proofs.Chaining.{Chain-zero, Chain-one}
 use Rattle.heap_machine.proofs.FreeBlocks.{colours, free_first}

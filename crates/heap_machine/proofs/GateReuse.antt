@@ -1,5 +1,5 @@
 -- The events of the gate keep where Free blocks stand, what is claimed and what was passed.
-use Rattle.std.proofs.Common.{◌≡◌, ◌≢◌, ℕ, ◌+◌, ◌-◌, ◌≤◌, ◌<◌, Bool, true, false, not, eqb, refl, arith, sym, ap, ◌∙◌, inl, inr, eqb-true}
+use Rattle.std.proofs.Common.{◌≡◌, ℕ, ◌+◌, ◌-◌, ◌≤◌, ◌<◌, true, false, not, eqb, refl, arith, sym, ap, ◌∙◌, inl, inr, eqb-true}
 use Rattle.std.proofs.lemmas.Bool.{cases_Bool, and_parts}
 use Rattle.block_store.proofs.PhaseWords.{phase-more, phase-less}
 use Rattle.block_store.specs.declared.PhaseWord.{PhaseWord}

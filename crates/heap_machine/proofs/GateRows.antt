@@ -1,5 +1,5 @@
 -- What holds of the rows of the gate.
-use Rattle.std.proofs.Common.{◌≡◌, ℕ, ◌+◌, ◌-◌, ◌^◌, ◌≤◌, ◌<◌, Bool, true, false, eqb, ltb, cond, refl, arith, subst, sym, inl, inr, ltb-true, IsSome}
+use Rattle.std.proofs.Common.{◌≡◌, ℕ, ◌+◌, ◌-◌, ◌^◌, ◌≤◌, ◌<◌, Bool, true, false, eqb, ltb, cond, refl, arith, subst, inl, inr, ltb-true, IsSome}
 use Rattle.std.proofs.lemmas.Bool.{cases_Bool, lt-ltb, and_from, le-leb}
 use Rattle.block_store.specs.declared.Config.{Config}
 use Rattle.block_store.specs.declared.Colour.TheVariants.{Grey}
@@ -7,17 +7,17 @@ use Rattle.block_store.specs.declared.Width.{Width}
 use Rattle.block_store.specs.Colours.{colour_of, grey_word, link}
 use Rattle.block_store.specs.Places.{extent, in_range, is_block}
 use Rattle.block_store.specs.Phases.{inside_of, is_closed, cycle_of}
-use Rattle.block_store.specs.Registers.{root_block, registers_end}
+use Rattle.block_store.specs.Registers.{root_block}
 use Rattle.block_store.proofs.ColourWords.{colour-code, link-grey}
 use Rattle.block_store.proofs.Registers.{root_in, root_some, end_few, end_more}
 use Rattle.heap_machine.specs.Gating.{closed_word, open_word}
 use Rattle.heap_machine.specs.Operations.{place_of, Fits}
 use Rattle.heap_machine.specs.Readings.{IsPhaseWord, CanHold, StoresHeld}
 use Rattle.heap_machine.specs.Passes.{IsPass}
-use Rattle.heap_machine.specs.Gates.{gate_want, gate_got, is_of_pass, is_empty, closed_by, root_shaded, IsIdle, IsSwept, IsAt, GateFits, GateAt}
+use Rattle.heap_machine.specs.Gates.{gate_want, gate_got, is_of_pass, is_empty, closed_by, IsAt, GateFits, GateAt}
 use Rattle.heap_machine.specs.Turning.{turns_over, HasRoom}
 use Rattle.heap_machine.specs.declared.gate.GateRow.{GateRow}
-use Rattle.heap_machine.specs.declared.gate.GateRow.TheVariants.{Look, Enter, Entered, Leave, Left, CloseLook, Close, CheckList, SetCursor, Flip, Reopen, ShadeRoot, PutRoots, Start, TurnedOver, StartedCycle, KeptOut}
+use Rattle.heap_machine.specs.declared.gate.GateRow.TheVariants.{Look, Enter, Entered, Leave, CloseLook, Close, CheckList, SetCursor, Flip, Reopen, ShadeRoot, PutRoots, Start, TurnedOver, StartedCycle, KeptOut}
 use Rattle.heap_machine.specs.declared.pass.Pass.{Pass}
 use Rattle.heap_machine.proofs.Gatings.{close_parts, open_parts}
 

@@ -2,7 +2,7 @@
 use Rattle.std.proofs.Common.{◌≡◌, ℕ, ◌||◌, Bool, true, false, refl, sym}
 use Rattle.block_store.specs.Heaps.{Heap, put_at}
 use Rattle.block_store.specs.Payloads.{target}
-use Rattle.block_store.specs.Places.{Extent, Place, ColourOf, PayloadOf}
+use Rattle.block_store.specs.Places.{Extent, ColourOf, PayloadOf}
 use Rattle.block_store.specs.Counts.{changed}
 use Rattle.heap_machine.specs.Grey.{is_of_grey}
 use Rattle.heap_machine.specs.HeapKept.{HeapKept, is_ruled, CanColour, CanRefer}

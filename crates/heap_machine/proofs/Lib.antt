@@ -16,6 +16,7 @@ pub mod Reusing
 pub mod GateReuse
 pub mod TurningRules
 pub mod TurningKnown
+pub mod Starting
 pub mod Opening
 pub mod FreeLost
 pub mod Phasing

@@ -1,11 +1,11 @@
 -- A heap whose last blocks are Free, in one ascending list, keeps where Free blocks stand.
-use Rattle.std.proofs.Common.{◌≡◌, ◌≢◌, ℕ, zero, suc, ◌+◌, ◌-◌, ◌≤◌, ◌<◌, ◌&&◌, Bool, true, false, cond, eqb, leb, ltb, refl, arith, subst, sym, ap, ◌∙◌, List, [], ◌∷◌, length, inl, inr, eq-eqb, ne_eqb, le-ltb}
+use Rattle.std.proofs.Common.{◌≡◌, ℕ, zero, suc, ◌+◌, ◌-◌, ◌≤◌, ◌<◌, ◌&&◌, true, false, cond, leb, ltb, refl, arith, subst, sym, ap, ◌∙◌, List, [], ◌∷◌, length, inl, inr, eq-eqb, ne_eqb, le-ltb}
 use Rattle.std.proofs.lemmas.Bool.{cases_eq, cases_lt, cases_Bool, and_parts, lt-ltb, leb-true}
-use Rattle.block_store.specs.Colours.{is_free, link, free_word}
+use Rattle.block_store.specs.Colours.{is_free, link}
 use Rattle.block_store.proofs.ColourWords.{link-free, free_free}
 use Rattle.block_store.specs.Heaps.{Heap}
 use Rattle.block_store.specs.Phases.{bit}
-use Rattle.block_store.specs.Places.{Extent, FreeCount, FreeList, ColourOf, is_block}
+use Rattle.block_store.specs.Places.{Extent, FreeList, ColourOf, is_block}
 use Rattle.heap_machine.specs.Chains.{Chain}
 use Rattle.block_store.specs.Counts.{changed, times, total}
 use Rattle.heap_machine.specs.FreeBlocks.{FreeHolding, no_free, FreeKept, FreeFrom}

@@ -12,15 +12,15 @@ use Rattle.block_store.specs.Registers.{root_block}
 use Rattle.block_store.proofs.ColourWords.{grey_grey}
 use Rattle.block_store.proofs.PhaseWords.{phase-more, phase-less}
 use Rattle.block_store.specs.declared.PhaseWord.{PhaseWord}
-use Rattle.heap_machine.specs.Gates.{gate_want, gate_got, gate_entered, closed_by, list_checked, look_to_close, root_shaded, is_of_pass, is_empty, GateFits, GateAt}
-use Rattle.heap_machine.specs.Gating.{Gating, GateOf, Outside, Closing}
-use Rattle.heap_machine.specs.Holdings.{Holding, holds_nothing, grey_held}
+use Rattle.heap_machine.specs.Gates.{gate_want, gate_got, closed_by, list_checked, look_to_close, root_shaded, is_of_pass, is_empty, GateFits, GateAt}
+use Rattle.heap_machine.specs.Gating.{Gating, GateOf, Closing}
+use Rattle.heap_machine.specs.Holdings.{Holding, grey_held}
 use Rattle.heap_machine.specs.Operations.{place_of, heap_after}
 use Rattle.heap_machine.specs.PhaseKept.{PhaseKept}
 use Rattle.heap_machine.specs.Readings.{IsPhaseWord, IsHeld}
-use Rattle.heap_machine.specs.Turning.{turns_over, turning_gating, stands_outside, roots_shaded, cursor_set, turning_pass, HasRoom, TurningKnows, IsTurnOf, IsTurning}
+use Rattle.heap_machine.specs.Turning.{turns_over, stands_outside, roots_shaded, cursor_set, HasRoom, TurningKnows, IsTurnOf, IsTurning}
 use Rattle.heap_machine.specs.declared.gate.GateRow.{GateRow}
-use Rattle.heap_machine.specs.declared.gate.GateRow.TheVariants.{Look, Enter, Entered, Leave, Left, CloseLook, Close, CheckList, SetCursor, Flip, Reopen, ShadeRoot, PutRoots, Start, TurnedOver, StartedCycle, KeptOut}
+use Rattle.heap_machine.specs.declared.gate.GateRow.TheVariants.{Look, Enter, Entered, Leave, Left, CloseLook, Close, CheckList, SetCursor, Flip, Reopen, ShadeRoot, PutRoots, KeptOut}
 use Rattle.heap_machine.specs.declared.pass.Pass.{Pass}
 use Rattle.heap_machine.proofs.GateRows.{gate_stores}
 use Rattle.heap_machine.proofs.Gatings.{gate_closing, inside_most}

@@ -1,6 +1,6 @@
 -- The events of a part that turns the phase over or starts a cycle keep what a heap keeps in each
 -- phase, and what their thread knows.
-use Rattle.std.proofs.Common.{◌≡◌, ◌≢◌, ℕ, ◌+◌, ◌-◌, ◌≤◌, ◌<◌, Bool, true, false, cond, eqb, ltb, refl, arith, subst, sym, ap, ◌∙◌, inl, inr, eq-eqb, ne_eqb, eqb-true, Some, None}
+use Rattle.std.proofs.Common.{◌≡◌, ◌≢◌, ℕ, ◌+◌, ◌-◌, ◌≤◌, ◌<◌, Bool, true, false, cond, eqb, ltb, refl, arith, subst, sym, ap, ◌∙◌, inl, inr, eq-eqb, ne_eqb, eqb-true, None}
 use Rattle.std.proofs.lemmas.Bool.{cases_eq, cases_Bool}
 use Rattle.block_store.specs.declared.Config.{Config}
 use Rattle.block_store.specs.declared.Width.{Width}
@@ -12,34 +12,31 @@ use Rattle.block_store.specs.Places.{Extent, extent, Phase, Cursor, GreyList, Co
 use Rattle.block_store.specs.Registers.{root_block}
 use Rattle.block_store.specs.Payloads.{target}
 use Rattle.block_store.specs.Widths.{payloads}
-use Rattle.block_store.proofs.ColourWords.{black-next, black-white, grey-white, grey_grey, not_free_black, not_free_grey, not_grey_black}
+use Rattle.block_store.proofs.ColourWords.{black-next, black-white, grey-white, not_free_black, not_free_grey, not_grey_black}
 use Rattle.block_store.proofs.Functions.{funext}
 use Rattle.block_store.proofs.Registers.{root_some}
 use Rattle.block_store.proofs.PhaseWords.{phase-more, phase-less}
 use Rattle.block_store.specs.declared.PhaseWord.{PhaseWord}
-use Rattle.heap_machine.specs.Gates.{gate_want, gate_got, closed_by, list_checked, look_to_close, root_shaded, is_of_pass, is_empty, GateFits, GateAt, IsAt, IsSwept}
-use Rattle.heap_machine.specs.Gating.{Gating, GateOf, Closing, is_closing, closed_word, open_word}
+use Rattle.heap_machine.specs.Gates.{gate_want, gate_got, closed_by, list_checked, look_to_close, root_shaded, is_of_pass, is_empty, GateFits}
+use Rattle.heap_machine.specs.Gating.{Gating, Closing, is_closing, closed_word, open_word}
 use Rattle.heap_machine.specs.Grey.{GreyHolding, GreyKept, Stands}
 use Rattle.heap_machine.specs.Holdings.{Holding, holds_nothing, grey_held, tricolour_held, free_held, sweep_held}
 use Rattle.heap_machine.specs.Operations.{Exchange, place_of, heap_after}
 use Rattle.heap_machine.specs.PhaseKept.{PhaseKept}
-use Rattle.heap_machine.specs.ReuseKept.{ReuseKept}
 use Rattle.heap_machine.specs.Solid.{NotFree}
-use Rattle.heap_machine.specs.Sweeping.{no_claim}
-use Rattle.heap_machine.specs.Tricolour.{TricolourKept}
-use Rattle.heap_machine.specs.Turning.{turns_over, in_pass, turning_gating, turning_holding, TurningKnows, MayTurn, IsTurning}
+use Rattle.heap_machine.specs.Turning.{turns_over, in_pass, turning_gating, turning_holding, MayTurn, IsTurning}
 use Rattle.heap_machine.specs.declared.gate.GateRow.{GateRow}
 use Rattle.heap_machine.specs.declared.gate.GateRow.TheVariants.{Look, Enter, Entered, Leave, Left, CloseLook, Close, CheckList, SetCursor, Flip, Reopen, ShadeRoot, PutRoots, Start, TurnedOver, StartedCycle, KeptOut}
 use Rattle.heap_machine.specs.declared.pass.Pass.{Pass}
 use Rattle.heap_machine.proofs.Gatings.{closed_phase, open_parts}
-use Rattle.heap_machine.proofs.GreyBlocks.{colours, first_is_grey, kept_held, kept_other, none_is_grey}
+use Rattle.heap_machine.proofs.GreyBlocks.{colours, first_is_grey, kept_held, kept_other}
 use Rattle.heap_machine.proofs.GreyEvents.{shades, puts}
 use Rattle.heap_machine.proofs.Keeping.{part_changed}
-use Rattle.heap_machine.proofs.Phasing.{from_mark, from_sweep, in_mark, phase_stays, phase_flips}
+use Rattle.heap_machine.proofs.Phasing.{from_mark, from_sweep, phase_stays, phase_flips}
 use Rattle.heap_machine.proofs.Reusing.{reuse_stays, reuse_other, reuse_colour, reuse_turns, reuse_cursor}
 use Rattle.heap_machine.proofs.Solids.{solid_other}
 use Rattle.heap_machine.proofs.Tricolours.{begins, tricolour_other}
-use Rattle.heap_machine.proofs.Turnovers.{checked_empty, closing_pass, empty_gate, of_pass}
+use Rattle.heap_machine.proofs.Turnovers.{closing_pass, empty_gate, of_pass}
 
 pub changed_same : {A : Type 0} (f : ℕ → A) (t : ℕ) (v : A) → f t ≡ v → changed f t v ≡ f
 changed_same f t v same = funext _ _ (λ u. elim (cases_eq t u) [

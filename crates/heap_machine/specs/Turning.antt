@@ -1,6 +1,6 @@
 -- The part that closes the gate and turns the phase over, or starts the next cycle: its rows, where
 -- its thread stands, what it holds and knows, and what its events read.
-use Rattle.std.specs.Prelude.{ℕ, ◌+◌, ◌-◌, ◌^◌, ◌≡◌, ◌≢◌, ◌<◌, Bool, true, false, List, [], ◌∷◌, Option, Some, None, IfSome}
+use Rattle.std.specs.Prelude.{ℕ, zero, suc, ◌+◌, ◌-◌, ◌^◌, ◌≡◌, ◌≢◌, ◌<◌, Bool, true, false, List, [], ◌∷◌, Option, Some, None, IfSome}
 use Rattle.block_store.specs.Colours.{is_free, is_grey, black_word, white_word}
 use Rattle.block_store.specs.Heaps.{Heap}
 use Rattle.block_store.specs.Payloads.{target}
@@ -82,6 +82,11 @@ roots_shaded (ShadeRoot p u hand) = u
 roots_shaded (PutRoots p hand) = p.threads
 roots_shaded (Start p) = p.threads
 roots_shaded _ = 0
+
+-- the root block of the thread before thread u, or 0: what is in the hand when its root is shaded
+abbrev pub root_before : Width → ℕ → ℕ
+root_before W zero = 0
+root_before W (suc u) = root_block W u
 
 -- the cursor was put on the first block since the gate was closed
 abbrev pub cursor_set : GateRow → Bool

@@ -108,9 +108,9 @@ pub fn gate_rows_stay_in_the_heap()
         → HasRoom r → StoresHeld c (gate_want c.width r) }
 {}
 
-/// Each event of a part that turns the phase over or starts a cycle keeps that the phase word counts
-/// the threads inside, while the other threads stay where they are. Its thread has closed the gate
-/// from the event that closes it to the one that opens it again.
+/// Each event of a part that turns the phase over or starts a cycle keeps that the phase word
+/// counts the threads inside, while the other threads stay where they are. Its thread has closed
+/// the gate from the event that closes it to the one that opens it again.
 pub fn turn_over_keeps_the_gate()
     ensures { (W : Width) (n : ℕ) (h : Heap) (gs : ℕ → Gating) → GateOf n (h Phase) gs
         → (t : ℕ) → t < n

@@ -33,7 +33,7 @@ pub use reuse::{
 };
 pub use turning::{
     closed_gates_keep_others_out, gate_rows_keep_each_word, gate_rows_keep_the_rules,
-    nothing_is_grey_at_the_flip, what_the_closing_thread_knows,
+    nothing_is_grey_at_the_flip, start_shades_every_root, what_the_closing_thread_knows,
 };
 pub use words::Words;
 

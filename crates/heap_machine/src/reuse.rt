@@ -246,9 +246,9 @@ pub fn what_keeps_reuse()
 {}
 
 /// The events of the gate keep both rules: to go in and out, where the phase word counts a thread
-/// inside; and to close the gate, and turn the phase over or start a cycle, where nothing is claimed
-/// while it is closed, the cursor is at the first block before the flip, and a root that becomes
-/// grey was black.
+/// inside; and to close the gate, and turn the phase over or start a cycle, where nothing is
+/// claimed while it is closed, the cursor is at the first block before the flip, and a root that
+/// becomes grey was black.
 pub fn gate_rows_keep_reuse()
     ensures passes { (e : Extent) (h : Heap) (hs : ℕ → Holding) → ReuseKept e h hs
         → (r : GateRow) → turns_over r ≡ false → GateFits r
@@ -263,10 +263,10 @@ pub fn gate_rows_keep_reuse()
         → ReuseKept e (heap_after h (gate_want e.width r)) hs }
 {}
 
-/// What a heap keeps in each phase: while the phase is Mark it is what marking keeps in the cycle of
-/// the phase word, with both rules on reuse; in Sweep it is where grey blocks stand, with these. A
-/// phase word of the same phase and cycle keeps it, and so does one that turns to Sweep where nothing
-/// is claimed and the cursor is at the first block.
+/// What a heap keeps in each phase: while the phase is Mark it is what marking keeps in the cycle
+/// of the phase word, with both rules on reuse; in Sweep it is where grey blocks stand, with
+/// these. A phase word of the same phase and cycle keeps it, and so does one that turns to Sweep
+/// where nothing is claimed and the cursor is at the first block.
 pub fn rules_hold_by_the_phase()
     ensures mark { (e : Extent) (h : Heap) (hs : ℕ → Holding) → PhaseKept e h hs
         → is_sweep (h Phase) ≡ false → HeapKept e (cycle_of (h Phase)) h hs }

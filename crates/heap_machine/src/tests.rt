@@ -2,10 +2,12 @@
 
 ghost use Rattle.std.specs.Prelude.{◌≡◌, ◌<◌, ◌%◌, false};
 ghost use Rattle.block_store.specs.declared.Width.TheVariants.{Four};
+ghost use Rattle.block_store.specs.Registers.{root_block};
 ghost use Rattle.heap_machine.specs.declared.gate.GateRow.{GateRow};
 
 use crate::*;
 use block_store::{Config, OutOfMemory, Places, Width};
+use std::process::Abort;
 
 // Phase words of cycle 1: Mark with the gate open, with one thread inside, and closed; Sweep; and
 // Sweep closed. Then Mark of cycle 2, with nobody and with one thread inside.
@@ -182,8 +184,8 @@ fn a_turn_over_waits_where_the_gate_is_in_use(rt: HostRuntime) {
 
 // The start of the next cycle by thread 1 of two, after a Sweep pass of cycle 1. The words that it
 // reads are those of a heap whose roots are black.
-#[tactic(auto, unfolding(block_store::specs::Phases::inside_of, block_store::specs::Phases::cycle_of))]
-fn started_by(rt: &HostRuntime, width: Width, second: u32) -> Option<u64>
+#[tactic(auto, unfolding(block_store::specs::Phases::inside_of, block_store::specs::Phases::cycle_of, block_store::specs::Colours::colour_of, block_store::specs::Colours::link))]
+fn started_by(rt: &impl Abort, width: Width, second: u32) -> Option<u64>
     requires { second ≡ root_block width 1 }
 {
     let places = places_of(width);

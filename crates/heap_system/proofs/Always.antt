@@ -31,11 +31,8 @@ use Rattle.heap_system.proofs.Openings.{opening_rules, opening_names_kept}
 use Rattle.heap_system.proofs.PartLaws.{PartLaws}
 use Rattle.heap_system.proofs.Paying.{each_at}
 use Rattle.heap_system.proofs.Seeing.{lead}
+use Rattle.heap_system.proofs.Starting.{length_starts}
 use Rattle.heap_system.proofs.Turning.{next_kept}
-
-pub length_starts : (c : Config) (rate : ℕ) (space : ℕ → ℕ) (t : ℕ) (traces : List (List Command)) → length (starts_from c rate space t traces) ≡ length traces
-length_starts c rate space t [] = refl
-length_starts c rate space t (trace ∷ traces) = ap suc (length_starts c rate space (t + 1) traces)
 
 starts_at : (c : Config) (rate : ℕ) (space : ℕ → ℕ) (t i : ℕ) (traces : List (List Command)) (d : LocalState) → i < length traces → get_or (starts_from c rate space t traces) i d ≡ at_start c rate (space (t + i)) (t + i) (get_or traces i [])
 starts_at c rate space t i [] d low = absurd (omega arith)

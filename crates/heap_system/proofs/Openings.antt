@@ -81,6 +81,16 @@ words_kept c bounds room colour colours w agrees =
       sweeping = λ e. absurd (differ false e refl);
     }
 
+-- the words of an opening are those of the start graph, up to the last block of the shared array
+pub opening_agrees : (c : Config) → IsInBounds c → IsAdmitted c → (h : Heap) → ((p : Place) → in_range (extent c) p ≡ true → h p ≡ opening_heap c p) → (x : ℕ) → 0 < x → x ≤ opening_blocks c → Agrees c.width (opening_words c) (block_words h) x
+opening_agrees c bounds plan h words x pos within =
+    let block = block_in c bounds plan x pos (omega (arith, within, plan.opens, plan.room)) in
+    record {
+      owners = words (OwnerOf x) block;
+      shapes = words (ShapeOf x) block;
+      payloads = λ j jl. words (PayloadOf x j) (and_from _ _ block (lt-ltb j (payloads c.width) jl));
+    }
+
 module _ (c : Config) (bounds : IsInBounds c) (plan : IsAdmitted c) (h : Heap) (words : (p : Place) → in_range (extent c) p ≡ true → h p ≡ opening_heap c p) (outside : (x : ℕ) → is_block (extent c) x ≡ false → h (ColourOf x) ≡ 0) (cycle : cycle_of (h Phase) ≡ 1) (sweep : is_sweep (h Phase) ≡ false) where
   low : opening_blocks c + 1 ≤ c.blocks
   low = omega (arith, plan.opens, plan.room)
@@ -209,17 +219,7 @@ module _ (c : Config) (bounds : IsInBounds c) (plan : IsAdmitted c) (h : Heap) (
       solid = λ _. subst (λ n. SolidKept (extent c) n h) (sym cycle) solid_kept;
     }
 
-  -- the words of the opening are those of the start graph, up to the last block of the shared array
-  agrees : (x : ℕ) → 0 < x → x ≤ opening_blocks c → Agrees c.width (opening_words c) (block_words h) x
-  agrees x pos within =
-      let block = block_in c bounds plan x pos (omega (arith, low)) in
-      record {
-        owners = words (OwnerOf x) block;
-        shapes = words (ShapeOf x) block;
-        payloads = λ j jl. words (PayloadOf x j) (and_from _ _ block (lt-ltb j (payloads c.width) jl));
-      }
-
   pub opening_names_kept : (tasks : ℕ → Task) → tasks ≡ (λ t. no_task) → IsKept c (picture (start_graph c) (Started ∷ []) h (opening_names c) tasks)
   opening_names_kept tasks none = subst (λ ts. IsKept c (picture (start_graph c) (Started ∷ []) h (opening_names c) ts)) (sym none)
       (subst (λ s. IsKept c s) (λ i. record (picture (start_graph c) (Started ∷ []) h (opening_names c) (λ t. no_task)) { cycle = sym cycle i; sweep = sym sweep i })
-      (words_kept c bounds (omega (arith, low)) (λ x. h (ColourOf x)) colours (block_words h) agrees))
+      (words_kept c bounds (omega (arith, low)) (λ x. h (ColourOf x)) colours (block_words h) (opening_agrees c bounds plan h words)))

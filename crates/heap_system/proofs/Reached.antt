@@ -27,11 +27,8 @@ use Rattle.heap_system.proofs.Kept.{Kept}
 use Rattle.heap_system.proofs.LawsOf.{laws_of}
 use Rattle.heap_system.proofs.Making.{run_makes}
 use Rattle.heap_system.proofs.Seeing.{IsSettled}
+use Rattle.heap_system.proofs.Starting.{one_rate}
 use Rattle.heap_system.proofs.Turning.{cell, sums, reads}
-
--- there is one rate
-pub one_rate : (c : Config) (p q : ℕ) → IsRate c p → IsRate c q → p ≡ q
-one_rate c p q a b = let low = a.least q b.some b.enough in let high = b.least p a.some a.enough in omega arith
 
 -- what is kept of a reached state
 pub reached_kept : (c : Config) (s : State) (k : IsReached c s) → Kept c (traces_of s) (record { state = s; order = k.run.order; names = k.run.names })

@@ -1,49 +1,54 @@
 -- The laws, from what every run keeps.
-use Rattle.std.proofs.Common.{◌≤◌, ◌≡◌, ℕ, ◌<◌, true, false, List, ◌++◌, ◌∷◌, [], append-nil, length, sym, ap, ◌∙◌, ◌*◌, subst, arith}
-use Rattle.block_store.specs.declared.Name.{Name}
-use Rattle.block_store.specs.Colours.{is_free}
-use Rattle.block_store.specs.Places.{extent, GreyList, ColourOf}
-use Rattle.shown_graph.specs.Layouts.{object_blocks}
+use Rattle.std.proofs.Common.{◌≤◌, ◌≡◌, ℕ, ◌<◌, ◌+◌, ◌*◌, true, false, List, ◌++◌, ◌∷◌, [], append-nil, length, sym, ap, ◌∙◌, subst, arith}
+use Rattle.block_store.specs.Places.{extent, GreyList}
 use Rattle.block_store.specs.declared.Config.{Config}
 use Rattle.never_heap.specs.declared.Command.{Command}
 use Rattle.never_heap.specs.declared.Reply.{Reply}
-use Rattle.never_heap.specs.Graphs.{start_graph, has_name, object_of}
 use Rattle.never_heap.specs.Histories.{replay, part}
-use Rattle.never_heap.specs.Steps.{blocks_of, makes_object}
+use Rattle.never_heap.specs.Steps.{blocks_of}
 use Rattle.never_heap.proofs.Answering.{makers_have_blocks, others_have_none}
 use Rattle.rate_plan.specs.Rates.{IsRate}
-use Rattle.shown_graph.specs.Openings.{opening_at}
-use Rattle.shown_graph.specs.Events.{unloaded}
-use Rattle.heap_machine.specs.Holdings.{holds_nothing}
+use Rattle.heap_machine.specs.Holdings.{grey_held, holds_nothing}
 use Rattle.heap_machine.specs.Operations.{Exchange}
 use Rattle.grey_steps.specs.Rows.{GreyState, holding_at}
 use Rattle.grey_steps.specs.Ends.{is_putting}
 use Rattle.grey_steps.proofs.Ends.{put_on_empty}
 use Rattle.barrier_steps.specs.Rows.{FieldState, field_decided}
 use Rattle.barrier_steps.proofs.Dues.{none_due, some_due}
+use Rattle.build_steps.specs.Rows.{BuildState}
+use Rattle.kept_names.specs.Pictures.{no_task}
 use Rattle.heap_system.specs.declared.local.Part.{Part}
-use Rattle.heap_system.specs.declared.local.Part.TheVariants.{Rest, Serve, Mark, Count}
-use Rattle.heap_system.specs.Locals.{part_want, PartFits, is_rest, command_of, owed, owes, entry_of, entries_of}
-use Rattle.heap_system.specs.Machines.{Run, local_at}
-use Rattle.heap_system.specs.Units.{IsWithin}
-use Rattle.heap_system.specs.Pictures.{holding, loading, waiting, heap_in}
-use Rattle.heap_system.proofs.Kept.{grey_of, Kept, PartKept, RowKept, MarkKept, IsSettled, holdings_in}
-use Rattle.heap_system.proofs.Reached.{rest_is, one_rate}
+use Rattle.heap_system.specs.declared.local.Part.TheVariants.{Rest, Serve, Mark, Build}
+use Rattle.heap_system.specs.Locals.{task, part_want, PartFits, is_rest, command_of, owed, entry_of, entries_of}
+use Rattle.heap_system.specs.Machines.{Run, local_at, heap_in}
+use Rattle.heap_system.specs.Units.{IsRight}
+use Rattle.heap_system.specs.Pictures.{holding, holdings_in, waiting}
+use Rattle.heap_system.proofs.Kept.{Kept}
+use Rattle.heap_system.proofs.Reached.{rest_is}
+use Rattle.heap_system.proofs.Seeing.{PartKept, RowKept, MarkKept, BuildKept, IsSettled}
+use Rattle.heap_system.proofs.Starting.{one_rate}
 
 module _ (c : Config) (traces : List (List Command)) (r : Run) (k : Kept c traces r) (t : ℕ) (tl : t < c.threads) where
-  -- the part of the order, where the thread stands at p
+  -- what is kept of a thread that stands at p
+  kept_at : (p : Part) → (local_at c r.state t).part ≡ p → PartKept c (replay c r.order) t (local_at c r.state t).pass (command_of (local_at c r.state t)) p
+  kept_at p is = subst (λ x. PartKept c (replay c r.order) t (local_at c r.state t).pass (command_of (local_at c r.state t)) x) is (k.locals t tl).stands
+
+  settled_at : (p : Part) → (local_at c r.state t).part ≡ p → IsSettled (owed (local_at c r.state t)) (local_at c r.state t).paid p
+  settled_at p is = subst (λ x. IsSettled (owed (local_at c r.state t)) (local_at c r.state t).paid x) is (k.locals t tl).settled
+
+  -- the part of the order
   told_at : (p : Part) → (local_at c r.state t).part ≡ p → part t r.order ≡ (local_at c r.state t).log ++ entries_of t (command_of (local_at c r.state t)) (local_at c r.state t).paid (waiting (replay c r.order) p)
   told_at p is =
       (k.locals t tl).told ∙ ap (λ u. (local_at c r.state t).log ++ entries_of u (command_of (local_at c r.state t)) (local_at c r.state t).paid (waiting (replay c r.order) (local_at c r.state t).part)) (k.locals t tl).thread
       ∙ ap (λ x. (local_at c r.state t).log ++ entries_of t (command_of (local_at c r.state t)) (local_at c r.state t).paid (waiting (replay c r.order) x)) is
 
-  pub rest_told : is_rest (local_at c r.state t).part ≡ true → (part t r.order ≡ (local_at c r.state t).log) × (loading c (local_at c r.state t).part ≡ unloaded) × (holding c (local_at c r.state t).part ≡ holds_nothing)
-  rest_told e = let is = rest_is (local_at c r.state t).part e in (told_at Rest is ∙ append-nil (local_at c r.state t).log, ap (loading c) is, ap (holding c) is)
+  pub rest_told : is_rest (local_at c r.state t).part ≡ true → (part t r.order ≡ (local_at c r.state t).log) × (task c (local_at c r.state t).part ≡ no_task) × (holding c (local_at c r.state t).part ≡ holds_nothing)
+  rest_told e = let is = rest_is (local_at c r.state t).part e in (told_at Rest is ∙ append-nil (local_at c r.state t).log, ap (task c) is, ap (holding c) is)
 
   -- a command that allocates nothing has made no unit
   unpaid : (f : FieldState) → (local_at c r.state t).part ≡ Serve f → (local_at c r.state t).paid ≡ 0
   unpaid f is =
-      let row : RowKept (replay c r.order) t (local_at c r.state t).pass (command_of (local_at c r.state t)) f = subst (λ p. PartKept (replay c r.order) t (local_at c r.state t).pass (command_of (local_at c r.state t)) p) is (k.locals t tl).stands in
+      let row : RowKept (replay c r.order) t (local_at c r.state t).pass (command_of (local_at c r.state t)) f = kept_at (Serve f) is in
       let none : owed (local_at c r.state t) ≡ (local_at c r.state t).rate * 0 = ap (λ n. (local_at c r.state t).rate * n) (others_have_none (local_at c r.state t).config.width (command_of (local_at c r.state t)) row.serves) in
       omega (arith, (k.locals t tl).fits.paid, none)
 
@@ -56,37 +61,35 @@ module _ (c : Config) (traces : List (List Command)) (r : Run) (k : Kept c trace
   undecided_told f is e =
       told_at (Serve f) is ∙ ap (λ o. (local_at c r.state t).log ++ entries_of t (command_of (local_at c r.state t)) (local_at c r.state t).paid o) (none_due (replay c r.order) f.pass.thread f.command f.row e).0 ∙ append-nil (local_at c r.state t).log
 
+  pub building_told : (b : BuildState) → (local_at c r.state t).part ≡ Build b → part t r.order ≡ (local_at c r.state t).log
+  building_told b is = told_at (Build b) is ∙ append-nil (local_at c r.state t).log
+
   -- what is said of the units
   pub paid_low : (local_at c r.state t).paid ≤ owed (local_at c r.state t)
   paid_low = omega (arith, (k.locals t tl).fits.paid)
 
-  pub rest_settled : is_rest (local_at c r.state t).part ≡ true → ((local_at c r.state t).paid ≡ 0) × ((local_at c r.state t).waived ≡ false)
-  rest_settled e = subst (λ p. IsSettled (owed (local_at c r.state t)) (local_at c r.state t).paid (local_at c r.state t).waived p) (rest_is (local_at c r.state t).part e) (k.locals t tl).settled
+  pub rest_settled : is_rest (local_at c r.state t).part ≡ true → (local_at c r.state t).paid ≡ 0
+  rest_settled e = settled_at Rest (rest_is (local_at c r.state t).part e)
 
-  pub count_settled : (local_at c r.state t).part ≡ Count → (0 < blocks_of c.width (command_of (local_at c r.state t))) × (owes (local_at c r.state t) ≡ false)
-  count_settled is =
-      let some : makes_object (command_of (local_at c r.state t)) ≡ true = subst (λ p. PartKept (replay c r.order) t (local_at c r.state t).pass (command_of (local_at c r.state t)) p) is (k.locals t tl).stands in
-      (makers_have_blocks c.width (command_of (local_at c r.state t)) some, subst (λ p. IsSettled (owed (local_at c r.state t)) (local_at c r.state t).paid (local_at c r.state t).waived p) is (k.locals t tl).settled)
+  pub build_settled : (b : BuildState) → (local_at c r.state t).part ≡ Build b → (0 < blocks_of c.width (command_of (local_at c r.state t))) × ((local_at c r.state t).paid ≡ owed (local_at c r.state t))
+  build_settled b is =
+      let row : BuildKept c (replay c r.order) t (local_at c r.state t).pass (command_of (local_at c r.state t)) b = kept_at (Build b) is in
+      (makers_have_blocks c.width (command_of (local_at c r.state t)) row.makes, settled_at (Build b) is)
 
   pub rate_is : IsRate c (local_at c r.state t).rate
   rate_is = subst (λ x. IsRate x (local_at c r.state t).rate) (k.locals t tl).config (k.locals t tl).fits.rate
 
-  pub entries_within : (rate : ℕ) → IsRate c rate → IsWithin c.width rate (part t r.order)
-  entries_within rate is = subst (λ n. IsWithin c.width n (part t r.order)) (one_rate c (local_at c r.state t).rate rate rate_is is) (k.locals t tl).within
+  pub entries_right : (rate : ℕ) → IsRate c rate → IsRight c.width rate (part t r.order)
+  entries_right rate is = subst (λ n. IsRight c.width n (part t r.order)) (one_rate c (local_at c r.state t).rate rate rate_is is) (k.locals t tl).right
 
   -- where it puts its hand, its list is empty
   pub put_empty : (m : GreyState) → (local_at c r.state t).part ≡ Mark m → is_putting m.row ≡ true
       → (part_want c (local_at c r.state t).part ≡ Exchange (GreyList t) (holding c (local_at c r.state t).part).hand) × (heap_in c r.state (GreyList t) ≡ 0)
   put_empty m is putting =
-      let stands : MarkKept t (local_at c r.state t).pass m = subst (λ p. PartKept (replay c r.order) t (local_at c r.state t).pass (command_of (local_at c r.state t)) p) is (k.locals t tl).stands in
-      let fits : PartFits c (length (local_at c r.state t).log) (length (local_at c r.state t).trace) (Mark m) =
-      subst (λ p. PartFits c (length (local_at c r.state t).log) (length (local_at c r.state t).trace) p) is (subst (λ x. PartFits x (length (local_at c r.state t).log) (length (local_at c r.state t).trace) (local_at c r.state t).part) (k.locals t tl).config (k.locals t tl).fits.part) in
-      let e = put_on_empty c (heap_in c r.state) (holdings_in c r.state) m fits.0 k.rules.grey (ap (holdings_in c r.state) stands.thread ∙ ap (grey_of c) is) putting in (
+      let stands : MarkKept t (local_at c r.state t).pass m = kept_at (Mark m) is in
+      let fits : PartFits c (length (local_at c r.state t).log) (length (local_at c r.state t).trace) (local_at c r.state t).pass (Mark m) =
+      subst (λ p. PartFits c (length (local_at c r.state t).log) (length (local_at c r.state t).trace) (local_at c r.state t).pass p) is (subst (λ x. PartFits x (length (local_at c r.state t).log) (length (local_at c r.state t).trace) (local_at c r.state t).pass (local_at c r.state t).part) (k.locals t tl).config (k.locals t tl).fits.part) in
+      let e = put_on_empty c (heap_in c r.state) (λ u. grey_held (holdings_in c r.state u)) m fits.0 k.rules.grey (ap (λ u. grey_held (holdings_in c r.state u)) stands.thread ∙ ap (λ p. grey_held (holding c p)) is) putting in (
         ap (part_want c) is ∙ e.0 ∙ ap (λ u. Exchange (GreyList u) (holding_at (extent c) m).hand) stands.thread ∙ sym (ap (λ p. Exchange (GreyList t) (holding c p).hand) is),
         subst (λ u. heap_in c r.state (GreyList u) ≡ 0) stands.thread e.1,
       )
-
--- no block of an object is Free
-pub not_free : (c : Config) (traces : List (List Command)) (r : Run) → Kept c traces r → (a : Name) (o : ℕ) → has_name (start_graph c) a ≡ true → o < object_blocks c.width (object_of (replay c r.order) a)
-    → is_free (heap_in c r.state (ColourOf (opening_at c.width c.threads a o))) ≡ false
-not_free c traces r k a o ka ol = k.rules.taken (opening_at c.width c.threads a o) (omega (arith, k.shown.shows.placed.behind a o ka ol)) (k.shown.shows.placed.within a o ka ol)

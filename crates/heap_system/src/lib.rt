@@ -4,18 +4,22 @@
 mod laws;
 mod local;
 #[cfg(test)]
+mod lone;
+#[cfg(test)]
 mod schedules;
 mod start;
 mod system;
 #[cfg(test)]
 mod tests;
 #[cfg(test)]
+mod traces;
+#[cfg(test)]
 mod ways;
 
 pub use laws::{
     events_are_safe, finished_runs_show_their_logs, grey_blocks_stand_once, logs_are_parts,
-    opening_shows_the_start, order_is_legal, threads_inside_are_counted, turns_wait_at_the_gate,
-    words_show_the_order, works_are_units,
+    opening_shows_the_start, order_is_legal, threads_inside_are_counted, turns_keep_the_rules,
+    turns_wait, words_show_the_order, works_are_units,
 };
 pub use local::Local;
 pub use start::opening;

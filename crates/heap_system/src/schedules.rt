@@ -4,9 +4,8 @@
 
 ghost use Rattle.std.specs.Prelude.{◌≡◌, ◌<◌, ◌≤◌, ◌+◌, ℕ, length, IfOk, OnOk};
 ghost use Rattle.never_heap.specs.Graphs.{count_of};
-ghost use Rattle.std.specs.List.{All};
-ghost use Rattle.never_heap.specs.Bounds.{IsCommandInBounds};
 
+use crate::traces::trace_of;
 use crate::*;
 use block_store::{Config, OutOfMemory, Width};
 use never_heap::{Command, Graph, Logs, Reply};
@@ -50,28 +49,6 @@ const COMMANDS: [Command; 19] = [
     Command::Same { a: 3, b: 4 },
 ];
 
-// The commands as a trace.
-fn trace(alloc: Global) -> Result<Vec<Command>, OutOfMemory>
-    ensures { IfOk result (λ v. (length v.items ≤ 131072) × All (IsCommandInBounds (record {
-      width = Width.Four;
-      threads = 3;
-      blocks = 42;
-      live = 26;
-      object = 2;
-      shared = 17;
-    })) v.items) }
-{
-    let mut trace = Vec::new(alloc);
-    for _round in 0..ROUNDS {
-        for command in &COMMANDS {
-            if command.in_bounds(&THREE) && trace.len() < 1000 {
-                trace.push(*command)?;
-            }
-        }
-    }
-    Ok(trace)
-}
-
 fn three_threads(alloc: Global) -> Result<System, OutOfMemory>
     ensures { IfOk result (λ s. s.config ≡ record {
       width = Width.Four;
@@ -83,7 +60,10 @@ fn three_threads(alloc: Global) -> Result<System, OutOfMemory>
       shared = 17;
     }) }
 {
-    let (first, second, third) = (trace(alloc)?, trace(alloc)?, trace(alloc)?);
+    let rounds: [(u32, &[Command]); 1] = [(ROUNDS, &COMMANDS)];
+    let first = trace_of(alloc, &THREE, &rounds)?;
+    let second = trace_of(alloc, &THREE, &rounds)?;
+    let third = trace_of(alloc, &THREE, &rounds)?;
     System::new(alloc, THREE, vec![in alloc; first, second, third]?)
 }
 
@@ -161,7 +141,7 @@ fn progress(local: &Local) -> (usize, usize) {
 
 #[test]
 fn every_schedule_agrees_with_the_model(rt: HostRuntime) -> Result<(), OutOfMemory> {
-    for key in 0..200 {
+    for key in 0..20 {
         assert!(rt; agrees(rt.alloc(), key)?, "schedule {key}");
     }
     Ok(())

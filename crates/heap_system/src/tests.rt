@@ -1,15 +1,17 @@
-//! The opening heap, two threads on one shared array, and an allocation that pays by marking.
+//! The opening heap, two threads on one shared array, allocations that pay by marking and sweeping,
+//! and a thread that is held in the middle of a command.
 
 ghost use Rattle.std.specs.Prelude.{◌≡◌, ◌<◌, ◌≤◌, IfOk};
 
+use crate::traces::trace_of;
 use crate::*;
-use block_store::{Config, OutOfMemory, Places, Value, Width};
+use block_store::{Config, Name, OutOfMemory, Places, Value, Width};
 use never_heap::{Command, Logs, Reply};
 use rate_plan::plan;
 use std::alloc::Global;
 
 // A heap of one thread with an empty shared array.
-fn one(width: Width) -> Config
+pub(crate) fn one(width: Width) -> Config
     ensures { result
         ≡ record { width = width; threads = 1; blocks = 64; live = 20; object = 2; shared = 0 } }
 {
@@ -283,7 +285,7 @@ fn blackened(alloc: Global, system: &mut System) -> Result<Vec<usize>, OutOfMemo
             return Ok(blocks);
         }
         system.turn(0);
-        for block in 1..12 {
+        for block in 1..16 {
             if colour(system, block) == 2 && !blocks.contains(&block) {
                 blocks.push(block)?;
             }
@@ -292,60 +294,129 @@ fn blackened(alloc: Global, system: &mut System) -> Result<Vec<usize>, OutOfMemo
     Ok(blocks)
 }
 
+// The reply to an allocation that makes the object of this serial.
+fn made(thread: u32, serial: u32) -> Option<Reply> {
+    Some(Reply::New(Name { thread, serial }))
+}
+
+// The last block is that of the new object.
 #[test]
 fn an_allocation_pays_by_marking(rt: HostRuntime) -> Result<(), OutOfMemory> {
     assert_eq!(rt; plan(&two(Width::Four)), Ok(8));
     let mut system = allocator(rt.alloc(), Width::Four)?;
     let blocks = blackened(rt.alloc(), &mut system)?;
-    let expected: [usize; 8] = [1, 5, 4, 3, 2, 11, 6, 10];
+    let expected: [usize; 9] = [1, 5, 4, 3, 2, 11, 6, 10, 12];
     assert_eq!(rt; blocks.as_slice(), expected.as_slice());
     assert_eq!(rt; (word(&system, 3), word(&system, 4)), (9, 0));
     let Ok(logs) = system.finish() else {
         assert!(rt; false, "not finished");
         return Ok(());
     };
-    let full = Some(Reply::Full(1));
-    assert_eq!(rt; replies(&logs, 0), (1, full, full));
+    assert_eq!(rt; replies(&logs, 0), (1, made(0, 1), made(0, 1)));
     assert_eq!(rt; replies(&logs, 1), (0, None, None));
     assert_eq!(rt; (logs.cycles(), logs.units()), (1, 8));
     Ok(())
 }
 
 // The arrays of a heap of width eight have seven blocks: 1 to 3, 4 to 6, and the shared array in 7.
-// So the allocation owes one unit more than there are blocks to mark, and the last is waived.
+// So the allocation owes one unit more than there are blocks to mark. It turns the phase over, and
+// passes block 1.
 #[test]
-fn an_allocation_of_width_eight_marks_all_there_is(rt: HostRuntime) -> Result<(), OutOfMemory> {
+fn an_allocation_of_width_eight_sweeps_too(rt: HostRuntime) -> Result<(), OutOfMemory> {
     assert_eq!(rt; plan(&two(Width::Eight)), Ok(8));
     let mut system = allocator(rt.alloc(), Width::Eight)?;
     let blocks = blackened(rt.alloc(), &mut system)?;
-    let expected: [usize; 7] = [1, 3, 2, 7, 4, 6, 5];
+    let expected: [usize; 8] = [1, 3, 2, 7, 4, 6, 5, 8];
     assert_eq!(rt; blocks.as_slice(), expected.as_slice());
+    assert_eq!(rt; (word(&system, 0), word(&system, 1)), (1280, 2));
     assert_eq!(rt; (word(&system, 3), word(&system, 4)), (0, 0));
     let Ok(logs) = system.finish() else {
         assert!(rt; false, "not finished");
         return Ok(());
     };
-    let full = Some(Reply::Full(1));
-    assert_eq!(rt; replies(&logs, 0), (1, full, full));
-    assert_eq!(rt; (logs.cycles(), logs.units()), (1, 7));
+    assert_eq!(rt; replies(&logs, 0), (1, made(0, 1), made(0, 1)));
+    assert_eq!(rt; (logs.cycles(), logs.units()), (1, 8));
     Ok(())
 }
 
+// The second one scans the last three blocks, of which two stood in the other thread's list at the
+// opening, and passes five.
 #[test]
-fn the_second_allocation_pays_what_is_left(rt: HostRuntime) -> Result<(), OutOfMemory> {
+fn the_second_allocation_turns_the_phase_over(rt: HostRuntime) -> Result<(), OutOfMemory> {
     let mut system = allocator_of_two(rt.alloc(), Width::Four)?;
     turns(&mut system, 0, 3);
     for block in 1..12 {
         assert_eq!(rt; colour(&system, block), 2, "block {block}");
     }
+    assert_eq!(rt; (word(&system, 0), word(&system, 1)), (1280, 6));
     assert_eq!(rt; (word(&system, 3), word(&system, 4)), (0, 0));
     let Ok(logs) = system.finish() else {
         assert!(rt; false, "not finished");
         return Ok(());
     };
-    let full = Some(Reply::Full(1));
-    assert_eq!(rt; replies(&logs, 0), (2, full, full));
-    assert_eq!(rt; works(&logs, 0), (Some(8), Some(3)));
-    assert_eq!(rt; (logs.cycles(), logs.units()), (1, 11));
+    assert_eq!(rt; replies(&logs, 0), (2, made(0, 1), made(0, 2)));
+    assert_eq!(rt; works(&logs, 0), (Some(8), Some(8)));
+    assert_eq!(rt; (logs.cycles(), logs.units()), (1, 16));
+    Ok(())
+}
+
+// Thread 0 loads a field and says what it got. Thread 1 puts an object in that field, takes it out
+// again, and allocates.
+fn reader_and_allocator(alloc: Global) -> Result<System, OutOfMemory>
+    ensures { IfOk result (λ s. s.config.threads ≡ 2) }
+{
+    let config = two(Width::Four);
+    let reader = trace_of(
+        alloc,
+        &config,
+        &[(1, &[Command::Get { d: 1, s: 0, i: 0 }, Command::Say { s: 1 }])],
+    )?;
+    let stores = [
+        Command::New { d: 1, fields: 1 },
+        Command::Put { s: 0, i: 0, v: 1 },
+        Command::Nil { d: 1 },
+        Command::Put { s: 0, i: 0, v: 1 },
+    ];
+    let allocates = [Command::New { d: 2, fields: 1 }];
+    let allocator = trace_of(alloc, &config, &[(1, &stores), (3, &allocates)])?;
+    System::new(alloc, config, vec![in alloc; reader, allocator]?)
+}
+
+// Gives a thread so many turns.
+fn so_many(system: &mut System, thread: u32, count: u32)
+    requires { thread < system.old.config.threads }
+    ensures { system.new.config ≡ system.old.config }
+{
+    for _turn in 0..count {
+        system.turn(thread);
+    }
+}
+
+// While thread 0 is inside with what it has loaded, the gate can't be closed: thread 1 marks all
+// that is grey, and then waits. So the object is still there when thread 0 stores it.
+#[test]
+fn a_thread_in_mid_command_keeps_what_it_has_loaded(rt: HostRuntime) -> Result<(), OutOfMemory> {
+    let mut system = reader_and_allocator(rt.alloc())?;
+    turns(&mut system, 1, 3);
+    so_many(&mut system, 1, 1);
+    assert!(rt; system.local(1).at_rest());
+    so_many(&mut system, 0, 5);
+    so_many(&mut system, 1, 200);
+    assert_eq!(rt; (system.local(0).log().len(), system.local(1).log().len()), (0, 4));
+    assert_eq!(rt; system.local(1).paid(), 3);
+    turns(&mut system, 0, 3);
+    turns(&mut system, 1, 8);
+    let Ok(logs) = system.finish() else {
+        assert!(rt; false, "not finished");
+        return Ok(());
+    };
+    let object = Some(Reply::Val(Value::Ref(Name {
+        thread: 1,
+        serial: 1,
+    })));
+    assert_eq!(rt; replies(&logs, 0), (2, object, object));
+    assert_eq!(rt; replies(&logs, 1), (7, made(1, 1), made(1, 4)));
+    assert_eq!(rt; works(&logs, 1), (Some(8), Some(8)));
+    assert_eq!(rt; (logs.cycles(), logs.units()), (1, 32));
     Ok(())
 }

@@ -1,8 +1,12 @@
 use Rattle.heap_system.proofs.Always.{run_kept}
+use Rattle.heap_system.proofs.LawsOf.{laws_of}
 use Rattle.heap_system.proofs.laws.order_is_legal.Goals as goal
 
 pub returns-clause-legal : goal.returns-clause-legal
-returns-clause-legal _ c r is = (run_kept c is.traces is.turns r is.job is.by_turns).legal
+returns-clause-legal _ c r is = (run_kept c is.traces (laws_of c) is.job is.turns r is.by_turns).names.ordered.legal
 
-pub returns-clause-counts : goal.returns-clause-counts
-returns-clause-counts _ c r is = (run_kept c is.traces is.turns r is.job is.by_turns).counts
+pub returns-clause-starts : goal.returns-clause-starts
+returns-clause-starts _ c r is = (run_kept c is.traces (laws_of c) is.job is.turns r is.by_turns).names.ordered.started
+
+pub returns-clause-work : goal.returns-clause-work
+returns-clause-work _ c r is = (run_kept c is.traces (laws_of c) is.job is.turns r is.by_turns).counted

@@ -1,16 +1,17 @@
 use Rattle.std.proofs.Common.{sym}
 use Rattle.block_store.specs.Places.{Phase}
 use Rattle.heap_machine.proofs.Gatings.{inside_most}
-use Rattle.heap_system.specs.Pictures.{heap_in}
+use Rattle.heap_system.specs.Machines.{heap_in}
+use Rattle.heap_system.specs.Pictures.{gates_in}
 use Rattle.heap_system.proofs.Always.{run_kept}
-use Rattle.heap_system.proofs.Kept.{gates_in}
+use Rattle.heap_system.proofs.LawsOf.{laws_of}
 use Rattle.heap_system.proofs.laws.threads_inside_are_counted.Goals as goal
 
 pub returns-clause-count : goal.returns-clause-count
-returns-clause-count _ c r is = sym (run_kept c is.traces is.turns r is.job is.by_turns).gate.count
+returns-clause-count _ c r is = sym (run_kept c is.traces (laws_of c) is.job is.turns r is.by_turns).gate.count
 
 pub returns-clause-most : goal.returns-clause-most
-returns-clause-most _ c r is = inside_most c.threads (heap_in c r.state Phase) (gates_in c r.state) (run_kept c is.traces is.turns r is.job is.by_turns).gate
+returns-clause-most _ c r is = inside_most c.threads (heap_in c r.state Phase) (gates_in c r.state) (run_kept c is.traces (laws_of c) is.job is.turns r is.by_turns).gate
 
-pub returns-clause-opened : goal.returns-clause-opened
-returns-clause-opened _ c r is = let p = (run_kept c is.traces is.turns r is.job is.by_turns).phase in (p.opened, p.cycle, p.sweep)
+pub returns-clause-gate : goal.returns-clause-gate
+returns-clause-gate _ c r is = (run_kept c is.traces (laws_of c) is.job is.turns r is.by_turns).gate

@@ -1,16 +1,24 @@
 use Rattle.heap_system.proofs.Always.{run_kept}
-use Rattle.heap_system.proofs.Told.{not_free}
-use Rattle.heap_system.proofs.Older.{run_older}
+use Rattle.heap_system.proofs.LawsOf.{laws_of}
+use Rattle.kept_names.proofs.Showing.{reached_solid, reached_not_held}
+use Rattle.kept_names.proofs.Turning.{reached_kept}
+use Rattle.heap_system.specs.Pictures.{kept_state}
 use Rattle.heap_system.proofs.laws.words_show_the_order.Goals as goal
 
 pub returns-clause-words : goal.returns-clause-words
-returns-clause-words _ c r is = (run_kept c is.traces is.turns r is.job is.by_turns).shown.shows
+returns-clause-words _ c r is = (run_kept c is.traces (laws_of c) is.job is.turns r is.by_turns).names.follows.shows
 
-pub returns-clause-loads : goal.returns-clause-loads
-returns-clause-loads _ c r is = (run_kept c is.traces is.turns r is.job is.by_turns).shown
-
-pub returns-clause-free : goal.returns-clause-free
-returns-clause-free _ c r is a o ka ol = not_free c is.traces r (run_kept c is.traces is.turns r is.job is.by_turns) a o ka ol
+pub returns-clause-reached : goal.returns-clause-reached
+returns-clause-reached _ c r is a reached = reached_kept c (kept_state c r) (run_kept c is.traces (laws_of c) is.job is.turns r is.by_turns).names a reached
 
 pub returns-clause-older : goal.returns-clause-older
-returns-clause-older _ c r is = run_older c is.traces is.turns r is.job is.by_turns
+returns-clause-older _ c r is t q tl ql pending = (run_kept c is.traces (laws_of c) is.job is.turns r is.by_turns).names.older t q tl ql pending
+
+pub returns-clause-loads : goal.returns-clause-loads
+returns-clause-loads _ c r is = (run_kept c is.traces (laws_of c) is.job is.turns r is.by_turns).names.follows
+
+pub returns-clause-free : goal.returns-clause-free
+returns-clause-free _ c r is x reached = reached_solid c (kept_state c r) (run_kept c is.traces (laws_of c) is.job is.turns r is.by_turns).names x reached
+
+pub returns-clause-not_held : goal.returns-clause-not_held
+returns-clause-not_held _ c r is x t b reached tl builds = reached_not_held c (kept_state c r) (run_kept c is.traces (laws_of c) is.job is.turns r is.by_turns).names x t b reached tl builds

@@ -1,7 +1,7 @@
 use Rattle.std.proofs.Common.{refl}
 use Rattle.heap_system.specs.Machines.{local_at, word_read}
 use Rattle.heap_system.proofs.Waiting.{part_waits, done_stays}
-use Rattle.heap_system.proofs.laws.turns_wait_at_the_gate.Goals as goal
+use Rattle.heap_system.proofs.laws.turns_wait.Goals as goal
 
 pub returns-clause-waits : goal.returns-clause-waits
 returns-clause-waits _ c t s e = rw e (part_waits c (local_at c s t).part (word_read c s (local_at c s t)))
