@@ -191,7 +191,8 @@ impl AtomBoard {
     ///
     /// # Errors
     ///
-    /// `OutOfMemory` where there is no room for the words, the threads or their logs.
+    /// `OutOfMemory` where there is no room for the words, the threads, their logs or the blocks
+    /// that they hold while they build an object.
     pub fn new(
         alloc: Global,
         c: Config,

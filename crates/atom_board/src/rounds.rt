@@ -11,7 +11,7 @@ use rate_plan::plan;
 use std::alloc::Global;
 
 // How often each thread does all commands of its round.
-const ROUNDS: usize = 40;
+const ROUNDS: u32 = 40;
 
 // The commands of a round.
 const COMMANDS: usize = 14;
@@ -43,7 +43,11 @@ fn round(thread: u32) -> [Command; COMMANDS] {
         Command::Arr { d: 3, elements: 5 },
         Command::Put { s: 3, i: 4, v: 1 },
         Command::Put { s: 0, i: own, v: 3 },
-        Command::Get { d: 4, s: 0, i: own ^ 1 },
+        Command::Get {
+            d: 4,
+            s: 0,
+            i: own ^ 1,
+        },
         Command::Get { d: 4, s: 0, i: own },
         Command::Get { d: 4, s: 4, i: 4 },
         Command::Get { d: 4, s: 4, i: 0 },
@@ -75,9 +79,12 @@ fn trace(alloc: Global, c: &Config, thread: u32) -> Result<Vec<Command>, OutOfMe
 pub fn job(alloc: Global, c: &Config) -> Result<Option<Vec<Vec<Command>>>, OutOfMemory>
     ensures { IfOk result (λ o. IfSome o (λ v. IsJob c.now (map (λ w. w.items) v.items))) }
 {
-    if !c.in_bounds() || plan(c).is_err() {
+    if !c.in_bounds() {
         return Ok(None);
     }
+    let Ok(_rate) = plan(c) else {
+        return Ok(None);
+    };
     let mut traces = Vec::new(alloc);
     for thread in 0..c.threads {
         traces.push(trace(alloc, c, thread)?)?;
@@ -87,11 +94,11 @@ pub fn job(alloc: Global, c: &Config) -> Result<Option<Vec<Vec<Command>>>, OutOf
 
 // Whether an entry of a thread is what the command of this number must have, in any order of the
 // threads. What stands in the element of the other thread is an array of it, or nil.
-fn is_right(thread: u32, number: usize, entry: &Entry) -> bool {
+fn is_right(thread: u32, number: u32, entry: &Entry) -> bool {
     let other = thread ^ 1;
-    let first = number / COMMANDS * 3;
-    let name = |serial: usize| Name { thread, serial: serial as u32 };
-    let (reply, work) = match number % COMMANDS {
+    let first = number / COMMANDS as u32 * 3;
+    let name = |serial: u32| Name { thread, serial };
+    let (reply, work) = match number % COMMANDS as u32 {
         1 => (Reply::New(name(first + 1)), RATE),
         4 => (Reply::New(name(first + 2)), RATE),
         6 => (Reply::New(name(first + 3)), 3 * RATE),
@@ -117,11 +124,11 @@ fn is_right(thread: u32, number: usize, entry: &Entry) -> bool {
 pub fn are_right<L: Logs>(logs: &L) -> bool {
     for thread in 0..logs.threads() {
         let entries = logs.entries(thread);
-        if entries.len() != ROUNDS * COMMANDS {
+        if entries.len() != ROUNDS as usize * COMMANDS {
             return false;
         }
         for (number, entry) in entries.iter().enumerate() {
-            if !is_right(thread, number, entry) {
+            if !is_right(thread, number as u32, entry) {
                 return false;
             }
         }

@@ -14,6 +14,8 @@ use std::sync::{Mutex, Wait};
 use std::thread;
 
 #[cfg(test)]
+mod rounds;
+#[cfg(test)]
 mod tests;
 
 /// A system behind a lock. Of it only its type is known: that it is one after some list of turns.
@@ -58,7 +60,8 @@ impl LockBoard {
     ///
     /// # Errors
     ///
-    /// `OutOfMemory` where there is no room for the words, the threads or their logs.
+    /// `OutOfMemory` where there is no room for the words, the threads, their logs or the blocks
+    /// that they hold while they build an object.
     pub fn new(
         alloc: Global,
         c: Config,
