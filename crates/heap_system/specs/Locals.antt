@@ -1,6 +1,6 @@
 -- One thread's state, and its events as a table of rows: what each row wants, and what it becomes
 -- on the word that it read.
-use Rattle.std.specs.Prelude.{ℕ, suc, ◌+◌, ◌-◌, ◌*◌, ◌==◌, ◌&&◌, ◌||◌, ◌++◌, ◌<◌, ◌≤◌, ◌≡◌, nat_lt, if◌then◌else◌, Bool, true, false, Option, Some, None, List, [], ◌∷◌, length, slice_index_or, not, is_some}
+use Rattle.std.specs.Prelude.{ℕ, ◌+◌, ◌-◌, ◌*◌, ◌==◌, ◌&&◌, ◌++◌, ◌<◌, ◌≤◌, ◌≡◌, nat_lt, if◌then◌else◌, Bool, true, false, Option, Some, None, List, [], ◌∷◌, length, slice_index_or, not, is_some}
 use Rattle.block_store.specs.declared.Config.{Config}
 use Rattle.block_store.specs.declared.PhaseWord.{PhaseWord}
 use Rattle.block_store.specs.Configs.{IsInBounds}
@@ -18,7 +18,7 @@ use Rattle.never_heap.specs.Steps.{makes_object}
 use Rattle.heap_machine.specs.Operations.{Operation, place_of}
 use Rattle.heap_machine.specs.Readings.{CanHold}
 use Rattle.heap_machine.specs.Gates.{gate_want, gate_got, gate_step, gate_entered, is_going_in, is_of_pass, is_empty, GateFits, GateAt}
-use Rattle.heap_machine.specs.Gating.{Stand, Outside, Inside, is_inside}
+use Rattle.heap_machine.specs.Gating.{Stand, Outside, Inside}
 use Rattle.heap_machine.specs.Turning.{turns_over, turning_gating, turning_holding}
 use Rattle.heap_machine.specs.Holdings.{Holding, holds_nothing}
 use Rattle.heap_machine.specs.Passes.{IsPass}
@@ -27,14 +27,14 @@ use Rattle.heap_machine.specs.declared.gate.GateRow.{GateRow}
 use Rattle.heap_machine.specs.declared.gate.GateRow.TheVariants as gates
 use Rattle.heap_machine.specs.declared.Step.{Step}
 use Rattle.heap_machine.specs.declared.Step.TheVariants as steps
-use Rattle.grey_steps.specs.Rows.{GreyState, grey_want, grey_got, grey_step, grey_over, grey_unit, grey_nothing, holding_at, scanning}
+use Rattle.grey_steps.specs.Rows.{grey_want, grey_got, grey_step, grey_over, grey_unit, grey_nothing, holding_at, scanning}
 use Rattle.grey_steps.specs.Fits.{GreyFits, GreyReads}
 use Rattle.grey_steps.specs.Ends.{is_blackening}
-use Rattle.barrier_steps.specs.Rows.{FieldState, at_first_row, field_want, field_got, field_step, field_reply, field_holding}
+use Rattle.barrier_steps.specs.Rows.{at_first_row, field_want, field_got, field_step, field_reply, field_holding}
 use Rattle.barrier_steps.specs.Deciding.{is_deciding}
 use Rattle.barrier_steps.specs.Fits.{FieldFits, FieldReads}
 use Rattle.barrier_steps.specs.Projection.{loading_of}
-use Rattle.sweep_steps.specs.Rows.{SweepState, sweep_want, sweep_got, sweep_step, sweep_over, sweep_passed, sweep_nothing, sweep_holding, sweeping}
+use Rattle.sweep_steps.specs.Rows.{sweep_want, sweep_got, sweep_step, sweep_over, sweep_passed, sweep_nothing, sweep_holding, sweeping}
 use Rattle.sweep_steps.specs.Fits.{SweepFits, SweepReads}
 use Rattle.sweep_steps.specs.Ends.{row_passes}
 use Rattle.sweep_steps.specs.declared.rows.SweepRow.{SweepRow}
@@ -237,7 +237,8 @@ if_turned over g = if over then Enter gates.Look else TurnOver g
 abbrev pub part_got : Config → ℕ → Errand → Pass → Part → ℕ → Part
 part_got c t e q Rest w = if_entered (gate_entered (gate_got c.width gates.Look w)) c t e
     (gate_got c.width gates.Look w)
-part_got c t e q (Enter g) w = if_entered (gate_entered (gate_got c.width g w)) c t e (gate_got c.width g w)
+part_got c t e q (Enter g) w =
+    let n = gate_got c.width g w in if_entered (gate_entered n) c t e n
 part_got c t e q (Serve f) w = if_replied (field_reply (field_got (extent c) f w).row)
     (Serve (field_got (extent c) f w))
 part_got c t e q (Mark m) w =
@@ -303,7 +304,9 @@ abbrev pub effect : Config → Part → ℕ → Effect
 effect c Rest w = record (plain (gate_step gates.Look w)) {
   entered = gate_entered (gate_got c.width gates.Look w);
 }
-effect c (Enter g) w = record (plain (gate_step g w)) { entered = gate_entered (gate_got c.width g w) }
+effect c (Enter g) w = record (plain (gate_step g w)) {
+  entered = gate_entered (gate_got c.width g w);
+}
 effect c (Serve f) w = record (plain (field_step (extent c) f w)) {
   reply = field_reply (field_got (extent c) f w).row;
   verdict = if_decides (is_deciding f.command f.row w);

@@ -10,12 +10,13 @@ ghost use Rattle.block_store.specs.Configs.{IsInBounds};
 ghost use Rattle.block_store.specs.Counts.{total};
 ghost use Rattle.block_store.specs.Heaps.{heap_of};
 ghost use Rattle.block_store.specs.Phases.{bit, inside_of, cycle_of};
-ghost use Rattle.block_store.specs.Places.{Place, Phase, GreyList, ColourOf, extent, in_range};
+ghost use Rattle.block_store.specs.Places.{Place, Phase, ColourOf, extent, in_range};
 ghost use Rattle.array_trees.specs.Openings.{opening_blocks};
 ghost use Rattle.rate_plan.specs.Rates.{IsRate, IsAdmitted};
 ghost use Rattle.never_heap.specs.declared.Reply.{Reply};
 ghost use Rattle.never_heap.specs.Histories.{replay, part, Legal, starts_in, work_in};
 ghost use Rattle.never_heap.specs.Reach.{reachable};
+ghost use Rattle.never_heap.specs.RightWork.{RightWork};
 ghost use Rattle.never_heap.specs.Steps.{blocks_of};
 ghost use Rattle.shown_graph.specs.Events.{pending_registers, Follows};
 ghost use Rattle.shown_graph.specs.Openings.{opening_words};
@@ -26,16 +27,13 @@ ghost use Rattle.kept_names.specs.Kept.{IsKept, IsOlder};
 ghost use Rattle.kept_names.specs.Pictures.{no_task};
 ghost use Rattle.kept_names.specs.Reached.{IsReachedBlock};
 ghost use Rattle.heap_machine.specs.Gating.{is_inside, GateOf};
-ghost use Rattle.heap_machine.specs.Grey.{GreyKept};
-ghost use Rattle.heap_machine.specs.Holdings.{holds_nothing, grey_held};
-ghost use Rattle.heap_machine.specs.Operations.{Exchange, place_of, op_at, SumFits};
+ghost use Rattle.heap_machine.specs.Holdings.{holds_nothing};
+ghost use Rattle.heap_machine.specs.Operations.{place_of, op_at, SumFits};
 ghost use Rattle.heap_machine.specs.PhaseKept.{PhaseKept};
 ghost use Rattle.heap_machine.specs.Readings.{IsHeld};
-ghost use Rattle.grey_steps.specs.Rows.{GreyState};
-ghost use Rattle.grey_steps.specs.Ends.{is_putting};
 ghost use Rattle.barrier_steps.specs.Rows.{FieldState, field_decided};
 ghost use Rattle.build_steps.specs.Rows.{BuildState};
-ghost use Rattle.heap_system.specs.declared.local.Part.TheVariants.{Serve, Mark, Build};
+ghost use Rattle.heap_system.specs.declared.local.Part.TheVariants.{Serve, Build};
 ghost use Rattle.heap_system.specs.declared.Turn.TheVariants as Turn;
 ghost use Rattle.heap_system.specs.Locals.{task, is_done, waits, is_rest, command_of, owed, entry_of, works, part_want, PartReads};
 ghost use Rattle.heap_system.specs.Machines.{State, answer, turned, Run, opened, IsAfterTurns, local_in, local_at, heap_in, word_read};
@@ -95,13 +93,16 @@ pub fn turns_keep_the_rules()
 
 /// The order is legal: each command is answered as the heap that never frees answers it there, or
 /// it allocates and is answered full. That the threads answer this is `logs_are_parts`. Its starts
-/// are the cycles that the phase word counts, and its work is that of the logs.
+/// are the cycles that the phase word counts, its work is that of the logs, and each of its entries
+/// has the work that its command owes.
 pub fn order_is_legal()
     ensures legal { (c : Config) (r : Run) → IsAfterTurns c r → Legal c r.order }
     ensures starts { (c : Config) (r : Run) → IsAfterTurns c r
         → starts_in r.order ≡ cycle_of (heap_in c r.state Phase) }
     ensures work { (c : Config) (r : Run) → IsAfterTurns c r
         → work_in r.order ≡ units_of (logs_of r.state) }
+    ensures right { (c : Config) (r : Run) → IsAfterTurns c r → (rate : ℕ) → IsRate c rate
+        → RightWork c.width rate r.order }
 {}
 
 /// A thread's log is its part of the order, reply for reply. Between the deciding event of a
@@ -127,19 +128,6 @@ pub fn logs_are_parts()
     ensures building { (c : Config) (r : Run) → IsAfterTurns c r → (t : ℕ) → t < c.threads
         → (b : BuildState) → (local_in c r t).part ≡ Build b
         → part t r.order ≡ (local_in c r t).log }
-{}
-
-/// The grey blocks stand in the chains of the lists and of the threads' hands, or are under scan,
-/// each once. Where a thread that marks puts its hand, its own list is empty.
-pub fn grey_blocks_stand_once()
-    ensures kept { (c : Config) (r : Run) → IsAfterTurns c r
-        → GreyKept c.threads (heap_in c r.state)
-        (λ t. grey_held (holding c (local_in c r t).part)) }
-    ensures put { (c : Config) (r : Run) → IsAfterTurns c r → (t : ℕ) → t < c.threads
-        → (m : GreyState) → (local_in c r t).part ≡ Mark m → is_putting m.row ≡ true
-        → (part_want c (local_in c r t).part
-        ≡ Exchange (GreyList t) (holding c (local_in c r t).part).hand)
-        × (heap_in c r.state (GreyList t) ≡ 0) }
 {}
 
 /// The works of a thread's entries, and the units that it has made for the command in hand, are its

@@ -5,7 +5,7 @@ use Rattle.block_store.specs.declared.Width.{Width}
 use Rattle.never_heap.specs.declared.Entry.{Entry}
 use Rattle.never_heap.specs.Graphs.{Graph, start_graph}
 use Rattle.never_heap.specs.Histories.{HistoryItem, Started, Did, after, replay_from, IsAnswered, Legal, LegalFrom, replay, part, starts_in, work_in}
-use Rattle.never_heap.specs.PlainRuns.{FullsExactly, NoWork}
+use Rattle.never_heap.specs.FreeingRuns.{FullsNeedBlocks}
 use Rattle.never_heap.specs.Taken.{taken_by, taken_in}
 
 -- replay goes on by the item
@@ -53,22 +53,17 @@ work_append [] k = sym (zero-add (work_in k))
 work_append (Started ∷ h) k = work_append h k
 work_append (Did e ∷ h) k = omega (arith, work_append h k)
 
-pub no_work_append : (h k : List HistoryItem) → NoWork h → NoWork k → NoWork (h ++ k)
-no_work_append [] k w v = v
-no_work_append (Started ∷ h) k w v = no_work_append h k w v
-no_work_append (Did e ∷ h) k w v = (w.0, no_work_append h k w.1 v)
-
-pub fulls_append : (c : Config) (used : ℕ) (h k : List HistoryItem)
-    → FullsExactly c used h → FullsExactly c (used + taken_in c.width h) k
-    → FullsExactly c used (h ++ k)
-fulls_append c used [] k f g = subst (λ u. FullsExactly c u k) (add-zero used) g
-fulls_append c used (Started ∷ h) k f g = fulls_append c used h k f g
-fulls_append c used (Did e ∷ h) k f g = (
+-- fulls go on needing blocks, where those of what comes need them
+pub needs_append : (c : Config) (given : ℕ) (h k : List HistoryItem)
+    → FullsNeedBlocks c given h → FullsNeedBlocks c (given + taken_in c.width h) k
+    → FullsNeedBlocks c given (h ++ k)
+needs_append c given [] k f g = subst (λ u. FullsNeedBlocks c u k) (add-zero given) g
+needs_append c given (Started ∷ h) k f g = needs_append c given h k f g
+needs_append c given (Did e ∷ h) k f g = (
   f.0,
-  f.1,
-  fulls_append c (used + taken_by c.width e) h k f.2
-      (subst (λ u. FullsExactly c u k)
-      (sym (add_assoc used (taken_by c.width e) (taken_in c.width h))) g),
+  needs_append c (given + taken_by c.width e) h k f.1
+      (subst (λ u. FullsNeedBlocks c u k)
+      (sym (add_assoc given (taken_by c.width e) (taken_in c.width h))) g),
 )
 
 pub taken_append : (w : Width) (h k : List HistoryItem)

@@ -6,13 +6,14 @@ pub mod LiveBlocks
 pub mod Steps
 pub mod Bounds
 pub mod Histories
+pub mod Readback
 pub mod Orders
 pub mod Taken
-pub mod PlainRuns
 pub mod Cycles
 pub mod Given
 pub mod Licensed
 pub mod RightWork
+pub mod FreeingRuns
 pub mod Runs
 pub mod Coming
 pub mod Jobs
