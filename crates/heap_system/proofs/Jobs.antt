@@ -1,5 +1,5 @@
 -- Jobs of two threads on one small heap, for the tests.
-use Rattle.std.proofs.Common.{◌<◌, ◌≤◌, ℕ, zero, suc, List, [], ◌∷◌, get_or, refl, arith}
+use Rattle.std.proofs.Common.{◌≤◌, List, [], ◌∷◌, refl, arith}
 use Rattle.block_store.specs.declared.Config.{Config}
 use Rattle.block_store.specs.declared.Width.{Width}
 use Rattle.block_store.specs.declared.Width.TheVariants.{Four, Eight}

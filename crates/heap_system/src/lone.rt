@@ -7,10 +7,9 @@ use crate::tests::one;
 use crate::traces::trace_of;
 use crate::{Finished, System};
 use block_store::{Name, OutOfMemory, Value, Width};
+use never_heap::Command::*;
 use never_heap::{Command, Entry, Logs, Reply};
 use std::alloc::Global;
-
-use never_heap::Command::*;
 
 // Does all these commands, and tells in how many turns.
 fn run(
@@ -32,7 +31,11 @@ fn run(
 
 // The entries of the thread.
 fn entries(logs: &Finished) -> &[Entry] {
-    if logs.threads() > 0 { logs.entries(0) } else { &[] }
+    if logs.threads() > 0 {
+        logs.entries(0)
+    } else {
+        &[]
+    }
 }
 
 // Whether the entry of this number has this reply, and this work.
@@ -148,7 +151,10 @@ fn blocks_are_given_again_and_again(rt: HostRuntime) -> Result<(), OutOfMemory> 
             return Ok(());
         };
         for number in 0..10_000_u32 {
-            assert!(rt; says(&logs, number, made(number + 1), 7), "command {number}");
+            assert!(rt;
+                says(&logs, number, made(number + 1), 7),
+                "command {number}"
+            );
         }
         assert_eq!(rt; (logs.cycles(), logs.units()), (cycles, 70_000));
     }
@@ -176,8 +182,14 @@ fn no_old_value_shows_through(rt: HostRuntime) -> Result<(), OutOfMemory> {
             return Ok(());
         };
         for number in 0..80_u32 {
-            assert!(rt; says(&logs, 8 + 2 * number, made(3 + number), 7), "record {number}");
-            assert!(rt; says(&logs, 9 + 2 * number, Reply::Val(Value::Nil), 0), "field {number}");
+            assert!(rt;
+                says(&logs, 8 + 2 * number, made(3 + number), 7),
+                "record {number}"
+            );
+            assert!(rt;
+                says(&logs, 9 + 2 * number, Reply::Val(Value::Nil), 0),
+                "field {number}"
+            );
         }
         assert_eq!(rt; (logs.cycles(), logs.units()), (9, 574));
     }
@@ -187,29 +199,39 @@ fn no_old_value_shows_through(rt: HostRuntime) -> Result<(), OutOfMemory> {
 // A list grows by a record a round, until more is reachable than may be. The allocations are refused
 // until two cycles later the list, which was let go, is swept.
 #[test]
-fn an_allocation_is_refused_while_the_list_is_too_long(
-    rt: HostRuntime,
-) -> Result<(), OutOfMemory> {
+fn an_allocation_is_refused_while_the_list_is_too_long(rt: HostRuntime) -> Result<(), OutOfMemory> {
     let grows = [
         New { d: 1, fields: 1 },
         Put { s: 1, i: 0, v: 2 },
         Mov { d: 2, s: 1 },
     ];
     let let_go = [New { d: 1, fields: 1 }, Nil { d: 1 }, Nil { d: 2 }];
-    let parts: [(u32, &[Command]); 3] =
-        [(58, &grows), (1, &let_go), (11, &[New { d: 3, fields: 1 }])];
+    let parts: [(u32, &[Command]); 3] = [
+        (58, &grows),
+        (1, &let_go),
+        (11, &[New { d: 3, fields: 1 }]),
+    ];
     let Some((logs, _)) = run(rt.alloc(), Width::Four, &parts)? else {
         assert!(rt; false, "not finished");
         return Ok(());
     };
     for round in 0..58_u32 {
         assert!(rt; says(&logs, 3 * round, made(round + 1), 7), "round {round}");
-        assert!(rt; says(&logs, 3 * round + 1, Reply::Stored, 0), "round {round}");
-        assert!(rt; says(&logs, 3 * round + 2, Reply::Stored, 0), "round {round}");
+        assert!(rt;
+            says(&logs, 3 * round + 1, Reply::Stored, 0),
+            "round {round}"
+        );
+        assert!(rt;
+            says(&logs, 3 * round + 2, Reply::Stored, 0),
+            "round {round}"
+        );
     }
     assert!(rt; says(&logs, 174, Reply::Full(4), 7));
     for number in 0..7_u32 {
-        assert!(rt; says(&logs, 177 + number, Reply::Full(4), 7), "allocation {number}");
+        assert!(rt;
+            says(&logs, 177 + number, Reply::Full(4), 7),
+            "allocation {number}"
+        );
     }
     assert!(rt; says(&logs, 184, Reply::Full(5), 7));
     assert!(rt; says(&logs, 185, Reply::Full(5), 7));

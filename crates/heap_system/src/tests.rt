@@ -369,7 +369,10 @@ fn reader_and_allocator(alloc: Global) -> Result<System, OutOfMemory>
     let reader = trace_of(
         alloc,
         &config,
-        &[(1, &[Command::Get { d: 1, s: 0, i: 0 }, Command::Say { s: 1 }])],
+        &[(
+            1,
+            &[Command::Get { d: 1, s: 0, i: 0 }, Command::Say { s: 1 }],
+        )],
     )?;
     let stores = [
         Command::New { d: 1, fields: 1 },
@@ -402,7 +405,10 @@ fn a_thread_in_mid_command_keeps_what_it_has_loaded(rt: HostRuntime) -> Result<(
     assert!(rt; system.local(1).at_rest());
     so_many(&mut system, 0, 5);
     so_many(&mut system, 1, 200);
-    assert_eq!(rt; (system.local(0).log().len(), system.local(1).log().len()), (0, 4));
+    assert_eq!(rt;
+        (system.local(0).log().len(), system.local(1).log().len()),
+        (0, 4)
+    );
     assert_eq!(rt; system.local(1).paid(), 3);
     turns(&mut system, 0, 3);
     turns(&mut system, 1, 8);

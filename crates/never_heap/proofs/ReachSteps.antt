@@ -31,7 +31,7 @@ set_cases xs i k v = elim (cases_eq i k) [
   ]
 ]
 
-nil_of : (n i : ℕ) → get_or (nils n) i Nil ≡ Nil
+pub nil_of : (n i : ℕ) → get_or (nils n) i Nil ≡ Nil
 nil_of n i = elim (cases_lt i n) [
   | inl l ↦ get_or-replicate n i Nil Nil l
   | inr l ↦ get_or_past (nils n) i Nil (omega (arith, length-replicate n Nil))

@@ -6,6 +6,7 @@ pub mod LiveBlocks
 pub mod Steps
 pub mod Bounds
 pub mod Histories
+pub mod Readback
 pub mod Orders
 pub mod Taken
 pub mod Cycles

@@ -11,7 +11,7 @@ ghost use Rattle.rtheap_core.specs.Exits.{HasHistory, job_of};
 ghost use Rattle.rtheap_core.specs.Runnable.{CanRun};
 
 use block_store::OutOfMemory;
-use heap_system::{Finished, System, Turn};
+use heap_system::{Finished, System, Turn, fulls_need_blocks};
 use std::alloc::Global;
 use std::sync::Wait;
 use trace_text::Job;
@@ -28,6 +28,7 @@ pub fn run_job<R: Wait>(rt: &R, alloc: Global, job: Job) -> Result<Finished, Out
     ensures job { IfOk result (λ f. job_of (ends.Ran f) ≡ job) }
     ensures ran { IfOk result (λ f. HasHistory (ends.Ran f)) }
 {
+    fulls_need_blocks();
     let system = System::new(alloc, job.config, job.traces)?;
     Ok(finished(driven(rt, system)))
 }
@@ -55,7 +56,8 @@ fn finished(system: System) -> Finished
     requires one_thread { system.config.threads ≡ 1 }
     requires done { is_done (local_at system.config system.state 0) ≡ true }
     ensures config { result.config ≡ system.config }
-    ensures finished { IsFinished system.config (traces_of system.state) result.logs }
+    ensures finished { IsFinished system.config (traces_of system.state) result.logs
+        result.cycles }
 {
     let Ok(finished) = system.finish() else {
         unreachable!()

@@ -15,6 +15,9 @@ use trace_text::{MemSink, MemSource};
 /// A job without commands, with the lines `thread 0` and `end` left out.
 const HEADER: &str = "rtheap 1 threads 1 blocks 64 live 20 object 2 shared 0\nthread 0\n";
 
+/// The most bytes that a sink of these tests takes.
+const ROOM: usize = 1 << 22;
+
 /// What a call is given: its words, its input and in which pieces it comes, and which calls of the
 /// source and the sink fail.
 #[derive(Drop)]
@@ -52,7 +55,7 @@ fn made<R: Wait>(rt: &R, alloc: Global, call: &Call<'_>) -> Result<(Exit, MemSin
     let bytes = Vec::from_slice(alloc, call.input.as_bytes())?;
     let most = call.most.max(1);
     let mut source = MemSource::new(bytes, most, Vec::from_slice(alloc, call.read_fails)?);
-    let mut sink = MemSink::new(alloc, 4096, Vec::from_slice(alloc, call.write_fails)?)
+    let mut sink = MemSink::new(alloc, ROOM, Vec::from_slice(alloc, call.write_fails)?)
         .ok()
         .ok_or("memory")?;
     let exit = rtheap(rt, alloc, &words, &mut source, &mut sink, &NoPace);
@@ -648,6 +651,7 @@ fn runs_agree(rt: &(impl Abort + Wait), alloc: Global, input: &str) -> Result<()
     let Some(RunEnd::Ran(run)) = exit.run else {
         return Err("nothing was run".into());
     };
+    assert!(rt; run.threads() == 1);
     let config = run.config();
     let entries = run.entries(0);
     assert!(rt; config.in_bounds() && config.threads == 1);
@@ -685,7 +689,6 @@ say 11
 put 11 0 11
 get 12 5 0
 say 12
-end
 ";
 
 /// The same on blocks of eight payload words: an array of two leaves and a record of three blocks.
@@ -715,14 +718,30 @@ get 7 2 21
 put 0 17 1
 say 5
 say 4
-end
 ";
+
+/// A job of rings, of allocations of which none is kept, and of looks at what the rings still hold.
+fn ringed(alloc: Global, rings: &str, count: u32) -> Result<String, AllocError> {
+    let mut text = String::from_str(alloc, rings)?;
+    for _ in 0..count {
+        text.push_str("new 13 2\n")?;
+    }
+    text.push_str(
+        "get 12 5 0\nget 12 5 4\nget 12 5 20\nget 11 0 16\nsay 11\nlen 5\nsame 11 5\nend\n",
+    )?;
+    Ok(text)
+}
 
 #[test]
 fn a_heap_of_words_answers_as_the_heap_that_never_frees(rt: HostRuntime) -> Result<(), Fail> {
     let (commands, _written) = EACH_KIND;
     let text = job(rt.alloc(), commands)?;
     runs_agree(&rt, rt.alloc(), text.as_str())?;
-    runs_agree(&rt, rt.alloc(), RINGS)?;
-    runs_agree(&rt, rt.alloc(), WIDE_RINGS)
+    for rings in [RINGS, WIDE_RINGS] {
+        for count in [0, 300] {
+            let text = ringed(rt.alloc(), rings, count)?;
+            runs_agree(&rt, rt.alloc(), text.as_str())?;
+        }
+    }
+    Ok(())
 }

@@ -7,7 +7,7 @@ use Rattle.rtheap_core.proofs.run.run_job.Goals as goal
 
 shows : (g : Over) (c : goal.After-finished g)
     → (job_of (Ran c.finished.result) ≡ c.args.job) × HasHistory (Ran c.finished.result)
-shows g c = run_shows _ _ _ _ _ _ c.finished.ensures.config
+shows g c = run_shows c.fulls_need_blocks.ensures _ _ _ _ _ _ c.finished.ensures.config
     (c.driven.ensures.config ∙ c.in_ok-system.ensures.config)
     (c.driven.ensures.traces ∙ c.in_ok-system.ensures.traces)
     c.finished.ensures.finished c.job.view_is c.requires.runnable

@@ -13,15 +13,19 @@ loop-mutator-init c =
       scanned = subst
           (λ (l : List Name). Scanned c.args.self.now.width g c.in_ok-no_marks.field-0 l blocks)
           (sym c.new.ensures.items)
-          (scanned_none c.args.self.now.width g c.in_ok-no_marks.field-0 blocks c.in_ok-no_marks.ensures.places c.in_ok-no_marks.ensures.marks
+          (scanned_none c.args.self.now.width g c.in_ok-no_marks.field-0 blocks
+          c.in_ok-no_marks.ensures.places c.in_ok-no_marks.ensures.marks
           c.register_blocks.ensures.value
-          (subst (λ l. length l ≤ 16) c.mutators-mutator-items.ensures.mutators c.mutators-mutator-items.ensures.few));
+          (subst (λ l. length l ≤ 16) c.mutators-mutator-items.ensures.mutators
+          c.mutators-mutator-items.ensures.few));
       registers = λ b h has. absurd (let e : false ≡ true = h in cc);
     }
 
 pub find_all-requires-clause-reached : goal.find_all-requires-clause-reached
 find_all-requires-clause-reached c b h =
-    register_reached c.args.self.now.graph c.mutators-mutator-items.result.now c.loop-mutator.mutator-index c.mutator-item.result c.mutators-mutator-items.ensures.mutators c.loop-mutator-test.true
+    register_reached c.args.self.now.graph c.mutators-mutator-items.result.now
+    c.loop-mutator.mutator-index c.mutator-item.result c.mutators-mutator-items.ensures.mutators
+    c.loop-mutator-test.true
     c.mutator-item.is b (subst (λ l. stands_in b l ≡ true) c.registers.ensures h)
 
 pub loop-mutator-preserved : goal.loop-mutator-preserved
@@ -31,7 +35,10 @@ loop-mutator-preserved c =
     let new = c.find_all.new.self in
     record {
       scanned = c.in_ok-find_all.ensures.scanned;
-      registers = first_more g c.mutators-mutator-items.result.now c.loop-mutator.mutator-index c.mutator-item.result c.mutators-mutator-items.ensures.mutators c.loop-mutator-test.true
-          c.mutator-item.is old.marks new.marks old.found.items new.found.items c.loop-mutator.invariant.registers
-          (subst (λ l. Finds g old.marks new.marks old.found.items new.found.items l) c.registers.ensures c.in_ok-find_all.ensures.finds);
+      registers = first_more g c.mutators-mutator-items.result.now c.loop-mutator.mutator-index
+          c.mutator-item.result c.mutators-mutator-items.ensures.mutators c.loop-mutator-test.true
+          c.mutator-item.is old.marks new.marks old.found.items new.found.items
+          c.loop-mutator.invariant.registers
+          (subst (λ l. Finds g old.marks new.marks old.found.items new.found.items l)
+          c.registers.ensures c.in_ok-find_all.ensures.finds);
     }
