@@ -15,7 +15,7 @@ pub times_append : (x : ℕ) (xs ys : List ℕ) → times x (xs ++ ys) ≡ times
 times_append x [] ys = omega arith
 times_append x (y ∷ xs) ys = omega (arith, times_append x xs ys)
 
-total_plus : (n : ℕ) (f g : ℕ → ℕ) → total n (λ x. f x + g x) ≡ total n f + total n g
+pub total_plus : (n : ℕ) (f g : ℕ → ℕ) → total n (λ x. f x + g x) ≡ total n f + total n g
 total_plus zero f g = refl
 total_plus (suc n) f g = omega (arith, total_plus n f g)
 

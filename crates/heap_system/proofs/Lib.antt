@@ -23,3 +23,8 @@ pub mod Waiting
 pub mod Making
 pub mod Jobs
 pub mod Wanted
+pub mod Tallying
+pub mod tallies
+pub mod Tallied
+pub mod TalliesOf
+pub mod Bounded

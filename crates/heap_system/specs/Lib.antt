@@ -6,3 +6,4 @@ pub mod Pictures
 pub mod Systems
 pub mod Units
 pub mod Rounds
+pub mod Costs

@@ -1,6 +1,7 @@
 //! The whole heap: one thread's state, and all threads with the words that they share.
 #![tactic(auto)]
 
+mod bound;
 mod collector;
 mod laws;
 mod local;
@@ -18,6 +19,7 @@ mod traces;
 #[cfg(test)]
 mod ways;
 
+pub use bound::{cycles_cost_few_units, cycles_give_few_blocks, fulls_are_licensed};
 pub use collector::{
     free_blocks_stand_once, grey_blocks_stand_once, marking_is_tricolour,
     phases_turn_with_nobody_inside, starts_find_no_white, sweeping_spares_what_is_reached,

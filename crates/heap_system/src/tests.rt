@@ -134,12 +134,27 @@ fn the_opening_of_width_eight_has_these_words(rt: HostRuntime) -> Result<(), Out
 fn writer_and_reader(alloc: Global, width: Width) -> Result<System, OutOfMemory>
     ensures { IfOk result (λ s. s.config.threads ≡ 2) }
 {
-    let writer = vec![in alloc;
+    let writes = [
         Command::Set { d: 1, value: 7 },
         Command::Put { s: 0, i: 2, v: 1 },
-    ]?;
-    let reader = vec![in alloc; Command::Get { d: 2, s: 0, i: 2 }, Command::Say { s: 2 }]?;
-    System::new(alloc, two(width), vec![in alloc; writer, reader]?)
+    ];
+    let reads = [Command::Get { d: 2, s: 0, i: 2 }, Command::Say { s: 2 }];
+    of_two(alloc, width, &[(1, &writes)], &[(1, &reads)])
+}
+
+// Two threads with these commands, each list as often as said.
+fn of_two(
+    alloc: Global,
+    width: Width,
+    first: &[(u32, &[Command])],
+    second: &[(u32, &[Command])],
+) -> Result<System, OutOfMemory>
+    ensures { IfOk result (λ s. s.config.threads ≡ 2) }
+{
+    let config = two(width);
+    let first = trace_of(alloc, &config, first)?;
+    let second = trace_of(alloc, &config, second)?;
+    System::new(alloc, config, vec![in alloc; first, second]?)
 }
 
 // Gives a thread turns until its log has this many entries, or until it is done.
@@ -234,23 +249,12 @@ fn a_reader_that_comes_last_reads_what_was_stored(rt: HostRuntime) -> Result<(),
     Ok(())
 }
 
-// One thread allocates a block, and the other does nothing.
-fn allocator(alloc: Global, width: Width) -> Result<System, OutOfMemory>
+// One thread allocates a block so many times, and the other does nothing.
+fn allocator(alloc: Global, width: Width, times: u32) -> Result<System, OutOfMemory>
     ensures { IfOk result (λ s. s.config.threads ≡ 2) }
 {
-    let trace = vec![in alloc; Command::New { d: 1, fields: 1 }]?;
-    System::new(alloc, two(width), vec![in alloc; trace, Vec::new(alloc)]?)
-}
-
-// One thread allocates a block twice, and the other does nothing.
-fn allocator_of_two(alloc: Global, width: Width) -> Result<System, OutOfMemory>
-    ensures { IfOk result (λ s. s.config.threads ≡ 2) }
-{
-    let trace = vec![in alloc;
-        Command::New { d: 1, fields: 1 },
-        Command::New { d: 1, fields: 1 },
-    ]?;
-    System::new(alloc, two(width), vec![in alloc; trace, Vec::new(alloc)]?)
+    let record = [Command::New { d: 1, fields: 1 }];
+    of_two(alloc, width, &[(times, &record)], &[])
 }
 
 // A word of the heap, or 0 where there is none.
@@ -303,7 +307,7 @@ fn made(thread: u32, serial: u32) -> Option<Reply> {
 #[test]
 fn an_allocation_pays_by_marking(rt: HostRuntime) -> Result<(), OutOfMemory> {
     assert_eq!(rt; plan(&two(Width::Four)), Ok(8));
-    let mut system = allocator(rt.alloc(), Width::Four)?;
+    let mut system = allocator(rt.alloc(), Width::Four, 1)?;
     let blocks = blackened(rt.alloc(), &mut system)?;
     let expected: [usize; 9] = [1, 5, 4, 3, 2, 11, 6, 10, 12];
     assert_eq!(rt; blocks.as_slice(), expected.as_slice());
@@ -324,7 +328,7 @@ fn an_allocation_pays_by_marking(rt: HostRuntime) -> Result<(), OutOfMemory> {
 #[test]
 fn an_allocation_of_width_eight_sweeps_too(rt: HostRuntime) -> Result<(), OutOfMemory> {
     assert_eq!(rt; plan(&two(Width::Eight)), Ok(8));
-    let mut system = allocator(rt.alloc(), Width::Eight)?;
+    let mut system = allocator(rt.alloc(), Width::Eight, 1)?;
     let blocks = blackened(rt.alloc(), &mut system)?;
     let expected: [usize; 8] = [1, 3, 2, 7, 4, 6, 5, 8];
     assert_eq!(rt; blocks.as_slice(), expected.as_slice());
@@ -343,7 +347,7 @@ fn an_allocation_of_width_eight_sweeps_too(rt: HostRuntime) -> Result<(), OutOfM
 // opening, and passes five.
 #[test]
 fn the_second_allocation_turns_the_phase_over(rt: HostRuntime) -> Result<(), OutOfMemory> {
-    let mut system = allocator_of_two(rt.alloc(), Width::Four)?;
+    let mut system = allocator(rt.alloc(), Width::Four, 2)?;
     turns(&mut system, 0, 3);
     for block in 1..12 {
         assert_eq!(rt; colour(&system, block), 2, "block {block}");
@@ -365,15 +369,7 @@ fn the_second_allocation_turns_the_phase_over(rt: HostRuntime) -> Result<(), Out
 fn reader_and_allocator(alloc: Global) -> Result<System, OutOfMemory>
     ensures { IfOk result (λ s. s.config.threads ≡ 2) }
 {
-    let config = two(Width::Four);
-    let reader = trace_of(
-        alloc,
-        &config,
-        &[(
-            1,
-            &[Command::Get { d: 1, s: 0, i: 0 }, Command::Say { s: 1 }],
-        )],
-    )?;
+    let reads = [Command::Get { d: 1, s: 0, i: 0 }, Command::Say { s: 1 }];
     let stores = [
         Command::New { d: 1, fields: 1 },
         Command::Put { s: 0, i: 0, v: 1 },
@@ -381,8 +377,12 @@ fn reader_and_allocator(alloc: Global) -> Result<System, OutOfMemory>
         Command::Put { s: 0, i: 0, v: 1 },
     ];
     let allocates = [Command::New { d: 2, fields: 1 }];
-    let allocator = trace_of(alloc, &config, &[(1, &stores), (3, &allocates)])?;
-    System::new(alloc, config, vec![in alloc; reader, allocator]?)
+    of_two(
+        alloc,
+        Width::Four,
+        &[(1, &reads)],
+        &[(1, &stores), (3, &allocates)],
+    )
 }
 
 // Gives a thread so many turns.

@@ -3,6 +3,7 @@
 ghost use Rattle.std.specs.Prelude.{◌≡◌, IfOk};
 ghost use Rattle.rate_plan.specs.Rates.{IsAdmitted};
 
+use crate::traces::trace_of;
 use crate::*;
 use array_trees::depth_of;
 use block_store::{Config, OutOfMemory, Places, Width};
@@ -34,19 +35,20 @@ fn one_thread(alloc: Global) -> Result<System, OutOfMemory>
     }) }
     ensures { IfOk result (λ s. s.config.threads ≡ 1) }
 {
-    let trace = vec![in alloc;
+    let commands = [
         Command::Set { d: 1, value: 7 },
         Command::Put {
             s: 0,
             i: 1023,
-            v: 1
+            v: 1,
         },
         Command::Get {
             d: 2,
             s: 0,
-            i: 1023
+            i: 1023,
         },
-    ]?;
+    ];
+    let trace = trace_of(alloc, &LONG, &[(1, &commands)])?;
     System::new(alloc, LONG, vec![in alloc; trace]?)
 }
 

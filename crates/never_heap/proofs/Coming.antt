@@ -10,13 +10,11 @@ use Rattle.never_heap.specs.declared.Entry.{Entry}
 use Rattle.never_heap.specs.Graphs.{Graph, start_graph}
 use Rattle.never_heap.specs.Histories.{HistoryItem, Started, Did, after, replay, replay_from, IsAnswered, LegalFrom, Legal, part}
 use Rattle.never_heap.specs.Licensed.{IsLicensedItem, LicensedFrom}
+use Rattle.never_heap.specs.Readback.{commands_in}
 use Rattle.never_heap.specs.RightWork.{IsRightWork, RightWork}
 use Rattle.never_heap.specs.Runs.{IsRun}
 use Rattle.never_heap.specs.Coming.{left_of, IsNext, MayCome, AllMayCome}
 use Rattle.never_heap.proofs.Growing.{replay_more, part_append}
-
-abbrev pub commands_in : ℕ → List HistoryItem → List Command
-commands_in t h = map (λ (e : Entry). e.command) (part t h)
 
 pub no_end : (past : List HistoryItem) (i : HistoryItem) → past ++ i ∷ [] ≢ []
 no_end [] i e = cc

@@ -162,3 +162,16 @@ pub step_count : (g : Graph) (t : ℕ) (command : Command) → t < length g.muta
     → count_of (step g t command).0 t ≤ count_of g t + 1
 step_count g t command there =
     count_of_change g t (makes_object command) (step g t command).0 there (change_of g t command)
+
+-- and no more of any other thread
+pub step_counts_one : (g : Graph) (t : ℕ) (command : Command) (u : ℕ) → t < length g.mutators
+    → count_of (step g t command).0 u ≤ count_of g u + 1
+step_counts_one g t command u there = elim (cases_eq t u) [
+  | inl same ↦ subst (λ k. count_of (step g t command).0 k ≤ count_of g k + 1) same
+      (step_count g t command there)
+  | inr other ↦ omega (
+    arith,
+    count_of_other g t u (makes_object command) (step g t command).0 there other
+        (change_of g t command),
+  )
+]

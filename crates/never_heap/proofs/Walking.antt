@@ -9,12 +9,13 @@ use Rattle.never_heap.specs.Cycles.{graph_at}
 use Rattle.never_heap.specs.Histories.{HistoryItem, Started, Did, replay, LegalFrom, starts_in}
 use Rattle.never_heap.specs.Licensed.{IsLicensedItem, LicensedFrom, StartsSmall, NoFulls}
 use Rattle.never_heap.specs.LiveBlocks.{live_blocks}
+use Rattle.never_heap.specs.Readback.{commands_in}
 use Rattle.never_heap.specs.RightWork.{RightWork}
 use Rattle.never_heap.specs.Runs.{IsRun}
 use Rattle.never_heap.specs.Coming.{MayCome, IsNoFull}
 use Rattle.never_heap.proofs.Growing.{replay_more, starts_append}
 use Rattle.never_heap.proofs.Cycling.{graph_at_more, graph_at_next}
-use Rattle.never_heap.proofs.Coming.{next_is, commands_in, no_end}
+use Rattle.never_heap.proofs.Coming.{next_is, no_end}
 use Rattle.never_heap.proofs.Unfilled.{not_full, none_full}
 
 module _ (c : Config) (rate : ℕ) (traces : List (List Command)) where

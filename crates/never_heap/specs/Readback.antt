@@ -45,8 +45,8 @@ IsLastStored c h a i v =
     IsLastPut c h a i v ⊎ ((v ≡ Nil) × NoneStores (start_graph c) h a i)
 
 -- the commands of a thread, in the order of the history
-abbrev pub commands_of : ℕ → List HistoryItem → List Command
-commands_of t h = map (λ (e : Entry). e.command) (part t h)
+abbrev pub commands_in : ℕ → List HistoryItem → List Command
+commands_in t h = map (λ (e : Entry). e.command) (part t h)
 
 -- A thread's command in a history: the history is what was before, its entry, and what came since;
 -- of the thread's other commands it has those of xs before, and those of ys since.
@@ -59,5 +59,5 @@ pub record StandsIn
   pub history : h ≡ before ++ Did entry ∷ since
   pub thread : entry.thread ≡ t
   pub command : entry.command ≡ x
-  pub earlier : commands_of t before ≡ xs
-  pub later : commands_of t since ≡ ys
+  pub earlier : commands_in t before ≡ xs
+  pub later : commands_in t since ≡ ys

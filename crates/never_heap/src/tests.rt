@@ -187,3 +187,61 @@ fn wider_blocks_hold_more(rt: HostRuntime) {
         assert_eq!(rt; command.in_bounds(&config), blocks <= 2);
     }
 }
+
+// Commands of two threads on the shared array and on a record to which it refers. One put is
+// refused, and one field is never stored in.
+const SHARED: [(u32, Command); 12] = [
+    (0, Command::New { d: 1, fields: 2 }),
+    (0, Command::Put { s: 0, i: 0, v: 1 }),
+    (1, Command::Get { d: 1, s: 0, i: 0 }),
+    (1, Command::Set { d: 2, value: 7 }),
+    (1, Command::Put { s: 1, i: 1, v: 2 }),
+    (0, Command::Get { d: 3, s: 1, i: 1 }),
+    (0, Command::Set { d: 2, value: 8 }),
+    (0, Command::Put { s: 1, i: 1, v: 2 }),
+    (1, Command::Get { d: 3, s: 1, i: 1 }),
+    (1, Command::Put { s: 1, i: 2, v: 1 }),
+    (1, Command::Get { d: 3, s: 1, i: 0 }),
+    (0, Command::Get { d: 1, s: 1, i: 1 }),
+];
+
+/// What was last stored in field `i` of the object that a value refers to, by a list of all that
+/// was stored: the object, the field, and the value.
+fn last_stored(stored: &[(Value, u64, Value)], object: Value, i: u64) -> Value {
+    let mut last = Value::Nil;
+    for (other, field, value) in stored {
+        if *other == object && *field == i {
+            last = *value;
+        }
+    }
+    last
+}
+
+#[test]
+#[tactic(auto, using(crate::proofs::Stepping::step_threads, crate::proofs::Stepping::step_count))]
+fn gets_answer_what_was_last_stored(rt: HostRuntime) -> Result<(), OutOfMemory> {
+    let config = Config {
+        threads: 2,
+        shared: 2,
+        ..CONFIG
+    };
+    let mut graph = Graph::start(rt.alloc(), &config)?;
+    let mut stored = Vec::new(rt.alloc());
+    for (thread, command) in SHARED {
+        assert!(rt; thread < 2 && command.in_bounds(&config));
+        let (object, value) = match command {
+            Command::Put { s, v, .. } => (graph.register(thread, s), graph.register(thread, v)),
+            Command::Get { s, .. } => (graph.register(thread, s), Value::Nil),
+            _ => (Value::Nil, Value::Nil),
+        };
+        match (command, graph.apply(thread, &command)?) {
+            (Command::Put { i, .. }, Reply::Stored) => stored.push((object, i, value))?,
+            (Command::Get { i, .. }, Reply::Val(got)) => {
+                assert_eq!(rt; got, last_stored(&stored, object, i));
+            }
+            _ => (),
+        }
+    }
+    assert_eq!(rt; stored.len(), 3);
+    Ok(())
+}

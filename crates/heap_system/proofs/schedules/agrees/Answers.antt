@@ -8,7 +8,7 @@ use Rattle.heap_system.proofs.schedules.agrees.Goals as goal
 use Rattle.heap_system.proofs.schedules.agrees.Goals.{then-decided_now-decided+in-Some+in_ok-waiting, then-decided_now-decided+in_default, else-decided_now-decided}
 
 abbrev config : Config
-config = record { width = Four; threads = 3; blocks = 64; live = 24; object = 2; shared = 17 }
+config = record { width = Four; threads = 3; blocks = 42; live = 26; object = 2; shared = 17 }
 
 -- a graph of three threads, each of which has made so many objects at most
 abbrev IsSmall : ℕ → WideGraph → Type 0

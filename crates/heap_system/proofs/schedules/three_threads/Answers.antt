@@ -4,14 +4,12 @@ use Rattle.block_store.specs.declared.Config.{Config}
 use Rattle.array_trees.specs.Trees.{tree}
 use Rattle.rate_plan.specs.Rates.{IsAdmitted}
 use Rattle.never_heap.specs.declared.Command.{Command}
-use Rattle.std.proofs.lemmas.List.Elements.{recursion_from_All}
-use Rattle.never_heap.specs.Bounds.{IsCommandInBounds}
 use Rattle.never_heap.specs.Jobs.{IsTraceInBounds}
 use Rattle.heap_system.specs.Machines.{IsJob}
 use Rattle.heap_system.proofs.schedules.three_threads.Goals as goal
 
 abbrev config : Config
-config = record { width = Four; threads = 3; blocks = 64; live = 24; object = 2; shared = 17 }
+config = record { width = Four; threads = 3; blocks = 42; live = 26; object = 2; shared = 17 }
 
 admitted : IsAdmitted config
 unfolding tree
@@ -27,11 +25,7 @@ all_three xs ys zs px py pz = record {
   plan = admitted;
 }
 
--- what a trace of the test has
-fits : (xs : List Command) → (length xs ≤ 131072) × All (IsCommandInBounds config) xs → IsTraceInBounds config xs
-fits xs h = record { few = h.0; commands = recursion_from_All (IsCommandInBounds config) xs h.1 }
-
 pub new-requires : goal.new-requires
 new-requires c =
     subst (λ xs. IsJob config (map (λ (v : Vec Command Global). v.items) xs)) (sym c.in_ok-vec.ensures.items)
-    (all_three c.in_ok-first.first.items c.in_ok-second.second.items c.in_ok-third.third.items (fits _ c.in_ok-first.ensures) (fits _ c.in_ok-second.ensures) (fits _ c.in_ok-third.ensures))
+    (all_three c.in_ok-first.first.items c.in_ok-second.second.items c.in_ok-third.third.items c.in_ok-first.ensures c.in_ok-second.ensures c.in_ok-third.ensures)

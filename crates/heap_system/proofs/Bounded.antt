@@ -1,0 +1,125 @@
+-- What every run is within: the bound of the tally that counts it.
+use Rattle.std.proofs.Common.{◌≡◌, ℕ, zero, suc, ◌+◌, ◌-◌, ◌*◌, ◌^◌, ◌<◌, ◌≤◌, Bool, true, false, cond, eqb, eq-eqb, ne_eqb, Option, Some, None, List, [], ◌∷◌, ◌++◌, length, get_or, length-append, refl, sym, ap, ◌∙◌, subst, arith, inl, inr}
+use Rattle.std.proofs.lemmas.Bool.{cases_eq, and_parts}
+use Rattle.block_store.specs.declared.Config.{Config}
+use Rattle.block_store.specs.Colours.{black_word}
+use Rattle.block_store.specs.Counts.{changed, total}
+use Rattle.block_store.proofs.Functions.{total_changed, total_none, total_same}
+use Rattle.rate_plan.specs.Rates.{IsRate}
+use Rattle.never_heap.specs.declared.Command.{Command}
+use Rattle.never_heap.specs.declared.Entry.{Entry}
+use Rattle.never_heap.specs.declared.Reply.{Reply}
+use Rattle.never_heap.specs.Given.{given}
+use Rattle.never_heap.specs.Histories.{HistoryItem, Started, Did, replay, part, starts_in, work_in}
+use Rattle.never_heap.specs.Licensed.{Licensed, StartsSmall, NoFulls}
+use Rattle.never_heap.specs.RightWork.{RightWork}
+use Rattle.never_heap.proofs.Unfilled.{none_full}
+use Rattle.cycle_tally.specs.Bounds.{Bound}
+use Rattle.cycle_tally.specs.Entries.{InThreads}
+use Rattle.cycle_tally.specs.Kept.{most_given}
+use Rattle.cycle_tally.specs.Tallies.{Tally, units, paid_now}
+use Rattle.cycle_tally.proofs.Laws.{bound_of}
+use Rattle.cycle_tally.proofs.Listing.{total_plus}
+use Rattle.cycle_tally.proofs.Smalls.{counts_small}
+use Rattle.heap_system.specs.declared.local.Part.{Part}
+use Rattle.heap_system.specs.declared.local.Part.TheVariants.{Serve}
+use Rattle.heap_system.specs.Costs.{units_so_far}
+use Rattle.heap_system.specs.Locals.{LocalState, command_of, entries_of, works, PartFits}
+use Rattle.heap_system.specs.Machines.{Run, IsJob, IsRunOf, local_at, local_in}
+use Rattle.heap_system.specs.Pictures.{waiting}
+use Rattle.heap_system.specs.Systems.{AllDone}
+use Rattle.heap_system.proofs.Always.{run_kept}
+use Rattle.heap_system.proofs.Kept.{Kept}
+use Rattle.heap_system.proofs.PartLaws.{PartLaws}
+use Rattle.heap_system.proofs.Paying.{rate_low}
+use Rattle.heap_system.proofs.Tallied.{RunTallied, run_tallied}
+use Rattle.heap_system.proofs.Tallying.{TallyLaw}
+use Rattle.heap_system.proofs.Told.{rest_settled}
+
+-- the work of an order is that of its parts
+work_of : (n : ℕ) (h : List HistoryItem) → InThreads n h → work_in h ≡ total n (λ t. works (part t h))
+work_of n [] in_ = sym (total_none n (λ t. 0) (λ t tl. refl))
+work_of n (Started ∷ h) in_ = work_of n h in_
+work_of n (Did e ∷ h) in_ =
+    let f : ℕ → ℕ = λ t. works (part t h) in
+    let one = total_changed (λ (x : ℕ). x) n f e.thread (e.work + f e.thread) in_.0 in
+    let same = total_same n (λ t. works (part t (Did e ∷ h))) (changed f e.thread (e.work + f e.thread)) (λ t tl. own t) in
+    omega (arith, work_of n h in_.1, one, same)
+  where
+    own : (t : ℕ) → works (part t (Did e ∷ h)) ≡ changed (λ u. works (part u h)) e.thread (e.work + works (part e.thread h)) t
+    own t = elim (cases_eq e.thread t) [
+      | inl is ↦ rw (eq-eqb e.thread t is) (ap (λ u. e.work + works (part u h)) (sym is))
+      | inr ne ↦ rw (ne_eqb e.thread t ne) refl
+    ]
+
+-- an order has no more entries of a thread than its trace has commands
+module _ (c : Config) (traces : List (List Command)) (r : Run) (kept : Kept c traces r) (t : ℕ) (tl : t < c.threads) where
+  abbrev me : LocalState
+  me = local_at c r.state t
+
+  one_waits : (o : Option Reply) → length (entries_of me.thread (command_of me) me.paid o) ≤ 1
+  one_waits None = omega arith
+  one_waits (Some y) = omega arith
+
+  with_waiting : (p : Part) → PartFits me.config (length me.log) (length me.trace) me.pass p → length me.log + length (entries_of me.thread (command_of me) me.paid (waiting (replay c r.order) p)) ≤ length me.trace
+  with_waiting (Serve f) fits = omega (arith, fits.1, one_waits (waiting (replay c r.order) (Serve f)))
+  with_waiting _ fits = omega (arith, (kept.locals t tl).fits.log)
+
+  pub part_few : length (part t r.order) ≤ 131072
+  part_few = (let own = kept.locals t tl in omega (arith, ap length own.told, length-append me.log (entries_of me.thread (command_of me) me.paid (waiting (replay c r.order) me.part)), with_waiting me.part own.fits.part, own.fits.trace.few))
+
+module _ (c : Config) (traces : List (List Command)) (laws : (p : Part) → PartLaws c p) (tally_laws : (p : Part) → TallyLaw c p) (job : IsJob c traces) (ts : List ℕ) (r : Run) (is : IsRunOf c traces ts r) (rate : ℕ) (planned : IsRate c rate) where
+  kept : Kept c traces r
+  kept = run_kept c traces laws job ts r is
+
+  counts : RunTallied c rate r
+  counts = run_tallied c traces job rate planned laws tally_laws ts r is
+
+  bound : Bound c rate counts.tally
+  bound = bound_of c rate black_word planned.some counts.tally counts.kept
+
+  order : counts.tally.order ≡ r.order
+  order = counts.of.order
+
+  cycles : starts_in r.order ≡ counts.tally.cycle
+  cycles = ap starts_in (sym order) ∙ bound.cycles
+
+  paid : paid_now c.threads counts.tally ≡ total c.threads (λ t. (local_in c r t).paid)
+  paid = total_same c.threads _ _ (λ t tl. (counts.threads t tl).paid)
+
+  so_far : units c.blocks counts.tally ≡ units_so_far c r
+  so_far = omega (arith, bound.works, paid, ap work_in order)
+
+  pub licensed : Licensed c r.order
+  licensed = subst (λ h. Licensed c h) order bound.licensed
+
+  pub never_full : StartsSmall c r.order → NoFulls r.order
+  never_full small = none_full c r.order kept.names.ordered.legal licensed small
+
+  pub gives : (z : ℕ) → z ≤ starts_in r.order → given c.width r.order z ≤ most_given c rate
+  gives z low = subst (λ h. given c.width h z ≤ most_given c rate) order (bound.gave z (omega (arith, low, cycles)))
+
+  pub least : (starts_in r.order - 1) * c.blocks ≤ units_so_far c r
+  least = subst (λ y. (y - 1) * c.blocks ≤ units_so_far c r) (sym cycles) (omega (arith, bound.few, so_far))
+
+  pub most : units_so_far c r ≤ 2 * c.blocks * starts_in r.order
+  most = subst (λ y. units_so_far c r ≤ 2 * c.blocks * y) (sym cycles) (omega (arith, bound.many, so_far))
+
+  pub right : RightWork c.width rate r.order
+  right = subst (λ h. RightWork c.width rate h) order bound.right
+
+  pub small : (units_so_far c r < 2 ^ 50) × (starts_in r.order < 2 ^ 50)
+  small =
+      let both = counts_small c rate counts.tally bound job.bounds.config.some_block job.bounds.config.threads (rate_low c rate job.bounds.config job.plan planned) job.bounds.config.object
+      (λ t tl. subst (λ h. length (part t h) ≤ 131072) (sym order) (part_few c traces r kept t tl)) in
+      (omega (arith, both.0, so_far), omega (arith, both.1, cycles))
+
+  -- where no command is in hand they are the work of the order
+  pub all_done : AllDone c r.state → units_so_far c r ≡ work_in r.order
+  all_done done =
+      let none : total c.threads (λ t. (local_in c r t).paid) ≡ 0 = total_none c.threads _ (λ t tl. rest_settled c traces r kept t tl (and_parts _ _ (done t tl)).0) in
+      omega (arith, none)
+
+  -- and always those of the threads' entries and what they paid since
+  pub by_thread : units_so_far c r ≡ total c.threads (λ t. works (part t r.order) + (local_in c r t).paid)
+  by_thread = omega (arith, work_of c.threads r.order (subst (λ h. InThreads c.threads h) order bound.entries), total_plus c.threads (λ t. works (part t r.order)) (λ t. (local_in c r t).paid))

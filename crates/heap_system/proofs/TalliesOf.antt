@@ -1,0 +1,24 @@
+-- How each part moves a tally: one line a part.
+use Rattle.block_store.specs.declared.Config.{Config}
+use Rattle.heap_system.specs.declared.local.Part.{Part}
+use Rattle.heap_system.specs.declared.local.Part.TheVariants.{Rest, Enter, Serve, Mark, Sweep, Build, Again, Idle, TurnOver, Leave}
+use Rattle.heap_system.proofs.Tallying.{TallyLaw}
+use Rattle.heap_system.proofs.tallies.Build.{build_tallied}
+use Rattle.heap_system.proofs.tallies.Entering.{rest_tallied, enter_tallied}
+use Rattle.heap_system.proofs.tallies.Going.{again_tallied, idle_tallied, leave_tallied}
+use Rattle.heap_system.proofs.tallies.Mark.{mark_tallied}
+use Rattle.heap_system.proofs.tallies.Serve.{serve_tallied}
+use Rattle.heap_system.proofs.tallies.Sweep.{sweep_tallied}
+use Rattle.heap_system.proofs.tallies.TurnOver.{turn_over_tallied}
+
+pub tallies_of : (c : Config) (p : Part) → TallyLaw c p
+tallies_of c Rest = rest_tallied c
+tallies_of c (Enter g) = enter_tallied c g
+tallies_of c (Serve f) = serve_tallied c f
+tallies_of c (Mark m) = mark_tallied c m
+tallies_of c (Sweep s) = sweep_tallied c s
+tallies_of c (Build b) = build_tallied c b
+tallies_of c Again = again_tallied c
+tallies_of c Idle = idle_tallied c
+tallies_of c (TurnOver g) = turn_over_tallied c g
+tallies_of c Leave = leave_tallied c

@@ -1,0 +1,79 @@
+-- How a run is counted: what a tally of its cycles says of it, and what one event is to keep of
+-- that.
+use Rattle.std.proofs.Common.{◌≡◌, ℕ, ◌*◌, ◌<◌, ◌≤◌, cond, Bool, true, false, Option, Some, None, List, ◌++◌}
+use Rattle.block_store.specs.declared.Config.{Config}
+use Rattle.block_store.specs.declared.Width.{Width}
+use Rattle.block_store.specs.Colours.{black_word}
+use Rattle.block_store.specs.Heaps.{Heap}
+use Rattle.block_store.specs.Phases.{is_sweep, cycle_of}
+use Rattle.block_store.specs.Places.{Phase, Cursor, FreeCount, ColourOf}
+use Rattle.rate_plan.specs.Rates.{KeepsUp}
+use Rattle.never_heap.specs.declared.Command.{Command}
+use Rattle.never_heap.specs.declared.Reply.{Reply}
+use Rattle.never_heap.specs.Histories.{HistoryItem}
+use Rattle.never_heap.specs.Steps.{blocks_of}
+use Rattle.heap_machine.specs.Gating.{is_inside}
+use Rattle.heap_machine.specs.Operations.{heap_after}
+use Rattle.kept_names.specs.Building.{Build as Builder, build_blocks}
+use Rattle.cycle_tally.specs.Kept.{TallyKept}
+use Rattle.cycle_tally.specs.Tallies.{Spending, Tally}
+use Rattle.heap_system.specs.declared.local.Part.{Part}
+use Rattle.heap_system.specs.Locals.{Effect, view, effect, paid_got, part_want, part_got}
+use Rattle.heap_system.specs.Machines.{starts_by}
+use Rattle.heap_system.specs.Pictures.{stand_of, holding}
+use Rattle.heap_system.proofs.Seeing.{Seen, errand, items_told}
+use Rattle.heap_system.proofs.PartLaws.{AtPart, PartEvent, word_at}
+
+-- the blocks that a thread has reserved for what it builds, from the reservation to the publish
+abbrev pub reserved_for : Width → Option Builder → ℕ
+reserved_for w None = 0
+reserved_for w (Some b) = build_blocks w b
+
+-- a thread at part p that has paid so much of a command that asks for so many blocks
+pub record IsSpending (c : Config) (p : Part) (units blocks : ℕ) (w : Spending) : Type 0 where
+  pub inside : w.inside ≡ is_inside (stand_of c p)
+  pub paid : w.balance.paid ≡ units
+  pub asked : w.asked ≡ blocks
+  pub low : w.low ≡ (holding c p).low
+  pub high : w.high ≡ (holding c p).high
+  pub reserved : w.reserved ≡ reserved_for c.width (view c p).build
+
+-- the tally has the heap's cycle and phase, cursor, free count and colours, and this order
+pub record IsTallyOf (h : Heap) (items : List HistoryItem) (s : Tally) : Type 0 where
+  pub cycle : s.cycle ≡ cycle_of (h Phase)
+  pub sweep : s.sweep ≡ is_sweep (h Phase)
+  pub cursor : s.cursor ≡ h Cursor
+  pub free : s.free ≡ h FreeCount
+  pub colour : (x : ℕ) → s.colour x ≡ h (ColourOf x)
+  pub order : s.order ≡ items
+
+-- the blocks that a thread asks for after an event: with a reply those of its next command
+abbrev pub asked_got : Option Reply → ℕ → ℕ → ℕ
+asked_got None asked next = asked
+asked_got (Some r) asked next = next
+
+-- Before an event of the thread, which is at part p: a tally of what the turn sees is kept, and has
+-- each thread where it stands.
+pub record Counted (c : Config) (rate : ℕ) (s : Seen c) (p : Part) (t : Tally) : Type 0 where
+  pub some : 0 < rate
+  pub plan : KeepsUp c rate
+  pub due : s.due ≡ rate * blocks_of c.width s.command
+  pub kept : TallyKept c rate black_word t
+  pub of : IsTallyOf s.heap s.order t
+  pub own : IsSpending c p s.paid (blocks_of c.width s.command) (t.threads s.thread)
+  pub inside : (u : ℕ) → u < c.threads → (t.threads u).inside ≡ is_inside (s.gatings u).stand
+
+-- And after it, where the thread is at part p: one is kept of the heap and the order then, and it has
+-- the other threads as before.
+pub record TallyEvent (c : Config) (rate : ℕ) (s : Seen c) (new : Heap) (e : Effect) (p : Part) (next : ℕ) (before : Tally) : Type 0 where
+  pub tally : Tally
+  pub kept : TallyKept c rate black_word tally
+  pub of : IsTallyOf new (s.order ++ (items_told s.graph s.thread s.command s.paid e.verdict ++ starts_by e.naming)) tally
+  pub own : IsSpending c p (paid_got e.reply e.unit s.paid) (asked_got e.reply (blocks_of c.width s.command) next) (tally.threads s.thread)
+  pub others : (u : ℕ) → (s.thread ≡ u → ⊥) → tally.threads u ≡ before.threads u
+
+-- The law of a part: a tally that is kept of what the turn sees goes on to one that is kept after
+-- its event. Where that has the reply, the next command asks for so many blocks.
+abbrev pub TallyLaw : (c : Config) → Part → Type 0
+TallyLaw c p = (rate : ℕ) (s : Seen c) → AtPart c s p → PartEvent c s p → (next : ℕ) → next ≤ c.object → (before : Tally) → Counted c rate s p before
+    → TallyEvent c rate s (heap_after s.heap (part_want c p)) (effect c p (word_at c s p)) (part_got c s.thread (errand c s) s.pass p (word_at c s p)) next before

@@ -1,0 +1,10 @@
+use Rattle.heap_system.proofs.Bounded.{licensed, never_full}
+use Rattle.heap_system.proofs.LawsOf.{laws_of}
+use Rattle.heap_system.proofs.TalliesOf.{tallies_of}
+use Rattle.heap_system.proofs.bound.fulls_are_licensed.Goals as goal
+
+pub returns-clause-licensed : goal.returns-clause-licensed
+returns-clause-licensed _ c r is = licensed c is.traces (laws_of c) (tallies_of c) is.job is.turns r is.by_turns is.by_turns.opening.rate is.by_turns.opening.planned
+
+pub returns-clause-never : goal.returns-clause-never
+returns-clause-never _ c r is small = never_full c is.traces (laws_of c) (tallies_of c) is.job is.turns r is.by_turns is.by_turns.opening.rate is.by_turns.opening.planned small

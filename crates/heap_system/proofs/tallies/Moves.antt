@@ -1,0 +1,94 @@
+-- How the event of a part moves a tally: not at all, or by one event of the tally or a few.
+use Rattle.std.proofs.Common.{◌≡◌, ℕ, ◌+◌, ◌-◌, ◌*◌, ◌<◌, ◌≤◌, Bool, true, false, cond, eqb, Option, Some, None, List, [], ◌∷◌, ◌++◌, append-nil, refl, sym, ap, ◌∙◌, subst, arith}
+use Rattle.block_store.specs.declared.Config.{Config}
+use Rattle.block_store.specs.Colours.{black_word}
+use Rattle.block_store.specs.Counts.{changed}
+use Rattle.block_store.specs.Heaps.{Heap, put_at}
+use Rattle.block_store.specs.Phases.{is_sweep, cycle_of}
+use Rattle.block_store.specs.Places.{Phase, Cursor, FreeCount, ColourOf}
+use Rattle.block_store.proofs.Functions.{changed_here, changed_else}
+use Rattle.never_heap.specs.Histories.{HistoryItem}
+use Rattle.never_heap.specs.Steps.{blocks_of}
+use Rattle.heap_machine.specs.Gating.{Gating, Stand, Inside, Outside, is_inside}
+use Rattle.cycle_tally.specs.Events.{Event, apply, run, Guard, Guarded}
+use Rattle.cycle_tally.specs.Kept.{TallyKept}
+use Rattle.cycle_tally.specs.Tallies.{Spending, Tally}
+use Rattle.cycle_tally.proofs.Laws.{run_kept}
+use Rattle.heap_system.specs.declared.local.Part.{Part}
+use Rattle.heap_system.specs.Locals.{Effect, Verdict, Open, view, paid_got}
+use Rattle.heap_system.specs.Machines.{starts_by}
+use Rattle.heap_system.specs.Pictures.{stand_of, holding}
+use Rattle.heap_system.proofs.Seeing.{Seen, items_told}
+use Rattle.heap_system.proofs.Tallying.{reserved_for, IsSpending, IsTallyOf, Counted, TallyEvent, asked_got}
+
+-- the words that a tally counts are the same
+pub record SameWords (h new : Heap) : Type 0 where
+  pub cycle : cycle_of (new Phase) ≡ cycle_of (h Phase)
+  pub sweep : is_sweep (new Phase) ≡ is_sweep (h Phase)
+  pub cursor : new Cursor ≡ h Cursor
+  pub free : new FreeCount ≡ h FreeCount
+  pub colour : (x : ℕ) → new (ColourOf x) ≡ h (ColourOf x)
+
+pub same_words : (h : Heap) → SameWords h h
+same_words h = record { cycle = refl; sweep = refl; cursor = refl; free = refl; colour = λ x. refl }
+
+-- a write of the phase word that leaves the cycle and the phase
+pub phase_words : (h : Heap) (v : ℕ) → cycle_of v ≡ cycle_of (h Phase) → is_sweep v ≡ is_sweep (h Phase) → SameWords h (put_at h Phase v)
+phase_words h v cycle sweep = record { cycle = cycle; sweep = sweep; cursor = refl; free = refl; colour = λ x. refl }
+
+-- a thread that is at this, changed once and twice
+pub spends_here : (P : Spending → Type 0) (f : ℕ → Spending) (t : ℕ) (w : Spending) → P w → P (changed f t w t)
+spends_here P f t w p = subst P (sym (changed_here f t w)) p
+
+pub spends_twice : (P : Spending → Type 0) (f : ℕ → Spending) (t : ℕ) (w : Spending) (g : Spending → Spending) → P (g w) → P (changed (changed f t w) t (g (changed f t w t)) t)
+spends_twice P f t w g p = subst P (sym (changed_here (changed f t w) t (g (changed f t w t)) ∙ ap g (changed_here f t w))) p
+
+pub others_twice : (f : ℕ → Spending) (t : ℕ) (w v : Spending) (u : ℕ) → (t ≡ u → ⊥) → changed (changed f t w) t v u ≡ f u
+others_twice f t w v u other = changed_else (changed f t w) t u v other ∙ changed_else f t u w other
+
+-- a thread at a part that stands, claims and has reserved the same
+pub spends_on : (c : Config) (p q : Part) (paid asked : ℕ) (w : Spending) → is_inside (stand_of c p) ≡ is_inside (stand_of c q) → (holding c p).low ≡ (holding c q).low → (holding c p).high ≡ (holding c q).high
+    → reserved_for c.width (view c p).build ≡ reserved_for c.width (view c q).build → IsSpending c p paid asked w → IsSpending c q paid asked w
+spends_on c p q paid asked w inside low high reserved own = record { inside = own.inside ∙ inside; paid = own.paid; asked = own.asked; low = own.low ∙ low; high = own.high ∙ high; reserved = own.reserved ∙ reserved }
+
+-- an item that is not added
+pub nothing_told : (order items starts : List HistoryItem) → items ≡ [] → starts ≡ [] → order ++ (items ++ starts) ≡ order
+nothing_told order items starts none still = ap (λ xs. order ++ (xs ++ starts)) none ∙ ap (λ xs. order ++ xs) still ∙ append-nil order
+
+module _ (c : Config) (rate : ℕ) (s : Seen c) (p : Part) (before : Tally) (k : Counted c rate s p before) where
+  -- the order of an event that decides nothing and starts no cycle
+  pub told_none : (e : Effect) → e.verdict ≡ Open → starts_by e.naming ≡ [] → before.order ≡ s.order ++ (items_told s.graph s.thread s.command s.paid e.verdict ++ starts_by e.naming)
+  told_none e undecided still = k.of.order ∙ sym (nothing_told s.order _ _ (ap (items_told s.graph s.thread s.command s.paid) undecided) still)
+
+  -- nothing that the tally counts changes
+  pub stays : (new : Heap) (e : Effect) (q : Part) (next : ℕ) → SameWords s.heap new → e.verdict ≡ Open → starts_by e.naming ≡ []
+      → IsSpending c q (paid_got e.reply e.unit s.paid) (asked_got e.reply (blocks_of c.width s.command) next) (before.threads s.thread)
+      → TallyEvent c rate s new e q next before
+  stays new e q next same undecided still own = record {
+    tally = before;
+    kept = k.kept;
+    of = record {
+      cycle = k.of.cycle ∙ sym same.cycle;
+      sweep = k.of.sweep ∙ sym same.sweep;
+      cursor = k.of.cursor ∙ sym same.cursor;
+      free = k.of.free ∙ sym same.free;
+      colour = λ x. k.of.colour x ∙ sym (same.colour x);
+      order = told_none e undecided still;
+    };
+    own = own;
+    others = λ u other. refl;
+  }
+
+  -- the tally moves by these events, which leave the other threads
+  pub moves : (es : List Event) → Guarded c rate black_word before es → (new : Heap) (e : Effect) (q : Part) (next : ℕ)
+      → IsTallyOf new (s.order ++ (items_told s.graph s.thread s.command s.paid e.verdict ++ starts_by e.naming)) (run c rate black_word before es)
+      → IsSpending c q (paid_got e.reply e.unit s.paid) (asked_got e.reply (blocks_of c.width s.command) next) ((run c rate black_word before es).threads s.thread)
+      → ((u : ℕ) → (s.thread ≡ u → ⊥) → (run c rate black_word before es).threads u ≡ before.threads u)
+      → TallyEvent c rate s new e q next before
+  moves es guarded new e q next of own others = record {
+    tally = run c rate black_word before es;
+    kept = run_kept c rate black_word k.some k.plan es before k.kept guarded;
+    of = of;
+    own = own;
+    others = others;
+  }
