@@ -12,8 +12,6 @@ pub mod Openings
 pub mod Passing
 pub mod parts
 pub mod LawsOf
-pub mod Stocks
-pub mod Supplying
 pub mod Always
 pub mod Starting
 pub mod Reached

@@ -10,7 +10,6 @@ mod lone;
 #[cfg(test)]
 mod schedules;
 mod start;
-mod supply;
 mod system;
 #[cfg(test)]
 mod tests;
@@ -32,7 +31,6 @@ pub use laws::{
 };
 pub use local::Local;
 pub use start::opening;
-pub use supply::fulls_need_blocks;
 pub use system::{Finished, System, Unfinished, sum_of_works};
 
 /// What a turn of a thread was.

@@ -1,12 +1,11 @@
 -- What a history says, when one item comes at its end.
-use Rattle.std.proofs.Common.{ℕ, ◌+◌, ◌≡◌, ◌==◌, Bool, true, false, cond, List, [], ◌∷◌, ◌++◌, refl, sym, ap, add_assoc, add-zero, arith, zero-add, subst}
+use Rattle.std.proofs.Common.{ℕ, ◌+◌, ◌≡◌, ◌==◌, Bool, true, false, cond, List, [], ◌∷◌, ◌++◌, refl, sym, ap, arith, zero-add}
 use Rattle.block_store.specs.declared.Config.{Config}
 use Rattle.block_store.specs.declared.Width.{Width}
 use Rattle.never_heap.specs.declared.Entry.{Entry}
 use Rattle.never_heap.specs.Graphs.{Graph, start_graph}
 use Rattle.never_heap.specs.Histories.{HistoryItem, Started, Did, after, replay_from, IsAnswered, Legal, LegalFrom, replay, part, starts_in, work_in}
-use Rattle.never_heap.specs.FreeingRuns.{FullsNeedBlocks}
-use Rattle.never_heap.specs.Taken.{taken_by, taken_in}
+use Rattle.never_heap.specs.Taken.{taken_in}
 
 -- replay goes on by the item
 pub replay_more : (g : Graph) (h : List HistoryItem) (i : HistoryItem)
@@ -52,19 +51,6 @@ pub work_append : (h k : List HistoryItem) → work_in (h ++ k) ≡ work_in h + 
 work_append [] k = sym (zero-add (work_in k))
 work_append (Started ∷ h) k = work_append h k
 work_append (Did e ∷ h) k = omega (arith, work_append h k)
-
--- fulls go on needing blocks, where those of what comes need them
-pub needs_append : (c : Config) (given : ℕ) (h k : List HistoryItem)
-    → FullsNeedBlocks c given h → FullsNeedBlocks c (given + taken_in c.width h) k
-    → FullsNeedBlocks c given (h ++ k)
-needs_append c given [] k f g = subst (λ u. FullsNeedBlocks c u k) (add-zero given) g
-needs_append c given (Started ∷ h) k f g = needs_append c given h k f g
-needs_append c given (Did e ∷ h) k f g = (
-  f.0,
-  needs_append c (given + taken_by c.width e) h k f.1
-      (subst (λ u. FullsNeedBlocks c u k)
-      (sym (add_assoc given (taken_by c.width e) (taken_in c.width h))) g),
-)
 
 pub taken_append : (w : Width) (h k : List HistoryItem)
     → taken_in w (h ++ k) ≡ taken_in w h + taken_in w k

@@ -13,7 +13,6 @@ pub mod Cycles
 pub mod Given
 pub mod Licensed
 pub mod RightWork
-pub mod FreeingRuns
 pub mod Runs
 pub mod Coming
 pub mod Jobs
