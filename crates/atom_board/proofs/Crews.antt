@@ -7,13 +7,15 @@ use lib.ListN.{get_elem?}
 use Rattle.atomic_table.specs.Table as table
 use Rattle.atomic_table.specs.Seated.{TableId}
 use Rattle.block_store.specs.declared.Config.{Config}
+use Rattle.block_store.specs.Phases.{cycle_of}
 use Rattle.block_store.specs.Places.{extent, words_count}
 use Rattle.never_heap.specs.declared.Command.{Command}
 use Rattle.never_heap.specs.declared.Entry.{Entry}
 use Rattle.heap_system.specs.Locals.{LocalState, is_done, at_start}
 use Rattle.heap_system.specs.Machines.{State, no_local, IsJob, IsOpening}
 use Rattle.heap_system.specs.Systems.{Whole, traces_of, IsFinished}
-use Rattle.heap_system.proofs.Always.{here, length_starts}
+use Rattle.heap_system.proofs.Always.{here}
+use Rattle.heap_system.proofs.Starting.{length_starts}
 use Rattle.atom_board.specs.declared.rules.Held.{Held}
 use Rattle.atom_board.specs.declared.rules.View.{View}
 use Rattle.atom_board.specs.Boards.{BoardKept, first_view, one_view}
@@ -61,9 +63,9 @@ map_map f g (x ∷ l) = ap (λ ys. g (f x) ∷ ys) (map_map f g l)
 
 module _ (c : Config) (traces : List (List Command)) (job : IsJob c traces) (s : State) (start : IsOpening c traces s) where
   pub start_count : length s.locals ≡ c.threads
-  start_count = ap length start.locals ∙ length_starts c start.rate 0 traces ∙ job.bounds.threads
+  start_count = ap length start.locals ∙ length_starts c start.rate start.space 0 traces ∙ job.bounds.threads
 
-  pub start_at : (i : ℕ) (d : LocalState) → i < length s.locals → get_or s.locals i d ≡ at_start c start.rate i (get_or traces i [])
+  pub start_at : (i : ℕ) (d : LocalState) → i < length s.locals → get_or s.locals i d ≡ at_start c start.rate (start.space i) i (get_or traces i [])
   start_at i d low = get_or_default s.locals i d (no_local c) low ∙ here c traces job s start i (omega (arith, start_count))
 
   pub start_words : (ws : ℕ) → ws ≡ length s.words → (i : ℕ) (d : LocalState) → i < length s.locals → words_count (extent (get_or s.locals i d).config) ≡ ws
@@ -98,15 +100,18 @@ pub fresh_of : (id : TableId) (c : Config) (traces : List (List Command)) (s : S
 fresh_of id c traces s mutators job start are = subst (λ x. AreFresh traces x) (sym are) (start_fresh c traces job s start id)
 
 -- a seat with the threads of all mutators, each done
-pub closes : (b : BoardState) (k : Whole) (s : table.State Unit View) (id : ℕ) (v : View) (mutators : List MutatorState) (logs : List (List Entry)) → BoardKept k s → get_elem? s.views id ≡ some v → v ≡ record { locals = map held_of mutators } → k.config ≡ b.config → traces_of k.state ≡ b.traces
-    → AreInOrder b mutators → AllAreDone mutators → logs ≡ map log_of mutators → IsFinished b.config b.traces logs
-closes b k s id v mutators logs kept at knows config traces crew done are =
+pub closes : (b : BoardState) (k : Whole) (s : table.State Unit View) (id : ℕ) (v : View) (mutators : List MutatorState) (logs : List (List Entry)) (cycles : ℕ) → BoardKept k s → get_elem? s.views id ≡ some v → v ≡ record { locals = map held_of mutators } → k.config ≡ b.config → traces_of k.state ≡ b.traces
+    → AreInOrder b mutators → AllAreDone mutators → logs ≡ map log_of mutators → cycles ≡ cycle_of (get_or s.words 0 0) → IsFinished b.config b.traces logs cycles
+closes b k s id v mutators logs cycles kept at knows config traces crew done are read =
     let d : MutatorState = record { board = b.id; local = no_local b.config; turns = 0 } in
     let long : length v.locals ≡ length mutators = ap (λ (x : View). length x.locals) knows ∙ length-map mutators held_of in
     let seen : (t : ℕ) (e : Held) → t < length v.locals → get_or v.locals t e ≡ held_of (get_or mutators t d) = λ t e low.
     ap (λ (x : View). get_or x.locals t e) knows ∙ get_or_map held_of mutators t e d (omega arith) in
     let all : map (λ (h : Held). h.local.log) v.locals ≡ logs = ap (λ (x : View). map (λ (h : Held). h.local.log) x.locals) knows ∙ map_map held_of (λ (h : Held). h.local.log) mutators ∙ sym are in
-    let over : IsFinished k.config (traces_of k.state) (map (λ (h : Held). h.local.log) v.locals) = ended k s id v kept at (long ∙ crew.count ∙ sym (ap (λ (x : Config). x.threads) config))
+    let over : IsFinished k.config (traces_of k.state) (map (λ (h : Held). h.local.log) v.locals) (cycle_of (get_or s.words 0 0)) = ended k s id v kept at (long ∙ crew.count ∙ sym (ap (λ (x : Config). x.threads) config))
     (λ t e low. ap (λ (h : Held). h.local.thread) (seen t e low) ∙ (crew.each t d (omega arith)).1)
     (λ t e low. ap (λ (h : Held). is_done h.local) (seen t e low) ∙ done t d (omega arith)) in
-    subst (λ x. IsFinished b.config x logs) traces (subst (λ x. IsFinished x (traces_of k.state) logs) config (subst (λ x. IsFinished k.config (traces_of k.state) x) all over))
+    subst (λ n. IsFinished b.config b.traces logs n) (sym read)
+    (subst (λ x. IsFinished b.config x logs (cycle_of (get_or s.words 0 0))) traces
+    (subst (λ x. IsFinished x (traces_of k.state) logs (cycle_of (get_or s.words 0 0))) config
+    (subst (λ x. IsFinished k.config (traces_of k.state) x (cycle_of (get_or s.words 0 0))) all over)))

@@ -42,7 +42,7 @@ logs_map (h ∷ hs) = ap (λ xs. h.local.log ∷ xs) (logs_map hs)
 pub ended : (k : Whole) (s : table.State Unit View) (id : ℕ) (v : View) → BoardKept k s → get_elem? s.views id ≡ some v → length v.locals ≡ k.config.threads
     → ((t : ℕ) (d : Held) → t < length v.locals → (get_or v.locals t d).local.thread ≡ t)
     → ((t : ℕ) (d : Held) → t < length v.locals → is_done (get_or v.locals t d).local ≡ true)
-    → IsFinished k.config (traces_of k.state) (map (λ (h : Held). h.local.log) v.locals)
+    → IsFinished k.config (traces_of k.state) (map (λ (h : Held). h.local.log) v.locals) (cycle_of (get_or s.words 0 0))
 ended k s id v kept at long numbered done =
     let c = k.config in
     let ls = kept.locals in
@@ -56,16 +56,14 @@ ended k s id v kept at long numbered done =
     let all : map local_of v.locals ≡ ls = same_lists (map local_of v.locals) ls (no_local c) (length-map v.locals local_of ∙ omega arith)
     (λ i low. (let il : i < length v.locals = omega (arith, length-map v.locals local_of) in local_at_map v.locals i d il ∙ same_at i il)) in
     let over : AllDone c st = λ t tl. ap is_done (sym (same_at t (omega arith))) ∙ done t d (omega arith) in
-    subst (λ x. IsFinished c x (map (λ (h : Held). h.local.log) v.locals)) kept.given
-    (subst (λ x. IsFinished c (traces_of st) x) (ap (map (λ (l : LocalState). l.log)) (sym all) ∙ logs_map v.locals) (all_done c st r over))
+    let cycles : ℕ = cycle_of (get_or s.words 0 0) in
+    subst (λ x. IsFinished c x (map (λ (h : Held). h.local.log) v.locals) cycles) kept.given
+    (subst (λ x. IsFinished c (traces_of st) x cycles) (ap (map (λ (l : LocalState). l.log)) (sym all) ∙ logs_map v.locals) (all_done c st r over))
 
--- the word of place 0 at the end is of cycle 1
+-- the word that is read at place 0 is the phase word
 first_word : (ws : List ℕ) (w : ℕ) → get_elem? ws 0 ≡ some w → get_or ws 0 0 ≡ w
 first_word [] w e = absurd (some-ne-none w (sym e))
 first_word (x ∷ ws) w e = some-injective x w e
 
-pub cycle_is : (k : Whole) (s : table.State Unit View) (ws : List ℕ) (w : ℕ) → BoardKept k s → s.words ≡ ws → get_elem? ws 0 ≡ some w → cycle_of w ≡ 1
-cycle_is k s ws w kept same at =
-    let st : State = record { words = s.words; locals = kept.locals } in
-    let one : cycle_of (get_or s.words 0 0) ≡ 1 = (reached_kept k.config st (reached k.config kept.turns st kept.after)).phase.cycle in
-    ap cycle_of (sym (first_word ws w at)) ∙ ap (λ x. cycle_of (get_or x 0 0)) (sym same) ∙ one
+pub cycle_is : (s : table.State Unit View) (ws : List ℕ) (w : ℕ) → s.words ≡ ws → get_elem? ws 0 ≡ some w → cycle_of (get_or s.words 0 0) ≡ cycle_of w
+cycle_is s ws w same at = ap (λ x. cycle_of (get_or x 0 0)) same ∙ ap cycle_of (first_word ws w at)

@@ -1,7 +1,7 @@
 -- A mutator after more turns.
 use Rattle.std.proofs.Common.{◌≡◌, ℕ, ◌+◌, refl, arith, sym, ap, ◌∙◌, [], ◌++◌, append-nil, append_assoc}
 use Rattle.atomic_table.specs.Seated.{TableId}
-use Rattle.heap_system.specs.Locals.{LocalState, command_of, entries_of, part_reply, local_got}
+use Rattle.heap_system.specs.Locals.{LocalState, command_of, effect, entries_of, local_got}
 use Rattle.atom_board.specs.Mutators.{MutatorState, IsLater}
 
 pub later_same : (h : MutatorState) → IsLater h h
@@ -25,6 +25,6 @@ later_got old w id l n board got turns = record {
   thread = ap (λ (x : LocalState). x.thread) got;
   trace = ap (λ (x : LocalState). x.trace) got;
   turns = omega arith;
-  more = entries_of old.local.thread (command_of old.local) old.local.paid (part_reply old.local.config old.local.part w);
+  more = entries_of old.local.thread (command_of old.local) old.local.paid (effect old.local.config old.local.part w).reply;
   log = ap (λ (x : LocalState). x.log) got;
 }

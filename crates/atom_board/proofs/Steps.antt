@@ -53,7 +53,7 @@ turned_after c ts s t k = record {
   by_turns = subst (λ x. IsRunOf c x (ts ++ t ∷ []) (next c t k.run)) (sym (turned_traces c t s)) (record {
     first = k.by_turns.first;
     opening = k.by_turns.opening;
-    turns = ap (next c t) k.by_turns.turns ∙ sym (after_last c (opened k.by_turns.first) ts t);
+    turns = ap (next c t) k.by_turns.turns ∙ sym (after_last c (opened c k.by_turns.first) ts t);
   });
   state = ap (turned c t) k.state;
 }

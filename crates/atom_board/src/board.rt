@@ -191,7 +191,8 @@ impl AtomBoard {
     ///
     /// # Errors
     ///
-    /// `OutOfMemory` where there is no room for the words, the threads or their logs.
+    /// `OutOfMemory` where there is no room for the words, the threads, their logs or the blocks
+    /// that they hold while they build an object.
     pub fn new(
         alloc: Global,
         c: Config,
@@ -283,8 +284,7 @@ impl AtomBoard {
         requires done { AllAreDone who.items }
         ensures config { result.config ≡ self.config }
         ensures logs { AreLogsOf result.logs who.items }
-        ensures finished { IsFinished self.config self.traces result.logs }
-        ensures cycles { result.cycles ≡ 1 }
+        ensures finished { IsFinished self.config self.traces result.logs result.cycles }
     {
         let threads = self.config.threads as usize;
         let mutators = ordered(who, threads);
@@ -297,8 +297,7 @@ impl AtomBoard {
         requires done { AllAreDone who.items }
         ensures config { result.config ≡ self.config }
         ensures logs { result.logs ≡ map log_of who.items }
-        ensures finished { IsFinished self.config self.traces result.logs }
-        ensures cycles { result.cycles ≡ 1 }
+        ensures finished { IsFinished self.config self.traces result.logs result.cycles }
     {
         let AtomBoard {
             table,

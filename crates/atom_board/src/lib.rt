@@ -4,6 +4,8 @@
 mod board;
 mod closed;
 mod mutator;
+#[cfg(test)]
+mod rounds;
 mod rules;
 #[cfg(test)]
 mod tests;

@@ -1,4 +1,5 @@
-//! Two threads that meet: neither gets on unless the other runs beside it.
+//! Two threads that meet: neither gets on unless the other runs beside it. And two and four threads
+//! that allocate over many cycles.
 
 ghost use Rattle.std.specs.Prelude.{◌≡◌, true, map, IfOk};
 ghost use Rattle.block_store.specs.declared.Width.TheVariants.{Four};
@@ -6,9 +7,11 @@ ghost use Rattle.heap_system.specs.Locals.{is_done};
 ghost use Rattle.heap_system.specs.Machines.{IsJob};
 ghost use Rattle.atom_board.specs.Mutators.{AreInOrder, AllAreDone, IsLater};
 
+use crate::rounds::{RATE, TWO as TWO_ROUNDS, are_right, job};
 use crate::*;
 use block_store::{Config, Name, OutOfMemory, Value, Width};
-use never_heap::{Command, Logs, Pace, Reply};
+use never_heap::{Command, Logs, NoPace, Pace, Reply};
+use rate_plan::plan;
 use std::alloc::Global;
 use std::sync::Wait;
 use std::sync::atomic::{AtomicU64, Ordering};
@@ -21,6 +24,15 @@ const TWO: Config = Config {
     blocks: 64,
     live: 20,
     object: 2,
+    shared: 4,
+};
+
+const FOUR: Config = Config {
+    width: Width::Four,
+    threads: 4,
+    blocks: 256,
+    live: 96,
+    object: 3,
     shared: 4,
 };
 
@@ -91,6 +103,21 @@ fn driven<R: Threads + Wait + Sync, Q: Pace>(
     Ok(done)
 }
 
+// Does a job, each thread in a call of its own.
+fn run<R: Threads + Wait + Sync, Q: Pace>(
+    rt: &R,
+    alloc: Global,
+    c: Config,
+    traces: Vec<Vec<Command>>,
+    pace: &Q,
+) -> Result<Closed, OutOfMemory>
+    requires { IsJob c (map (λ v. v.items) traces.items) }
+{
+    let (board, mutators) = AtomBoard::new(alloc, c, traces)?;
+    let done = driven(rt, &board, mutators, pace)?;
+    Ok(board.close(done))
+}
+
 #[test]
 fn two_threads_meet(rt: HostRuntime) -> Result<(), OutOfMemory> {
     let pace = Meeting {
@@ -104,9 +131,7 @@ fn two_threads_meet(rt: HostRuntime) -> Result<(), OutOfMemory> {
         flags: [AtomicU64::new(0), AtomicU64::new(0)],
         met: AtomicU64::new(0),
     };
-    let (board, mutators) = AtomBoard::new(rt.alloc(), TWO, two_says(rt.alloc())?)?;
-    let done = driven(&rt, &board, mutators, &pace)?;
-    let closed = board.close(done);
+    let closed = run(&rt, rt.alloc(), TWO, two_says(rt.alloc())?, &pace)?;
     for calls in &pace.told {
         assert_eq!(rt; calls.load(Ordering::SeqCst), 1);
     }
@@ -125,6 +150,24 @@ fn two_threads_meet(rt: HostRuntime) -> Result<(), OutOfMemory> {
         assert_eq!(rt; entries.len(), 2);
         assert_eq!(rt; entries.first().map(|e| e.reply), shown);
         assert_eq!(rt; entries.last().map(|e| e.reply), shown);
+    }
+    Ok(())
+}
+
+// Each allocation pays at the rate, and a cycle gives at most two units for each block: so the
+// rounds take at least 12 cycles.
+#[test]
+fn threads_allocate_over_many_cycles(rt: HostRuntime) -> Result<(), OutOfMemory> {
+    for c in [TWO_ROUNDS, FOUR] {
+        assert_eq!(rt; plan(&c), Ok(RATE));
+        let Some(traces) = job(rt.alloc(), &c)? else {
+            assert!(rt; false, "no job");
+            return Ok(());
+        };
+        let closed = run(&rt, rt.alloc(), c, traces, &NoPace)?;
+        assert!(rt; are_right(&closed));
+        assert_eq!(rt; closed.units(), 1600 * u64::from(closed.threads()));
+        assert!(rt; closed.cycles() >= 12);
     }
     Ok(())
 }

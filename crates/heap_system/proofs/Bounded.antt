@@ -1,5 +1,5 @@
 -- What every run is within: the bound of the tally that counts it.
-use Rattle.std.proofs.Common.{◌≡◌, ℕ, zero, suc, ◌+◌, ◌-◌, ◌*◌, ◌^◌, ◌<◌, ◌≤◌, Bool, true, false, cond, eqb, eq-eqb, ne_eqb, Option, Some, None, List, [], ◌∷◌, ◌++◌, length, get_or, length-append, refl, sym, ap, ◌∙◌, subst, arith, inl, inr}
+use Rattle.std.proofs.Common.{◌≡◌, ℕ, ◌+◌, ◌-◌, ◌*◌, ◌^◌, ◌<◌, ◌≤◌, eq-eqb, ne_eqb, Option, Some, None, List, [], ◌∷◌, length, length-append, refl, sym, ap, ◌∙◌, subst, arith, inl, inr}
 use Rattle.std.proofs.lemmas.Bool.{cases_eq, and_parts}
 use Rattle.block_store.specs.declared.Config.{Config}
 use Rattle.block_store.specs.Colours.{black_word}
@@ -7,7 +7,6 @@ use Rattle.block_store.specs.Counts.{changed, total}
 use Rattle.block_store.proofs.Functions.{total_changed, total_none, total_same}
 use Rattle.rate_plan.specs.Rates.{IsRate}
 use Rattle.never_heap.specs.declared.Command.{Command}
-use Rattle.never_heap.specs.declared.Entry.{Entry}
 use Rattle.never_heap.specs.declared.Reply.{Reply}
 use Rattle.never_heap.specs.Given.{given}
 use Rattle.never_heap.specs.Histories.{HistoryItem, Started, Did, replay, part, starts_in, work_in}
@@ -17,7 +16,7 @@ use Rattle.never_heap.proofs.Unfilled.{none_full}
 use Rattle.cycle_tally.specs.Bounds.{Bound}
 use Rattle.cycle_tally.specs.Entries.{InThreads}
 use Rattle.cycle_tally.specs.Kept.{most_given}
-use Rattle.cycle_tally.specs.Tallies.{Tally, units, paid_now}
+use Rattle.cycle_tally.specs.Tallies.{units, paid_now}
 use Rattle.cycle_tally.proofs.Laws.{bound_of}
 use Rattle.cycle_tally.proofs.Listing.{total_plus}
 use Rattle.cycle_tally.proofs.Smalls.{counts_small}

@@ -79,9 +79,9 @@ words_kept c bounds room colour colours w agrees =
     }
 
 -- the words of an opening are those of the start graph, up to the last block of the shared array
-pub opening_agrees : (c : Config) → IsInBounds c → IsAdmitted c → (h : Heap) → ((p : Place) → in_range (extent c) p ≡ true → h p ≡ opening_heap c p) → (x : ℕ) → 0 < x → x ≤ opening_blocks c → Agrees c.width (opening_words c) (block_words h) x
-opening_agrees c bounds plan h words x pos within =
-    let block = block_in c bounds plan x pos (omega (arith, within, plan.opens, plan.room)) in
+pub opening_agrees : (c : Config) → IsAdmitted c → (h : Heap) → ((p : Place) → in_range (extent c) p ≡ true → h p ≡ opening_heap c p) → (x : ℕ) → 0 < x → x ≤ opening_blocks c → Agrees c.width (opening_words c) (block_words h) x
+opening_agrees c plan h words x pos within =
+    let block = and_from _ _ (le-leb 1 x pos) (le-leb x c.blocks (omega (arith, within, plan.opens, plan.room))) in
     record {
       owners = words (OwnerOf x) block;
       shapes = words (ShapeOf x) block;
@@ -219,4 +219,4 @@ module _ (c : Config) (bounds : IsInBounds c) (plan : IsAdmitted c) (h : Heap) (
   pub opening_names_kept : (tasks : ℕ → Task) → tasks ≡ (λ t. no_task) → IsKept c (picture (start_graph c) (Started ∷ []) h (opening_names c) tasks)
   opening_names_kept tasks none = subst (λ ts. IsKept c (picture (start_graph c) (Started ∷ []) h (opening_names c) ts)) (sym none)
       (subst (λ s. IsKept c s) (λ i. record (picture (start_graph c) (Started ∷ []) h (opening_names c) (λ t. no_task)) { cycle = sym cycle i; sweep = sym sweep i })
-      (words_kept c bounds (omega (arith, low)) (λ x. h (ColourOf x)) colours (block_words h) (opening_agrees c bounds plan h words)))
+      (words_kept c bounds (omega (arith, low)) (λ x. h (ColourOf x)) colours (block_words h) (opening_agrees c plan h words)))

@@ -1,32 +1,29 @@
 -- Every run is counted by a tally that is kept.
-use Rattle.std.proofs.Common.{◌≡◌, ℕ, ◌+◌, ◌*◌, ◌<◌, ◌≤◌, Bool, true, false, cond, eqb, Option, Some, None, List, [], ◌∷◌, ◌++◌, length, get_or, append-nil, lt-ltb, le-ltb, eq-eqb, ne_eqb, refl, sym, ap, ◌∙◌, subst, arith, inl, inr}
+use Rattle.std.proofs.Common.{◌≡◌, ℕ, ◌*◌, ◌<◌, ◌≤◌, false, cond, Option, Some, None, List, [], ◌∷◌, ◌++◌, length, get_or, append-nil, lt-ltb, le-ltb, eq-eqb, ne_eqb, refl, sym, ap, ◌∙◌, subst, arith, inl, inr}
 use Rattle.std.proofs.lemmas.Bool.{cases_Bool, cases_eq, cases_lt}
 use Rattle.std.specs.List.{AllByRecursion}
 use Rattle.block_store.specs.declared.Config.{Config}
 use Rattle.block_store.specs.declared.PhaseWord.{PhaseWord}
 use Rattle.block_store.specs.Colours.{black_word}
-use Rattle.block_store.specs.Heaps.{Heap}
 use Rattle.block_store.specs.Phases.{is_sweep, cycle_of}
-use Rattle.block_store.specs.Places.{Phase, Cursor, FreeCount, ColourOf, extent}
+use Rattle.block_store.specs.Places.{Phase, Cursor, FreeCount, ColourOf}
 use Rattle.block_store.proofs.PhaseWords.{sweep-code, cycle-code}
-use Rattle.array_trees.specs.Openings.{opening_blocks}
-use Rattle.rate_plan.specs.Rates.{KeepsUp, IsRate, IsAdmitted}
+use Rattle.rate_plan.specs.Rates.{IsRate}
 use Rattle.never_heap.specs.declared.Command.{Command}
 use Rattle.never_heap.specs.declared.Command.TheVariants as commands
 use Rattle.never_heap.specs.declared.Reply.{Reply}
 use Rattle.never_heap.specs.Bounds.{IsCommandInBounds}
-use Rattle.never_heap.specs.Histories.{HistoryItem, Started, replay}
+use Rattle.never_heap.specs.Histories.{replay}
 use Rattle.never_heap.specs.Steps.{blocks_of}
 use Rattle.never_heap.proofs.Opening.{opening_live}
-use Rattle.heap_machine.specs.Operations.{heap_after}
 use Rattle.work_account.specs.Accounts as accounts
 use Rattle.cycle_tally.specs.Kept.{TallyKept}
 use Rattle.cycle_tally.specs.Openings.{opening_tally}
-use Rattle.cycle_tally.specs.Tallies.{Spending, Tally}
+use Rattle.cycle_tally.specs.Tallies.{Tally}
 use Rattle.cycle_tally.proofs.Laws as tallies
 use Rattle.cycle_tally.proofs.Openings.{opens}
 use Rattle.heap_system.specs.declared.local.Part.{Part}
-use Rattle.heap_system.specs.Locals.{LocalState, command_of, owed, is_done, entries_of, paid_got, part_want, at_start}
+use Rattle.heap_system.specs.Locals.{LocalState, command_of, owed, is_done, entries_of}
 use Rattle.heap_system.specs.Machines.{State, Run, local_at, event_done, has_event, next_effect, items_by, heap_in, next, after_turns, IsOpening, IsJob, IsRunOf, opened}
 use Rattle.heap_system.specs.Naming.{renamed}
 use Rattle.heap_system.specs.Openings.{opening_phase}
@@ -35,9 +32,8 @@ use Rattle.heap_system.proofs.Growing.{items_are}
 use Rattle.heap_system.proofs.Kept.{Kept}
 use Rattle.heap_system.proofs.PartLaws.{PartLaws}
 use Rattle.heap_system.proofs.Paying.{bounds_at, blocks_low}
-use Rattle.heap_system.proofs.Seeing.{items_told}
 use Rattle.heap_system.proofs.Tallying.{IsSpending, IsTallyOf, TallyLaw, TallyEvent, Counted, asked_got}
-use Rattle.heap_system.proofs.Turning.{seen, at_part, event, new_run, new_heap, new_local, effect_here, heap_new, local_new, next_is}
+use Rattle.heap_system.proofs.Turning.{seen, at_part, new_run, new_heap, new_local, effect_here, heap_new, local_new, next_is}
 
 -- the blocks that a thread asks for
 abbrev pub asked_by : Config → LocalState → ℕ
@@ -124,7 +120,7 @@ module _ (c : Config) (traces : List (List Command)) (job : IsJob c traces) (rat
 
     module _ (going : is_done me ≡ false) where
       after : TallyEvent c rate (seen c traces laws job.bounds.config job.plan r kept t tl) (new_heap c traces laws job.bounds.config job.plan r kept t tl) (effect_here c traces laws job.bounds.config job.plan r kept t tl) later.part (asked_by c later) counts.tally
-      after = tally_laws me.part rate (seen c traces laws job.bounds.config job.plan r kept t tl) (at_part c traces laws job.bounds.config job.plan r kept t tl) (event c traces laws job.bounds.config job.plan r kept t tl going) (asked_by c later) (commands_at r kept t (length later.log) tl) counts.tally counted
+      after = tally_laws me.part rate (seen c traces laws job.bounds.config job.plan r kept t tl) (at_part c traces laws job.bounds.config job.plan r kept t tl) (asked_by c later) (commands_at r kept t (length later.log) tl) counts.tally counted
 
       -- the thread, and the others
       each : (u : ℕ) → u < c.threads → IsSpending c (local_at c (event_done c t r.state) u).part (local_at c (event_done c t r.state) u).paid (asked_by c (local_at c (event_done c t r.state) u)) (after.tally.threads u)

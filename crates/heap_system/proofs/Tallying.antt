@@ -1,6 +1,6 @@
 -- How a run is counted: what a tally of its cycles says of it, and what one event is to keep of
 -- that.
-use Rattle.std.proofs.Common.{◌≡◌, ℕ, ◌*◌, ◌<◌, ◌≤◌, cond, Bool, true, false, Option, Some, None, List, ◌++◌}
+use Rattle.std.proofs.Common.{◌≡◌, ℕ, ◌*◌, ◌<◌, ◌≤◌, Option, Some, None, List, ◌++◌}
 use Rattle.block_store.specs.declared.Config.{Config}
 use Rattle.block_store.specs.declared.Width.{Width}
 use Rattle.block_store.specs.Colours.{black_word}
@@ -8,7 +8,6 @@ use Rattle.block_store.specs.Heaps.{Heap}
 use Rattle.block_store.specs.Phases.{is_sweep, cycle_of}
 use Rattle.block_store.specs.Places.{Phase, Cursor, FreeCount, ColourOf}
 use Rattle.rate_plan.specs.Rates.{KeepsUp}
-use Rattle.never_heap.specs.declared.Command.{Command}
 use Rattle.never_heap.specs.declared.Reply.{Reply}
 use Rattle.never_heap.specs.Histories.{HistoryItem}
 use Rattle.never_heap.specs.Steps.{blocks_of}
@@ -22,7 +21,7 @@ use Rattle.heap_system.specs.Locals.{Effect, view, effect, paid_got, part_want, 
 use Rattle.heap_system.specs.Machines.{starts_by}
 use Rattle.heap_system.specs.Pictures.{stand_of, holding}
 use Rattle.heap_system.proofs.Seeing.{Seen, errand, items_told}
-use Rattle.heap_system.proofs.PartLaws.{AtPart, PartEvent, word_at}
+use Rattle.heap_system.proofs.PartLaws.{AtPart, word_at}
 
 -- the blocks that a thread has reserved for what it builds, from the reservation to the publish
 abbrev pub reserved_for : Width → Option Builder → ℕ
@@ -75,5 +74,5 @@ pub record TallyEvent (c : Config) (rate : ℕ) (s : Seen c) (new : Heap) (e : E
 -- The law of a part: a tally that is kept of what the turn sees goes on to one that is kept after
 -- its event. Where that has the reply, the next command asks for so many blocks.
 abbrev pub TallyLaw : (c : Config) → Part → Type 0
-TallyLaw c p = (rate : ℕ) (s : Seen c) → AtPart c s p → PartEvent c s p → (next : ℕ) → next ≤ c.object → (before : Tally) → Counted c rate s p before
+TallyLaw c p = (rate : ℕ) (s : Seen c) → AtPart c s p → (next : ℕ) → next ≤ c.object → (before : Tally) → Counted c rate s p before
     → TallyEvent c rate s (heap_after s.heap (part_want c p)) (effect c p (word_at c s p)) (part_got c s.thread (errand c s) s.pass p (word_at c s p)) next before

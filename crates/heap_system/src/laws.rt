@@ -6,7 +6,6 @@ ghost use Rattle.block_store.specs.declared.Config.{Config};
 ghost use Rattle.block_store.specs.declared.Name.{Name};
 ghost use Rattle.block_store.specs.declared.TheConstants.{REGISTERS};
 ghost use Rattle.block_store.specs.Colours.{is_free};
-ghost use Rattle.block_store.specs.Configs.{IsInBounds};
 ghost use Rattle.block_store.specs.Counts.{total};
 ghost use Rattle.block_store.specs.Heaps.{heap_of};
 ghost use Rattle.block_store.specs.Phases.{bit, inside_of, cycle_of};
@@ -47,7 +46,7 @@ use never_heap::Logs;
 
 /// The words of an opening are those of the start graph, up to the last block of the shared array.
 pub fn opening_shows_the_start()
-    ensures { (c : Config) (ws : List ℕ) → IsInBounds c → IsAdmitted c
+    ensures { (c : Config) (ws : List ℕ) → IsAdmitted c
         → ((p : Place) → in_range (extent c) p ≡ true → heap_of (extent c) ws p ≡ opening_heap c p)
         → (x : ℕ) → 0 < x → x ≤ opening_blocks c
         → Agrees c.width (opening_words c) (block_words (heap_of (extent c) ws)) x }

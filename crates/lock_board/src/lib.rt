@@ -14,6 +14,8 @@ use std::sync::{Mutex, Wait};
 use std::thread;
 
 #[cfg(test)]
+mod rounds;
+#[cfg(test)]
 mod tests;
 
 /// A system behind a lock. Of it only its type is known: that it is one after some list of turns.
@@ -58,7 +60,8 @@ impl LockBoard {
     ///
     /// # Errors
     ///
-    /// `OutOfMemory` where there is no room for the words, the threads or their logs.
+    /// `OutOfMemory` where there is no room for the words, the threads, their logs or the blocks
+    /// that they hold while they build an object.
     pub fn new(
         alloc: Global,
         c: Config,
@@ -99,7 +102,7 @@ impl LockBoard {
     /// The system, where a thread is not done, with the least such thread.
     pub fn close(self) -> Result<Finished, Unfinished>
         ensures finished { IfOk result (λ f. (traces : List (List Command))
-            × IsFinished f.config traces f.logs) }
+            × IsFinished f.config traces f.logs f.cycles) }
         ensures least { IfErr result (λ u.
             IsLeastUndone u.system.config u.system.state u.thread) }
     {

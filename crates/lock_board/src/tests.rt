@@ -1,12 +1,14 @@
-//! Two threads that meet: neither gets on unless the other runs beside it.
+//! Two threads that meet: neither gets on unless the other runs beside it. And two that allocate
+//! over many cycles.
 
 ghost use Rattle.std.specs.Prelude.{◌≡◌, ◌<◌, map, IfOk};
 ghost use Rattle.block_store.specs.declared.Width.TheVariants.{Four};
 ghost use Rattle.heap_system.specs.Machines.{IsJob};
 
+use crate::rounds::{TWO as TWO_ROUNDS, are_right, job};
 use crate::*;
 use block_store::{Config, Name, OutOfMemory, Value, Width};
-use never_heap::{Command, Logs, Pace, Reply};
+use never_heap::{Command, Logs, NoPace, Pace, Reply};
 use std::alloc::Global;
 use std::sync::Wait;
 use std::sync::atomic::{AtomicU64, Ordering};
@@ -79,8 +81,7 @@ fn two_threads_meet(rt: HostRuntime) -> Result<(), OutOfMemory> {
         flags: [AtomicU64::new(0), AtomicU64::new(0)],
         met: AtomicU64::new(0),
     };
-    let board = LockBoard::new(rt.alloc(), TWO, two_says(rt.alloc())?)?;
-    driven(&rt, rt.alloc(), &board, &pace)?;
+    let run = run(&rt, rt.alloc(), TWO, two_says(rt.alloc())?, &pace)?;
     for calls in &pace.told {
         assert_eq!(rt; calls.load(Ordering::SeqCst), 1);
     }
@@ -90,7 +91,7 @@ fn two_threads_meet(rt: HostRuntime) -> Result<(), OutOfMemory> {
         thread: 2,
         serial: 0,
     })));
-    let run = board.close().ok().expect(&rt, "both threads are done");
+    let run = run.expect(&rt, "both threads are done");
     assert!(rt; run.config() == &TWO);
     assert_eq!(rt; (run.threads(), run.cycles(), run.units()), (2, 1, 0));
     for t in 0..run.threads() {
@@ -102,13 +103,32 @@ fn two_threads_meet(rt: HostRuntime) -> Result<(), OutOfMemory> {
     Ok(())
 }
 
-// Drives both threads, each in a call of its own.
-fn driven<R: Threads + Wait + Sync, Q: Pace>(
+// Rounds of two threads. A cycle gives at most two units for each block, so they take at least 12.
+#[test]
+fn two_threads_allocate_over_many_cycles(rt: HostRuntime) -> Result<(), OutOfMemory> {
+    let Some(traces) = job(rt.alloc(), &TWO_ROUNDS)? else {
+        assert!(rt; false, "no job");
+        return Ok(());
+    };
+    let run = run(&rt, rt.alloc(), TWO_ROUNDS, traces, &NoPace)?;
+    let run = run.expect(&rt, "both threads are done");
+    assert!(rt; are_right(&run));
+    assert_eq!(rt; (run.threads(), run.units()), (2, 3200));
+    assert!(rt; run.cycles() >= 12);
+    Ok(())
+}
+
+// Does a job of two threads, each in a call of its own.
+fn run<R: Threads + Wait + Sync, Q: Pace>(
     rt: &R,
     alloc: Global,
-    board: &LockBoard,
+    c: Config,
+    traces: Vec<Vec<Command>>,
     pace: &Q,
-) -> Result<(), OutOfMemory> {
+) -> Result<Option<Finished>, OutOfMemory>
+    requires { IsJob c (map (λ v. v.items) traces.items) }
+{
+    let board = LockBoard::new(alloc, c, traces)?;
     let _calls = thread::map_indices(
         rt,
         alloc,
@@ -117,5 +137,5 @@ fn driven<R: Threads + Wait + Sync, Q: Pace>(
             requires { t < 65536 }
         { board.drive(rt, t as u32, pace) },
     )?;
-    Ok(())
+    Ok(board.close().ok())
 }

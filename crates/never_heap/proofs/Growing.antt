@@ -52,7 +52,6 @@ work_append [] k = sym (zero-add (work_in k))
 work_append (Started ∷ h) k = work_append h k
 work_append (Did e ∷ h) k = omega (arith, work_append h k)
 
--- and so do the blocks that were taken
 pub taken_append : (w : Width) (h k : List HistoryItem)
     → taken_in w (h ++ k) ≡ taken_in w h + taken_in w k
 taken_append w [] k = sym (zero-add (taken_in w k))

@@ -1,14 +1,12 @@
 -- A thread that builds: the tally has its reservation, the blocks that it makes black, and the object
 -- that it publishes or the refusal.
-use Rattle.std.proofs.Common.{◌≡◌, ℕ, ◌+◌, ◌-◌, ◌*◌, ◌<◌, ◌≤◌, max, Bool, true, false, ◌&&◌, cond, eqb, ltb, eqb-true, ltb-true, Option, None, Some, List, [], ◌∷◌, ◌++◌, length, refl, sym, ap, ◌∙◌, subst, arith, inl, inr}
-use Rattle.std.proofs.lemmas.Bool.{cases_Bool, cases_eq, cases_lt, lt-ltb}
+use Rattle.std.proofs.Common.{◌≡◌, ℕ, ◌+◌, ◌-◌, ◌*◌, ◌<◌, ◌≤◌, max, Bool, true, false, ◌&&◌, cond, eqb, ltb, eqb-true, ltb-true, None, Some, List, [], ◌∷◌, ◌++◌, length, refl, sym, ap, ◌∙◌, subst, arith, inl, inr}
+use Rattle.std.proofs.lemmas.Bool.{cases_Bool, cases_eq}
 use Rattle.block_store.specs.declared.Config.{Config}
 use Rattle.block_store.specs.declared.Width.{Width}
 use Rattle.block_store.specs.Colours.{link, black_word}
-use Rattle.block_store.specs.Counts.{changed}
 use Rattle.block_store.specs.Heaps.{Heap, put_at}
-use Rattle.block_store.specs.Phases.{is_sweep, cycle_of}
-use Rattle.block_store.specs.Places.{Phase, FreeCount, ColourOf, extent}
+use Rattle.block_store.specs.Places.{FreeCount, ColourOf}
 use Rattle.block_store.specs.Widths.{payloads}
 use Rattle.block_store.proofs.Functions.{changed_else}
 use Rattle.never_heap.specs.declared.Entry.{Entry}
@@ -17,25 +15,24 @@ use Rattle.never_heap.specs.declared.Reply.TheVariants as replies
 use Rattle.never_heap.specs.Graphs.{next_name}
 use Rattle.never_heap.specs.Histories.{Did, is_full}
 use Rattle.never_heap.specs.Steps.{step, blocks_of, makes_object}
-use Rattle.never_heap.specs.Taken.{taken_by, blocks_if_new}
-use Rattle.heap_machine.specs.Gating.{Gating, is_inside, is_outside}
+use Rattle.never_heap.specs.Taken.{blocks_if_new}
+use Rattle.heap_machine.specs.Gating.{Gating, is_outside}
 use Rattle.heap_machine.specs.Operations.{place_of, heap_after}
 use Rattle.heap_machine.specs.declared.Step.{Step}
 use Rattle.build_steps.specs.declared.rows.BuildRow.{BuildRow}
 use Rattle.build_steps.specs.declared.rows.BuildRow.TheVariants as rows
 use Rattle.build_steps.specs.Ends.{is_counting, is_publishing}
 use Rattle.build_steps.specs.Fits.{RowFits}
-use Rattle.build_steps.specs.Naming.{made_kind, is_building, row_build, built_object}
-use Rattle.build_steps.specs.Rows.{BuildState, row_want, row_got, row_step, row_reply, row_holding, held_got, built_at, after_count, after_reserve, after_take, after_collect, after_last, after_payload, after_colour, build_over, full_cycle}
+use Rattle.build_steps.specs.Naming.{is_building, row_build, built_object}
+use Rattle.build_steps.specs.Rows.{BuildState, row_want, row_got, row_step, row_reply, row_holding, held_got, built_at, after_take, after_collect, after_last, after_payload, after_colour, build_over, full_cycle}
 use Rattle.build_steps.specs.Standing.{left_of, begun_of}
 use Rattle.build_steps.proofs.Shapes.{made_blocks, reply_made}
 use Rattle.work_account.specs.Accounts.{published, refused}
 use Rattle.cycle_tally.specs.Events as events
 use Rattle.cycle_tally.specs.Tallies.{Spending, Tally}
-use Rattle.heap_system.specs.declared.local.Part.{Part}
 use Rattle.heap_system.specs.declared.local.Part.TheVariants.{Build, Leave}
-use Rattle.heap_system.specs.Locals.{Effect, Verdict, Open, AsStep, Refused, plain, if_decides, if_replied, entry_of}
-use Rattle.heap_system.specs.Naming.{Naming, Same, Made}
+use Rattle.heap_system.specs.Locals.{Open, AsStep, Refused, plain, if_decides, if_replied, entry_of}
+use Rattle.heap_system.specs.Naming.{Same, Made}
 use Rattle.heap_system.proofs.PartLaws.{AtPart}
 use Rattle.heap_system.proofs.Seeing.{Seen}
 use Rattle.heap_system.proofs.Tallying.{IsSpending, Counted, TallyEvent, TallyLaw, reserved_for}
@@ -95,12 +92,6 @@ full_is z some = elim (cases_Bool (eqb z 1)) [
     | inl one ↦ absurd (let t : true ≡ false = sym (ap (λ n. eqb n 1) one) ∙ e in cc)
     | inr more ↦ rw e (omega arith)
   ]
-]
-
-not_less : (m n : ℕ) → ltb m n ≡ false → n ≤ m
-not_less m n e = elim (cases_lt m n) [
-  | inl low ↦ absurd (let z : true ≡ false = sym (lt-ltb m n low) ∙ e in cc)
-  | inr high ↦ omega arith
 ]
 
 module _ (c : Config) (rate : ℕ) (s : Seen c) (b : BuildState) (at : AtPart c s (Build b)) (before : Tally) (k : Counted c rate s (Build b) before) (next : ℕ) (few : next ≤ c.object) where
@@ -175,9 +166,10 @@ module _ (c : Config) (rate : ℕ) (s : Seen c) (b : BuildState) (at : AtPart c 
       let w : Spending = before.threads s.thread in
       let r : Reply = replies.Full (full_cycle b.cycle) in
       let new : Spending = record w { balance = refused w.balance } in
-      moves c rate s (Build b) before k (events.Refuse s.thread (entry r) ∷ events.Next s.thread next ∷ [])
-      ((s.low, k.own.inside, omega (arith, low, high), decides r, none, paid_all, omega (arith, k.own.asked, size, less, k.of.free), ap replies.Full (full_is b.cycle (omega (arith, cycle, k.kept.some)) ∙ ap (λ z. max 1 (z - 1)) cycle)),
-      ((s.low, spends_here (λ v. v.high ≤ v.low) before.threads s.thread new (omega (arith, low, high)), spends_here (λ v. v.reserved ≡ 0) before.threads s.thread new none, spends_here (λ v. v.balance.paid ≡ 0) before.threads s.thread new refl, few), tt))
+      moves c rate s (Build b) before k (events.Refuse s.thread (entry r) ∷ events.Next s.thread next ∷ []) (
+        (s.low, k.own.inside, omega (arith, low, high), decides r, none, paid_all, omega (arith, k.own.asked, size, less, k.of.free), ap replies.Full (full_is b.cycle (omega (arith, cycle, k.kept.some)) ∙ ap (λ z. max 1 (z - 1)) cycle)),
+        ((s.low, spends_here (λ v. v.high ≤ v.low) before.threads s.thread new (omega (arith, low, high)), spends_here (λ v. v.reserved ≡ 0) before.threads s.thread new none, spends_here (λ v. v.balance.paid ≡ 0) before.threads s.thread new refl, few), tt),
+      )
       s.heap (record (plain step) { reply = Some r; verdict = Refused r; naming = Same }) Leave next
       (record { cycle = k.of.cycle; sweep = k.of.sweep; cursor = k.of.cursor; free = k.of.free; colour = k.of.colour; order = ap (λ o. o ++ Did (entry r) ∷ []) k.of.order })
       (spends_twice (IsSpending c Leave 0 next) before.threads s.thread new (λ v. record v { asked = next }) (record { inside = k.own.inside; paid = refl; asked = refl; low = low; high = high; reserved = none }))
@@ -191,9 +183,10 @@ module _ (c : Config) (rate : ℕ) (s : Seen c) (b : BuildState) (at : AtPart c 
       let makes : makes_object s.command ≡ true = at.part.makes in
       let made : r ≡ replies.New (next_name s.graph s.thread) = reply_made s.graph s.thread s.command makes in
       let later : Spending = record w { reserved = 0; balance = published w.asked w.balance } in
-      moves c rate s (Build b) before k (events.Publish s.thread (entry r) ∷ events.Next s.thread next ∷ [])
-      ((s.low, k.own.inside, omega (arith, low, high), decides r, all ∙ sym k.own.asked, paid_all, ap (λ x. blocks_if_new x asked) made ∙ sym k.own.asked, ap is_full made),
-      ((s.low, spends_here (λ v. v.high ≤ v.low) before.threads s.thread later (omega (arith, low, high)), spends_here (λ v. v.reserved ≡ 0) before.threads s.thread later refl, spends_here (λ v. v.balance.paid ≡ 0) before.threads s.thread later refl, few), tt))
+      moves c rate s (Build b) before k (events.Publish s.thread (entry r) ∷ events.Next s.thread next ∷ []) (
+        (s.low, k.own.inside, omega (arith, low, high), decides r, all ∙ sym k.own.asked, paid_all, ap (λ x. blocks_if_new x asked) made ∙ sym k.own.asked, ap is_full made),
+        ((s.low, spends_here (λ v. v.high ≤ v.low) before.threads s.thread later (omega (arith, low, high)), spends_here (λ v. v.reserved ≡ 0) before.threads s.thread later refl, spends_here (λ v. v.balance.paid ≡ 0) before.threads s.thread later refl, few), tt),
+      )
       new (record (plain step_is) { reply = Some (replies.New name); verdict = AsStep; naming = Made (built_at b) }) Leave next
       (record { cycle = k.of.cycle ∙ sym same.cycle; sweep = k.of.sweep ∙ sym same.sweep; cursor = k.of.cursor ∙ sym same.cursor; free = k.of.free ∙ sym same.free; colour = λ x. k.of.colour x ∙ sym (same.colour x); order = ap (λ o. o ++ Did (entry r) ∷ []) k.of.order })
       (spends_twice (IsSpending c Leave 0 next) before.threads s.thread later (λ v. record v { asked = next }) (record { inside = k.own.inside; paid = refl; asked = refl; low = low; high = high; reserved = refl }))
@@ -240,5 +233,5 @@ module _ (c : Config) (rate : ℕ) (s : Seen c) (b : BuildState) (at : AtPart c 
   by rows.Refused fits going reserved = absurd (let z : true ≡ false = going in cc)
 
 pub build_tallied : (c : Config) (b : BuildState) → TallyLaw c (Build b)
-build_tallied c b rate s at event next few before k = by c rate s b at before k next few b.row at.fits.0.row at.part.going
+build_tallied c b rate s at next few before k = by c rate s b at before k next few b.row at.fits.0.row at.part.going
     (k.own.reserved ∙ row_reserved c.width b at.fits.0.makes b.row ∙ ap (λ n. cond (is_building b.row) n 0) (ap (blocks_of c.width) at.part.command))

@@ -1,11 +1,9 @@
 -- A thread at rest or on its way in: the tally moves where it goes in.
-use Rattle.std.proofs.Common.{◌≡◌, ℕ, ◌+◌, ◌-◌, ◌*◌, ◌<◌, ◌≤◌, Bool, true, false, cond, eqb, ltb, eqb-true, eq-eqb, Some, None, List, [], ◌∷◌, refl, sym, ap, ◌∙◌, subst, arith, inl, inr}
+use Rattle.std.proofs.Common.{◌≡◌, ℕ, ◌+◌, Bool, true, false, cond, eqb, ltb, eqb-true, Some, [], ◌∷◌, refl, sym, ap, ◌∙◌, inl, inr}
 use Rattle.std.proofs.lemmas.Bool.{cases_Bool}
 use Rattle.block_store.specs.declared.Config.{Config}
 use Rattle.block_store.specs.declared.PhaseWord.{PhaseWord}
-use Rattle.block_store.specs.Colours.{black_word}
-use Rattle.block_store.specs.Counts.{changed}
-use Rattle.block_store.specs.Heaps.{Heap, put_at}
+use Rattle.block_store.specs.Heaps.{put_at}
 use Rattle.block_store.specs.Phases.{phase_of, is_closed, is_sweep, cycle_of}
 use Rattle.block_store.specs.Places.{Phase, extent}
 use Rattle.block_store.proofs.Functions.{changed_else}
@@ -13,7 +11,6 @@ use Rattle.block_store.proofs.PhaseWords.{phase-more}
 use Rattle.never_heap.specs.declared.Command.{Command}
 use Rattle.never_heap.specs.declared.Command.TheVariants as commands
 use Rattle.never_heap.specs.Steps.{blocks_of, makes_object}
-use Rattle.heap_machine.specs.Gating.{is_inside}
 use Rattle.heap_machine.specs.Operations.{heap_after}
 use Rattle.heap_machine.specs.declared.Step.TheVariants as steps
 use Rattle.heap_machine.specs.declared.gate.GateRow.{GateRow}
@@ -24,22 +21,18 @@ use Rattle.barrier_steps.specs.Rows.{at_first_row, field_holding}
 use Rattle.grey_steps.specs.Rows.{scanning}
 use Rattle.sweep_steps.specs.Rows.{sweeping}
 use Rattle.build_steps.specs.Rows.{building}
-use Rattle.work_account.specs.Accounts.{Balance, entered}
-use Rattle.cycle_tally.specs.Events.{Event}
+use Rattle.work_account.specs.Accounts.{entered}
 use Rattle.cycle_tally.specs.Events as events
 use Rattle.cycle_tally.specs.Tallies.{Spending, Tally}
+use Rattle.cycle_tally.proofs.Sums.{paid_entered}
 use Rattle.heap_system.specs.declared.local.Part.{Part}
 use Rattle.heap_system.specs.declared.local.Part.TheVariants.{Rest, Enter, Serve, Mark, Sweep, Build}
 use Rattle.heap_system.specs.Locals.{Errand, plain, first_part, pass_by, effect, part_want, part_got}
 use Rattle.heap_system.proofs.Passing.{phase_is}
-use Rattle.heap_system.proofs.PartLaws.{AtPart, word_at}
+use Rattle.heap_system.proofs.PartLaws.{word_at}
 use Rattle.heap_system.proofs.Seeing.{Seen, IsEntering, errand}
-use Rattle.heap_system.proofs.Tallying.{IsSpending, IsTallyOf, Counted, TallyEvent, TallyLaw}
-use Rattle.heap_system.proofs.tallies.Moves.{spends_on, same_words, phase_words, spends_here, told_none, stays, moves}
-
--- an account that enters a cycle has what was paid
-entered_paid : (z : ℕ) (a : Balance) → (entered z a).paid ≡ a.paid
-entered_paid z a = elim (cases_Bool (ltb a.cycle z)) [ inl e ↦ rw e refl | inr e ↦ rw e refl ]
+use Rattle.heap_system.proofs.Tallying.{IsSpending, Counted, TallyEvent, TallyLaw}
+use Rattle.heap_system.proofs.tallies.Moves.{spends_on, same_words, spends_here, told_none, stays, moves}
 
 -- a command begins with nothing claimed
 first_claims : (c : Config) (q : Pass) (k : Command) → ((field_holding (extent c) (at_first_row q k)).low ≡ 0) × ((field_holding (extent c) (at_first_row q k)).high ≡ 0)
@@ -90,10 +83,10 @@ module _ (c : Config) (rate : ℕ) (s : Seen c) (p : Part) (before : Tally) (k :
       let sweep : is_sweep (seen + 1) ≡ is_sweep (s.heap Phase) = ap (λ w. is_sweep (w + 1)) (sym same) ∙ ap (λ (w : PhaseWord). w.sweep) more in
       let w : Spending = before.threads s.thread in
       moves c rate s p before k (events.Enter s.thread ∷ []) (s.low, tt) (put_at s.heap Phase (seen + 1)) (record (plain steps.Over) { entered = Some (phase_of seen) }) (first_part c (pass_by s.thread c.threads (phase_of seen)) (errand c s)) next
-          (record { cycle = k.of.cycle ∙ sym cycle; sweep = k.of.sweep ∙ sym sweep; cursor = k.of.cursor; free = k.of.free; colour = k.of.colour; order = told_none c rate s p before k (record (plain steps.Over) { entered = Some (phase_of seen) }) refl refl })
-          (spends_here (IsSpending c (first_part c (pass_by s.thread c.threads (phase_of seen)) (errand c s)) s.paid (blocks_of c.width s.command)) before.threads s.thread (record w { inside = true; balance = entered before.cycle w.balance })
-          (begins c (pass_by s.thread c.threads (phase_of seen)) (errand c s) s.paid (blocks_of c.width s.command) (record w { inside = true; balance = entered before.cycle w.balance }) refl (entered_paid before.cycle w.balance ∙ own.paid) own.asked own.low own.high own.reserved))
-          (λ u other. changed_else before.threads s.thread u _ other)
+      (record { cycle = k.of.cycle ∙ sym cycle; sweep = k.of.sweep ∙ sym sweep; cursor = k.of.cursor; free = k.of.free; colour = k.of.colour; order = told_none c rate s p before k (record (plain steps.Over) { entered = Some (phase_of seen) }) refl refl })
+      (spends_here (IsSpending c (first_part c (pass_by s.thread c.threads (phase_of seen)) (errand c s)) s.paid (blocks_of c.width s.command)) before.threads s.thread (record w { inside = true; balance = entered before.cycle w.balance })
+      (begins c (pass_by s.thread c.threads (phase_of seen)) (errand c s) s.paid (blocks_of c.width s.command) (record w { inside = true; balance = entered before.cycle w.balance }) refl (paid_entered before.cycle w.balance ∙ own.paid) own.asked own.low own.high own.reserved))
+      (λ u other. changed_else before.threads s.thread u _ other)
 
   enters : (seen : ℕ) → TallyEvent c rate s (cond (eqb (s.heap Phase) seen) (put_at s.heap Phase (seen + 1)) s.heap) (effect c (Enter (gates.Enter seen)) (s.heap Phase)) (part_got c s.thread (errand c s) s.pass (Enter (gates.Enter seen)) (s.heap Phase)) next before
   enters seen = elim (cases_Bool (eqb (s.heap Phase) seen)) [
@@ -102,7 +95,7 @@ module _ (c : Config) (rate : ℕ) (s : Seen c) (p : Part) (before : Tally) (k :
   ]
 
 pub rest_tallied : (c : Config) → TallyLaw c Rest
-rest_tallied c rate s at event next few before k = looks c rate s Rest before k next k.own
+rest_tallied c rate s at next few before k = looks c rate s Rest before k next k.own
 
 entering : (c : Config) (rate : ℕ) (s : Seen c) (next : ℕ) (before : Tally) (g : GateRow) → IsEntering g → Counted c rate s (Enter g) before → IsSpending c Rest s.paid (blocks_of c.width s.command) (before.threads s.thread)
     → TallyEvent c rate s (heap_after s.heap (part_want c (Enter g))) (effect c (Enter g) (word_at c s (Enter g))) (part_got c s.thread (errand c s) s.pass (Enter g) (word_at c s (Enter g))) next before
@@ -111,4 +104,4 @@ entering c rate s next before (gates.Enter seen) kept k own = enters c rate s (E
 entering c rate s next before _ kept k own = absurd kept
 
 pub enter_tallied : (c : Config) (g : GateRow) → TallyLaw c (Enter g)
-enter_tallied c g rate s at event next few before k = entering c rate s next before g at.part k (spends_on c (Enter g) Rest s.paid (blocks_of c.width s.command) (before.threads s.thread) refl refl refl refl k.own)
+enter_tallied c g rate s at next few before k = entering c rate s next before g at.part k (spends_on c (Enter g) Rest s.paid (blocks_of c.width s.command) (before.threads s.thread) refl refl refl refl k.own)

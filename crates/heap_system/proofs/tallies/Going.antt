@@ -1,5 +1,5 @@
 -- A thread on its way out: the tally has it leave.
-use Rattle.std.proofs.Common.{◌≡◌, ℕ, ◌-◌, ◌≤◌, true, false, List, [], ◌∷◌, refl, sym, ap, ◌∙◌, subst, arith}
+use Rattle.std.proofs.Common.{◌≡◌, ℕ, ◌-◌, ◌≤◌, false, [], ◌∷◌, refl, sym, ap, ◌∙◌, arith}
 use Rattle.block_store.specs.declared.Config.{Config}
 use Rattle.block_store.specs.declared.PhaseWord.{PhaseWord}
 use Rattle.block_store.specs.Heaps.{put_at}
@@ -8,7 +8,7 @@ use Rattle.block_store.specs.Places.{Phase}
 use Rattle.block_store.proofs.Functions.{changed_else}
 use Rattle.block_store.proofs.PhaseWords.{phase-less}
 use Rattle.never_heap.specs.Steps.{blocks_of}
-use Rattle.heap_machine.specs.Gating.{Gating, Inside, is_inside}
+use Rattle.heap_machine.specs.Gating.{Gating, Inside}
 use Rattle.heap_machine.specs.declared.Step.TheVariants as steps
 use Rattle.heap_machine.specs.declared.gate.GateRow.TheVariants as gates
 use Rattle.heap_machine.proofs.Gatings.{inside_some}
@@ -17,8 +17,6 @@ use Rattle.cycle_tally.specs.Tallies.{Spending, Tally}
 use Rattle.heap_system.specs.declared.local.Part.{Part}
 use Rattle.heap_system.specs.declared.local.Part.TheVariants.{Rest, Enter, Again, Idle, TurnOver, Leave}
 use Rattle.heap_system.specs.Locals.{plain}
-use Rattle.heap_system.specs.Pictures.{stand_of, holding}
-use Rattle.heap_system.proofs.PartLaws.{AtPart}
 use Rattle.heap_system.proofs.Seeing.{Seen}
 use Rattle.heap_system.proofs.Tallying.{IsSpending, Counted, TallyEvent, TallyLaw}
 use Rattle.heap_system.proofs.tallies.Moves.{spends_on, spends_here, told_none, moves}
@@ -33,18 +31,18 @@ goes_out c rate s before p k stands own q next as_rest =
     let sweep : is_sweep (s.heap Phase - 1) ≡ is_sweep (s.heap Phase) = ap (λ (w : PhaseWord). w.sweep) less in
     let w : Spending = before.threads s.thread in
     moves c rate s p before k (events.Leave s.thread ∷ []) ((s.low, omega (arith, own.low, own.high), own.reserved), tt) (put_at s.heap Phase (s.heap Phase - 1)) (plain steps.Over) q next
-        (record { cycle = k.of.cycle ∙ sym cycle; sweep = k.of.sweep ∙ sym sweep; cursor = k.of.cursor; free = k.of.free; colour = k.of.colour; order = told_none c rate s p before k (plain steps.Over) refl refl })
-        (spends_here (IsSpending c q s.paid (blocks_of c.width s.command)) before.threads s.thread (record w { inside = false })
-        (as_rest (record w { inside = false }) (record { inside = refl; paid = own.paid; asked = own.asked; low = own.low; high = own.high; reserved = own.reserved })))
-        (λ u other. changed_else before.threads s.thread u _ other)
+    (record { cycle = k.of.cycle ∙ sym cycle; sweep = k.of.sweep ∙ sym sweep; cursor = k.of.cursor; free = k.of.free; colour = k.of.colour; order = told_none c rate s p before k (plain steps.Over) refl refl })
+    (spends_here (IsSpending c q s.paid (blocks_of c.width s.command)) before.threads s.thread (record w { inside = false })
+    (as_rest (record w { inside = false }) (record { inside = refl; paid = own.paid; asked = own.asked; low = own.low; high = own.high; reserved = own.reserved })))
+    (λ u other. changed_else before.threads s.thread u _ other)
 
 pub again_tallied : (c : Config) → TallyLaw c Again
-again_tallied c rate s at event next few before k = goes_out c rate s before Again k (ap (λ (x : Gating). x.stand) at.gating) (spends_on c Again Leave s.paid (blocks_of c.width s.command) (before.threads s.thread) refl refl refl refl k.own) (Enter gates.Look) next
+again_tallied c rate s at next few before k = goes_out c rate s before Again k (ap (λ (x : Gating). x.stand) at.gating) (spends_on c Again Leave s.paid (blocks_of c.width s.command) (before.threads s.thread) refl refl refl refl k.own) (Enter gates.Look) next
     (λ w own. spends_on c Rest (Enter gates.Look) s.paid (blocks_of c.width s.command) w refl refl refl refl own)
 
 pub idle_tallied : (c : Config) → TallyLaw c Idle
-idle_tallied c rate s at event next few before k = goes_out c rate s before Idle k (ap (λ (x : Gating). x.stand) at.gating) (spends_on c Idle Leave s.paid (blocks_of c.width s.command) (before.threads s.thread) refl refl refl refl k.own) (TurnOver (gates.CloseLook s.pass)) next
+idle_tallied c rate s at next few before k = goes_out c rate s before Idle k (ap (λ (x : Gating). x.stand) at.gating) (spends_on c Idle Leave s.paid (blocks_of c.width s.command) (before.threads s.thread) refl refl refl refl k.own) (TurnOver (gates.CloseLook s.pass)) next
     (λ w own. spends_on c Rest (TurnOver (gates.CloseLook s.pass)) s.paid (blocks_of c.width s.command) w refl refl refl refl own)
 
 pub leave_tallied : (c : Config) → TallyLaw c Leave
-leave_tallied c rate s at event next few before k = goes_out c rate s before Leave k (ap (λ (x : Gating). x.stand) at.gating) k.own Rest next (λ w own. own)
+leave_tallied c rate s at next few before k = goes_out c rate s before Leave k (ap (λ (x : Gating). x.stand) at.gating) k.own Rest next (λ w own. own)

@@ -1,26 +1,24 @@
 -- A thread in a Mark pass: the tally has the scan at the event that makes the block under scan black,
 -- and each block that is shaded in its new colour.
-use Rattle.std.proofs.Common.{◌≡◌, ℕ, ◌+◌, ◌*◌, ◌<◌, ◌≤◌, Bool, true, false, not, cond, eqb, eqb-true, None, Some, List, [], ◌∷◌, refl, sym, ap, ◌∙◌, subst, arith, inl, inr}
+use Rattle.std.proofs.Common.{◌≡◌, ℕ, ◌+◌, ◌*◌, ◌<◌, ◌≤◌, Bool, true, false, not, cond, eqb, eqb-true, Some, [], ◌∷◌, refl, sym, ap, ◌∙◌, arith, inl, inr}
 use Rattle.std.proofs.lemmas.Bool.{cases_Bool}
 use Rattle.block_store.specs.declared.Config.{Config}
 use Rattle.block_store.specs.Colours.{is_grey, grey_word, black_word, white_word}
-use Rattle.block_store.specs.Counts.{changed}
 use Rattle.block_store.specs.Heaps.{Heap, put_at}
-use Rattle.block_store.specs.Phases.{bit, is_sweep, cycle_of}
+use Rattle.block_store.specs.Phases.{bit, cycle_of}
 use Rattle.block_store.specs.Places.{Phase, ColourOf, extent}
 use Rattle.block_store.specs.Widths.{payloads}
 use Rattle.block_store.proofs.ColourWords.{black-white, not_grey_black}
 use Rattle.block_store.proofs.Functions.{changed_else}
 use Rattle.never_heap.specs.Steps.{blocks_of}
-use Rattle.heap_machine.specs.Gating.{is_inside}
-use Rattle.heap_machine.specs.Holdings.{Holding, grey_held}
+use Rattle.heap_machine.specs.Holdings.{grey_held}
 use Rattle.heap_machine.specs.Operations.{CompareExchange, place_of, heap_after}
 use Rattle.heap_machine.specs.declared.Step.{Step}
 use Rattle.heap_machine.specs.declared.pass.Pass.{Pass}
 use Rattle.grey_steps.specs.declared.rows.GreyRow.{GreyRow}
 use Rattle.grey_steps.specs.declared.rows.GreyRow.TheVariants as marks
 use Rattle.grey_steps.specs.Ends.{is_blackening, is_shading}
-use Rattle.grey_steps.specs.Fits.{GreyFits, RowFits}
+use Rattle.grey_steps.specs.Fits.{RowFits}
 use Rattle.grey_steps.specs.Rows.{GreyState, row_want, grey_unit, grey_want, grey_got, grey_over, grey_step, grey_nothing, grey_holding, holding_at}
 use Rattle.grey_steps.proofs.Ends.{unit_grey}
 use Rattle.work_account.specs.Accounts.{with_unit}
@@ -28,13 +26,13 @@ use Rattle.cycle_tally.specs.Events as events
 use Rattle.cycle_tally.specs.Tallies.{Spending, Tally}
 use Rattle.heap_system.specs.declared.local.Part.{Part}
 use Rattle.heap_system.specs.declared.local.Part.TheVariants.{Mark, Again, Idle}
-use Rattle.heap_system.specs.Locals.{Effect, Open, plain, paid_got}
+use Rattle.heap_system.specs.Locals.{Effect, Open, paid_got}
 use Rattle.heap_system.specs.Machines.{starts_by}
 use Rattle.heap_system.proofs.PartLaws.{AtPart}
 use Rattle.heap_system.proofs.Seeing.{Seen}
 use Rattle.heap_system.proofs.Tallying.{asked_got, IsSpending, Counted, TallyEvent, TallyLaw}
 use Rattle.heap_system.proofs.parts.InPass.{of_pass, pass_is}
-use Rattle.heap_system.proofs.tallies.Moves.{SameWords, same_words, spends_on, spends_here, told_none, stays, moves}
+use Rattle.heap_system.proofs.tallies.Moves.{SameWords, same_words, spends_here, told_none, stays, moves}
 
 -- marking claims nothing
 pub no_claim : (m : ℕ) (r : GreyRow) → ((grey_holding m r).low ≡ 0) × ((grey_holding m r).high ≡ 0)
@@ -109,11 +107,11 @@ module _ (c : Config) (rate : ℕ) (s : Seen c) (m : GreyState) (at : AtPart c s
         let less : w.balance.paid < rate * w.asked = (let e : rate * w.asked ≡ rate * blocks_of c.width s.command = ap (λ n. rate * n) k.own.asked in omega (arith, e, k.due, pays, k.own.paid)) in
         let not_black : before.colour x ≡ black_word before.cycle → ⊥ = (λ e. let z : true ≡ false = sym grey ∙ ap is_grey (sym (k.of.colour x) ∙ e) ∙ not_grey_black before.cycle in cc) in
         moves c rate s (Mark m) before k (events.Scan s.thread x ∷ []) ((s.low, k.own.inside, mark, inside.0, inside.1, not_black, less, omega (arith, low, high)), tt)
-            (put_at s.heap (ColourOf x) (black_word m.pass.cycle)) (of_pass step true) q next
-            (record { cycle = k.of.cycle; sweep = k.of.sweep; cursor = k.of.cursor; free = k.of.free; colour = λ y. (λ i. cond (eqb x y) (black_word (black i)) (k.of.colour y i)); order = told_none c rate s (Mark m) before k (of_pass step true) refl refl })
-            (spends_here (IsSpending c q (s.paid + 1) (blocks_of c.width s.command)) before.threads s.thread new
-            (spends (s.paid + 1) new k.own.inside (omega (arith, k.own.paid)) k.own.asked low high k.own.reserved))
-            (λ u other. changed_else before.threads s.thread u new other)
+        (put_at s.heap (ColourOf x) (black_word m.pass.cycle)) (of_pass step true) q next
+        (record { cycle = k.of.cycle; sweep = k.of.sweep; cursor = k.of.cursor; free = k.of.free; colour = λ y. (λ i. cond (eqb x y) (black_word (black i)) (k.of.colour y i)); order = told_none c rate s (Mark m) before k (of_pass step true) refl refl })
+        (spends_here (IsSpending c q (s.paid + 1) (blocks_of c.width s.command)) before.threads s.thread new
+        (spends (s.paid + 1) new k.own.inside (omega (arith, k.own.paid)) k.own.asked low high k.own.reserved))
+        (λ u other. changed_else before.threads s.thread u new other)
 
     quiet : (new : Heap) → SameWords s.heap new → TallyEvent c rate s new (of_pass step false) q next before
     quiet new same = stays c rate s (Mark m) before k new (of_pass step false) q next same refl refl here
@@ -134,7 +132,7 @@ module _ (c : Config) (rate : ℕ) (s : Seen c) (m : GreyState) (at : AtPart c s
     by (marks.Shaded y) fits scan going pays grey = absurd cc
 
 pub mark_tallied : (c : Config) (m : GreyState) → TallyLaw c (Mark m)
-mark_tallied c m rate s at event next few before k =
+mark_tallied c m rate s at next few before k =
     let n : GreyState = grey_got (extent c) m (s.heap (place_of (grey_want m))) in
     by c rate s m at before k next (grey_step (extent c) m (s.heap (place_of (grey_want m)))) (cond (grey_over n.row) (cond (grey_nothing n.row) Idle Again) (Mark n))
     (comes c rate s m at before k next n (grey_over n.row) (grey_nothing n.row)) m.row at.fits.0.row at.part.scans at.part.going at.pays (grey c rate s m at before k next)

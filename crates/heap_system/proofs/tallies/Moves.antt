@@ -1,5 +1,5 @@
 -- How the event of a part moves a tally: not at all, or by one event of the tally or a few.
-use Rattle.std.proofs.Common.{◌≡◌, ℕ, ◌+◌, ◌-◌, ◌*◌, ◌<◌, ◌≤◌, Bool, true, false, cond, eqb, Option, Some, None, List, [], ◌∷◌, ◌++◌, append-nil, refl, sym, ap, ◌∙◌, subst, arith}
+use Rattle.std.proofs.Common.{◌≡◌, ℕ, List, [], ◌++◌, append-nil, refl, sym, ap, ◌∙◌, subst}
 use Rattle.block_store.specs.declared.Config.{Config}
 use Rattle.block_store.specs.Colours.{black_word}
 use Rattle.block_store.specs.Counts.{changed}
@@ -9,13 +9,12 @@ use Rattle.block_store.specs.Places.{Phase, Cursor, FreeCount, ColourOf}
 use Rattle.block_store.proofs.Functions.{changed_here, changed_else}
 use Rattle.never_heap.specs.Histories.{HistoryItem}
 use Rattle.never_heap.specs.Steps.{blocks_of}
-use Rattle.heap_machine.specs.Gating.{Gating, Stand, Inside, Outside, is_inside}
-use Rattle.cycle_tally.specs.Events.{Event, apply, run, Guard, Guarded}
-use Rattle.cycle_tally.specs.Kept.{TallyKept}
+use Rattle.heap_machine.specs.Gating.{is_inside}
+use Rattle.cycle_tally.specs.Events.{Event, run, Guarded}
 use Rattle.cycle_tally.specs.Tallies.{Spending, Tally}
 use Rattle.cycle_tally.proofs.Laws.{run_kept}
 use Rattle.heap_system.specs.declared.local.Part.{Part}
-use Rattle.heap_system.specs.Locals.{Effect, Verdict, Open, view, paid_got}
+use Rattle.heap_system.specs.Locals.{Effect, Open, view, paid_got}
 use Rattle.heap_system.specs.Machines.{starts_by}
 use Rattle.heap_system.specs.Pictures.{stand_of, holding}
 use Rattle.heap_system.proofs.Seeing.{Seen, items_told}

@@ -1,6 +1,6 @@
 -- A thread in a command that allocates nothing: the tally has the blocks that its barrier shades, the
 -- answer and the next command.
-use Rattle.std.proofs.Common.{◌≡◌, ℕ, ◌+◌, ◌*◌, ◌<◌, ◌≤◌, Bool, true, false, cond, eqb, Option, None, Some, List, [], ◌∷◌, ◌++◌, refl, sym, ap, ◌∙◌, subst, arith, inl, inr}
+use Rattle.std.proofs.Common.{◌≡◌, ℕ, ◌≤◌, Bool, true, false, Option, None, Some, [], ◌∷◌, ◌++◌, refl, sym, ap, ◌∙◌, subst, arith, inl, inr}
 use Rattle.std.proofs.lemmas.Bool.{cases_Bool}
 use Rattle.block_store.specs.declared.Config.{Config}
 use Rattle.block_store.specs.Colours.{black_word}
@@ -10,7 +10,6 @@ use Rattle.block_store.specs.Phases.{cycle_of}
 use Rattle.block_store.specs.Places.{Phase, extent}
 use Rattle.block_store.specs.Widths.{payloads}
 use Rattle.block_store.proofs.Functions.{changed_else}
-use Rattle.never_heap.specs.declared.Command.{Command}
 use Rattle.never_heap.specs.declared.Entry.{Entry}
 use Rattle.never_heap.specs.declared.Reply.{Reply}
 use Rattle.never_heap.specs.Histories.{Did}
@@ -33,14 +32,13 @@ use Rattle.barrier_steps.specs.Deciding.{is_deciding}
 use Rattle.barrier_steps.specs.Fits.{RowFits}
 use Rattle.barrier_steps.specs.Rows.{FieldState, field_reply, field_got, field_step, row_want, row_got, row_holding, in_barrier, store_row}
 use Rattle.cycle_tally.specs.Events as events
-use Rattle.cycle_tally.specs.Tallies.{Spending, Tally}
-use Rattle.heap_system.specs.declared.local.Part.{Part}
+use Rattle.cycle_tally.specs.Tallies.{Tally}
 use Rattle.heap_system.specs.declared.local.Part.TheVariants.{Serve, Leave}
-use Rattle.heap_system.specs.Locals.{Effect, Open, AsStep, plain, if_decides, if_replied, entry_of, paid_got}
+use Rattle.heap_system.specs.Locals.{Open, AsStep, plain, if_decides, if_replied, entry_of}
 use Rattle.heap_system.proofs.PartLaws.{AtPart}
 use Rattle.heap_system.proofs.Seeing.{Seen}
 use Rattle.heap_system.proofs.Steady.{never_full}
-use Rattle.heap_system.proofs.Tallying.{IsSpending, Counted, TallyEvent, TallyLaw, asked_got}
+use Rattle.heap_system.proofs.Tallying.{IsSpending, Counted, TallyEvent, TallyLaw}
 use Rattle.heap_system.proofs.tallies.Mark as mark
 use Rattle.heap_system.proofs.tallies.Mark.{shades}
 use Rattle.heap_system.proofs.tallies.Moves.{SameWords, same_words, spends_here, told_none, stays, moves}
@@ -154,6 +152,6 @@ module _ (c : Config) (rate : ℕ) (s : Seen c) (f : FieldState) (at : AtPart c 
     by (rows.Answered reply) fits = same (rows.Answered reply) (same_words s.heap)
 
 pub serve_tallied : (c : Config) (f : FieldState) → TallyLaw c (Serve f)
-serve_tallied c f rate s at event next few before k =
+serve_tallied c f rate s at next few before k =
     let w : ℕ = s.heap (place_of (row_want (extent c) f.pass f.command f.row)) in
     by c rate s f at before k next few (field_step (extent c) f w) (field_got (extent c) f w) f.row at.fits.0.row

@@ -1,26 +1,24 @@
 -- A thread in a Sweep pass: the tally has its claim, each block that it passes, and what it frees
 -- and credits.
-use Rattle.std.proofs.Common.{◌≡◌, ℕ, ◌+◌, ◌-◌, ◌*◌, ◌<◌, ◌≤◌, Bool, true, false, cond, eqb, ltb, is_some, eqb-true, ltb-true, None, Some, List, [], ◌∷◌, ◌++◌, refl, sym, ap, ◌∙◌, subst, arith, inl, inr}
-use Rattle.std.proofs.lemmas.Bool.{cases_Bool, cases_lt, lt-ltb}
+use Rattle.std.proofs.Common.{◌≡◌, ℕ, ◌+◌, ◌-◌, ◌*◌, ◌<◌, ◌≤◌, Bool, true, false, cond, eqb, ltb, is_some, eqb-true, ltb-false, None, Some, [], ◌∷◌, ◌++◌, refl, sym, ap, ◌∙◌, arith, inl, inr}
+use Rattle.std.proofs.lemmas.Bool.{cases_Bool}
 use Rattle.block_store.specs.declared.Config.{Config}
 use Rattle.block_store.specs.Colours.{free_word, black_word, white_word}
 use Rattle.block_store.specs.Counts.{changed}
 use Rattle.block_store.specs.Heaps.{Heap, put_at}
-use Rattle.block_store.specs.Phases.{is_sweep, cycle_of}
-use Rattle.block_store.specs.Places.{Phase, Cursor, FreeCount, ColourOf, extent}
+use Rattle.block_store.specs.Places.{Cursor, FreeCount, ColourOf}
 use Rattle.block_store.proofs.Functions.{changed_else}
 use Rattle.never_heap.specs.Steps.{blocks_of}
-use Rattle.heap_machine.specs.Gating.{is_inside}
 use Rattle.heap_machine.specs.Operations.{place_of, heap_after}
 use Rattle.heap_machine.specs.declared.Step.{Step}
 use Rattle.sweep_steps.specs.declared.rows.SweepRow.{SweepRow}
 use Rattle.sweep_steps.specs.declared.rows.SweepRow.TheVariants as sweeps
 use Rattle.sweep_steps.specs.Ends.{row_passes}
 use Rattle.sweep_steps.specs.Fits.{RowFits, IsLeft}
-use Rattle.sweep_steps.specs.Rows.{SweepState, row_want, row_got, after_read, after_claim, after_range, next_block, before_free, sweep_want, sweep_got, sweep_over, sweep_step, sweep_passed, sweep_nothing, sweep_holding}
+use Rattle.sweep_steps.specs.Rows.{SweepState, row_want, row_got, after_read, after_range, next_block, before_free, sweep_want, sweep_got, sweep_over, sweep_step, sweep_passed, sweep_nothing, sweep_holding}
 use Rattle.sweep_steps.proofs.Keeping.{over_holds_none}
 use Rattle.work_account.specs.Accounts.{with_unit}
-use Rattle.cycle_tally.specs.Events.{Event, apply, run, Guarded}
+use Rattle.cycle_tally.specs.Events.{apply}
 use Rattle.cycle_tally.specs.Events as events
 use Rattle.cycle_tally.specs.Kept.{TallyKept}
 use Rattle.cycle_tally.proofs.Laws.{run_kept}
@@ -28,7 +26,6 @@ use Rattle.cycle_tally.proofs.Steps.{step_kept}
 use Rattle.cycle_tally.specs.Tallies.{Spending, Tally}
 use Rattle.heap_system.specs.declared.local.Part.{Part}
 use Rattle.heap_system.specs.declared.local.Part.TheVariants.{Sweep, Again, Idle}
-use Rattle.heap_system.specs.Locals.{Effect, plain, paid_got}
 use Rattle.heap_system.proofs.PartLaws.{AtPart}
 use Rattle.heap_system.proofs.Seeing.{Seen}
 use Rattle.heap_system.proofs.Tallying.{IsSpending, IsTallyOf, Counted, TallyEvent, TallyLaw}
@@ -50,12 +47,6 @@ next_more x high y a f e = rw e (refl, refl)
 
 next_last : (x high y a f : ℕ) → ltb (x + 1) high ≡ false → ((sweep_holding (next_block x high y a f)).low ≡ 0) × ((sweep_holding (next_block x high y a f)).high ≡ 0)
 next_last x high y a f e = rw e (range_claims (y + 1) a f)
-
-not_less : (m n : ℕ) → ltb m n ≡ false → n ≤ m
-not_less m n e = elim (cases_lt m n) [
-  | inl low ↦ absurd (let z : true ≡ false = sym (lt-ltb m n low) ∙ e in cc)
-  | inr high ↦ omega arith
-]
 
 module _ (c : Config) (rate : ℕ) (s : Seen c) (p : SweepState) (at : AtPart c s (Sweep p)) (before : Tally) (k : Counted c rate s (Sweep p) before) (next : ℕ) where
   -- a thread inside in a command of so many units paid, that claims this
@@ -94,11 +85,11 @@ module _ (c : Config) (rate : ℕ) (s : Seen c) (p : SweepState) (at : AtPart c 
         let cost : rate * w.asked ≡ rate * blocks_of c.width s.command = ap (λ n. rate * n) k.own.asked in
         let ends : before.cursor + (high - x) ≡ high = omega (arith, k.of.cursor, is, some) in
         moves c rate s (Sweep p) before k (events.Claim s.thread (high - x) ∷ []) ((s.low, k.own.inside, sweep, omega (arith, ends, last), omega (arith, cost, k.due, k.own.paid, due, some), omega (arith, low, none)), tt)
-            (put_at s.heap Cursor high) (of_pass step false) q next
-            (record { cycle = k.of.cycle; sweep = k.of.sweep; cursor = ends; free = k.of.free; colour = k.of.colour; order = told_none c rate s (Sweep p) before k (of_pass step false) refl refl })
-            (spends_here (IsSpending c q s.paid (blocks_of c.width s.command)) before.threads s.thread new
-            (spends new (record { inside = k.own.inside; paid_is = k.own.paid; asked = k.own.asked; low = k.of.cursor ∙ is; high = ends; reserved = k.own.reserved })))
-            (λ u other. changed_else before.threads s.thread u new other)
+        (put_at s.heap Cursor high) (of_pass step false) q next
+        (record { cycle = k.of.cycle; sweep = k.of.sweep; cursor = ends; free = k.of.free; colour = k.of.colour; order = told_none c rate s (Sweep p) before k (of_pass step false) refl refl })
+        (spends_here (IsSpending c q s.paid (blocks_of c.width s.command)) before.threads s.thread new
+        (spends new (record { inside = k.own.inside; paid_is = k.own.paid; asked = k.own.asked; low = k.of.cursor ∙ is; high = ends; reserved = k.own.reserved })))
+        (λ u other. changed_else before.threads s.thread u new other)
 
     -- a block is passed, and its colour written or not
     module _ (x high y a f : ℕ) (low : (before.threads s.thread).low ≡ x) (until : (before.threads s.thread).high ≡ high) (some : x < high) (spends : (w : Spending) → AtRow (s.paid + 1) (next_block x high y a f) w → IsSpending c q (s.paid + 1) (blocks_of c.width s.command) w)
@@ -112,22 +103,22 @@ module _ (c : Config) (rate : ℕ) (s : Seen c) (p : SweepState) (at : AtPart c 
       passes : TallyEvent c rate s new (of_pass step true) q next before
       passes = elim (cases_Bool (ltb (x + 1) high)) [
         | inl more ↦ record {
-            tally = passed;
-            kept = run_kept c rate black_word k.some k.plan (events.Pass s.thread ∷ []) (record before { colour = painted }) kept ((s.low, omega (arith, low, until, some)), tt);
-            of = record { cycle = of.cycle; sweep = of.sweep; cursor = of.cursor; free = of.free; colour = of.colour; order = of.order };
-            own = spends_here (IsSpending c q (s.paid + 1) (blocks_of c.width s.command)) before.threads s.thread one
-                (spends one (record { inside = k.own.inside; paid_is = omega (arith, k.own.paid); asked = k.own.asked; low = omega (arith, low, (next_more x high y a f more).0); high = until ∙ sym (next_more x high y a f more).1; reserved = k.own.reserved }));
-            others = λ u other. changed_else before.threads s.thread u one other;
-          }
+          tally = passed;
+          kept = run_kept c rate black_word k.some k.plan (events.Pass s.thread ∷ []) (record before { colour = painted }) kept ((s.low, omega (arith, low, until, some)), tt);
+          of = record { cycle = of.cycle; sweep = of.sweep; cursor = of.cursor; free = of.free; colour = of.colour; order = of.order };
+          own = spends_here (IsSpending c q (s.paid + 1) (blocks_of c.width s.command)) before.threads s.thread one
+              (spends one (record { inside = k.own.inside; paid_is = omega (arith, k.own.paid); asked = k.own.asked; low = omega (arith, low, (next_more x high y a f more).0); high = until ∙ sym (next_more x high y a f more).1; reserved = k.own.reserved }));
+          others = λ u other. changed_else before.threads s.thread u one other;
+        }
         | inr last ↦ record {
-            tally = apply c rate black_word passed (events.Clear s.thread);
-            kept = run_kept c rate black_word k.some k.plan (events.Pass s.thread ∷ events.Clear s.thread ∷ []) (record before { colour = painted }) kept
-                ((s.low, omega (arith, low, until, some)), ((s.low, spends_here (λ w. w.high ≤ w.low) before.threads s.thread one (omega (arith, low, until, not_less (x + 1) high last))), tt));
-            of = record { cycle = of.cycle; sweep = of.sweep; cursor = of.cursor; free = of.free; colour = of.colour; order = of.order };
-            own = spends_twice (IsSpending c q (s.paid + 1) (blocks_of c.width s.command)) before.threads s.thread one (λ w. record w { low = 0; high = 0 })
-                (spends (record one { low = 0; high = 0 }) (record { inside = k.own.inside; paid_is = omega (arith, k.own.paid); asked = k.own.asked; low = sym (next_last x high y a f last).0; high = sym (next_last x high y a f last).1; reserved = k.own.reserved }));
-            others = λ u other. others_twice before.threads s.thread one _ u other;
-          }
+          tally = apply c rate black_word passed (events.Clear s.thread);
+          kept = run_kept c rate black_word k.some k.plan (events.Pass s.thread ∷ events.Clear s.thread ∷ []) (record before { colour = painted }) kept
+              ((s.low, omega (arith, low, until, some)), ((s.low, spends_here (λ w. w.high ≤ w.low) before.threads s.thread one (omega (arith, low, until, ltb-false (x + 1) high last))), tt));
+          of = record { cycle = of.cycle; sweep = of.sweep; cursor = of.cursor; free = of.free; colour = of.colour; order = of.order };
+          own = spends_twice (IsSpending c q (s.paid + 1) (blocks_of c.width s.command)) before.threads s.thread one (λ w. record w { low = 0; high = 0 })
+              (spends (record one { low = 0; high = 0 }) (record { inside = k.own.inside; paid_is = omega (arith, k.own.paid); asked = k.own.asked; low = sym (next_last x high y a f last).0; high = sym (next_last x high y a f last).1; reserved = k.own.reserved }));
+          others = λ u other. others_twice before.threads s.thread one _ u other;
+        }
       ]
 
     -- what comes after a claim, won or lost
@@ -142,7 +133,13 @@ module _ (c : Config) (rate : ℕ) (s : Seen c) (p : SweepState) (at : AtPart c 
         → ((paid : ℕ) (w : Spending) → AtRow paid (cond b (before_free x high y a f) (next_block x high y a f)) w → IsSpending c q paid (blocks_of c.width s.command) w)
         → TallyEvent c rate s s.heap (of_pass step (is_some (cond b None (Some x)))) q next before
     reading x high y a f true some own spends = quiet s.heap (same_words s.heap) (spends s.paid (before.threads s.thread) (record {
-      inside = own.inside; paid_is = own.paid_is; asked = own.asked; low = own.low ∙ sym (free_claims x high y a f).0; high = own.high ∙ sym (free_claims x high y a f).1; reserved = own.reserved }))
+      inside = own.inside;
+      paid_is = own.paid_is;
+      asked = own.asked;
+      low = own.low ∙ sym (free_claims x high y a f).0;
+      high = own.high ∙ sym (free_claims x high y a f).1;
+      reserved = own.reserved;
+    }))
     reading x high y a f false some own spends = passes x high y a f own.low own.high some (spends (s.paid + 1)) s.heap before.colour k.kept
         (record { cycle = k.of.cycle; sweep = k.of.sweep; cursor = k.of.cursor; free = k.of.free; colour = k.of.colour; order = told_none c rate s (Sweep p) before k (of_pass step false) refl refl })
 
@@ -150,7 +147,13 @@ module _ (c : Config) (rate : ℕ) (s : Seen c) (p : SweepState) (at : AtPart c 
         → ((paid : ℕ) (w : Spending) → AtRow paid (row_got p.cycle p.blocks p.owed r (s.heap (place_of (row_want p.thread p.cycle r)))) w → IsSpending c q paid (blocks_of c.width s.command) w)
         → TallyEvent c rate s (heap_after s.heap (row_want p.thread p.cycle r)) (of_pass step (is_some (row_passes p.cycle r (s.heap (place_of (row_want p.thread p.cycle r)))))) q next before
     by sweeps.ReadCursor fits going settled own spends = quiet s.heap (same_words s.heap) (spends s.paid (before.threads s.thread) (record {
-      inside = own.inside; paid_is = own.paid_is; asked = own.asked; low = own.low ∙ sym (read_claims p.blocks p.owed (s.heap Cursor)).0; high = own.high ∙ sym (read_claims p.blocks p.owed (s.heap Cursor)).1; reserved = own.reserved }))
+      inside = own.inside;
+      paid_is = own.paid_is;
+      asked = own.asked;
+      low = own.low ∙ sym (read_claims p.blocks p.owed (s.heap Cursor)).0;
+      high = own.high ∙ sym (read_claims p.blocks p.owed (s.heap Cursor)).1;
+      reserved = own.reserved;
+    }))
     by (sweeps.ClaimRange x high) fits going settled own spends = claiming x high (eqb (s.heap Cursor) x) refl fits (omega (arith, settled)) own (spends s.paid)
     by (sweeps.PassBlock x high y a f) fits going settled own spends = reading x high y a f (eqb (s.heap (ColourOf x)) (white_word p.cycle)) fits.0.left own spends
     by (sweeps.TakeFree x high y) fits going settled own spends = quiet _ (record { cycle = refl; sweep = refl; cursor = refl; free = refl; colour = λ x. refl }) (spends s.paid (before.threads s.thread) own)
@@ -165,7 +168,7 @@ module _ (c : Config) (rate : ℕ) (s : Seen c) (p : SweepState) (at : AtPart c 
     by sweeps.NothingLeft fits going settled own spends = absurd cc
 
 pub sweep_tallied : (c : Config) (p : SweepState) → TallyLaw c (Sweep p)
-sweep_tallied c p rate s at event next few before k =
+sweep_tallied c p rate s at next few before k =
     let n : SweepState = sweep_got p (s.heap (place_of (sweep_want p))) in
     by c rate s p at before k next (sweep_step p (s.heap (place_of (sweep_want p)))) (cond (sweep_over n.row) (cond (sweep_nothing n.row) Idle Again) (Sweep n))
     p.row at.fits.0.row at.part.going at.settled (record { inside = k.own.inside; paid_is = k.own.paid; asked = k.own.asked; low = k.own.low; high = k.own.high; reserved = k.own.reserved })

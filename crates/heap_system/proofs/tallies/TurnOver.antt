@@ -1,25 +1,24 @@
 -- A thread that closes the gate: the tally has the cursor that it sets, the flip, the roots that it
 -- shades and the start.
-use Rattle.std.proofs.Common.{◌≡◌, ℕ, suc, ◌+◌, ◌*◌, ◌<◌, ◌≤◌, Bool, true, false, cond, eqb, List, [], ◌∷◌, ◌++◌, refl, sym, ap, ◌∙◌, subst, arith, inl, inr}
-use Rattle.std.proofs.lemmas.Bool.{cases_Bool, cases_eq}
+use Rattle.std.proofs.Common.{◌≡◌, ℕ, suc, ◌+◌, ◌<◌, ◌≤◌, Bool, true, false, cond, eqb, [], ◌∷◌, ◌++◌, refl, sym, ap, ◌∙◌, subst, arith, inl, inr}
+use Rattle.std.proofs.lemmas.Bool.{cases_eq}
 use Rattle.block_store.specs.declared.Config.{Config}
-use Rattle.block_store.specs.Colours.{is_free, grey_word, black_word}
-use Rattle.block_store.specs.Counts.{changed, total}
+use Rattle.block_store.specs.Colours.{is_free, grey_word}
+use Rattle.block_store.specs.Counts.{total}
 use Rattle.block_store.specs.Heaps.{Heap, put_at}
 use Rattle.block_store.specs.Phases.{bit, is_sweep, cycle_of}
-use Rattle.block_store.specs.Places.{Phase, Cursor, FreeCount, ColourOf, extent}
-use Rattle.block_store.specs.Registers.{root_block}
+use Rattle.block_store.specs.Places.{Phase, Cursor, FreeCount, ColourOf}
 use Rattle.block_store.proofs.Functions.{total_none}
 use Rattle.never_heap.specs.Cycles.{graph_at}
 use Rattle.never_heap.specs.Given.{given}
-use Rattle.never_heap.specs.Histories.{HistoryItem, Started}
+use Rattle.never_heap.specs.Histories.{Started}
 use Rattle.never_heap.specs.LiveBlocks.{live_blocks}
 use Rattle.never_heap.specs.Steps.{blocks_of}
 use Rattle.heap_machine.specs.Gates.{gate_want, gate_got, gate_step}
-use Rattle.heap_machine.specs.Gating.{Gating, Outside, is_inside}
+use Rattle.heap_machine.specs.Gating.{is_inside}
 use Rattle.heap_machine.specs.Holdings.{Holding, holds_nothing}
 use Rattle.heap_machine.specs.Operations.{CompareExchange, place_of, heap_after}
-use Rattle.heap_machine.specs.Turning.{turns_over, turning_gating, turning_holding}
+use Rattle.heap_machine.specs.Turning.{turning_gating, turning_holding}
 use Rattle.heap_machine.specs.declared.Step.{Step}
 use Rattle.heap_machine.specs.declared.gate.GateRow.{GateRow}
 use Rattle.heap_machine.specs.declared.gate.GateRow.TheVariants as gates
@@ -31,14 +30,13 @@ use Rattle.kept_names.specs.Pictures.{picture}
 use Rattle.cycle_tally.specs.Entries.{InThreads}
 use Rattle.cycle_tally.specs.Events.{FewInUse}
 use Rattle.cycle_tally.specs.Events as events
-use Rattle.cycle_tally.specs.Tallies.{Spending, Tally}
+use Rattle.cycle_tally.specs.Tallies.{Tally}
 use Rattle.cycle_tally.proofs.KeptStart.{few_at_start}
-use Rattle.heap_system.specs.declared.local.Part.{Part}
-use Rattle.heap_system.specs.declared.local.Part.TheVariants.{Enter, TurnOver}
-use Rattle.heap_system.specs.Locals.{Effect, plain, is_last, if_turned, turn_naming}
+use Rattle.heap_system.specs.declared.local.Part.TheVariants.{TurnOver}
+use Rattle.heap_system.specs.Locals.{plain, is_last, if_turned, turn_naming}
 use Rattle.heap_system.specs.Naming.{Naming, Same, Lost, Begun, Shaded}
 use Rattle.heap_system.proofs.PartLaws.{AtPart}
-use Rattle.heap_system.proofs.Seeing.{Seen, IsTurning}
+use Rattle.heap_system.proofs.Seeing.{Seen}
 use Rattle.heap_system.proofs.Tallying.{IsSpending, Counted, TallyEvent, TallyLaw}
 use Rattle.heap_system.proofs.parts.Closing.{stands, in_phase, shut, alone, turning, behind_last, no_white, own_cycle, all_shaded}
 use Rattle.heap_system.proofs.tallies.Moves.{SameWords, same_words, phase_words, told_none, stays, moves}
@@ -152,6 +150,6 @@ by c rate s (gates.Start p) at before k next step over r =
 by c rate s _ at before k next step over r = absurd at.part.0
 
 pub turn_over_tallied : (c : Config) (g : GateRow) → TallyLaw c (TurnOver g)
-turn_over_tallied c g rate s at event next few before k =
+turn_over_tallied c g rate s at next few before k =
     let w : ℕ = s.heap (place_of (gate_want c.width g)) in
     by c rate s g at before k next (gate_step g w) (is_last (gate_step g w)) (gate_got c.width g w)

@@ -4,4 +4,4 @@ use Rattle.heap_system.proofs.Openings.{opening_agrees}
 use Rattle.heap_system.proofs.laws.opening_shows_the_start.Goals as goal
 
 pub returns : goal.returns
-returns _ c ws bounds plan words x pos low = opening_agrees c bounds plan (heap_of (extent c) ws) words x pos low
+returns _ c ws plan words x pos low = opening_agrees c plan (heap_of (extent c) ws) words x pos low

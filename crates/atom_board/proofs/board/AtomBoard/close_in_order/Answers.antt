@@ -21,14 +21,10 @@ pub returns-clause-finished : goal.returns-clause-finished
 returns-clause-finished c =
     let last = c.close_with-closed.ensures.values.2 in
     let ms : List MutatorState = c.first_and_rest-first.result.0 ∷ c.first_and_rest-first.result.1.items in
-    closes c.args.self c.self.inside.table.shared.key last.0 c.gathered-seat.result.0.id c.gathered-seat.result.0.me.0 c.args.who.items (map (λ (l : LocalState). l.log) c.gathered-seat.result.1.items)
+    closes c.args.self c.self.inside.table.shared.key last.0 c.gathered-seat.result.0.id c.gathered-seat.result.0.me.0 c.args.who.items (map (λ (l : LocalState). l.log) c.gathered-seat.result.1.items) c.read_phase-cycles.result.cycle
     last.1.0 last.1.1
     (ap (λ m. m.0) c.gathered-seat.ensures.knows ∙ ap (λ (xs : List MutatorState). let v : View = record { locals = map held_of xs } in v) c.first_and_rest-first.ensures)
     (sym c.self.invariant.0 ∙ ap (λ (b : BoardState). b.config) c.self.view_is) (ap (λ (b : BoardState). b.traces) c.self.view_is)
     c.requires.mutators c.requires.done
     (ap (map (λ (l : LocalState). l.log)) c.gathered-seat.ensures.locals ∙ map_map local_of (λ (l : LocalState). l.log) ms ∙ ap (map log_of) c.first_and_rest-first.ensures)
-
-pub returns-clause-cycles : goal.returns-clause-cycles
-returns-clause-cycles c =
-    let last = c.close_with-closed.ensures.values.2 in
-    ap (λ (p : PhaseWord). p.cycle) c.read_phase-cycles.ensures ∙ cycle_is c.self.inside.table.shared.key last.0 _ c.word.result last.1.0 last.2 c.word.ensures
+    (ap (λ (p : PhaseWord). p.cycle) c.read_phase-cycles.ensures ∙ sym (cycle_is last.0 _ c.word.result last.2 c.word.ensures))
