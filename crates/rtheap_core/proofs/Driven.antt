@@ -1,7 +1,6 @@
 -- A thread whose turn is answered `Done` is done, and where it is the only one, all are.
 use Rattle.std.proofs.Common.{ℕ, ◌≡◌, Bool, true, false, not, ltb, cond, refl, sym, ◌∙◌, subst, arith}
 use Rattle.block_store.specs.declared.Config.{Config}
-use Rattle.heap_system.specs.declared.Turn.{Turn}
 use Rattle.heap_system.specs.declared.Turn.TheVariants as turns
 use Rattle.heap_machine.specs.declared.Step.{Step}
 use Rattle.heap_machine.specs.declared.Step.TheVariants as steps
