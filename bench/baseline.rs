@@ -1,10 +1,11 @@
-//! The same work as `rtheap run` and `rtheap plan`, as a plain program: a job is read and checked,
-//! run on a heap that only grows, and answered; or its rate is found.
+//! The same work as `rtheap plan`, as a plain program: a job is read and checked, and its rate is
+//! found. The commands are kept, as `rtheap plan` keeps them, and not run.
+#![allow(dead_code)]
 
+use std::hint::black_box;
 use std::io::{self, BufWriter, Read, Write};
 use std::process::ExitCode;
 
-const REGISTERS: usize = 16;
 const MOST_COMMANDS: usize = 131_072;
 
 #[derive(Clone, Copy)]
@@ -32,26 +33,6 @@ struct Config {
 struct Job {
     config: Config,
     traces: Vec<Vec<Command>>,
-}
-
-/// An object is known by its number, from 1; the shared array has number 0.
-#[derive(Clone, Copy, PartialEq)]
-enum Value {
-    Nil,
-    Int(u64),
-    Ref(usize),
-}
-
-enum Reply {
-    New(usize),
-    Full,
-    Stored,
-    Val(Value),
-    Len(usize),
-    Same(bool),
-    Null,
-    Kind,
-    Range,
 }
 
 fn blocks_of_record(fields: usize) -> usize {
@@ -193,90 +174,7 @@ fn rate(c: &Config) -> Result<usize, &'static str> {
     Ok((2 * c.blocks).div_ceil((c.blocks - taken) / 2))
 }
 
-struct Heap {
-    left: usize,
-    registers: [Value; REGISTERS],
-    objects: Vec<Box<[Value]>>,
-}
-
-impl Heap {
-    fn new(c: &Config) -> Heap {
-        let mut registers = [Value::Nil; REGISTERS];
-        registers[0] = Value::Ref(0);
-        Heap {
-            left: c.blocks - 5 - blocks_of_array(c.shared),
-            registers,
-            objects: vec![vec![Value::Nil; c.shared].into()],
-        }
-    }
-
-    fn object(&mut self, s: usize) -> Result<&mut [Value], Reply> {
-        match self.registers[s] {
-            Value::Nil => Err(Reply::Null),
-            Value::Int(_) => Err(Reply::Kind),
-            Value::Ref(name) => Ok(&mut self.objects[name]),
-        }
-    }
-
-    fn field(&mut self, s: usize, i: u64) -> Result<&mut Value, Reply> {
-        self.object(s)?.get_mut(i as usize).ok_or(Reply::Range)
-    }
-
-    fn make(&mut self, d: usize, len: usize, blocks: usize) -> Result<Reply, Reply> {
-        self.left = self.left.checked_sub(blocks).ok_or(Reply::Full)?;
-        let name = self.objects.len();
-        self.objects.push(vec![Value::Nil; len].into());
-        self.registers[d] = Value::Ref(name);
-        Ok(Reply::New(name))
-    }
-
-    fn step(&mut self, command: Command) -> Result<Reply, Reply> {
-        match command {
-            Command::New { d, fields } => return self.make(d, fields, blocks_of_record(fields)),
-            Command::Arr { d, elements } => {
-                return self.make(d, elements, blocks_of_array(elements));
-            }
-            Command::Set { d, value } => self.registers[d] = Value::Int(value),
-            Command::Nil { d } => self.registers[d] = Value::Nil,
-            Command::Mov { d, s } => self.registers[d] = self.registers[s],
-            Command::Get { d, s, i } => {
-                let value = *self.field(s, i)?;
-                self.registers[d] = value;
-                return Ok(Reply::Val(value));
-            }
-            Command::Put { s, i, v } => {
-                let value = self.registers[v];
-                *self.field(s, i)? = value;
-            }
-            Command::Len { s } => return Ok(Reply::Len(self.object(s)?.len())),
-            Command::Same { a, b } => {
-                return Ok(Reply::Same(self.registers[a] == self.registers[b]));
-            }
-            Command::Say { s } => return Ok(Reply::Val(self.registers[s])),
-        }
-        Ok(Reply::Stored)
-    }
-}
-
-fn print(out: &mut impl Write, reply: Reply) -> io::Result<()> {
-    match reply {
-        Reply::New(name) => writeln!(out, "0 new 0.{name} work 0"),
-        Reply::Full => writeln!(out, "0 full 1 work 0"),
-        Reply::Stored => writeln!(out, "0 ok"),
-        Reply::Val(Value::Nil) => writeln!(out, "0 nil"),
-        Reply::Val(Value::Int(number)) => writeln!(out, "0 int {number}"),
-        Reply::Val(Value::Ref(0)) => writeln!(out, "0 ref 1.0"),
-        Reply::Val(Value::Ref(name)) => writeln!(out, "0 ref 0.{name}"),
-        Reply::Len(len) => writeln!(out, "0 len {len}"),
-        Reply::Same(true) => writeln!(out, "0 yes"),
-        Reply::Same(false) => writeln!(out, "0 no"),
-        Reply::Null => writeln!(out, "0 null"),
-        Reply::Kind => writeln!(out, "0 kind"),
-        Reply::Range => writeln!(out, "0 range"),
-    }
-}
-
-fn answer(word: &str, out: &mut impl Write) -> io::Result<u8> {
+fn answer(out: &mut impl Write) -> io::Result<u8> {
     let mut text = String::new();
     io::stdin().lock().read_to_string(&mut text)?;
     let Some(job) = job(&text) else {
@@ -284,30 +182,22 @@ fn answer(word: &str, out: &mut impl Write) -> io::Result<u8> {
         return Ok(3);
     };
     drop(text);
-    let rate = match rate(&job.config) {
-        Ok(rate) => rate,
+    black_box(&job.traces);
+    match rate(&job.config) {
+        Ok(rate) => {
+            writeln!(out, "rate {rate}")?;
+            Ok(0)
+        }
         Err(why) => {
             writeln!(out, "rtheap: {why}")?;
-            return Ok(4);
+            Ok(4)
         }
-    };
-    if word == "plan" {
-        writeln!(out, "rate {rate}")?;
-        return Ok(0);
     }
-    let mut heap = Heap::new(&job.config);
-    for &command in &job.traces[0] {
-        let reply = heap.step(command).unwrap_or_else(|refusal| refusal);
-        print(out, reply)?;
-    }
-    writeln!(out, "end cycles 1 work 0")?;
-    Ok(0)
 }
 
 fn main() -> ExitCode {
-    let word = std::env::args().nth(1).unwrap_or_default();
     let mut out = BufWriter::new(io::stdout().lock());
-    match answer(&word, &mut out).and_then(|status| out.flush().map(|()| status)) {
+    match answer(&mut out).and_then(|status| out.flush().map(|()| status)) {
         Ok(status) => ExitCode::from(status),
         Err(_) => ExitCode::from(6),
     }

@@ -1,12 +1,11 @@
 -- Events that decide allocations and other commands.
-use Rattle.std.proofs.Common.{◌≡◌, ℕ, ◌+◌, ◌-◌, ◌*◌, ◌/◌, ◌≤◌, ◌<◌, max, true, false, refl, arith, ap, sym, ◌∙◌, subst, inl, inr}
+use Rattle.std.proofs.Common.{◌≡◌, ℕ, ◌+◌, ◌-◌, ◌*◌, ◌/◌, ◌≤◌, ◌<◌, refl, arith, ap, sym, ◌∙◌, subst, inl, inr}
 use Rattle.std.proofs.lemmas.Bool.{cases_eq}
 use Rattle.std.proofs.lemmas.Nat.{le-div}
 use Rattle.block_store.specs.declared.Config.{Config}
 use Rattle.rate_plan.specs.Rates.{KeepsUp, ceiling}
 use Rattle.never_heap.specs.declared.Entry.{Entry}
-use Rattle.never_heap.specs.declared.Reply.TheVariants.{Full}
-use Rattle.never_heap.specs.Histories.{Did, is_full, starts_in}
+use Rattle.never_heap.specs.Histories.{Did}
 use Rattle.never_heap.specs.Given.{given}
 use Rattle.never_heap.specs.Licensed.{IsLicensedReply}
 use Rattle.never_heap.specs.Taken.{taken_by}
@@ -16,43 +15,29 @@ use Rattle.work_account.specs.Accounts.{published, refused, given_in}
 use Rattle.block_store.proofs.Functions.{changed_both, changed_self, total_changed}
 use Rattle.work_account.proofs.Balances.{published_sound, refused_sound}
 use Rattle.cycle_tally.specs.Tallies.{Spending, Tally, given_now, reserved_now}
-use Rattle.cycle_tally.specs.Events.{Credit, Reserve, Publish, Refuse, Answer, ordered, apply, Decides, NoClaim}
+use Rattle.cycle_tally.specs.Events.{Credit, Reserve, Publish, Refuse, Answer, ordered, apply, Guard}
 use Rattle.cycle_tally.specs.Kept.{most_given, live_before, TallyKept}
 use Rattle.cycle_tally.proofs.Sums.{total_below, given_more_in}
-use Rattle.cycle_tally.proofs.Going.{goes, decided}
+use Rattle.cycle_tally.proofs.Going.{goes, stays, decided}
 use Rattle.cycle_tally.proofs.Counting.{floor_ceiling, taken_none, taken_full, not_full, all_given_now}
 
 module _ (c : Config) (rate : ℕ) (black : ℕ → ℕ) (some : 0 < rate) (s : Tally)
     (k : TallyKept c rate black s) where
   pub credits : (y : ℕ) → TallyKept c rate black (apply c rate black s (Credit y))
-  credits y = record {
-    starts = k.starts;
-    some = k.some;
-    each = k.each;
+  credits y = stays c rate black some s k (apply c rate black s (Credit y)) (record {
     cursor = k.cursor;
     scans = k.scans;
-    passes = k.passes;
-    counted = k.counted;
-    handed = k.handed;
-    ended = k.ended;
-    few = k.few;
-    many = k.many;
-    works = k.works;
-    cheap = k.cheap;
-    right = k.right;
-    entries = k.entries;
-    licensed = k.licensed;
-    room = omega (arith, k.room);
-  }
+    passes = λ x pos. refl;
+    free = omega arith;
+  })
 
-  pub reserves : (t : ℕ) → t < c.threads → (s.threads t).inside ≡ true → (s.threads t).reserved ≡ 0
-      → (s.threads t).balance.paid ≡ rate * (s.threads t).asked → (s.threads t).asked ≤ s.free
+  pub reserves : (t : ℕ) → Guard c rate black s (Reserve t)
       → TallyKept c rate black (apply c rate black s (Reserve t))
-  reserves t tl inside none paid there =
+  reserves t g =
       let w0 : Spending = s.threads t in
       let w : Spending = record w0 { reserved = w0.asked } in
-      let o = k.each t tl in
-      goes c rate black some s k t w (apply c rate black s (Reserve t)) tl
+      let o = k.each t g.0 in
+      goes c rate black some s k t w (apply c rate black s (Reserve t)) g.0
       (record {
         sound = o.sound;
         entered = o.entered;
@@ -60,7 +45,7 @@ module _ (c : Config) (rate : ℕ) (black : ℕ → ℕ) (some : 0 < rate) (s : 
         asked = o.asked;
         owed = o.owed;
         claimed = o.claimed;
-        reserved = λ h. (inside, refl, paid);
+        reserved = λ h. (g.1, refl, g.3);
       })
       (record {
         cursor = k.cursor;
@@ -68,62 +53,57 @@ module _ (c : Config) (rate : ℕ) (black : ℕ → ℕ) (some : 0 < rate) (s : 
         passes = λ x pos. refl;
         made = refl;
         given = refl;
-        free = omega arith;
+        free = omega (arith, g.2, g.4);
         paid = refl;
       })
 
-  pub gives : (t : ℕ) (e : Entry) → t < c.threads → (s.threads t).inside ≡ true
-      → NoClaim (s.threads t) → Decides c t (s.threads t) e
-      → (s.threads t).reserved ≡ (s.threads t).asked
-      → (s.threads t).balance.paid ≡ rate * (s.threads t).asked
-      → taken_by c.width e ≡ (s.threads t).asked → is_full e.reply ≡ false
+  pub gives : (t : ℕ) (e : Entry) → Guard c rate black s (Publish t e)
       → TallyKept c rate black (apply c rate black s (Publish t e))
-  gives t e tl inside none d held paid taken new =
+  gives t e g =
       let w0 : Spending = s.threads t in
       let w : Spending = record w0 { reserved = 0; balance = published w0.asked w0.balance } in
-      let o = k.each t tl in
+      let o = k.each t g.0 in
       let more : given_in s.cycle (published w0.asked w0.balance)
       ≡ given_in s.cycle w0.balance + w0.asked =
-      given_more_in s.cycle w0.asked w0.balance (o.present inside) in
-      decided c rate black some s k t w e tl d
+      given_more_in s.cycle w0.asked w0.balance (o.present g.1) in
+      decided c rate black some s k t w e g.0 g.3
       (record {
-        sound = published_sound rate c.object w0.asked w0.balance paid o.sound;
+        sound = published_sound rate c.object w0.asked w0.balance g.5 o.sound;
         entered = o.entered;
         present = o.present;
         asked = o.asked;
         owed = omega arith;
-        claimed = λ h. absurd (omega arith);
+        claimed = λ h. absurd (omega (arith, g.2));
         reserved = λ h. absurd (h refl);
       })
       (record {
         claimed = λ x. refl;
         made = refl;
-        given = more ∙ ap (λ z. given_in s.cycle w0.balance + z) (sym taken);
-        reserved = omega (arith, taken, held);
+        given = more ∙ ap (λ z. given_in s.cycle w0.balance + z) (sym g.6);
+        reserved = omega (arith, g.6, g.4);
         unpaid = refl;
-        whole = paid;
-        licensed = not_full c s.order e.reply new;
+        whole = g.5;
+        licensed = not_full c s.order e.reply g.7;
       })
 
-  pub answers : (t : ℕ) (e : Entry) → t < c.threads → Decides c t (s.threads t) e
-      → (s.threads t).asked ≡ 0 → is_full e.reply ≡ false
+  pub answers : (t : ℕ) (e : Entry) → Guard c rate black s (Answer t e)
       → TallyKept c rate black (apply c rate black s (Answer t e))
-  answers t e tl d none new =
-      let o = k.each t tl in
-      let cost : rate * (s.threads t).asked ≡ rate * 0 = ap (λ z. rate * z) none in
+  answers t e g =
+      let o = k.each t g.0 in
+      let cost : rate * (s.threads t).asked ≡ rate * 0 = ap (λ z. rate * z) g.2 in
       let paid : (s.threads t).balance.paid ≡ 0 = omega (arith, o.owed) in
       let taken : taken_by c.width e ≡ 0 = taken_none e.reply (blocks_of c.width e.command)
-      (d.blocks ∙ none) in
+      (g.1.blocks ∙ g.2) in
       subst (λ f. TallyKept c rate black (ordered (record s { threads = f }) (Did e)))
       (changed_self s.threads t (s.threads t) refl)
-      (decided c rate black some s k t (s.threads t) e tl d o (record {
+      (decided c rate black some s k t (s.threads t) e g.0 g.1 o (record {
         claimed = λ x. refl;
         made = refl;
         given = omega arith;
         reserved = omega arith;
         unpaid = paid;
         whole = omega arith;
-        licensed = not_full c s.order e.reply new;
+        licensed = not_full c s.order e.reply g.3;
       }))
 
   -- the blocks reserved, and those of a thread that has paid and not reserved, are paid
@@ -156,11 +136,11 @@ module _ (c : Config) (rate : ℕ) (black : ℕ → ℕ) (some : 0 < rate) (s : 
       (λ e. subst (λ v. (s.threads t).asked ≤ g v) e own) (λ _. reserved_paid u ul)) in
       omega (arith, all_given_now c rate black some s k)
 
-  -- where the free count is below what a thread asks for, more than L blocks were live
-  pub licence : (t : ℕ) → KeepsUp c rate → t < c.threads → (s.threads t).reserved ≡ 0
-      → (s.threads t).balance.paid ≡ rate * (s.threads t).asked → s.free < (s.threads t).asked
-      → c.live < live_before c s
-  licence t plan tl none paid few =
+  -- more than L blocks were live, or as many are free as a thread asks for
+  pub spare : (t : ℕ) → KeepsUp c rate → t < c.threads → (s.threads t).reserved ≡ 0
+      → (s.threads t).balance.paid ≡ rate * (s.threads t).asked
+      → c.live + (s.threads t).asked ≤ live_before c s + s.free
+  spare t plan tl none paid =
       let now : given_now c.threads s + reserved_now c.threads s + (s.threads t).asked
       ≤ most_given c rate = all_reserved t tl none paid in
       let before : given c.width s.order (s.cycle - 1) ≤ most_given c rate =
@@ -169,36 +149,30 @@ module _ (c : Config) (rate : ℕ) (black : ℕ → ℕ) (some : 0 < rate) (s : 
       floor_ceiling (2 * c.blocks) rate some in
       omega (arith, k.room, plan)
 
-  pub refuses : (t : ℕ) (e : Entry) → KeepsUp c rate → t < c.threads → (s.threads t).inside ≡ true
-      → NoClaim (s.threads t) → Decides c t (s.threads t) e
-      → (s.threads t).reserved ≡ 0 → (s.threads t).balance.paid ≡ rate * (s.threads t).asked
-      → s.free < (s.threads t).asked → e.reply ≡ Full (max 1 (s.cycle - 1))
+  pub refuses : (t : ℕ) (e : Entry) → KeepsUp c rate → Guard c rate black s (Refuse t e)
       → TallyKept c rate black (apply c rate black s (Refuse t e))
-  refuses t e plan tl inside none d held paid few full =
+  refuses t e plan g =
       let w0 : Spending = s.threads t in
       let w : Spending = record w0 { balance = refused w0.balance } in
-      let o = k.each t tl in
-      let taken : taken_by c.width e ≡ 0 = taken_full e.reply (max 1 (s.cycle - 1))
-      (blocks_of c.width e.command) full in
-      let number : max 1 (s.cycle - 1) ≡ max 1 (starts_in s.order - 1) =
-      ap (λ z. max 1 (z - 1)) (sym k.starts) in
-      decided c rate black some s k t w e tl d
+      let o = k.each t g.0 in
+      let taken : taken_by c.width e ≡ 0 = taken_full e.reply _ (blocks_of c.width e.command) g.7 in
+      decided c rate black some s k t w e g.0 g.3
       (record {
         sound = refused_sound rate c.object w0.balance o.sound;
         entered = o.entered;
         present = o.present;
         asked = o.asked;
         owed = omega arith;
-        claimed = λ h. absurd (omega arith);
-        reserved = λ h. absurd (h held);
+        claimed = λ h. absurd (omega (arith, g.2));
+        reserved = λ h. absurd (h g.4);
       })
       (record {
         claimed = λ x. refl;
         made = refl;
         given = omega arith;
-        reserved = omega arith;
+        reserved = omega (arith, g.4);
         unpaid = refl;
-        whole = paid;
-        licensed = subst (λ r. IsLicensedReply c s.order r) (sym full)
-            (number, licence t plan tl held paid few);
+        whole = g.5;
+        licensed = subst (λ r. IsLicensedReply c s.order r) (sym g.7)
+            (omega (arith, k.starts), omega (arith, spare t plan g.0 g.4 g.5, g.6));
       })

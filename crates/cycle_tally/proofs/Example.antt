@@ -1,5 +1,5 @@
 -- The events of the example may come one after another.
-use Rattle.std.proofs.Common.{◌≡◌, ℕ, zero, suc, ◌≤◌, true, leb, refl, arith, inl, false, inr, sym, subst, [], ◌∷◌}
+use Rattle.std.proofs.Common.{◌≡◌, ℕ, ◌≤◌, true, leb, refl, inl, false, inr, sym, subst, [], ◌∷◌}
 use Rattle.std.proofs.lemmas.Bool.{leb-true}
 use Rattle.block_store.specs.declared.Width.{Width}
 use Rattle.block_store.specs.declared.Width.TheVariants.{Four, Eight}
@@ -7,7 +7,6 @@ use Rattle.block_store.specs.Configs.{IsInBounds}
 use Rattle.array_trees.specs.Openings.{opening_blocks}
 use Rattle.array_trees.specs.Trees.{tree}
 use Rattle.rate_plan.specs.Rates.{KeepsUp}
-use Rattle.never_heap.specs.Cycles.{graph_at}
 use Rattle.never_heap.specs.declared.Reply.TheVariants as replies
 use Rattle.never_heap.specs.Histories.{HistoryItem, Started, Did, Legal}
 use Rattle.never_heap.specs.Licensed.{StartsSmall, NoFulls}
@@ -15,23 +14,14 @@ use Rattle.never_heap.specs.LiveBlocks.{live_blocks}
 use Rattle.never_heap.specs.Reach.{reachable}
 use Rattle.cycle_tally.specs.Tallies.{units}
 use Rattle.cycle_tally.specs.Events.{Guarded}
-use Rattle.cycle_tally.proofs.Testing.{all_guarded}
+use Rattle.cycle_tally.proofs.Testing.{in_bounds, all_small, all_guarded}
 use Rattle.cycle_tally.specs.Example.{tight, tight_rate, asked_entry, full_events, full_start, full_end, small, small_rate, blacks, some_events, example_start, example_end}
 
 most : (a b : ℕ) → leb a b ≡ true → a ≤ b
 most a b h = leb-true a b h
 
 pub bounds : (w : Width) → IsInBounds (small w)
-bounds w = record {
-  some_thread = omega arith;
-  threads = omega arith;
-  some_block = omega arith;
-  blocks = omega arith;
-  live = omega arith;
-  some_object = omega arith;
-  object = omega arith;
-  shared = omega arith;
-}
+bounds w = in_bounds (small w) refl
 
 pub room : (w : Width) → opening_blocks (small w) ≤ (small w).blocks
 unfolding tree
@@ -58,42 +48,15 @@ example_units w = refl
 pub example_legal : (w : Width) → Legal (small w) (example_end w).order
 example_legal w = (inl refl, (inl refl, (tt, tt)))
 
--- the live blocks of the two starts
-live_then : (w : Width) (z : ℕ) → 1 ≤ z → z ≤ 2
-    → live_blocks w (graph_at (small w) (example_end w).order z) ≤ 6
-unfolding live_blocks reachable tree
-live_then w zero some few = absurd (omega arith)
-live_then Four (suc zero) some few = most _ _ refl
-live_then Eight (suc zero) some few = most _ _ refl
-live_then Four (suc (suc zero)) some few = most _ _ refl
-live_then Eight (suc (suc zero)) some few = most _ _ refl
-live_then w (suc (suc (suc z))) some few = absurd (omega arith)
-
 pub example_starts : (w : Width) → StartsSmall (small w) (example_end w).order
-example_starts w = live_then w
+unfolding live_blocks reachable tree
+example_starts Four = all_small (small Four) (example_end Four).order 2 refl
+example_starts Eight = all_small (small Eight) (example_end Eight).order 2 refl
 
 -- the full
 pub tight_bounds : (w : Width) → IsInBounds (tight w)
-tight_bounds Four = record {
-  some_thread = most _ _ refl;
-  threads = most _ _ refl;
-  some_block = most _ _ refl;
-  blocks = most _ _ refl;
-  live = most _ _ refl;
-  some_object = most _ _ refl;
-  object = most _ _ refl;
-  shared = most _ _ refl;
-}
-tight_bounds Eight = record {
-  some_thread = most _ _ refl;
-  threads = most _ _ refl;
-  some_block = most _ _ refl;
-  blocks = most _ _ refl;
-  live = most _ _ refl;
-  some_object = most _ _ refl;
-  object = most _ _ refl;
-  shared = most _ _ refl;
-}
+tight_bounds Four = in_bounds (tight Four) refl
+tight_bounds Eight = in_bounds (tight Eight) refl
 
 pub tight_room : (w : Width) → opening_blocks (tight w) ≤ (tight w).blocks
 unfolding tree

@@ -55,6 +55,14 @@ pub record Goes (c : Config) (black : ℕ → ℕ) (s : Tally) (t : ℕ) (w : Sp
   pub paid : w.balance.paid + units_now c.blocks s
       ≡ (s.threads t).balance.paid + units_now c.blocks r
 
+-- The phase, the cursor, the free count and the colours of r go with the threads and counts of s.
+pub record Stays (c : Config) (black : ℕ → ℕ) (s r : Tally) : Type 0 where
+  pub cursor : (0 < r.cursor) × (r.cursor ≤ c.blocks + 1)
+  pub scans : (x : ℕ) → s.scanned x ≤ bit (r.sweep || eqb (r.colour x) (black s.cycle))
+  pub passes : (x : ℕ) → 0 < x
+      → bit (s.sweep && ltb x s.cursor) ≡ bit (r.sweep && ltb x r.cursor)
+  pub free : s.free ≤ r.free
+
 -- Thread t becomes w with the entry e, where all that it asked for is paid.
 pub record Settles (c : Config) (rate : ℕ) (s : Tally) (t : ℕ) (w : Spending) (e : Entry)
     : Type 0 where
@@ -91,6 +99,32 @@ module _ (c : Config) (rate : ℕ) (black : ℕ → ℕ) (some : 0 < rate) (s : 
     few = k.few;
     many = k.many;
     works = omega (arith, k.works, q.paid, sum.paid);
+    cheap = k.cheap;
+    entries = k.entries;
+    right = k.right;
+    licensed = k.licensed;
+  }
+
+  pub stays : (r : Tally) → Stays c black s r → TallyKept c rate black (record s {
+    sweep = r.sweep;
+    cursor = r.cursor;
+    free = r.free;
+    colour = r.colour;
+  })
+  stays r q = record {
+    starts = k.starts;
+    some = k.some;
+    each = k.each;
+    cursor = q.cursor;
+    scans = q.scans;
+    passes = λ x pos. k.passes x pos ∙ q.passes x pos;
+    counted = k.counted;
+    handed = k.handed;
+    ended = k.ended;
+    room = omega (arith, k.room, q.free);
+    few = k.few;
+    many = k.many;
+    works = k.works;
     cheap = k.cheap;
     entries = k.entries;
     right = k.right;

@@ -14,11 +14,11 @@ use Rattle.work_account.specs.Accounts.{entered, units_in, given_in}
 use Rattle.block_store.proofs.Functions.{total_none}
 use Rattle.work_account.proofs.Balances.{entered_sound}
 use Rattle.cycle_tally.specs.Tallies.{Spending, Tally, claims, given_now}
-use Rattle.cycle_tally.specs.Events.{Enter, Leave, SetCursor, Flip, Start, Clear, Next, with_thread, apply, FewInUse, NoClaim}
+use Rattle.cycle_tally.specs.Events.{Enter, Leave, SetCursor, Flip, Start, Clear, Next, with_thread, apply, Guard}
 use Rattle.cycle_tally.specs.Entries.{entries_in}
 use Rattle.cycle_tally.specs.Kept.{SpendingKept, live_before, TallyKept}
 use Rattle.cycle_tally.proofs.Sums.{total_least, total_nought, paid_entered, cycle_entered, units_entered, given_entered, units_later, given_later, no_claims}
-use Rattle.cycle_tally.proofs.Going.{goes}
+use Rattle.cycle_tally.proofs.Going.{goes, stays}
 use Rattle.cycle_tally.proofs.Counting.{one_less, entries_started, in_threads_more, bool_no, scanned_one, few_units, all_given_now, given_then}
 
 module _ (c : Config) (rate : ℕ) (black : ℕ → ℕ) (some : 0 < rate) (s : Tally)
@@ -61,45 +61,44 @@ module _ (c : Config) (rate : ℕ) (black : ℕ → ℕ) (some : 0 < rate) (s : 
       (λ x. refl) (units_entered s.cycle w0.balance o.entered)
       (given_entered s.cycle w0.balance o.entered) refl p
 
-  pub leaves : (t : ℕ) → t < c.threads → NoClaim (s.threads t)
-      → (s.threads t).reserved ≡ 0 → TallyKept c rate black (apply c rate black s (Leave t))
-  leaves t tl none r =
-      let o = k.each t tl in
-      moved t tl (record (s.threads t) { inside = false })
+  pub leaves : (t : ℕ) → Guard c rate black s (Leave t)
+      → TallyKept c rate black (apply c rate black s (Leave t))
+  leaves t g =
+      let o = k.each t g.0 in
+      moved t g.0 (record (s.threads t) { inside = false })
       (record {
         sound = o.sound;
         entered = o.entered;
         asked = o.asked;
         owed = o.owed;
         present = λ h. absurd (let q : false ≡ true = h in cc);
-        claimed = λ h. absurd (omega arith);
-        reserved = λ h. absurd (h r);
+        claimed = λ h. absurd (omega (arith, g.1));
+        reserved = λ h. absurd (h g.2);
       })
       (λ x. refl) refl refl refl refl
 
-  pub asks : (t y : ℕ) → t < c.threads → NoClaim (s.threads t)
-      → (s.threads t).reserved ≡ 0 → (s.threads t).balance.paid ≡ 0 → y ≤ c.object
+  pub asks : (t y : ℕ) → Guard c rate black s (Next t y)
       → TallyKept c rate black (apply c rate black s (Next t y))
-  asks t y tl none r p l =
-      let o = k.each t tl in
-      moved t tl (record (s.threads t) { asked = y })
+  asks t y g =
+      let o = k.each t g.0 in
+      moved t g.0 (record (s.threads t) { asked = y })
       (record {
         sound = o.sound;
         entered = o.entered;
         present = o.present;
-        asked = l;
-        owed = omega arith;
-        claimed = λ h. absurd (omega arith);
-        reserved = λ h. absurd (h r);
+        asked = g.4;
+        owed = omega (arith, g.3);
+        claimed = λ h. absurd (omega (arith, g.1));
+        reserved = λ h. absurd (h g.2);
       })
       (λ x. refl) refl refl refl refl
 
-  pub clears : (t : ℕ) → t < c.threads → NoClaim (s.threads t)
+  pub clears : (t : ℕ) → Guard c rate black s (Clear t)
       → TallyKept c rate black (apply c rate black s (Clear t))
-  clears t tl none =
-      let o = k.each t tl in
+  clears t g =
+      let o = k.each t g.0 in
       let w : Spending = record (s.threads t) { low = 0; high = 0 } in
-      moved t tl w
+      moved t g.0 w
       (record {
         sound = o.sound;
         entered = o.entered;
@@ -107,53 +106,28 @@ module _ (c : Config) (rate : ℕ) (black : ℕ → ℕ) (some : 0 < rate) (s : 
         asked = o.asked;
         owed = o.owed;
         reserved = o.reserved;
-        claimed = λ h. absurd (omega arith);
+        claimed = λ h. absurd (omega (arith, g.1));
       })
-      (λ x. no_claims x w (omega arith) ∙ sym (no_claims x (s.threads t) none)) refl refl refl refl
+      (λ x. no_claims x w (omega arith) ∙ sym (no_claims x (s.threads t) g.1)) refl refl refl refl
 
-  pub cursor_set : s.sweep ≡ false → TallyKept c rate black (apply c rate black s SetCursor)
-  cursor_set mark = record {
-    starts = k.starts;
-    some = k.some;
-    each = k.each;
-    scans = k.scans;
-    counted = k.counted;
-    handed = k.handed;
-    ended = k.ended;
-    room = k.room;
-    few = k.few;
-    many = k.many;
-    works = k.works;
-    cheap = k.cheap;
-    right = k.right;
-    entries = k.entries;
-    licensed = k.licensed;
+  pub cursor_set : Guard c rate black s SetCursor
+      → TallyKept c rate black (apply c rate black s SetCursor)
+  cursor_set g = stays c rate black some s k (apply c rate black s SetCursor) (record {
     cursor = (omega arith, omega arith);
-    passes = λ x pos. k.passes x pos ∙ ap (λ b. bit (b && ltb x s.cursor)) mark
-        ∙ sym (ap (λ b. bit (b && ltb x 1)) mark);
-  }
+    scans = k.scans;
+    passes = λ x pos. ap (λ b. bit (b && ltb x s.cursor)) g
+        ∙ sym (ap (λ b. bit (b && ltb x 1)) g);
+    free = omega arith;
+  })
 
-  pub flips : s.sweep ≡ false → s.cursor ≡ 1 → TallyKept c rate black (apply c rate black s Flip)
-  flips mark first = record {
-    starts = k.starts;
-    some = k.some;
-    each = k.each;
+  pub flips : Guard c rate black s Flip → TallyKept c rate black (apply c rate black s Flip)
+  flips g = stays c rate black some s k (apply c rate black s Flip) (record {
     cursor = k.cursor;
-    counted = k.counted;
-    handed = k.handed;
-    ended = k.ended;
-    room = k.room;
-    few = k.few;
-    many = k.many;
-    works = k.works;
-    cheap = k.cheap;
-    right = k.right;
-    entries = k.entries;
-    licensed = k.licensed;
     scans = λ x. scanned_one c rate black some s k x;
-    passes = λ x pos. k.passes x pos ∙ ap (λ b. bit (b && ltb x s.cursor)) mark
-        ∙ sym (ap bit (le-ltb x s.cursor (omega arith)));
-  }
+    passes = λ x pos. ap (λ b. bit (b && ltb x s.cursor)) g.0
+        ∙ sym (ap bit (le-ltb x s.cursor (omega (arith, g.1))));
+    free = omega arith;
+  })
 
   pub idle_claims : (x t : ℕ) → t < c.threads → (s.threads t).inside ≡ false
       → claims x (s.threads t) ≡ 0
@@ -174,15 +148,13 @@ module _ (c : Config) (rate : ℕ) (black : ℕ → ℕ) (some : 0 < rate) (s : 
       ∙ ap bit (lt-ltb x s.cursor (omega arith)) in
       omega (arith, k.passes x pos)
 
-  pub begins : s.sweep ≡ true → c.blocks < s.cursor
-      → ((t : ℕ) → t < c.threads → (s.threads t).inside ≡ false) → FewInUse c s
-      → TallyKept c rate black (apply c rate black s Start)
-  begins sw above out usage =
+  pub begins : Guard c rate black s Start → TallyKept c rate black (apply c rate black s Start)
+  begins g =
       let next : s.cycle + 1 - 1 ≡ s.cycle = omega arith in
       let longest : max 1 (s.cycle + 1 - 1) ≡ s.cycle = omega (arith, k.some) in
       let swept : total c.blocks (λ x. s.passed (suc x)) ≡ c.blocks =
       total_least c.blocks (λ x. s.passed (suc x))
-      (λ x l. passed_all sw above out (suc x) (omega arith) (omega arith)) in
+      (λ x l. passed_all g.0 g.1 g.2 (suc x) (omega arith) (omega arith)) in
       let same : live_blocks c.width (graph_at c (s.order ++ Started ∷ []) s.cycle)
       ≡ live_blocks c.width (graph_at c s.order s.cycle) =
       ap (live_blocks c.width) (graph_at_more c s.order (Started ∷ []) s.cycle k.some
@@ -207,13 +179,13 @@ module _ (c : Config) (rate : ℕ) (black : ℕ → ℕ) (some : 0 < rate) (s : 
           claimed = o.claimed;
           reserved = o.reserved;
           entered = omega (arith, o.entered);
-          present = λ h. absurd (bool_no _ (out t tl) h);
+          present = λ h. absurd (bool_no _ (g.2 t tl) h);
         });
         cursor = k.cursor;
         scans = λ x. omega arith;
         passes = λ x pos. (let z : total c.threads (λ t. claims x (s.threads t)) ≡ 0 =
             total_none c.threads (λ t. claims x (s.threads t))
-            (λ t tl. idle_claims x t tl (out t tl)) in omega arith);
+            (λ t tl. idle_claims x t tl (g.2 t tl)) in omega arith);
         counted = (let z : total c.threads (λ t. units_in (s.cycle + 1) (s.threads t).balance) ≡ 0 =
             total_none c.threads (λ t. units_in (s.cycle + 1) (s.threads t).balance)
             (λ t tl. units_later s.cycle (s.threads t).balance (k.each t tl).entered) in
@@ -232,10 +204,10 @@ module _ (c : Config) (rate : ℕ) (black : ℕ → ℕ) (some : 0 < rate) (s : 
             ≡ live_blocks c.width (graph_at c s.order s.cycle) =
             ap (λ z. live_blocks c.width (graph_at c (s.order ++ Started ∷ []) z)) longest
             ∙ same in
-            let g : given c.width (s.order ++ Started ∷ []) (s.cycle + 1 - 1)
+            let last : given c.width (s.order ++ Started ∷ []) (s.cycle + 1 - 1)
             ≡ given c.width s.order s.cycle = ap (given c.width (s.order ++ Started ∷ [])) next
             ∙ ended in
-            omega (arith, usage);
+            omega (arith, g.3);
         few =
             let p : (s.cycle + 1 - 1) * c.blocks ≡ (s.cycle - 1) * c.blocks + c.blocks =
             ap (λ z. z * c.blocks) next ∙ one_less s.cycle c.blocks k.some in

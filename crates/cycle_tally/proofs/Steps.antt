@@ -15,19 +15,18 @@ module _ (c : Config) (rate : ℕ) (black : ℕ → ℕ) (some : 0 < rate) (s : 
   pub step_kept : (e : Event) → KeepsUp c rate → Guard c rate black s e
       → TallyKept c rate black (apply c rate black s e)
   step_kept (Enter t) plan g = enters c rate black some s k t g
-  step_kept (Leave t) plan g = leaves c rate black some s k t g.0 g.1 g.2
+  step_kept (Leave t) plan g = leaves c rate black some s k t g
   step_kept SetCursor plan g = cursor_set c rate black some s k g
-  step_kept Flip plan g = flips c rate black some s k g.0 g.1
-  step_kept Start plan g = begins c rate black some s k g.0 g.1 g.2 g.3
+  step_kept Flip plan g = flips c rate black some s k g
+  step_kept Start plan g = begins c rate black some s k g
   step_kept (Paint x w) plan g = paints c rate black some s k x w g
-  step_kept (Scan t x) plan g = scans_one c rate black some s k t x g.0 g.1 g.2 g.3 g.4 g.5 g.6 g.7
-  step_kept (Claim t r) plan g = claims_more c rate black some s k t r g.0 g.1 g.2 g.3 g.4 g.5
-  step_kept (Pass t) plan g = passes_one c rate black some s k t g.0 g.1
-  step_kept (Clear t) plan g = clears c rate black some s k t g.0 g.1
+  step_kept (Scan t x) plan g = scans_one c rate black some s k t x g
+  step_kept (Claim t r) plan g = claims_more c rate black some s k t r g
+  step_kept (Pass t) plan g = passes_one c rate black some s k t g
+  step_kept (Clear t) plan g = clears c rate black some s k t g
   step_kept (Credit y) plan g = credits c rate black some s k y
-  step_kept (Reserve t) plan g = reserves c rate black some s k t g.0 g.1 g.2 g.3 g.4
-  step_kept (Publish t e) plan g = gives c rate black some s k t e g.0 g.1 g.2 g.3 g.4 g.5 g.6 g.7
-  step_kept (Refuse t e) plan g =
-      refuses c rate black some s k t e plan g.0 g.1 g.2 g.3 g.4 g.5 g.6 g.7
-  step_kept (Answer t e) plan g = answers c rate black some s k t e g.0 g.1 g.2 g.3
-  step_kept (Next t y) plan g = asks c rate black some s k t y g.0 g.1 g.2 g.3 g.4
+  step_kept (Reserve t) plan g = reserves c rate black some s k t g
+  step_kept (Publish t e) plan g = gives c rate black some s k t e g
+  step_kept (Refuse t e) plan g = refuses c rate black some s k t e plan g
+  step_kept (Answer t e) plan g = answers c rate black some s k t e g
+  step_kept (Next t y) plan g = asks c rate black some s k t y g

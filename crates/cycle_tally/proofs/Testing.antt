@@ -1,13 +1,14 @@
 -- Tests of guards: an event may come where its test says so.
-use Rattle.std.proofs.Common.{◌≡◌, ◌≢◌, ℕ, zero, suc, ◌+◌, ◌-◌, ◌*◌, ◌<◌, max, not, Bool, true, false, ◌&&◌, ◌||◌, eqb, ltb, leb, arith, List, [], ◌∷◌, eq-eqb, inl, inr}
+use Rattle.std.proofs.Common.{◌≡◌, ◌≢◌, ℕ, zero, suc, ◌+◌, ◌-◌, ◌*◌, ◌≤◌, ◌<◌, max, not, Bool, true, false, ◌&&◌, ◌||◌, eqb, ltb, leb, arith, List, [], ◌∷◌, eq-eqb, inl, inr}
 use Rattle.std.proofs.lemmas.Bool.{both_ways, ltb-true, leb-true, eqb-true, and_parts, or_cases, cases_eq, not-true}
 use Rattle.block_store.specs.declared.Config.{Config}
+use Rattle.block_store.specs.Configs.{IsInBounds}
 use Rattle.never_heap.specs.declared.Entry.{Entry}
 use Rattle.never_heap.specs.declared.Reply.{Reply}
 use Rattle.never_heap.specs.declared.Reply.TheVariants.{Full}
 use Rattle.never_heap.specs.Cycles.{graph_at}
 use Rattle.never_heap.specs.Given.{given}
-use Rattle.never_heap.specs.Histories.{is_full}
+use Rattle.never_heap.specs.Histories.{HistoryItem, is_full}
 use Rattle.never_heap.specs.LiveBlocks.{live_blocks}
 use Rattle.never_heap.specs.Steps.{blocks_of}
 use Rattle.never_heap.specs.Taken.{taken_by}
@@ -58,6 +59,43 @@ full_is z (Full y) h = ap_full y z (eqb-true y z h)
     ap_full : (y z : ℕ) → y ≡ z → Full y ≡ Full z
     ap_full y z e = cc
 full_is z _ h = absurd cc
+
+-- a configuration is in bounds where its tests say so
+pub in_bounds : (c : Config)
+    → (leb 1 c.threads && (leb c.threads 16 && (leb 1 c.blocks && (leb c.blocks 65535
+    && (leb c.live 65535 && (leb 1 c.object && (leb c.object 1024 && leb c.shared 1024)))))))
+    ≡ true → IsInBounds c
+in_bounds c h =
+    let p = flat8 (both _ _ (leb-true _ _) (both _ _ (leb-true _ _) (both _ _ (leb-true _ _)
+    (both _ _ (leb-true _ _) (both _ _ (leb-true _ _) (both _ _ (leb-true _ _)
+    (both _ _ (leb-true _ _) (leb-true _ _))))))) h) in
+    record {
+      some_thread = p.0;
+      threads = p.1;
+      some_block = p.2;
+      blocks = p.3;
+      live = p.4;
+      some_object = p.5;
+      object = p.6;
+      shared = p.7;
+    }
+
+-- at most L blocks are live at the starts of the first z cycles of a history
+abbrev pub starts_small : Config → List HistoryItem → ℕ → Bool
+starts_small c h zero = true
+starts_small c h (suc z) =
+    leb (live_blocks c.width (graph_at c h (suc z))) c.live && starts_small c h z
+
+pub all_small : (c : Config) (h : List HistoryItem) (n : ℕ) → starts_small c h n ≡ true
+    → (z : ℕ) → 1 ≤ z → z ≤ n → live_blocks c.width (graph_at c h z) ≤ c.live
+all_small c h zero is z some few = absurd (omega arith)
+all_small c h (suc n) is z some few =
+    let parts = and_parts (leb (live_blocks c.width (graph_at c h (suc n))) c.live)
+    (starts_small c h n) is in
+    elim (cases_eq z (suc n)) [
+      | inl e ↦ rw e (leb-true _ _ parts.0)
+      | inr ne ↦ all_small c h n parts.1 z some (omega arith)
+    ]
 
 -- nobody of the first n threads is inside
 abbrev all_outside : ℕ → (ℕ → Spending) → Bool

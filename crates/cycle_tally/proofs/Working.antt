@@ -1,7 +1,8 @@
 -- Events that mark and sweep.
-use Rattle.std.proofs.Common.{◌≡◌, ◌≢◌, ℕ, ◌+◌, ◌*◌, ◌≤◌, ◌<◌, Bool, true, false, ◌&&◌, ◌||◌, eqb, ltb, refl, arith, ap, sym, ◌∙◌, subst, inl, inr, eq-eqb, ne_eqb, lt-ltb}
+use Rattle.std.proofs.Common.{◌≡◌, ℕ, ◌+◌, ◌*◌, ◌≤◌, ◌<◌, Bool, true, false, ◌&&◌, ◌||◌, eqb, ltb, refl, arith, ap, sym, ◌∙◌, subst, inl, inr, eq-eqb, ne_eqb, lt-ltb}
 use Rattle.std.proofs.lemmas.Bool.{cases_eq, cases_lt, cases_Bool, both_ways, le-leb, lt-leb, le-ltb, ltb-true, and_left, and_right, and_parts}
 use Rattle.std.proofs.lemmas.Nat.{le-div, div-add-mod'}
+use Rattle.std.proofs.lemmas.Bool.Decides.{nat_tests}
 use Rattle.block_store.specs.declared.Config.{Config}
 use Rattle.block_store.specs.Phases.{bit}
 use Rattle.block_store.specs.Counts.{total}
@@ -9,10 +10,10 @@ use Rattle.work_account.specs.Accounts.{Balance, with_unit, IsSound, units_in}
 use Rattle.block_store.proofs.Functions.{total_part, bit_le, bit_one}
 use Rattle.work_account.proofs.Balances.{unit_sound}
 use Rattle.cycle_tally.specs.Tallies.{Spending, Tally, claims}
-use Rattle.cycle_tally.specs.Events.{Paint, Scan, Claim, Pass, apply, NoClaim}
+use Rattle.cycle_tally.specs.Events.{Paint, Scan, Claim, Pass, apply, Guard}
 use Rattle.cycle_tally.specs.Kept.{SpendingKept, TallyKept}
 use Rattle.cycle_tally.proofs.Sums.{rises, units_more, no_claims, claims_within, claims_below, claims_above}
-use Rattle.cycle_tally.proofs.Going.{goes}
+use Rattle.cycle_tally.proofs.Going.{goes, stays}
 
 module _ (c : Config) (rate : ℕ) (black : ℕ → ℕ) (some : 0 < rate) (s : Tally)
     (k : TallyKept c rate black s) where
@@ -24,31 +25,18 @@ module _ (c : Config) (rate : ℕ) (black : ℕ → ℕ) (some : 0 < rate) (s : 
     | inr ne ↦ (let z : bit (eqb a b) ≡ 0 = ap bit (ne_eqb a b ne) in omega (arith, h))
   ]
 
-  pub paints : (x w : ℕ) → (s.sweep ≡ false → s.colour x ≡ black s.cycle → w ≡ black s.cycle)
+  pub paints : (x w : ℕ) → Guard c rate black s (Paint x w)
       → TallyKept c rate black (apply c rate black s (Paint x w))
-  paints x w stays = record {
-    starts = k.starts;
-    some = k.some;
-    each = k.each;
+  paints x w g = stays c rate black some s k (apply c rate black s (Paint x w)) (record {
     cursor = k.cursor;
-    passes = k.passes;
-    counted = k.counted;
-    handed = k.handed;
-    ended = k.ended;
-    room = k.room;
-    few = k.few;
-    many = k.many;
-    works = k.works;
-    cheap = k.cheap;
-    right = k.right;
-    entries = k.entries;
-    licensed = k.licensed;
     scans = λ y. elim (cases_eq x y) [
       | inl e ↦ rw (eq-eqb x y e) (repaint s.sweep (s.colour y) w (black s.cycle) (s.scanned y)
-          (k.scans y) (λ mark is. stays mark (ap s.colour e ∙ is)))
+          (k.scans y) (λ mark is. g mark (ap s.colour e ∙ is)))
       | inr ne ↦ rw (ne_eqb x y ne) (k.scans y)
     ];
-  }
+    passes = λ x pos. refl;
+    free = omega arith;
+  })
 
   -- a thread makes a unit
   pub spends : (t : ℕ) (w : Spending) → t < c.threads → (s.threads t).inside ≡ true
@@ -77,19 +65,17 @@ module _ (c : Config) (rate : ℕ) (black : ℕ → ℕ) (some : 0 < rate) (s : 
         reserved = λ h. absurd (let q = (o.reserved (λ e. h (r ∙ e))).2 in omega arith);
       }
 
-  pub scans_one : (t x : ℕ) → t < c.threads → (s.threads t).inside ≡ true → s.sweep ≡ false → 0 < x
-      → x ≤ c.blocks → s.colour x ≢ black s.cycle
-      → (s.threads t).balance.paid < rate * (s.threads t).asked → NoClaim (s.threads t)
+  pub scans_one : (t x : ℕ) → Guard c rate black s (Scan t x)
       → TallyKept c rate black (apply c rate black s (Scan t x))
-  scans_one t x tl inside mark pos low grey less none =
+  scans_one t x g =
       let w0 : Spending = s.threads t in
       let w : Spending = record w0 { balance = with_unit w0.balance } in
-      let o = k.each t tl in
-      let up = rises c.blocks s.scanned x pos low in
+      let o = k.each t g.0 in
+      let up = rises c.blocks s.scanned x g.3 g.4 in
       let uu : units_in s.cycle (with_unit w0.balance) ≡ units_in s.cycle w0.balance + 1 =
-      units_more s.cycle w0.balance (o.present inside) in
-      goes c rate black some s k t w (apply c rate black s (Scan t x)) tl
-      (spends t w tl inside less inside refl refl refl (λ h. absurd (omega arith)))
+      units_more s.cycle w0.balance (o.present g.1) in
+      goes c rate black some s k t w (apply c rate black s (Scan t x)) g.0
+      (spends t w g.0 g.1 g.6 g.1 refl refl refl (λ h. absurd (omega (arith, g.7))))
       (record {
         cursor = k.cursor;
         scans = λ y. elim (cases_eq x y) [
@@ -98,8 +84,8 @@ module _ (c : Config) (rate : ℕ) (black : ℕ → ℕ) (some : 0 < rate) (s : 
               ap bit (Rattle.std.proofs.lemmas.Bool.or_right s.sweep true refl) in
               let old : bit (s.sweep || eqb (s.colour x) (black s.cycle)) ≡ 0 =
               ap bit (Rattle.std.proofs.lemmas.Bool.or_from s.sweep
-              (eqb (s.colour x) (black s.cycle)) mark
-              (ne_eqb (s.colour x) (black s.cycle) grey)) in
+              (eqb (s.colour x) (black s.cycle)) g.2
+              (grind (arith, nat_tests, g.5))) in
               rw (eq-eqb x y e, eq-eqb (black s.cycle) (black s.cycle) refl)
               (omega (arith, k.scans x))
           | inr ne ↦ rw (ne_eqb x y ne) (k.scans y)
@@ -111,15 +97,13 @@ module _ (c : Config) (rate : ℕ) (black : ℕ → ℕ) (some : 0 < rate) (s : 
         paid = omega arith;
       })
 
-  pub claims_more : (t r : ℕ) → t < c.threads → (s.threads t).inside ≡ true → s.sweep ≡ true
-      → s.cursor + r ≤ c.blocks + 1 → (s.threads t).balance.paid + r ≤ rate * (s.threads t).asked
-      → NoClaim (s.threads t) → TallyKept c rate black
-      (apply c rate black s (Claim t r))
-  claims_more t r tl inside sw low owed none =
+  pub claims_more : (t r : ℕ) → Guard c rate black s (Claim t r)
+      → TallyKept c rate black (apply c rate black s (Claim t r))
+  claims_more t r g =
       let w0 : Spending = s.threads t in
       let w : Spending = record w0 { low = s.cursor; high = s.cursor + r } in
-      let o = k.each t tl in
-      goes c rate black some s k t w (apply c rate black s (Claim t r)) tl
+      let o = k.each t g.0 in
+      goes c rate black some s k t w (apply c rate black s (Claim t r)) g.0
       (record {
         sound = o.sound;
         entered = o.entered;
@@ -127,17 +111,17 @@ module _ (c : Config) (rate : ℕ) (black : ℕ → ℕ) (some : 0 < rate) (s : 
         asked = o.asked;
         owed = o.owed;
         reserved = o.reserved;
-        claimed = λ h. (k.cursor.0, inside, omega arith);
+        claimed = λ h. (k.cursor.0, g.1, omega (arith, g.4));
       })
       (record {
-        cursor = (omega (arith, k.cursor.0), low);
+        cursor = (omega (arith, k.cursor.0), omega (arith, g.3));
         scans = k.scans;
         passes = λ x pos.
-            let before : claims x w0 ≡ 0 = no_claims x w0 none in
+            let before : claims x w0 ≡ 0 = no_claims x w0 g.5 in
             let old : bit (s.sweep && ltb x s.cursor) ≡ bit (ltb x s.cursor) =
-            ap (λ b. bit (b && ltb x s.cursor)) sw in
+            ap (λ b. bit (b && ltb x s.cursor)) g.2 in
             let new : bit (s.sweep && ltb x (s.cursor + r)) ≡ bit (ltb x (s.cursor + r)) =
-            ap (λ b. bit (b && ltb x (s.cursor + r))) sw in
+            ap (λ b. bit (b && ltb x (s.cursor + r))) g.2 in
             elim (cases_lt x s.cursor) [
               | inl l ↦
                   let a : bit (ltb x s.cursor) ≡ 1 = ap bit (lt-ltb x s.cursor l) in
@@ -145,13 +129,13 @@ module _ (c : Config) (rate : ℕ) (black : ℕ → ℕ) (some : 0 < rate) (s : 
                   ap bit (lt-ltb x (s.cursor + r) (omega arith)) in
                   let d : claims x w ≡ 0 = claims_below x w l in
                   omega (arith, k.passes x pos)
-              | inr g ↦
-                  let a : bit (ltb x s.cursor) ≡ 0 = ap bit (le-ltb x s.cursor g) in
+              | inr past ↦
+                  let a : bit (ltb x s.cursor) ≡ 0 = ap bit (le-ltb x s.cursor past) in
                   elim (cases_lt x (s.cursor + r)) [
                     | inl l ↦
                         let b : bit (ltb x (s.cursor + r)) ≡ 1 =
                         ap bit (lt-ltb x (s.cursor + r) l) in
-                        let d : claims x w ≡ 1 = claims_within x w g l in
+                        let d : claims x w ≡ 1 = claims_within x w past l in
                         omega (arith, k.passes x pos)
                     | inr h ↦
                         let b : bit (ltb x (s.cursor + r)) ≡ 0 =
@@ -189,19 +173,19 @@ module _ (c : Config) (rate : ℕ) (black : ℕ → ℕ) (some : 0 < rate) (s : 
       let below : x < s.cursor = ltb-true x s.cursor (and_parts s.sweep (ltb x s.cursor) there).1 in
       omega (arith, k.cursor.1)
 
-  pub passes_one : (t : ℕ) → t < c.threads → (s.threads t).low < (s.threads t).high
+  pub passes_one : (t : ℕ) → Guard c rate black s (Pass t)
       → TallyKept c rate black (apply c rate black s (Pass t))
-  passes_one t tl some_left =
+  passes_one t g =
       let w0 : Spending = s.threads t in
       let w : Spending = record w0 { low = w0.low + 1; balance = with_unit w0.balance } in
-      let o = k.each t tl in
-      let cl = o.claimed some_left in
-      let low : w0.low ≤ c.blocks = claim_low t tl cl.0 some_left in
+      let o = k.each t g.0 in
+      let cl = o.claimed g.1 in
+      let low : w0.low ≤ c.blocks = claim_low t g.0 cl.0 g.1 in
       let up = rises c.blocks s.passed w0.low cl.0 low in
       let uu : units_in s.cycle (with_unit w0.balance) ≡ units_in s.cycle w0.balance + 1 =
       units_more s.cycle w0.balance (o.present cl.1) in
-      goes c rate black some s k t w (apply c rate black s (Pass t)) tl
-      (spends t w tl cl.1 (omega (arith, cl.2)) cl.1 refl refl refl
+      goes c rate black some s k t w (apply c rate black s (Pass t)) g.0
+      (spends t w g.0 cl.1 (omega (arith, cl.2)) cl.1 refl refl refl
       (λ h. (omega arith, omega (arith, cl.2))))
       (record {
         cursor = k.cursor;
@@ -209,7 +193,7 @@ module _ (c : Config) (rate : ℕ) (black : ℕ → ℕ) (some : 0 < rate) (s : 
         passes = λ x pos.
             elim (cases_eq w0.low x) [
               | inl e ↦
-                  let a : claims x w0 ≡ 1 = claims_within x w0 (omega arith) (omega arith) in
+                  let a : claims x w0 ≡ 1 = claims_within x w0 (omega arith) (omega (arith, g.1)) in
                   let b : claims x w ≡ 0 = claims_below x w (omega arith) in
                   let same : s.passed w0.low ≡ s.passed x = ap s.passed e in
                   rw (eq-eqb w0.low x e) (omega (arith, k.passes x pos))

@@ -4,8 +4,6 @@ use Rattle.std.proofs.lemmas.Bool.{cases_lt}
 use Rattle.std.proofs.lemmas.List.{get_or_past}
 use Rattle.block_store.specs.declared.Config.{Config}
 use Rattle.block_store.specs.declared.PhaseWord.{PhaseWord}
-use Rattle.block_store.specs.Counts.{total}
-use Rattle.block_store.specs.Heaps.{Heap}
 use Rattle.block_store.specs.Phases.{bit, inside_of, is_closed, is_sweep, cycle_of}
 use Rattle.block_store.specs.Places.{Phase, Cursor, extent, is_block, ColourOf}
 use Rattle.block_store.proofs.Functions.{funext, total_none}
@@ -26,7 +24,7 @@ use Rattle.heap_system.specs.Openings.{opening_phase}
 use Rattle.heap_system.specs.Pictures.{gating, holding, gates_in, holdings_in, tasks_in}
 use Rattle.heap_system.specs.Systems.{units_of}
 use Rattle.heap_system.proofs.Grounds.{opening_held}
-use Rattle.heap_system.proofs.Kept.{LocalKept, progress, Kept}
+use Rattle.heap_system.proofs.Kept.{LocalKept, Kept}
 use Rattle.heap_system.proofs.Openings.{opening_rules, opening_names_kept}
 use Rattle.heap_system.proofs.PartLaws.{PartLaws}
 use Rattle.heap_system.proofs.Paying.{each_at}
@@ -61,9 +59,6 @@ first_phase w is =
     }
 
 module _ (c : Config) (traces : List (List Command)) (job : IsJob c traces) (s : State) (start : IsOpening c traces s) where
-  abbrev starting : ℕ → LocalState
-  starting t = at_start c start.rate (start.space t) t (get_or traces t [])
-
   pub here : (t : ℕ) → t < c.threads → local_at c s t ≡ at_start c start.rate (start.space t) t (get_or traces t [])
   here t tl =
       let e : 0 + t ≡ t = omega arith in

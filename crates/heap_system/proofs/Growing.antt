@@ -1,5 +1,5 @@
 -- What an event adds to the order, and what it leaves of other threads.
-use Rattle.std.proofs.Common.{zero, suc, ◌≡◌, ℕ, ◌+◌, ◌<◌, ◌≤◌, Bool, cond, eq-eqb, ne_eqb, Option, Some, None, List, [], ◌∷◌, ◌++◌, length, get_or, append_assoc, append-nil, length-append, set, refl, sym, ap, ◌∙◌, arith, map, take}
+use Rattle.std.proofs.Common.{zero, suc, ◌≡◌, ℕ, ◌+◌, ◌<◌, ◌≤◌, cond, eq-eqb, ne_eqb, Some, List, [], ◌∷◌, ◌++◌, length, get_or, append-nil, length-append, set, refl, sym, ap, ◌∙◌, arith, map, take}
 use Rattle.std.proofs.Math.Seq.{take-suc}
 use Rattle.std.proofs.lemmas.List.{map-append}
 use Rattle.block_store.specs.declared.Config.{Config}
@@ -10,14 +10,14 @@ use Rattle.never_heap.specs.declared.Entry.{Entry}
 use Rattle.never_heap.specs.declared.Reply.{Reply}
 use Rattle.never_heap.specs.declared.Reply.TheVariants as replies
 use Rattle.never_heap.specs.Graphs.{Graph, register_of, count_of}
-use Rattle.never_heap.specs.Histories.{HistoryItem, Did, replay, part, work_in}
+use Rattle.never_heap.specs.Histories.{HistoryItem, replay, part, work_in}
 use Rattle.never_heap.specs.RightWork.{units_owed}
 use Rattle.never_heap.specs.Steps.{step, makes_object}
 use Rattle.never_heap.proofs.Growing.{part_append, work_append}
 use Rattle.never_heap.proofs.Stepping.{change_of, count_of_other}
 use Rattle.heap_system.specs.Locals.{LocalState, Verdict, Open, AsStep, Refused, made_got, entry_of, works}
 use Rattle.heap_system.specs.Machines.{entries_by, starts_by}
-use Rattle.heap_system.specs.Naming.{Naming, Same, Begun}
+use Rattle.heap_system.specs.Naming.{Naming, Begun}
 use Rattle.heap_system.specs.Systems.{units_of}
 use Rattle.heap_system.specs.Units.{IsRight}
 use Rattle.heap_system.proofs.Paying.{works_append}

@@ -12,10 +12,13 @@ pub mod Openings
 pub mod Passing
 pub mod parts
 pub mod LawsOf
+pub mod Stocks
+pub mod Supplying
 pub mod Always
 pub mod Starting
 pub mod Reached
 pub mod Told
+pub mod Collecting
 pub mod Waiting
 pub mod Making
 pub mod Jobs

@@ -5,7 +5,6 @@ use Rattle.block_store.specs.declared.Config.{Config}
 use Rattle.block_store.specs.Phases.{bit}
 use Rattle.never_heap.specs.declared.Command.{Command}
 use Rattle.never_heap.specs.Histories.{part, replay}
-use Rattle.heap_machine.specs.Operations.{place_of}
 use Rattle.heap_system.specs.declared.local.Part.{Part}
 use Rattle.heap_system.specs.declared.local.Part.TheVariants.{Sweep}
 use Rattle.heap_system.specs.Locals.{LocalState, command_of, is_done, effect, part_want, makes_unit, paid_got, works}
@@ -17,7 +16,7 @@ use Rattle.heap_system.proofs.Kept.{Kept}
 use Rattle.heap_system.proofs.LawsOf.{laws_of}
 use Rattle.heap_system.proofs.Paying.{works_append}
 use Rattle.heap_system.proofs.Seeing.{told_by}
-use Rattle.heap_system.proofs.Turning.{seen, at_part, local_new, word_is, word_here, effect_here, new_run, next_is, event}
+use Rattle.heap_system.proofs.Turning.{seen, at_part, local_new, word_is, word_here, new_run, next_is, event}
 use Rattle.heap_system.proofs.Always.{here, opening_kept, turn_kept}
 
 -- the events that pass a block are units

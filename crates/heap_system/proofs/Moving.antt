@@ -14,7 +14,7 @@ use Rattle.heap_machine.specs.declared.pass.Pass.{Pass}
 use Rattle.kept_names.specs.Pictures.{Names}
 use Rattle.heap_system.specs.declared.local.Part.{Part}
 use Rattle.heap_system.specs.declared.local.Part.TheVariants.{Leave}
-use Rattle.heap_system.specs.Locals.{LocalState, command_of, owed, errand_of, effect, part_got, pass_got, paid_got, made_got, Verdict, entry_of, entries_of, works, unit_to_come, PartFits, IsRoomy, IsLocal}
+use Rattle.heap_system.specs.Locals.{LocalState, command_of, owed, errand_of, effect, part_got, pass_got, paid_got, made_got, Verdict, entry_of, entries_of, works, unit_to_come, PartFits, IsRoomy}
 use Rattle.heap_system.specs.Pictures.{stand_of, waiting}
 use Rattle.heap_system.specs.Units.{IsRight}
 use Rattle.heap_system.proofs.Growing.{said_more, right_more, made_more}
@@ -125,9 +125,6 @@ module _ (c : Config) (given : List Command) (g : Graph) (order longer : List Hi
   }
 
   module _ (r : Reply) where
-    abbrev log_with : List Entry
-    log_with = l.log ++ entry_of t (command_of l) l.paid r ∷ []
-
     longer_by : length (l.log ++ entry_of t (command_of l) l.paid r ∷ []) ≡ suc (length l.log)
     longer_by = length-append l.log (entry_of t (command_of l) l.paid r ∷ []) ∙ omega arith
 

@@ -1,5 +1,5 @@
 -- What stands in the arrays of the opening heap.
-use Rattle.std.proofs.Common.{◌≡◌, ℕ, ◌+◌, ◌*◌, ◌<◌, ◌≤◌, true, cond, Some, refl, sym, ap, ◌∙◌, arith, ne_eqb, List, length, get_or, set, inl, inr, get_or-set_same, get_or-set_other}
+use Rattle.std.proofs.Common.{◌≡◌, ℕ, ◌+◌, ◌<◌, ◌≤◌, true, cond, Some, refl, sym, ap, ◌∙◌, arith, ne_eqb, List, length, get_or, set, inl, inr, get_or-set_same, get_or-set_other}
 use Rattle.std.proofs.lemmas.Bool.{cases_eq}
 use Rattle.block_store.specs.declared.Config.{Config}
 use Rattle.block_store.specs.declared.Value.TheVariants.{Nil, Ref}

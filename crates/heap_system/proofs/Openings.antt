@@ -1,37 +1,34 @@
 -- The opening keeps the rules on its blocks, and on its names.
-use Rattle.std.proofs.Common.{◌≡◌, ◌≢◌, ℕ, zero, suc, ◌+◌, ◌-◌, ◌<◌, ◌≤◌, ◌&&◌, Bool, true, false, cond, eqb, leb, ltb, eqb-true, leb-true, eq-eqb, ne_eqb, lt-ltb, le-ltb, le-leb, None, [], ◌∷◌, refl, sym, ap, ◌∙◌, subst, arith, inl, inr, ◌⊎◌}
-use Rattle.std.proofs.lemmas.Bool.{cases_Bool, cases_lt, cases_eq, and_parts, and_from}
+use Rattle.std.proofs.Common.{◌≡◌, ◌≢◌, ℕ, ◌+◌, ◌-◌, ◌<◌, ◌≤◌, ◌&&◌, Bool, true, false, cond, eqb, leb, ltb, leb-true, ne_eqb, lt-ltb, le-ltb, le-leb, [], ◌∷◌, refl, sym, ap, ◌∙◌, subst, arith, inl, inr, ◌⊎◌}
+use Rattle.std.proofs.lemmas.Bool.{cases_Bool, cases_lt, cases_eq, and_from}
 use Rattle.block_store.specs.declared.Config.{Config}
-use Rattle.block_store.specs.declared.Name.{Name}
 use Rattle.block_store.specs.Configs.{IsInBounds}
 use Rattle.block_store.specs.Colours.{is_grey, is_free, grey_word, white_word, black_word, free_word}
-use Rattle.block_store.specs.Counts.{total}
 use Rattle.block_store.specs.Heaps.{Heap}
-use Rattle.block_store.specs.Payloads.{target, reference_word}
+use Rattle.block_store.specs.Payloads.{target}
 use Rattle.block_store.specs.Phases.{bit, is_sweep, cycle_of}
 use Rattle.block_store.specs.Places.{Place, Phase, Cursor, FreeCount, FreeList, ColourOf, OwnerOf, ShapeOf, PayloadOf, extent, in_range, is_block}
 use Rattle.block_store.specs.Registers.{root_block, registers_end, register_ordinal, register_thread}
 use Rattle.block_store.specs.Widths.{payloads}
-use Rattle.block_store.proofs.ColourWords.{kind-zero, not_grey_white, not_grey_free, not_grey_black, not_free_grey, not_free_white, not_free_black, black-white, grey-black, free-black, grey_grey, free_free}
+use Rattle.block_store.proofs.ColourWords.{kind-zero, not_free_black, black-white, grey-black, grey_grey, free_free}
 use Rattle.block_store.proofs.Functions.{total_none}
 use Rattle.block_store.proofs.PayloadWords.{target-reference, target-nil}
-use Rattle.block_store.proofs.Registers.{root_in, root_some, root_is, thread_low}
+use Rattle.block_store.proofs.Registers.{root_in, root_some}
 use Rattle.rate_plan.specs.Rates.{IsAdmitted}
 use Rattle.array_trees.specs.Openings.{opening_blocks}
 use Rattle.never_heap.specs.Graphs.{start_graph}
 use Rattle.never_heap.specs.Histories.{Started}
-use Rattle.shown_graph.specs.Events.{opening_state, unloaded}
+use Rattle.shown_graph.specs.Events.{opening_state}
 use Rattle.shown_graph.specs.Openings.{opening_at, opening_words}
-use Rattle.shown_graph.specs.Shown.{none_pending}
 use Rattle.shown_graph.specs.Words.{BlockWords, block_words, Agrees}
 use Rattle.shown_graph.proofs.Opening.{opening_shows}
 use Rattle.shown_graph.proofs.Stores.{words_change}
-use Rattle.heap_machine.specs.FreeBlocks.{FreeKept, no_free}
+use Rattle.heap_machine.specs.FreeBlocks.{FreeKept}
 use Rattle.heap_machine.specs.Holdings.{Holding, holds_nothing, grey_held, free_held, sweep_held, tricolour_held}
 use Rattle.heap_machine.specs.PhaseKept.{PhaseKept}
-use Rattle.heap_machine.specs.Sweeping.{SweepHolding, SweepKept, no_claim, has_claimed}
+use Rattle.heap_machine.specs.Sweeping.{SweepKept, no_claim, has_claimed}
 use Rattle.heap_machine.specs.Solid.{SolidKept}
-use Rattle.heap_machine.specs.Tricolour.{TricolourHolding, TricolourKept, no_tricolour}
+use Rattle.heap_machine.specs.Tricolour.{TricolourKept}
 use Rattle.heap_machine.proofs.Opening.{free_opens}
 use Rattle.kept_names.specs.Colouring.{NotRoot}
 use Rattle.kept_names.specs.Kept.{IsKept}

@@ -1,20 +1,19 @@
 -- What a thread keeps at the gate on its way in and out.
-use Rattle.std.proofs.Common.{◌≡◌, ℕ, ◌+◌, ◌*◌, ◌-◌, ◌<◌, ◌≤◌, Bool, true, false, cond, Option, Some, None, List, [], ◌∷◌, ◌++◌, append-nil, refl, sym, ap, ◌∙◌, subst, arith}
+use Rattle.std.proofs.Common.{◌≡◌, ℕ, ◌+◌, ◌*◌, ◌-◌, ◌<◌, ◌≤◌, true, cond, Option, None, List, [], ◌++◌, append-nil, refl, sym, ap, ◌∙◌, subst, arith}
 use Rattle.block_store.specs.declared.Config.{Config}
 use Rattle.block_store.specs.declared.PhaseWord.{PhaseWord}
 use Rattle.block_store.specs.Counts.{changed}
 use Rattle.block_store.specs.Heaps.{Heap, put_at}
-use Rattle.block_store.specs.Phases.{bit, inside_of, is_closed, is_sweep, cycle_of}
+use Rattle.block_store.specs.Phases.{inside_of, is_closed, is_sweep, cycle_of}
 use Rattle.block_store.specs.Places.{Phase, Cursor, extent}
 use Rattle.block_store.proofs.Functions.{changed_self}
 use Rattle.block_store.proofs.PhaseWords.{phase-less}
 use Rattle.block_store.proofs.Registers.{end_more}
 use Rattle.rate_plan.specs.Rates.{IsAdmitted}
-use Rattle.never_heap.specs.declared.Reply.{Reply}
 use Rattle.never_heap.specs.Graphs.{Graph}
 use Rattle.never_heap.specs.Histories.{HistoryItem}
-use Rattle.heap_machine.specs.Gating.{Gating, GateOf, Inside, Outside}
-use Rattle.heap_machine.specs.Holdings.{Holding, holds_nothing}
+use Rattle.heap_machine.specs.Gating.{GateOf, Inside}
+use Rattle.heap_machine.specs.Holdings.{holds_nothing}
 use Rattle.heap_machine.specs.PhaseKept.{PhaseKept}
 use Rattle.heap_machine.specs.Readings.{IsPhaseWord, IsHeld}
 use Rattle.heap_machine.specs.declared.Step.{Step}
@@ -30,7 +29,7 @@ use Rattle.heap_system.specs.declared.local.Part.{Part}
 use Rattle.heap_system.specs.declared.local.Part.TheVariants.{Rest}
 use Rattle.heap_system.specs.Locals.{plain, pass_got, entries_of, task, unit_to_come, PartFits, IsRoomy}
 use Rattle.heap_system.specs.Pictures.{gating, holding, waiting}
-use Rattle.heap_system.proofs.Seeing.{stage, stage_of, PartKept, Knows, IsSettled, lead, Forward, Seen, EventKept}
+use Rattle.heap_system.proofs.Seeing.{stage, stage_of, PartKept, Knows, IsSettled, lead, Seen, EventKept}
 
 -- a word that counts one inside is not 0
 pub inside_low : (w : ℕ) → 1 ≤ inside_of w → 1 ≤ w

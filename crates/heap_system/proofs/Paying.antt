@@ -1,5 +1,5 @@
 -- What a thread owes and has paid, and the ranges of the parts that it comes to.
-use Rattle.std.proofs.Common.{◌≡◌, ℕ, zero, suc, ◌+◌, ◌-◌, ◌*◌, ◌<◌, ◌≤◌, ◌^◌, Bool, true, false, not, ◌&&◌, ◌||◌, cond, ltb, eqb, ltb-true, ltb-false, eqb-true, refl, sym, ap, ◌∙◌, subst, arith, List, [], ◌∷◌, ◌++◌, length, length-append, append-nil, get_or, take, Option, Some, None, IfSome, is_some, inl, inr, mul_comm}
+use Rattle.std.proofs.Common.{◌≡◌, ℕ, zero, suc, ◌+◌, ◌*◌, ◌<◌, ◌≤◌, ◌^◌, Bool, true, false, not, ◌&&◌, ◌||◌, cond, ltb, eqb, ltb-true, refl, sym, ap, ◌∙◌, subst, arith, List, [], ◌∷◌, ◌++◌, length, length-append, append-nil, get_or, take, Some, is_some, inl, inr, mul_comm}
 use Rattle.std.proofs.lemmas.Bool.{cases_Bool, cases_lt, lt-ltb}
 use Rattle.std.proofs.lemmas.List.{get_or_past}
 use Rattle.std.proofs.Math.Nat.{mul-le-mul_right}
@@ -7,7 +7,7 @@ use Rattle.block_store.specs.declared.Config.{Config}
 use Rattle.block_store.specs.declared.PhaseWord.{PhaseWord}
 use Rattle.block_store.specs.declared.Width.{Width}
 use Rattle.block_store.specs.Configs.{IsInBounds}
-use Rattle.block_store.specs.Phases.{bit, is_closed, cycle_of}
+use Rattle.block_store.specs.Phases.{bit}
 use Rattle.block_store.specs.Places.{Extent}
 use Rattle.block_store.specs.Registers.{registers_end, root_block}
 use Rattle.block_store.proofs.Registers.{end_more}
@@ -24,7 +24,7 @@ use Rattle.never_heap.specs.Bounds.{IsCommandInBounds}
 use Rattle.never_heap.specs.Jobs.{IsTraceInBounds}
 use Rattle.never_heap.specs.Steps.{blocks_of, makes_object}
 use Rattle.never_heap.proofs.Ranges as ranges
-use Rattle.heap_machine.specs.Gates.{gate_got, gate_step, gate_entered, closed_by, is_going_in, is_of_pass, is_empty, GateFits, GateAt}
+use Rattle.heap_machine.specs.Gates.{gate_got, closed_by, is_going_in, is_of_pass, is_empty, GateFits, GateAt}
 use Rattle.heap_machine.proofs.GateRows.{gate_fits}
 use Rattle.heap_machine.specs.Passes.{IsPass}
 use Rattle.heap_machine.specs.Turning.{turns_over}
@@ -51,7 +51,7 @@ use Rattle.heap_system.specs.declared.local.Local.TheInside.{Inside}
 use Rattle.heap_system.specs.declared.local.Part.{Part}
 use Rattle.heap_system.specs.declared.local.Part.TheVariants.{Rest, Enter, Serve, Mark, Sweep, Build, TurnOver, Leave}
 use Rattle.heap_system.specs.Machines.{IsJob}
-use Rattle.heap_system.specs.Locals.{LocalState, Errand, IsLocal, PartFits, PartReads, IsPassAt, IsRoomy, HasRoom, errand_of, command_of, owed, pass_by, first_part, if_over, local_got, is_last, unit_to_come, works, entry_of, made_got}
+use Rattle.heap_system.specs.Locals.{LocalState, IsLocal, PartFits, PartReads, IsRoomy, HasRoom, errand_of, command_of, owed, pass_by, if_over, local_got, is_last, unit_to_come, works, entry_of, made_got}
 
 -- what is seen of a thread
 abbrev pub view_of : Inside → LocalState

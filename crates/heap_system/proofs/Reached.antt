@@ -8,7 +8,6 @@ use Rattle.block_store.specs.declared.Width.{Width}
 use Rattle.block_store.specs.Phases.{cycle_of}
 use Rattle.block_store.specs.Places.{Phase, extent, words_count}
 use Rattle.rate_plan.specs.Rates.{IsRate}
-use Rattle.never_heap.specs.declared.Command.{Command}
 use Rattle.never_heap.specs.declared.Entry.{Entry}
 use Rattle.never_heap.specs.Histories.{HistoryItem, Started, Did, replay, part, parts_from}
 use Rattle.never_heap.specs.RightWork.{RightWork, units_owed}

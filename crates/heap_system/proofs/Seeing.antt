@@ -34,7 +34,7 @@ use Rattle.build_steps.specs.Naming.{HoldsBuild}
 use Rattle.kept_names.specs.Kept.{IsKept}
 use Rattle.kept_names.specs.Pictures.{Names, Task, no_task, picture}
 use Rattle.heap_system.specs.declared.local.Part.{Part}
-use Rattle.heap_system.specs.declared.local.Part.TheVariants.{Rest, Enter, Serve, Mark, Sweep, Build, Again, Idle, TurnOver, Leave}
+use Rattle.heap_system.specs.declared.local.Part.TheVariants.{Rest, Enter, Serve, Mark, Sweep, Build, Idle, TurnOver, Leave}
 use Rattle.heap_system.specs.Locals.{Errand, Effect, Verdict, Open, AsStep, Refused, task, pass_got, paid_got, made_got, entry_of, entries_of, works, unit_to_come, PartFits, IsRoomy}
 use Rattle.heap_system.specs.Machines.{starts_by}
 use Rattle.heap_system.specs.Naming.{renamed}

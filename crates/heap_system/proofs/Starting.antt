@@ -9,7 +9,7 @@ use Rattle.rate_plan.proofs.Plans.{found}
 use Rattle.never_heap.specs.declared.Command.{Command}
 use Rattle.never_heap.specs.Jobs.{IsTraceInBounds}
 use Rattle.heap_system.specs.Locals.{LocalState, works, at_start}
-use Rattle.heap_system.specs.Machines.{State, no_local, local_at, IsJob, IsOpening, starts_from, opened, IsRunOf}
+use Rattle.heap_system.specs.Machines.{State, no_local, IsJob, IsOpening, starts_from, opened, IsRunOf}
 use Rattle.heap_system.specs.Systems.{traces_of, units_of, IsReached}
 use Rattle.heap_system.proofs.Paying.{each_at}
 

@@ -1,5 +1,5 @@
 -- The laws, from what every run keeps.
-use Rattle.std.proofs.Common.{◌≤◌, ◌≡◌, ℕ, ◌<◌, ◌+◌, ◌*◌, true, false, List, ◌++◌, ◌∷◌, [], append-nil, length, sym, ap, ◌∙◌, subst, arith}
+use Rattle.std.proofs.Common.{◌≤◌, ◌≡◌, ℕ, ◌<◌, ◌*◌, true, false, List, ◌++◌, ◌∷◌, [], append-nil, length, sym, ap, ◌∙◌, subst, arith}
 use Rattle.block_store.specs.Places.{extent, GreyList}
 use Rattle.block_store.specs.declared.Config.{Config}
 use Rattle.never_heap.specs.declared.Command.{Command}
@@ -81,15 +81,3 @@ module _ (c : Config) (traces : List (List Command)) (r : Run) (k : Kept c trace
 
   pub entries_right : (rate : ℕ) → IsRate c rate → IsRight c.width rate (part t r.order)
   entries_right rate is = subst (λ n. IsRight c.width n (part t r.order)) (one_rate c (local_at c r.state t).rate rate rate_is is) (k.locals t tl).right
-
-  -- where it puts its hand, its list is empty
-  pub put_empty : (m : GreyState) → (local_at c r.state t).part ≡ Mark m → is_putting m.row ≡ true
-      → (part_want c (local_at c r.state t).part ≡ Exchange (GreyList t) (holding c (local_at c r.state t).part).hand) × (heap_in c r.state (GreyList t) ≡ 0)
-  put_empty m is putting =
-      let stands : MarkKept t (local_at c r.state t).pass m = kept_at (Mark m) is in
-      let fits : PartFits c (length (local_at c r.state t).log) (length (local_at c r.state t).trace) (local_at c r.state t).pass (Mark m) =
-      subst (λ p. PartFits c (length (local_at c r.state t).log) (length (local_at c r.state t).trace) (local_at c r.state t).pass p) is (subst (λ x. PartFits x (length (local_at c r.state t).log) (length (local_at c r.state t).trace) (local_at c r.state t).pass (local_at c r.state t).part) (k.locals t tl).config (k.locals t tl).fits.part) in
-      let e = put_on_empty c (heap_in c r.state) (λ u. grey_held (holdings_in c r.state u)) m fits.0 k.rules.grey (ap (λ u. grey_held (holdings_in c r.state u)) stands.thread ∙ ap (λ p. grey_held (holding c p)) is) putting in (
-        ap (part_want c) is ∙ e.0 ∙ ap (λ u. Exchange (GreyList u) (holding_at (extent c) m).hand) stands.thread ∙ sym (ap (λ p. Exchange (GreyList t) (holding c p).hand) is),
-        subst (λ u. heap_in c r.state (GreyList u) ≡ 0) stands.thread e.1,
-      )

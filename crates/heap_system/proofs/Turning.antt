@@ -1,5 +1,5 @@
 -- A turn keeps what every list of turns keeps.
-use Rattle.std.proofs.Common.{zero, suc, ◌*◌, ◌^◌, ◌≡◌, ℕ, ◌+◌, ◌-◌, ◌<◌, ◌≤◌, Bool, true, false, cond, eqb, lt-ltb, eq-eqb, ne_eqb, ◌&&◌, Option, Some, None, List, [], ◌∷◌, ◌++◌, length, get_or, append-nil, length-set, refl, sym, ap, ◌∙◌, subst, arith, inl, inr}
+use Rattle.std.proofs.Common.{zero, suc, ◌*◌, ◌^◌, ◌≡◌, ℕ, ◌+◌, ◌-◌, ◌<◌, ◌≤◌, Bool, true, false, cond, eqb, lt-ltb, eq-eqb, ne_eqb, ◌&&◌, List, [], ◌++◌, length, get_or, append-nil, length-set, refl, sym, ap, ◌∙◌, subst, arith, inl, inr}
 use Rattle.std.proofs.lemmas.Bool.{cases_Bool, cases_eq}
 use Rattle.std.specs.List.{AllByRecursion}
 use Rattle.block_store.specs.declared.Config.{Config}
@@ -8,19 +8,17 @@ use Rattle.block_store.specs.Counts.{changed, total}
 use Rattle.block_store.specs.Heaps.{Heap}
 use Rattle.block_store.specs.Phases.{bit, is_closed, is_sweep, cycle_of}
 use Rattle.block_store.specs.Places.{Phase, Cursor, extent, in_range}
-use Rattle.block_store.proofs.Functions.{funext, bit_one, bit_zero, total_changed, total_part, total_parts, total_same}
+use Rattle.block_store.proofs.Functions.{funext, bit_one, bit_zero, total_changed, total_parts, total_same}
 use Rattle.rate_plan.specs.Rates.{IsAdmitted}
 use Rattle.never_heap.specs.declared.Command.{Command}
-use Rattle.never_heap.specs.declared.Entry.{Entry}
-use Rattle.never_heap.specs.declared.Reply.{Reply}
 use Rattle.never_heap.specs.Bounds.{IsCommandInBounds}
 use Rattle.never_heap.specs.Graphs.{Graph}
-use Rattle.never_heap.specs.Histories.{HistoryItem, replay, part}
+use Rattle.never_heap.specs.Histories.{HistoryItem, replay}
 use Rattle.never_heap.specs.Steps.{makes_object}
 use Rattle.never_heap.proofs.Answering.{others_have_none}
 use Rattle.never_heap.proofs.GraphMoves.{get_or_set}
-use Rattle.heap_machine.specs.Gating.{Gating, GateOf, is_inside, is_outside, is_closing}
-use Rattle.heap_machine.specs.Holdings.{Holding, holds_nothing, sweep_held}
+use Rattle.heap_machine.specs.Gating.{GateOf, is_closing}
+use Rattle.heap_machine.specs.Holdings.{Holding, sweep_held}
 use Rattle.heap_machine.specs.Operations.{heap_after, place_of, op_at, op_place, SumFits}
 use Rattle.heap_machine.specs.PhaseKept.{PhaseKept}
 use Rattle.heap_machine.specs.Readings.{IsHeld}
@@ -28,14 +26,14 @@ use Rattle.heap_machine.specs.Sweeping.{IsRange}
 use Rattle.heap_machine.specs.declared.pass.Pass.{Pass}
 use Rattle.heap_machine.proofs.HeapAfter.{heap_of-after, length-after, op_place_below, sum_fits, word_before}
 use Rattle.kept_names.specs.Kept.{IsKept}
-use Rattle.kept_names.specs.Pictures.{Names, Task, no_task, picture}
+use Rattle.kept_names.specs.Pictures.{Names, picture}
 use Rattle.heap_system.specs.declared.local.Part.{Part}
 use Rattle.heap_system.specs.declared.local.Part.TheVariants.{Rest}
 use Rattle.sweep_steps.specs.Ends.{unpassed}
-use Rattle.heap_system.specs.Locals.{LocalState, Effect, command_of, owed, errand_of, effect, is_rest, is_done, part_want, part_got, pass_got, paid_got, local_got, entries_of, works, task, unit_to_come, PartFits, PartReads, IsRoomy}
-use Rattle.heap_system.specs.Machines.{State, Run, no_local, local_at, word_read, next_effect, event_done, has_event, items_by, heap_in, next}
+use Rattle.heap_system.specs.Locals.{LocalState, Effect, command_of, owed, errand_of, effect, is_rest, is_done, part_want, part_got, pass_got, local_got, entries_of, works, task, unit_to_come, PartFits, PartReads, IsRoomy}
+use Rattle.heap_system.specs.Machines.{Run, no_local, local_at, word_read, next_effect, event_done, has_event, items_by, heap_in, next}
 use Rattle.heap_system.specs.Naming.{renamed}
-use Rattle.heap_system.specs.Pictures.{gating, stand_of, holding, waiting, gates_in, holdings_in, tasks_in, kept_state}
+use Rattle.heap_system.specs.Pictures.{gating, stand_of, holding, gates_in, holdings_in, tasks_in, kept_state}
 use Rattle.heap_system.specs.Systems.{logs_of, units_of}
 use Rattle.heap_system.proofs.Growing.{order_after, items_are, part_grows, part_stays, work_grows, registers_stay, counts_stay, units_grow}
 use Rattle.heap_system.proofs.Kept.{LocalKept, progress, Kept}
@@ -43,7 +41,7 @@ use Rattle.heap_system.proofs.Moving.{moved_on, local_moves, local_stays}
 use Rattle.heap_system.proofs.PartLaws.{AtPart, PartEvent, PartLaws}
 use Rattle.heap_system.proofs.Paying.{bounds_at, works_append, worked_low, paid_low}
 use Rattle.heap_system.proofs.Wanted.{place_at}
-use Rattle.heap_system.proofs.Seeing.{lead, Forward, Seen, graph_decided}
+use Rattle.heap_system.proofs.Seeing.{lead, Seen, graph_decided}
 
 -- a thread at rest that is not done has a command left
 rest_low : (l : LocalState) → length l.log ≤ length l.trace → is_done l ≡ false → l.part ≡ Rest → length l.log < length l.trace
@@ -81,9 +79,6 @@ leads_on c n t f g new old later more low is lead grows =
     omega (arith, same, moved, lead, grows)
 
 module _ (c : Config) (traces : List (List Command)) (laws : (p : Part) → PartLaws c p) (bounds : IsInBounds c) (plan : IsAdmitted c) (r : Run) (kept : Kept c traces r) (t : ℕ) (tl : t < c.threads) where
-  abbrev me : LocalState
-  me = local_at c r.state t
-
   pub fits_at : (u : ℕ) → u < c.threads → PartFits c (length (local_at c r.state u).log) (length (local_at c r.state u).trace) (local_at c r.state u).pass (local_at c r.state u).part
   fits_at u ul = subst (λ x. PartFits x (length (local_at c r.state u).log) (length (local_at c r.state u).trace) (local_at c r.state u).pass (local_at c r.state u).part) (kept.locals u ul).config (kept.locals u ul).fits.part
 

@@ -3,9 +3,6 @@ use Rattle.std.proofs.Common.{◌≡◌, ℕ, ◌<◌, true, length, ap, arith, 
 use Rattle.block_store.specs.declared.Config.{Config}
 use Rattle.block_store.specs.Places.{extent, index, in_range, words_count}
 use Rattle.block_store.proofs.Indexes.{below}
-use Rattle.heap_machine.specs.Gates.{is_going_in, GateAt}
-use Rattle.heap_machine.specs.declared.gate.GateRow.{GateRow}
-use Rattle.heap_machine.specs.declared.gate.GateRow.TheVariants as gates
 use Rattle.heap_machine.specs.declared.op.Op.{Op}
 use Rattle.heap_machine.specs.declared.pass.Pass.{Pass}
 use Rattle.heap_machine.specs.Operations.{op_at, op_place, place_of}

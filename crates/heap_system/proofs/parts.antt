@@ -8,4 +8,5 @@ pub mod Build
 pub mod Again
 pub mod Idle
 pub mod Leave
+pub mod Closing
 pub mod TurnOver

@@ -5,3 +5,4 @@ pub mod Machines
 pub mod Pictures
 pub mod Systems
 pub mod Units
+pub mod Rounds

@@ -1,6 +1,6 @@
 -- One thread's state, and its events as a table of rows: what each row wants, and what it becomes
 -- on the word that it read.
-use Rattle.std.specs.Prelude.{ℕ, suc, ◌+◌, ◌-◌, ◌*◌, ◌==◌, ◌&&◌, ◌||◌, ◌++◌, ◌<◌, ◌≤◌, ◌≡◌, nat_lt, if◌then◌else◌, Bool, true, false, Option, Some, None, List, [], ◌∷◌, length, slice_index_or, not, is_some}
+use Rattle.std.specs.Prelude.{ℕ, ◌+◌, ◌-◌, ◌*◌, ◌==◌, ◌&&◌, ◌++◌, ◌<◌, ◌≤◌, ◌≡◌, nat_lt, if◌then◌else◌, Bool, true, false, Option, Some, None, List, [], ◌∷◌, length, slice_index_or, not, is_some}
 use Rattle.block_store.specs.declared.Config.{Config}
 use Rattle.block_store.specs.declared.PhaseWord.{PhaseWord}
 use Rattle.block_store.specs.Configs.{IsInBounds}
@@ -18,7 +18,7 @@ use Rattle.never_heap.specs.Steps.{makes_object}
 use Rattle.heap_machine.specs.Operations.{Operation, place_of}
 use Rattle.heap_machine.specs.Readings.{CanHold}
 use Rattle.heap_machine.specs.Gates.{gate_want, gate_got, gate_step, gate_entered, is_going_in, is_of_pass, is_empty, GateFits, GateAt}
-use Rattle.heap_machine.specs.Gating.{Stand, Outside, Inside, is_inside}
+use Rattle.heap_machine.specs.Gating.{Stand, Outside, Inside}
 use Rattle.heap_machine.specs.Turning.{turns_over, turning_gating, turning_holding}
 use Rattle.heap_machine.specs.Holdings.{Holding, holds_nothing}
 use Rattle.heap_machine.specs.Passes.{IsPass}
@@ -27,14 +27,14 @@ use Rattle.heap_machine.specs.declared.gate.GateRow.{GateRow}
 use Rattle.heap_machine.specs.declared.gate.GateRow.TheVariants as gates
 use Rattle.heap_machine.specs.declared.Step.{Step}
 use Rattle.heap_machine.specs.declared.Step.TheVariants as steps
-use Rattle.grey_steps.specs.Rows.{GreyState, grey_want, grey_got, grey_step, grey_over, grey_unit, grey_nothing, holding_at, scanning}
+use Rattle.grey_steps.specs.Rows.{grey_want, grey_got, grey_step, grey_over, grey_unit, grey_nothing, holding_at, scanning}
 use Rattle.grey_steps.specs.Fits.{GreyFits, GreyReads}
 use Rattle.grey_steps.specs.Ends.{is_blackening}
-use Rattle.barrier_steps.specs.Rows.{FieldState, at_first_row, field_want, field_got, field_step, field_reply, field_holding}
+use Rattle.barrier_steps.specs.Rows.{at_first_row, field_want, field_got, field_step, field_reply, field_holding}
 use Rattle.barrier_steps.specs.Deciding.{is_deciding}
 use Rattle.barrier_steps.specs.Fits.{FieldFits, FieldReads}
 use Rattle.barrier_steps.specs.Projection.{loading_of}
-use Rattle.sweep_steps.specs.Rows.{SweepState, sweep_want, sweep_got, sweep_step, sweep_over, sweep_passed, sweep_nothing, sweep_holding, sweeping}
+use Rattle.sweep_steps.specs.Rows.{sweep_want, sweep_got, sweep_step, sweep_over, sweep_passed, sweep_nothing, sweep_holding, sweeping}
 use Rattle.sweep_steps.specs.Fits.{SweepFits, SweepReads}
 use Rattle.sweep_steps.specs.Ends.{row_passes}
 use Rattle.sweep_steps.specs.declared.rows.SweepRow.{SweepRow}

@@ -1,7 +1,7 @@
 -- The words and all threads, what a turn of a thread makes of them, and the order that a list of
 -- turns has: its commands and starts as they were decided; and the names that the rules of the
 -- collector know.
-use Rattle.std.specs.Prelude.{ℕ, ◌+◌, ◌≤◌, ◌==◌, ◌++◌, ◌<◌, ◌≡◌, true, false, not, nat_lt, if◌then◌else◌, Bool, List, [], ◌∷◌, length, slice_index, slice_index_or, slice_set}
+use Rattle.std.specs.Prelude.{ℕ, ◌+◌, ◌≤◌, ◌++◌, ◌<◌, ◌≡◌, true, false, not, nat_lt, if◌then◌else◌, Bool, List, [], ◌∷◌, length, slice_index, slice_index_or, slice_set}
 use Rattle.block_store.specs.declared.Config.{Config}
 use Rattle.block_store.specs.Heaps.{Heap, heap_of}
 use Rattle.block_store.specs.Places.{Place, extent, in_range, words_count}
@@ -15,7 +15,7 @@ use Rattle.kept_names.specs.Pictures.{Names}
 use Rattle.heap_system.specs.declared.local.Part.TheVariants.{Leave}
 use Rattle.heap_system.specs.declared.Turn.{Turn}
 use Rattle.heap_system.specs.declared.Turn.TheVariants.{Done}
-use Rattle.heap_system.specs.Locals.{LocalState, Effect, Verdict, Open, AsStep, Refused, no_pass, command_of, effect, entry_of, part_want, part_step, turn_of, local_got, is_done, at_start}
+use Rattle.heap_system.specs.Locals.{LocalState, Effect, Verdict, Open, AsStep, Refused, no_pass, command_of, effect, entry_of, part_want, turn_of, local_got, is_done, at_start}
 use Rattle.heap_system.specs.Naming.{Naming, Begun, renamed, opening_names}
 use Rattle.heap_system.specs.Openings.{opening_heap}
 

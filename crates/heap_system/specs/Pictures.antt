@@ -1,6 +1,6 @@
 -- What the rows of the threads say of the gate, of the rules on the heap and of the names, and
 -- which reply is decided.
-use Rattle.std.specs.Prelude.{ℕ, Option, None, List, [], ◌∷◌}
+use Rattle.std.specs.Prelude.{ℕ, Option, None, List}
 use Rattle.block_store.specs.declared.Config.{Config}
 use Rattle.never_heap.specs.declared.Entry.{Entry}
 use Rattle.never_heap.specs.declared.Reply.{Reply}

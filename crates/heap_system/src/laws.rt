@@ -10,7 +10,7 @@ ghost use Rattle.block_store.specs.Configs.{IsInBounds};
 ghost use Rattle.block_store.specs.Counts.{total};
 ghost use Rattle.block_store.specs.Heaps.{heap_of};
 ghost use Rattle.block_store.specs.Phases.{bit, inside_of, cycle_of};
-ghost use Rattle.block_store.specs.Places.{Place, Phase, GreyList, ColourOf, extent, in_range};
+ghost use Rattle.block_store.specs.Places.{Place, Phase, ColourOf, extent, in_range};
 ghost use Rattle.array_trees.specs.Openings.{opening_blocks};
 ghost use Rattle.rate_plan.specs.Rates.{IsRate, IsAdmitted};
 ghost use Rattle.never_heap.specs.declared.Reply.{Reply};
@@ -26,16 +26,13 @@ ghost use Rattle.kept_names.specs.Kept.{IsKept, IsOlder};
 ghost use Rattle.kept_names.specs.Pictures.{no_task};
 ghost use Rattle.kept_names.specs.Reached.{IsReachedBlock};
 ghost use Rattle.heap_machine.specs.Gating.{is_inside, GateOf};
-ghost use Rattle.heap_machine.specs.Grey.{GreyKept};
-ghost use Rattle.heap_machine.specs.Holdings.{holds_nothing, grey_held};
-ghost use Rattle.heap_machine.specs.Operations.{Exchange, place_of, op_at, SumFits};
+ghost use Rattle.heap_machine.specs.Holdings.{holds_nothing};
+ghost use Rattle.heap_machine.specs.Operations.{place_of, op_at, SumFits};
 ghost use Rattle.heap_machine.specs.PhaseKept.{PhaseKept};
 ghost use Rattle.heap_machine.specs.Readings.{IsHeld};
-ghost use Rattle.grey_steps.specs.Rows.{GreyState};
-ghost use Rattle.grey_steps.specs.Ends.{is_putting};
 ghost use Rattle.barrier_steps.specs.Rows.{FieldState, field_decided};
 ghost use Rattle.build_steps.specs.Rows.{BuildState};
-ghost use Rattle.heap_system.specs.declared.local.Part.TheVariants.{Serve, Mark, Build};
+ghost use Rattle.heap_system.specs.declared.local.Part.TheVariants.{Serve, Build};
 ghost use Rattle.heap_system.specs.declared.Turn.TheVariants as Turn;
 ghost use Rattle.heap_system.specs.Locals.{task, is_done, waits, is_rest, command_of, owed, entry_of, works, part_want, PartReads};
 ghost use Rattle.heap_system.specs.Machines.{State, answer, turned, Run, opened, IsAfterTurns, local_in, local_at, heap_in, word_read};
@@ -127,19 +124,6 @@ pub fn logs_are_parts()
     ensures building { (c : Config) (r : Run) → IsAfterTurns c r → (t : ℕ) → t < c.threads
         → (b : BuildState) → (local_in c r t).part ≡ Build b
         → part t r.order ≡ (local_in c r t).log }
-{}
-
-/// The grey blocks stand in the chains of the lists and of the threads' hands, or are under scan,
-/// each once. Where a thread that marks puts its hand, its own list is empty.
-pub fn grey_blocks_stand_once()
-    ensures kept { (c : Config) (r : Run) → IsAfterTurns c r
-        → GreyKept c.threads (heap_in c r.state)
-        (λ t. grey_held (holding c (local_in c r t).part)) }
-    ensures put { (c : Config) (r : Run) → IsAfterTurns c r → (t : ℕ) → t < c.threads
-        → (m : GreyState) → (local_in c r t).part ≡ Mark m → is_putting m.row ≡ true
-        → (part_want c (local_in c r t).part
-        ≡ Exchange (GreyList t) (holding c (local_in c r t).part).hand)
-        × (heap_in c r.state (GreyList t) ≡ 0) }
 {}
 
 /// The works of a thread's entries, and the units that it has made for the command in hand, are its

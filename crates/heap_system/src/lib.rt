@@ -1,6 +1,7 @@
 //! The whole heap: one thread's state, and all threads with the words that they share.
 #![tactic(auto)]
 
+mod collector;
 mod laws;
 mod local;
 #[cfg(test)]
@@ -8,6 +9,7 @@ mod lone;
 #[cfg(test)]
 mod schedules;
 mod start;
+mod supply;
 mod system;
 #[cfg(test)]
 mod tests;
@@ -16,13 +18,19 @@ mod traces;
 #[cfg(test)]
 mod ways;
 
+pub use collector::{
+    free_blocks_stand_once, grey_blocks_stand_once, marking_is_tricolour,
+    phases_turn_with_nobody_inside, starts_find_no_white, sweeping_spares_what_is_reached,
+    the_flip_finds_what_is_reached,
+};
 pub use laws::{
-    events_are_safe, finished_runs_show_their_logs, grey_blocks_stand_once, logs_are_parts,
-    opening_shows_the_start, order_is_legal, threads_inside_are_counted, turns_keep_the_rules,
-    turns_wait, words_show_the_order, works_are_units,
+    events_are_safe, finished_runs_show_their_logs, logs_are_parts, opening_shows_the_start,
+    order_is_legal, threads_inside_are_counted, turns_keep_the_rules, turns_wait,
+    words_show_the_order, works_are_units,
 };
 pub use local::Local;
 pub use start::opening;
+pub use supply::fulls_need_blocks;
 pub use system::{Finished, System, Unfinished, sum_of_works};
 
 /// What a turn of a thread was.

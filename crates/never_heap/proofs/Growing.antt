@@ -6,7 +6,6 @@ use Rattle.never_heap.specs.declared.Entry.{Entry}
 use Rattle.never_heap.specs.Graphs.{Graph, start_graph}
 use Rattle.never_heap.specs.Histories.{HistoryItem, Started, Did, after, replay_from, IsAnswered, Legal, LegalFrom, replay, part, starts_in, work_in}
 use Rattle.never_heap.specs.FreeingRuns.{FullsNeedBlocks}
-use Rattle.never_heap.specs.PlainRuns.{FullsExactly, NoWork}
 use Rattle.never_heap.specs.Taken.{taken_by, taken_in}
 
 -- replay goes on by the item
@@ -53,24 +52,6 @@ pub work_append : (h k : List HistoryItem) → work_in (h ++ k) ≡ work_in h + 
 work_append [] k = sym (zero-add (work_in k))
 work_append (Started ∷ h) k = work_append h k
 work_append (Did e ∷ h) k = omega (arith, work_append h k)
-
-pub no_work_append : (h k : List HistoryItem) → NoWork h → NoWork k → NoWork (h ++ k)
-no_work_append [] k w v = v
-no_work_append (Started ∷ h) k w v = no_work_append h k w v
-no_work_append (Did e ∷ h) k w v = (w.0, no_work_append h k w.1 v)
-
-pub fulls_append : (c : Config) (used : ℕ) (h k : List HistoryItem)
-    → FullsExactly c used h → FullsExactly c (used + taken_in c.width h) k
-    → FullsExactly c used (h ++ k)
-fulls_append c used [] k f g = subst (λ u. FullsExactly c u k) (add-zero used) g
-fulls_append c used (Started ∷ h) k f g = fulls_append c used h k f g
-fulls_append c used (Did e ∷ h) k f g = (
-  f.0,
-  f.1,
-  fulls_append c (used + taken_by c.width e) h k f.2
-      (subst (λ u. FullsExactly c u k)
-      (sym (add_assoc used (taken_by c.width e) (taken_in c.width h))) g),
-)
 
 -- fulls go on needing blocks, where those of what comes need them
 pub needs_append : (c : Config) (given : ℕ) (h k : List HistoryItem)

@@ -22,4 +22,6 @@ pub mod Walking
 pub mod Counting
 pub mod Opening
 pub mod Once
+pub mod Readback
+pub mod TraceOrder
 pub mod Scanning

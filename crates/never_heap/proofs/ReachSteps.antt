@@ -1,9 +1,10 @@
 -- What can be reached after a step, and that references are to objects.
-use Rattle.std.proofs.Common.{ℕ, zero, suc, ◌≡◌, ◌<◌, ◌⊎◌, Bool, true, cond, List, ◌∷◌, length, set, get_or, ap, sym, ◌∙◌, refl, subst, arith, inl, inr, eq-eqb, ne_eqb}
+use Rattle.std.proofs.Common.{ℕ, zero, suc, ◌-◌, ◌≡◌, ◌<◌, ◌⊎◌, Bool, true, cond, List, ◌∷◌, length, set, get_or, ap, sym, ◌∙◌, refl, subst, arith, inl, inr, eq-eqb, ne_eqb}
 use Rattle.std.proofs.lemmas.Bool.{cases_eq, cases_lt, cases_Bool, both_ways, or_left}
 use Rattle.std.proofs.lemmas.List.{set_past, get_or_past, get_or-set_same, get_or-set_other, get_or-replicate, length-replicate}
 use Rattle.block_store.specs.declared.Config.{Config}
 use Rattle.block_store.specs.declared.Name.{Name}
+use Rattle.block_store.specs.declared.TheConstants.{REGISTERS}
 use Rattle.block_store.specs.declared.Value.{Value}
 use Rattle.block_store.specs.declared.Value.TheVariants.{Nil, Ref}
 use Rattle.never_heap.specs.declared.Command.{Command}
@@ -30,16 +31,17 @@ set_cases xs i k v = elim (cases_eq i k) [
   ]
 ]
 
-nil_of : (n i : ℕ) → get_or (nils n) i Nil ≡ Nil
+pub nil_of : (n i : ℕ) → get_or (nils n) i Nil ≡ Nil
 nil_of n i = elim (cases_lt i n) [
   | inl l ↦ get_or-replicate n i Nil Nil l
   | inr l ↦ get_or_past (nils n) i Nil (omega (arith, length-replicate n Nil))
 ]
 
 first_or_nil : (v : Value) (r : ℕ)
-    → (get_or (v ∷ nils 15) r Nil ≡ v) ⊎ (get_or (v ∷ nils 15) r Nil ≡ Nil)
+    → (get_or (v ∷ nils (REGISTERS - 1)) r Nil ≡ v)
+    ⊎ (get_or (v ∷ nils (REGISTERS - 1)) r Nil ≡ Nil)
 first_or_nil v zero = inl refl
-first_or_nil v (suc r) = inr (nil_of 15 r)
+first_or_nil v (suc r) = inr (nil_of (REGISTERS - 1) r)
 
 register_cases : (g : Graph) (t d u q : ℕ) (v : Value) → t < length g.mutators
     → (register_of (with_register g t d v) u q ≡ v) ⊎
@@ -222,7 +224,7 @@ start_registers c t r a e = elim (cases_lt t c.threads) [
       absurd cc
   | inl there ↦
       let here : register_of (start_graph c) t r
-      ≡ get_or (Ref (shared_name c.threads) ∷ nils 15) r Nil =
+      ≡ get_or (Ref (shared_name c.threads) ∷ nils (REGISTERS - 1)) r Nil =
       ap (λ (m : Mutator). get_or m.registers r Nil) (start_at c t there) in
       let two = first_or_nil (Ref (shared_name c.threads)) r in
       elim two [

@@ -145,7 +145,8 @@ module _ (g : Graph) (old mid new : Marked) (xs ys zs : List Name) (vs : List Va
     all = λ b h has. elim (or_cases (stands_in b (take i vs)) (refers b (get_or vs i Nil))
         (sym (list_any_more (refers b) vs i Nil here) ∙ h)) [
           | inl before ↦ one.kept b (f.all b before has)
-          | inr now ↦ one.all b (or_left (refers b (Ref a)) false (sym (ap (refers b) is) ∙ now)) has
+          | inr now ↦ one.all b (or_left (refers b (Ref a)) false (sym (ap (refers b) is) ∙ now))
+              has
         ];
     behind = (
       f.behind.0 ++ one.behind.0,

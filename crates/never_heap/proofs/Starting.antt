@@ -1,9 +1,10 @@
 -- What the opening graph has.
-use Rattle.std.proofs.Common.{ℕ, zero, suc, ◌≡◌, ◌<◌, ◌≤◌, true, cond, eqb, ◌∷◌, length, get_or, refl, sym, ap, ◌∙◌, arith, eq-eqb, ne_eqb, inl, inr}
+use Rattle.std.proofs.Common.{ℕ, zero, suc, ◌-◌, ◌≡◌, ◌<◌, ◌≤◌, true, cond, eqb, ◌∷◌, length, get_or, refl, sym, ap, ◌∙◌, arith, eq-eqb, ne_eqb, inl, inr}
 use Rattle.std.proofs.lemmas.Bool.{cases_eq, cases_lt}
 use Rattle.std.proofs.lemmas.List.{length-replicate, get_or-replicate, get_or_past}
 use Rattle.block_store.specs.declared.Config.{Config}
 use Rattle.block_store.specs.declared.Name.{Name}
+use Rattle.block_store.specs.declared.TheConstants.{REGISTERS}
 use Rattle.block_store.specs.declared.Value.{Value}
 use Rattle.block_store.specs.declared.Value.TheVariants.{Nil, Ref}
 use Rattle.never_heap.specs.Graphs.{Mutator, Array, no_mutator, no_object, start_graph, start_mutator, shared_name, nils, mutator_at, count_of, register_of, object_of, has_name}
@@ -46,15 +47,16 @@ object_of_start c a h =
 pub has_shared : (c : Config) → has_name (start_graph c) (shared_name c.threads) ≡ true
 has_shared c = eq-eqb c.threads (length (start_graph c).mutators) (sym (threads_of_start c))
 
-later_registers : (v : Value) (r : ℕ) → r < 16 → (r ≡ 0 → ⊥) → get_or (v ∷ nils 15) r Nil ≡ Nil
+later_registers : (v : Value) (r : ℕ) → r < REGISTERS → (r ≡ 0 → ⊥)
+    → get_or (v ∷ nils (REGISTERS - 1)) r Nil ≡ Nil
 later_registers v zero h n = absurd (n refl)
-later_registers v (suc r) h n = get_or-replicate 15 r Nil Nil (omega arith)
+later_registers v (suc r) h n = get_or-replicate (REGISTERS - 1) r Nil Nil (omega arith)
 
-first_register : (v : Value) (r : ℕ) → r ≡ 0 → get_or (v ∷ nils 15) r Nil ≡ v
-first_register v r e = ap (λ k. get_or (v ∷ nils 15) k Nil) e
+first_register : (v : Value) (r : ℕ) → r ≡ 0 → get_or (v ∷ nils (REGISTERS - 1)) r Nil ≡ v
+first_register v r e = ap (λ k. get_or (v ∷ nils (REGISTERS - 1)) k Nil) e
 
 -- register 0 refers to the shared array, and the others are nil
-pub register_of_start : (c : Config) (t r : ℕ) → t < c.threads → r < 16
+pub register_of_start : (c : Config) (t r : ℕ) → t < c.threads → r < REGISTERS
     → register_of (start_graph c) t r ≡ cond (eqb r 0) (Ref (shared_name c.threads)) Nil
 register_of_start c t r h l = elim (cases_eq r 0) [
   | inl e ↦ ap (λ (m : Mutator). get_or m.registers r Nil) (start_at c t h)
@@ -65,6 +67,6 @@ register_of_start c t r h l = elim (cases_eq r 0) [
       ∙ sym (ap (λ b. cond b (Ref (shared_name c.threads)) Nil) (ne_eqb r 0 n))
 ]
 
-pub sixteen_of_start : (c : Config) (t : ℕ) → t < c.threads
-    → length (mutator_at (start_graph c) t).registers ≡ 16
-sixteen_of_start c t h = ap (λ (m : Mutator). length m.registers) (start_at c t h)
+pub registers_of_start : (c : Config) (t : ℕ) → t < c.threads
+    → length (mutator_at (start_graph c) t).registers ≡ REGISTERS
+registers_of_start c t h = ap (λ (m : Mutator). length m.registers) (start_at c t h)

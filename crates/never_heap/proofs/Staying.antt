@@ -19,7 +19,7 @@ use Rattle.never_heap.proofs.Naming.{one_name}
 use Rattle.never_heap.proofs.Stepping.{Change, none, store, put, make, change_of, has_field, with_object_threads, count_stays, made_count}
 
 -- a thread that there is not changes nothing
-past_with : (g : Graph) (t : ℕ) (m : Mutator) → length g.mutators ≤ t → with_mutator g t m ≡ g
+pub past_with : (g : Graph) (t : ℕ) (m : Mutator) → length g.mutators ≤ t → with_mutator g t m ≡ g
 past_with g t m l = ap (λ (ms : List Mutator). let h
     : Graph = record { shared = g.shared; mutators = ms } in h) (set_past g.mutators t m l)
 
@@ -184,7 +184,7 @@ made_register g t d u q o f =
       | inr past ↦ ap (λ k. register_of k u q) (past_with g t _ past)
     ]
 
-field_keeps : (P : Graph → Type 0) (g : Graph) (i : ℕ) (v : Value) (act : Name → Graph × Reply)
+pub field_keeps : (P : Graph → Type 0) (g : Graph) (i : ℕ) (v : Value) (act : Name → Graph × Reply)
     → P g → ((a : Name) → v ≡ Ref a → i < length (object_of g a).fields → P (act a).0)
     → P (at_field g v i act).0
 field_keeps P g i Nil act p f = p
@@ -195,7 +195,7 @@ field_keeps P g i (Ref a) act p f = elim (cases_Bool (ltb i (length (object_of g
   | inr n ↦ subst (λ b. P (cond b (act a) (g, Range)).0) (sym n) p
 ]
 
-object_keeps : (P : Graph → Type 0) (g : Graph) (v : Value) (act : Name → Graph × Reply) → P g
+pub object_keeps : (P : Graph → Type 0) (g : Graph) (v : Value) (act : Name → Graph × Reply) → P g
     → ((a : Name) → (act a).0 ≡ g) → P (at_object g v act).0
 object_keeps P g Nil act p f = p
 object_keeps P g (Int n) act p f = p
@@ -223,7 +223,7 @@ step_register g t (commands.Same a b) u q n = refl
 step_register g t (commands.Say s) u q n = refl
 
 -- objects, but for the one in which a put stores
-register_object : (g : Graph) (t d : ℕ) (v : Value) (a : Name)
+pub register_object : (g : Graph) (t d : ℕ) (v : Value) (a : Name)
     → object_of (with_register g t d v) a ≡ object_of g a
 register_object g t d v a = elim (cases_lt t (length g.mutators)) [
   | inl there ↦ object_with_register g t d v a there

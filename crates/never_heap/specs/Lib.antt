@@ -6,12 +6,12 @@ pub mod LiveBlocks
 pub mod Steps
 pub mod Bounds
 pub mod Histories
+pub mod Readback
 pub mod Orders
 pub mod Taken
 pub mod Cycles
 pub mod Given
 pub mod Licensed
-pub mod PlainRuns
 pub mod RightWork
 pub mod FreeingRuns
 pub mod Runs

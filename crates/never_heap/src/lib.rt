@@ -15,6 +15,7 @@ mod marks;
 mod mutator;
 mod object;
 mod reach;
+mod read_laws;
 mod run_laws;
 #[cfg(test)]
 mod tests;
@@ -27,6 +28,9 @@ pub use laws::{
     reachable_is_least, steps_answer, steps_leave,
 };
 use object_lists::blocks_of_record;
+pub use read_laws::{
+    commands_stand_in_trace_order, fields_hold_what_was_last_stored, gets_read_what_was_last_stored,
+};
 pub use run_laws::{
     blocks_are_given, cycles_start, fulls_need_live_blocks, orders_make_one_history,
     runs_are_items_that_may_come, runs_are_walked, runs_grow,

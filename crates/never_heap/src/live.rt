@@ -9,7 +9,6 @@ ghost use Rattle.never_heap.specs.Scans.{IsScanOf, HasFound, HasRegisters};
 
 use crate::Graph;
 use crate::marks::Marks;
-use crate::reach::register_blocks;
 use block_store::{Name, OutOfMemory, Value};
 
 /// A scan over the objects that can be reached: those found so far, each once, and their blocks
@@ -82,7 +81,7 @@ impl Graph {
         let mut scan = Scan {
             marks: self.no_marks()?,
             found: Vec::new(self.alloc()),
-            total: register_blocks(self.width(), self.mutators().len() as u64),
+            total: self.register_blocks(),
         };
         for mutator in self.mutators() {
             scan.find_all(self, mutator.registers())?;

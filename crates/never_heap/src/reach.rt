@@ -1,6 +1,6 @@
 //! Which objects of a graph can be reached, and how many blocks they take.
 
-ghost use Rattle.std.specs.Prelude.{◌≡◌, ◌<◌, ◌≤◌, ◌+◌, ◌*◌, ◌&&◌, ◌||◌, ◌++◌, true, false, IfOk, OnOk, vec_len};
+ghost use Rattle.std.specs.Prelude.{◌≡◌, ◌<◌, ◌≤◌, ◌+◌, ◌*◌, ◌&&◌, ◌||◌, ◌++◌, true, false, IfOk, OnOk, length, vec_len};
 ghost use Rattle.block_store.specs.declared.Name.{Name};
 ghost use Rattle.block_store.specs.Registers.{registers_end};
 ghost use Rattle.never_heap.specs.Graphs.{has_name, object_of};
@@ -10,17 +10,7 @@ ghost use Rattle.never_heap.specs.Reach.{names, thread_names, in_round, leads_to
 
 use crate::Graph;
 use crate::marks::Marks;
-use block_store::{Name, OutOfMemory, Width};
-
-// The blocks of the registers of this many threads.
-#[tactic(auto, using(block_store::proofs::Registers::end_by))]
-pub(crate) fn register_blocks(width: Width, threads: u64) -> u64
-    requires { threads ≤ 16 }
-    ensures value { result ≡ registers_end width threads }
-    ensures few { result ≤ 80 }
-{
-    u64::from(width.registers()) * threads
-}
+use block_store::{Name, OutOfMemory};
 
 // The names of the first objects of a thread, behind what the list has.
 fn push_names(list: &mut Vec<Name>, thread: u32, count: u32) -> Result<(), OutOfMemory>
@@ -120,13 +110,22 @@ impl Graph {
     {
         let list = self.list_names()?;
         let marks = self.mark_reachable(&list)?;
-        let mut blocks = register_blocks(self.width(), self.mutators().len() as u64);
+        let mut blocks = self.register_blocks();
         for name in &list {
             if marks.has(*name) {
                 blocks += u64::from(self.blocks_of(*name));
             }
         }
         Ok(blocks)
+    }
+
+    // The blocks of the registers of all threads.
+    #[tactic(auto, using(block_store::proofs::Registers::end_few))]
+    pub(crate) fn register_blocks(&self) -> u64
+        ensures value { result ≡ registers_end self.now.width (length self.now.graph.mutators) }
+        ensures few { result ≤ 80 }
+    {
+        u64::from(self.width().registers_end(self.mutators().len() as u32))
     }
 
     // The blocks of the object of a name.

@@ -1,21 +1,11 @@
 -- The least rate by one division.
 use Rattle.std.proofs.Common.{◌≡◌, ℕ, suc, ◌+◌, ◌-◌, ◌*◌, ◌/◌, ◌%◌, ◌<◌, ◌≤◌, min, refl, sym, subst, ◌∙◌, arith}
-use Rattle.std.proofs.Math.Nat.{div-eq_of_lt-le, mul-le-mul_right}
+use Rattle.std.proofs.Math.Nat.{mul-le-mul_right}
 use Rattle.std.proofs.lemmas.Nat.{div_below, le-div}
 use Rattle.std.proofs.lemmas.Grind.{div_ceil_times}
 use Rattle.block_store.specs.declared.Config.{Config}
+use Rattle.array_trees.proofs.Counts.{div-over}
 use Rattle.rate_plan.specs.Rates.{ceiling, IsRate, IsAdmitted}
-
--- how std rounds up
-pub ceiling-div : (x y : ℕ) → 0 < y → x / y + min 1 (x % y) ≡ ceiling x y
-ceiling-div x y some =
-    let both : (x ≤ (x / y + min 1 (x % y)) * y) × ((x / y + min 1 (x % y)) * y < x + y) =
-    div_ceil_times x y some in
-    ceiling_of x y (x / y + min 1 (x % y)) some both.0 both.1
-  where
-    ceiling_of : (x y z : ℕ) → 0 < y → x ≤ z * y → z * y < x + y → z ≡ ceiling x y
-    ceiling_of x y z some low high =
-        sym (div-eq_of_lt-le {k = z} y {m = x + (y - 1)} (omega arith) (omega arith))
 
 -- what is at least a ceiling
 pub ceiling_fits : (x y z : ℕ) → 0 < y → x ≤ z * y → ceiling x y ≤ z
@@ -26,7 +16,7 @@ ceiling_fits x y z some h =
 pub fits_ceiling : (x y z : ℕ) → 0 < y → ceiling x y ≤ z → x ≤ z * y
 fits_ceiling x y z some h =
     let least : x ≤ (x / y + min 1 (x % y)) * y = (div_ceil_times x y some).0 in
-    let own : x ≤ ceiling x y * y = subst (λ c. x ≤ c * y) (ceiling-div x y some) least in
+    let own : x ≤ ceiling x y * y = subst (λ c. x ≤ c * y) (div-over x y some) least in
     let more : ceiling x y * y ≤ z * y = mul-le-mul_right y h in
     omega arith
 
@@ -71,5 +61,5 @@ pub rate_from : (c : Config) (taken spare p : ℕ) → taken ≡ c.live + 2 * (c
     → IsRate c p
 rate_from c taken spare p e room s is =
     let some : 0 < spare = omega arith in
-    subst (λ x. IsRate c x) (sym (ceiling-div (2 * c.blocks) spare some) ∙ sym is)
+    subst (λ x. IsRate c x) (sym (div-over (2 * c.blocks) spare some) ∙ sym is)
     (rate_by c taken spare e room s)

@@ -24,7 +24,7 @@ fn opening_blocks(c: &Config) -> u32
     requires { IsInBounds c.now }
     ensures { result ≡ opening_blocks c.now }
 {
-    c.width.registers() * c.threads + blocks_of_array(c.width, c.shared)
+    c.width.registers_end(c.threads) + blocks_of_array(c.width, c.shared)
 }
 
 /// The rate: how many units an allocation will make for each block, chosen so that a cycle ends

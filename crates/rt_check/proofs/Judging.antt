@@ -20,7 +20,8 @@ use Rattle.never_heap.specs.RightWork.{units_owed}
 use Rattle.never_heap.specs.Steps.{step, blocks_of, makes_object}
 use Rattle.never_heap.proofs.Answering.{step_not_full}
 use Rattle.trace_text.specs.Jobs.{Job, IsJobInBounds}
-use Rattle.trace_text.specs.Orders.{entry_text, item_text, end_text}
+use Rattle.trace_text.specs.Orders.{item_text, end_text}
+use Rattle.trace_text.specs.Texts.{entry_text}
 use Rattle.rt_check.specs.declared.follower.Follower.{Follower}
 use Rattle.rt_check.specs.Good.{IsGood, IsLast, IsBad}
 use Rattle.rt_check.specs.Standing.{Stands, HasNext, Begins, Counted, IsFullHere, entry_here, graph_here, rest_of}

@@ -169,7 +169,8 @@ module _ (c : Config) (rate : ℕ) (traces : List (List Command)) (past : List H
   module _ (few : length traces ≤ 16) (line : List ℕ) where
     entry_tells : (e : Entry) → IsGood c rate traces past line (Did e) → Begins line (Some e.thread)
     entry_tells e good =
-        let low = thread_low traces past e.thread e.command good.may_come.next.0 good.may_come.next.1 in
+        let low = thread_low traces past e.thread e.command good.may_come.next.0
+        good.may_come.next.1 in
         begins_as line (item_text (starts_in past) (Did e)) (Some e.thread) good.text
         (entry_begins (starts_in past) e (omega arith))
 

@@ -1,5 +1,5 @@
 -- What a check answers, and why.
-use Rattle.std.specs.Prelude.{ℕ, ◌+◌, ◌≡◌, ◌≢◌, ◌<◌, ◌⊎◌, List, [], ◌∷◌, ◌++◌, length, drop, codes, decimal, Option, Some, None, IfSome, Result, Ok, Err}
+use Rattle.std.specs.Prelude.{ℕ, ◌+◌, ◌≡◌, ◌≢◌, ◌<◌, ◌⊎◌, List, [], ◌++◌, length, drop, codes, decimal, Option, Some, None, IfSome, Result, Ok, Err}
 use Rattle.rate_plan.specs.declared.PlanFault.{PlanFault}
 use Rattle.rate_plan.specs.declared.PlanFault.TheVariants as plans
 use Rattle.rate_plan.specs.Rates.{IsRefusal}
@@ -7,7 +7,7 @@ use Rattle.trace_text.specs.Jobs.{Job}
 use Rattle.trace_text.specs.declared.trace_faults.TraceFault.{TraceFault}
 use Rattle.trace_text.specs.declared.trace_faults.TraceFault.TheVariants as faults
 use Rattle.trace_text.specs.Faults.{Rose}
-use Rattle.trace_text.specs.Lines.{line_feed}
+use Rattle.trace_text.specs.Lines.{ended}
 use Rattle.trace_text.specs.Reasons.{reason_text}
 use Rattle.trace_text.specs.Streams.{Appends, AppendsPrefix, TookAtMost}
 use Rattle.rt_check.specs.declared.refusal.Refusal.{Refusal}
@@ -45,7 +45,7 @@ answer_text None = codes "ok"
 answer_text (Some r) = refusal_text r
 
 abbrev pub answer_line : Option Refusal → List ℕ
-answer_line a = codes "rt_check: " ++ answer_text a ++ line_feed ∷ []
+answer_line a = ended (codes "rt_check: " ++ answer_text a)
 
 -- the refusal for a fault of reading, and for a configuration without a rate
 abbrev pub refusal_of : TraceFault → Refusal
@@ -87,7 +87,8 @@ abbrev pub IsAnswered : Option Refusal → Option (List ℕ) → Option (List �
 IsAnswered a left left_now =
     IfSome left (λ bytes. IsAnswerTo bytes a × IsReadThrough bytes left_now)
 
--- what caused an answer: the words, or what the source had left and its count of faults before and now
+-- what caused an answer: the words, or what the source had left and its count of faults before and
+-- now
 abbrev pub IsCause :
     List (List ℕ) → Option (List ℕ) → Option (List ℕ) → ℕ → ℕ → Option Refusal → Type 0
 IsCause words left left_now before now (Some Usage) =

@@ -33,8 +33,8 @@ abbrev pub IsBad : Config → ℕ → List (List Command) → List HistoryItem �
 IsBad c rate traces past l =
     (IsLast traces past l → ⊥) × ((i : HistoryItem) → IsGood c rate traces past l i → ⊥)
 
--- After these items the n-th line, counted from 1, is the first that is not good. Behind the line of
--- the totals none is. Where all are good and none is that line, n is one more than there are.
+-- After these items the n-th line, counted from 1, is the first that is not good. Behind the line
+-- of the totals none is. Where all are good and none is that line, n is one more than there are.
 abbrev pub FirstBad :
     Config → ℕ → List (List Command) → List HistoryItem → List (List ℕ) → ℕ → Type 0
 FirstBad c rate traces past [] n = n ≡ 1

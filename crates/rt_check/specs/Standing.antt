@@ -15,8 +15,8 @@ use Rattle.rt_check.specs.declared.follower.Verdict.{Verdict}
 use Rattle.rt_check.specs.declared.follower.Verdict.TheVariants.{Good, Last, Bad}
 use Rattle.rt_check.specs.Good.{IsGood, IsLast, IsBad}
 
--- The follower has the graph that the items leave, how many entries each thread has, how many blocks
--- were live at each start, and the sum of the works.
+-- The follower has the graph that the items leave, how many entries each thread has, how many
+-- blocks were live at each start, and the sum of the works.
 pub record Stands (c : Config) (past : List HistoryItem) (f : Follower) : Type 0 where
   pub width : f.graph.width ≡ c.width
   pub graph : f.graph.graph ≡ replay c past

@@ -4,9 +4,12 @@ ghost use Rattle.std.specs.Prelude.{◌≡◌, ◌+◌, ◌-◌, ◌^◌, ◌<�
 ghost use Rattle.never_heap.specs.Histories.{HistoryItem};
 ghost use Rattle.never_heap.specs.Bounds.{IsCommandInRange};
 ghost use Rattle.never_heap.specs.Graphs.{count_of};
+ghost use Rattle.never_heap.specs.RightWork.{units_owed};
+ghost use Rattle.never_heap.specs.Steps.{length_made};
+ghost use Rattle.never_heap.specs.declared.Reply.TheVariants.{Full};
 ghost use Rattle.trace_text.specs.Jobs.{IsJobInBounds};
-ghost use Rattle.trace_text.specs.Lines.{line_feed};
-ghost use Rattle.trace_text.specs.Orders.{entry_text};
+ghost use Rattle.trace_text.specs.Lines.{ended};
+ghost use Rattle.trace_text.specs.Texts.{entry_text};
 ghost use Rattle.rt_check.specs.Standing.{Stands, Says, HasFollowed, HasNext, Begins, CanCount};
 ghost use Rattle.rt_check.specs.Standing.{Counted, IsFullHere, entry_here, graph_here, rest_of};
 
@@ -170,12 +173,7 @@ impl Follower {
         ensures { (past : List HistoryItem) → Stands job.now.config past self.old
             → IfOk result (λ v. Says job.now.config rate job.now.traces past line.now v self.new) }
     {
-        let entry = Entry {
-            thread: thread as u32,
-            command,
-            reply: Reply::Full(self.full_cycle()),
-            work: rate * u64::from(command.blocks(job.config.width)),
-        };
+        let entry = self.full_entry(job, rate, thread as u32, command);
         if self.takes_full(&job.config, &entry, line, buffer) {
             return Ok(Verdict::Good);
         }
@@ -236,6 +234,23 @@ impl Follower {
         Ok(true)
     }
 
+    // The entry of a command that is answered full, with the work that it owes.
+    fn full_entry(&self, job: &Job, rate: u64, thread: u32, command: Command) -> Entry
+        requires rate { rate ≤ 131070 }
+        requires length { length_made command ≤ 65535 }
+        ensures thread { result.thread ≡ thread }
+        ensures command { result.command ≡ command }
+        ensures work { result.work ≡ units_owed job.now.config.width rate command }
+        ensures reply { result.reply ≡ Full (max 1 (length self.now.live.items - 1)) }
+    {
+        Entry {
+            thread,
+            command,
+            reply: Reply::Full(self.full_cycle()),
+            work: rate * u64::from(command.blocks(job.config.width)),
+        }
+    }
+
     // The cycle that a full names: the one before the present one, or the first.
     fn full_cycle(&self) -> u64
         ensures { result ≡ max 1 (length self.now.live.items - 1) }
@@ -273,7 +288,7 @@ fn is_entry(entry: &Entry, line: &[u8], buffer: &mut LineBuffer) -> bool
 
 // Whether a line is the one in the buffer, which has a line feed.
 fn is_line(buffer: &LineBuffer, line: &[u8]) -> bool
-    ensures { (text : List ℕ) → buffer.now ≡ text ++ line_feed ∷ []
+    ensures { (text : List ℕ) → buffer.now ≡ ended text
         → (result ≡ true ↔ (line.now ≡ text)) }
 {
     let made = buffer.bytes();

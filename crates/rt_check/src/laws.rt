@@ -11,8 +11,8 @@ ghost use Rattle.rt_check.specs.Answers.{IsAnswerTo};
 ghost use Rattle.rt_check.specs.Good.{IsGood, AreGood, FirstBad};
 
 /// The lines that are good to the end are those of a run in order. With at most 16 threads, as a
-/// job has, a line is good as one item at most, lines are good to the end or one of them is the first
-/// that is not, never both, and there is one such line at most.
+/// job has, a line is good as one item at most, lines are good to the end or one of them is the
+/// first that is not, never both, and there is one such line at most.
 pub fn good_orders_are_runs()
     ensures runs { (c : Config) (rate : ℕ) (traces : List (List Command)) (lines : List (List ℕ))
         → AreGood c rate traces [] lines

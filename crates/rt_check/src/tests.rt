@@ -17,8 +17,8 @@ const TWO: &str = "rtheap 1 threads 2 blocks 64 live 20 object 2 shared 4";
 const THREE: &str = "rtheap 1 threads 3 blocks 96 live 30 object 2 shared 2";
 
 /// What stands behind its header.
-const THREE_BODY: &str =
-    "/thread 0/set 1 5/put 0 0 1/thread 1/get 2 0 0/len 0/thread 2/same 0 0/put 0 1 0/get 3 0 1/end/";
+const THREE_BODY: &str = "/thread 0/set 1 5/put 0 0 1/thread 1/get 2 0 0/len 0\
+    /thread 2/same 0 0/put 0 1 0/get 3 0 1/end/";
 
 /// One that opens with as many blocks as may be live, with the rate 7.
 const SMALL: &str = "rtheap 1 threads 1 blocks 20 live 6 object 1 shared 0";

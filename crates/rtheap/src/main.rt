@@ -8,6 +8,7 @@ use std::env;
 use std::io::{self, BufWriter, ErrorKind, Write};
 use std::process::ExitCode;
 use std::rt::Env;
+use std::sync::Wait;
 use trace_text::{Sink, StdSink, StdSource};
 
 /// The status of a writing that failed, and that of want of memory.
@@ -16,7 +17,7 @@ const WRITE_FAULT: u8 = 6;
 const NO_MEMORY: u8 = 7;
 
 fn main(rt: HostRuntime) -> ExitCode {
-    ExitCode::from(run(&rt).unwrap_or_else(|_| without_memory(&rt)))
+    ExitCode::from(run(&rt, &rt).unwrap_or_else(|_| without_memory(&rt)))
 }
 
 /// Tells that memory ran out before anything was done.
@@ -29,12 +30,13 @@ fn without_memory(rt: &HostRuntime) -> u8 {
 
 /// Does what the program's words ask for, and says with which status the program ends. What is
 /// written to standard output goes out in large pieces; the last goes out here, where none failed.
-fn run(rt: &HostRuntime) -> Result<u8, AllocError> {
+/// The second handle is the same runtime, by which the run of a job may wait.
+fn run<W: Wait>(rt: &HostRuntime, waits: &W) -> Result<u8, AllocError> {
     let words = words_of(rt)?;
     let mut source = StdSource::new(rt.stdin());
     let mut out = BufWriter::new(rt.alloc(), rt.stdout()).map_err(|_| AllocError)?;
     let mut sink = StdSink::new(&mut out);
-    let exit = rtheap(rt, rt.alloc(), &words, &mut source, &mut sink, &NoPace);
+    let exit = rtheap(waits, rt.alloc(), &words, &mut source, &mut sink, &NoPace);
     if exit.status != WRITE_FAULT && out.flush().is_err() {
         return Ok(WRITE_FAULT);
     }

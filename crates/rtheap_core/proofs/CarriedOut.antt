@@ -4,6 +4,8 @@ use Rattle.std.proofs.lemmas.Bool.{cases_eq}
 use Rattle.trace_text.specs.Faults.{Rose}
 use Rattle.trace_text.specs.Streams.{Appends, AppendsPrefix}
 use Rattle.trace_text.specs.Texts.{run_text}
+use Rattle.heap_system.specs.Systems.{Finish}
+use Rattle.heap_system.specs.Systems.{units_of as units_in}
 use Rattle.rtheap_core.specs.declared.exit.RunEnd.{RunEnd}
 use Rattle.rtheap_core.specs.declared.exit.RunEnd.TheVariants.{Ran}
 use Rattle.rtheap_core.specs.declared.refusal.Refusal.{Refusal}
@@ -11,7 +13,6 @@ use Rattle.rtheap_core.specs.declared.refusal.Refusal.TheVariants.{Usage, BadLin
 use Rattle.rtheap_core.specs.Calls.{Call, IsCarriedOut}
 use Rattle.rtheap_core.specs.Exits.{AskForRun, Ask, Headline, IsWritten, IsDue}
 use Rattle.rtheap_core.specs.Outcomes.{HasRun}
-use Rattle.rtheap_core.specs.PlainRuns.{PlainRun}
 use Rattle.rtheap_core.specs.Refusals.{IsCause, IsUnfailed, status_of, refusal_line}
 use Rattle.rtheap_core.specs.Sides.{Sides}
 use Rattle.rtheap_core.proofs.Headlines.{headline_of}
@@ -30,9 +31,9 @@ failed c t more = elim (cases_eq c.exit.status 6) [
 
 -- ---- a run
 
-pub run_is_carried_out : (c : Call) (run : PlainRun) → AskForRun c.words → HasRun c.source run
+pub run_is_carried_out : (c : Call) (run : Finish) → AskForRun c.words → HasRun c.source (Ran run)
     → IsUnfailed c.source → c.exit.due ≡ 0 → c.exit.run ≡ Some (Ran run)
-    → IsWritten c.sink c.exit.status (run_text (run.log ∷ []) 1 0) → IsTold c → IsCarriedOut c
+    → IsWritten c.sink c.exit.status (run_text run.logs run.cycles (units_in run.logs)) → IsTold c → IsCarriedOut c
 run_is_carried_out c run asked has unfailed due is written t = record {
   headline = subst (λ (o : Option RunEnd). IfSome o (Headline c.source c.sink c.exit.status))
       (sym is) (headline_of c.source c.sink c.exit.status run has written);

@@ -1,13 +1,6 @@
+pub mod Driven
+pub mod Shown
 pub mod CarriedOut
-pub mod CellWrites
-pub mod NewObjects
-pub mod Found
-pub mod Reading
-pub mod Commands
-pub mod Making
-pub mod Openings
-pub mod RunsOn
 pub mod Headlines
 pub mod Verdicts
 pub mod Taken
-pub mod RegisterPlaces

@@ -9,7 +9,7 @@ use Rattle.trace_text.specs.Jobs.{Job, IsJob, IsInput, input_limit}
 use Rattle.trace_text.specs.Refusals.{IsFirstBadLine}
 use Rattle.rtheap_core.specs.declared.refusal.Refusal.{Refusal}
 use Rattle.rtheap_core.specs.declared.refusal.Refusal.TheVariants.{Usage, BadLine, TooLong, LiveTooSmall, NoRate, Later, ReadFault, OutOfMemory}
-use Rattle.rtheap_core.specs.Exits.{AskForRun, AskForPlan, Ask, Headline, Planned, IsDueOrFails, run_of, job_of}
+use Rattle.rtheap_core.specs.Exits.{AskForRun, AskForPlan, Ask, Headline, Planned, IsDueOrFails, job_of}
 use Rattle.rtheap_core.specs.declared.exit.RunEnd.{RunEnd}
 use Rattle.rtheap_core.specs.Refusals.{IsCause, Refused, IsJobWith, status_of}
 use Rattle.rtheap_core.specs.Runnable.{CanRun}
@@ -147,7 +147,7 @@ done_as : (words : List (List ℕ)) (source sink : Sides) (status due : ℕ) (ru
     → (AskForPlan words → due ≡ 0 → Planned source sink status)
     → due ≡ 0 → IsJobWith (λ job. IsAdmitted job.config × (AskForRun words → CanRun job)) source
 done_as words source sink status due (Some e) (inl ask) headline some planned zero =
-    (job_of (run_of e), headline.read, (headline.admitted, λ _. headline.runnable))
+    (job_of e, headline.read, (headline.admitted, λ _. headline.runnable))
 done_as words source sink status due None (inl ask) headline some planned zero =
     let e : false ≡ true = some (ask, zero) in cc
 done_as words source sink status due run (inr ask) headline some planned zero =

@@ -1,8 +1,11 @@
 -- What the top call answers.
-use Rattle.std.specs.Prelude.{ℕ, ◌≡◌, ◌⊎◌, List, [], ◌∷◌, ◌++◌, codes, decimal, IfSome}
+use Rattle.std.specs.Prelude.{ℕ, ◌≡◌, ◌⊎◌, List, [], ◌∷◌, ◌++◌, map, codes, decimal, IfSome}
+use Rattle.never_heap.specs.declared.Command.{Command}
 use Rattle.never_heap.specs.declared.Entry.{Entry}
+use Rattle.never_heap.specs.FreeingRuns.{IsFreeingRun}
 use Rattle.never_heap.specs.Histories.{HistoryItem, parts, starts_in, work_in}
-use Rattle.never_heap.specs.PlainRuns.{IsPlainRun}
+use Rattle.heap_system.specs.Systems.{Finish}
+use Rattle.heap_system.specs.Systems as systems
 use Rattle.rate_plan.specs.Rates.{IsAdmitted, IsRate}
 use Rattle.trace_text.specs.Jobs.{Job, IsJobInBounds, IsInput}
 use Rattle.trace_text.specs.Lines.{line_feed}
@@ -10,7 +13,6 @@ use Rattle.trace_text.specs.Streams.{Appends, AppendsPrefix, IsAtEnd}
 use Rattle.trace_text.specs.Texts.{text_by_threads}
 use Rattle.rtheap_core.specs.declared.exit.RunEnd.{RunEnd}
 use Rattle.rtheap_core.specs.declared.exit.RunEnd.TheVariants.{Ran}
-use Rattle.rtheap_core.specs.PlainRuns.{PlainRun, commands_of}
 use Rattle.rtheap_core.specs.Runnable.{CanRun}
 use Rattle.rtheap_core.specs.Sides.{Sides}
 
@@ -25,24 +27,39 @@ AskForPlan words = words ≡ codes "plan" ∷ []
 abbrev pub Ask : List (List ℕ) → Type 0
 Ask words = AskForRun words ⊎ AskForPlan words
 
--- an ended run, whatever it ran on
-abbrev pub run_of : RunEnd → PlainRun
-run_of (Ran p) = p
+-- what is left of an ended run
+abbrev pub run_of : RunEnd → Finish
+run_of (Ran f) = f
 
 -- what an ended run shows: the entries of each thread, how many cycles were started, and how many
 -- units were made
 abbrev pub logs_of : RunEnd → List (List Entry)
-logs_of end = (run_of end).log ∷ []
+logs_of end = (run_of end).logs
 
 abbrev pub cycles_of : RunEnd → ℕ
-cycles_of end = 1
+cycles_of end = (run_of end).cycles
 
 abbrev pub units_of : RunEnd → ℕ
-units_of end = 0
+units_of end = systems.units_of (run_of end).logs
 
--- the job that an ended run shows: its configuration, and the commands of its log
-abbrev pub job_of : PlainRun → Job
-job_of p = record { config = p.config; traces = commands_of p.log ∷ [] }
+-- the commands of a log
+abbrev pub commands_of : List Entry → List Command
+commands_of log = map (λ (e : Entry). e.command) log
+
+-- the job that an ended run shows: its configuration, and the commands of its logs
+abbrev pub job_of : RunEnd → Job
+job_of end = record { config = (run_of end).config; traces = map commands_of (logs_of end) }
+
+-- An ended run has a history: one of its job on a heap that frees, at the rate of its
+-- configuration. The logs, cycles and units that the run shows are those of the history.
+pub record HasHistory (end : RunEnd) : Type 0 where
+  pub rate : ℕ
+  pub is_rate : IsRate (job_of end).config rate
+  pub history : List HistoryItem
+  pub is_run : IsFreeingRun (job_of end).config rate (job_of end).traces history
+  pub parts_logged : parts (job_of end).config.threads history ≡ logs_of end
+  pub starts_counted : starts_in history ≡ cycles_of end
+  pub work_counted : work_in history ≡ units_of end
 
 -- where the source told its bytes, they were the input that is this job, and all were read
 pub record IsReadAs (source : Sides) (job : Job) : Type 0 where
@@ -55,20 +72,15 @@ pub record IsWritten (sink : Sides) (status : ℕ) (text : List ℕ) : Type 0 wh
   pub whole : status ≡ 0 → Appends sink.bytes sink.bytes_now text
   pub prefix : status ≡ 6 → AppendsPrefix sink.bytes sink.bytes_now text
 
--- The headline. There is one history of a heap that never frees: its replies, thread by thread in
--- trace order, are those of the logs; each allocation made 0 units; and a reply `full 1` stands
--- exactly where the blocks ran out. The job that was run is the input, the logs, cycles and units
--- are those that the ended run shows, and the history's text is what was written.
+-- The headline. There is one history of a heap that frees: its replies, thread by thread in trace
+-- order, are those of the logs. The job that was run is the input, the logs, cycles and units are
+-- those that the ended run shows, and the history's text is what was written.
 pub record Headline (source sink : Sides) (status : ℕ) (end : RunEnd) : Type 0 where
-  pub read : IsReadAs source (job_of (run_of end))
-  pub admitted : IsAdmitted (run_of end).config
-  pub runnable : CanRun (job_of (run_of end))
-  pub history : List HistoryItem
-  pub is_run : IsPlainRun (run_of end).config (job_of (run_of end)).traces history
-  pub parts_logged : parts (run_of end).config.threads history ≡ logs_of end
-  pub starts_counted : starts_in history ≡ cycles_of end
-  pub work_counted : work_in history ≡ units_of end
-  pub text : IsWritten sink status (text_by_threads (run_of end).config.threads history)
+  pub read : IsReadAs source (job_of end)
+  pub admitted : IsAdmitted (job_of end).config
+  pub runnable : CanRun (job_of end)
+  pub ran : HasHistory end
+  pub text : IsWritten sink status (text_by_threads (job_of end).config.threads ran.history)
 
 -- a rate's line
 abbrev pub rate_text : ℕ → List ℕ

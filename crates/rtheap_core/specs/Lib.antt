@@ -1,10 +1,5 @@
-pub mod Cells
-pub mod Objects
-pub mod Readings
 pub mod Runnable
 pub mod Sides
-pub mod Plain
-pub mod PlainRuns
 pub mod Exits
 pub mod Refusals
 pub mod Outcomes

@@ -1,21 +1,18 @@
 -- What became of a task before anything was written.
-use Rattle.std.specs.Prelude.{ℕ, ◌≡◌, [], ◌∷◌}
-use Rattle.never_heap.specs.Histories.{parts}
-use Rattle.never_heap.specs.PlainRuns.{IsPlainRun}
+use Rattle.std.specs.Prelude.{ℕ}
 use Rattle.rate_plan.specs.Rates.{IsAdmitted, IsRate}
 use Rattle.trace_text.specs.Jobs.{Job}
-use Rattle.rtheap_core.specs.Exits.{IsReadAs, job_of}
-use Rattle.rtheap_core.specs.PlainRuns.{PlainRun, history_of}
+use Rattle.rtheap_core.specs.declared.exit.RunEnd.{RunEnd}
+use Rattle.rtheap_core.specs.Exits.{IsReadAs, HasHistory, job_of}
 use Rattle.rtheap_core.specs.Runnable.{CanRun}
 use Rattle.rtheap_core.specs.Sides.{Sides}
 
 -- the job that was read was run
-pub record HasRun (source : Sides) (run : PlainRun) : Type 0 where
-  pub read : IsReadAs source (job_of run)
-  pub admitted : IsAdmitted run.config
-  pub runnable : CanRun (job_of run)
-  pub is_run : IsPlainRun run.config (job_of run).traces (history_of run.log)
-  pub part : parts 1 (history_of run.log) ≡ run.log ∷ []
+pub record HasRun (source : Sides) (end : RunEnd) : Type 0 where
+  pub read : IsReadAs source (job_of end)
+  pub admitted : IsAdmitted (job_of end).config
+  pub runnable : CanRun (job_of end)
+  pub ran : HasHistory end
 
 -- the rate is that of the job that was read
 pub record HasRate (source : Sides) (rate : ℕ) : Type 0 where

@@ -1,13 +1,13 @@
 //! What the top call answers.
 
-use crate::run::Plain;
+use heap_system::Finished;
 use never_heap::{Entry, Logs};
 
 /// A run that ended.
 #[derive(Drop)]
 pub enum RunEnd {
     /// Of the word `run`.
-    Ran(Plain),
+    Ran(Finished),
 }
 
 impl Logs for RunEnd {

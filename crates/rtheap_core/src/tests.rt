@@ -8,11 +8,15 @@ use block_store::Config;
 use never_heap::{Entry, Graph, Logs, NoPace};
 use std::alloc::{AllocError, Global};
 use std::process::Abort;
+use std::sync::Wait;
 use std::test::Fail;
 use trace_text::{MemSink, MemSource};
 
 /// A job without commands, with the lines `thread 0` and `end` left out.
 const HEADER: &str = "rtheap 1 threads 1 blocks 64 live 20 object 2 shared 0\nthread 0\n";
+
+/// The most bytes that a sink of these tests takes.
+const ROOM: usize = 1 << 22;
 
 /// What a call is given: its words, its input and in which pieces it comes, and which calls of the
 /// source and the sink fail.
@@ -46,16 +50,21 @@ fn texts(alloc: Global, words: &[&str]) -> Result<Vec<String>, AllocError> {
 }
 
 /// Makes a call, and gives its exit and what it wrote.
-fn made<R>(rt: &R, alloc: Global, call: &Call<'_>) -> Result<(Exit, MemSink), Fail> {
+fn made<R: Wait>(rt: &R, alloc: Global, call: &Call<'_>) -> Result<(Exit, MemSink), Fail> {
     let words = texts(alloc, call.words)?;
     let bytes = Vec::from_slice(alloc, call.input.as_bytes())?;
     let most = call.most.max(1);
     let mut source = MemSource::new(bytes, most, Vec::from_slice(alloc, call.read_fails)?);
-    let mut sink = MemSink::new(alloc, 4096, Vec::from_slice(alloc, call.write_fails)?)
+    let mut sink = MemSink::new(alloc, ROOM, Vec::from_slice(alloc, call.write_fails)?)
         .ok()
         .ok_or("memory")?;
     let exit = rtheap(rt, alloc, &words, &mut source, &mut sink, &NoPace);
     Ok((exit, sink))
+}
+
+/// The header of the usual heap.
+fn job_begun(alloc: Global) -> Result<String, AllocError> {
+    String::from_str(alloc, HEADER)
 }
 
 /// A job on the usual heap with these command lines.
@@ -100,7 +109,7 @@ fn references_nils_and_refusals_are_answered(rt: HostRuntime) -> Result<(), Fail
     assert_eq!(rt; exit.status, 0);
     assert_eq!(rt;
         sink.bytes(),
-        b"0 new 0.1 work 0
+        b"0 new 0.1 work 7
 0 ok
 0 ref 0.1
 0 range
@@ -109,34 +118,148 @@ fn references_nils_and_refusals_are_answered(rt: HostRuntime) -> Result<(), Fail
 0 ref 0.1
 0 null
 0 ref 1.0
-end cycles 1 work 0
+end cycles 1 work 7
 "
             .as_slice()
     );
     Ok(())
 }
 
-/// Fills the heap of 64 blocks of this version with objects of one block, for which there is room.
-fn fills(rt: &impl Abort, alloc: Global, version: u32, room: u32) -> Result<(), Fail> {
+/// Allocates records of one block of which none is kept, on the usual heap with blocks of this
+/// version, and compares each answer, the cycles and the units.
+fn churns(
+    rt: &(impl Abort + Wait),
+    alloc: Global,
+    version: u32,
+    count: u32,
+    totals: &str,
+) -> Result<(), Fail> {
+    let mut text = format!(in alloc;
+        "rtheap {version} threads 1 blocks 64 live 20 object 2 shared 0\nthread 0\n"
+    )?;
+    let mut expected = String::new(alloc);
+    for before in 0..count {
+        text.push_str("new 1 1\n")?;
+        let serial = u64::from(before) + 1;
+        let line = format!(in alloc; "0 new 0.{serial} work 7\n")?;
+        expected.push_str(line.as_str())?;
+    }
+    text.push_str("end\n")?;
+    expected.push_str(totals)?;
+    answers(rt, alloc, "run", text.as_str(), 0, expected.as_str())
+}
+
+#[test]
+fn blocks_are_given_again_for_a_thousand_cycles(rt: HostRuntime) -> Result<(), Fail> {
+    churns(&rt, rt.alloc(), 1, 10_000, "end cycles 1000 work 70000\n")?;
+    churns(&rt, rt.alloc(), 2, 10_000, "end cycles 1017 work 70000\n")
+}
+
+#[test]
+fn the_longest_trace_goes_through_thousands_of_cycles(rt: HostRuntime) -> Result<(), Fail> {
+    churns(
+        &rt,
+        rt.alloc(),
+        1,
+        131_072,
+        "end cycles 13108 work 917504\n",
+    )
+}
+
+/// Fills the usual heap with a chain of records of one block, for which there is room; then does
+/// the commands behind it.
+fn fills(
+    rt: &(impl Abort + Wait),
+    alloc: Global,
+    version: u32,
+    room: u32,
+    behind: &str,
+    written: &str,
+) -> Result<(), Fail> {
     let mut text = format!(in alloc;
         "rtheap {version} threads 1 blocks 64 live 20 object 2 shared 0\nthread 0\n"
     )?;
     let mut expected = String::new(alloc);
     for before in 0..room {
-        text.push_str("new 1 0\n")?;
+        text.push_str("new 1 1\nput 1 0 2\nmov 2 1\n")?;
         let serial = u64::from(before) + 1;
-        let line = format!(in alloc; "0 new 0.{serial} work 0\n")?;
+        let line = format!(in alloc; "0 new 0.{serial} work 7\n0 ok\n0 ok\n")?;
         expected.push_str(line.as_str())?;
     }
-    text.push_str("new 1 0\nend\n")?;
-    expected.push_str("0 full 1 work 0\nend cycles 1 work 0\n")?;
+    text.push_str(behind)?;
+    text.push_str("end\n")?;
+    expected.push_str(written)?;
     answers(rt, alloc, "run", text.as_str(), 0, expected.as_str())
 }
 
 #[test]
-fn the_heap_is_full_when_the_last_block_is_given(rt: HostRuntime) -> Result<(), Fail> {
-    fills(&rt, rt.alloc(), 1, 58)?;
-    fills(&rt, rt.alloc(), 2, 60)
+fn the_heap_is_full_when_the_last_block_is_reachable(rt: HostRuntime) -> Result<(), Fail> {
+    let alloc = rt.alloc();
+    let full = "0 full 4 work 7\nend cycles 5 work 413\n";
+    fills(&rt, alloc, 1, 58, "new 1 1\n", full)?;
+    let full = "0 full 4 work 7\nend cycles 5 work 427\n";
+    fills(&rt, alloc, 2, 60, "new 1 1\n", full)
+}
+
+#[test]
+fn a_heap_that_was_full_gives_blocks_again_where_the_chain_is_let_go(
+    rt: HostRuntime,
+) -> Result<(), Fail> {
+    fills(
+        &rt,
+        rt.alloc(),
+        1,
+        58,
+        "new 1 1
+nil 1
+nil 2
+new 3 1
+new 3 1
+new 3 1
+new 3 1
+new 3 1
+new 3 1
+new 3 1
+new 3 1
+new 3 1
+new 3 1
+new 3 1
+",
+        "0 full 4 work 7
+0 ok
+0 ok
+0 full 4 work 7
+0 full 4 work 7
+0 full 4 work 7
+0 full 4 work 7
+0 full 4 work 7
+0 full 4 work 7
+0 full 4 work 7
+0 full 5 work 7
+0 full 5 work 7
+0 new 0.59 work 7
+0 new 0.60 work 7
+end cycles 6 work 490
+",
+    )
+}
+
+#[test]
+fn a_block_that_is_given_again_shows_no_old_value(rt: HostRuntime) -> Result<(), Fail> {
+    let alloc = rt.alloc();
+    let mut text = job_begun(alloc)?;
+    text.push_str("new 1 2\nnew 2 2\nput 1 0 2\nput 2 0 1\nset 3 7\nput 1 1 3\nnil 1\nnil 2\n")?;
+    let mut expected = String::new(alloc);
+    expected.push_str("0 new 0.1 work 7\n0 new 0.2 work 7\n")?;
+    expected.push_str("0 ok\n0 ok\n0 ok\n0 ok\n0 ok\n0 ok\n")?;
+    for serial in 3..83_u32 {
+        text.push_str("new 1 2\nget 2 1 1\n")?;
+        let line = format!(in alloc; "0 new 0.{serial} work 7\n0 nil\n")?;
+        expected.push_str(line.as_str())?;
+    }
+    text.push_str("end\n")?;
+    expected.push_str("end cycles 9 work 574\n")?;
+    answers(&rt, alloc, "run", text.as_str(), 0, expected.as_str())
 }
 
 /// Commands of every kind, and what they answer.
@@ -158,7 +281,7 @@ say 1
 say 0
 len 0
 ",
-    "0 new 0.1 work 0
+    "0 new 0.1 work 7
 0 ok
 0 ok
 0 int 5
@@ -174,7 +297,7 @@ len 0
 0 ref 0.1
 0 ref 1.0
 0 len 0
-end cycles 1 work 0
+end cycles 1 work 7
 ",
 );
 
@@ -193,7 +316,7 @@ fn objects_of_several_blocks_and_large_numbers_are_stored(rt: HostRuntime) -> Re
         "new 1 6\nset 2 4611686018427387903\nput 1 5 2\nget 3 1 5\nget 3 1 6\n",
     )?;
     let written =
-        "0 new 0.1 work 0\n0 ok\n0 ok\n0 int 4611686018427387903\n0 range\nend cycles 1 work 0\n";
+        "0 new 0.1 work 14\n0 ok\n0 ok\n0 int 4611686018427387903\n0 range\nend cycles 1 work 14\n";
     answers(&rt, rt.alloc(), "run", record.as_str(), 0, written)?;
     let shared = "rtheap 1 threads 1 blocks 64 live 40 object 2 shared 17
 thread 0
@@ -223,7 +346,7 @@ same 5 1
 put 0 0 1
 ",
     )?;
-    let written = "0 new 0.1 work 0
+    let written = "0 new 0.1 work 7
 0 ok
 0 ok
 0 ok
@@ -232,14 +355,14 @@ put 0 0 1
 0 ref 0.1
 0 yes
 0 range
-end cycles 1 work 0
+end cycles 1 work 7
 ";
     answers(&rt, rt.alloc(), "run", text.as_str(), 0, written)
 }
 
 /// Makes a call whose input comes in pieces of 7 bytes, and compares its status and what it wrote.
 fn answers(
-    rt: &impl Abort,
+    rt: &(impl Abort + Wait),
     alloc: Global,
     word: &str,
     input: &str,
@@ -415,7 +538,7 @@ fn a_fault_of_the_sink_leaves_the_lines_before(rt: HostRuntime) -> Result<(), Fa
     let (exit, sink) = made(&rt, rt.alloc(), &call)?;
     assert_eq!(rt; (exit.status, exit.due), (6, 0));
     assert!(rt; exit.run.is_some());
-    assert_eq!(rt; sink.bytes(), b"0 new 0.1 work 0\n0 ref 0.1\n".as_slice());
+    assert_eq!(rt; sink.bytes(), b"0 new 0.1 work 7\n0 ref 0.1\n".as_slice());
     Ok(())
 }
 
@@ -457,6 +580,20 @@ fn wide(alloc: Global, live: u32, commands: &str) -> Result<String, AllocError> 
     )
 }
 
+/// What ten records of one block are answered.
+const TEN: &str = "0 new 0.1 work 7
+0 new 0.2 work 7
+0 new 0.3 work 7
+0 new 0.4 work 7
+0 new 0.5 work 7
+0 new 0.6 work 7
+0 new 0.7 work 7
+0 new 0.8 work 7
+0 new 0.9 work 7
+0 new 0.10 work 7
+end cycles 2 work 70
+";
+
 #[test]
 fn jobs_of_version_2_are_planned_and_run(rt: HostRuntime) -> Result<(), Fail> {
     let alloc = rt.alloc();
@@ -469,7 +606,15 @@ fn jobs_of_version_2_are_planned_and_run(rt: HostRuntime) -> Result<(), Fail> {
             20,
             "new 1 14\n",
             0,
-            "0 new 0.1 work 0\nend cycles 1 work 0\n",
+            "0 new 0.1 work 14\nend cycles 1 work 14\n",
+        ),
+        (
+            "run",
+            20,
+            "new 1 1\nnew 1 1\nnew 1 1\nnew 1 1\nnew 1 1\n\
+new 1 1\nnew 1 1\nnew 1 1\nnew 1 1\nnew 1 1\n",
+            0,
+            TEN,
         ),
         ("run", 20, "new 1 15\n", 3, "rtheap: line 3: size\n"),
         ("run", 20, "arr 1 9\n", 3, "rtheap: line 3: size\n"),
@@ -487,7 +632,7 @@ fn the_largest_heap_takes_the_largest_object(rt: HostRuntime) -> Result<(), Fail
     let text = format!(in alloc;
         "{header}arr 1 3072\nput 1 0 1\nget 2 1 0\nget 2 1 3071\nget 2 1 3072\nend\n"
     )?;
-    let written = "0 new 0.1 work 0\n0 ok\n0 ref 0.1\n0 nil\n0 range\nend cycles 1 work 0\n";
+    let written = "0 new 0.1 work 5120\n0 ok\n0 ref 0.1\n0 nil\n0 range\nend cycles 1 work 5120\n";
     answers(&rt, rt.alloc(), "run", text.as_str(), 0, written)?;
     let larger = format!(in alloc; "{header}arr 1 3073\nend\n")?;
     answers(
@@ -501,11 +646,12 @@ fn the_largest_heap_takes_the_largest_object(rt: HostRuntime) -> Result<(), Fail
 }
 
 /// Runs a job, and its commands on the heap that never frees.
-fn runs_agree(rt: &impl Abort, alloc: Global, input: &str) -> Result<(), Fail> {
+fn runs_agree(rt: &(impl Abort + Wait), alloc: Global, input: &str) -> Result<(), Fail> {
     let (exit, _sink) = made(rt, alloc, &Call::run(input))?;
     let Some(RunEnd::Ran(run)) = exit.run else {
         return Err("nothing was run".into());
     };
+    assert!(rt; run.threads() == 1);
     let config = run.config();
     let entries = run.entries(0);
     assert!(rt; config.in_bounds() && config.threads == 1);
@@ -543,7 +689,6 @@ say 11
 put 11 0 11
 get 12 5 0
 say 12
-end
 ";
 
 /// The same on blocks of eight payload words: an array of two leaves and a record of three blocks.
@@ -573,14 +718,30 @@ get 7 2 21
 put 0 17 1
 say 5
 say 4
-end
 ";
+
+/// A job of rings, of allocations of which none is kept, and of looks at what the rings still hold.
+fn ringed(alloc: Global, rings: &str, count: u32) -> Result<String, AllocError> {
+    let mut text = String::from_str(alloc, rings)?;
+    for _ in 0..count {
+        text.push_str("new 13 2\n")?;
+    }
+    text.push_str(
+        "get 12 5 0\nget 12 5 4\nget 12 5 20\nget 11 0 16\nsay 11\nlen 5\nsame 11 5\nend\n",
+    )?;
+    Ok(text)
+}
 
 #[test]
 fn a_heap_of_words_answers_as_the_heap_that_never_frees(rt: HostRuntime) -> Result<(), Fail> {
     let (commands, _written) = EACH_KIND;
     let text = job(rt.alloc(), commands)?;
     runs_agree(&rt, rt.alloc(), text.as_str())?;
-    runs_agree(&rt, rt.alloc(), RINGS)?;
-    runs_agree(&rt, rt.alloc(), WIDE_RINGS)
+    for rings in [RINGS, WIDE_RINGS] {
+        for count in [0, 300] {
+            let text = ringed(rt.alloc(), rings, count)?;
+            runs_agree(&rt, rt.alloc(), text.as_str())?;
+        }
+    }
+    Ok(())
 }

@@ -5,6 +5,7 @@ ghost use Rattle.rate_plan.specs.Rates.{IsAdmitted, IsRate};
 ghost use Rattle.trace_text.specs.Faults.{Rose};
 ghost use Rattle.trace_text.specs.Streams.{Appends, AppendsPrefix};
 ghost use Rattle.trace_text.specs.Texts.{run_text};
+ghost use Rattle.heap_system.specs.Systems.{units_of as units_in};
 ghost use Rattle.rtheap_core.specs.declared.exit.RunEnd.{RunEnd};
 ghost use Rattle.rtheap_core.specs.declared.exit.RunEnd.TheVariants as ends;
 ghost use Rattle.rtheap_core.specs.Calls.{IsCarriedOut, IsComplete};
@@ -15,12 +16,14 @@ ghost use Rattle.rtheap_core.specs.Refusals.{IsCause, status_of, refusal_line};
 
 use crate::exit::{Exit, RunEnd};
 use crate::refusal::Refusal;
-use crate::run::{Plain, run_job};
+use crate::run::run_job;
 use crate::runnable::can_run;
 use crate::task::Task;
+use heap_system::Finished;
 use never_heap::{Logs, Pace};
 use rate_plan::plan;
 use std::alloc::Global;
+use std::sync::Wait;
 use trace_text::{
     Job, LineBuffer, Sink, Source, inputs_are_told_apart, jobs_are_one, read_trace, write_run,
 };
@@ -33,8 +36,11 @@ const WRITE_FAULT: u8 = 6;
 /// configuration. Any other words are refused with the line `rtheap: usage`.
 ///
 /// The entries, cycles and units that an ended run shows by `Logs` are those that `done` is about.
-pub fn rtheap<R, S: Source, K: Sink, Q: Pace>(
-    _rt: &R,
+///
+/// That a call with the word `run` returns is not promised, for it makes turns of the job's thread
+/// until that is done. A call with any other words returns.
+pub fn rtheap<R: Wait, S: Source, K: Sink, Q: Pace>(
+    rt: &R,
     alloc: Global,
     words: &[String],
     source: &mut S,
@@ -59,11 +65,12 @@ pub fn rtheap<R, S: Source, K: Sink, Q: Pace>(
 {
     inputs_are_told_apart();
     jobs_are_one();
-    carried_out(alloc, words, source, sink)
+    carried_out(rt, alloc, words, source, sink)
 }
 
 /// Carries out what the words ask for.
-fn carried_out<S: Source, K: Sink>(
+fn carried_out<R: Wait, S: Source, K: Sink>(
+    rt: &R,
     alloc: Global,
     words: &[String],
     source: &mut S,
@@ -78,7 +85,7 @@ fn carried_out<S: Source, K: Sink>(
 {
     match Task::of(words) {
         None => refused(Refusal::Usage, sink),
-        Some(Task::Run) => match ran(alloc, source) {
+        Some(Task::Run) => match ran(rt, alloc, source) {
             Ok(run) => written(run, sink),
             Err(refusal) => refused(refusal, sink),
         },
@@ -103,8 +110,9 @@ fn planned_job<S: Source>(alloc: Global, source: &mut S) -> Result<(Job, u64), R
 }
 
 /// Reads a job and runs it.
-fn ran<S: Source>(alloc: Global, source: &mut S) -> Result<Plain, Refusal>
-    ensures ran { IfOk result (HasRun (sides S.left S.faults source.old source.new)) }
+fn ran<R: Wait, S: Source>(rt: &R, alloc: Global, source: &mut S) -> Result<Finished, Refusal>
+    ensures ran { IfOk result (λ run.
+        HasRun (sides S.left S.faults source.old source.new) (ends.Ran run)) }
     ensures still { OnOk result (S.faults source.new ≡ S.faults source.old) }
     ensures refused { IfErr result (λ refusal. (words : List (List ℕ)) → AskForRun words
         → IsCause words (sides S.left S.faults source.old source.new) refusal) }
@@ -113,7 +121,7 @@ fn ran<S: Source>(alloc: Global, source: &mut S) -> Result<Plain, Refusal>
     if !can_run(&job) {
         return Err(Refusal::Later);
     }
-    let run = run_job(alloc, &job)?;
+    let run = run_job(rt, alloc, job)?;
     Ok(run)
 }
 
@@ -129,12 +137,12 @@ fn rated<S: Source>(alloc: Global, source: &mut S) -> Result<u64, Refusal>
 }
 
 /// Writes the text of a run.
-fn written<K: Sink>(run: Plain, sink: &mut K) -> Exit
+fn written<K: Sink>(run: Finished, sink: &mut K) -> Exit
     ensures due { result.due ≡ 0 }
     ensures run { result.run ≡ Some (ends.Ran run) }
     ensures status { (result.status ≡ 0) ⊎ (result.status ≡ 6) }
     ensures text { IsWritten (sides K.held K.faults sink.old sink.new) result.status
-        (run_text (run.log ∷ []) 1 0) }
+        (run_text run.logs run.cycles (units_in run.logs)) }
     ensures still { result.status ≢ 6 → K.faults sink.new ≡ K.faults sink.old }
     ensures rose { result.status ≡ 6 → Rose (K.faults sink.old) (K.faults sink.new) }
 {

@@ -49,7 +49,8 @@ module _ (W : Width) (n m : ℕ) (g : Graph) (at : Name → ℕ → ℕ) (w : Bl
       (λ a h. sym (has_name_with_register g t r v a (thread_in t there)) ∙ h)
       (λ a h. has_name_with_register g t r v a (thread_in t there) ∙ h)
 
-  pub every_register_pending : (pending' : ℕ → ℕ → Bool) (t r : ℕ) (v : Value) → t < n → r < REGISTERS
+  pub every_register_pending : (pending' : ℕ → ℕ → Bool) (t r : ℕ) (v : Value) → t < n
+      → r < REGISTERS
       → IsValueOf (every_name g) v → pending' t r ≡ true
       → ((u q : ℕ) → pending' u q ≡ false → pending u q ≡ false)
       → Shows W n m (every_name (with_register g t r v)) (with_register g t r v) at w pending'

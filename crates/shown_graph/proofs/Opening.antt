@@ -22,7 +22,7 @@ use Rattle.array_trees.proofs.Arrays.{tree_layout}
 use Rattle.array_trees.proofs.Counts.{few_shared, many}
 use Rattle.array_trees.proofs.RegisterArrays.{array_of, slot_of, root_of}
 use Rattle.never_heap.specs.Graphs.{Object, Array, shared_name, start_graph, object_of, field_of, register_of, has_name}
-use Rattle.never_heap.proofs.Starting.{threads_of_start, name_of_start, object_of_start, has_shared, register_of_start, sixteen_of_start}
+use Rattle.never_heap.proofs.Starting.{threads_of_start, name_of_start, object_of_start, has_shared, register_of_start, registers_of_start}
 use Rattle.shown_graph.specs.Layouts.{object_blocks}
 use Rattle.shown_graph.specs.Words.{value_word, part_word}
 use Rattle.shown_graph.specs.Shown.{IsValueOf, heads, BlockShows, Shows, root_word, every_name, none_pending}
@@ -144,7 +144,7 @@ module _ (c : Config) (inside : IsInBounds c) where
   pub opening_shows : Shows c.width c.threads (opening_blocks c) (every_name (start_graph c))
       (start_graph c) (opening_at c.width c.threads) (opening_words c) none_pending
   opening_shows = record {
-    sized = record { threads = threads_of_start c; sixteen = sixteen_of_start c };
+    sized = record { threads = threads_of_start c; sixteen = registers_of_start c };
     names = λ a h. h;
     closed = record {
       fields = λ a i h. subst (λ (x : Object). IsValueOf (every_name (start_graph c))

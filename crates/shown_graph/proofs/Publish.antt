@@ -195,7 +195,8 @@ module _ (W : Width) (n m : ℕ) (K : Name → Type 0) (g : Graph) (at : Name �
     written = grown_written;
     registers = registers_stay W n (and_name K (next_name g t))
         (heads (with_blocks at (next_name g t) block_of)) (register_of g)
-        (register_of (with_object g t (new_object k f))) pending pending w w (λ x j some xl jl. refl)
+        (register_of (with_object g t (new_object k f))) pending pending w w
+        (λ x j some xl jl. refl)
         (λ u q un ql e. (e, register_kept u q))
         (registers_renamed W n K (and_name K (next_name g t)) (heads at)
         (heads (with_blocks at (next_name g t) block_of)) (register_of g) pending w

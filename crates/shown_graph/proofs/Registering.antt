@@ -65,7 +65,8 @@ module _ (W : Width) (n : ℕ) (K : Name → Type 0) (head : Name → ℕ)
         ∙ k.roots u j un jl;
   }
 
-  -- the words of the register blocks stay, and a register that is not pending has its value as before
+  -- the words of the register blocks stay, and a register that is not pending has its value as
+  -- before
   pub registers_stay : (u : BlockWords)
       → ((x j : ℕ) → 0 < x → x ≤ registers_end W n → j < payloads W
       → u.payload x j ≡ w.payload x j)

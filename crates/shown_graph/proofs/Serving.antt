@@ -30,7 +30,8 @@ use Rattle.shown_graph.proofs.Opening.{opening_shows}
 use Rattle.shown_graph.proofs.Reading.{length_read, link_read, register_read}
 use Rattle.shown_graph.proofs.Stores.{register_store, register_pending, pending_store, field_store, more_pending, register_same, register_new, object_same, changed_object, register_kept}
 
-pub prompt_register : (v : Option ValueLoad) (r : ℕ) → (value_in v).pending ≡ false → is_pending v r ≡ false
+pub prompt_register : (v : Option ValueLoad) (r : ℕ) → (value_in v).pending ≡ false
+    → is_pending v r ≡ false
 prompt_register None r h = refl
 prompt_register (Some v) r h = rw h refl
 
@@ -43,7 +44,8 @@ other_register (Some v) r h =
 pub load_here : (ls : ℕ → Loading) (t u : ℕ) (l : Loading) → t ≡ u → with_load ls t l u ≡ l
 load_here ls t u l e = ap (λ b. cond b l (ls u)) (eq-eqb t u e)
 
-pub load_other : (ls : ℕ → Loading) (t u : ℕ) (l : Loading) → (t ≡ u → ⊥) → with_load ls t l u ≡ ls u
+pub load_other : (ls : ℕ → Loading) (t u : ℕ) (l : Loading) → (t ≡ u → ⊥) → with_load ls t l u
+    ≡ ls u
 load_other ls t u l n = ap (λ b. cond b l (ls u)) (ne_eqb t u n)
 
 pub each_load : (P : ℕ → Loading → Type 0) (ls : ℕ → Loading) (t : ℕ) (l : Loading) (u : ℕ) → P t l
@@ -57,7 +59,8 @@ each_load P ls t l u here others = elim (cases_eq t u) [
 was_prompt : (ls : ℕ → Loading) (t : ℕ) (l : Loading) → IsPrompt (ls t) → (u q : ℕ)
     → pending_registers (with_load ls t l) u q ≡ false → pending_registers ls u q ≡ false
 was_prompt ls t l prompt u q e = elim (cases_eq t u) [
-  | inl same ↦ subst (λ x. pending_registers ls x q ≡ false) same (prompt_register (ls t).value q prompt)
+  | inl same ↦ subst (λ x. pending_registers ls x q ≡ false) same
+      (prompt_register (ls t).value q prompt)
   | inr other ↦ ap (λ (x : Loading). is_pending x.value q) (sym (load_other ls t u l other)) ∙ e
 ]
 
@@ -110,7 +113,8 @@ load_stays W g h at t l same sizes k = record {
 }
 
 -- a word that refers to a block is of a reference
-pub refers_to : (head : Name → ℕ) (v : Value) (word : ℕ) → word ≡ value_word head v → target word ≢ 0
+pub refers_to : (head : Name → ℕ) (v : Value) (word : ℕ) → word ≡ value_word head v
+    → target word ≢ 0
     → (a : Name) × (v ≡ Ref a) × (target word ≡ head a)
 refers_to head Nil word e h = absurd (h (ap target e ∙ target-nil))
 refers_to head (Int k) word e h = absurd (h (ap target e ∙ target-number k))
@@ -162,7 +166,8 @@ module _ (W : Width) (n m : ℕ) (K : Name → Type 0) (at : Name → ℕ → �
 
   -- a thread loads, and no word changes
   loads : (t : ℕ) (l : Loading)
-      → ((u q : ℕ) → pending_registers (with_load s.loads t l) u q ≡ false → pending_registers s.loads u q ≡ false)
+      → ((u q : ℕ) → pending_registers (with_load s.loads t l) u q ≡ false
+      → pending_registers s.loads u q ≡ false)
       → LoadIs W s.graph at t l
       → Follows W n m K at (record {
         graph = s.graph;
@@ -328,7 +333,8 @@ module _ (W : Width) (n m : ℕ) (K : Name → Type 0) (at : Name → ℕ → �
       } in
       record {
         shows = register_pending W n m K s.graph at s.words (pending_registers s.loads) k.shows
-            (pending_registers (with_load s.loads t l)) t d tn dl (field_of (object_of s.graph a) i) kept
+            (pending_registers (with_load s.loads t l)) t d tn dl (field_of (object_of s.graph a) i)
+            kept
             (ap (λ (x : Loading). is_pending x.value d) (load_here s.loads t t l refl)
             ∙ eq-eqb d d refl) (λ u q e. was_prompt s.loads t l prompt u q e);
         loads = λ u un. each_load
@@ -353,7 +359,8 @@ module _ (W : Width) (n m : ℕ) (K : Name → Type 0) (at : Name → ℕ → �
       record {
         shows = subst (λ x. Shows W n m K s.graph at
             (with_payload s.words (register_block W t (value_at s t).origin)
-            (register_slot W (value_at s t).origin) x) (pending_registers (with_load s.loads t unloaded)))
+            (register_slot W (value_at s t).origin) x)
+            (pending_registers (with_load s.loads t unloaded)))
             (sym v.word)
             (pending_store W n m K s.graph at s.words (pending_registers s.loads) k.shows
             (pending_registers (with_load s.loads t unloaded)) t (value_at s t).origin tn v.origin
@@ -403,7 +410,8 @@ module _ (W : Width) (n m : ℕ) (K : Name → Type 0) (at : Name → ℕ → �
             (λ _. load_stays W s.graph
             (with_field s.graph a i (register_of s.graph t (value_at s t).origin)) at u
             (s.loads u)
-            (λ r. sym (register_kept W n m K s.graph at s.words (pending_registers s.loads) k.shows a i
+            (λ r. sym (register_kept W n m K s.graph at s.words (pending_registers s.loads) k.shows
+            a i
             (register_of s.graph t (value_at s t).origin) ka place.0 kept u r))
             (λ b. same_size a i (register_of s.graph t (value_at s t).origin) b
             (changed_object W n m K s.graph at s.words (pending_registers s.loads) k.shows a i

@@ -150,7 +150,8 @@ module _ (W : Width) (n m : ℕ) (K : Name → Type 0) (g : Graph) (at : Name �
     full = subst (λ k. r < k) (sym (shows.sized.sixteen t there)) small
 
     -- The word of the value that the register has is stored. This ends a pending store.
-    pub pending_store : ((u q : ℕ) → pending' u q ≡ false → ((t ≡ u) → (r ≡ q) → ⊥) → pending u q ≡ false)
+    pub pending_store : ((u q : ℕ) → pending' u q ≡ false → ((t ≡ u) → (r ≡ q) → ⊥)
+        → pending u q ≡ false)
         → Shows W n m K g at (with_payload w (register_block W t r) (register_slot W r)
         (value_word (heads at) (register_of g t r))) pending'
     pending_store others = record {
@@ -239,7 +240,8 @@ module _ (W : Width) (n m : ℕ) (K : Name → Type 0) (g : Graph) (at : Name �
       }
 
       -- A kept value is stored in a register of the graph, whose word is pending from now on.
-      pub register_pending : pending' t r ≡ true → ((u q : ℕ) → pending' u q ≡ false → pending u q ≡ false)
+      pub register_pending : pending' t r ≡ true
+          → ((u q : ℕ) → pending' u q ≡ false → pending u q ≡ false)
           → Shows W n m K (with_register g t r v) at w pending'
       register_pending is others = record {
         sized = moved_sized;

@@ -107,7 +107,8 @@ pub fn new_objects_are_shown()
 {}
 
 /// Words that are of no register block and of no kept object may change, as those behind the last
-/// block. Fewer names may be kept, where these refer to each other alone and no register is pending.
+/// block. Fewer names may be kept, where these refer to each other alone and no register is
+/// pending.
 pub fn other_words_are_free()
     ensures words { (s : Snapshot) (u : BlockWords) → IsShown s
         → ((x j : ℕ) → 0 < x → x ≤ registers_end s.width s.threads → j < payloads s.width
@@ -138,7 +139,8 @@ pub fn shown_words_are_read()
         → payload_of (word_of s v) ≡ Some (value_payload (heads s.at) v) }
     ensures one_value { (s : Snapshot) (v u : Value) → IsShown s → IsKeptValue s v
         → IsKeptValue s u → word_of s v ≡ word_of s u → v ≡ u }
-    ensures register { (s : Snapshot) (t r : ℕ) → IsShown s → IsRegister s t r → s.pending t r ≡ false
+    ensures register { (s : Snapshot) (t r : ℕ) → IsShown s → IsRegister s t r
+        → s.pending t r ≡ false
         → s.words.payload (register_block s.width t r) (register_slot s.width r)
         ≡ word_of s (register_of s.graph t r) }
     ensures field { (s : Snapshot) (a : Name) (i steps last : ℕ) (way turn walked : ℕ → ℕ)

@@ -1,12 +1,12 @@
 -- What a reading leaves, and what it says of the bytes.
-use Rattle.std.proofs.Common.{◌≡◌, ℕ, ◌<◌, ◌≤◌, List, [], ◌++◌, length, drop, Option, Some, None, Result, Ok, Err, refl, sym, ap, subst, ◌∙◌, inl, inr, arith}
+use Rattle.std.proofs.Common.{◌≡◌, ℕ, ◌+◌, ◌<◌, ◌≤◌, List, [], ◌++◌, length, drop, Option, Some, None, Result, Ok, Err, refl, sym, ap, subst, ◌∙◌, inl, inr, arith}
 use Rattle.std.specs.Prelude.{IfSome, IfOk, MatchResult, IsErrOf}
 use Rattle.std.proofs.lemmas.List.{append-nil, drop_at, length-append}
 use Rattle.std.proofs.lemmas.Option.{same_Some}
 use Rattle.trace_text.specs.declared.trace_faults.Why.{Why}
 use Rattle.trace_text.specs.declared.trace_faults.TraceFault.{TraceFault}
 use Rattle.trace_text.specs.declared.trace_faults.TraceFault.TheVariants.{ReadFault, TooLong, BadLine, OutOfMemory}
-use Rattle.trace_text.specs.Jobs.{Job, IsJobInBounds, IsJob, IsInput}
+use Rattle.trace_text.specs.Jobs.{Job, input_limit, IsJobInBounds, IsJob, IsInput}
 use Rattle.trace_text.specs.Refusals.{IsFirstBadLine}
 use Rattle.trace_text.specs.Streams.{IsAtEnd, TookAtMost}
 use Rattle.trace_text.specs.Wholes.{IsLineFault}
@@ -60,7 +60,7 @@ blamed r bytes is line why e = subst (λ (s : Result Job TraceFault). Answers s 
 not_long : (r : Result Job TraceFault) (bytes : List ℕ) → Answers r bytes → r ≡ Err TooLong → ⊥
 not_long r bytes is e = subst (λ (s : Result Job TraceFault). Answers s bytes) e is
 
-ok_input : (r : Result Job TraceFault) (bytes : List ℕ) → length bytes ≤ 16777216
+ok_input : (r : Result Job TraceFault) (bytes : List ℕ) → length bytes ≤ input_limit
     → Answers r bytes → IfOk r (λ job. IsInput bytes job)
 ok_input (Ok job) bytes short is = record { within = short; is_job = is }
 ok_input (Err e) bytes short is = tt
@@ -69,8 +69,8 @@ whatever : (r : Result Job TraceFault) (P : Job → Type 0) → ((job : Job) →
 whatever (Ok job) P h = h job
 whatever (Err e) P h = tt
 
-ended_few : (old new : Option (List ℕ)) (input : List ℕ) → length input ≤ 16777216
-    → HasRead old input new → TookAtMost 16777217 old new
+ended_few : (old new : Option (List ℕ)) (input : List ℕ) → length input ≤ input_limit
+    → HasRead old input new → TookAtMost (input_limit + 1) old new
 ended_few None new input short read = tt
 ended_few (Some bytes) new input short read = (
   length input,
@@ -81,7 +81,7 @@ ended_few (Some bytes) new input short read = (
 )
 
 ends_by : (r : Result Job TraceFault) (input : List ℕ) (old new : Option (List ℕ))
-    → Answers r input → IsAtEnd old new → TookAtMost 16777217 old new → StopsAt r old new
+    → Answers r input → IsAtEnd old new → TookAtMost (input_limit + 1) old new → StopsAt r old new
 ends_by (Ok job) input old new is ended few = ended
 ends_by (Err ReadFault) input old new is ended few = tt
 ends_by (Err TooLong) input old new is ended few = absurd is
@@ -92,15 +92,15 @@ ends_by (Err OutOfMemory) input old new is ended few = few
 pub record Known (r : Result Job TraceFault) (old : Option (List ℕ)) : Type 0 where
   pub job : IfOk r (λ job. IfSome old (λ bytes. IsInput bytes job))
   pub complete : IfSome old (λ bytes. (job : Job) → IsInput bytes job → IsRead r job)
-  pub long : IfSome old (λ bytes. 16777216 < length bytes → IsRefused r TooLong)
-  pub too_long : IsErrOf r TooLong → IfSome old (λ bytes. 16777216 < length bytes)
-  pub wrong : IfSome old (λ bytes. (line : ℕ) (why : Why) → length bytes ≤ 16777216
+  pub long : IfSome old (λ bytes. input_limit < length bytes → IsRefused r TooLong)
+  pub too_long : IsErrOf r TooLong → IfSome old (λ bytes. input_limit < length bytes)
+  pub wrong : IfSome old (λ bytes. (line : ℕ) (why : Why) → length bytes ≤ input_limit
       → IsFirstBadLine bytes line why → IsRefused r (BadLine line why))
   pub bad_line : (line : ℕ) (why : Why) → IsErrOf r (BadLine line why)
-      → IfSome old (λ bytes. (length bytes ≤ 16777216) × IsFirstBadLine bytes line why)
+      → IfSome old (λ bytes. (length bytes ≤ input_limit) × IsFirstBadLine bytes line why)
 
 pub known : (r : Result Job TraceFault) (old new : Option (List ℕ)) (input : List ℕ)
-    → Answers r input → length input ≤ 16777216 → HasRead old input new → IsAtEnd old new
+    → Answers r input → length input ≤ input_limit → HasRead old input new → IsAtEnd old new
     → Known r old
 known r None new input is short read ended =
     record {
@@ -114,7 +114,7 @@ known r None new input is short read ended =
 known r (Some bytes) new input is short read ended =
     let same = all_read bytes input new read ended in
     let told : Answers r bytes = subst (Answers r) (sym same) is in
-    let few : length bytes ≤ 16777216 = omega (arith, ap length same) in
+    let few : length bytes ≤ input_limit = omega (arith, ap length same) in
     record {
       job = ok_input r bytes few told;
       complete = λ job of. read_job r bytes told job of.is_job;
@@ -125,25 +125,26 @@ known r (Some bytes) new input is short read ended =
     }
 
 pub stops : (r : Result Job TraceFault) (old new : Option (List ℕ)) (input : List ℕ)
-    → Answers r input → length input ≤ 16777216 → HasRead old input new → IsAtEnd old new
+    → Answers r input → length input ≤ input_limit → HasRead old input new → IsAtEnd old new
     → StopsAt r old new
 stops r old new input is short read ended =
     ends_by r input old new is ended (ended_few old new input short read)
 
 -- a source that told too many bytes was read as far as the first of them
-pub stops_early : (old new : Option (List ℕ)) (input : List ℕ) → length input ≡ 16777217
-    → HasRead old input new → IfSome old (λ bytes. new ≡ Some (drop 16777217 bytes))
+pub stops_early : (old new : Option (List ℕ)) (input : List ℕ) → length input ≡ input_limit + 1
+    → HasRead old input new → IfSome old (λ bytes. new ≡ Some (drop (input_limit + 1) bytes))
 stops_early None new input len read = tt
 stops_early (Some bytes) new input len read =
-    read.2 ∙ ap Some (sym (ap (drop 16777217) read.1 ∙ drop_at input read.0 16777217 len))
+    read.2 ∙ ap Some (sym (ap (drop (input_limit + 1)) read.1
+    ∙ drop_at input read.0 (input_limit + 1) len))
 
-more_told : (bytes input : List ℕ) (new : Option (List ℕ)) → length input ≡ 16777217
-    → HasRead (Some bytes) input new → 16777216 < length bytes
+more_told : (bytes input : List ℕ) (new : Option (List ℕ)) → length input ≡ input_limit + 1
+    → HasRead (Some bytes) input new → input_limit < length bytes
 more_told bytes input new len read =
     omega (arith, ap length read.1, length-append input read.0)
 
 -- what is known of a source with too many bytes
-pub known_long : (old new : Option (List ℕ)) (input : List ℕ) → length input ≡ 16777217
+pub known_long : (old new : Option (List ℕ)) (input : List ℕ) → length input ≡ input_limit + 1
     → HasRead old input new → Known (Err TooLong) old
 known_long None new input len read =
     record {

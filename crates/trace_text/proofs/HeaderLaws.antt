@@ -52,7 +52,8 @@ five_ranges w false false false false true n m l o s = refl
 five_ranges w false false false false false n m l o s = refl
 
 five_numbers : (a b d e f : Option ℕ) (g : ℕ → ℕ → ℕ → ℕ → ℕ → Result Config Why)
-    → reason (ok_or a whys.Number >>= λ n. ok_or b whys.Number >>= λ m. ok_or d whys.Number >>= λ l. ok_or e whys.Number >>= λ o. ok_or f whys.Number >>= λ s. g n m l o s)
+    → reason (ok_or a whys.Number >>= λ n. ok_or b whys.Number >>= λ m. ok_or d whys.Number
+    >>= λ l. ok_or e whys.Number >>= λ o. ok_or f whys.Number >>= λ s. g n m l o s)
     ≡ cond (not (is_some a && is_some b && is_some d && is_some e && is_some f))
     (Some whys.Number) (reason
     (g (unwrap_or a 0) (unwrap_or b 0) (unwrap_or d 0) (unwrap_or e 0) (unwrap_or f 0)))
@@ -64,7 +65,8 @@ five_numbers (Some n) (Some m) (Some l) (Some o) None g = refl
 five_numbers (Some n) (Some m) (Some l) (Some o) (Some s) g = refl
 
 abbrev of_labels : Option Labels → Result Config Why
-of_labels tokens = ok_or tokens whys.Header >>= λ p. spelled p.1 >>= λ n. spelled p.2 >>= λ m. spelled p.3 >>= λ l. spelled p.4 >>= λ o. spelled p.5 >>= λ s. ranged_config p.0 n m l o s
+of_labels tokens = ok_or tokens whys.Header >>= λ p. spelled p.1 >>= λ n. spelled p.2
+    >>= λ m. spelled p.3 >>= λ l. spelled p.4 >>= λ o. spelled p.5 >>= λ s. ranged_config p.0 n m l o s
 
 labels_agree : (o : Option Labels) → numbers_fault o ≡ reason (of_labels o)
 labels_agree None = refl

@@ -94,7 +94,8 @@ version_sound (p ∷ ps) x e =
 -- the tokens of a header of this width with these five tokens behind its labels
 abbrev pub labels : Width → List ℕ → List ℕ → List ℕ → List ℕ → List ℕ → List (List ℕ)
 labels w n m l b s =
-    codes "rtheap" ∷ version w ∷ codes "threads" ∷ n ∷ codes "blocks" ∷ m ∷ codes "live" ∷ l ∷ codes "object" ∷ b ∷ codes "shared" ∷ s ∷ []
+    codes "rtheap" ∷ version w ∷ codes "threads" ∷ n ∷ codes "blocks" ∷ m ∷ codes "live" ∷ l
+    ∷ codes "object" ∷ b ∷ codes "shared" ∷ s ∷ []
 
 -- each part behind the one before
 joined : (w : Width) (n m l b s : List ℕ) (p0 p1 p2 p3 p4 p5 p6 p7 : List (List ℕ))

@@ -6,6 +6,7 @@ use Rattle.std.specs.Option.{ok_or}
 use Rattle.std.proofs.lemmas.Bool.{eq-eqb, ne_eqb}
 use Rattle.std.proofs.lemmas.Bool.Decides.{nat_tests}
 use Rattle.block_store.specs.declared.Config.{Config}
+use Rattle.block_store.specs.declared.TheConstants.{REGISTERS}
 use Rattle.object_lists.specs.Records.{record_blocks}
 use Rattle.array_trees.specs.Trees.{array_blocks}
 use Rattle.never_heap.specs.declared.Command.{Command}
@@ -153,45 +154,47 @@ told_agree c t k words.Thread ns h =
 told_agree c t k words.End ns h = at_none (Agrees c t k words.End) ns h (turns _ _ End refl)
 told_agree c t k words.New ns h =
     at_two (Agrees c t k words.New) ns h
-    (λ d n. one_test (leb 16 d) d _ _
+    (λ d n. one_test (leb REGISTERS d) d _ _
     (length_test (leb (2 ^ 32) n) _ n _
     (too_long n (ltb c.object (record_blocks c.width n)) (leb 131072 k))
     (sized _ _ (Told (commands.New d n))
     (or_turn (ltb 65535 n || ltb c.object (record_blocks c.width n)) (leb 131072 k)))))
 told_agree c t k words.Arr ns h =
     at_two (Agrees c t k words.Arr) ns h
-    (λ d n. one_test (leb 16 d) d _ _
+    (λ d n. one_test (leb REGISTERS d) d _ _
     (length_test (leb (2 ^ 32) n) _ n _
     (too_long n (ltb c.object (array_blocks c.width n)) (leb 131072 k))
     (sized _ _ (Told (commands.Arr d n))
     (or_turn (ltb 65535 n || ltb c.object (array_blocks c.width n)) (leb 131072 k)))))
 told_agree c t k words.Set ns h =
     at_two (Agrees c t k words.Set) ns h
-    (λ d v. one_test (leb 16 d) d _ _
+    (λ d v. one_test (leb REGISTERS d) d _ _
     (sized _ _ (Told (commands.Set d v)) (or_turn (leb (2 ^ 62) v) (leb 131072 k))))
 told_agree c t k words.Nil ns h =
     at_one (Agrees c t k words.Nil) ns h
-    (λ s. one_test (leb 16 s) s _ _ (sized _ _ (Told (commands.Nil s)) refl))
+    (λ s. one_test (leb REGISTERS s) s _ _ (sized _ _ (Told (commands.Nil s)) refl))
 told_agree c t k words.Mov ns h =
     at_two (Agrees c t k words.Mov) ns h
-    (λ a b. two_tests (leb 16 a) (leb 16 b) a b _ _ (sized _ _ (Told (commands.Mov a b)) refl))
+    (λ a b. two_tests (leb REGISTERS a) (leb REGISTERS b) a b _ _
+    (sized _ _ (Told (commands.Mov a b)) refl))
 told_agree c t k words.Get ns h =
     at_three (Agrees c t k words.Get) ns h
-    (λ d s i. two_tests (leb 16 d) (leb 16 s) d s _ _
+    (λ d s i. two_tests (leb REGISTERS d) (leb REGISTERS s) d s _ _
     (sized _ _ (Told (commands.Get d s i)) (or_turn (leb (2 ^ 62) i) (leb 131072 k))))
 told_agree c t k words.Put ns h =
     at_three (Agrees c t k words.Put) ns h
-    (λ s i v. two_tests (leb 16 s) (leb 16 v) s v _ _
+    (λ s i v. two_tests (leb REGISTERS s) (leb REGISTERS v) s v _ _
     (sized _ _ (Told (commands.Put s i v)) (or_turn (leb (2 ^ 62) i) (leb 131072 k))))
 told_agree c t k words.Len ns h =
     at_one (Agrees c t k words.Len) ns h
-    (λ s. one_test (leb 16 s) s _ _ (sized _ _ (Told (commands.Len s)) refl))
+    (λ s. one_test (leb REGISTERS s) s _ _ (sized _ _ (Told (commands.Len s)) refl))
 told_agree c t k words.Same ns h =
     at_two (Agrees c t k words.Same) ns h
-    (λ a b. two_tests (leb 16 a) (leb 16 b) a b _ _ (sized _ _ (Told (commands.Same a b)) refl))
+    (λ a b. two_tests (leb REGISTERS a) (leb REGISTERS b) a b _ _
+    (sized _ _ (Told (commands.Same a b)) refl))
 told_agree c t k words.Say ns h =
     at_one (Agrees c t k words.Say) ns h
-    (λ s. one_test (leb 16 s) s _ _ (sized _ _ (Told (commands.Say s)) refl))
+    (λ s. one_test (leb REGISTERS s) s _ _ (sized _ _ (Told (commands.Say s)) refl))
 
 first_test : (x : Bool) (why : Why) (r : Result Line Why) (o : Option Why) → reason r ≡ o
     → reason (cond x (Err why) r) ≡ cond x (Some why) o
@@ -262,12 +265,12 @@ past : (b : Bool) (why : Why) (n : ℕ) (told : ℕ → Result Line Why) (l : Li
 past true why n told l e = absurd cc
 past false why n told l e = (refl, e)
 
-low : (n : ℕ) → leb 16 n ≡ false → n < 16
+low : (n : ℕ) → leb REGISTERS n ≡ false → n < REGISTERS
 low n e = grind (arith, nat_tests)
 
 from_low : (n : ℕ) (told : ℕ → Result Line Why) (l : Line) → (register_at n >>= told) ≡ Ok l
-    → (n < 16) × (told n ≡ Ok l)
-from_low n told l e = let p = past (leb 16 n) whys.Register n told l e in (low n p.0, p.1)
+    → (n < REGISTERS) × (told n ≡ Ok l)
+from_low n told l e = let p = past (leb REGISTERS n) whys.Register n told l e in (low n p.0, p.1)
 
 from_length : (n : ℕ) (told : ℕ → Result Line Why) (l : Line) → (length_at n >>= told) ≡ Ok l
     → told n ≡ Ok l
@@ -488,15 +491,15 @@ passes : (b : Bool) (why : Why) (n : ℕ) (told : ℕ → Result Line Why) (r : 
 passes true why n told r is e = absurd cc
 passes false why n told r is e = e
 
-is_low : (n : ℕ) → n < 16 → leb 16 n ≡ false
+is_low : (n : ℕ) → n < REGISTERS → leb REGISTERS n ≡ false
 is_low n h = grind (arith, nat_tests)
 
 is_few : (k : ℕ) → k < 131072 → leb 131072 k ≡ false
 is_few k h = grind (arith, nat_tests)
 
-has_low : (n : ℕ) (told : ℕ → Result Line Why) (r : Result Line Why) → n < 16 → told n ≡ r
+has_low : (n : ℕ) (told : ℕ → Result Line Why) (r : Result Line Why) → n < REGISTERS → told n ≡ r
     → (register_at n >>= told) ≡ r
-has_low n told r h e = passes (leb 16 n) whys.Register n told r (is_low n h) e
+has_low n told r h e = passes (leb REGISTERS n) whys.Register n told r (is_low n h) e
 
 has_length : (n : ℕ) (told : ℕ → Result Line Why) (r : Result Line Why) → n ≤ 65535
     → told n ≡ r → (length_at n >>= told) ≡ r

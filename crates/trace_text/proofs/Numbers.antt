@@ -48,7 +48,8 @@ two_is (p ∷ q ∷ r ∷ ps) = refl
 
 pub three_is : (ps : List (List ℕ))
     → numbers_at 3 ps ≡ (ok_or
-    (three_tokens_of ps) whys.Count >>= λ x. spelled x.0 >>= λ m. spelled x.1 >>= λ n. spelled x.2 >>= λ k. Ok (m ∷ n ∷ k ∷ []))
+    (three_tokens_of ps) whys.Count >>= λ x. spelled x.0 >>= λ m. spelled x.1 >>= λ n. spelled x.2
+    >>= λ k. Ok (m ∷ n ∷ k ∷ []))
 unfolding numbers_at three_tokens_of two_tokens_of one_token_of no_more_of
 three_is [] = refl
 three_is (p ∷ []) = refl

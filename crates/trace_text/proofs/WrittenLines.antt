@@ -6,6 +6,7 @@ use Rattle.std.proofs.lemmas.Bool.Decides.{nat_tests}
 use Rattle.std.proofs.lemmas.Fmt.{decimal_is_IsNumeral}
 use Rattle.std.proofs.lemmas.Str.Parse.{digit_from_value}
 use Rattle.block_store.specs.declared.Config.{Config}
+use Rattle.block_store.specs.declared.TheConstants.{REGISTERS}
 use Rattle.block_store.specs.declared.Width.{Width}
 use Rattle.block_store.specs.declared.Width.TheVariants.{Four, Eight}
 use Rattle.block_store.specs.Configs.{IsInBounds}
@@ -16,7 +17,7 @@ use Rattle.never_heap.specs.Jobs.{IsTraceInBounds}
 use Rattle.trace_text.specs.Lines.{lines_of, tokens_of, onto_first}
 use Rattle.trace_text.specs.Reading.{tokenized}
 use Rattle.trace_text.specs.Spellings.{version, header, command_line, trace_lines, traces_lines, job_lines}
-use Rattle.trace_text.specs.Jobs.{Job, IsJobInBounds, IsJob, IsInput}
+use Rattle.trace_text.specs.Jobs.{Job, input_limit, IsJobInBounds, IsJob, IsInput}
 use Rattle.trace_text.specs.JobTexts.{line_text, job_text}
 
 -- ---- bytes
@@ -117,7 +118,8 @@ line_begins : (token : List ℕ) (tokens : List (List ℕ)) (rest : List ℕ) �
 line_begins token [] rest is =
     let own = both (is_token token) true is in
     let h = at_token token (10 ∷ rest) [] [] (tokenized rest) own.0 (at_feed rest) in
-    seen_as _ _ _ _ [] (tokenized rest) (sym (append_assoc token (10 ∷ []) rest)) (append-nil token) h
+    seen_as _ _ _ _ [] (tokenized rest) (sym (append_assoc token (10 ∷ []) rest))
+    (append-nil token) h
 line_begins token (next ∷ tokens) rest is =
     let own = both (is_token token) (are_tokens (next ∷ tokens)) is in
     let behind = line_begins next tokens rest own.1 in
@@ -175,7 +177,7 @@ header_line c b =
 thread_line : (t : ℕ) → t < 16 → IsLine (codes "thread" ∷ decimal t ∷ [])
 thread_line t lt = rw (number_token t (omega arith)) refl
 
-register : (d : ℕ) → d < 16 → is_token (decimal d) ≡ true
+register : (d : ℕ) → d < REGISTERS → is_token (decimal d) ≡ true
 register d lt = number_token d (omega arith)
 
 number : (v : ℕ) → v < 2 ^ 62 → is_token (decimal v) ≡ true
@@ -227,6 +229,6 @@ text_is_job job b =
     ) in
     record { in_bounds = b; lines = lines_again (job_lines job.config job.traces) are }
 
-pub text_is_input : (job : Job) → IsJobInBounds job → length (job_text job) ≤ 16777216
+pub text_is_input : (job : Job) → IsJobInBounds job → length (job_text job) ≤ input_limit
     → IsInput (job_text job) job
 text_is_input job b short = record { within = short; is_job = text_is_job job b }

@@ -1,22 +1,16 @@
 -- The text of a history in order: a line for each item, and one of the totals.
-use Rattle.std.specs.Prelude.{ℕ, ◌+◌, List, [], ◌∷◌, ◌++◌, codes, decimal}
-use Rattle.never_heap.specs.declared.Entry.{Entry}
+use Rattle.std.specs.Prelude.{ℕ, ◌+◌, List, [], ◌∷◌, ◌++◌}
 use Rattle.never_heap.specs.Histories.{HistoryItem, Started, Did, starts_in, work_in}
-use Rattle.trace_text.specs.Lines.{space}
-use Rattle.trace_text.specs.Texts.{reply_text}
-
--- an entry's line, without its line feed
-abbrev pub entry_text : Entry → List ℕ
-entry_text e = decimal e.thread ++ (space ∷ reply_text e.reply e.work)
+use Rattle.trace_text.specs.Texts.{entry_text, start_text, totals_text}
 
 -- an item's line, where so many starts stand before it
 abbrev pub item_text : ℕ → HistoryItem → List ℕ
-item_text starts Started = codes "start " ++ decimal (starts + 1)
+item_text starts Started = start_text (starts + 1)
 item_text starts (Did e) = entry_text e
 
 -- the last line
 abbrev pub end_text : List HistoryItem → List ℕ
-end_text h = codes "end cycles " ++ decimal (starts_in h) ++ codes " work " ++ decimal (work_in h)
+end_text h = totals_text (starts_in h) (work_in h)
 
 -- the lines of the items, where so many starts stand before them
 abbrev pub lines_from : ℕ → List HistoryItem → List (List ℕ)

@@ -1,5 +1,5 @@
 -- What is printed of a run.
-use Rattle.std.specs.Prelude.{ℕ, List, [], ◌∷◌, ◌++◌, codes, decimal}
+use Rattle.std.specs.Prelude.{ℕ, List, ◌∷◌, ◌++◌, codes, decimal}
 use Rattle.std.specs.List.{flat_map}
 use Rattle.block_store.specs.declared.Name.{Name}
 use Rattle.block_store.specs.declared.Value.{Value}
@@ -8,7 +8,7 @@ use Rattle.never_heap.specs.declared.Entry.{Entry}
 use Rattle.never_heap.specs.declared.Reply.{Reply}
 use Rattle.never_heap.specs.declared.Reply.TheVariants.{New, Full, Stored, Val, Len, Yes, No, Null, Kind, Range}
 use Rattle.never_heap.specs.Histories.{HistoryItem, parts, starts_in, work_in}
-use Rattle.trace_text.specs.Lines.{line_feed, space}
+use Rattle.trace_text.specs.Lines.{ended, space}
 
 -- thread and serial, with a dot between
 abbrev pub name_text : Name → List ℕ
@@ -32,18 +32,26 @@ reply_text Null work = codes "null"
 reply_text Kind work = codes "kind"
 reply_text Range work = codes "range"
 
--- an entry's line: the thread, a space, the reply
+-- an entry: the thread, a space, the reply
+abbrev pub entry_text : Entry → List ℕ
+entry_text e = decimal e.thread ++ (space ∷ reply_text e.reply e.work)
+
+-- the start of a cycle
+abbrev pub start_text : ℕ → List ℕ
+start_text cycle = codes "start " ++ decimal cycle
+
+-- the totals: how many cycles were started and how many units were made
+abbrev pub totals_text : ℕ → ℕ → List ℕ
+totals_text cycles units = codes "end cycles " ++ decimal cycles ++ codes " work " ++ decimal units
+
 abbrev pub entry_line : Entry → List ℕ
-entry_line e = decimal e.thread ++ (space ∷ reply_text e.reply e.work) ++ line_feed ∷ []
+entry_line e = ended (entry_text e)
 
--- the last line: how many cycles were started and how many units were made
-abbrev pub totals_line : ℕ → ℕ → List ℕ
-totals_line cycles units =
-    codes "end cycles " ++ decimal cycles ++ codes " work " ++ decimal units ++ line_feed ∷ []
-
--- the line of the start of a cycle
 abbrev pub start_line : ℕ → List ℕ
-start_line cycle = codes "start " ++ decimal cycle ++ line_feed ∷ []
+start_line cycle = ended (start_text cycle)
+
+abbrev pub totals_line : ℕ → ℕ → List ℕ
+totals_line cycles units = ended (totals_text cycles units)
 
 -- the text of a run: each thread's lines in turn, and the totals
 abbrev pub run_text : List (List Entry) → ℕ → ℕ → List ℕ

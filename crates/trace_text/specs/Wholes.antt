@@ -50,6 +50,7 @@ pub record IsBegun
     : Type 0 where
   pub config : IsInBounds c
   pub threads : length done ≤ c.threads
-  pub text : tokenized bytes ≡ header c ∷ (traces_lines 0 done ++ next_line c (length done) ∷ others)
+  pub text : tokenized bytes
+      ≡ header c ∷ (traces_lines 0 done ++ next_line c (length done) ∷ others)
   pub traces : AllByRecursion (IsTraceInBounds c) done
   pub place : read ≡ length (traces_lines 0 done) + 2

@@ -209,6 +209,7 @@ mod tests {
     use super::*;
     use crate::MemSink;
     use std::alloc::{AllocError, Global};
+    use std::process::Abort;
     use std::test::Fail;
 
     /// Two threads and one command of each kind.
@@ -248,15 +249,24 @@ mod tests {
         })
     }
 
+    /// That writing the job has this answer and leaves this text. The calls in `fail` fail.
+    fn expect_text(
+        rt: &impl Abort,
+        alloc: Global,
+        fail: &[u64],
+        answer: Result<(), Failed>,
+        text: &[u8],
+    ) -> Result<(), Fail> {
+        let fail = Vec::from_slice(alloc, fail)?;
+        let mut sink = MemSink::new(alloc, 1000, fail).ok().ok_or("memory")?;
+        assert_eq!(rt; write_job(&job(alloc)?, &mut sink), answer);
+        assert_eq!(rt; sink.bytes(), text);
+        Ok(())
+    }
+
     #[test]
     fn a_job_of_two_threads(rt: HostRuntime) -> Result<(), Fail> {
-        let mut sink = MemSink::new(rt.alloc(), 1000, Vec::new(rt.alloc()))
-            .ok()
-            .ok_or("memory")?;
-        assert_eq!(rt; write_job(&job(rt.alloc())?, &mut sink), Ok(()));
-        assert_eq!(rt;
-            sink.bytes(),
-            b"rtheap 1 threads 2 blocks 65535 live 0 object 2 shared 1024
+        let text = b"rtheap 1 threads 2 blocks 65535 live 0 object 2 shared 1024
 thread 0
 new 3 5
 arr 15 0
@@ -270,21 +280,13 @@ len 7
 same 8 9
 say 10
 end
-"
-                .as_slice()
-        );
-        Ok(())
+";
+        expect_text(&rt, rt.alloc(), &[], Ok(()), text)
     }
 
     #[test]
     fn a_put_that_fails_leaves_the_lines_before(rt: HostRuntime) -> Result<(), Fail> {
-        let fail = Vec::from_slice(rt.alloc(), &[2])?;
-        let mut sink = MemSink::new(rt.alloc(), 1000, fail).ok().ok_or("memory")?;
-        assert_eq!(rt; write_job(&job(rt.alloc())?, &mut sink), Err(Failed));
-        assert_eq!(rt;
-            sink.bytes(),
-            b"rtheap 1 threads 2 blocks 65535 live 0 object 2 shared 1024\nthread 0\n".as_slice()
-        );
-        Ok(())
+        let text = b"rtheap 1 threads 2 blocks 65535 live 0 object 2 shared 1024\nthread 0\n";
+        expect_text(&rt, rt.alloc(), &[2], Err(Failed), text)
     }
 }

@@ -107,13 +107,18 @@ mod tests {
     fn a_sink_fails_where_told_and_where_a_piece_does_not_fit(rt: HostRuntime) -> Result<(), Fail> {
         let fail = Vec::from_slice(rt.alloc(), &[3])?;
         let mut sink = MemSink::new(rt.alloc(), 5, fail).ok().ok_or("memory")?;
-        assert_eq!(rt; sink.put(b"abc"), Ok(()));
-        assert_eq!(rt; sink.put(b"def"), Err(Failed));
-        assert_eq!(rt; sink.put(b"d"), Ok(()));
-        assert_eq!(rt; sink.put(b"e"), Err(Failed));
-        assert_eq!(rt; sink.put(b"e"), Ok(()));
-        assert_eq!(rt; sink.put(b""), Ok(()));
-        assert_eq!(rt; sink.put(b"f"), Err(Failed));
+        let puts = [
+            (b"abc".as_slice(), Ok(())),
+            (b"def", Err(Failed)),
+            (b"d", Ok(())),
+            (b"e", Err(Failed)),
+            (b"e", Ok(())),
+            (b"", Ok(())),
+            (b"f", Err(Failed)),
+        ];
+        for (piece, answer) in puts {
+            assert_eq!(rt; sink.put(piece), answer);
+        }
         assert_eq!(rt; sink.bytes(), b"abcde".as_slice());
         Ok(())
     }

@@ -107,15 +107,18 @@ mod tests {
         let fail = Vec::from_slice(rt.alloc(), &[1, 4])?;
         let mut source = MemSource::new(bytes, 2, fail);
         let mut piece = [0; 3];
-        assert_eq!(rt; source.take(&mut piece), Ok(2));
-        assert_eq!(rt; piece, *b"ab\0");
-        assert_eq!(rt; source.take(&mut piece), Err(Failed));
-        assert_eq!(rt; source.take(&mut piece), Ok(2));
-        assert_eq!(rt; piece, *b"cd\0");
-        assert_eq!(rt; source.take(&mut piece), Ok(1));
-        assert_eq!(rt; piece, *b"ed\0");
-        assert_eq!(rt; source.take(&mut piece), Err(Failed));
-        assert_eq!(rt; source.take(&mut piece), Ok(0));
+        let takes = [
+            (Ok(2), *b"ab\0"),
+            (Err(Failed), *b"ab\0"),
+            (Ok(2), *b"cd\0"),
+            (Ok(1), *b"ed\0"),
+            (Err(Failed), *b"ed\0"),
+            (Ok(0), *b"ed\0"),
+        ];
+        for (answer, held) in takes {
+            assert_eq!(rt; source.take(&mut piece), answer);
+            assert_eq!(rt; piece, held);
+        }
         Ok(())
     }
 

@@ -174,6 +174,7 @@ mod tests {
     use crate::MemSink;
     use never_heap::Command;
     use std::alloc::{AllocError, Global};
+    use std::process::Abort;
     use std::test::Fail;
 
     /// What two threads answered, in two cycles.
@@ -254,15 +255,24 @@ mod tests {
         })
     }
 
+    /// That writing the replies has this answer and leaves this text. The calls in `fail` fail.
+    fn expect_text(
+        rt: &impl Abort,
+        alloc: Global,
+        fail: &[u64],
+        answer: Result<(), Failed>,
+        text: &[u8],
+    ) -> Result<(), Fail> {
+        let fail = Vec::from_slice(alloc, fail)?;
+        let mut sink = MemSink::new(alloc, 1000, fail).ok().ok_or("memory")?;
+        assert_eq!(rt; write_run(&replies(alloc)?, &mut sink), answer);
+        assert_eq!(rt; sink.bytes(), text);
+        Ok(())
+    }
+
     #[test]
     fn each_reply_has_its_text(rt: HostRuntime) -> Result<(), Fail> {
-        let mut sink = MemSink::new(rt.alloc(), 1000, Vec::new(rt.alloc()))
-            .ok()
-            .ok_or("memory")?;
-        assert_eq!(rt; write_run(&replies(rt.alloc())?, &mut sink), Ok(()));
-        assert_eq!(rt;
-            sink.bytes(),
-            b"0 new 0.1 work 36
+        let text = b"0 new 0.1 work 36
 0 full 3 work 7
 0 ok
 0 nil
@@ -275,22 +285,14 @@ mod tests {
 1 kind
 1 range
 end cycles 2 work 43
-"
-                .as_slice()
-        );
-        Ok(())
+";
+        expect_text(&rt, rt.alloc(), &[], Ok(()), text)
     }
 
     #[test]
     fn a_put_that_fails_leaves_the_lines_before(rt: HostRuntime) -> Result<(), Fail> {
-        let fail = Vec::from_slice(rt.alloc(), &[3])?;
-        let mut sink = MemSink::new(rt.alloc(), 1000, fail).ok().ok_or("memory")?;
-        assert_eq!(rt; write_run(&replies(rt.alloc())?, &mut sink), Err(Failed));
-        assert_eq!(rt;
-            sink.bytes(),
-            b"0 new 0.1 work 36\n0 full 3 work 7\n0 ok\n".as_slice()
-        );
-        Ok(())
+        let text = b"0 new 0.1 work 36\n0 full 3 work 7\n0 ok\n";
+        expect_text(&rt, rt.alloc(), &[3], Err(Failed), text)
     }
 
     #[test]

@@ -106,11 +106,16 @@ mod tests {
             held: Vec::new(rt.alloc()),
             calls: 0,
         });
-        assert_eq!(rt; sink.put(b"abcd"), Ok(()));
-        assert_eq!(rt; sink.put(b"e"), Err(Failed));
-        assert_eq!(rt; sink.put(b"efg"), Err(Failed));
-        assert_eq!(rt; sink.put(b"hij"), Ok(()));
-        assert_eq!(rt; sink.put(b""), Ok(()));
+        let puts = [
+            (b"abcd".as_slice(), Ok(())),
+            (b"e", Err(Failed)),
+            (b"efg", Err(Failed)),
+            (b"hij", Ok(())),
+            (b"", Ok(())),
+        ];
+        for (piece, answer) in puts {
+            assert_eq!(rt; sink.put(piece), answer);
+        }
         assert_eq!(rt; sink.writer.held.as_slice(), b"abcdefhij".as_slice());
         Ok(())
     }

@@ -99,13 +99,17 @@ mod tests {
             calls: 0,
         });
         let mut piece = [0; 4];
-        assert_eq!(rt; source.take(&mut piece), Ok(2));
-        assert_eq!(rt; piece, *b"ab\0\0");
-        assert_eq!(rt; source.take(&mut piece), Err(Failed));
-        assert_eq!(rt; source.take(&mut piece), Ok(2));
-        assert_eq!(rt; piece, *b"cd\0\0");
-        assert_eq!(rt; source.take(&mut piece), Ok(1));
-        assert_eq!(rt; source.take(&mut piece), Ok(0));
+        let takes = [
+            (Ok(2), *b"ab\0\0"),
+            (Err(Failed), *b"ab\0\0"),
+            (Ok(2), *b"cd\0\0"),
+            (Ok(1), *b"ed\0\0"),
+            (Ok(0), *b"ed\0\0"),
+        ];
+        for (answer, held) in takes {
+            assert_eq!(rt; source.take(&mut piece), answer);
+            assert_eq!(rt; piece, held);
+        }
         Ok(())
     }
 }

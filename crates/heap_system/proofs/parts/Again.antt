@@ -1,5 +1,5 @@
 -- A thread that goes out, to come in again.
-use Rattle.std.proofs.Common.{refl, ap, sym, arith, ◌∙◌}
+use Rattle.std.proofs.Common.{refl, ap, arith}
 use Rattle.block_store.specs.declared.Config.{Config}
 use Rattle.block_store.specs.Places.{Phase}
 use Rattle.heap_machine.specs.Gating.{Gating}

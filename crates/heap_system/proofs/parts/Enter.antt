@@ -1,5 +1,5 @@
 -- A thread on its way in.
-use Rattle.std.proofs.Common.{◌≡◌, ℕ, ◌+◌, ◌-◌, ◌≤◌, ◌<◌, Bool, true, false, cond, eqb, ltb, eqb-true, ltb-true, eq-eqb, lt-ltb, Some, None, refl, sym, ap, ◌∙◌, subst, arith, inl, inr}
+use Rattle.std.proofs.Common.{◌≡◌, ℕ, ◌+◌, ◌-◌, ◌≤◌, ◌<◌, Bool, true, false, cond, eqb, ltb, eqb-true, ltb-true, lt-ltb, Some, None, refl, sym, ap, ◌∙◌, subst, arith, inl, inr}
 use Rattle.std.proofs.lemmas.Bool.{cases_Bool, cases_lt}
 use Rattle.block_store.specs.declared.Config.{Config}
 use Rattle.block_store.specs.declared.PhaseWord.{PhaseWord}
@@ -10,7 +10,6 @@ use Rattle.block_store.specs.Places.{Phase, extent}
 use Rattle.block_store.proofs.PhaseWords.{phase-more}
 use Rattle.never_heap.specs.declared.Command.{Command}
 use Rattle.never_heap.specs.declared.Command.TheVariants as commands
-use Rattle.never_heap.specs.Bounds.{IsCommandInBounds}
 use Rattle.never_heap.specs.Steps.{blocks_of, makes_object}
 use Rattle.never_heap.proofs.Ranges as ranges
 use Rattle.shown_graph.specs.Events.{unloaded}
@@ -18,7 +17,6 @@ use Rattle.heap_machine.specs.Gates.{gate_step, is_of_pass, is_empty, is_going_i
 use Rattle.heap_machine.specs.Gating.{Gating, GateOf, Outside, Inside}
 use Rattle.heap_machine.specs.Holdings.{Holding, holds_nothing}
 use Rattle.heap_machine.specs.Operations.{Fits, place_of, heap_after}
-use Rattle.heap_machine.specs.Passes.{IsPass}
 use Rattle.heap_machine.specs.declared.Step.TheVariants as steps
 use Rattle.heap_machine.specs.declared.gate.GateRow.{GateRow}
 use Rattle.heap_machine.specs.declared.gate.GateRow.TheVariants as gates
@@ -40,16 +38,15 @@ use Rattle.build_steps.specs.Rows.{building}
 use Rattle.build_steps.proofs.Ranges as building_ranges
 use Rattle.kept_names.specs.Pictures.{no_task}
 use Rattle.heap_system.specs.declared.local.Part.{Part}
-use Rattle.heap_system.specs.declared.local.Part.TheVariants.{Rest, Enter, Serve, Mark, Sweep, Build}
+use Rattle.heap_system.specs.declared.local.Part.TheVariants.{Enter, Serve, Mark, Sweep, Build}
 use Rattle.heap_system.specs.declared.Turn.TheVariants as turns
 use Rattle.heap_system.specs.Locals.{part_want, plain, pass_by, first_part, task, turn_of, gate_waits, PartFits, PartReads, IsPassAt}
-use Rattle.heap_system.specs.Naming.{Same}
-use Rattle.heap_system.specs.Pictures.{gating, holding, waiting}
+use Rattle.heap_system.specs.Pictures.{gating}
 use Rattle.heap_system.specs.Units.{blackens}
 use Rattle.heap_system.proofs.PartLaws.{AtPart, PartEvent, PartLaws, word_at}
-use Rattle.heap_system.proofs.Passing.{Comes, phase_is, began, look_event, gate_event, is_thread, same_stage}
+use Rattle.heap_system.proofs.Passing.{Comes, phase_is, began, look_event, gate_event, is_thread}
 use Rattle.heap_system.proofs.Paying.{blocks_low}
-use Rattle.heap_system.proofs.Seeing.{stage, IsEntering, Knows, Seen, EventKept, errand}
+use Rattle.heap_system.proofs.Seeing.{IsEntering, Knows, Seen, EventKept, errand}
 
 -- at the first row of a command nothing is loaded or held
 first_unloaded : (c : Config) (q : Pass) (k : Command) → loading_of (extent c) (at_first_row q k) ≡ unloaded

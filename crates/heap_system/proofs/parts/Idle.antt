@@ -1,8 +1,8 @@
 -- A thread that goes out after a pass that found nothing to do, to turn the phase over.
-use Rattle.std.proofs.Common.{◌≡◌, ℕ, ◌+◌, ◌*◌, ◌<◌, ◌≤◌, Bool, true, false, refl, ap, sym, ◌∙◌, arith}
+use Rattle.std.proofs.Common.{◌≡◌, ◌+◌, ◌≤◌, true, refl, ap, sym, ◌∙◌, arith}
 use Rattle.block_store.specs.declared.Config.{Config}
 use Rattle.block_store.specs.Heaps.{Heap, put_at}
-use Rattle.block_store.specs.Phases.{bit, is_sweep, cycle_of}
+use Rattle.block_store.specs.Phases.{bit, is_sweep}
 use Rattle.block_store.specs.Places.{Phase, Cursor}
 use Rattle.block_store.proofs.Functions.{bit_le, bit_one}
 use Rattle.rate_plan.specs.Rates.{IsAdmitted}
@@ -14,6 +14,7 @@ use Rattle.heap_machine.specs.declared.pass.Pass.{Pass}
 use Rattle.heap_machine.proofs.Gatings.{inside_some}
 use Rattle.heap_system.specs.declared.local.Part.TheVariants.{Idle, TurnOver}
 use Rattle.heap_system.proofs.Passing.{phase_is, inside_low, leave_event, inside_open, same_stage}
+use Rattle.heap_system.proofs.Paying.{opening_room}
 use Rattle.heap_system.proofs.PartLaws.{AtPart, PartEvent, PartLaws}
 use Rattle.heap_system.proofs.Seeing.{stage, stage_of, Forward, IsSwept, Seen}
 
@@ -24,9 +25,6 @@ swept_stays c h new q on cursor behind swept sweep at =
     let one : bit q.sweep ≡ 1 = ap bit sweep in
     let phase : is_sweep (h Phase) ≡ true = bit_one (is_sweep (h Phase)) (omega (arith, same, one, bit_le (is_sweep (h Phase)))) in
     omega (arith, swept sweep same, on.cursor (same ∙ sym at) phase, cursor)
-
-opening_room : (c : Config) → IsAdmitted c → registers_end c.width c.threads ≤ c.blocks
-opening_room c plan = omega (arith, plan.opens, plan.room)
 
 idle_event : (c : Config) (s : Seen c) → AtPart c s Idle → PartEvent c s Idle
 idle_event c s at = leave_event c s steps.Over (TurnOver (gates.CloseLook s.pass)) (ap (λ (x : Gating). x.stand) at.gating) refl

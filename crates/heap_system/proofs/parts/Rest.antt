@@ -1,5 +1,5 @@
 -- A thread at rest.
-use Rattle.std.proofs.Common.{◌≡◌, ◌<◌, true, false, refl, sym, ap, arith, inl, inr}
+use Rattle.std.proofs.Common.{◌<◌, refl, sym, ap, arith, inl, inr}
 use Rattle.std.proofs.lemmas.Bool.{cases_Bool}
 use Rattle.block_store.specs.declared.Config.{Config}
 use Rattle.block_store.specs.Phases.{is_closed}

@@ -38,7 +38,7 @@ use Rattle.barrier_steps.specs.Replies.{due_at, reply_due, IsKnown, KnownAt}
 use Rattle.barrier_steps.specs.Rows.{FieldState, field_want, field_got, field_reply, field_decided, field_holding, field_step, step_of}
 use Rattle.barrier_steps.proofs.Decisions.{decided_once, makes_none}
 use Rattle.barrier_steps.proofs.Dues.{none_due}
-use Rattle.barrier_steps.proofs.FieldRows.{field_sum, field_place, field_fits}
+use Rattle.barrier_steps.proofs.FieldRows.{field_sum, field_fits}
 use Rattle.barrier_steps.proofs.Keeping.{keeps_phase, keeps_words, over_nothing}
 use Rattle.barrier_steps.proofs.Leaving.{field_phase, field_cursor, grey_stays, field_found, field_claims}
 use Rattle.barrier_steps.proofs.Naming.{keeps_names, loaded_solid, due_on, reads_on}

@@ -10,7 +10,8 @@ returns c = record {
       registers (λ a o ka ol. objects a o (record { kept = ka; ordinal = ol }));
   behind = λ s l u shows room more same.
       later_last s.width s.threads s.last (named s.kept) s.graph s.at u s.pending
-      (words_behind s.width s.threads s.last (named s.kept) s.graph s.at s.words s.pending shows u room
+      (words_behind s.width s.threads s.last (named s.kept) s.graph s.at s.words s.pending shows u
+      room
       same) l more;
   fewer = λ s fewer shows down closed none.
       fewer_names s.width s.threads s.last (named s.kept) s.graph s.at s.words s.pending shows

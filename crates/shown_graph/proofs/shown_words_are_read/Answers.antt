@@ -23,6 +23,7 @@ returns c = record {
       walk_ends s.width s.threads s.last (named s.kept) s.graph s.at s.words s.pending shows a i ka
       within steps last way turn is walked starts goes;
   apart = λ s a b o p shows is other e.
-      blocks_apart s.width s.threads s.last (named s.kept) s.graph s.at s.words s.pending shows a b o p
+      blocks_apart s.width s.threads s.last (named s.kept) s.graph s.at s.words s.pending shows a b
+      o p
       is.kept other.kept is.ordinal other.ordinal e;
 }

@@ -36,11 +36,13 @@ fn read(
     Ok(read_trace(alloc, &mut source))
 }
 
-/// That a job is one for a heap of 64 blocks, with this trace.
-fn expect_job(rt: &impl Abort, job: &Job, trace: &[Command]) {
-    assert_eq!(rt; job.config, SMALL);
-    assert_eq!(rt; job.traces.len(), 1);
-    assert_eq!(rt; job.trace(0), trace);
+/// That a job is one of this configuration and these traces.
+fn expect_job(rt: &impl Abort, job: &Job, config: &Config, traces: &[&[Command]]) {
+    assert_eq!(rt; &job.config, config);
+    assert_eq!(rt; job.traces.len(), traces.len());
+    for t in 0..traces.len() {
+        assert_eq!(rt; job.trace(t), traces[t]);
+    }
 }
 
 #[test]
@@ -71,7 +73,7 @@ end
     ];
     for most in [1, 3, 64] {
         let job = read(rt.alloc(), text, most, &[])??;
-        expect_job(&rt, &job, &trace);
+        expect_job(&rt, &job, &SMALL, &[&trace]);
     }
     Ok(())
 }
@@ -80,7 +82,7 @@ end
 fn a_job_may_be_short(rt: HostRuntime) -> Result<(), Fail> {
     let text = b"rtheap 1 threads 1 blocks 64 live 20 object 2 shared 0\nthread 0\nend";
     let job = read(rt.alloc(), text, 64, &[])??;
-    expect_job(&rt, &job, &[]);
+    expect_job(&rt, &job, &SMALL, &[&[]]);
     let fault = read(rt.alloc(), text, 8, &[1])?.err();
     assert_eq!(rt; fault, Some(TraceFault::ReadFault));
     Ok(())
@@ -132,10 +134,13 @@ end
         Command::Same { a: 1, b: 2 },
         Command::Say { s: 0 },
     ];
+    let config = Config {
+        threads: 2,
+        shared: 4,
+        ..SMALL
+    };
     let job = read(rt.alloc(), text, 7, &[])??;
-    assert_eq!(rt; job.traces.len(), 2);
-    assert_eq!(rt; job.trace(0), first.as_slice());
-    assert_eq!(rt; job.trace(1), second.as_slice());
+    expect_job(&rt, &job, &config, &[&first, &second]);
     Ok(())
 }
 
@@ -196,8 +201,7 @@ end
         ..SMALL
     };
     let job = read(rt.alloc(), text, 10, &[])??;
-    assert_eq!(rt; job.config, config);
-    assert_eq!(rt; job.trace(0), trace.as_slice());
+    expect_job(&rt, &job, &config, &[&trace]);
     let mut sink = MemSink::new(rt.alloc(), 1000, Vec::new(rt.alloc()))
         .ok()
         .ok_or("memory")?;
@@ -226,15 +230,8 @@ end
         shared: 16,
     };
     let job = read(rt.alloc(), text, 64, &[])??;
-    assert_eq!(rt; job.config, config);
-    assert_eq!(rt; job.traces.len(), 4);
-    assert_eq!(rt;
-        job.traces[1].as_slice(),
-        [Command::Len { s: 0 }].as_slice()
-    );
-    assert_eq!(rt;
-        job.traces[3].as_slice(),
-        [Command::Say { s: 0 }].as_slice()
-    );
+    let length = [Command::Len { s: 0 }];
+    let shown = [Command::Say { s: 0 }];
+    expect_job(&rt, &job, &config, &[&[], &length, &[], &shown]);
     Ok(())
 }

@@ -12,7 +12,8 @@ loop-line-preserved c =
     let led = c.loop-line.invariant.led in
     let said = c.in_ok-next.ensures led.0 led.1 in
     let good = subst (λ
-    (v : Verdict). Says config c.args.rate traces led.0 c.in-Some.line.now v c.next.new.self) c.in-Good.is said in
+    (v : Verdict). Says config c.args.rate traces led.0 c.in-Some.line.now v c.next.new.self)
+    c.in-Good.is said in
     record {
       room = omega (arith, c.loop-line.invariant.room, c.in-Some.ensures.shorter);
       led = (

@@ -11,7 +11,8 @@ use Rattle.rt_check.proofs.top.judged_bytes.Goals as goal
 pub first_bad-requires-clause-rate : goal.first_bad-requires-clause-rate
 first_bad-requires-clause-rate c =
     let same = ap (λ (j : Job). j.config) c.job.view_is in
-    let low = c.one_rate.ensures.small c.job.inside.config c.in_ok-rate.rate c.in_ok-rate.ensures.0 c.in_ok-rate.ensures.1 in
+    let low = c.one_rate.ensures.small c.job.inside.config c.in_ok-rate.rate c.in_ok-rate.ensures.0
+    c.in_ok-rate.ensures.1 in
     let bounds = subst IsInBounds (sym same) c.in_ok-job.ensures.in_bounds.config in
     omega arith
 
@@ -29,7 +30,8 @@ returns-in-None c =
         short = record {
           whole = c.requires;
           job = subst
-              (λ (b : List ℕ). length b ≤ 16777216) c.parted.ensures.job c.if-job-gt-INPUT_LIMIT.false;
+              (λ (b : List ℕ). length b ≤ 16777216) c.parted.ensures.job
+              c.if-job-gt-INPUT_LIMIT.false;
         };
         is_job = subst (λ (b : List ℕ). IsJob b job) c.parted.ensures.job c.in_ok-job.ensures;
       },

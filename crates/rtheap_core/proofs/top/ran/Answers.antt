@@ -29,6 +29,5 @@ returns-clause-ran g c =
           (sym same) c.in_ok-job.ensures.read;
       admitted = subst (λ (j : Job). IsAdmitted j.config) (sym same) c.in_ok-job.ensures.rate.0;
       runnable = subst CanRun (sym same) (c.can_run.ensures.0 c.if-not-can_run.false);
-      is_run = c.in_ok-run.ensures.run;
-      part = c.in_ok-run.ensures.part;
+      ran = c.in_ok-run.ensures.ran;
     }

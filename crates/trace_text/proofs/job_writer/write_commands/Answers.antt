@@ -18,7 +18,8 @@ returns-in_err-put-clause-prefix g c =
     let Q : List ℕ → Type 0 =
     λ text. AppendsPrefix (held c.args.sink.now) (held c.put.new.self) text in
     let front = subst P (c.bytes.ensures ∙ c.fill_command.ensures) c.in_err-put.ensures.prefix in
-    let so_far = lines_front text_of _ _ _ c.args.trace.now c.loop-command.command-index _ c.loop-command-test.true c.loop-command.invariant.written front in
+    let so_far = lines_front text_of _ _ _ c.args.trace.now c.loop-command.command-index _
+    c.loop-command-test.true c.loop-command.invariant.written front in
     at_err c.from_residual.result
     (subst Q (sym (flat_map-map line_text command_line c.args.trace.now)) so_far)
 
@@ -29,5 +30,6 @@ returns-clause-written g c =
     λ text. Appends (held c.args.sink.now) (held c.loop-command.sink) text in
     let end : length c.args.trace.now ≤ c.loop-command.command-index =
     omega (arith, c.loop-command-test.false) in
-    let whole = lines_whole text_of _ _ c.args.trace.now c.loop-command.command-index end c.loop-command.invariant.written in
+    let whole = lines_whole text_of _ _ c.args.trace.now c.loop-command.command-index end
+    c.loop-command.invariant.written in
     subst Q (sym (flat_map-map line_text command_line c.args.trace.now)) whole

@@ -38,7 +38,8 @@ returns-clause-written g c =
     let P : List ℕ → Type 0 = λ text. Appends (held c.args.sink.now) (held c.put.new.self) text in
     let first = subst P (c.bytes.ensures ∙ c.line_of_header.ensures) c.in_ok-put.ensures.appended in
     on_ok_weaker c.put-2.result
-    (λ h. all_lines c.args.job.now _ _ _ _ first c.in_ok-write_traces.ensures.written h) c.put-2.ensures.appended
+    (λ h. all_lines c.args.job.now _ _ _ _ first c.in_ok-write_traces.ensures.written h)
+    c.put-2.ensures.appended
 
 pub returns-clause-prefix : goal.returns-clause-prefix
 returns-clause-prefix g c =
@@ -46,4 +47,5 @@ returns-clause-prefix g c =
     let P : List ℕ → Type 0 = λ text. Appends (held c.args.sink.now) (held c.put.new.self) text in
     let first = subst P (c.bytes.ensures ∙ c.line_of_header.ensures) c.in_ok-put.ensures.appended in
     on_err_weaker c.put-2.result
-    (λ h. last_front c.args.job.now _ _ _ _ first c.in_ok-write_traces.ensures.written h) c.put-2.ensures.prefix
+    (λ h. last_front c.args.job.now _ _ _ _ first c.in_ok-write_traces.ensures.written h)
+    c.put-2.ensures.prefix

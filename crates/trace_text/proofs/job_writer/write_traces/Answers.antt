@@ -27,6 +27,7 @@ loop-t-preserved g c =
     let lt : c.loop-t.t < length c.args.job.now.traces =
     omega (arith, c.loop-t-test.true, c.threads-t-end.ensures) in
     record {
-      written = traces_more c.args.job.now.traces c.loop-t.t [] lt _ _ _ c.loop-t.invariant.written own;
+      written = traces_more c.args.job.now.traces c.loop-t.t [] lt _ _ _ c.loop-t.invariant.written
+          own;
       still = c.in_ok-write_trace.ensures.still ∙ c.loop-t.invariant.still;
     }

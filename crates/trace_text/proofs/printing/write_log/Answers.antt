@@ -11,4 +11,5 @@ returns-in_err-put-clause-prefix g c =
     λ text. AppendsPrefix (held c.loop-entry.sink) (held c.put.new.self) text in
     let front = subst P (c.bytes.ensures ∙ c.fill_entry.ensures.text) c.in_err-put.ensures.prefix in
     at_err c.from_residual.result
-    (lines_front entry_line _ _ _ c.args.log.now c.loop-entry.entry-index _ c.loop-entry-test.true c.loop-entry.invariant.written front)
+    (lines_front entry_line _ _ _ c.args.log.now c.loop-entry.entry-index _ c.loop-entry-test.true
+    c.loop-entry.invariant.written front)

@@ -11,7 +11,8 @@ loop-preserved g c =
       | in-Ok w ↦
           rw w.done-is (record {
             within = (let bound = w.in-Ok.ensures.bound in grind (arith, take_rest, length-drop));
-            written = written_more _ _ _ c.args.piece.now c.loop.done w.in-Ok.count at.written w.in-Ok.ensures.bytes;
+            written = written_more _ _ _ c.args.piece.now c.loop.done w.in-Ok.count at.written
+                w.in-Ok.ensures.bytes;
           })
       | in-Err w ↦ rw w.done-is
           (record {

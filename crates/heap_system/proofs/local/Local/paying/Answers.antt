@@ -1,6 +1,5 @@
-use Rattle.std.proofs.Common.{◌≡◌, ◌∙◌, sym, ap, arith}
-use Rattle.heap_system.specs.Locals.{LocalState, local_got}
-use Rattle.heap_system.proofs.Paying.{view_of, paid_low, swept_on}
+use Rattle.std.proofs.Common.{arith}
+use Rattle.heap_system.proofs.Paying.{view_of, paid_low}
 use Rattle.heap_system.proofs.local.Local.paying.Goals as goal
 
 pub counted-self-inside-requires : goal.counted-self-inside-requires

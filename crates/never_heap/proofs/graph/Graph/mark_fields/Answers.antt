@@ -10,13 +10,20 @@ loop-name-preserved c =
     let name : Name = get_or c.args.list.now c.loop-name.name-index none in
     elim c.if-has.branch [
       | then-has w ↦
-          rounded_as c.args.self.now.graph c.args.marks.now _ c.if-has.marks _ c.if-has.is_new _ w.marks-is w.is_new-is
-          (rounded_more c.args.self.now.graph c.args.marks.now c.loop-name.marks c.loop-name.is_new c.args.list.now c.loop-name.name-index name none c.loop-name-test.true refl c.loop-name.invariant
+          rounded_as c.args.self.now.graph c.args.marks.now _ c.if-has.marks _ c.if-has.is_new _
+          w.marks-is w.is_new-is
+          (rounded_more c.args.self.now.graph c.args.marks.now c.loop-name.marks c.loop-name.is_new
+          c.args.list.now c.loop-name.name-index name none c.loop-name-test.true refl
+          c.loop-name.invariant
           w.spread-is_new.new.self w.spread-is_new.result w.cells.result.now
           (sym c.has.ensures ∙ w.if-has.true) w.cells.ensures
-          w.spread-is_new.ensures.marks w.spread-is_new.ensures.places w.spread-is_new.ensures.unchanged)
+          w.spread-is_new.ensures.marks w.spread-is_new.ensures.places
+          w.spread-is_new.ensures.unchanged)
       | else-has w ↦
-          rounded_as c.args.self.now.graph c.args.marks.now _ c.if-has.marks _ c.if-has.is_new _ w.marks-is w.is_new-is
-          (rounded_skip c.args.self.now.graph c.args.marks.now c.loop-name.marks c.loop-name.is_new c.args.list.now c.loop-name.name-index name none c.loop-name-test.true refl c.loop-name.invariant
+          rounded_as c.args.self.now.graph c.args.marks.now _ c.if-has.marks _ c.if-has.is_new _
+          w.marks-is w.is_new-is
+          (rounded_skip c.args.self.now.graph c.args.marks.now c.loop-name.marks c.loop-name.is_new
+          c.args.list.now c.loop-name.name-index name none c.loop-name-test.true refl
+          c.loop-name.invariant
           (sym c.has.ensures ∙ w.if-has.false))
     ]

@@ -1,7 +1,5 @@
-use Rattle.std.proofs.Common.{◌≡◌, ◌≤◌, ◌∙◌, ap, sym, subst, length, true, false, List}
+use Rattle.std.proofs.Common.{◌≡◌, ◌≤◌, sym, subst, length, true, false, List}
 use Rattle.block_store.specs.declared.Name.{Name}
-use Rattle.block_store.specs.declared.Width.{Width}
-use Rattle.block_store.specs.Registers.{registers_end}
 use Rattle.never_heap.specs.Reach.{stands_in}
 use Rattle.never_heap.specs.Scans.{Scanned, Finds}
 use Rattle.never_heap.proofs.Scanning.{scanned_none, register_reached, first_more}
@@ -15,19 +13,19 @@ loop-mutator-init c =
       scanned = subst
           (λ (l : List Name). Scanned c.args.self.now.width g c.in_ok-no_marks.field-0 l blocks)
           (sym c.new.ensures.items)
-          (scanned_none c.args.self.now.width g c.in_ok-no_marks.field-0 blocks c.in_ok-no_marks.ensures.places c.in_ok-no_marks.ensures.marks
-          (c.register_blocks.ensures.value
-          ∙ (ap (λ (w : Width). registers_end w
-          (length c.mutators.result.now)) c.width.ensures
-          ∙ ap (λ l. registers_end c.args.self.now.width
-          (length l)) c.mutators.ensures.mutators))
-          (subst (λ l. length l ≤ 16) c.mutators.ensures.mutators c.mutators.ensures.few));
+          (scanned_none c.args.self.now.width g c.in_ok-no_marks.field-0 blocks
+          c.in_ok-no_marks.ensures.places c.in_ok-no_marks.ensures.marks
+          c.register_blocks.ensures.value
+          (subst (λ l. length l ≤ 16) c.mutators-mutator-items.ensures.mutators
+          c.mutators-mutator-items.ensures.few));
       registers = λ b h has. absurd (let e : false ≡ true = h in cc);
     }
 
 pub find_all-requires-clause-reached : goal.find_all-requires-clause-reached
 find_all-requires-clause-reached c b h =
-    register_reached c.args.self.now.graph c.mutators-mutator-items.result.now c.loop-mutator.mutator-index c.mutator-item.result c.mutators-mutator-items.ensures.mutators c.loop-mutator-test.true
+    register_reached c.args.self.now.graph c.mutators-mutator-items.result.now
+    c.loop-mutator.mutator-index c.mutator-item.result c.mutators-mutator-items.ensures.mutators
+    c.loop-mutator-test.true
     c.mutator-item.is b (subst (λ l. stands_in b l ≡ true) c.registers.ensures h)
 
 pub loop-mutator-preserved : goal.loop-mutator-preserved
@@ -37,7 +35,10 @@ loop-mutator-preserved c =
     let new = c.find_all.new.self in
     record {
       scanned = c.in_ok-find_all.ensures.scanned;
-      registers = first_more g c.mutators-mutator-items.result.now c.loop-mutator.mutator-index c.mutator-item.result c.mutators-mutator-items.ensures.mutators c.loop-mutator-test.true
-          c.mutator-item.is old.marks new.marks old.found.items new.found.items c.loop-mutator.invariant.registers
-          (subst (λ l. Finds g old.marks new.marks old.found.items new.found.items l) c.registers.ensures c.in_ok-find_all.ensures.finds);
+      registers = first_more g c.mutators-mutator-items.result.now c.loop-mutator.mutator-index
+          c.mutator-item.result c.mutators-mutator-items.ensures.mutators c.loop-mutator-test.true
+          c.mutator-item.is old.marks new.marks old.found.items new.found.items
+          c.loop-mutator.invariant.registers
+          (subst (λ l. Finds g old.marks new.marks old.found.items new.found.items l)
+          c.registers.ensures c.in_ok-find_all.ensures.finds);
     }

@@ -13,12 +13,15 @@ loop-value-preserved c =
     elim c.match-value.branch [
       | in-Ref+in_ok-find w ↦ rw w.self-is (record {
         scanned = w.in_ok-find.ensures.scanned;
-        finds = finds_more g old.marks mid.marks w.find.new.self.marks old.found.items mid.found.items w.find.new.self.found.items c.args.values.now c.loop-value.value-index c.loop-value-test.true
+        finds = finds_more g old.marks mid.marks w.find.new.self.marks old.found.items
+            mid.found.items w.find.new.self.found.items c.args.values.now c.loop-value.value-index
+            c.loop-value-test.true
             c.loop-value.invariant.finds w.in-Ref.name w.in-Ref.is w.in_ok-find.ensures.finds;
       })
       | in_default w ↦ rw w.self-is (record {
         scanned = c.loop-value.invariant.scanned;
-        finds = finds_other g old.marks mid.marks mid.marks old.found.items mid.found.items mid.found.items c.args.values.now c.loop-value.value-index c.loop-value-test.true
+        finds = finds_other g old.marks mid.marks mid.marks old.found.items mid.found.items
+            mid.found.items c.args.values.now c.loop-value.value-index c.loop-value-test.true
             c.loop-value.invariant.finds
             (λ a. no_reference a
             (get_or c.args.values.now c.loop-value.value-index Nil) w.in_default.not-Ref);

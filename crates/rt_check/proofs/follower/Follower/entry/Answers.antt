@@ -7,7 +7,8 @@ pub returns-then-is_empty : goal.returns-then-is_empty
 returns-then-is_empty c past s =
     let few : length c.args.job.now.traces ≤ 16 =
     (let l = c.requires.job.threads in let b = c.requires.job.config in omega arith) in
-    first_bad c.args.job.now.config c.args.rate c.args.job.now.traces past c.args.line.now c.args.thread few c.requires.number
+    first_bad c.args.job.now.config c.args.rate c.args.job.now.traces past c.args.line.now
+    c.args.thread few c.requires.number
     (no_past c.args.job.now.config c.args.job.now.traces past c.args.self.now s
     (let a = c.is_empty.ensures in let b = c.if-is_empty.true in grind (arith, nat_tests)))
 
@@ -15,5 +16,7 @@ pub returns-in_default : goal.returns-in_default
 returns-in_default c past s =
     let few : length c.args.job.now.traces ≤ 16 =
     (let l = c.requires.job.threads in let b = c.requires.job.config in omega arith) in
-    none_left_bad c.args.job.now.config c.args.rate c.args.job.now.traces past c.args.line.now c.args.thread few c.requires.number
-    (sym (left_is c.args.job.now.config c.args.job.now.traces past c.args.self.now s c.args.thread) ∙ c.in_default.ensures)
+    none_left_bad c.args.job.now.config c.args.rate c.args.job.now.traces past c.args.line.now
+    c.args.thread few c.requires.number
+    (sym (left_is c.args.job.now.config c.args.job.now.traces past c.args.self.now s c.args.thread)
+    ∙ c.in_default.ensures)

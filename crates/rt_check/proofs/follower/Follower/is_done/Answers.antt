@@ -17,7 +17,8 @@ returns-then-index-trace c =
     ∙ get_or_default c.args.self.now.done.items t c.index.result.now 0 there in
     let few : get_or c.args.self.now.done.items t 0 < length (get_or c.args.job.now.traces t []) =
     subst (λ (n : ℕ). n < length (get_or c.args.job.now.traces t [])) here
-    (subst (λ (l : List Command). c.index.result.now < length l) c.trace.ensures c.if-index-trace.true) in (
+    (subst (λ (l : List Command). c.index.result.now < length l) c.trace.ensures
+    c.if-index-trace.true) in (
       λ f. absurd (no f),
       λ none. absurd
           (some_left (get_or c.args.job.now.traces t []) (get_or c.args.self.now.done.items t 0) few

@@ -7,12 +7,14 @@ pub returns-in_err-taken-clause-told : goal.returns-in_err-taken-clause-told
 returns-in_err-taken-clause-told g c =
     let left = g.S.Source.left in
     tells_on (left c.args.source.now) (left c.loop-input.source)
-    (left c.take_into.new.source) c.loop-input.input.items c.loop-input.invariant.read c.in_err-taken.ensures.told
+    (left c.take_into.new.source) c.loop-input.input.items c.loop-input.invariant.read
+    c.in_err-taken.ensures.told
 
 pub returns-in_err-taken-clause-few : goal.returns-in_err-taken-clause-few
 returns-in_err-taken-clause-few g c =
     let left = g.S.Source.left in
-    let p = err_from_is_err_and c.from_residual-in_err-taken.result c.from_residual-in_err-taken.ensures.1 in
+    let p = err_from_is_err_and c.from_residual-in_err-taken.result
+    c.from_residual-in_err-taken.ensures.1 in
     rw (p.1, p.2) (few_on _ (left c.args.source.now) (left c.loop-input.source)
     (left c.take_into.new.source) c.loop-input.input.items _ (c.args.most + 1)
     (search rules) c.loop-input.invariant.read c.in_err-taken.ensures.few)
@@ -21,7 +23,8 @@ pub returns-then-taken-eq0-clause-read : goal.returns-then-taken-eq0-clause-read
 returns-then-taken-eq0-clause-read g c =
     let left = g.S.Source.left in
     reads_on (left c.args.source.now) (left c.loop-input.source)
-    (left c.take_into.new.source) c.loop-input.input.items c.take_into.new.input.items c.in_ok-taken.taken c.loop-input.invariant.read c.in_ok-taken.ensures.added
+    (left c.take_into.new.source) c.loop-input.input.items c.take_into.new.input.items
+    c.in_ok-taken.taken c.loop-input.invariant.read c.in_ok-taken.ensures.added
 
 pub returns-then-taken-eq0-clause-ended : goal.returns-then-taken-eq0-clause-ended
 returns-then-taken-eq0-clause-ended g c =
@@ -34,7 +37,8 @@ pub returns-then-taken-eq0-clause-told : goal.returns-then-taken-eq0-clause-told
 returns-then-taken-eq0-clause-told g c =
     let left = g.S.Source.left in
     tells_on (left c.args.source.now) (left c.loop-input.source)
-    (left c.take_into.new.source) c.loop-input.input.items c.loop-input.invariant.read c.in_ok-taken.ensures.told
+    (left c.take_into.new.source) c.loop-input.input.items c.loop-input.invariant.read
+    c.in_ok-taken.ensures.told
 
 pub returns-clause-told : goal.returns-clause-told
 returns-clause-told g c =
@@ -56,7 +60,8 @@ loop-input-preserved g c =
     let moved = c.in_ok-taken.ensures.len in
     record {
       read = reads_on (left c.args.source.now) (left c.loop-input.source)
-          (left c.take_into.new.source) c.loop-input.input.items c.take_into.new.input.items c.in_ok-taken.taken c.loop-input.invariant.read c.in_ok-taken.ensures.added;
+          (left c.take_into.new.source) c.loop-input.input.items c.take_into.new.input.items
+          c.in_ok-taken.taken c.loop-input.invariant.read c.in_ok-taken.ensures.added;
       within = search rules;
       piece = c.loop-input.invariant.piece;
       still = c.in_ok-taken.ensures.cause ∙ c.loop-input.invariant.still;

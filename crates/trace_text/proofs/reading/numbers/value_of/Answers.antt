@@ -10,7 +10,8 @@ returns-in_err-digit c =
     (is_digit (get_or c.args.digits.now c.loop-byte.byte-index 0)) c.in_err-digit.ensures in
     rw c.from_residual.ensures
     (sym (sym c.loop-byte.invariant.whole
-    ∙ digits_on_stop c.args.digits.now c.loop-byte.value c.loop-byte.byte-index c.loop-byte-test.true none))
+    ∙ digits_on_stop c.args.digits.now c.loop-byte.value c.loop-byte.byte-index
+    c.loop-byte-test.true none))
 
 pub overflow_mul-value : goal.overflow_mul-value
 overflow_mul-value c = omega (
@@ -26,7 +27,8 @@ overflow_add-value c =
     omega (
       arith,
       more_fits c.loop-byte.value
-          (get_or c.args.digits.now c.loop-byte.byte-index 0 - 48) c.loop-byte.byte-index c.loop-byte.invariant.small d (omega arith),
+          (get_or c.args.digits.now c.loop-byte.byte-index 0 - 48) c.loop-byte.byte-index
+          c.loop-byte.invariant.small d (omega arith),
       c.from.ensures,
       c.in_ok-digit.ensures.1,
     )
@@ -39,7 +41,9 @@ loop-byte-preserved c =
     rw is record {
       small = one_more c.loop-byte.value
           (b - 48) c.loop-byte.byte-index c.loop-byte.invariant.small d;
-      whole = sym (digits_on_more c.args.digits.now c.loop-byte.value c.loop-byte.byte-index c.loop-byte-test.true c.in_ok-digit.ensures.0) ∙ c.loop-byte.invariant.whole;
+      whole =
+          sym (digits_on_more c.args.digits.now c.loop-byte.value c.loop-byte.byte-index
+          c.loop-byte-test.true c.in_ok-digit.ensures.0) ∙ c.loop-byte.invariant.whole;
     }
 
 pub returns : goal.returns

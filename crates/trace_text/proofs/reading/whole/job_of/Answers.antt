@@ -16,9 +16,13 @@ returns-in_err-trace c =
     let count : c.loop-thread.thread ≡ length done =
     sym c.loop-thread.invariant.count ∙ traces.ok.0
     ∙ sym (length-map traces.items (λ v. v.items)) in
-    let fault = next_fault_is c.in_ok-config.config done c.loop-thread.thread c.args.input.now c.loop-thread.rest.read (tokenized c.loop-thread.rest.lines.now) c.loop-thread.invariant.begun count c.loop-thread-test.true c.in_err-trace.field-0.0 c.in_err-trace.ensures.trace in
+    let fault = next_fault_is c.in_ok-config.config done c.loop-thread.thread c.args.input.now
+    c.loop-thread.rest.read (tokenized c.loop-thread.rest.lines.now)
+    c.loop-thread.invariant.begun count c.loop-thread-test.true c.in_err-trace.field-0.0
+    c.in_err-trace.ensures.trace in
     passed_on c.from_residual-in_err-trace.result (IsJob c.args.input.now)
-    (IsLineFault (IsFirstBadLine c.args.input.now)) c.in_err-trace.field-0.0 c.from_residual-in_err-trace.ensures.1 fault
+    (IsLineFault (IsFirstBadLine c.args.input.now)) c.in_err-trace.field-0.0
+    c.from_residual-in_err-trace.ensures.1 fault
 
 pub loop-thread-preserved : goal.loop-thread-preserved
 loop-thread-preserved c =
@@ -30,15 +34,19 @@ loop-thread-preserved c =
     let read : c.in_ok-trace.after.read
     ≡ c.loop-thread.rest.read + length c.in_ok-trace.trace.items + 1 =
     omega (arith, c.in_ok-trace.ensures.read, c.in_ok-trace.trace.ok.0) in
-    let begun = next_begun c.in_ok-config.config done c.loop-thread.thread c.args.input.now c.loop-thread.rest.read (tokenized c.loop-thread.rest.lines.now) c.loop-thread.invariant.begun count c.loop-thread-test.true
+    let begun = next_begun c.in_ok-config.config done c.loop-thread.thread c.args.input.now
+    c.loop-thread.rest.read (tokenized c.loop-thread.rest.lines.now)
+    c.loop-thread.invariant.begun count c.loop-thread-test.true
     c.in_ok-trace.trace.items
-    (tokenized c.in_ok-trace.after.lines.now) c.in_ok-trace.after.read c.in_ok-trace.ensures.trace read in
+    (tokenized c.in_ok-trace.after.lines.now) c.in_ok-trace.after.read c.in_ok-trace.ensures.trace
+    read in
     let all : map (λ v. v.items) c.push.new.self.items ≡ done ++ c.in_ok-trace.trace.items ∷ [] =
     ap (map (λ v. v.items)) c.in_ok-push.ensures.items
     ∙ map-append (λ v. v.items) traces.items (c.in_ok-trace.trace ∷ []) in
     record {
       begun = subst (λ (ts : List
-          (List Command)). IsBegun c.in_ok-config.config ts c.args.input.now c.in_ok-trace.after.read (tokenized c.in_ok-trace.after.lines.now)) (sym all) begun;
+          (List Command)). IsBegun c.in_ok-config.config ts c.args.input.now
+          c.in_ok-trace.after.read (tokenized c.in_ok-trace.after.lines.now)) (sym all) begun;
       count = c.in_ok-push.ensures.len ∙ ap (λ (n : ℕ). n + 1) c.loop-thread.invariant.count;
       within = c.in_ok-trace.ensures.within;
     }
@@ -52,7 +60,10 @@ returns-then-is_some c =
     ∙ sym (length-map traces.items (λ v. v.items)) in
     let some = gives_some _ c.first_line.result _ c.first_line.ensures.lines
     (sym c.is_some.ensures ∙ c.if-is_some.true) in
-    ends_pending c.in_ok-config.config done c.loop-thread.thread c.args.input.now c.loop-thread.rest.read (tokenized c.loop-thread.rest.lines.now) c.loop-thread.invariant.begun count c.loop-thread-test.false some.0 (parted_some _ some.0.0 some.0.1 some.1)
+    ends_pending c.in_ok-config.config done c.loop-thread.thread c.args.input.now
+    c.loop-thread.rest.read (tokenized c.loop-thread.rest.lines.now)
+    c.loop-thread.invariant.begun count c.loop-thread-test.false some.0
+    (parted_some _ some.0.0 some.0.1 some.1)
 
 pub returns : goal.returns
 returns c =
@@ -63,4 +74,6 @@ returns c =
     ∙ sym (length-map traces.items (λ v. v.items)) in
     let none = parted_none _ (gives_none _ c.first_line.result _ c.first_line.ensures.lines
     (sym c.is_some.ensures ∙ c.if-is_some.false)) in
-    ends_whole c.in_ok-config.config done c.loop-thread.thread c.args.input.now c.loop-thread.rest.read (tokenized c.loop-thread.rest.lines.now) c.loop-thread.invariant.begun count c.loop-thread-test.false none
+    ends_whole c.in_ok-config.config done c.loop-thread.thread c.args.input.now
+    c.loop-thread.rest.read (tokenized c.loop-thread.rest.lines.now)
+    c.loop-thread.invariant.begun count c.loop-thread-test.false none

@@ -32,7 +32,8 @@ returns-in-Err-clause-trace c =
     let count : c.len-in-Some.result ≡ length trace.items = c.len-in-Some.ensures ∙ trace.ok.0 in
     let said = read_at c.args.config c.args.threads c.len.result (length trace.items)
     (tokens_of c.in-Some.line.now) _ (c.len.ensures ∙ trace.ok.0) c.in-Err.ensures in
-    let bad = trace_is_bad c.args.config c.args.threads (tokenized c.args.rest.lines.now) trace.items
+    let bad = trace_is_bad c.args.config c.args.threads (tokenized c.args.rest.lines.now)
+    trace.items
     (tokenized c.loop-line.lines.now) c.loop-line.invariant.so_far
     (tokens_of c.in-Some.line.now) (tokenized c.in-Some.after.now)
     (parted_some _ _ _ c.in-Some.ensures.lines) c.in-Err.why said c.args.rest.read in

@@ -1,0 +1,486 @@
+-- What a field holds is what was last stored there.
+use Rattle.std.proofs.Common.{ℕ, ◌≡◌, ◌<◌, true, false, cond, ltb, List, [], ◌∷◌, ◌++◌, length, get_or, ap, sym, ◌∙◌, refl, subst, arith, inl, inr, ◌⊎◌}
+use Rattle.std.proofs.lemmas.Bool.{cases_eq, cases_lt, cases_Bool, ltb-true, lt-ltb}
+use Rattle.std.proofs.lemmas.List.{get_or_past, get_or-set_same}
+use Rattle.block_store.specs.declared.Config.{Config}
+use Rattle.block_store.specs.declared.Name.{Name}
+use Rattle.block_store.specs.declared.Value.{Value}
+use Rattle.block_store.specs.declared.Value.TheVariants.{Nil, Int, Ref}
+use Rattle.never_heap.specs.declared.Command.{Command}
+use Rattle.never_heap.specs.declared.Command.TheVariants as commands
+use Rattle.never_heap.specs.declared.Entry.{Entry}
+use Rattle.never_heap.specs.declared.Reply.{Reply}
+use Rattle.never_heap.specs.declared.Reply.TheVariants as replies
+use Rattle.never_heap.specs.Graphs.{Graph, Object, start_graph, register_of, object_of, has_name, same_name, with_register, with_field, with_object, set_field, field_of, nils, next_name}
+use Rattle.never_heap.specs.Histories.{HistoryItem, Started, Did, is_full, after, replay, replay_from, IsAnswered, Legal, LegalFrom}
+use Rattle.never_heap.specs.Reach.{refers}
+use Rattle.never_heap.specs.Steps.{step, made, at_field, makes_object}
+use Rattle.never_heap.specs.Readback.{StoresIn, NoneStores, IsLastPut, IsLastStored}
+use Rattle.never_heap.proofs.FieldStores.{object_with_field, object_with_object}
+use Rattle.never_heap.proofs.Growing.{replay_more, legal_front}
+use Rattle.never_heap.proofs.Naming.{one_name, same_itself, refers-ref, ref-refers}
+use Rattle.never_heap.proofs.ReachSteps.{nil_of}
+use Rattle.never_heap.proofs.Starting.{object_of_start}
+use Rattle.never_heap.proofs.Stepping.{has_field}
+use Rattle.never_heap.proofs.Staying.{past_with, next_is_new, register_object, field_keeps, object_keeps, put_field, replay_shape}
+
+abbrev field_at : Graph → Name → ℕ → Value
+field_at g a i = field_of (object_of g a) i
+
+-- a field of a name that the graph has not is nil
+field_of_none : (g : Graph) (a : Name) (i : ℕ) → has_name g a ≡ false → field_at g a i ≡ Nil
+field_of_none g a i none = elim (cases_lt i (length (object_of g a).fields)) [
+  | inl l ↦ absurd (let both : true ≡ false = sym (has_field g a i l) ∙ none in cc)
+  | inr l ↦ get_or_past (object_of g a).fields i Nil l
+]
+
+-- one more object has a new name, and nothing but nils
+made_fields : (g : Graph) (t d n : ℕ) (o : Object) (a : Name) (i : ℕ) → o.fields ≡ nils n
+    → field_at (made g t d o).0 a i ≡ field_at g a i
+made_fields g t d n o a i nil =
+    ap (λ (p : Object). field_of p i)
+    (register_object (with_object g t o) t d (Ref (next_name g t)) a)
+    ∙ elim (cases_lt t (length g.mutators)) [
+      | inr past ↦ ap (λ (k : Graph). field_at k a i) (past_with g t _ past)
+      | inl there ↦ ap (λ (p : Object). field_of p i) (object_with_object g t o there a)
+          ∙ elim (cases_Bool (same_name (next_name g t) a)) [
+            | inr other ↦ ap (λ k. field_of (cond k o (object_of g a)) i) other
+            | inl same ↦ ap (λ k. field_of (cond k o (object_of g a)) i) same
+                ∙ ap (λ fs. get_or fs i Nil) nil ∙ nil_of n i
+                ∙ sym (field_of_none g a i
+                (ap (has_name g) (sym (one_name (next_name g t) a same)) ∙ next_is_new g t))
+          ]
+    ]
+
+-- a put into field i of a, on this graph
+abbrev PutsIn : Graph → ℕ → Command → Name → ℕ → Type 0
+PutsIn g t command a i =
+    (s w : ℕ) → command ≡ commands.Put s i w → register_of g t s ≡ Ref a
+    → i < length (object_of g a).fields → ⊥
+
+put_here : (g : Graph) (t s j w : ℕ) (a : Name) (i : ℕ) → j ≡ i
+    → PutsIn g t (commands.Put s j w) a i
+    → field_at (step g t (commands.Put s j w)).0 a i ≡ field_at g a i
+put_here g t s j w a i e apart =
+    field_keeps (λ k. field_at k a i ≡ field_at g a i) g j (register_of g t s) _ refl
+    (λ b r l. ap (λ (o : Object). field_of o i)
+    (object_with_field g b j (register_of g t w) (has_field g b j l) a)
+    ∙ elim (cases_Bool (same_name b a)) [
+      | inr other ↦ ap (λ k. field_of
+          (cond k (set_field (object_of g b) j (register_of g t w)) (object_of g a)) i) other
+      | inl same ↦ absurd (apart s w (ap (λ k. commands.Put s k w) e)
+          (r ∙ ap Ref (one_name b a same))
+          (subst (λ k. k < length (object_of g a).fields) e
+          (subst (λ (x : Name). j < length (object_of g x).fields) (one_name b a same) l)))
+    ])
+
+-- a command that is no put into a field leaves it
+step_leaves_field : (g : Graph) (t : ℕ) (command : Command) (a : Name) (i : ℕ)
+    → PutsIn g t command a i
+    → field_at (step g t command).0 a i ≡ field_at g a i
+step_leaves_field g t (commands.New d f) a i apart = made_fields g t d f _ a i refl
+step_leaves_field g t (commands.Arr d e) a i apart = made_fields g t d e _ a i refl
+step_leaves_field g t (commands.Set d v) a i apart =
+    ap (λ (o : Object). field_of o i) (register_object g t d (Int v) a)
+step_leaves_field g t (commands.Nil d) a i apart =
+    ap (λ (o : Object). field_of o i) (register_object g t d Nil a)
+step_leaves_field g t (commands.Mov d s) a i apart =
+    ap (λ (o : Object). field_of o i) (register_object g t d (register_of g t s) a)
+step_leaves_field g t (commands.Get d s j) a i apart =
+    field_keeps (λ k. field_at k a i ≡ field_at g a i) g j (register_of g t s) _ refl
+    (λ b e l. ap (λ (o : Object). field_of o i) (register_object g t d _ a))
+step_leaves_field g t (commands.Put s j w) a i apart = elim (cases_eq j i) [
+  | inl e ↦ put_here g t s j w a i e apart
+  | inr n ↦ put_field g t s j w a i n
+]
+step_leaves_field g t (commands.Len s) a i apart =
+    object_keeps (λ k. field_at k a i ≡ field_at g a i) g (register_of g t s) _ refl (λ b. refl)
+step_leaves_field g t (commands.Same b c) a i apart = refl
+step_leaves_field g t (commands.Say s) a i apart = refl
+
+-- what is done at a field that the object has
+at_field_there : (g : Graph) (v : Value) (a : Name) (i : ℕ) (act : Name → Graph × Reply)
+    → v ≡ Ref a → i < length (object_of g a).fields → at_field g v i act ≡ act a
+at_field_there g v a i act e l =
+    ap (λ w. at_field g w i act) e
+    ∙ ap (λ b. cond b (act a) (g, replies.Range)) (lt-ltb i (length (object_of g a).fields) l)
+
+-- and a field at which it is answered as what is done there
+field_is_there : (g : Graph) (v : Value) (a : Name) (i : ℕ) (act : Name → Graph × Reply)
+    → v ≡ Ref a → (replies.Range ≡ (at_field g v i act).1 → ⊥)
+    → i < length (object_of g a).fields
+field_is_there g v a i act e not =
+    elim (cases_Bool (ltb i (length (object_of g a).fields))) [
+      | inl y ↦ ltb-true i (length (object_of g a).fields) y
+      | inr n ↦ absurd (not (sym (ap (λ (p : Graph × Reply). p.1)
+          (ap (λ w. at_field g w i act) e
+          ∙ ap (λ b. cond b (act a) (g, replies.Range)) n))))
+    ]
+
+-- a reply that is no full comes of the step, and so does the graph
+answered : (g : Graph) (e : Entry) → IsAnswered g (Did e) → is_full e.reply ≡ false
+    → e.reply ≡ (step g e.thread e.command).1
+answered g e (inl same) unfull = same
+answered g e (inr full) unfull = absurd (let both : true ≡ false = sym full.0 ∙ unfull in cc)
+
+stepped : (g : Graph) (e : Entry) → is_full e.reply ≡ false
+    → after g (Did e) ≡ (step g e.thread e.command).0
+stepped g e unfull = ap (λ b. cond b g (step g e.thread e.command).0) unfull
+
+-- a put that stores in a field finds it there
+module _ (g : Graph) (e : Entry) (a : Name) (i : ℕ) (v : Value) (s : StoresIn g e a i v)
+    (ok : IsAnswered g (Did e)) where
+  not_full : is_full e.reply ≡ false
+  not_full = ap is_full s.stored
+
+  put_reply : replies.Stored ≡ (step g e.thread (commands.Put s.s i s.w)).1
+  put_reply =
+      sym s.stored ∙ answered g e ok not_full
+      ∙ ap (λ k. (step g e.thread k).1) s.command
+
+  pub put_there : i < length (object_of g a).fields
+  put_there = field_is_there g (register_of g e.thread s.s) a i
+      (λ name. (with_field g name i (register_of g e.thread s.w), replies.Stored)) s.object
+      (λ r. let both : replies.Range ≡ replies.Stored = r ∙ sym put_reply in cc)
+
+  -- which holds what was stored
+  pub put_stores : field_at (after g (Did e)) a i ≡ v
+  put_stores =
+      let w : Value = register_of g e.thread s.w in
+      ap (λ k. field_at k a i) (stepped g e not_full ∙ ap (λ k. (step g e.thread k).0) s.command)
+      ∙ ap (λ (p : Graph × Reply). field_at p.0 a i)
+      (at_field_there g (register_of g e.thread s.s) a i
+      (λ name. (with_field g name i w, replies.Stored)) s.object put_there)
+      ∙ ap (λ (o : Object). field_of o i)
+      (object_with_field g a i w (has_field g a i put_there) a
+      ∙ ap (λ b. cond b (set_field (object_of g a) i w) (object_of g a)) (same_itself a))
+      ∙ get_or-set_same (object_of g a).fields i w Nil put_there
+      ∙ s.value
+
+-- an entry that is no put into a field leaves it
+no_put : (g : Graph) (e : Entry) (a : Name) (i : ℕ) → IsAnswered g (Did e)
+    → ((v : Value) → StoresIn g e a i v → ⊥) → field_at (after g (Did e)) a i ≡ field_at g a i
+no_put g e a i ok none = elim (cases_Bool (is_full e.reply)) [
+  | inl y ↦ ap (λ b. field_at (cond b g (step g e.thread e.command).0) a i) y
+  | inr n ↦ ap (λ k. field_at k a i) (stepped g e n)
+      ∙ step_leaves_field g e.thread e.command a i (λ s w is object there.
+      none (register_of g e.thread w) (record {
+        s = s;
+        w = w;
+        command = is;
+        object = object;
+        value = refl;
+        stored = answered g e ok n ∙ ap (λ k. (step g e.thread k).1) is
+            ∙ ap (λ (p : Graph × Reply). p.1)
+            (at_field_there g (register_of g e.thread s) a i
+            (λ name. (with_field g name i (register_of g e.thread w), replies.Stored))
+            object there);
+      }))
+]
+
+-- so do items of which none is
+none_stored : (g : Graph) (h : List HistoryItem) (a : Name) (i : ℕ) → LegalFrom g h
+    → NoneStores g h a i → field_at (replay_from g h) a i ≡ field_at g a i
+none_stored g [] a i legal none = refl
+none_stored g (Started ∷ h) a i legal none =
+    none_stored g h a i legal.1 (λ b s e v is. none (Started ∷ b) s e v (ap (λ k. Started ∷ k) is))
+none_stored g (Did x ∷ h) a i legal none =
+    none_stored (after g (Did x)) h a i legal.1
+    (λ b s e v is. none (Did x ∷ b) s e v (ap (λ k. Did x ∷ k) is))
+    ∙ no_put g x a i legal.0 (λ v. none [] h x v refl)
+
+-- the legal items behind some of them
+pub legal_back : (g : Graph) (h k : List HistoryItem) → LegalFrom g (h ++ k)
+    → LegalFrom (replay_from g h) k
+legal_back g [] k l = l
+legal_back g (x ∷ h) k l = legal_back (after g x) h k l.1
+
+pub legal_from : (c : Config) (h : List HistoryItem) → Legal c h → LegalFrom (start_graph c) h
+legal_from c [] l = absurd l
+legal_from c (Started ∷ h) l = (tt, l)
+legal_from c (Did e ∷ h) l = absurd l
+
+replay_append : (g : Graph) (h k : List HistoryItem)
+    → replay_from g (h ++ k) ≡ replay_from (replay_from g h) k
+replay_append g [] k = refl
+replay_append g (x ∷ h) k = replay_append (after g x) h k
+
+-- what stands in a field after a put there and items of which none stores there
+since_put : (g : Graph) (put : Entry) (since : List HistoryItem) (a : Name) (i : ℕ) (v : Value)
+    → StoresIn g put a i v → LegalFrom g (Did put ∷ since)
+    → NoneStores (after g (Did put)) since a i
+    → field_at (replay_from g (Did put ∷ since)) a i ≡ v
+since_put g put since a i v s legal none =
+    none_stored (after g (Did put)) since a i legal.1 none ∙ put_stores g put a i v s legal.0
+
+last_put_from : (c : Config) (h before since : List HistoryItem) (put : Entry) (a : Name) (i : ℕ)
+    (v : Value) → h ≡ before ++ Did put ∷ since → StoresIn (replay c before) put a i v
+    → NoneStores (replay c (before ++ Did put ∷ [])) since a i → LegalFrom (start_graph c) h
+    → field_at (replay c h) a i ≡ v
+last_put_from c h before since put a i v is s none legal =
+    ap (λ k. field_at (replay c k) a i) is
+    ∙ ap (λ k. field_at k a i) (replay_append (start_graph c) before (Did put ∷ since))
+    ∙ since_put (replay c before) put since a i v s
+    (legal_back (start_graph c) before (Did put ∷ since)
+    (subst (LegalFrom (start_graph c)) is legal))
+    (subst (λ (g : Graph). NoneStores g since a i)
+    (replay_more (start_graph c) before (Did put)) none)
+
+field_of_start : (c : Config) (a : Name) (i : ℕ) → field_at (start_graph c) a i ≡ Nil
+field_of_start c a i = elim (cases_Bool (has_name (start_graph c) a)) [
+  | inl y ↦ ap (λ (o : Object). field_of o i) (object_of_start c a y) ∙ nil_of c.shared i
+  | inr n ↦ field_of_none (start_graph c) a i n
+]
+
+-- what was last stored stands in the field
+last_stands : (c : Config) (h : List HistoryItem) (a : Name) (i : ℕ) (v : Value)
+    → LegalFrom (start_graph c) h → IsLastStored c h a i v → field_at (replay c h) a i ≡ v
+last_stands c h a i v legal (inl p) =
+    last_put_from c h p.before p.since p.put a i v p.history p.stores p.last legal
+last_stands c h a i v legal (inr p) =
+    none_stored (start_graph c) h a i legal p.1 ∙ field_of_start c a i ∙ sym p.0
+
+-- whether an entry is a put into a field
+abbrev Decided : Graph → Entry → Name → ℕ → Type 0
+Decided g e a i =
+    ((v : Value) × StoresIn g e a i v) ⊎ ((v : Value) → StoresIn g e a i v → ⊥)
+
+is_ref : (v : Value) (a : Name) → (v ≡ Ref a) ⊎ (v ≡ Ref a → ⊥)
+is_ref v a = elim (cases_Bool (refers a v)) [
+  | inl y ↦ inl (refers-ref a v y)
+  | inr n ↦ inr (λ e. let both : true ≡ false = sym (ref-refers a v e) ∙ n in cc)
+]
+
+is_stored : (r : Reply) → (r ≡ replies.Stored) ⊎ (r ≡ replies.Stored → ⊥)
+is_stored replies.Stored = inl refl
+is_stored r = inr (λ e. cc)
+
+abbrev index_put : Command → ℕ
+index_put (commands.Put s i w) = i
+index_put _ = 0
+
+abbrev object_put : Command → ℕ
+object_put (commands.Put s i w) = s
+object_put _ = 0
+
+decide : (g : Graph) (e : Entry) (a : Name) (i : ℕ) (command : Command) → e.command ≡ command
+    → Decided g e a i
+decide g e a i (commands.Put s j w) is = elim (cases_eq j i) [
+  | inr n ↦ inr (λ v p. n (ap index_put (sym is ∙ p.command)))
+  | inl same ↦ elim (is_ref (register_of g e.thread s) a) [
+    | inr n ↦ inr (λ v p. n (ap (register_of g e.thread) (ap object_put (sym is ∙ p.command))
+        ∙ p.object))
+    | inl object ↦ elim (is_stored e.reply) [
+      | inr n ↦ inr (λ v p. n p.stored)
+      | inl stored ↦ inl (
+        register_of g e.thread w,
+        record {
+          s = s;
+          w = w;
+          command = is ∙ ap (λ k. commands.Put s k w) same;
+          object = object;
+          value = refl;
+          stored = stored;
+        },
+      )
+    ]
+  ]
+]
+decide g e a i command is =
+    inr (λ v p. let both : command ≡ commands.Put p.s i p.w = sym is ∙ p.command in cc)
+
+-- the last put into a field, from a graph on
+record LastFrom (g : Graph) (h : List HistoryItem) (a : Name) (i : ℕ) : Type 0 where
+  before : List HistoryItem
+  put : Entry
+  since : List HistoryItem
+  v : Value
+  history : h ≡ before ++ Did put ∷ since
+  stores : StoresIn (replay_from g before) put a i v
+  last : NoneStores (after (replay_from g before) (Did put)) since a i
+
+last_behind : (g : Graph) (x : HistoryItem) (h : List HistoryItem) (a : Name) (i : ℕ)
+    → LastFrom (after g x) h a i → LastFrom g (x ∷ h) a i
+last_behind g x h a i p = record {
+  before = x ∷ p.before;
+  put = p.put;
+  since = p.since;
+  v = p.v;
+  history = ap (λ k. x ∷ k) p.history;
+  stores = p.stores;
+  last = p.last;
+}
+
+-- where the first item is no such put, and of the others none is
+none_more : (g : Graph) (x : HistoryItem) (h : List HistoryItem) (a : Name) (i : ℕ)
+    → ((e : Entry) (v : Value) → x ≡ Did e → StoresIn g e a i v → ⊥)
+    → NoneStores (after g x) h a i → NoneStores g (x ∷ h) a i
+none_more g x h a i here later [] s e v is st =
+    let head : x ≡ Did e = cc in here e v head st
+none_more g x h a i here later (y ∷ b) s e v is st =
+    let head : x ≡ y = cc in
+    let tail : h ≡ b ++ Did e ∷ s = cc in
+    later b s e v tail
+    (subst (λ z. StoresIn (replay_from (after g z) b) e a i v) (sym head) st)
+
+none_of_none : (g : Graph) (a : Name) (i : ℕ) → NoneStores g [] a i
+none_of_none g a i [] s e v is st = cc
+none_of_none g a i (y ∷ b) s e v is st = cc
+
+-- there is one, or none
+look : (g : Graph) (h : List HistoryItem) (a : Name) (i : ℕ)
+    → LastFrom g h a i ⊎ NoneStores g h a i
+look g [] a i = inr (none_of_none g a i)
+look g (Started ∷ h) a i = elim (look g h a i) [
+  | inl p ↦ inl (last_behind g Started h a i p)
+  | inr none ↦ inr (none_more g Started h a i (λ e v is. cc) none)
+]
+look g (Did x ∷ h) a i = elim (look (after g (Did x)) h a i) [
+  | inl p ↦ inl (last_behind g (Did x) h a i p)
+  | inr none ↦ elim (decide g x a i x.command refl) [
+    | inl s ↦ inl (record {
+      before = [];
+      put = x;
+      since = h;
+      v = s.0;
+      history = refl;
+      stores = s.1;
+      last = none;
+    })
+    | inr apart ↦ inr (none_more g (Did x) h a i (λ e v is st.
+        let same : x ≡ e = cc in
+        apart v (subst (λ y. StoresIn g y a i v) (sym same) st)) none)
+  ]
+]
+
+last_put_of : (c : Config) (h : List HistoryItem) (a : Name) (i : ℕ)
+    → (p : LastFrom (start_graph c) h a i) → IsLastPut c h a i p.v
+last_put_of c h a i p = record {
+  before = p.before;
+  put = p.put;
+  since = p.since;
+  history = p.history;
+  stores = p.stores;
+  last = subst (λ (g : Graph). NoneStores g p.since a i)
+      (sym (replay_more (start_graph c) p.before (Did p.put))) p.last;
+}
+
+field_from : (c : Config) (h : List HistoryItem) (a : Name) (i : ℕ) → LegalFrom (start_graph c) h
+    → IsLastStored c h a i (field_at (replay c h) a i)
+field_from c h a i legal = elim (look (start_graph c) h a i) [
+  | inl p ↦
+      let put : IsLastStored c h a i p.v = inl (last_put_of c h a i p) in
+      subst (IsLastStored c h a i) (sym (last_stands c h a i p.v legal put)) put
+  | inr none ↦ inr (none_stored (start_graph c) h a i legal none ∙ field_of_start c a i, none)
+]
+
+-- a field holds what was last stored there, and nothing else was
+pub field_stored : (c : Config) (h : List HistoryItem) (a : Name) (i : ℕ) → Legal c h
+    → IsLastStored c h a i (field_at (replay c h) a i)
+field_stored c h a i legal = field_from c h a i (legal_from c h legal)
+
+pub stored_once : (c : Config) (h : List HistoryItem) (a : Name) (i : ℕ) (v : Value) → Legal c h
+    → IsLastStored c h a i v → field_at (replay c h) a i ≡ v
+stored_once c h a i v legal = last_stands c h a i v (legal_from c h legal)
+
+-- what a get answers
+get_answer : (g : Graph) (e : Entry) (d s i : ℕ) → e.command ≡ commands.Get d s i
+    → IsAnswered g (Did e) → e.reply ≡ (step g e.thread (commands.Get d s i)).1
+get_answer g e d s i is (inl same) = same ∙ ap (λ k. (step g e.thread k).1) is
+get_answer g e d s i is (inr full) = absurd
+    (let both : true ≡ false = sym full.1 ∙ ap makes_object is in cc)
+
+reply_there : (g : Graph) (t d s i : ℕ) (a : Name) → register_of g t s ≡ Ref a
+    → i < length (object_of g a).fields
+    → (step g t (commands.Get d s i)).1 ≡ replies.Val (field_at g a i)
+reply_there g t d s i a object there =
+    ap (λ (p : Graph × Reply). p.1)
+    (at_field_there g (register_of g t s) a i (λ name.
+    (with_register g t d (field_at g name i), replies.Val (field_at g name i))) object there)
+
+answered_at : (c : Config) (before since : List HistoryItem) (e : Entry)
+    → Legal c (before ++ Did e ∷ since) → IsAnswered (replay c before) (Did e)
+answered_at c before since e legal =
+    (legal_back (start_graph c) before (Did e ∷ since) (legal_from c _ legal)).0
+
+pub get_reads : (c : Config) (before since : List HistoryItem) (get : Entry) (d s i : ℕ) (a : Name)
+    (v : Value) → Legal c (before ++ Did get ∷ since) → get.command ≡ commands.Get d s i
+    → register_of (replay c before) get.thread s ≡ Ref a
+    → i < length (object_of (replay c before) a).fields
+    → IsLastStored c before a i v → get.reply ≡ replies.Val v
+get_reads c before since get d s i a v legal is object there last =
+    get_answer (replay c before) get d s i is (answered_at c before since get legal)
+    ∙ reply_there (replay c before) get.thread d s i a object there
+    ∙ ap replies.Val (last_stands c before a i v
+    (legal_front (start_graph c) before (Did get ∷ since) (legal_from c _ legal)) last)
+
+-- what a value that a get answers is of
+value_of_field : (g : Graph) (u : Value) (i : ℕ) (act : Name → Graph) (v : Value)
+    → replies.Val v ≡ (at_field g u i (λ name. (act name, replies.Val (field_at g name i)))).1
+    → (a : Name) × ((u ≡ Ref a) × (v ≡ field_at g a i))
+value_of_field g Nil i act v e = absurd cc
+value_of_field g (Int n) i act v e = absurd cc
+value_of_field g (Ref a) i act v e = elim (cases_Bool (ltb i (length (object_of g a).fields))) [
+  | inl y ↦
+      let both : replies.Val v ≡ replies.Val (field_at g a i) =
+      e ∙ ap (λ b. (cond {A = Graph × Reply} b (act a, replies.Val (field_at g a i)) (g, replies.Range)).1) y in
+      let same : v ≡ field_at g a i = cc in (a, (refl, same))
+  | inr n ↦ absurd (let both : replies.Val v ≡ replies.Range =
+      e ∙ ap (λ b. (cond {A = Graph × Reply} b (act a, replies.Val (field_at g a i)) (g, replies.Range)).1) n in cc)
+]
+
+pub get_told : (c : Config) (before since : List HistoryItem) (get : Entry) (d s i : ℕ)
+    (v : Value) → Legal c (before ++ Did get ∷ since) → get.command ≡ commands.Get d s i
+    → get.reply ≡ replies.Val v
+    → (a : Name) × ((register_of (replay c before) get.thread s ≡ Ref a)
+    × IsLastStored c before a i v)
+get_told c before since get d s i v legal is told =
+    let g : Graph = replay c before in
+    let found = value_of_field g (register_of g get.thread s) i
+    (λ name. with_register g get.thread d (field_at g name i)) v
+    (sym told ∙ get_answer g get d s i is (answered_at c before since get legal)) in (
+      found.0,
+      (
+        found.1.0,
+        subst (IsLastStored c before found.0 i) (sym found.1.1)
+            (field_from c before found.0 i
+            (legal_front (start_graph c) before (Did get ∷ since) (legal_from c _ legal))),
+      ),
+    )
+
+-- an object keeps its length, so that what is put can be got
+put_got : (c : Config) (before between since : List HistoryItem) (put get : Entry) (d s i : ℕ)
+    (a : Name) (v : Value) → LegalFrom (replay c before) (Did put ∷ (between ++ Did get ∷ since))
+    → StoresIn (replay c before) put a i v
+    → NoneStores (after (replay c before) (Did put)) between a i
+    → get.command ≡ commands.Get d s i
+    → register_of (replay_from (replay c before) (Did put ∷ between)) get.thread s ≡ Ref a
+    → get.reply ≡ replies.Val v
+put_got c before between since put get d s i a v legal stores none is object =
+    let g : Graph = replay c before in
+    let k : Graph = replay_from g (Did put ∷ between) in
+    let there : i < length (object_of g a).fields = put_there g put a i v stores legal.0 in
+    let size : length (object_of k a).fields ≡ length (object_of g a).fields =
+    (replay_shape g (Did put ∷ between) a (has_field g a i there)).size in
+    let now : i < length (object_of k a).fields = omega arith in
+    get_answer k get d s i is (legal_back g (Did put ∷ between) (Did get ∷ since) legal).0
+    ∙ reply_there k get.thread d s i a object now
+    ∙ ap replies.Val (since_put g put between a i v stores
+    (legal_front g (Did put ∷ between) (Did get ∷ since) legal) none)
+
+pub put_read_back : (c : Config) (before between since : List HistoryItem) (put get : Entry)
+    (d s i : ℕ) (a : Name) (v : Value)
+    → Legal c (before ++ Did put ∷ (between ++ Did get ∷ since))
+    → StoresIn (replay c before) put a i v
+    → NoneStores (replay c (before ++ Did put ∷ [])) between a i
+    → get.command ≡ commands.Get d s i
+    → register_of (replay c (before ++ Did put ∷ between)) get.thread s ≡ Ref a
+    → get.reply ≡ replies.Val v
+put_read_back c before between since put get d s i a v legal stores none is object =
+    put_got c before between since put get d s i a v
+    (legal_back (start_graph c) before (Did put ∷ (between ++ Did get ∷ since))
+    (legal_from c _ legal)) stores
+    (subst (λ (g : Graph). NoneStores g between a i)
+    (replay_more (start_graph c) before (Did put)) none) is
+    (subst (λ (g : Graph). register_of g get.thread s ≡ Ref a)
+    (replay_append (start_graph c) before (Did put ∷ between)) object)
