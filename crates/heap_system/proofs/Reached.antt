@@ -8,6 +8,7 @@ use Rattle.block_store.specs.declared.Width.{Width}
 use Rattle.block_store.specs.Phases.{cycle_of}
 use Rattle.block_store.specs.Places.{Phase, extent, words_count}
 use Rattle.rate_plan.specs.Rates.{IsRate}
+use Rattle.never_heap.specs.declared.Command.{Command}
 use Rattle.never_heap.specs.declared.Entry.{Entry}
 use Rattle.never_heap.specs.Histories.{HistoryItem, Started, Did, replay, part, parts_from}
 use Rattle.never_heap.specs.RightWork.{RightWork, units_owed}
@@ -157,6 +158,15 @@ right_parts w rate (Did e ∷ order) each = (first, right_parts w rate order (λ
     rest t true is = (subst (λ b. IsRight w rate (cond b (e ∷ part t order) (part t order))) is (each t)).1
     rest t false is = subst (λ b. IsRight w rate (cond b (e ∷ part t order) (part t order))) is (each t)
 
+-- each entry of the order has right work
+pub right_work : (c : Config) (traces : List (List Command)) (r : Run) → Kept c traces r → (rate : ℕ) → IsRate c rate → RightWork c.width rate r.order
+right_work c traces r kept rate is = right_parts c.width rate r.order (λ t. elim (cases_lt t c.threads) [
+  | inl tl ↦
+      let mine : IsRate c (local_at c r.state t).rate = subst (λ x. IsRate x (local_at c r.state t).rate) (kept.locals t tl).config (kept.locals t tl).fits.rate in
+      subst (λ n. IsRight c.width n (part t r.order)) (one_rate c (local_at c r.state t).rate rate mine is) (kept.locals t tl).right
+  | inr out ↦ subst (λ es. IsRight c.width rate es) (sym (kept.foreign t (omega arith))) tt
+])
+
 -- a reached state in which all threads are done is finished
 module _ (c : Config) (s : State) (k : IsReached c s) (done : AllDone c s) where
   kept : Kept c (traces_of s) (record { state = s; order = k.run.order; names = k.run.names })
@@ -183,14 +193,6 @@ module _ (c : Config) (s : State) (k : IsReached c s) (done : AllDone c s) where
     | inr out ↦ ap (map (λ (e : Entry). e.command)) (kept.foreign t (omega arith)) ∙ sym (get_or_past (traces_of s) t [] (omega (arith, k.job.bounds.threads, out)))
   ]
 
-  right : (rate : ℕ) → IsRate c rate → RightWork c.width rate k.run.order
-  right rate is = right_parts c.width rate k.run.order (λ t. elim (cases_lt t c.threads) [
-    | inl tl ↦
-        let mine : IsRate c (local_at c s t).rate = subst (λ x. IsRate x (local_at c s t).rate) (kept.locals t tl).config (kept.locals t tl).fits.rate in
-        subst (λ n. IsRight c.width n (part t k.run.order)) (one_rate c (local_at c s t).rate rate mine is) (kept.locals t tl).right
-    | inr out ↦ subst (λ es. IsRight c.width rate es) (sym (kept.foreign t (omega arith))) tt
-  ])
-
   pub all_done : IsFinished c (traces_of s) (logs_of s) (cycle_of (heap_in c s Phase))
   all_done = record {
     turns = k.turns;
@@ -203,7 +205,7 @@ module _ (c : Config) (s : State) (k : IsReached c s) (done : AllDone c s) where
     legal = kept.names.ordered.legal;
     traces_whole = whole;
     starts = sym kept.names.ordered.started;
-    right_work = right;
+    right_work = right_work c (traces_of s) (record { state = s; order = k.run.order; names = k.run.names }) kept;
     made = made;
     works = kept.counted;
   }

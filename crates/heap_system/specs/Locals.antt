@@ -237,7 +237,8 @@ if_turned over g = if over then Enter gates.Look else TurnOver g
 abbrev pub part_got : Config → ℕ → Errand → Pass → Part → ℕ → Part
 part_got c t e q Rest w = if_entered (gate_entered (gate_got c.width gates.Look w)) c t e
     (gate_got c.width gates.Look w)
-part_got c t e q (Enter g) w = if_entered (gate_entered (gate_got c.width g w)) c t e (gate_got c.width g w)
+part_got c t e q (Enter g) w =
+    let n = gate_got c.width g w in if_entered (gate_entered n) c t e n
 part_got c t e q (Serve f) w = if_replied (field_reply (field_got (extent c) f w).row)
     (Serve (field_got (extent c) f w))
 part_got c t e q (Mark m) w =
@@ -303,7 +304,9 @@ abbrev pub effect : Config → Part → ℕ → Effect
 effect c Rest w = record (plain (gate_step gates.Look w)) {
   entered = gate_entered (gate_got c.width gates.Look w);
 }
-effect c (Enter g) w = record (plain (gate_step g w)) { entered = gate_entered (gate_got c.width g w) }
+effect c (Enter g) w = record (plain (gate_step g w)) {
+  entered = gate_entered (gate_got c.width g w);
+}
 effect c (Serve f) w = record (plain (field_step (extent c) f w)) {
   reply = field_reply (field_got (extent c) f w).row;
   verdict = if_decides (is_deciding f.command f.row w);

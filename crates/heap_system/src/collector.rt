@@ -55,11 +55,11 @@ pub fn free_blocks_stand_once()
 {}
 
 /// While the phase is Mark no black block refers to a white one, nor does what a scan has dealt
-/// with, and the reference whose barrier is over is not white; no block that is not Free refers to a
-/// Free one, and each root is grey or black. In both phases what a thread builds is written as far
-/// as its colours say, and what it has coloured refers to coloured blocks of its own object alone.
-/// What is grey or black was reachable at the start of the cycle, or was made since, or a builder
-/// has coloured it.
+/// with, and the reference whose barrier is over is not white; no block that is not Free refers to
+/// a Free one, and each root is grey or black. In both phases what a thread builds is written as
+/// far as its colours say, and what it has coloured refers to coloured blocks of its own object
+/// alone. What is grey or black was reachable at the start of the cycle, or was made since, or a
+/// builder has coloured it.
 pub fn marking_is_tricolour()
     ensures tricolour { (c : Config) (r : Run) → IsAfterTurns c r
         → is_sweep (heap_in c r.state Phase) ≡ false
@@ -147,8 +147,8 @@ pub fn sweeping_spares_what_is_reached()
         ≡ white_word (cycle_of (heap_in c r.state Phase))) }
 {}
 
-/// At the start of the next cycle no block is white, and each that is not Free is black, but for the
-/// shaded roots.
+/// At the start of the next cycle no block is white, and each that is not Free is black, but for
+/// the shaded roots.
 pub fn starts_find_no_white()
     ensures white { (c : Config) (r : Run) → IsAfterTurns c r → (t x : ℕ) (p : Pass)
         → t < c.threads → (local_in c r t).part ≡ TurnOver (GateRow.Start p)

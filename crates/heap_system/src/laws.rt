@@ -16,6 +16,7 @@ ghost use Rattle.rate_plan.specs.Rates.{IsRate, IsAdmitted};
 ghost use Rattle.never_heap.specs.declared.Reply.{Reply};
 ghost use Rattle.never_heap.specs.Histories.{replay, part, Legal, starts_in, work_in};
 ghost use Rattle.never_heap.specs.Reach.{reachable};
+ghost use Rattle.never_heap.specs.RightWork.{RightWork};
 ghost use Rattle.never_heap.specs.Steps.{blocks_of};
 ghost use Rattle.shown_graph.specs.Events.{pending_registers, Follows};
 ghost use Rattle.shown_graph.specs.Openings.{opening_words};
@@ -92,13 +93,16 @@ pub fn turns_keep_the_rules()
 
 /// The order is legal: each command is answered as the heap that never frees answers it there, or
 /// it allocates and is answered full. That the threads answer this is `logs_are_parts`. Its starts
-/// are the cycles that the phase word counts, and its work is that of the logs.
+/// are the cycles that the phase word counts, its work is that of the logs, and each of its entries
+/// has the work that its command owes.
 pub fn order_is_legal()
     ensures legal { (c : Config) (r : Run) → IsAfterTurns c r → Legal c r.order }
     ensures starts { (c : Config) (r : Run) → IsAfterTurns c r
         → starts_in r.order ≡ cycle_of (heap_in c r.state Phase) }
     ensures work { (c : Config) (r : Run) → IsAfterTurns c r
         → work_in r.order ≡ units_of (logs_of r.state) }
+    ensures right { (c : Config) (r : Run) → IsAfterTurns c r → (rate : ℕ) → IsRate c rate
+        → RightWork c.width rate r.order }
 {}
 
 /// A thread's log is its part of the order, reply for reply. Between the deciding event of a

@@ -8,11 +8,9 @@ use std::env;
 use std::io::ErrorKind;
 use std::process::ExitCode;
 use std::rt::Env;
-use trace_text::{Sink, StdSink, StdSource};
+use trace_text::{StdSink, StdSource, put_line};
 
-/// The status of a writing that failed, and that of want of memory.
-const WRITE_FAULT: u8 = 6;
-
+/// The status of want of memory.
 const NO_MEMORY: u8 = 7;
 
 fn main(rt: HostRuntime) -> ExitCode {
@@ -21,10 +19,8 @@ fn main(rt: HostRuntime) -> ExitCode {
 
 /// Tells that memory ran out before anything was done.
 fn without_memory(rt: &HostRuntime) -> u8 {
-    match StdSink::new(rt.stdout()).put(b"rt_check: no memory\n") {
-        Ok(()) => NO_MEMORY,
-        Err(_) => WRITE_FAULT,
-    }
+    let mut sink = StdSink::new(rt.stdout());
+    put_line(b"rt_check: no memory\n", NO_MEMORY, &mut sink)
 }
 
 /// Checks what stands in standard input, and says with which status the program ends.

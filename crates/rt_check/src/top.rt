@@ -12,13 +12,10 @@ use crate::lines::first_bad;
 use crate::refusal::{Refusal, line_of, status_of};
 use rate_plan::{one_rate, plan};
 use std::alloc::Global;
-use trace_text::{INPUT_LIMIT, Sink, Source, input_of, job_of};
+use trace_text::{INPUT_LIMIT, Sink, Source, input_of, job_of, put_line};
 
 /// The most bytes that an input may have.
 const CHECK_LIMIT: usize = 67_108_864;
-
-/// The status of a writing that failed.
-const WRITE_FAULT: u8 = 6;
 
 /// How a check ended.
 #[derive(Clone, Copy, Debug, PartialEq, Eq)]
@@ -115,9 +112,6 @@ fn told<K: Sink>(answer: Option<Refusal>, sink: &mut K) -> CheckExit
     ensures rose { result.status ≡ 6 → Rose (K.faults sink.old) (K.faults sink.new) }
 {
     let due = status_of(answer);
-    let status = match sink.put(line_of(answer).bytes()) {
-        Ok(()) => due,
-        Err(_) => WRITE_FAULT,
-    };
+    let status = put_line(line_of(answer).bytes(), due, sink);
     CheckExit { status, due }
 }

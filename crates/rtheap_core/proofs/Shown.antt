@@ -95,8 +95,7 @@ module _ (needs : FullsAlwaysNeedBlocks) where
       let made : IsFinished c traces f.logs f.cycles =
       subst (λ xs. IsFinished c xs f.logs f.cycles) whole
       (subst (λ q. IsFinished q ts f.logs f.cycles) config ended) in
-      let one : c.threads ≡ 1 = ap (λ (j : Job). j.config.threads) is ∙ can.one_thread in
-      (
+      let one : c.threads ≡ 1 = ap (λ (j : Job). j.config.threads) is ∙ can.one_thread in (
         job_shown c traces f (same ∙ config) made job (sym is),
         has_history c traces f (same ∙ config) one made,
       )

@@ -66,7 +66,8 @@ five_numbers (Some n) (Some m) (Some l) (Some o) (Some s) g = refl
 
 abbrev of_labels : Option Labels → Result Config Why
 of_labels tokens = ok_or tokens whys.Header >>= λ p. spelled p.1 >>= λ n. spelled p.2
-    >>= λ m. spelled p.3 >>= λ l. spelled p.4 >>= λ o. spelled p.5 >>= λ s. ranged_config p.0 n m l o s
+    >>= λ m. spelled p.3 >>= λ l. spelled p.4 >>= λ o. spelled p.5
+    >>= λ s. ranged_config p.0 n m l o s
 
 labels_agree : (o : Option Labels) → numbers_fault o ≡ reason (of_labels o)
 labels_agree None = refl

@@ -24,7 +24,7 @@ pub use reading::{
     INPUT_LIMIT, first_line, first_token, input_of, inputs_are_told_apart, job_of, jobs_are_one,
     number_of, read_trace,
 };
-pub use sinks::Sink;
+pub use sinks::{Sink, WRITE_FAULT, put_line};
 pub use sources::Source;
 pub use std_sink::StdSink;
 pub use std_source::StdSource;

@@ -1,5 +1,6 @@
 use Rattle.heap_system.proofs.Always.{run_kept}
 use Rattle.heap_system.proofs.LawsOf.{laws_of}
+use Rattle.heap_system.proofs.Reached.{right_work}
 use Rattle.heap_system.proofs.laws.order_is_legal.Goals as goal
 
 pub returns-clause-legal : goal.returns-clause-legal
@@ -10,3 +11,6 @@ returns-clause-starts _ c r is = (run_kept c is.traces (laws_of c) is.job is.tur
 
 pub returns-clause-work : goal.returns-clause-work
 returns-clause-work _ c r is = (run_kept c is.traces (laws_of c) is.job is.turns r is.by_turns).counted
+
+pub returns-clause-right : goal.returns-clause-right
+returns-clause-right _ c r is rate planned = right_work c is.traces r (run_kept c is.traces (laws_of c) is.job is.turns r is.by_turns) rate planned
