@@ -7,6 +7,7 @@ use Rattle.block_store.specs.Configs.{IsInBounds}
 use Rattle.array_trees.specs.Trees.{tree}
 use Rattle.rate_plan.specs.Rates.{IsAdmitted}
 use Rattle.never_heap.specs.declared.Command.{Command}
+use Rattle.never_heap.specs.Bounds.{IsCommandInBounds}
 use Rattle.never_heap.specs.Jobs.{IsTraceInBounds}
 use Rattle.heap_system.specs.Machines.{IsJob}
 
@@ -14,13 +15,17 @@ use Rattle.heap_system.specs.Machines.{IsJob}
 abbrev pub config : Width → Config
 config w = record { width = w; threads = 2; blocks = 64; live = 20; object = 2; shared = 4 }
 
+-- a trace of two commands
+pub two : (w : Width) (a b : Command) → IsCommandInBounds (config w) a → IsCommandInBounds (config w) b → IsTraceInBounds (config w) (a ∷ b ∷ [])
+two w a b pa pb = record { few = omega arith; commands = (pa, (pb, tt)) }
+
 admitted : (w : Width) → IsAdmitted (config w)
 unfolding tree
 admitted Four = record { opens = omega arith; room = omega arith }
 admitted Eight = record { opens = omega arith; room = omega arith }
 
-both_here : (w : Width) (xs ys : List Command) → IsTraceInBounds (config w) xs → IsTraceInBounds (config w) ys → IsJob (config w) (xs ∷ ys ∷ [])
-both_here w xs ys px py = record {
+pub both : (w : Width) (xs ys : List Command) → IsTraceInBounds (config w) xs → IsTraceInBounds (config w) ys → IsJob (config w) (xs ∷ ys ∷ [])
+both w xs ys px py = record {
   bounds = record {
     config = record { some_thread = omega arith; threads = omega arith; some_block = omega arith; blocks = omega arith; live = omega arith; some_object = omega arith; object = omega arith; shared = omega arith };
     threads = refl;
@@ -29,8 +34,8 @@ both_here w xs ys px py = record {
   plan = admitted w;
 }
 
-pub both : (w : Width) (c : Config) (xs ys : List Command) → c ≡ config w → IsTraceInBounds c xs → IsTraceInBounds c ys → IsJob c (xs ∷ ys ∷ [])
-both w c xs ys is px py = subst (λ x. IsJob x (xs ∷ ys ∷ [])) (sym is) (both_here w xs ys (subst (λ x. IsTraceInBounds x xs) is px) (subst (λ x. IsTraceInBounds x ys) is py))
+pub both_of : (w : Width) (c : Config) (xs ys : List Command) → c ≡ config w → IsTraceInBounds c xs → IsTraceInBounds c ys → IsJob c (xs ∷ ys ∷ [])
+both_of w c xs ys is px py = subst (λ x. IsJob x (xs ∷ ys ∷ [])) (sym is) (both w xs ys (subst (λ x. IsTraceInBounds x xs) is px) (subst (λ x. IsTraceInBounds x ys) is py))
 
 -- a lone thread with an empty one
 abbrev pub small : Width → Config

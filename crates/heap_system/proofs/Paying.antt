@@ -209,24 +209,6 @@ more_than n false = elim (cases_Bool (ltb n (n + 0))) [
 pub passed_more : (s : SweepState) (w : ℕ) → ltb (sweep_passed s.row) (sweep_passed (sweep_got s w).row) ≡ is_some (row_passes s.cycle s.row w)
 passed_more s w = ap (ltb (sweep_passed s.row)) (passed_bits s w) ∙ more_than (sweep_passed s.row) (is_some (row_passes s.cycle s.row w))
 
--- a sweep that is not over goes on
-pub swept_on : (l : LocalState) (s n : SweepState) (w before after paid : ℕ) (step : Step) → l.part ≡ Sweep s → n ≡ sweep_got s w → before ≡ sweep_passed s.row → after ≡ sweep_passed n.row → paid ≡ cond (ltb before after) (l.paid + 1) l.paid → step ≡ sweep_step s w → is_last step ≡ false
-    → ◌≡◌ {A = LocalState} (record l { paid = paid; part = Sweep n }) (local_got l w)
-swept_on l s n w before after paid step at is low high pays does goes = subst (λ (p : Part). ◌≡◌ {A = LocalState} (record l { paid = paid; part = Sweep n }) (local_got (record l { part = p }) w)) (sym at)
-    (λ i. record { config = l.config; rate = l.rate; thread = l.thread; trace = l.trace; log = sym (append-nil l.log) i; paid = pays_so i; made = l.made; space = l.space; pass = l.pass; part = part i })
-  where
-    open_yet : sweep_over (sweep_got s w).row ≡ false
-    open_yet = sym (swept_last s w) ∙ sym (ap is_last does) ∙ goes
-
-    unit : ltb before after ≡ is_some (row_passes s.cycle s.row w)
-    unit = ap (λ n. ltb n after) low ∙ ap (ltb (sweep_passed s.row)) (high ∙ ap (λ (x : SweepState). sweep_passed x.row) is) ∙ passed_more s w
-
-    pays_so : paid ≡ cond (is_some (row_passes s.cycle s.row w)) (l.paid + 1) l.paid
-    pays_so = pays ∙ ap (λ b. cond b (l.paid + 1) l.paid) unit
-
-    part : Sweep n ≡ if_over (sweep_over (sweep_got s w).row) (sweep_nothing (sweep_got s w).row) (Sweep (sweep_got s w))
-    part = ap Sweep is ∙ sym (ap (λ b. if_over b (sweep_nothing (sweep_got s w).row) (Sweep (sweep_got s w))) open_yet)
-
 -- a part that turns over goes on
 pub turned_on : (l : LocalState) (g n : GateRow) (w : ℕ) (c : Config) → IsLocal l → PartReads l.config l.part w → l.part ≡ TurnOver g → c ≡ l.config → n ≡ gate_got c.width g w → GateAt c n → IsLocal (record l { part = TurnOver n })
 turned_on l g n w c k reads at same is there =

@@ -163,17 +163,20 @@ abbrev pub is_build : Part → Bool
 is_build (Build b) = true
 is_build _ = false
 
--- what a part is about: it is at the gate outside, makes units, does the command, or goes out
+-- what a part is about: it is at the gate outside, marks, sweeps, does the command, or goes out
 abbrev pub is_at_gate : Part → Bool
 is_at_gate Rest = true
 is_at_gate (Enter g) = true
 is_at_gate (TurnOver g) = true
 is_at_gate _ = false
 
-abbrev pub is_paying : Part → Bool
-is_paying (Mark m) = true
-is_paying (Sweep s) = true
-is_paying _ = false
+abbrev pub is_marking : Part → Bool
+is_marking (Mark m) = true
+is_marking _ = false
+
+abbrev pub is_sweeping : Part → Bool
+is_sweeping (Sweep s) = true
+is_sweeping _ = false
 
 abbrev pub is_in_command : Part → Bool
 is_in_command (Serve f) = true

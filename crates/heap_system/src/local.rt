@@ -11,7 +11,7 @@ ghost use Rattle.never_heap.specs.Jobs.{IsTraceInBounds};
 ghost use Rattle.heap_machine.specs.declared.gate.GateRow.{GateRow};
 ghost use Rattle.grey_steps.specs.Rows.{scanning};
 ghost use Rattle.sweep_steps.specs.Rows.{sweeping};
-ghost use Rattle.heap_system.specs.Locals.{PartReads, is_done, is_rest, is_build, is_at_gate, is_in_command, is_paying, is_on_way_out, part_want, part_step, local_got, at_start, turn_of, is_last, pass_by, first_part, errand_of, command_of, owed, made_got, works, entry_of};
+ghost use Rattle.heap_system.specs.Locals.{PartReads, is_done, is_rest, is_build, is_at_gate, is_in_command, is_marking, is_sweeping, is_on_way_out, part_want, part_step, local_got, at_start, turn_of, is_last, pass_by, first_part, errand_of, command_of, owed, made_got, works, entry_of};
 
 use crate::Turn;
 use barrier_steps::FieldPass;
@@ -153,7 +153,8 @@ fn first_units(pass: Pass, blocks: u32, due: u64) -> Part
     requires blocks { (1 ≤ blocks) × (blocks ≤ 65535) }
     requires due { 1 ≤ due }
     ensures { result ≡ (if pass.sweep
-        then Part.Sweep (sweeping pass.thread pass.cycle blocks due) else Part.Mark (scanning pass)) }
+        then Part.Sweep (sweeping pass.thread pass.cycle blocks due)
+        else Part.Mark (scanning pass)) }
 {
     if pass.sweep {
         Part::Sweep(SweepPass::new(pass.thread, pass.cycle, blocks, due))
@@ -337,8 +338,8 @@ impl Local {
             Part::TurnOver(_) => self.at_gate(word),
             Part::Serve(_) => self.in_command(word),
             Part::Build(_) => self.in_command(word),
-            Part::Mark(_) => self.paying(word),
-            Part::Sweep(_) => self.paying(word),
+            Part::Mark(_) => self.marks(word),
+            Part::Sweep(_) => self.sweeps(word),
             Part::Again => self.out(word),
             Part::Idle => self.out(word),
             Part::Leave => self.out(word),
@@ -420,11 +421,11 @@ impl Local {
         }
     }
 
-    // `got`, of a part that makes units.
+    // `got`, of a part that marks.
     #[inline(always)]
-    #[tactic(auto, using(crate::proofs::Paying::unit_is_new, crate::proofs::Paying::passed_more, crate::proofs::Paying::swept_last))]
-    fn paying(&mut self, word: u64) -> Turn
-        requires part { is_paying self.old.part ≡ true }
+    #[tactic(auto, using(crate::proofs::Paying::unit_is_new))]
+    fn marks(&mut self, word: u64) -> Turn
+        requires part { is_marking self.old.part ≡ true }
         requires word { PartReads self.old.config self.old.part word }
         ensures local { self.new ≡ local_got self.old word }
         ensures turn { result ≡ turn_of (part_step self.old.config self.old.part word) }
@@ -442,6 +443,21 @@ impl Local {
                     turn_after(step)
                 }
             }
+            _ => unreachable!(),
+        }
+    }
+
+    // `got`, of a part that sweeps.
+    #[inline(always)]
+    #[tactic(auto, using(crate::proofs::Paying::passed_more, crate::proofs::Paying::swept_last))]
+    fn sweeps(&mut self, word: u64) -> Turn
+        requires part { is_sweeping self.old.part ≡ true }
+        requires word { PartReads self.old.config self.old.part word }
+        ensures local { self.new ≡ local_got self.old word }
+        ensures turn { result ≡ turn_of (part_step self.old.config self.old.part word) }
+    {
+        let places = Places::new(&self.config);
+        match &mut self.part {
             Part::Sweep(pass) => {
                 let passed = pass.passed();
                 let step = pass.got(&places, word);

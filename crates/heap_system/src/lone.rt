@@ -196,8 +196,8 @@ fn no_old_value_shows_through(rt: HostRuntime) -> Result<(), OutOfMemory> {
     Ok(())
 }
 
-// A list grows by a record a round, until more is reachable than may be. The allocations are refused
-// until two cycles later the list, which was let go, is swept.
+// A list grows by a record a round, until more is reachable than may be. The allocations are
+// refused until two cycles later the list, which was let go, is swept.
 #[test]
 fn an_allocation_is_refused_while_the_list_is_too_long(rt: HostRuntime) -> Result<(), OutOfMemory> {
     let grows = [

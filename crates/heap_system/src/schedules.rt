@@ -141,7 +141,7 @@ fn progress(local: &Local) -> (usize, usize) {
 
 #[test]
 fn every_schedule_agrees_with_the_model(rt: HostRuntime) -> Result<(), OutOfMemory> {
-    for key in 0..20 {
+    for key in 0..200 {
         assert!(rt; agrees(rt.alloc(), key)?, "schedule {key}");
     }
     Ok(())
