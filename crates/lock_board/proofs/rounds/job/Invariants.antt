@@ -1,4 +1,4 @@
-use Rattle.std.proofs.Common.{◌≡◌, length, map, All}
+use Rattle.std.proofs.Common.{◌≡◌, length, All}
 use Rattle.never_heap.specs.Jobs.{IsTraceInBounds}
 use Rattle.lock_board.proofs.rounds.job.Given as goal
 
