@@ -2,5 +2,6 @@ pub mod Driven
 pub mod Shown
 pub mod CarriedOut
 pub mod Headlines
+pub mod Unfilled
 pub mod Verdicts
 pub mod Taken

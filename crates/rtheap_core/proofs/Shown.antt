@@ -6,7 +6,6 @@ use Rattle.never_heap.specs.declared.Entry.{Entry}
 use Rattle.never_heap.specs.Histories.{HistoryItem, part, parts, parts_from}
 use Rattle.never_heap.specs.Licensed.{Licensed, StartsSmall, NoFulls}
 use Rattle.never_heap.specs.Runs.{IsRun}
-use Rattle.rate_plan.specs.Rates.{IsRate}
 use Rattle.trace_text.specs.Jobs.{Job}
 use Rattle.heap_system.specs.Machines.{Run, IsAfterTurns}
 use Rattle.heap_system.specs.Systems.{Finish, IsFinished}
@@ -69,23 +68,21 @@ module _ (licensed : (c : Config) (r : Run) → IsAfterTurns c r → Licensed c 
       right_work = e.right_work e.by_turns.opening.rate e.by_turns.opening.planned;
     }
 
-    has_history : (c : Config) (traces : List (List Command)) (f : Finish) → f.config ≡ c
-        → IsFinished c traces f.logs f.cycles → HasHistory (Ran f)
-    has_history c traces f same e =
-        let rate : ℕ = e.by_turns.opening.rate in
-        let shown = traces_shown c traces f.logs f.cycles e in
+    has_history : (f : Finish) → IsFinished f.config (map commands_of f.logs) f.logs f.cycles
+        → HasHistory (Ran f)
+    has_history f e =
+        let traces = map commands_of f.logs in
         record {
-          rate = rate;
-          is_rate = subst (λ k. IsRate k rate) (sym same) e.by_turns.opening.planned;
+          rate = e.by_turns.opening.rate;
+          is_rate = e.by_turns.opening.planned;
           history = e.run.order;
-          is_run = subst (λ k. IsRun k rate (map commands_of f.logs) e.run.order) (sym same)
-              (subst (λ ts. IsRun c rate ts e.run.order) (sym shown)
-              (order_is_run c traces f.logs f.cycles e));
-          parts_logged = ap (λ (k : Config). parts k.threads e.run.order) same ∙ sym e.parts_logged;
+          is_run = order_is_run f.config traces f.logs f.cycles e;
+          turned = e;
+          same = refl;
+          parts_logged = sym e.parts_logged;
           starts_counted = sym e.starts;
           work_counted = e.works;
-          none_full = subst (λ k. StartsSmall k e.run.order → NoFulls e.run.order) (sym same)
-              (never c e.run (by_turns_of c traces f.logs f.cycles e));
+          none_full = never f.config e.run (by_turns_of f.config traces f.logs f.cycles e);
         }
 
     -- both, where the job is known by its parts
@@ -96,7 +93,11 @@ module _ (licensed : (c : Config) (r : Run) → IsAfterTurns c r → Licensed c 
     run_shows c k ts traces f job same config whole ended is =
         let made : IsFinished c traces f.logs f.cycles =
         subst (λ xs. IsFinished c xs f.logs f.cycles) whole
-        (subst (λ q. IsFinished q ts f.logs f.cycles) config ended) in (
+        (subst (λ q. IsFinished q ts f.logs f.cycles) config ended) in
+        let shown = traces_shown k ts f.logs f.cycles ended in
+        let by_logs : IsFinished k (map commands_of f.logs) f.logs f.cycles =
+        subst (λ xs. IsFinished k xs f.logs f.cycles) (sym shown) ended in (
           job_shown c traces f (same ∙ config) made job (sym is),
-          has_history c traces f (same ∙ config) made,
+          has_history f (subst (λ q. IsFinished q (map commands_of f.logs) f.logs f.cycles)
+              (sym same) by_logs),
         )

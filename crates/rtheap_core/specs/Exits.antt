@@ -1,11 +1,11 @@
 -- What the top call answers.
-use Rattle.std.specs.Prelude.{ℕ, ◌≡◌, ◌⊎◌, List, [], ◌∷◌, ◌++◌, map, codes, decimal, IfSome}
+use Rattle.std.specs.Prelude.{ℕ, ◌≡◌, ◌⊎◌, false, List, [], ◌∷◌, ◌++◌, map, codes, decimal, All, IfSome}
 use Rattle.never_heap.specs.declared.Command.{Command}
 use Rattle.never_heap.specs.declared.Entry.{Entry}
-use Rattle.never_heap.specs.Histories.{HistoryItem, parts, starts_in, work_in}
+use Rattle.never_heap.specs.Histories.{HistoryItem, is_full, parts, starts_in, work_in}
 use Rattle.never_heap.specs.Licensed.{StartsSmall, NoFulls}
 use Rattle.never_heap.specs.Runs.{IsRun}
-use Rattle.heap_system.specs.Systems.{Finish}
+use Rattle.heap_system.specs.Systems.{Finish, IsFinished}
 use Rattle.heap_system.specs.Systems as systems
 use Rattle.rate_plan.specs.Rates.{IsAdmitted, IsRate}
 use Rattle.trace_text.specs.Jobs.{Job, IsJobInBounds, IsInput}
@@ -51,14 +51,19 @@ commands_of log = map (λ (e : Entry). e.command) log
 abbrev pub job_of : RunEnd → Job
 job_of end = record { config = (run_of end).config; traces = map commands_of (logs_of end) }
 
--- An ended run has a history: a run of its job, at the rate of its configuration. The logs, cycles
--- and units that it shows are those of the history. Where each cycle of the history began with at
--- most L live blocks, none of its commands was answered full.
+-- An ended run has a history: a run of its job, at the rate of its configuration. It is the order
+-- of one list of turns of the machine over that job, after which each thread is done: its starts
+-- and the events that decide its entries are those of that list, and the work of each entry is the
+-- number of units that the turns of its own command made. The logs, cycles and units that the run
+-- shows are those of the history. Where each cycle of the history began with at most L live blocks,
+-- none of its commands was answered full.
 pub record HasHistory (end : RunEnd) : Type 0 where
   pub rate : ℕ
   pub is_rate : IsRate (job_of end).config rate
   pub history : List HistoryItem
   pub is_run : IsRun (job_of end).config rate (job_of end).traces history
+  pub turned : IsFinished (job_of end).config (job_of end).traces (logs_of end) (cycles_of end)
+  pub same : history ≡ turned.run.order
   pub parts_logged : parts (job_of end).config.threads history ≡ logs_of end
   pub starts_counted : starts_in history ≡ cycles_of end
   pub work_counted : work_in history ≡ units_of end
@@ -85,6 +90,16 @@ pub record Headline (source sink : Sides) (status : ℕ) (end : RunEnd) : Type 0
   pub runnable : CanRun (job_of end)
   pub ran : HasHistory end
   pub text : IsWritten sink status (text_by_threads (job_of end).config.threads ran.history)
+
+-- no entry of these logs is answered full
+abbrev pub NoneFull : List (List Entry) → Type 0
+NoneFull logs = All (All (λ (e : Entry). is_full e.reply ≡ false)) logs
+
+-- The headline holds, and where each cycle of its history began with at most L live blocks, no
+-- entry of the logs is answered full.
+abbrev pub NeverFull : Sides → Sides → ℕ → RunEnd → Type 0
+NeverFull source sink status end = (h : Headline source sink status end)
+    × (StartsSmall (job_of end).config h.ran.history → NoneFull (logs_of end))
 
 -- a rate's line
 abbrev pub rate_text : ℕ → List ℕ

@@ -9,7 +9,7 @@ ghost use Rattle.heap_system.specs.Systems.{units_of as units_in};
 ghost use Rattle.rtheap_core.specs.declared.exit.RunEnd.{RunEnd};
 ghost use Rattle.rtheap_core.specs.declared.exit.RunEnd.TheVariants as ends;
 ghost use Rattle.rtheap_core.specs.Calls.{IsCarriedOut, IsComplete};
-ghost use Rattle.rtheap_core.specs.Exits.{AskForRun, AskForPlan, Ask, IsReadAs, IsWritten, logs_of, cycles_of, units_of, rate_text};
+ghost use Rattle.rtheap_core.specs.Exits.{AskForRun, AskForPlan, Ask, IsReadAs, IsWritten, NeverFull, logs_of, cycles_of, units_of, rate_text};
 ghost use Rattle.rtheap_core.specs.Sides.{sides};
 ghost use Rattle.rtheap_core.specs.Outcomes.{HasRun, HasRate};
 ghost use Rattle.rtheap_core.specs.Refusals.{IsCause, status_of, refusal_line};
@@ -37,10 +37,11 @@ const WRITE_FAULT: u8 = 6;
 ///
 /// The entries, cycles and units that an ended run shows by `Logs` are those that `done` is about.
 /// An allocation is answered `full` only where more blocks than the job's live limit were reachable
-/// at the start of the cycle that the reply names.
+/// at the start of the cycle that the reply names; so where no cycle of the run began with more, no
+/// command was answered `full` (`never_full`).
 ///
 /// That a call with the word `run` returns is not promised, for it makes turns of the job's thread
-/// until that is done. A call with any other words returns.
+/// until that is done. With any other words it calls nothing that waits.
 pub fn rtheap<R: Wait, S: Source, K: Sink, Q: Pace>(
     rt: &R,
     alloc: Global,
@@ -64,6 +65,8 @@ pub fn rtheap<R: Wait, S: Source, K: Sink, Q: Pace>(
       sink = sides K.held K.faults sink.old sink.new;
       exit = result;
     }) }
+    ensures never_full { IfSome result.run (NeverFull (sides S.left S.faults source.old source.new)
+        (sides K.held K.faults sink.old sink.new) result.status) }
 {
     inputs_are_told_apart();
     jobs_are_one();

@@ -1,4 +1,5 @@
 use Rattle.std.proofs.Common.{refl}
+use Rattle.rtheap_core.proofs.Unfilled.{unfilled}
 use Rattle.rtheap_core.proofs.Verdicts.{completes}
 use Rattle.rtheap_core.proofs.top.rtheap.Goals as goal
 
@@ -10,4 +11,5 @@ returns g c = record {
     apart = c.inputs_are_told_apart.ensures.apart;
     one = c.jobs_are_one.ensures;
   }) _ c.carried_out.ensures.done;
+  never_full = unfilled _ _ _ _ c.carried_out.ensures.done.headline;
 }
