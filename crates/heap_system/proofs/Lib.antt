@@ -16,6 +16,7 @@ pub mod Always
 pub mod Starting
 pub mod Reached
 pub mod Told
+pub mod Loaded
 pub mod Collecting
 pub mod Waiting
 pub mod Making

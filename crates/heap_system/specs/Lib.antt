@@ -7,3 +7,4 @@ pub mod Systems
 pub mod Units
 pub mod Rounds
 pub mod Costs
+pub mod Loaded

@@ -1,7 +1,7 @@
 //! What holds after every list of turns, for the proofs above: each law is the contract of a
 //! function that does nothing.
 
-ghost use Rattle.std.specs.Prelude.{◌+◌, ◌-◌, ◌^◌, ◌≡◌, ◌<◌, ◌≤◌, ◌++◌, ◌∷◌, [], ℕ, List, Some, true, false, if◌then◌else◌};
+ghost use Rattle.std.specs.Prelude.{◌+◌, ◌^◌, ◌≡◌, ◌<◌, ◌≤◌, ◌++◌, ◌∷◌, [], ℕ, List, Some, true, false, if◌then◌else◌};
 ghost use Rattle.block_store.specs.declared.Config.{Config};
 ghost use Rattle.block_store.specs.declared.Name.{Name};
 ghost use Rattle.block_store.specs.declared.TheConstants.{REGISTERS};
@@ -25,6 +25,7 @@ ghost use Rattle.kept_names.specs.Building.{Build as Building, NotHeld};
 ghost use Rattle.kept_names.specs.Kept.{IsKept, IsOlder};
 ghost use Rattle.kept_names.specs.Pictures.{no_task};
 ghost use Rattle.kept_names.specs.Reached.{IsReachedBlock};
+ghost use Rattle.kept_names.specs.States.{sizes};
 ghost use Rattle.heap_machine.specs.Gating.{is_inside, GateOf};
 ghost use Rattle.heap_machine.specs.Holdings.{holds_nothing};
 ghost use Rattle.heap_machine.specs.Operations.{place_of, op_at, SumFits};
@@ -34,6 +35,7 @@ ghost use Rattle.barrier_steps.specs.Rows.{FieldState, field_decided};
 ghost use Rattle.build_steps.specs.Rows.{BuildState};
 ghost use Rattle.heap_system.specs.declared.local.Part.TheVariants.{Serve, Build};
 ghost use Rattle.heap_system.specs.declared.Turn.TheVariants as Turn;
+ghost use Rattle.heap_system.specs.Loaded.{IsLoadedBlock, IsInGet};
 ghost use Rattle.heap_system.specs.Locals.{task, is_done, waits, is_rest, command_of, owed, entry_of, works, part_want, PartReads};
 ghost use Rattle.heap_system.specs.Machines.{State, answer, turned, Run, opened, IsAfterTurns, local_in, local_at, heap_in, word_read};
 ghost use Rattle.heap_system.specs.Openings.{opening_heap};
@@ -53,10 +55,11 @@ pub fn opening_shows_the_start()
 {}
 
 /// The words show, of the replay of the order, each object that the rules keep, where they say that
-/// it stands; and they keep each one that the graph reaches. Between the load of the field and the
-/// store of a `get`, its register's word is still that of the value that it had before. What a
-/// thread has loaded is of that graph. No block that the graph reaches is Free, or held by a thread
-/// that builds.
+/// it stands, and no two of its blocks are one; and they keep each one that the graph reaches.
+/// Between the load of the field and the store of a `get`, and nowhere else, its register's word is
+/// still that of the value that it had before. What a thread has loaded is of that graph. No block
+/// that the graph reaches is Free, or held by a thread that builds; nor is one to which a thread has
+/// loaded a reference, also where this is the only one.
 pub fn words_show_the_order()
     ensures words { (c : Config) (r : Run) → IsAfterTurns c r
         → Shows c.width c.threads c.blocks (λ a. r.names.kept a ≡ true) (replay c r.order)
@@ -78,6 +81,19 @@ pub fn words_show_the_order()
     ensures not_held { (c : Config) (r : Run) → IsAfterTurns c r
         → (x t : ℕ) (b : Building) → IsReachedBlock c (kept_state c r) x → t < c.threads
         → (task c (local_in c r t).part).build ≡ Some b → NotHeld b x }
+    ensures loaded { (c : Config) (r : Run) → IsAfterTurns c r → (t x : ℕ) → t < c.threads
+        → IsLoadedBlock (tasks_in c r.state t).loading x
+        → (is_free (heap_in c r.state (ColourOf x)) ≡ false)
+        × ((u : ℕ) (b : Building) → u < c.threads
+        → (task c (local_in c r u).part).build ≡ Some b → NotHeld b x) }
+    ensures apart { (c : Config) (r : Run) → IsAfterTurns c r → (a b : Name) (o p : ℕ)
+        → r.names.kept a ≡ true → r.names.kept b ≡ true
+        → o < sizes c (kept_state c r) a → p < sizes c (kept_state c r) b
+        → r.names.at a o ≡ r.names.at b p → (a ≡ b) × (o ≡ p) }
+    ensures pending { (c : Config) (r : Run) → IsAfterTurns c r
+        → (t q : ℕ) → t < c.threads → q < REGISTERS
+        → pending_registers (λ u. (tasks_in c r.state u).loading) t q ≡ true
+        → IsInGet (local_in c r t) q }
 {}
 
 /// Each rule on the heap and on its names is kept: each word is one that its place can hold; grey
@@ -183,7 +199,8 @@ pub fn turns_wait()
 {}
 
 /// The next event of a thread is on a place of the heap, reads a word that its row may read, and
-/// leaves no sum or difference outside of 64 bits. The phase word has room for the next cycle.
+/// leaves no sum or difference outside of 64 bits. The cycles stay below 2^50, so that the phase word
+/// has room for the next one.
 pub fn events_are_safe()
     ensures place { (c : Config) (r : Run) → IsAfterTurns c r → (t : ℕ) → t < c.threads
         → in_range (extent c) (place_of (part_want c (local_in c r t).part)) ≡ true }
@@ -193,7 +210,7 @@ pub fn events_are_safe()
         → SumFits (op_at (extent c) (part_want c (local_in c r t).part))
         (word_read c r.state (local_in c r t)) }
     ensures cycles { (c : Config) (r : Run) → IsAfterTurns c r
-        → cycle_of (heap_in c r.state Phase) ≤ 2 ^ 54 - 3 }
+        → cycle_of (heap_in c r.state Phase) < 2 ^ 50 }
 {}
 
 /// What a finished run shows as `Logs` is what it holds: its logs, the cycles, and the sum of its

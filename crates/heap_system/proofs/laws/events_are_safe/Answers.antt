@@ -1,7 +1,9 @@
-use Rattle.std.proofs.Common.{arith}
+use Rattle.std.proofs.Common.{◌<◌, ◌^◌, subst}
 use Rattle.heap_system.proofs.Always.{run_kept}
+use Rattle.heap_system.proofs.Bounded.{small}
 use Rattle.heap_system.proofs.LawsOf.{laws_of}
-use Rattle.heap_system.proofs.Turning.{place, reads, sums, cycle_low}
+use Rattle.heap_system.proofs.TalliesOf.{tallies_of}
+use Rattle.heap_system.proofs.Turning.{place, reads, sums}
 use Rattle.heap_system.proofs.laws.events_are_safe.Goals as goal
 
 pub returns-clause-place : goal.returns-clause-place
@@ -14,4 +16,5 @@ pub returns-clause-sums : goal.returns-clause-sums
 returns-clause-sums _ c r is t tl = sums c is.traces (laws_of c) is.job.bounds.config is.job.plan r (run_kept c is.traces (laws_of c) is.job is.turns r is.by_turns) t tl
 
 pub returns-clause-cycles : goal.returns-clause-cycles
-returns-clause-cycles _ c r is = cycle_low c is.traces (laws_of c) is.job.bounds.config is.job.plan r (run_kept c is.traces (laws_of c) is.job is.turns r is.by_turns) 0 (omega (arith, is.job.bounds.config.some_thread))
+returns-clause-cycles _ c r is = (let low = (small c is.traces (laws_of c) (tallies_of c) is.job is.turns r is.by_turns is.by_turns.opening.rate is.by_turns.opening.planned).1 in
+    subst (λ y. y < 2 ^ 50) (run_kept c is.traces (laws_of c) is.job is.turns r is.by_turns).names.ordered.started low)

@@ -2,7 +2,14 @@ use Rattle.heap_system.proofs.Always.{run_kept}
 use Rattle.heap_system.proofs.LawsOf.{laws_of}
 use Rattle.kept_names.proofs.Showing.{reached_solid, reached_not_held}
 use Rattle.kept_names.proofs.Turning.{reached_kept}
-use Rattle.heap_system.specs.Pictures.{kept_state}
+use Rattle.kept_names.specs.States.{Kept}
+use Rattle.never_heap.specs.Histories.{replay}
+use Rattle.shown_graph.specs.Events.{pending_registers}
+use Rattle.shown_graph.specs.Words.{block_words}
+use Rattle.shown_graph.proofs.Reading.{blocks_apart}
+use Rattle.heap_system.specs.Machines.{heap_in}
+use Rattle.heap_system.specs.Pictures.{tasks_in, kept_state}
+use Rattle.heap_system.proofs.Loaded.{loaded_safe, pending_get}
 use Rattle.heap_system.proofs.laws.words_show_the_order.Goals as goal
 
 pub returns-clause-words : goal.returns-clause-words
@@ -22,3 +29,14 @@ returns-clause-free _ c r is x reached = reached_solid c (kept_state c r) (run_k
 
 pub returns-clause-not_held : goal.returns-clause-not_held
 returns-clause-not_held _ c r is x t b reached tl builds = reached_not_held c (kept_state c r) (run_kept c is.traces (laws_of c) is.job is.turns r is.by_turns).names x t b reached tl builds
+
+pub returns-clause-loaded : goal.returns-clause-loaded
+returns-clause-loaded _ c r is t x tl loaded = loaded_safe c (kept_state c r) (run_kept c is.traces (laws_of c) is.job is.turns r is.by_turns).names t x tl loaded
+
+pub returns-clause-apart : goal.returns-clause-apart
+returns-clause-apart _ c r is a b o p ka kb ol pl e =
+    blocks_apart c.width c.threads c.blocks (Kept (kept_state c r)) (replay c r.order) r.names.at (block_words (heap_in c r.state)) (pending_registers (λ t. (tasks_in c r.state t).loading))
+    (run_kept c is.traces (laws_of c) is.job is.turns r is.by_turns).names.follows.shows a b o p ka kb ol pl e
+
+pub returns-clause-pending : goal.returns-clause-pending
+returns-clause-pending _ c r is t q tl ql pending = pending_get c is.traces r (run_kept c is.traces (laws_of c) is.job is.turns r is.by_turns) t tl q pending

@@ -1,0 +1,143 @@
+-- What a thread has loaded is of kept objects, which register is pending in which command, and that
+-- the shaded roots are grey.
+use Rattle.std.proofs.Common.{◌≡◌, ◌≢◌, ℕ, ◌<◌, ◌⊎◌, inl, inr, true, false, eqb-true, List, length, Some, refl, sym, ap, ◌∙◌, subst}
+use Rattle.block_store.specs.declared.Config.{Config}
+use Rattle.block_store.specs.declared.Value.{Value}
+use Rattle.block_store.specs.Colours.{is_free, is_grey, black_word}
+use Rattle.block_store.specs.Payloads.{target}
+use Rattle.block_store.specs.Places.{Extent, extent}
+use Rattle.block_store.specs.Widths.{payloads}
+use Rattle.never_heap.specs.declared.Command.{Command}
+use Rattle.never_heap.specs.declared.Command.TheVariants as commands
+use Rattle.never_heap.specs.Graphs.{register_of}
+use Rattle.never_heap.specs.Histories.{replay}
+use Rattle.shown_graph.specs.Events.{Loading, ObjectLoad, ValueLoad, ObjectIs, is_pending, value_in}
+use Rattle.shown_graph.specs.Shown.{IsValueOf}
+use Rattle.kept_names.specs.Building.{Build, NotHeld}
+use Rattle.kept_names.specs.Colouring.{IfRefers, IsBlockOf, IsShadedRoot}
+use Rattle.kept_names.specs.Events.{loaded_word}
+use Rattle.kept_names.specs.Kept.{IsKept}
+use Rattle.kept_names.specs.States.{KeptState, sizes, Kept as KeptNames}
+use Rattle.kept_names.specs.Reached.{IsReachedBlock}
+use Rattle.kept_names.proofs.Holding.{some_is}
+use Rattle.kept_names.proofs.Showing.{reached_black, dark_refers}
+use Rattle.kept_names.proofs.Standing.{kept_not_held, loaded_kept}
+use Rattle.barrier_steps.specs.Fits.{is_row_of}
+use Rattle.barrier_steps.specs.Operands.{to_register, is_get}
+use Rattle.barrier_steps.specs.Projection.{row_loading, store_loading, carried_load}
+use Rattle.barrier_steps.specs.Rows.{FieldState, field_decided}
+use Rattle.barrier_steps.specs.declared.rows.FieldRow.{FieldRow}
+use Rattle.barrier_steps.specs.declared.rows.FieldRow.TheVariants as fields
+use Rattle.barrier_steps.specs.declared.rows.FieldStore.TheVariants as stores
+use Rattle.barrier_steps.proofs.Projecting.{has_value}
+use Rattle.heap_system.specs.declared.local.Part.{Part}
+use Rattle.heap_system.specs.declared.local.Part.TheVariants.{Serve}
+use Rattle.heap_system.specs.Loaded.{IsOfValue, IsOfObject, IsLoadedBlock, IsInGet}
+use Rattle.heap_system.specs.Locals.{PartFits, task, command_of}
+use Rattle.heap_system.specs.Machines.{Run, local_at}
+use Rattle.heap_system.proofs.Kept.{Kept}
+use Rattle.heap_system.proofs.Seeing.{PartKept, RowKept}
+
+module _ (c : Config) (s : KeptState) (k : IsKept c s) where
+  abbrev IsOfKept : ℕ → Type 0
+  IsOfKept x = IsBlockOf (KeptNames s) (sizes c s) s.at x
+
+  -- the block to which a loaded value refers
+  value_block : (t : ℕ) → t < c.threads → (v : ValueLoad) → (s.seen.loads t).value ≡ Some v → target v.word ≢ 0 → IsOfKept (target v.word)
+  value_block t tl v is some =
+      let word : loaded_word s t ≡ v.word = ap (λ o. (value_in o).word) is in
+      subst (λ y. IsOfKept (target y)) word (loaded_kept c s k t tl (has_value s.seen t v is) (λ none. some (sym (ap target word) ∙ none)))
+
+  -- and the one of a loaded object
+  object_block : (t : ℕ) → t < c.threads → (o : ObjectLoad) → (s.seen.loads t).object ≡ Some o → IsOfKept o.block
+  object_block t tl o e =
+      let is = some_is (λ l. ObjectIs c.width s.seen.graph s.at t l) (s.seen.loads t).object o e (k.follows.loads t tl).object in
+      record {
+        name = is.name;
+        ordinal = o.ordinal;
+        kept = subst (IsValueOf (KeptNames s)) is.refers (k.follows.shows.closed.registers t o.source tl is.source);
+        low = is.ordinal;
+        is = is.block;
+      }
+
+  loaded_block : (t : ℕ) → t < c.threads → (x : ℕ) → IsLoadedBlock (s.seen.loads t) x → IsOfKept x
+  loaded_block t tl x (inl v) = subst IsOfKept (sym v.is) (value_block t tl v.load v.loaded v.refers)
+  loaded_block t tl x (inr o) = subst IsOfKept (sym o.is) (object_block t tl o.load o.loaded)
+
+  -- neither is Free, or held
+  pub loaded_safe : (t x : ℕ) → t < c.threads → IsLoadedBlock (s.seen.loads t) x
+      → (is_free (s.colour x) ≡ false) × ((u : ℕ) (b : Build) → u < c.threads → s.builds u ≡ Some b → NotHeld b x)
+  loaded_safe t x tl loaded =
+      let q = loaded_block t tl x loaded in
+      (ap (λ y. is_free (s.colour y)) q.is ∙ k.painted.solid q.name q.ordinal q.kept q.low, λ u b ul is. kept_not_held c s k x q u b ul is)
+
+  -- a shaded root is grey
+  shaded_grey : s.sweep ≡ true → (x : ℕ) → IsShadedRoot c.width c.threads s.shaded x → is_grey (s.colour x) ≡ true
+  shaded_grey sweep x q = ap (λ y. is_grey (s.colour y)) q.2 ∙ (k.sweeping sweep).roots q.0 q.1 q.3
+
+  abbrev Black : ℕ → Type 0
+  Black x = s.colour x ≡ black_word s.cycle
+
+  abbrev ShadedRoot : ℕ → Type 0
+  ShadedRoot x = IsShadedRoot c.width c.threads s.shaded x
+
+  pub or_grey : s.sweep ≡ true → (x : ℕ) → Black x ⊎ ShadedRoot x → Black x ⊎ (ShadedRoot x × (is_grey (s.colour x) ≡ true))
+  or_grey sweep x (inl black) = inl black
+  or_grey sweep x (inr root) = inr (root, shaded_grey sweep x root)
+
+  pub reached_or_grey : s.sweep ≡ true → (x : ℕ) → IsReachedBlock c s x → Black x ⊎ (ShadedRoot x × (is_grey (s.colour x) ≡ true))
+  reached_or_grey sweep x reached = or_grey sweep x (reached_black c s k sweep x reached)
+
+  -- no black block, and no shaded root, refers to a block that is not black
+  pub spared_refers : s.sweep ≡ true → (x j : ℕ) → Black x ⊎ ShadedRoot x → j < payloads c.width → IfRefers Black (s.seen.words.payload x j)
+  spared_refers sweep x j (inl black) jl = dark_refers c s k sweep x j (inr black) jl
+  spared_refers sweep x j (inr root) jl = dark_refers c s k sweep x j (inl (shaded_grey sweep x root)) jl
+
+-- A pending register is the one that a `get` is about to store, behind its deciding event.
+carries_none : (k : Command) (word q : ℕ) → is_pending (carried_load k word) q ≡ false
+carries_none (commands.Put s i v) word q = refl
+carries_none _ word q = refl
+
+abbrev Gets : Command → FieldRow → ℕ → Type 0
+Gets k row q = (is_get k ≡ true) × (to_register k ≡ q) × (field_decided row ≡ true)
+
+row_gets : (e : Extent) (k : Command) (row : FieldRow) (q : ℕ) → is_pending (row_loading e k row).value q ≡ true → is_row_of k row ≡ true → Gets k row q
+row_gets e k (fields.LoadOwner word) q is of = (of, eqb-true (to_register k) q is, refl)
+row_gets e k (fields.StorePending word value) q is of = (of, eqb-true (to_register k) q is, refl)
+row_gets e k (fields.Shade r (stores.Pending word value)) q is of = (of, eqb-true (to_register k) q is, refl)
+row_gets e k (fields.Shade r (stores.Moved word)) q is of = absurd cc
+row_gets e k (fields.Shade r (stores.InField way word)) q is of = absurd cc
+row_gets e k (fields.LoadLink way word) q is of = absurd (cc (is, carries_none k word q))
+row_gets e k _ q is of = absurd cc
+
+abbrev IsGet : Command → ℕ → Type 0
+IsGet k q = (source : ℕ) × (index : ℕ) × (k ≡ commands.Get q source index)
+
+is_get_of : (k : Command) (q : ℕ) → is_get k ≡ true → to_register k ≡ q → IsGet k q
+is_get_of (commands.Get d s i) q is e = (s, i, ap (λ x. commands.Get x s i) e)
+is_get_of _ q is e = absurd cc
+
+module _ (c : Config) (traces : List (List Command)) (r : Run) (k : Kept c traces r) (t : ℕ) (tl : t < c.threads) where
+  in_get : (f : FieldState) → (local_at c r.state t).part ≡ Serve f → (q : ℕ) → Gets f.command f.row q → IsInGet (local_at c r.state t) q
+  in_get f is q gets =
+      let get = is_get_of f.command q gets.0 gets.1 in
+      let row : RowKept (replay c r.order) t (local_at c r.state t).pass (command_of (local_at c r.state t)) f =
+          subst (λ p. PartKept c (replay c r.order) t (local_at c r.state t).pass (command_of (local_at c r.state t)) p) is (k.locals t tl).stands in
+      record {
+        field = f;
+        source = get.0;
+        index = get.1;
+        serves = is;
+        gets = get.2;
+        own = sym row.command ∙ get.2;
+        decided = gets.2;
+      }
+
+  at_part : (p : Part) → (local_at c r.state t).part ≡ p → (q : ℕ) → is_pending (task c p).loading.value q ≡ true → IsInGet (local_at c r.state t) q
+  at_part (Serve f) is q e =
+      let fits = subst (λ p. PartFits (local_at c r.state t).config (length (local_at c r.state t).log) (length (local_at c r.state t).trace) (local_at c r.state t).pass p) is (k.locals t tl).fits.part in
+      in_get f is q (row_gets (extent c) f.command f.row q e fits.0.belongs)
+  at_part _ is q e = absurd cc
+
+  pub pending_get : (q : ℕ) → is_pending (task c (local_at c r.state t).part).loading.value q ≡ true → IsInGet (local_at c r.state t) q
+  pending_get q e = at_part (local_at c r.state t).part refl q e
