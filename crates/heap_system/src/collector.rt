@@ -23,11 +23,11 @@ ghost use Rattle.heap_machine.specs.Tricolour.{TricolourKept};
 ghost use Rattle.heap_machine.specs.declared.gate.GateRow.TheVariants as GateRow;
 ghost use Rattle.heap_machine.specs.declared.pass.Pass.{Pass};
 ghost use Rattle.heap_system.specs.declared.local.Part.TheVariants.{TurnOver};
-ghost use Rattle.heap_system.specs.Loaded.{IsBlack, IsGreyRoot};
 ghost use Rattle.heap_system.specs.Locals.{task, part_want};
 ghost use Rattle.heap_system.specs.Machines.{turned, Run, IsAfterTurns, local_in, heap_in};
 ghost use Rattle.heap_system.specs.Pictures.{holding, holdings_in, tasks_in, kept_state};
 ghost use Rattle.heap_system.specs.Rounds.{puts_grey, puts_free, turns_phase};
+ghost use Rattle.heap_system.specs.Shades.{IsBlack, IsGreyRoot};
 
 /// The grey blocks stand in the chains of the lists and of the threads' hands, or are under scan,
 /// each once. Where a thread puts its hand in its own list, in a Mark pass, in a write barrier or
