@@ -2,16 +2,14 @@
 -- the shaded roots are grey.
 use Rattle.std.proofs.Common.{◌≡◌, ◌≢◌, ℕ, ◌<◌, ◌⊎◌, inl, inr, true, false, eqb-true, List, length, Some, refl, sym, ap, ◌∙◌, subst}
 use Rattle.block_store.specs.declared.Config.{Config}
-use Rattle.block_store.specs.declared.Value.{Value}
 use Rattle.block_store.specs.Colours.{is_free, is_grey, black_word}
 use Rattle.block_store.specs.Payloads.{target}
 use Rattle.block_store.specs.Places.{Extent, extent}
 use Rattle.block_store.specs.Widths.{payloads}
 use Rattle.never_heap.specs.declared.Command.{Command}
 use Rattle.never_heap.specs.declared.Command.TheVariants as commands
-use Rattle.never_heap.specs.Graphs.{register_of}
 use Rattle.never_heap.specs.Histories.{replay}
-use Rattle.shown_graph.specs.Events.{Loading, ObjectLoad, ValueLoad, ObjectIs, is_pending, value_in}
+use Rattle.shown_graph.specs.Events.{ObjectLoad, ValueLoad, ObjectIs, is_pending, value_in}
 use Rattle.shown_graph.specs.Shown.{IsValueOf}
 use Rattle.kept_names.specs.Building.{Build, NotHeld}
 use Rattle.kept_names.specs.Colouring.{IfRefers, IsBlockOf, IsShadedRoot}
@@ -24,7 +22,7 @@ use Rattle.kept_names.proofs.Showing.{reached_black, dark_refers}
 use Rattle.kept_names.proofs.Standing.{kept_not_held, loaded_kept}
 use Rattle.barrier_steps.specs.Fits.{is_row_of}
 use Rattle.barrier_steps.specs.Operands.{to_register, is_get}
-use Rattle.barrier_steps.specs.Projection.{row_loading, store_loading, carried_load}
+use Rattle.barrier_steps.specs.Projection.{row_loading, carried_load}
 use Rattle.barrier_steps.specs.Rows.{FieldState, field_decided}
 use Rattle.barrier_steps.specs.declared.rows.FieldRow.{FieldRow}
 use Rattle.barrier_steps.specs.declared.rows.FieldRow.TheVariants as fields
@@ -32,7 +30,7 @@ use Rattle.barrier_steps.specs.declared.rows.FieldStore.TheVariants as stores
 use Rattle.barrier_steps.proofs.Projecting.{has_value}
 use Rattle.heap_system.specs.declared.local.Part.{Part}
 use Rattle.heap_system.specs.declared.local.Part.TheVariants.{Serve}
-use Rattle.heap_system.specs.Loaded.{IsOfValue, IsOfObject, IsLoadedBlock, IsInGet}
+use Rattle.heap_system.specs.Loaded.{IsLoadedBlock, IsInGet}
 use Rattle.heap_system.specs.Locals.{PartFits, task, command_of}
 use Rattle.heap_system.specs.Machines.{Run, local_at}
 use Rattle.heap_system.proofs.Kept.{Kept}

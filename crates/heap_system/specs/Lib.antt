@@ -8,3 +8,4 @@ pub mod Units
 pub mod Rounds
 pub mod Costs
 pub mod Loaded
+pub mod Shades

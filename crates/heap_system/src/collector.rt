@@ -27,6 +27,7 @@ ghost use Rattle.heap_system.specs.Locals.{task, part_want};
 ghost use Rattle.heap_system.specs.Machines.{turned, Run, IsAfterTurns, local_in, heap_in};
 ghost use Rattle.heap_system.specs.Pictures.{holding, holdings_in, tasks_in, kept_state};
 ghost use Rattle.heap_system.specs.Rounds.{puts_grey, puts_free, turns_phase};
+ghost use Rattle.heap_system.specs.Shades.{IsBlack, IsGreyRoot};
 
 /// The grey blocks stand in the chains of the lists and of the threads' hands, or are under scan,
 /// each once. Where a thread puts its hand in its own list, in a Mark pass, in a write barrier or
@@ -118,24 +119,22 @@ pub fn the_flip_finds_what_is_reached()
 {}
 
 /// While the phase is Sweep each block that the graph reaches is black, but for the roots that are
-/// shaded for the next cycle, and no other block is grey; neither a black block nor such a root
-/// refers to a block that is not black. A block that was passed is not white, and one that a thread
-/// is about to free is.
+/// shaded for the next cycle, which are grey, and no other block is grey. No black block, and none
+/// of those roots, refers to a block that is not black. A block that was passed is not white, and
+/// one that a thread is about to free is.
 pub fn sweeping_spares_what_is_reached()
     ensures reached { (c : Config) (r : Run) → IsAfterTurns c r → (x : ℕ)
         → is_sweep (heap_in c r.state Phase) ≡ true → IsReachedBlock c (kept_state c r) x
-        → (heap_in c r.state (ColourOf x) ≡ black_word (cycle_of (heap_in c r.state Phase)))
-        ⊎ IsShadedRoot c.width c.threads r.names.shaded x }
+        → IsBlack c r x ⊎ IsGreyRoot c r x }
     ensures grey { (c : Config) (r : Run) → IsAfterTurns c r → (x : ℕ)
         → is_sweep (heap_in c r.state Phase) ≡ true
         → is_grey (heap_in c r.state (ColourOf x)) ≡ true
         → IsShadedRoot c.width c.threads r.names.shaded x }
     ensures refers { (c : Config) (r : Run) → IsAfterTurns c r → (x j : ℕ)
         → is_sweep (heap_in c r.state Phase) ≡ true
-        → IsDark (cycle_of (heap_in c r.state Phase)) (heap_in c r.state (ColourOf x))
+        → IsBlack c r x ⊎ IsShadedRoot c.width c.threads r.names.shaded x
         → j < payloads c.width
-        → IfRefers (λ y. heap_in c r.state (ColourOf y)
-        ≡ black_word (cycle_of (heap_in c r.state Phase))) (heap_in c r.state (PayloadOf x j)) }
+        → IfRefers (IsBlack c r) (heap_in c r.state (PayloadOf x j)) }
     ensures passed { (c : Config) (r : Run) → IsAfterTurns c r → (x : ℕ)
         → is_sweep (heap_in c r.state Phase) ≡ true → 1 ≤ x → x < heap_in c r.state Cursor
         → claims c.threads (λ t. sweep_held (holdings_in c r.state t)) x ≡ 0
@@ -148,7 +147,7 @@ pub fn sweeping_spares_what_is_reached()
 {}
 
 /// At the start of the next cycle no block is white, and each that is not Free is black, but for
-/// the shaded roots.
+/// the shaded roots, which are grey.
 pub fn starts_find_no_white()
     ensures white { (c : Config) (r : Run) → IsAfterTurns c r → (t x : ℕ) (p : Pass)
         → t < c.threads → (local_in c r t).part ≡ TurnOver (GateRow.Start p)
@@ -156,6 +155,5 @@ pub fn starts_find_no_white()
     ensures black { (c : Config) (r : Run) → IsAfterTurns c r → (t x : ℕ) (p : Pass)
         → t < c.threads → (local_in c r t).part ≡ TurnOver (GateRow.Start p)
         → is_free (heap_in c r.state (ColourOf x)) ≡ false
-        → (heap_in c r.state (ColourOf x) ≡ black_word (cycle_of (heap_in c r.state Phase)))
-        ⊎ IsShadedRoot c.width c.threads r.names.shaded x }
+        → IsBlack c r x ⊎ IsGreyRoot c r x }
 {}

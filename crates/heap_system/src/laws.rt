@@ -58,8 +58,8 @@ pub fn opening_shows_the_start()
 /// it stands, and no two of its blocks are one; and they keep each one that the graph reaches.
 /// Between the load of the field and the store of a `get`, and nowhere else, its register's word is
 /// still that of the value that it had before. What a thread has loaded is of that graph. No block
-/// that the graph reaches is Free, or held by a thread that builds; nor is one to which a thread has
-/// loaded a reference, also where this is the only one.
+/// that the graph reaches is Free, or held by a thread that builds; nor is one to which a thread
+/// has loaded a reference, also where this is the only one.
 pub fn words_show_the_order()
     ensures words { (c : Config) (r : Run) → IsAfterTurns c r
         → Shows c.width c.threads c.blocks (λ a. r.names.kept a ≡ true) (replay c r.order)
@@ -199,8 +199,8 @@ pub fn turns_wait()
 {}
 
 /// The next event of a thread is on a place of the heap, reads a word that its row may read, and
-/// leaves no sum or difference outside of 64 bits. The cycles stay below 2^50, so that the phase word
-/// has room for the next one.
+/// leaves no sum or difference outside of 64 bits. The cycles stay below 2^50, so that the phase
+/// word has room for the next one.
 pub fn events_are_safe()
     ensures place { (c : Config) (r : Run) → IsAfterTurns c r → (t : ℕ) → t < c.threads
         → in_range (extent c) (place_of (part_want c (local_in c r t).part)) ≡ true }
