@@ -120,7 +120,7 @@ module _ (c : Config) (traces : List (List Command)) (r : Run) (k : Kept c trace
   in_get f is q gets =
       let get = is_get_of f.command q gets.0 gets.1 in
       let row : RowKept (replay c r.order) t (local_at c r.state t).pass (command_of (local_at c r.state t)) f =
-          subst (λ p. PartKept c (replay c r.order) t (local_at c r.state t).pass (command_of (local_at c r.state t)) p) is (k.locals t tl).stands in
+      subst (λ p. PartKept c (replay c r.order) t (local_at c r.state t).pass (command_of (local_at c r.state t)) p) is (k.locals t tl).stands in
       record {
         field = f;
         source = get.0;
