@@ -27,3 +27,5 @@ pub mod tallies
 pub mod Tallied
 pub mod TalliesOf
 pub mod Bounded
+pub mod Taking
+pub mod Cycling

@@ -5,6 +5,7 @@ pub mod Machines
 pub mod Pictures
 pub mod Systems
 pub mod Units
+pub mod Cycles
 pub mod Rounds
 pub mod Costs
 pub mod Loaded
