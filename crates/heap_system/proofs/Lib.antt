@@ -14,6 +14,7 @@ pub mod parts
 pub mod LawsOf
 pub mod Always
 pub mod Starting
+pub mod Rooms
 pub mod Reached
 pub mod Told
 pub mod Loaded

@@ -2,6 +2,7 @@ pub mod Naming
 pub mod Openings
 pub mod Locals
 pub mod Machines
+pub mod Rooms
 pub mod Pictures
 pub mod Systems
 pub mod Units

@@ -8,6 +8,7 @@ mod laws;
 mod local;
 #[cfg(test)]
 mod lone;
+mod replays;
 #[cfg(test)]
 mod schedules;
 mod start;
@@ -32,6 +33,7 @@ pub use laws::{
     words_show_the_order, works_are_units,
 };
 pub use local::Local;
+pub use replays::jobs_have_one_order;
 pub use start::opening;
 pub use system::{Finished, System, Unfinished, sum_of_works};
 
