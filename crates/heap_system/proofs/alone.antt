@@ -1,0 +1,5 @@
+pub mod FieldsLeft
+pub mod Low
+pub mod Standing
+pub mod Heads
+pub mod Gate
