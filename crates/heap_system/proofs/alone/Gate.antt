@@ -1,5 +1,5 @@
 -- A lone thread at the gate, on its way in and out.
-use Rattle.std.proofs.Common.{◌≡◌, ℕ, ◌+◌, ◌-◌, ◌≤◌, ◌<◌, Bool, true, false, not, cond, eqb, ltb, eq-eqb, ne_eqb, ltb-true, lt-ltb, refl, sym, ap, ◌∙◌, subst, arith, inl, inr}
+use Rattle.std.proofs.Common.{◌≡◌, ℕ, ◌+◌, ◌-◌, ◌≤◌, ◌<◌, Bool, true, false, not, cond, eqb, ltb, eq-eqb, ne_eqb, le-ltb, lt-ltb, refl, sym, ap, ◌∙◌, subst, arith, inl, inr}
 use Rattle.std.proofs.lemmas.Bool.{cases_Bool, cases_lt}
 use Rattle.block_store.specs.declared.Config.{Config}
 use Rattle.block_store.specs.declared.PhaseWord.{PhaseWord}
@@ -19,11 +19,6 @@ use Rattle.heap_system.proofs.PartLaws.{AtPart}
 use Rattle.heap_system.proofs.Seeing.{Seen}
 use Rattle.heap_system.proofs.alone.Heads.{same_lone, open_here, has_pass}
 use Rattle.heap_system.proofs.alone.Standing.{lone_of, ready_now, some, grey_heads, IsOfPass, NoGrey, IsDry, Alone, LoneStep, LoneLaw}
-
--- where thread t stands at part p
-stands : (c : Config) (s : Seen c) (p : Part) → AtPart c s p
-    → is_outside (s.gatings s.thread).stand ≡ is_outside (s.gatings s.thread).stand
-stands c s p is = refl
 
 pub rest_lone : (c : Config) → LoneLaw c Rest
 rest_lone c s is alone event known =
@@ -78,6 +73,7 @@ enter_here c s pays out =
     let won : eqb (s.heap Phase) (s.heap Phase) ≡ true = eq-eqb (s.heap Phase) (s.heap Phase) refl in
     let phase = (entered_phase c.threads (s.heap Phase) s.gatings s.gate (omega (arith, s.bounds.threads))).1 in
     let same = ready_same c s phase in
+    let all_lists : c.threads - 0 ≡ c.threads = omega arith in
     elim (cases_lt s.paid s.due) [
       | inl more ↦
           let due : ltb 0 (s.due - s.paid) ≡ true = lt-ltb 0 (s.due - s.paid) (omega arith) in
@@ -87,30 +83,30 @@ enter_here c s pays out =
               goes = rw won refl;
               out = rw (won, due, sweeps) refl;
               knows = rw (won, due, sweeps) tt;
-              moves = rw (won, due, owing, sweeps) (same_lone _ _ Spot.ReadCursor refl refl phase same);
+              moves = rw (won, due, owing, sweeps) (same_lone _ Spot.ReadCursor (s.due - s.paid) true _ refl refl (phase ∙ sweeps) (same ∙ rw sweeps refl));
             }
             | inr marks ↦ record {
               goes = rw won refl;
               out = rw (won, due, marks) refl;
               knows = rw (won, due, marks) (λ v low. absurd (omega arith));
-              moves = rw (won, due, owing, marks) (same_lone _ _ (Spot.Take 0) refl refl phase same);
+              moves = rw (won, due, owing, marks) (same_lone _ (Spot.Take 0) (s.due - s.paid) false _ refl refl (phase ∙ marks) (ap (some (grey_heads c s.heap s.thread) 0) all_lists));
             }
           ]
       | inr all ↦
-          let due : ltb 0 (s.due - s.paid) ≡ false = ? in
+          let due : ltb 0 (s.due - s.paid) ≡ false = le-ltb 0 (s.due - s.paid) (omega arith) in
           let owing : eqb (s.due - s.paid) 0 ≡ true = eq-eqb (s.due - s.paid) 0 (omega arith) in
           elim (cases_Bool (makes_object s.command)) [
             | inl makes ↦ record {
               goes = rw won refl;
               out = rw (won, due, makes) refl;
               knows = rw (won, due, makes) tt;
-              moves = rw (won, due, owing, makes) (same_lone _ _ Spot.Count refl refl phase same);
+              moves = rw (won, due, owing, makes) (same_lone _ Spot.Count (s.due - s.paid) _ _ refl refl phase same);
             }
             | inr serves ↦ record {
               goes = rw won refl;
               out = rw (won, due, serves) refl;
               knows = rw (won, due, serves) tt;
-              moves = rw (won, due, owing, serves) (same_lone _ _ _ refl refl phase same);
+              moves = rw (won, due, owing, serves) (same_lone _ _ (s.due - s.paid) _ _ refl refl phase same);
             }
           ]
     ]

@@ -10,7 +10,7 @@ use Rattle.heap_system.specs.declared.local.Part.{Part}
 use Rattle.heap_system.specs.Pictures.{gating, stand_of}
 use Rattle.heap_system.proofs.Seeing.{Seen}
 use Rattle.heap_system.proofs.alone.Standing.{some, IsOfPass, Alone}
-use Rattle.lone_bound.specs.Moves.{Spot, Lone, at}
+use Rattle.lone_bound.specs.Moves.{Spot, Lone}
 
 pub some_none : (f : ℕ → ℕ) (n i : ℕ) → ((v : ℕ) → i ≤ v → v < i + n → f v ≡ 0) → some f i n ≡ false
 some_none f zero i none = refl
@@ -37,9 +37,10 @@ some_next f (suc n) i none more =
     let less : suc n - 1 ≡ n = omega arith in
     rw (eq-eqb (f i) 0 none) (ap (some f (i + 1)) (sym less))
 
-pub same_lone : (z s : Lone) (x : Spot) → z.spot ≡ x → z.owed ≡ s.owed → z.sweep ≡ s.sweep
-    → z.ready ≡ s.ready → z ≡ at s x
-same_lone z s x p q r w = λ i. record { spot = p i; owed = q i; sweep = r i; ready = w i }
+pub same_lone : (z : Lone) (x : Spot) (o : ℕ) (b r : Bool) → z.spot ≡ x → z.owed ≡ o
+    → z.sweep ≡ b → z.ready ≡ r → z ≡ record { spot = x; owed = o; sweep = b; ready = r }
+same_lone z x o b r p q v w =
+    λ i. record { spot = p i; owed = q i; sweep = v i; ready = w i }
 
 stands_out : (s : Stand) → is_outside s ≡ true → (bit (is_inside s) ≡ 0) × (bit (is_closing s) ≡ 0)
 stands_out Outside out = (refl, refl)
