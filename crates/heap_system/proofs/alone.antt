@@ -4,3 +4,5 @@ pub mod Standing
 pub mod Serving
 pub mod Heads
 pub mod Gate
+pub mod Changing
+pub mod Marking
