@@ -1,2 +1,6 @@
 pub mod FieldsLeft
 pub mod Low
+pub mod Standing
+pub mod Serving
+pub mod Heads
+pub mod Gate

@@ -9,3 +9,4 @@ pub mod Rounds
 pub mod Costs
 pub mod Loaded
 pub mod Shades
+pub mod Alone

@@ -7,6 +7,7 @@ mod laws;
 mod local;
 #[cfg(test)]
 mod lone;
+mod progress;
 #[cfg(test)]
 mod schedules;
 mod start;
@@ -30,6 +31,7 @@ pub use laws::{
     words_show_the_order, works_are_units,
 };
 pub use local::Local;
+pub use progress::a_lone_thread_ends_its_command;
 pub use start::opening;
 pub use system::{Finished, System, Unfinished, sum_of_works};
 
