@@ -1,5 +1,5 @@
 -- A turn of a lone thread that builds.
-use Rattle.std.proofs.Common.{◌≡◌, ℕ, suc, ◌+◌, ◌-◌, ◌<◌, ◌≤◌, ◌⊎◌, inl, inr, Bool, true, false, not, cond, eqb, ltb, eq-eqb, ne_eqb, lt-ltb, le-ltb, Option, Some, None, is_some, List, [], ◌∷◌, ◌++◌, length, length-append, refl, sym, ap, ◌∙◌, subst, arith}
+use Rattle.std.proofs.Common.{◌≡◌, ℕ, ◌+◌, ◌-◌, ◌<◌, ◌≤◌, ◌⊎◌, inl, inr, false, cond, eqb, ltb, eq-eqb, ne_eqb, lt-ltb, le-ltb, Option, Some, None, is_some, [], ◌∷◌, ◌++◌, length, length-append, refl, sym, ap, ◌∙◌, subst, arith}
 use Rattle.std.proofs.lemmas.Bool.{cases_eq, cases_lt, cases_Bool}
 use Rattle.block_store.specs.declared.Config.{Config}
 use Rattle.block_store.specs.declared.Width.{Width}
@@ -18,7 +18,6 @@ use Rattle.build_steps.specs.declared.rows.BuildRow.TheVariants.{ReadCount, Rese
 use Rattle.build_steps.specs.Fits.{BuildFits, RowFits}
 use Rattle.build_steps.specs.Rows.{BuildState, build_got, build_over, build_reply, held_got, list_of, row_got, row_holding, row_reply, row_want}
 use Rattle.lone_bound.specs.Moves.{Spot, Lone, Terms, Moves}
-use Rattle.heap_system.specs.declared.local.Part.{Part}
 use Rattle.heap_system.specs.declared.local.Part.TheVariants.{Build}
 use Rattle.heap_system.specs.Locals.{build_waits, if_replied}
 use Rattle.heap_system.proofs.PartLaws.{AtPart, word_at}

@@ -1,5 +1,5 @@
 -- A thread that builds, while every other thread holds nothing, finds a Free block in some list.
-use Rattle.std.proofs.Common.{mod-eq_of_lt, ◌≡◌, ℕ, zero, suc, ◌+◌, ◌-◌, ◌*◌, ◌%◌, ◌<◌, ◌≤◌, ◌&&◌, Bool, true, false, eqb, eq-eqb, ne_eqb, List, [], ◌∷◌, length, refl, sym, ap, ◌∙◌, subst, arith, inl, inr}
+use Rattle.std.proofs.Common.{mod-eq_of_lt, ◌≡◌, ℕ, zero, suc, ◌+◌, ◌-◌, ◌*◌, ◌<◌, ◌≤◌, ◌&&◌, true, eqb, eq-eqb, ne_eqb, List, [], ◌∷◌, length, refl, sym, ap, ◌∙◌, subst, arith, inl, inr}
 use Rattle.std.proofs.lemmas.Bool.{cases_eq, cases_lt}
 use Rattle.std.proofs.lemmas.Nat.{mod-mul-add}
 use Rattle.block_store.specs.Colours.{is_free, link}
@@ -10,7 +10,7 @@ use Rattle.block_store.specs.Places.{Extent, FreeList, ColourOf, is_block}
 use Rattle.block_store.proofs.Functions.{total_none, total_part, total_same}
 use Rattle.heap_machine.specs.Chains.{Chain}
 use Rattle.heap_machine.specs.FreeBlocks.{FreeHolding, no_free, count_free, FreeKept}
-use Rattle.heap_machine.proofs.Chaining.{Chain-zero, Chain-step}
+use Rattle.heap_machine.proofs.Chaining.{Chain-zero}
 use Rattle.heap_machine.proofs.FreeBlocks.{block_is}
 use Rattle.build_steps.specs.Rows.{list_of}
 
