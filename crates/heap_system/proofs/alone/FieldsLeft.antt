@@ -1,7 +1,7 @@
 -- How many events a command that allocates nothing has left at most, before it goes out: each event
 -- leaves fewer.
-use Rattle.std.proofs.Common.{◌≡◌, ◌≢◌, ℕ, zero, suc, ◌+◌, ◌-◌, ◌≤◌, ◌<◌, Bool, true, false, cond, eqb, ltb, refl, arith, subst, sym, ap, ◌∙◌, ltb-true, eqb-true, Option, Some, None, inl, inr}
-use Rattle.std.proofs.lemmas.Bool.{cases_eq, cases_Bool, ltb-false}
+use Rattle.std.proofs.Common.{◌≡◌, ◌≢◌, ℕ, ◌+◌, ◌-◌, ◌≤◌, ◌<◌, eqb, ltb, refl, arith, sym, ◌∙◌, ltb-true, Some, None, inl, inr}
+use Rattle.std.proofs.lemmas.Bool.{cases_Bool}
 use Rattle.block_store.specs.declared.Config.{Config}
 use Rattle.block_store.specs.declared.Payload.{Payload}
 use Rattle.block_store.specs.declared.Payload.TheVariants as payloads
@@ -14,7 +14,6 @@ use Rattle.block_store.specs.Places.{Extent, extent}
 use Rattle.block_store.specs.Shapes.{IsShape}
 use Rattle.block_store.specs.Widths.{payloads as payloads_of}
 use Rattle.object_lists.specs.Records.{record_blocks, record_slot}
-use Rattle.array_trees.specs.Levels.{array_depth}
 use Rattle.array_trees.proofs.Depths.{depth_few}
 use Rattle.never_heap.specs.declared.Command.{Command}
 use Rattle.never_heap.specs.declared.Command.TheVariants as commands
