@@ -30,3 +30,4 @@ pub mod TalliesOf
 pub mod Bounded
 pub mod Taking
 pub mod Cycling
+pub mod alone

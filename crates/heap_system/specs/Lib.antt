@@ -11,3 +11,4 @@ pub mod Rounds
 pub mod Costs
 pub mod Loaded
 pub mod Shades
+pub mod Alone

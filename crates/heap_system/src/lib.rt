@@ -8,6 +8,7 @@ mod laws;
 mod local;
 #[cfg(test)]
 mod lone;
+mod progress;
 mod replays;
 #[cfg(test)]
 mod schedules;
@@ -33,6 +34,7 @@ pub use laws::{
     words_show_the_order, works_are_units,
 };
 pub use local::Local;
+pub use progress::a_lone_thread_ends_its_command;
 pub use replays::jobs_have_one_order;
 pub use start::opening;
 pub use system::{Finished, System, Unfinished, sum_of_works};
