@@ -15,6 +15,7 @@ pub mod parts
 pub mod LawsOf
 pub mod Always
 pub mod Starting
+pub mod Rooms
 pub mod Reached
 pub mod Told
 pub mod Loaded
@@ -30,3 +31,6 @@ pub mod TalliesOf
 pub mod Balanced
 pub mod UnitMade
 pub mod Bounded
+pub mod Taking
+pub mod Cycling
+pub mod alone
