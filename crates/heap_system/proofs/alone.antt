@@ -4,5 +4,6 @@ pub mod Standing
 pub mod Serving
 pub mod NeverDry
 pub mod Building
+pub mod Sweeping
 pub mod Heads
 pub mod Gate
