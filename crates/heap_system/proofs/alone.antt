@@ -7,3 +7,5 @@ pub mod Building
 pub mod Sweeping
 pub mod Heads
 pub mod Gate
+pub mod Changing
+pub mod Marking
