@@ -9,3 +9,5 @@ pub mod Heads
 pub mod Gate
 pub mod Changing
 pub mod Marking
+pub mod Laws
+pub mod Runs
