@@ -4,6 +4,7 @@ pub mod Standing
 pub mod Serving
 pub mod NeverDry
 pub mod Building
+pub mod Sweeping
 pub mod Heads
 pub mod Gate
 pub mod Changing
