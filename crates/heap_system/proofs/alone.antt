@@ -4,7 +4,10 @@ pub mod Standing
 pub mod Serving
 pub mod NeverDry
 pub mod Building
+pub mod Sweeping
 pub mod Heads
 pub mod Gate
 pub mod Changing
 pub mod Marking
+pub mod Laws
+pub mod Runs
