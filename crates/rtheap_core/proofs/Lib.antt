@@ -5,3 +5,5 @@ pub mod Headlines
 pub mod Unfilled
 pub mod Verdicts
 pub mod Taken
+pub mod Drawing
+pub mod Admitting

@@ -5,3 +5,4 @@ pub mod Refusals
 pub mod Outcomes
 pub mod Tasks
 pub mod Calls
+pub mod Generated

@@ -2,6 +2,7 @@
 #![tactic(auto)]
 
 mod exit;
+mod generated;
 mod refusal;
 mod run;
 mod runnable;
@@ -11,5 +12,6 @@ mod tests;
 mod top;
 
 pub use exit::{Exit, RunEnd};
+pub use generated::generate;
 pub use refusal::Refusal;
 pub use top::rtheap;
