@@ -9,13 +9,14 @@ use Rattle.heap_system.proofs.alone.Gate.{rest_lone, again_lone, idle_lone, ente
 use Rattle.heap_system.proofs.alone.Marking.{mark_lone}
 use Rattle.heap_system.proofs.alone.Serving.{serve_lone}
 use Rattle.heap_system.proofs.alone.Standing.{LoneLaw, is_out}
+use Rattle.heap_system.proofs.alone.Sweeping.{sweep_lone}
 
 pub lone_law : (c : Config) (p : Part) → is_out p ≡ false → LoneLaw c p
 lone_law c Rest on = rest_lone c
 lone_law c (Enter g) on = enter_lone c g
 lone_law c (Serve f) on = serve_lone c f
 lone_law c (Mark m) on = mark_lone c m
-lone_law c (Sweep s) on = ?
+lone_law c (Sweep s) on = sweep_lone c s
 lone_law c (Build b) on = build_lone c b
 lone_law c Again on = again_lone c
 lone_law c Idle on = idle_lone c

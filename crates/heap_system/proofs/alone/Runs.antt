@@ -23,13 +23,13 @@ use Rattle.heap_machine.specs.Operations.{place_of}
 use Rattle.heap_machine.proofs.Gatings.{stand_out}
 use Rattle.barrier_steps.specs.Rows.{first_row}
 use Rattle.lone_bound.specs.Moves.{Spot, Lone, Terms, Moves}
-use Rattle.lone_bound.specs.Prices.{left, left_at, allocation_bound, other_bound}
+use Rattle.lone_bound.specs.Prices.{left, at_look, allocation_bound, other_bound}
 use Rattle.lone_bound.proofs.Prices.{lower, within}
 use Rattle.heap_system.specs.declared.local.Part.{Part}
 use Rattle.heap_system.specs.declared.local.Part.TheVariants.{Rest, Enter, Serve, Mark, Sweep, Build, Again, Idle, TurnOver, Leave}
 use Rattle.heap_system.specs.declared.Turn.TheVariants as turns
 use Rattle.heap_system.specs.Alone.{IsQuiet, HasCommand, EndsWithin, command_bound, after_alone}
-use Rattle.heap_system.specs.Locals.{LocalState, command_of, owed, effect, is_rest, is_done, entry_of, entries_of, turn_of, waits, part_want}
+use Rattle.heap_system.specs.Locals.{LocalState, command_of, owed, effect, is_rest, is_done, entry_of, entries_of, turn_of, waits, part_want, part_got, errand_of}
 use Rattle.heap_system.specs.Machines.{Run, IsJob, local_at, local_in, heap_in, next, answer, event_done, word_read}
 use Rattle.heap_system.specs.Pictures.{gating, gates_in}
 use Rattle.heap_system.proofs.Kept.{Kept}
@@ -109,6 +109,26 @@ module _ (c : Config) (traces : List (List Command)) (job : IsJob c traces) (rat
     pub others : (u : ℕ) → u < c.threads → (t ≡ u → ⊥)
         → is_outside (gates_in c r.state u).stand ≡ true
     pub own : Own (heap_in c r.state) (local_at c r.state t)
+
+  -- the end: at rest, with the entry
+  pub record Ended (z : Run) : Type 0 where
+    pub rest : is_rest (local_at c z.state t).part ≡ true
+    pub entry : Entry
+    pub log : (local_at c z.state t).log ≡ old ++ entry ∷ []
+    pub command : entry.command ≡ k
+    pub quiet : IsQuiet c z
+
+  -- where every thread is outside, nobody is inside and the gate is open
+  quiet_after : (z : Run) → Kept c traces z
+      → ((u : ℕ) → u < c.threads → (t ≡ u → ⊥) → is_outside (gates_in c z.state u).stand ≡ true)
+      → is_outside (gates_in c z.state t).stand ≡ true → IsQuiet c z
+  quiet_after z kept others out =
+      let free = open_here c (seen c traces (laws_of c) job.bounds.config job.plan z kept t tl)
+          (record {
+            others = others;
+            low = order_records c traces job.bounds.config job.plan z kept;
+          }) out in
+      record { nobody = free.nobody; opened = free.opened }
 
   -- the run's own
   module _ (left_some : length old < length (get_or traces t []))
@@ -230,3 +250,155 @@ module _ (c : Config) (traces : List (List Command)) (job : IsJob c traces) (rat
           (record { kept = kept_later; others = others_later; own = carry Own own_later }),
           subst (λ (x : Run). price (heap_in c x.state) (local_at c x.state t) < price h l) to
           (carry (λ y z. price y z < price h l) less))
+
+    -- the last turn
+    module _ (out : is_out l.part ≡ true) where
+      rests : moved.part ≡ Rest
+      rests = ap (λ p. part_got c t (errand_of l) l.pass p (h (place_of (part_want c p)))) (out_is l.part out)
+
+      silent : moved.log ≡ l.log
+      silent =
+          ap (λ p. l.log ++ entries_of t (command_of l) l.paid
+          (effect c p (h (place_of (part_want c p)))).reply) (out_is l.part out)
+          ∙ append-nil l.log
+
+      pub last_turn : (answer c t r.state ≡ turns.Went) × Ended (next c t r)
+      last_turn =
+          let entry = lone.own.log.1 out in
+          let free : waits l.part (h (place_of (part_want c l.part))) ≡ false =
+              ap (λ p. waits p (h (place_of (part_want c p)))) (out_is l.part out) in
+          (went free,
+          subst (λ x. Ended x)
+          (sym (next_is c traces (laws_of c) job.bounds.config job.plan r lone.kept t tl going))
+          (record {
+            rest = carry (λ y z. is_rest z.part ≡ true) (ap is_rest rests);
+            entry = entry.0;
+            log = carry (λ y z. z.log ≡ old ++ entry.0 ∷ []) (silent ∙ entry.1);
+            command = entry.2;
+            quiet = quiet_after later kept_later others_later
+                (carry (λ y z. is_outside (gating c z.pass z.part).stand ≡ true)
+                (ap (λ p. is_outside (gating c moved.pass p).stand) rests));
+          }))
+
+  module _ (left_some : length old < length (get_or traces t []))
+      (command : get_or (get_or traces t []) (length old) (commands.Nil 0) ≡ k) where
+    -- the end after so many turns of r
+    abbrev EndsIn : Run → ℕ → Type 0
+    EndsIn r most =
+        (n : ℕ) × (n ≤ most)
+        × ((j : ℕ) → j < n → answer c t (after_alone c t r j).state ≡ turns.Went)
+        × Ended (after_alone c t r n)
+
+    abbrev rest : Run → ℕ
+    rest r = price (heap_in c r.state) (local_at c r.state t)
+
+    went_first : (r : Run) (n : ℕ) → answer c t r.state ≡ turns.Went
+        → ((j : ℕ) → j < n → answer c t (after_alone c t (next c t r) j).state ≡ turns.Went)
+        → (j : ℕ) → j < suc n → answer c t (after_alone c t r j).state ≡ turns.Went
+    went_first r n one more zero low = one
+    went_first r n one more (suc j) low = more j (omega arith)
+
+    none_before : (r : Run) → answer c t r.state ≡ turns.Went
+        → (j : ℕ) → j < 1 → answer c t (after_alone c t r j).state ≡ turns.Went
+    none_before r one = went_first r 0 one (λ j low. absurd (omega arith))
+
+    at_out : (most : ℕ) (r : Run) → LoneRun r → rest r ≤ most
+        → is_out (local_at c r.state t).part ≡ true → EndsIn r most
+    at_out most r lone low out =
+        let one : rest r ≡ 1 =
+            out_one e (unit c) c (heap_in c r.state) t (due - (local_at c r.state t).paid)
+            (local_at c r.state t).part out in
+        let last = last_turn left_some command r lone out in
+        (1, omega arith, none_before r last.0, last.1)
+
+    pub ends : (most : ℕ) (r : Run) → LoneRun r → rest r ≤ most → EndsIn r most
+    ends zero r lone low = elim (cases_Bool (is_out (local_at c r.state t).part)) [
+      | inl out ↦ at_out zero r lone low out
+      | inr on ↦ absurd (let less = (one_turn left_some command r lone on).2 in omega arith)
+    ]
+    ends (suc most) r lone low = elim (cases_Bool (is_out (local_at c r.state t).part)) [
+      | inl out ↦ at_out (suc most) r lone low out
+      | inr on ↦
+          let one = one_turn left_some command r lone on in
+          let less = one.2 in
+          let on_from = ends most (next c t r) one.1 (omega arith) in
+          let few = on_from.1 in
+          (suc on_from.0, omega arith, went_first r on_from.0 one.0 on_from.2, on_from.3)
+    ]
+
+-- where nobody is inside and the gate is open, every thread is outside
+all_out : (c : Config) (traces : List (List Command)) (r : Run) → Kept c traces r → IsQuiet c r
+    → (u : ℕ) → u < c.threads → is_outside (gates_in c r.state u).stand ≡ true
+all_out c traces r kept quiet u ul =
+    let inside = total_part c.threads (λ v. bit (is_inside (gates_in c r.state v).stand)) u ul in
+    let closing = total_part c.threads (λ v. bit (is_closing (gates_in c r.state v).stand)) u ul in
+    let none : bit (is_closed (heap_in c r.state Phase)) ≡ 0 = ap bit quiet.opened in
+    ap is_outside (stand_out (gates_in c r.state u).stand
+    (omega (arith, inside, kept.gate.count, quiet.nobody))
+    (omega (arith, closing, kept.gate.closers, none)))
+
+-- the first price is within the bound
+serves_in : (e : Terms) (u b : ℕ) (sweep ready : Bool) → e.allocates ≡ false → e.most ≤ b + 61
+    → at_look e u 0 sweep ready ≤ other_bound b
+serves_in e u b sweep ready none few = rw none (omega arith)
+
+priced : (c : Config) (rate : ℕ) (k : Command) (owing : ℕ) (sweep ready : Bool)
+    → owing ≡ units_owed c.width rate k
+    → at_look (terms_of c k) (unit c) owing sweep ready ≤ command_bound c rate k
+priced c rate k owing sweep ready is = elim (cases_Bool (makes_object k)) [
+  | inl makes ↦
+      let low = wide c.width in
+      let bound : command_bound c rate k ≡ allocation_bound c.threads (blocks_of c.width k) rate =
+          rw makes refl in
+      subst (λ n. at_look (terms_of c k) (unit c) owing sweep ready ≤ n) (sym bound)
+      (subst (λ d. at_look (terms_of c k) (unit c) d sweep ready
+      ≤ allocation_bound c.threads (blocks_of c.width k) rate) (sym is)
+      (within (terms_of c k) rate sweep ready low.0 low.1 makes))
+  | inr serves ↦
+      let bound : command_bound c rate k ≡ other_bound c.object = rw serves refl in
+      let none : units_owed c.width rate k ≡ rate * 0 =
+          ap (λ n. rate * n) (others_have_none c.width k serves) in
+      let few = fields_low c k in
+      subst (λ n. at_look (terms_of c k) (unit c) owing sweep ready ≤ n) (sym bound)
+      (subst (λ d. at_look (terms_of c k) (unit c) d sweep ready ≤ other_bound c.object)
+      (let z : owing ≡ 0 = omega (arith, is, none) in sym z)
+      (serves_in (terms_of c k) (unit c) c.object sweep ready serves (omega arith)))
+]
+
+pub lone_ends : (c : Config) (traces : List (List Command)) (job : IsJob c traces) (r : Run)
+    (t rate : ℕ) → Kept c traces r → IsRate c rate → IsQuiet c r → t < c.threads
+    → HasCommand (local_in c r t)
+    → EndsWithin c t r (command_bound c rate (command_of (local_in c r t)))
+lone_ends c traces job r t rate kept planned quiet tl has =
+    let l : LocalState = local_at c r.state t in
+    let k : Command = command_of l in
+    let at : l.part ≡ Rest = rest_is l.part has.rest in
+    let same : length l.trace ≡ length (get_or traces t []) = ap length (kept.locals t tl).trace in
+    let left_some : length l.log < length (get_or traces t []) = (let low = has.left in omega arith) in
+    let command : get_or (get_or traces t []) (length l.log) (commands.Nil 0) ≡ k =
+        ap (λ x. get_or x (length l.log) (commands.Nil 0)) (sym (kept.locals t tl).trace) in
+    let settled : IsSettled (owed l) l.paid Rest =
+        subst (λ p. IsSettled (owed l) l.paid p) at (kept.locals t tl).settled in
+    let lone : LoneRun c traces job rate planned t tl l.log k r = record {
+      kept = kept;
+      others = λ u ul ne. all_out c traces r kept quiet u ul;
+      own = record {
+        knows = subst (λ p. LoneKnows c (heap_in c r.state) t l.pass (units_owed c.width rate k) l.paid p) (sym at) tt;
+        log = subst (λ p. LogAt c traces job rate planned t tl l.log k l.log p) (sym at)
+            (λ on. refl, λ out. absurd (let z : false ≡ true = out in cc));
+      };
+    } in
+    let first : left (terms_of c k) (unit c) (lone_of c (heap_in c r.state) t (units_owed c.width rate k - l.paid) l.part) ≤ command_bound c rate k =
+        subst (λ p. left (terms_of c k) (unit c) (lone_of c (heap_in c r.state) t (units_owed c.width rate k - l.paid) p) ≤ command_bound c rate k) (sym at)
+        (priced c rate k (units_owed c.width rate k - l.paid) _ _ (omega arith)) in
+    let ends_in = ends c traces job rate planned t tl l.log k left_some command (command_bound c rate k) r lone first in
+    record {
+      turns = ends_in.0;
+      few = ends_in.1;
+      went = ends_in.2;
+      rest = ends_in.3.rest;
+      entry = ends_in.3.entry;
+      log = ends_in.3.log;
+      command = ends_in.3.command;
+      quiet = ends_in.3.quiet;
+    }

@@ -1,5 +1,9 @@
-use Rattle.heap_system.proofs.alone.Runs.{alone}
+use Rattle.heap_system.proofs.Always.{run_kept}
+use Rattle.heap_system.proofs.LawsOf.{laws_of}
+use Rattle.heap_system.proofs.alone.Runs.{lone_ends}
 use Rattle.heap_system.proofs.progress.a_lone_thread_ends_its_command.Goals as goal
 
 pub returns : goal.returns
-returns c = ?
+returns _ c r t rate is planned quiet low has =
+    lone_ends c is.traces is.job r t rate
+    (run_kept c is.traces (laws_of c) is.job is.turns r is.by_turns) planned quiet low has
