@@ -10,6 +10,7 @@ mod lone;
 mod progress;
 #[cfg(test)]
 mod schedules;
+mod serial;
 mod start;
 mod system;
 #[cfg(test)]
@@ -32,6 +33,7 @@ pub use laws::{
 };
 pub use local::Local;
 pub use progress::a_lone_thread_ends_its_command;
+pub use serial::{a_single_thread_ends_its_job, serial_turns_end};
 pub use start::opening;
 pub use system::{Finished, System, Unfinished, sum_of_works};
 

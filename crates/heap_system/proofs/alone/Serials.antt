@@ -1,30 +1,27 @@
 -- One thread after the other: each ends its commands within their bounds, so all are done.
-use Rattle.std.proofs.Common.{◌≡◌, ℕ, zero, suc, ◌+◌, ◌-◌, ◌≤◌, ◌<◌, ◌⊎◌, inl, inr, Bool, true, false, not, cond, ◌&&◌, eqb, ltb, eq-eqb, ne_eqb, lt-ltb, le-ltb, List, [], ◌∷◌, ◌++◌, length, get_or, replicate, length-append, refl, sym, ap, ◌∙◌, subst, arith}
+use Rattle.std.proofs.Common.{◌≡◌, ℕ, zero, suc, ◌+◌, ◌≤◌, ◌<◌, ◌⊎◌, inl, inr, true, false, cond, ◌&&◌, eqb, eq-eqb, ne_eqb, le-ltb, List, [], ◌∷◌, ◌++◌, length, get_or, replicate, length-append, refl, sym, ap, ◌∙◌, subst, arith}
 use Rattle.std.proofs.lemmas.Bool.{cases_eq, cases_lt, cases_Bool}
-use Rattle.std.proofs.lemmas.List.{get_or-set_other}
+use Rattle.std.proofs.lemmas.List.{get_or-set_other, length-replicate}
 use Rattle.block_store.specs.declared.Config.{Config}
 use Rattle.block_store.specs.Counts.{changed, times, total}
-use Rattle.block_store.specs.Phases.{bit, inside_of, is_closed}
-use Rattle.block_store.specs.Places.{Phase}
-use Rattle.block_store.proofs.Functions.{bit_zero, total_changed, total_none, total_part, total_same}
+use Rattle.block_store.specs.Phases.{bit}
+use Rattle.block_store.proofs.Functions.{bit_zero, total_changed, total_none, total_same}
 use Rattle.rate_plan.specs.Rates.{IsRate}
 use Rattle.never_heap.specs.declared.Command.{Command}
 use Rattle.never_heap.specs.declared.Command.TheVariants as commands
-use Rattle.never_heap.specs.declared.Entry.{Entry}
 use Rattle.heap_machine.specs.Gating.{is_inside, is_closing}
-use Rattle.heap_system.specs.declared.local.Part.{Part}
 use Rattle.heap_system.specs.declared.local.Part.TheVariants.{Rest}
 use Rattle.heap_system.specs.declared.Turn.TheVariants.{Went, Done}
 use Rattle.heap_system.specs.Alone.{IsQuiet, HasCommand, EndsWithin, after_alone, command_bound}
-use Rattle.heap_system.specs.Locals.{LocalState, command_of, is_done, is_rest, at_start, turn_of}
-use Rattle.heap_system.specs.Machines.{State, Run, no_local, local_at, local_in, heap_in, has_event, event_done, turned, answer, next, next_effect, after_turns, starts_from, IsOpening, IsJob, opened, IsRunOf, IsAfterTurns}
+use Rattle.heap_system.specs.Locals.{LocalState, command_of, is_done, is_rest, turn_of}
+use Rattle.heap_system.specs.Machines.{State, Run, no_local, local_at, local_in, has_event, event_done, turned, answer, next, next_effect, after_turns, starts_from, IsOpening, IsJob, opened, IsRunOf}
 use Rattle.heap_system.specs.Pictures.{stand_of}
 use Rattle.heap_system.specs.Serials.{IsLeast, IsSerial, trace_bound, job_bound}
 use Rattle.heap_system.proofs.Always.{run_kept}
 use Rattle.heap_system.proofs.Kept.{Kept}
 use Rattle.heap_system.proofs.LawsOf.{laws_of}
-use Rattle.heap_system.proofs.Reached.{rest_is}
 use Rattle.heap_system.proofs.Waiting.{done_stays}
+use Rattle.heap_system.proofs.alone.Runs.{lone_ends}
 
 -- the bounds of the commands of a trace from the n-th on
 abbrev bound_from : Config → ℕ → ℕ → List Command → ℕ
@@ -113,8 +110,7 @@ has_command l rest going low = record {
   ];
 }
 
-module _ (c : Config) (traces : List (List Command)) (job : IsJob c traces) (rate : ℕ)
-    (lone_ends : (r : Run) (t : ℕ) → IsAfterTurns c r → IsQuiet c r → t < c.threads → HasCommand (local_in c r t) → EndsWithin c t r (command_bound c rate (command_of (local_in c r t)))) where
+module _ (c : Config) (traces : List (List Command)) (job : IsJob c traces) (rate : ℕ) (planned : IsRate c rate) where
   kept_of : (r : Run) (ts : List ℕ) → IsRunOf c traces ts r → Kept c traces r
   kept_of r ts is = run_kept c traces (laws_of c) job ts r is
 
@@ -133,7 +129,7 @@ module _ (c : Config) (traces : List (List Command)) (job : IsJob c traces) (rat
     bound = command_bound c rate (command_of l)
 
     ends : EndsWithin c t r bound
-    ends = lone_ends r t (record { traces = traces; job = job; turns = at.turns; by_turns = at.run }) at.quiet tl command
+    ends = lone_ends c traces job r t rate kept planned at.quiet tl command
 
     abbrev after : EndsWithin c t r bound → Run
     after e = after_alone c t r e.turns
@@ -200,3 +196,115 @@ module _ (c : Config) (traces : List (List Command)) (job : IsJob c traces) (rat
             let rest = few_turns fuel (after_alone c t r e.turns) more.rest (omega (arith, short, more.long, some)) (rests r at t least.low least.going e) more.serial in
             omega (arith, more.long, rest, e.few, less)
       ]
+
+-- a thread of an opening: at rest, with nothing in its log
+record IsFresh (l : LocalState) (given : List Command) : Type 0 where
+  rest : l.part ≡ Rest
+  log : l.log ≡ []
+  trace : l.trace ≡ given
+
+fresh_at : (c : Config) (rate : ℕ) (space : ℕ → ℕ) (t i : ℕ) (traces : List (List Command)) → i < length traces → IsFresh (get_or (starts_from c rate space t traces) i (no_local c)) (get_or traces i [])
+fresh_at c rate space t i [] low = absurd (omega arith)
+fresh_at c rate space t zero (trace ∷ traces) low = record { rest = refl; log = refl; trace = refl }
+fresh_at c rate space t (suc i) (trace ∷ traces) low = fresh_at c rate space (t + 1) i traces (omega arith)
+
+module _ (c : Config) (traces : List (List Command)) (first : State) (job : IsJob c traces) (start : IsOpening c traces first) where
+  fresh : (t : ℕ) → t < c.threads → IsFresh (local_at c first t) (get_or traces t [])
+  fresh t low = subst (λ ls. IsFresh (get_or ls t (no_local c)) (get_or traces t [])) (sym start.locals) (fresh_at c start.rate start.space 0 t traces (omega (arith, job.bounds.threads, low)))
+
+  opens : IsRunOf c traces [] (opened c first)
+  opens = record { first = first; opening = start; turns = refl }
+
+  quiet : IsQuiet c (opened c first)
+  quiet =
+      let kept = run_kept c traces (laws_of c) job [] (opened c first) opens in
+      record {
+        nobody = sym kept.gate.count ∙ total_none c.threads _ (λ t tl. ap (λ p. bit (is_inside (stand_of c p))) (fresh t tl).rest);
+        opened = bit_zero _ (sym kept.gate.closers ∙ total_none c.threads _ (λ t tl. ap (λ p. bit (is_closing (stand_of c p))) (fresh t tl).rest));
+      }
+
+  resting : Resting c traces (opened c first)
+  resting = record { turns = []; run = opens; quiet = quiet; rest = λ t tl. ap is_rest (fresh t tl).rest }
+
+  all_is : (rate : ℕ) → all_left c rate first ≡ job_bound c rate traces
+  all_is rate = total_same c.threads _ _ (λ t tl. ap (λ n. bound_from c rate n (local_at c first t).trace) (ap length (fresh t tl).log) ∙ ap (trace_bound c rate) (fresh t tl).trace)
+
+  -- a serial list of turns from an opening is within the bound
+  pub serial_few : (rate : ℕ) → IsRate c rate → (ts : List ℕ) → IsSerial c first ts → length ts ≤ job_bound c rate traces
+  serial_few rate planned ts serial = omega (arith, few_turns c traces job rate planned (length ts) (opened c first) ts (omega arith) resting serial, all_is rate)
+
+-- all of the first n threads are done, or there is a least one that is not
+least_of : (c : Config) (s : State) (n : ℕ) → n ≤ c.threads → ((u : ℕ) → u < n → is_done (local_at c s u) ≡ true) ⊎ ((u : ℕ) × IsLeast c s u)
+least_of c s zero low = inl (λ u ul. absurd (omega arith))
+least_of c s (suc n) low = elim (least_of c s n (omega arith)) [
+  | inl below ↦ elim (cases_Bool (is_done (local_at c s n))) [
+    | inl done ↦ inl (λ u ul. elim (cases_eq u n) [
+      | inl e ↦ ap (λ v. is_done (local_at c s v)) e ∙ done
+      | inr ne ↦ below u (omega arith)
+    ])
+    | inr going ↦ inr (n, record { low = omega arith; going = going; below = below })
+  ]
+  | inr found ↦ inr found
+]
+
+serial_more : (c : Config) (r : Run) (ts : List ℕ) (u : ℕ) → IsSerial c r.state ts → IsLeast c (after_turns c r ts).state u → IsSerial c r.state (ts ++ u ∷ [])
+serial_more c r [] u serial least = (least, tt)
+serial_more c r (t ∷ ts) u serial least = (serial.0, serial_more c (next c t r) ts u serial.1 least)
+
+-- and after as many turns as the bound all threads are done
+pub serial_ends : (c : Config) (traces : List (List Command)) (first : State) (rate : ℕ) → IsJob c traces → IsOpening c traces first → IsRate c rate → (ts : List ℕ) → IsSerial c first ts → job_bound c rate traces ≤ length ts
+    → (t : ℕ) → t < c.threads → is_done (local_in c (after_turns c (opened c first) ts) t) ≡ true
+serial_ends c traces first rate job start planned ts serial long t low =
+    elim (least_of c (after_turns c (opened c first) ts).state c.threads (omega arith)) [
+      | inl done ↦ done t low
+      | inr least ↦ absurd (omega (
+        arith,
+        long,
+        length-append ts (least.0 ∷ []),
+        serial_few c traces first job start rate planned (ts ++ least.0 ∷ []) (serial_more c (opened c first) ts least.0 serial least.1),
+      ))
+    ]
+
+-- where there is one thread
+module _ (c : Config) (one : c.threads ≡ 1) where
+  -- what another number names has no event
+  nobody_else : (u : ℕ) (s : State) → (0 ≡ u → ⊥) → turned c u s ≡ s
+  nobody_else u s other = (let none : has_event c u s ≡ false = rw (le-ltb u c.threads (omega arith)) refl in ap (λ b. cond b (event_done c u s) s) none)
+
+  done_on : (ts : List ℕ) (r : Run) → is_done (local_at c r.state 0) ≡ true → is_done (local_at c (after_turns c r ts).state 0) ≡ true
+  done_on [] r done = done
+  done_on (u ∷ us) r done = done_on us (next c u r) (elim (cases_eq 0 u) [
+    | inl e ↦ subst (λ v. is_done (local_at c (turned c v r.state) 0) ≡ true) e (ap (λ s. is_done (local_at c s 0)) (done_stays c 0 r.state done) ∙ done)
+    | inr ne ↦ ap (λ s. is_done (local_at c s 0)) (nobody_else u r.state ne) ∙ done
+  ])
+
+  at_start_going : (ts : List ℕ) (r : Run) → is_done (local_at c (after_turns c r ts).state 0) ≡ false → is_done (local_at c r.state 0) ≡ false
+  at_start_going ts r going = elim (cases_Bool (is_done (local_at c r.state 0))) [
+    | inl done ↦ absurd (let z : true ≡ false = sym (done_on ts r done) ∙ going in cc)
+    | inr still ↦ still
+  ]
+
+  is_least : (s : State) → is_done (local_at c s 0) ≡ false → IsLeast c s 0
+  is_least s going = record { low = omega (arith, one); going = going; below = λ u ul. absurd (omega arith) }
+
+  -- its turns, and one more, are a serial list while it is not done
+  own_serial : (ts : List ℕ) (r : Run) → is_done (local_at c (after_turns c r ts).state 0) ≡ false → IsSerial c r.state (replicate (suc (times 0 ts)) 0)
+  own_serial [] r going = (is_least r.state going, tt)
+  own_serial (u ∷ us) r going =
+      let rest = own_serial us (next c u r) going in
+      elim (cases_eq 0 u) [
+        | inl e ↦
+            let more : times 0 (u ∷ us) ≡ suc (times 0 us) = (let b : bit (eqb 0 u) ≡ 1 = ap bit (eq-eqb 0 u e) in omega (arith, b)) in
+            subst (λ n. IsSerial c r.state (replicate (suc n) 0)) (sym more)
+            (is_least r.state (at_start_going (u ∷ us) r going), subst (λ v. IsSerial c (turned c v r.state) (replicate (suc (times 0 us)) 0)) (sym e) rest)
+        | inr ne ↦
+            let same : times 0 (u ∷ us) ≡ times 0 us = (let b : bit (eqb 0 u) ≡ 0 = ap bit (ne_eqb 0 u ne) in omega (arith, b)) in
+            subst (λ n. IsSerial c r.state (replicate (suc n) 0)) (sym same)
+            (subst (λ s. IsSerial c s (replicate (suc (times 0 us)) 0)) (nobody_else u r.state ne) rest)
+      ]
+
+  -- so it had fewer than the bound
+  pub single_few : (traces : List (List Command)) (first : State) (rate : ℕ) → IsJob c traces → IsOpening c traces first → IsRate c rate → (ts : List ℕ) → is_done (local_in c (after_turns c (opened c first) ts) 0) ≡ false → times 0 ts < job_bound c rate traces
+  single_few traces first rate job start planned ts going =
+      let nought : ℕ = 0 in
+      omega (arith, length-replicate (suc (times 0 ts)) nought, serial_few c traces first job start rate planned (replicate (suc (times 0 ts)) 0) (own_serial ts (opened c first) going))
