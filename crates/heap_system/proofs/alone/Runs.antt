@@ -75,17 +75,17 @@ out_is p is = absurd (let z : false ≡ true = is in cc)
 -- thread t in command k, with this log before it
 module _ (c : Config) (traces : List (List Command)) (job : IsJob c traces) (rate : ℕ)
     (planned : IsRate c rate) (t : ℕ) (tl : t < c.threads) (old : List Entry) (k : Command) where
-  abbrev e : Terms
+  abbrev pub e : Terms
   e = terms_of c k
 
-  abbrev due : ℕ
+  abbrev pub due : ℕ
   due = units_owed c.width rate k
 
   abbrev price : Heap → LocalState → ℕ
   price h l = left e (unit c) (lone_of c h t (due - l.paid) l.part)
 
   -- the log has the entry once the thread goes out
-  abbrev LogAt : List Entry → Part → Type 0
+  abbrev pub LogAt : List Entry → Part → Type 0
   LogAt log p =
       (is_out p ≡ false → log ≡ old)
       × (is_out p ≡ true → (x : Entry) × (log ≡ old ++ x ∷ []) × (x.command ≡ k))
@@ -134,13 +134,13 @@ module _ (c : Config) (traces : List (List Command)) (job : IsJob c traces) (rat
   module _ (left_some : length old < length (get_or traces t []))
       (command : get_or (get_or traces t []) (length old) (commands.Nil 0) ≡ k)
       (r : Run) (lone : LoneRun r) where
-    abbrev l : LocalState
+    abbrev pub l : LocalState
     l = local_at c r.state t
 
-    abbrev h : Heap
+    abbrev pub h : Heap
     h = heap_in c r.state
 
-    abbrev s : Seen c
+    abbrev pub s : Seen c
     s = seen c traces (laws_of c) job.bounds.config job.plan r lone.kept t tl
 
     pub alone : Alone c s
@@ -149,7 +149,7 @@ module _ (c : Config) (traces : List (List Command)) (job : IsJob c traces) (rat
       low = order_records c traces job.bounds.config job.plan r lone.kept;
     }
 
-    here : is_out l.part ≡ false → command_of l ≡ k
+    pub here : is_out l.part ≡ false → command_of l ≡ k
     here on =
         (λ i. get_or ((lone.kept.locals t tl).trace i) (length (lone.own.log.0 on i)) (commands.Nil 0))
         ∙ command
@@ -160,11 +160,11 @@ module _ (c : Config) (traces : List (List Command)) (job : IsJob c traces) (rat
         (subst (λ x. IsRate x l.rate) (lone.kept.locals t tl).config (lone.kept.locals t tl).fits.rate)
         planned
 
-    due_is : is_out l.part ≡ false → owed l ≡ due
+    pub due_is : is_out l.part ≡ false → owed l ≡ due
     due_is on =
         λ i. units_owed ((lone.kept.locals t tl).config i).width (rate_is i) (here on i)
 
-    going : is_done l ≡ false
+    pub going : is_done l ≡ false
     going = not_done l.part (length l.log) (length l.trace) (λ rest.
         (let log : length l.log ≡ length old = ap length (lone.own.log.0 (rest_stays l.part rest)) in
         let trace : length l.trace ≡ length (get_or traces t []) = ap length (lone.kept.locals t tl).trace in
@@ -177,22 +177,22 @@ module _ (c : Config) (traces : List (List Command)) (job : IsJob c traces) (rat
         (event c traces (laws_of c) job.bounds.config job.plan r lone.kept t tl going)
         (subst (λ d. LoneKnows c h t l.pass d l.paid l.part) (sym (due_is on)) lone.own.knows)
 
-    abbrev later : Run
+    abbrev pub later : Run
     later = new_run c traces (laws_of c) job.bounds.config job.plan r lone.kept t tl
 
-    abbrev moved : LocalState
+    abbrev pub moved : LocalState
     moved = new_local c traces (laws_of c) job.bounds.config job.plan r lone.kept t tl
 
-    abbrev after : Heap
+    abbrev pub after : Heap
     after = new_heap c traces (laws_of c) job.bounds.config job.plan r lone.kept t tl
 
-    own_is : local_at c later.state t ≡ moved
+    pub own_is : local_at c later.state t ≡ moved
     own_is =
         local_new c traces (laws_of c) job.bounds.config job.plan r lone.kept t tl going t
         ∙ ap (λ b. cond b moved l) (eq-eqb t t refl)
 
     -- what holds of the thread after its event holds of the run
-    carry : (P : Heap → LocalState → Type 0) → P after moved
+    pub carry : (P : Heap → LocalState → Type 0) → P after moved
         → P (heap_in c later.state) (local_at c later.state t)
     carry P x =
         subst (λ y. P y (local_at c later.state t))
@@ -227,7 +227,7 @@ module _ (c : Config) (traces : List (List Command)) (job : IsJob c traces) (rat
             moved.part (step on).out (lone.own.log.0 on) (here on);
       }
 
-      moves : Moves e (spot_of c l.part) (lone_of c h t (due - l.paid) l.part)
+      pub moves : Moves e (spot_of c l.part) (lone_of c h t (due - l.paid) l.part)
           (lone_of c after t (due - moved.paid) moved.part)
       moves =
           subst (λ d. Moves e (spot_of c l.part) (lone_of c h t (d - l.paid) l.part)
@@ -365,40 +365,69 @@ priced c rate k owing sweep ready is = elim (cases_Bool (makes_object k)) [
       (serves_in (terms_of c k) (unit c) c.object sweep ready serves (omega arith)))
 ]
 
-pub lone_ends : (c : Config) (traces : List (List Command)) (job : IsJob c traces) (r : Run)
-    (t rate : ℕ) → Kept c traces r → IsRate c rate → IsQuiet c r → t < c.threads
-    → HasCommand (local_in c r t)
-    → EndsWithin c t r (command_bound c rate (command_of (local_in c r t)))
-lone_ends c traces job r t rate kept planned quiet tl has =
-    let l : LocalState = local_at c r.state t in
-    let k : Command = command_of l in
-    let at : l.part ≡ Rest = rest_is l.part has.rest in
-    let same : length l.trace ≡ length (get_or traces t []) = ap length (kept.locals t tl).trace in
-    let left_some : length l.log < length (get_or traces t []) = (let low = has.left in omega arith) in
-    let command : get_or (get_or traces t []) (length l.log) (commands.Nil 0) ≡ k =
-        ap (λ x. get_or x (length l.log) (commands.Nil 0)) (sym (kept.locals t tl).trace) in
-    let settled : IsSettled (owed l) l.paid Rest =
-        subst (λ p. IsSettled (owed l) l.paid p) at (kept.locals t tl).settled in
-    let lone : LoneRun c traces job rate planned t tl l.log k r = record {
-      kept = kept;
-      others = λ u ul ne. all_out c traces r kept quiet u ul;
-      own = record {
-        knows = subst (λ p. LoneKnows c (heap_in c r.state) t l.pass (units_owed c.width rate k) l.paid p) (sym at) tt;
-        log = subst (λ p. LogAt c traces job rate planned t tl l.log k l.log p) (sym at)
-            (λ on. refl, λ out. absurd (let z : false ≡ true = out in cc));
-      };
-    } in
-    let first : left (terms_of c k) (unit c) (lone_of c (heap_in c r.state) t (units_owed c.width rate k - l.paid) l.part) ≤ command_bound c rate k =
-        subst (λ p. left (terms_of c k) (unit c) (lone_of c (heap_in c r.state) t (units_owed c.width rate k - l.paid) p) ≤ command_bound c rate k) (sym at)
-        (priced c rate k (units_owed c.width rate k - l.paid) _ _ (omega arith)) in
-    let ends_in = ends c traces job rate planned t tl l.log k left_some command (command_bound c rate k) r lone first in
-    record {
-      turns = ends_in.0;
-      few = ends_in.1;
-      went = ends_in.2;
-      rest = ends_in.3.rest;
-      entry = ends_in.3.entry;
-      log = ends_in.3.log;
-      command = ends_in.3.command;
-      quiet = ends_in.3.quiet;
-    }
+-- at rest with a command left, where nobody is inside and the gate is open
+module _ (c : Config) (traces : List (List Command)) (job : IsJob c traces) (rate : ℕ)
+    (planned : IsRate c rate) (t : ℕ) (tl : t < c.threads) (r : Run) (kept : Kept c traces r)
+    (quiet : IsQuiet c r) (has : HasCommand (local_in c r t)) where
+  abbrev pub first : LocalState
+  first = local_at c r.state t
+
+  pub at_rest : first.part ≡ Rest
+  at_rest = rest_is first.part has.rest
+
+  pub begins : LoneRun c traces job rate planned t tl first.log (command_of first) r
+  begins = record {
+    kept = kept;
+    others = λ u ul ne. all_out c traces r kept quiet u ul;
+    own = record {
+      knows = subst (λ p. LoneKnows c (heap_in c r.state) t first.pass
+          (units_owed c.width rate (command_of first)) first.paid p) (sym at_rest) tt;
+      log = subst (λ p. LogAt c traces job rate planned t tl first.log (command_of first)
+          first.log p) (sym at_rest)
+          (λ on. refl, λ out. absurd (let z : false ≡ true = out in cc));
+    };
+  }
+
+  pub some_left : length first.log < length (get_or traces t [])
+  some_left =
+      let same : length first.trace ≡ length (get_or traces t []) =
+          ap length (kept.locals t tl).trace in
+      let low = has.left in omega arith
+
+  pub command_is : get_or (get_or traces t []) (length first.log) (commands.Nil 0) ≡ command_of first
+  command_is =
+      ap (λ x. get_or x (length first.log) (commands.Nil 0)) (sym (kept.locals t tl).trace)
+
+  -- nothing is paid
+  none_paid : first.paid ≡ 0
+  none_paid =
+      let settled : IsSettled (owed first) first.paid Rest =
+          subst (λ p. IsSettled (owed first) first.paid p) at_rest (kept.locals t tl).settled in
+      settled
+
+  first_price : left (terms_of c (command_of first)) (unit c)
+      (lone_of c (heap_in c r.state) t (units_owed c.width rate (command_of first) - first.paid)
+      first.part) ≤ command_bound c rate (command_of first)
+  first_price =
+      let none = none_paid in
+      subst (λ p. left (terms_of c (command_of first)) (unit c)
+      (lone_of c (heap_in c r.state) t (units_owed c.width rate (command_of first) - first.paid) p)
+      ≤ command_bound c rate (command_of first)) (sym at_rest)
+      (priced c rate (command_of first)
+      (units_owed c.width rate (command_of first) - first.paid) _ _ (omega arith))
+
+  pub lone_ends : EndsWithin c t r (command_bound c rate (command_of (local_in c r t)))
+  lone_ends =
+      let ended =
+          ends c traces job rate planned t tl first.log (command_of first) some_left command_is
+          (command_bound c rate (command_of first)) r begins first_price in
+      record {
+        turns = ended.0;
+        few = ended.1;
+        went = ended.2;
+        rest = ended.3.rest;
+        entry = ended.3.entry;
+        log = ended.3.log;
+        command = ended.3.command;
+        quiet = ended.3.quiet;
+      }

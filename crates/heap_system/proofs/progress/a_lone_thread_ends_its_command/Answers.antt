@@ -5,5 +5,5 @@ use Rattle.heap_system.proofs.progress.a_lone_thread_ends_its_command.Goals as g
 
 pub returns : goal.returns
 returns _ c r t rate is planned quiet low has =
-    lone_ends c is.traces is.job r t rate
-    (run_kept c is.traces (laws_of c) is.job is.turns r is.by_turns) planned quiet low has
+    lone_ends c is.traces is.job rate planned t low r
+    (run_kept c is.traces (laws_of c) is.job is.turns r is.by_turns) quiet has
