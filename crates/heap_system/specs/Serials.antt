@@ -1,23 +1,17 @@
 -- One thread after the other: lists of turns in which each turn is of the least thread that is not
 -- done, and how many turns a job takes then at most.
-use Rattle.std.specs.Prelude.{ℕ, ◌+◌, ◌<◌, ◌≡◌, true, false, List, [], ◌∷◌, slice_index_or}
+use Rattle.std.specs.Prelude.{ℕ, ◌+◌, List, [], ◌∷◌, slice_index_or}
 use Rattle.block_store.specs.declared.Config.{Config}
 use Rattle.block_store.specs.Counts.{total}
 use Rattle.never_heap.specs.declared.Command.{Command}
 use Rattle.heap_system.specs.Alone.{command_bound}
-use Rattle.heap_system.specs.Locals.{is_done}
-use Rattle.heap_system.specs.Machines.{State, local_at, turned}
+use Rattle.heap_system.specs.Machines.{State, turned}
+use Rattle.heap_system.specs.Systems.{IsLeastUndone}
 
--- thread t is the least that is not done
-pub record IsLeast (c : Config) (s : State) (t : ℕ) : Type 0 where
-  pub low : t < c.threads
-  pub going : is_done (local_at c s t) ≡ false
-  pub below : (u : ℕ) → u < t → is_done (local_at c s u) ≡ true
-
--- each turn, from a state on, is of that thread
+-- each turn, from a state on, is of the least thread that is not done
 abbrev pub IsSerial : Config → State → List ℕ → Type 0
 IsSerial c s [] = Unit {0}
-IsSerial c s (t ∷ ts) = IsLeast c s t × IsSerial c (turned c t s) ts
+IsSerial c s (t ∷ ts) = IsLeastUndone c s t × IsSerial c (turned c t s) ts
 
 -- the sum of the bounds of all commands, at this rate: of a trace, and of a job
 abbrev pub trace_bound : Config → ℕ → List Command → ℕ

@@ -1,13 +1,14 @@
 //! How many turns a job takes where one thread has them after the other, and where there is one
 //! thread: each law is the contract of a function that does nothing.
 
-ghost use Rattle.std.specs.Prelude.{ℕ, List, length, ◌<◌, ◌≤◌, ◌≡◌, true, false};
+ghost use Rattle.std.specs.Prelude.{ℕ, List, length, ◌<◌, ◌≤◌, ◌≡◌, false};
 ghost use Rattle.block_store.specs.declared.Config.{Config};
 ghost use Rattle.block_store.specs.Counts.{times};
 ghost use Rattle.rate_plan.specs.Rates.{IsRate};
 ghost use Rattle.never_heap.specs.declared.Command.{Command};
 ghost use Rattle.heap_system.specs.Locals.{is_done};
 ghost use Rattle.heap_system.specs.Machines.{State, Run, IsJob, IsOpening, opened, after_turns, local_in};
+ghost use Rattle.heap_system.specs.Systems.{AllDone};
 ghost use Rattle.heap_system.specs.Serials.{IsSerial, job_bound};
 
 /// Where from an opening on each turn is of the least thread that is not done, there are at most
@@ -20,8 +21,7 @@ pub fn serial_turns_end()
     ensures ends { (c : Config) (traces : List (List Command)) (first : State) (rate : ℕ)
         → IsJob c traces → IsOpening c traces first → IsRate c rate
         → (ts : List ℕ) → IsSerial c first ts → job_bound c rate traces ≤ length ts
-        → (t : ℕ) → t < c.threads
-        → is_done (local_in c (after_turns c (opened c first) ts) t) ≡ true }
+        → AllDone c (after_turns c (opened c first) ts).state }
 {}
 
 /// Where a job has one thread, that thread is done after as many turns as the bounds of all its

@@ -16,7 +16,8 @@ use Rattle.heap_system.specs.Alone.{IsQuiet, HasCommand, EndsWithin, after_alone
 use Rattle.heap_system.specs.Locals.{LocalState, command_of, is_done, is_rest, turn_of}
 use Rattle.heap_system.specs.Machines.{State, Run, no_local, local_at, local_in, has_event, event_done, turned, answer, next, next_effect, after_turns, starts_from, IsOpening, IsJob, opened, IsRunOf}
 use Rattle.heap_system.specs.Pictures.{stand_of}
-use Rattle.heap_system.specs.Serials.{IsLeast, IsSerial, trace_bound, job_bound}
+use Rattle.heap_system.specs.Serials.{IsSerial, trace_bound, job_bound}
+use Rattle.heap_system.specs.Systems.{AllDone, IsLeastUndone}
 use Rattle.heap_system.proofs.Always.{run_kept}
 use Rattle.heap_system.proofs.Kept.{Kept}
 use Rattle.heap_system.proofs.LawsOf.{laws_of}
@@ -59,12 +60,12 @@ went_on c t s went = elim (cases_Bool (is_done (local_at c s t))) [
 ]
 
 -- there is one least thread that is not done
-one_least : (c : Config) (s : State) (t u : ℕ) → IsLeast c s t → is_done (local_at c s u) ≡ false → ((v : ℕ) → v < u → is_done (local_at c s v) ≡ true) → t ≡ u
+one_least : (c : Config) (s : State) (t u : ℕ) → IsLeastUndone c s t → is_done (local_at c s u) ≡ false → ((v : ℕ) → v < u → is_done (local_at c s v) ≡ true) → t ≡ u
 one_least c s t u least going below = elim (cases_eq t u) [
   | inl e ↦ e
   | inr ne ↦ elim (cases_lt t u) [
-    | inl low ↦ absurd (let z : true ≡ false = sym (below t low) ∙ least.going in cc)
-    | inr high ↦ absurd (let z : true ≡ false = sym (least.below u (omega arith)) ∙ going in cc)
+    | inl low ↦ absurd (let z : true ≡ false = sym (below t low) ∙ least.undone in cc)
+    | inr high ↦ absurd (let z : true ≡ false = sym (least.least u (omega arith)) ∙ going in cc)
   ]
 ]
 
@@ -129,7 +130,7 @@ module _ (c : Config) (traces : List (List Command)) (job : IsJob c traces) (rat
     bound = command_bound c rate (command_of l)
 
     ends : EndsWithin c t r bound
-    ends = lone_ends c traces job r t rate kept planned at.quiet tl command
+    ends = lone_ends c traces job rate planned t tl r kept at.quiet command
 
     abbrev after : EndsWithin c t r bound → Run
     after e = after_alone c t r e.turns
@@ -187,13 +188,13 @@ module _ (c : Config) (traces : List (List Command)) (job : IsJob c traces) (rat
   few_turns zero r (t ∷ ts) short at serial = absurd (omega (arith, short))
   few_turns (suc fuel) r (t ∷ ts) short at serial =
       let least = serial.0 in
-      let e = ends r at t least.low least.going in
-      let less = all_less r at t least.low least.going e in
-      elim (splits c t e.turns r (t ∷ ts) least.low e.went least.below serial) [
+      let e = ends r at t least.there least.undone in
+      let less = all_less r at t least.there least.undone e in
+      elim (splits c t e.turns r (t ∷ ts) least.there e.went least.least serial) [
         | inl few ↦ omega (arith, few, e.few, less)
         | inr more ↦
-            let some = some_turns r at t least.low least.going e in
-            let rest = few_turns fuel (after_alone c t r e.turns) more.rest (omega (arith, short, more.long, some)) (rests r at t least.low least.going e) more.serial in
+            let some = some_turns r at t least.there least.undone e in
+            let rest = few_turns fuel (after_alone c t r e.turns) more.rest (omega (arith, short, more.long, some)) (rests r at t least.there least.undone e) more.serial in
             omega (arith, more.long, rest, e.few, less)
       ]
 
@@ -234,7 +235,7 @@ module _ (c : Config) (traces : List (List Command)) (first : State) (job : IsJo
   serial_few rate planned ts serial = omega (arith, few_turns c traces job rate planned (length ts) (opened c first) ts (omega arith) resting serial, all_is rate)
 
 -- all of the first n threads are done, or there is a least one that is not
-least_of : (c : Config) (s : State) (n : ℕ) → n ≤ c.threads → ((u : ℕ) → u < n → is_done (local_at c s u) ≡ true) ⊎ ((u : ℕ) × IsLeast c s u)
+least_of : (c : Config) (s : State) (n : ℕ) → n ≤ c.threads → ((u : ℕ) → u < n → is_done (local_at c s u) ≡ true) ⊎ ((u : ℕ) × IsLeastUndone c s u)
 least_of c s zero low = inl (λ u ul. absurd (omega arith))
 least_of c s (suc n) low = elim (least_of c s n (omega arith)) [
   | inl below ↦ elim (cases_Bool (is_done (local_at c s n))) [
@@ -242,18 +243,18 @@ least_of c s (suc n) low = elim (least_of c s n (omega arith)) [
       | inl e ↦ ap (λ v. is_done (local_at c s v)) e ∙ done
       | inr ne ↦ below u (omega arith)
     ])
-    | inr going ↦ inr (n, record { low = omega arith; going = going; below = below })
+    | inr going ↦ inr (n, record { there = omega arith; undone = going; least = below })
   ]
   | inr found ↦ inr found
 ]
 
-serial_more : (c : Config) (r : Run) (ts : List ℕ) (u : ℕ) → IsSerial c r.state ts → IsLeast c (after_turns c r ts).state u → IsSerial c r.state (ts ++ u ∷ [])
+serial_more : (c : Config) (r : Run) (ts : List ℕ) (u : ℕ) → IsSerial c r.state ts → IsLeastUndone c (after_turns c r ts).state u → IsSerial c r.state (ts ++ u ∷ [])
 serial_more c r [] u serial least = (least, tt)
 serial_more c r (t ∷ ts) u serial least = (serial.0, serial_more c (next c t r) ts u serial.1 least)
 
 -- and after as many turns as the bound all threads are done
 pub serial_ends : (c : Config) (traces : List (List Command)) (first : State) (rate : ℕ) → IsJob c traces → IsOpening c traces first → IsRate c rate → (ts : List ℕ) → IsSerial c first ts → job_bound c rate traces ≤ length ts
-    → (t : ℕ) → t < c.threads → is_done (local_in c (after_turns c (opened c first) ts) t) ≡ true
+    → AllDone c (after_turns c (opened c first) ts).state
 serial_ends c traces first rate job start planned ts serial long t low =
     elim (least_of c (after_turns c (opened c first) ts).state c.threads (omega arith)) [
       | inl done ↦ done t low
@@ -284,8 +285,8 @@ module _ (c : Config) (one : c.threads ≡ 1) where
     | inr still ↦ still
   ]
 
-  is_least : (s : State) → is_done (local_at c s 0) ≡ false → IsLeast c s 0
-  is_least s going = record { low = omega (arith, one); going = going; below = λ u ul. absurd (omega arith) }
+  is_least : (s : State) → is_done (local_at c s 0) ≡ false → IsLeastUndone c s 0
+  is_least s going = record { there = omega (arith, one); undone = going; least = λ u ul. absurd (omega arith) }
 
   -- its turns, and one more, are a serial list while it is not done
   own_serial : (ts : List ℕ) (r : Run) → is_done (local_at c (after_turns c r ts).state 0) ≡ false → IsSerial c r.state (replicate (suc (times 0 ts)) 0)

@@ -6,5 +6,5 @@ returns-clause-few _ c traces first rate job start planned ts serial =
     serial_few c traces first job start rate planned ts serial
 
 pub returns-clause-ends : goal.returns-clause-ends
-returns-clause-ends _ c traces first rate job start planned ts serial long t low =
-    serial_ends c traces first rate job start planned ts serial long t low
+returns-clause-ends _ c traces first rate job start planned ts serial long =
+    serial_ends c traces first rate job start planned ts serial long
