@@ -120,9 +120,9 @@ parts_ask_few c (Started ∷ h) all = parts_ask_few c h all
 parts_ask_few c (Did e ∷ h) all =
     let own : AllByRecursion (AsksFew c) (e ∷ part e.thread h) = subst (λ x. AllByRecursion (AsksFew c) (cond x (e ∷ part e.thread h) (part e.thread h))) (eq-eqb e.thread e.thread refl) (all e.thread) in
     (own.0, parts_ask_few c h (λ t. tail t (eqb e.thread t) (all t))) where
-  tail : (t : ℕ) (x : Bool) → AllByRecursion (AsksFew c) (cond x (e ∷ part t h) (part t h)) → AllByRecursion (AsksFew c) (part t h)
-  tail t true a = a.1
-  tail t false a = a
+      tail : (t : ℕ) (x : Bool) → AllByRecursion (AsksFew c) (cond x (e ∷ part t h) (part t h)) → AllByRecursion (AsksFew c) (part t h)
+      tail t true a = a.1
+      tail t false a = a
 
 -- entries whose commands are in bounds
 all_take : {A : Type 0} (P : A → Type 0) (n : ℕ) (xs : List A) → AllByRecursion P xs → AllByRecursion P (take n xs)
