@@ -12,3 +12,4 @@ pub mod Costs
 pub mod Loaded
 pub mod Shades
 pub mod Alone
+pub mod Serials

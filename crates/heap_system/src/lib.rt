@@ -12,6 +12,7 @@ mod progress;
 mod replays;
 #[cfg(test)]
 mod schedules;
+mod serial;
 mod start;
 mod system;
 #[cfg(test)]
@@ -36,6 +37,7 @@ pub use laws::{
 pub use local::Local;
 pub use progress::a_lone_thread_ends_its_command;
 pub use replays::jobs_have_one_order;
+pub use serial::{a_single_thread_ends_its_job, serial_turns_end};
 pub use start::opening;
 pub use system::{Finished, System, Unfinished, sum_of_works};
 
