@@ -11,5 +11,6 @@ pub mod Rounds
 pub mod Costs
 pub mod Loaded
 pub mod Shades
+pub mod Shares
 pub mod Alone
 pub mod Serials
