@@ -11,3 +11,4 @@ pub mod Changing
 pub mod Marking
 pub mod Laws
 pub mod Runs
+pub mod Changes
