@@ -14,6 +14,7 @@ pub mod parts
 pub mod LawsOf
 pub mod Always
 pub mod Starting
+pub mod Rooms
 pub mod Reached
 pub mod Told
 pub mod Loaded
@@ -27,4 +28,6 @@ pub mod tallies
 pub mod Tallied
 pub mod TalliesOf
 pub mod Bounded
+pub mod Taking
+pub mod Cycling
 pub mod alone

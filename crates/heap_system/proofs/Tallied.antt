@@ -59,12 +59,12 @@ asks_on c trace log t k paid (Some r) is = refl
 
 module _ (c : Config) (traces : List (List Command)) (job : IsJob c traces) (rate : ℕ) (planned : IsRate c rate) where
   -- each command of a thread asks for no more than one object may take
-  commands_at : (r : Run) → Kept c traces r → (t i : ℕ) → t < c.threads → blocks_of c.width (get_or (local_at c r.state t).trace i (commands.Nil 0)) ≤ c.object
+  pub commands_at : (r : Run) → Kept c traces r → (t i : ℕ) → t < c.threads → blocks_of c.width (get_or (local_at c r.state t).trace i (commands.Nil 0)) ≤ c.object
   commands_at r kept t i tl = blocks_low c _ (bounds_at c (local_at c r.state t).trace i (subst (λ x. AllByRecursion (IsCommandInBounds x) (local_at c r.state t).trace) (kept.locals t tl).config (kept.locals t tl).fits.trace.commands))
 
   module _ (s : State) (start : IsOpening c traces s) where
     -- the opening
-    pub opening_tallied : RunTallied c rate (opened c s)
+    abbrev pub opening_tallied : RunTallied c rate (opened c s)
     opening_tallied =
         let code : PhaseWord = record { inside = 0; sweep = false; closed = false; cycle = 1 } in
         let phase : heap_in c s Phase ≡ opening_phase = start.words Phase refl in
@@ -103,7 +103,7 @@ module _ (c : Config) (traces : List (List Command)) (job : IsJob c traces) (rat
         let same : me.rate ≡ rate = one_rate c me.rate rate (subst (λ x. IsRate x me.rate) own.config own.fits.rate) planned in
         ap (λ (x : Config). me.rate * blocks_of x.width (command_of me)) own.config ∙ ap (λ n. n * blocks_of c.width (command_of me)) same
 
-    counted : Counted c rate (seen c traces laws job.bounds.config job.plan r kept t tl) me.part counts.tally
+    pub counted : Counted c rate (seen c traces laws job.bounds.config job.plan r kept t tl) me.part counts.tally
     counted = record {
       some = planned.some;
       plan = planned.enough;
@@ -119,11 +119,11 @@ module _ (c : Config) (traces : List (List Command)) (job : IsJob c traces) (rat
     later = new_local c traces laws job.bounds.config job.plan r kept t tl
 
     module _ (going : is_done me ≡ false) where
-      after : TallyEvent c rate (seen c traces laws job.bounds.config job.plan r kept t tl) (new_heap c traces laws job.bounds.config job.plan r kept t tl) (effect_here c traces laws job.bounds.config job.plan r kept t tl) later.part (asked_by c later) counts.tally
+      pub after : TallyEvent c rate (seen c traces laws job.bounds.config job.plan r kept t tl) (new_heap c traces laws job.bounds.config job.plan r kept t tl) (effect_here c traces laws job.bounds.config job.plan r kept t tl) later.part (asked_by c later) counts.tally
       after = tally_laws me.part rate (seen c traces laws job.bounds.config job.plan r kept t tl) (at_part c traces laws job.bounds.config job.plan r kept t tl) (asked_by c later) (commands_at r kept t (length later.log) tl) counts.tally counted
 
       -- the thread, and the others
-      each : (u : ℕ) → u < c.threads → IsSpending c (local_at c (event_done c t r.state) u).part (local_at c (event_done c t r.state) u).paid (asked_by c (local_at c (event_done c t r.state) u)) (after.tally.threads u)
+      pub each : (u : ℕ) → u < c.threads → IsSpending c (local_at c (event_done c t r.state) u).part (local_at c (event_done c t r.state) u).paid (asked_by c (local_at c (event_done c t r.state) u)) (after.tally.threads u)
       each u ul = subst (λ (l : LocalState). IsSpending c l.part l.paid (asked_by c l) (after.tally.threads u)) (sym (local_new c traces laws job.bounds.config job.plan r kept t tl going u))
           (elim (cases_eq t u) [
             | inl e ↦ rw (eq-eqb t u e) (subst (λ v. IsSpending c later.part later.paid (asked_by c later) (after.tally.threads v)) e
@@ -131,7 +131,7 @@ module _ (c : Config) (traces : List (List Command)) (job : IsJob c traces) (rat
             | inr n ↦ rw (ne_eqb t u n) (subst (λ w. IsSpending c (local_at c r.state u).part (local_at c r.state u).paid (asked_by c (local_at c r.state u)) w) (sym (after.others u n)) (counts.threads u ul))
           ])
 
-      event_tallied : RunTallied c rate (new_run c traces laws job.bounds.config job.plan r kept t tl)
+      abbrev pub event_tallied : RunTallied c rate (new_run c traces laws job.bounds.config job.plan r kept t tl)
       event_tallied = record {
         tally = after.tally;
         kept = after.kept;

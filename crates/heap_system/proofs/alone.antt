@@ -12,3 +12,4 @@ pub mod Marking
 pub mod Laws
 pub mod Runs
 pub mod Changes
+pub mod Serials

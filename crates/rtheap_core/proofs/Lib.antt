@@ -1,4 +1,3 @@
-pub mod Driven
 pub mod Shown
 pub mod CarriedOut
 pub mod Headlines

@@ -1,4 +1,3 @@
-pub mod Runnable
 pub mod Sides
 pub mod Exits
 pub mod Refusals

@@ -1,11 +1,16 @@
 //! The top call of rtheap.
 #![tactic(auto)]
 
+#[cfg(test)]
+mod comparing;
 mod exit;
 mod refusal;
 mod run;
-mod runnable;
+#[cfg(test)]
+mod several;
 mod task;
+#[cfg(test)]
+mod testing;
 #[cfg(test)]
 mod tests;
 mod top;

@@ -60,7 +60,7 @@ still_some (sweeps.Credit p f) more = refl
 still_some (sweeps.Swept p f) more = refl
 
 -- no word is Free and black
-freed_word : (c a : ℕ) (b : Bool) → (b && eqb (free_word a) (black_word c)) ≡ false
+pub freed_word : (c a : ℕ) (b : Bool) → (b && eqb (free_word a) (black_word c)) ≡ false
 freed_word c a b = not_both b (eqb (free_word a) (black_word c))
     (λ e. absurd (let z : true ≡ false = sym (free_free a)
     ∙ ap is_free (eqb-true (free_word a) (black_word c) e) ∙ not_free_black c in cc))

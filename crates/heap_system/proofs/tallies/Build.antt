@@ -137,7 +137,7 @@ module _ (c : Config) (rate : ℕ) (s : Seen c) (b : BuildState) (at : AtPart c 
 
   -- nothing of it counts
   quiet : (new : Heap) → SameWords s.heap new → (step : Step) (later : BuildState) → later.command ≡ b.command → (x : Bool) → (before.threads s.thread).reserved ≡ cond x asked 0 → IsOn later.row x → Goes new step later
-  quiet new same step later own x reserved on = goes new step later on.0 (stays c rate s (Build b) before k new (record (plain step) { reply = None; verdict = Open; naming = Same }) (Build later) next same refl refl
+  quiet new same step later own x reserved on = goes new step later on.0 (stays c rate s (Build b) before k new (record (plain step) { reply = None; verdict = Open; naming = Same }) (Build later) next same refl refl refl
       (spends later own x on.1 (before.threads s.thread) k.own.inside k.own.paid k.own.asked low high reserved))
 
   -- the reservation, won or lost
@@ -151,7 +151,7 @@ module _ (c : Config) (rate : ℕ) (s : Seen c) (b : BuildState) (at : AtPart c 
       (put_at s.heap FreeCount (seen - b.blocks)) (record (plain step) { reply = None; verdict = Open; naming = Same }) (Build later) next
       (record { cycle = k.of.cycle; sweep = k.of.sweep; cursor = k.of.cursor; free = omega (arith, k.own.asked, size, seen_is, k.of.free); colour = k.of.colour; order = told_none c rate s (Build b) before k (record (plain step) { reply = None; verdict = Open; naming = Same }) refl refl })
       (spends_here (IsSpending c (Build later) s.paid asked) before.threads s.thread new (spends later refl true refl new k.own.inside k.own.paid k.own.asked low high k.own.asked))
-      (λ u other. changed_else before.threads s.thread u new other))
+      (λ u other. changed_else before.threads s.thread u new other) (λ x. refl) (λ x. refl) refl)
   reserving seen false is enough none step = quiet s.heap (same_words s.heap) step (record b { row = rows.ReadCount }) refl false none (refl, refl)
 
   abbrev entry : Reply → Entry
@@ -173,7 +173,7 @@ module _ (c : Config) (rate : ℕ) (s : Seen c) (b : BuildState) (at : AtPart c 
       s.heap (record (plain step) { reply = Some r; verdict = Refused r; naming = Same }) Leave next
       (record { cycle = k.of.cycle; sweep = k.of.sweep; cursor = k.of.cursor; free = k.of.free; colour = k.of.colour; order = ap (λ o. o ++ Did (entry r) ∷ []) k.of.order })
       (spends_twice (IsSpending c Leave 0 next) before.threads s.thread new (λ v. record v { asked = next }) (record { inside = k.own.inside; paid = refl; asked = refl; low = low; high = high; reserved = none }))
-      (λ u other. others_twice before.threads s.thread new _ u other)
+      (λ u other. others_twice before.threads s.thread new _ u other) (λ x. refl) (λ x. refl) refl
 
   -- the object is published
   publishes : (new : Heap) → SameWords s.heap new → (before.threads s.thread).reserved ≡ asked → (step_is : Step) → (name : _) → TallyEvent c rate s new (record (plain step_is) { reply = Some (replies.New name); verdict = AsStep; naming = Made (built_at b) }) Leave next before
@@ -190,14 +190,14 @@ module _ (c : Config) (rate : ℕ) (s : Seen c) (b : BuildState) (at : AtPart c 
       new (record (plain step_is) { reply = Some (replies.New name); verdict = AsStep; naming = Made (built_at b) }) Leave next
       (record { cycle = k.of.cycle ∙ sym same.cycle; sweep = k.of.sweep ∙ sym same.sweep; cursor = k.of.cursor ∙ sym same.cursor; free = k.of.free ∙ sym same.free; colour = λ x. k.of.colour x ∙ sym (same.colour x); order = ap (λ o. o ++ Did (entry r) ∷ []) k.of.order })
       (spends_twice (IsSpending c Leave 0 next) before.threads s.thread later (λ v. record v { asked = next }) (record { inside = k.own.inside; paid = refl; asked = refl; low = low; high = high; reserved = refl }))
-      (λ u other. others_twice before.threads s.thread later _ u other)
+      (λ u other. others_twice before.threads s.thread later _ u other) (λ x. refl) (λ x. refl) refl
 
   -- a block becomes black
   blackens : (x : ℕ) (step : Step) (later : BuildState) → later.command ≡ b.command → (before.threads s.thread).reserved ≡ asked → IsOn later.row true → Goes (put_at s.heap (ColourOf x) (black_word b.cycle)) step later
   blackens x step later own all on = goes _ step later on.0 (moves c rate s (Build b) before k (events.Paint x (black_word b.cycle) ∷ []) ((λ mark black. ap black_word cycle), tt)
       (put_at s.heap (ColourOf x) (black_word b.cycle)) (record (plain step) { reply = None; verdict = Open; naming = Same }) (Build later) next
       (record { cycle = k.of.cycle; sweep = k.of.sweep; cursor = k.of.cursor; free = k.of.free; colour = λ y. (λ i. cond (eqb x y) (black_word b.cycle) (k.of.colour y i)); order = told_none c rate s (Build b) before k (record (plain step) { reply = None; verdict = Open; naming = Same }) refl refl })
-      (spends later own true on.1 (before.threads s.thread) k.own.inside k.own.paid k.own.asked low high all) (λ u other. refl))
+      (spends later own true on.1 (before.threads s.thread) k.own.inside k.own.paid k.own.asked low high all) (λ u other. refl) (λ x. refl) (λ x. refl) refl)
 
   -- the free count was read
   counting : (less : Bool) → ltb (s.heap FreeCount) b.blocks ≡ less → (before.threads s.thread).reserved ≡ 0 → (later : BuildState) → later ≡ record b { row = cond less rows.Refused (rows.Reserve (s.heap FreeCount)) } → (step : Step)

@@ -71,8 +71,8 @@ module _ (c : Config) (rate : ℕ) (s : Seen c) (p : Part) (before : Tally) (k :
   -- a look at the gate
   looks : TallyEvent c rate s s.heap (effect c (Enter gates.Look) (s.heap Phase)) (part_got c s.thread (errand c s) s.pass (Enter gates.Look) (s.heap Phase)) next before
   looks = elim (cases_Bool (is_closed (s.heap Phase))) [
-    | inl e ↦ rw e (stays c rate s p before k s.heap _ (Enter gates.Look) next (same_words s.heap) refl refl (stands gates.Look refl))
-    | inr e ↦ rw e (stays c rate s p before k s.heap _ (Enter (gates.Enter (s.heap Phase))) next (same_words s.heap) refl refl (stands (gates.Enter (s.heap Phase)) refl))
+    | inl e ↦ rw e (stays c rate s p before k s.heap _ (Enter gates.Look) next (same_words s.heap) refl refl refl (stands gates.Look refl))
+    | inr e ↦ rw e (stays c rate s p before k s.heap _ (Enter (gates.Enter (s.heap Phase))) next (same_words s.heap) refl refl refl (stands (gates.Enter (s.heap Phase)) refl))
   ]
 
   -- the exchange that goes in is won
@@ -86,12 +86,12 @@ module _ (c : Config) (rate : ℕ) (s : Seen c) (p : Part) (before : Tally) (k :
       (record { cycle = k.of.cycle ∙ sym cycle; sweep = k.of.sweep ∙ sym sweep; cursor = k.of.cursor; free = k.of.free; colour = k.of.colour; order = told_none c rate s p before k (record (plain steps.Over) { entered = Some (phase_of seen) }) refl refl })
       (spends_here (IsSpending c (first_part c (pass_by s.thread c.threads (phase_of seen)) (errand c s)) s.paid (blocks_of c.width s.command)) before.threads s.thread (record w { inside = true; balance = entered before.cycle w.balance })
       (begins c (pass_by s.thread c.threads (phase_of seen)) (errand c s) s.paid (blocks_of c.width s.command) (record w { inside = true; balance = entered before.cycle w.balance }) refl (paid_entered before.cycle w.balance ∙ own.paid) own.asked own.low own.high own.reserved))
-      (λ u other. changed_else before.threads s.thread u _ other)
+      (λ u other. changed_else before.threads s.thread u _ other) (λ x. refl) (λ x. refl) refl
 
   enters : (seen : ℕ) → TallyEvent c rate s (cond (eqb (s.heap Phase) seen) (put_at s.heap Phase (seen + 1)) s.heap) (effect c (Enter (gates.Enter seen)) (s.heap Phase)) (part_got c s.thread (errand c s) s.pass (Enter (gates.Enter seen)) (s.heap Phase)) next before
   enters seen = elim (cases_Bool (eqb (s.heap Phase) seen)) [
     | inl e ↦ rw e (won seen (eqb-true (s.heap Phase) seen e))
-    | inr e ↦ rw e (stays c rate s p before k s.heap _ (Enter gates.Look) next (same_words s.heap) refl refl (stands gates.Look refl))
+    | inr e ↦ rw e (stays c rate s p before k s.heap _ (Enter gates.Look) next (same_words s.heap) refl refl refl (stands gates.Look refl))
   ]
 
 pub rest_tallied : (c : Config) → TallyLaw c Rest

@@ -34,7 +34,7 @@ goes_out c rate s before p k stands own q next as_rest =
     (record { cycle = k.of.cycle ∙ sym cycle; sweep = k.of.sweep ∙ sym sweep; cursor = k.of.cursor; free = k.of.free; colour = k.of.colour; order = told_none c rate s p before k (plain steps.Over) refl refl })
     (spends_here (IsSpending c q s.paid (blocks_of c.width s.command)) before.threads s.thread (record w { inside = false })
     (as_rest (record w { inside = false }) (record { inside = refl; paid = own.paid; asked = own.asked; low = own.low; high = own.high; reserved = own.reserved })))
-    (λ u other. changed_else before.threads s.thread u _ other)
+    (λ u other. changed_else before.threads s.thread u _ other) (λ x. refl) (λ x. refl) refl
 
 pub again_tallied : (c : Config) → TallyLaw c Again
 again_tallied c rate s at next few before k = goes_out c rate s before Again k (ap (λ (x : Gating). x.stand) at.gating) (spends_on c Again Leave s.paid (blocks_of c.width s.command) (before.threads s.thread) refl refl refl refl k.own) (Enter gates.Look) next

@@ -1,11 +1,12 @@
 -- A thread in a Mark pass: the tally has the scan at the event that makes the block under scan black,
 -- and each block that is shaded in its new colour.
-use Rattle.std.proofs.Common.{◌≡◌, ℕ, ◌+◌, ◌*◌, ◌<◌, ◌≤◌, Bool, true, false, not, cond, eqb, eqb-true, Some, [], ◌∷◌, refl, sym, ap, ◌∙◌, arith, inl, inr}
-use Rattle.std.proofs.lemmas.Bool.{cases_Bool}
+use Rattle.std.proofs.Common.{◌≡◌, ℕ, ◌+◌, ◌*◌, ◌<◌, ◌≤◌, Bool, true, false, not, ◌&&◌, cond, eqb, eqb-true, eq-eqb, ne_eqb, Some, [], ◌∷◌, refl, sym, ap, ◌∙◌, arith, inl, inr}
+use Rattle.std.proofs.lemmas.Bool.{cases_Bool, cases_eq}
 use Rattle.block_store.specs.declared.Config.{Config}
 use Rattle.block_store.specs.Colours.{is_grey, grey_word, black_word, white_word}
+use Rattle.block_store.specs.Counts.{changed}
 use Rattle.block_store.specs.Heaps.{Heap, put_at}
-use Rattle.block_store.specs.Phases.{bit, cycle_of}
+use Rattle.block_store.specs.Phases.{bit, is_sweep, cycle_of}
 use Rattle.block_store.specs.Places.{Phase, ColourOf, extent}
 use Rattle.block_store.specs.Widths.{payloads}
 use Rattle.block_store.proofs.ColourWords.{black-white, not_grey_black}
@@ -28,11 +29,12 @@ use Rattle.heap_system.specs.declared.local.Part.{Part}
 use Rattle.heap_system.specs.declared.local.Part.TheVariants.{Mark, Again, Idle}
 use Rattle.heap_system.specs.Locals.{Effect, Open, paid_got}
 use Rattle.heap_system.specs.Machines.{starts_by}
+use Rattle.heap_system.specs.Units.{turns_black}
 use Rattle.heap_system.proofs.PartLaws.{AtPart}
 use Rattle.heap_system.proofs.Seeing.{Seen}
-use Rattle.heap_system.proofs.Tallying.{asked_got, IsSpending, Counted, TallyEvent, TallyLaw}
-use Rattle.heap_system.proofs.parts.InPass.{of_pass, pass_is}
-use Rattle.heap_system.proofs.tallies.Moves.{SameWords, same_words, spends_here, told_none, stays, moves}
+use Rattle.heap_system.proofs.Tallying.{asked_got, IsSpending, Counted, TallyEvent, TallyLaw, more_if}
+use Rattle.heap_system.proofs.parts.InPass.{of_pass, pass_is, grey_or_black}
+use Rattle.heap_system.proofs.tallies.Moves.{SameWords, same_words, spends_here, told_none, no_more, same_past, stays, moves}
 
 -- marking claims nothing
 pub no_claim : (m : ℕ) (r : GreyRow) → ((grey_holding m r).low ≡ 0) × ((grey_holding m r).high ≡ 0)
@@ -51,16 +53,16 @@ no_claim m (marks.Shaded y) = (refl, refl)
 
 module _ (c : Config) (rate : ℕ) (s : Seen c) (p : Part) (before : Tally) (k : Counted c rate s p before) (next : ℕ) where
   -- a block of the phase's white becomes grey
-  pub shades : (y hand z : ℕ) → z ≡ cycle_of (s.heap Phase) → (e : Effect) → e.verdict ≡ Open → starts_by e.naming ≡ [] → (q : Part)
+  pub shades : (y hand z : ℕ) → z ≡ cycle_of (s.heap Phase) → (e : Effect) → e.verdict ≡ Open → starts_by e.naming ≡ [] → e.unit ≡ false → (q : Part)
       → IsSpending c q (paid_got e.reply e.unit s.paid) (asked_got e.reply (blocks_of c.width s.command) next) (before.threads s.thread)
       → TallyEvent c rate s (heap_after s.heap (CompareExchange (ColourOf y) (white_word z) (grey_word hand))) e q next before
-  shades y hand z same e undecided still q own = elim (cases_Bool (eqb (s.heap (ColourOf y)) (white_word z))) [
+  shades y hand z same e undecided still none q own = elim (cases_Bool (eqb (s.heap (ColourOf y)) (white_word z))) [
     | inl is ↦ rw is (moves c rate s p before k (events.Paint y (grey_word hand) ∷ [])
         ((λ mark black. absurd (black-white z (let w : black_word z ≡ before.colour y = ap black_word (same ∙ sym k.of.cycle) ∙ sym black in w ∙ k.of.colour y ∙ eqb-true _ _ is))), tt)
         (put_at s.heap (ColourOf y) (grey_word hand)) e q next
         (record { cycle = k.of.cycle; sweep = k.of.sweep; cursor = k.of.cursor; free = k.of.free; colour = λ x. (λ i. cond (eqb y x) (grey_word hand) (k.of.colour x i)); order = told_none c rate s p before k e undecided still })
-        own (λ u other. refl))
-    | inr not ↦ rw not (stays c rate s p before k s.heap e q next (same_words s.heap) undecided still own)
+        own (λ u other. refl) (λ x. no_more e.naming e.unit _ (before.scanned x) still none) (λ x. no_more e.naming e.unit _ (before.passed x) still none) (same_past e.naming _ before.past still))
+    | inr not ↦ rw not (stays c rate s p before k s.heap e q next (same_words s.heap) undecided still none own)
   ]
 
 module _ (c : Config) (rate : ℕ) (s : Seen c) (m : GreyState) (at : AtPart c s (Mark m)) (before : Tally) (k : Counted c rate s (Mark m) before) (next : ℕ) where
@@ -99,6 +101,20 @@ module _ (c : Config) (rate : ℕ) (s : Seen c) (m : GreyState) (at : AtPart c s
     here : IsSpending c q s.paid (blocks_of c.width s.command) (before.threads s.thread)
     here = spends s.paid (before.threads s.thread) k.own.inside k.own.paid k.own.asked low high k.own.reserved
 
+    -- it is scanned once more, and none is passed
+    scanned : (x : ℕ) → is_grey (s.heap (ColourOf x)) ≡ true → (y : ℕ) → changed before.scanned x (before.scanned x + 1) y ≡ more_if (turns_black (cycle_of (s.heap Phase)) (ColourOf y) (s.heap (ColourOf y)) (put_at s.heap (ColourOf x) (black_word m.pass.cycle) (ColourOf y))) (before.scanned y)
+    scanned x grey y = elim (cases_eq x y) [
+      | inl is ↦
+          let colour : is_grey (s.heap (ColourOf y)) ≡ true = ap (λ v. is_grey (s.heap (ColourOf v))) (sym is) ∙ grey in
+          let now : eqb (black_word m.pass.cycle) (black_word (cycle_of (s.heap Phase))) ≡ true = eq-eqb _ _ (ap black_word cycle) in
+          let count : before.scanned x ≡ before.scanned y = ap before.scanned is in
+          rw (eq-eqb x y is, colour, now) (omega (arith, count))
+      | inr ne ↦ rw (ne_eqb x y ne, grey_or_black (cycle_of (s.heap Phase)) (s.heap (ColourOf y))) refl
+    ]
+
+    no_pass : (x y : ℕ) → before.passed y ≡ more_if (is_sweep (s.heap Phase) && eqb (before.threads s.thread).low y) (before.passed y)
+    no_pass x y = (let still : is_sweep (s.heap Phase) ≡ false = sym k.of.sweep ∙ mark in rw still refl)
+
     -- it becomes black
     scans : (x : ℕ) → (1 ≤ x) × (x ≤ c.blocks) → is_grey (s.heap (ColourOf x)) ≡ true → s.paid + 1 ≤ s.due → TallyEvent c rate s (put_at s.heap (ColourOf x) (black_word m.pass.cycle)) (of_pass step true) q next before
     scans x inside grey pays =
@@ -111,17 +127,17 @@ module _ (c : Config) (rate : ℕ) (s : Seen c) (m : GreyState) (at : AtPart c s
         (record { cycle = k.of.cycle; sweep = k.of.sweep; cursor = k.of.cursor; free = k.of.free; colour = λ y. (λ i. cond (eqb x y) (black_word (black i)) (k.of.colour y i)); order = told_none c rate s (Mark m) before k (of_pass step true) refl refl })
         (spends_here (IsSpending c q (s.paid + 1) (blocks_of c.width s.command)) before.threads s.thread new
         (spends (s.paid + 1) new k.own.inside (omega (arith, k.own.paid)) k.own.asked low high k.own.reserved))
-        (λ u other. changed_else before.threads s.thread u new other)
+        (λ u other. changed_else before.threads s.thread u new other) (scanned x grey) (no_pass x) refl
 
     quiet : (new : Heap) → SameWords s.heap new → TallyEvent c rate s new (of_pass step false) q next before
-    quiet new same = stays c rate s (Mark m) before k new (of_pass step false) q next same refl refl here
+    quiet new same = stays c rate s (Mark m) before k new (of_pass step false) q next same refl refl refl here
 
     by : (r : GreyRow) → RowFits c r → is_shading r ≡ false → grey_over r ≡ false → s.paid + bit (not (grey_unit r)) ≤ s.due → ((x : ℕ) → is_blackening r ≡ true → (grey_holding (payloads c.width) r).scan ≡ Some x → is_grey (s.heap (ColourOf x)) ≡ true)
         → TallyEvent c rate s (heap_after s.heap (row_want m.pass.thread m.pass.threads m.pass.cycle r)) (of_pass step (is_blackening r)) q next before
     by (marks.Take u) fits scan going pays grey = quiet _ (record { cycle = refl; sweep = refl; cursor = refl; free = refl; colour = λ x. refl })
     by (marks.Pop a) fits scan going pays grey = quiet _ (same_words s.heap)
     by (marks.ScanWord x j a) fits scan going pays grey = quiet _ (same_words s.heap)
-    by (marks.Shade x j y a) fits scan going pays grey = shades c rate s (Mark m) before k next y a m.pass.cycle cycle (of_pass step false) refl refl q here
+    by (marks.Shade x j y a) fits scan going pays grey = shades c rate s (Mark m) before k next y a m.pass.cycle cycle (of_pass step false) refl refl refl q here
     by (marks.Blacken x a) fits scan going pays grey = scans x fits.0 (grey x refl refl) pays
     by (marks.Put a) fits scan going pays grey = quiet _ (record { cycle = refl; sweep = refl; cursor = refl; free = refl; colour = λ x. refl })
     by marks.Scanned fits scan going pays grey = absurd cc

@@ -102,21 +102,21 @@ module _ (c : Config) (rate : ℕ) (s : Seen c) (f : FieldState) (at : AtPart c 
 
     -- its command is decided at the event, or not, and has its reply with it, or not
     by_same : (new : Heap) → SameWords s.heap new → (b : Bool) (o : Option Reply) → Goes new b o
-    by_same new same false None = stays c rate s (Serve f) before k new (record (plain step_is) { reply = None; verdict = Open }) (Serve n) next same refl refl goes_on
+    by_same new same false None = stays c rate s (Serve f) before k new (record (plain step_is) { reply = None; verdict = Open }) (Serve n) next same refl refl refl goes_on
     by_same new same true None = moves c rate s (Serve f) before k (events.Answer s.thread entry ∷ []) (answers, tt) new (record (plain step_is) { reply = None; verdict = AsStep }) (Serve n) next
         (record { cycle = k.of.cycle ∙ sym same.cycle; sweep = k.of.sweep ∙ sym same.sweep; cursor = k.of.cursor ∙ sym same.cursor; free = k.of.free ∙ sym same.free; colour = λ x. k.of.colour x ∙ sym (same.colour x); order = ap (λ o. o ++ Did entry ∷ []) k.of.order })
-        goes_on (λ u other. refl)
+        goes_on (λ u other. refl) (λ x. refl) (λ x. refl) refl
     by_same new same false (Some r) = moves c rate s (Serve f) before k (events.Next s.thread next ∷ []) (asks, tt) new (record (plain step_is) { reply = Some r; verdict = Open }) Leave next
         (record { cycle = k.of.cycle ∙ sym same.cycle; sweep = k.of.sweep ∙ sym same.sweep; cursor = k.of.cursor ∙ sym same.cursor; free = k.of.free ∙ sym same.free; colour = λ x. k.of.colour x ∙ sym (same.colour x); order = told_none c rate s (Serve f) before k (record (plain step_is) { reply = Some r; verdict = Open }) refl refl })
-        over (λ u other. changed_else before.threads s.thread u _ other)
+        over (λ u other. changed_else before.threads s.thread u _ other) (λ x. refl) (λ x. refl) refl
     by_same new same true (Some r) = moves c rate s (Serve f) before k (events.Answer s.thread entry ∷ events.Next s.thread next ∷ []) (answers, (asks, tt)) new (record (plain step_is) { reply = Some r; verdict = AsStep }) Leave next
         (record { cycle = k.of.cycle ∙ sym same.cycle; sweep = k.of.sweep ∙ sym same.sweep; cursor = k.of.cursor ∙ sym same.cursor; free = k.of.free ∙ sym same.free; colour = λ x. k.of.colour x ∙ sym (same.colour x); order = ap (λ o. o ++ Did entry ∷ []) k.of.order })
-        over (λ u other. changed_else before.threads s.thread u _ other)
+        over (λ u other. changed_else before.threads s.thread u _ other) (λ x. refl) (λ x. refl) refl
 
     -- a row of the barrier
     by_barrier : (r : GreyRow) → (block_stored r ≡ 0 → ⊥) → Goes (heap_after s.heap (marking.row_want f.pass.thread f.pass.threads f.pass.cycle r)) false None
     by_barrier (marks.TakeOwn y) some = by_same _ (record { cycle = refl; sweep = refl; cursor = refl; free = refl; colour = λ x. refl }) false None
-    by_barrier (marks.ShadeStored y a) some = shades c rate s (Serve f) before k next y a f.pass.cycle cycle (record (plain step_is) { reply = None; verdict = Open }) refl refl (Serve n) goes_on
+    by_barrier (marks.ShadeStored y a) some = shades c rate s (Serve f) before k next y a f.pass.cycle cycle (record (plain step_is) { reply = None; verdict = Open }) refl refl refl (Serve n) goes_on
     by_barrier (marks.PutOwn y a) some = by_same _ (record { cycle = refl; sweep = refl; cursor = refl; free = refl; colour = λ x. refl }) false None
     by_barrier (marks.Shaded y) some = by_same _ (same_words s.heap) false None
     by_barrier _ some = absurd (some refl)

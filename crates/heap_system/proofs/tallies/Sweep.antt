@@ -1,12 +1,13 @@
 -- A thread in a Sweep pass: the tally has its claim, each block that it passes, and what it frees
 -- and credits.
-use Rattle.std.proofs.Common.{◌≡◌, ℕ, ◌+◌, ◌-◌, ◌*◌, ◌<◌, ◌≤◌, Bool, true, false, cond, eqb, ltb, is_some, eqb-true, ltb-false, None, Some, [], ◌∷◌, ◌++◌, refl, sym, ap, ◌∙◌, arith, inl, inr}
-use Rattle.std.proofs.lemmas.Bool.{cases_Bool}
+use Rattle.std.proofs.Common.{◌≡◌, ℕ, ◌+◌, ◌-◌, ◌*◌, ◌<◌, ◌≤◌, Bool, true, false, ◌&&◌, cond, eqb, eq-eqb, ne_eqb, ltb, is_some, eqb-true, ltb-false, None, Some, [], ◌∷◌, ◌++◌, refl, sym, ap, ◌∙◌, arith, inl, inr}
+use Rattle.std.proofs.lemmas.Bool.{cases_Bool, cases_eq}
 use Rattle.block_store.specs.declared.Config.{Config}
-use Rattle.block_store.specs.Colours.{free_word, black_word, white_word}
+use Rattle.block_store.specs.Colours.{is_grey, free_word, black_word, white_word}
 use Rattle.block_store.specs.Counts.{changed}
 use Rattle.block_store.specs.Heaps.{Heap, put_at}
-use Rattle.block_store.specs.Places.{Cursor, FreeCount, ColourOf}
+use Rattle.block_store.specs.Phases.{is_sweep, cycle_of}
+use Rattle.block_store.specs.Places.{Phase, Cursor, FreeCount, ColourOf}
 use Rattle.block_store.proofs.Functions.{changed_else}
 use Rattle.never_heap.specs.Steps.{blocks_of}
 use Rattle.heap_machine.specs.Operations.{place_of, heap_after}
@@ -28,8 +29,10 @@ use Rattle.heap_system.specs.declared.local.Part.{Part}
 use Rattle.heap_system.specs.declared.local.Part.TheVariants.{Sweep, Again, Idle}
 use Rattle.heap_system.proofs.PartLaws.{AtPart}
 use Rattle.heap_system.proofs.Seeing.{Seen}
-use Rattle.heap_system.proofs.Tallying.{IsSpending, IsTallyOf, Counted, TallyEvent, TallyLaw}
-use Rattle.heap_system.proofs.parts.InPass.{of_pass, pass_is}
+use Rattle.heap_system.proofs.Tallying.{IsSpending, IsTallyOf, Counted, TallyEvent, TallyLaw, more_if}
+use Rattle.heap_system.specs.Units.{turns_black}
+use Rattle.heap_system.proofs.parts.InPass.{of_pass, pass_is, grey_or_black}
+use Rattle.heap_system.proofs.parts.Sweep.{freed_word}
 use Rattle.heap_system.proofs.tallies.Moves.{SameWords, same_words, spends_here, spends_twice, others_twice, told_none, stays, moves}
 
 -- what the rows after a look at the cursor, at a block and past a block claim
@@ -47,6 +50,13 @@ next_more x high y a f e = rw e (refl, refl)
 
 next_last : (x high y a f : ℕ) → ltb (x + 1) high ≡ false → ((sweep_holding (next_block x high y a f)).low ≡ 0) × ((sweep_holding (next_block x high y a f)).high ≡ 0)
 next_last x high y a f e = rw e (range_claims (y + 1) a f)
+
+-- a block that is freed is not made black, and no other is
+freed_black : (h : Heap) (x a z : ℕ) → turns_black (cycle_of (h Phase)) (ColourOf z) (h (ColourOf z)) (put_at h (ColourOf x) (free_word a) (ColourOf z)) ≡ false
+freed_black h x a z = elim (cases_Bool (eqb x z)) [
+  | inl is ↦ rw is (freed_word (cycle_of (h Phase)) a (is_grey (h (ColourOf z))))
+  | inr other ↦ rw other (grey_or_black (cycle_of (h Phase)) (h (ColourOf z)))
+]
 
 module _ (c : Config) (rate : ℕ) (s : Seen c) (p : SweepState) (at : AtPart c s (Sweep p)) (before : Tally) (k : Counted c rate s (Sweep p) before) (next : ℕ) where
   -- a thread inside in a command of so many units paid, that claims this
@@ -73,7 +83,7 @@ module _ (c : Config) (rate : ℕ) (s : Seen c) (p : SweepState) (at : AtPart c 
   module _ (step : Step) (q : Part) where
     -- the row claims the same
     quiet : (new : Heap) → SameWords s.heap new → IsSpending c q s.paid (blocks_of c.width s.command) (before.threads s.thread) → TallyEvent c rate s new (of_pass step false) q next before
-    quiet new same own = stays c rate s (Sweep p) before k new (of_pass step false) q next same refl refl own
+    quiet new same own = stays c rate s (Sweep p) before k new (of_pass step false) q next same refl refl refl own
 
     -- a range is claimed
     claims : (x high : ℕ) → s.heap Cursor ≡ x → x < high → high ≤ c.blocks + 1 → high + s.paid ≤ x + s.due → (before.threads s.thread).low ≡ 0 → (before.threads s.thread).high ≡ 0
@@ -89,16 +99,28 @@ module _ (c : Config) (rate : ℕ) (s : Seen c) (p : SweepState) (at : AtPart c 
         (record { cycle = k.of.cycle; sweep = k.of.sweep; cursor = ends; free = k.of.free; colour = k.of.colour; order = told_none c rate s (Sweep p) before k (of_pass step false) refl refl })
         (spends_here (IsSpending c q s.paid (blocks_of c.width s.command)) before.threads s.thread new
         (spends new (record { inside = k.own.inside; paid_is = k.own.paid; asked = k.own.asked; low = k.of.cursor ∙ is; high = ends; reserved = k.own.reserved })))
-        (λ u other. changed_else before.threads s.thread u new other)
+        (λ u other. changed_else before.threads s.thread u new other) (λ x. refl) (λ x. refl) refl
 
     -- a block is passed, and its colour written or not
     module _ (x high y a f : ℕ) (low : (before.threads s.thread).low ≡ x) (until : (before.threads s.thread).high ≡ high) (some : x < high) (spends : (w : Spending) → AtRow (s.paid + 1) (next_block x high y a f) w → IsSpending c q (s.paid + 1) (blocks_of c.width s.command) w)
-        (new : Heap) (painted : ℕ → ℕ) (kept : TallyKept c rate black_word (record before { colour = painted })) (of : IsTallyOf new (s.order ++ ([] ++ [])) (record before { colour = painted })) where
+        (new : Heap) (painted : ℕ → ℕ) (kept : TallyKept c rate black_word (record before { colour = painted })) (of : IsTallyOf new (s.order ++ ([] ++ [])) (record before { colour = painted })) (no_scan : (z : ℕ) → turns_black (cycle_of (s.heap Phase)) (ColourOf z) (s.heap (ColourOf z)) (new (ColourOf z)) ≡ false) where
       abbrev one : Spending
       one = record (before.threads s.thread) { low = (before.threads s.thread).low + 1; balance = with_unit (before.threads s.thread).balance }
 
       abbrev passed : Tally
       passed = apply c rate black_word (record before { colour = painted }) (events.Pass s.thread)
+
+      -- it is passed once more, and none is scanned
+      scanned : (z : ℕ) → before.scanned z ≡ more_if (turns_black (cycle_of (s.heap Phase)) (ColourOf z) (s.heap (ColourOf z)) (new (ColourOf z))) (before.scanned z)
+      scanned z = rw (no_scan z) refl
+
+      once_more : (z : ℕ) → changed before.passed (before.threads s.thread).low (before.passed (before.threads s.thread).low + 1) z ≡ more_if (is_sweep (s.heap Phase) && eqb (before.threads s.thread).low z) (before.passed z)
+      once_more z =
+          let now : is_sweep (s.heap Phase) ≡ true = sym k.of.sweep ∙ sweep in
+          elim (cases_eq (before.threads s.thread).low z) [
+            | inl is ↦ (let count : before.passed (before.threads s.thread).low ≡ before.passed z = ap before.passed is in rw (now, eq-eqb _ _ is) (omega (arith, count)))
+            | inr ne ↦ rw (now, ne_eqb _ _ ne) refl
+          ]
 
       passes : TallyEvent c rate s new (of_pass step true) q next before
       passes = elim (cases_Bool (ltb (x + 1) high)) [
@@ -109,6 +131,9 @@ module _ (c : Config) (rate : ℕ) (s : Seen c) (p : SweepState) (at : AtPart c 
           own = spends_here (IsSpending c q (s.paid + 1) (blocks_of c.width s.command)) before.threads s.thread one
               (spends one (record { inside = k.own.inside; paid_is = omega (arith, k.own.paid); asked = k.own.asked; low = omega (arith, low, (next_more x high y a f more).0); high = until ∙ sym (next_more x high y a f more).1; reserved = k.own.reserved }));
           others = λ u other. changed_else before.threads s.thread u one other;
+          scanned = scanned;
+          passed = once_more;
+          past = refl;
         }
         | inr last ↦ record {
           tally = apply c rate black_word passed (events.Clear s.thread);
@@ -118,6 +143,9 @@ module _ (c : Config) (rate : ℕ) (s : Seen c) (p : SweepState) (at : AtPart c 
           own = spends_twice (IsSpending c q (s.paid + 1) (blocks_of c.width s.command)) before.threads s.thread one (λ w. record w { low = 0; high = 0 })
               (spends (record one { low = 0; high = 0 }) (record { inside = k.own.inside; paid_is = omega (arith, k.own.paid); asked = k.own.asked; low = sym (next_last x high y a f last).0; high = sym (next_last x high y a f last).1; reserved = k.own.reserved }));
           others = λ u other. others_twice before.threads s.thread one _ u other;
+          scanned = scanned;
+          passed = once_more;
+          past = refl;
         }
       ]
 
@@ -142,6 +170,7 @@ module _ (c : Config) (rate : ℕ) (s : Seen c) (p : SweepState) (at : AtPart c 
     }))
     reading x high y a f false some own spends = passes x high y a f own.low own.high some (spends (s.paid + 1)) s.heap before.colour k.kept
         (record { cycle = k.of.cycle; sweep = k.of.sweep; cursor = k.of.cursor; free = k.of.free; colour = k.of.colour; order = told_none c rate s (Sweep p) before k (of_pass step false) refl refl })
+        (λ z. grey_or_black (cycle_of (s.heap Phase)) (s.heap (ColourOf z)))
 
     by : (r : SweepRow) → RowFits c.blocks p.owed r → sweep_over r ≡ false → s.paid + p.owed ≡ s.due + sweep_passed r → AtRow s.paid r (before.threads s.thread)
         → ((paid : ℕ) (w : Spending) → AtRow paid (row_got p.cycle p.blocks p.owed r (s.heap (place_of (row_want p.thread p.cycle r)))) w → IsSpending c q paid (blocks_of c.width s.command) w)
@@ -160,10 +189,11 @@ module _ (c : Config) (rate : ℕ) (s : Seen c) (p : SweepState) (at : AtPart c 
     by (sweeps.FreeBlock x high y a f) fits going settled own spends = passes x high y x (f + 1) own.low own.high fits.0.left (spends (s.paid + 1)) (put_at s.heap (ColourOf x) (free_word a)) (changed before.colour x (free_word a))
         (step_kept c rate black_word k.some before k.kept (events.Paint x (free_word a)) k.plan (λ mark. absurd (let z : true ≡ false = sym sweep ∙ mark in cc)))
         (record { cycle = k.of.cycle; sweep = k.of.sweep; cursor = k.of.cursor; free = k.of.free; colour = λ z. (λ i. cond (eqb x z) (free_word a) (k.of.colour z i)); order = told_none c rate s (Sweep p) before k (of_pass step false) refl refl })
+        (freed_black s.heap x a)
     by (sweeps.PutFree a y f) fits going settled own spends = quiet _ (record { cycle = refl; sweep = refl; cursor = refl; free = refl; colour = λ x. refl }) (spends s.paid (before.threads s.thread) own)
     by (sweeps.Credit y f) fits going settled own spends = moves c rate s (Sweep p) before k (events.Credit f ∷ []) (tt, tt) (put_at s.heap FreeCount (s.heap FreeCount + f)) (of_pass step false) q next
         (record { cycle = k.of.cycle; sweep = k.of.sweep; cursor = k.of.cursor; free = omega (arith, k.of.free); colour = k.of.colour; order = told_none c rate s (Sweep p) before k (of_pass step false) refl refl })
-        (spends s.paid (before.threads s.thread) own) (λ u other. refl)
+        (spends s.paid (before.threads s.thread) own) (λ u other. refl) (λ x. refl) (λ x. refl) refl
     by (sweeps.Swept y f) fits going settled own spends = absurd cc
     by sweeps.NothingLeft fits going settled own spends = absurd cc
 
