@@ -25,6 +25,7 @@ use Rattle.sweep_steps.specs.Rows.{row_want, sweep_want, sweep_holding}
 use Rattle.sweep_steps.specs.declared.rows.SweepRow.{SweepRow}
 use Rattle.sweep_steps.specs.declared.rows.SweepRow.TheVariants as sweeps
 use Rattle.build_steps.specs.Ends.{is_publishing}
+use Rattle.work_account.specs.Accounts.{Balance}
 use Rattle.cycle_tally.specs.Bounds.{Bound, IsSwept}
 use Rattle.cycle_tally.specs.Tallies.{Spending, Tally, units_now, paid_now}
 use Rattle.cycle_tally.specs.Tallies as tallying
@@ -201,7 +202,7 @@ module _ (c : Config) (traces : List (List Command)) (job : IsJob c traces) (rat
           let then = after c traces job rate planned laws tally_laws r kept k.counts t tl going in
           let bound : Bound c rate before = bound_of c rate black_word planned.some before k.counts.kept in
           let cycles : then.tally.cycle ≡ before.cycle + starts_in (starts_by e.naming) =
-          sym then.kept.starts ∙ ap starts_in then.of.order ∙ starts_after (replay c r.order) t (command_of (local_at c r.state t)) (local_at c r.state t).paid e.verdict r.order (starts_by e.naming)
+          sym then.kept.starts ∙ ap starts_in then.of.order ∙ starts_after (replay c r.order) t (command_of (local_at c r.state t)) (local_at c r.state t).balance.paid e.verdict r.order (starts_by e.naming)
           ∙ ap (λ n. n + starts_in (starts_by e.naming)) (ap starts_in (sym k.counts.of.order) ∙ k.counts.kept.starts) in
           record {
             counts = event_tallied c traces job rate planned laws tally_laws r kept k.counts t tl going;
@@ -326,7 +327,7 @@ module _ (c : Config) (traces : List (List Command)) (job : IsJob c traces) (rat
 
     pub units_taken : units_so_far c r ≡ total (starts_in r.order) (λ z. taken_in (suc z))
     units_taken =
-        let paid : paid_now c.threads tally ≡ total c.threads (λ t. (local_in c r t).paid) = total_same c.threads _ _ (λ t tl. (run_taken.counts.threads t tl).paid) in
+        let paid : paid_now c.threads tally ≡ total c.threads (λ t. (local_in c r t).balance.paid) = total_same c.threads _ _ (λ t tl. ap (λ (b : Balance). b.paid) (run_taken.counts.threads t tl).account) in
         let work : work_in tally.order ≡ work_in r.order = ap work_in run_taken.counts.of.order in
         let one : suc (tally.cycle - 1) ≡ tally.cycle = (let some = run_taken.counts.kept.some in omega arith) in
         let last : taken_in (suc (tally.cycle - 1)) ≡ taken_in tally.cycle = ap taken_in one in

@@ -3,6 +3,7 @@ pub mod Steady
 pub mod Paying
 pub mod Seeing
 pub mod PartLaws
+pub mod Balances
 pub mod Kept
 pub mod Growing
 pub mod Moving
@@ -27,6 +28,8 @@ pub mod Tallying
 pub mod tallies
 pub mod Tallied
 pub mod TalliesOf
+pub mod Balanced
+pub mod UnitMade
 pub mod Bounded
 pub mod Taking
 pub mod Cycling

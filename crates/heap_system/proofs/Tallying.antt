@@ -14,10 +14,11 @@ use Rattle.never_heap.specs.Steps.{blocks_of}
 use Rattle.heap_machine.specs.Gating.{is_inside}
 use Rattle.heap_machine.specs.Operations.{heap_after}
 use Rattle.kept_names.specs.Building.{Build as Builder, build_blocks}
+use Rattle.work_account.specs.Accounts.{Balance}
 use Rattle.cycle_tally.specs.Kept.{TallyKept}
 use Rattle.cycle_tally.specs.Tallies.{Spending, Tally, units_now}
 use Rattle.heap_system.specs.declared.local.Part.{Part}
-use Rattle.heap_system.specs.Locals.{Effect, view, effect, paid_got, part_want, part_got}
+use Rattle.heap_system.specs.Locals.{Effect, view, effect, balance_got, part_want, part_got}
 use Rattle.heap_system.specs.Machines.{starts_by}
 use Rattle.heap_system.specs.Naming.{Naming, Begun}
 use Rattle.heap_system.specs.Pictures.{stand_of, holding}
@@ -30,10 +31,10 @@ abbrev pub reserved_for : Width → Option Builder → ℕ
 reserved_for w None = 0
 reserved_for w (Some b) = build_blocks w b
 
--- a thread at part p that has paid so much of a command that asks for so many blocks
-pub record IsSpending (c : Config) (p : Part) (units blocks : ℕ) (w : Spending) : Type 0 where
+-- a thread at part p with this balance, in a command that asks for so many blocks
+pub record IsSpending (c : Config) (p : Part) (balance : Balance) (blocks : ℕ) (w : Spending) : Type 0 where
   pub inside : w.inside ≡ is_inside (stand_of c p)
-  pub paid : w.balance.paid ≡ units
+  pub account : w.balance ≡ balance
   pub asked : w.asked ≡ blocks
   pub low : w.low ≡ (holding c p).low
   pub high : w.high ≡ (holding c p).high
@@ -61,7 +62,7 @@ pub record Counted (c : Config) (rate : ℕ) (s : Seen c) (p : Part) (t : Tally)
   pub due : s.due ≡ rate * blocks_of c.width s.command
   pub kept : TallyKept c rate black_word t
   pub of : IsTallyOf s.heap s.order t
-  pub own : IsSpending c p s.paid (blocks_of c.width s.command) (t.threads s.thread)
+  pub own : IsSpending c p s.balance (blocks_of c.width s.command) (t.threads s.thread)
   pub inside : (u : ℕ) → u < c.threads → (t.threads u).inside ≡ is_inside (s.gatings u).stand
 
 -- a unit scans a block where it makes it black, and passes one where the phase is Sweep: the first that
@@ -90,8 +91,8 @@ past_by _ now past = past
 pub record TallyEvent (c : Config) (rate : ℕ) (s : Seen c) (new : Heap) (e : Effect) (p : Part) (next : ℕ) (before : Tally) : Type 0 where
   pub tally : Tally
   pub kept : TallyKept c rate black_word tally
-  pub of : IsTallyOf new (s.order ++ (items_told s.graph s.thread s.command s.paid e.verdict ++ starts_by e.naming)) tally
-  pub own : IsSpending c p (paid_got e.reply e.unit s.paid) (asked_got e.reply (blocks_of c.width s.command) next) (tally.threads s.thread)
+  pub of : IsTallyOf new (s.order ++ (items_told s.graph s.thread s.command s.balance.paid e.verdict ++ starts_by e.naming)) tally
+  pub own : IsSpending c p (balance_got e (blocks_of c.width s.command) s.balance) (asked_got e.reply (blocks_of c.width s.command) next) (tally.threads s.thread)
   pub others : (u : ℕ) → (s.thread ≡ u → ⊥) → tally.threads u ≡ before.threads u
   pub scanned : (x : ℕ) → tally.scanned x ≡ in_cycle e.naming (more_if (scans_at s.heap new e x) (before.scanned x))
   pub passed : (x : ℕ) → tally.passed x ≡ in_cycle e.naming (more_if (passes_at s.heap e (before.threads s.thread) x) (before.passed x))

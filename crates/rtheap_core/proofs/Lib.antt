@@ -4,3 +4,5 @@ pub mod Headlines
 pub mod Unfilled
 pub mod Verdicts
 pub mod Taken
+pub mod Drawing
+pub mod Admitting

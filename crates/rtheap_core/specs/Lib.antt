@@ -4,3 +4,4 @@ pub mod Refusals
 pub mod Outcomes
 pub mod Tasks
 pub mod Calls
+pub mod Generated

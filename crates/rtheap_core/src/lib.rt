@@ -4,6 +4,7 @@
 #[cfg(test)]
 mod comparing;
 mod exit;
+mod generated;
 mod refusal;
 mod run;
 #[cfg(test)]
@@ -16,5 +17,6 @@ mod tests;
 mod top;
 
 pub use exit::{Exit, RunEnd};
+pub use generated::generate;
 pub use refusal::Refusal;
 pub use top::rtheap;

@@ -10,11 +10,12 @@ use Rattle.block_store.proofs.Functions.{changed_here, changed_else}
 use Rattle.never_heap.specs.Histories.{HistoryItem}
 use Rattle.never_heap.specs.Steps.{blocks_of}
 use Rattle.heap_machine.specs.Gating.{is_inside}
+use Rattle.work_account.specs.Accounts.{Balance}
 use Rattle.cycle_tally.specs.Events.{Event, run, Guarded}
 use Rattle.cycle_tally.specs.Tallies.{Spending, Tally, units_now}
 use Rattle.cycle_tally.proofs.Laws.{run_kept}
 use Rattle.heap_system.specs.declared.local.Part.{Part}
-use Rattle.heap_system.specs.Locals.{Effect, Open, view, paid_got}
+use Rattle.heap_system.specs.Locals.{Effect, Open, view, balance_got}
 use Rattle.heap_system.specs.Machines.{starts_by}
 use Rattle.heap_system.specs.Naming.{Naming, Begun}
 use Rattle.heap_system.specs.Pictures.{stand_of, holding}
@@ -47,9 +48,9 @@ pub others_twice : (f : ℕ → Spending) (t : ℕ) (w v : Spending) (u : ℕ) �
 others_twice f t w v u other = changed_else (changed f t w) t u v other ∙ changed_else f t u w other
 
 -- a thread at a part that stands, claims and has reserved the same
-pub spends_on : (c : Config) (p q : Part) (paid asked : ℕ) (w : Spending) → is_inside (stand_of c p) ≡ is_inside (stand_of c q) → (holding c p).low ≡ (holding c q).low → (holding c p).high ≡ (holding c q).high
-    → reserved_for c.width (view c p).build ≡ reserved_for c.width (view c q).build → IsSpending c p paid asked w → IsSpending c q paid asked w
-spends_on c p q paid asked w inside low high reserved own = record { inside = own.inside ∙ inside; paid = own.paid; asked = own.asked; low = own.low ∙ low; high = own.high ∙ high; reserved = own.reserved ∙ reserved }
+pub spends_on : (c : Config) (p q : Part) (b : Balance) (asked : ℕ) (w : Spending) → is_inside (stand_of c p) ≡ is_inside (stand_of c q) → (holding c p).low ≡ (holding c q).low → (holding c p).high ≡ (holding c q).high
+    → reserved_for c.width (view c p).build ≡ reserved_for c.width (view c q).build → IsSpending c p b asked w → IsSpending c q b asked w
+spends_on c p q b asked w inside low high reserved own = record { inside = own.inside ∙ inside; account = own.account; asked = own.asked; low = own.low ∙ low; high = own.high ∙ high; reserved = own.reserved ∙ reserved }
 
 -- an item that is not added
 pub nothing_told : (order items starts : List HistoryItem) → items ≡ [] → starts ≡ [] → order ++ (items ++ starts) ≡ order
@@ -65,13 +66,17 @@ same_past Begun now past still = absurd cc
 same_past _ now past still = refl
 
 module _ (c : Config) (rate : ℕ) (s : Seen c) (p : Part) (before : Tally) (k : Counted c rate s p before) where
+  -- what the thread has paid
+  pub paid_by : (before.threads s.thread).balance.paid ≡ s.balance.paid
+  paid_by = ap (λ (b : Balance). b.paid) k.own.account
+
   -- the order of an event that decides nothing and starts no cycle
-  pub told_none : (e : Effect) → e.verdict ≡ Open → starts_by e.naming ≡ [] → before.order ≡ s.order ++ (items_told s.graph s.thread s.command s.paid e.verdict ++ starts_by e.naming)
-  told_none e undecided still = k.of.order ∙ sym (nothing_told s.order _ _ (ap (items_told s.graph s.thread s.command s.paid) undecided) still)
+  pub told_none : (e : Effect) → e.verdict ≡ Open → starts_by e.naming ≡ [] → before.order ≡ s.order ++ (items_told s.graph s.thread s.command s.balance.paid e.verdict ++ starts_by e.naming)
+  told_none e undecided still = k.of.order ∙ sym (nothing_told s.order _ _ (ap (items_told s.graph s.thread s.command s.balance.paid) undecided) still)
 
   -- nothing that the tally counts changes
   pub stays : (new : Heap) (e : Effect) (q : Part) (next : ℕ) → SameWords s.heap new → e.verdict ≡ Open → starts_by e.naming ≡ [] → e.unit ≡ false
-      → IsSpending c q (paid_got e.reply e.unit s.paid) (asked_got e.reply (blocks_of c.width s.command) next) (before.threads s.thread)
+      → IsSpending c q (balance_got e (blocks_of c.width s.command) s.balance) (asked_got e.reply (blocks_of c.width s.command) next) (before.threads s.thread)
       → TallyEvent c rate s new e q next before
   stays new e q next same undecided still none own = record {
     tally = before;
@@ -93,8 +98,8 @@ module _ (c : Config) (rate : ℕ) (s : Seen c) (p : Part) (before : Tally) (k :
 
   -- the tally moves by these events, which leave the other threads
   pub moves : (es : List Event) → Guarded c rate black_word before es → (new : Heap) (e : Effect) (q : Part) (next : ℕ)
-      → IsTallyOf new (s.order ++ (items_told s.graph s.thread s.command s.paid e.verdict ++ starts_by e.naming)) (run c rate black_word before es)
-      → IsSpending c q (paid_got e.reply e.unit s.paid) (asked_got e.reply (blocks_of c.width s.command) next) ((run c rate black_word before es).threads s.thread)
+      → IsTallyOf new (s.order ++ (items_told s.graph s.thread s.command s.balance.paid e.verdict ++ starts_by e.naming)) (run c rate black_word before es)
+      → IsSpending c q (balance_got e (blocks_of c.width s.command) s.balance) (asked_got e.reply (blocks_of c.width s.command) next) ((run c rate black_word before es).threads s.thread)
       → ((u : ℕ) → (s.thread ≡ u → ⊥) → (run c rate black_word before es).threads u ≡ before.threads u)
       → ((x : ℕ) → (run c rate black_word before es).scanned x ≡ in_cycle e.naming (more_if (scans_at s.heap new e x) (before.scanned x)))
       → ((x : ℕ) → (run c rate black_word before es).passed x ≡ in_cycle e.naming (more_if (passes_at s.heap e (before.threads s.thread) x) (before.passed x)))

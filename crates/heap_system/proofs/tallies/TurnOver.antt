@@ -69,9 +69,9 @@ exchanged_words h old v = by (eqb (h Phase) old)
 
 module _ (c : Config) (rate : ℕ) (s : Seen c) (g : GateRow) (at : AtPart c s (TurnOver g)) (before : Tally) (k : Counted c rate s (TurnOver g) before) (next : ℕ) where
   -- it is outside, with nothing claimed or reserved, before and after
-  out : (over : Bool) (r : GateRow) → IsSpending c (if_turned over r) s.paid (blocks_of c.width s.command) (before.threads s.thread)
-  out true r = record { inside = k.own.inside ∙ never_inside g; paid = k.own.paid; asked = k.own.asked; low = k.own.low ∙ (no_claim g).0; high = k.own.high ∙ (no_claim g).1; reserved = k.own.reserved }
-  out false r = record { inside = k.own.inside ∙ never_inside g ∙ sym (never_inside r); paid = k.own.paid; asked = k.own.asked; low = k.own.low ∙ (no_claim g).0 ∙ sym (no_claim r).0; high = k.own.high ∙ (no_claim g).1 ∙ sym (no_claim r).1; reserved = k.own.reserved }
+  out : (over : Bool) (r : GateRow) → IsSpending c (if_turned over r) s.balance (blocks_of c.width s.command) (before.threads s.thread)
+  out true r = record { inside = k.own.inside ∙ never_inside g; account = k.own.account; asked = k.own.asked; low = k.own.low ∙ (no_claim g).0; high = k.own.high ∙ (no_claim g).1; reserved = k.own.reserved }
+  out false r = record { inside = k.own.inside ∙ never_inside g ∙ sym (never_inside r); account = k.own.account; asked = k.own.asked; low = k.own.low ∙ (no_claim g).0 ∙ sym (no_claim r).0; high = k.own.high ∙ (no_claim g).1 ∙ sym (no_claim r).1; reserved = k.own.reserved }
 
   module _ (step : Step) (over : Bool) (r : GateRow) where
     abbrev Goes : Heap → Naming → Type 0
