@@ -37,13 +37,13 @@ use Rattle.heap_system.proofs.LawsOf.{laws_of}
 use Rattle.heap_system.proofs.Reached.{rest_is}
 use Rattle.heap_system.proofs.Seeing.{IsSettled, Seen}
 use Rattle.heap_system.proofs.Starting.{one_rate}
-use Rattle.heap_system.proofs.Turning.{seen, at_part, event, event_kept, word_is, local_new, heap_new, new_local, new_heap, new_run, next_is}
+use Rattle.heap_system.proofs.Turning.{seen, at_part, event, event_kept, word_is, local_new, heap_new, paid_new, new_local, new_heap, new_run, next_is}
 use Rattle.heap_system.proofs.Waiting.{part_waits}
 use Rattle.heap_system.proofs.alone.FieldsLeft.{fields_low}
 use Rattle.heap_system.proofs.alone.Heads.{open_here}
 use Rattle.heap_system.proofs.alone.Laws.{lone_law}
 use Rattle.heap_system.proofs.alone.Low.{order_records}
-use Rattle.heap_system.proofs.alone.Standing.{terms_of, spot_of, lone_of, ready_of, LoneKnows, LoneStep, Alone, is_out}
+use Rattle.heap_system.proofs.alone.Standing.{terms_of, spot_of, lone_of, ready_of, LoneKnows, LoneStep, Alone, is_out, paid_left}
 
 -- a price of a unit that serves both widths
 abbrev unit : Config → ℕ
@@ -82,7 +82,7 @@ module _ (c : Config) (traces : List (List Command)) (job : IsJob c traces) (rat
   due = units_owed c.width rate k
 
   abbrev price : Heap → LocalState → ℕ
-  price h l = left e (unit c) (lone_of c h t (due - l.paid) l.part)
+  price h l = left e (unit c) (lone_of c h t (due - l.balance.paid) l.part)
 
   -- the log has the entry once the thread goes out
   abbrev pub LogAt : List Entry → Part → Type 0
@@ -101,7 +101,7 @@ module _ (c : Config) (traces : List (List Command)) (job : IsJob c traces) (rat
 
   -- what a lone thread has and knows, on this heap
   pub record Own (h : Heap) (l : LocalState) : Type 0 where
-    pub knows : LoneKnows c h t l.pass due l.paid l.part
+    pub knows : LoneKnows c h t l.pass due l.balance.paid l.part
     pub log : LogAt l.log l.part
 
   pub record LoneRun (r : Run) : Type 0 where
@@ -175,7 +175,7 @@ module _ (c : Config) (traces : List (List Command)) (job : IsJob c traces) (rat
         lone_law c l.part on s
         (at_part c traces (laws_of c) job.bounds.config job.plan r lone.kept t tl) alone
         (event c traces (laws_of c) job.bounds.config job.plan r lone.kept t tl going)
-        (subst (λ d. LoneKnows c h t l.pass d l.paid l.part) (sym (due_is on)) lone.own.knows)
+        (subst (λ d. LoneKnows c h t l.pass d l.balance.paid l.part) (sym (due_is on)) lone.own.knows)
 
     abbrev pub later : Run
     later = new_run c traces (laws_of c) job.bounds.config job.plan r lone.kept t tl
@@ -190,6 +190,9 @@ module _ (c : Config) (traces : List (List Command)) (job : IsJob c traces) (rat
     own_is =
         local_new c traces (laws_of c) job.bounds.config job.plan r lone.kept t tl going t
         ∙ ap (λ b. cond b moved l) (eq-eqb t t refl)
+
+    pub paid_is : moved.balance.paid ≡ paid_left c s l.part
+    paid_is = paid_new c traces (laws_of c) job.bounds.config job.plan r lone.kept t tl
 
     -- what holds of the thread after its event holds of the run
     pub carry : (P : Heap → LocalState → Type 0) → P after moved
@@ -221,25 +224,29 @@ module _ (c : Config) (traces : List (List Command)) (job : IsJob c traces) (rat
     module _ (on : is_out l.part ≡ false) where
       own_later : Own after moved
       own_later = record {
-        knows = subst (λ d. LoneKnows c after t moved.pass d moved.paid moved.part) (due_is on)
-            (step on).knows;
-        log = log_after l.log l.paid (command_of l) (effect c l.part (h (place_of (part_want c l.part)))).reply
+        knows = subst (λ x. LoneKnows c after t moved.pass due x moved.part) (sym paid_is)
+            (subst (λ d. LoneKnows c after t moved.pass d (paid_left c s l.part) moved.part)
+            (due_is on) (step on).knows);
+        log = log_after l.log l.balance.paid (command_of l) (effect c l.part (h (place_of (part_want c l.part)))).reply
             moved.part (step on).out (lone.own.log.0 on) (here on);
       }
 
-      pub moves : Moves e (spot_of c l.part) (lone_of c h t (due - l.paid) l.part)
-          (lone_of c after t (due - moved.paid) moved.part)
+      pub moves : Moves e (spot_of c l.part) (lone_of c h t (due - l.balance.paid) l.part)
+          (lone_of c after t (due - moved.balance.paid) moved.part)
       moves =
-          subst (λ d. Moves e (spot_of c l.part) (lone_of c h t (d - l.paid) l.part)
-          (lone_of c after t (d - moved.paid) moved.part)) (due_is on)
-          (subst (λ x. Moves (terms_of c x) (spot_of c l.part) (lone_of c h t (owed l - l.paid) l.part)
-          (lone_of c after t (owed l - moved.paid) moved.part)) (here on) (step on).moves)
+          subst (λ x. Moves e (spot_of c l.part) (lone_of c h t (due - l.balance.paid) l.part)
+          (lone_of c after t (due - x) moved.part)) (sym paid_is)
+          (subst (λ d. Moves e (spot_of c l.part) (lone_of c h t (d - l.balance.paid) l.part)
+          (lone_of c after t (d - paid_left c s l.part) moved.part)) (due_is on)
+          (subst (λ x. Moves (terms_of c x) (spot_of c l.part)
+          (lone_of c h t (owed l - l.balance.paid) l.part)
+          (lone_of c after t (owed l - paid_left c s l.part) moved.part)) (here on) (step on).moves))
 
       less : price after moved < price h l
       less =
           let low = wide c.width in
           lower e (unit c) low.0 (let up = low.1 in omega arith) (spot_of c l.part)
-          (lone_of c h t (due - l.paid) l.part) (lone_of c after t (due - moved.paid) moved.part) moves
+          (lone_of c h t (due - l.balance.paid) l.part) (lone_of c after t (due - moved.balance.paid) moved.part) moves
 
       pub one_turn : (answer c t r.state ≡ turns.Went) × LoneRun (next c t r)
           × (price (heap_in c (next c t r).state) (local_at c (next c t r).state t) < price h l)
@@ -258,7 +265,7 @@ module _ (c : Config) (traces : List (List Command)) (job : IsJob c traces) (rat
 
       silent : moved.log ≡ l.log
       silent =
-          ap (λ p. l.log ++ entries_of t (command_of l) l.paid
+          ap (λ p. l.log ++ entries_of t (command_of l) l.balance.paid
           (effect c p (h (place_of (part_want c p)))).reply) (out_is l.part out)
           ∙ append-nil l.log
 
@@ -306,7 +313,7 @@ module _ (c : Config) (traces : List (List Command)) (job : IsJob c traces) (rat
         → is_out (local_at c r.state t).part ≡ true → EndsIn r most
     at_out most r lone low out =
         let one : rest r ≡ 1 =
-            out_one e (unit c) c (heap_in c r.state) t (due - (local_at c r.state t).paid)
+            out_one e (unit c) c (heap_in c r.state) t (due - (local_at c r.state t).balance.paid)
             (local_at c r.state t).part out in
         let last = last_turn left_some command r lone out in
         (1, omega arith, none_before r last.0, last.1)
@@ -381,7 +388,7 @@ module _ (c : Config) (traces : List (List Command)) (job : IsJob c traces) (rat
     others = λ u ul ne. all_out c traces r kept quiet u ul;
     own = record {
       knows = subst (λ p. LoneKnows c (heap_in c r.state) t first.pass
-          (units_owed c.width rate (command_of first)) first.paid p) (sym at_rest) tt;
+          (units_owed c.width rate (command_of first)) first.balance.paid p) (sym at_rest) tt;
       log = subst (λ p. LogAt c traces job rate planned t tl first.log (command_of first)
           first.log p) (sym at_rest)
           (λ on. refl, λ out. absurd (let z : false ≡ true = out in cc));
@@ -399,22 +406,22 @@ module _ (c : Config) (traces : List (List Command)) (job : IsJob c traces) (rat
       ap (λ x. get_or x (length first.log) (commands.Nil 0)) (sym (kept.locals t tl).trace)
 
   -- nothing is paid
-  none_paid : first.paid ≡ 0
+  none_paid : first.balance.paid ≡ 0
   none_paid =
-      let settled : IsSettled (owed first) first.paid Rest =
-          subst (λ p. IsSettled (owed first) first.paid p) at_rest (kept.locals t tl).settled in
+      let settled : IsSettled (owed first) first.balance.paid Rest =
+          subst (λ p. IsSettled (owed first) first.balance.paid p) at_rest (kept.locals t tl).settled in
       settled
 
   first_price : left (terms_of c (command_of first)) (unit c)
-      (lone_of c (heap_in c r.state) t (units_owed c.width rate (command_of first) - first.paid)
+      (lone_of c (heap_in c r.state) t (units_owed c.width rate (command_of first) - first.balance.paid)
       first.part) ≤ command_bound c rate (command_of first)
   first_price =
       let none = none_paid in
       subst (λ p. left (terms_of c (command_of first)) (unit c)
-      (lone_of c (heap_in c r.state) t (units_owed c.width rate (command_of first) - first.paid) p)
+      (lone_of c (heap_in c r.state) t (units_owed c.width rate (command_of first) - first.balance.paid) p)
       ≤ command_bound c rate (command_of first)) (sym at_rest)
       (priced c rate (command_of first)
-      (units_owed c.width rate (command_of first) - first.paid) _ _ (omega arith))
+      (units_owed c.width rate (command_of first) - first.balance.paid) _ _ (omega arith))
 
   pub lone_ends : EndsWithin c t r (command_bound c rate (command_of (local_in c r t)))
   lone_ends =
