@@ -509,6 +509,11 @@ EntersOn _ z w = Unit {0}
 abbrev pub LocalReads : Config → LocalState → ℕ → Type 0
 LocalReads c l w = PartReads c l.part w × EntersOn l.part l.balance.cycle w
 
+-- a thread has moved on by its next event, which read w, and told what its turn was
+abbrev pub HasGot : LocalState → ℕ → LocalState → Turn → Type 0
+HasGot old w new turn =
+    (new ≡ local_got old w) × (turn ≡ turn_of (part_step old.config old.part w))
+
 -- the pass of a thread that has not yet gone in
 abbrev pub no_pass : ℕ → ℕ → Pass
 no_pass t n = record { thread = t; threads = n; cycle = 0; sweep = false }

@@ -12,7 +12,7 @@ ghost use Rattle.never_heap.specs.Jobs.{IsTraceInBounds};
 ghost use Rattle.heap_machine.specs.declared.gate.GateRow.{GateRow};
 ghost use Rattle.grey_steps.specs.Rows.{scanning};
 ghost use Rattle.sweep_steps.specs.Rows.{sweeping};
-ghost use Rattle.heap_system.specs.Locals.{LocalReads, is_done, is_rest, is_build, is_at_gate, is_in_command, is_marking, is_sweeping, is_on_way_out, part_want, part_step, local_got, at_start, turn_of, is_last, pass_by, first_part, errand_of, command_of, owed, made_got, works, entry_of, balance_paid};
+ghost use Rattle.heap_system.specs.Locals.{LocalReads, HasGot, is_done, is_rest, is_build, is_at_gate, is_in_command, is_marking, is_sweeping, is_on_way_out, part_want, part_step, local_got, at_start, turn_of, is_last, pass_by, first_part, errand_of, command_of, owed, made_got, works, entry_of, balance_paid};
 
 use crate::Turn;
 use barrier_steps::FieldPass;
@@ -384,8 +384,7 @@ impl Local {
         requires part { is_at_gate self.old.part ≡ true }
         requires open { is_done self.old ≡ false }
         requires word { LocalReads self.old.config self.old word }
-        ensures local { self.new ≡ local_got self.old word }
-        ensures turn { result ≡ turn_of (part_step self.old.config self.old.part word) }
+        ensures { HasGot self.old word self.new result }
     {
         match &mut self.part {
             Part::Rest => {
@@ -421,8 +420,7 @@ impl Local {
     fn in_command(&mut self, word: u64) -> Turn
         requires part { is_in_command self.old.part ≡ true }
         requires word { LocalReads self.old.config self.old word }
-        ensures local { self.new ≡ local_got self.old word }
-        ensures turn { result ≡ turn_of (part_step self.old.config self.old.part word) }
+        ensures { HasGot self.old word self.new result }
     {
         let places = Places::new(&self.config);
         match &mut self.part {
@@ -457,8 +455,7 @@ impl Local {
     fn marks(&mut self, word: u64) -> Turn
         requires part { is_marking self.old.part ≡ true }
         requires word { LocalReads self.old.config self.old word }
-        ensures local { self.new ≡ local_got self.old word }
-        ensures turn { result ≡ turn_of (part_step self.old.config self.old.part word) }
+        ensures { HasGot self.old word self.new result }
     {
         let places = Places::new(&self.config);
         match &mut self.part {
@@ -483,8 +480,7 @@ impl Local {
     fn sweeps(&mut self, word: u64) -> Turn
         requires part { is_sweeping self.old.part ≡ true }
         requires word { LocalReads self.old.config self.old word }
-        ensures local { self.new ≡ local_got self.old word }
-        ensures turn { result ≡ turn_of (part_step self.old.config self.old.part word) }
+        ensures { HasGot self.old word self.new result }
     {
         let places = Places::new(&self.config);
         match &mut self.part {
@@ -507,8 +503,7 @@ impl Local {
     #[inline(always)]
     fn out(&mut self, word: u64) -> Turn
         requires part { is_on_way_out self.old.part ≡ true }
-        ensures local { self.new ≡ local_got self.old word }
-        ensures turn { result ≡ turn_of (part_step self.old.config self.old.part word) }
+        ensures { HasGot self.old word self.new result }
     {
         let _word = word;
         match self.part {

@@ -1,0 +1,4 @@
+pub mod Stopping
+pub mod Agreeing
+pub mod LeftTurns
+pub mod Runs
