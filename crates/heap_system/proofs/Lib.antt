@@ -27,3 +27,4 @@ pub mod tallies
 pub mod Tallied
 pub mod TalliesOf
 pub mod Bounded
+pub mod Ordering

@@ -8,6 +8,9 @@ mod local;
 #[cfg(test)]
 mod lone;
 #[cfg(test)]
+mod ordered;
+mod orders;
+#[cfg(test)]
 mod schedules;
 mod start;
 mod system;
@@ -30,6 +33,7 @@ pub use laws::{
     words_show_the_order, works_are_units,
 };
 pub use local::Local;
+pub use orders::turns_add_their_items;
 pub use start::opening;
 pub use system::{Finished, System, Unfinished, sum_of_works};
 
