@@ -1,5 +1,5 @@
 -- The order that a system keeps: which items an event adds, and that there is room for them.
-use Rattle.std.proofs.Common.{◌≡◌, ℕ, zero, suc, ◌+◌, ◌-◌, ◌*◌, ◌/◌, ◌^◌, ◌<◌, ◌≤◌, Bool, true, false, cond, eqb, ltb, lt-ltb, le-ltb, eq-eqb, ne_eqb, Option, Some, None, List, [], ◌∷◌, ◌++◌, length, get_or, take, length-append, map, refl, sym, ap, ◌∙◌, subst, arith, inl, inr}
+use Rattle.std.proofs.Common.{◌≡◌, ℕ, zero, suc, ◌+◌, ◌-◌, ◌*◌, ◌/◌, ◌^◌, ◌<◌, ◌≤◌, Bool, true, false, cond, eqb, ltb, lt-ltb, le-ltb, eq-eqb, ne_eqb, Option, IfSome, Some, None, List, [], ◌∷◌, ◌++◌, length, get_or, take, length-append, map, refl, sym, ap, ◌∙◌, subst, arith, inl, inr}
 use Rattle.std.specs.List.{AllByRecursion}
 use Rattle.std.specs.Vec.{vec_capacity}
 use Rattle.std.proofs.Math.Nat.{le-div_iff_mul-le}
@@ -34,7 +34,7 @@ use Rattle.heap_system.specs.Naming.{Naming, Begun}
 use Rattle.heap_system.specs.declared.orders.KeptOrder.{KeptOrder}
 use Rattle.heap_system.specs.Ordering.{ordered, ordered_of, IsOrderOf, IsOrderIn, IsInOrder}
 use Rattle.heap_system.specs.Pictures.{waiting}
-use Rattle.heap_system.specs.Systems.{Ordered, opening_order, entry_item, start_item, items_by_effect, items_added, after_event, commands_in, traces_of, logs_of, items_kept, AllDone, IsReached, IsReachedInOrder, IsFinishedInOrder}
+use Rattle.heap_system.specs.Systems.{Ordered, opening_order, entry_item, start_item, items_by_effect, items_added, after_event, ordered_after, commands_in, traces_of, logs_of, items_kept, AllDone, IsReached, IsReachedInOrder, IsFinishedInOrder}
 use Rattle.heap_system.proofs.Always.{here, run_kept, turn_kept}
 use Rattle.heap_system.proofs.Bounded.{in_threads, least, by_thread}
 use Rattle.heap_system.proofs.Growing.{part_grows}
@@ -398,3 +398,15 @@ finished_in_order c s order is done n cycles = subst (λ y. IsFinishedInOrder c 
         logged = logged_all c s is.reached done;
       });
     }
+
+pub none_after : (c : Config) (t : ℕ) (s : State) (o : Option Ordered) → o ≡ None → ordered_after c t s o ≡ None
+none_after c t s o e = ap (ordered_after c t s) e
+
+-- one event less is left
+left_if : (b : Bool) (c : Config) (t : ℕ) (s : State) (o : Ordered) (n : ℕ) → n < o.left → n ≤ (cond b (after_event c t s o) o).left
+left_if true c t s o n more = omega arith
+left_if false c t s o n more = omega arith
+
+pub left_after : (c : Config) (t : ℕ) (s : State) (o : Option Ordered) (n : ℕ) → IfSome o (λ x. n < x.left) → IfSome (ordered_after c t s o) (λ x. n ≤ x.left)
+left_after c t s None n more = tt
+left_after c t s (Some o) n more = left_if (has_event c t s) c t s o n more

@@ -20,12 +20,7 @@ fn run(
 {
     let config = one(Width::Four);
     let trace = trace_of(alloc, &config, parts)?;
-    let mut system = System::new_ordered(
-        alloc,
-        config,
-        vec![in alloc; trace]?,
-        u64::from(turns),
-    )?;
+    let mut system = System::new_ordered(alloc, config, vec![in alloc; trace]?, u64::from(turns))?;
     for _turn in 0..turns {
         system.turn(0);
     }
@@ -47,7 +42,11 @@ fn a_start_stands_before_the_command_that_pays_in_its_cycle(
     assert_eq!(rt; order.len(), 13);
     for (i, item) in order.iter().enumerate() {
         let start = i == 0 || i == 11;
-        assert_eq!(rt; *item, if start { Item::Start } else { Item::Entry(0) }, "item {i}");
+        assert_eq!(rt;
+            *item,
+            if start { Item::Start } else { Item::Entry(0) },
+            "item {i}"
+        );
     }
     assert_eq!(rt; logs.cycles(), 2);
     Ok(())

@@ -1,9 +1,10 @@
-use Rattle.std.proofs.Common.{◌≡◌, None, ◌≤◌, ◌+◌, ℕ, length, sym, ap, ◌∙◌, subst, arith}
+use Rattle.std.proofs.Common.{◌≡◌, None, ◌≤◌, ◌+◌, ◌%◌, ℕ, length, sym, ap, ◌∙◌, subst, arith}
 use Rattle.block_store.specs.declared.Width.TheVariants.{Four}
 use Rattle.block_store.specs.declared.Config.{Config}
 use Rattle.never_heap.specs.Graphs.{WideGraph, count_of}
 use Rattle.never_heap.proofs.Starting.{count_of_start, threads_of_start}
-use Rattle.heap_system.specs.Systems.{Whole, ordered_after}
+use Rattle.heap_system.specs.Systems.{Whole}
+use Rattle.heap_system.proofs.Ordering.{none_after}
 use Rattle.heap_system.proofs.schedules.agrees.Goals as goal
 use Rattle.heap_system.proofs.schedules.agrees.Goals.{then-decided_now-decided+in-Some+in_ok-waiting, then-decided_now-decided+in_default, else-decided_now-decided}
 
@@ -33,5 +34,5 @@ loop-turn-preserved c =
       | then-decided_now-decided+in_default w ↦ subst (λ (g : WideGraph). IsSmall (c.loop-turn._turn + 1) g) (sym w.graph-is) (more c.loop-turn._turn c.loop-turn.graph now)
       | else-decided_now-decided w ↦ subst (λ (g : WideGraph). IsSmall (c.loop-turn._turn + 1) g) (sym w.graph-is) (more c.loop-turn._turn c.loop-turn.graph now)
     ] in
-    let plain : c.turn.new.self.ordered ≡ None = ap (λ (w : Whole). w.ordered) c.turn.ensures.state ∙ ap (ordered_after c.loop-turn.system.config c.thread c.loop-turn.system.state) c.loop-turn.invariant.1 in
+    let plain : c.turn.new.self.ordered ≡ None = ap (λ (w : Whole). w.ordered) c.turn.ensures.state ∙ none_after c.loop-turn.system.config (c.next_word-thread.result % 3) c.loop-turn.system.state c.loop-turn.system.ordered c.loop-turn.invariant.1 in
     (ap (λ (w : Whole). w.config) c.turn.ensures.state ∙ c.loop-turn.invariant.0, plain, after.0, after.1)
