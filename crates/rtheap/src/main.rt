@@ -9,6 +9,7 @@ use std::io::{self, BufWriter, ErrorKind, Write};
 use std::process::ExitCode;
 use std::rt::Env;
 use std::sync::Wait;
+use std::thread::Threads;
 use trace_text::{Sink, StdSink, StdSource};
 
 /// The status of a writing that failed, and that of want of memory.
@@ -30,13 +31,13 @@ fn without_memory(rt: &HostRuntime) -> u8 {
 
 /// Does what the program's words ask for, and says with which status the program ends. What is
 /// written to standard output goes out in large pieces; the last goes out here, where none failed.
-/// The second handle is the same runtime, by which the run of a job may wait.
-fn run<W: Wait>(rt: &HostRuntime, waits: &W) -> Result<u8, AllocError> {
+/// The second handle is the same runtime, by which the run of a job makes threads and waits.
+fn run<T: Threads + Wait + Sync>(rt: &HostRuntime, threads: &T) -> Result<u8, AllocError> {
     let words = words_of(rt)?;
     let mut source = StdSource::new(rt.stdin());
     let mut out = BufWriter::new(rt.alloc(), rt.stdout()).map_err(|_| AllocError)?;
     let mut sink = StdSink::new(&mut out);
-    let exit = rtheap(waits, rt.alloc(), &words, &mut source, &mut sink, &NoPace);
+    let exit = rtheap(threads, rt.alloc(), &words, &mut source, &mut sink, &NoPace);
     if exit.status != WRITE_FAULT && out.flush().is_err() {
         return Ok(WRITE_FAULT);
     }

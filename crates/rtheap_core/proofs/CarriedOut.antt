@@ -4,12 +4,12 @@ use Rattle.std.proofs.lemmas.Bool.{cases_eq}
 use Rattle.trace_text.specs.Faults.{Rose}
 use Rattle.trace_text.specs.Streams.{Appends, AppendsPrefix}
 use Rattle.trace_text.specs.Texts.{run_text}
-use Rattle.heap_system.specs.Systems.{Finish}
+use Rattle.atom_board.specs.Mutators.{ClosedState}
 use Rattle.heap_system.specs.Systems.{units_of as units_in}
 use Rattle.rtheap_core.specs.declared.exit.RunEnd.{RunEnd}
 use Rattle.rtheap_core.specs.declared.exit.RunEnd.TheVariants.{Ran}
 use Rattle.rtheap_core.specs.declared.refusal.Refusal.{Refusal}
-use Rattle.rtheap_core.specs.declared.refusal.Refusal.TheVariants.{Usage, BadLine, TooLong, LiveTooSmall, NoRate, Later, ReadFault, OutOfMemory}
+use Rattle.rtheap_core.specs.declared.refusal.Refusal.TheVariants.{Usage, BadLine, TooLong, LiveTooSmall, NoRate, ReadFault, OutOfMemory}
 use Rattle.rtheap_core.specs.Calls.{Call, IsCarriedOut}
 use Rattle.rtheap_core.specs.Exits.{AskForRun, Ask, Headline, IsWritten, IsDue}
 use Rattle.rtheap_core.specs.Outcomes.{HasRun}
@@ -31,7 +31,7 @@ failed c t more = elim (cases_eq c.exit.status 6) [
 
 -- ---- a run
 
-pub run_is_carried_out : (c : Call) (run : Finish) → AskForRun c.words → HasRun c.source (Ran run)
+pub run_is_carried_out : (c : Call) (run : ClosedState) → AskForRun c.words → HasRun c.source (Ran run)
     → IsUnfailed c.source → c.exit.due ≡ 0 → c.exit.run ≡ Some (Ran run)
     → IsWritten c.sink c.exit.status (run_text run.logs run.cycles (units_in run.logs)) → IsTold c → IsCarriedOut c
 run_is_carried_out c run asked has unfailed due is written t = record {
@@ -55,7 +55,6 @@ never_done : (r : Refusal) → status_of r ≢ 0
 never_done Usage e = absurd cc
 never_done (BadLine line why) e = absurd cc
 never_done TooLong e = absurd cc
-never_done Later e = absurd cc
 never_done LiveTooSmall e = absurd cc
 never_done NoRate e = absurd cc
 never_done ReadFault e = absurd cc
@@ -65,7 +64,6 @@ is_due : (r : Refusal) → IsDue (status_of r)
 is_due Usage = inr (inl refl)
 is_due (BadLine line why) = inr (inr (inl refl))
 is_due TooLong = inr (inr (inl refl))
-is_due Later = inr (inr (inl refl))
 is_due LiveTooSmall = inr (inr (inr (inl refl)))
 is_due NoRate = inr (inr (inr (inl refl)))
 is_due ReadFault = inr (inr (inr (inr (inl refl))))
@@ -76,7 +74,6 @@ module _ (words : List (List ℕ)) (source : Sides) where
   usage_is Usage c = (λ _. c.0, λ _. refl)
   usage_is (BadLine line why) c = (λ e. absurd cc, λ n. absurd (n c.0))
   usage_is TooLong c = (λ e. absurd cc, λ n. absurd (n c.0))
-  usage_is Later c = (λ e. absurd cc, λ n. absurd (n (inl c.0)))
   usage_is LiveTooSmall c = (λ e. absurd cc, λ n. absurd (n c.0))
   usage_is NoRate c = (λ e. absurd cc, λ n. absurd (n c.0))
   usage_is ReadFault c = (λ e. absurd cc, λ n. absurd (n c.0))
@@ -87,7 +84,6 @@ module _ (words : List (List ℕ)) (source : Sides) where
   fault_rose Usage c e = absurd cc
   fault_rose (BadLine line why) c e = absurd cc
   fault_rose TooLong c e = absurd cc
-  fault_rose Later c e = absurd cc
   fault_rose LiveTooSmall c e = absurd cc
   fault_rose NoRate c e = absurd cc
   fault_rose ReadFault c e = c.1
@@ -101,7 +97,6 @@ module _ (words : List (List ℕ)) (source : Sides) where
   fault_is Usage c more = no_fault c.2 more
   fault_is (BadLine line why) c more = no_fault c.3 more
   fault_is TooLong c more = no_fault c.2 more
-  fault_is Later c more = no_fault c.2 more
   fault_is LiveTooSmall c more = no_fault c.2 more
   fault_is NoRate c more = no_fault c.2 more
   fault_is ReadFault c more = refl

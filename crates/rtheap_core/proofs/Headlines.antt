@@ -2,7 +2,7 @@
 use Rattle.std.proofs.Common.{ℕ, ◌≡◌, sym, ap, ◌∙◌, subst}
 use Rattle.never_heap.specs.Histories.{parts, starts_in}
 use Rattle.trace_text.specs.Texts.{run_text, text_by_threads}
-use Rattle.heap_system.specs.Systems.{Finish}
+use Rattle.atom_board.specs.Mutators.{ClosedState}
 use Rattle.heap_system.specs.Systems.{units_of as units_in}
 use Rattle.rtheap_core.specs.declared.exit.RunEnd.TheVariants.{Ran}
 use Rattle.rtheap_core.specs.Exits.{HasHistory, Headline, IsWritten}
@@ -10,7 +10,7 @@ use Rattle.rtheap_core.specs.Sides.{Sides}
 use Rattle.rtheap_core.specs.Outcomes.{HasRun}
 
 -- what the run shows is the text of its history
-text_of_run : (run : Finish) (r : HasHistory (Ran run))
+text_of_run : (run : ClosedState) (r : HasHistory (Ran run))
     → run_text run.logs run.cycles (units_in run.logs)
     ≡ text_by_threads run.config.threads r.history
 text_of_run run r =
@@ -20,13 +20,12 @@ text_of_run run r =
     ∙ ap (λ k. run_text (parts run.config.threads r.history) (starts_in r.history) k)
     (sym r.work_counted)
 
-pub headline_of : (source sink : Sides) (status : ℕ) (run : Finish) → HasRun source (Ran run)
+pub headline_of : (source sink : Sides) (status : ℕ) (run : ClosedState) → HasRun source (Ran run)
     → IsWritten sink status (run_text run.logs run.cycles (units_in run.logs))
     → Headline source sink status (Ran run)
 headline_of source sink status run r w = record {
   read = r.read;
   admitted = r.admitted;
-  runnable = r.runnable;
   ran = r.ran;
   text = subst (IsWritten sink status) (text_of_run run r.ran) w;
 }

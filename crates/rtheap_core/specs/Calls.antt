@@ -9,7 +9,6 @@ use Rattle.trace_text.specs.Refusals.{IsFirstBadLine}
 use Rattle.rtheap_core.specs.declared.exit.Exit.{Exit}
 use Rattle.rtheap_core.specs.Exits.{AskForRun, AskForPlan, Ask, Headline, Planned, IsDue, IsDueOrFails}
 use Rattle.rtheap_core.specs.Refusals.{Refused}
-use Rattle.rtheap_core.specs.Runnable.{CanRun}
 use Rattle.rtheap_core.specs.Sides.{Sides}
 
 -- the words that the call was given, its source and its sink, and what it answered
@@ -49,10 +48,8 @@ pub record IsComplete (c : Call) : Type 0 where
       → IsDueFor 3 (λ bytes. (length bytes ≤ input_limit) × IsFirstBadLine bytes line why) c
   pub no_rate : Ask c.words → (job : Job) (fault : PlanFault)
       → IsDueFor 4 (λ bytes. IsInput bytes job × IsRefusal job.config fault) c
-  pub later : AskForRun c.words → (job : Job)
-      → IsDueFor 3 (λ bytes. IsInput bytes job × IsAdmitted job.config × (CanRun job → ⊥)) c
-  pub complete : Ask c.words → (job : Job) → IsAdmitted job.config
-      → (AskForRun c.words → CanRun job) → IsDueFor 0 (λ bytes. IsInput bytes job) c
+  pub complete : Ask c.words → (job : Job)
+      → IsDueFor 0 (λ bytes. IsInput bytes job × IsAdmitted job.config) c
   -- Without a fault of a stream the task is done, or the answer is want of memory.
   pub unfailed : (Rose c.source.faults c.source.faults_now → ⊥)
       → (Rose c.sink.faults c.sink.faults_now → ⊥)

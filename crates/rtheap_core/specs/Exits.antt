@@ -1,11 +1,14 @@
 -- What the top call answers.
-use Rattle.std.specs.Prelude.{ℕ, ◌≡◌, ◌⊎◌, false, List, [], ◌∷◌, ◌++◌, map, codes, decimal, All, IfSome}
+use Rattle.std.specs.Prelude.{ℕ, ◌-◌, ◌*◌, ◌≡◌, ◌≤◌, ◌⊎◌, false, List, [], ◌∷◌, ◌++◌, map, codes, decimal, All, IfSome}
+use Rattle.block_store.specs.declared.Config.{Config}
 use Rattle.never_heap.specs.declared.Command.{Command}
 use Rattle.never_heap.specs.declared.Entry.{Entry}
+use Rattle.never_heap.specs.Given.{given}
 use Rattle.never_heap.specs.Histories.{HistoryItem, is_full, parts, starts_in, work_in}
 use Rattle.never_heap.specs.Licensed.{StartsSmall, NoFulls}
 use Rattle.never_heap.specs.Runs.{IsRun}
-use Rattle.heap_system.specs.Systems.{Finish, IsFinished}
+use Rattle.cycle_tally.specs.Kept.{most_given}
+use Rattle.heap_system.specs.Systems.{IsFinished}
 use Rattle.heap_system.specs.Systems as systems
 use Rattle.rate_plan.specs.Rates.{IsAdmitted, IsRate}
 use Rattle.trace_text.specs.Jobs.{Job, IsJobInBounds, IsInput}
@@ -14,7 +17,6 @@ use Rattle.trace_text.specs.Streams.{Appends, AppendsPrefix, IsAtEnd}
 use Rattle.trace_text.specs.Texts.{text_by_threads}
 use Rattle.rtheap_core.specs.declared.exit.RunEnd.{RunEnd}
 use Rattle.rtheap_core.specs.declared.exit.RunEnd.TheVariants.{Ran}
-use Rattle.rtheap_core.specs.Runnable.{CanRun}
 use Rattle.rtheap_core.specs.Sides.{Sides}
 
 -- the words are the one word that asks for a run, or for the rate
@@ -28,9 +30,15 @@ AskForPlan words = words ≡ codes "plan" ∷ []
 abbrev pub Ask : List (List ℕ) → Type 0
 Ask words = AskForRun words ⊎ AskForPlan words
 
--- what is left of an ended run
-abbrev pub run_of : RunEnd → Finish
-run_of (Ran f) = f
+-- what is left of an ended run: its configuration, the entries of each thread, and how many cycles
+-- were started
+pub record Ended : Type 0 where
+  pub config : Config
+  pub logs : List (List Entry)
+  pub cycles : ℕ
+
+abbrev pub run_of : RunEnd → Ended
+run_of (Ran f) = record { config = f.config; logs = f.logs; cycles = f.cycles }
 
 -- what an ended run shows: the entries of each thread, how many cycles were started, and how many
 -- units were made
@@ -56,7 +64,9 @@ job_of end = record { config = (run_of end).config; traces = map commands_of (lo
 -- and the events that decide its entries are those of that list, and the work of each entry is the
 -- number of units that the turns of its own command made. The logs, cycles and units that the run
 -- shows are those of the history. Where each cycle of the history began with at most L live blocks,
--- none of its commands was answered full.
+-- none of its commands was answered full. In no cycle are more blocks given than its units pay for,
+-- and one object of each thread. The units of C cycles on m blocks are at least (C - 1) m and at
+-- most 2 m C.
 pub record HasHistory (end : RunEnd) : Type 0 where
   pub rate : ℕ
   pub is_rate : IsRate (job_of end).config rate
@@ -68,6 +78,10 @@ pub record HasHistory (end : RunEnd) : Type 0 where
   pub starts_counted : starts_in history ≡ cycles_of end
   pub work_counted : work_in history ≡ units_of end
   pub none_full : StartsSmall (job_of end).config history → NoFulls history
+  pub few_given : (z : ℕ) → z ≤ starts_in history
+      → given (job_of end).config.width history z ≤ most_given (job_of end).config rate
+  pub least_units : (cycles_of end - 1) * (job_of end).config.blocks ≤ units_of end
+  pub most_units : units_of end ≤ 2 * (job_of end).config.blocks * cycles_of end
 
 -- where the source told its bytes, they were the input that is this job, and all were read
 pub record IsReadAs (source : Sides) (job : Job) : Type 0 where
@@ -87,7 +101,6 @@ pub record IsWritten (sink : Sides) (status : ℕ) (text : List ℕ) : Type 0 wh
 pub record Headline (source sink : Sides) (status : ℕ) (end : RunEnd) : Type 0 where
   pub read : IsReadAs source (job_of end)
   pub admitted : IsAdmitted (job_of end).config
-  pub runnable : CanRun (job_of end)
   pub ran : HasHistory end
   pub text : IsWritten sink status (text_by_threads (job_of end).config.threads ran.history)
 

@@ -4,14 +4,12 @@ use Rattle.rate_plan.specs.Rates.{IsAdmitted, IsRate}
 use Rattle.trace_text.specs.Jobs.{Job}
 use Rattle.rtheap_core.specs.declared.exit.RunEnd.{RunEnd}
 use Rattle.rtheap_core.specs.Exits.{IsReadAs, HasHistory, job_of}
-use Rattle.rtheap_core.specs.Runnable.{CanRun}
 use Rattle.rtheap_core.specs.Sides.{Sides}
 
 -- the job that was read was run
 pub record HasRun (source : Sides) (end : RunEnd) : Type 0 where
   pub read : IsReadAs source (job_of end)
   pub admitted : IsAdmitted (job_of end).config
-  pub runnable : CanRun (job_of end)
   pub ran : HasHistory end
 
 -- the rate is that of the job that was read

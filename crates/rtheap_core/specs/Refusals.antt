@@ -2,7 +2,7 @@
 use Rattle.std.specs.Prelude.{ℕ, ◌≡◌, ◌≢◌, ◌≤◌, ◌<◌, ◌+◌, List, [], ◌∷◌, ◌++◌, length, drop, codes, decimal, Some, IfSome}
 use Rattle.rate_plan.specs.declared.PlanFault.{PlanFault}
 use Rattle.rate_plan.specs.declared.PlanFault.TheVariants as plans
-use Rattle.rate_plan.specs.Rates.{IsAdmitted, IsRefusal}
+use Rattle.rate_plan.specs.Rates.{IsRefusal}
 use Rattle.trace_text.specs.declared.trace_faults.TraceFault.{TraceFault}
 use Rattle.trace_text.specs.declared.trace_faults.TraceFault.TheVariants as faults
 use Rattle.trace_text.specs.Faults.{Rose}
@@ -12,16 +12,14 @@ use Rattle.trace_text.specs.Reasons.{reason_text}
 use Rattle.trace_text.specs.Refusals.{IsFirstBadLine}
 use Rattle.trace_text.specs.Streams.{Appends, AppendsPrefix, IsAtEnd, TookAtMost}
 use Rattle.rtheap_core.specs.declared.refusal.Refusal.{Refusal}
-use Rattle.rtheap_core.specs.declared.refusal.Refusal.TheVariants.{Usage, BadLine, TooLong, LiveTooSmall, NoRate, Later, ReadFault, OutOfMemory}
-use Rattle.rtheap_core.specs.Exits.{AskForRun, Ask, IsReadAs}
-use Rattle.rtheap_core.specs.Runnable.{CanRun}
+use Rattle.rtheap_core.specs.declared.refusal.Refusal.TheVariants.{Usage, BadLine, TooLong, LiveTooSmall, NoRate, ReadFault, OutOfMemory}
+use Rattle.rtheap_core.specs.Exits.{Ask, IsReadAs}
 use Rattle.rtheap_core.specs.Sides.{Sides}
 
 abbrev pub status_of : Refusal → ℕ
 status_of Usage = 2
 status_of (BadLine line why) = 3
 status_of TooLong = 3
-status_of Later = 3
 status_of LiveTooSmall = 4
 status_of NoRate = 4
 status_of ReadFault = 5
@@ -32,7 +30,6 @@ abbrev pub refusal_text : Refusal → List ℕ
 refusal_text Usage = codes "usage"
 refusal_text (BadLine line why) = codes "line " ++ decimal line ++ codes ": " ++ reason_text why
 refusal_text TooLong = codes "input too long"
-refusal_text Later = codes "later"
 refusal_text LiveTooSmall = codes "live limit too small"
 refusal_text NoRate = codes "no rate"
 refusal_text ReadFault = codes "read fault"
@@ -75,9 +72,6 @@ IsCause words source TooLong =
     × IfSome source.bytes (λ bytes.
     (input_limit < length bytes) × (source.bytes_now ≡ Some (drop (input_limit + 1) bytes)))
     × IsUnfailed source
-IsCause words source Later =
-    AskForRun words
-    × IsJobWith (λ job. IsAdmitted job.config × (CanRun job → ⊥)) source × IsUnfailed source
 IsCause words source LiveTooSmall =
     Ask words
     × IsJobWith (λ job. IsRefusal job.config plans.LiveTooSmall) source × IsUnfailed source

@@ -1,13 +1,13 @@
 //! What the top call answers.
 
-use heap_system::Finished;
+use atom_board::Closed;
 use never_heap::{Entry, Logs};
 
 /// A run that ended.
 #[derive(Drop)]
 pub enum RunEnd {
-    /// Of the word `run`.
-    Ran(Finished),
+    /// Of the word `run`: of threads that ran beside each other.
+    Ran(Closed),
 }
 
 impl Logs for RunEnd {
@@ -45,8 +45,8 @@ impl Logs for RunEnd {
 }
 
 /// What became of a call. `due` is the status by all but the writing: 0 where the task was done, 2
-/// for words that ask for nothing, 3 for an input that is no job or a job that cannot be run yet, 4
-/// for a configuration without a rate, 5 for a read fault, 7 for want of memory. `status` is `due`,
+/// for words that ask for nothing, 3 for an input that is no job, 4 for a configuration without a
+/// rate, 5 for a read fault, 7 for want of memory. `status` is `due`,
 /// or 6 where writing failed. `run` is there where a run ended.
 #[derive(Drop)]
 pub struct Exit {

@@ -21,8 +21,6 @@ pub enum Refusal {
     LiveTooSmall,
     /// No rate is enough for the configuration.
     NoRate,
-    /// The job cannot be run yet.
-    Later,
     /// The source failed.
     ReadFault,
     /// Memory ran out.
@@ -36,7 +34,7 @@ impl Refusal {
     {
         match self {
             Refusal::Usage => 2,
-            Refusal::BadLine { .. } | Refusal::TooLong | Refusal::Later => 3,
+            Refusal::BadLine { .. } | Refusal::TooLong => 3,
             Refusal::LiveTooSmall | Refusal::NoRate => 4,
             Refusal::ReadFault => 5,
             Refusal::OutOfMemory => 7,
@@ -70,7 +68,6 @@ impl Refusal {
             Refusal::TooLong => line.prepend(b"input too long"),
             Refusal::LiveTooSmall => line.prepend(b"live limit too small"),
             Refusal::NoRate => line.prepend(b"no rate"),
-            Refusal::Later => line.prepend(b"later"),
             Refusal::ReadFault => line.prepend(b"read fault"),
             Refusal::OutOfMemory => line.prepend(b"no memory"),
         }

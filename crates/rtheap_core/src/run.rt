@@ -1,66 +1,68 @@
-//! A run of one thread.
+//! A run of a job, with a call of its own for each thread.
 
 ghost use Rattle.std.specs.Prelude.{◌≡◌, IfOk, true};
 ghost use Rattle.rate_plan.specs.Rates.{IsAdmitted};
 ghost use Rattle.trace_text.specs.Jobs.{IsJobInBounds};
 ghost use Rattle.heap_system.specs.Locals.{is_done};
-ghost use Rattle.heap_system.specs.Machines.{local_at};
-ghost use Rattle.heap_system.specs.Systems.{IsFinished, traces_of};
+ghost use Rattle.atom_board.specs.Mutators.{AreInOrder, AllAreDone, IsLater};
 ghost use Rattle.rtheap_core.specs.declared.exit.RunEnd.TheVariants as ends;
 ghost use Rattle.rtheap_core.specs.Exits.{HasHistory, job_of};
-ghost use Rattle.rtheap_core.specs.Runnable.{CanRun};
 
+use atom_board::{AtomBoard, Closed, Mutator};
 use block_store::OutOfMemory;
-use heap_system::{Finished, System, Turn, fulls_are_licensed};
+use heap_system::{cycles_cost_few_units, cycles_give_few_blocks, fulls_are_licensed};
+use never_heap::Pace;
 use std::alloc::Global;
 use std::sync::Wait;
+use std::thread;
+use std::thread::Threads;
 use trace_text::Job;
 
-/// Runs a job of one thread to its end. That it comes to its end is not promised.
+/// Runs a job to its end, each of its threads in a call of its own, and tells the pace before each
+/// command. The calls are made beside each other where threads can be made, and else one after
+/// another. That they come to their ends is not promised.
 ///
 /// # Errors
 ///
-/// `OutOfMemory` where there is no room for the heap or the log.
-pub fn run_job<R: Wait>(rt: &R, alloc: Global, job: Job) -> Result<Finished, OutOfMemory>
+/// `OutOfMemory` where there is no room for the heap, the logs or the calls.
+pub fn run_job<R: Threads + Wait + Sync, Q: Pace>(
+    rt: &R,
+    alloc: Global,
+    job: Job,
+    pace: &Q,
+) -> Result<Closed, OutOfMemory>
     requires bounds { IsJobInBounds job }
     requires admitted { IsAdmitted job.config }
-    requires runnable { CanRun job }
     ensures job { IfOk result (λ f. job_of (ends.Ran f) ≡ job) }
     ensures ran { IfOk result (λ f. HasHistory (ends.Ran f)) }
 {
     fulls_are_licensed();
-    let system = System::new(alloc, job.config, job.traces)?;
-    Ok(finished(driven(rt, system)))
+    cycles_give_few_blocks();
+    cycles_cost_few_units();
+    let (board, mutators) = AtomBoard::new(alloc, job.config, job.traces)?;
+    let done = driven(rt, &board, mutators, pace)?;
+    Ok(board.close(done))
 }
 
-/// Makes turns of the one thread until it is done.
-#[tactic(auto, using(crate::proofs::Driven::done_after))]
-fn driven<R: Wait>(rt: &R, system: System) -> System
-    requires one_thread { system.config.threads ≡ 1 }
-    ensures config { result.config ≡ system.config }
-    ensures traces { traces_of result.state ≡ traces_of system.state }
-    ensures done { is_done (local_at result.config result.state 0) ≡ true }
+/// Drives each mutator of a board until it is done.
+fn driven<R: Threads + Wait + Sync, Q: Pace>(
+    rt: &R,
+    board: &AtomBoard,
+    mutators: Vec<Mutator>,
+    pace: &Q,
+) -> Result<Vec<Mutator>, OutOfMemory>
+    requires { AreInOrder board.now mutators.items }
+    ensures mutators { IfOk result (λ v. AreInOrder board.now v.items) }
+    ensures done { IfOk result (λ v. AllAreDone v.items) }
 {
-    let mut system = system;
-    for _ in rt.forever() {
-        if system.turn(0) == Turn::Done {
-            return system;
-        }
-    }
-    unreachable!()
-}
-
-/// What a system shows whose one thread is done.
-#[tactic(auto, using(crate::proofs::Driven::none_is_undone))]
-fn finished(system: System) -> Finished
-    requires one_thread { system.config.threads ≡ 1 }
-    requires done { is_done (local_at system.config system.state 0) ≡ true }
-    ensures config { result.config ≡ system.config }
-    ensures finished { IsFinished system.config (traces_of system.state) result.logs
-        result.cycles }
-{
-    let Ok(finished) = system.finish() else {
-        unreachable!()
-    };
-    finished
+    let done = thread::map_vec(
+        rt,
+        mutators,
+        &|who: Mutator| -> Mutator
+            requires { who.board ≡ board.now.id }
+            ensures later { IsLater who result }
+            ensures done { is_done result.local ≡ true }
+        { board.drive(rt, who, pace) },
+    )?;
+    Ok(done)
 }

@@ -1,76 +1,14 @@
-//! Whole calls over sources and sinks in memory.
+//! Whole calls: words, inputs, faults, and runs of one thread.
 
-ghost use Rattle.std.specs.Prelude.{◌≡◌, ◌≤◌, length};
-ghost use Rattle.block_store.specs.Configs.{IsInBounds};
-
-use crate::{Exit, RunEnd, rtheap};
-use block_store::Config;
-use never_heap::{Entry, Graph, Logs, NoPace};
+use crate::rtheap;
+use crate::testing::{Call, EACH_KIND, HEADER, answers, job, job_begun, made, texts};
+use never_heap::NoPace;
 use std::alloc::{AllocError, Global};
 use std::process::Abort;
 use std::sync::Wait;
 use std::test::Fail;
+use std::thread::Threads;
 use trace_text::{MemSink, MemSource};
-
-/// A job without commands, with the lines `thread 0` and `end` left out.
-const HEADER: &str = "rtheap 1 threads 1 blocks 64 live 20 object 2 shared 0\nthread 0\n";
-
-/// The most bytes that a sink of these tests takes.
-const ROOM: usize = 1 << 22;
-
-/// What a call is given: its words, its input and in which pieces it comes, and which calls of the
-/// source and the sink fail.
-#[derive(Drop)]
-struct Call<'a> {
-    words: &'a [&'a str],
-    input: &'a str,
-    most: usize,
-    read_fails: &'a [u64],
-    write_fails: &'a [u64],
-}
-
-impl<'a> Call<'a> {
-    fn run(input: &'a str) -> Call<'a> {
-        Call {
-            words: &["run"],
-            input,
-            most: 7,
-            read_fails: &[],
-            write_fails: &[],
-        }
-    }
-}
-
-fn texts(alloc: Global, words: &[&str]) -> Result<Vec<String>, AllocError> {
-    let mut all = Vec::new(alloc);
-    for word in words {
-        all.push(String::from_str(alloc, word)?)?;
-    }
-    Ok(all)
-}
-
-/// Makes a call, and gives its exit and what it wrote.
-fn made<R: Wait>(rt: &R, alloc: Global, call: &Call<'_>) -> Result<(Exit, MemSink), Fail> {
-    let words = texts(alloc, call.words)?;
-    let bytes = Vec::from_slice(alloc, call.input.as_bytes())?;
-    let most = call.most.max(1);
-    let mut source = MemSource::new(bytes, most, Vec::from_slice(alloc, call.read_fails)?);
-    let mut sink = MemSink::new(alloc, ROOM, Vec::from_slice(alloc, call.write_fails)?)
-        .ok()
-        .ok_or("memory")?;
-    let exit = rtheap(rt, alloc, &words, &mut source, &mut sink, &NoPace);
-    Ok((exit, sink))
-}
-
-/// The header of the usual heap.
-fn job_begun(alloc: Global) -> Result<String, AllocError> {
-    String::from_str(alloc, HEADER)
-}
-
-/// A job on the usual heap with these command lines.
-fn job(alloc: Global, commands: &str) -> Result<String, AllocError> {
-    format!(in alloc; "{HEADER}{commands}end\n")
-}
 
 #[test]
 fn words_that_are_no_command_are_refused_and_nothing_is_read(rt: HostRuntime) -> Result<(), Fail> {
@@ -128,7 +66,7 @@ end cycles 1 work 7
 /// Allocates records of one block of which none is kept, on the usual heap with blocks of this
 /// version, and compares each answer, the cycles and the units.
 fn churns(
-    rt: &(impl Abort + Wait),
+    rt: &(impl Abort + Threads + Wait + Sync),
     alloc: Global,
     version: u32,
     count: u32,
@@ -169,7 +107,7 @@ fn the_longest_trace_goes_through_thousands_of_cycles(rt: HostRuntime) -> Result
 /// Fills the usual heap with a chain of records of one block, for which there is room; then does
 /// the commands behind it.
 fn fills(
-    rt: &(impl Abort + Wait),
+    rt: &(impl Abort + Threads + Wait + Sync),
     alloc: Global,
     version: u32,
     room: u32,
@@ -262,45 +200,6 @@ fn a_block_that_is_given_again_shows_no_old_value(rt: HostRuntime) -> Result<(),
     answers(&rt, alloc, "run", text.as_str(), 0, expected.as_str())
 }
 
-/// Commands of every kind, and what they answer.
-const EACH_KIND: (&str, &str) = (
-    "new 1 2
-set 2 5
-put 1 1 2
-get 3 1 1
-get 3 1 2
-say 3
-get 3 4 0
-get 3 2 0
-len 1
-len 4
-same 1 1
-same 1 2
-put 4 0 2
-say 1
-say 0
-len 0
-",
-    "0 new 0.1 work 7
-0 ok
-0 ok
-0 int 5
-0 range
-0 int 5
-0 null
-0 kind
-0 len 2
-0 null
-0 yes
-0 no
-0 null
-0 ref 0.1
-0 ref 1.0
-0 len 0
-end cycles 1 work 7
-",
-);
-
 #[test]
 fn every_kind_of_command_is_answered(rt: HostRuntime) -> Result<(), Fail> {
     let (commands, written) = EACH_KIND;
@@ -360,30 +259,6 @@ end cycles 1 work 7
     answers(&rt, rt.alloc(), "run", text.as_str(), 0, written)
 }
 
-/// Makes a call whose input comes in pieces of 7 bytes, and compares its status and what it wrote.
-fn answers(
-    rt: &(impl Abort + Wait),
-    alloc: Global,
-    word: &str,
-    input: &str,
-    status: u8,
-    written: &str,
-) -> Result<(), Fail> {
-    let words = [word];
-    let call = Call {
-        words: &words,
-        ..Call::run(input)
-    };
-    let (exit, sink) = made(rt, alloc, &call)?;
-    assert_eq!(rt;
-        (exit.status, exit.due),
-        (status, status),
-        "{word}: {input}"
-    );
-    assert_eq!(rt; sink.bytes(), written.as_bytes(), "{word}: {input}");
-    Ok(())
-}
-
 /// A job of one thread without commands, on a heap of these numbers.
 fn heap(alloc: Global, blocks: u32, live: u32) -> Result<String, AllocError> {
     format!(in alloc;
@@ -392,9 +267,8 @@ fn heap(alloc: Global, blocks: u32, live: u32) -> Result<String, AllocError> {
 }
 
 #[test]
-fn jobs_of_several_threads_are_put_off(rt: HostRuntime) -> Result<(), Fail> {
+fn jobs_of_several_threads_are_planned(rt: HostRuntime) -> Result<(), Fail> {
     let two = "rtheap 1 threads 2 blocks 64 live 20 object 2 shared 0\nthread 0\nthread 1\nend\n";
-    answers(&rt, rt.alloc(), "run", two, 3, "rtheap: later\n")?;
     answers(&rt, rt.alloc(), "plan", two, 0, "rate 8\n")?;
     let four = "rtheap 1 threads 4 blocks 4096 live 2000 object 16 shared 16
 thread 0
@@ -556,48 +430,6 @@ fn a_refusal_that_cannot_be_written_is_a_write_fault(rt: HostRuntime) -> Result<
     Ok(())
 }
 
-/// How many blocks are reachable at the start of a cycle that comes behind so many units, at least
-/// `before` and fewer than `after`.
-fn blocks_at_start(starts: &[(u64, u64)], before: u64, after: u64) -> Option<u64> {
-    for (units, blocks) in starts {
-        if before <= *units && *units < after {
-            return Some(*blocks);
-        }
-    }
-    None
-}
-
-/// Does the commands of a run on the heap that never frees, and compares each reply, and how many
-/// blocks are reachable at these starts of cycles.
-#[tactic(auto, using(never_heap::proofs::Stepping::step_threads, never_heap::proofs::Stepping::step_count))]
-fn agrees(
-    rt: &impl Abort,
-    alloc: Global,
-    config: &Config,
-    entries: &[Entry],
-    starts: &[(u64, u64)],
-) -> Result<(), Fail>
-    requires bounds { IsInBounds config.now }
-    requires one_thread { config.now.threads ≡ 1 }
-    requires few { length entries.now ≤ 131072 }
-{
-    let mut graph = Graph::start(alloc, config).ok().ok_or("memory")?;
-    let mut units: u64 = 0;
-    for k in 0..entries.len() {
-        let entry = &entries[k];
-        let after = units.saturating_add(entry.work);
-        if let Some(blocks) = blocks_at_start(starts, units, after) {
-            let counted = graph.reach_blocks().ok().ok_or("memory")?;
-            assert_eq!(rt; counted, blocks, "entry {k}");
-        }
-        units = after;
-        assert!(rt; entry.command.in_bounds(config));
-        let reply = graph.apply(0, &entry.command).ok().ok_or("memory")?;
-        assert_eq!(rt; reply, entry.reply, "entry {k}");
-    }
-    Ok(())
-}
-
 /// A job on the usual heap with blocks of eight payload words.
 fn wide(alloc: Global, live: u32, commands: &str) -> Result<String, AllocError> {
     format!(in alloc;
@@ -668,122 +500,4 @@ fn the_largest_heap_takes_the_largest_object(rt: HostRuntime) -> Result<(), Fail
         3,
         "rtheap: line 3: size\n",
     )
-}
-
-/// Runs a job, and its commands on the heap that never frees, with these starts of cycles.
-fn runs_agree(
-    rt: &(impl Abort + Wait),
-    alloc: Global,
-    input: &str,
-    starts: &[(u64, u64)],
-) -> Result<(), Fail> {
-    let (exit, _sink) = made(rt, alloc, &Call::run(input))?;
-    let Some(RunEnd::Ran(run)) = exit.run else {
-        return Err("nothing was run".into());
-    };
-    assert!(rt; run.threads() == 1);
-    let config = run.config();
-    let entries = run.entries(0);
-    assert!(rt; config.in_bounds() && config.threads == 1);
-    assert!(rt; !entries.is_empty() && entries.len() <= 131_072);
-    agrees(rt, alloc, config, entries, starts)
-}
-
-/// Objects that refer to each other in rings, an array in several registers, and a link that is
-/// overwritten.
-const RINGS: &str = "rtheap 1 threads 1 blocks 64 live 40 object 3 shared 17
-thread 0
-arr 1 5
-new 2 2
-put 2 0 2
-put 1 4 2
-put 2 1 1
-get 3 1 4
-same 3 2
-get 4 3 1
-same 4 1
-mov 5 4
-put 0 16 5
-set 6 8
-put 2 0 6
-get 7 3 0
-nil 2
-nil 3
-get 8 5 4
-get 9 8 0
-len 5
-len 8
-get 11 0 16
-same 11 5
-say 11
-put 11 0 11
-get 12 5 0
-say 12
-";
-
-/// The same on blocks of eight payload words: an array of two leaves and a record of three blocks.
-const WIDE_RINGS: &str = "rtheap 2 threads 1 blocks 64 live 40 object 3 shared 17
-thread 0
-arr 1 16
-new 2 21
-put 1 15 2
-put 2 20 1
-put 2 7 2
-get 3 1 15
-get 4 3 20
-same 4 1
-same 4 2
-put 0 16 3
-get 5 0 16
-get 6 5 7
-same 6 2
-set 7 8
-put 1 8 7
-get 8 4 8
-get 8 4 7
-len 1
-len 2
-len 0
-get 7 2 21
-put 0 17 1
-say 5
-say 4
-";
-
-/// A job of rings, of allocations of which none is kept, and of looks at what the rings still hold.
-fn ringed(alloc: Global, rings: &str, count: u32) -> Result<String, AllocError> {
-    let mut text = String::from_str(alloc, rings)?;
-    for _ in 0..count {
-        text.push_str("new 13 2\n")?;
-    }
-    text.push_str(
-        "get 12 5 0\nget 12 5 4\nget 12 5 20\nget 11 0 16\nsay 11\nlen 5\nsame 11 5\nend\n",
-    )?;
-    Ok(text)
-}
-
-#[test]
-fn a_heap_of_words_answers_as_the_heap_that_never_frees(rt: HostRuntime) -> Result<(), Fail> {
-    let (commands, _written) = EACH_KIND;
-    let text = job(rt.alloc(), commands)?;
-    runs_agree(&rt, rt.alloc(), text.as_str(), &[])?;
-    for rings in [RINGS, WIDE_RINGS] {
-        for count in [0, 300] {
-            let text = ringed(rt.alloc(), rings, count)?;
-            runs_agree(&rt, rt.alloc(), text.as_str(), &[])?;
-        }
-    }
-    Ok(())
-}
-
-#[test]
-fn each_cycle_of_a_growing_chain_starts_with_more_blocks(rt: HostRuntime) -> Result<(), Fail> {
-    let alloc = rt.alloc();
-    let mut text = job_begun(alloc)?;
-    for _ in 0..58 {
-        text.push_str("new 1 1\nput 1 0 2\nmov 2 1\n")?;
-    }
-    text.push_str("end\n")?;
-    let starts = [(0, 6), (70, 16), (150, 27), (241, 40), (345, 55)];
-    runs_agree(&rt, alloc, text.as_str(), &starts)
 }

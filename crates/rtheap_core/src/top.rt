@@ -17,13 +17,13 @@ ghost use Rattle.rtheap_core.specs.Refusals.{IsCause, status_of, refusal_line};
 use crate::exit::{Exit, RunEnd};
 use crate::refusal::Refusal;
 use crate::run::run_job;
-use crate::runnable::can_run;
 use crate::task::Task;
-use heap_system::Finished;
+use atom_board::Closed;
 use never_heap::{Logs, Pace};
 use rate_plan::plan;
 use std::alloc::Global;
 use std::sync::Wait;
+use std::thread::Threads;
 use trace_text::{
     Job, LineBuffer, Sink, Source, inputs_are_told_apart, jobs_are_one, read_trace, write_run,
 };
@@ -31,24 +31,25 @@ use trace_text::{
 /// The status of a writing that failed.
 const WRITE_FAULT: u8 = 6;
 
-/// Does what the words ask for: `run` reads a job from the source, runs it, and writes what each
-/// command answered and a line of totals; `plan` reads a job and writes the rate of its
-/// configuration. Any other words are refused with the line `rtheap: usage`.
+/// Does what the words ask for: `run` reads a job from the source, runs its threads beside each
+/// other, and writes what each command answered, thread by thread, and a line of totals; `plan`
+/// reads a job and writes the rate of its configuration. Any other words are refused with the line
+/// `rtheap: usage`. The pace is told before each command of a thread that runs.
 ///
 /// The entries, cycles and units that an ended run shows by `Logs` are those that `done` is about.
 /// An allocation is answered `full` only where more blocks than the job's live limit were reachable
 /// at the start of the cycle that the reply names; so where no cycle of the run began with more, no
 /// command was answered `full` (`never_full`).
 ///
-/// That a call with the word `run` returns is not promised, for it makes turns of the job's thread
-/// until that is done. With any other words it calls nothing that waits.
-pub fn rtheap<R: Wait, S: Source, K: Sink, Q: Pace>(
+/// That a call with the word `run` returns is not promised, for it makes turns of the job's threads
+/// until each is done. With any other words it calls nothing that waits.
+pub fn rtheap<R: Threads + Wait + Sync, S: Source, K: Sink, Q: Pace>(
     rt: &R,
     alloc: Global,
     words: &[String],
     source: &mut S,
     sink: &mut K,
-    _pace: &Q,
+    pace: &Q,
 ) -> Exit
     ensures shown { (end : RunEnd) → (⟦<RunEnd as Logs>⟧.logs end ≡ logs_of end)
         × (⟦<RunEnd as Logs>⟧.cycle_count end ≡ cycles_of end)
@@ -70,16 +71,17 @@ pub fn rtheap<R: Wait, S: Source, K: Sink, Q: Pace>(
 {
     inputs_are_told_apart();
     jobs_are_one();
-    carried_out(rt, alloc, words, source, sink)
+    carried_out(rt, alloc, words, source, sink, pace)
 }
 
 /// Carries out what the words ask for.
-fn carried_out<R: Wait, S: Source, K: Sink>(
+fn carried_out<R: Threads + Wait + Sync, S: Source, K: Sink, Q: Pace>(
     rt: &R,
     alloc: Global,
     words: &[String],
     source: &mut S,
     sink: &mut K,
+    pace: &Q,
 ) -> Exit
     ensures done { IsCarriedOut (record {
       words = map (λ w. string_bytes w) words.now;
@@ -90,7 +92,7 @@ fn carried_out<R: Wait, S: Source, K: Sink>(
 {
     match Task::of(words) {
         None => refused(Refusal::Usage, sink),
-        Some(Task::Run) => match ran(rt, alloc, source) {
+        Some(Task::Run) => match ran(rt, alloc, source, pace) {
             Ok(run) => written(run, sink),
             Err(refusal) => refused(refusal, sink),
         },
@@ -115,7 +117,12 @@ fn planned_job<S: Source>(alloc: Global, source: &mut S) -> Result<(Job, u64), R
 }
 
 /// Reads a job and runs it.
-fn ran<R: Wait, S: Source>(rt: &R, alloc: Global, source: &mut S) -> Result<Finished, Refusal>
+fn ran<R: Threads + Wait + Sync, S: Source, Q: Pace>(
+    rt: &R,
+    alloc: Global,
+    source: &mut S,
+    pace: &Q,
+) -> Result<Closed, Refusal>
     ensures ran { IfOk result (λ run.
         HasRun (sides S.left S.faults source.old source.new) (ends.Ran run)) }
     ensures still { OnOk result (S.faults source.new ≡ S.faults source.old) }
@@ -123,10 +130,7 @@ fn ran<R: Wait, S: Source>(rt: &R, alloc: Global, source: &mut S) -> Result<Fini
         → IsCause words (sides S.left S.faults source.old source.new) refusal) }
 {
     let (job, _rate) = planned_job(alloc, source)?;
-    if !can_run(&job) {
-        return Err(Refusal::Later);
-    }
-    let run = run_job(rt, alloc, job)?;
+    let run = run_job(rt, alloc, job, pace)?;
     Ok(run)
 }
 
@@ -142,7 +146,7 @@ fn rated<S: Source>(alloc: Global, source: &mut S) -> Result<u64, Refusal>
 }
 
 /// Writes the text of a run.
-fn written<K: Sink>(run: Finished, sink: &mut K) -> Exit
+fn written<K: Sink>(run: Closed, sink: &mut K) -> Exit
     ensures due { result.due ≡ 0 }
     ensures run { result.run ≡ Some (ends.Ran run) }
     ensures status { (result.status ≡ 0) ⊎ (result.status ≡ 6) }

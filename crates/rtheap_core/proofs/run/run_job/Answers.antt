@@ -1,16 +1,26 @@
-use Rattle.std.proofs.Common.{◌≡◌, ◌∙◌}
+use Rattle.std.proofs.Common.{◌≡◌}
+use Rattle.atom_board.proofs.Orders.{in_order_each}
 use Rattle.rtheap_core.specs.declared.exit.RunEnd.TheVariants.{Ran}
 use Rattle.rtheap_core.specs.Exits.{HasHistory, job_of}
 use Rattle.rtheap_core.proofs.Shown.{run_shows}
 use Rattle.rtheap_core.proofs.run.run_job.Given.{Over}
 use Rattle.rtheap_core.proofs.run.run_job.Goals as goal
 
-shows : (g : Over) (c : goal.After-finished g)
-    → (job_of (Ran c.finished.result) ≡ c.args.job) × HasHistory (Ran c.finished.result)
-shows g c = run_shows c.fulls_are_licensed.ensures.licensed c.fulls_are_licensed.ensures.never _ _ _ _ _ _ c.finished.ensures.config
-    (c.driven.ensures.config ∙ c.in_ok-system.ensures.config)
-    (c.driven.ensures.traces ∙ c.in_ok-system.ensures.traces)
-    c.finished.ensures.finished c.job.view_is
+pub close-requires-clause-mutators : goal.close-requires-clause-mutators
+close-requires-clause-mutators g c =
+    in_order_each c.in_ok-board.board c.in_ok-done.done.items c.in_ok-done.ensures.mutators
+
+shows : (g : Over) (c : goal.After-close g)
+    → (job_of (Ran c.close.result) ≡ c.args.job) × HasHistory (Ran c.close.result)
+shows g c = run_shows (record {
+  licensed = c.fulls_are_licensed.ensures.licensed;
+  never = c.fulls_are_licensed.ensures.never;
+  few = c.cycles_give_few_blocks.ensures;
+  least = c.cycles_cost_few_units.ensures.least;
+  most = c.cycles_cost_few_units.ensures.most;
+  done = c.cycles_cost_few_units.ensures.done;
+}) _ _ _ _ _ _ c.close.ensures.config c.in_ok-board.ensures.board.0 c.in_ok-board.ensures.board.1
+    c.close.ensures.finished c.job.view_is
 
 pub returns-clause-job : goal.returns-clause-job
 returns-clause-job g c = (shows g c).0

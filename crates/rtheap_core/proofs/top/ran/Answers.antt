@@ -3,7 +3,6 @@ use Rattle.std.proofs.lemmas.Result.{err_from_is_err_and}
 use Rattle.trace_text.specs.Jobs.{Job}
 use Rattle.rate_plan.specs.Rates.{IsAdmitted}
 use Rattle.rtheap_core.specs.Exits.{IsReadAs}
-use Rattle.rtheap_core.specs.Runnable.{CanRun}
 use Rattle.rtheap_core.specs.Sides.{sides}
 use Rattle.rtheap_core.proofs.Taken.{few_taken}
 use Rattle.rtheap_core.proofs.top.ran.Goals as goal
@@ -28,6 +27,5 @@ returns-clause-ran g c =
           (sides g.S.Source.left g.S.Source.faults c.args.source.now c.planned_job.new.source))
           (sym same) c.in_ok-job.ensures.read;
       admitted = subst (λ (j : Job). IsAdmitted j.config) (sym same) c.in_ok-job.ensures.rate.0;
-      runnable = subst CanRun (sym same) (c.can_run.ensures.0 c.if-not-can_run.false);
       ran = c.in_ok-run.ensures.ran;
     }
