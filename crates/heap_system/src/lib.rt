@@ -8,6 +8,9 @@ mod laws;
 mod local;
 #[cfg(test)]
 mod lone;
+#[cfg(test)]
+mod ordered;
+mod orders;
 mod progress;
 mod replays;
 #[cfg(test)]
@@ -35,6 +38,7 @@ pub use laws::{
     words_show_the_order, works_are_units,
 };
 pub use local::Local;
+pub use orders::turns_add_their_items;
 pub use progress::{a_lone_thread_ends_its_command, units_part_the_changes_of_a_lone_thread};
 pub use replays::jobs_have_one_order;
 pub use serial::{a_single_thread_ends_its_job, serial_turns_end};
