@@ -30,6 +30,8 @@ pub mod Tallied
 pub mod TalliesOf
 pub mod Balanced
 pub mod UnitMade
+pub mod Sharing
+pub mod SharesKept
 pub mod Bounded
 pub mod Taking
 pub mod Cycling

@@ -34,10 +34,10 @@ split false p (inr e) = rw e refl
 abbrev pub made_by : Config → ℕ → Run → ℕ
 made_by c t r = works (part t r.order) + (local_at c r.state t).balance.paid
 
-cond_no : {A : Type 0} (b : Bool) (x y : A) → b ≡ false → cond b x y ≡ y
+pub cond_no : {A : Type 0} (b : Bool) (x y : A) → b ≡ false → cond b x y ≡ y
 cond_no b x y e = rw e refl
 
-cond_yes : {A : Type 0} (b : Bool) (x y : A) → b ≡ true → cond b x y ≡ x
+pub cond_yes : {A : Type 0} (b : Bool) (x y : A) → b ≡ true → cond b x y ≡ x
 cond_yes b x y e = rw e refl
 
 -- a turn without an event changes nothing

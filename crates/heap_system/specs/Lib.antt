@@ -12,5 +12,6 @@ pub mod Costs
 pub mod Ordering
 pub mod Loaded
 pub mod Shades
+pub mod Shares
 pub mod Alone
 pub mod Serials

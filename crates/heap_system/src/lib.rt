@@ -1,6 +1,7 @@
 //! The whole heap: one thread's state, and all threads with the words that they share.
 #![tactic(auto)]
 
+mod accounts;
 mod bound;
 mod collector;
 mod cycles;
@@ -25,6 +26,7 @@ mod traces;
 #[cfg(test)]
 mod ways;
 
+pub use accounts::accounts_are_sound;
 pub use bound::{cycles_cost_few_units, cycles_give_few_blocks, fulls_are_licensed};
 pub use collector::{
     free_blocks_stand_once, grey_blocks_stand_once, marking_is_tricolour,
