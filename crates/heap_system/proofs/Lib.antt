@@ -36,3 +36,4 @@ pub mod Bounded
 pub mod Taking
 pub mod Cycling
 pub mod alone
+pub mod Ordering

@@ -95,7 +95,7 @@ idle_makes c t u r none = ap (made_by c t) (idle_next c u r none) ∙ elim (case
 ]
 
 module _ (c : Config) (traces : List (List Command)) (job : IsJob c traces) where
-  turn_makes : (r : Run) → Kept c traces r → (t u : ℕ) → made_by c t (next c u r) ≡ made_by c t r + cond (eqb u t) (bit (is_unit c t r.state)) 0
+  pub turn_makes : (r : Run) → Kept c traces r → (t u : ℕ) → made_by c t (next c u r) ≡ made_by c t r + cond (eqb u t) (bit (is_unit c t r.state)) 0
   turn_makes r kept t u = elim (cases_lt u c.threads) [
     | inl ul ↦ elim (cases_Bool (is_done (local_at c r.state u))) [
       | inl done ↦ idle_makes c t u r (rw (lt-ltb u c.threads ul, done) refl)

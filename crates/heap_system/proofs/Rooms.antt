@@ -228,7 +228,7 @@ module _ (c : Config) (t : ℕ) (s : State) where
             ∙ sym (map-set without_room s.locals t (local_got l (word_read c s l)))) i;
       })
 
-  turned_room : turned c t (state_without_room s) ≡ state_without_room (turned c t s)
+  pub turned_room : turned c t (state_without_room s) ≡ state_without_room (turned c t s)
   turned_room = (λ i. cond (event_room i) (done_without_room i) (state_without_room s)) ∙ cond_of state_without_room (has_event c t s) (event_done c t s) s
 
   decided_room : (order : List HistoryItem) → decided c t (state_without_room s) order ≡ decided c t s order

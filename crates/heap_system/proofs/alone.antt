@@ -11,4 +11,5 @@ pub mod Changing
 pub mod Marking
 pub mod Laws
 pub mod Runs
+pub mod Changes
 pub mod Serials

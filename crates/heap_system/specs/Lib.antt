@@ -9,6 +9,7 @@ pub mod Units
 pub mod Cycles
 pub mod Rounds
 pub mod Costs
+pub mod Ordering
 pub mod Loaded
 pub mod Shades
 pub mod Shares

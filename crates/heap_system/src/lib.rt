@@ -9,6 +9,9 @@ mod laws;
 mod local;
 #[cfg(test)]
 mod lone;
+#[cfg(test)]
+mod ordered;
+mod orders;
 mod progress;
 mod replays;
 #[cfg(test)]
@@ -37,7 +40,8 @@ pub use laws::{
     words_show_the_order, works_are_units,
 };
 pub use local::Local;
-pub use progress::a_lone_thread_ends_its_command;
+pub use orders::turns_add_their_items;
+pub use progress::{a_lone_thread_ends_its_command, units_part_the_changes_of_a_lone_thread};
 pub use replays::jobs_have_one_order;
 pub use serial::{a_single_thread_ends_its_job, serial_turns_end};
 pub use start::opening;

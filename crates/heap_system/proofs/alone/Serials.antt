@@ -235,7 +235,7 @@ module _ (c : Config) (traces : List (List Command)) (first : State) (job : IsJo
   serial_few rate planned ts serial = omega (arith, few_turns c traces job rate planned (length ts) (opened c first) ts (omega arith) resting serial, all_is rate)
 
 -- all of the first n threads are done, or there is a least one that is not
-least_of : (c : Config) (s : State) (n : ℕ) → n ≤ c.threads → ((u : ℕ) → u < n → is_done (local_at c s u) ≡ true) ⊎ ((u : ℕ) × IsLeastUndone c s u)
+pub least_of : (c : Config) (s : State) (n : ℕ) → n ≤ c.threads → ((u : ℕ) → u < n → is_done (local_at c s u) ≡ true) ⊎ ((u : ℕ) × IsLeastUndone c s u)
 least_of c s zero low = inl (λ u ul. absurd (omega arith))
 least_of c s (suc n) low = elim (least_of c s n (omega arith)) [
   | inl below ↦ elim (cases_Bool (is_done (local_at c s n))) [
