@@ -2,3 +2,4 @@ pub mod Stopping
 pub mod Agreeing
 pub mod LeftTurns
 pub mod Runs
+pub mod Ending

@@ -3,9 +3,11 @@
 
 ghost use Rattle.std.specs.Prelude.{◌≡◌, ◌+◌, ◌≤◌, ℕ, List};
 ghost use Rattle.block_store.specs.declared.Config.{Config};
+ghost use Rattle.rate_plan.specs.Rates.{IsRate};
 ghost use Rattle.never_heap.specs.declared.Command.{Command};
 ghost use Rattle.heap_system.specs.Locals.{is_done};
-ghost use Rattle.heap_system.specs.Machines.{Run, local_in, after_turns, IsOpening};
+ghost use Rattle.heap_system.specs.Machines.{Run, local_in, after_turns, IsJob, IsOpening};
+ghost use Rattle.heap_system.specs.Serials.{job_bound};
 ghost use Rattle.heap_system.specs.Systems.{Whole, logs_of, AllDone};
 ghost use Rattle.schedules.specs.declared.Schedule.TheVariants as Schedule;
 ghost use Rattle.schedules.specs.Schedules.{turns_of};
@@ -56,4 +58,16 @@ pub fn replays_stop()
         → AllDone c (after_turns c r (turns_of schedule c r.state few)).state
         → after_turns c r (turns_of schedule c r.state many)
         ≡ after_turns c r (turns_of schedule c r.state few) }
+{}
+
+/// After as many turns as the bounds of all commands sum up to, a serial replay has all threads done
+/// (`serial`); and where there is one thread, so has a replay by any schedule (`single`).
+pub fn replays_end()
+    ensures serial { (c : Config) (traces : List (List Command)) (turns rate : ℕ) (r : Run)
+        → IsJob c traces → IsRate c rate → IsReplayed c traces Schedule.Serial turns r
+        → job_bound c rate traces ≤ turns → AllDone c r.state }
+    ensures single { (c : Config) (traces : List (List Command)) (schedule : Schedule)
+        (turns rate : ℕ) (r : Run) → IsJob c traces → IsRate c rate → c.threads ≡ 1
+        → IsReplayed c traces schedule turns r → job_bound c rate traces ≤ turns
+        → AllDone c r.state }
 {}
