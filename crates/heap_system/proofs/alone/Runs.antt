@@ -1,12 +1,11 @@
 -- A lone thread comes to the end of its command.
-use Rattle.std.proofs.Common.{◌≡◌, ℕ, zero, suc, ◌+◌, ◌-◌, ◌*◌, ◌≤◌, ◌<◌, Bool, true, false, cond, eqb, ◌&&◌, eq-eqb, ne_eqb, Option, Some, None, is_some, List, [], ◌∷◌, ◌++◌, length, get_or, replicate, append-nil, refl, sym, ap, ◌∙◌, subst, arith, inl, inr}
-use Rattle.std.proofs.lemmas.Bool.{cases_Bool, cases_eq}
+use Rattle.std.proofs.Common.{◌≡◌, ℕ, zero, suc, ◌+◌, ◌-◌, ◌*◌, ◌≤◌, ◌<◌, Bool, true, false, cond, eqb, ◌&&◌, eq-eqb, ne_eqb, Option, Some, None, is_some, List, [], ◌∷◌, ◌++◌, length, get_or, append-nil, refl, sym, ap, ◌∙◌, subst, arith, inl, inr}
+use Rattle.std.proofs.lemmas.Bool.{cases_Bool}
 use Rattle.block_store.specs.declared.Config.{Config}
 use Rattle.block_store.specs.declared.Width.{Width}
 use Rattle.block_store.specs.declared.Width.TheVariants.{Four, Eight}
-use Rattle.block_store.specs.Counts.{total}
 use Rattle.block_store.specs.Heaps.{Heap}
-use Rattle.block_store.specs.Phases.{bit, inside_of, is_closed}
+use Rattle.block_store.specs.Phases.{bit, is_closed}
 use Rattle.block_store.specs.Places.{Phase}
 use Rattle.block_store.specs.Widths.{payloads}
 use Rattle.block_store.proofs.Functions.{total_part}
@@ -18,19 +17,18 @@ use Rattle.never_heap.specs.declared.Reply.{Reply}
 use Rattle.never_heap.specs.RightWork.{units_owed}
 use Rattle.never_heap.specs.Steps.{makes_object, blocks_of}
 use Rattle.never_heap.proofs.Answering.{others_have_none}
-use Rattle.heap_machine.specs.Gating.{Stand, is_outside, is_inside, is_closing}
+use Rattle.heap_machine.specs.Gating.{is_outside, is_inside, is_closing}
 use Rattle.heap_machine.specs.Operations.{place_of}
 use Rattle.heap_machine.proofs.Gatings.{stand_out}
-use Rattle.barrier_steps.specs.Rows.{first_row}
-use Rattle.lone_bound.specs.Moves.{Spot, Lone, Terms, Moves}
+use Rattle.lone_bound.specs.Moves.{Terms, Moves}
 use Rattle.lone_bound.specs.Prices.{left, at_look, allocation_bound, other_bound}
 use Rattle.lone_bound.proofs.Prices.{lower, within}
 use Rattle.heap_system.specs.declared.local.Part.{Part}
-use Rattle.heap_system.specs.declared.local.Part.TheVariants.{Rest, Enter, Serve, Mark, Sweep, Build, Again, Idle, TurnOver, Leave}
+use Rattle.heap_system.specs.declared.local.Part.TheVariants.{Rest, Leave}
 use Rattle.heap_system.specs.declared.Turn.TheVariants as turns
 use Rattle.heap_system.specs.Alone.{IsQuiet, HasCommand, EndsWithin, command_bound, after_alone}
-use Rattle.heap_system.specs.Locals.{LocalState, command_of, owed, effect, is_rest, is_done, entry_of, entries_of, turn_of, waits, part_want, part_got, errand_of}
-use Rattle.heap_system.specs.Machines.{Run, IsJob, local_at, local_in, heap_in, next, answer, event_done, word_read}
+use Rattle.heap_system.specs.Locals.{LocalState, command_of, owed, effect, is_rest, is_done, entry_of, entries_of, waits, part_want, part_got, errand_of}
+use Rattle.heap_system.specs.Machines.{Run, IsJob, local_at, local_in, heap_in, next, answer, word_read}
 use Rattle.heap_system.specs.Pictures.{gating, gates_in}
 use Rattle.heap_system.proofs.Kept.{Kept}
 use Rattle.heap_system.proofs.LawsOf.{laws_of}
@@ -43,7 +41,7 @@ use Rattle.heap_system.proofs.alone.FieldsLeft.{fields_low}
 use Rattle.heap_system.proofs.alone.Heads.{open_here}
 use Rattle.heap_system.proofs.alone.Laws.{lone_law}
 use Rattle.heap_system.proofs.alone.Low.{order_records}
-use Rattle.heap_system.proofs.alone.Standing.{terms_of, spot_of, lone_of, ready_of, LoneKnows, LoneStep, Alone, is_out, paid_left}
+use Rattle.heap_system.proofs.alone.Standing.{terms_of, spot_of, lone_of, LoneKnows, LoneStep, Alone, is_out, paid_left}
 
 -- a price of a unit that serves both widths
 abbrev unit : Config → ℕ
@@ -92,12 +90,14 @@ module _ (c : Config) (traces : List (List Command)) (job : IsJob c traces) (rat
 
   log_after : (log : List Entry) (paid : ℕ) (at : Command) (o : Option Reply) (p : Part)
       → is_out p ≡ is_some o → log ≡ old → at ≡ k → LogAt (log ++ entries_of t at paid o) p
-  log_after log paid at None p out is same =
-      (λ in_hand. append-nil log ∙ is,
-      λ over. absurd (let z : true ≡ false = sym over ∙ out in cc))
-  log_after log paid at (Some r) p out is same =
-      (λ in_hand. absurd (let z : true ≡ false = sym out ∙ in_hand in cc),
-      λ over. (entry_of t at paid r, ap (λ x. x ++ entry_of t at paid r ∷ []) is, same))
+  log_after log paid at None p out is same = (
+    λ in_hand. append-nil log ∙ is,
+    λ over. absurd (let z : true ≡ false = sym over ∙ out in cc),
+  )
+  log_after log paid at (Some r) p out is same = (
+    λ in_hand. absurd (let z : true ≡ false = sym out ∙ in_hand in cc),
+    λ over. (entry_of t at paid r, ap (λ x. x ++ entry_of t at paid r ∷ []) is, same),
+  )
 
   -- what a lone thread has and knows, on this heap
   pub record Own (h : Heap) (l : LocalState) : Type 0 where
@@ -124,10 +124,10 @@ module _ (c : Config) (traces : List (List Command)) (job : IsJob c traces) (rat
       → is_outside (gates_in c z.state t).stand ≡ true → IsQuiet c z
   quiet_after z kept others out =
       let free = open_here c (seen c traces (laws_of c) job.bounds.config job.plan z kept t tl)
-          (record {
-            others = others;
-            low = order_records c traces job.bounds.config job.plan z kept;
-          }) out in
+      (record {
+        others = others;
+        low = order_records c traces job.bounds.config job.plan z kept;
+      }) out in
       record { nobody = free.nobody; opened = free.opened }
 
   -- the run's own
@@ -251,12 +251,13 @@ module _ (c : Config) (traces : List (List Command)) (job : IsJob c traces) (rat
       pub one_turn : (answer c t r.state ≡ turns.Went) × LoneRun (next c t r)
           × (price (heap_in c (next c t r).state) (local_at c (next c t r).state t) < price h l)
       one_turn =
-          let to = sym (next_is c traces (laws_of c) job.bounds.config job.plan r lone.kept t tl going) in
-          (went (step on).goes,
-          subst (λ x. LoneRun x) to
-          (record { kept = kept_later; others = others_later; own = carry Own own_later }),
-          subst (λ (x : Run). price (heap_in c x.state) (local_at c x.state t) < price h l) to
-          (carry (λ y z. price y z < price h l) less))
+          let to = sym (next_is c traces (laws_of c) job.bounds.config job.plan r lone.kept t tl going) in (
+            went (step on).goes,
+            subst (λ x. LoneRun x) to
+                (record { kept = kept_later; others = others_later; own = carry Own own_later }),
+            subst (λ (x : Run). price (heap_in c x.state) (local_at c x.state t) < price h l) to
+                (carry (λ y z. price y z < price h l) less),
+          )
 
     -- the last turn
     module _ (out : is_out l.part ≡ true) where
@@ -273,19 +274,20 @@ module _ (c : Config) (traces : List (List Command)) (job : IsJob c traces) (rat
       last_turn =
           let entry = lone.own.log.1 out in
           let free : waits l.part (h (place_of (part_want c l.part))) ≡ false =
-              ap (λ p. waits p (h (place_of (part_want c p)))) (out_is l.part out) in
-          (went free,
-          subst (λ x. Ended x)
-          (sym (next_is c traces (laws_of c) job.bounds.config job.plan r lone.kept t tl going))
-          (record {
-            rest = carry (λ y z. is_rest z.part ≡ true) (ap is_rest rests);
-            entry = entry.0;
-            log = carry (λ y z. z.log ≡ old ++ entry.0 ∷ []) (silent ∙ entry.1);
-            command = entry.2;
-            quiet = quiet_after later kept_later others_later
-                (carry (λ y z. is_outside (gating c z.pass z.part).stand ≡ true)
-                (ap (λ p. is_outside (gating c moved.pass p).stand) rests));
-          }))
+          ap (λ p. waits p (h (place_of (part_want c p)))) (out_is l.part out) in (
+            went free,
+            subst (λ x. Ended x)
+                (sym (next_is c traces (laws_of c) job.bounds.config job.plan r lone.kept t tl going))
+                (record {
+                  rest = carry (λ y z. is_rest z.part ≡ true) (ap is_rest rests);
+                  entry = entry.0;
+                  log = carry (λ y z. z.log ≡ old ++ entry.0 ∷ []) (silent ∙ entry.1);
+                  command = entry.2;
+                  quiet = quiet_after later kept_later others_later
+                      (carry (λ y z. is_outside (gating c z.pass z.part).stand ≡ true)
+                      (ap (λ p. is_outside (gating c moved.pass p).stand) rests));
+                }),
+          )
 
   module _ (left_some : length old < length (get_or traces t []))
       (command : get_or (get_or traces t []) (length old) (commands.Nil 0) ≡ k) where
@@ -313,8 +315,8 @@ module _ (c : Config) (traces : List (List Command)) (job : IsJob c traces) (rat
         → is_out (local_at c r.state t).part ≡ true → EndsIn r most
     at_out most r lone low out =
         let one : rest r ≡ 1 =
-            out_one e (unit c) c (heap_in c r.state) t (due - (local_at c r.state t).balance.paid)
-            (local_at c r.state t).part out in
+        out_one e (unit c) c (heap_in c r.state) t (due - (local_at c r.state t).balance.paid)
+        (local_at c r.state t).part out in
         let last = last_turn left_some command r lone out in
         (1, omega arith, none_before r last.0, last.1)
 
@@ -356,7 +358,7 @@ priced c rate k owing sweep ready is = elim (cases_Bool (makes_object k)) [
   | inl makes ↦
       let low = wide c.width in
       let bound : command_bound c rate k ≡ allocation_bound c.threads (blocks_of c.width k) rate =
-          rw makes refl in
+      rw makes refl in
       subst (λ n. at_look (terms_of c k) (unit c) owing sweep ready ≤ n) (sym bound)
       (subst (λ d. at_look (terms_of c k) (unit c) d sweep ready
       ≤ allocation_bound c.threads (blocks_of c.width k) rate) (sym is)
@@ -364,7 +366,7 @@ priced c rate k owing sweep ready is = elim (cases_Bool (makes_object k)) [
   | inr serves ↦
       let bound : command_bound c rate k ≡ other_bound c.object = rw serves refl in
       let none : units_owed c.width rate k ≡ rate * 0 =
-          ap (λ n. rate * n) (others_have_none c.width k serves) in
+      ap (λ n. rate * n) (others_have_none c.width k serves) in
       let few = fields_low c k in
       subst (λ n. at_look (terms_of c k) (unit c) owing sweep ready ≤ n) (sym bound)
       (subst (λ d. at_look (terms_of c k) (unit c) d sweep ready ≤ other_bound c.object)
@@ -398,7 +400,7 @@ module _ (c : Config) (traces : List (List Command)) (job : IsJob c traces) (rat
   pub some_left : length first.log < length (get_or traces t [])
   some_left =
       let same : length first.trace ≡ length (get_or traces t []) =
-          ap length (kept.locals t tl).trace in
+      ap length (kept.locals t tl).trace in
       let low = has.left in omega arith
 
   pub command_is : get_or (get_or traces t []) (length first.log) (commands.Nil 0) ≡ command_of first
@@ -409,7 +411,7 @@ module _ (c : Config) (traces : List (List Command)) (job : IsJob c traces) (rat
   none_paid : first.balance.paid ≡ 0
   none_paid =
       let settled : IsSettled (owed first) first.balance.paid Rest =
-          subst (λ p. IsSettled (owed first) first.balance.paid p) at_rest (kept.locals t tl).settled in
+      subst (λ p. IsSettled (owed first) first.balance.paid p) at_rest (kept.locals t tl).settled in
       settled
 
   first_price : left (terms_of c (command_of first)) (unit c)
@@ -426,8 +428,8 @@ module _ (c : Config) (traces : List (List Command)) (job : IsJob c traces) (rat
   pub lone_ends : EndsWithin c t r (command_bound c rate (command_of (local_in c r t)))
   lone_ends =
       let ended =
-          ends c traces job rate planned t tl first.log (command_of first) some_left command_is
-          (command_bound c rate (command_of first)) r begins first_price in
+      ends c traces job rate planned t tl first.log (command_of first) some_left command_is
+      (command_bound c rate (command_of first)) r begins first_price in
       record {
         turns = ended.0;
         few = ended.1;
