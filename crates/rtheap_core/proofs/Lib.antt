@@ -1,3 +1,6 @@
+pub mod Asked
+pub mod Faults
+pub mod Untouched
 pub mod Shown
 pub mod CarriedOut
 pub mod Headlines

@@ -1,19 +1,19 @@
 //! The top call of rtheap.
 #![tactic(auto)]
 
-#[cfg(test)]
-mod comparing;
 mod exit;
+mod generating;
+mod planning;
+mod reading;
 mod refusal;
+mod replay;
+mod replaying;
 mod run;
-#[cfg(test)]
-mod several;
+mod running;
 mod task;
-#[cfg(test)]
-mod testing;
-#[cfg(test)]
-mod tests;
+mod telling;
 mod top;
+mod trial;
 
 pub use exit::{Exit, RunEnd};
 pub use refusal::Refusal;

@@ -17,3 +17,4 @@ pub mod WholeLaws
 pub mod EachInput
 pub mod OneJob
 pub mod Ends
+pub mod InOrder

@@ -13,5 +13,6 @@ pub mod Wholes
 pub mod Inputs
 pub mod Texts
 pub mod Orders
+pub mod Places
 pub mod JobTexts
 pub mod Memories

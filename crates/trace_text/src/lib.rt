@@ -6,6 +6,7 @@ mod jobs;
 mod line_buffer;
 mod mem_sink;
 mod mem_source;
+mod order_writer;
 mod printing;
 mod reading;
 mod sinks;
@@ -19,6 +20,7 @@ pub use jobs::Job;
 pub use line_buffer::LineBuffer;
 pub use mem_sink::MemSink;
 pub use mem_source::MemSource;
+pub use order_writer::{orders_tell_histories, write_order};
 pub use printing::{fill_entry, fill_start, fill_totals, lines_are_short, write_run};
 pub use reading::{
     INPUT_LIMIT, first_line, first_token, input_of, inputs_are_told_apart, job_of, jobs_are_one,

@@ -1,0 +1,279 @@
+//! A run in order.
+
+ghost use Rattle.std.specs.Prelude.{◌≡◌, ◌+◌, ◌≤◌, ℕ, List, length, slice_index, OnOk, OnErr};
+ghost use Rattle.std.specs.List.{flat_map};
+ghost use Rattle.never_heap.specs.declared.Entry.{Entry};
+ghost use Rattle.never_heap.specs.declared.Item.{Item};
+ghost use Rattle.never_heap.specs.Histories.{HistoryItem, starts_in, work_in};
+ghost use Rattle.never_heap.specs.Orders.{IsHistoryOf};
+ghost use Rattle.trace_text.specs.Faults.{Rose};
+ghost use Rattle.trace_text.specs.Lines.{ended};
+ghost use Rattle.trace_text.specs.Orders.{IsOrderOf, history_of, lines_from, order_text, text_in_order};
+ghost use Rattle.trace_text.specs.Places.{HasNext, next_line, starts_after, told_after};
+ghost use Rattle.trace_text.specs.Streams.{Appends, AppendsPrefix};
+
+use crate::line_buffer::LineBuffer;
+use crate::printing::{fill_entry, fill_start, fill_totals};
+use crate::{Failed, Sink};
+use never_heap::{Item, Logs};
+
+/// How many threads an item can name.
+const THREADS: usize = 256;
+
+/// Writes a run in order: for each item the next entry of its thread, or the start of the next
+/// cycle, as a line, and a last line with the totals. For example, a run of two threads may give
+///
+/// ```text
+/// start 1
+/// 1 new 1.1 work 36
+/// 0 ok
+/// end cycles 1 work 36
+/// ```
+///
+/// Each line is one `put`. At the first one that fails it stops, and a prefix of the text is
+/// written. The order has to name each thread as often as its log is long, and no other thread.
+pub fn write_order<R: Logs, K: Sink>(run: &R, order: &[Item], sink: &mut K) -> Result<(), Failed>
+    requires { IsOrderOf order.now (R.logs run.now) }
+    ensures written { OnOk result (Appends (K.held sink.old) (K.held sink.new)
+        (order_text order.now (R.logs run.now) (R.cycle_count run.now) (R.unit_count run.now))) }
+    ensures prefix { OnErr result (AppendsPrefix (K.held sink.old) (K.held sink.new)
+        (order_text order.now (R.logs run.now) (R.cycle_count run.now) (R.unit_count run.now))) }
+    ensures rose { OnErr result (Rose (K.faults sink.old) (K.faults sink.new)) }
+    ensures still { OnOk result (K.faults sink.new ≡ K.faults sink.old) }
+{
+    write_items(run, order, sink)?;
+    let mut line = LineBuffer::new();
+    fill_totals(&mut line, run.cycles(), run.units());
+    sink.put(line.bytes())
+}
+
+/// A law: the history that an order makes with logs has an order of these logs, and the text of the
+/// run is that of this history.
+pub fn orders_tell_histories()
+    ensures order { (order : List Item) (logs : List (List Entry)) (h : List HistoryItem)
+        → IsHistoryOf order logs h → IsOrderOf order logs }
+    ensures text { (order : List Item) (logs : List (List Entry)) (h : List HistoryItem)
+        → IsHistoryOf order logs h
+        → order_text order logs (starts_in h) (work_in h) ≡ text_in_order h }
+{}
+
+/// Writes a line for each item.
+fn write_items<R: Logs, K: Sink>(run: &R, order: &[Item], sink: &mut K) -> Result<(), Failed>
+    requires { IsOrderOf order.now (R.logs run.now) }
+    ensures written { OnOk result (Appends (K.held sink.old) (K.held sink.new)
+        (flat_map ended (lines_from 0 (history_of order.now (R.logs run.now))))) }
+    ensures prefix { OnErr result (AppendsPrefix (K.held sink.old) (K.held sink.new)
+        (flat_map ended (lines_from 0 (history_of order.now (R.logs run.now))))) }
+    ensures rose { OnErr result (Rose (K.faults sink.old) (K.faults sink.new)) }
+    ensures still { OnOk result (K.faults sink.new ≡ K.faults sink.old) }
+{
+    let mut line = LineBuffer::new();
+    let mut place = Place::new();
+    for item in order {
+        place.fill_next(run, *item, &mut line);
+        sink.put(line.bytes())?;
+    }
+    Ok(())
+}
+
+/// How far a run in order was written.
+#[derive(Drop)]
+struct Place {
+    /// How many entries of each thread were written.
+    told: [usize; THREADS],
+    /// How many starts were written.
+    starts: u64,
+}
+
+impl Place {
+    /// Nothing was written.
+    fn new() -> Place
+        ensures told { (t : ℕ) → slice_index result.told t ≡ 0 }
+        ensures starts { result.starts ≡ 0 }
+    {
+        Place {
+            told: [0; THREADS],
+            starts: 0,
+        }
+    }
+
+    /// Makes the line of the next item, in place of what the buffer held.
+    fn fill_next<R: Logs>(&mut self, run: &R, item: Item, line: &mut LineBuffer)
+        requires { HasNext (R.logs run.now) (slice_index self.old.told) self.old.starts item }
+        ensures text { line.new
+            ≡ next_line (R.logs run.now) (slice_index self.old.told) self.old.starts item }
+        ensures told { (t : ℕ) → slice_index self.new.told t
+            ≡ told_after (slice_index self.old.told) item t }
+        ensures starts { self.new.starts ≡ starts_after self.old.starts item }
+    {
+        match item {
+            Item::Start => {
+                self.starts += 1;
+                fill_start(line, self.starts);
+            }
+            Item::Entry(t) => {
+                let thread = usize::from(t);
+                let next = self.told[thread];
+                fill_entry(line, &run.entries(u32::from(t))[next]);
+                self.told[thread] = next + 1;
+            }
+        }
+    }
+}
+
+#[cfg(test)]
+mod tests {
+    use super::*;
+    use crate::MemSink;
+    use block_store::{Name, Value};
+    use never_heap::{Command, Entry, Reply};
+    use std::alloc::Global;
+    use std::process::Abort;
+    use std::test::Fail;
+
+    /// What two threads answered, one reply of each kind, in two cycles.
+    #[derive(Drop)]
+    struct Pair {
+        first: [Entry; 7],
+        second: [Entry; 5],
+    }
+
+    impl Logs for Pair {
+        ghost use Rattle.std.specs.Prelude.{[], ◌∷◌};
+
+        ghost logs = { λ s. s.first ∷ s.second ∷ [] };
+
+        ghost cycle_count = { λ _. 2 };
+
+        ghost unit_count = { λ _. 43 };
+
+        fn threads(&self) -> u32 {
+            2
+        }
+
+        fn entries(&self, t: u32) -> &[Entry] {
+            if t == 0 { &self.first } else { &self.second }
+        }
+
+        fn cycles(&self) -> u64 {
+            2
+        }
+
+        fn units(&self) -> u64 {
+            43
+        }
+    }
+
+    fn entry(thread: u32, reply: Reply, work: u64) -> Entry {
+        Entry {
+            thread,
+            command: Command::Nil { d: 0 },
+            reply,
+            work,
+        }
+    }
+
+    fn name(thread: u32, serial: u32) -> Name {
+        Name { thread, serial }
+    }
+
+    fn replies() -> Pair {
+        Pair {
+            first: [
+                entry(0, Reply::New(name(0, 1)), 36),
+                entry(0, Reply::Full(3), 7),
+                entry(0, Reply::Stored, 0),
+                entry(0, Reply::Val(Value::Nil), 0),
+                entry(0, Reply::Val(Value::Int(5)), 0),
+                entry(0, Reply::Val(Value::Ref(name(1, 120))), 0),
+                entry(0, Reply::Len(17), 0),
+            ],
+            second: [
+                entry(1, Reply::Yes, 0),
+                entry(1, Reply::No, 0),
+                entry(1, Reply::Null, 0),
+                entry(1, Reply::Kind, 0),
+                entry(1, Reply::Range, 0),
+            ],
+        }
+    }
+
+    /// That writing the replies has this answer and leaves this text. The calls in `fail` fail.
+    fn expect_text(
+        rt: &impl Abort,
+        alloc: Global,
+        fail: &[u64],
+        answer: Result<(), Failed>,
+        text: &[u8],
+    ) -> Result<(), Fail> {
+        let order = [
+            Item::Start,
+            Item::Entry(1),
+            Item::Entry(0),
+            Item::Entry(0),
+            Item::Entry(1),
+            Item::Start,
+            Item::Entry(0),
+            Item::Entry(0),
+            Item::Entry(0),
+            Item::Entry(1),
+            Item::Entry(0),
+            Item::Entry(1),
+            Item::Entry(0),
+            Item::Entry(1),
+        ];
+        let fail = Vec::from_slice(alloc, fail)?;
+        let mut sink = MemSink::new(alloc, 1000, fail).ok().ok_or("memory")?;
+        let written = write_order(&replies(), &order, &mut sink);
+        assert_eq!(rt; written, answer);
+        assert_eq!(rt; sink.bytes(), text);
+        Ok(())
+    }
+
+    #[test]
+    fn replies_and_starts_stand_in_order(rt: HostRuntime) -> Result<(), Fail> {
+        let text = b"start 1
+1 yes
+0 new 0.1 work 36
+0 full 3 work 7
+1 no
+start 2
+0 ok
+0 nil
+0 int 5
+1 null
+0 ref 1.120
+1 kind
+0 len 17
+1 range
+end cycles 2 work 43
+";
+        expect_text(&rt, rt.alloc(), &[], Ok(()), text)
+    }
+
+    #[test]
+    fn a_put_that_fails_leaves_the_lines_before(rt: HostRuntime) -> Result<(), Fail> {
+        let text = b"start 1\n1 yes\n0 new 0.1 work 36\n0 full 3 work 7\n1 no\n";
+        expect_text(&rt, rt.alloc(), &[5], Err(Failed), text)
+    }
+
+    #[test]
+    fn the_totals_may_fail_too(rt: HostRuntime) -> Result<(), Fail> {
+        let text = b"start 1
+1 yes
+0 new 0.1 work 36
+0 full 3 work 7
+1 no
+start 2
+0 ok
+0 nil
+0 int 5
+1 null
+0 ref 1.120
+1 kind
+0 len 17
+1 range
+";
+        expect_text(&rt, rt.alloc(), &[14], Err(Failed), text)
+    }
+}
