@@ -1,14 +1,18 @@
 //! A plain Rust machine: the same events on the same words as the proved one, one event a turn, for
 //! any number of threads over one list of words. It trusts its input and checks nothing.
 //!
-//!     machine run                     the turns of each thread in turn, printed by threads
+//!     machine run                     real threads over atomic words, printed by threads
+//!     machine serial                  the turns of each thread in turn, on plain words
 //!     machine replay robin|serial|KEY TURNS      a schedule, printed in order
 //!     machine make KEY LINES | machine trial KEY LINES
-//!     machine measure                 as run, but prints turns, units and waits
+//!     machine measure [serial]        as run or serial, but prints turns, units and waits
 
 use std::cell::Cell;
+use std::hint;
 use std::io::{self, Read, Write};
 use std::process::ExitCode;
+use std::sync::atomic::{AtomicU64, Ordering::SeqCst};
+use std::thread;
 
 const REGISTERS: usize = 16;
 const RANGE: u64 = 8;
@@ -142,14 +146,82 @@ fn live(cycle: u64) -> u64 {
     1 + (cycle & 1)
 }
 
-struct Heap {
-    config: Config,
-    rate: u64,
-    words: Vec<Cell<u64>>,
+/// A word of the heap: plain for turns on one thread, atomic for real threads.
+trait Word {
+    fn new(word: u64) -> Self;
+    fn load(&self) -> u64;
+    fn exchange(&self, new: u64) -> u64;
+    fn compare_exchange(&self, old: u64, new: u64) -> u64;
+    fn add(&self, by: u64);
+    fn subtract(&self, by: u64);
 }
 
-impl Heap {
-    fn open(config: Config) -> Heap {
+impl Word for Cell<u64> {
+    fn new(word: u64) -> Self {
+        Cell::new(word)
+    }
+
+    fn load(&self) -> u64 {
+        self.get()
+    }
+
+    fn exchange(&self, new: u64) -> u64 {
+        self.replace(new)
+    }
+
+    fn compare_exchange(&self, old: u64, new: u64) -> u64 {
+        let word = self.get();
+        if word == old {
+            self.set(new);
+        }
+        word
+    }
+
+    fn add(&self, by: u64) {
+        self.set(self.get() + by);
+    }
+
+    fn subtract(&self, by: u64) {
+        self.set(self.get() - by);
+    }
+}
+
+impl Word for AtomicU64 {
+    fn new(word: u64) -> Self {
+        AtomicU64::new(word)
+    }
+
+    fn load(&self) -> u64 {
+        AtomicU64::load(self, SeqCst)
+    }
+
+    fn exchange(&self, new: u64) -> u64 {
+        self.swap(new, SeqCst)
+    }
+
+    fn compare_exchange(&self, old: u64, new: u64) -> u64 {
+        match AtomicU64::compare_exchange(self, old, new, SeqCst, SeqCst) {
+            Ok(word) | Err(word) => word,
+        }
+    }
+
+    fn add(&self, by: u64) {
+        self.fetch_add(by, SeqCst);
+    }
+
+    fn subtract(&self, by: u64) {
+        self.fetch_sub(by, SeqCst);
+    }
+}
+
+struct Heap<W> {
+    config: Config,
+    rate: u64,
+    words: Vec<W>,
+}
+
+impl<W: Word> Heap<W> {
+    fn open(config: Config) -> Heap<W> {
         let mut words = vec![0u64; config.words()];
         let (root, first) = (config.opening_blocks(), config.opening_blocks() + 1);
         words[0] = CYCLE;
@@ -173,24 +245,20 @@ impl Heap {
         Heap {
             config,
             rate: config.rate(),
-            words: words.into_iter().map(Cell::new).collect(),
+            words: words.into_iter().map(W::new).collect(),
         }
     }
 
     fn load(&self, place: usize) -> u64 {
-        self.words[place].get()
+        self.words[place].load()
     }
 
     fn exchange(&self, place: usize, new: u64) -> u64 {
-        self.words[place].replace(new)
+        self.words[place].exchange(new)
     }
 
     fn compare_exchange(&self, place: usize, old: u64, new: u64) -> u64 {
-        let word = self.words[place].get();
-        if word == old {
-            self.words[place].set(new);
-        }
-        word
+        self.words[place].compare_exchange(old, new)
     }
 }
 
@@ -378,7 +446,7 @@ impl Mutator {
     }
 
     // The row behind a won entry.
-    fn first_row(&mut self, heap: &Heap, phase: u64) -> Row {
+    fn first_row(&mut self, heap: &Heap<impl Word>, phase: u64) -> Row {
         (self.cycle, self.sweep) = (phase / CYCLE, phase & SWEEP != 0);
         (self.hand, self.nothing, self.freed) = (0, false, 0);
         match self.command() {
@@ -403,12 +471,12 @@ impl Mutator {
         }
     }
 
-    fn register(&self, heap: &Heap, r: u8) -> usize {
+    fn register(&self, heap: &Heap<impl Word>, r: u8) -> usize {
         let (block, slot) = register(&heap.config, self.thread, r as usize);
         heap.config.payload(block, slot)
     }
 
-    fn store_in(&mut self, heap: &Heap, r: u8, word: u64) -> Row {
+    fn store_in(&mut self, heap: &Heap<impl Word>, r: u8, word: u64) -> Row {
         (self.place, self.loaded) = (self.register(heap, r), word);
         Row::Store
     }
@@ -451,7 +519,7 @@ impl Mutator {
     }
 
     /// Makes one event.
-    fn turn(&mut self, heap: &Heap, order: &mut impl FnMut(Item)) -> Turn {
+    fn turn(&mut self, heap: &Heap<impl Word>, order: &mut impl FnMut(Item)) -> Turn {
         if self.row == Row::Rest {
             if self.log.len() == self.trace.len() {
                 return Turn::Done;
@@ -473,7 +541,7 @@ impl Mutator {
         turn
     }
 
-    fn event(&mut self, heap: &Heap, order: &mut impl FnMut(Item)) -> (Row, Turn) {
+    fn event(&mut self, heap: &Heap<impl Word>, order: &mut impl FnMut(Item)) -> (Row, Turn) {
         use Row::*;
 
         let config = &heap.config;
@@ -492,7 +560,7 @@ impl Mutator {
                 self.first_row(heap, seen)
             }
             Leave => {
-                heap.exchange(0, heap.load(0) - 1);
+                heap.words[0].subtract(1);
                 self.after_leave()
             }
             CloseLook => {
@@ -559,7 +627,7 @@ impl Mutator {
         (next, Turn::Went)
     }
 
-    fn mark(&mut self, heap: &Heap) -> Row {
+    fn mark(&mut self, heap: &Heap<impl Word>) -> Row {
         use Row::*;
 
         let config = &heap.config;
@@ -606,7 +674,7 @@ impl Mutator {
         }
     }
 
-    fn shade(&mut self, heap: &Heap, y: usize) {
+    fn shade(&mut self, heap: &Heap<impl Word>, y: usize) {
         let white = live(self.cycle + 1);
         let grey = 8 * self.hand as u64 + GREY;
         if heap.compare_exchange(heap.config.colour(y), white, grey) == white {
@@ -626,7 +694,7 @@ impl Mutator {
         }
     }
 
-    fn sweep(&mut self, heap: &Heap) -> (Row, Turn) {
+    fn sweep(&mut self, heap: &Heap<impl Word>) -> (Row, Turn) {
         use Row::*;
 
         let config = &heap.config;
@@ -674,14 +742,14 @@ impl Mutator {
                 Credit
             }
             _ => {
-                heap.exchange(2, heap.load(2) + self.freed);
+                heap.words[2].add(self.freed);
                 Leave
             }
         };
         (next, Turn::Went)
     }
 
-    fn build(&mut self, heap: &Heap, order: &mut impl FnMut(Item)) -> (Row, Turn) {
+    fn build(&mut self, heap: &Heap<impl Word>, order: &mut impl FnMut(Item)) -> (Row, Turn) {
         use Row::*;
 
         let config = &heap.config;
@@ -755,12 +823,12 @@ impl Mutator {
     }
 
     // Owner, shape, payloads, and the colour last.
-    fn build_place(&self, heap: &Heap, ordinal: usize, at: usize) -> usize {
+    fn build_place(&self, heap: &Heap<impl Word>, ordinal: usize, at: usize) -> usize {
         let colour = heap.config.colour(self.held[ordinal]);
         if at == heap.config.width + 2 { colour } else { colour + 1 + at }
     }
 
-    fn build_word(&self, heap: &Heap, ordinal: usize, at: usize) -> u64 {
+    fn build_word(&self, heap: &Heap<impl Word>, ordinal: usize, at: usize) -> u64 {
         let width = heap.config.width;
         let (shape, elements) = match self.command() {
             Command::New { fields, .. } => (2 * fields as u64, None),
@@ -784,7 +852,7 @@ impl Mutator {
         }
     }
 
-    fn field(&mut self, heap: &Heap, order: &mut impl FnMut(Item)) -> Row {
+    fn field(&mut self, heap: &Heap<impl Word>, order: &mut impl FnMut(Item)) -> Row {
         use Row::*;
 
         let config = &heap.config;
@@ -846,7 +914,7 @@ impl Mutator {
     }
 
     // After the first register was to be loaded.
-    fn operand(&mut self, heap: &Heap, order: &mut impl FnMut(Item)) -> Row {
+    fn operand(&mut self, heap: &Heap<impl Word>, order: &mut impl FnMut(Item)) -> Row {
         let word = heap.load(self.place);
         match self.command() {
             Command::Mov { d, .. } => {
@@ -866,7 +934,7 @@ impl Mutator {
         }
     }
 
-    fn shape(&mut self, heap: &Heap, order: &mut impl FnMut(Item)) -> Row {
+    fn shape(&mut self, heap: &Heap<impl Word>, order: &mut impl FnMut(Item)) -> Row {
         let shape = heap.load(heap.config.colour(self.block) + 2);
         let (i, value) = match self.command() {
             Command::Get { i, .. } => (i, None),
@@ -891,7 +959,7 @@ impl Mutator {
     }
 
     // The next link, or the field itself.
-    fn to_slot(&mut self, heap: &Heap) -> Row {
+    fn to_slot(&mut self, heap: &Heap<impl Word>) -> Row {
         if self.way.links > 0 {
             return Row::Walk;
         }
@@ -902,7 +970,7 @@ impl Mutator {
         }
     }
 
-    fn store(&mut self, heap: &Heap, order: &mut impl FnMut(Item)) -> Row {
+    fn store(&mut self, heap: &Heap<impl Word>, order: &mut impl FnMut(Item)) -> Row {
         heap.exchange(self.place, self.loaded);
         let reply = match self.command() {
             Command::Get { .. } if self.loaded != 0 && self.loaded & 1 == 0 => owned(self.second),
@@ -1109,14 +1177,14 @@ impl Printer {
     }
 }
 
-fn mutators(job: Job) -> (Heap, Vec<Mutator>) {
+fn mutators<W: Word>(job: Job) -> (Heap<W>, Vec<Mutator>) {
     let heap = Heap::open(job.config);
     let each = job.traces.into_iter().enumerate().map(|(t, trace)| Mutator::new(t, trace));
     (heap, each.collect())
 }
 
 // Each thread's turns to its end, one thread behind the other.
-fn run_serially(heap: &Heap, mutators: &mut [Mutator]) -> u64 {
+fn run_serially(heap: &Heap<impl Word>, mutators: &mut [Mutator]) -> u64 {
     let mut cycles = 1;
     for mutator in mutators {
         while mutator.turn(heap, &mut |item| cycles += u64::from(matches!(item, Item::Start)))
@@ -1126,9 +1194,68 @@ fn run_serially(heap: &Heap, mutators: &mut [Mutator]) -> u64 {
     cycles
 }
 
-fn run(job: Job) {
+/// The pause after a turn that waited: twice as long each time, and from some time on the thread
+/// gives way as well.
+struct Pause {
+    step: u32,
+}
+
+impl Pause {
+    fn wait(&mut self) {
+        if self.step <= 6 {
+            for _ in 0..1 << self.step {
+                hint::spin_loop();
+            }
+        } else {
+            thread::yield_now();
+        }
+        self.step = (self.step + 1).min(11);
+        thread::yield_now();
+    }
+}
+
+// The turns of a thread to its end, beside the others. The pause lasts until it has made a unit or
+// ended a command.
+fn drive(heap: &Heap<AtomicU64>, mutator: &mut Mutator) -> u64 {
+    let (mut starts, mut pause) = (0, Pause { step: 0 });
+    loop {
+        let (entries, paid) = (mutator.log.len(), mutator.paid);
+        match mutator.turn(heap, &mut |item| starts += u64::from(matches!(item, Item::Start))) {
+            Turn::Done => return starts,
+            Turn::Waited => pause.wait(),
+            Turn::Went => {
+                if mutator.paid != paid || mutator.log.len() != entries {
+                    pause.step = 0;
+                }
+            }
+        }
+    }
+}
+
+// A thread for each mutator, and the calling thread for the last.
+fn run_on_threads(heap: &Heap<AtomicU64>, mutators: &mut [Mutator]) -> u64 {
+    let Some((last, others)) = mutators.split_last_mut() else { return 1 };
+    thread::scope(|scope| {
+        let each = others.iter_mut().map(|m| scope.spawn(|| drive(heap, m)));
+        let running: Vec<_> = each.collect();
+        let own = drive(heap, last);
+        1 + own + running.into_iter().map(|r| r.join().expect("it ends")).sum::<u64>()
+    })
+}
+
+fn ran(job: Job) -> (u64, Vec<Mutator>) {
     let (heap, mut mutators) = mutators(job);
+    let cycles = run_on_threads(&heap, &mut mutators);
+    (cycles, mutators)
+}
+
+fn ran_serially(job: Job) -> (u64, Vec<Mutator>) {
+    let (heap, mut mutators) = mutators::<Cell<u64>>(job);
     let cycles = run_serially(&heap, &mut mutators);
+    (cycles, mutators)
+}
+
+fn print_by_threads((cycles, mutators): (u64, Vec<Mutator>)) {
     let mut out = Printer { bytes: Vec::new() };
     for mutator in &mutators {
         for entry in &mutator.log {
@@ -1138,9 +1265,7 @@ fn run(job: Job) {
     out.last(cycles, &mutators);
 }
 
-fn measure(job: Job) {
-    let (heap, mut mutators) = mutators(job);
-    let cycles = run_serially(&heap, &mut mutators);
+fn measure((cycles, mutators): (u64, Vec<Mutator>)) {
     for m in &mutators {
         println!(
             "thread {} turns {} waits {} most turns of a command {}",
@@ -1152,8 +1277,7 @@ fn measure(job: Job) {
 }
 
 fn trial(job: Job) {
-    let (heap, mut mutators) = mutators(job);
-    let cycles = run_serially(&heap, &mut mutators);
+    let (cycles, mutators) = ran_serially(job);
     Printer { bytes: Vec::new() }.last(cycles, &mutators);
 }
 
@@ -1168,7 +1292,7 @@ fn chosen(schedule: &str, draws: &mut Option<Draws>, mutators: &[Mutator], j: u6
 }
 
 fn replay(job: Job, schedule: &str, most: u64) -> ExitCode {
-    let (heap, mut mutators) = mutators(job);
+    let (heap, mut mutators) = mutators::<Cell<u64>>(job);
     let mut draws = schedule.parse().ok().map(Draws::new);
     let mut order = vec![Item::Start];
     let mut undone = mutators.iter().filter(|m| !m.done()).count();
@@ -1242,8 +1366,10 @@ fn main() -> ExitCode {
     let words: Vec<String> = std::env::args().skip(1).collect();
     let words: Vec<&str> = words.iter().map(String::as_str).collect();
     match words[..] {
-        ["run"] => run(read_job()),
-        ["measure"] => measure(read_job()),
+        ["run"] => print_by_threads(ran(read_job())),
+        ["serial"] => print_by_threads(ran_serially(read_job())),
+        ["measure"] => measure(ran(read_job())),
+        ["measure", "serial"] => measure(ran_serially(read_job())),
         ["replay", schedule, turns] => return replay(read_job(), schedule, turns.parse().unwrap()),
         ["make", key, lines] => print_job(&generated(key.parse().unwrap(), lines.parse().unwrap())),
         ["trial", key, lines] => trial(generated(key.parse().unwrap(), lines.parse().unwrap())),

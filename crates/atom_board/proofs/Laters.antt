@@ -25,6 +25,6 @@ later_got old w id l n board got turns = record {
   thread = ap (λ (x : LocalState). x.thread) got;
   trace = ap (λ (x : LocalState). x.trace) got;
   turns = omega arith;
-  more = entries_of old.local.thread (command_of old.local) old.local.paid (effect old.local.config old.local.part w).reply;
+  more = entries_of old.local.thread (command_of old.local) old.local.balance.paid (effect old.local.config old.local.part w).reply;
   log = ap (λ (x : LocalState). x.log) got;
 }

@@ -9,7 +9,7 @@ use Rattle.block_store.specs.declared.Config.{Config}
 use Rattle.block_store.specs.Phases.{bit}
 use Rattle.heap_machine.specs.declared.op.Op.{Op}
 use Rattle.heap_machine.specs.declared.op.Op.TheVariants as ops
-use Rattle.heap_system.specs.Locals.{LocalState, PartReads, local_got}
+use Rattle.heap_system.specs.Locals.{LocalState, LocalReads, local_got}
 use Rattle.heap_system.specs.Machines.{State, Run, IsJob, IsRunOf}
 use Rattle.heap_system.specs.Systems.{Whole, traces_of}
 use Rattle.atom_board.specs.declared.rules.Held.{Held}
@@ -99,7 +99,7 @@ got_of me w = (record { locals = map (held_after w) me.0.locals }, me.1)
 
 abbrev pub AllRead : List Held → ℕ → Type 0
 AllRead [] w = Unit {0}
-AllRead (h ∷ hs) w = PartReads h.local.config h.local.part w × AllRead hs w
+AllRead (h ∷ hs) w = LocalReads h.local.config h.local w × AllRead hs w
 
 -- what a step tells: the thread moved on by one row, and the word is one that its row may read
 abbrev pub moves_on : table.Me Unit View → ℕ → table.Me Unit View → Type 0

@@ -4,7 +4,7 @@ use Rattle.atomic_table.specs.Seated.{TableId}
 use Rattle.block_store.specs.declared.Config.{Config}
 use Rattle.never_heap.specs.declared.Command.{Command}
 use Rattle.never_heap.specs.declared.Entry.{Entry}
-use Rattle.heap_system.specs.Locals.{LocalState, PartReads, is_done, local_got, part_step, turn_of}
+use Rattle.heap_system.specs.Locals.{LocalState, LocalReads, is_done, local_got, part_step, turn_of}
 use Rattle.heap_system.specs.declared.Turn.{Turn}
 use Rattle.atom_board.specs.declared.rules.Held.{Held}
 use Rattle.atom_board.specs.Boards.{held}
@@ -91,7 +91,7 @@ AllAreDone ms = (t : ℕ) (d : MutatorState) → t < length ms
 -- word that its one step read, and it has made one turn more
 pub record Moved (old new : MutatorState) (answer : Turn) : Type 0 where
   pub word : ℕ
-  pub reads : PartReads old.local.config old.local.part word
+  pub reads : LocalReads old.local.config old.local word
   pub local : new.local ≡ local_got old.local word
   pub turns : new.turns ≡ old.turns + 1
   pub answered : answer ≡ turn_of (part_step old.local.config old.local.part word)

@@ -5,7 +5,7 @@ ghost use Rattle.block_store.specs.Places.{extent, words_count};
 ghost use Rattle.heap_machine.specs.Operations.{op_at, op_place};
 ghost use Rattle.never_heap.specs.declared.Command.{Command};
 ghost use Rattle.std.specs.Vec.{vec_capacity};
-ghost use Rattle.heap_system.specs.Locals.{LocalState, PartReads, part_want, part_step, local_got, is_done, turn_of};
+ghost use Rattle.heap_system.specs.Locals.{LocalState, LocalReads, part_want, part_step, local_got, is_done, turn_of};
 ghost use Rattle.heap_system.specs.Machines.{IsJob};
 ghost use Rattle.heap_system.specs.Systems.{IsFinished};
 ghost use Rattle.heap_system.specs.declared.Turn.TheVariants as turns;
@@ -75,7 +75,7 @@ fn act(
     ensures table { (seat.new.table_id ≡ seat.old.table_id) × (seat.new.id ≡ seat.old.id) }
     ensures found { seat.new.me
         ≡ (one_view (local_got local.now result) (turns_in seat.old.me.0.locals + 1), []) }
-    ensures reads { PartReads local.now.config local.now.part result }
+    ensures reads { LocalReads local.now.config local.now result }
 {
     let _local = local;
     match *op {

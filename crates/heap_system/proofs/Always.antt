@@ -15,6 +15,7 @@ use Rattle.never_heap.proofs.Starting.{count_of_start}
 use Rattle.heap_machine.specs.Gating.{Gating, is_outside, is_inside, is_closing}
 use Rattle.heap_machine.specs.Holdings.{holds_nothing}
 use Rattle.kept_names.specs.Pictures.{no_task}
+use Rattle.work_account.proofs.Balances.{opened_sound}
 use Rattle.heap_system.specs.declared.local.Part.{Part}
 use Rattle.heap_system.specs.declared.local.Part.TheVariants.{Rest}
 use Rattle.heap_system.specs.Locals.{LocalState, command_of, no_pass, at_start, task}
@@ -107,6 +108,9 @@ module _ (c : Config) (traces : List (List Command)) (job : IsJob c traces) (s :
       log = omega arith;
       part = tt;
       paid = omega arith;
+      settled = tt;
+      sound = opened_sound start.rate c.object;
+      units = omega arith;
       worked = omega arith;
       made = omega arith;
       space = start.roomy t tl;
@@ -151,7 +155,7 @@ module _ (c : Config) (traces : List (List Command)) (laws : (p : Part) → Part
         let none : has_event c t r.state ≡ false = rw (le-ltb t c.threads out) refl in
         subst (λ x. Kept c traces (record {
           state = cond x (event_done c t r.state) r.state;
-          order = r.order ++ cond x (items_by c t (command_of (local_at c r.state t)) (local_at c r.state t).paid r.order (next_effect c r.state t)) [];
+          order = r.order ++ cond x (items_by c t (command_of (local_at c r.state t)) (local_at c r.state t).balance.paid r.order (next_effect c r.state t)) [];
           names = cond x (renamed t (replay c r.order) (heap_in c r.state) (next_effect c r.state t).naming r.names) r.names;
         })) (sym none)
         (subst (λ o. Kept c traces (record { state = r.state; order = o; names = r.names })) (sym (append-nil r.order)) kept)

@@ -1,21 +1,17 @@
 -- What every list of turns keeps of marking, sweeping and the change between them.
-use Rattle.std.proofs.Common.{◌≡◌, ◌≢◌, ℕ, ◌+◌, ◌-◌, ◌<◌, ◌≤◌, ◌⊎◌, ◌&&◌, Bool, true, false, cond, eqb, eqb-true, lt-ltb, List, length, refl, sym, ap, ◌∙◌, subst, arith, inl, inr}
+use Rattle.std.proofs.Common.{◌≡◌, ◌≢◌, ℕ, ◌+◌, ◌-◌, ◌<◌, ◌⊎◌, ◌&&◌, true, false, cond, eqb, eqb-true, lt-ltb, List, length, refl, sym, ap, ◌∙◌, subst, arith, inl, inr}
 use Rattle.std.proofs.lemmas.Bool.{cases_Bool}
 use Rattle.block_store.specs.declared.Config.{Config}
-use Rattle.block_store.specs.declared.PhaseWord.{PhaseWord}
 use Rattle.block_store.specs.Colours.{is_free, is_grey, black_word, white_word}
-use Rattle.block_store.specs.Heaps.{Heap, put_at}
 use Rattle.block_store.specs.Phases.{inside_of, is_closed, is_sweep, cycle_of}
-use Rattle.block_store.specs.Places.{Phase, GreyList, FreeList, ColourOf, extent}
+use Rattle.block_store.specs.Places.{Phase, GreyList, FreeList, ColourOf}
 use Rattle.block_store.specs.Widths.{payloads}
-use Rattle.block_store.proofs.PhaseWords.{phase-more, phase-less}
 use Rattle.never_heap.specs.declared.Command.{Command}
 use Rattle.never_heap.specs.Graphs.{Graph}
 use Rattle.never_heap.specs.Histories.{replay}
 use Rattle.heap_machine.specs.Gates.{gate_want}
 use Rattle.heap_machine.specs.Gating.{Gating, Inside, is_closing, open_word}
-use Rattle.heap_machine.specs.Holdings.{Holding}
-use Rattle.heap_machine.specs.Operations.{Operation, Exchange, heap_after, place_of}
+use Rattle.heap_machine.specs.Operations.{Exchange, heap_after}
 use Rattle.heap_machine.specs.Turning.{turning_gating}
 use Rattle.heap_machine.specs.declared.gate.GateRow.{GateRow}
 use Rattle.heap_machine.specs.declared.gate.GateRow.TheVariants as gates
@@ -28,7 +24,6 @@ use Rattle.grey_steps.specs.Ends.{is_putting}
 use Rattle.grey_steps.specs.declared.rows.GreyRow.{GreyRow}
 use Rattle.grey_steps.specs.declared.rows.GreyRow.TheVariants as greys
 use Rattle.grey_steps.proofs.Reuses.{leaves_phase}
-use Rattle.barrier_steps.specs.Rows.{FieldState, field_want, field_holding}
 use Rattle.barrier_steps.specs.declared.rows.FieldRow.{FieldRow}
 use Rattle.barrier_steps.specs.declared.rows.FieldRow.TheVariants as fields
 use Rattle.barrier_steps.proofs.Leaving.{field_phase}
@@ -48,14 +43,14 @@ use Rattle.heap_system.specs.declared.local.Part.{Part}
 use Rattle.heap_system.specs.declared.local.Part.TheVariants.{Rest, Enter, Serve, Mark, Sweep, Build, Again, Idle, TurnOver, Leave}
 use Rattle.build_steps.specs.Rows.{BuildState}
 use Rattle.heap_system.specs.Locals.{part_want, is_rest, is_done, command_of}
-use Rattle.heap_system.specs.Machines.{State, Run, IsJob, local_at, heap_in, has_event, event_done, turned}
+use Rattle.heap_system.specs.Machines.{Run, IsJob, local_at, heap_in, has_event, event_done, turned}
 use Rattle.heap_system.specs.Pictures.{holding, gates_in, holdings_in, kept_state}
 use Rattle.heap_system.specs.Rounds.{puts_grey, puts_free, puts_rest, puts_shaded, puts_roots, flips_or_starts, turns_phase}
 use Rattle.heap_system.proofs.Kept.{Kept}
 use Rattle.heap_system.proofs.LawsOf.{laws_of}
 use Rattle.heap_system.proofs.PartLaws.{AtPart}
 use Rattle.heap_system.proofs.Seeing.{IsEntering, IsTurning, PartKept, Seen}
-use Rattle.heap_system.proofs.Turning.{seen, at_part, new_heap, heap_new}
+use Rattle.heap_system.proofs.Turning.{seen, at_part, heap_new}
 use Rattle.heap_system.proofs.parts.Closing.{shut, in_phase, alone, turning, own_cycle, sweep, no_white, all_shaded}
 
 -- Where a thread puts its hand in its own grey list, it knows the list to be empty.

@@ -3,6 +3,7 @@ pub mod Steady
 pub mod Paying
 pub mod Seeing
 pub mod PartLaws
+pub mod Balances
 pub mod Kept
 pub mod Growing
 pub mod Moving
@@ -14,6 +15,7 @@ pub mod parts
 pub mod LawsOf
 pub mod Always
 pub mod Starting
+pub mod Rooms
 pub mod Reached
 pub mod Told
 pub mod Loaded
@@ -26,4 +28,9 @@ pub mod Tallying
 pub mod tallies
 pub mod Tallied
 pub mod TalliesOf
+pub mod Balanced
+pub mod UnitMade
 pub mod Bounded
+pub mod Taking
+pub mod Cycling
+pub mod alone

@@ -1,6 +1,7 @@
 -- What a thread keeps at its own event, and at those of other threads.
 use Rattle.std.proofs.Common.{◌≡◌, ℕ, ◌+◌, ◌*◌, ◌<◌, ◌≤◌, Bool, true, Option, Some, None, List, [], ◌∷◌, ◌++◌, length, append_assoc, append-nil, length-append, refl, sym, ap, ◌∙◌, subst, arith, suc}
 use Rattle.block_store.specs.declared.Config.{Config}
+use Rattle.block_store.specs.declared.PhaseWord.{PhaseWord}
 use Rattle.block_store.specs.Heaps.{Heap}
 use Rattle.block_store.specs.Places.{Cursor}
 use Rattle.never_heap.specs.declared.Command.{Command}
@@ -9,14 +10,17 @@ use Rattle.never_heap.specs.declared.Reply.{Reply}
 use Rattle.never_heap.specs.Graphs.{Graph, register_of, count_of}
 use Rattle.never_heap.specs.Histories.{HistoryItem, part}
 use Rattle.never_heap.specs.RightWork.{units_owed}
+use Rattle.never_heap.specs.Steps.{blocks_of}
+use Rattle.work_account.specs.Accounts.{Balance, IsSound}
 use Rattle.heap_machine.specs.Gating.{is_closing}
 use Rattle.heap_machine.specs.declared.pass.Pass.{Pass}
 use Rattle.kept_names.specs.Pictures.{Names}
 use Rattle.heap_system.specs.declared.local.Part.{Part}
 use Rattle.heap_system.specs.declared.local.Part.TheVariants.{Leave}
-use Rattle.heap_system.specs.Locals.{LocalState, command_of, owed, errand_of, effect, part_got, pass_got, paid_got, made_got, Verdict, entry_of, entries_of, works, unit_to_come, PartFits, IsRoomy}
+use Rattle.heap_system.specs.Locals.{LocalState, command_of, owed, errand_of, effect, part_got, pass_got, balance_in, balance_paid, balance_got, paid_got, made_got, Verdict, entry_of, entries_of, works, unit_to_come, PartFits, IsRoomy}
 use Rattle.heap_system.specs.Pictures.{stand_of, waiting}
 use Rattle.heap_system.specs.Units.{IsRight}
+use Rattle.heap_system.proofs.Balances.{paid_in, got_paid, units_in, units_on, units_over, sound_in, sound_on, sound_over, is_paid}
 use Rattle.heap_system.proofs.Growing.{said_more, right_more, made_more}
 use Rattle.heap_system.proofs.Kept.{LocalKept}
 use Rattle.heap_system.proofs.PartLaws.{PartLaws}
@@ -39,7 +43,7 @@ local_stays c given g later order longer h new ns names u l laws kept same count
       settled = kept.settled;
       made = kept.made ∙ sym count;
       right = subst (λ x. IsRight c.width l.rate x) (sym more) kept.right;
-      told = more ∙ kept.told ∙ sym (ap (λ o. l.log ++ entries_of l.thread (command_of l) l.paid o) s.1);
+      told = more ∙ kept.told ∙ sym (ap (λ o. l.log ++ entries_of l.thread (command_of l) l.balance.paid o) s.1);
       said = kept.said;
     }
 
@@ -50,8 +54,8 @@ moved_on l t c w = record {
   rate = l.rate;
   thread = t;
   trace = l.trace;
-  log = l.log ++ entries_of t (command_of l) l.paid (effect c l.part w).reply;
-  paid = paid_got (effect c l.part w).reply (effect c l.part w).unit l.paid;
+  log = l.log ++ entries_of t (command_of l) l.balance.paid (effect c l.part w).reply;
+  balance = balance_got (effect c l.part w) (blocks_of c.width (command_of l)) l.balance;
   made = made_got (effect c l.part w).reply l.made;
   space = l.space;
   pass = pass_got (effect c l.part w).entered t c.threads l.pass;
@@ -60,42 +64,60 @@ moved_on l t c w = record {
 
 -- what its event says of it alone, by the reply that it brings
 pub record Moved (c : Config) (g : Graph) (order longer : List HistoryItem) (new : Heap) (names : Names) (t : ℕ) (l : LocalState) (v : Verdict) (unit : Bool) (q : Pass) (p : Part) (o : Option Reply) : Type 0 where
-  pub more : part t longer ≡ part t order ++ told_by g t (command_of l) l.paid v
+  pub more : part t longer ≡ part t order ++ told_by g t (command_of l) l.balance.paid v
   pub stands : PartKept c (graph_decided g t (command_of l) v) t q (command_of l) p
   pub knows : Knows c new names q p
   pub fits : PartFits c (length l.log) (length l.trace) q p
   pub roomy : IsRoomy l.space p
   pub behind : stage q.cycle q.sweep ≤ stage_of new
   pub over : (r : Reply) → o ≡ Some r → p ≡ Leave
-  pub told : entries_of t (command_of l) l.paid (waiting g l.part) ++ told_by g t (command_of l) l.paid v
-      ≡ entries_of t (command_of l) l.paid o ++ entries_of t (command_of l) (paid_got o unit l.paid) (waiting (graph_decided g t (command_of l) v) p)
-  pub low : paid_got o unit l.paid + unit_to_come c p ≤ owed l
-  pub settled : IsSettled (owed l) (paid_got o unit l.paid) p
-  pub exact : IsDecided v → l.paid ≡ owed l
+  pub told : entries_of t (command_of l) l.balance.paid (waiting g l.part) ++ told_by g t (command_of l) l.balance.paid v
+      ≡ entries_of t (command_of l) l.balance.paid o ++ entries_of t (command_of l) (paid_got o unit l.balance.paid) (waiting (graph_decided g t (command_of l) v) p)
+  pub low : paid_got o unit l.balance.paid + unit_to_come c p ≤ owed l
+  pub settled : IsSettled (owed l) (paid_got o unit l.balance.paid) p
+  pub exact : IsDecided v → l.balance.paid ≡ owed l
+  pub whole : (r : Reply) → o ≡ Some r → l.balance.paid ≡ owed l
   pub counts : made_got o l.made ≡ count_of (graph_decided g t (command_of l) v) t
   pub some : (r : Reply) → o ≡ Some r → length l.log < length l.trace
 
 -- the thread itself
-module _ (c : Config) (given : List Command) (g : Graph) (order longer : List HistoryItem) (h new : Heap) (ns names : Names) (t : ℕ) (l : LocalState) (v : Verdict) (unit : Bool) (q : Pass) (p : Part) (kept : LocalKept c given g order h ns t l) where
+module _ (c : Config) (given : List Command) (g : Graph) (order longer : List HistoryItem) (h new : Heap) (ns names : Names) (t : ℕ) (l : LocalState) (v : Verdict) (i : Option PhaseWord) (unit : Bool) (q : Pass) (p : Part) (kept : LocalKept c given g order h ns t l) where
   abbrev Event : Option Reply → Type 0
   Event o = Moved c g order longer new names t l v unit q p o
 
-  abbrev after_part : List Entry → ℕ → ℕ → Part → LocalState
-  after_part log paid made x = record { config = l.config; rate = l.rate; thread = t; trace = l.trace; log = log; paid = paid; made = made; space = l.space; pass = q; part = x }
+  abbrev after_part : List Entry → Balance → ℕ → Part → LocalState
+  after_part log balance made x = record { config = l.config; rate = l.rate; thread = t; trace = l.trace; log = log; balance = balance; made = made; space = l.space; pass = q; part = x }
+
+  -- its balance then
+  abbrev balance_then : Option Reply → Balance
+  balance_then o = balance_paid o unit (blocks_of c.width (command_of l)) (balance_in i l.balance)
+
+  paid_then : (o : Option Reply) → (balance_then o).paid ≡ paid_got o unit l.balance.paid
+  paid_then o = got_paid i o unit (blocks_of c.width (command_of l)) l.balance
+
+  sound_then : IsSound l.rate l.config.object (balance_in i l.balance)
+  sound_then = sound_in l.rate l.config.object i l.balance kept.fits.sound
+
+  units_then : (balance_in i l.balance).units ≤ works l.log + (balance_in i l.balance).paid
+  units_then = units_in i (works l.log) l.balance kept.fits.units
 
   abbrev Later : LocalState → Type 0
   Later x = LocalKept c given (graph_decided g t (command_of l) v) longer new names t x
 
-  told_so : (o : Option Reply) → Event o → part t longer ≡ l.log ++ (entries_of t (command_of l) l.paid o ++ entries_of t (command_of l) (paid_got o unit l.paid) (waiting (graph_decided g t (command_of l) v) p))
+  told_so : (o : Option Reply) → Event o → part t longer ≡ l.log ++ (entries_of t (command_of l) l.balance.paid o ++ entries_of t (command_of l) (balance_then o).paid (waiting (graph_decided g t (command_of l) v) p))
   told_so o event =
-      event.more ∙ ap (λ x. x ++ told_by g t (command_of l) l.paid v) (kept.told ∙ ap (λ x. l.log ++ entries_of x (command_of l) l.paid (waiting g l.part)) kept.thread)
+      event.more ∙ ap (λ x. x ++ told_by g t (command_of l) l.balance.paid v) (kept.told ∙ ap (λ x. l.log ++ entries_of x (command_of l) l.balance.paid (waiting g l.part)) kept.thread)
       ∙ append_assoc l.log _ _ ∙ ap (λ x. l.log ++ x) event.told
+      ∙ ap (λ n. l.log ++ (entries_of t (command_of l) l.balance.paid o ++ entries_of t (command_of l) n (waiting (graph_decided g t (command_of l) v) p))) (sym (paid_then o))
 
   right_so : (o : Option Reply) → Event o → IsRight c.width l.rate (part t longer)
-  right_so o event = subst (λ x. IsRight c.width l.rate x) (sym event.more) (right_more c.width l.rate (part t order) g t (command_of l) l.paid v kept.right
+  right_so o event = subst (λ x. IsRight c.width l.rate x) (sym event.more) (right_more c.width l.rate (part t order) g t (command_of l) l.balance.paid v kept.right
       (λ d. event.exact d ∙ ap (λ (x : Config). units_owed x.width l.rate (command_of l)) kept.config))
 
-  none_moves : Event None → Later (after_part l.log (paid_got None unit l.paid) l.made p)
+  settled_so : (o : Option Reply) → Event o → IsSettled (owed l) (balance_then o).paid p
+  settled_so o event = subst (λ n. IsSettled (owed l) n p) (sym (paid_then o)) event.settled
+
+  none_moves : Event None → Later (after_part l.log (balance_then None) l.made p)
   none_moves event = record {
     config = kept.config;
     thread = refl;
@@ -108,7 +130,10 @@ module _ (c : Config) (given : List Command) (g : Graph) (order longer : List Hi
       trace = kept.fits.trace;
       log = kept.fits.log;
       part = subst (λ x. PartFits x (length l.log) (length l.trace) q p) (sym kept.config) event.fits;
-      paid = subst (λ x. paid_got None unit l.paid + unit_to_come x p ≤ owed l) (sym kept.config) event.low;
+      paid = subst (λ x. (balance_then None).paid + unit_to_come x p ≤ owed l) (sym kept.config) (omega (arith, event.low, paid_then None));
+      settled = is_paid (owed l) (balance_then None).paid p (settled_so None event);
+      sound = sound_on l.rate l.config.object unit (blocks_of c.width (command_of l)) (balance_in i l.balance) (omega (arith, event.low, paid_then None, owed_low l kept.fits)) sound_then;
+      units = units_on unit (blocks_of c.width (command_of l)) (works l.log) (balance_in i l.balance) units_then;
       worked = kept.fits.worked;
       made = kept.fits.made;
       space = kept.fits.space;
@@ -117,7 +142,7 @@ module _ (c : Config) (given : List Command) (g : Graph) (order longer : List Hi
     stands = event.stands;
     knows = event.knows;
     behind = event.behind;
-    settled = event.settled;
+    settled = settled_so None event;
     made = event.counts;
     right = right_so None event;
     told = told_so None event;
@@ -125,15 +150,21 @@ module _ (c : Config) (given : List Command) (g : Graph) (order longer : List Hi
   }
 
   module _ (r : Reply) where
-    longer_by : length (l.log ++ entry_of t (command_of l) l.paid r ∷ []) ≡ suc (length l.log)
-    longer_by = length-append l.log (entry_of t (command_of l) l.paid r ∷ []) ∙ omega arith
+    longer_by : length (l.log ++ entry_of t (command_of l) l.balance.paid r ∷ []) ≡ suc (length l.log)
+    longer_by = length-append l.log (entry_of t (command_of l) l.balance.paid r ∷ []) ∙ omega arith
 
-    worked_so : works (l.log ++ entry_of t (command_of l) l.paid r ∷ []) ≤ length (l.log ++ entry_of t (command_of l) l.paid r ∷ []) * (l.rate * l.config.object)
+    more_worked : works (l.log ++ entry_of t (command_of l) l.balance.paid r ∷ []) ≡ works l.log + (l.balance.paid + 0)
+    more_worked = works_append l.log (entry_of t (command_of l) l.balance.paid r ∷ [])
+
+    worked_so : works (l.log ++ entry_of t (command_of l) l.balance.paid r ∷ []) ≤ length (l.log ++ entry_of t (command_of l) l.balance.paid r ∷ []) * (l.rate * l.config.object)
     worked_so =
-        let more : works (l.log ++ entry_of t (command_of l) l.paid r ∷ []) ≡ works l.log + (l.paid + 0) = works_append l.log (entry_of t (command_of l) l.paid r ∷ []) in
-        subst (λ n. works (l.log ++ entry_of t (command_of l) l.paid r ∷ []) ≤ n * (l.rate * l.config.object)) (sym longer_by) (omega (arith, more, kept.fits.worked, kept.fits.paid, owed_low l kept.fits))
+        subst (λ n. works (l.log ++ entry_of t (command_of l) l.balance.paid r ∷ []) ≤ n * (l.rate * l.config.object)) (sym longer_by) (omega (arith, more_worked, kept.fits.worked, kept.fits.paid, owed_low l kept.fits))
 
-    some_moves : length l.log < length l.trace → Event (Some r) → Later (after_part (l.log ++ entry_of t (command_of l) l.paid r ∷ []) 0 (made_got (Some r) l.made) Leave)
+    -- what it has paid is the price of its command
+    price_is : Event (Some r) → (balance_in i l.balance).paid ≡ l.rate * blocks_of c.width (command_of l)
+    price_is event = paid_in i l.balance ∙ event.whole r refl ∙ ap (λ (x : Config). l.rate * blocks_of x.width (command_of l)) kept.config
+
+    some_moves : length l.log < length l.trace → Event (Some r) → Later (after_part (l.log ++ entry_of t (command_of l) l.balance.paid r ∷ []) (balance_then (Some r)) (made_got (Some r) l.made) Leave)
     some_moves low event =
         let over : p ≡ Leave = event.over r refl in
         record {
@@ -148,7 +179,10 @@ module _ (c : Config) (given : List Command) (g : Graph) (order longer : List Hi
             trace = kept.fits.trace;
             log = omega (arith, longer_by);
             part = tt;
-            paid = omega arith;
+            paid = omega (arith, paid_then (Some r));
+            settled = tt;
+            sound = sound_over l.rate l.config.object r unit (blocks_of c.width (command_of l)) (balance_in i l.balance) (price_is event) sound_then;
+            units = omega (arith, more_worked, units_over r unit (blocks_of c.width (command_of l)) (balance_in i l.balance), units_then, paid_in i l.balance);
             worked = worked_so;
             made = omega (arith, longer_by, kept.fits.made, made_more r l.made);
             space = kept.fits.space;
@@ -157,14 +191,14 @@ module _ (c : Config) (given : List Command) (g : Graph) (order longer : List Hi
           stands = tt;
           knows = tt;
           behind = event.behind;
-          settled = refl;
+          settled = paid_then (Some r);
           made = event.counts;
           right = right_so (Some r) event;
-          told = told_so (Some r) event ∙ ap (λ x. l.log ++ (entry_of t (command_of l) l.paid r ∷ entries_of t (command_of l) 0 (waiting (graph_decided g t (command_of l) v) x))) over
-              ∙ sym (append-nil (l.log ++ entry_of t (command_of l) l.paid r ∷ []));
-          said = said_more l.log l.trace (entry_of t (command_of l) l.paid r) (command_of l) refl refl low kept.said;
+          told = told_so (Some r) event ∙ ap (λ x. l.log ++ (entry_of t (command_of l) l.balance.paid r ∷ entries_of t (command_of l) (balance_then (Some r)).paid (waiting (graph_decided g t (command_of l) v) x))) over
+              ∙ sym (append-nil (l.log ++ entry_of t (command_of l) l.balance.paid r ∷ []));
+          said = said_more l.log l.trace (entry_of t (command_of l) l.balance.paid r) (command_of l) refl refl low kept.said;
         }
 
-  pub local_moves : (o : Option Reply) → Event o → Later (after_part (l.log ++ entries_of t (command_of l) l.paid o) (paid_got o unit l.paid) (made_got o l.made) p)
-  local_moves None event = subst (λ x. Later (after_part x (paid_got None unit l.paid) l.made p)) (sym (append-nil l.log)) (none_moves event)
-  local_moves (Some r) event = subst (λ x. Later (after_part (l.log ++ entry_of t (command_of l) l.paid r ∷ []) 0 (made_got (Some r) l.made) x)) (sym (event.over r refl)) (some_moves r (event.some r refl) event)
+  pub local_moves : (o : Option Reply) → Event o → Later (after_part (l.log ++ entries_of t (command_of l) l.balance.paid o) (balance_then o) (made_got o l.made) p)
+  local_moves None event = subst (λ x. Later (after_part x (balance_then None) l.made p)) (sym (append-nil l.log)) (none_moves event)
+  local_moves (Some r) event = subst (λ x. Later (after_part (l.log ++ entry_of t (command_of l) l.balance.paid r ∷ []) (balance_then (Some r)) (made_got (Some r) l.made) x)) (sym (event.over r refl)) (some_moves r (event.some r refl) event)

@@ -1,5 +1,5 @@
 -- What a thread owes and has paid, and the ranges of the parts that it comes to.
-use Rattle.std.proofs.Common.{◌≡◌, ℕ, zero, suc, ◌+◌, ◌*◌, ◌<◌, ◌≤◌, ◌^◌, Bool, true, false, not, ◌&&◌, ◌||◌, cond, ltb, eqb, ltb-true, refl, sym, ap, ◌∙◌, subst, arith, List, [], ◌∷◌, ◌++◌, length, length-append, append-nil, get_or, take, Some, is_some, inl, inr, mul_comm}
+use Rattle.std.proofs.Common.{◌≡◌, ℕ, zero, suc, ◌+◌, ◌-◌, ◌*◌, ◌<◌, ◌≤◌, ◌^◌, Bool, true, false, not, ◌&&◌, ◌||◌, cond, ltb, eqb, ltb-true, refl, sym, ap, ◌∙◌, subst, arith, List, [], ◌∷◌, ◌++◌, length, length-append, get_or, take, Some, is_some, inl, inr, mul_comm}
 use Rattle.std.proofs.lemmas.Bool.{cases_Bool, cases_lt, lt-ltb}
 use Rattle.std.proofs.lemmas.List.{get_or_past}
 use Rattle.std.proofs.Math.Nat.{mul-le-mul_right}
@@ -28,7 +28,6 @@ use Rattle.heap_machine.specs.Gates.{gate_got, closed_by, is_going_in, is_of_pas
 use Rattle.heap_machine.proofs.GateRows.{gate_fits}
 use Rattle.heap_machine.specs.Passes.{IsPass}
 use Rattle.heap_machine.specs.Turning.{turns_over}
-use Rattle.heap_machine.specs.declared.Step.{Step}
 use Rattle.heap_machine.specs.declared.pass.Pass.{Pass}
 use Rattle.heap_machine.specs.declared.gate.GateRow.{GateRow}
 use Rattle.heap_machine.specs.declared.gate.GateRow.TheVariants as gates
@@ -39,7 +38,7 @@ use Rattle.grey_steps.specs.Rows.{GreyState, grey_got, grey_unit, scanning}
 use Rattle.grey_steps.specs.Ends.{is_blackening}
 use Rattle.grey_steps.proofs.Ends.{unit_after, unit_once}
 use Rattle.grey_steps.proofs.Ranges.{scan_fits}
-use Rattle.sweep_steps.specs.Rows.{SweepState, sweep_got, sweep_over, sweep_passed, sweep_nothing, sweep_step, step_to, sweeping}
+use Rattle.sweep_steps.specs.Rows.{SweepState, sweep_got, sweep_over, sweep_passed, step_to, sweeping}
 use Rattle.sweep_steps.specs.Ends.{row_passes}
 use Rattle.sweep_steps.specs.declared.rows.SweepRow.{SweepRow}
 use Rattle.sweep_steps.specs.declared.rows.SweepRow.TheVariants as sweeps
@@ -47,15 +46,19 @@ use Rattle.sweep_steps.proofs.Passing.{passed_bits}
 use Rattle.sweep_steps.proofs.Ranges as sweeping_ranges
 use Rattle.build_steps.specs.Rows.{BuildState, building}
 use Rattle.build_steps.proofs.Ranges as building_ranges
+use Rattle.work_account.specs.Accounts.{Balance, AccountState, entered}
 use Rattle.heap_system.specs.declared.local.Local.TheInside.{Inside}
 use Rattle.heap_system.specs.declared.local.Part.{Part}
 use Rattle.heap_system.specs.declared.local.Part.TheVariants.{Rest, Enter, Serve, Mark, Sweep, Build, TurnOver, Leave}
 use Rattle.heap_system.specs.Machines.{IsJob}
-use Rattle.heap_system.specs.Locals.{LocalState, IsLocal, PartFits, PartReads, IsRoomy, HasRoom, errand_of, command_of, owed, pass_by, if_over, local_got, is_last, unit_to_come, works, entry_of, made_got}
+use Rattle.heap_system.specs.Locals.{LocalState, IsLocal, PartFits, PartReads, IsRoomy, IsPaid, HasRoom, errand_of, command_of, owed, pass_by, is_last, unit_to_come, works, entry_of, made_got, balance_paid}
+use Rattle.work_account.proofs.Balances.{entered_sound}
+use Rattle.cycle_tally.proofs.Sums.{paid_entered}
+use Rattle.heap_system.proofs.Balances.{units_entered, paid_after, units_over, sound_over}
 
 -- what is seen of a thread
 abbrev pub view_of : Inside → LocalState
-view_of l = record { config = l.config; rate = l.rate; thread = l.thread; trace = l.trace.items; log = l.log.items; paid = l.paid; made = l.made; space = l.space; pass = l.pass; part = l.part }
+view_of l = record { config = l.config; rate = l.rate; thread = l.thread; trace = l.trace.items; log = l.log.items; balance = l.account.balance; made = l.made; space = l.space; pass = l.pass; part = l.part }
 
 -- an object takes no more blocks than one object may
 pub blocks_low : (c : Config) (k : Command) → IsCommandInBounds c k → blocks_of c.width k ≤ c.object
@@ -145,16 +148,38 @@ pub room_there : (p : Part) (g : GateRow) (space capacity : ℕ) (held : List �
 room_there p g space capacity held e h = subst (λ x. HasRoom x space held capacity) e h
 
 -- a thread in another pass and part
-pub begins : (l : LocalState) (p : Pass) (part : Part) → IsLocal l → PartFits l.config (length l.log) (length l.trace) p part → l.paid + unit_to_come l.config part ≤ owed l → IsRoomy l.space part → IsLocal (record l { pass = p; part = part })
-begins l p part k fits pays roomy = record { bounds = k.bounds; plan = k.plan; rate = k.rate; thread = k.thread; trace = k.trace; log = k.log; part = fits; paid = pays; worked = k.worked; made = k.made; space = k.space; roomy = roomy }
+pub begins : (l : LocalState) (p : Pass) (part : Part) → IsLocal l → PartFits l.config (length l.log) (length l.trace) p part → l.balance.paid + unit_to_come l.config part ≤ owed l → IsPaid (owed l) l.balance.paid part → IsRoomy l.space part → IsLocal (record l { pass = p; part = part })
+begins l p part k fits pays all roomy = record { bounds = k.bounds; plan = k.plan; rate = k.rate; thread = k.thread; trace = k.trace; log = k.log; part = fits; paid = pays; settled = all; sound = k.sound; units = k.units; worked = k.worked; made = k.made; space = k.space; roomy = roomy }
+
+-- a thread at rest that enters a cycle
+pub entered_local : (i : Inside) (z : ℕ) (a : AccountState) → IsLocal (view_of i) → i.part ≡ Rest → a ≡ record i.account { balance = entered z i.account.balance } → IsLocal (record (view_of i) { balance = a.balance })
+entered_local i z a k rest is =
+    let same : (entered z i.account.balance).paid ≡ i.account.balance.paid = paid_entered z i.account.balance in
+    subst (λ (x : AccountState). IsLocal (record (view_of i) { balance = x.balance })) (sym is) (record {
+      bounds = k.bounds;
+      plan = k.plan;
+      rate = k.rate;
+      thread = k.thread;
+      trace = k.trace;
+      log = k.log;
+      part = k.part;
+      paid = omega (arith, same, k.paid);
+      settled = subst (λ p. IsPaid (owed (view_of i)) (entered z i.account.balance).paid p) (sym rest) tt;
+      sound = entered_sound i.rate i.config.object z i.account.balance k.sound;
+      units = units_entered z (works i.log.items) i.account.balance k.units;
+      worked = k.worked;
+      made = k.made;
+      space = k.space;
+      roomy = k.roomy;
+    })
 
 -- a build that begins in a room of this capacity
-pub begins_build : (l : LocalState) (phase : PhaseWord) (p : Pass) (command : Command) (capacity : ℕ) (b : BuildState) → IsLocal l → length l.log < length l.trace → p ≡ pass_by l.thread l.config.threads phase → IsPass p → command ≡ command_of l → makes_object command ≡ true → capacity ≡ l.space → b ≡ building l.config.width p.thread p.threads p.cycle (l.made + 1) command capacity → IsLocal (record l { pass = p; part = Build b })
-begins_build l phase p command capacity b k low by pass is makes space built =
+pub begins_build : (l : LocalState) (phase : PhaseWord) (p : Pass) (command : Command) (capacity : ℕ) (b : BuildState) → IsLocal l → length l.log < length l.trace → p ≡ pass_by l.thread l.config.threads phase → IsPass p → command ≡ command_of l → makes_object command ≡ true → owed l - l.balance.paid ≡ 0 → capacity ≡ l.space → b ≡ building l.config.width p.thread p.threads p.cycle (l.made + 1) command capacity → IsLocal (record l { pass = p; part = Build b })
+begins_build l phase p command capacity b k low by pass is makes none space built =
     let whole : b ≡ building l.config.width p.thread p.threads p.cycle (l.made + 1) (command_of l) l.space = built ∙ ap (λ n. building l.config.width p.thread p.threads p.cycle (l.made + 1) command n) space ∙ ap (λ q. building l.config.width p.thread p.threads p.cycle (l.made + 1) q l.space) is in
     subst (λ x. IsLocal (record l { pass = p; part = Build x })) (sym whole)
     (begins l p (Build (building l.config.width p.thread p.threads p.cycle (l.made + 1) (command_of l) l.space)) k
-    (build_fits l k low p (ap (λ (q : Pass). q.thread) by) (ap (λ (q : Pass). q.threads) by) pass (ap makes_object (sym is) ∙ makes)) (omega (arith, k.paid)) refl)
+    (build_fits l k low p (ap (λ (q : Pass). q.thread) by) (ap (λ (q : Pass). q.threads) by) pass (ap makes_object (sym is) ∙ makes)) (omega (arith, k.paid)) (omega (arith, k.paid, none)) refl)
 
 -- a part that turns over goes on with such rows
 turns_either : (b : Bool) (p q : GateRow) → turns_over p ≡ true → turns_over q ≡ true → turns_over (cond b p q) ≡ true
@@ -215,7 +240,7 @@ turned_on l g n w c k reads at same is there =
     let was = subst (λ (p : Part). PartFits l.config (length l.log) (length l.trace) l.pass p) at k.part in
     let read = subst (λ (p : Part). PartReads l.config p w) at reads in
     let next : n ≡ gate_got l.config.width g w = is ∙ ap (λ (x : Config). gate_got x.width g w) same in
-    begins l l.pass (TurnOver n) k (subst GateFits (sym next) (gate_fits l.config g w was.0 read), subst (λ x. GateAt x n) same there, ap turns_over next ∙ turns_on l.config.width g w was.2, was.3) (omega (arith, k.paid)) tt
+    begins l l.pass (TurnOver n) k (subst GateFits (sym next) (gate_fits l.config g w was.0 read), subst (λ x. GateAt x n) same there, ap turns_over next ∙ turns_on l.config.width g w was.2, was.3) (omega (arith, k.paid)) tt tt
 
 -- a thread on its way in has a command
 pub on_way_low : (l : LocalState) (g : GateRow) → IsLocal l → l.part ≡ Enter g → length l.log < length l.trace
@@ -248,14 +273,14 @@ made_low _ n = omega arith
 -- a thread with its command in the log
 abbrev pub answered : LocalState → Reply → LocalState
 answered l reply = record l {
-  log = l.log ++ entry_of l.thread (command_of l) l.paid reply ∷ [];
-  paid = 0;
+  log = l.log ++ entry_of l.thread (command_of l) l.balance.paid reply ∷ [];
+  balance = balance_paid (Some reply) false (blocks_of l.config.width (command_of l)) l.balance;
   made = made_got (Some reply) l.made;
   part = Leave;
 }
 
-pub answered_local : (l : LocalState) (reply : Reply) → IsLocal l → length l.log < length l.trace → IsLocal (answered l reply)
-answered_local l reply k low = record {
+pub answered_local : (l : LocalState) (reply : Reply) → IsLocal l → length l.log < length l.trace → l.balance.paid ≡ owed l → IsLocal (answered l reply)
+answered_local l reply k low all = record {
   bounds = k.bounds;
   plan = k.plan;
   rate = k.rate;
@@ -263,31 +288,35 @@ answered_local l reply k low = record {
   trace = k.trace;
   log = omega (arith, longer);
   part = tt;
-  paid = omega arith;
-  worked = subst (λ n. works (l.log ++ entry_of l.thread (command_of l) l.paid reply ∷ []) ≤ n * (l.rate * l.config.object)) (sym longer) (omega (arith, more, k.worked, k.paid, owed_low l k));
+  paid = omega (arith, paid_after (Some reply) false (blocks_of l.config.width (command_of l)) l.balance);
+  settled = tt;
+  sound = sound_over l.rate l.config.object reply false (blocks_of l.config.width (command_of l)) l.balance all k.sound;
+  units = omega (arith, more, k.units, units_over reply false (blocks_of l.config.width (command_of l)) l.balance);
+  worked = subst (λ n. works (l.log ++ entry_of l.thread (command_of l) l.balance.paid reply ∷ []) ≤ n * (l.rate * l.config.object)) (sym longer) (omega (arith, more, k.worked, k.paid, owed_low l k));
   made = omega (arith, longer, made_low reply l.made, k.made);
   space = k.space;
   roomy = tt;
 }
   where
-    longer : length (l.log ++ entry_of l.thread (command_of l) l.paid reply ∷ []) ≡ suc (length l.log)
-    longer = length-append l.log (entry_of l.thread (command_of l) l.paid reply ∷ []) ∙ omega arith
+    longer : length (l.log ++ entry_of l.thread (command_of l) l.balance.paid reply ∷ []) ≡ suc (length l.log)
+    longer = length-append l.log (entry_of l.thread (command_of l) l.balance.paid reply ∷ []) ∙ omega arith
 
-    more : works (l.log ++ entry_of l.thread (command_of l) l.paid reply ∷ []) ≡ works l.log + (l.paid + 0)
-    more = works_append l.log (entry_of l.thread (command_of l) l.paid reply ∷ [])
+    more : works (l.log ++ entry_of l.thread (command_of l) l.balance.paid reply ∷ []) ≡ works l.log + (l.balance.paid + 0)
+    more = works_append l.log (entry_of l.thread (command_of l) l.balance.paid reply ∷ [])
 
-pub answered_with : (l : LocalState) (reply : Reply) (log : List Entry) (k : Command) (made : ℕ) → IsLocal l → length l.log < length l.trace → log ≡ l.log ++ entry_of l.thread k l.paid reply ∷ [] → k ≡ command_of l → made ≡ made_got (Some reply) l.made
-    → IsLocal (record l { log = log; paid = 0; made = made; part = Leave })
-answered_with l reply log k made inside low is e more =
-    subst (λ x. IsLocal (record l { log = log; paid = 0; made = x; part = Leave })) (sym more)
-    (subst (λ x. IsLocal (record l { log = x; paid = 0; made = made_got (Some reply) l.made; part = Leave }))
-    (sym (is ∙ ap (λ y. l.log ++ entry_of l.thread y l.paid reply ∷ []) e)) (answered_local l reply inside low))
+pub answered_with : (l : LocalState) (reply : Reply) (log : List Entry) (k : Command) (b : Balance) (made : ℕ) → IsLocal l → length l.log < length l.trace → l.balance.paid ≡ owed l → log ≡ l.log ++ entry_of l.thread k l.balance.paid reply ∷ [] → k ≡ command_of l
+    → b ≡ balance_paid (Some reply) false (blocks_of l.config.width k) l.balance → made ≡ made_got (Some reply) l.made → IsLocal (record l { log = log; balance = b; made = made; part = Leave })
+answered_with l reply log k b made inside low all is e pays more =
+    subst (λ x. IsLocal (record l { log = log; balance = b; made = x; part = Leave })) (sym more)
+    (subst (λ x. IsLocal (record l { log = log; balance = x; made = made_got (Some reply) l.made; part = Leave })) (sym (pays ∙ ap (λ y. balance_paid (Some reply) false (blocks_of l.config.width y) l.balance) e))
+    (subst (λ x. IsLocal (record l { log = x; balance = balance_paid (Some reply) false (blocks_of l.config.width (command_of l)) l.balance; made = made_got (Some reply) l.made; part = Leave }))
+    (sym (is ∙ ap (λ y. l.log ++ entry_of l.thread y l.balance.paid reply ∷ []) e)) (answered_local l reply inside low all)))
 
 -- the units owed fit
 pub product_low : (l : LocalState) (n : ℕ) → IsLocal l → n ≡ blocks_of l.config.width (command_of l) → l.rate * n ≤ 134215680
 product_low l n k e = let due : l.rate * n ≡ owed l = ap (λ x. l.rate * x) e in omega (arith, owed_low l k, units_low l k)
 
-pub paid_low : (l : LocalState) → IsLocal l → l.paid ≤ 134215680
+pub paid_low : (l : LocalState) → IsLocal l → l.balance.paid ≤ 134215680
 paid_low l k = omega (arith, k.paid, owed_low l k, units_low l k)
 
 pub worked_low : (l : LocalState) → IsLocal l → works l.log ≤ 2 ^ 45

@@ -17,18 +17,19 @@ use Rattle.heap_machine.specs.declared.op.Op.{Op}
 use Rattle.heap_system.specs.declared.local.Part.{Part}
 use Rattle.heap_system.specs.declared.local.Part.TheVariants.{Rest}
 use Rattle.heap_system.specs.declared.Turn.{Turn}
-use Rattle.heap_system.specs.Locals.{LocalState, works, command_of, owed, entries_of, is_rest, is_done, part_want, part_step, turn_of, local_got, PartReads}
+use Rattle.heap_system.specs.Locals.{LocalState, works, command_of, owed, entries_of, is_rest, is_done, part_want, part_step, turn_of, local_got, LocalReads}
 use Rattle.heap_system.specs.Machines.{State, no_local, local_at, heap_in, word_read, event_done, has_event, turned, answer, Run, next, after_turns, IsJob, opened, IsRunOf}
 use Rattle.heap_system.specs.Pictures.{waiting}
 use Rattle.heap_system.specs.Systems.{Whole, traces_of, logs_of, AllDone, IsReached, IsFinished}
 use Rattle.heap_system.specs.Units.{units_made, IsRight}
 use Rattle.heap_system.proofs.Always.{run_kept}
+use Rattle.heap_system.proofs.Balanced.{local_reads}
 use Rattle.heap_system.proofs.Kept.{Kept}
 use Rattle.heap_system.proofs.LawsOf.{laws_of}
 use Rattle.heap_system.proofs.Making.{run_makes}
 use Rattle.heap_system.proofs.Seeing.{IsSettled}
 use Rattle.heap_system.proofs.Starting.{one_rate}
-use Rattle.heap_system.proofs.Turning.{cell, sums, reads}
+use Rattle.heap_system.proofs.Turning.{cell, sums}
 
 -- what is kept of a reached state
 pub reached_kept : (c : Config) (s : State) (k : IsReached c s) → Kept c (traces_of s) (record { state = s; order = k.run.order; names = k.run.names })
@@ -38,13 +39,17 @@ reached_kept c s k = subst (λ x. Kept c (traces_of s) (record { state = x; orde
 pub place_low : (c : Config) (s : State) → IsReached c s → (w : Whole) → record { config = c; state = s } ≡ w → (place : ℕ) → place < words_count (extent w.config) → place < length s.words
 place_low c s k w is place low = let all : place < words_count (extent c) = subst (λ (v : Whole). place < words_count (extent v.config)) (sym is) low in omega (arith, all, (reached_kept c s k).long)
 
+-- what the next event of a thread reads
+reached_reads : (c : Config) (s : State) → IsReached c s → (t : ℕ) → t < c.threads → LocalReads c (local_at c s t) (word_read c s (local_at c s t))
+reached_reads c s k t tl = subst (λ x. LocalReads c (local_at c x t) (word_read c x (local_at c x t))) (sym k.state) (local_reads c (traces_of s) k.job k.turns k.run k.by_turns t tl)
+
 -- what the code of a turn reads of its thread
 pub record TurnFacts (c : Config) (s : State) (t : ℕ) (l : LocalState) : Type 0 where
   pub same : l ≡ local_at c s t
   pub config : l.config ≡ c
   pub cell : op_place (op_at (extent l.config) (part_want l.config l.part)) < length s.words
   pub sums : SumFits (op_at (extent l.config) (part_want l.config l.part)) (get_or s.words (op_place (op_at (extent l.config) (part_want l.config l.part))) 0)
-  pub reads : PartReads l.config l.part (get_or s.words (op_place (op_at (extent l.config) (part_want l.config l.part))) 0)
+  pub reads : LocalReads l.config l (get_or s.words (op_place (op_at (extent l.config) (part_want l.config l.part))) 0)
 
 pub turn_facts : (c : Config) (s : State) (t : ℕ) (l : LocalState) → IsReached c s → t < c.threads → l ≡ get_or s.locals t l → TurnFacts c s t l
 turn_facts c s t l k tl is =
@@ -56,7 +61,7 @@ turn_facts c s t l k tl is =
       config = config;
       cell = rw config (rw same (cell c (traces_of s) (laws_of c) k.job.bounds.config k.job.plan (record { state = s; order = k.run.order; names = k.run.names }) kept t tl));
       sums = rw config (rw same (sums c (traces_of s) (laws_of c) k.job.bounds.config k.job.plan (record { state = s; order = k.run.order; names = k.run.names }) kept t tl));
-      reads = rw config (rw same (reads c (traces_of s) (laws_of c) k.job.bounds.config k.job.plan (record { state = s; order = k.run.order; names = k.run.names }) kept t tl));
+      reads = rw config (rw same (reached_reads c s k t tl));
     }
 
 -- the traces stay
@@ -104,7 +109,7 @@ module _ (c : Config) (s : State) (t : ℕ) (l : LocalState) (k : IsReached c s)
   sum_here = rw wants (turn_facts c s t l k tl is).sums
 
   module _ (word : ℕ) (read : word ≡ get_or s.words (op_place op) 0) where
-    pub reads_here : PartReads l.config l.part word
+    pub reads_here : LocalReads l.config l word
     reads_here = rw (read, wants) (turn_facts c s t l k tl is).reads
 
     word_is : word ≡ word_read c s (local_at c s t)
@@ -177,12 +182,12 @@ module _ (c : Config) (s : State) (k : IsReached c s) (done : AllDone c s) where
 
   logged : (t : ℕ) → t < c.threads → part t k.run.order ≡ (local_at c s t).log
   logged t tl =
-      (kept.locals t tl).told ∙ ap (λ p. (local_at c s t).log ++ entries_of (local_at c s t).thread (command_of (local_at c s t)) (local_at c s t).paid (waiting (replay c k.run.order) p)) (rest_is (local_at c s t).part (over t tl).0) ∙ append-nil (local_at c s t).log
+      (kept.locals t tl).told ∙ ap (λ p. (local_at c s t).log ++ entries_of (local_at c s t).thread (command_of (local_at c s t)) (local_at c s t).balance.paid (waiting (replay c k.run.order) p)) (rest_is (local_at c s t).part (over t tl).0) ∙ append-nil (local_at c s t).log
 
   made : (t : ℕ) → t < c.threads → works (get_or (logs_of s) t []) ≡ units_made c t (opened c k.by_turns.first) k.turns
   made t tl =
-      let settled : IsSettled (owed (local_at c s t)) (local_at c s t).paid Rest = subst (λ p. IsSettled (owed (local_at c s t)) (local_at c s t).paid p) (rest_is (local_at c s t).part (over t tl).0) (kept.locals t tl).settled in
-      let paid : (local_at c k.run.state t).paid ≡ 0 = ap (λ x. (local_at c x t).paid) (sym k.state) ∙ settled in
+      let settled : IsSettled (owed (local_at c s t)) (local_at c s t).balance.paid Rest = subst (λ p. IsSettled (owed (local_at c s t)) (local_at c s t).balance.paid p) (rest_is (local_at c s t).part (over t tl).0) (kept.locals t tl).settled in
+      let paid : (local_at c k.run.state t).balance.paid ≡ 0 = ap (λ x. (local_at c x t).balance.paid) (sym k.state) ∙ settled in
       let log : works (get_or (logs_of s) t []) ≡ works (part t k.run.order) = ap works (log_at s.locals t (no_local c) ∙ sym (logged t tl)) in
       log ∙ omega (arith, paid, run_makes c (traces_of s) k.job k.turns k.run k.by_turns t tl)
 

@@ -32,6 +32,7 @@ use Rattle.sweep_steps.specs.Rows.{SweepState, sweep_over, sweep_passed}
 use Rattle.build_steps.specs.Rows.{BuildState, build_over}
 use Rattle.build_steps.specs.Naming.{HoldsBuild}
 use Rattle.kept_names.specs.Kept.{IsKept}
+use Rattle.work_account.specs.Accounts.{Balance}
 use Rattle.kept_names.specs.Pictures.{Names, Task, no_task, picture}
 use Rattle.heap_system.specs.declared.local.Part.{Part}
 use Rattle.heap_system.specs.declared.local.Part.TheVariants.{Rest, Enter, Serve, Mark, Sweep, Build, Idle, TurnOver, Leave}
@@ -138,11 +139,12 @@ Knows c h ns q Idle = IsSwept c h q
 Knows c h ns q (TurnOver a) = TurnKnows c h ns q a
 Knows c h ns q _ = Unit {0}
 
--- between two commands nothing is paid; a sweep has paid what it passed of what it owed; a builder
--- has paid all
+-- between two commands nothing is paid; a sweep has paid what it passed of what it owed; and where
+-- the command is done all is paid
 abbrev pub IsSettled : ℕ → ℕ → Part → Type 0
 IsSettled due paid Rest = paid ≡ 0
 IsSettled due paid (Sweep s) = paid + s.owed ≡ due + sweep_passed s.row
+IsSettled due paid (Serve f) = paid ≡ due
 IsSettled due paid (Build b) = paid ≡ due
 IsSettled due paid Leave = paid ≡ 0
 IsSettled due paid _ = Unit {0}
@@ -159,7 +161,7 @@ pub record Forward (h new : Heap) : Type 0 where
 
 -- What a turn sees: the graph of the order, the order, the names, the heap, and of each thread where
 -- it stands, what it is at and what it holds; of the thread whose turn it is its pass, its command,
--- how many are done of all, the units due and paid, the objects made and its room. And what holds
+-- how many are done of all, the units due, its balance, the objects made and its room. And what holds
 -- of them.
 pub record Seen (c : Config) : Type 0 where
   pub graph : Graph
@@ -175,7 +177,7 @@ pub record Seen (c : Config) : Type 0 where
   pub done : ℕ
   pub all : ℕ
   pub due : ℕ
-  pub paid : ℕ
+  pub balance : Balance
   pub made : ℕ
   pub space : ℕ
   pub bounds : IsInBounds c
@@ -200,7 +202,7 @@ pub record Seen (c : Config) : Type 0 where
   pub builders : (u : ℕ) → u < c.threads → HoldsBuild (tasks u).build (holds u)
 
 abbrev pub errand : (c : Config) → Seen c → Errand
-errand c s = record { command = s.command; due = s.due - s.paid; serial = s.made + 1; space = s.space }
+errand c s = record { command = s.command; due = s.due - s.balance.paid; serial = s.made + 1; space = s.space }
 
 -- the graph after an event of thread t in command k, by its verdict
 abbrev pub graph_decided : Graph → ℕ → Command → Verdict → Graph
@@ -230,21 +232,21 @@ pub record EventKept (c : Config) (s : Seen c) (new : Heap) (e : Effect) (before
   pub gate : GateOf c.threads (new Phase) (changed s.gatings s.thread (gating c (pass_got e.entered s.thread c.threads s.pass) p))
   pub held : IsHeld c new
   pub rules : PhaseKept (extent c) new (changed s.holds s.thread (holding c p))
-  pub kept : IsKept c (picture (graph_decided s.graph s.thread s.command e.verdict) (s.order ++ (items_told s.graph s.thread s.command s.paid e.verdict ++ starts_by e.naming)) new
+  pub kept : IsKept c (picture (graph_decided s.graph s.thread s.command e.verdict) (s.order ++ (items_told s.graph s.thread s.command s.balance.paid e.verdict ++ starts_by e.naming)) new
       (renamed s.thread s.graph s.heap e.naming s.names) (changed s.tasks s.thread (task c p)))
   pub unshaded : is_sweep (new Phase) ≡ true → is_closed (new Phase) ≡ false → (t : ℕ) → t < c.threads → (renamed s.thread s.graph s.heap e.naming s.names).shaded t ≡ false
   pub forward : Forward s.heap new
   pub behind : stage (pass_got e.entered s.thread c.threads s.pass).cycle (pass_got e.entered s.thread c.threads s.pass).sweep ≤ stage_of new
-  pub leads : lead c new + (s.paid + unpassed (s.holds s.thread)) ≤ lead c s.heap + (works (entries_of s.thread s.command s.paid e.reply) + paid_got e.reply e.unit s.paid + unpassed (holding c p))
+  pub leads : lead c new + (s.balance.paid + unpassed (s.holds s.thread)) ≤ lead c s.heap + (works (entries_of s.thread s.command s.balance.paid e.reply) + paid_got e.reply e.unit s.balance.paid + unpassed (holding c p))
   pub part : PartKept c (graph_decided s.graph s.thread s.command e.verdict) s.thread (pass_got e.entered s.thread c.threads s.pass) s.command p
   pub knows : Knows c new (renamed s.thread s.graph s.heap e.naming s.names) (pass_got e.entered s.thread c.threads s.pass) p
   pub fits : PartFits c s.done s.all (pass_got e.entered s.thread c.threads s.pass) p
   pub roomy : IsRoomy s.space p
   pub over : (r : Reply) → e.reply ≡ Some r → p ≡ Leave
-  pub told : entries_of s.thread s.command s.paid before ++ told_by s.graph s.thread s.command s.paid e.verdict
-      ≡ entries_of s.thread s.command s.paid e.reply ++ entries_of s.thread s.command (paid_got e.reply e.unit s.paid) (waiting (graph_decided s.graph s.thread s.command e.verdict) p)
-  pub low : paid_got e.reply e.unit s.paid + unit_to_come c p ≤ s.due
-  pub settled : IsSettled s.due (paid_got e.reply e.unit s.paid) p
-  pub exact : IsDecided e.verdict → s.paid ≡ s.due
-  pub counted : works (told_by s.graph s.thread s.command s.paid e.verdict) ≡ works (entries_of s.thread s.command s.paid e.reply)
+  pub told : entries_of s.thread s.command s.balance.paid before ++ told_by s.graph s.thread s.command s.balance.paid e.verdict
+      ≡ entries_of s.thread s.command s.balance.paid e.reply ++ entries_of s.thread s.command (paid_got e.reply e.unit s.balance.paid) (waiting (graph_decided s.graph s.thread s.command e.verdict) p)
+  pub low : paid_got e.reply e.unit s.balance.paid + unit_to_come c p ≤ s.due
+  pub settled : IsSettled s.due (paid_got e.reply e.unit s.balance.paid) p
+  pub exact : IsDecided e.verdict → s.balance.paid ≡ s.due
+  pub counted : works (told_by s.graph s.thread s.command s.balance.paid e.verdict) ≡ works (entries_of s.thread s.command s.balance.paid e.reply)
   pub counts : made_got e.reply s.made ≡ count_of (graph_decided s.graph s.thread s.command e.verdict) s.thread

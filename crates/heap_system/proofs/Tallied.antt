@@ -32,6 +32,7 @@ use Rattle.heap_system.proofs.Growing.{items_are}
 use Rattle.heap_system.proofs.Kept.{Kept}
 use Rattle.heap_system.proofs.PartLaws.{PartLaws}
 use Rattle.heap_system.proofs.Paying.{bounds_at, blocks_low}
+use Rattle.heap_system.proofs.Starting.{one_rate}
 use Rattle.heap_system.proofs.Tallying.{IsSpending, IsTallyOf, TallyLaw, TallyEvent, Counted, asked_got}
 use Rattle.heap_system.proofs.Turning.{seen, at_part, new_run, new_heap, new_local, effect_here, heap_new, local_new, next_is}
 
@@ -40,16 +41,12 @@ abbrev pub asked_by : Config → LocalState → ℕ
 asked_by c l = blocks_of c.width (command_of l)
 
 -- A tally of a run, which is kept: of its heap and its order, and each thread where it stands, with
--- what it has paid.
+-- its balance.
 pub record RunTallied (c : Config) (rate : ℕ) (r : Run) : Type 0 where
   pub tally : Tally
   pub kept : TallyKept c rate black_word tally
   pub of : IsTallyOf (heap_in c r.state) r.order tally
-  pub threads : (t : ℕ) → t < c.threads → IsSpending c (local_at c r.state t).part (local_at c r.state t).paid (asked_by c (local_at c r.state t)) (tally.threads t)
-
--- a configuration has one rate
-pub one_rate : (c : Config) (p q : ℕ) → IsRate c p → IsRate c q → p ≡ q
-one_rate c p q a b = omega (arith, a.least q b.some b.enough, b.least p a.some a.enough)
+  pub threads : (t : ℕ) → t < c.threads → IsSpending c (local_at c r.state t).part (local_at c r.state t).balance (asked_by c (local_at c r.state t)) (tally.threads t)
 
 -- the command after an event: the one in hand, or with a reply the next
 asks_on : (c : Config) (trace : List Command) (log : List _) (t : ℕ) (k : Command) (paid : ℕ) (o : Option Reply) → k ≡ get_or trace (length log) (commands.Nil 0)
@@ -59,12 +56,12 @@ asks_on c trace log t k paid (Some r) is = refl
 
 module _ (c : Config) (traces : List (List Command)) (job : IsJob c traces) (rate : ℕ) (planned : IsRate c rate) where
   -- each command of a thread asks for no more than one object may take
-  commands_at : (r : Run) → Kept c traces r → (t i : ℕ) → t < c.threads → blocks_of c.width (get_or (local_at c r.state t).trace i (commands.Nil 0)) ≤ c.object
+  pub commands_at : (r : Run) → Kept c traces r → (t i : ℕ) → t < c.threads → blocks_of c.width (get_or (local_at c r.state t).trace i (commands.Nil 0)) ≤ c.object
   commands_at r kept t i tl = blocks_low c _ (bounds_at c (local_at c r.state t).trace i (subst (λ x. AllByRecursion (IsCommandInBounds x) (local_at c r.state t).trace) (kept.locals t tl).config (kept.locals t tl).fits.trace.commands))
 
   module _ (s : State) (start : IsOpening c traces s) where
     -- the opening
-    pub opening_tallied : RunTallied c rate (opened c s)
+    abbrev pub opening_tallied : RunTallied c rate (opened c s)
     opening_tallied =
         let code : PhaseWord = record { inside = 0; sweep = false; closed = false; cycle = 1 } in
         let phase : heap_in c s Phase ≡ opening_phase = start.words Phase refl in
@@ -79,15 +76,15 @@ module _ (c : Config) (traces : List (List Command)) (job : IsJob c traces) (rat
             colour = λ x. refl;
             order = refl;
           };
-          threads = λ t tl. subst (λ (l : LocalState). IsSpending c l.part l.paid (asked_by c l) (record { inside = false; balance = accounts.opened; asked = asked_by c l; low = 0; high = 0; reserved = 0 })) (sym (here c traces job s start t tl))
-              (record { inside = refl; paid = refl; asked = refl; low = refl; high = refl; reserved = refl });
+          threads = λ t tl. subst (λ (l : LocalState). IsSpending c l.part l.balance (asked_by c l) (record { inside = false; balance = accounts.opened; asked = asked_by c l; low = 0; high = 0; reserved = 0 })) (sym (here c traces job s start t tl))
+              (record { inside = refl; account = refl; asked = refl; low = refl; high = refl; reserved = refl });
         }
 
   -- a turn that has no event
   turn_idle : (r : Run) (t : ℕ) → RunTallied c rate r → has_event c t r.state ≡ false → RunTallied c rate (next c t r)
   turn_idle r t counts none = subst (λ x. RunTallied c rate (record {
     state = cond x (event_done c t r.state) r.state;
-    order = r.order ++ cond x (items_by c t (command_of (local_at c r.state t)) (local_at c r.state t).paid r.order (next_effect c r.state t)) [];
+    order = r.order ++ cond x (items_by c t (command_of (local_at c r.state t)) (local_at c r.state t).balance.paid r.order (next_effect c r.state t)) [];
     names = cond x (renamed t (replay c r.order) (heap_in c r.state) (next_effect c r.state t).naming r.names) r.names;
   })) (sym none)
       (subst (λ o. RunTallied c rate (record { state = r.state; order = o; names = r.names })) (sym (append-nil r.order)) (record { tally = counts.tally; kept = counts.kept; of = counts.of; threads = counts.threads }))
@@ -103,7 +100,7 @@ module _ (c : Config) (traces : List (List Command)) (job : IsJob c traces) (rat
         let same : me.rate ≡ rate = one_rate c me.rate rate (subst (λ x. IsRate x me.rate) own.config own.fits.rate) planned in
         ap (λ (x : Config). me.rate * blocks_of x.width (command_of me)) own.config ∙ ap (λ n. n * blocks_of c.width (command_of me)) same
 
-    counted : Counted c rate (seen c traces laws job.bounds.config job.plan r kept t tl) me.part counts.tally
+    pub counted : Counted c rate (seen c traces laws job.bounds.config job.plan r kept t tl) me.part counts.tally
     counted = record {
       some = planned.some;
       plan = planned.enough;
@@ -119,24 +116,24 @@ module _ (c : Config) (traces : List (List Command)) (job : IsJob c traces) (rat
     later = new_local c traces laws job.bounds.config job.plan r kept t tl
 
     module _ (going : is_done me ≡ false) where
-      after : TallyEvent c rate (seen c traces laws job.bounds.config job.plan r kept t tl) (new_heap c traces laws job.bounds.config job.plan r kept t tl) (effect_here c traces laws job.bounds.config job.plan r kept t tl) later.part (asked_by c later) counts.tally
+      pub after : TallyEvent c rate (seen c traces laws job.bounds.config job.plan r kept t tl) (new_heap c traces laws job.bounds.config job.plan r kept t tl) (effect_here c traces laws job.bounds.config job.plan r kept t tl) later.part (asked_by c later) counts.tally
       after = tally_laws me.part rate (seen c traces laws job.bounds.config job.plan r kept t tl) (at_part c traces laws job.bounds.config job.plan r kept t tl) (asked_by c later) (commands_at r kept t (length later.log) tl) counts.tally counted
 
       -- the thread, and the others
-      each : (u : ℕ) → u < c.threads → IsSpending c (local_at c (event_done c t r.state) u).part (local_at c (event_done c t r.state) u).paid (asked_by c (local_at c (event_done c t r.state) u)) (after.tally.threads u)
-      each u ul = subst (λ (l : LocalState). IsSpending c l.part l.paid (asked_by c l) (after.tally.threads u)) (sym (local_new c traces laws job.bounds.config job.plan r kept t tl going u))
+      pub each : (u : ℕ) → u < c.threads → IsSpending c (local_at c (event_done c t r.state) u).part (local_at c (event_done c t r.state) u).balance (asked_by c (local_at c (event_done c t r.state) u)) (after.tally.threads u)
+      each u ul = subst (λ (l : LocalState). IsSpending c l.part l.balance (asked_by c l) (after.tally.threads u)) (sym (local_new c traces laws job.bounds.config job.plan r kept t tl going u))
           (elim (cases_eq t u) [
-            | inl e ↦ rw (eq-eqb t u e) (subst (λ v. IsSpending c later.part later.paid (asked_by c later) (after.tally.threads v)) e
-                (subst (λ n. IsSpending c later.part later.paid n (after.tally.threads t)) (asks_on c me.trace me.log t (command_of me) me.paid (effect_here c traces laws job.bounds.config job.plan r kept t tl).reply refl) after.own))
-            | inr n ↦ rw (ne_eqb t u n) (subst (λ w. IsSpending c (local_at c r.state u).part (local_at c r.state u).paid (asked_by c (local_at c r.state u)) w) (sym (after.others u n)) (counts.threads u ul))
+            | inl e ↦ rw (eq-eqb t u e) (subst (λ v. IsSpending c later.part later.balance (asked_by c later) (after.tally.threads v)) e
+                (subst (λ n. IsSpending c later.part later.balance n (after.tally.threads t)) (asks_on c me.trace me.log t (command_of me) me.balance.paid (effect_here c traces laws job.bounds.config job.plan r kept t tl).reply refl) after.own))
+            | inr n ↦ rw (ne_eqb t u n) (subst (λ w. IsSpending c (local_at c r.state u).part (local_at c r.state u).balance (asked_by c (local_at c r.state u)) w) (sym (after.others u n)) (counts.threads u ul))
           ])
 
-      event_tallied : RunTallied c rate (new_run c traces laws job.bounds.config job.plan r kept t tl)
+      abbrev pub event_tallied : RunTallied c rate (new_run c traces laws job.bounds.config job.plan r kept t tl)
       event_tallied = record {
         tally = after.tally;
         kept = after.kept;
         of = subst (λ h. IsTallyOf h (new_run c traces laws job.bounds.config job.plan r kept t tl).order after.tally) (sym (heap_new c traces laws job.bounds.config job.plan r kept t tl going))
-            (subst (λ xs. IsTallyOf (new_heap c traces laws job.bounds.config job.plan r kept t tl) (r.order ++ xs) after.tally) (items_are c r.order t (command_of me) me.paid (effect_here c traces laws job.bounds.config job.plan r kept t tl).verdict (effect_here c traces laws job.bounds.config job.plan r kept t tl).naming) after.of);
+            (subst (λ xs. IsTallyOf (new_heap c traces laws job.bounds.config job.plan r kept t tl) (r.order ++ xs) after.tally) (items_are c r.order t (command_of me) me.balance.paid (effect_here c traces laws job.bounds.config job.plan r kept t tl).verdict (effect_here c traces laws job.bounds.config job.plan r kept t tl).naming) after.of);
         threads = each;
       }
 

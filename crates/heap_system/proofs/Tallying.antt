@@ -1,6 +1,6 @@
 -- How a run is counted: what a tally of its cycles says of it, and what one event is to keep of
 -- that.
-use Rattle.std.proofs.Common.{◌≡◌, ℕ, ◌*◌, ◌<◌, ◌≤◌, Option, Some, None, List, ◌++◌}
+use Rattle.std.proofs.Common.{◌≡◌, ℕ, ◌+◌, ◌*◌, ◌<◌, ◌≤◌, Bool, ◌&&◌, cond, eqb, Option, Some, None, List, ◌++◌}
 use Rattle.block_store.specs.declared.Config.{Config}
 use Rattle.block_store.specs.declared.Width.{Width}
 use Rattle.block_store.specs.Colours.{black_word}
@@ -14,12 +14,15 @@ use Rattle.never_heap.specs.Steps.{blocks_of}
 use Rattle.heap_machine.specs.Gating.{is_inside}
 use Rattle.heap_machine.specs.Operations.{heap_after}
 use Rattle.kept_names.specs.Building.{Build as Builder, build_blocks}
+use Rattle.work_account.specs.Accounts.{Balance}
 use Rattle.cycle_tally.specs.Kept.{TallyKept}
-use Rattle.cycle_tally.specs.Tallies.{Spending, Tally}
+use Rattle.cycle_tally.specs.Tallies.{Spending, Tally, units_now}
 use Rattle.heap_system.specs.declared.local.Part.{Part}
-use Rattle.heap_system.specs.Locals.{Effect, view, effect, paid_got, part_want, part_got}
+use Rattle.heap_system.specs.Locals.{Effect, view, effect, balance_got, part_want, part_got}
 use Rattle.heap_system.specs.Machines.{starts_by}
+use Rattle.heap_system.specs.Naming.{Naming, Begun}
 use Rattle.heap_system.specs.Pictures.{stand_of, holding}
+use Rattle.heap_system.specs.Units.{turns_black}
 use Rattle.heap_system.proofs.Seeing.{Seen, errand, items_told}
 use Rattle.heap_system.proofs.PartLaws.{AtPart, word_at}
 
@@ -28,10 +31,10 @@ abbrev pub reserved_for : Width → Option Builder → ℕ
 reserved_for w None = 0
 reserved_for w (Some b) = build_blocks w b
 
--- a thread at part p that has paid so much of a command that asks for so many blocks
-pub record IsSpending (c : Config) (p : Part) (units blocks : ℕ) (w : Spending) : Type 0 where
+-- a thread at part p with this balance, in a command that asks for so many blocks
+pub record IsSpending (c : Config) (p : Part) (balance : Balance) (blocks : ℕ) (w : Spending) : Type 0 where
   pub inside : w.inside ≡ is_inside (stand_of c p)
-  pub paid : w.balance.paid ≡ units
+  pub account : w.balance ≡ balance
   pub asked : w.asked ≡ blocks
   pub low : w.low ≡ (holding c p).low
   pub high : w.high ≡ (holding c p).high
@@ -59,17 +62,41 @@ pub record Counted (c : Config) (rate : ℕ) (s : Seen c) (p : Part) (t : Tally)
   pub due : s.due ≡ rate * blocks_of c.width s.command
   pub kept : TallyKept c rate black_word t
   pub of : IsTallyOf s.heap s.order t
-  pub own : IsSpending c p s.paid (blocks_of c.width s.command) (t.threads s.thread)
+  pub own : IsSpending c p s.balance (blocks_of c.width s.command) (t.threads s.thread)
   pub inside : (u : ℕ) → u < c.threads → (t.threads u).inside ≡ is_inside (s.gatings u).stand
+
+-- a unit scans a block where it makes it black, and passes one where the phase is Sweep: the first that
+-- its thread has claimed
+abbrev pub scans_at : Heap → Heap → Effect → ℕ → Bool
+scans_at h new e x = e.unit && turns_black (cycle_of (h Phase)) (ColourOf x) (h (ColourOf x)) (new (ColourOf x))
+
+abbrev pub passes_at : Heap → Effect → Spending → ℕ → Bool
+passes_at h e w x = e.unit && (is_sweep (h Phase) && eqb w.low x)
+
+-- one more where it is so
+abbrev pub more_if : Bool → ℕ → ℕ
+more_if b n = cond b (n + 1) n
+
+-- a start ends the cycle: its counts are 0, and its units are those of a cycle before
+abbrev pub in_cycle : Naming → ℕ → ℕ
+in_cycle Begun n = 0
+in_cycle _ n = n
+
+abbrev pub past_by : Naming → ℕ → ℕ → ℕ
+past_by Begun now past = past + now
+past_by _ now past = past
 
 -- And after it, where the thread is at part p: one is kept of the heap and the order then, and it has
 -- the other threads as before.
 pub record TallyEvent (c : Config) (rate : ℕ) (s : Seen c) (new : Heap) (e : Effect) (p : Part) (next : ℕ) (before : Tally) : Type 0 where
   pub tally : Tally
   pub kept : TallyKept c rate black_word tally
-  pub of : IsTallyOf new (s.order ++ (items_told s.graph s.thread s.command s.paid e.verdict ++ starts_by e.naming)) tally
-  pub own : IsSpending c p (paid_got e.reply e.unit s.paid) (asked_got e.reply (blocks_of c.width s.command) next) (tally.threads s.thread)
+  pub of : IsTallyOf new (s.order ++ (items_told s.graph s.thread s.command s.balance.paid e.verdict ++ starts_by e.naming)) tally
+  pub own : IsSpending c p (balance_got e (blocks_of c.width s.command) s.balance) (asked_got e.reply (blocks_of c.width s.command) next) (tally.threads s.thread)
   pub others : (u : ℕ) → (s.thread ≡ u → ⊥) → tally.threads u ≡ before.threads u
+  pub scanned : (x : ℕ) → tally.scanned x ≡ in_cycle e.naming (more_if (scans_at s.heap new e x) (before.scanned x))
+  pub passed : (x : ℕ) → tally.passed x ≡ in_cycle e.naming (more_if (passes_at s.heap e (before.threads s.thread) x) (before.passed x))
+  pub past : tally.past ≡ past_by e.naming (units_now c.blocks before) before.past
 
 -- The law of a part: a tally that is kept of what the turn sees goes on to one that is kept after
 -- its event. Where that has the reply, the next command asks for so many blocks.

@@ -1,6 +1,5 @@
 -- The laws, from what every run keeps.
-use Rattle.std.proofs.Common.{◌≤◌, ◌≡◌, ℕ, ◌<◌, ◌*◌, true, false, List, ◌++◌, ◌∷◌, [], append-nil, length, sym, ap, ◌∙◌, subst, arith}
-use Rattle.block_store.specs.Places.{extent, GreyList}
+use Rattle.std.proofs.Common.{◌≤◌, ◌≡◌, ℕ, ◌<◌, ◌*◌, true, false, List, ◌++◌, ◌∷◌, [], append-nil, ap, ◌∙◌, subst, arith}
 use Rattle.block_store.specs.declared.Config.{Config}
 use Rattle.never_heap.specs.declared.Command.{Command}
 use Rattle.never_heap.specs.declared.Reply.{Reply}
@@ -8,24 +7,20 @@ use Rattle.never_heap.specs.Histories.{replay, part}
 use Rattle.never_heap.specs.Steps.{blocks_of}
 use Rattle.never_heap.proofs.Answering.{makers_have_blocks, others_have_none}
 use Rattle.rate_plan.specs.Rates.{IsRate}
-use Rattle.heap_machine.specs.Holdings.{grey_held, holds_nothing}
-use Rattle.heap_machine.specs.Operations.{Exchange}
-use Rattle.grey_steps.specs.Rows.{GreyState, holding_at}
-use Rattle.grey_steps.specs.Ends.{is_putting}
-use Rattle.grey_steps.proofs.Ends.{put_on_empty}
+use Rattle.heap_machine.specs.Holdings.{holds_nothing}
 use Rattle.barrier_steps.specs.Rows.{FieldState, field_decided}
 use Rattle.barrier_steps.proofs.Dues.{none_due, some_due}
 use Rattle.build_steps.specs.Rows.{BuildState}
 use Rattle.kept_names.specs.Pictures.{no_task}
 use Rattle.heap_system.specs.declared.local.Part.{Part}
-use Rattle.heap_system.specs.declared.local.Part.TheVariants.{Rest, Serve, Mark, Build}
-use Rattle.heap_system.specs.Locals.{task, part_want, PartFits, is_rest, command_of, owed, entry_of, entries_of}
-use Rattle.heap_system.specs.Machines.{Run, local_at, heap_in}
+use Rattle.heap_system.specs.declared.local.Part.TheVariants.{Rest, Serve, Build}
+use Rattle.heap_system.specs.Locals.{task, is_rest, command_of, owed, entry_of, entries_of}
+use Rattle.heap_system.specs.Machines.{Run, local_at}
 use Rattle.heap_system.specs.Units.{IsRight}
-use Rattle.heap_system.specs.Pictures.{holding, holdings_in, waiting}
+use Rattle.heap_system.specs.Pictures.{holding, waiting}
 use Rattle.heap_system.proofs.Kept.{Kept}
 use Rattle.heap_system.proofs.Reached.{rest_is}
-use Rattle.heap_system.proofs.Seeing.{PartKept, RowKept, MarkKept, BuildKept, IsSettled}
+use Rattle.heap_system.proofs.Seeing.{PartKept, RowKept, BuildKept, IsSettled}
 use Rattle.heap_system.proofs.Starting.{one_rate}
 
 module _ (c : Config) (traces : List (List Command)) (r : Run) (k : Kept c traces r) (t : ℕ) (tl : t < c.threads) where
@@ -33,20 +28,20 @@ module _ (c : Config) (traces : List (List Command)) (r : Run) (k : Kept c trace
   kept_at : (p : Part) → (local_at c r.state t).part ≡ p → PartKept c (replay c r.order) t (local_at c r.state t).pass (command_of (local_at c r.state t)) p
   kept_at p is = subst (λ x. PartKept c (replay c r.order) t (local_at c r.state t).pass (command_of (local_at c r.state t)) x) is (k.locals t tl).stands
 
-  settled_at : (p : Part) → (local_at c r.state t).part ≡ p → IsSettled (owed (local_at c r.state t)) (local_at c r.state t).paid p
-  settled_at p is = subst (λ x. IsSettled (owed (local_at c r.state t)) (local_at c r.state t).paid x) is (k.locals t tl).settled
+  settled_at : (p : Part) → (local_at c r.state t).part ≡ p → IsSettled (owed (local_at c r.state t)) (local_at c r.state t).balance.paid p
+  settled_at p is = subst (λ x. IsSettled (owed (local_at c r.state t)) (local_at c r.state t).balance.paid x) is (k.locals t tl).settled
 
   -- the part of the order
-  told_at : (p : Part) → (local_at c r.state t).part ≡ p → part t r.order ≡ (local_at c r.state t).log ++ entries_of t (command_of (local_at c r.state t)) (local_at c r.state t).paid (waiting (replay c r.order) p)
+  told_at : (p : Part) → (local_at c r.state t).part ≡ p → part t r.order ≡ (local_at c r.state t).log ++ entries_of t (command_of (local_at c r.state t)) (local_at c r.state t).balance.paid (waiting (replay c r.order) p)
   told_at p is =
-      (k.locals t tl).told ∙ ap (λ u. (local_at c r.state t).log ++ entries_of u (command_of (local_at c r.state t)) (local_at c r.state t).paid (waiting (replay c r.order) (local_at c r.state t).part)) (k.locals t tl).thread
-      ∙ ap (λ x. (local_at c r.state t).log ++ entries_of t (command_of (local_at c r.state t)) (local_at c r.state t).paid (waiting (replay c r.order) x)) is
+      (k.locals t tl).told ∙ ap (λ u. (local_at c r.state t).log ++ entries_of u (command_of (local_at c r.state t)) (local_at c r.state t).balance.paid (waiting (replay c r.order) (local_at c r.state t).part)) (k.locals t tl).thread
+      ∙ ap (λ x. (local_at c r.state t).log ++ entries_of t (command_of (local_at c r.state t)) (local_at c r.state t).balance.paid (waiting (replay c r.order) x)) is
 
   pub rest_told : is_rest (local_at c r.state t).part ≡ true → (part t r.order ≡ (local_at c r.state t).log) × (task c (local_at c r.state t).part ≡ no_task) × (holding c (local_at c r.state t).part ≡ holds_nothing)
   rest_told e = let is = rest_is (local_at c r.state t).part e in (told_at Rest is ∙ append-nil (local_at c r.state t).log, ap (task c) is, ap (holding c) is)
 
   -- a command that allocates nothing has made no unit
-  unpaid : (f : FieldState) → (local_at c r.state t).part ≡ Serve f → (local_at c r.state t).paid ≡ 0
+  unpaid : (f : FieldState) → (local_at c r.state t).part ≡ Serve f → (local_at c r.state t).balance.paid ≡ 0
   unpaid f is =
       let row : RowKept (replay c r.order) t (local_at c r.state t).pass (command_of (local_at c r.state t)) f = kept_at (Serve f) is in
       let none : owed (local_at c r.state t) ≡ (local_at c r.state t).rate * 0 = ap (λ n. (local_at c r.state t).rate * n) (others_have_none (local_at c r.state t).config.width (command_of (local_at c r.state t)) row.serves) in
@@ -55,23 +50,23 @@ module _ (c : Config) (traces : List (List Command)) (r : Run) (k : Kept c trace
   pub decided_told : (f : FieldState) → (local_at c r.state t).part ≡ Serve f → field_decided f.row ≡ true → (y : Reply) × (part t r.order ≡ (local_at c r.state t).log ++ entry_of t (command_of (local_at c r.state t)) 0 y ∷ [])
   decided_told f is e =
       let y = some_due (replay c r.order) f.pass.thread f.command f.row e in
-      (y.0, told_at (Serve f) is ∙ ap (λ o. (local_at c r.state t).log ++ entries_of t (command_of (local_at c r.state t)) (local_at c r.state t).paid o) y.1 ∙ ap (λ n. (local_at c r.state t).log ++ entry_of t (command_of (local_at c r.state t)) n y.0 ∷ []) (unpaid f is))
+      (y.0, told_at (Serve f) is ∙ ap (λ o. (local_at c r.state t).log ++ entries_of t (command_of (local_at c r.state t)) (local_at c r.state t).balance.paid o) y.1 ∙ ap (λ n. (local_at c r.state t).log ++ entry_of t (command_of (local_at c r.state t)) n y.0 ∷ []) (unpaid f is))
 
   pub undecided_told : (f : FieldState) → (local_at c r.state t).part ≡ Serve f → field_decided f.row ≡ false → part t r.order ≡ (local_at c r.state t).log
   undecided_told f is e =
-      told_at (Serve f) is ∙ ap (λ o. (local_at c r.state t).log ++ entries_of t (command_of (local_at c r.state t)) (local_at c r.state t).paid o) (none_due (replay c r.order) f.pass.thread f.command f.row e).0 ∙ append-nil (local_at c r.state t).log
+      told_at (Serve f) is ∙ ap (λ o. (local_at c r.state t).log ++ entries_of t (command_of (local_at c r.state t)) (local_at c r.state t).balance.paid o) (none_due (replay c r.order) f.pass.thread f.command f.row e).0 ∙ append-nil (local_at c r.state t).log
 
   pub building_told : (b : BuildState) → (local_at c r.state t).part ≡ Build b → part t r.order ≡ (local_at c r.state t).log
   building_told b is = told_at (Build b) is ∙ append-nil (local_at c r.state t).log
 
   -- what is said of the units
-  pub paid_low : (local_at c r.state t).paid ≤ owed (local_at c r.state t)
+  pub paid_low : (local_at c r.state t).balance.paid ≤ owed (local_at c r.state t)
   paid_low = omega (arith, (k.locals t tl).fits.paid)
 
-  pub rest_settled : is_rest (local_at c r.state t).part ≡ true → (local_at c r.state t).paid ≡ 0
+  pub rest_settled : is_rest (local_at c r.state t).part ≡ true → (local_at c r.state t).balance.paid ≡ 0
   rest_settled e = settled_at Rest (rest_is (local_at c r.state t).part e)
 
-  pub build_settled : (b : BuildState) → (local_at c r.state t).part ≡ Build b → (0 < blocks_of c.width (command_of (local_at c r.state t))) × ((local_at c r.state t).paid ≡ owed (local_at c r.state t))
+  pub build_settled : (b : BuildState) → (local_at c r.state t).part ≡ Build b → (0 < blocks_of c.width (command_of (local_at c r.state t))) × ((local_at c r.state t).balance.paid ≡ owed (local_at c r.state t))
   build_settled b is =
       let row : BuildKept c (replay c r.order) t (local_at c r.state t).pass (command_of (local_at c r.state t)) b = kept_at (Build b) is in
       (makers_have_blocks c.width (command_of (local_at c r.state t)) row.makes, settled_at (Build b) is)

@@ -2,10 +2,14 @@ pub mod Naming
 pub mod Openings
 pub mod Locals
 pub mod Machines
+pub mod Rooms
 pub mod Pictures
 pub mod Systems
 pub mod Units
+pub mod Cycles
 pub mod Rounds
 pub mod Costs
 pub mod Loaded
 pub mod Shades
+pub mod Alone
+pub mod Serials

@@ -14,7 +14,9 @@ use Rattle.never_heap.specs.declared.Reply.{Reply}
 use Rattle.never_heap.specs.declared.Reply.TheVariants as replies
 use Rattle.never_heap.specs.Jobs.{IsTraceInBounds}
 use Rattle.never_heap.specs.RightWork.{units_owed}
-use Rattle.never_heap.specs.Steps.{makes_object}
+use Rattle.never_heap.specs.Steps.{makes_object, blocks_of}
+use Rattle.work_account.specs.Accounts.{Balance, IsSound, entered, with_unit, published, refused}
+use Rattle.work_account.specs.Accounts as accounts
 use Rattle.heap_machine.specs.Operations.{Operation, place_of}
 use Rattle.heap_machine.specs.Readings.{CanHold}
 use Rattle.heap_machine.specs.Gates.{gate_want, gate_got, gate_step, gate_entered, is_going_in, is_of_pass, is_empty, GateFits, GateAt}
@@ -55,16 +57,17 @@ use Rattle.heap_system.specs.declared.Turn.{Turn}
 use Rattle.heap_system.specs.declared.Turn.TheVariants as turns
 
 -- A thread of a heap: its commands, the entries of those that are done, and the row at which it
--- stands. The rate is the number of units that an allocation owes for each of its blocks; paid are
--- those made for the command in hand. It has made so many objects, and has room to hold so many
--- blocks. The pass is the one of its last entry.
+-- stands. The rate is the number of units that an allocation owes for each of its blocks; the
+-- balance has those made for the command in hand, and those of the cycle that it entered last. It
+-- has made so many objects, and has room to hold so many blocks. The pass is the one of its last
+-- entry.
 pub record LocalState : Type 0 where
   pub config : Config
   pub rate : ℕ
   pub thread : ℕ
   pub trace : List Command
   pub log : List Entry
-  pub paid : ℕ
+  pub balance : Balance
   pub made : ℕ
   pub space : ℕ
   pub pass : Pass
@@ -89,7 +92,7 @@ pub record Errand : Type 0 where
 abbrev pub errand_of : LocalState → Errand
 errand_of l = record {
   command = command_of l;
-  due = owed l - l.paid;
+  due = owed l - l.balance.paid;
   serial = l.made + 1;
   space = l.space;
 }
@@ -340,6 +343,20 @@ abbrev pub paid_got : Option Reply → Bool → ℕ → ℕ
 paid_got None unit paid = if unit then paid + 1 else paid
 paid_got (Some r) unit paid = 0
 
+-- The balance after an event. A thread that went in enters the cycle of the word; a unit is paid;
+-- and where a command of k blocks has its reply these were given, or the command is over without.
+abbrev pub balance_in : Option PhaseWord → Balance → Balance
+balance_in None b = b
+balance_in (Some p) b = entered p.cycle b
+
+abbrev pub balance_paid : Option Reply → Bool → ℕ → Balance → Balance
+balance_paid None unit k b = if unit then with_unit b else b
+balance_paid (Some (replies.New name)) unit k b = published k b
+balance_paid (Some _) unit k b = refused b
+
+abbrev pub balance_got : Effect → ℕ → Balance → Balance
+balance_got e k b = balance_paid e.reply e.unit k (balance_in e.entered b)
+
 -- and the objects made
 abbrev pub made_got : Option Reply → ℕ → ℕ
 made_got (Some (replies.New name)) made = made + 1
@@ -399,8 +416,8 @@ local_got l w =
       rate = l.rate;
       thread = l.thread;
       trace = l.trace;
-      log = l.log ++ entries_of l.thread (command_of l) l.paid e.reply;
-      paid = paid_got e.reply e.unit l.paid;
+      log = l.log ++ entries_of l.thread (command_of l) l.balance.paid e.reply;
+      balance = balance_got e (blocks_of l.config.width (command_of l)) l.balance;
       made = made_got e.reply l.made;
       space = l.space;
       pass = pass_got e.entered l.thread l.config.threads l.pass;
@@ -434,6 +451,12 @@ abbrev pub works : List Entry → ℕ
 works [] = 0
 works (e ∷ es) = e.work + works es
 
+-- where a thread does its command, all that this owes is paid
+abbrev pub IsPaid : ℕ → ℕ → Part → Type 0
+IsPaid due paid (Serve f) = paid ≡ due
+IsPaid due paid (Build b) = paid ≡ due
+IsPaid due paid _ = Unit {0}
+
 -- a builder has the thread's room, which it gives back
 abbrev pub IsRoomy : ℕ → Part → Type 0
 IsRoomy space (Build b) = b.capacity ≡ space
@@ -444,8 +467,9 @@ abbrev pub HasRoom : Part → ℕ → List ℕ → ℕ → Type 0
 HasRoom (Build b) space held capacity = Unit {0}
 HasRoom _ space held capacity = (held ≡ []) × (capacity ≡ space)
 
--- A thread of a configuration that has a rate. No command has made more units than it owes; at
--- most one object is made for each entry, and there is room for the blocks of the largest.
+-- A thread of a configuration that has a rate. No command has made more units than it owes, and the
+-- balance is sound; its units are in the log or paid. At most one object is made for each entry,
+-- and there is room for the blocks of the largest.
 pub record IsLocal (l : LocalState) : Type 0 where
   pub bounds : IsInBounds l.config
   pub plan : IsAdmitted l.config
@@ -454,7 +478,10 @@ pub record IsLocal (l : LocalState) : Type 0 where
   pub trace : IsTraceInBounds l.config l.trace
   pub log : length l.log ≤ length l.trace
   pub part : PartFits l.config (length l.log) (length l.trace) l.pass l.part
-  pub paid : l.paid + unit_to_come l.config l.part ≤ owed l
+  pub paid : l.balance.paid + unit_to_come l.config l.part ≤ owed l
+  pub settled : IsPaid (owed l) l.balance.paid l.part
+  pub sound : IsSound l.rate l.config.object l.balance
+  pub units : l.balance.units ≤ works l.log + l.balance.paid
   pub worked : works l.log ≤ length l.log * (l.rate * l.config.object)
   pub made : l.made ≤ length l.log
   pub space : l.config.object ≤ l.space
@@ -473,6 +500,15 @@ PartReads c Idle w = CanHold (extent c) Phase w
 PartReads c (TurnOver g) w = CanHold (extent c) (place_of (gate_want c.width g)) w
 PartReads c Leave w = CanHold (extent c) Phase w
 
+-- and a thread goes in by the word of a cycle that is not before the one that it entered last
+abbrev pub EntersOn : Part → ℕ → ℕ → Type 0
+EntersOn (Enter g) z w = z ≤ cycle_of w
+EntersOn _ z w = Unit {0}
+
+-- the words that a thread may read at its next event
+abbrev pub LocalReads : Config → LocalState → ℕ → Type 0
+LocalReads c l w = PartReads c l.part w × EntersOn l.part l.balance.cycle w
+
 -- the pass of a thread that has not yet gone in
 abbrev pub no_pass : ℕ → ℕ → Pass
 no_pass t n = record { thread = t; threads = n; cycle = 0; sweep = false }
@@ -485,7 +521,7 @@ at_start c rate space t trace = record {
   thread = t;
   trace = trace;
   log = [];
-  paid = 0;
+  balance = accounts.opened;
   made = 0;
   space = space;
   pass = no_pass t c.threads;

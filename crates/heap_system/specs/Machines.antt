@@ -12,6 +12,7 @@ use Rattle.never_heap.specs.Jobs.{IsJobInBounds}
 use Rattle.never_heap.specs.Steps.{step}
 use Rattle.heap_machine.specs.Operations.{op_at, op_place, words_after}
 use Rattle.kept_names.specs.Pictures.{Names}
+use Rattle.work_account.specs.Accounts as accounts
 use Rattle.heap_system.specs.declared.local.Part.TheVariants.{Leave}
 use Rattle.heap_system.specs.declared.Turn.{Turn}
 use Rattle.heap_system.specs.declared.Turn.TheVariants.{Done}
@@ -31,7 +32,7 @@ no_local c = record {
   thread = c.threads;
   trace = [];
   log = [];
-  paid = 0;
+  balance = accounts.opened;
   made = 0;
   space = 0;
   pass = no_pass c.threads c.threads;
@@ -91,7 +92,8 @@ items_by c t k work order e = entries_by c t k work order e.verdict ++ starts_by
 abbrev pub decided : Config → ℕ → State → List HistoryItem → List HistoryItem
 decided c t s order =
     if has_event c t s
-    then items_by c t (command_of (local_at c s t)) (local_at c s t).paid order (next_effect c s t)
+    then items_by c t (command_of (local_at c s t)) (local_at c s t).balance.paid order
+    (next_effect c s t)
     else []
 
 -- a state with the order that led to it, the oldest item first, and the names that the rules know

@@ -36,7 +36,7 @@ ghost use Rattle.build_steps.specs.Rows.{BuildState};
 ghost use Rattle.heap_system.specs.declared.local.Part.TheVariants.{Serve, Build};
 ghost use Rattle.heap_system.specs.declared.Turn.TheVariants as Turn;
 ghost use Rattle.heap_system.specs.Loaded.{IsLoadedBlock, IsInGet};
-ghost use Rattle.heap_system.specs.Locals.{task, is_done, waits, is_rest, command_of, owed, entry_of, works, part_want, PartReads};
+ghost use Rattle.heap_system.specs.Locals.{task, is_done, waits, is_rest, command_of, owed, entry_of, works, part_want, LocalReads};
 ghost use Rattle.heap_system.specs.Machines.{State, answer, turned, Run, opened, IsAfterTurns, local_in, local_at, heap_in, word_read};
 ghost use Rattle.heap_system.specs.Openings.{opening_heap};
 ghost use Rattle.heap_system.specs.Pictures.{stand_of, holding, gates_in, holdings_in, tasks_in, kept_state, entries_waiting};
@@ -152,22 +152,22 @@ pub fn logs_are_parts()
 /// builds where it has made all.
 pub fn works_are_units()
     ensures made { (c : Config) (r : Run) → (is : IsAfterTurns c r) → (t : ℕ) → t < c.threads
-        → works (part t r.order) + (local_in c r t).paid
+        → works (part t r.order) + (local_in c r t).balance.paid
         ≡ units_made c t (opened c is.by_turns.first) is.turns }
     ensures units { (c : Config) (r : Run) → (is : IsAfterTurns c r) → (t : ℕ) → t < c.threads
         → units_made c t (opened c is.by_turns.first) is.turns
         ≡ blacks_made c t (opened c is.by_turns.first) is.turns
         + passes_made c t (opened c is.by_turns.first) is.turns }
     ensures owed { (c : Config) (r : Run) → IsAfterTurns c r → (t : ℕ) → t < c.threads
-        → (local_in c r t).paid ≤ owed (local_in c r t) }
+        → (local_in c r t).balance.paid ≤ owed (local_in c r t) }
     ensures entries { (c : Config) (r : Run) → IsAfterTurns c r → (t : ℕ) → t < c.threads
         → (rate : ℕ) → IsRate c rate → IsRight c.width rate (part t r.order) }
     ensures rest { (c : Config) (r : Run) → IsAfterTurns c r → (t : ℕ) → t < c.threads
-        → is_rest (local_in c r t).part ≡ true → (local_in c r t).paid ≡ 0 }
+        → is_rest (local_in c r t).part ≡ true → (local_in c r t).balance.paid ≡ 0 }
     ensures paid { (c : Config) (r : Run) → IsAfterTurns c r → (t : ℕ) → t < c.threads
         → (b : BuildState) → (local_in c r t).part ≡ Build b
         → (0 < blocks_of c.width (command_of (local_in c r t)))
-        × ((local_in c r t).paid ≡ owed (local_in c r t)) }
+        × ((local_in c r t).balance.paid ≡ owed (local_in c r t)) }
     ensures rate { (c : Config) (r : Run) → IsAfterTurns c r → (t : ℕ) → t < c.threads
         → IsRate c (local_in c r t).rate }
 {}
@@ -205,7 +205,7 @@ pub fn events_are_safe()
     ensures place { (c : Config) (r : Run) → IsAfterTurns c r → (t : ℕ) → t < c.threads
         → in_range (extent c) (place_of (part_want c (local_in c r t).part)) ≡ true }
     ensures reads { (c : Config) (r : Run) → IsAfterTurns c r → (t : ℕ) → t < c.threads
-        → PartReads c (local_in c r t).part (word_read c r.state (local_in c r t)) }
+        → LocalReads c (local_in c r t) (word_read c r.state (local_in c r t)) }
     ensures sums { (c : Config) (r : Run) → IsAfterTurns c r → (t : ℕ) → t < c.threads
         → SumFits (op_at (extent c) (part_want c (local_in c r t).part))
         (word_read c r.state (local_in c r t)) }

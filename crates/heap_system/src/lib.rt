@@ -3,12 +3,16 @@
 
 mod bound;
 mod collector;
+mod cycles;
 mod laws;
 mod local;
 #[cfg(test)]
 mod lone;
+mod progress;
+mod replays;
 #[cfg(test)]
 mod schedules;
+mod serial;
 mod start;
 mod system;
 #[cfg(test)]
@@ -24,12 +28,16 @@ pub use collector::{
     phases_turn_with_nobody_inside, starts_find_no_white, sweeping_spares_what_is_reached,
     the_flip_finds_what_is_reached,
 };
+pub use cycles::cycles_take_each_block_once;
 pub use laws::{
     events_are_safe, finished_runs_show_their_logs, logs_are_parts, opening_shows_the_start,
     order_is_legal, threads_inside_are_counted, turns_keep_the_rules, turns_wait,
     words_show_the_order, works_are_units,
 };
 pub use local::Local;
+pub use progress::{a_lone_thread_ends_its_command, units_part_the_changes_of_a_lone_thread};
+pub use replays::jobs_have_one_order;
+pub use serial::{a_single_thread_ends_its_job, serial_turns_end};
 pub use start::opening;
 pub use system::{Finished, System, Unfinished, sum_of_works};
 

@@ -1,17 +1,18 @@
 //! One thread's whole state, one event at a time.
 
-ghost use Rattle.std.specs.Prelude.{◌≡◌, ◌≤◌, ◌<◌, ◌+◌, ◌^◌, ◌-◌, ◌++◌, ◌∷◌, [], true, false, Some, if◌then◌else◌, length, IfOk};
+ghost use Rattle.std.specs.Prelude.{◌≡◌, ◌≤◌, ◌<◌, ◌+◌, ◌^◌, ◌-◌, ◌*◌, ◌++◌, ◌∷◌, ◌&&◌, not, [], true, false, None, Some, if◌then◌else◌, length, IfOk};
 ghost use Rattle.block_store.specs.Configs.{IsInBounds};
 ghost use Rattle.block_store.specs.Places.{extent, words_count};
 ghost use Rattle.rate_plan.specs.Rates.{IsRate, IsAdmitted};
-ghost use Rattle.never_heap.specs.Steps.{makes_object};
+ghost use Rattle.never_heap.specs.Steps.{makes_object, blocks_of};
+ghost use Rattle.work_account.specs.Accounts.{entered};
 ghost use Rattle.heap_machine.specs.Operations.{op_at, op_place};
 ghost use Rattle.heap_machine.specs.Passes.{IsPass};
 ghost use Rattle.never_heap.specs.Jobs.{IsTraceInBounds};
 ghost use Rattle.heap_machine.specs.declared.gate.GateRow.{GateRow};
 ghost use Rattle.grey_steps.specs.Rows.{scanning};
 ghost use Rattle.sweep_steps.specs.Rows.{sweeping};
-ghost use Rattle.heap_system.specs.Locals.{PartReads, is_done, is_rest, is_build, is_at_gate, is_in_command, is_marking, is_sweeping, is_on_way_out, part_want, part_step, local_got, at_start, turn_of, is_last, pass_by, first_part, errand_of, command_of, owed, made_got, works, entry_of};
+ghost use Rattle.heap_system.specs.Locals.{LocalReads, is_done, is_rest, is_build, is_at_gate, is_in_command, is_marking, is_sweeping, is_on_way_out, part_want, part_step, local_got, at_start, turn_of, is_last, pass_by, first_part, errand_of, command_of, owed, made_got, works, entry_of, balance_paid};
 
 use crate::Turn;
 use barrier_steps::FieldPass;
@@ -25,6 +26,7 @@ use std::alloc::Global;
 use std::marker::Model;
 use std::mem;
 use sweep_steps::SweepPass;
+use work_account::Account;
 
 /// The part of its work at which a thread is.
 #[derive(Drop)]
@@ -63,8 +65,8 @@ pub struct Local {
     thread: u32,
     trace: Vec<Command>,
     log: Vec<Entry>,
-    // The units made for the command in hand.
-    paid: u64,
+    // What is paid for the command in hand, and the units and blocks of the cycle entered last.
+    account: Account,
     // The objects made so far.
     made: u32,
     // For how many blocks the room has capacity.
@@ -78,7 +80,7 @@ pub struct Local {
 }
 
 impl Model for Local {
-    ghost use Rattle.std.specs.Prelude.{◌≤◌, length};
+    ghost use Rattle.std.specs.Prelude.{◌≡◌, ◌≤◌, length};
     ghost use Rattle.std.specs.Vec.{vec_capacity};
     ghost use Rattle.heap_system.specs.Locals.{LocalState, IsLocal, HasRoom};
 
@@ -90,7 +92,7 @@ impl Model for Local {
       thread = l.thread;
       trace = l.trace.items;
       log = l.log.items;
-      paid = l.paid;
+      balance = l.account.balance;
       made = l.made;
       space = l.space;
       pass = l.pass;
@@ -103,12 +105,13 @@ impl Model for Local {
       thread = l.thread;
       trace = l.trace.items;
       log = l.log.items;
-      paid = l.paid;
+      balance = l.account.balance;
       made = l.made;
       space = l.space;
       pass = l.pass;
       part = l.part;
-    }) × (length l.trace.items ≤ vec_capacity l.log)
+    }) × (l.account.rate ≡ l.rate) × (l.account.object ≡ l.config.object)
+        × (length l.trace.items ≤ vec_capacity l.log)
         × HasRoom l.part l.space l.room.items (vec_capacity l.room) };
 }
 
@@ -132,12 +135,38 @@ fn is_last(step: Step) -> bool
     }
 }
 
-// The units after an event, by whether it made one.
-fn counted(paid: u64, unit: bool) -> u64
-    requires { paid < 2 ^ 60 }
-    ensures { result ≡ (if unit then paid + 1 else paid) }
+// An event by which a unit is made, or not.
+fn count(account: &mut Account, unit: bool)
+    requires owed { unit ≡ true
+        → account.old.balance.paid < account.old.rate * account.old.object }
+    requires few { account.old.balance.units < 2 ^ 50 }
+    ensures { account.new
+        ≡ record account.old { balance = balance_paid None unit 0 account.old.balance } }
 {
-    if unit { paid + 1 } else { paid }
+    if unit {
+        account.unit();
+    }
+}
+
+// Whether what is so now was not so before.
+fn is_new(now: bool, before: bool) -> bool
+    ensures { result ≡ (now && not before) }
+{
+    now && !before
+}
+
+// The reply to a command of so many blocks, whose price was paid.
+fn settle(account: &mut Account, reply: Reply, blocks: u32)
+    requires { account.old.balance.paid ≡ account.old.rate * blocks }
+    ensures { account.new
+        ≡ record account.old {
+          balance = balance_paid (Some reply) false blocks account.old.balance;
+        } }
+{
+    match reply {
+        Reply::New(_) => account.publish(blocks),
+        _ => account.refuse(blocks),
+    }
 }
 
 // Whether the command makes an object.
@@ -233,7 +262,7 @@ impl Local {
             thread,
             trace,
             log,
-            paid: 0,
+            account: Account::new(rate, c.object),
             made: 0,
             space: room.capacity(),
             room,
@@ -264,9 +293,9 @@ impl Local {
 
     /// How many units were made for the command in hand.
     pub fn paid(&self) -> u64
-        ensures { result ≡ self.now.paid }
+        ensures { result ≡ self.now.balance.paid }
     {
-        self.paid
+        self.account.paid()
     }
 
     /// Whether the thread is at rest: before its first event of a command, and after its last.
@@ -324,11 +353,12 @@ impl Local {
     }
 
     /// Moves on by one event, whose operation read the word. The thread is not done, and the word
-    /// is one that its row may read: on the way in a phase word of cycle 1 or later.
+    /// is one that its row may read: on the way in a phase word of cycle 1 or later, and of none
+    /// before the one that the thread entered last.
     #[inline(always)]
     pub fn got(&mut self, word: u64) -> Turn
         requires open { is_done self.old ≡ false }
-        requires word { PartReads self.old.config self.old.part word }
+        requires word { LocalReads self.old.config self.old word }
         ensures local { self.new ≡ local_got self.old word }
         ensures turn { result ≡ turn_of (part_step self.old.config self.old.part word) }
     {
@@ -353,7 +383,7 @@ impl Local {
     fn at_gate(&mut self, word: u64) -> Turn
         requires part { is_at_gate self.old.part ≡ true }
         requires open { is_done self.old ≡ false }
-        requires word { PartReads self.old.config self.old.part word }
+        requires word { LocalReads self.old.config self.old word }
         ensures local { self.new ≡ local_got self.old word }
         ensures turn { result ≡ turn_of (part_step self.old.config self.old.part word) }
     {
@@ -390,7 +420,7 @@ impl Local {
     #[inline(always)]
     fn in_command(&mut self, word: u64) -> Turn
         requires part { is_in_command self.old.part ≡ true }
-        requires word { PartReads self.old.config self.old.part word }
+        requires word { LocalReads self.old.config self.old word }
         ensures local { self.new ≡ local_got self.old word }
         ensures turn { result ≡ turn_of (part_step self.old.config self.old.part word) }
     {
@@ -426,7 +456,7 @@ impl Local {
     #[tactic(auto, using(crate::proofs::Paying::unit_is_new))]
     fn marks(&mut self, word: u64) -> Turn
         requires part { is_marking self.old.part ≡ true }
-        requires word { PartReads self.old.config self.old.part word }
+        requires word { LocalReads self.old.config self.old word }
         ensures local { self.new ≡ local_got self.old word }
         ensures turn { result ≡ turn_of (part_step self.old.config self.old.part word) }
     {
@@ -435,7 +465,7 @@ impl Local {
             Part::Mark(pass) => {
                 let unit = pass.unit();
                 let step = pass.got(&places, word);
-                self.paid = counted(self.paid, pass.unit() && !unit);
+                count(&mut self.account, is_new(pass.unit(), unit));
                 if is_last(step) {
                     self.part = after_pass(pass.nothing());
                     turn_after(step)
@@ -452,7 +482,7 @@ impl Local {
     #[tactic(auto, using(crate::proofs::Paying::passed_more, crate::proofs::Paying::swept_last))]
     fn sweeps(&mut self, word: u64) -> Turn
         requires part { is_sweeping self.old.part ≡ true }
-        requires word { PartReads self.old.config self.old.part word }
+        requires word { LocalReads self.old.config self.old word }
         ensures local { self.new ≡ local_got self.old word }
         ensures turn { result ≡ turn_of (part_step self.old.config self.old.part word) }
     {
@@ -461,7 +491,7 @@ impl Local {
             Part::Sweep(pass) => {
                 let passed = pass.passed();
                 let step = pass.got(&places, word);
-                self.paid = counted(self.paid, pass.passed() > passed);
+                count(&mut self.account, pass.passed() > passed);
                 if is_last(step) {
                     self.part = after_pass(pass.nothing());
                     turn_after(step)
@@ -517,8 +547,10 @@ impl Local {
         requires rest { self.old.part ≡ Part.Rest }
         requires command { length self.old.log < length self.old.trace }
         requires cycle { (1 ≤ phase.cycle) × (phase.cycle ≤ 2 ^ 54 - 2) }
+        requires later { self.old.balance.cycle ≤ phase.cycle }
         ensures { self.new
             ≡ record self.old {
+              balance = entered phase.cycle self.old.balance;
               pass = pass_by self.old.thread self.old.config.threads phase;
               part = first_part self.old.config
                   (pass_by self.old.thread self.old.config.threads phase) (errand_of self.old);
@@ -526,6 +558,7 @@ impl Local {
     {
         let pass = self.pass_by(phase);
         self.pass = pass;
+        self.account.enter(phase.cycle);
         let command = self.trace[self.log.len()];
         let due = self.due(&command);
         if due > 0 {
@@ -550,21 +583,23 @@ impl Local {
     fn due(&self, command: &Command) -> u64
         requires command { command.now ≡ command_of self.now }
         requires there { length self.now.log < length self.now.trace }
-        ensures { result ≡ owed self.now - self.now.paid }
+        ensures { result ≡ owed self.now - self.now.balance.paid }
     {
-        self.rate * u64::from(command.blocks(self.config.width)) - self.paid
+        self.rate * u64::from(command.blocks(self.config.width)) - self.account.paid()
     }
 
     // The command in hand, which made an object or was refused, is done.
     fn built(&mut self, reply: Reply)
         requires command { length self.old.log < length self.old.trace }
         requires build { is_build self.old.part ≡ true }
+        requires paid { self.old.balance.paid ≡ owed self.old }
         ensures { self.new
             ≡ record self.old {
               part = Part.Leave;
               log = self.old.log ++ entry_of
-                  self.old.thread (command_of self.old) self.old.paid reply ∷ [];
-              paid = 0;
+                  self.old.thread (command_of self.old) self.old.balance.paid reply ∷ [];
+              balance = balance_paid (Some reply) false
+                  (blocks_of self.old.config.width (command_of self.old)) self.old.balance;
               made = made_got (Some reply) self.old.made;
             } }
     {
@@ -579,12 +614,14 @@ impl Local {
     fn answer(&mut self, reply: Reply)
         requires rest { self.old.part ≡ Part.Rest }
         requires command { length self.old.log < length self.old.trace }
+        requires paid { self.old.balance.paid ≡ owed self.old }
         ensures { self.new
             ≡ record self.old {
               part = Part.Leave;
               log = self.old.log ++ entry_of
-                  self.old.thread (command_of self.old) self.old.paid reply ∷ [];
-              paid = 0;
+                  self.old.thread (command_of self.old) self.old.balance.paid reply ∷ [];
+              balance = balance_paid (Some reply) false
+                  (blocks_of self.old.config.width (command_of self.old)) self.old.balance;
               made = made_got (Some reply) self.old.made;
             } }
     {
@@ -593,9 +630,9 @@ impl Local {
             thread: self.thread,
             command,
             reply,
-            work: self.paid,
+            work: self.account.paid(),
         });
-        self.paid = 0;
+        settle(&mut self.account, reply, command.blocks(self.config.width));
         self.made = made_after(self.made, reply);
         self.part = Part::Leave;
     }

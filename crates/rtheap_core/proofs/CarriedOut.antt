@@ -19,7 +19,7 @@ use Rattle.rtheap_core.specs.declared.task.Task.TheVariants.{Run, Replay, Plan, 
 use Rattle.rtheap_core.specs.Calls.{Call, IsCarriedOut}
 use Rattle.rtheap_core.specs.Ends.{IsOfThreads}
 use Rattle.rtheap_core.specs.Exits.{Headline, IsReplay, IsWritten, Planned, Tried, IsDue, rate_text}
-use Rattle.rtheap_core.specs.Generated.{generated}
+use Rattle.rtheap_core.specs.Generated.{generated_job}
 use Rattle.rtheap_core.specs.Outcomes.{HasRun, HasReplay, HasRate}
 use Rattle.rtheap_core.specs.Refusals.{IsCause, IsUnfailed, IsUntouched, status_of, refusal_line}
 use Rattle.rtheap_core.specs.Sides.{Sides}
@@ -64,7 +64,7 @@ pub record IsOf (c : Call) : Type 0 where
       → IfSome c.exit.run (IsReplay c.source c.sink c.exit.status schedule turns)
   pub planned : AsksFor c.words Plan → Planned c.source c.sink c.exit.status
   pub made : (key lines : ℕ) → AsksFor c.words (Make key lines)
-      → IsWritten c.sink c.exit.status (job_text (generated key lines))
+      → IsWritten c.sink c.exit.status (job_text (generated_job key lines))
   pub tried : (key lines : ℕ) → AsksFor c.words (Trial key lines)
       → Tried c.sink c.exit.status key lines
 
@@ -186,7 +186,7 @@ plan_is_carried_out c rate asked has unfailed due is written t =
 
 pub make_is_carried_out : (c : Call) (key lines : ℕ) → AsksFor c.words (Make key lines)
     → IsUntouched c.source → c.exit.due ≡ 0 → c.exit.run ≡ None
-    → IsWritten c.sink c.exit.status (job_text (generated key lines)) → IsTold c → IsCarriedOut c
+    → IsWritten c.sink c.exit.status (job_text (generated_job key lines)) → IsTold c → IsCarriedOut c
 make_is_carried_out c key lines asked untouched due is written t =
     let task = Make key lines in
     done_is_carried_out c task asked due untouched.1 t (λ _. untouched) (record {
@@ -199,8 +199,8 @@ make_is_carried_out c key lines asked untouched due is written t =
       let same = one_task c.words task (Make k l) asked a in
       let keys : key ≡ k = cc in
       let numbers : lines ≡ l = cc in
-      subst (λ n. IsWritten c.sink c.exit.status (job_text (generated k n))) numbers
-      (subst (λ n. IsWritten c.sink c.exit.status (job_text (generated n lines))) keys written);
+      subst (λ n. IsWritten c.sink c.exit.status (job_text (generated_job k n))) numbers
+      (subst (λ n. IsWritten c.sink c.exit.status (job_text (generated_job n lines))) keys written);
   tried = λ k l a. no_other c.words task (Trial k l) (λ e. absurd cc) asked a;
 })
 

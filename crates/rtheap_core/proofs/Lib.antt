@@ -1,9 +1,14 @@
 pub mod Asked
 pub mod Faults
 pub mod Untouched
+pub mod Ordered
+pub mod Replays
+pub mod Lasting
 pub mod Shown
 pub mod CarriedOut
 pub mod Headlines
 pub mod Unfilled
 pub mod Verdicts
 pub mod Taken
+pub mod Drawing
+pub mod Admitting

@@ -37,7 +37,7 @@ traces_from h t (suc n) (x ∷ xs) e each =
     one_more : (t u : ℕ) → t + suc u ≡ (t + 1) + u
     one_more t u = omega arith
 
-traces_shown : (c : Config) (traces : List (List Command)) (logs : List (List Entry)) (cycles : ℕ)
+pub traces_shown : (c : Config) (traces : List (List Command)) (logs : List (List Entry)) (cycles : ℕ)
     → IsFinished c traces logs cycles → map commands_of logs ≡ traces
 traces_shown c traces logs cycles f =
     ap (map commands_of) f.parts_logged
@@ -94,7 +94,7 @@ module _ (laws : TurnLaws) where
     right_work = e.right_work e.by_turns.opening.rate e.by_turns.opening.planned;
   }
 
-  has_history : (f : RunEnd) → IsFinished (run_of f).config (map commands_of (run_of f).logs) (run_of f).logs (run_of f).cycles
+  pub has_history : (f : RunEnd) → IsFinished (run_of f).config (map commands_of (run_of f).logs) (run_of f).logs (run_of f).cycles
       → HasHistory f
   has_history f e =
       let traces = map commands_of (run_of f).logs in

@@ -7,7 +7,7 @@ use Rattle.rtheap_core.specs.declared.refusal.Refusal.TheVariants.{OutOfMemory}
 use Rattle.rtheap_core.specs.declared.task.Task.{Task}
 use Rattle.rtheap_core.specs.declared.trial.Totals.{Totals}
 use Rattle.rtheap_core.specs.Exits.{IsWritten, Tried}
-use Rattle.rtheap_core.specs.Generated.{generated}
+use Rattle.rtheap_core.specs.Generated.{generated_job}
 use Rattle.rtheap_core.specs.Outcomes.{HasTotals}
 use Rattle.rtheap_core.specs.Refusals.{IsCause, IsUntouched}
 use Rattle.rtheap_core.specs.Sides.{Sides}
@@ -24,7 +24,7 @@ memory_cause words source task untouched asked =
 
 -- the totals are those of the run
 pub tried_of : (sink : Sides) (status key lines : ℕ) (totals : Totals)
-    → HasTotals (generated key lines) totals
+    → HasTotals (generated_job key lines) totals
     → IsWritten sink status (totals_line totals.cycles totals.units)
     → Tried sink status key lines
 tried_of sink status key lines totals has written = record {

@@ -13,7 +13,7 @@ use Rattle.rtheap_core.specs.declared.exit.Exit.{Exit}
 use Rattle.rtheap_core.specs.declared.task.Task.TheVariants.{Run, Replay, Plan, Make, Trial}
 use Rattle.rtheap_core.specs.Ends.{EndsIn, IsOfThreads}
 use Rattle.rtheap_core.specs.Exits.{Headline, IsReplay, IsWritten, Planned, Tried, IsDue, IsDueOrFails}
-use Rattle.rtheap_core.specs.Generated.{generated}
+use Rattle.rtheap_core.specs.Generated.{generated_job}
 use Rattle.rtheap_core.specs.Refusals.{IsUntouched, LeavesUndone, Refused}
 use Rattle.rtheap_core.specs.Sides.{Sides}
 use Rattle.rtheap_core.specs.Tasks.{AsksFor, Ask, AskForRun, AskForJob}
@@ -38,7 +38,7 @@ pub record IsCarriedOut (c : Call) : Type 0 where
   -- The other tasks were done, where nothing refused them.
   pub planned : AsksFor c.words Plan → c.exit.due ≡ 0 → Planned c.source c.sink c.exit.status
   pub made : (key lines : ℕ) → AsksFor c.words (Make key lines) → c.exit.due ≡ 0
-      → IsWritten c.sink c.exit.status (job_text (generated key lines))
+      → IsWritten c.sink c.exit.status (job_text (generated_job key lines))
   pub tried : (key lines : ℕ) → AsksFor c.words (Trial key lines) → c.exit.due ≡ 0
       → Tried c.sink c.exit.status key lines
   -- Nothing is read that the words do not ask for.

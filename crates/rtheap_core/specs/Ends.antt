@@ -99,4 +99,4 @@ pub record IsReplayOf (schedule : Schedule) (turns : ℕ) (f : Finish) (history 
   pub run : machines.Run
   pub ends : EndsIn (job_of (Replayed f)) schedule turns run
   pub history_is : history ≡ run.order
-  -- TODO pub order : f.order ≡ Some (map item_of history)
+  pub order : f.order ≡ Some (map item_of history)

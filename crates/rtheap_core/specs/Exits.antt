@@ -14,7 +14,7 @@ use Rattle.trace_text.specs.Texts.{totals_line}
 use Rattle.rtheap_core.specs.declared.exit.RunEnd.{RunEnd}
 use Rattle.rtheap_core.specs.declared.exit.RunEnd.TheVariants.{Replayed, Ran}
 use Rattle.rtheap_core.specs.Ends.{HasHistory, EndsIn, IsReplayOf, job_of, logs_of, text_of}
-use Rattle.rtheap_core.specs.Generated.{generated}
+use Rattle.rtheap_core.specs.Generated.{generated_job}
 use Rattle.rtheap_core.specs.Sides.{Sides}
 
 -- where the source told its bytes, they were the input that is this job, and all were read
@@ -71,7 +71,7 @@ IsReplay source sink status schedule turns (Ran f) = ⊥
 pub record Tried (sink : Sides) (status key lines : ℕ) : Type 0 where
   pub turns : ℕ
   pub run : machines.Run
-  pub ends : EndsIn (generated key lines) Serial turns run
+  pub ends : EndsIn (generated_job key lines) Serial turns run
   pub text : IsWritten sink status (totals_line (starts_in run.order) (work_in run.order))
 
 -- what `due` may be

@@ -1,12 +1,15 @@
 -- What became of a task before anything was written.
-use Rattle.std.specs.Prelude.{ℕ, ◌≡◌}
+use Rattle.std.specs.Prelude.{ℕ, ◌≡◌, Some, List, map}
+use Rattle.never_heap.specs.declared.Item.{Item}
 use Rattle.never_heap.specs.Histories.{starts_in, work_in}
+use Rattle.never_heap.specs.Orders.{item_of, IsHistoryOf}
 use Rattle.heap_system.specs.Machines as machines
 use Rattle.heap_system.specs.Systems.{Finish}
 use Rattle.rate_plan.specs.Rates.{IsAdmitted, IsRate}
 use Rattle.schedules.specs.declared.Schedule.{Schedule}
 use Rattle.schedules.specs.declared.Schedule.TheVariants.{Serial}
 use Rattle.trace_text.specs.Jobs.{Job}
+use Rattle.trace_text.specs.Orders.{IsOrderOf}
 use Rattle.rtheap_core.specs.declared.exit.RunEnd.{RunEnd}
 use Rattle.rtheap_core.specs.declared.exit.RunEnd.TheVariants.{Replayed}
 use Rattle.rtheap_core.specs.declared.refusal.Refusal.{Refusal}
@@ -23,10 +26,17 @@ pub record HasRun (source : Sides) (end : RunEnd) : Type 0 where
   pub admitted : IsAdmitted (job_of end).config
   pub ran : HasHistory end
 
--- a replay with its history, and the order that was kept is that of the history
+-- a replay with its history, which is that of the order that was kept
 pub record IsReplayed (schedule : Schedule) (turns : ℕ) (f : Finish) : Type 0 where
   pub ran : HasHistory (Replayed f)
   pub replay : IsReplayOf schedule turns f ran.history
+  pub told : IsHistoryOf (map item_of ran.history) f.logs ran.history
+
+-- an order was kept, and is one of the logs
+pub record HasOrder (f : Finish) : Type 0 where
+  pub order : List Item
+  pub kept : f.order ≡ Some order
+  pub fits : IsOrderOf order f.logs
 
 -- the job that was read was replayed
 pub record HasReplay (source : Sides) (schedule : Schedule) (turns : ℕ) (f : Finish)

@@ -2,7 +2,8 @@
 #![tactic(auto)]
 
 mod exit;
-mod generating;
+mod generated;
+mod making;
 mod planning;
 mod reading;
 mod refusal;
@@ -16,5 +17,6 @@ mod top;
 mod trial;
 
 pub use exit::{Exit, RunEnd};
+pub use generated::generate;
 pub use refusal::Refusal;
 pub use top::rtheap;

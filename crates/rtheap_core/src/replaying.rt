@@ -2,16 +2,14 @@
 
 ghost use Rattle.std.specs.Prelude.{◌≡◌, ◌≢◌, ◌⊎◌, ◌≤◌, List, ℕ, Some, IfOk, IfErr, OnOk};
 ghost use Rattle.heap_system.specs.Systems.{units_of as units_in};
-ghost use Rattle.rate_plan.specs.Rates.{IsAdmitted};
+ghost use Rattle.never_heap.specs.declared.Item.{Item};
 ghost use Rattle.trace_text.specs.Faults.{Rose};
-ghost use Rattle.trace_text.specs.Jobs.{IsJobInBounds};
-ghost use Rattle.trace_text.specs.Orders.{text_in_order};
+ghost use Rattle.trace_text.specs.Orders.{order_text};
 ghost use Rattle.rtheap_core.specs.declared.exit.RunEnd.TheVariants as ends;
 ghost use Rattle.rtheap_core.specs.declared.task.Task.TheVariants.{Replay};
 ghost use Rattle.rtheap_core.specs.Calls.{IsCarriedOut};
-ghost use Rattle.rtheap_core.specs.Ends.{HasHistory, IsReplayOf, job_of};
 ghost use Rattle.rtheap_core.specs.Exits.{IsWritten};
-ghost use Rattle.rtheap_core.specs.Outcomes.{HasReplay, IsReplayFault};
+ghost use Rattle.rtheap_core.specs.Outcomes.{HasReplay, HasOrder};
 ghost use Rattle.rtheap_core.specs.Sides.{sides};
 ghost use Rattle.rtheap_core.specs.Tasks.{AsksFor, most_turns};
 ghost use Rattle.rtheap_core.specs.Refusals.{IsCause};
@@ -24,7 +22,7 @@ use crate::telling::{WRITE_FAULT, refused};
 use heap_system::Finished;
 use schedules::Schedule;
 use std::alloc::Global;
-use trace_text::{Sink, Source};
+use trace_text::{Sink, Source, orders_tell_histories, write_order};
 
 /// Reads a job, makes the turns of a schedule, at most so many, and writes the run in order.
 pub fn replay_told<S: Source, K: Sink>(
@@ -43,6 +41,7 @@ pub fn replay_told<S: Source, K: Sink>(
       exit = result;
     }) }
 {
+    orders_tell_histories();
     match replayed(alloc, source, schedule, turns) {
         Ok(run) => written_in_order(run, sink),
         Err(refusal) => refused(refusal, sink),
@@ -70,24 +69,39 @@ fn replayed<S: Source>(
 
 /// Writes the text of a replay.
 fn written_in_order<K: Sink>(run: Finished, sink: &mut K) -> Exit
+    requires { HasOrder run }
     ensures due { result.due ≡ 0 }
     ensures run { result.run ≡ Some (ends.Replayed run) }
     ensures status { (result.status ≡ 0) ⊎ (result.status ≡ 6) }
-    ensures text { (h : HasHistory (ends.Replayed run)) → IsWritten (sides K.held K.faults sink.old sink.new) result.status
-        (text_in_order h.history) }
+    ensures text { (order : List Item) → run.order ≡ Some order
+        → IsWritten (sides K.held K.faults sink.old sink.new) result.status
+        (order_text order run.logs run.cycles (units_in run.logs)) }
     ensures still { result.status ≢ 6 → K.faults sink.new ≡ K.faults sink.old }
     ensures rose { result.status ≡ 6 → Rose (K.faults sink.old) (K.faults sink.new) }
 {
-    match sink.put(b"x") {
-        Ok(()) => Exit {
-            status: 0,
-            due: 0,
-            run: Some(RunEnd::Replayed(run)),
-        },
-        Err(_) => Exit {
-            status: WRITE_FAULT,
-            due: 0,
-            run: Some(RunEnd::Replayed(run)),
-        },
+    let status = put_in_order(&run, sink);
+    Exit {
+        status,
+        due: 0,
+        run: Some(RunEnd::Replayed(run)),
+    }
+}
+
+/// Writes the text of a replay, and gives the status.
+fn put_in_order<K: Sink>(run: &Finished, sink: &mut K) -> u8
+    requires { HasOrder run.now }
+    ensures status { (result ≡ 0) ⊎ (result ≡ 6) }
+    ensures text { (order : List Item) → run.now.order ≡ Some order
+        → IsWritten (sides K.held K.faults sink.old sink.new) result
+        (order_text order run.now.logs run.now.cycles (units_in run.now.logs)) }
+    ensures still { result ≢ 6 → K.faults sink.new ≡ K.faults sink.old }
+    ensures rose { result ≡ 6 → Rose (K.faults sink.old) (K.faults sink.new) }
+{
+    let Some(order) = run.order() else {
+        unreachable!()
+    };
+    match write_order(run, order, sink) {
+        Ok(()) => 0,
+        Err(_) => WRITE_FAULT,
     }
 }

@@ -8,7 +8,7 @@ ghost use Rattle.rtheap_core.specs.Exits.{NeverFull};
 ghost use Rattle.rtheap_core.specs.Sides.{sides};
 
 use crate::exit::{Exit, RunEnd};
-use crate::generating::{make_told, trial_told};
+use crate::making::{make_told, trial_told};
 use crate::planning::plan_told;
 use crate::refusal::Refusal;
 use crate::replaying::replay_told;
@@ -88,6 +88,6 @@ fn carried_out<R: Threads + Wait + Sync, S: Source, K: Sink, Q: Pace>(
         }
         Some(Task::Plan) => plan_told(alloc, source, sink),
         Some(Task::Make { key, lines }) => make_told(alloc, sink, key, lines),
-        Some(Task::Trial { key, lines }) => trial_told(rt, alloc, sink, key, lines),
+        Some(Task::Trial { key, lines }) => trial_told(alloc, sink, key, lines),
     }
 }

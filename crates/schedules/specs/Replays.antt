@@ -1,8 +1,9 @@
 -- A replay: the run of a job by the first turns of a schedule.
-use Rattle.std.specs.Prelude.{ℕ, ◌≡◌, List}
+use Rattle.std.specs.Prelude.{ℕ, ◌≡◌, List, [], ◌∷◌}
 use Rattle.block_store.specs.declared.Config.{Config}
 use Rattle.never_heap.specs.declared.Command.{Command}
-use Rattle.heap_system.specs.Machines.{State, Run, opened, after_turns, IsOpening}
+use Rattle.heap_system.specs.Machines.{State, turned, Run, opened, after_turns, IsOpening}
+use Rattle.heap_system.specs.Systems.{Whole}
 use Rattle.schedules.specs.declared.Schedule.{Schedule}
 use Rattle.schedules.specs.Schedules.{turns_of}
 
@@ -12,3 +13,12 @@ pub record IsReplayed (c : Config) (traces : List (List Command)) (schedule : Sc
   pub first : State
   pub opening : IsOpening c traces first
   pub replayed : r ≡ after_turns c (opened c first) (turns_of schedule c first turns)
+
+-- a system after a turn of thread t
+abbrev pub system_turned : ℕ → Whole → Whole
+system_turned t w = record w { state = turned w.config t w.state }
+
+-- and after a list of turns
+abbrev pub system_after : Whole → List ℕ → Whole
+system_after w [] = w
+system_after w (t ∷ ts) = system_after (system_turned t w) ts

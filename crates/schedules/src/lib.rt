@@ -1,7 +1,16 @@
-//! Stand-in.
+//! Replays of a job: a schedule says which thread has each turn.
 #![tactic(auto)]
 
-/// Which thread has each turn.
+mod laws;
+mod replaying;
+#[cfg(test)]
+mod tests;
+
+pub use laws::{replays_are_runs, replays_end, replays_have_one_order, replays_stop, serial_replays_go_on};
+pub use replaying::replay;
+
+/// Which thread has each turn. Turns are counted from 0, and a turn for a thread that is done counts
+/// and changes nothing.
 #[derive(Clone, Copy, Debug, PartialEq, Eq)]
 pub enum Schedule {
     /// Turn j is for thread `j % n` of n.

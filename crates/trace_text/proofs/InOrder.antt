@@ -1,5 +1,5 @@
 -- The histories that orders make, and how the lines of one go on.
-use Rattle.std.proofs.Common.{◌≡◌, ℕ, zero, suc, ◌+◌, ◌<◌, ◌≤◌, ◌^◌, Bool, true, false, cond, eqb, eq-eqb, List, [], ◌∷◌, ◌++◌, length, take, drop, map, get_or, replicate, refl, sym, ap, ◌∙◌, subst, append_assoc, append-nil, arith, Option, inl, inr}
+use Rattle.std.proofs.Common.{◌≡◌, ℕ, ◌+◌, ◌<◌, ◌≤◌, ◌^◌, Bool, true, false, cond, eqb, eq-eqb, List, [], ◌∷◌, ◌++◌, length, take, drop, map, get_or, replicate, refl, sym, ap, ◌∙◌, subst, append_assoc, append-nil, arith, Option, inl, inr}
 use Rattle.std.proofs.lemmas.Grind.{flat_map-append}
 use Rattle.std.proofs.lemmas.List.{drop-drop, drop_all, get_or-replicate, get_or_past, length-replicate}
 use Rattle.std.proofs.lemmas.Bool.{cases_lt}
@@ -245,11 +245,3 @@ all_written logs order i told starts before now le so_far =
     (sym (append-nil so_far.text)
     ∙ ap (λ (is : List Item). so_far.text ++ text_from logs told starts is) (sym none)
     ∙ so_far.whole) so_far.written
-
--- the order of two logs
-pub of_two : (order : List Item) (a b : List Entry)
-    → entries_in 0 order ≡ length a → entries_in 1 order ≡ length b
-    → ((t : ℕ) → entries_in (suc (suc t)) order ≡ 0) → IsOrderOf order (a ∷ b ∷ [])
-of_two order a b first second others zero = first
-of_two order a b first second others (suc zero) = second
-of_two order a b first second others (suc (suc t)) = others t

@@ -5,8 +5,6 @@ use Rattle.block_store.specs.Heaps.{Heap, put_at}
 use Rattle.block_store.specs.Phases.{bit, is_sweep}
 use Rattle.block_store.specs.Places.{Phase, Cursor}
 use Rattle.block_store.proofs.Functions.{bit_le, bit_one}
-use Rattle.rate_plan.specs.Rates.{IsAdmitted}
-use Rattle.block_store.specs.Registers.{registers_end}
 use Rattle.heap_machine.specs.Gating.{Gating}
 use Rattle.heap_machine.specs.declared.Step.TheVariants as steps
 use Rattle.heap_machine.specs.declared.gate.GateRow.TheVariants as gates

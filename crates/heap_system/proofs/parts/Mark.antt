@@ -49,7 +49,7 @@ leaves_cursor h t n c (marks.ShadeStored y a) = shade_cursor h y (white_word c) 
 leaves_cursor h t n c _ = refl
 
 -- marking claims nothing
-no_claim : (m : ℕ) (r : GreyRow)
+pub no_claim : (m : ℕ) (r : GreyRow)
     → ((grey_holding m r).low ≡ 0) × ((grey_holding m r).high ≡ 0)
 no_claim m (marks.Take u) = (refl, refl)
 no_claim m (marks.Pop a) = (refl, refl)
@@ -175,8 +175,8 @@ module _ (c : Config) (s : Seen c) (m : GreyState) (at : AtPart c s (Mark m)) wh
         ap (λ (w : Holding). w.high) at.holds ∙ none.1,
       )
 
-  pays : paid_got None (is_blackening m.row) s.paid + bit (not (grey_unit next.row)) ≤ s.due
-  pays = units_paid (grey_unit m.row) (grey_unit next.row) (is_blackening m.row) s.paid s.due
+  pays : paid_got None (is_blackening m.row) s.balance.paid + bit (not (grey_unit next.row)) ≤ s.due
+  pays = units_paid (grey_unit m.row) (grey_unit next.row) (is_blackening m.row) s.balance.paid s.due
       at.pays (unit_after (extent c) m read) (unit_once m)
 
   -- the part goes on

@@ -184,8 +184,8 @@ module _ (c : Config) (s : Seen c) (f : FieldState) (at : AtPart c s (Serve f)) 
   none_due_yet : s.due ≡ 0
   none_due_yet = s.free at.part.serves
 
-  unpaid : s.paid ≡ 0
-  unpaid = let low : s.paid + 0 ≤ s.due = at.pays in omega (arith, low, none_due_yet)
+  unpaid : s.balance.paid ≡ 0
+  unpaid = let low : s.balance.paid + 0 ≤ s.due = at.pays in omega (arith, low, none_due_yet)
 
   graph_is : graph_on s.graph f w ≡ graph_decided s.graph s.thread s.command verdict
   graph_is =
@@ -193,23 +193,23 @@ module _ (c : Config) (s : Seen c) (f : FieldState) (at : AtPart c s (Serve f)) 
       ∙ ap (λ k. cond decides (step s.graph s.thread k).0 s.graph) at.part.command
       ∙ decided_graph s.graph s.thread s.command decides
 
-  order_is : order_on s.graph s.order f w ≡ s.order ++ (items_told s.graph s.thread s.command s.paid verdict ++ [])
+  order_is : order_on s.graph s.order f w ≡ s.order ++ (items_told s.graph s.thread s.command s.balance.paid verdict ++ [])
   order_is =
       ap (λ t. cond decides (s.order ++ Did (entry_of t f.command 0 (step s.graph t f.command).1) ∷ []) s.order) at.part.thread
       ∙ ap (λ k. cond decides (s.order ++ Did (entry_of s.thread k 0 (step s.graph s.thread k).1) ∷ []) s.order) at.part.command
-      ∙ decided_order s.graph s.order s.thread s.command s.paid decides unpaid
+      ∙ decided_order s.graph s.order s.thread s.command s.balance.paid decides unpaid
 
   known_is : IsKnown (graph_decided s.graph s.thread s.command verdict) next
   known_is = subst (λ (g : Graph). IsKnown g next) graph_is due_is.1
 
-  told_is : entries_of s.thread s.command s.paid (reply_due s.graph f) ++ told_by s.graph s.thread s.command s.paid verdict
-      ≡ entries_of s.thread s.command s.paid (reply_due (graph_decided s.graph s.thread s.command verdict) next)
+  told_is : entries_of s.thread s.command s.balance.paid (reply_due s.graph f) ++ told_by s.graph s.thread s.command s.balance.paid verdict
+      ≡ entries_of s.thread s.command s.balance.paid (reply_due (graph_decided s.graph s.thread s.command verdict) next)
   told_is =
-      tell s.graph s.thread s.command s.paid (reply_due s.graph f) decides (λ e. (none_due s.graph f.pass.thread f.command f.row (undecided f.command f.row w e)).0)
-      ∙ ap (λ k. entries_of s.thread s.command s.paid (cond decides (Some (step s.graph s.thread k).1) (reply_due s.graph f))) (sym at.part.command)
-      ∙ ap (λ t. entries_of s.thread s.command s.paid (cond decides (Some (step s.graph t f.command).1) (reply_due s.graph f))) (sym at.part.thread)
-      ∙ ap (entries_of s.thread s.command s.paid) (sym due_is.0)
-      ∙ ap (λ g. entries_of s.thread s.command s.paid (reply_due g next)) graph_is
+      tell s.graph s.thread s.command s.balance.paid (reply_due s.graph f) decides (λ e. (none_due s.graph f.pass.thread f.command f.row (undecided f.command f.row w e)).0)
+      ∙ ap (λ k. entries_of s.thread s.command s.balance.paid (cond decides (Some (step s.graph s.thread k).1) (reply_due s.graph f))) (sym at.part.command)
+      ∙ ap (λ t. entries_of s.thread s.command s.balance.paid (cond decides (Some (step s.graph t f.command).1) (reply_due s.graph f))) (sym at.part.thread)
+      ∙ ap (entries_of s.thread s.command s.balance.paid) (sym due_is.0)
+      ∙ ap (λ g. entries_of s.thread s.command s.balance.paid (reply_due g next)) graph_is
 
   phase_is : new Phase ≡ s.heap Phase
   phase_is = field_phase c s.heap f
@@ -230,7 +230,7 @@ module _ (c : Config) (s : Seen c) (f : FieldState) (at : AtPart c s (Serve f)) 
   next_fits = field_fits c f w fits reads
 
   names_are : (p : Part) → field_task (extent c) next ≡ task c p
-      → IsKept c (picture (graph_decided s.graph s.thread s.command verdict) (s.order ++ (items_told s.graph s.thread s.command s.paid verdict ++ [])) new s.names (changed s.tasks s.thread (task c p)))
+      → IsKept c (picture (graph_decided s.graph s.thread s.command verdict) (s.order ++ (items_told s.graph s.thread s.command s.balance.paid verdict ++ [])) new s.names (changed s.tasks s.thread (task c p)))
   names_are p same = subst (λ (x : KeptState). IsKept c x)
       (λ i. picture (graph_is i) (order_is i) new s.names (changed s.tasks (at.part.thread i) (same i)))
       (keeps_names c s.graph s.order s.heap s.names s.tasks f fits at.part.going passes.1 passes.0 task_is s.kept)
@@ -249,14 +249,14 @@ module _ (c : Config) (s : Seen c) (f : FieldState) (at : AtPart c s (Serve f)) 
 
   -- what is the same whether the command goes on or is over
   module _ (p : Part) (o : Option Reply) (is : field_reply next.row ≡ o) where
-    counted_is : works (told_by s.graph s.thread s.command s.paid verdict) ≡ works (entries_of s.thread s.command s.paid o)
-    counted_is = no_works s.graph s.thread s.command s.paid decides unpaid ∙ sym (no_work s.thread s.command s.paid o unpaid)
+    counted_is : works (told_by s.graph s.thread s.command s.balance.paid verdict) ≡ works (entries_of s.thread s.command s.balance.paid o)
+    counted_is = no_works s.graph s.thread s.command s.balance.paid decides unpaid ∙ sym (no_work s.thread s.command s.balance.paid o unpaid)
 
     counts_is : made_got o s.made ≡ count_of (graph_decided s.graph s.thread s.command verdict) s.thread
     counts_is = made_on o s.made (λ n e. makes_none c f.pass f.command f.row w at.part.going n (is ∙ e)) ∙ s.count ∙ sym (counts_on s.graph s.thread s.command decides there at.part.serves)
 
-    paid_is : paid_got o false s.paid ≡ 0
-    paid_is = paid_on o s.paid unpaid
+    paid_is : paid_got o false s.balance.paid ≡ 0
+    paid_is = paid_on o s.balance.paid unpaid
 
   abbrev effect_at : Option Reply → Effect
   effect_at o = record (plain (field_step (extent c) f w)) { reply = o; verdict = verdict }
@@ -281,8 +281,8 @@ module _ (c : Config) (s : Seen c) (f : FieldState) (at : AtPart c s (Serve f)) 
     over = λ r e. absurd cc;
     told = told_is;
     low = omega (arith, unpaid);
-    settled = tt;
-    exact = exact_at decides s.paid s.due unpaid none_due_yet;
+    settled = omega (arith, unpaid, none_due_yet);
+    exact = exact_at decides s.balance.paid s.due unpaid none_due_yet;
     counted = counted_is (Serve next) None is;
     counts = counts_is (Serve next) None is;
   }
@@ -303,10 +303,10 @@ module _ (c : Config) (s : Seen c) (f : FieldState) (at : AtPart c s (Serve f)) 
     fits = tt;
     roomy = tt;
     over = λ y e. refl;
-    told = told_is ∙ ap (entries_of s.thread s.command s.paid) (row_waits (graph_decided s.graph s.thread s.command verdict) f.pass.thread f.command next.row r is);
+    told = told_is ∙ ap (entries_of s.thread s.command s.balance.paid) (row_waits (graph_decided s.graph s.thread s.command verdict) f.pass.thread f.command next.row r is);
     low = omega arith;
     settled = refl;
-    exact = exact_at decides s.paid s.due unpaid none_due_yet;
+    exact = exact_at decides s.balance.paid s.due unpaid none_due_yet;
     counted = counted_is Leave (Some r) is;
     counts = counts_is Leave (Some r) is;
   }

@@ -60,7 +60,7 @@ still_some (sweeps.Credit p f) more = refl
 still_some (sweeps.Swept p f) more = refl
 
 -- no word is Free and black
-freed_word : (c a : ℕ) (b : Bool) → (b && eqb (free_word a) (black_word c)) ≡ false
+pub freed_word : (c a : ℕ) (b : Bool) → (b && eqb (free_word a) (black_word c)) ≡ false
 freed_word c a b = not_both b (eqb (free_word a) (black_word c))
     (λ e. absurd (let z : true ≡ false = sym (free_free a)
     ∙ ap is_free (eqb-true (free_word a) (black_word c) e) ∙ not_free_black c in cc))
@@ -172,10 +172,10 @@ module _ (c : Config) (s : Seen c) (p : SweepState) (at : AtPart c s (Sweep p)) 
   )
 
   -- what was paid is what was passed
-  settled : paid_got None unit s.paid + p.owed ≡ s.due + sweep_passed next.row
-  settled = omega (arith, at.settled, paid_more unit s.paid, passed_bits p read)
+  settled : paid_got None unit s.balance.paid + p.owed ≡ s.due + sweep_passed next.row
+  settled = omega (arith, at.settled, paid_more unit s.balance.paid, passed_bits p read)
 
-  pays : paid_got None unit s.paid + (p.owed - sweep_passed next.row) ≤ s.due
+  pays : paid_got None unit s.balance.paid + (p.owed - sweep_passed next.row) ≤ s.due
   pays = omega (arith, settled, (passed_few c next next_fits).1)
 
   goes_on : sweep_over next.row ≡ false → PassEvent c s new unit (Sweep next)

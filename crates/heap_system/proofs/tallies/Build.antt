@@ -35,8 +35,9 @@ use Rattle.heap_system.specs.Locals.{Open, AsStep, Refused, plain, if_decides, i
 use Rattle.heap_system.specs.Naming.{Same, Made}
 use Rattle.heap_system.proofs.PartLaws.{AtPart}
 use Rattle.heap_system.proofs.Seeing.{Seen}
+use Rattle.heap_system.proofs.parts.Build.{row_no_reply}
 use Rattle.heap_system.proofs.Tallying.{IsSpending, Counted, TallyEvent, TallyLaw, reserved_for}
-use Rattle.heap_system.proofs.tallies.Moves.{SameWords, same_words, spends_here, spends_twice, others_twice, told_none, stays, moves}
+use Rattle.heap_system.proofs.tallies.Moves.{SameWords, same_words, spends_here, spends_twice, others_twice, paid_by, told_none, stays, moves}
 
 -- a builder claims nothing
 no_claim : (k : ℕ) (held : List ℕ) (r : BuildRow) → ((row_holding k held r).low ≡ 0) × ((row_holding k held r).high ≡ 0)
@@ -56,11 +57,6 @@ row_reserved w b makes r = by (is_building r)
     by : (x : Bool) → reserved_for w (cond x (Some (built_object b (left_of b.blocks r) (begun_of (payloads w) r))) None) ≡ cond x (blocks_of w b.command) 0
     by true = made_blocks w b.command makes
     by false = refl
-
-no_reply : (b : BuildState) (r : BuildRow) → build_over r ≡ false → row_reply b r ≡ None
-no_reply b rows.Built e = absurd (let z : true ≡ false = e in cc)
-no_reply b rows.Refused e = absurd (let z : true ≡ false = e in cc)
-no_reply b _ e = refl
 
 -- the rows of which the part goes on, before its blocks are reserved or after that
 abbrev IsOn : BuildRow → Bool → Type 0
@@ -115,13 +111,13 @@ module _ (c : Config) (rate : ℕ) (s : Seen c) (b : BuildState) (at : AtPart c 
 
   -- all is paid
   paid_all : (before.threads s.thread).balance.paid ≡ rate * (before.threads s.thread).asked
-  paid_all = k.own.paid ∙ at.settled ∙ k.due ∙ ap (λ n. rate * n) (sym k.own.asked)
+  paid_all = paid_by c rate s (Build b) before k ∙ at.settled ∙ k.due ∙ ap (λ n. rate * n) (sym k.own.asked)
 
   -- a part that goes on, and has so much reserved
-  spends : (later : BuildState) → later.command ≡ b.command → (x : Bool) → is_building later.row ≡ x → (w : Spending) → w.inside ≡ true → w.balance.paid ≡ s.paid → w.asked ≡ asked → w.low ≡ 0 → w.high ≡ 0 → w.reserved ≡ cond x asked 0 → IsSpending c (Build later) s.paid asked w
+  spends : (later : BuildState) → later.command ≡ b.command → (x : Bool) → is_building later.row ≡ x → (w : Spending) → w.inside ≡ true → w.balance ≡ s.balance → w.asked ≡ asked → w.low ≡ 0 → w.high ≡ 0 → w.reserved ≡ cond x asked 0 → IsSpending c (Build later) s.balance asked w
   spends later same x builds w inside paid asks_ low high reserved = record {
     inside = inside;
-    paid = paid;
+    account = paid;
     asked = asks_;
     low = low ∙ sym (no_claim later.blocks later.held later.row).0;
     high = high ∙ sym (no_claim later.blocks later.held later.row).1;
@@ -133,12 +129,12 @@ module _ (c : Config) (rate : ℕ) (s : Seen c) (b : BuildState) (at : AtPart c 
   Goes new step later = TallyEvent c rate s new (record (plain step) { reply = row_reply later later.row; verdict = Open; naming = Same }) (if_replied (row_reply later later.row) (Build later)) next before
 
   goes : (new : Heap) (step : Step) (later : BuildState) → build_over later.row ≡ false → TallyEvent c rate s new (record (plain step) { reply = None; verdict = Open; naming = Same }) (Build later) next before → Goes new step later
-  goes new step later going event = subst (λ o. TallyEvent c rate s new (record (plain step) { reply = o; verdict = Open; naming = Same }) (if_replied o (Build later)) next before) (sym (no_reply later later.row going)) event
+  goes new step later going event = subst (λ o. TallyEvent c rate s new (record (plain step) { reply = o; verdict = Open; naming = Same }) (if_replied o (Build later)) next before) (sym (row_no_reply later later.row going)) event
 
   -- nothing of it counts
   quiet : (new : Heap) → SameWords s.heap new → (step : Step) (later : BuildState) → later.command ≡ b.command → (x : Bool) → (before.threads s.thread).reserved ≡ cond x asked 0 → IsOn later.row x → Goes new step later
-  quiet new same step later own x reserved on = goes new step later on.0 (stays c rate s (Build b) before k new (record (plain step) { reply = None; verdict = Open; naming = Same }) (Build later) next same refl refl
-      (spends later own x on.1 (before.threads s.thread) k.own.inside k.own.paid k.own.asked low high reserved))
+  quiet new same step later own x reserved on = goes new step later on.0 (stays c rate s (Build b) before k new (record (plain step) { reply = None; verdict = Open; naming = Same }) (Build later) next same refl refl refl
+      (spends later own x on.1 (before.threads s.thread) k.own.inside k.own.account k.own.asked low high reserved))
 
   -- the reservation, won or lost
   reserving : (seen : ℕ) (won : Bool) → eqb (s.heap FreeCount) seen ≡ won → b.blocks ≤ seen → (before.threads s.thread).reserved ≡ 0 → (step : Step) → Goes (cond won (put_at s.heap FreeCount (seen - b.blocks)) s.heap) step (record b { row = cond won (rows.TakeFree 0) rows.ReadCount })
@@ -150,15 +146,15 @@ module _ (c : Config) (rate : ℕ) (s : Seen c) (b : BuildState) (at : AtPart c 
       goes _ step later refl (moves c rate s (Build b) before k (events.Reserve s.thread ∷ []) ((s.low, k.own.inside, none, paid_all, omega (arith, k.own.asked, size, enough, seen_is, k.of.free)), tt)
       (put_at s.heap FreeCount (seen - b.blocks)) (record (plain step) { reply = None; verdict = Open; naming = Same }) (Build later) next
       (record { cycle = k.of.cycle; sweep = k.of.sweep; cursor = k.of.cursor; free = omega (arith, k.own.asked, size, seen_is, k.of.free); colour = k.of.colour; order = told_none c rate s (Build b) before k (record (plain step) { reply = None; verdict = Open; naming = Same }) refl refl })
-      (spends_here (IsSpending c (Build later) s.paid asked) before.threads s.thread new (spends later refl true refl new k.own.inside k.own.paid k.own.asked low high k.own.asked))
-      (λ u other. changed_else before.threads s.thread u new other))
+      (spends_here (IsSpending c (Build later) s.balance asked) before.threads s.thread new (spends later refl true refl new k.own.inside k.own.account k.own.asked low high k.own.asked))
+      (λ u other. changed_else before.threads s.thread u new other) (λ x. refl) (λ x. refl) refl)
   reserving seen false is enough none step = quiet s.heap (same_words s.heap) step (record b { row = rows.ReadCount }) refl false none (refl, refl)
 
   abbrev entry : Reply → Entry
-  entry r = entry_of s.thread s.command s.paid r
+  entry r = entry_of s.thread s.command s.balance.paid r
 
   decides : (r : Reply) → events.Decides c s.thread (before.threads s.thread) (entry r)
-  decides r = record { thread = refl; blocks = sym k.own.asked; work = sym k.own.paid }
+  decides r = record { thread = refl; blocks = sym k.own.asked; work = sym (paid_by c rate s (Build b) before k) }
 
   -- too few blocks are free
   refuses : s.heap FreeCount < b.blocks → (before.threads s.thread).reserved ≡ 0 → (step : Step) → TallyEvent c rate s s.heap (record (plain step) { reply = Some (replies.Full (full_cycle b.cycle)); verdict = Refused (replies.Full (full_cycle b.cycle)); naming = Same }) Leave next before
@@ -172,8 +168,8 @@ module _ (c : Config) (rate : ℕ) (s : Seen c) (b : BuildState) (at : AtPart c 
       )
       s.heap (record (plain step) { reply = Some r; verdict = Refused r; naming = Same }) Leave next
       (record { cycle = k.of.cycle; sweep = k.of.sweep; cursor = k.of.cursor; free = k.of.free; colour = k.of.colour; order = ap (λ o. o ++ Did (entry r) ∷ []) k.of.order })
-      (spends_twice (IsSpending c Leave 0 next) before.threads s.thread new (λ v. record v { asked = next }) (record { inside = k.own.inside; paid = refl; asked = refl; low = low; high = high; reserved = none }))
-      (λ u other. others_twice before.threads s.thread new _ u other)
+      (spends_twice (IsSpending c Leave (refused s.balance) next) before.threads s.thread new (λ v. record v { asked = next }) (record { inside = k.own.inside; account = ap refused k.own.account; asked = refl; low = low; high = high; reserved = none }))
+      (λ u other. others_twice before.threads s.thread new _ u other) (λ x. refl) (λ x. refl) refl
 
   -- the object is published
   publishes : (new : Heap) → SameWords s.heap new → (before.threads s.thread).reserved ≡ asked → (step_is : Step) → (name : _) → TallyEvent c rate s new (record (plain step_is) { reply = Some (replies.New name); verdict = AsStep; naming = Made (built_at b) }) Leave next before
@@ -189,15 +185,15 @@ module _ (c : Config) (rate : ℕ) (s : Seen c) (b : BuildState) (at : AtPart c 
       )
       new (record (plain step_is) { reply = Some (replies.New name); verdict = AsStep; naming = Made (built_at b) }) Leave next
       (record { cycle = k.of.cycle ∙ sym same.cycle; sweep = k.of.sweep ∙ sym same.sweep; cursor = k.of.cursor ∙ sym same.cursor; free = k.of.free ∙ sym same.free; colour = λ x. k.of.colour x ∙ sym (same.colour x); order = ap (λ o. o ++ Did (entry r) ∷ []) k.of.order })
-      (spends_twice (IsSpending c Leave 0 next) before.threads s.thread later (λ v. record v { asked = next }) (record { inside = k.own.inside; paid = refl; asked = refl; low = low; high = high; reserved = refl }))
-      (λ u other. others_twice before.threads s.thread later _ u other)
+      (spends_twice (IsSpending c Leave (published asked s.balance) next) before.threads s.thread later (λ v. record v { asked = next }) (record { inside = k.own.inside; account = λ i. published (k.own.asked i) (k.own.account i); asked = refl; low = low; high = high; reserved = refl }))
+      (λ u other. others_twice before.threads s.thread later _ u other) (λ x. refl) (λ x. refl) refl
 
   -- a block becomes black
   blackens : (x : ℕ) (step : Step) (later : BuildState) → later.command ≡ b.command → (before.threads s.thread).reserved ≡ asked → IsOn later.row true → Goes (put_at s.heap (ColourOf x) (black_word b.cycle)) step later
   blackens x step later own all on = goes _ step later on.0 (moves c rate s (Build b) before k (events.Paint x (black_word b.cycle) ∷ []) ((λ mark black. ap black_word cycle), tt)
       (put_at s.heap (ColourOf x) (black_word b.cycle)) (record (plain step) { reply = None; verdict = Open; naming = Same }) (Build later) next
       (record { cycle = k.of.cycle; sweep = k.of.sweep; cursor = k.of.cursor; free = k.of.free; colour = λ y. (λ i. cond (eqb x y) (black_word b.cycle) (k.of.colour y i)); order = told_none c rate s (Build b) before k (record (plain step) { reply = None; verdict = Open; naming = Same }) refl refl })
-      (spends later own true on.1 (before.threads s.thread) k.own.inside k.own.paid k.own.asked low high all) (λ u other. refl))
+      (spends later own true on.1 (before.threads s.thread) k.own.inside k.own.account k.own.asked low high all) (λ u other. refl) (λ x. refl) (λ x. refl) refl)
 
   -- the free count was read
   counting : (less : Bool) → ltb (s.heap FreeCount) b.blocks ≡ less → (before.threads s.thread).reserved ≡ 0 → (later : BuildState) → later ≡ record b { row = cond less rows.Refused (rows.Reserve (s.heap FreeCount)) } → (step : Step)

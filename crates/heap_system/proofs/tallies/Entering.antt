@@ -21,10 +21,9 @@ use Rattle.barrier_steps.specs.Rows.{at_first_row, field_holding}
 use Rattle.grey_steps.specs.Rows.{scanning}
 use Rattle.sweep_steps.specs.Rows.{sweeping}
 use Rattle.build_steps.specs.Rows.{building}
-use Rattle.work_account.specs.Accounts.{entered}
+use Rattle.work_account.specs.Accounts.{Balance, entered}
 use Rattle.cycle_tally.specs.Events as events
 use Rattle.cycle_tally.specs.Tallies.{Spending, Tally}
-use Rattle.cycle_tally.proofs.Sums.{paid_entered}
 use Rattle.heap_system.specs.declared.local.Part.{Part}
 use Rattle.heap_system.specs.declared.local.Part.TheVariants.{Rest, Enter, Serve, Mark, Sweep, Build}
 use Rattle.heap_system.specs.Locals.{Errand, plain, first_part, pass_by, effect, part_want, part_got}
@@ -48,31 +47,31 @@ first_claims c q (commands.Same a b) = (refl, refl)
 first_claims c q (commands.Say s) = (refl, refl)
 
 -- a pass begins inside, with nothing claimed or reserved
-module _ (c : Config) (q : Pass) (e : Errand) (paid asked : ℕ) (w : Spending) (inside : w.inside ≡ true) (pays : w.balance.paid ≡ paid) (asks : w.asked ≡ asked) (low : w.low ≡ 0) (high : w.high ≡ 0) (reserved : w.reserved ≡ 0) where
-  owing : (b : Bool) → IsSpending c (cond b (Sweep (sweeping q.thread q.cycle c.blocks e.due)) (Mark (scanning q))) paid asked w
-  owing true = record { inside = inside; paid = pays; asked = asks; low = low; high = high; reserved = reserved }
-  owing false = record { inside = inside; paid = pays; asked = asks; low = low; high = high; reserved = reserved }
+module _ (c : Config) (q : Pass) (e : Errand) (b : Balance) (asked : ℕ) (w : Spending) (inside : w.inside ≡ true) (pays : w.balance ≡ b) (asks : w.asked ≡ asked) (low : w.low ≡ 0) (high : w.high ≡ 0) (reserved : w.reserved ≡ 0) where
+  owing : (y : Bool) → IsSpending c (cond y (Sweep (sweeping q.thread q.cycle c.blocks e.due)) (Mark (scanning q))) b asked w
+  owing true = record { inside = inside; account = pays; asked = asks; low = low; high = high; reserved = reserved }
+  owing false = record { inside = inside; account = pays; asked = asks; low = low; high = high; reserved = reserved }
 
-  paying : (b : Bool) → IsSpending c (cond b (Build (building c.width q.thread q.threads q.cycle e.serial e.command e.space)) (Serve (at_first_row q e.command))) paid asked w
-  paying true = record { inside = inside; paid = pays; asked = asks; low = low; high = high; reserved = reserved }
-  paying false = record { inside = inside; paid = pays; asked = asks; low = low ∙ sym (first_claims c q e.command).0; high = high ∙ sym (first_claims c q e.command).1; reserved = reserved }
+  paying : (y : Bool) → IsSpending c (cond y (Build (building c.width q.thread q.threads q.cycle e.serial e.command e.space)) (Serve (at_first_row q e.command))) b asked w
+  paying true = record { inside = inside; account = pays; asked = asks; low = low; high = high; reserved = reserved }
+  paying false = record { inside = inside; account = pays; asked = asks; low = low ∙ sym (first_claims c q e.command).0; high = high ∙ sym (first_claims c q e.command).1; reserved = reserved }
 
-  either : (b : Bool) → IsSpending c (cond b (cond q.sweep (Sweep (sweeping q.thread q.cycle c.blocks e.due)) (Mark (scanning q))) (cond (makes_object e.command) (Build (building c.width q.thread q.threads q.cycle e.serial e.command e.space)) (Serve (at_first_row q e.command)))) paid asked w
+  either : (y : Bool) → IsSpending c (cond y (cond q.sweep (Sweep (sweeping q.thread q.cycle c.blocks e.due)) (Mark (scanning q))) (cond (makes_object e.command) (Build (building c.width q.thread q.threads q.cycle e.serial e.command e.space)) (Serve (at_first_row q e.command)))) b asked w
   either true = owing q.sweep
   either false = paying (makes_object e.command)
 
-  begins : IsSpending c (first_part c q e) paid asked w
+  begins : IsSpending c (first_part c q e) b asked w
   begins = either (ltb 0 e.due)
 
-module _ (c : Config) (rate : ℕ) (s : Seen c) (p : Part) (before : Tally) (k : Counted c rate s p before) (next : ℕ) (own : IsSpending c Rest s.paid (blocks_of c.width s.command) (before.threads s.thread)) where
-  stands : (g : GateRow) → is_going_in g ≡ true → IsSpending c (Enter g) s.paid (blocks_of c.width s.command) (before.threads s.thread)
-  stands g in_ = spends_on c Rest (Enter g) s.paid (blocks_of c.width s.command) (before.threads s.thread) refl refl refl refl own
+module _ (c : Config) (rate : ℕ) (s : Seen c) (p : Part) (before : Tally) (k : Counted c rate s p before) (next : ℕ) (own : IsSpending c Rest s.balance (blocks_of c.width s.command) (before.threads s.thread)) where
+  stands : (g : GateRow) → is_going_in g ≡ true → IsSpending c (Enter g) s.balance (blocks_of c.width s.command) (before.threads s.thread)
+  stands g in_ = spends_on c Rest (Enter g) s.balance (blocks_of c.width s.command) (before.threads s.thread) refl refl refl refl own
 
   -- a look at the gate
   looks : TallyEvent c rate s s.heap (effect c (Enter gates.Look) (s.heap Phase)) (part_got c s.thread (errand c s) s.pass (Enter gates.Look) (s.heap Phase)) next before
   looks = elim (cases_Bool (is_closed (s.heap Phase))) [
-    | inl e ↦ rw e (stays c rate s p before k s.heap _ (Enter gates.Look) next (same_words s.heap) refl refl (stands gates.Look refl))
-    | inr e ↦ rw e (stays c rate s p before k s.heap _ (Enter (gates.Enter (s.heap Phase))) next (same_words s.heap) refl refl (stands (gates.Enter (s.heap Phase)) refl))
+    | inl e ↦ rw e (stays c rate s p before k s.heap _ (Enter gates.Look) next (same_words s.heap) refl refl refl (stands gates.Look refl))
+    | inr e ↦ rw e (stays c rate s p before k s.heap _ (Enter (gates.Enter (s.heap Phase))) next (same_words s.heap) refl refl refl (stands (gates.Enter (s.heap Phase)) refl))
   ]
 
   -- the exchange that goes in is won
@@ -82,26 +81,27 @@ module _ (c : Config) (rate : ℕ) (s : Seen c) (p : Part) (before : Tally) (k :
       let cycle : cycle_of (seen + 1) ≡ cycle_of (s.heap Phase) = ap (λ w. cycle_of (w + 1)) (sym same) ∙ ap (λ (w : PhaseWord). w.cycle) more in
       let sweep : is_sweep (seen + 1) ≡ is_sweep (s.heap Phase) = ap (λ w. is_sweep (w + 1)) (sym same) ∙ ap (λ (w : PhaseWord). w.sweep) more in
       let w : Spending = before.threads s.thread in
+      let same_cycle : before.cycle ≡ cycle_of seen = k.of.cycle ∙ ap cycle_of same in
       moves c rate s p before k (events.Enter s.thread ∷ []) (s.low, tt) (put_at s.heap Phase (seen + 1)) (record (plain steps.Over) { entered = Some (phase_of seen) }) (first_part c (pass_by s.thread c.threads (phase_of seen)) (errand c s)) next
       (record { cycle = k.of.cycle ∙ sym cycle; sweep = k.of.sweep ∙ sym sweep; cursor = k.of.cursor; free = k.of.free; colour = k.of.colour; order = told_none c rate s p before k (record (plain steps.Over) { entered = Some (phase_of seen) }) refl refl })
-      (spends_here (IsSpending c (first_part c (pass_by s.thread c.threads (phase_of seen)) (errand c s)) s.paid (blocks_of c.width s.command)) before.threads s.thread (record w { inside = true; balance = entered before.cycle w.balance })
-      (begins c (pass_by s.thread c.threads (phase_of seen)) (errand c s) s.paid (blocks_of c.width s.command) (record w { inside = true; balance = entered before.cycle w.balance }) refl (paid_entered before.cycle w.balance ∙ own.paid) own.asked own.low own.high own.reserved))
-      (λ u other. changed_else before.threads s.thread u _ other)
+      (spends_here (IsSpending c (first_part c (pass_by s.thread c.threads (phase_of seen)) (errand c s)) (entered (cycle_of seen) s.balance) (blocks_of c.width s.command)) before.threads s.thread (record w { inside = true; balance = entered before.cycle w.balance })
+      (begins c (pass_by s.thread c.threads (phase_of seen)) (errand c s) (entered (cycle_of seen) s.balance) (blocks_of c.width s.command) (record w { inside = true; balance = entered before.cycle w.balance }) refl (λ i. entered (same_cycle i) (own.account i)) own.asked own.low own.high own.reserved))
+      (λ u other. changed_else before.threads s.thread u _ other) (λ x. refl) (λ x. refl) refl
 
   enters : (seen : ℕ) → TallyEvent c rate s (cond (eqb (s.heap Phase) seen) (put_at s.heap Phase (seen + 1)) s.heap) (effect c (Enter (gates.Enter seen)) (s.heap Phase)) (part_got c s.thread (errand c s) s.pass (Enter (gates.Enter seen)) (s.heap Phase)) next before
   enters seen = elim (cases_Bool (eqb (s.heap Phase) seen)) [
     | inl e ↦ rw e (won seen (eqb-true (s.heap Phase) seen e))
-    | inr e ↦ rw e (stays c rate s p before k s.heap _ (Enter gates.Look) next (same_words s.heap) refl refl (stands gates.Look refl))
+    | inr e ↦ rw e (stays c rate s p before k s.heap _ (Enter gates.Look) next (same_words s.heap) refl refl refl (stands gates.Look refl))
   ]
 
 pub rest_tallied : (c : Config) → TallyLaw c Rest
 rest_tallied c rate s at next few before k = looks c rate s Rest before k next k.own
 
-entering : (c : Config) (rate : ℕ) (s : Seen c) (next : ℕ) (before : Tally) (g : GateRow) → IsEntering g → Counted c rate s (Enter g) before → IsSpending c Rest s.paid (blocks_of c.width s.command) (before.threads s.thread)
+entering : (c : Config) (rate : ℕ) (s : Seen c) (next : ℕ) (before : Tally) (g : GateRow) → IsEntering g → Counted c rate s (Enter g) before → IsSpending c Rest s.balance (blocks_of c.width s.command) (before.threads s.thread)
     → TallyEvent c rate s (heap_after s.heap (part_want c (Enter g))) (effect c (Enter g) (word_at c s (Enter g))) (part_got c s.thread (errand c s) s.pass (Enter g) (word_at c s (Enter g))) next before
 entering c rate s next before gates.Look kept k own = looks c rate s (Enter gates.Look) before k next own
 entering c rate s next before (gates.Enter seen) kept k own = enters c rate s (Enter (gates.Enter seen)) before k next own seen
 entering c rate s next before _ kept k own = absurd kept
 
 pub enter_tallied : (c : Config) (g : GateRow) → TallyLaw c (Enter g)
-enter_tallied c g rate s at next few before k = entering c rate s next before g at.part k (spends_on c (Enter g) Rest s.paid (blocks_of c.width s.command) (before.threads s.thread) refl refl refl refl k.own)
+enter_tallied c g rate s at next few before k = entering c rate s next before g at.part k (spends_on c (Enter g) Rest s.balance (blocks_of c.width s.command) (before.threads s.thread) refl refl refl refl k.own)

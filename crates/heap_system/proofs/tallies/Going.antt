@@ -22,8 +22,8 @@ use Rattle.heap_system.proofs.Tallying.{IsSpending, Counted, TallyEvent, TallyLa
 use Rattle.heap_system.proofs.tallies.Moves.{spends_on, spends_here, told_none, moves}
 
 -- from a part that is inside with nothing claimed or reserved to Rest, or to one that stands as that
-goes_out : (c : Config) (rate : ℕ) (s : Seen c) (before : Tally) (p : Part) → Counted c rate s p before → (s.gatings s.thread).stand ≡ Inside → IsSpending c Leave s.paid (blocks_of c.width s.command) (before.threads s.thread) → (q : Part) (next : ℕ)
-    → ((w : Spending) → IsSpending c Rest s.paid (blocks_of c.width s.command) w → IsSpending c q s.paid (blocks_of c.width s.command) w) → TallyEvent c rate s (put_at s.heap Phase (s.heap Phase - 1)) (plain steps.Over) q next before
+goes_out : (c : Config) (rate : ℕ) (s : Seen c) (before : Tally) (p : Part) → Counted c rate s p before → (s.gatings s.thread).stand ≡ Inside → IsSpending c Leave s.balance (blocks_of c.width s.command) (before.threads s.thread) → (q : Part) (next : ℕ)
+    → ((w : Spending) → IsSpending c Rest s.balance (blocks_of c.width s.command) w → IsSpending c q s.balance (blocks_of c.width s.command) w) → TallyEvent c rate s (put_at s.heap Phase (s.heap Phase - 1)) (plain steps.Over) q next before
 goes_out c rate s before p k stands own q next as_rest =
     let some : 1 ≤ inside_of (s.heap Phase) = inside_some c.threads (s.heap Phase) s.gatings s.gate s.thread s.low stands in
     let less = phase-less (s.heap Phase) some in
@@ -32,17 +32,17 @@ goes_out c rate s before p k stands own q next as_rest =
     let w : Spending = before.threads s.thread in
     moves c rate s p before k (events.Leave s.thread ∷ []) ((s.low, omega (arith, own.low, own.high), own.reserved), tt) (put_at s.heap Phase (s.heap Phase - 1)) (plain steps.Over) q next
     (record { cycle = k.of.cycle ∙ sym cycle; sweep = k.of.sweep ∙ sym sweep; cursor = k.of.cursor; free = k.of.free; colour = k.of.colour; order = told_none c rate s p before k (plain steps.Over) refl refl })
-    (spends_here (IsSpending c q s.paid (blocks_of c.width s.command)) before.threads s.thread (record w { inside = false })
-    (as_rest (record w { inside = false }) (record { inside = refl; paid = own.paid; asked = own.asked; low = own.low; high = own.high; reserved = own.reserved })))
-    (λ u other. changed_else before.threads s.thread u _ other)
+    (spends_here (IsSpending c q s.balance (blocks_of c.width s.command)) before.threads s.thread (record w { inside = false })
+    (as_rest (record w { inside = false }) (record { inside = refl; account = own.account; asked = own.asked; low = own.low; high = own.high; reserved = own.reserved })))
+    (λ u other. changed_else before.threads s.thread u _ other) (λ x. refl) (λ x. refl) refl
 
 pub again_tallied : (c : Config) → TallyLaw c Again
-again_tallied c rate s at next few before k = goes_out c rate s before Again k (ap (λ (x : Gating). x.stand) at.gating) (spends_on c Again Leave s.paid (blocks_of c.width s.command) (before.threads s.thread) refl refl refl refl k.own) (Enter gates.Look) next
-    (λ w own. spends_on c Rest (Enter gates.Look) s.paid (blocks_of c.width s.command) w refl refl refl refl own)
+again_tallied c rate s at next few before k = goes_out c rate s before Again k (ap (λ (x : Gating). x.stand) at.gating) (spends_on c Again Leave s.balance (blocks_of c.width s.command) (before.threads s.thread) refl refl refl refl k.own) (Enter gates.Look) next
+    (λ w own. spends_on c Rest (Enter gates.Look) s.balance (blocks_of c.width s.command) w refl refl refl refl own)
 
 pub idle_tallied : (c : Config) → TallyLaw c Idle
-idle_tallied c rate s at next few before k = goes_out c rate s before Idle k (ap (λ (x : Gating). x.stand) at.gating) (spends_on c Idle Leave s.paid (blocks_of c.width s.command) (before.threads s.thread) refl refl refl refl k.own) (TurnOver (gates.CloseLook s.pass)) next
-    (λ w own. spends_on c Rest (TurnOver (gates.CloseLook s.pass)) s.paid (blocks_of c.width s.command) w refl refl refl refl own)
+idle_tallied c rate s at next few before k = goes_out c rate s before Idle k (ap (λ (x : Gating). x.stand) at.gating) (spends_on c Idle Leave s.balance (blocks_of c.width s.command) (before.threads s.thread) refl refl refl refl k.own) (TurnOver (gates.CloseLook s.pass)) next
+    (λ w own. spends_on c Rest (TurnOver (gates.CloseLook s.pass)) s.balance (blocks_of c.width s.command) w refl refl refl refl own)
 
 pub leave_tallied : (c : Config) → TallyLaw c Leave
 leave_tallied c rate s at next few before k = goes_out c rate s before Leave k (ap (λ (x : Gating). x.stand) at.gating) k.own Rest next (λ w own. own)

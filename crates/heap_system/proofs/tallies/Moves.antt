@@ -1,5 +1,5 @@
 -- How the event of a part moves a tally: not at all, or by one event of the tally or a few.
-use Rattle.std.proofs.Common.{◌≡◌, ℕ, List, [], ◌++◌, append-nil, refl, sym, ap, ◌∙◌, subst}
+use Rattle.std.proofs.Common.{◌≡◌, ℕ, Bool, false, ◌&&◌, List, [], ◌++◌, append-nil, refl, sym, ap, ◌∙◌, subst}
 use Rattle.block_store.specs.declared.Config.{Config}
 use Rattle.block_store.specs.Colours.{black_word}
 use Rattle.block_store.specs.Counts.{changed}
@@ -10,15 +10,17 @@ use Rattle.block_store.proofs.Functions.{changed_here, changed_else}
 use Rattle.never_heap.specs.Histories.{HistoryItem}
 use Rattle.never_heap.specs.Steps.{blocks_of}
 use Rattle.heap_machine.specs.Gating.{is_inside}
+use Rattle.work_account.specs.Accounts.{Balance}
 use Rattle.cycle_tally.specs.Events.{Event, run, Guarded}
-use Rattle.cycle_tally.specs.Tallies.{Spending, Tally}
+use Rattle.cycle_tally.specs.Tallies.{Spending, Tally, units_now}
 use Rattle.cycle_tally.proofs.Laws.{run_kept}
 use Rattle.heap_system.specs.declared.local.Part.{Part}
-use Rattle.heap_system.specs.Locals.{Effect, Open, view, paid_got}
+use Rattle.heap_system.specs.Locals.{Effect, Open, view, balance_got}
 use Rattle.heap_system.specs.Machines.{starts_by}
+use Rattle.heap_system.specs.Naming.{Naming, Begun}
 use Rattle.heap_system.specs.Pictures.{stand_of, holding}
 use Rattle.heap_system.proofs.Seeing.{Seen, items_told}
-use Rattle.heap_system.proofs.Tallying.{reserved_for, IsSpending, IsTallyOf, Counted, TallyEvent, asked_got}
+use Rattle.heap_system.proofs.Tallying.{reserved_for, IsSpending, IsTallyOf, Counted, TallyEvent, asked_got, scans_at, passes_at, more_if, in_cycle, past_by}
 
 -- the words that a tally counts are the same
 pub record SameWords (h new : Heap) : Type 0 where
@@ -46,24 +48,37 @@ pub others_twice : (f : ℕ → Spending) (t : ℕ) (w v : Spending) (u : ℕ) �
 others_twice f t w v u other = changed_else (changed f t w) t u v other ∙ changed_else f t u w other
 
 -- a thread at a part that stands, claims and has reserved the same
-pub spends_on : (c : Config) (p q : Part) (paid asked : ℕ) (w : Spending) → is_inside (stand_of c p) ≡ is_inside (stand_of c q) → (holding c p).low ≡ (holding c q).low → (holding c p).high ≡ (holding c q).high
-    → reserved_for c.width (view c p).build ≡ reserved_for c.width (view c q).build → IsSpending c p paid asked w → IsSpending c q paid asked w
-spends_on c p q paid asked w inside low high reserved own = record { inside = own.inside ∙ inside; paid = own.paid; asked = own.asked; low = own.low ∙ low; high = own.high ∙ high; reserved = own.reserved ∙ reserved }
+pub spends_on : (c : Config) (p q : Part) (b : Balance) (asked : ℕ) (w : Spending) → is_inside (stand_of c p) ≡ is_inside (stand_of c q) → (holding c p).low ≡ (holding c q).low → (holding c p).high ≡ (holding c q).high
+    → reserved_for c.width (view c p).build ≡ reserved_for c.width (view c q).build → IsSpending c p b asked w → IsSpending c q b asked w
+spends_on c p q b asked w inside low high reserved own = record { inside = own.inside ∙ inside; account = own.account; asked = own.asked; low = own.low ∙ low; high = own.high ∙ high; reserved = own.reserved ∙ reserved }
 
 -- an item that is not added
 pub nothing_told : (order items starts : List HistoryItem) → items ≡ [] → starts ≡ [] → order ++ (items ++ starts) ≡ order
 nothing_told order items starts none still = ap (λ xs. order ++ (xs ++ starts)) none ∙ ap (λ xs. order ++ xs) still ∙ append-nil order
 
+-- where no cycle starts and no unit is made the counts stay
+pub no_more : (n : Naming) (unit b : Bool) (count : ℕ) → starts_by n ≡ [] → unit ≡ false → count ≡ in_cycle n (more_if (unit && b) count)
+no_more Begun unit b count still none = absurd cc
+no_more _ unit b count still none = rw none refl
+
+pub same_past : (n : Naming) (now past : ℕ) → starts_by n ≡ [] → past ≡ past_by n now past
+same_past Begun now past still = absurd cc
+same_past _ now past still = refl
+
 module _ (c : Config) (rate : ℕ) (s : Seen c) (p : Part) (before : Tally) (k : Counted c rate s p before) where
+  -- what the thread has paid
+  pub paid_by : (before.threads s.thread).balance.paid ≡ s.balance.paid
+  paid_by = ap (λ (b : Balance). b.paid) k.own.account
+
   -- the order of an event that decides nothing and starts no cycle
-  pub told_none : (e : Effect) → e.verdict ≡ Open → starts_by e.naming ≡ [] → before.order ≡ s.order ++ (items_told s.graph s.thread s.command s.paid e.verdict ++ starts_by e.naming)
-  told_none e undecided still = k.of.order ∙ sym (nothing_told s.order _ _ (ap (items_told s.graph s.thread s.command s.paid) undecided) still)
+  pub told_none : (e : Effect) → e.verdict ≡ Open → starts_by e.naming ≡ [] → before.order ≡ s.order ++ (items_told s.graph s.thread s.command s.balance.paid e.verdict ++ starts_by e.naming)
+  told_none e undecided still = k.of.order ∙ sym (nothing_told s.order _ _ (ap (items_told s.graph s.thread s.command s.balance.paid) undecided) still)
 
   -- nothing that the tally counts changes
-  pub stays : (new : Heap) (e : Effect) (q : Part) (next : ℕ) → SameWords s.heap new → e.verdict ≡ Open → starts_by e.naming ≡ []
-      → IsSpending c q (paid_got e.reply e.unit s.paid) (asked_got e.reply (blocks_of c.width s.command) next) (before.threads s.thread)
+  pub stays : (new : Heap) (e : Effect) (q : Part) (next : ℕ) → SameWords s.heap new → e.verdict ≡ Open → starts_by e.naming ≡ [] → e.unit ≡ false
+      → IsSpending c q (balance_got e (blocks_of c.width s.command) s.balance) (asked_got e.reply (blocks_of c.width s.command) next) (before.threads s.thread)
       → TallyEvent c rate s new e q next before
-  stays new e q next same undecided still own = record {
+  stays new e q next same undecided still none own = record {
     tally = before;
     kept = k.kept;
     of = record {
@@ -76,18 +91,27 @@ module _ (c : Config) (rate : ℕ) (s : Seen c) (p : Part) (before : Tally) (k :
     };
     own = own;
     others = λ u other. refl;
+    scanned = λ x. no_more e.naming e.unit _ (before.scanned x) still none;
+    passed = λ x. no_more e.naming e.unit _ (before.passed x) still none;
+    past = same_past e.naming _ before.past still;
   }
 
   -- the tally moves by these events, which leave the other threads
   pub moves : (es : List Event) → Guarded c rate black_word before es → (new : Heap) (e : Effect) (q : Part) (next : ℕ)
-      → IsTallyOf new (s.order ++ (items_told s.graph s.thread s.command s.paid e.verdict ++ starts_by e.naming)) (run c rate black_word before es)
-      → IsSpending c q (paid_got e.reply e.unit s.paid) (asked_got e.reply (blocks_of c.width s.command) next) ((run c rate black_word before es).threads s.thread)
+      → IsTallyOf new (s.order ++ (items_told s.graph s.thread s.command s.balance.paid e.verdict ++ starts_by e.naming)) (run c rate black_word before es)
+      → IsSpending c q (balance_got e (blocks_of c.width s.command) s.balance) (asked_got e.reply (blocks_of c.width s.command) next) ((run c rate black_word before es).threads s.thread)
       → ((u : ℕ) → (s.thread ≡ u → ⊥) → (run c rate black_word before es).threads u ≡ before.threads u)
+      → ((x : ℕ) → (run c rate black_word before es).scanned x ≡ in_cycle e.naming (more_if (scans_at s.heap new e x) (before.scanned x)))
+      → ((x : ℕ) → (run c rate black_word before es).passed x ≡ in_cycle e.naming (more_if (passes_at s.heap e (before.threads s.thread) x) (before.passed x)))
+      → (run c rate black_word before es).past ≡ past_by e.naming (units_now c.blocks before) before.past
       → TallyEvent c rate s new e q next before
-  moves es guarded new e q next of own others = record {
+  moves es guarded new e q next of own others scanned passed past = record {
     tally = run c rate black_word before es;
     kept = run_kept c rate black_word k.some k.plan es before k.kept guarded;
     of = of;
     own = own;
     others = others;
+    scanned = scanned;
+    passed = passed;
+    past = past;
   }

@@ -34,14 +34,15 @@ use Rattle.barrier_steps.specs.Rows.{FieldState, field_reply, field_got, field_s
 use Rattle.cycle_tally.specs.Events as events
 use Rattle.cycle_tally.specs.Tallies.{Tally}
 use Rattle.heap_system.specs.declared.local.Part.TheVariants.{Serve, Leave}
-use Rattle.heap_system.specs.Locals.{Open, AsStep, plain, if_decides, if_replied, entry_of}
+use Rattle.heap_system.specs.Locals.{Open, AsStep, plain, if_decides, if_replied, entry_of, balance_paid}
+use Rattle.heap_system.proofs.Balances.{nothing_paid}
 use Rattle.heap_system.proofs.PartLaws.{AtPart}
 use Rattle.heap_system.proofs.Seeing.{Seen}
 use Rattle.heap_system.proofs.Steady.{never_full}
+use Rattle.heap_system.proofs.parts.Mark as mark
 use Rattle.heap_system.proofs.Tallying.{IsSpending, Counted, TallyEvent, TallyLaw}
-use Rattle.heap_system.proofs.tallies.Mark as mark
 use Rattle.heap_system.proofs.tallies.Mark.{shades}
-use Rattle.heap_system.proofs.tallies.Moves.{SameWords, same_words, spends_here, told_none, stays, moves}
+use Rattle.heap_system.proofs.tallies.Moves.{SameWords, same_words, spends_here, paid_by, told_none, stays, moves}
 
 -- such a command claims nothing
 no_claim : (m : ℕ) (q : Pass) (r : FieldRow) → ((row_holding m q r).low ≡ 0) × ((row_holding m q r).high ≡ 0)
@@ -71,52 +72,52 @@ module _ (c : Config) (rate : ℕ) (s : Seen c) (f : FieldState) (at : AtPart c 
   asks_none : blocks_of c.width s.command ≡ 0
   asks_none = others_have_none c.width s.command at.part.serves
 
-  pays_none : s.paid ≡ 0
+  pays_none : s.balance.paid ≡ 0
   pays_none = omega (arith, at.pays, s.free at.part.serves)
 
   cycle : f.pass.cycle ≡ cycle_of (s.heap Phase)
   cycle = ap (λ (q : Pass). q.cycle) at.part.passes ∙ ap (λ (x : Gating). x.cycle) (sym at.gating) ∙ (s.gate.passes s.thread s.low (ap (λ (x : Gating). is_outside x.stand) at.gating)).0
 
   abbrev entry : Entry
-  entry = entry_of s.thread s.command s.paid (step s.graph s.thread s.command).1
+  entry = entry_of s.thread s.command s.balance.paid (step s.graph s.thread s.command).1
 
   decides : events.Decides c s.thread (before.threads s.thread) entry
-  decides = record { thread = refl; blocks = sym k.own.asked; work = sym k.own.paid }
+  decides = record { thread = refl; blocks = sym k.own.asked; work = sym (paid_by c rate s (Serve f) before k) }
 
   answers : events.Guard c rate black_word before (events.Answer s.thread entry)
   answers = (s.low, decides, k.own.asked ∙ asks_none, never_full s.graph s.thread s.command)
 
   asks : events.Guard c rate black_word before (events.Next s.thread next)
-  asks = (s.low, omega (arith, low, high), k.own.reserved, k.own.paid ∙ pays_none, few)
+  asks = (s.low, omega (arith, low, high), k.own.reserved, paid_by c rate s (Serve f) before k ∙ pays_none, few)
 
   module _ (step_is : Step) (n : FieldState) where
     abbrev Goes : Heap → Bool → Option Reply → Type 0
     Goes new b o = TallyEvent c rate s new (record (plain step_is) { reply = o; verdict = if_decides b }) (if_replied o (Serve n)) next before
 
-    goes_on : IsSpending c (Serve n) s.paid (blocks_of c.width s.command) (before.threads s.thread)
-    goes_on = record { inside = k.own.inside; paid = k.own.paid; asked = k.own.asked; low = low ∙ sym (no_claim (payloads c.width) n.pass n.row).0; high = high ∙ sym (no_claim (payloads c.width) n.pass n.row).1; reserved = k.own.reserved }
+    goes_on : IsSpending c (Serve n) s.balance (blocks_of c.width s.command) (before.threads s.thread)
+    goes_on = record { inside = k.own.inside; account = k.own.account; asked = k.own.asked; low = low ∙ sym (no_claim (payloads c.width) n.pass n.row).0; high = high ∙ sym (no_claim (payloads c.width) n.pass n.row).1; reserved = k.own.reserved }
 
-    over : IsSpending c Leave 0 next (changed before.threads s.thread (record (before.threads s.thread) { asked = next }) s.thread)
-    over = spends_here (IsSpending c Leave 0 next) before.threads s.thread (record (before.threads s.thread) { asked = next })
-        (record { inside = k.own.inside; paid = k.own.paid ∙ pays_none; asked = refl; low = low; high = high; reserved = k.own.reserved })
+    over : (r : Reply) → IsSpending c Leave (balance_paid (Some r) false (blocks_of c.width s.command) s.balance) next (changed before.threads s.thread (record (before.threads s.thread) { asked = next }) s.thread)
+    over r = spends_here (IsSpending c Leave (balance_paid (Some r) false (blocks_of c.width s.command) s.balance) next) before.threads s.thread (record (before.threads s.thread) { asked = next })
+        (record { inside = k.own.inside; account = k.own.account ∙ sym (nothing_paid r false (blocks_of c.width s.command) s.balance asks_none pays_none); asked = refl; low = low; high = high; reserved = k.own.reserved })
 
     -- its command is decided at the event, or not, and has its reply with it, or not
     by_same : (new : Heap) → SameWords s.heap new → (b : Bool) (o : Option Reply) → Goes new b o
-    by_same new same false None = stays c rate s (Serve f) before k new (record (plain step_is) { reply = None; verdict = Open }) (Serve n) next same refl refl goes_on
+    by_same new same false None = stays c rate s (Serve f) before k new (record (plain step_is) { reply = None; verdict = Open }) (Serve n) next same refl refl refl goes_on
     by_same new same true None = moves c rate s (Serve f) before k (events.Answer s.thread entry ∷ []) (answers, tt) new (record (plain step_is) { reply = None; verdict = AsStep }) (Serve n) next
         (record { cycle = k.of.cycle ∙ sym same.cycle; sweep = k.of.sweep ∙ sym same.sweep; cursor = k.of.cursor ∙ sym same.cursor; free = k.of.free ∙ sym same.free; colour = λ x. k.of.colour x ∙ sym (same.colour x); order = ap (λ o. o ++ Did entry ∷ []) k.of.order })
-        goes_on (λ u other. refl)
+        goes_on (λ u other. refl) (λ x. refl) (λ x. refl) refl
     by_same new same false (Some r) = moves c rate s (Serve f) before k (events.Next s.thread next ∷ []) (asks, tt) new (record (plain step_is) { reply = Some r; verdict = Open }) Leave next
         (record { cycle = k.of.cycle ∙ sym same.cycle; sweep = k.of.sweep ∙ sym same.sweep; cursor = k.of.cursor ∙ sym same.cursor; free = k.of.free ∙ sym same.free; colour = λ x. k.of.colour x ∙ sym (same.colour x); order = told_none c rate s (Serve f) before k (record (plain step_is) { reply = Some r; verdict = Open }) refl refl })
-        over (λ u other. changed_else before.threads s.thread u _ other)
+        (over r) (λ u other. changed_else before.threads s.thread u _ other) (λ x. refl) (λ x. refl) refl
     by_same new same true (Some r) = moves c rate s (Serve f) before k (events.Answer s.thread entry ∷ events.Next s.thread next ∷ []) (answers, (asks, tt)) new (record (plain step_is) { reply = Some r; verdict = AsStep }) Leave next
         (record { cycle = k.of.cycle ∙ sym same.cycle; sweep = k.of.sweep ∙ sym same.sweep; cursor = k.of.cursor ∙ sym same.cursor; free = k.of.free ∙ sym same.free; colour = λ x. k.of.colour x ∙ sym (same.colour x); order = ap (λ o. o ++ Did entry ∷ []) k.of.order })
-        over (λ u other. changed_else before.threads s.thread u _ other)
+        (over r) (λ u other. changed_else before.threads s.thread u _ other) (λ x. refl) (λ x. refl) refl
 
     -- a row of the barrier
     by_barrier : (r : GreyRow) → (block_stored r ≡ 0 → ⊥) → Goes (heap_after s.heap (marking.row_want f.pass.thread f.pass.threads f.pass.cycle r)) false None
     by_barrier (marks.TakeOwn y) some = by_same _ (record { cycle = refl; sweep = refl; cursor = refl; free = refl; colour = λ x. refl }) false None
-    by_barrier (marks.ShadeStored y a) some = shades c rate s (Serve f) before k next y a f.pass.cycle cycle (record (plain step_is) { reply = None; verdict = Open }) refl refl (Serve n) goes_on
+    by_barrier (marks.ShadeStored y a) some = shades c rate s (Serve f) before k next y a f.pass.cycle cycle (record (plain step_is) { reply = None; verdict = Open }) refl refl refl (Serve n) goes_on
     by_barrier (marks.PutOwn y a) some = by_same _ (record { cycle = refl; sweep = refl; cursor = refl; free = refl; colour = λ x. refl }) false None
     by_barrier (marks.Shaded y) some = by_same _ (same_words s.heap) false None
     by_barrier _ some = absurd (some refl)

@@ -69,36 +69,36 @@ exchanged_words h old v = by (eqb (h Phase) old)
 
 module _ (c : Config) (rate : ℕ) (s : Seen c) (g : GateRow) (at : AtPart c s (TurnOver g)) (before : Tally) (k : Counted c rate s (TurnOver g) before) (next : ℕ) where
   -- it is outside, with nothing claimed or reserved, before and after
-  out : (over : Bool) (r : GateRow) → IsSpending c (if_turned over r) s.paid (blocks_of c.width s.command) (before.threads s.thread)
-  out true r = record { inside = k.own.inside ∙ never_inside g; paid = k.own.paid; asked = k.own.asked; low = k.own.low ∙ (no_claim g).0; high = k.own.high ∙ (no_claim g).1; reserved = k.own.reserved }
-  out false r = record { inside = k.own.inside ∙ never_inside g ∙ sym (never_inside r); paid = k.own.paid; asked = k.own.asked; low = k.own.low ∙ (no_claim g).0 ∙ sym (no_claim r).0; high = k.own.high ∙ (no_claim g).1 ∙ sym (no_claim r).1; reserved = k.own.reserved }
+  out : (over : Bool) (r : GateRow) → IsSpending c (if_turned over r) s.balance (blocks_of c.width s.command) (before.threads s.thread)
+  out true r = record { inside = k.own.inside ∙ never_inside g; account = k.own.account; asked = k.own.asked; low = k.own.low ∙ (no_claim g).0; high = k.own.high ∙ (no_claim g).1; reserved = k.own.reserved }
+  out false r = record { inside = k.own.inside ∙ never_inside g ∙ sym (never_inside r); account = k.own.account; asked = k.own.asked; low = k.own.low ∙ (no_claim g).0 ∙ sym (no_claim r).0; high = k.own.high ∙ (no_claim g).1 ∙ sym (no_claim r).1; reserved = k.own.reserved }
 
   module _ (step : Step) (over : Bool) (r : GateRow) where
     abbrev Goes : Heap → Naming → Type 0
     Goes new n = TallyEvent c rate s new (record (plain step) { naming = n }) (if_turned over r) next before
 
     quiet : (new : Heap) → SameWords s.heap new → Goes new Same
-    quiet new same = stays c rate s (TurnOver g) before k new (record (plain step) { naming = Same }) (if_turned over r) next same refl refl (out over r)
+    quiet new same = stays c rate s (TurnOver g) before k new (record (plain step) { naming = Same }) (if_turned over r) next same refl refl refl (out over r)
 
     sets_cursor : before.sweep ≡ false → Goes (put_at s.heap Cursor 1) Same
     sets_cursor mark = moves c rate s (TurnOver g) before k (events.SetCursor ∷ []) (mark, tt) (put_at s.heap Cursor 1) (record (plain step) { naming = Same }) (if_turned over r) next
         (record { cycle = k.of.cycle; sweep = k.of.sweep; cursor = refl; free = k.of.free; colour = k.of.colour; order = told_none c rate s (TurnOver g) before k (record (plain step) { naming = Same }) refl refl })
-        (out over r) (λ u other. refl)
+        (out over r) (λ u other. refl) (λ x. refl) (λ x. refl) refl
 
     flips : (v : ℕ) → before.sweep ≡ false → s.heap Cursor ≡ 1 → cycle_of v ≡ cycle_of (s.heap Phase) → is_sweep v ≡ true → Goes (put_at s.heap Phase v) Lost
     flips v mark first cycle sweep = moves c rate s (TurnOver g) before k (events.Flip ∷ []) ((mark, k.of.cursor ∙ first), tt) (put_at s.heap Phase v) (record (plain step) { naming = Lost }) (if_turned over r) next
         (record { cycle = k.of.cycle ∙ sym cycle; sweep = sym sweep; cursor = k.of.cursor; free = k.of.free; colour = k.of.colour; order = told_none c rate s (TurnOver g) before k (record (plain step) { naming = Lost }) refl refl })
-        (out over r) (λ u other. refl)
+        (out over r) (λ u other. refl) (λ x. refl) (λ x. refl) refl
 
     shades : (u x hand : ℕ) → before.sweep ≡ true → Goes (put_at s.heap (ColourOf x) (grey_word hand)) (Shaded u)
     shades u x hand sweep = moves c rate s (TurnOver g) before k (events.Paint x (grey_word hand) ∷ []) ((λ mark. absurd (let z : true ≡ false = sym sweep ∙ mark in cc)), tt) (put_at s.heap (ColourOf x) (grey_word hand)) (record (plain step) { naming = Shaded u }) (if_turned over r) next
         (record { cycle = k.of.cycle; sweep = k.of.sweep; cursor = k.of.cursor; free = k.of.free; colour = λ y. (λ i. cond (eqb x y) (grey_word hand) (k.of.colour y i)); order = told_none c rate s (TurnOver g) before k (record (plain step) { naming = Shaded u }) refl refl })
-        (out over r) (λ v other. refl)
+        (out over r) (λ v other. refl) (λ x. refl) (λ x. refl) refl
 
     starts : (v : ℕ) → before.sweep ≡ true → s.heap Cursor ≡ c.blocks + 1 → events.IsEmpty c before → FewInUse c before → cycle_of v ≡ cycle_of (s.heap Phase) + 1 → is_sweep v ≡ false → Goes (put_at s.heap Phase v) Begun
     starts v sweep last empty few cycle mark = moves c rate s (TurnOver g) before k (events.Start ∷ []) ((sweep, omega (arith, k.of.cursor, last), empty, few), tt) (put_at s.heap Phase v) (record (plain step) { naming = Begun }) (if_turned over r) next
         (record { cycle = omega (arith, k.of.cycle, cycle); sweep = sym mark; cursor = k.of.cursor; free = k.of.free; colour = k.of.colour; order = ap (λ o. o ++ Started ∷ []) k.of.order })
-        (out over r) (λ u other. refl)
+        (out over r) (λ u other. refl) (λ x. refl) (λ x. refl) refl
 
 -- where nobody is inside the free count is the number of Free blocks, of which few are in use
 module _ (c : Config) (rate : ℕ) (s : Seen c) (p : Pass) (at : AtPart c s (TurnOver (gates.Start p))) (before : Tally) (k : Counted c rate s (TurnOver (gates.Start p)) before) where
@@ -113,7 +113,7 @@ module _ (c : Config) (rate : ℕ) (s : Seen c) (p : Pass) (at : AtPart c s (Tur
     total_none c.threads (λ u. (s.holds u).freed) (λ u ul. ap (λ (w : Holding). w.freed) (nothing u ul)),
   )
 
-  empty : events.IsEmpty c before
+  pub empty : events.IsEmpty c before
   empty u ul = elim (cases_eq s.thread u) [
     | inl e ↦ subst (λ v. (before.threads v).inside ≡ false) e k.own.inside
     | inr ne ↦ k.inside u ul ∙ ap is_inside ((shut c s (gates.Start p) at refl).2 u ul ne)

@@ -1,16 +1,17 @@
 use Rattle.std.proofs.Common.{◌<◌, ◌^◌, subst}
 use Rattle.heap_system.proofs.Always.{run_kept}
+use Rattle.heap_system.proofs.Balanced.{local_reads}
 use Rattle.heap_system.proofs.Bounded.{small}
 use Rattle.heap_system.proofs.LawsOf.{laws_of}
 use Rattle.heap_system.proofs.TalliesOf.{tallies_of}
-use Rattle.heap_system.proofs.Turning.{place, reads, sums}
+use Rattle.heap_system.proofs.Turning.{place, sums}
 use Rattle.heap_system.proofs.laws.events_are_safe.Goals as goal
 
 pub returns-clause-place : goal.returns-clause-place
 returns-clause-place _ c r is t tl = place c is.traces (laws_of c) is.job.bounds.config is.job.plan r (run_kept c is.traces (laws_of c) is.job is.turns r is.by_turns) t tl
 
 pub returns-clause-reads : goal.returns-clause-reads
-returns-clause-reads _ c r is t tl = reads c is.traces (laws_of c) is.job.bounds.config is.job.plan r (run_kept c is.traces (laws_of c) is.job is.turns r is.by_turns) t tl
+returns-clause-reads _ c r is t tl = local_reads c is.traces is.job is.turns r is.by_turns t tl
 
 pub returns-clause-sums : goal.returns-clause-sums
 returns-clause-sums _ c r is t tl = sums c is.traces (laws_of c) is.job.bounds.config is.job.plan r (run_kept c is.traces (laws_of c) is.job is.turns r is.by_turns) t tl

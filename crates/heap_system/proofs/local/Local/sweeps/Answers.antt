@@ -1,6 +1,43 @@
-use Rattle.std.proofs.Common.{arith}
-use Rattle.heap_system.proofs.Paying.{view_of, paid_low}
+use Rattle.std.proofs.Common.{sym, ap, ◌∙◌, subst, arith}
+use Rattle.std.specs.Vec.{vec_capacity}
+use Rattle.sweep_steps.specs.Fits.{SweepFits}
+use Rattle.heap_system.specs.declared.local.Part.TheVariants.{Sweep}
+use Rattle.heap_system.specs.Locals.{HasRoom, local_got}
+use Rattle.heap_system.proofs.UnitMade.{units_few, unit_owed, ties, counted_local, over_local, swept_fits, swept_owes, room_over, swept_got}
 use Rattle.heap_system.proofs.local.Local.sweeps.Goals as goal
 
-pub counted-self-inside-requires : goal.counted-self-inside-requires
-counted-self-inside-requires c = omega (arith, paid_low (view_of c.self.inside) c.self.invariant.0)
+pub count-requires-clause-owed : goal.count-requires-clause-owed
+count-requires-clause-owed c = unit_owed c.self.inside c.self.invariant.0 c.self.invariant.1 c.self.invariant.2 _ _
+    (swept_owes c.self.inside c.self.invariant.0 c.in-Sweep.pass c.got-step.new.self c.in-Sweep.is c.new-places.result c.args.word c.passed-passed.result c.passed.result c.got-step.ensures.state c.passed-passed.ensures c.passed.ensures c.got-step.ensures.fits)
+
+pub count-requires-clause-few : goal.count-requires-clause-few
+count-requires-clause-few c = units_few c.self.inside c.self.invariant.0 c.self.invariant.1 c.self.invariant.2
+
+pub invariant_of-self : goal.invariant_of-self
+invariant_of-self c =
+    let k = c.self.invariant in
+    let both = ties c.self.inside k.0 k.1 k.2 c.count.new.account _ c.count.ensures in
+    let fits = swept_fits c.self.inside k.0 c.in-Sweep.pass c.got-step.new.self c.in-Sweep.is in
+    let owes = swept_owes c.self.inside k.0 c.in-Sweep.pass c.got-step.new.self c.in-Sweep.is c.new-places.result c.args.word c.passed-passed.result c.passed.result c.got-step.ensures.state c.passed-passed.ensures c.passed.ensures c.got-step.ensures.fits in (
+      over_local c.self.inside k.0 k.1 k.2 c.count.new.account _ c.count.ensures c.after_pass.result c.nothing.result c.after_pass.ensures fits.1 fits.2 (omega (arith, owes)),
+      both.0,
+      both.1,
+      k.3,
+      room_over c.after_pass.result c.nothing.result _ _ _ c.after_pass.ensures (subst (λ p. HasRoom p c.self.inside.space c.self.inside.room.items (vec_capacity c.self.inside.room)) c.in-Sweep.is k.4),
+    )
+
+pub invariant_of-self-else-is_last : goal.invariant_of-self-else-is_last
+invariant_of-self-else-is_last c =
+    let k = c.self.invariant in
+    let both = ties c.self.inside k.0 k.1 k.2 c.count.new.account _ c.count.ensures in
+    let fits = swept_fits c.self.inside k.0 c.in-Sweep.pass c.got-step.new.self c.in-Sweep.is in
+    let owes = swept_owes c.self.inside k.0 c.in-Sweep.pass c.got-step.new.self c.in-Sweep.is c.new-places.result c.args.word c.passed-passed.result c.passed.result c.got-step.ensures.state c.passed-passed.ensures c.passed.ensures c.got-step.ensures.fits in (
+      counted_local c.self.inside k.0 k.1 k.2 c.count.new.account _ c.count.ensures (Sweep c.got-step.new.self) (subst (λ x. SweepFits x c.got-step.new.self) c.new-places.ensures c.got-step.ensures.fits, fits.1, fits.2) owes tt tt,
+      both.0,
+      both.1,
+      k.3,
+      subst (λ p. HasRoom p c.self.inside.space c.self.inside.room.items (vec_capacity c.self.inside.room)) c.in-Sweep.is k.4,
+    )
+
+pub returns-else-is_last-clause-local : goal.returns-else-is_last-clause-local
+returns-else-is_last-clause-local c = swept_got c.self.inside c.in-Sweep.pass c.got-step.new.self c.args.word c.count.new.account c.passed-passed.result c.passed.result c.got-step.result c.in-Sweep.is c.got-step.ensures.state (sym c.is_last.ensures ∙ c.if-is_last.false) c.got-step.ensures.step c.passed-passed.ensures c.passed.ensures c.count.ensures ∙ ap (λ l. local_got l c.args.word) c.self.view_is

@@ -1,0 +1,172 @@
+-- What the code of a pass that pays meets: a unit that it makes is owed, and counts once.
+use Rattle.std.proofs.Common.{◌≡◌, ℕ, ◌+◌, ◌-◌, ◌*◌, ◌<◌, ◌≤◌, ◌^◌, Bool, true, false, not, ◌&&◌, ◌||◌, cond, ltb, None, List, [], length, append-nil, is_some, refl, sym, ap, ◌∙◌, subst, arith}
+use Rattle.block_store.specs.declared.Config.{Config}
+use Rattle.block_store.specs.Phases.{bit}
+use Rattle.block_store.specs.Places.{Extent}
+use Rattle.heap_machine.specs.declared.Step.{Step}
+use Rattle.grey_steps.specs.Ends.{is_blackening}
+use Rattle.grey_steps.specs.Rows.{GreyState, grey_got, grey_unit}
+use Rattle.grey_steps.proofs.Ends.{unit_after}
+use Rattle.sweep_steps.specs.Ends.{row_passes}
+use Rattle.sweep_steps.specs.Fits.{SweepFits}
+use Rattle.sweep_steps.specs.Rows.{SweepState, sweep_got, sweep_passed, sweep_over, sweep_nothing, sweep_step}
+use Rattle.sweep_steps.proofs.Passing.{passed_bits, passed_few}
+use Rattle.work_account.specs.Accounts.{AccountState}
+use Rattle.heap_system.specs.declared.local.Local.TheInside.{Inside}
+use Rattle.heap_system.specs.declared.local.Part.{Part}
+use Rattle.heap_system.specs.declared.local.Part.TheVariants.{Sweep, Again, Idle}
+use Rattle.heap_system.specs.Locals.{IsLocal, PartFits, IsRoomy, IsPaid, IsPassAt, HasRoom, balance_paid, owed, unit_to_come, works, is_last, local_got}
+use Rattle.heap_system.proofs.Balances.{paid_after, units_on, sound_on}
+use Rattle.heap_system.proofs.Paying.{view_of, owed_low, paid_low, worked_low, passed_more, swept_last}
+use Rattle.heap_system.proofs.parts.InPass.{paid_more}
+
+-- a Mark pass makes one unit at most
+mark_sum : (a black : Bool) (paid due : ℕ) → paid + bit (not a) ≤ due
+    → paid + bit ((a || black) && not a) + bit (not (a || black)) ≤ due
+mark_sum true black paid due low = omega (arith, low)
+mark_sum false true paid due low = omega (arith, low)
+mark_sum false false paid due low = omega (arith, low)
+
+pub mark_owes : (e : Extent) (m n : GreyState) (w : ℕ) (before now unit : Bool)
+    → n ≡ grey_got e m w → before ≡ grey_unit m.row → now ≡ grey_unit n.row
+    → unit ≡ (now && not before) → (paid due : ℕ) → paid + bit (not (grey_unit m.row)) ≤ due
+    → paid + bit unit + bit (not (grey_unit n.row)) ≤ due
+mark_owes e m n w before now unit got was is new paid due low =
+    let after : grey_unit n.row ≡ (grey_unit m.row || is_blackening m.row) =
+    ap (λ (x : GreyState). grey_unit x.row) got ∙ unit_after e m w in
+    let made : unit ≡ ((grey_unit m.row || is_blackening m.row) && not (grey_unit m.row)) =
+    new ∙ (λ i. (is ∙ after) i && not (was i)) in
+    subst (λ u. paid + bit u + bit (not (grey_unit n.row)) ≤ due) (sym made)
+    (subst (λ u. paid + bit ((grey_unit m.row || is_blackening m.row) && not (grey_unit m.row))
+    + bit (not u) ≤ due) (sym after)
+    (mark_sum (grey_unit m.row) (is_blackening m.row) paid due low))
+
+-- and a Sweep pass as many as are owed
+pub sweep_owes : (s n : SweepState) (w before now : ℕ) (unit : Bool) → n ≡ sweep_got s w
+    → before ≡ sweep_passed s.row → now ≡ sweep_passed n.row → unit ≡ ltb before now
+    → sweep_passed n.row ≤ s.owed → (paid due : ℕ) → paid + (s.owed - sweep_passed s.row) ≤ due
+    → paid + bit unit + (s.owed - sweep_passed n.row) ≤ due
+sweep_owes s n w before now unit got was is new few paid due low =
+    let u : unit ≡ is_some (row_passes s.cycle s.row w) =
+    new ∙ (λ i. ltb (was i) ((is ∙ ap (λ (x : SweepState). sweep_passed x.row) got) i))
+    ∙ passed_more s w in
+    let more : sweep_passed n.row ≡ sweep_passed s.row + bit (is_some (row_passes s.cycle s.row w)) =
+    ap (λ (x : SweepState). sweep_passed x.row) got ∙ passed_bits s w in
+    let one : bit unit ≡ bit (is_some (row_passes s.cycle s.row w)) = ap bit u in
+    omega (arith, more, one, few, low)
+
+module _ (i : Inside) (k : IsLocal (view_of i)) (rate : i.account.rate ≡ i.rate)
+    (object : i.account.object ≡ i.config.object) where
+  pub units_few : i.account.balance.units < 2 ^ 50
+  units_few = omega (arith, k.units, worked_low (view_of i) k, paid_low (view_of i) k)
+
+  pub unit_owed : (unit : Bool) (more : ℕ)
+      → i.account.balance.paid + bit unit + more ≤ owed (view_of i) → unit ≡ true
+      → i.account.balance.paid < i.account.rate * i.account.object
+  unit_owed unit more low e =
+      let price : i.account.rate * i.account.object ≡ i.rate * i.config.object =
+      λ j. rate j * object j in
+      let one : bit unit ≡ 1 = ap bit e in
+      omega (arith, price, one, low, owed_low (view_of i) k)
+
+  module _ (n : AccountState) (unit : Bool)
+      (counts : n ≡ record i.account { balance = balance_paid None unit 0 i.account.balance }) where
+    pub ties : (n.rate ≡ i.rate) × (n.object ≡ i.config.object)
+    ties = (
+      ap (λ (a : AccountState). a.rate) counts ∙ rate,
+      ap (λ (a : AccountState). a.object) counts ∙ object,
+    )
+
+    -- the thread that has counted it, in its next part
+    pub counted_local : (part : Part)
+        → PartFits i.config (length i.log.items) (length i.trace.items) i.pass part
+        → i.account.balance.paid + bit unit + unit_to_come i.config part ≤ owed (view_of i)
+        → IsPaid (owed (view_of i)) n.balance.paid part → IsRoomy i.space part
+        → IsLocal (record (view_of i) { balance = n.balance; part = part })
+    counted_local part fits pays all roomy =
+        let is : n.balance ≡ balance_paid None unit 0 i.account.balance =
+        ap (λ (a : AccountState). a.balance) counts in
+        let paid : (balance_paid None unit 0 i.account.balance).paid ≡ i.account.balance.paid + bit unit =
+        paid_after None unit 0 i.account.balance ∙ paid_more unit i.account.balance.paid in
+        subst (λ b. IsPaid (owed (view_of i)) b.paid part
+        → IsLocal (record (view_of i) { balance = b; part = part })) (sym is)
+        (λ settled. record {
+          bounds = k.bounds;
+          plan = k.plan;
+          rate = k.rate;
+          thread = k.thread;
+          trace = k.trace;
+          log = k.log;
+          part = fits;
+          paid = omega (arith, paid, pays);
+          settled = settled;
+          sound = sound_on i.rate i.config.object unit 0 i.account.balance
+              (omega (arith, paid, pays, owed_low (view_of i) k)) k.sound;
+          units = units_on unit 0 (works i.log.items) i.account.balance k.units;
+          worked = k.worked;
+          made = k.made;
+          space = k.space;
+          roomy = roomy;
+        }) all
+
+    -- on its way out
+    pub over_local : (part : Part) (none : Bool) → part ≡ cond none Idle Again
+        → length i.log.items < length i.trace.items → IsPassAt i.config i.pass
+        → i.account.balance.paid + bit unit ≤ owed (view_of i)
+        → IsLocal (record (view_of i) { balance = n.balance; part = part })
+    over_local part none is low pass pays =
+        subst (λ p. IsLocal (record (view_of i) { balance = n.balance; part = p })) (sym is) (by none)
+      where
+        by : (b : Bool)
+            → IsLocal (record (view_of i) { balance = n.balance; part = cond b Idle Again })
+        by true = counted_local Idle (low, pass) (omega (arith, pays)) tt tt
+        by false = counted_local Again low (omega (arith, pays)) tt tt
+
+-- the event of a sweep: what its thread was, and the units owed behind it
+module _ (i : Inside) (k : IsLocal (view_of i)) (s n : SweepState) (at : i.part ≡ Sweep s) where
+  pub swept_fits : PartFits i.config (length i.log.items) (length i.trace.items) i.pass (Sweep s)
+  swept_fits = subst (λ p. PartFits i.config (length i.log.items) (length i.trace.items) i.pass p) at k.part
+
+  pub swept_owes : (x : Config) (w before now : ℕ) → n ≡ sweep_got s w → before ≡ sweep_passed s.row
+      → now ≡ sweep_passed n.row → SweepFits x n
+      → i.account.balance.paid + bit (ltb before now) + (n.owed - sweep_passed n.row) ≤ owed (view_of i)
+  swept_owes x w before now got was is fits =
+      let same : n.owed ≡ s.owed = ap (λ (y : SweepState). y.owed) got in
+      omega (
+        arith,
+        same,
+        sweep_owes s n w before now (ltb before now) got was is refl
+            (omega (arith, same, (passed_few x n fits).1)) i.account.balance.paid (owed (view_of i))
+            (subst (λ p. i.account.balance.paid + unit_to_come i.config p ≤ owed (view_of i)) at k.paid),
+      )
+
+-- the room of a thread whose pass is over
+pub room_over : (part : Part) (none : Bool) (space capacity : ℕ) (held : List ℕ)
+    → part ≡ cond none Idle Again → (held ≡ []) × (capacity ≡ space)
+    → HasRoom part space held capacity
+room_over part none space capacity held is room =
+    subst (λ p. HasRoom p space held capacity) (sym is) (by none)
+  where
+    by : (b : Bool) → HasRoom (cond b Idle Again) space held capacity
+    by true = room
+    by false = room
+
+-- a Sweep pass that is not over
+pub swept_got : (i : Inside) (s n : SweepState) (w : ℕ) (a : AccountState) (before now : ℕ) (step : Step)
+    → i.part ≡ Sweep s → n ≡ sweep_got s w → is_last step ≡ false → step ≡ sweep_step s w
+    → before ≡ sweep_passed s.row → now ≡ sweep_passed n.row
+    → a ≡ record i.account { balance = balance_paid None (ltb before now) 0 i.account.balance }
+    → record (view_of i) { balance = a.balance; part = Sweep n } ≡ local_got (view_of i) w
+swept_got i s n w a before now step at got on stepped was is counts =
+    let unit : ltb before now ≡ is_some (row_passes s.cycle s.row w) =
+    (λ j. ltb (was j) ((is ∙ ap (λ (x : SweepState). sweep_passed x.row) got) j)) ∙ passed_more s w in
+    let goes : sweep_over (sweep_got s w).row ≡ false =
+    sym (swept_last s w) ∙ sym (ap is_last stepped) ∙ on in
+    (λ j. record (view_of i) { balance = (counts j).balance; part = Sweep (got j) })
+    ∙ (λ j. record (view_of i) {
+      log = sym (append-nil i.log.items) j;
+      balance = balance_paid None (unit j) 0 i.account.balance;
+      part = cond (sym goes j) (cond (sweep_nothing (sweep_got s w).row) Idle Again)
+          (Sweep (sweep_got s w));
+    })
+    ∙ sym (ap (λ p. local_got (record (view_of i) { part = p }) w) at)

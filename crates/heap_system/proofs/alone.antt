@@ -1,0 +1,15 @@
+pub mod FieldsLeft
+pub mod Low
+pub mod Standing
+pub mod Serving
+pub mod NeverDry
+pub mod Building
+pub mod Sweeping
+pub mod Heads
+pub mod Gate
+pub mod Changing
+pub mod Marking
+pub mod Laws
+pub mod Runs
+pub mod Changes
+pub mod Serials

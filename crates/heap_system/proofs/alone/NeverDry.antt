@@ -1,0 +1,109 @@
+-- A thread that builds, while every other thread holds nothing, finds a Free block in some list.
+use Rattle.std.proofs.Common.{mod-eq_of_lt, ◌≡◌, ℕ, zero, suc, ◌+◌, ◌-◌, ◌*◌, ◌<◌, ◌≤◌, ◌&&◌, true, eqb, eq-eqb, ne_eqb, List, [], ◌∷◌, length, refl, sym, ap, ◌∙◌, subst, arith, inl, inr}
+use Rattle.std.proofs.lemmas.Bool.{cases_eq, cases_lt}
+use Rattle.std.proofs.lemmas.Nat.{mod-mul-add}
+use Rattle.block_store.specs.Colours.{is_free, link}
+use Rattle.block_store.specs.Counts.{times, total}
+use Rattle.block_store.specs.Heaps.{Heap}
+use Rattle.block_store.specs.Phases.{bit}
+use Rattle.block_store.specs.Places.{Extent, FreeList, ColourOf, is_block}
+use Rattle.block_store.proofs.Functions.{total_none, total_part, total_same}
+use Rattle.heap_machine.specs.Chains.{Chain}
+use Rattle.heap_machine.specs.FreeBlocks.{FreeHolding, no_free, count_free, FreeKept}
+use Rattle.heap_machine.proofs.Chaining.{Chain-zero}
+use Rattle.heap_machine.proofs.FreeBlocks.{block_is}
+use Rattle.build_steps.specs.Rows.{list_of}
+
+total_add : (m : ℕ) (f g : ℕ → ℕ) → total m (λ x. f x + g x) ≡ total m f + total m g
+total_add zero f g = refl
+total_add (suc m) f g = omega (arith, total_add m f g)
+
+total_above : (m y : ℕ) → m < y → total m (λ x. bit (eqb (suc x) y)) ≡ 0
+total_above m y low = total_none m (λ x. bit (eqb (suc x) y)) (λ x xl. ap bit (ne_eqb (suc x) y (λ e. omega (arith, e, xl, low))))
+
+total_point : (m y : ℕ) → total m (λ x. bit (eqb (suc x) y)) ≤ 1
+total_point zero y = omega arith
+total_point (suc m) y = elim (cases_eq (suc m) y) [
+  | inl e ↦ (let none = total_above m y (omega (arith, e)) in rw (eq-eqb (suc m) y e) (omega (arith, none)))
+  | inr ne ↦ (let below = total_point m y in rw (ne_eqb (suc m) y ne) (omega (arith, below)))
+]
+
+-- the numbers from 1 to m stand in a list at most as often as it is long
+total_times : (m : ℕ) (xs : List ℕ) → total m (λ x. times (suc x) xs) ≤ length xs
+total_times m [] = omega (arith, total_none m (λ x. 0) (λ x xl. refl))
+total_times m (y ∷ ys) = omega (arith, total_add m (λ x. bit (eqb (suc x) y)) (λ x. times (suc x) ys), total_point m y, total_times m ys)
+
+-- a sum of which one part is left
+total_one : (n : ℕ) (f : ℕ → ℕ) (t : ℕ) → t < n → ((u : ℕ) → u < n → (t ≡ u → ⊥) → f u ≡ 0) → total n f ≡ f t
+total_one zero f t tl none = absurd (omega arith)
+total_one (suc n) f t tl none = elim (cases_eq t n) [
+  | inl e ↦
+      let below : total n f ≡ 0 = total_none n f (λ u ul. none u (omega arith) (λ q. omega (arith, q, e, ul))) in
+      let same : f t ≡ f n = ap f e in omega arith
+  | inr ne ↦
+      let below = total_one n f t (omega arith) (λ u ul. none u (omega arith)) in
+      let here : f n ≡ 0 = none n (omega arith) ne in omega arith
+]
+
+-- each list is one of those that are taken
+each_list : (t n v : ℕ) → t < n → v < n → (u : ℕ) × (u < n) × (list_of t n u ≡ v)
+unfolding list_of
+each_list t n v low vlow = elim (cases_lt v t) [
+  | inl below ↦
+      let sum : t + (v + n - t) ≡ 1 * n + v = omega arith in
+      (v + n - t, omega arith, rw sum (mod-mul-add 1 n v vlow))
+  | inr above ↦
+      let sum : t + (v - t) ≡ v = omega arith in
+      (v - t, omega arith, rw sum (mod-eq_of_lt vlow))
+]
+
+pub all_lists : (h : Heap) (t n : ℕ) → t < n → ((u : ℕ) → u < n → h (FreeList (list_of t n u)) ≡ 0) → (v : ℕ) → v < n → h (FreeList v) ≡ 0
+all_lists h t n low none v vlow = (let u = each_list t n v low vlow in subst (λ l. h (FreeList l) ≡ 0) u.2 (none u.0 u.1))
+
+-- a list of one block
+pub chain_of_one : (c : ℕ → ℕ) (a : ℕ) (xs : List ℕ) → Chain c a xs → link (c a) ≡ 0 → length xs ≤ 1
+chain_of_one c a [] chain last = omega arith
+chain_of_one c a (x ∷ xs) chain last =
+    let rest : Chain c 0 xs = subst (λ v. Chain c v xs) (ap (λ v. link (c v)) (sym chain.0) ∙ last) chain.2 in
+    let none : length xs ≡ 0 = ap length (Chain-zero c xs rest) in
+    omega (arith, none)
+
+pub chain_of_none : (c : ℕ → ℕ) (a : ℕ) (xs : List ℕ) → Chain c a xs → a ≡ 0 → length xs ≡ 0
+chain_of_none c a xs chain none = ap length (Chain-zero c xs (subst (λ v. Chain c v xs) none chain))
+
+module _ (e : Extent) (h : Heap) (fs : ℕ → FreeHolding) (k : FreeKept e h fs) (t : ℕ) (tl : t < e.threads)
+    (others : (u : ℕ) → u < e.threads → (t ≡ u → ⊥) → fs u ≡ no_free)
+    (dry : (u : ℕ) → u < e.threads → h (FreeList u) ≡ 0) where
+  abbrev colour : ℕ → ℕ
+  colour x = h (ColourOf x)
+
+  in_lists : (x : ℕ) → total e.threads (λ u. times x (k.lists u)) ≡ 0
+  in_lists x = total_none e.threads (λ u. times x (k.lists u))
+      (λ u ul. ap (times x) (Chain-zero colour (k.lists u) (subst (λ v. Chain colour v (k.lists u)) (dry u ul) (k.list_chain u ul))))
+
+  in_hands : (x : ℕ) → total e.threads (λ u. times x (k.hands u)) ≡ times x (k.hands t)
+  in_hands x = total_one e.threads (λ u. times x (k.hands u)) t tl
+      (λ u ul ne. ap (times x) (Chain-zero colour (k.hands u) (subst (λ v. Chain colour v (k.hands u)) (ap (λ (w : FreeHolding). w.hand) (others u ul ne)) (k.hand_chain u ul))))
+
+  are_held : (x : ℕ) → total e.threads (λ u. times x (fs u).held) ≡ times x (fs t).held
+  are_held x = total_one e.threads (λ u. times x (fs u).held) t tl (λ u ul ne. ap (λ (w : FreeHolding). times x w.held) (others u ul ne))
+
+  free_here : (x : ℕ) → x < e.blocks → bit (is_free (colour (suc x))) ≡ times (suc x) (k.hands t) + times (suc x) (fs t).held
+  free_here x xl =
+      let block : is_block e (suc x) ≡ true = block_is e (suc x) (omega arith) (omega arith) in
+      let free : bit (is_block e (suc x) && is_free (colour (suc x))) ≡ bit (is_free (colour (suc x))) = ap (λ b. bit (b && is_free (colour (suc x)))) block in
+      omega (arith, k.once (suc x), in_lists (suc x), in_hands (suc x), are_held (suc x), free)
+
+  -- so there are no more Free blocks than it has in hand and holds
+  all_here : count_free e colour ≤ length (k.hands t) + length (fs t).held
+  all_here = omega (
+    arith,
+    total_same e.blocks (λ x. bit (is_free (colour (suc x)))) (λ x. times (suc x) (k.hands t) + times (suc x) (fs t).held) free_here,
+    total_add e.blocks (λ x. times (suc x) (k.hands t)) (λ x. times (suc x) (fs t).held),
+    total_times e.blocks (k.hands t),
+    total_times e.blocks (fs t).held,
+  )
+
+  -- and fewer than it has reserved there are not
+  pub never_dry : length (k.hands t) + length (fs t).held < (fs t).reserved → ⊥
+  never_dry few = omega (arith, few, all_here, k.credit, total_part e.threads (λ u. (fs u).reserved) t tl)

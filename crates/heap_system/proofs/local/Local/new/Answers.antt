@@ -1,0 +1,6 @@
+use Rattle.std.proofs.Common.{arith}
+use Rattle.heap_system.proofs.Paying.{rate_low}
+use Rattle.heap_system.proofs.local.Local.new.Goals as goal
+
+pub new-requires-clause-rate : goal.new-requires-clause-rate
+new-requires-clause-rate c = (omega (arith, (c.in-Ok.ensures.1).some), rate_low c.args.c.now c.in-Ok.rate c.requires.bounds c.requires.plan c.in-Ok.ensures.1)

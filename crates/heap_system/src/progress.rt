@@ -1,0 +1,28 @@
+//! How many turns a command takes where one thread alone has them, for the proofs above: each law
+//! is the contract of a function that does nothing.
+
+ghost use Rattle.std.specs.Prelude.{ℕ, ◌<◌, ◌≡◌, true};
+ghost use Rattle.block_store.specs.declared.Config.{Config};
+ghost use Rattle.rate_plan.specs.Rates.{IsRate};
+ghost use Rattle.heap_system.specs.Alone.{IsQuiet, HasCommand, EndsWithin, command_bound, ChangesPhase, UnitBetween};
+ghost use Rattle.heap_system.specs.Locals.{command_of, is_rest};
+ghost use Rattle.heap_system.specs.Machines.{Run, IsAfterTurns, local_in};
+
+/// Where nobody is inside and the gate is open, a thread at rest with a command left that alone has
+/// turns does the command in a bounded number of them, of which none waits: an allocation of k
+/// blocks on n threads at rate P in (P k + 1)(8 n + 64) + 16 k + 8 n + 64, and any other command
+/// in b + 64, where b is the blocks of the largest object. Then it is at rest with one entry more,
+/// nobody is inside, and the gate is open.
+pub fn a_lone_thread_ends_its_command()
+    ensures { (c : Config) (r : Run) (t rate : ℕ) → IsAfterTurns c r → IsRate c rate
+        → IsQuiet c r → t < c.threads → HasCommand (local_in c r t)
+        → EndsWithin c t r (command_bound c rate (command_of (local_in c r t))) }
+{}
+
+/// Between two changes of the phase that a lone thread makes there is a unit: it does not turn the
+/// phase over twice for one.
+pub fn units_part_the_changes_of_a_lone_thread()
+    ensures { (c : Config) (r : Run) (t i j : ℕ) → IsAfterTurns c r → IsQuiet c r
+        → t < c.threads → is_rest (local_in c r t).part ≡ true
+        → i < j → ChangesPhase c t r i → ChangesPhase c t r j → UnitBetween c t r i j }
+{}

@@ -1,0 +1,45 @@
+//! A lone thread's bound, over its rows alone: while one thread has turns and no other, each of
+//! its turns brings its command nearer to its end.
+#![tactic(auto)]
+
+ghost use Rattle.std.specs.Prelude.{ℕ, Bool, true, false, suc, ◌+◌, ◌*◌, ◌<◌, ◌≤◌, ◌≡◌, ◌⊎◌};
+ghost use Rattle.lone_bound.specs.Moves.{Lone, Terms, Moves, Fresh, changes_phase};
+ghost use Rattle.lone_bound.specs.Prices.{left, at_look, unit_cost, allocation_bound, other_bound};
+
+/// Each move lowers what is left of the command, on blocks of two payload words or more and at any
+/// price of a unit that is at least its cost.
+pub fn moves_lower()
+    ensures { (e : Terms) (unit : ℕ) → 2 ≤ e.payloads → unit_cost e.threads e.payloads ≤ unit
+        → (s z : Lone) → Moves e s.spot s z → left e unit z < left e unit s }
+{}
+
+/// What is left at the look is within the bounds, on blocks of two to eight payload words: of an
+/// allocation that owes its units, by the bound (`allocation`) and exactly (`exact`); of a command
+/// that allocates nothing (`other`); and of one that owes units and has one event (`one_event`).
+pub fn bounds_hold()
+    ensures allocation { (e : Terms) (rate : ℕ) (sweep ready : Bool)
+        → 2 ≤ e.payloads → e.payloads ≤ 8 → e.allocates ≡ true
+        → at_look e (8 * e.threads + 64) (rate * e.blocks) sweep ready
+        ≤ allocation_bound e.threads e.blocks rate }
+    ensures exact { (e : Terms) (r : ℕ) (sweep ready : Bool)
+        → 2 ≤ e.payloads → e.allocates ≡ true
+        → at_look e (unit_cost e.threads e.payloads) r sweep ready
+        ≤ r * unit_cost e.threads e.payloads + ((e.payloads + 4) * e.blocks + e.threads + 7) }
+    ensures other { (e : Terms) (unit b : ℕ) (sweep ready : Bool)
+        → e.allocates ≡ false → e.most ≤ b + 61
+        → at_look e unit 0 sweep ready ≤ other_bound b }
+    ensures one_event { (e : Terms) (r : ℕ) (sweep ready : Bool)
+        → 2 ≤ e.payloads → e.payloads ≤ 8 → e.allocates ≡ false → e.most ≡ 1
+        → at_look e (8 * e.threads + 64) r sweep ready ≤ (r + 1) * (8 * e.threads + 64) }
+{}
+
+/// At most one change of phase comes between two units: a change leads to a state before a unit
+/// (`change`); each move from such a state makes the unit, or leads to such a state again
+/// (`goes_on`); and none of them is a change (`none`).
+pub fn one_change()
+    ensures change { (e : Terms) (s z : Lone)
+        → changes_phase s.spot ≡ true → Moves e s.spot s z → Fresh z.spot z }
+    ensures goes_on { (e : Terms) (s z : Lone) → Moves e s.spot s z → Fresh s.spot s
+        → Fresh z.spot z × (z.owed ≡ s.owed) ⊎ (suc z.owed ≡ s.owed) }
+    ensures none { (s : Lone) → Fresh s.spot s → changes_phase s.spot ≡ false }
+{}

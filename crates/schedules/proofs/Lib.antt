@@ -1,0 +1,5 @@
+pub mod Stopping
+pub mod Agreeing
+pub mod LeftTurns
+pub mod Runs
+pub mod Ending

@@ -1,0 +1,54 @@
+-- A system after the turns of a schedule has the state of a run by these turns; and a serial replay goes
+-- on where it stopped.
+use Rattle.std.proofs.Common.{◌≡◌, ℕ, zero, suc, ◌+◌, Option, Some, None, List, [], ◌∷◌, refl, sym, ap, ◌∙◌, arith}
+use Rattle.block_store.specs.declared.Config.{Config}
+use Rattle.never_heap.specs.declared.Command.{Command}
+use Rattle.heap_system.specs.Machines.{State, Run, turned, next, opened, after_turns, IsOpening}
+use Rattle.heap_system.specs.Systems.{Whole}
+use Rattle.schedules.specs.declared.Schedule.{Schedule}
+use Rattle.schedules.specs.declared.Schedule.TheVariants.{Serial}
+use Rattle.schedules.specs.Schedules.{least_undone, turns_on, turns_from, turns_of}
+use Rattle.schedules.specs.Replays.{IsReplayed, system_after}
+use Rattle.schedules.proofs.Agreeing.{turns_on_same}
+
+pub after_run : (c : Config) (r : Run) (ts : List ℕ) → system_after (record { config = c; state = r.state }) ts ≡ record { config = c; state = (after_turns c r ts).state }
+after_run c r [] = refl
+after_run c r (t ∷ ts) = after_run c (next c t r) ts
+
+-- ---- serial replays
+
+-- the number of the turn does not matter
+any_turn : (c : Config) (j k : ℕ) (s : State) (n : ℕ) → turns_from Serial c j s n ≡ turns_from Serial c k s n
+any_turn c j k s zero = refl
+any_turn c j k s (suc n) = turns_on_same (least_undone s) _ _ (λ t. any_turn c (j + 1) (k + 1) (turned c t s) n)
+
+-- none where all are done
+no_turn : (c : Config) (k : ℕ) (r : Run) (n : ℕ) → least_undone r.state ≡ None → r ≡ after_turns c r (turns_from Serial c k r.state n)
+no_turn c k r zero none = refl
+no_turn c k r (suc n) none = ap (λ o. after_turns c r (turns_on o (λ t. turns_from Serial c (k + 1) (turned c t r.state) n))) (sym none)
+
+-- a run and b turns more
+abbrev with_more : Config → ℕ → ℕ → Run → Run
+with_more c k b r = after_turns c r (turns_from Serial c k r.state b)
+
+split_on : (c : Config) (j k : ℕ) (r : Run) (a b : ℕ) (o : Option ℕ) → least_undone r.state ≡ o
+    → ((t : ℕ) → after_turns c (next c t r) (turns_from Serial c (j + 1) (turned c t r.state) (a + b)) ≡ with_more c k b (after_turns c (next c t r) (turns_from Serial c (j + 1) (turned c t r.state) a)))
+    → after_turns c r (turns_on o (λ t. turns_from Serial c (j + 1) (turned c t r.state) (a + b))) ≡ with_more c k b (after_turns c r (turns_on o (λ t. turns_from Serial c (j + 1) (turned c t r.state) a)))
+split_on c j k r a b None none each = no_turn c k r b none
+split_on c j k r a b (Some t) some each = each t
+
+pub split : (c : Config) (j k : ℕ) (r : Run) (a b : ℕ) → after_turns c r (turns_from Serial c j r.state (a + b)) ≡ with_more c k b (after_turns c r (turns_from Serial c j r.state a))
+split c j k r zero b =
+    let e : 0 + b ≡ b = omega arith in
+    ap (λ n. after_turns c r (turns_from Serial c j r.state n)) e ∙ ap (after_turns c r) (any_turn c j k r.state b)
+split c j k r (suc a) b =
+    let e : suc a + b ≡ suc (a + b) = omega arith in
+    ap (λ n. after_turns c r (turns_from Serial c j r.state n)) e
+    ∙ split_on c j k r a b (least_undone r.state) refl (λ t. split c (j + 1) k (next c t r) a b)
+
+pub goes_on : (c : Config) (traces : List (List Command)) (a b : ℕ) (r : Run) → IsReplayed c traces Serial a r → IsReplayed c traces Serial (a + b) (after_turns c r (turns_of Serial c r.state b))
+goes_on c traces a b r is = record {
+  first = is.first;
+  opening = is.opening;
+  replayed = ap (λ (q : Run). after_turns c q (turns_of Serial c q.state b)) is.replayed ∙ sym (split c 0 0 (opened c is.first) a b);
+}

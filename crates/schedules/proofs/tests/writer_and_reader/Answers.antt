@@ -1,0 +1,21 @@
+use Rattle.std.proofs.Common.{map, sym, subst, ap, ◌∙◌, arith, List, [], ◌∷◌, Vec, Global}
+use Rattle.block_store.specs.declared.Width.TheVariants.{Four}
+use Rattle.never_heap.specs.declared.Command.{Command}
+use Rattle.never_heap.specs.declared.Command.TheVariants.{Set, Put, Get}
+use Rattle.never_heap.specs.Jobs.{IsTraceInBounds}
+use Rattle.heap_system.specs.Machines.{IsJob}
+use Rattle.heap_system.proofs.Jobs.{config, two, both}
+use Rattle.schedules.proofs.tests.writer_and_reader.Goals as goal
+
+writes_fit : IsTraceInBounds (config Four) (Set 1 7 ∷ Put 0 2 1 ∷ [])
+writes_fit = two Four (Set 1 7) (Put 0 2 1) (omega arith, omega arith) (omega arith, omega arith, omega arith)
+
+reads_fit : IsTraceInBounds (config Four) (Get 2 0 2 ∷ Get 2 0 2 ∷ [])
+reads_fit = two Four (Get 2 0 2) (Get 2 0 2) (omega arith, omega arith, omega arith) (omega arith, omega arith, omega arith)
+
+pub new-requires : goal.new-requires
+new-requires c =
+    subst (λ xs. IsJob (config Four) (map (λ (v : Vec Command Global). v.items) xs)) (sym c.in_ok-vec.ensures.items)
+    (both Four c.in_ok-writes.writes.items c.in_ok-reads.reads.items
+      (subst (IsTraceInBounds (config Four)) (sym c.in_ok-writes.ensures.items) writes_fit)
+      (subst (IsTraceInBounds (config Four)) (sym c.in_ok-reads.ensures.items) reads_fit))

@@ -1,0 +1,73 @@
+//! What is so of every replay, for the proofs above: each law is the contract of a function that
+//! does nothing.
+
+ghost use Rattle.std.specs.Prelude.{◌≡◌, ◌+◌, ◌≤◌, ℕ, List};
+ghost use Rattle.block_store.specs.declared.Config.{Config};
+ghost use Rattle.rate_plan.specs.Rates.{IsRate};
+ghost use Rattle.never_heap.specs.declared.Command.{Command};
+ghost use Rattle.heap_system.specs.Locals.{is_done};
+ghost use Rattle.heap_system.specs.Machines.{Run, local_in, after_turns, IsJob, IsOpening};
+ghost use Rattle.heap_system.specs.Serials.{job_bound};
+ghost use Rattle.heap_system.specs.Systems.{Whole, logs_of, AllDone};
+ghost use Rattle.schedules.specs.declared.Schedule.TheVariants as Schedule;
+ghost use Rattle.schedules.specs.Schedules.{turns_of};
+ghost use Rattle.schedules.specs.Replays.{IsReplayed, system_after};
+
+use crate::Schedule;
+
+/// A job, a schedule and a number of turns tell the run: its order, its words, the logs, and which
+/// threads are done.
+pub fn replays_have_one_order()
+    ensures order { (c : Config) (traces : List (List Command)) (schedule : Schedule) (turns : ℕ)
+        (r q : Run) → IsReplayed c traces schedule turns r → IsReplayed c traces schedule turns q
+        → r.order ≡ q.order }
+    ensures words { (c : Config) (traces : List (List Command)) (schedule : Schedule) (turns : ℕ)
+        (r q : Run) → IsReplayed c traces schedule turns r → IsReplayed c traces schedule turns q
+        → r.state.words ≡ q.state.words }
+    ensures logs { (c : Config) (traces : List (List Command)) (schedule : Schedule) (turns : ℕ)
+        (r q : Run) → IsReplayed c traces schedule turns r → IsReplayed c traces schedule turns q
+        → logs_of r.state ≡ logs_of q.state }
+    ensures done { (c : Config) (traces : List (List Command)) (schedule : Schedule) (turns : ℕ)
+        (r q : Run) → IsReplayed c traces schedule turns r → IsReplayed c traces schedule turns q
+        → (t : ℕ) → is_done (local_in c r t) ≡ is_done (local_in c q t) }
+{}
+
+/// A system that starts as a job opens has, after the turns of a schedule, the state of a replay of
+/// that job.
+pub fn replays_are_runs()
+    ensures { (w : Whole) (traces : List (List Command)) (schedule : Schedule) (turns : ℕ)
+        → IsOpening w.config traces w.state
+        → (r : Run) × IsReplayed w.config traces schedule turns r
+        × ((system_after w (turns_of schedule w.config w.state turns)).config ≡ w.config)
+        × ((system_after w (turns_of schedule w.config w.state turns)).state ≡ r.state) }
+{}
+
+/// A serial replay goes on where it stopped: so many turns and then so many more are the turns of
+/// one serial replay.
+pub fn serial_replays_go_on()
+    ensures { (c : Config) (traces : List (List Command)) (few more : ℕ) (r : Run)
+        → IsReplayed c traces Schedule.Serial few r
+        → IsReplayed c traces Schedule.Serial (few + more)
+        (after_turns c r (turns_of Schedule.Serial c r.state more)) }
+{}
+
+/// Where all threads are done after some turns of a schedule, more of its turns change nothing. So
+/// a replay that stops there has the run of all its turns.
+pub fn replays_stop()
+    ensures { (c : Config) (schedule : Schedule) (r : Run) (few many : ℕ) → few ≤ many
+        → AllDone c (after_turns c r (turns_of schedule c r.state few)).state
+        → after_turns c r (turns_of schedule c r.state many)
+        ≡ after_turns c r (turns_of schedule c r.state few) }
+{}
+
+/// After as many turns as the bounds of all commands sum up to, a serial replay has all threads done
+/// (`serial`); and where there is one thread, so has a replay by any schedule (`single`).
+pub fn replays_end()
+    ensures serial { (c : Config) (traces : List (List Command)) (turns rate : ℕ) (r : Run)
+        → IsJob c traces → IsRate c rate → IsReplayed c traces Schedule.Serial turns r
+        → job_bound c rate traces ≤ turns → AllDone c r.state }
+    ensures single { (c : Config) (traces : List (List Command)) (schedule : Schedule)
+        (turns rate : ℕ) (r : Run) → IsJob c traces → IsRate c rate → c.threads ≡ 1
+        → IsReplayed c traces schedule turns r → job_bound c rate traces ≤ turns
+        → AllDone c r.state }
+{}
