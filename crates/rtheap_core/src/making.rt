@@ -21,7 +21,7 @@ use crate::telling::{WRITE_FAULT, refused, told};
 use crate::trial::{Totals, trial};
 use block_store::OutOfMemory;
 use std::alloc::Global;
-use trace_text::{LineBuffer, Sink, fill_totals, write_job};
+use trace_text::{Job, LineBuffer, Sink, fill_totals, write_job};
 
 /// Writes a generated job.
 pub fn make_told<K: Sink>(alloc: Global, sink: &mut K, key: u64, lines: u32) -> Exit

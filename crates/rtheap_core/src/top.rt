@@ -16,6 +16,7 @@ use crate::running::run_told;
 use crate::task::Task;
 use crate::telling::refused;
 use never_heap::{Logs, Pace};
+use schedules::replays_have_one_order;
 use std::alloc::Global;
 use std::sync::Wait;
 use std::thread::Threads;
@@ -61,6 +62,7 @@ pub fn rtheap<R: Threads + Wait + Sync, S: Source, K: Sink, Q: Pace>(
 {
     inputs_are_told_apart();
     jobs_are_one();
+    replays_have_one_order();
     carried_out(rt, alloc, words, source, sink, pace)
 }
 
