@@ -120,6 +120,9 @@ module _ (c : Config) (traces : List (List Command)) (laws : (p : Part) → Part
       let none : total c.threads (λ t. (local_in c r t).balance.paid) ≡ 0 = total_none c.threads _ (λ t tl. rest_settled c traces r kept t tl (and_parts _ _ (done t tl)).0) in
       omega (arith, none)
 
+  pub in_threads : InThreads c.threads r.order
+  in_threads = subst (λ h. InThreads c.threads h) order bound.entries
+
   -- and always those of the threads' entries and what they paid since
   pub by_thread : units_so_far c r ≡ total c.threads (λ t. works (part t r.order) + (local_in c r t).balance.paid)
-  by_thread = omega (arith, work_of c.threads r.order (subst (λ h. InThreads c.threads h) order bound.entries), total_plus c.threads (λ t. works (part t r.order)) (λ t. (local_in c r t).balance.paid))
+  by_thread = omega (arith, work_of c.threads r.order in_threads, total_plus c.threads (λ t. works (part t r.order)) (λ t. (local_in c r t).balance.paid))

@@ -25,7 +25,7 @@ use Rattle.heap_system.proofs.Seeing.{graph_decided, told_by, items_told, IsDeci
 use Rattle.heap_system.proofs.Steady.{register_stays}
 
 -- a start is no thread's, and has no work
-part_starts : (u : ℕ) (n : Naming) → part u (starts_by n) ≡ []
+pub part_starts : (u : ℕ) (n : Naming) → part u (starts_by n) ≡ []
 part_starts u Begun = refl
 part_starts u _ = refl
 
@@ -46,7 +46,7 @@ module _ (c : Config) (order : List HistoryItem) (t : ℕ) (k : Command) (work :
   items_are AsStep n = refl
   items_are (Refused r) n = refl
 
-  entries_told : (v : Verdict) → part t (entries_by c t k work order v) ≡ told_by (replay c order) t k work v
+  pub entries_told : (v : Verdict) → part t (entries_by c t k work order v) ≡ told_by (replay c order) t k work v
   entries_told Open = refl
   entries_told AsStep = ap (λ x. cond x (entry_of t k work (step (replay c order) t k).1 ∷ []) []) (eq-eqb t t refl)
   entries_told (Refused r) = ap (λ x. cond x (entry_of t k work r ∷ []) []) (eq-eqb t t refl)
@@ -57,7 +57,7 @@ module _ (c : Config) (order : List HistoryItem) (t : ℕ) (k : Command) (work :
       ∙ ap (λ x. part t order ++ x) (part_append t (entries_by c t k work order v) (starts_by n)
       ∙ ap (λ x. part t (entries_by c t k work order v) ++ x) (part_starts t n) ∙ append-nil _ ∙ entries_told v)
 
-  entries_away : (v : Verdict) (u : ℕ) → (t ≡ u → ⊥) → part u (entries_by c t k work order v) ≡ []
+  pub entries_away : (v : Verdict) (u : ℕ) → (t ≡ u → ⊥) → part u (entries_by c t k work order v) ≡ []
   entries_away Open u other = refl
   entries_away AsStep u other = ap (λ x. cond x (entry_of t k work (step (replay c order) t k).1 ∷ []) []) (ne_eqb t u other)
   entries_away (Refused r) u other = ap (λ x. cond x (entry_of t k work r ∷ []) []) (ne_eqb t u other)

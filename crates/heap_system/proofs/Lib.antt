@@ -30,7 +30,10 @@ pub mod Tallied
 pub mod TalliesOf
 pub mod Balanced
 pub mod UnitMade
+pub mod Sharing
+pub mod SharesKept
 pub mod Bounded
 pub mod Taking
 pub mod Cycling
 pub mod alone
+pub mod Ordering

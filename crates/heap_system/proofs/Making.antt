@@ -34,10 +34,10 @@ split false p (inr e) = rw e refl
 abbrev pub made_by : Config → ℕ → Run → ℕ
 made_by c t r = works (part t r.order) + (local_at c r.state t).balance.paid
 
-cond_no : {A : Type 0} (b : Bool) (x y : A) → b ≡ false → cond b x y ≡ y
+pub cond_no : {A : Type 0} (b : Bool) (x y : A) → b ≡ false → cond b x y ≡ y
 cond_no b x y e = rw e refl
 
-cond_yes : {A : Type 0} (b : Bool) (x y : A) → b ≡ true → cond b x y ≡ x
+pub cond_yes : {A : Type 0} (b : Bool) (x y : A) → b ≡ true → cond b x y ≡ x
 cond_yes b x y e = rw e refl
 
 -- a turn without an event changes nothing
@@ -95,7 +95,7 @@ idle_makes c t u r none = ap (made_by c t) (idle_next c u r none) ∙ elim (case
 ]
 
 module _ (c : Config) (traces : List (List Command)) (job : IsJob c traces) where
-  turn_makes : (r : Run) → Kept c traces r → (t u : ℕ) → made_by c t (next c u r) ≡ made_by c t r + cond (eqb u t) (bit (is_unit c t r.state)) 0
+  pub turn_makes : (r : Run) → Kept c traces r → (t u : ℕ) → made_by c t (next c u r) ≡ made_by c t r + cond (eqb u t) (bit (is_unit c t r.state)) 0
   turn_makes r kept t u = elim (cases_lt u c.threads) [
     | inl ul ↦ elim (cases_Bool (is_done (local_at c r.state u))) [
       | inl done ↦ idle_makes c t u r (rw (lt-ltb u c.threads ul, done) refl)

@@ -1,7 +1,7 @@
 -- What the code of a turn and of a finish meets, in a state that some list of turns reaches.
-use Rattle.std.proofs.Common.{◌≡◌, ℕ, zero, suc, ◌+◌, ◌<◌, Bool, true, false, cond, lt-ltb, eqb, eq-eqb, eqb-true, List, [], ◌∷◌, ◌++◌, length, get_or, set, map, take, append-nil, refl, sym, ap, ◌∙◌, subst, arith, inl, inr}
+use Rattle.std.proofs.Common.{◌≡◌, ℕ, zero, suc, ◌+◌, ◌<◌, Bool, true, false, cond, lt-ltb, eqb, eq-eqb, eqb-true, Option, List, [], ◌∷◌, ◌++◌, length, get_or, set, map, take, append-nil, refl, sym, ap, ◌∙◌, subst, arith, inl, inr}
 use Rattle.std.proofs.lemmas.Bool.{cases_lt, and_parts}
-use Rattle.std.proofs.lemmas.List.{get_or_default, get_or_past}
+use Rattle.std.proofs.lemmas.List.{get_or_default, get_or_past, length-map}
 use Rattle.std.proofs.Math.Seq.{take-length}
 use Rattle.block_store.specs.declared.Config.{Config}
 use Rattle.block_store.specs.declared.Width.{Width}
@@ -20,7 +20,7 @@ use Rattle.heap_system.specs.declared.Turn.{Turn}
 use Rattle.heap_system.specs.Locals.{LocalState, works, command_of, owed, entries_of, is_rest, is_done, part_want, part_step, turn_of, local_got, LocalReads}
 use Rattle.heap_system.specs.Machines.{State, no_local, local_at, heap_in, word_read, event_done, has_event, turned, answer, Run, next, after_turns, IsJob, opened, IsRunOf}
 use Rattle.heap_system.specs.Pictures.{waiting}
-use Rattle.heap_system.specs.Systems.{Whole, traces_of, logs_of, AllDone, IsReached, IsFinished}
+use Rattle.heap_system.specs.Systems.{Ordered, Whole, traces_of, logs_of, AllDone, IsReached, IsFinished}
 use Rattle.heap_system.specs.Units.{units_made, IsRight}
 use Rattle.heap_system.proofs.Always.{run_kept}
 use Rattle.heap_system.proofs.Balanced.{local_reads}
@@ -36,8 +36,8 @@ pub reached_kept : (c : Config) (s : State) (k : IsReached c s) → Kept c (trac
 reached_kept c s k = subst (λ x. Kept c (traces_of s) (record { state = x; order = k.run.order; names = k.run.names })) (sym k.state) (run_kept c (traces_of s) (laws_of c) k.job k.turns k.run k.by_turns)
 
 -- a place of the configuration's heap has a word
-pub place_low : (c : Config) (s : State) → IsReached c s → (w : Whole) → record { config = c; state = s } ≡ w → (place : ℕ) → place < words_count (extent w.config) → place < length s.words
-place_low c s k w is place low = let all : place < words_count (extent c) = subst (λ (v : Whole). place < words_count (extent v.config)) (sym is) low in omega (arith, all, (reached_kept c s k).long)
+pub place_low : (c : Config) (s : State) (o : Option Ordered) → IsReached c s → (w : Whole) → record { config = c; state = s; ordered = o } ≡ w → (place : ℕ) → place < words_count (extent w.config) → place < length s.words
+place_low c s o k w is place low = let all : place < words_count (extent c) = subst (λ (v : Whole). place < words_count (extent v.config)) (sym is) low in omega (arith, all, (reached_kept c s k).long)
 
 -- what the next event of a thread reads
 reached_reads : (c : Config) (s : State) → IsReached c s → (t : ℕ) → t < c.threads → LocalReads c (local_at c s t) (word_read c s (local_at c s t))
@@ -77,12 +77,12 @@ turned_traces c t s = by (has_event c t s)
     by true = traces_stay s.locals t (local_got (local_at c s t) (word_read c s (local_at c s t))) (no_local c) refl
     by false = refl
 
-after_last : (c : Config) (r : Run) (ts : List ℕ) (t : ℕ) → after_turns c r (ts ++ t ∷ []) ≡ next c t (after_turns c r ts)
+pub after_last : (c : Config) (r : Run) (ts : List ℕ) (t : ℕ) → after_turns c r (ts ++ t ∷ []) ≡ next c t (after_turns c r ts)
 after_last c r [] t = refl
 after_last c r (u ∷ ts) t = after_last c (next c u r) ts t
 
 -- one turn more
-pub turned_reached : (c : Config) (s : State) (t : ℕ) → IsReached c s → IsReached c (turned c t s)
+abbrev pub turned_reached : (c : Config) (s : State) (t : ℕ) → IsReached c s → IsReached c (turned c t s)
 turned_reached c s t k = record {
   job = subst (λ x. IsJob c x) (sym (turned_traces c t s)) k.job;
   turns = k.turns ++ t ∷ [];
@@ -214,3 +214,15 @@ module _ (c : Config) (s : State) (k : IsReached c s) (done : AllDone c s) where
     made = made;
     works = kept.counted;
   }
+
+  -- it is that of the run that reached it
+  pub done_run : all_done.run ≡ k.run
+  unfolding all_done
+  done_run = refl
+
+  -- each log is a part of the order, also of a thread that there is not
+  pub logged_all : (t : ℕ) → part t k.run.order ≡ get_or (logs_of s) t []
+  logged_all t = elim (cases_lt t c.threads) [
+    | inl tl ↦ logged t tl ∙ sym (log_at s.locals t (no_local c))
+    | inr out ↦ kept.foreign t (omega arith) ∙ sym (get_or_past (logs_of s) t [] (omega (arith, kept.threads, length-map s.locals (λ (l : LocalState). l.log))))
+  ]

@@ -92,7 +92,7 @@ pub opened_traces : (c : Config) (traces : List (List Command)) (s : State) → 
 opened_traces c traces s start = ap (map (λ (l : LocalState). l.trace)) start.locals ∙ starts_traces c start.rate start.space 0 traces
 
 -- the opening is reached by no turn
-pub opened_reached : (c : Config) (traces : List (List Command)) (s : State) → IsJob c traces → IsOpening c traces s → IsReached c s
+abbrev pub opened_reached : (c : Config) (traces : List (List Command)) (s : State) → IsJob c traces → IsOpening c traces s → IsReached c s
 opened_reached c traces s job start =
     let same : traces_of s ≡ traces = opened_traces c traces s start in
     record {

@@ -147,7 +147,7 @@ module _ (c : Config) (traces : List (List Command)) (job : IsJob c traces) (rat
     ]
 
   module _ (laws : (p : Part) → PartLaws c p) (tally_laws : (p : Part) → TallyLaw c p) where
-    turn_tallied : (r : Run) → Kept c traces r → RunTallied c rate r → (t : ℕ) → RunTallied c rate (next c t r)
+    pub turn_tallied : (r : Run) → Kept c traces r → RunTallied c rate r → (t : ℕ) → RunTallied c rate (next c t r)
     turn_tallied r kept counts t = elim (cases_lt t c.threads) [
       | inl tl ↦ tallied_next laws tally_laws r kept counts t tl
       | inr out ↦ turn_idle r t counts (rw (le-ltb t c.threads out) refl)

@@ -9,7 +9,9 @@ pub mod Units
 pub mod Cycles
 pub mod Rounds
 pub mod Costs
+pub mod Ordering
 pub mod Loaded
 pub mod Shades
+pub mod Shares
 pub mod Alone
 pub mod Serials

@@ -32,7 +32,7 @@ use Rattle.heap_machine.specs.declared.Step.TheVariants as steps
 use Rattle.grey_steps.specs.Rows.{grey_want, grey_got, grey_step, grey_over, grey_unit, grey_nothing, holding_at, scanning}
 use Rattle.grey_steps.specs.Fits.{GreyFits, GreyReads}
 use Rattle.grey_steps.specs.Ends.{is_blackening}
-use Rattle.barrier_steps.specs.Rows.{at_first_row, field_want, field_got, field_step, field_reply, field_holding}
+use Rattle.barrier_steps.specs.Rows.{at_first_row, field_want, field_got, field_step, field_reply, field_decided, field_holding}
 use Rattle.barrier_steps.specs.Deciding.{is_deciding}
 use Rattle.barrier_steps.specs.Fits.{FieldFits, FieldReads}
 use Rattle.barrier_steps.specs.Projection.{loading_of}
@@ -407,6 +407,15 @@ abbrev pub entries_of : ℕ → Command → ℕ → Option Reply → List Entry
 entries_of t k work None = []
 entries_of t k work (Some r) = entry_of t k work r ∷ []
 
+-- how many commands are decided: those in the log, and the one in hand where it is and has no entry
+-- there yet
+abbrev pub decided_in : Part → ℕ
+decided_in (Serve f) = bit (field_decided f.row)
+decided_in _ = 0
+
+abbrev pub commands_decided : LocalState → ℕ
+commands_decided l = length l.log + decided_in l.part
+
 -- the thread after its event, which read w
 abbrev pub local_got : LocalState → ℕ → LocalState
 local_got l w =
@@ -508,6 +517,11 @@ EntersOn _ z w = Unit {0}
 -- the words that a thread may read at its next event
 abbrev pub LocalReads : Config → LocalState → ℕ → Type 0
 LocalReads c l w = PartReads c l.part w × EntersOn l.part l.balance.cycle w
+
+-- a thread has moved on by its next event, which read w, and told what its turn was
+abbrev pub HasGot : LocalState → ℕ → LocalState → Turn → Type 0
+HasGot old w new turn =
+    (new ≡ local_got old w) × (turn ≡ turn_of (part_step old.config old.part w))
 
 -- the pass of a thread that has not yet gone in
 abbrev pub no_pass : ℕ → ℕ → Pass

@@ -1,6 +1,7 @@
 //! The whole heap: one thread's state, and all threads with the words that they share.
 #![tactic(auto)]
 
+mod accounts;
 mod bound;
 mod collector;
 mod cycles;
@@ -8,6 +9,9 @@ mod laws;
 mod local;
 #[cfg(test)]
 mod lone;
+#[cfg(test)]
+mod ordered;
+mod orders;
 mod progress;
 mod replays;
 #[cfg(test)]
@@ -22,6 +26,7 @@ mod traces;
 #[cfg(test)]
 mod ways;
 
+pub use accounts::accounts_are_sound;
 pub use bound::{cycles_cost_few_units, cycles_give_few_blocks, fulls_are_licensed};
 pub use collector::{
     free_blocks_stand_once, grey_blocks_stand_once, marking_is_tricolour,
@@ -35,6 +40,7 @@ pub use laws::{
     words_show_the_order, works_are_units,
 };
 pub use local::Local;
+pub use orders::turns_add_their_items;
 pub use progress::{a_lone_thread_ends_its_command, units_part_the_changes_of_a_lone_thread};
 pub use replays::jobs_have_one_order;
 pub use serial::{a_single_thread_ends_its_job, serial_turns_end};

@@ -2,6 +2,7 @@
 
 ghost use Rattle.std.specs.Prelude.{◌≡◌, ◌≤◌, ◌<◌, ◌+◌, ◌^◌, ◌-◌, ◌*◌, ◌++◌, ◌∷◌, ◌&&◌, not, [], true, false, None, Some, if◌then◌else◌, length, IfOk};
 ghost use Rattle.block_store.specs.Configs.{IsInBounds};
+ghost use Rattle.block_store.specs.Phases.{bit};
 ghost use Rattle.block_store.specs.Places.{extent, words_count};
 ghost use Rattle.rate_plan.specs.Rates.{IsRate, IsAdmitted};
 ghost use Rattle.never_heap.specs.Steps.{makes_object, blocks_of};
@@ -12,7 +13,7 @@ ghost use Rattle.never_heap.specs.Jobs.{IsTraceInBounds};
 ghost use Rattle.heap_machine.specs.declared.gate.GateRow.{GateRow};
 ghost use Rattle.grey_steps.specs.Rows.{scanning};
 ghost use Rattle.sweep_steps.specs.Rows.{sweeping};
-ghost use Rattle.heap_system.specs.Locals.{LocalReads, is_done, is_rest, is_build, is_at_gate, is_in_command, is_marking, is_sweeping, is_on_way_out, part_want, part_step, local_got, at_start, turn_of, is_last, pass_by, first_part, errand_of, command_of, owed, made_got, works, entry_of, balance_paid};
+ghost use Rattle.heap_system.specs.Locals.{LocalReads, HasGot, is_done, is_rest, is_build, is_at_gate, is_in_command, is_marking, is_sweeping, is_on_way_out, part_want, part_step, local_got, at_start, turn_of, is_last, pass_by, first_part, errand_of, command_of, owed, made_got, works, entry_of, balance_paid, commands_decided};
 
 use crate::Turn;
 use barrier_steps::FieldPass;
@@ -218,6 +219,14 @@ fn made_after(made: u32, reply: Reply) -> u32
     }
 }
 
+// One more than the commands in the log, where the one in hand is decided.
+fn if_decided(logged: usize, decided: bool) -> usize
+    requires { logged < 2 ^ 32 }
+    ensures { result ≡ logged + bit decided }
+{
+    if decided { logged + 1 } else { logged }
+}
+
 // The sum of the works of the entries.
 fn sum_of_works(entries: &[Entry]) -> u64
     requires { works entries.now ≤ 2 ^ 60 }
@@ -320,10 +329,14 @@ impl Local {
         sum_of_works(&self.log)
     }
 
-    // Whether the command in hand is decided and not in the log yet.
-    #[cfg(test)]
-    pub(crate) fn decided(&self) -> bool {
-        matches!(&self.part, Part::Serve(pass) if pass.decided())
+    // How many commands are decided: those in the log, and the one in hand where it is.
+    pub(crate) fn commands_decided(&self) -> usize
+        ensures { result ≡ commands_decided self.now }
+    {
+        match &self.part {
+            Part::Serve(pass) => if_decided(self.log.len(), pass.decided()),
+            _ => self.log.len(),
+        }
     }
 
     /// The operation of the thread's next event, on one of the heap's words. The thread is not
@@ -384,8 +397,7 @@ impl Local {
         requires part { is_at_gate self.old.part ≡ true }
         requires open { is_done self.old ≡ false }
         requires word { LocalReads self.old.config self.old word }
-        ensures local { self.new ≡ local_got self.old word }
-        ensures turn { result ≡ turn_of (part_step self.old.config self.old.part word) }
+        ensures { HasGot self.old word self.new result }
     {
         match &mut self.part {
             Part::Rest => {
@@ -421,8 +433,7 @@ impl Local {
     fn in_command(&mut self, word: u64) -> Turn
         requires part { is_in_command self.old.part ≡ true }
         requires word { LocalReads self.old.config self.old word }
-        ensures local { self.new ≡ local_got self.old word }
-        ensures turn { result ≡ turn_of (part_step self.old.config self.old.part word) }
+        ensures { HasGot self.old word self.new result }
     {
         let places = Places::new(&self.config);
         match &mut self.part {
@@ -457,8 +468,7 @@ impl Local {
     fn marks(&mut self, word: u64) -> Turn
         requires part { is_marking self.old.part ≡ true }
         requires word { LocalReads self.old.config self.old word }
-        ensures local { self.new ≡ local_got self.old word }
-        ensures turn { result ≡ turn_of (part_step self.old.config self.old.part word) }
+        ensures { HasGot self.old word self.new result }
     {
         let places = Places::new(&self.config);
         match &mut self.part {
@@ -483,8 +493,7 @@ impl Local {
     fn sweeps(&mut self, word: u64) -> Turn
         requires part { is_sweeping self.old.part ≡ true }
         requires word { LocalReads self.old.config self.old word }
-        ensures local { self.new ≡ local_got self.old word }
-        ensures turn { result ≡ turn_of (part_step self.old.config self.old.part word) }
+        ensures { HasGot self.old word self.new result }
     {
         let places = Places::new(&self.config);
         match &mut self.part {
@@ -507,8 +516,7 @@ impl Local {
     #[inline(always)]
     fn out(&mut self, word: u64) -> Turn
         requires part { is_on_way_out self.old.part ≡ true }
-        ensures local { self.new ≡ local_got self.old word }
-        ensures turn { result ≡ turn_of (part_step self.old.config self.old.part word) }
+        ensures { HasGot self.old word self.new result }
     {
         let _word = word;
         match self.part {

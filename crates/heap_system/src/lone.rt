@@ -59,6 +59,7 @@ fn no_command_is_done_in_no_turn(rt: HostRuntime) -> Result<(), OutOfMemory> {
             return Ok(());
         };
         assert_eq!(rt; (logs.cycles(), logs.units(), turns), (1, 0, 0));
+        assert!(rt; logs.order().is_none());
     }
     Ok(())
 }

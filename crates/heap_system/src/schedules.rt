@@ -2,7 +2,7 @@
 //! drawn schedules: each reply is that of the heap that never frees, in the order of the deciding
 //! events, but where an allocation is refused. The blocks are given many times over.
 
-ghost use Rattle.std.specs.Prelude.{◌≡◌, ◌<◌, ◌≤◌, ◌+◌, ℕ, length, IfOk, OnOk};
+ghost use Rattle.std.specs.Prelude.{◌≡◌, ◌<◌, ◌≤◌, ◌+◌, ℕ, None, length, IfOk, OnOk};
 ghost use Rattle.never_heap.specs.Graphs.{count_of};
 
 use crate::traces::trace_of;
@@ -50,7 +50,8 @@ const COMMANDS: [Command; 19] = [
 ];
 
 fn three_threads(alloc: Global) -> Result<System, OutOfMemory>
-    ensures { IfOk result (λ s. s.config ≡ record {
+    ensures plain { IfOk result (λ s. s.ordered ≡ None) }
+    ensures config { IfOk result (λ s. s.config ≡ record {
       width = Width.Four;
       threads = 3;
       blocks = 42;
@@ -135,8 +136,7 @@ fn is_full(reply: Option<Reply>) -> bool {
 
 // How many commands are in the log, and how many are decided.
 fn progress(local: &Local) -> (usize, usize) {
-    let logged = local.log().len();
-    (logged, if local.decided() { logged + 1 } else { logged })
+    (local.log().len(), local.commands_decided())
 }
 
 #[test]

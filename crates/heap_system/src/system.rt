@@ -1,6 +1,7 @@
 //! All threads with the words that they share, and what a finished run shows.
 
-ghost use Rattle.std.specs.Prelude.{◌≡◌, ◌<◌, ◌≤◌, ℕ, List, [], length, map, slice_index, slice_index_or, IfOk, IfErr, IfSome, IfNone, true, false};
+ghost use Rattle.std.specs.Prelude.{◌≡◌, ◌<◌, ◌≤◌, ℕ, List, [], length, map, slice_index, slice_index_or, Some, None, IfOk, IfErr, IfSome, IfNone, true, false};
+ghost use Rattle.std.specs.Option.{option_copied};
 ghost use Rattle.block_store.specs.declared.Config.{Config};
 ghost use Rattle.block_store.specs.Configs.{IsInBounds};
 ghost use Rattle.block_store.specs.Heaps.{heap_of};
@@ -10,52 +11,60 @@ ghost use Rattle.never_heap.specs.declared.Command.{Command};
 ghost use Rattle.heap_machine.specs.Readings.{CanHold};
 ghost use Rattle.heap_system.specs.Locals.{LocalState, is_done};
 ghost use Rattle.heap_system.specs.Machines.{turned, answer, local_at, IsJob, IsOpening};
-ghost use Rattle.heap_system.specs.Systems.{Whole, Finish, traces_of, logs_of, units_of, AllDone, IsReached, IsFinished, IsLeastUndone};
+ghost use Rattle.heap_system.specs.Ordering.{ordered_of, IsInOrder};
+ghost use Rattle.heap_system.specs.Systems.{Whole, Finish, after_event, ordered_after, opening_order, items_kept, traces_of, logs_of, units_of, AllDone, IsReached, IsReachedInOrder, IsFinished, IsFinishedInOrder, IsLeastUndone};
 
 use crate::Turn;
 use crate::local::Local;
+use crate::orders::{KeptOrder, room_for};
 use crate::start::opening;
 use block_store::{Config, OutOfMemory, Places, read_phase};
 use heap_machine::Words;
-use never_heap::{Command, Entry, Logs};
+use never_heap::{Command, Entry, Item, Logs};
 use std::alloc::Global;
 use std::marker::Model;
 
-/// The words of a heap and its threads, after some turns of them.
+/// The words of a heap and its threads, after some turns of them; and the order of these turns,
+/// where it is kept.
 #[derive(Drop)]
 pub struct System {
     config: Config,
     words: Words,
     locals: Vec<Local>,
+    order: Option<KeptOrder>,
 }
 
 impl Model for System {
-    ghost use Rattle.heap_system.specs.Systems.{Whole, IsReached};
+    ghost use Rattle.heap_system.specs.Systems.{Whole};
+    ghost use Rattle.heap_system.specs.Ordering.{ordered, IsInOrder};
 
     ghost Value = { Whole };
 
     ghost view = { λ s. record {
       config = s.config;
       state = record { words = s.words; locals = s.locals.items };
+      ordered = ordered s.order;
     } };
 
-    ghost invariant = { λ s. IsReached s.config
-        (record { words = s.words; locals = s.locals.items }) };
+    ghost invariant = { λ s. IsInOrder s.config
+        (record { words = s.words; locals = s.locals.items }) s.order };
 }
 
-/// What is left of a system after a run: its configuration, how many cycles were started, and what
-/// its threads answered.
+/// What is left of a system after a run: its configuration, how many cycles were started, what its
+/// threads answered, and the order where it was kept.
 #[derive(Drop)]
 pub struct Finished {
     config: Config,
     cycles: u64,
     locals: Vec<Local>,
+    order: Option<KeptOrder>,
 }
 
 impl Model for Finished {
     ghost use Rattle.std.specs.Prelude.{◌≡◌, ◌≤◌, length, map};
     ghost use Rattle.heap_system.specs.Locals.{LocalState};
-    ghost use Rattle.heap_system.specs.Systems.{Finish};
+    ghost use Rattle.heap_system.specs.Systems.{Finish, items_kept};
+    ghost use Rattle.heap_system.specs.Ordering.{ordered};
 
     ghost Value = { Finish };
 
@@ -63,6 +72,7 @@ impl Model for Finished {
       config = f.config;
       logs = map (λ (l : LocalState). l.log) f.locals.items;
       cycles = f.cycles;
+      order = items_kept (ordered f.order);
     } };
 
     ghost invariant = { λ f. (length f.locals.items ≡ f.config.threads) × (f.config.threads ≤ 16) };
@@ -113,6 +123,53 @@ fn cycle_in(c: &Config, words: &Words) -> u64
     read_phase(words.word(Places::new(c).phase())).cycle
 }
 
+// Makes the event of a thread that is not done.
+#[inline(always)]
+fn event(c: &Config, words: &mut Words, locals: &mut Vec<Local>, thread: u32) -> Turn
+    requires thread { thread < c.now.threads }
+    requires reached { IsReached c.now (record { words = words.old; locals = locals.old.items }) }
+    requires open { (d : LocalState) → is_done (slice_index_or locals.old.items thread d) ≡ false }
+    ensures state { record { words = words.new; locals = locals.new.items }
+        ≡ turned c.now thread (record { words = words.old; locals = locals.old.items }) }
+    ensures answer { result
+        ≡ answer c.now thread (record { words = words.old; locals = locals.old.items }) }
+{
+    let local = &mut locals[thread as usize];
+    let word = words.act(&local.want());
+    local.got(word)
+}
+
+// Makes the event of a thread that is not done, and adds to the order what the event adds.
+fn ordered_event(
+    c: &Config,
+    words: &mut Words,
+    locals: &mut Vec<Local>,
+    order: &mut KeptOrder,
+    thread: u32,
+) -> Turn
+    requires thread { thread < c.now.threads }
+    requires kept { IsInOrder c.now (record { words = words.old; locals = locals.old.items })
+        (Some order.old) }
+    requires open { (d : LocalState) → is_done (slice_index_or locals.old.items thread d) ≡ false }
+    requires left { 0 < order.old.left }
+    ensures kept { IsInOrder c.now (record { words = words.new; locals = locals.new.items })
+        (Some order.new) }
+    ensures state { record { words = words.new; locals = locals.new.items }
+        ≡ turned c.now thread (record { words = words.old; locals = locals.old.items }) }
+    ensures answer { result
+        ≡ answer c.now thread (record { words = words.old; locals = locals.old.items }) }
+    ensures order { ordered_of order.new ≡ after_event c.now thread
+        (record { words = words.old; locals = locals.old.items }) (ordered_of order.old) }
+{
+    let decided = locals[thread as usize].commands_decided();
+    let cycle = cycle_in(c, words);
+    let turn = event(c, words, locals, thread);
+    let decides = locals[thread as usize].commands_decided() > decided;
+    let starts = cycle_in(c, words) > cycle;
+    order.add(thread as u8, decides, starts);
+    turn
+}
+
 impl System {
     /// The system of a configuration that has a rate, with a trace for each thread: the opening
     /// words, and each thread at rest. A trace has at most 131,072 commands, which are in bounds.
@@ -127,6 +184,7 @@ impl System {
         ensures config { IfOk result (λ s. s.config ≡ c) }
         ensures traces { IfOk result (λ s. traces_of s.state ≡ map (λ v. v.items) traces.items) }
         ensures opening { IfOk result (λ s. IsOpening c (map (λ v. v.items) traces.items) s.state) }
+        ensures ordered { IfOk result (λ s. s.ordered ≡ None) }
     {
         let words = opening(alloc, &c)?;
         let mut locals = Vec::with_capacity(alloc, traces.len())?;
@@ -138,25 +196,65 @@ impl System {
             config: c,
             words,
             locals,
+            order: None,
+        })
+    }
+
+    /// A system as `new` makes it that also keeps the order of what its threads do. As many events
+    /// can be made as `turns` says, at most 1,000,000,000. The room is for all commands of the
+    /// traces and for `2 + turns / blocks` starts.
+    ///
+    /// # Errors
+    ///
+    /// `OutOfMemory` as of `new`, and where there is no room for the order.
+    pub fn new_ordered(
+        alloc: Global,
+        c: Config,
+        traces: Vec<Vec<Command>>,
+        turns: u64,
+    ) -> Result<System, OutOfMemory>
+        requires job { IsJob c (map (λ v. v.items) traces.items) }
+        requires turns { turns ≤ 1000000000 }
+        ensures config { IfOk result (λ s. s.config ≡ c) }
+        ensures traces { IfOk result (λ s. traces_of s.state ≡ map (λ v. v.items) traces.items) }
+        ensures opening { IfOk result (λ s. IsOpening c (map (λ v. v.items) traces.items) s.state) }
+        ensures ordered { IfOk result (λ s. s.ordered ≡ Some (opening_order turns)) }
+    {
+        let order = KeptOrder::opening(alloc, room_for(&c, &traces, turns), turns)?;
+        let system = System::new(alloc, c, traces)?;
+        Ok(System {
+            config: c,
+            words: system.words,
+            locals: system.locals,
+            order: Some(order),
         })
     }
 
     /// Makes the event that a thread of the heap wants. Nothing changes where the thread is done.
+    /// Where the order is kept, fewer events were made than it has room for.
     pub fn turn(&mut self, thread: u32) -> Turn
-        requires { thread < self.old.config.threads }
+        requires thread { thread < self.old.config.threads }
+        requires left { IfSome self.old.ordered (λ o. 0 < o.left) }
         ensures state { self.new ≡ record self.old {
-          state =
-              turned self.old.config thread self.old.state;
+          state = turned self.old.config thread self.old.state;
+          ordered = ordered_after self.old.config thread self.old.state self.old.ordered;
         } }
         ensures traces { traces_of self.new.state ≡ traces_of self.old.state }
         ensures answer { result ≡ answer self.old.config thread self.old.state }
     {
-        let local = &mut self.locals[thread as usize];
-        if local.done() {
+        if self.locals[thread as usize].done() {
             return Turn::Done;
         }
-        let word = self.words.act(&local.want());
-        local.got(word)
+        match &mut self.order {
+            None => event(&self.config, &mut self.words, &mut self.locals, thread),
+            Some(order) => ordered_event(
+                &self.config,
+                &mut self.words,
+                &mut self.locals,
+                order,
+                thread,
+            ),
+        }
     }
 
     /// The configuration.
@@ -181,6 +279,16 @@ impl System {
         ensures { result ≡ slice_index self.now.state.words place }
     {
         self.words.word(place)
+    }
+
+    /// The order of the turns so far: each entry by its thread, and each start of a cycle. `None`
+    /// exactly where the system was made by `new`.
+    pub fn order(&self) -> Option<&[Item]>
+        ensures same { option_copied result ≡ items_kept self.now.ordered }
+        ensures reached { IsReachedInOrder self.now.config self.now.state
+            (items_kept self.now.ordered) }
+    {
+        self.order.as_ref().map(|order| order.items())
     }
 
     /// A copy of all words, in the order of their places.
@@ -211,6 +319,9 @@ impl System {
         ensures finished { IfOk result (λ f. (f.config ≡ self.config)
             × (f.logs ≡ logs_of self.state) × IsFinished
             self.config (traces_of self.state) f.logs f.cycles) }
+        ensures order { IfOk result (λ f. f.order ≡ items_kept self.ordered) }
+        ensures history { IfOk result (λ f. IsFinishedInOrder
+            self.config (traces_of self.state) f.logs f.cycles f.order) }
         ensures unchanged { IfErr result (λ u. u.system ≡ self) }
         ensures least { IfErr result (λ u. IsLeastUndone self.config self.state u.thread) }
     {
@@ -223,6 +334,7 @@ impl System {
                 config: self.config,
                 cycles: cycle_in(&self.config, &self.words),
                 locals: self.locals,
+                order: self.order,
             }),
         }
     }
@@ -234,6 +346,14 @@ impl Finished {
         ensures { result.now ≡ self.now.config }
     {
         &self.config
+    }
+
+    /// The order of the run: each entry by its thread, and each start of a cycle. With the logs it
+    /// makes the history of the run. `None` exactly where the system was made by `System::new`.
+    pub fn order(&self) -> Option<&[Item]>
+        ensures { option_copied result ≡ self.now.order }
+    {
+        self.order.as_ref().map(|order| order.items())
     }
 }
 

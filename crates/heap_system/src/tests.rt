@@ -1,7 +1,7 @@
 //! The opening heap, two threads on one shared array, allocations that pay by marking and sweeping,
 //! and a thread that is held in the middle of a command.
 
-ghost use Rattle.std.specs.Prelude.{◌≡◌, ◌<◌, ◌≤◌, IfOk};
+ghost use Rattle.std.specs.Prelude.{◌≡◌, ◌<◌, ◌≤◌, None, IfOk};
 
 use crate::traces::trace_of;
 use crate::*;
@@ -132,7 +132,7 @@ fn the_opening_of_width_eight_has_these_words(rt: HostRuntime) -> Result<(), Out
 
 // One thread stores 7 in an element of the shared array, and the other reads that element.
 fn writer_and_reader(alloc: Global, width: Width) -> Result<System, OutOfMemory>
-    ensures { IfOk result (λ s. s.config.threads ≡ 2) }
+    ensures { IfOk result (λ s. (s.config.threads ≡ 2) × (s.ordered ≡ None)) }
 {
     let writes = [
         Command::Set { d: 1, value: 7 },
@@ -149,7 +149,7 @@ fn of_two(
     first: &[(u32, &[Command])],
     second: &[(u32, &[Command])],
 ) -> Result<System, OutOfMemory>
-    ensures { IfOk result (λ s. s.config.threads ≡ 2) }
+    ensures { IfOk result (λ s. (s.config.threads ≡ 2) × (s.ordered ≡ None)) }
 {
     let config = two(width);
     let first = trace_of(alloc, &config, first)?;
@@ -159,8 +159,10 @@ fn of_two(
 
 // Gives a thread turns until its log has this many entries, or until it is done.
 fn turns(system: &mut System, thread: u32, entries: usize)
-    requires { thread < system.old.config.threads }
-    ensures { system.new.config ≡ system.old.config }
+    requires thread { thread < system.old.config.threads }
+    requires plain { system.old.ordered ≡ None }
+    ensures config { system.new.config ≡ system.old.config }
+    ensures plain { system.new.ordered ≡ None }
 {
     for _ in 0..1000 {
         let local = system.local(thread);
@@ -251,7 +253,7 @@ fn a_reader_that_comes_last_reads_what_was_stored(rt: HostRuntime) -> Result<(),
 
 // One thread allocates a block so many times, and the other does nothing.
 fn allocator(alloc: Global, width: Width, times: u32) -> Result<System, OutOfMemory>
-    ensures { IfOk result (λ s. s.config.threads ≡ 2) }
+    ensures { IfOk result (λ s. (s.config.threads ≡ 2) × (s.ordered ≡ None)) }
 {
     let record = [Command::New { d: 1, fields: 1 }];
     of_two(alloc, width, &[(times, &record)], &[])
@@ -280,8 +282,10 @@ fn colour(system: &System, block: usize) -> u64
 // Gives thread 0 turns until it is done, and tells which blocks became black, in this order. Black
 // is 2.
 fn blackened(alloc: Global, system: &mut System) -> Result<Vec<usize>, OutOfMemory>
-    requires { system.old.config.threads ≡ 2 }
-    ensures { system.new.config ≡ system.old.config }
+    requires threads { system.old.config.threads ≡ 2 }
+    requires plain { system.old.ordered ≡ None }
+    ensures config { system.new.config ≡ system.old.config }
+    ensures plain { system.new.ordered ≡ None }
 {
     let mut blocks = Vec::new(alloc);
     for _ in 0..1000 {
@@ -367,7 +371,7 @@ fn the_second_allocation_turns_the_phase_over(rt: HostRuntime) -> Result<(), Out
 // Thread 0 loads a field and says what it got. Thread 1 puts an object in that field, takes it out
 // again, and allocates.
 fn reader_and_allocator(alloc: Global) -> Result<System, OutOfMemory>
-    ensures { IfOk result (λ s. s.config.threads ≡ 2) }
+    ensures { IfOk result (λ s. (s.config.threads ≡ 2) × (s.ordered ≡ None)) }
 {
     let reads = [Command::Get { d: 1, s: 0, i: 0 }, Command::Say { s: 1 }];
     let stores = [
@@ -387,8 +391,10 @@ fn reader_and_allocator(alloc: Global) -> Result<System, OutOfMemory>
 
 // Gives a thread so many turns.
 fn so_many(system: &mut System, thread: u32, count: u32)
-    requires { thread < system.old.config.threads }
-    ensures { system.new.config ≡ system.old.config }
+    requires thread { thread < system.old.config.threads }
+    requires plain { system.old.ordered ≡ None }
+    ensures config { system.new.config ≡ system.old.config }
+    ensures plain { system.new.ordered ≡ None }
 {
     for _turn in 0..count {
         system.turn(thread);

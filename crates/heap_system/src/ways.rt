@@ -1,6 +1,6 @@
 //! How many words of a long array a command touches.
 
-ghost use Rattle.std.specs.Prelude.{◌≡◌, IfOk};
+ghost use Rattle.std.specs.Prelude.{◌≡◌, None, IfOk};
 ghost use Rattle.rate_plan.specs.Rates.{IsAdmitted};
 
 use crate::traces::trace_of;
@@ -33,7 +33,7 @@ fn one_thread(alloc: Global) -> Result<System, OutOfMemory>
           16;
       shared = 1024;
     }) }
-    ensures { IfOk result (λ s. s.config.threads ≡ 1) }
+    ensures { IfOk result (λ s. (s.config.threads ≡ 1) × (s.ordered ≡ None)) }
 {
     let commands = [
         Command::Set { d: 1, value: 7 },
@@ -70,8 +70,10 @@ fn is_of_array(place: usize) -> bool {
 
 // Does the next command, and counts its events on words of the shared array.
 fn touched(system: &mut System) -> u32
-    requires { system.old.config.threads ≡ 1 }
-    ensures { system.new.config ≡ system.old.config }
+    requires threads { system.old.config.threads ≡ 1 }
+    requires plain { system.old.ordered ≡ None }
+    ensures config { system.new.config ≡ system.old.config }
+    ensures plain { system.new.ordered ≡ None }
 {
     let entries = system.local(0).log().len();
     let mut count: u32 = 0;

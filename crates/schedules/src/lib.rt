@@ -6,7 +6,9 @@ mod replaying;
 #[cfg(test)]
 mod tests;
 
-pub use laws::{replays_are_runs, replays_end, replays_have_one_order, replays_stop, serial_replays_go_on};
+pub use laws::{
+    replays_are_runs, replays_end, replays_have_one_order, replays_stop, serial_replays_go_on,
+};
 pub use replaying::replay;
 
 /// Which thread has each turn. Turns are counted from 0, and a turn for a thread that is done counts

@@ -1,11 +1,11 @@
 -- The histories that orders make, and how the lines of one go on.
-use Rattle.std.proofs.Common.{◌≡◌, ℕ, ◌+◌, ◌<◌, ◌≤◌, ◌^◌, Bool, true, false, cond, eqb, eq-eqb, List, [], ◌∷◌, ◌++◌, length, take, drop, map, get_or, replicate, refl, sym, ap, ◌∙◌, subst, append_assoc, append-nil, arith, Option, inl, inr}
+use Rattle.std.proofs.Common.{◌≡◌, ℕ, ◌+◌, ◌<◌, ◌≤◌, ◌^◌, Bool, true, false, cond, eqb, eq-eqb, eqb-true, List, [], ◌∷◌, ◌++◌, length, take, drop, map, get_or, replicate, refl, sym, ap, ◌∙◌, subst, append_assoc, append-nil, arith, Option, inl, inr}
 use Rattle.std.proofs.lemmas.Grind.{flat_map-append}
 use Rattle.std.proofs.lemmas.List.{drop-drop, drop_all, get_or-replicate, get_or_past, length-replicate}
 use Rattle.std.proofs.lemmas.Bool.{cases_lt}
 use Rattle.std.proofs.Math.Numerals.{add-one}
 use Rattle.std.proofs.Math.Seq.{drop-cons}
-use Rattle.std.specs.List.{flat_map}
+use Rattle.std.specs.List.{AllByRecursion, flat_map}
 use Rattle.block_store.proofs.Functions.{funext}
 use Rattle.never_heap.specs.declared.Entry.{Entry}
 use Rattle.never_heap.specs.declared.Item.{Item}
@@ -62,7 +62,8 @@ made_again (Did e ∷ h) left same =
 pub made_once : (order : List Item) (logs : List (List Entry)) (h : List HistoryItem)
     → IsHistoryOf order logs h → history_of order logs ≡ h
 made_once order logs h made =
-    ap (λ (o : List Item). history_of o logs) (sym made.items) ∙ made_again h (λ t. get_or logs t []) made.logged
+    ap (λ (o : List Item). history_of o logs) (sym made.items)
+    ∙ made_again h (λ t. get_or logs t []) made.logged
 
 pub texts_agree : (order : List Item) (logs : List (List Entry)) (h : List HistoryItem)
     → IsHistoryOf order logs h
@@ -245,3 +246,93 @@ all_written logs order i told starts before now le so_far =
     (sym (append-nil so_far.text)
     ∙ ap (λ (is : List Item). so_far.text ++ text_from logs told starts is) (sym none)
     ∙ so_far.whole) so_far.written
+
+-- ---- an order of logs makes a history
+
+-- each entry in what the threads have left is one of its own thread
+abbrev Own : (ℕ → List Entry) → Type 0
+Own left = (t : ℕ) → AllByRecursion (λ (e : Entry). e.thread ≡ t) (left t)
+
+-- each thread has as many entries left as the order names it
+abbrev Named : List Item → (ℕ → List Entry) → Type 0
+Named order left = (t : ℕ) → entries_in t order ≡ length (left t)
+
+no_entry : (es : List Entry) → 0 ≡ length es → [] ≡ es
+no_entry [] none = refl
+no_entry (e ∷ es) none = absurd (omega arith)
+
+own_behind : (b : Bool) (t : ℕ) (es : List Entry)
+    → AllByRecursion (λ (e : Entry). e.thread ≡ t) es
+    → AllByRecursion (λ (e : Entry). e.thread ≡ t) (cond b (drop 1 es) es)
+own_behind true t [] own = tt
+own_behind true t (e ∷ es) own = own.1
+own_behind false t es own = own
+
+named_behind : (b : Bool) (n : ℕ) (es : List Entry) → cond b 1 0 + n ≡ length es
+    → n ≡ length (cond b (drop 1 es) es)
+named_behind true n [] count = absurd (omega arith)
+named_behind true n (e ∷ es) count = omega arith
+named_behind false n es count = omega arith
+
+-- a thread that is named has a next entry, which is its own
+record HasFirst (t : ℕ) (es : List Entry) : Type 0 where
+  entry : Entry
+  rest : List Entry
+  is : es ≡ entry ∷ rest
+  own : entry.thread ≡ t
+
+has_first : (t n : ℕ) (es : List Entry) → 1 + n ≡ length es
+    → AllByRecursion (λ (e : Entry). e.thread ≡ t) es → HasFirst t es
+has_first t n [] count own = absurd (omega arith)
+has_first t n (e ∷ es) count own = record { entry = e; rest = es; is = refl; own = own.0 }
+
+named_here : (t : ℕ) (order : List Item)
+    → entries_in t (items.Entry t ∷ order) ≡ 1 + entries_in t order
+named_here t order = ap (λ b. cond b 1 0 + entries_in t order) (eq-eqb t t refl)
+
+-- what is put back in front of what is left behind an entry is what was left
+put_back : (b : Bool) (e : Entry) (es left part : List Entry)
+    → (b ≡ true → left ≡ e ∷ es) → part ≡ cond b (drop 1 left) left
+    → cond b (e ∷ part) part ≡ left
+put_back true e es left part first same =
+    ap (λ (ks : List Entry). e ∷ ks) (same ∙ ap (drop 1) (first refl)) ∙ sym (first refl)
+put_back false e es left part first same = same
+
+record Makes (order : List Item) (left : ℕ → List Entry) (h : List HistoryItem) : Type 0 where
+  items : map item_of h ≡ order
+  parts : (t : ℕ) → part t h ≡ left t
+
+-- an entry in front of a history that the rest of the order makes
+entry_first : (u : ℕ) (order : List Item) (left : ℕ → List Entry) (e : Entry)
+    (es : List Entry) (h : List HistoryItem) → left u ≡ e ∷ es → e.thread ≡ u
+    → Makes order (left_behind u left) h → Makes (items.Entry u ∷ order) left (Did e ∷ h)
+entry_first u order left e es h is own made = record {
+  items = λ i. items.Entry (own i) ∷ made.items i;
+  parts = λ t. ap (λ (n : ℕ). cond (eqb n t) (e ∷ part t h) (part t h)) own
+      ∙ put_back (eqb u t) e es (left t) (part t h)
+      (λ same. ap left (sym (eqb-true u t same)) ∙ is) (made.parts t);
+}
+
+makes : (order : List Item) (left : ℕ → List Entry) → Named order left → Own left
+    → Makes order left (history_from left order)
+makes [] left named own = record { items = refl; parts = λ t. no_entry (left t) (named t) }
+makes (items.Start ∷ order) left named own =
+    let rest = makes order left named own in
+    record { items = ap (λ (is : List Item). items.Start ∷ is) rest.items; parts = rest.parts }
+makes (items.Entry u ∷ order) left named own =
+    let first : HasFirst u (left u) =
+    has_first u (entries_in u order) (left u) (sym (named_here u order) ∙ named u) (own u) in
+    let rest = makes order (left_behind u left)
+    (λ t. named_behind (eqb u t) (entries_in t order) (left t) (named t))
+    (λ t. own_behind (eqb u t) t (left t) (own t)) in
+    let h : List HistoryItem = history_from (left_behind u left) order in
+    subst (λ (es : List Entry). Makes (items.Entry u ∷ order) left
+    (map (λ (e : Entry). Did e) (take 1 es) ++ h)) (sym first.is)
+    (entry_first u order left first.entry first.rest h first.is first.own rest)
+
+pub makes_history : (order : List Item) (logs : List (List Entry)) → IsOrderOf order logs
+    → ((t : ℕ) → AllByRecursion (λ (e : Entry). e.thread ≡ t) (get_or logs t []))
+    → IsHistoryOf order logs (history_of order logs)
+makes_history order logs fits own =
+    let made = makes order (λ t. get_or logs t []) fits own in
+    record { items = made.items; logged = made.parts }

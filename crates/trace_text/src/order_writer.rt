@@ -1,7 +1,7 @@
 //! A run in order.
 
-ghost use Rattle.std.specs.Prelude.{◌≡◌, ◌+◌, ◌≤◌, ℕ, List, length, slice_index, OnOk, OnErr};
-ghost use Rattle.std.specs.List.{flat_map};
+ghost use Rattle.std.specs.Prelude.{◌≡◌, ◌+◌, ◌≤◌, ℕ, List, [], length, slice_index, slice_index_or, OnOk, OnErr};
+ghost use Rattle.std.specs.List.{AllByRecursion, flat_map};
 ghost use Rattle.never_heap.specs.declared.Entry.{Entry};
 ghost use Rattle.never_heap.specs.declared.Item.{Item};
 ghost use Rattle.never_heap.specs.Histories.{HistoryItem, starts_in, work_in};
@@ -47,9 +47,14 @@ pub fn write_order<R: Logs, K: Sink>(run: &R, order: &[Item], sink: &mut K) -> R
     sink.put(line.bytes())
 }
 
-/// A law: the history that an order makes with logs has an order of these logs, and the text of the
-/// run is that of this history.
+/// A law: an order of logs makes a history, where each log has entries of its own thread; each
+/// history that an order makes with logs is by an order of these logs; and the text of a run in an
+/// order is that of its history.
 pub fn orders_tell_histories()
+    ensures history { (order : List Item) (logs : List (List Entry))
+        → IsOrderOf order logs
+        → ((t : ℕ) → AllByRecursion (λ e. e.thread ≡ t) (slice_index_or logs t []))
+        → IsHistoryOf order logs (history_of order logs) }
     ensures order { (order : List Item) (logs : List (List Entry)) (h : List HistoryItem)
         → IsHistoryOf order logs h → IsOrderOf order logs }
     ensures text { (order : List Item) (logs : List (List Entry)) (h : List HistoryItem)

@@ -40,8 +40,8 @@ module _ (c : Config) (s : Seen c) where
       → IsOpen (s.heap Phase) → LoneStep c s (TurnOver (gates.CloseLook p))
   close_looks p own known free =
       let pass : is_of_pass p (s.heap Phase) ≡ true =
-          of_pass p (s.heap Phase) (is_sweep (s.heap Phase)) (known.2.0 ∙ ap (λ (q : Pass). q.cycle) (sym own)) refl
-          (ap (λ (q : Pass). q.sweep) own ∙ sym known.2.1) in
+      of_pass p (s.heap Phase) (is_sweep (s.heap Phase)) (known.2.0 ∙ ap (λ (q : Pass). q.cycle) (sym own)) refl
+      (ap (λ (q : Pass). q.sweep) own ∙ sym known.2.1) in
       let none = empty (s.heap Phase) free in
       record {
         goes = rw (pass, none) refl;
@@ -125,7 +125,7 @@ module _ (c : Config) (s : Seen c) where
   flips p more first =
       let phase : is_sweep (open_word p.cycle true) ≡ true = (open_parts p.cycle true).1 in
       let some_left : not (ltb c.blocks (s.heap Cursor)) ≡ true =
-          (let one = s.bounds.some_block in rw (le-ltb c.blocks (s.heap Cursor) (omega arith)) refl) in
+      (let one = s.bounds.some_block in rw (le-ltb c.blocks (s.heap Cursor) (omega arith)) refl) in
       record {
         goes = refl;
         out = refl;
@@ -137,9 +137,9 @@ module _ (c : Config) (s : Seen c) where
   starts p more hand =
       let phase : is_sweep (open_word (p.cycle + 1) false) ≡ false = (open_parts (p.cycle + 1) false).1 in
       let own : 0 < grey_heads c s.heap s.thread 0 =
-          subst (λ u. 0 < s.heap (GreyList u)) (sym (own_first s.thread c.threads s.low)) hand in
+      subst (λ u. 0 < s.heap (GreyList u)) (sym (own_first s.thread c.threads s.low)) hand in
       let found : some (grey_heads c s.heap s.thread) 0 c.threads ≡ true =
-          (let one = s.bounds.some_thread in some_first (grey_heads c s.heap s.thread) c.threads 0 one own) in
+      (let one = s.bounds.some_thread in some_first (grey_heads c s.heap s.thread) c.threads 0 one own) in
       record {
         goes = refl;
         out = refl;

@@ -63,9 +63,9 @@ module _ (c : Config) (s : Seen c) (alone : Alone c s) where
   pub open_here : is_outside (s.gatings s.thread).stand ≡ true → IsOpen (s.heap Phase)
   open_here out =
       let none = total_none c.threads (λ u. bit (is_inside (s.gatings u).stand))
-          (λ u low. (stands_out (s.gatings u).stand (each_out out u low)).0) in
+      (λ u low. (stands_out (s.gatings u).stand (each_out out u low)).0) in
       let shut = total_none c.threads (λ u. bit (is_closing (s.gatings u).stand))
-          (λ u low. (stands_out (s.gatings u).stand (each_out out u low)).1) in
+      (λ u low. (stands_out (s.gatings u).stand (each_out out u low)).1) in
       record {
         nobody = sym s.gate.count ∙ none;
         opened = bit_zero (is_closed (s.heap Phase)) (sym s.gate.closers ∙ shut);

@@ -150,8 +150,8 @@ module _ (c : Config) (traces : List (List Command)) (bounds : IsInBounds c) (pl
       let trace : AllByRecursion (IsCommandInBounds c) l.trace = subst (λ x. AllByRecursion (IsCommandInBounds x) l.trace) k.config k.fits.trace.commands in
       let here : blocks_of c.width (command_of l) ≤ c.object = blocks_low c (command_of l) (bounds_at c l.trace (length l.log) trace) in
       subst (AllByRecursion (AsksFew c)) (sym k.told) (all_append (AsksFew c) l.log (entries_waiting (replay c r.order) l)
-        (log_asks_few c l.log (subst (AllByRecursion (IsCommandInBounds c)) (sym k.said) (all_take (IsCommandInBounds c) (length l.log) l.trace trace)))
-        (waiting_asks_few c l.thread (command_of l) l.balance.paid (waiting (replay c r.order) l.part) here))
+      (log_asks_few c l.log (subst (AllByRecursion (IsCommandInBounds c)) (sym k.said) (all_take (IsCommandInBounds c) (length l.log) l.trace trace)))
+      (waiting_asks_few c l.thread (command_of l) l.balance.paid (waiting (replay c r.order) l.part) here))
 
   order_asks_few : CommandsAskFew c r.order
   order_asks_few = parts_ask_few c r.order (λ t. elim (cases_lt t c.threads) [

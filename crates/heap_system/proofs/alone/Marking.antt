@@ -91,8 +91,14 @@ module _ (c : Config) (s : Seen c) (low : s.balance.paid < s.due) where
           goes = refl;
           out = rw (zero_here, next) refl;
           knows = rw (zero_here, next) (λ v vl. skipped z v ∙ read u none z v vl);
-          moves = rw (zero_here, next) (ul, inr (inl (more, same_lone _ (Spot.Take (u + 1))
-              (s.due - s.balance.paid) _ _ refl refl refl (some_left z))));
+          moves = rw (zero_here, next) (
+            ul,
+            inr (inl (
+              more,
+              same_lone _ (Spot.Take (u + 1))
+                  (s.due - s.balance.paid) _ _ refl refl refl (some_left z),
+            )),
+          );
         }
 
     takes_last : Heads s.heap u ≡ 0 → c.threads ≤ u + 1 → LoneStep c s (At q (greys.Take u))

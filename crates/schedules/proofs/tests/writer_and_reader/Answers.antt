@@ -17,5 +17,5 @@ pub new-requires : goal.new-requires
 new-requires c =
     subst (λ xs. IsJob (config Four) (map (λ (v : Vec Command Global). v.items) xs)) (sym c.in_ok-vec.ensures.items)
     (both Four c.in_ok-writes.writes.items c.in_ok-reads.reads.items
-      (subst (IsTraceInBounds (config Four)) (sym c.in_ok-writes.ensures.items) writes_fit)
-      (subst (IsTraceInBounds (config Four)) (sym c.in_ok-reads.ensures.items) reads_fit))
+    (subst (IsTraceInBounds (config Four)) (sym c.in_ok-writes.ensures.items) writes_fit)
+    (subst (IsTraceInBounds (config Four)) (sym c.in_ok-reads.ensures.items) reads_fit))

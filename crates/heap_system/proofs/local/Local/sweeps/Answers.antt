@@ -2,7 +2,7 @@ use Rattle.std.proofs.Common.{sym, ap, ◌∙◌, subst, arith}
 use Rattle.std.specs.Vec.{vec_capacity}
 use Rattle.sweep_steps.specs.Fits.{SweepFits}
 use Rattle.heap_system.specs.declared.local.Part.TheVariants.{Sweep}
-use Rattle.heap_system.specs.Locals.{HasRoom, local_got}
+use Rattle.heap_system.specs.Locals.{LocalState, HasRoom, local_got, part_step, turn_of}
 use Rattle.heap_system.proofs.UnitMade.{units_few, unit_owed, ties, counted_local, over_local, swept_fits, swept_owes, room_over, swept_got}
 use Rattle.heap_system.proofs.local.Local.sweeps.Goals as goal
 
@@ -39,5 +39,8 @@ invariant_of-self-else-is_last c =
       subst (λ p. HasRoom p c.self.inside.space c.self.inside.room.items (vec_capacity c.self.inside.room)) c.in-Sweep.is k.4,
     )
 
-pub returns-else-is_last-clause-local : goal.returns-else-is_last-clause-local
-returns-else-is_last-clause-local c = swept_got c.self.inside c.in-Sweep.pass c.got-step.new.self c.args.word c.count.new.account c.passed-passed.result c.passed.result c.got-step.result c.in-Sweep.is c.got-step.ensures.state (sym c.is_last.ensures ∙ c.if-is_last.false) c.got-step.ensures.step c.passed-passed.ensures c.passed.ensures c.count.ensures ∙ ap (λ l. local_got l c.args.word) c.self.view_is
+pub returns-else-is_last : goal.returns-else-is_last
+returns-else-is_last c = (
+  swept_got c.self.inside c.in-Sweep.pass c.got-step.new.self c.args.word c.count.new.account c.passed-passed.result c.passed.result c.got-step.result c.in-Sweep.is c.got-step.ensures.state (sym c.is_last.ensures ∙ c.if-is_last.false) c.got-step.ensures.step c.passed-passed.ensures c.passed.ensures c.count.ensures ∙ ap (λ l. local_got l c.args.word) c.self.view_is,
+  c.turn_after-else-is_last.ensures ∙ ap turn_of c.got-step.ensures.step ∙ sym (ap (λ p. turn_of (part_step c.self.inside.config p c.args.word)) c.in-Sweep.is) ∙ ap (λ (l : LocalState). turn_of (part_step l.config l.part c.args.word)) c.self.view_is,
+)

@@ -55,7 +55,7 @@ opens c =
     }
 
 pub invariant_of-result : goal.invariant_of-result
-invariant_of-result c = opened_reached c.args.c (map items_of c.args.traces.items) (record { words = c.in_ok-words.words; locals = c.loop-trace.locals.items }) c.requires (opens c)
+invariant_of-result c = record { reached = opened_reached c.args.c (map items_of c.args.traces.items) (record { words = c.in_ok-words.words; locals = c.loop-trace.locals.items }) c.requires (opens c); kept = tt }
 
 pub returns-clause-opening : goal.returns-clause-opening
 returns-clause-opening c = opens c
