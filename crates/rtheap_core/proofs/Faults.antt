@@ -10,7 +10,7 @@ use Rattle.rtheap_core.specs.declared.refusal.Refusal.TheVariants.{Usage, BadLin
 use Rattle.rtheap_core.specs.declared.task.Task.TheVariants.{Replay}
 use Rattle.rtheap_core.specs.Ends.{job_of}
 use Rattle.rtheap_core.specs.Exits.{IsReadAs}
-use Rattle.rtheap_core.specs.Outcomes.{IsReplayed, HasReplay, IsReplayFault}
+use Rattle.rtheap_core.specs.Outcomes.{IsReplayShown, HasReplay, IsReplayFault}
 use Rattle.rtheap_core.specs.Refusals.{IsCause, IsUnfailed}
 use Rattle.rtheap_core.specs.Sides.{Sides}
 use Rattle.rtheap_core.specs.Tasks.{AsksFor}
@@ -49,7 +49,7 @@ module _ (source : Sides) (job : Job) (schedule : Schedule) (turns : ℕ)
   cause_of still (Ok f) fault = tt
   cause_of still (Err r) fault = cause still r fault
 
-  of_run : (f : Finish) → job_of (Replayed f) ≡ job → IsReplayed schedule turns f
+  of_run : (f : Finish) → job_of (Replayed f) ≡ job → IsReplayShown schedule turns f
       → HasReplay source schedule turns f
   of_run f same is = record {
     read = subst (IsReadAs source) (sym same) read;
@@ -58,6 +58,6 @@ module _ (source : Sides) (job : Job) (schedule : Schedule) (turns : ℕ)
   }
 
   pub read_and_replayed : (r : Result Finish Refusal) → IfOk r (λ f. job_of (Replayed f) ≡ job)
-      → IfOk r (IsReplayed schedule turns) → IfOk r (HasReplay source schedule turns)
+      → IfOk r (IsReplayShown schedule turns) → IfOk r (HasReplay source schedule turns)
   read_and_replayed (Ok f) same is = of_run f same is
   read_and_replayed (Err r) same is = tt

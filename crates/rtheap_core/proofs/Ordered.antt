@@ -8,13 +8,13 @@ use Rattle.heap_system.specs.Systems.{Finish, units_of}
 use Rattle.schedules.specs.declared.Schedule.{Schedule}
 use Rattle.trace_text.specs.Orders.{IsOrderOf, order_text, text_in_order}
 use Rattle.rtheap_core.specs.Exits.{IsWritten}
-use Rattle.rtheap_core.specs.Outcomes.{IsReplayed, HasOrder}
+use Rattle.rtheap_core.specs.Outcomes.{IsReplayShown, HasOrder}
 use Rattle.rtheap_core.specs.Sides.{Sides}
 
 pub has_order : (schedule : Schedule) (turns : ℕ) (f : Finish)
     → ((order : List Item) (logs : List (List Entry)) (h : List HistoryItem)
     → IsHistoryOf order logs h → IsOrderOf order logs)
-    → IsReplayed schedule turns f → HasOrder f
+    → IsReplayShown schedule turns f → HasOrder f
 has_order schedule turns f law is = record {
   order = map item_of is.ran.history;
   kept = is.replay.order;
@@ -25,7 +25,7 @@ pub written_as : (sink : Sides) (status : ℕ) (schedule : Schedule) (turns : �
     → ((order : List Item) (logs : List (List Entry)) (h : List HistoryItem)
     → IsHistoryOf order logs h
     → order_text order logs (starts_in h) (work_in h) ≡ text_in_order h)
-    → (is : IsReplayed schedule turns f)
+    → (is : IsReplayShown schedule turns f)
     → ((order : List Item) → f.order ≡ Some order
     → IsWritten sink status (order_text order f.logs f.cycles (units_of f.logs)))
     → IsWritten sink status (text_in_order is.ran.history)

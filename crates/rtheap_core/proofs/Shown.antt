@@ -119,6 +119,14 @@ module _ (laws : TurnLaws) where
             e.works;
       }
 
+  -- its history is the order of the turns
+  pub history_is : (f : RunEnd)
+      → (e : IsFinished (run_of f).config (map commands_of (run_of f).logs) (run_of f).logs
+      (run_of f).cycles)
+      → (has_history f e).history ≡ e.run.order
+  unfolding has_history
+  history_is f e = refl
+
   -- both, where the job is known by its parts
   pub run_shows : (c k : Config) (ts traces : List (List Command)) (f : RunEnd) (job : Job)
       → (run_of f).config ≡ k → k ≡ c → ts ≡ traces → IsFinished k ts (run_of f).logs (run_of f).cycles

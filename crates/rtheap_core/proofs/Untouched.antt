@@ -29,6 +29,7 @@ pub tried_of : (sink : Sides) (status key lines : ℕ) (totals : Totals)
     → Tried sink status key lines
 tried_of sink status key lines totals has written = record {
   turns = has.turns;
+  few = has.few;
   run = has.run;
   ends = has.ends;
   text = subst (IsWritten sink status)

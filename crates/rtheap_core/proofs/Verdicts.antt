@@ -5,10 +5,13 @@ use Rattle.block_store.specs.declared.Config.{Config}
 use Rattle.never_heap.specs.declared.Command.{Command}
 use Rattle.rate_plan.specs.declared.PlanFault.{PlanFault}
 use Rattle.rate_plan.specs.declared.PlanFault.TheVariants as plans
-use Rattle.rate_plan.specs.Rates.{IsAdmitted, IsRefusal}
+use Rattle.rate_plan.specs.Rates.{IsAdmitted, IsRate, IsRefusal}
 use Rattle.heap_system.specs.Locals.{is_done}
 use Rattle.heap_system.specs.Machines as machines
+use Rattle.heap_system.specs.Serials.{job_bound}
+use Rattle.heap_system.specs.Systems.{AllDone}
 use Rattle.schedules.specs.declared.Schedule.{Schedule}
+use Rattle.schedules.specs.declared.Schedule.TheVariants.{Serial}
 use Rattle.schedules.specs.Replays.{IsReplayed}
 use Rattle.trace_text.specs.declared.trace_faults.Why.{Why}
 use Rattle.trace_text.specs.Faults.{Rose}
@@ -98,6 +101,13 @@ pub record Laws : Type 0 where
       (r q : machines.Run) → IsReplayed c traces schedule turns r
       → IsReplayed c traces schedule turns q
       → (t : ℕ) → is_done (machines.local_in c r t) ≡ is_done (machines.local_in c q t)
+  pub serial : (c : Config) (traces : List (List Command)) (turns rate : ℕ) (r : machines.Run)
+      → machines.IsJob c traces → IsRate c rate → IsReplayed c traces Serial turns r
+      → job_bound c rate traces ≤ turns → AllDone c r.state
+  pub single : (c : Config) (traces : List (List Command)) (schedule : Schedule)
+      (turns rate : ℕ) (r : machines.Run) → machines.IsJob c traces → IsRate c rate
+      → c.threads ≡ 1 → IsReplayed c traces schedule turns r → job_bound c rate traces ≤ turns
+      → AllDone c r.state
 
 -- a replay does not both end and leave a thread undone
 not_both_ways : (laws : Laws) (job : Job) (schedule : Schedule) (turns thread : ℕ)
@@ -107,6 +117,12 @@ not_both_ways laws job schedule turns thread r q e l =
     let same = laws.replays job.config job.traces schedule turns r q e.replayed l.replayed thread in
     let clash : true ≡ false = sym (e.done thread l.least.there) ∙ same ∙ l.least.undone in
     cc
+
+-- a thread is not left undone where all are done
+not_left : (job : Job) (schedule : Schedule) (turns thread : ℕ) (q : machines.Run)
+    → LeavesUndone job schedule turns thread q → AllDone job.config q.state → ⊥
+not_left job schedule turns thread q l all =
+    let clash : true ≡ false = sym (all thread l.least.there) ∙ l.least.undone in cc
 
 -- an admitted configuration is not refused
 not_both : (job : Job) (fault : PlanFault) → IsAdmitted job.config → IsRefusal job.config fault → ⊥
@@ -249,16 +265,17 @@ module _ (laws : Laws) (c : Call) (done : IsCarriedOut c) where
       → IsDueFor k P c
   due_for k P f = if_told c.source.bytes (λ bytes. P bytes → IsDueOrFails k c.exit.due) f
 
-  fine : (task : Task) → Reads task → AsksFor c.words task → (job : Job) → (Stops task job → ⊥)
+  fine : (task : Task) → Reads task → AsksFor c.words task → (job : Job)
+      → (machines.IsJob job.config job.traces → Stops task job → ⊥)
       → IsDueFor 0 (λ bytes. IsInput bytes job × IsAdmitted job.config) c
   fine task reads asked job n = due_for 0 _
       (λ bytes e p. when_fine laws task bytes c.exit.due (verdict_of task reads asked bytes e)
-      job p.0 p.1 n)
+      job p.0 p.1 (n (record { bounds = p.0.is_job.in_bounds; plan = p.1 })))
 
   run_or_plan : AsksFor c.words Run ⊎ AsksFor c.words Plan → (job : Job)
       → IsDueFor 0 (λ bytes. IsInput bytes job × IsAdmitted job.config) c
-  run_or_plan (inl asked) job = fine Run tt asked job (λ s. s)
-  run_or_plan (inr asked) job = fine Plan tt asked job (λ s. s)
+  run_or_plan (inl asked) job = fine Run tt asked job (λ _ s. s)
+  run_or_plan (inr asked) job = fine Plan tt asked job (λ _ s. s)
 
   generates : Ask c.words → (AskForJob c.words → ⊥) → (c.exit.due ≡ 0) ⊎ (c.exit.due ≡ 7)
   generates asked n = elim (cases_eq c.exit.due 0) [
@@ -281,11 +298,18 @@ module _ (laws : Laws) (c : Call) (done : IsCarriedOut c) where
     complete = run_or_plan;
     replay_ends = λ schedule turns asked job run ends.
         fine (Replay schedule turns) tt asked job
-        (λ s. not_both_ways laws job schedule turns s.1 run s.0 ends s.2);
+        (λ _ s. not_both_ways laws job schedule turns s.1 run s.0 ends s.2);
     replay_stops = λ schedule turns asked job run thread leaves. due_for 8 _
         (λ bytes e p. when_stopped laws (Replay schedule turns) bytes c.exit.due
         (verdict_of (Replay schedule turns) tt asked bytes e) job p.0 p.1
         (λ s. not_both_ways laws job schedule turns thread s.0 run s.1 leaves));
+    serial_ends = λ turns asked job rate is enough. fine (Replay Serial turns) tt asked job
+        (λ j s. not_left job Serial turns s.1 s.0 s.2
+        (laws.serial job.config job.traces turns rate s.0 j is s.2.replayed enough));
+    single_ends = λ schedule turns asked job rate one is enough.
+        fine (Replay schedule turns) tt asked job
+        (λ j s. not_left job schedule turns s.1 s.0 s.2
+        (laws.single job.config job.traces schedule turns rate s.0 j is one s.2.replayed enough));
     generates = generates;
     unfailed = unfailed c.exit.due c.exit.status (Rose c.source.faults c.source.faults_now)
         (Rose c.sink.faults c.sink.faults_now)

@@ -2,8 +2,10 @@
 use Rattle.std.specs.Prelude.{ℕ, ◌≡◌, ◌≢◌, ◌<◌, ◌≤◌, ◌⊎◌, ◌↔◌, List, length, IfSome, IsSome}
 use Rattle.heap_system.specs.Machines as machines
 use Rattle.rate_plan.specs.declared.PlanFault.{PlanFault}
-use Rattle.rate_plan.specs.Rates.{IsAdmitted, IsRefusal}
+use Rattle.heap_system.specs.Serials.{job_bound}
+use Rattle.rate_plan.specs.Rates.{IsAdmitted, IsRate, IsRefusal}
 use Rattle.schedules.specs.declared.Schedule.{Schedule}
+use Rattle.schedules.specs.declared.Schedule.TheVariants.{Serial}
 use Rattle.trace_text.specs.declared.trace_faults.Why.{Why}
 use Rattle.trace_text.specs.Faults.{Rose}
 use Rattle.trace_text.specs.JobTexts.{job_text}
@@ -76,6 +78,15 @@ pub record IsComplete (c : Call) : Type 0 where
       → (job : Job) (run : machines.Run) (thread : ℕ)
       → LeavesUndone job schedule turns thread run
       → IsDueFor 8 (λ bytes. IsInput bytes job × IsAdmitted job.config) c
+  -- As many turns as the bounds of all commands sum up to are enough: for a serial replay, and for
+  -- each replay of one thread.
+  pub serial_ends : (turns : ℕ) → AsksFor c.words (Replay Serial turns) → (job : Job) → (rate : ℕ)
+      → IsRate job.config rate → job_bound job.config rate job.traces ≤ turns
+      → IsDueFor 0 (λ bytes. IsInput bytes job × IsAdmitted job.config) c
+  pub single_ends : (schedule : Schedule) (turns : ℕ) → AsksFor c.words (Replay schedule turns)
+      → (job : Job) → (rate : ℕ) → job.config.threads ≡ 1
+      → IsRate job.config rate → job_bound job.config rate job.traces ≤ turns
+      → IsDueFor 0 (λ bytes. IsInput bytes job × IsAdmitted job.config) c
   -- What reads no job is done, or the answer is want of memory.
   pub generates : Ask c.words → (AskForJob c.words → ⊥) → (c.exit.due ≡ 0) ⊎ (c.exit.due ≡ 7)
   -- Without a fault of a stream the task is done, or the answer is want of memory.

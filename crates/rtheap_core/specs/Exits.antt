@@ -1,9 +1,10 @@
 -- What the top call answers.
-use Rattle.std.specs.Prelude.{ℕ, ◌≡◌, ◌⊎◌, false, List, [], ◌∷◌, ◌++◌, codes, decimal, All, IfSome}
+use Rattle.std.specs.Prelude.{ℕ, ◌≡◌, ◌≤◌, ◌⊎◌, false, List, [], ◌∷◌, ◌++◌, codes, decimal, All, IfSome}
 use Rattle.never_heap.specs.declared.Entry.{Entry}
 use Rattle.never_heap.specs.Histories.{is_full, starts_in, work_in}
 use Rattle.never_heap.specs.Licensed.{StartsSmall}
 use Rattle.heap_system.specs.Machines as machines
+use Rattle.heap_system.specs.Serials.{job_bound}
 use Rattle.rate_plan.specs.Rates.{IsAdmitted, IsRate}
 use Rattle.schedules.specs.declared.Schedule.{Schedule}
 use Rattle.schedules.specs.declared.Schedule.TheVariants.{Serial}
@@ -67,9 +68,12 @@ IsReplay source sink status schedule turns (Replayed f) =
     (h : Headline source sink status (Replayed f)) × IsReplayOf schedule turns f h.ran.history
 IsReplay source sink status schedule turns (Ran f) = ⊥
 
--- the generated job was done by serial turns, and the last line of its text was written
+-- The generated job was done by serial turns, no more than the bounds of all commands sum up to, and
+-- the last line of its text was written.
 pub record Tried (sink : Sides) (status key lines : ℕ) : Type 0 where
   pub turns : ℕ
+  pub few : (rate : ℕ) → IsRate (generated_job key lines).config rate
+      → turns ≤ job_bound (generated_job key lines).config rate (generated_job key lines).traces
   pub run : machines.Run
   pub ends : EndsIn (generated_job key lines) Serial turns run
   pub text : IsWritten sink status (totals_line (starts_in run.order) (work_in run.order))

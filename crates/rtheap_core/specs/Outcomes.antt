@@ -1,9 +1,10 @@
 -- What became of a task before anything was written.
-use Rattle.std.specs.Prelude.{ℕ, ◌≡◌, Some, List, map}
+use Rattle.std.specs.Prelude.{ℕ, ◌≡◌, ◌≤◌, Some, List, map}
 use Rattle.never_heap.specs.declared.Item.{Item}
 use Rattle.never_heap.specs.Histories.{starts_in, work_in}
 use Rattle.never_heap.specs.Orders.{item_of, IsHistoryOf}
 use Rattle.heap_system.specs.Machines as machines
+use Rattle.heap_system.specs.Serials.{job_bound}
 use Rattle.heap_system.specs.Systems.{Finish}
 use Rattle.rate_plan.specs.Rates.{IsAdmitted, IsRate}
 use Rattle.schedules.specs.declared.Schedule.{Schedule}
@@ -27,7 +28,7 @@ pub record HasRun (source : Sides) (end : RunEnd) : Type 0 where
   pub ran : HasHistory end
 
 -- a replay with its history, which is that of the order that was kept
-pub record IsReplayed (schedule : Schedule) (turns : ℕ) (f : Finish) : Type 0 where
+pub record IsReplayShown (schedule : Schedule) (turns : ℕ) (f : Finish) : Type 0 where
   pub ran : HasHistory (Replayed f)
   pub replay : IsReplayOf schedule turns f ran.history
   pub told : IsHistoryOf (map item_of ran.history) f.logs ran.history
@@ -43,7 +44,7 @@ pub record HasReplay (source : Sides) (schedule : Schedule) (turns : ℕ) (f : F
     : Type 0 where
   pub read : IsReadAs source (job_of (Replayed f))
   pub admitted : IsAdmitted (job_of (Replayed f)).config
-  pub replayed : IsReplayed schedule turns f
+  pub replayed : IsReplayShown schedule turns f
 
 -- why a job was not replayed to its end: there was no room, or its turns leave a thread undone
 abbrev pub IsReplayFault : Job → Schedule → ℕ → Refusal → Type 0
@@ -62,6 +63,7 @@ pub record HasRate (source : Sides) (rate : ℕ) : Type 0 where
 -- a job was done by serial turns, with these totals
 pub record HasTotals (job : Job) (totals : Totals) : Type 0 where
   pub turns : ℕ
+  pub few : (rate : ℕ) → IsRate job.config rate → turns ≤ job_bound job.config rate job.traces
   pub run : machines.Run
   pub ends : EndsIn job Serial turns run
   pub cycles : totals.cycles ≡ starts_in run.order

@@ -9,7 +9,7 @@ ghost use Rattle.rate_plan.specs.Rates.{IsAdmitted};
 ghost use Rattle.trace_text.specs.Jobs.{IsJobInBounds};
 ghost use Rattle.rtheap_core.specs.declared.exit.RunEnd.TheVariants as ends;
 ghost use Rattle.rtheap_core.specs.Ends.{job_of};
-ghost use Rattle.rtheap_core.specs.Outcomes.{IsReplayed, IsReplayFault};
+ghost use Rattle.rtheap_core.specs.Outcomes.{IsReplayShown, IsReplayFault};
 ghost use Rattle.rtheap_core.specs.Tasks.{most_turns};
 
 use crate::refusal::Refusal;
@@ -37,7 +37,7 @@ pub fn replay_job(
     requires admitted { IsAdmitted job.config }
     requires turns { turns ≤ most_turns }
     ensures job { IfOk result (λ f. job_of (ends.Replayed f) ≡ job) }
-    ensures replayed { IfOk result (IsReplayed schedule turns) }
+    ensures replayed { IfOk result (IsReplayShown schedule turns) }
     ensures fault { IfErr result (IsReplayFault job schedule turns) }
 {
     fulls_are_licensed();

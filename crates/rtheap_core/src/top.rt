@@ -16,19 +16,29 @@ use crate::running::run_told;
 use crate::task::Task;
 use crate::telling::refused;
 use never_heap::{Logs, Pace};
-use schedules::replays_have_one_order;
+use schedules::{replays_end, replays_have_one_order};
 use std::alloc::Global;
 use std::sync::Wait;
 use std::thread::Threads;
 use trace_text::{Sink, Source, inputs_are_told_apart, jobs_are_one};
 
-/// Does what the words ask for: `run` reads a job from the source, runs its threads beside each
-/// other, and writes what each command answered, thread by thread, and a line of totals; `plan`
-/// reads a job and writes the rate of its configuration. Any other words are refused with the line
-/// `rtheap: usage`. The pace is told before each command of a thread that runs.
+/// Does what the words ask for:
 ///
-/// The entries, cycles and units that an ended run shows by `Logs` are those that `done` is about.
-/// An allocation is answered `full` only where more blocks than the job's live limit were reachable
+/// - `run` reads a job from the source, runs its threads beside each other, and writes what each
+///   command answered, thread by thread, and a line of totals. The pace is told before each
+///   command.
+/// - `replay SCHEDULE T` reads a job and makes the turns of a schedule, at most T of them, until all
+///   threads are done. It writes what each command answered and the start of each cycle, in order,
+///   and the totals. The schedule is `robin`, `serial`, or a key from which it is drawn.
+/// - `plan` reads a job and writes the rate of its configuration.
+/// - `make KEY LINES` writes the generated job of a key, with so many commands for each thread.
+/// - `trial KEY LINES` does that job by serial turns, and writes the totals.
+///
+/// T is at most 1,000,000,000 and LINES at most 131,072. A number has 1 to 19 digits, and a 0 in
+/// front only in the number 0. Any other words are refused with the line `rtheap: usage`.
+///
+/// The entries, cycles and units that an ended run shows by `Logs` are those that `done` is about:
+/// the order of one list of turns, which for a replay is that of its schedule. An allocation is answered `full` only where more blocks than the job's live limit were reachable
 /// at the start of the cycle that the reply names; so where no cycle of the run began with more, no
 /// command was answered `full` (`never_full`).
 ///
@@ -63,6 +73,7 @@ pub fn rtheap<R: Threads + Wait + Sync, S: Source, K: Sink, Q: Pace>(
     inputs_are_told_apart();
     jobs_are_one();
     replays_have_one_order();
+    replays_end();
     carried_out(rt, alloc, words, source, sink, pace)
 }
 

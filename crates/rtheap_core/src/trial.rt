@@ -10,7 +10,7 @@ use block_store::OutOfMemory;
 use heap_system::System;
 use never_heap::Logs;
 use rate_plan::one_rate;
-use schedules::{Schedule, replay, replays_are_runs, replays_end};
+use schedules::{Schedule, replay, replays_are_runs, replays_end, replays_stop};
 use std::alloc::Global;
 use trace_text::Job;
 
@@ -34,6 +34,7 @@ pub fn trial(alloc: Global, job: Job) -> Result<Totals, OutOfMemory>
     one_rate();
     replays_are_runs();
     replays_end();
+    replays_stop();
     let mut system = System::new(alloc, job.config, job.traces)?;
     replay(&mut system, Schedule::Serial, u64::MAX);
     let run = finished(system);
