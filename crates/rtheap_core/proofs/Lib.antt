@@ -4,6 +4,7 @@ pub mod Untouched
 pub mod Ordered
 pub mod Replays
 pub mod Lasting
+pub mod Trials
 pub mod Shown
 pub mod CarriedOut
 pub mod Headlines

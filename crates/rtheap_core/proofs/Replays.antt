@@ -183,11 +183,12 @@ some_later w [] h = h
 some_later w (t ∷ ts) h =
     some_later (system_turned t w) ts (some_after w.config t w.state w.ordered h)
 
-pub still_kept : (w q : Whole) (ts : List ℕ) (turns : ℕ) → w.ordered ≡ Some (opening_order turns)
-    → q ≡ system_after w ts → IsSome q.ordered
-still_kept w q ts turns is same =
+pub still_kept : (w q : Whole) (schedule : Schedule) (turns : ℕ)
+    → w.ordered ≡ Some (opening_order turns)
+    → q ≡ system_after w (turns_of schedule w.config w.state turns) → IsSome q.ordered
+still_kept w q schedule turns is same =
     subst (λ (x : Whole). IsSome x.ordered) (sym same)
-    (some_later w ts (subst (λ (o : Option Ordered). IsSome o) (sym is) refl))
+    (some_later w (turns_of schedule w.config w.state turns) (subst (λ (o : Option Ordered). IsSome o) (sym is) refl))
 
 items_are : (o : Option Ordered) (xs : List Item) → IsSome o → IfSome o (λ k. k.items ≡ xs)
     → items_kept o ≡ Some xs

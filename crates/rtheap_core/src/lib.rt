@@ -1,6 +1,8 @@
 //! The top call of rtheap.
 #![tactic(auto)]
 
+#[cfg(test)]
+mod comparing;
 mod exit;
 mod generated;
 mod making;
@@ -9,10 +11,18 @@ mod reading;
 mod refusal;
 mod replay;
 mod replaying;
+#[cfg(test)]
+mod replays;
 mod run;
 mod running;
+#[cfg(test)]
+mod several;
 mod task;
 mod telling;
+#[cfg(test)]
+mod testing;
+#[cfg(test)]
+mod tests;
 mod top;
 mod trial;
 

@@ -1,8 +1,6 @@
-use Rattle.std.proofs.Common.{◌≡◌, map}
-use Rattle.heap_system.specs.Systems.{AllDone}
-use Rattle.rtheap_core.specs.declared.exit.RunEnd.TheVariants.{Replayed}
-use Rattle.rtheap_core.specs.Ends.{job_of}
-use Rattle.rtheap_core.specs.Outcomes.{IsReplayShown}
+use Rattle.std.proofs.Common.{sym, subst}
+use Rattle.heap_system.specs.Machines.{IsJob}
+use Rattle.trace_text.specs.Jobs.{Job}
 use Rattle.rtheap_core.proofs.Replays.{is_after, opens_order, room_left, still_kept, leaves, job_shown_by, replay_shown}
 use Rattle.rtheap_core.proofs.replay.replay_job.Goals as goal
 
@@ -23,7 +21,8 @@ returns-in-None-clause-job c =
     (is_after c.replays_are_runs.ensures c.in_ok-system.system c.replay.new.system _ _
     c.args.schedule c.args.turns c.in_ok-system.ensures.config c.in_ok-system.ensures.opening
     (opens_order _ c.args.turns c.in_ok-system.ensures.ordered) c.replay.ensures.state)
-    c.new_ordered.requires.job c.in-None.ensures.done c.finished.result c.finished.ensures.config
+    (subst (λ (j : Job). IsJob j.config j.traces) (sym c.job.view_is)
+    record { bounds = c.requires.bounds; plan = c.requires.admitted }) c.in-None.ensures.done c.finished.result c.finished.ensures.config
     c.finished.ensures.logs c.finished.ensures.cycles c.args.job c.job.view_is
 
 pub returns-in-None-clause-replayed : goal.returns-in-None-clause-replayed
@@ -32,7 +31,8 @@ returns-in-None-clause-replayed c =
     (is_after c.replays_are_runs.ensures c.in_ok-system.system c.replay.new.system _ _
     c.args.schedule c.args.turns c.in_ok-system.ensures.config c.in_ok-system.ensures.opening
     (opens_order _ c.args.turns c.in_ok-system.ensures.ordered) c.replay.ensures.state)
-    c.new_ordered.requires.job c.in-None.ensures.done c.finished.result c.finished.ensures.config
+    (subst (λ (j : Job). IsJob j.config j.traces) (sym c.job.view_is)
+    record { bounds = c.requires.bounds; plan = c.requires.admitted }) c.in-None.ensures.done c.finished.result c.finished.ensures.config
     c.finished.ensures.logs c.finished.ensures.cycles (record {
       licensed = c.fulls_are_licensed.ensures.licensed;
       never = c.fulls_are_licensed.ensures.never;
@@ -41,5 +41,5 @@ returns-in-None-clause-replayed c =
       most = c.cycles_cost_few_units.ensures.most;
       done = c.cycles_cost_few_units.ensures.done;
     }) c.finished.ensures.order
-    (still_kept c.in_ok-system.system c.replay.new.system _ c.args.turns
+    (still_kept c.in_ok-system.system c.replay.new.system c.args.schedule c.args.turns
     c.in_ok-system.ensures.ordered c.replay.ensures.state)

@@ -1,0 +1,135 @@
+//! Runs of several threads.
+
+use crate::testing::{Call, made, made_at};
+use never_heap::Pace;
+use std::alloc::Global;
+use std::process::Abort;
+use std::sync::Wait;
+use std::sync::atomic::{AtomicU64, Ordering};
+use std::test::Fail;
+use std::thread::Threads;
+
+/// How often a thread looks for the flag of the other before it gives up.
+const LOOKS: u32 = 50_000_000;
+
+/// At command 1 each of two threads raises its flag and looks for the other's.
+#[derive(Drop)]
+struct Meeting {
+    /// How often thread 0 was told of commands 0 and 1, and then thread 1.
+    told: [AtomicU64; 4],
+    /// How often it was told of anything else.
+    other: AtomicU64,
+    flags: [AtomicU64; 2],
+    met: AtomicU64,
+}
+
+impl Meeting {
+    fn new() -> Meeting {
+        Meeting {
+            told: [
+                AtomicU64::new(0),
+                AtomicU64::new(0),
+                AtomicU64::new(0),
+                AtomicU64::new(0),
+            ],
+            other: AtomicU64::new(0),
+            flags: [AtomicU64::new(0), AtomicU64::new(0)],
+            met: AtomicU64::new(0),
+        }
+    }
+}
+
+impl Pace for Meeting {
+    fn before<R: Wait>(&self, _rt: &R, thread: u32, command: u64) {
+        if thread > 1 || command > 1 {
+            self.other.fetch_add(1, Ordering::SeqCst);
+            return;
+        }
+        self.told[2 * thread as usize + command as usize].fetch_add(1, Ordering::SeqCst);
+        if command == 0 {
+            return;
+        }
+        self.flags[thread as usize].store(1, Ordering::SeqCst);
+        for _ in 0..LOOKS {
+            if self.flags[1 - thread as usize].load(Ordering::SeqCst) == 1 {
+                self.met.fetch_add(1, Ordering::SeqCst);
+                return;
+            }
+        }
+    }
+}
+
+#[test]
+fn threads_run_beside_each_other(rt: HostRuntime) -> Result<(), Fail> {
+    let pace = Meeting::new();
+    let input = "rtheap 1 threads 2 blocks 64 live 20 object 2 shared 4
+thread 0
+say 0
+say 0
+thread 1
+say 0
+say 0
+end
+";
+    let (exit, sink) = made_at(&rt, rt.alloc(), &Call::run(input), &pace)?;
+    assert_eq!(rt; (exit.status, exit.due), (0, 0));
+    let written = b"0 ref 2.0\n0 ref 2.0\n1 ref 2.0\n1 ref 2.0\nend cycles 1 work 0\n";
+    assert_eq!(rt; sink.bytes(), written.as_slice());
+    for calls in &pace.told {
+        assert_eq!(rt; calls.load(Ordering::SeqCst), 1);
+    }
+    assert_eq!(rt; pace.other.load(Ordering::SeqCst), 0);
+    assert_eq!(rt; pace.met.load(Ordering::SeqCst), 2);
+    Ok(())
+}
+
+/// How many records each thread makes.
+const RECORDS: u64 = 5000;
+
+/// Four threads that each put records into a ring of 40 which hangs in the shared array, and what
+/// their commands are answered.
+fn histories(alloc: Global) -> Result<(String, String), Fail> {
+    let header = "rtheap 1 threads 4 blocks 4096 live 2000 object 16 shared 16\n";
+    let mut text = String::from_str(alloc, header)?;
+    let mut written = String::new(alloc);
+    for t in 0..4_u64 {
+        let begun = format!(in alloc; "thread {t}\narr 1 40\nput 0 {t} 1\n")?;
+        text.push_str(begun.as_str())?;
+        let told = format!(in alloc; "{t} new {t}.1 work 126\n{t} ok\n")?;
+        written.push_str(told.as_str())?;
+        for j in 0..RECORDS {
+            let place = j % 40;
+            let serial = j + 2;
+            let commands = format!(in alloc; "new 2 4\nset 3 {j}\nput 2 0 3\nput 1 {place} 2\n")?;
+            text.push_str(commands.as_str())?;
+            let told = format!(in alloc; "{t} new {t}.{serial} work 18\n{t} ok\n{t} ok\n{t} ok\n")?;
+            written.push_str(told.as_str())?;
+        }
+    }
+    text.push_str("end\n")?;
+    Ok((text, written))
+}
+
+/// Whether these bytes are a line of totals with this work, and cycles from `least` to `most`.
+fn are_totals(alloc: Global, bytes: &[u8], least: u64, most: u64, work: u64) -> Result<bool, Fail> {
+    for cycles in least..=most {
+        let line = format!(in alloc; "end cycles {cycles} work {work}\n")?;
+        if bytes == line.as_bytes() {
+            return Ok(true);
+        }
+    }
+    Ok(false)
+}
+
+#[test]
+fn four_threads_keep_histories_over_many_cycles(rt: HostRuntime) -> Result<(), Fail> {
+    let alloc = rt.alloc();
+    let (text, written) = histories(alloc)?;
+    let (exit, sink) = made(&rt, alloc, &Call::run(text.as_str()))?;
+    assert_eq!(rt; (exit.status, exit.due), (0, 0));
+    let bytes = sink.bytes();
+    assert!(rt; bytes.starts_with(written.as_bytes()));
+    let totals = bytes.get(written.len()..).ok_or("no totals")?;
+    assert!(rt; are_totals(alloc, totals, 45, 89, 360_504)?);
+    Ok(())
+}
