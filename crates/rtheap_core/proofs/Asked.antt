@@ -1,11 +1,11 @@
 -- Words ask for one task at most.
-use Rattle.std.proofs.Common.{ℕ, ◌≡◌, ◌==◌, Bool, cond, List, [], ◌∷◌, Option, Some, None, codes, slice_index, refl, sym, ap, ◌∙◌, subst}
+use Rattle.std.proofs.Common.{ℕ, ◌≡◌, ◌==◌, cond, List, [], ◌∷◌, Option, Some, None, codes, slice_index, refl, sym, ap, ◌∙◌, subst}
 use Rattle.trace_text.specs.Reading.{digits_on, number_at}
 use Rattle.schedules.specs.declared.Schedule.{Schedule}
 use Rattle.schedules.specs.declared.Schedule.TheVariants.{Robin, Serial, Key}
 use Rattle.rtheap_core.specs.declared.task.Task.{Task}
 use Rattle.rtheap_core.specs.declared.task.Task.TheVariants.{Run, Replay, Plan, Make, Trial}
-use Rattle.rtheap_core.specs.Tasks.{IsNumber, Names, AsksFor}
+use Rattle.rtheap_core.specs.Tasks.{Names, AsksFor}
 
 -- the one schedule that a word may name: a number, a word with r in front, or another
 abbrev named : Option ℕ → ℕ → Schedule

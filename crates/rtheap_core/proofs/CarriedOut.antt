@@ -23,7 +23,7 @@ use Rattle.rtheap_core.specs.Generated.{generated_job}
 use Rattle.rtheap_core.specs.Outcomes.{HasRun, HasReplay, HasRate}
 use Rattle.rtheap_core.specs.Refusals.{IsCause, IsUnfailed, IsUntouched, status_of, refusal_line}
 use Rattle.rtheap_core.specs.Sides.{Sides}
-use Rattle.rtheap_core.specs.Tasks.{AsksFor, Ask, AskForRun, AskForJob, Reads, Runs}
+use Rattle.rtheap_core.specs.Tasks.{AsksFor, Ask, AskForRun, AskForJob, Runs}
 use Rattle.rtheap_core.proofs.Asked.{one_task}
 use Rattle.rtheap_core.proofs.Headlines.{headline_of, replay_of}
 
@@ -107,16 +107,16 @@ pub run_is_carried_out : (c : Call) (run : ClosedState) → AsksFor c.words Run
     → IsTold c → IsCarriedOut c
 run_is_carried_out c run asked has unfailed due is written t =
     done_is_carried_out c Run asked due unfailed t (λ n. absurd (n (Run, tt, asked))) (record {
-  headline = some_is (Headline c.source c.sink c.exit.status) c.exit.run (Ran run) is
-      (headline_of c.source c.sink c.exit.status run has written);
-  run = (λ _. ((Run, tt, asked), due), λ _. there c.exit.run (Ran run) is);
-  ran = λ _. some_is IsOfThreads c.exit.run (Ran run) is tt;
-  replayed = λ schedule turns a.
-      no_other c.words Run (Replay schedule turns) (λ e. absurd cc) asked a;
-  planned = λ a. no_other c.words Run Plan (λ e. absurd cc) asked a;
-  made = λ key lines a. no_other c.words Run (Make key lines) (λ e. absurd cc) asked a;
-  tried = λ key lines a. no_other c.words Run (Trial key lines) (λ e. absurd cc) asked a;
-})
+      headline = some_is (Headline c.source c.sink c.exit.status) c.exit.run (Ran run) is
+          (headline_of c.source c.sink c.exit.status run has written);
+      run = (λ _. ((Run, tt, asked), due), λ _. there c.exit.run (Ran run) is);
+      ran = λ _. some_is IsOfThreads c.exit.run (Ran run) is tt;
+      replayed = λ schedule turns a.
+          no_other c.words Run (Replay schedule turns) (λ e. absurd cc) asked a;
+      planned = λ a. no_other c.words Run Plan (λ e. absurd cc) asked a;
+      made = λ key lines a. no_other c.words Run (Make key lines) (λ e. absurd cc) asked a;
+      tried = λ key lines a. no_other c.words Run (Trial key lines) (λ e. absurd cc) asked a;
+    })
 
 -- the replay of the schedule and turns that the words say
 of_replay : (c : Call) (schedule : Schedule) (turns : ℕ) (f : Finish)
@@ -140,16 +140,16 @@ replay_is_carried_out c schedule turns f asked has unfailed due is written t =
     let task = Replay schedule turns in
     let replay = replay_of c.source c.sink c.exit.status schedule turns f has written in
     done_is_carried_out c task asked due unfailed t (λ n. absurd (n (task, tt, asked))) (record {
-  headline = some_is (Headline c.source c.sink c.exit.status) c.exit.run (Replayed f) is replay.0;
-  run = (λ _. ((task, tt, asked), due), λ _. there c.exit.run (Replayed f) is);
-  ran = λ a. no_other c.words task Run (λ e. absurd cc) asked a;
-  replayed = λ s n a.
-      some_is (IsReplay c.source c.sink c.exit.status s n) c.exit.run (Replayed f) is
-      (of_replay c schedule turns f asked replay s n a);
-  planned = λ a. no_other c.words task Plan (λ e. absurd cc) asked a;
-  made = λ key lines a. no_other c.words task (Make key lines) (λ e. absurd cc) asked a;
-  tried = λ key lines a. no_other c.words task (Trial key lines) (λ e. absurd cc) asked a;
-})
+      headline = some_is (Headline c.source c.sink c.exit.status) c.exit.run (Replayed f) is replay.0;
+      run = (λ _. ((task, tt, asked), due), λ _. there c.exit.run (Replayed f) is);
+      ran = λ a. no_other c.words task Run (λ e. absurd cc) asked a;
+      replayed = λ s n a.
+          some_is (IsReplay c.source c.sink c.exit.status s n) c.exit.run (Replayed f) is
+          (of_replay c schedule turns f asked replay s n a);
+      planned = λ a. no_other c.words task Plan (λ e. absurd cc) asked a;
+      made = λ key lines a. no_other c.words task (Make key lines) (λ e. absurd cc) asked a;
+      tried = λ key lines a. no_other c.words task (Trial key lines) (λ e. absurd cc) asked a;
+    })
 
 -- a task that runs no job that was read
 module _ (c : Call) (task : Task) (asked : AsksFor c.words task) (due : c.exit.due ≡ 0)
@@ -168,21 +168,21 @@ pub plan_is_carried_out : (c : Call) (rate : ℕ) → AsksFor c.words Plan → H
     → IsWritten c.sink c.exit.status (rate_text rate) → IsTold c → IsCarriedOut c
 plan_is_carried_out c rate asked has unfailed due is written t =
     done_is_carried_out c Plan asked due unfailed t (λ n. absurd (n (Plan, tt, asked))) (record {
-  headline = none_is (Headline c.source c.sink c.exit.status) c.exit.run is;
-  run = not_run c Plan asked due is (λ r. r);
-  ran = λ a. none_is IsOfThreads c.exit.run is;
-  replayed = no_replay c Plan asked due is (λ r. r);
-  planned = λ _. record {
-    job = has.job;
-    read = has.read;
-    admitted = has.admitted;
-    rate = rate;
-    is_rate = has.is_rate;
-    text = written;
-  };
-  made = λ key lines a. no_other c.words Plan (Make key lines) (λ e. absurd cc) asked a;
-  tried = λ key lines a. no_other c.words Plan (Trial key lines) (λ e. absurd cc) asked a;
-})
+      headline = none_is (Headline c.source c.sink c.exit.status) c.exit.run is;
+      run = not_run c Plan asked due is (λ r. r);
+      ran = λ a. none_is IsOfThreads c.exit.run is;
+      replayed = no_replay c Plan asked due is (λ r. r);
+      planned = λ _. record {
+        job = has.job;
+        read = has.read;
+        admitted = has.admitted;
+        rate = rate;
+        is_rate = has.is_rate;
+        text = written;
+      };
+      made = λ key lines a. no_other c.words Plan (Make key lines) (λ e. absurd cc) asked a;
+      tried = λ key lines a. no_other c.words Plan (Trial key lines) (λ e. absurd cc) asked a;
+    })
 
 pub make_is_carried_out : (c : Call) (key lines : ℕ) → AsksFor c.words (Make key lines)
     → IsUntouched c.source → c.exit.due ≡ 0 → c.exit.run ≡ None
@@ -190,19 +190,19 @@ pub make_is_carried_out : (c : Call) (key lines : ℕ) → AsksFor c.words (Make
 make_is_carried_out c key lines asked untouched due is written t =
     let task = Make key lines in
     done_is_carried_out c task asked due untouched.1 t (λ _. untouched) (record {
-  headline = none_is (Headline c.source c.sink c.exit.status) c.exit.run is;
-  run = not_run c task asked due is (λ r. r);
-  ran = λ a. none_is IsOfThreads c.exit.run is;
-  replayed = no_replay c task asked due is (λ r. r);
-  planned = λ a. no_other c.words task Plan (λ e. absurd cc) asked a;
-  made = λ k l a.
-      let same = one_task c.words task (Make k l) asked a in
-      let keys : key ≡ k = cc in
-      let numbers : lines ≡ l = cc in
-      subst (λ n. IsWritten c.sink c.exit.status (job_text (generated_job k n))) numbers
-      (subst (λ n. IsWritten c.sink c.exit.status (job_text (generated_job n lines))) keys written);
-  tried = λ k l a. no_other c.words task (Trial k l) (λ e. absurd cc) asked a;
-})
+      headline = none_is (Headline c.source c.sink c.exit.status) c.exit.run is;
+      run = not_run c task asked due is (λ r. r);
+      ran = λ a. none_is IsOfThreads c.exit.run is;
+      replayed = no_replay c task asked due is (λ r. r);
+      planned = λ a. no_other c.words task Plan (λ e. absurd cc) asked a;
+      made = λ k l a.
+          let same = one_task c.words task (Make k l) asked a in
+          let keys : key ≡ k = cc in
+          let numbers : lines ≡ l = cc in
+          subst (λ n. IsWritten c.sink c.exit.status (job_text (generated_job k n))) numbers
+          (subst (λ n. IsWritten c.sink c.exit.status (job_text (generated_job n lines))) keys written);
+      tried = λ k l a. no_other c.words task (Trial k l) (λ e. absurd cc) asked a;
+    })
 
 pub trial_is_carried_out : (c : Call) (key lines : ℕ) → AsksFor c.words (Trial key lines)
     → IsUntouched c.source → c.exit.due ≡ 0 → c.exit.run ≡ None
@@ -210,19 +210,19 @@ pub trial_is_carried_out : (c : Call) (key lines : ℕ) → AsksFor c.words (Tri
 trial_is_carried_out c key lines asked untouched due is tried t =
     let task = Trial key lines in
     done_is_carried_out c task asked due untouched.1 t (λ _. untouched) (record {
-  headline = none_is (Headline c.source c.sink c.exit.status) c.exit.run is;
-  run = not_run c task asked due is (λ r. r);
-  ran = λ a. none_is IsOfThreads c.exit.run is;
-  replayed = no_replay c task asked due is (λ r. r);
-  planned = λ a. no_other c.words task Plan (λ e. absurd cc) asked a;
-  made = λ k l a. no_other c.words task (Make k l) (λ e. absurd cc) asked a;
-  tried = λ k l a.
-      let same = one_task c.words task (Trial k l) asked a in
-      let keys : key ≡ k = cc in
-      let numbers : lines ≡ l = cc in
-      subst (λ n. Tried c.sink c.exit.status k n) numbers
-      (subst (λ n. Tried c.sink c.exit.status n lines) keys tried);
-})
+      headline = none_is (Headline c.source c.sink c.exit.status) c.exit.run is;
+      run = not_run c task asked due is (λ r. r);
+      ran = λ a. none_is IsOfThreads c.exit.run is;
+      replayed = no_replay c task asked due is (λ r. r);
+      planned = λ a. no_other c.words task Plan (λ e. absurd cc) asked a;
+      made = λ k l a. no_other c.words task (Make k l) (λ e. absurd cc) asked a;
+      tried = λ k l a.
+          let same = one_task c.words task (Trial k l) asked a in
+          let keys : key ≡ k = cc in
+          let numbers : lines ≡ l = cc in
+          subst (λ n. Tried c.sink c.exit.status k n) numbers
+          (subst (λ n. Tried c.sink c.exit.status n lines) keys tried);
+    })
 
 -- ---- a refusal
 

@@ -1,6 +1,5 @@
 -- A job in bounds takes fewer than 2^64 serial turns.
-use Rattle.std.proofs.Common.{ℕ, zero, suc, ◌+◌, ◌-◌, ◌*◌, ◌^◌, ◌≡◌, ◌≤◌, ◌<◌, ◌⊎◌, inl, inr, Bool, true, false, List, [], ◌∷◌, length, get_or, refl, sym, ap, ◌∙◌, subst, arith}
-use Rattle.std.proofs.lemmas.Bool.{cases_Bool}
+use Rattle.std.proofs.Common.{ℕ, zero, suc, ◌+◌, ◌-◌, ◌*◌, ◌^◌, ◌≤◌, List, [], ◌∷◌, length, get_or, arith}
 use Rattle.std.proofs.lemmas.Nat.{mul-le}
 use Rattle.std.specs.List.{AllByRecursion}
 use Rattle.block_store.specs.declared.Config.{Config}
@@ -51,7 +50,7 @@ module _ (c : Config) (rate : ℕ) (threads : c.threads ≤ 16) (object : c.obje
   trace : (ks : List Command) → IsTraceInBounds c ks → trace_bound c rate ks ≤ 131072 * most
   trace ks b =
       let many : length ks * most ≤ 131072 * most = mul-le (length ks) most 131072 most b.few
-          (omega arith) in
+      (omega arith) in
       omega (arith, commands ks b.commands, many)
 
   at : (traces : List (List Command)) → AllByRecursion (IsTraceInBounds c) traces → (t : ℕ)

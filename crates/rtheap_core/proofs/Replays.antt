@@ -1,5 +1,5 @@
 -- What a replay shows: its history is the order of the turns of its schedule.
-use Rattle.std.proofs.Common.{ℕ, zero, suc, ◌+◌, ◌≡◌, ◌≤◌, ◌<◌, inl, inr, true, false, List, [], ◌∷◌, Option, Some, None, IsSome, IfSome, map, length, get_or, refl, sym, ap, ◌∙◌, subst, arith, zero-add}
+use Rattle.std.proofs.Common.{ℕ, ◌≡◌, ◌≤◌, true, false, List, [], ◌∷◌, Option, Some, None, IsSome, IfSome, map, get_or, refl, sym, ap, ◌∙◌, subst, arith}
 use Rattle.block_store.specs.declared.Config.{Config}
 use Rattle.block_store.specs.Phases.{cycle_of}
 use Rattle.block_store.specs.Places.{Phase}
@@ -9,7 +9,7 @@ use Rattle.never_heap.specs.declared.Item.{Item}
 use Rattle.never_heap.specs.declared.Item.TheVariants as items
 use Rattle.never_heap.specs.Histories.{part, starts_in, work_in}
 use Rattle.never_heap.specs.Orders.{item_of, IsHistoryOf}
-use Rattle.heap_system.specs.Machines.{State, Run, next, after_turns, opened, heap_in, local_at, IsJob, IsOpening}
+use Rattle.heap_system.specs.Machines.{State, Run, next, after_turns, opened, heap_in, IsJob, IsOpening}
 use Rattle.heap_system.specs.Serials.{job_bound}
 use Rattle.heap_system.specs.Systems.{Finish, Whole, Ordered, AllDone, IsLeastUndone, IsReached, IsFinished, traces_of, logs_of, units_of, opening_order, ordered_after, items_kept}
 use Rattle.heap_system.proofs.Reached.{turned_traces, all_done, done_run, logged_all}
@@ -22,7 +22,7 @@ use Rattle.schedules.specs.Schedules.{turns_of}
 use Rattle.trace_text.specs.Jobs.{Job}
 use Rattle.rtheap_core.specs.declared.exit.RunEnd.TheVariants.{Replayed}
 use Rattle.rtheap_core.specs.declared.trial.Totals.{Totals}
-use Rattle.rtheap_core.specs.Ends.{HasHistory, EndsIn, IsReplayOf, commands_of, job_of}
+use Rattle.rtheap_core.specs.Ends.{EndsIn, commands_of, job_of}
 use Rattle.rtheap_core.specs.Outcomes.{HasTotals}
 use Rattle.rtheap_core.specs.Refusals.{LeavesUndone}
 use Rattle.rtheap_core.specs.Outcomes as outcomes
@@ -89,9 +89,9 @@ module _ (c : Config) (traces : List (List Command)) (schedule : Schedule) (turn
     ends : EndsIn (job_of (Replayed f)) schedule turns r
     ends = subst (λ (j : Job). EndsIn j schedule turns r)
         (sym (job_is (record { config = c; traces = traces }) refl)) (record {
-      replayed = is;
-      done = subst (AllDone c) same done;
-    })
+          replayed = is;
+          done = subst (AllDone c) same done;
+        })
 
     logged : (t : ℕ) → part t r.order ≡ get_or f.logs t []
     unfolding reached
@@ -229,11 +229,14 @@ module _ (c : Config) (traces : List (List Command)) (schedule : Schedule) (turn
   pub leaves : (thread : ℕ) → IsLeastUndone q.config q.state thread → (j : Job)
       → record { config = c; traces = traces } ≡ j
       → (run : Run) × LeavesUndone j schedule turns thread run
-  leaves thread least j e = (a.run, subst (λ (x : Job). LeavesUndone x schedule turns thread a.run) e (record {
-    replayed = a.is;
-    least = subst (λ s. IsLeastUndone c s thread) a.shown.state
-        (subst (λ k. IsLeastUndone k q.state thread) a.shown.config least);
-  }))
+  leaves thread least j e = (
+    a.run,
+    subst (λ (x : Job). LeavesUndone x schedule turns thread a.run) e (record {
+      replayed = a.is;
+      least = subst (λ s. IsLeastUndone c s thread) a.shown.state
+          (subst (λ k. IsLeastUndone k q.state thread) a.shown.config least);
+    }),
+  )
 
   pub all_of_run : AllDone c a.run.state → AllDone q.config q.state
   all_of_run done =

@@ -1,5 +1,5 @@
 -- A serial replay of as many turns as can be asked for ends, and had few turns.
-use Rattle.std.proofs.Common.{ℕ, ◌≡◌, ◌≤◌, ◌*◌, List, Option, None, refl, subst, arith}
+use Rattle.std.proofs.Common.{ℕ, ◌≡◌, ◌≤◌, ◌*◌, List, None, refl, subst, arith}
 use Rattle.block_store.specs.declared.Config.{Config}
 use Rattle.never_heap.specs.declared.Command.{Command}
 use Rattle.rate_plan.specs.Rates.{IsAdmitted, IsRate}

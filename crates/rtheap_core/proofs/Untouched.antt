@@ -1,6 +1,6 @@
 -- What came of a generated job.
-use Rattle.std.proofs.Common.{ℕ, ◌≡◌, ◌≤◌, List, Option, Some, None, drop, refl, sym, ap, ◌∙◌, subst, arith}
-use Rattle.never_heap.specs.Histories.{starts_in, work_in}
+use Rattle.std.proofs.Common.{ℕ, ◌≡◌, List, Option, Some, None, ap, ◌∙◌, subst, arith}
+use Rattle.never_heap.specs.Histories.{starts_in}
 use Rattle.trace_text.specs.Streams.{TookAtMost}
 use Rattle.trace_text.specs.Texts.{totals_line}
 use Rattle.rtheap_core.specs.declared.refusal.Refusal.TheVariants.{OutOfMemory}

@@ -1,5 +1,5 @@
 -- What a call answers to an input that is known.
-use Rattle.std.proofs.Common.{ℕ, ◌≡◌, ◌≢◌, ◌≤◌, ◌<◌, ◌⊎◌, inl, inr, List, length, Option, Bool, false, true, Some, None, IfSome, IsSome, refl, sym, ap, ◌∙◌, subst, arith}
+use Rattle.std.proofs.Common.{ℕ, ◌≡◌, ◌≢◌, ◌≤◌, ◌<◌, ◌⊎◌, inl, inr, List, length, Option, false, true, Some, None, IfSome, IsSome, refl, sym, ap, ◌∙◌, subst, arith}
 use Rattle.std.proofs.lemmas.Bool.{cases_eq}
 use Rattle.block_store.specs.declared.Config.{Config}
 use Rattle.never_heap.specs.declared.Command.{Command}
@@ -25,8 +25,8 @@ use Rattle.rtheap_core.specs.declared.task.Task.{Task}
 use Rattle.rtheap_core.specs.declared.task.Task.TheVariants.{Run, Replay, Plan, Make, Trial}
 use Rattle.rtheap_core.specs.Calls.{Call, IsCarriedOut, IsDueFor, IsComplete}
 use Rattle.rtheap_core.specs.Ends.{EndsIn, job_of}
-use Rattle.rtheap_core.specs.Exits.{Headline, IsReplay, Planned, IsDueOrFails}
-use Rattle.rtheap_core.specs.Refusals.{IsCause, IsUnfailed, IsJobWith, LeavesUndone, Refused, status_of}
+use Rattle.rtheap_core.specs.Exits.{Headline, IsReplay, IsDueOrFails}
+use Rattle.rtheap_core.specs.Refusals.{IsCause, IsJobWith, LeavesUndone, Refused, status_of}
 use Rattle.rtheap_core.specs.Sides.{Sides}
 use Rattle.rtheap_core.specs.Tasks.{AsksFor, Ask, AskForJob, Reads}
 use Rattle.rtheap_core.proofs.Asked.{one_task}

@@ -11,10 +11,10 @@ mod reading;
 mod refusal;
 mod replay;
 mod replaying;
-#[cfg(test)]
-mod replays;
 mod run;
 mod running;
+#[cfg(test)]
+mod scheduled;
 #[cfg(test)]
 mod several;
 mod task;

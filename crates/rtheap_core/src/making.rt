@@ -28,11 +28,11 @@ pub fn make_told<K: Sink>(alloc: Global, sink: &mut K, key: u64, lines: u32) -> 
     requires { lines ≤ most_lines }
     ensures { (words : List (List ℕ)) (source : Sides) → IsUntouched source
         → AsksFor words (Make key lines) → IsCarriedOut (record {
-      words = words;
-      source = source;
-      sink = sides K.held K.faults sink.old sink.new;
-      exit = result;
-    }) }
+          words = words;
+          source = source;
+          sink = sides K.held K.faults sink.old sink.new;
+          exit = result;
+        }) }
 {
     match generate(alloc, key, lines) {
         Ok(job) => written_job(&job, sink),
@@ -45,11 +45,11 @@ pub fn trial_told<K: Sink>(alloc: Global, sink: &mut K, key: u64, lines: u32) ->
     requires { lines ≤ most_lines }
     ensures { (words : List (List ℕ)) (source : Sides) → IsUntouched source
         → AsksFor words (Trial key lines) → IsCarriedOut (record {
-      words = words;
-      source = source;
-      sink = sides K.held K.faults sink.old sink.new;
-      exit = result;
-    }) }
+          words = words;
+          source = source;
+          sink = sides K.held K.faults sink.old sink.new;
+          exit = result;
+        }) }
 {
     match tried(alloc, key, lines) {
         Ok(totals) => written_totals(totals, sink),

@@ -35,11 +35,11 @@ pub fn replay_told<S: Source, K: Sink>(
     requires { turns ≤ most_turns }
     ensures { (words : List (List ℕ)) → AsksFor words (Replay schedule turns)
         → IsCarriedOut (record {
-      words = words;
-      source = sides S.left S.faults source.old source.new;
-      sink = sides K.held K.faults sink.old sink.new;
-      exit = result;
-    }) }
+          words = words;
+          source = sides S.left S.faults source.old source.new;
+          sink = sides K.held K.faults sink.old sink.new;
+          exit = result;
+        }) }
 {
     orders_tell_histories();
     match replayed(alloc, source, schedule, turns) {

@@ -1,7 +1,6 @@
-use Rattle.std.proofs.Common.{map, string_bytes, refl}
 use Rattle.rtheap_core.specs.declared.refusal.Refusal.TheVariants.{OutOfMemory}
 use Rattle.rtheap_core.specs.declared.task.Task.TheVariants.{Make}
-use Rattle.rtheap_core.proofs.CarriedOut.{make_is_carried_out, refusal_is_carried_out}
+use Rattle.rtheap_core.proofs.CarriedOut.{refusal_is_carried_out}
 use Rattle.rtheap_core.proofs.Untouched.{memory_cause}
 use Rattle.rtheap_core.proofs.making.make_told.Goals as goal
 

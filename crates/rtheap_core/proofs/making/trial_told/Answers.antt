@@ -1,4 +1,3 @@
-use Rattle.std.proofs.Common.{map, string_bytes, refl}
 use Rattle.rtheap_core.specs.declared.refusal.Refusal.TheVariants.{OutOfMemory}
 use Rattle.rtheap_core.specs.declared.task.Task.TheVariants.{Trial}
 use Rattle.rtheap_core.proofs.CarriedOut.{trial_is_carried_out, refusal_is_carried_out}

@@ -1,4 +1,3 @@
-use Rattle.std.proofs.Common.{refl}
 use Rattle.rtheap_core.specs.declared.task.Task.TheVariants.{Replay}
 use Rattle.rtheap_core.proofs.CarriedOut.{replay_is_carried_out, refusal_is_carried_out}
 use Rattle.rtheap_core.proofs.Ordered.{has_order, written_as}

@@ -1,4 +1,3 @@
-use Rattle.std.proofs.Common.{subst, sym}
 use Rattle.std.proofs.lemmas.Result.{err_from_is_err_and}
 use Rattle.rtheap_core.specs.declared.task.Task.TheVariants.{Replay}
 use Rattle.rtheap_core.specs.Sides.{sides}

@@ -1,4 +1,3 @@
-use Rattle.std.proofs.Common.{inl, inr}
 use Rattle.rtheap_core.specs.declared.task.Task.TheVariants.{Run}
 use Rattle.rtheap_core.proofs.CarriedOut.{run_is_carried_out, refusal_is_carried_out}
 use Rattle.rtheap_core.proofs.running.run_told.Goals as goal

@@ -1,4 +1,4 @@
-use Rattle.std.proofs.Common.{map, string_bytes, refl}
+use Rattle.std.proofs.Common.{refl}
 use Rattle.rtheap_core.specs.declared.refusal.Refusal.TheVariants.{Usage}
 use Rattle.rtheap_core.proofs.CarriedOut.{refusal_is_carried_out}
 use Rattle.rtheap_core.proofs.top.carried_out.Goals as goal

@@ -1,4 +1,4 @@
-use Rattle.std.proofs.Common.{◌≡◌, List, Vec, Global, map, refl, sym, subst}
+use Rattle.std.proofs.Common.{List, Vec, Global, map, refl, sym, subst}
 use Rattle.never_heap.specs.declared.Command.{Command}
 use Rattle.heap_system.specs.Machines.{IsJob}
 use Rattle.schedules.specs.declared.Schedule.TheVariants.{Serial}

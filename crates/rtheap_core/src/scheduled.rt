@@ -58,20 +58,76 @@ fn a_replay_ends_with_its_last_turn_and_not_before(rt: HostRuntime) -> Result<()
     let used = "rtheap: turns used, thread 0\n";
     let shows = job(alloc, "say 1\n")?;
     let written = "start 1\n0 nil\nend cycles 1 work 0\n";
-    says(&rt, alloc, &["replay", "robin", "4"], shows.as_str(), 0, written)?;
-    says(&rt, alloc, &["replay", "robin", "3"], shows.as_str(), 8, used)?;
-    says(&rt, alloc, &["replay", "7", "4"], shows.as_str(), 0, written)?;
+    says(
+        &rt,
+        alloc,
+        &["replay", "robin", "4"],
+        shows.as_str(),
+        0,
+        written,
+    )?;
+    says(
+        &rt,
+        alloc,
+        &["replay", "robin", "3"],
+        shows.as_str(),
+        8,
+        used,
+    )?;
+    says(
+        &rt,
+        alloc,
+        &["replay", "7", "4"],
+        shows.as_str(),
+        0,
+        written,
+    )?;
     let one = job(alloc, "new 1 1\n")?;
     let written = "start 1\n0 new 0.1 work 7\nend cycles 1 work 7\n";
-    says(&rt, alloc, &["replay", "serial", "101"], one.as_str(), 0, written)?;
-    says(&rt, alloc, &["replay", "serial", "100"], one.as_str(), 8, used)?;
+    says(
+        &rt,
+        alloc,
+        &["replay", "serial", "101"],
+        one.as_str(),
+        0,
+        written,
+    )?;
+    says(
+        &rt,
+        alloc,
+        &["replay", "serial", "100"],
+        one.as_str(),
+        8,
+        used,
+    )?;
     let two = job(alloc, "new 1 1\nnew 1 1\n")?;
     let written = "start 1\n0 new 0.1 work 7\n0 new 0.2 work 7\nend cycles 1 work 14\n";
-    says(&rt, alloc, &["replay", "serial", "129"], two.as_str(), 0, written)?;
-    says(&rt, alloc, &["replay", "serial", "128"], two.as_str(), 8, used)?;
+    says(
+        &rt,
+        alloc,
+        &["replay", "serial", "129"],
+        two.as_str(),
+        0,
+        written,
+    )?;
+    says(
+        &rt,
+        alloc,
+        &["replay", "serial", "128"],
+        two.as_str(),
+        8,
+        used,
+    )?;
     let none = job(alloc, "")?;
     let written = "start 1\nend cycles 1 work 0\n";
-    says(&rt, alloc, &["replay", "serial", "0"], none.as_str(), 0, written)
+    says(
+        &rt,
+        alloc,
+        &["replay", "serial", "0"],
+        none.as_str(),
+        0,
+        written,
+    )
 }
 
 #[test]
@@ -80,7 +136,14 @@ fn the_turns_that_always_suffice_suffice(rt: HostRuntime) -> Result<(), Fail> {
     let (commands, replies) = EACH_KIND;
     let text = job(alloc, commands)?;
     let written = format!(in alloc; "start 1\n{replies}")?;
-    says(&rt, alloc, &["replay", "serial", "1654"], text.as_str(), 0, written.as_str())
+    says(
+        &rt,
+        alloc,
+        &["replay", "serial", "1654"],
+        text.as_str(),
+        0,
+        written.as_str(),
+    )
 }
 
 /// Two threads, of which the second has nothing to do: its grey list is taken by the first.
@@ -96,7 +159,14 @@ end
 fn a_list_of_another_thread_is_taken(rt: HostRuntime) -> Result<(), Fail> {
     let written = "start 1\n0 new 0.1 work 8\n0 new 0.2 work 8\nend cycles 1 work 16\n";
     for turns in ["2000", "1632"] {
-        says(&rt, rt.alloc(), &["replay", "serial", turns], STOLEN, 0, written)?;
+        says(
+            &rt,
+            rt.alloc(),
+            &["replay", "serial", turns],
+            STOLEN,
+            0,
+            written,
+        )?;
     }
     Ok(())
 }
@@ -112,7 +182,14 @@ end
     let used = "rtheap: turns used, thread 1\n";
     says(&rt, rt.alloc(), &["replay", "robin", "7"], input, 8, used)?;
     let written = "start 1\n1 ref 2.0\nend cycles 1 work 0\n";
-    says(&rt, rt.alloc(), &["replay", "robin", "20"], input, 0, written)
+    says(
+        &rt,
+        rt.alloc(),
+        &["replay", "robin", "20"],
+        input,
+        0,
+        written,
+    )
 }
 
 /// Allocates records of one block of which none is kept, and where cycles start in between.
@@ -138,7 +215,14 @@ fn starts_between(alloc: Global) -> Result<(String, String), AllocError> {
 fn starts_of_cycles_stand_where_they_came(rt: HostRuntime) -> Result<(), Fail> {
     let alloc = rt.alloc();
     let (text, written) = starts_between(alloc)?;
-    says(&rt, alloc, &["replay", "serial", "20000"], text.as_str(), 0, written.as_str())
+    says(
+        &rt,
+        alloc,
+        &["replay", "serial", "20000"],
+        text.as_str(),
+        0,
+        written.as_str(),
+    )
 }
 
 /// What a replay handed back.
@@ -164,7 +248,10 @@ fn a_fault_of_the_sink_leaves_the_items_before(rt: HostRuntime) -> Result<(), Fa
     let run = replayed(exit)?;
     assert_eq!(rt; (run.threads(), run.cycles(), run.units()), (1, 1, 7));
     let order = run.order().ok_or("no order")?;
-    assert_eq!(rt; order, [Item::Start, Item::Entry(0), Item::Entry(0), Item::Entry(0)].as_slice());
+    assert_eq!(rt;
+        order,
+        [Item::Start, Item::Entry(0), Item::Entry(0), Item::Entry(0)].as_slice()
+    );
     Ok(())
 }
 
