@@ -5,7 +5,8 @@
 //!     machine serial                  the turns of each thread in turn, on plain words
 //!     machine replay robin|serial|KEY TURNS      a schedule, printed in order
 //!     machine make KEY LINES | machine trial KEY LINES
-//!     machine measure [serial]        as run or serial, but prints turns, units and waits
+//!     machine measure [serial]        as run or serial, but prints turns, units and waits, and the
+//!                                     most turns of a command by the blocks that it asks for
 
 use std::cell::Cell;
 use std::hint;
@@ -403,8 +404,11 @@ struct Mutator {
     serial: u32,
     turns: u64,
     waits: u64,
-    most_turns: u64,
+    // Of the command in hand: the blocks that it asks for, and the turns before it.
+    blocks: usize,
     turns_before: u64,
+    // The most turns of a command that asks for so many blocks.
+    most_turns: Vec<u64>,
 }
 
 impl Mutator {
@@ -432,8 +436,9 @@ impl Mutator {
             serial: 0,
             turns: 0,
             waits: 0,
-            most_turns: 0,
+            blocks: 0,
             turns_before: 0,
+            most_turns: Vec::new(),
         }
     }
 
@@ -524,8 +529,8 @@ impl Mutator {
             if self.log.len() == self.trace.len() {
                 return Turn::Done;
             }
-            let blocks = self.command().blocks(heap.config.width) as u64;
-            self.owed = heap.rate * blocks;
+            self.blocks = self.command().blocks(heap.config.width);
+            self.owed = heap.rate * self.blocks as u64;
             self.row = Row::Look;
             self.turns_before = self.turns;
         }
@@ -536,7 +541,11 @@ impl Mutator {
             self.waits += 1;
         }
         if row == Row::Rest {
-            self.most_turns = self.most_turns.max(self.turns - self.turns_before);
+            if self.most_turns.len() <= self.blocks {
+                self.most_turns.resize(self.blocks + 1, 0);
+            }
+            let most = &mut self.most_turns[self.blocks];
+            *most = (*most).max(self.turns - self.turns_before);
         }
         turn
     }
@@ -1265,15 +1274,20 @@ fn print_by_threads((cycles, mutators): (u64, Vec<Mutator>)) {
     out.last(cycles, &mutators);
 }
 
-fn measure((cycles, mutators): (u64, Vec<Mutator>)) {
+fn measure(rate: u64, (cycles, mutators): (u64, Vec<Mutator>)) {
+    let mut most_turns: Vec<u64> = Vec::new();
     for m in &mutators {
-        println!(
-            "thread {} turns {} waits {} most turns of a command {}",
-            m.thread, m.turns, m.waits, m.most_turns
-        );
+        println!("thread {} turns {} waits {}", m.thread, m.turns, m.waits);
+        most_turns.resize(most_turns.len().max(m.most_turns.len()), 0);
+        for (blocks, &turns) in m.most_turns.iter().enumerate() {
+            most_turns[blocks] = most_turns[blocks].max(turns);
+        }
+    }
+    for (blocks, turns) in most_turns.iter().enumerate().filter(|&(_, &turns)| turns > 0) {
+        println!("blocks {blocks} most turns {turns}");
     }
     let work: u64 = mutators.iter().flat_map(|m| &m.log).map(|e| e.work).sum();
-    println!("cycles {cycles} units {work}");
+    println!("cycles {cycles} units {work} rate {rate}");
 }
 
 fn trial(job: Job) {
@@ -1368,8 +1382,14 @@ fn main() -> ExitCode {
     match words[..] {
         ["run"] => print_by_threads(ran(read_job())),
         ["serial"] => print_by_threads(ran_serially(read_job())),
-        ["measure"] => measure(ran(read_job())),
-        ["measure", "serial"] => measure(ran_serially(read_job())),
+        ["measure"] => {
+            let job = read_job();
+            measure(job.config.rate(), ran(job));
+        }
+        ["measure", "serial"] => {
+            let job = read_job();
+            measure(job.config.rate(), ran_serially(job));
+        }
         ["replay", schedule, turns] => return replay(read_job(), schedule, turns.parse().unwrap()),
         ["make", key, lines] => print_job(&generated(key.parse().unwrap(), lines.parse().unwrap())),
         ["trial", key, lines] => trial(generated(key.parse().unwrap(), lines.parse().unwrap())),

@@ -19,8 +19,10 @@ use Rattle.heap_system.proofs.Starting.{length_starts}
 use Rattle.atom_board.specs.declared.rules.Held.{Held}
 use Rattle.atom_board.specs.declared.rules.View.{View}
 use Rattle.atom_board.specs.Boards.{BoardKept, first_view, one_view}
+use Rattle.atom_board.specs.Ends.{EndsAlone}
 use Rattle.atom_board.specs.Mutators.{BoardState, MutatorState, AreInOrder, AllAreDone, AreFresh, start_mutator, held_of, local_of, log_of}
-use Rattle.atom_board.proofs.Openings.{opens}
+use Rattle.atom_board.proofs.InTime.{in_time_at_first}
+use Rattle.atom_board.proofs.Openings.{opened_after, opens}
 use Rattle.atom_board.proofs.Endings.{ended}
 
 middle : {A : Type 0} (ys zs : List A) (x d : A) → get_or (ys ++ x ∷ zs) (length ys) d ≡ x
@@ -80,12 +82,20 @@ module _ (c : Config) (traces : List (List Command)) (job : IsJob c traces) (s :
         (ap (λ (h : MutatorState). h.board) e, ap (λ (h : MutatorState). h.local.thread) e ∙ ap (λ (l : LocalState). l.thread) (start_at t (no_local c) tl)));
   }
 
-  pub start_fresh : (id : TableId) → AreFresh traces (map (start_mutator id) s.locals)
+  pub start_fresh : (id : TableId) → AreFresh c traces (map (start_mutator id) s.locals)
   start_fresh id t d low =
       let tl : t < length s.locals = omega (arith, length-map s.locals (start_mutator id)) in
       let e = get_or_map (start_mutator id) s.locals t d (no_local c) tl in
       let a = start_at t (no_local c) tl in
-      (ap (λ (h : MutatorState). h.turns) e, ap (λ (h : MutatorState). h.local.log) e ∙ ap (λ (l : LocalState). l.log) a, ap (λ (h : MutatorState). h.local.trace) e ∙ ap (λ (l : LocalState). l.trace) a)
+      record {
+        config = ap (λ (h : MutatorState). h.local.config) e ∙ ap (λ (l : LocalState). l.config) a;
+        turns = ap (λ (h : MutatorState). h.turns) e;
+        log = ap (λ (h : MutatorState). h.local.log) e ∙ ap (λ (l : LocalState). l.log) a;
+        trace = ap (λ (h : MutatorState). h.local.trace) e ∙ ap (λ (l : LocalState). l.trace) a;
+      }
+
+  pub start_few : (i : ℕ) (d : LocalState) → i < length s.locals → EndsAlone (get_or s.locals i d) 0
+  start_few i d low = in_time_at_first c s i (get_or s.locals i d) (opened_after c traces s job start) (omega (arith, start_count)) (get_or_default s.locals i d (no_local c) low) (ap (λ (l : LocalState). l.config) (start_at i d low))
 
 -- the system from which a table is made
 pub opens_of : (k : Whole) (c : Config) (traces : List (List Command)) (ws : List ℕ) → k.config ≡ c → IsJob c traces → IsOpening c traces k.state → ws ≡ k.state.words → BoardKept k (table.opening ws [] (first_view k))
@@ -96,8 +106,8 @@ pub in_order_of : (b : BoardState) (c : Config) (traces : List (List Command)) (
 in_order_of b c traces s mutators is job start are =
     subst (λ x. AreInOrder x mutators) (sym is) (subst (λ x. AreInOrder (record { id = b.id; config = c; traces = traces }) x) (sym are) (start_in_order c traces job s start b.id (record { board = b.id; local = no_local c; turns = 0 })))
 
-pub fresh_of : (id : TableId) (c : Config) (traces : List (List Command)) (s : State) (mutators : List MutatorState) → IsJob c traces → IsOpening c traces s → mutators ≡ map (start_mutator id) s.locals → AreFresh traces mutators
-fresh_of id c traces s mutators job start are = subst (λ x. AreFresh traces x) (sym are) (start_fresh c traces job s start id)
+pub fresh_of : (id : TableId) (c : Config) (traces : List (List Command)) (s : State) (mutators : List MutatorState) → IsJob c traces → IsOpening c traces s → mutators ≡ map (start_mutator id) s.locals → AreFresh c traces mutators
+fresh_of id c traces s mutators job start are = subst (λ x. AreFresh c traces x) (sym are) (start_fresh c traces job s start id)
 
 -- a seat with the threads of all mutators, each done
 pub closes : (b : BoardState) (k : Whole) (s : table.State Unit View) (id : ℕ) (v : View) (mutators : List MutatorState) (logs : List (List Entry)) (cycles : ℕ) → BoardKept k s → get_elem? s.views id ≡ some v → v ≡ record { locals = map held_of mutators } → k.config ≡ b.config → traces_of k.state ≡ b.traces

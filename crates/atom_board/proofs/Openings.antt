@@ -48,7 +48,7 @@ one_within c rate space t u (trace ∷ traces) low high = elim (cases_eq u t) [
       omega (arith, one_within c rate space (t + 1) u traces (omega arith) (omega arith))
 ]
 
-opened_after : (c : Config) (traces : List (List Command)) (s : State) → IsJob c traces → IsOpening c traces s → IsStateAfter c [] s
+pub opened_after : (c : Config) (traces : List (List Command)) (s : State) → IsJob c traces → IsOpening c traces s → IsStateAfter c [] s
 opened_after c traces s job start =
     let same : traces_of s ≡ traces = opened_traces c traces s start in
     record {

@@ -7,18 +7,21 @@ use lib.ListN.{get_elem?}
 use Rattle.atomic_table.specs.Table as table
 use Rattle.atomic_table.proofs.Lists.{at_set, at_snoc}
 use Rattle.block_store.specs.declared.Config.{Config}
+use Rattle.block_store.specs.Counts.{times}
 use Rattle.block_store.specs.Phases.{bit}
 use Rattle.block_store.specs.Places.{extent}
 use Rattle.heap_machine.specs.declared.op.Op.{Op}
 use Rattle.heap_machine.specs.declared.op.Op.TheVariants as ops
 use Rattle.heap_machine.specs.Operations.{op_at, op_place, words_after, SumFits}
 use Rattle.heap_system.specs.Locals.{LocalState, is_done, part_want, part_step, turn_of, local_got}
-use Rattle.heap_system.specs.Machines.{State, Run, next, turned, after_turns, opened, IsJob, IsRunOf}
+use Rattle.heap_system.specs.Machines.{State, Run, no_local, local_at, next, turned, after_turns, opened, IsJob, IsRunOf}
 use Rattle.heap_system.specs.Systems.{Whole, traces_of, IsReached}
 use Rattle.heap_system.proofs.Reached.{reached_kept, turned_traces, turn_facts, turn_made}
+use Rattle.atom_board.proofs.InTime.{in_time}
+use Rattle.atom_board.specs.Ends.{EndsAlone}
 use Rattle.atom_board.specs.declared.rules.Held.{Held}
 use Rattle.atom_board.specs.declared.rules.View.{View}
-use Rattle.atom_board.specs.Boards.{times, IsStateAfter, HeldFits, AllFit, helds_of, seats_of, BoardKept, held, no_view, one_view, first_in, rest_in, first_of, rest_of, joined, moves_on, written}
+use Rattle.atom_board.specs.Boards.{IsStateAfter, HeldFits, AllFit, helds_of, seats_of, BoardKept, held, no_view, one_view, first_in, rest_in, first_of, rest_of, joined, moves_on, written}
 
 sum_mod : (w v : ℕ) → w + v < 2 ^ 64 → w + v ≡ (w + v) % 2 ^ 64
 sum_mod w v low = omega arith
@@ -114,6 +117,8 @@ allowed k id n l going s kept homes at low =
     let long : length ls ≡ c.threads = (reached_kept c st r).threads in
     let is_one : bit (eqb t t) ≡ 1 = rw (eq-eqb t t refl) refl in
     let count : n + 1 ≡ times t (ts ++ t ∷ []) = omega (arith, f.2, times_last t t ts) in
+    let here : new ≡ local_at c (turned c t st) t = sym (get_or-set_same ls t new (no_local c) (omega arith)) ∙ ap (λ x. local_at c x t) state in
+    let ends : EndsAlone new (n + 1) = in_time c ts (ts ++ t ∷ []) st (turned c t st) t n l new kept.after (turned_after c ts st t kept.after) tl facts.same facts.config here refl refl going f.2 count in
     let fit : HeldFits c (set ls t new) (ts ++ t ∷ []) (held new (n + 1)) = (tl, sym (get_or-set_same ls t new new (omega arith)), count) in (
       one_view new (n + 1),
       table.keeps,
@@ -132,7 +137,7 @@ allowed k id n l going s kept homes at low =
             (at_set s.views id j (one_view new (n + 1)) u e);
         once = λ u ul. omega (arith, seats_set u s.views id (one_view l n) (one_view new (n + 1)) at, kept.once u ul);
       },
-      (refl, (facts.reads, tt)),
+      (refl, (facts.reads, tt), (ends, tt)),
     )
 
 seats_append : (t : ℕ) (views : List View) (w : View) → seats_of t (views ++ w ∷ []) ≡ seats_of t views + helds_of t w.locals

@@ -6,6 +6,7 @@ use prog.Atomic.{either}
 use lib.ListN.{get_elem?}
 use Rattle.atomic_table.specs.Table as table
 use Rattle.block_store.specs.declared.Config.{Config}
+use Rattle.block_store.specs.Counts.{times}
 use Rattle.block_store.specs.Phases.{bit}
 use Rattle.heap_machine.specs.declared.op.Op.{Op}
 use Rattle.heap_machine.specs.declared.op.Op.TheVariants as ops
@@ -14,11 +15,7 @@ use Rattle.heap_system.specs.Machines.{State, Run, IsJob, IsRunOf}
 use Rattle.heap_system.specs.Systems.{Whole, traces_of}
 use Rattle.atom_board.specs.declared.rules.Held.{Held}
 use Rattle.atom_board.specs.declared.rules.View.{View}
-
--- how often t stands in a list
-abbrev pub times : ℕ → List ℕ → ℕ
-times t [] = 0
-times t (u ∷ us) = bit (t == u) + times t us
+use Rattle.atom_board.specs.Ends.{EndsAlone}
 
 -- the state after this list of turns, over some job
 pub record IsStateAfter (c : Config) (ts : List ℕ) (s : State) : Type 0 where
@@ -101,9 +98,15 @@ abbrev pub AllRead : List Held → ℕ → Type 0
 AllRead [] w = Unit {0}
 AllRead (h ∷ hs) w = LocalReads h.local.config h.local w × AllRead hs w
 
--- what a step tells: the thread moved on by one row, and the word is one that its row may read
+abbrev pub AllEndAlone : List Held → Type 0
+AllEndAlone [] = Unit {0}
+AllEndAlone (h ∷ hs) = EndsAlone h.local h.turns × AllEndAlone hs
+
+-- what a step tells: the thread moved on by one row, the word is one that its row may read, and a
+-- thread that is alone ends
 abbrev pub moves_on : table.Me Unit View → ℕ → table.Me Unit View → Type 0
 moves_on me w after = (after ≡ got_of me w) × AllRead me.0.locals w
+    × AllEndAlone (got_of me w).0.locals
 
 -- the turns of a view's first thread
 abbrev pub turns_in : List Held → ℕ

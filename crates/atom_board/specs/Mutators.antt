@@ -8,6 +8,7 @@ use Rattle.heap_system.specs.Locals.{LocalState, LocalReads, is_done, local_got,
 use Rattle.heap_system.specs.declared.Turn.{Turn}
 use Rattle.atom_board.specs.declared.rules.Held.{Held}
 use Rattle.atom_board.specs.Boards.{held}
+use Rattle.atom_board.specs.Ends.{EndsAlone}
 
 -- which table it is, its configuration, and what each thread was told to do
 pub record BoardState : Type 0 where
@@ -76,12 +77,20 @@ abbrev pub log_of : MutatorState → List Entry
 log_of m = m.local.log
 
 -- it has made no turn yet, and has this trace before it
-abbrev pub IsFresh : List Command → MutatorState → Type 0
-IsFresh trace m = (m.turns ≡ 0) × (m.local.log ≡ []) × (m.local.trace ≡ trace)
+pub record IsFresh (c : Config) (given : List Command) (m : MutatorState) : Type 0 where
+  pub config : m.local.config ≡ c
+  pub turns : m.turns ≡ 0
+  pub log : m.local.log ≡ []
+  pub trace : m.local.trace ≡ given
 
-abbrev pub AreFresh : List (List Command) → List MutatorState → Type 0
-AreFresh traces ms = (t : ℕ) (d : MutatorState) → t < length ms
-    → IsFresh (slice_index_or traces t []) (slice_index_or ms t d)
+abbrev pub AreFresh : Config → List (List Command) → List MutatorState → Type 0
+AreFresh c traces ms = (t : ℕ) (d : MutatorState) → t < length ms
+    → IsFresh c (slice_index_or traces t []) (slice_index_or ms t d)
+
+-- Where it is alone on its board, a mutator has made at most as many turns as the bounds of its
+-- commands sum up to, and fewer while it is not done.
+abbrev pub HasFewTurns : MutatorState → Type 0
+HasFewTurns m = EndsAlone m.local m.turns
 
 abbrev pub AllAreDone : List MutatorState → Type 0
 AllAreDone ms = (t : ℕ) (d : MutatorState) → t < length ms

@@ -10,7 +10,8 @@ ghost use Rattle.heap_system.specs.Machines.{IsJob};
 ghost use Rattle.heap_system.specs.Systems.{IsFinished};
 ghost use Rattle.heap_system.specs.declared.Turn.TheVariants as turns;
 ghost use Rattle.atom_board.specs.Boards.{one_view, turns_in, start_held};
-ghost use Rattle.atom_board.specs.Mutators.{BoardState, MutatorState, AreInOrder, AreEachOnce, HasMutator, AreAmong, AreLogsOf, AllAreDone, AreFresh, Moved, IsLater, start_mutator, held_of, local_of, log_of};
+ghost use Rattle.atom_board.specs.Ends.{EndsAlone};
+ghost use Rattle.atom_board.specs.Mutators.{BoardState, MutatorState, AreInOrder, AreEachOnce, HasMutator, AreAmong, AreLogsOf, AllAreDone, AreFresh, HasFewTurns, Moved, IsLater, start_mutator, held_of, local_of, log_of};
 
 use crate::closed::Closed;
 use crate::mutator::Mutator;
@@ -76,6 +77,7 @@ fn act(
     ensures found { seat.new.me
         ≡ (one_view (local_got local.now result) (turns_in seat.old.me.0.locals + 1), []) }
     ensures reads { LocalReads local.now.config local.now result }
+    ensures few { EndsAlone (local_got local.now result) (turns_in seat.old.me.0.locals + 1) }
 {
     let _local = local;
     match *op {
@@ -102,6 +104,8 @@ fn dealt(
     requires words { (i : ℕ) (d : LocalState) → i < length locals.items
         → words_count (extent (slice_index_or locals.items i d).config)
         ≡ shared.now.table_id.words }
+    requires few { (i : ℕ) (d : LocalState) → i < length locals.items
+        → EndsAlone (slice_index_or locals.items i d) 0 }
     requires room { (room.items ≡ []) × (length locals.items ≤ vec_capacity room) }
     ensures { result.items ≡ map (start_mutator shared.now.table_id) locals.items }
 {
@@ -202,7 +206,7 @@ impl AtomBoard {
         ensures board { IfOk result (λ r. (r.0.config ≡ c)
             × (r.0.traces ≡ map (λ v. v.items) traces.items)) }
         ensures mutators { IfOk result (λ r. AreInOrder r.0 r.1.items) }
-        ensures start { IfOk result (λ r. AreFresh (map (λ v. v.items) traces.items) r.1.items) }
+        ensures start { IfOk result (λ r. AreFresh c (map (λ v. v.items) traces.items) r.1.items) }
     {
         let system = System::new(alloc, c, traces)?;
         let words = system.copied_words(alloc)?;
@@ -226,13 +230,15 @@ impl AtomBoard {
     }
 
     /// Makes the event that a mutator of this board wants, as one step of the table. Nothing
-    /// changes where it is done.
+    /// changes where it is done. Where the configuration has one thread, the turns that lead to its
+    /// end are at most as many as the bounds of its commands sum up to.
     pub fn turn(&self, who: &mut Mutator) -> Turn
         requires { who.old.board ≡ self.now.id }
         ensures done { is_done who.old.local ≡ true
             → (result ≡ turns.Done) × (who.new ≡ who.old) }
         ensures moved { is_done who.old.local ≡ false → Moved who.old who.new result }
         ensures later { IsLater who.old who.new }
+        ensures few { HasFewTurns who.new }
     {
         if who.local.done() {
             return Turn::Done;
@@ -244,12 +250,14 @@ impl AtomBoard {
 
     /// Makes turns of a mutator of this board until it is done, and tells the pace before each
     /// command. After a turn that waited it pauses, longer each time until it gets on: until it
-    /// has made a unit or ended a command.
+    /// has made a unit or ended a command. Where the configuration has one thread, it makes at most
+    /// as many turns as the bounds of the commands sum up to.
     #[tactic(auto, using(crate::proofs::Laters::later_same, crate::proofs::Laters::later_on))]
     pub fn drive<R: Wait, Q: Pace>(&self, rt: &R, who: Mutator, pace: &Q) -> Mutator
         requires { who.board ≡ self.now.id }
         ensures later { IsLater who result }
         ensures done { is_done result.local ≡ true }
+        ensures few { HasFewTurns result }
     {
         let mut who = who;
         let backoff = Backoff::new();

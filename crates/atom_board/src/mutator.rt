@@ -2,6 +2,7 @@
 
 ghost use Rattle.std.specs.Prelude.{◌≡◌, true};
 ghost use Rattle.heap_system.specs.Locals.{is_done, is_rest};
+ghost use Rattle.atom_board.specs.Mutators.{HasFewTurns};
 
 use crate::rules::View;
 use atomic_table::Seat;
@@ -20,6 +21,7 @@ impl Model for Mutator {
     ghost use Rattle.std.specs.Prelude.{◌≡◌, []};
     ghost use Rattle.block_store.specs.Places.{extent, words_count};
     ghost use Rattle.atom_board.specs.Boards.{one_view, turns_in};
+    ghost use Rattle.atom_board.specs.Ends.{EndsAlone};
     ghost use Rattle.atom_board.specs.Mutators.{MutatorState};
 
     ghost Value = { MutatorState };
@@ -32,7 +34,8 @@ impl Model for Mutator {
 
     ghost invariant = { λ m. (m.seat.me ≡ (one_view m.local (turns_in m.seat.me.0.locals), []))
         × (m.seat.table_id.slots ≡ 0)
-        × (m.seat.table_id.words ≡ words_count (extent m.local.config)) };
+        × (m.seat.table_id.words ≡ words_count (extent m.local.config))
+        × EndsAlone m.local (turns_in m.seat.me.0.locals) };
 }
 
 impl Mutator {
@@ -43,9 +46,12 @@ impl Mutator {
         self.local.thread()
     }
 
-    /// Whether all commands of the thread are done, and it is at rest outside the gate.
+    /// Whether all commands of the thread are done, and it is at rest outside the gate. Where the
+    /// configuration has one thread, one that is not done has made fewer turns than the bounds of
+    /// its commands sum up to.
     pub fn done(&self) -> bool
-        ensures { result ≡ is_done self.now.local }
+        ensures done { result ≡ is_done self.now.local }
+        ensures few { HasFewTurns self.now }
     {
         self.local.done()
     }

@@ -1,20 +1,20 @@
 -- A replay makes the turns of its schedule, one by one.
-use Rattle.std.proofs.Common.{◌≡◌, ℕ, zero, suc, ◌+◌, ◌-◌, ◌*◌, ◌/◌, ◌%◌, ◌<◌, ◌≤◌, Bool, true, false, not, cond, ltb, lt-ltb, le-ltb, Option, Some, None, IfSome, List, [], ◌∷◌, length, get_or, refl, sym, ap, ◌∙◌, subst, arith, inl, inr}
+use Rattle.std.proofs.Common.{◌≡◌, ℕ, suc, ◌+◌, ◌-◌, ◌*◌, ◌/◌, ◌%◌, ◌<◌, ◌≤◌, Bool, true, false, not, cond, ltb, lt-ltb, le-ltb, Option, Some, None, IfSome, List, [], ◌∷◌, length, refl, sym, ap, ◌∙◌, subst, arith, inl, inr}
 use Rattle.std.proofs.lemmas.Bool.{cases_lt, cases_eq}
 use Rattle.std.proofs.lemmas.Nat.{div-add-mod', mod-mul-add, mod_below}
 use Rattle.std.proofs.lemmas.List.Sums.{position_or_len_is}
 use Rattle.std.specs.List.{position_or_len}
 use Rattle.block_store.specs.declared.Config.{Config}
 use Rattle.heap_system.specs.Locals.{LocalState, is_done}
-use Rattle.heap_system.specs.Machines.{State, Run, local_at, no_local, has_event, turned}
-use Rattle.heap_system.specs.Systems.{Ordered, Whole, after_event, ordered_after, AllDone, IsReached, IsLeastUndone}
+use Rattle.heap_system.specs.Machines.{State, local_at, no_local, has_event, turned}
+use Rattle.heap_system.specs.Systems.{Ordered, Whole, after_event, ordered_after, AllDone, IsReached}
 use Rattle.heap_system.proofs.Ordering.{left_after}
 use Rattle.heap_system.proofs.Reached.{reached_kept}
 use Rattle.schedules.specs.declared.Schedule.{Schedule}
 use Rattle.schedules.specs.declared.Schedule.TheVariants as schedules
 use Rattle.schedules.specs.declared.replaying.Next.{Next}
 use Rattle.schedules.specs.declared.replaying.Next.TheVariants as nexts
-use Rattle.schedules.specs.Schedules.{word, after_words, generator, least_undone, thread_of, turns_on, turns_from}
+use Rattle.schedules.specs.Schedules.{least_undone, thread_of, turns_on, turns_from}
 use Rattle.schedules.specs.Nexts.{next_at, IsNextBelow, thread_next, after_next}
 use Rattle.schedules.specs.Replays.{system_turned, system_after}
 use Rattle.schedules.proofs.Stopping.{no_event_at, still, done_stays}

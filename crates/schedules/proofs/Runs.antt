@@ -5,10 +5,9 @@ use Rattle.block_store.specs.declared.Config.{Config}
 use Rattle.never_heap.specs.declared.Command.{Command}
 use Rattle.never_heap.specs.Histories.{HistoryItem}
 use Rattle.never_heap.specs.Orders.{item_of}
-use Rattle.heap_system.specs.Machines.{State, Run, has_event, next_effect, turned, next, opened, after_turns, IsOpening}
+use Rattle.heap_system.specs.Machines.{State, Run, has_event, next_effect, turned, next, opened, after_turns}
 use Rattle.heap_system.specs.Systems.{Ordered, Whole, items_by_effect, items_added, after_event, ordered_after}
 use Rattle.heap_system.proofs.Ordering.{items_grow}
-use Rattle.schedules.specs.declared.Schedule.{Schedule}
 use Rattle.schedules.specs.declared.Schedule.TheVariants.{Serial}
 use Rattle.schedules.specs.Schedules.{least_undone, turns_on, turns_from, turns_of}
 use Rattle.schedules.specs.Replays.{IsReplayed, ShowsRun, system_turned, system_after}

@@ -7,9 +7,9 @@ ghost use Rattle.rate_plan.specs.Rates.{IsRate};
 ghost use Rattle.never_heap.specs.declared.Command.{Command};
 ghost use Rattle.never_heap.specs.declared.Item.TheVariants as Item;
 ghost use Rattle.heap_system.specs.Locals.{is_done};
-ghost use Rattle.heap_system.specs.Machines.{Run, local_in, after_turns, IsJob, IsOpening};
-ghost use Rattle.heap_system.specs.Serials.{job_bound};
-ghost use Rattle.heap_system.specs.Systems.{Whole, logs_of, AllDone};
+ghost use Rattle.heap_system.specs.Machines.{State, Run, local_in, after_turns, IsJob, IsOpening};
+ghost use Rattle.heap_system.specs.Serials.{IsSerial, job_bound};
+ghost use Rattle.heap_system.specs.Systems.{Whole, logs_of, AllDone, IsReached};
 ghost use Rattle.schedules.specs.declared.Schedule.TheVariants as Schedule;
 ghost use Rattle.schedules.specs.Schedules.{turns_of};
 ghost use Rattle.schedules.specs.Replays.{IsReplayed, ShowsRun, system_after};
@@ -58,6 +58,16 @@ pub fn replays_stop()
         → AllDone c (after_turns c r (turns_of schedule c r.state few)).state
         → after_turns c r (turns_of schedule c r.state many)
         ≡ after_turns c r (turns_of schedule c r.state few) }
+{}
+
+/// Each turn of the serial schedule is for the least thread that is not done after the turns before
+/// it: from every state that a system comes to, and from an opening.
+pub fn serial_turns_are_serial()
+    ensures reached { (c : Config) (s : State) (turns : ℕ) → IsReached c s
+        → IsSerial c s (turns_of Schedule.Serial c s turns) }
+    ensures opening { (c : Config) (traces : List (List Command)) (s : State) (turns : ℕ)
+        → IsJob c traces → IsOpening c traces s
+        → IsSerial c s (turns_of Schedule.Serial c s turns) }
 {}
 
 /// After as many turns as the bounds of all commands sum up to, a serial replay has all threads done

@@ -1,4 +1,4 @@
-use Rattle.std.proofs.Common.{◌≡◌, ◌∙◌, ◌+◌, ◌-◌, ◌<◌, sym, ap, arith}
+use Rattle.std.proofs.Common.{◌∙◌, ◌-◌, sym, ap, arith}
 use Rattle.heap_system.specs.Systems.{Whole}
 use Rattle.schedules.specs.Nexts.{after_next}
 use Rattle.schedules.proofs.LeftTurns.{left_turns, next_after, below_stays, goes_on, stopped, room_stays, room_left}

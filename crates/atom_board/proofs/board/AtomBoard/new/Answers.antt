@@ -4,8 +4,9 @@ use Rattle.heap_system.specs.Locals.{LocalState}
 use Rattle.heap_system.specs.Systems.{traces_of}
 use Rattle.block_store.specs.Places.{extent, words_count}
 use Rattle.std.proofs.Common.{get_or, ◌<◌}
+use Rattle.atom_board.specs.Ends.{EndsAlone}
 use Rattle.atom_board.specs.Mutators.{BoardState, start_mutator}
-use Rattle.atom_board.proofs.Crews.{opens_of, in_order_of, fresh_of, start_words}
+use Rattle.atom_board.proofs.Crews.{start_few, opens_of, in_order_of, fresh_of, start_words}
 use Rattle.atom_board.proofs.board.AtomBoard.new.Goals as goal
 
 abbrev items_of : Vec Command Global → List Command
@@ -18,6 +19,11 @@ pub dealt-mutators-requires-clause-words : goal.dealt-mutators-requires-clause-w
 dealt-mutators-requires-clause-words c =
     subst (λ (ls : List LocalState). (i : ℕ) (d : LocalState) → i < length ls → words_count (extent (get_or ls i d).config) ≡ c.in_ok-table.table.shared.table_id.words) (sym c.into_locals.ensures)
     (start_words c.args.c (map items_of c.args.traces.items) c.requires c.in_ok-system.system.state c.in_ok-system.ensures.opening c.in_ok-table.table.shared.table_id.words (c.in_ok-table.ensures.0 ∙ ap length (c.as_slice.ensures.value ∙ c.in_ok-words.ensures)))
+
+pub dealt-mutators-requires-clause-few : goal.dealt-mutators-requires-clause-few
+dealt-mutators-requires-clause-few c =
+    subst (λ (ls : List LocalState). (i : ℕ) (d : LocalState) → i < length ls → EndsAlone (get_or ls i d) 0) (sym c.into_locals.ensures)
+    (start_few c.args.c (map items_of c.args.traces.items) c.requires c.in_ok-system.system.state c.in_ok-system.ensures.opening)
 
 pub returns-clause-mutators : goal.returns-clause-mutators
 returns-clause-mutators c =
