@@ -166,9 +166,9 @@ module _ (c : Config) (traces : List (List Command)) (job : IsJob c traces) (rat
       (part_stays c (local_at c r.state t).part (lone_at k r) fresh)))
   waits_for_unit old k some command (suc d) r lone fresh changes =
       let on : is_out (local_at c r.state t).part ≡ false =
-          not_out c (local_at c r.state t).part (lone_at k r) fresh in
+      not_out c (local_at c r.state t).part (lone_at k r) fresh in
       let more : Lonely old k (next c t r) =
-          (Runs.one_turn c traces job rate planned t tl old k some command r lone on).1 in
+      (Runs.one_turn c traces job rate planned t tl old k some command r lone on).1 in
       elim (fresh_turn old k some command r lone fresh) [
         | inl unit ↦ (0, omega arith, unit)
         | inr again ↦
@@ -191,11 +191,13 @@ module _ (c : Config) (traces : List (List Command)) (job : IsJob c traces) (rat
   at_rest r kept quiet rest = elim (cases_lt (length (local_at c r.state t).log) (length (local_at c r.state t).trace)) [
     | inl low ↦
         let has : HasCommand (local_at c r.state t) = record { rest = rest; left = low } in
-        inl ((local_at c r.state t).log,
-        command_of (local_at c r.state t),
-        Runs.some_left c traces job rate planned t tl r kept quiet has,
-        Runs.command_is c traces job rate planned t tl r kept quiet has,
-        Runs.begins c traces job rate planned t tl r kept quiet has)
+        inl (
+          (local_at c r.state t).log,
+          command_of (local_at c r.state t),
+          Runs.some_left c traces job rate planned t tl r kept quiet has,
+          Runs.command_is c traces job rate planned t tl r kept quiet has,
+          Runs.begins c traces job rate planned t tl r kept quiet has,
+        )
     | inr over ↦
         let most = (kept.locals t tl).fits.log in
         inr (rw (rest, eq-eqb (length (local_at c r.state t).log) (length (local_at c r.state t).trace) (omega arith)) refl)
@@ -208,8 +210,13 @@ module _ (c : Config) (traces : List (List Command)) (job : IsJob c traces) (rat
             let ended = (Runs.last_turn c traces job rate planned t tl work.0 work.1 work.2 work.3 r work.4 out).1 in
             at_rest (next c t r) (turn_kept c traces (laws_of c) job r kept t) ended.quiet ended.rest
         | inr on ↦
-            inl (work.0, work.1, work.2, work.3,
-            (Runs.one_turn c traces job rate planned t tl work.0 work.1 work.2 work.3 r work.4 on).1)
+            inl (
+              work.0,
+              work.1,
+              work.2,
+              work.3,
+              (Runs.one_turn c traces job rate planned t tl work.0 work.1 work.2 work.3 r work.4 on).1,
+            )
       ]
   still_at_work r kept (inr done) =
       inr (ap (λ s. is_done (local_at c s t)) (done_stays c t r.state done) ∙ done)
@@ -240,13 +247,13 @@ module _ (c : Config) (traces : List (List Command)) (job : IsJob c traces) (rat
       let here : (n : ℕ) → n ≡ i + 0 → after_alone c t (after_alone c t r i) 0 ≡ after_alone c t r n = λ n same. after_add c t r i 0 n same in
       let d = j - suc i in
       let sooner : ChangesPhase c t (after_alone c t r i) 0 =
-          subst (λ (x : Run). is_sweep (heap_in c x.state Phase) ≢ is_sweep (heap_in c (after_alone c t r i).state Phase))
-          (sym (after_add c t r i 1 (suc i) (omega arith))) one in
+      subst (λ (x : Run). is_sweep (heap_in c x.state Phase) ≢ is_sweep (heap_in c (after_alone c t r i).state Phase))
+      (sym (after_add c t r i 1 (suc i) (omega arith))) one in
       let later : ChangesPhase c t (after_alone c t r i) (suc d) =
-          subst (λ (x : Run). is_sweep (heap_in c x.state Phase) ≢ is_sweep (heap_in c (after_alone c t (after_alone c t r i) (suc d)).state Phase))
-          (sym (after_add c t r i (suc (suc d)) (suc j) (omega arith)))
-          (subst (λ (x : Run). is_sweep (heap_in c (after_alone c t r (suc j)).state Phase) ≢ is_sweep (heap_in c x.state Phase))
-          (sym (after_add c t r i (suc d) j (omega arith))) other) in
+      subst (λ (x : Run). is_sweep (heap_in c x.state Phase) ≢ is_sweep (heap_in c (after_alone c t (after_alone c t r i) (suc d)).state Phase))
+      (sym (after_add c t r i (suc (suc d)) (suc j) (omega arith)))
+      (subst (λ (x : Run). is_sweep (heap_in c (after_alone c t r (suc j)).state Phase) ≢ is_sweep (heap_in c x.state Phase))
+      (sym (after_add c t r i (suc d) j (omega arith))) other) in
       let m = unit_after d (after_alone c t r i) there.1 there.0 sooner later in
       let few = m.1 in
       record {
@@ -264,6 +271,6 @@ pub changes_apart : (c : Config) (traces : List (List Command)) (job : IsJob c t
 changes_apart c traces job r t tl kept quiet rest i j low one other =
     let l : LocalState = local_at c r.state t in
     let planned : IsRate c l.rate =
-        subst (λ x. IsRate x l.rate) (kept.locals t tl).config (kept.locals t tl).fits.rate in
+    subst (λ x. IsRate x l.rate) (kept.locals t tl).config (kept.locals t tl).fits.rate in
     unit_between c traces job l.rate planned t tl r kept
     (at_rest c traces job l.rate planned t tl r kept quiet rest) i j low one other

@@ -92,12 +92,14 @@ module _ (c : Config) (traces : List (List Command)) (job : IsJob c traces) (rat
 
   log_after : (log : List Entry) (paid : ℕ) (at : Command) (o : Option Reply) (p : Part)
       → is_out p ≡ is_some o → log ≡ old → at ≡ k → LogAt (log ++ entries_of t at paid o) p
-  log_after log paid at None p out is same =
-      (λ in_hand. append-nil log ∙ is,
-      λ over. absurd (let z : true ≡ false = sym over ∙ out in cc))
-  log_after log paid at (Some r) p out is same =
-      (λ in_hand. absurd (let z : true ≡ false = sym out ∙ in_hand in cc),
-      λ over. (entry_of t at paid r, ap (λ x. x ++ entry_of t at paid r ∷ []) is, same))
+  log_after log paid at None p out is same = (
+    λ in_hand. append-nil log ∙ is,
+    λ over. absurd (let z : true ≡ false = sym over ∙ out in cc),
+  )
+  log_after log paid at (Some r) p out is same = (
+    λ in_hand. absurd (let z : true ≡ false = sym out ∙ in_hand in cc),
+    λ over. (entry_of t at paid r, ap (λ x. x ++ entry_of t at paid r ∷ []) is, same),
+  )
 
   -- what a lone thread has and knows, on this heap
   pub record Own (h : Heap) (l : LocalState) : Type 0 where
@@ -124,10 +126,10 @@ module _ (c : Config) (traces : List (List Command)) (job : IsJob c traces) (rat
       → is_outside (gates_in c z.state t).stand ≡ true → IsQuiet c z
   quiet_after z kept others out =
       let free = open_here c (seen c traces (laws_of c) job.bounds.config job.plan z kept t tl)
-          (record {
-            others = others;
-            low = order_records c traces job.bounds.config job.plan z kept;
-          }) out in
+      (record {
+        others = others;
+        low = order_records c traces job.bounds.config job.plan z kept;
+      }) out in
       record { nobody = free.nobody; opened = free.opened }
 
   -- the run's own
@@ -251,12 +253,13 @@ module _ (c : Config) (traces : List (List Command)) (job : IsJob c traces) (rat
       pub one_turn : (answer c t r.state ≡ turns.Went) × LoneRun (next c t r)
           × (price (heap_in c (next c t r).state) (local_at c (next c t r).state t) < price h l)
       one_turn =
-          let to = sym (next_is c traces (laws_of c) job.bounds.config job.plan r lone.kept t tl going) in
-          (went (step on).goes,
-          subst (λ x. LoneRun x) to
-          (record { kept = kept_later; others = others_later; own = carry Own own_later }),
-          subst (λ (x : Run). price (heap_in c x.state) (local_at c x.state t) < price h l) to
-          (carry (λ y z. price y z < price h l) less))
+          let to = sym (next_is c traces (laws_of c) job.bounds.config job.plan r lone.kept t tl going) in (
+            went (step on).goes,
+            subst (λ x. LoneRun x) to
+                (record { kept = kept_later; others = others_later; own = carry Own own_later }),
+            subst (λ (x : Run). price (heap_in c x.state) (local_at c x.state t) < price h l) to
+                (carry (λ y z. price y z < price h l) less),
+          )
 
     -- the last turn
     module _ (out : is_out l.part ≡ true) where
@@ -273,19 +276,20 @@ module _ (c : Config) (traces : List (List Command)) (job : IsJob c traces) (rat
       last_turn =
           let entry = lone.own.log.1 out in
           let free : waits l.part (h (place_of (part_want c l.part))) ≡ false =
-              ap (λ p. waits p (h (place_of (part_want c p)))) (out_is l.part out) in
-          (went free,
-          subst (λ x. Ended x)
-          (sym (next_is c traces (laws_of c) job.bounds.config job.plan r lone.kept t tl going))
-          (record {
-            rest = carry (λ y z. is_rest z.part ≡ true) (ap is_rest rests);
-            entry = entry.0;
-            log = carry (λ y z. z.log ≡ old ++ entry.0 ∷ []) (silent ∙ entry.1);
-            command = entry.2;
-            quiet = quiet_after later kept_later others_later
-                (carry (λ y z. is_outside (gating c z.pass z.part).stand ≡ true)
-                (ap (λ p. is_outside (gating c moved.pass p).stand) rests));
-          }))
+          ap (λ p. waits p (h (place_of (part_want c p)))) (out_is l.part out) in (
+            went free,
+            subst (λ x. Ended x)
+                (sym (next_is c traces (laws_of c) job.bounds.config job.plan r lone.kept t tl going))
+                (record {
+                  rest = carry (λ y z. is_rest z.part ≡ true) (ap is_rest rests);
+                  entry = entry.0;
+                  log = carry (λ y z. z.log ≡ old ++ entry.0 ∷ []) (silent ∙ entry.1);
+                  command = entry.2;
+                  quiet = quiet_after later kept_later others_later
+                      (carry (λ y z. is_outside (gating c z.pass z.part).stand ≡ true)
+                      (ap (λ p. is_outside (gating c moved.pass p).stand) rests));
+                }),
+          )
 
   module _ (left_some : length old < length (get_or traces t []))
       (command : get_or (get_or traces t []) (length old) (commands.Nil 0) ≡ k) where
@@ -313,8 +317,8 @@ module _ (c : Config) (traces : List (List Command)) (job : IsJob c traces) (rat
         → is_out (local_at c r.state t).part ≡ true → EndsIn r most
     at_out most r lone low out =
         let one : rest r ≡ 1 =
-            out_one e (unit c) c (heap_in c r.state) t (due - (local_at c r.state t).balance.paid)
-            (local_at c r.state t).part out in
+        out_one e (unit c) c (heap_in c r.state) t (due - (local_at c r.state t).balance.paid)
+        (local_at c r.state t).part out in
         let last = last_turn left_some command r lone out in
         (1, omega arith, none_before r last.0, last.1)
 
@@ -356,7 +360,7 @@ priced c rate k owing sweep ready is = elim (cases_Bool (makes_object k)) [
   | inl makes ↦
       let low = wide c.width in
       let bound : command_bound c rate k ≡ allocation_bound c.threads (blocks_of c.width k) rate =
-          rw makes refl in
+      rw makes refl in
       subst (λ n. at_look (terms_of c k) (unit c) owing sweep ready ≤ n) (sym bound)
       (subst (λ d. at_look (terms_of c k) (unit c) d sweep ready
       ≤ allocation_bound c.threads (blocks_of c.width k) rate) (sym is)
@@ -364,7 +368,7 @@ priced c rate k owing sweep ready is = elim (cases_Bool (makes_object k)) [
   | inr serves ↦
       let bound : command_bound c rate k ≡ other_bound c.object = rw serves refl in
       let none : units_owed c.width rate k ≡ rate * 0 =
-          ap (λ n. rate * n) (others_have_none c.width k serves) in
+      ap (λ n. rate * n) (others_have_none c.width k serves) in
       let few = fields_low c k in
       subst (λ n. at_look (terms_of c k) (unit c) owing sweep ready ≤ n) (sym bound)
       (subst (λ d. at_look (terms_of c k) (unit c) d sweep ready ≤ other_bound c.object)
@@ -398,7 +402,7 @@ module _ (c : Config) (traces : List (List Command)) (job : IsJob c traces) (rat
   pub some_left : length first.log < length (get_or traces t [])
   some_left =
       let same : length first.trace ≡ length (get_or traces t []) =
-          ap length (kept.locals t tl).trace in
+      ap length (kept.locals t tl).trace in
       let low = has.left in omega arith
 
   pub command_is : get_or (get_or traces t []) (length first.log) (commands.Nil 0) ≡ command_of first
@@ -409,7 +413,7 @@ module _ (c : Config) (traces : List (List Command)) (job : IsJob c traces) (rat
   none_paid : first.balance.paid ≡ 0
   none_paid =
       let settled : IsSettled (owed first) first.balance.paid Rest =
-          subst (λ p. IsSettled (owed first) first.balance.paid p) at_rest (kept.locals t tl).settled in
+      subst (λ p. IsSettled (owed first) first.balance.paid p) at_rest (kept.locals t tl).settled in
       settled
 
   first_price : left (terms_of c (command_of first)) (unit c)
@@ -426,8 +430,8 @@ module _ (c : Config) (traces : List (List Command)) (job : IsJob c traces) (rat
   pub lone_ends : EndsWithin c t r (command_bound c rate (command_of (local_in c r t)))
   lone_ends =
       let ended =
-          ends c traces job rate planned t tl first.log (command_of first) some_left command_is
-          (command_bound c rate (command_of first)) r begins first_price in
+      ends c traces job rate planned t tl first.log (command_of first) some_left command_is
+      (command_bound c rate (command_of first)) r begins first_price in
       record {
         turns = ended.0;
         few = ended.1;
