@@ -1,6 +1,6 @@
 -- One thread alone has turns: what it begins from, how many turns its command takes at most, and
 -- what they lead to.
-use Rattle.std.specs.Prelude.{ℕ, suc, ◌<◌, ◌≤◌, ◌≡◌, ◌≢◌, ◌++◌, Bool, true, false, if◌then◌else◌, List, [], ◌∷◌, length, replicate}
+use Rattle.std.specs.Prelude.{ℕ, suc, ◌<◌, ◌≤◌, ◌≡◌, ◌≢◌, ◌++◌, Bool, true, false, if◌then◌else◌, [], ◌∷◌, length, replicate}
 use Rattle.block_store.specs.declared.Config.{Config}
 use Rattle.block_store.specs.Phases.{inside_of, is_closed, is_sweep}
 use Rattle.block_store.specs.Places.{Phase}

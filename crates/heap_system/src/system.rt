@@ -10,7 +10,7 @@ ghost use Rattle.block_store.specs.Places.{extent, words_count, Phase};
 ghost use Rattle.never_heap.specs.declared.Command.{Command};
 ghost use Rattle.heap_machine.specs.Readings.{CanHold};
 ghost use Rattle.heap_system.specs.Locals.{LocalState, is_done};
-ghost use Rattle.heap_system.specs.Machines.{turned, answer, local_at, IsJob, IsOpening};
+ghost use Rattle.heap_system.specs.Machines.{turned, answer, heap_in, local_at, IsJob, IsOpening};
 ghost use Rattle.heap_system.specs.Ordering.{ordered_of, IsInOrder};
 ghost use Rattle.heap_system.specs.Systems.{Whole, Finish, after_event, ordered_after, opening_order, items_kept, traces_of, logs_of, units_of, AllDone, IsReached, IsReachedInOrder, IsFinished, IsFinishedInOrder, IsLeastUndone};
 
@@ -319,6 +319,8 @@ impl System {
         ensures finished { IfOk result (λ f. (f.config ≡ self.config)
             × (f.logs ≡ logs_of self.state) × IsFinished
             self.config (traces_of self.state) f.logs f.cycles) }
+        ensures cycles { IfOk result (λ f.
+            f.cycles ≡ cycle_of (heap_in self.config self.state Phase)) }
         ensures order { IfOk result (λ f. f.order ≡ items_kept self.ordered) }
         ensures history { IfOk result (λ f. IsFinishedInOrder
             self.config (traces_of self.state) f.logs f.cycles f.order) }

@@ -1,7 +1,7 @@
 //! All threads of a heap behind one lock: one event is one hold of it.
 #![tactic(auto)]
 
-ghost use Rattle.std.specs.Prelude.{◌≡◌, List, map, IfOk, IfErr};
+ghost use Rattle.std.specs.Prelude.{◌≡◌, List, None, map, IfOk, IfErr};
 ghost use Rattle.never_heap.specs.declared.Command.{Command};
 ghost use Rattle.heap_system.specs.Machines.{IsJob};
 ghost use Rattle.heap_system.specs.Systems.{IsFinished, IsLeastUndone};
@@ -10,6 +10,7 @@ use block_store::{Config, OutOfMemory};
 use heap_system::{Finished, System, Turn, Unfinished};
 use never_heap::{Command, Pace};
 use std::alloc::Global;
+use std::marker::Model;
 use std::sync::{Mutex, Wait};
 use std::thread;
 
@@ -18,10 +19,28 @@ mod rounds;
 #[cfg(test)]
 mod tests;
 
-/// A system behind a lock. Of it only its type is known: that it is one after some list of turns.
+// A system that keeps no order.
+#[derive(Drop)]
+struct Plain {
+    system: System,
+}
+
+impl Model for Plain {
+    ghost use Rattle.std.specs.Prelude.{◌≡◌, None};
+    ghost use Rattle.heap_system.specs.Systems.{Whole};
+
+    ghost Value = { Whole };
+
+    ghost view = { λ p. p.system };
+
+    ghost invariant = { λ p. p.system.ordered ≡ None };
+}
+
+/// A system behind a lock. Of it only its type is known: that it is one after some list of turns,
+/// and keeps no order.
 #[derive(Drop)]
 pub struct LockBoard {
-    system: Mutex<System>,
+    system: Mutex<Plain>,
 }
 
 // What a thread found in one hold of the lock.
@@ -36,8 +55,9 @@ enum Held {
 
 // Looks at a thread, and makes its event, unless it begins a command that the pace was not told of.
 // It was told of this many.
-fn one_hold<R: Wait>(rt: &R, system: &Mutex<System>, thread: u32, told: u64) -> Held {
-    let mut system = system.lock(rt);
+fn one_hold<R: Wait>(rt: &R, plain: &Mutex<Plain>, thread: u32, told: u64) -> Held {
+    let mut plain = plain.lock(rt);
+    let system = &mut plain.system;
     if thread >= system.config().threads {
         return Held::Over;
     }
@@ -71,7 +91,7 @@ impl LockBoard {
     {
         let system = System::new(alloc, c, traces)?;
         Ok(LockBoard {
-            system: Mutex::new(system),
+            system: Mutex::new(Plain { system }),
         })
     }
 
@@ -103,9 +123,10 @@ impl LockBoard {
     pub fn close(self) -> Result<Finished, Unfinished>
         ensures finished { IfOk result (λ f. (traces : List (List Command))
             × IsFinished f.config traces f.logs f.cycles) }
+        ensures order { IfOk result (λ f. f.order ≡ None) }
         ensures least { IfErr result (λ u.
             IsLeastUndone u.system.config u.system.state u.thread) }
     {
-        self.system.into_inner().finish()
+        self.system.into_inner().system.finish()
     }
 }

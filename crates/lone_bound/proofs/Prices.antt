@@ -15,7 +15,7 @@ mul_add : (unit a b : ℕ) → (a + b) * unit ≡ a * unit + b * unit
 mul_add unit a zero = omega arith
 mul_add unit a (suc b) =
     let one : (a + suc b) * unit ≡ (a + b) * unit + unit =
-        ap (λ v. v * unit) (add-suc a b) ∙ suc-mul (a + b) unit in
+    ap (λ v. v * unit) (add-suc a b) ∙ suc-mul (a + b) unit in
     let other : suc b * unit ≡ b * unit + unit = suc-mul b unit in
     let r = mul_add unit a b in omega arith
 
@@ -116,7 +116,7 @@ module _ (e : Terms) (unit : ℕ) (wide : 2 ≤ e.payloads)
   writes : (z : Lone) (m : ℕ) → Writes e z → (e.payloads + 3) * e.blocks + 2 < m → L z < m
   writes z m p h =
       let one : (e.payloads + 3) * e.blocks ≡ (e.payloads + 3) * p.0 + (e.payloads + 3) =
-          ap (λ v. (e.payloads + 3) * v) (sym p.1) ∙ mul-suc (e.payloads + 3) p.0 in
+      ap (λ v. (e.payloads + 3) * v) (sym p.1) ∙ mul-suc (e.payloads + 3) p.0 in
       stands z (Spot.Write p.0 0) m p.2 (omega arith)
 
   range : (s : Lone) (q p : ℕ) → q ≡ suc p → B (s.owed - q) ≡ B (s.owed - 1 - p)
@@ -154,7 +154,7 @@ module _ (e : Terms) (unit : ℕ) (wide : 2 ≤ e.payloads)
   far r q some le =
       let d : r - 1 ≡ (r - q) + (q - 1) = omega arith in
       let split : (r - 1) * unit ≡ (r - q) * unit + (q - 1) * unit =
-          ap (λ v. v * unit) d ∙ mul_add unit (r - q) (q - 1) in
+      ap (λ v. v * unit) d ∙ mul_add unit (r - q) (q - 1) in
       let more : (q - 1) * 2 ≤ (q - 1) * unit = mul_low unit (q - 1) (omega arith) in
       omega arith
 
@@ -279,12 +279,12 @@ pub exactly : (e : Terms) (r : ℕ) (sweep ready : Bool) → 2 ≤ e.payloads �
 exactly e r sweep ready wide makes =
     let unit = unit_cost e.threads e.payloads in
     let a : at_look e unit r sweep ready ≤ base e unit r =
-        look_low e unit wide (omega arith) r sweep ready in
+    look_low e unit wide (omega arith) r sweep ready in
     let inside : base e unit r
-        ≡ r * unit + ((e.payloads + 3) * e.blocks + e.blocks + e.threads + 5) + 2 =
-        rw makes refl in
+    ≡ r * unit + ((e.payloads + 3) * e.blocks + e.blocks + e.threads + 5) + 2 =
+    rw makes refl in
     let b : (e.payloads + 4) * e.blocks ≡ (e.payloads + 3) * e.blocks + e.blocks =
-        next_mul (e.payloads + 4) (e.payloads + 3) e.blocks (omega arith) in
+    next_mul (e.payloads + 4) (e.payloads + 3) e.blocks (omega arith) in
     omega arith
 
 pub within : (e : Terms) (rate : ℕ) (sweep ready : Bool)
@@ -295,12 +295,12 @@ within e rate sweep ready wide low makes =
     let unit = 8 * e.threads + 64 in
     let r = rate * e.blocks in
     let a : at_look e unit r sweep ready ≤ base e unit r =
-        look_low e unit wide (omega arith) r sweep ready in
+    look_low e unit wide (omega arith) r sweep ready in
     let inside : base e unit r
-        ≡ r * unit + ((e.payloads + 3) * e.blocks + e.blocks + e.threads + 5) + 2 =
-        rw makes refl in
+    ≡ r * unit + ((e.payloads + 3) * e.blocks + e.blocks + e.threads + 5) + 2 =
+    rw makes refl in
     let b : (e.payloads + 3) * e.blocks ≤ 11 * e.blocks =
-        mul-le-mul_right e.blocks (let z : e.payloads + 3 ≤ 11 = omega arith in z) in
+    mul-le-mul_right e.blocks (let z : e.payloads + 3 ≤ 11 = omega arith in z) in
     let c : (r + 1) * unit ≡ r * unit + unit = next_mul (r + 1) r unit (omega arith) in
     omega arith
 
@@ -310,7 +310,7 @@ pub one_event : (e : Terms) (r : ℕ) (sweep ready : Bool)
 one_event e r sweep ready wide low none one =
     let unit = 8 * e.threads + 64 in
     let a : at_look e unit r sweep ready ≤ base e unit r =
-        look_low e unit wide (omega arith) r sweep ready in
+    look_low e unit wide (omega arith) r sweep ready in
     let inside : base e unit r ≡ r * unit + (e.most + 1) + 2 = rw none refl in
     let c : (r + 1) * unit ≡ r * unit + unit = next_mul (r + 1) r unit (omega arith) in
     omega arith

@@ -5,17 +5,9 @@ use Rattle.block_store.specs.declared.Config.{Config}
 use Rattle.block_store.specs.declared.Width.TheVariants.{Four}
 use Rattle.never_heap.specs.declared.Command.{Command}
 use Rattle.never_heap.specs.declared.Command.TheVariants.{New, Arr, Set, Nil, Mov, Get, Put, Len, Same}
-use Rattle.rand_pcg.specs.Lcg.{Lcg, started, increment_of}
-use Rattle.rand_pcg.specs.Pcg.{pcg32, multiplier_64}
+use Rattle.rand_pcg.specs.Lcg.{Lcg}
+use Rattle.schedules.specs.Schedules.{generator, word}
 use Rattle.trace_text.specs.Jobs.{Job}
-
--- the generator of a key
-unfoldable pub generator : ℕ → Lcg
-generator key = started 64 multiplier_64 key (increment_of 64 1)
-
--- a generator's next word, and the generator after it
-unfoldable pub word : Lcg → ℕ × Lcg
-word g = pcg32 g
 
 -- the heap of a generated job
 abbrev pub generated_config : Config

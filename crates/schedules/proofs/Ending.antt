@@ -55,8 +55,12 @@ goes c j (suc n) r many = elim (least_of c r.state c.threads (omega arith)) [
       ((least.1, rest.0), elim rest.1 [ inl long ↦ inl (ap suc long) | inr all ↦ inr all ])
 ]
 
-opening_many : (c : Config) (traces : List (List Command)) (first : State) → IsJob c traces → IsOpening c traces first → length first.locals ≡ c.threads
+pub opening_many : (c : Config) (traces : List (List Command)) (first : State) → IsJob c traces → IsOpening c traces first → length first.locals ≡ c.threads
 opening_many c traces first job start = ap length start.locals ∙ length_starts c start.rate start.space 0 traces ∙ job.bounds.threads
+
+-- the turns of the serial schedule, from a state with all threads on
+pub serial_turns : (c : Config) (s : State) (turns : ℕ) → length s.locals ≡ c.threads → IsSerial c s (turns_of Serial c s turns)
+serial_turns c s turns many = (goes c 0 turns (opened c s) many).0
 
 pub serial_replay_ends : (c : Config) (traces : List (List Command)) (turns rate : ℕ) (r : Run) → IsJob c traces → IsRate c rate → IsReplayed c traces Serial turns r → job_bound c rate traces ≤ turns → AllDone c r.state
 serial_replay_ends c traces turns rate r job planned is long =

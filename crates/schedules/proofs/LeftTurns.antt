@@ -1,19 +1,20 @@
 -- A replay makes the turns of its schedule, one by one.
-use Rattle.std.proofs.Common.{◌≡◌, ℕ, zero, suc, ◌+◌, ◌-◌, ◌*◌, ◌/◌, ◌%◌, ◌<◌, ◌≤◌, Bool, true, false, not, cond, ltb, lt-ltb, le-ltb, Option, Some, None, List, [], ◌∷◌, length, get_or, refl, sym, ap, ◌∙◌, subst, arith, inl, inr}
+use Rattle.std.proofs.Common.{◌≡◌, ℕ, suc, ◌+◌, ◌-◌, ◌*◌, ◌/◌, ◌%◌, ◌<◌, ◌≤◌, Bool, true, false, not, cond, ltb, lt-ltb, le-ltb, Option, Some, None, IfSome, List, [], ◌∷◌, length, refl, sym, ap, ◌∙◌, subst, arith, inl, inr}
 use Rattle.std.proofs.lemmas.Bool.{cases_lt, cases_eq}
 use Rattle.std.proofs.lemmas.Nat.{div-add-mod', mod-mul-add, mod_below}
 use Rattle.std.proofs.lemmas.List.Sums.{position_or_len_is}
 use Rattle.std.specs.List.{position_or_len}
 use Rattle.block_store.specs.declared.Config.{Config}
 use Rattle.heap_system.specs.Locals.{LocalState, is_done}
-use Rattle.heap_system.specs.Machines.{State, Run, local_at, no_local, turned}
-use Rattle.heap_system.specs.Systems.{Whole, AllDone, IsReached, IsLeastUndone}
+use Rattle.heap_system.specs.Machines.{State, local_at, no_local, has_event, turned}
+use Rattle.heap_system.specs.Systems.{Ordered, Whole, after_event, ordered_after, AllDone, IsReached}
+use Rattle.heap_system.proofs.Ordering.{left_after}
 use Rattle.heap_system.proofs.Reached.{reached_kept}
 use Rattle.schedules.specs.declared.Schedule.{Schedule}
 use Rattle.schedules.specs.declared.Schedule.TheVariants as schedules
 use Rattle.schedules.specs.declared.replaying.Next.{Next}
 use Rattle.schedules.specs.declared.replaying.Next.TheVariants as nexts
-use Rattle.schedules.specs.Schedules.{word, after_words, generator, least_undone, thread_of, turns_on, turns_from}
+use Rattle.schedules.specs.Schedules.{least_undone, thread_of, turns_on, turns_from}
 use Rattle.schedules.specs.Nexts.{next_at, IsNextBelow, thread_next, after_next}
 use Rattle.schedules.specs.Replays.{system_turned, system_after}
 use Rattle.schedules.proofs.Stopping.{no_event_at, still, done_stays}
@@ -89,8 +90,14 @@ goes_on schedule w new last next n j turns least t is low some at thread after w
     ap (λ k. thread_of schedule k j w.state) (sym is) ∙ thread_is schedule n j least w.state some ∙ ap Some (sym (thread ∙ ap (thread_next n least) at)) in
     ap (λ v. left_turns schedule v (j + 1) (turns - (j + 1))) after ∙ sym (one_more schedule w j (turns - (j + 1)) t mine) ∙ sym (ap (left_turns schedule w j) one) ∙ was
 
+order_stays : (c : Config) (t : ℕ) (s : State) (o : Option Ordered) → has_event c t s ≡ false → ordered_after c t s o ≡ o
+order_stays c t s None none = refl
+order_stays c t s (Some o) none = ap (λ b. Some (cond b (after_event c t s o) o)) none
+
 system_stays : (w : Whole) (t : ℕ) → AllDone w.config w.state → system_turned t w ≡ w
-system_stays w t all = ap (λ s. record w { state = s }) (still w.config w.state t (no_event_at w.config w.state t all))
+system_stays w t all =
+    let none = no_event_at w.config w.state t all in
+    λ i. record w { state = still w.config w.state t none i; ordered = order_stays w.config t w.state w.ordered none i }
 
 after_stays : (w : Whole) (ts : List ℕ) → AllDone w.config w.state → system_after w ts ≡ w
 after_stays w [] all = refl
@@ -107,3 +114,17 @@ ended schedule w last j more none was = sym (ap (left_turns schedule w j) none) 
 -- the threads below the least one that is not done stay done
 pub below_stays : (w new : Whole) (t least : ℕ) → new ≡ system_turned t w → ((u : ℕ) → u < least → is_done (local_at w.config w.state u) ≡ true) → (u : ℕ) → u < least → is_done (local_at new.config new.state u) ≡ true
 below_stays w new t least after below u low = subst (λ (v : Whole). is_done (local_at v.config v.state u) ≡ true) (sym after) (done_stays w.config w.state t u (below u low))
+
+-- ---- where the order is kept there is room for so many events more
+
+abbrev pub HasRoom : ℕ → Option Ordered → Type 0
+HasRoom n o = IfSome o (λ k. n ≤ k.left)
+
+pub room_left : (n m : ℕ) (o : Option Ordered) → n < m → HasRoom m o → IfSome o (λ k. n < k.left)
+room_left n m None less room = tt
+room_left n m (Some k) less room = omega (arith, less, room)
+
+pub room_stays : (w new : Whole) (t turns j : ℕ) → j < turns → new ≡ system_turned t w → HasRoom (turns - j) w.ordered → HasRoom (turns - (j + 1)) new.ordered
+room_stays w new t turns j low after room =
+    let less : turns - (j + 1) < turns - j = omega arith in
+    subst (λ (v : Whole). HasRoom (turns - (j + 1)) v.ordered) (sym after) (left_after w.config t w.state w.ordered (turns - (j + 1)) (room_left (turns - (j + 1)) (turns - j) w.ordered less room))

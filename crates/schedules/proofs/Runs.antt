@@ -1,19 +1,43 @@
 -- A system after the turns of a schedule has the state of a run by these turns; and a serial replay goes
 -- on where it stopped.
-use Rattle.std.proofs.Common.{◌≡◌, ℕ, zero, suc, ◌+◌, Option, Some, None, List, [], ◌∷◌, refl, sym, ap, ◌∙◌, arith}
+use Rattle.std.proofs.Common.{◌≡◌, ℕ, zero, suc, ◌+◌, Option, Some, None, IfSome, Bool, true, false, cond, List, [], ◌∷◌, ◌++◌, append-nil, map, subst, refl, sym, ap, ◌∙◌, arith}
 use Rattle.block_store.specs.declared.Config.{Config}
 use Rattle.never_heap.specs.declared.Command.{Command}
-use Rattle.heap_system.specs.Machines.{State, Run, turned, next, opened, after_turns, IsOpening}
-use Rattle.heap_system.specs.Systems.{Whole}
-use Rattle.schedules.specs.declared.Schedule.{Schedule}
+use Rattle.never_heap.specs.Histories.{HistoryItem}
+use Rattle.never_heap.specs.Orders.{item_of}
+use Rattle.heap_system.specs.Machines.{State, Run, has_event, next_effect, turned, next, opened, after_turns}
+use Rattle.heap_system.specs.Systems.{Ordered, Whole, items_by_effect, items_added, after_event, ordered_after}
+use Rattle.heap_system.proofs.Ordering.{items_grow}
 use Rattle.schedules.specs.declared.Schedule.TheVariants.{Serial}
 use Rattle.schedules.specs.Schedules.{least_undone, turns_on, turns_from, turns_of}
-use Rattle.schedules.specs.Replays.{IsReplayed, system_after}
+use Rattle.schedules.specs.Replays.{IsReplayed, ShowsRun, system_turned, system_after}
 use Rattle.schedules.proofs.Agreeing.{turns_on_same}
 
-pub after_run : (c : Config) (r : Run) (ts : List ℕ) → system_after (record { config = c; state = r.state }) ts ≡ record { config = c; state = (after_turns c r ts).state }
-after_run c r [] = refl
-after_run c r (t ∷ ts) = after_run c (next c t r) ts
+-- the items that are kept are those of the order
+abbrev pub IsOrderOf : List HistoryItem → Option Ordered → Type 0
+IsOrderOf order o = IfSome o (λ k. k.items ≡ map item_of order)
+
+order_more : (c : Config) (t : ℕ) (r : Run) (o : Option Ordered) → IsOrderOf r.order o → IsOrderOf (next c t r).order (ordered_after c t r.state o)
+order_more c t r None is = tt
+order_more c t r (Some k) is = by (has_event c t r.state) refl
+  where
+    by : (b : Bool) → has_event c t r.state ≡ b → (cond b (after_event c t r.state k) k).items ≡ map item_of (next c t r).order
+    by true some = ap (λ xs. xs ++ items_added c t r.state) is ∙ sym (items_grow c t r)
+    by false none =
+        is ∙ sym (append-nil (map item_of r.order)) ∙ ap (λ b. map item_of r.order ++ cond b (items_by_effect t (next_effect c r.state t)) []) (sym none)
+        ∙ sym (items_grow c t r)
+
+-- a system that shows a run shows it after the same turns
+turn_shown : (w : Whole) (t : ℕ) (c : Config) (r : Run) → ShowsRun c r w → ShowsRun c (next c t r) (system_turned t w)
+turn_shown w t c r is = record {
+  config = is.config;
+  state = λ i. turned (is.config i) t (is.state i);
+  order = subst (λ (d : Config). IsOrderOf (next c t r).order (ordered_after d t w.state w.ordered)) (sym is.config) (subst (λ s. IsOrderOf (next c t r).order (ordered_after c t s w.ordered)) (sym is.state) (order_more c t r w.ordered is.order));
+}
+
+pub turns_shown : (w : Whole) (ts : List ℕ) (c : Config) (r : Run) → ShowsRun c r w → ShowsRun c (after_turns c r ts) (system_after w ts)
+turns_shown w [] c r is = is
+turns_shown w (t ∷ ts) c r is = turns_shown (system_turned t w) ts c (next c t r) (turn_shown w t c r is)
 
 -- ---- serial replays
 

@@ -1,9 +1,9 @@
 -- Threads that are done stay done, and where all are done no turn changes anything.
-use Rattle.std.proofs.Common.{◌≡◌, ℕ, zero, suc, ◌+◌, ◌<◌, ◌≤◌, Bool, true, false, not, cond, ltb, lt-ltb, le-ltb, Option, Some, None, List, [], ◌∷◌, ◌++◌, append-nil, get_or, set, get_or-set_other, refl, sym, ap, ◌∙◌, arith, inl, inr}
+use Rattle.std.proofs.Common.{◌≡◌, ℕ, zero, suc, ◌+◌, ◌≤◌, Bool, true, false, cond, ltb, le-ltb, Option, Some, None, List, [], ◌∷◌, ◌++◌, append-nil, get_or-set_other, refl, sym, ap, ◌∙◌, arith, inl, inr}
 use Rattle.std.proofs.lemmas.Bool.{cases_Bool, cases_lt, cases_eq}
 use Rattle.block_store.specs.declared.Config.{Config}
 use Rattle.heap_system.specs.Locals.{is_done, local_got}
-use Rattle.heap_system.specs.Machines.{State, Run, local_at, no_local, word_read, next_effect, items_by, event_done, has_event, turned, next, after_turns, names_after, heap_in}
+use Rattle.heap_system.specs.Machines.{State, Run, local_at, no_local, word_read, next_effect, items_by, event_done, has_event, turned, next, after_turns, heap_in}
 use Rattle.heap_system.specs.Locals.{command_of}
 use Rattle.heap_system.specs.Naming.{renamed}
 use Rattle.heap_system.specs.Systems.{AllDone}

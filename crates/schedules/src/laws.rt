@@ -1,17 +1,18 @@
 //! What is so of every replay, for the proofs above: each law is the contract of a function that
 //! does nothing.
 
-ghost use Rattle.std.specs.Prelude.{◌≡◌, ◌+◌, ◌≤◌, ℕ, List};
+ghost use Rattle.std.specs.Prelude.{◌≡◌, ◌+◌, ◌≤◌, ℕ, List, [], ◌∷◌, IfSome};
 ghost use Rattle.block_store.specs.declared.Config.{Config};
 ghost use Rattle.rate_plan.specs.Rates.{IsRate};
 ghost use Rattle.never_heap.specs.declared.Command.{Command};
+ghost use Rattle.never_heap.specs.declared.Item.TheVariants as Item;
 ghost use Rattle.heap_system.specs.Locals.{is_done};
-ghost use Rattle.heap_system.specs.Machines.{Run, local_in, after_turns, IsJob, IsOpening};
-ghost use Rattle.heap_system.specs.Serials.{job_bound};
-ghost use Rattle.heap_system.specs.Systems.{Whole, logs_of, AllDone};
+ghost use Rattle.heap_system.specs.Machines.{State, Run, local_in, after_turns, IsJob, IsOpening};
+ghost use Rattle.heap_system.specs.Serials.{IsSerial, job_bound};
+ghost use Rattle.heap_system.specs.Systems.{Whole, logs_of, AllDone, IsReached};
 ghost use Rattle.schedules.specs.declared.Schedule.TheVariants as Schedule;
 ghost use Rattle.schedules.specs.Schedules.{turns_of};
-ghost use Rattle.schedules.specs.Replays.{IsReplayed, system_after};
+ghost use Rattle.schedules.specs.Replays.{IsReplayed, ShowsRun, system_after};
 
 use crate::Schedule;
 
@@ -32,14 +33,13 @@ pub fn replays_have_one_order()
         → (t : ℕ) → is_done (local_in c r t) ≡ is_done (local_in c q t) }
 {}
 
-/// A system that starts as a job opens has, after the turns of a schedule, the state of a replay of
-/// that job.
+/// A system that is as a job opens, with an order that has no more than the start of cycle 1 where
+/// it keeps one, has after the turns of a schedule the state of a replay of that job, and its order.
 pub fn replays_are_runs()
     ensures { (w : Whole) (traces : List (List Command)) (schedule : Schedule) (turns : ℕ)
-        → IsOpening w.config traces w.state
+        → IsOpening w.config traces w.state → IfSome w.ordered (λ o. o.items ≡ Item.Start ∷ [])
         → (r : Run) × IsReplayed w.config traces schedule turns r
-        × ((system_after w (turns_of schedule w.config w.state turns)).config ≡ w.config)
-        × ((system_after w (turns_of schedule w.config w.state turns)).state ≡ r.state) }
+        × ShowsRun w.config r (system_after w (turns_of schedule w.config w.state turns)) }
 {}
 
 /// A serial replay goes on where it stopped: so many turns and then so many more are the turns of
@@ -58,6 +58,16 @@ pub fn replays_stop()
         → AllDone c (after_turns c r (turns_of schedule c r.state few)).state
         → after_turns c r (turns_of schedule c r.state many)
         ≡ after_turns c r (turns_of schedule c r.state few) }
+{}
+
+/// Each turn of the serial schedule is for the least thread that is not done after the turns before
+/// it: from every state that a system comes to, and from an opening.
+pub fn serial_turns_are_serial()
+    ensures reached { (c : Config) (s : State) (turns : ℕ) → IsReached c s
+        → IsSerial c s (turns_of Schedule.Serial c s turns) }
+    ensures opening { (c : Config) (traces : List (List Command)) (s : State) (turns : ℕ)
+        → IsJob c traces → IsOpening c traces s
+        → IsSerial c s (turns_of Schedule.Serial c s turns) }
 {}
 
 /// After as many turns as the bounds of all commands sum up to, a serial replay has all threads done

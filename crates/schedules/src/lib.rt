@@ -8,6 +8,7 @@ mod tests;
 
 pub use laws::{
     replays_are_runs, replays_end, replays_have_one_order, replays_stop, serial_replays_go_on,
+    serial_turns_are_serial,
 };
 pub use replaying::replay;
 

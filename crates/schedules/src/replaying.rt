@@ -1,6 +1,6 @@
 //! The loop of a replay.
 
-ghost use Rattle.std.specs.Prelude.{◌≡◌, ◌<◌, ℕ, IfSome, IfNone, true};
+ghost use Rattle.std.specs.Prelude.{◌≡◌, ◌<◌, ◌≤◌, ℕ, IfSome, IfNone, true};
 ghost use Rattle.heap_system.specs.Locals.{is_done};
 ghost use Rattle.heap_system.specs.Machines.{local_at};
 ghost use Rattle.heap_system.specs.Systems.{AllDone, IsLeastUndone};
@@ -79,6 +79,7 @@ fn first_undone(system: &System, from: u32) -> Option<u32>
 /// the least thread that is not done: none exactly where all are done. Where the order is kept
 /// there is room for as many events.
 pub fn replay(system: &mut System, schedule: Schedule, turns: u64) -> Option<u32>
+    requires { IfSome system.old.ordered (λ o. turns ≤ o.left) }
     ensures state { system.new
         ≡ system_after system.old (turns_of schedule system.old.config system.old.state turns) }
     ensures undone { IfSome result (λ t. IsLeastUndone system.new.config system.new.state t) }

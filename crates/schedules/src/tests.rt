@@ -2,12 +2,14 @@
 //! in 4 and 7 turns, and the other reads the element twice, in 7 turns each, where nobody is in the
 //! way at the gate.
 
-ghost use Rattle.std.specs.Prelude.{◌≡◌, IfOk};
+ghost use Rattle.std.specs.Prelude.{IfOk, map};
+ghost use Rattle.block_store.specs.declared.Width.TheVariants as Width;
+ghost use Rattle.heap_system.specs.Machines.{IsJob};
 
 use crate::{Schedule, replay};
 use block_store::{Config, OutOfMemory, Value, Width};
 use heap_system::System;
-use never_heap::{Command, Logs, Reply};
+use never_heap::{Command, Item, Logs, Reply};
 use std::alloc::Global;
 
 const TWO: Config = Config {
@@ -19,38 +21,51 @@ const TWO: Config = Config {
     shared: 4,
 };
 
-fn writer_and_reader(alloc: Global) -> Result<System, OutOfMemory> {
-    let writes = vec![in alloc;
-        Command::Set { d: 1, value: 7 },
-        Command::Put { s: 0, i: 2, v: 1 },
-    ]?;
-    let reads = vec![in alloc;
-        Command::Get { d: 2, s: 0, i: 2 },
-        Command::Get { d: 2, s: 0, i: 2 },
-    ]?;
-    System::new(alloc, TWO, vec![in alloc; writes, reads]?)
+fn writer_and_reader(alloc: Global) -> Result<Vec<Vec<Command>>, OutOfMemory>
+    ensures { IfOk result (λ v. IsJob
+        (record { width = Width.Four; threads = 2; blocks = 64; live = 20; object = 2; shared = 4 })
+        (map (λ trace. trace.items) v.items)) }
+{
+    let set = Command::Set { d: 1, value: 7 };
+    let put = Command::Put { s: 0, i: 2, v: 1 };
+    let get = Command::Get { d: 2, s: 0, i: 2 };
+    let writes = vec![in alloc; set, put]?;
+    let reads = vec![in alloc; get, get]?;
+    Ok(vec![in alloc; writes, reads]?)
 }
 
 // The least thread that is not done after so many turns.
 fn undone(alloc: Global, schedule: Schedule, turns: u64) -> Result<Option<u32>, OutOfMemory> {
-    let mut system = writer_and_reader(alloc)?;
+    let mut system = System::new(alloc, TWO, writer_and_reader(alloc)?)?;
     Ok(replay(&mut system, schedule, turns))
 }
 
-// What the reader reads in a whole replay.
-fn reads(alloc: Global, schedule: Schedule) -> Result<Option<(Reply, Reply)>, OutOfMemory> {
-    let mut system = writer_and_reader(alloc)?;
+// Whether a whole replay has this order, in which both threads have two commands, and its second
+// thread these replies.
+fn replays(
+    alloc: Global,
+    schedule: Schedule,
+    threads: [u8; 4],
+    replies: [Reply; 2],
+) -> Result<bool, OutOfMemory> {
+    let mut system = System::new_ordered(alloc, TWO, writer_and_reader(alloc)?, 1_000)?;
     replay(&mut system, schedule, 1_000);
-    let Ok(logs) = system.finish() else {
-        return Ok(None);
+    let Ok(run) = system.finish() else {
+        return Ok(false);
     };
-    if logs.threads() != 2 {
-        return Ok(None);
+    if run.threads() != 2 {
+        return Ok(false);
     }
-    match logs.entries(1) {
-        [first, second] => Ok(Some((first.reply, second.reply))),
-        _ => Ok(None),
-    }
+    let [a, b, c, d] = threads.map(Item::Entry);
+    let order = [Item::Start, a, b, c, d];
+    let reader = run.entries(1);
+    let [first, second] = replies;
+    Ok(
+        run.order().unwrap_or(&[]) == &order[..]
+            && reader.len() == 2
+            && reader[0].reply == first
+            && reader[1].reply == second,
+    )
 }
 
 // No thread is in the way, as the first is done before the second begins.
@@ -67,7 +82,7 @@ fn serial_is_one_thread_after_the_other(rt: HostRuntime) -> Result<(), OutOfMemo
         assert_eq!(rt; undone(rt.alloc(), Schedule::Serial, turns)?, thread);
     }
     let seven = Reply::Val(Value::Int(7));
-    assert_eq!(rt; reads(rt.alloc(), Schedule::Serial)?, Some((seven, seven)));
+    assert!(rt; replays(rt.alloc(), Schedule::Serial, [0, 0, 1, 1], [seven, seven])?);
     Ok(())
 }
 
@@ -84,6 +99,8 @@ fn robin_counts_the_turns_of_a_done_thread(rt: HostRuntime) -> Result<(), OutOfM
     ] {
         assert_eq!(rt; undone(rt.alloc(), Schedule::Robin, turns)?, thread);
     }
+    let seven = Reply::Val(Value::Int(7));
+    assert!(rt; replays(rt.alloc(), Schedule::Robin, [0, 0, 1, 1], [seven, seven])?);
     Ok(())
 }
 
@@ -97,7 +114,8 @@ fn a_key_draws_each_turn(rt: HostRuntime) -> Result<(), OutOfMemory> {
     }
     let nil = Reply::Val(Value::Nil);
     let seven = Reply::Val(Value::Int(7));
-    assert_eq!(rt; reads(rt.alloc(), Schedule::Key(0))?, Some((nil, seven)));
-    assert_eq!(rt; reads(rt.alloc(), Schedule::Key(1))?, Some((nil, nil)));
+    assert!(rt; replays(rt.alloc(), Schedule::Key(0), [1, 0, 0, 1], [nil, seven])?);
+    assert!(rt; replays(rt.alloc(), Schedule::Key(1), [1, 0, 1, 0], [nil, nil])?);
+    assert!(rt; replays(rt.alloc(), Schedule::Key(5), [1, 1, 0, 0], [nil, nil])?);
     Ok(())
 }

@@ -62,7 +62,8 @@ made_again (Did e ∷ h) left same =
 pub made_once : (order : List Item) (logs : List (List Entry)) (h : List HistoryItem)
     → IsHistoryOf order logs h → history_of order logs ≡ h
 made_once order logs h made =
-    ap (λ (o : List Item). history_of o logs) (sym made.items) ∙ made_again h (λ t. get_or logs t []) made.logged
+    ap (λ (o : List Item). history_of o logs) (sym made.items)
+    ∙ made_again h (λ t. get_or logs t []) made.logged
 
 pub texts_agree : (order : List Item) (logs : List (List Entry)) (h : List HistoryItem)
     → IsHistoryOf order logs h

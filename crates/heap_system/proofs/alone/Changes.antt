@@ -1,5 +1,5 @@
 -- A lone thread makes a unit between two changes of the phase.
-use Rattle.std.proofs.Common.{◌≡◌, ◌≢◌, ℕ, zero, suc, ◌+◌, ◌-◌, ◌<◌, ◌≤◌, ◌⊎◌, Bool, true, false, cond, ltb, lt-ltb, eqb, ◌&&◌, eq-eqb, Option, Some, None, List, [], length, get_or, refl, sym, ap, ◌∙◌, subst, arith, inl, inr}
+use Rattle.std.proofs.Common.{◌≡◌, ◌≢◌, ℕ, zero, suc, ◌+◌, ◌-◌, ◌<◌, ◌⊎◌, Bool, true, false, cond, lt-ltb, eq-eqb, Option, Some, None, List, [], length, get_or, refl, sym, ap, ◌∙◌, subst, arith, inl, inr}
 use Rattle.std.proofs.lemmas.Bool.{cases_Bool, cases_lt}
 use Rattle.block_store.specs.declared.Config.{Config}
 use Rattle.block_store.specs.Phases.{is_sweep}
@@ -15,17 +15,16 @@ use Rattle.heap_machine.specs.declared.gate.GateRow.TheVariants as gates
 use Rattle.lone_bound.specs.Moves.{Lone, Terms, Moves, Turns, Fresh}
 use Rattle.lone_bound.proofs.Fresh as lone_fresh
 use Rattle.heap_system.specs.declared.local.Part.{Part}
-use Rattle.heap_system.specs.declared.local.Part.TheVariants.{Rest, TurnOver, Leave}
-use Rattle.heap_system.specs.Alone.{IsQuiet, HasCommand, after_alone, is_sweep_after, ChangesPhase, UnitBetween}
+use Rattle.heap_system.specs.declared.local.Part.TheVariants.{TurnOver, Leave}
+use Rattle.heap_system.specs.Alone.{IsQuiet, HasCommand, after_alone, ChangesPhase, UnitBetween}
 use Rattle.heap_system.specs.Locals.{LocalState, command_of, is_rest, is_done, effect, makes_unit, paid_got, part_want}
-use Rattle.heap_system.specs.Machines.{Run, IsJob, local_at, heap_in, next, turned, has_event, word_read}
+use Rattle.heap_system.specs.Machines.{Run, IsJob, local_at, heap_in, next, has_event, word_read}
 use Rattle.heap_system.specs.Rounds.{turns_phase, flips_or_starts}
 use Rattle.heap_system.specs.Units.{is_unit}
 use Rattle.heap_system.proofs.Always.{turn_kept}
 use Rattle.heap_system.proofs.Collecting.{phase_same}
 use Rattle.heap_system.proofs.Kept.{Kept}
 use Rattle.heap_system.proofs.LawsOf.{laws_of}
-use Rattle.heap_system.proofs.Reached.{rest_is}
 use Rattle.heap_system.proofs.Turning.{word_is, next_is}
 use Rattle.heap_system.proofs.Waiting.{done_stays}
 use Rattle.heap_system.proofs.alone.Runs

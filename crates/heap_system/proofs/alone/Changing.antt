@@ -1,27 +1,22 @@
 -- A lone thread that turns the phase over.
-use Rattle.std.proofs.Common.{◌≡◌, ℕ, zero, suc, ◌+◌, ◌-◌, ◌≤◌, ◌<◌, Bool, true, false, not, ◌&&◌, cond, eqb, ltb, eq-eqb, ltb-true, ltb-false, le-ltb, refl, sym, ap, ◌∙◌, subst, arith, inl, inr}
+use Rattle.std.proofs.Common.{◌≡◌, ℕ, ◌+◌, ◌-◌, ◌<◌, Bool, true, false, not, eqb, ltb, eq-eqb, ltb-true, ltb-false, le-ltb, refl, sym, ap, ◌∙◌, subst, arith, inl, inr}
 use Rattle.std.proofs.lemmas.Bool.{cases_Bool}
 use Rattle.block_store.specs.declared.Config.{Config}
-use Rattle.block_store.specs.Heaps.{Heap, put_at}
-use Rattle.block_store.specs.Phases.{inside_of, is_closed, is_sweep, cycle_of}
+use Rattle.block_store.specs.Phases.{inside_of, is_sweep, cycle_of}
 use Rattle.block_store.specs.Places.{Phase, Cursor, GreyList}
-use Rattle.block_store.specs.Registers.{root_block}
 use Rattle.block_store.proofs.Registers.{root_some}
 use Rattle.heap_machine.specs.Gates.{is_of_pass, is_empty}
-use Rattle.heap_machine.specs.Gating.{Gating, is_outside, closed_word, open_word}
+use Rattle.heap_machine.specs.Gating.{Gating, is_outside, open_word}
 use Rattle.heap_machine.specs.declared.gate.GateRow.{GateRow}
 use Rattle.heap_machine.specs.declared.gate.GateRow.TheVariants as gates
 use Rattle.heap_machine.specs.declared.pass.Pass.{Pass}
 use Rattle.heap_machine.proofs.Gatings.{closed_phase, open_parts}
-use Rattle.grey_steps.specs.Rows.{list_of}
 use Rattle.grey_steps.proofs.Marking.{own_first}
-use Rattle.lone_bound.specs.Moves.{Spot, Lone}
-use Rattle.heap_system.specs.declared.local.Part.{Part}
+use Rattle.lone_bound.specs.Moves.{Spot}
 use Rattle.heap_system.specs.declared.local.Part.TheVariants.{TurnOver}
-use Rattle.heap_system.proofs.PartLaws.{AtPart}
 use Rattle.heap_system.proofs.Seeing.{Seen}
-use Rattle.heap_system.proofs.alone.Heads.{IsOpen, some_first, same_lone, open_here, has_pass}
-use Rattle.heap_system.proofs.alone.Standing.{ready_now, some, grey_heads, IsOfPass, NoGrey, IsDry, Alone, LoneStep, LoneLaw}
+use Rattle.heap_system.proofs.alone.Heads.{IsOpen, some_first, same_lone, open_here}
+use Rattle.heap_system.proofs.alone.Standing.{some, grey_heads, IsOfPass, NoGrey, IsDry, LoneStep, LoneLaw}
 
 -- the word is that of the pass, and of an open gate with nobody inside
 of_pass : (p : Pass) (w : ℕ) (sweep : Bool) → cycle_of w ≡ p.cycle → is_sweep w ≡ sweep → p.sweep ≡ sweep

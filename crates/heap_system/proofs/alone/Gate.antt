@@ -1,24 +1,22 @@
 -- A lone thread at the gate, on its way in and out.
-use Rattle.std.proofs.Common.{◌≡◌, ℕ, ◌+◌, ◌-◌, ◌≤◌, ◌<◌, Bool, true, false, not, cond, eqb, ltb, eq-eqb, ne_eqb, le-ltb, lt-ltb, refl, sym, ap, ◌∙◌, subst, arith, inl, inr}
+use Rattle.std.proofs.Common.{◌≡◌, ◌+◌, ◌-◌, ◌≤◌, true, false, not, cond, eqb, ltb, eq-eqb, ne_eqb, le-ltb, lt-ltb, refl, sym, ap, ◌∙◌, subst, arith, inl, inr}
 use Rattle.std.proofs.lemmas.Bool.{cases_Bool, cases_lt}
 use Rattle.block_store.specs.declared.Config.{Config}
 use Rattle.block_store.specs.declared.PhaseWord.{PhaseWord}
 use Rattle.block_store.specs.Heaps.{Heap, put_at}
-use Rattle.block_store.specs.Phases.{inside_of, is_closed, is_sweep, cycle_of}
+use Rattle.block_store.specs.Phases.{is_sweep, cycle_of}
 use Rattle.block_store.specs.Places.{Phase, Cursor}
 use Rattle.block_store.proofs.PhaseWords.{phase-less}
 use Rattle.never_heap.specs.Steps.{makes_object}
-use Rattle.heap_machine.specs.Gating.{Gating, Stand, Inside, is_outside}
+use Rattle.heap_machine.specs.Gating.{Gating, Inside, is_outside}
 use Rattle.heap_machine.specs.declared.gate.GateRow.{GateRow}
 use Rattle.heap_machine.specs.declared.gate.GateRow.TheVariants as gates
 use Rattle.heap_machine.proofs.Gatings.{inside_some, entered_phase}
-use Rattle.lone_bound.specs.Moves.{Spot, Lone, at}
-use Rattle.heap_system.specs.declared.local.Part.{Part}
-use Rattle.heap_system.specs.declared.local.Part.TheVariants.{Rest, Enter, Serve, Mark, Sweep, Build, Again, Idle}
-use Rattle.heap_system.proofs.PartLaws.{AtPart}
+use Rattle.lone_bound.specs.Moves.{Spot}
+use Rattle.heap_system.specs.declared.local.Part.TheVariants.{Rest, Enter, Again, Idle}
 use Rattle.heap_system.proofs.Seeing.{Seen}
 use Rattle.heap_system.proofs.alone.Heads.{same_lone, open_here, has_pass}
-use Rattle.heap_system.proofs.alone.Standing.{lone_of, ready_now, some, grey_heads, IsOfPass, NoGrey, IsDry, Alone, LoneStep, LoneLaw}
+use Rattle.heap_system.proofs.alone.Standing.{ready_now, some, grey_heads, LoneStep, LoneLaw}
 
 pub rest_lone : (c : Config) → LoneLaw c Rest
 rest_lone c s is alone event known =

@@ -1,7 +1,7 @@
 -- Whether some of a few numbers is not 0, and that nobody is inside where every thread is outside.
-use Rattle.std.proofs.Common.{◌≡◌, ℕ, zero, suc, ◌+◌, ◌-◌, ◌<◌, ◌≤◌, Bool, true, false, not, ◌||◌, cond, eqb, eq-eqb, ne_eqb, refl, sym, ap, ◌∙◌, arith, inl, inr}
-use Rattle.std.proofs.lemmas.Bool.{cases_Bool, cases_eq}
-use Rattle.block_store.specs.Phases.{bit, inside_of, is_closed, is_sweep, cycle_of}
+use Rattle.std.proofs.Common.{◌≡◌, ℕ, zero, suc, ◌+◌, ◌-◌, ◌<◌, ◌≤◌, Bool, true, false, eq-eqb, ne_eqb, refl, sym, ap, ◌∙◌, arith, inl, inr}
+use Rattle.std.proofs.lemmas.Bool.{cases_eq}
+use Rattle.block_store.specs.Phases.{bit, inside_of, is_closed}
 use Rattle.block_store.specs.Places.{Phase}
 use Rattle.block_store.specs.declared.Config.{Config}
 use Rattle.block_store.proofs.Functions.{total_none, bit_zero}

@@ -1,5 +1,5 @@
 -- A lone thread in a Mark pass.
-use Rattle.std.proofs.Common.{◌≡◌, ℕ, zero, suc, ◌+◌, ◌-◌, ◌≤◌, ◌<◌, Bool, true, false, not, cond, eqb, ltb, eq-eqb, ne_eqb, ltb-true, ltb-false, lt-ltb, le-ltb, refl, sym, ap, ◌∙◌, subst, arith, inl, inr}
+use Rattle.std.proofs.Common.{◌≡◌, ℕ, suc, ◌+◌, ◌-◌, ◌≤◌, ◌<◌, true, false, eqb, ltb, eq-eqb, ne_eqb, ltb-true, ltb-false, lt-ltb, le-ltb, refl, sym, ap, ◌∙◌, subst, arith, inl, inr}
 use Rattle.std.proofs.lemmas.Bool.{cases_Bool, cases_eq, cases_lt}
 use Rattle.block_store.specs.declared.Config.{Config}
 use Rattle.block_store.specs.Heaps.{Heap, put_at}
@@ -15,11 +15,10 @@ use Rattle.grey_steps.proofs.Ends.{each_list}
 use Rattle.lone_bound.specs.Moves.{Spot, Lone, Dealt}
 use Rattle.heap_system.specs.declared.local.Part.{Part}
 use Rattle.heap_system.specs.declared.local.Part.TheVariants.{Mark}
-use Rattle.heap_system.specs.Locals.{if_over, part_got}
-use Rattle.heap_system.proofs.PartLaws.{AtPart}
+use Rattle.heap_system.specs.Locals.{if_over}
 use Rattle.heap_system.proofs.Seeing.{Seen}
 use Rattle.heap_system.proofs.alone.Heads.{some_none, some_first, some_next, some_same, same_lone, has_pass}
-use Rattle.heap_system.proofs.alone.Standing.{terms_of, some, grey_heads, lone_of, NoGrey, Alone, LoneStep, LoneLaw, LoneKnows, is_out, heap_left}
+use Rattle.heap_system.proofs.alone.Standing.{terms_of, some, grey_heads, lone_of, NoGrey, LoneStep, LoneLaw, LoneKnows, is_out, heap_left}
 
 -- where a list is 0 that is taken, the heap is as it was
 taken : (h : Heap) (a b : ℕ) → h (GreyList a) ≡ 0 → put_at h (GreyList a) 0 (GreyList b) ≡ h (GreyList b)

@@ -1,12 +1,11 @@
 -- A lone thread comes to the end of its command.
-use Rattle.std.proofs.Common.{◌≡◌, ℕ, zero, suc, ◌+◌, ◌-◌, ◌*◌, ◌≤◌, ◌<◌, Bool, true, false, cond, eqb, ◌&&◌, eq-eqb, ne_eqb, Option, Some, None, is_some, List, [], ◌∷◌, ◌++◌, length, get_or, replicate, append-nil, refl, sym, ap, ◌∙◌, subst, arith, inl, inr}
-use Rattle.std.proofs.lemmas.Bool.{cases_Bool, cases_eq}
+use Rattle.std.proofs.Common.{◌≡◌, ℕ, zero, suc, ◌+◌, ◌-◌, ◌*◌, ◌≤◌, ◌<◌, Bool, true, false, cond, eqb, ◌&&◌, eq-eqb, ne_eqb, Option, Some, None, is_some, List, [], ◌∷◌, ◌++◌, length, get_or, append-nil, refl, sym, ap, ◌∙◌, subst, arith, inl, inr}
+use Rattle.std.proofs.lemmas.Bool.{cases_Bool}
 use Rattle.block_store.specs.declared.Config.{Config}
 use Rattle.block_store.specs.declared.Width.{Width}
 use Rattle.block_store.specs.declared.Width.TheVariants.{Four, Eight}
-use Rattle.block_store.specs.Counts.{total}
 use Rattle.block_store.specs.Heaps.{Heap}
-use Rattle.block_store.specs.Phases.{bit, inside_of, is_closed}
+use Rattle.block_store.specs.Phases.{bit, is_closed}
 use Rattle.block_store.specs.Places.{Phase}
 use Rattle.block_store.specs.Widths.{payloads}
 use Rattle.block_store.proofs.Functions.{total_part}
@@ -18,19 +17,18 @@ use Rattle.never_heap.specs.declared.Reply.{Reply}
 use Rattle.never_heap.specs.RightWork.{units_owed}
 use Rattle.never_heap.specs.Steps.{makes_object, blocks_of}
 use Rattle.never_heap.proofs.Answering.{others_have_none}
-use Rattle.heap_machine.specs.Gating.{Stand, is_outside, is_inside, is_closing}
+use Rattle.heap_machine.specs.Gating.{is_outside, is_inside, is_closing}
 use Rattle.heap_machine.specs.Operations.{place_of}
 use Rattle.heap_machine.proofs.Gatings.{stand_out}
-use Rattle.barrier_steps.specs.Rows.{first_row}
-use Rattle.lone_bound.specs.Moves.{Spot, Lone, Terms, Moves}
+use Rattle.lone_bound.specs.Moves.{Terms, Moves}
 use Rattle.lone_bound.specs.Prices.{left, at_look, allocation_bound, other_bound}
 use Rattle.lone_bound.proofs.Prices.{lower, within}
 use Rattle.heap_system.specs.declared.local.Part.{Part}
-use Rattle.heap_system.specs.declared.local.Part.TheVariants.{Rest, Enter, Serve, Mark, Sweep, Build, Again, Idle, TurnOver, Leave}
+use Rattle.heap_system.specs.declared.local.Part.TheVariants.{Rest, Leave}
 use Rattle.heap_system.specs.declared.Turn.TheVariants as turns
 use Rattle.heap_system.specs.Alone.{IsQuiet, HasCommand, EndsWithin, command_bound, after_alone}
-use Rattle.heap_system.specs.Locals.{LocalState, command_of, owed, effect, is_rest, is_done, entry_of, entries_of, turn_of, waits, part_want, part_got, errand_of}
-use Rattle.heap_system.specs.Machines.{Run, IsJob, local_at, local_in, heap_in, next, answer, event_done, word_read}
+use Rattle.heap_system.specs.Locals.{LocalState, command_of, owed, effect, is_rest, is_done, entry_of, entries_of, waits, part_want, part_got, errand_of}
+use Rattle.heap_system.specs.Machines.{Run, IsJob, local_at, local_in, heap_in, next, answer, word_read}
 use Rattle.heap_system.specs.Pictures.{gating, gates_in}
 use Rattle.heap_system.proofs.Kept.{Kept}
 use Rattle.heap_system.proofs.LawsOf.{laws_of}
@@ -43,7 +41,7 @@ use Rattle.heap_system.proofs.alone.FieldsLeft.{fields_low}
 use Rattle.heap_system.proofs.alone.Heads.{open_here}
 use Rattle.heap_system.proofs.alone.Laws.{lone_law}
 use Rattle.heap_system.proofs.alone.Low.{order_records}
-use Rattle.heap_system.proofs.alone.Standing.{terms_of, spot_of, lone_of, ready_of, LoneKnows, LoneStep, Alone, is_out, paid_left}
+use Rattle.heap_system.proofs.alone.Standing.{terms_of, spot_of, lone_of, LoneKnows, LoneStep, Alone, is_out, paid_left}
 
 -- a price of a unit that serves both widths
 abbrev unit : Config → ℕ

@@ -1,5 +1,4 @@
-use Rattle.std.proofs.Common.{◌≡◌, ◌+◌, ◌<◌, sym, ap, ◌∙◌, arith}
-use Rattle.std.proofs.lemmas.Bool.{not-true}
+use Rattle.std.proofs.Common.{sym, ap, ◌∙◌, arith}
 use Rattle.block_store.specs.declared.Config.{Config}
 use Rattle.heap_system.specs.Locals.{is_done}
 use Rattle.schedules.proofs.LeftTurns.{is_least, is_none, one_done}

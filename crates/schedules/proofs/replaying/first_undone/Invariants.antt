@@ -1,4 +1,4 @@
-use Rattle.std.proofs.Common.{◌≡◌, ◌<◌, ◌≤◌, ℕ, true}
+use Rattle.std.proofs.Common.{◌≡◌, ◌<◌, ℕ, true}
 use Rattle.heap_system.specs.Locals.{is_done}
 use Rattle.heap_system.specs.Machines.{local_at}
 use Rattle.schedules.proofs.replaying.first_undone.Given as goal

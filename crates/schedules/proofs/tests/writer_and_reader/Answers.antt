@@ -1,4 +1,4 @@
-use Rattle.std.proofs.Common.{map, sym, subst, ap, ◌∙◌, arith, List, [], ◌∷◌, Vec, Global}
+use Rattle.std.proofs.Common.{map, sym, subst, arith, [], ◌∷◌, Vec, Global}
 use Rattle.block_store.specs.declared.Width.TheVariants.{Four}
 use Rattle.never_heap.specs.declared.Command.{Command}
 use Rattle.never_heap.specs.declared.Command.TheVariants.{Set, Put, Get}
@@ -13,8 +13,8 @@ writes_fit = two Four (Set 1 7) (Put 0 2 1) (omega arith, omega arith) (omega ar
 reads_fit : IsTraceInBounds (config Four) (Get 2 0 2 ∷ Get 2 0 2 ∷ [])
 reads_fit = two Four (Get 2 0 2) (Get 2 0 2) (omega arith, omega arith, omega arith) (omega arith, omega arith, omega arith)
 
-pub new-requires : goal.new-requires
-new-requires c =
+pub returns : goal.returns
+returns c =
     subst (λ xs. IsJob (config Four) (map (λ (v : Vec Command Global). v.items) xs)) (sym c.in_ok-vec.ensures.items)
     (both Four c.in_ok-writes.writes.items c.in_ok-reads.reads.items
     (subst (IsTraceInBounds (config Four)) (sym c.in_ok-writes.ensures.items) writes_fit)

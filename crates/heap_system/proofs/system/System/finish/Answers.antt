@@ -1,8 +1,9 @@
 use Rattle.std.proofs.Common.{◌≡◌, ℕ, ◌<◌, true, List, sym, ap, ◌∙◌, refl, subst, arith, get_or, length}
 use Rattle.block_store.specs.declared.Config.{Config}
+use Rattle.block_store.specs.Phases.{cycle_of}
 use Rattle.block_store.specs.Places.{Phase}
 use Rattle.heap_system.specs.Locals.{LocalState, is_done}
-use Rattle.heap_system.specs.Machines.{State, no_local}
+use Rattle.heap_system.specs.Machines.{State, heap_in, no_local}
 use Rattle.heap_system.specs.Systems.{Whole, AllDone, IsReached, IsFinished, IsFinishedInOrder, traces_of, logs_of, items_kept}
 use Rattle.heap_system.specs.Ordering.{ordered}
 use Rattle.heap_system.proofs.Ordering.{finished_in_order}
@@ -32,6 +33,9 @@ returns-in-None-clause-finished c =
     let s = state_of c.self.inside in
     subst (λ (w : Whole). (c.self.inside.config ≡ w.config) × (logs_of s ≡ logs_of w.state) × IsFinished w.config (traces_of w.state) (logs_of s) c.cycle_in.result) c.self.view_is
     (refl, refl, subst (λ n. IsFinished c.self.inside.config (traces_of s) (logs_of s) n) (sym c.cycle_in.ensures) (all_done c.self.inside.config s c.self.invariant.reached (done c.self.inside.config s c.self.invariant.reached c.deref.result.now c.deref.ensures.value c.in-None.ensures.none)))
+
+pub returns-in-None-clause-cycles : goal.returns-in-None-clause-cycles
+returns-in-None-clause-cycles c = subst (λ (w : Whole). c.cycle_in.result ≡ cycle_of (heap_in w.config w.state Phase)) c.self.view_is c.cycle_in.ensures
 
 pub returns-in-None-clause-history : goal.returns-in-None-clause-history
 returns-in-None-clause-history c =
