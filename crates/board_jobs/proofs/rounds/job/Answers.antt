@@ -4,7 +4,7 @@ use Rattle.std.proofs.lemmas.List.{length-map}
 use Rattle.std.proofs.lemmas.List.Elements.{recursion_from_All}
 use Rattle.never_heap.specs.declared.Command.{Command}
 use Rattle.never_heap.specs.Jobs.{IsTraceInBounds}
-use Rattle.atom_board.proofs.rounds.job.Goals as goal
+use Rattle.board_jobs.proofs.rounds.job.Goals as goal
 
 abbrev items_of : Vec Command Global → List Command
 items_of v = v.items

@@ -5,7 +5,7 @@ use Rattle.never_heap.specs.declared.Command.TheVariants as commands
 use Rattle.never_heap.specs.Jobs.{IsTraceInBounds}
 use Rattle.heap_system.specs.Machines.{IsJob}
 use Rattle.heap_system.proofs.Jobs.{config, two, both}
-use Rattle.lock_board.proofs.tests.two_says.Goals as goal
+use Rattle.board_jobs.proofs.meeting.two_says.Goals as goal
 
 abbrev says : List Command
 says = commands.Say 0 ∷ commands.Say 0 ∷ []
