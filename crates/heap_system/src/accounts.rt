@@ -16,8 +16,8 @@ ghost use Rattle.heap_system.specs.Shares.{units_made_in, given_in};
 /// the command in hand, are together at most its units in that cycle and the price of one largest
 /// object; and it has paid no more than that price. The cycle is none after the present one, and is
 /// the present one where the thread is inside. The account's units are the turns of the thread that
-/// made a unit in that cycle, and what it was given are the blocks of its commands that were answered
-/// new in that cycle. In no later cycle has it made a unit or was it given a block.
+/// made a unit in that cycle, and what it was given are the blocks of its commands that were
+/// answered new in that cycle. In no later cycle has it made a unit or was it given a block.
 pub fn accounts_are_sound()
     ensures sound { (c : Config) (r : Run) (rate : ℕ) → IsAfterTurns c r → IsRate c rate
         → (t : ℕ) → t < c.threads → IsSound rate c.object (local_in c r t).balance }
