@@ -21,7 +21,7 @@ const COMMANDS: u32 = 30;
 // How many turns are enough to come to rest, or to end a command.
 const ENOUGH: u32 = 100_000;
 
-// An object has three blocks at most. The room for one more than the rate needs is drawn, so that
+// An object has at most three blocks. What the heap has beyond what the rate needs is drawn, so that
 // a block is paid for with some ten units.
 fn drawn_config(draws: &mut Lcg64Xsh32, width: Width) -> Config {
     let threads = 1 + draws.next_word() % 16;
@@ -40,7 +40,7 @@ fn drawn_config(draws: &mut Lcg64Xsh32, width: Width) -> Config {
     }
 }
 
-// A command of one of the ten kinds. Its registers, its index, and how long an object is, are drawn.
+// A command of one of the ten kinds, with drawn registers, and a drawn index or length.
 fn drawn_command(draws: &mut Lcg64Xsh32, kind: u32) -> Command {
     let d = (1 + draws.next_word() % 15) as u8;
     let s = (draws.next_word() % 16) as u8;
