@@ -1,21 +1,31 @@
 -- What a call did, put together from what it found and what it wrote.
 use Rattle.std.proofs.Common.{ℕ, ◌≡◌, ◌≢◌, ◌<◌, ◌⊎◌, ◌↔◌, inl, inr, List, Option, Some, None, IfSome, IsSome, refl, sym, ◌∙◌, subst, arith}
 use Rattle.std.proofs.lemmas.Bool.{cases_eq}
+use Rattle.atom_board.specs.Mutators.{ClosedState}
+use Rattle.heap_system.specs.Systems.{Finish}
+use Rattle.heap_system.specs.Systems.{units_of as units_in}
+use Rattle.schedules.specs.declared.Schedule.{Schedule}
 use Rattle.trace_text.specs.Faults.{Rose}
+use Rattle.trace_text.specs.JobTexts.{job_text}
+use Rattle.trace_text.specs.Orders.{text_in_order}
 use Rattle.trace_text.specs.Streams.{Appends, AppendsPrefix}
 use Rattle.trace_text.specs.Texts.{run_text}
-use Rattle.atom_board.specs.Mutators.{ClosedState}
-use Rattle.heap_system.specs.Systems.{units_of as units_in}
 use Rattle.rtheap_core.specs.declared.exit.RunEnd.{RunEnd}
-use Rattle.rtheap_core.specs.declared.exit.RunEnd.TheVariants.{Ran}
+use Rattle.rtheap_core.specs.declared.exit.RunEnd.TheVariants.{Replayed, Ran}
 use Rattle.rtheap_core.specs.declared.refusal.Refusal.{Refusal}
-use Rattle.rtheap_core.specs.declared.refusal.Refusal.TheVariants.{Usage, BadLine, TooLong, LiveTooSmall, NoRate, ReadFault, OutOfMemory}
+use Rattle.rtheap_core.specs.declared.refusal.Refusal.TheVariants.{Usage, BadLine, TooLong, LiveTooSmall, NoRate, ReadFault, OutOfMemory, TurnsUsed}
+use Rattle.rtheap_core.specs.declared.task.Task.{Task}
+use Rattle.rtheap_core.specs.declared.task.Task.TheVariants.{Run, Replay, Plan, Make, Trial}
 use Rattle.rtheap_core.specs.Calls.{Call, IsCarriedOut}
-use Rattle.rtheap_core.specs.Exits.{AskForRun, Ask, Headline, IsWritten, IsDue}
-use Rattle.rtheap_core.specs.Outcomes.{HasRun}
-use Rattle.rtheap_core.specs.Refusals.{IsCause, IsUnfailed, status_of, refusal_line}
+use Rattle.rtheap_core.specs.Ends.{IsOfThreads}
+use Rattle.rtheap_core.specs.Exits.{Headline, IsReplay, IsWritten, Planned, Tried, IsDue, rate_text}
+use Rattle.rtheap_core.specs.Generated.{generated_job}
+use Rattle.rtheap_core.specs.Outcomes.{HasRun, HasReplay, HasRate}
+use Rattle.rtheap_core.specs.Refusals.{IsCause, IsUnfailed, IsUntouched, status_of, refusal_line}
 use Rattle.rtheap_core.specs.Sides.{Sides}
-use Rattle.rtheap_core.proofs.Headlines.{headline_of}
+use Rattle.rtheap_core.specs.Tasks.{AsksFor, Ask, AskForRun, AskForJob, Runs}
+use Rattle.rtheap_core.proofs.Asked.{one_task}
+use Rattle.rtheap_core.proofs.Headlines.{headline_of, replay_of}
 
 -- what became of the writing
 pub record IsTold (c : Call) : Type 0 where
@@ -29,25 +39,190 @@ failed c t more = elim (cases_eq c.exit.status 6) [
   | inr n ↦ let same = t.still n in absurd (omega (arith, same, more))
 ]
 
--- ---- a run
+none_is : (P : RunEnd → Type 0) (o : Option RunEnd) → o ≡ None → IfSome o P
+none_is P o e = subst (λ (x : Option RunEnd). IfSome x P) (sym e) tt
 
-pub run_is_carried_out : (c : Call) (run : ClosedState) → AskForRun c.words → HasRun c.source (Ran run)
-    → IsUnfailed c.source → c.exit.due ≡ 0 → c.exit.run ≡ Some (Ran run)
-    → IsWritten c.sink c.exit.status (run_text run.logs run.cycles (units_in run.logs)) → IsTold c → IsCarriedOut c
-run_is_carried_out c run asked has unfailed due is written t = record {
-  headline = subst (λ (o : Option RunEnd). IfSome o (Headline c.source c.sink c.exit.status))
-      (sym is) (headline_of c.source c.sink c.exit.status run has written);
-  planned = λ plan _. let no : AskForRun c.words = asked in absurd (cc (no, plan));
-  run = (λ _. (asked, due), λ _. subst (λ (o : Option RunEnd). IsSome o) (sym is) refl);
+not_some : (o : Option RunEnd) → o ≡ None → IsSome o → ⊥
+not_some o e s =
+    let none : IsSome {T = RunEnd} None = subst (λ (x : Option RunEnd). IsSome x) e s in
+    absurd cc
+
+some_is : (P : RunEnd → Type 0) (o : Option RunEnd) (e : RunEnd) → o ≡ Some e → P e → IfSome o P
+some_is P o e is p = subst (λ (x : Option RunEnd). IfSome x P) (sym is) p
+
+there : (o : Option RunEnd) (e : RunEnd) → o ≡ Some e → IsSome o
+there o e is = subst (λ (x : Option RunEnd). IsSome x) (sym is) refl
+
+-- ---- a task that was done
+
+-- what the call did of the task
+pub record IsOf (c : Call) : Type 0 where
+  pub headline : IfSome c.exit.run (Headline c.source c.sink c.exit.status)
+  pub run : IsSome c.exit.run ↔ (AskForRun c.words × (c.exit.due ≡ 0))
+  pub ran : AsksFor c.words Run → IfSome c.exit.run IsOfThreads
+  pub replayed : (schedule : Schedule) (turns : ℕ) → AsksFor c.words (Replay schedule turns)
+      → IfSome c.exit.run (IsReplay c.source c.sink c.exit.status schedule turns)
+  pub planned : AsksFor c.words Plan → Planned c.source c.sink c.exit.status
+  pub made : (key lines : ℕ) → AsksFor c.words (Make key lines)
+      → IsWritten c.sink c.exit.status (job_text (generated_job key lines))
+  pub tried : (key lines : ℕ) → AsksFor c.words (Trial key lines)
+      → Tried c.sink c.exit.status key lines
+
+done_is_carried_out : (c : Call) (task : Task) → AsksFor c.words task → c.exit.due ≡ 0
+    → IsUnfailed c.source → IsTold c → ((AskForJob c.words → ⊥) → IsUntouched c.source) → IsOf c
+    → IsCarriedOut c
+done_is_carried_out c task asked due unfailed t unread of = record {
+  headline = of.headline;
+  run = of.run;
+  ran = of.ran;
+  replayed = of.replayed;
+  planned = λ a _. of.planned a;
+  made = λ key lines a _. of.made key lines a;
+  tried = λ key lines a _. of.tried key lines a;
+  unread = unread;
   any_due = inl due;
   any_status = t.status;
   refused = λ n. absurd (n due);
-  usage = (λ e. absurd (omega (arith, due, e)), λ n. absurd (n (inl asked)));
+  usage = (λ e. absurd (omega (arith, due, e)), λ n. absurd (n (task, asked)));
   read_fault = λ e. absurd (omega (arith, due, e));
   read_fault_told = λ more. absurd (omega (arith, unfailed, more));
   write_fault = t.rose;
   write_fault_told = failed c t;
 }
+
+-- the words ask for no other task
+no_other : {P : Type 0} (words : List (List ℕ)) (s t : Task) → (s ≡ t → ⊥) → AsksFor words s
+    → AsksFor words t → P
+no_other words s t apart a b = absurd (apart (one_task words s t a b))
+
+not_of : (words : List (List ℕ)) (task : Task) → (Runs task → ⊥) → AsksFor words task
+    → AskForRun words → ⊥
+not_of words task none asked other =
+    none (subst Runs (one_task words other.0 task other.2 asked) other.1)
+
+pub run_is_carried_out : (c : Call) (run : ClosedState) → AsksFor c.words Run
+    → HasRun c.source (Ran run)
+    → IsUnfailed c.source → c.exit.due ≡ 0 → c.exit.run ≡ Some (Ran run)
+    → IsWritten c.sink c.exit.status (run_text run.logs run.cycles (units_in run.logs))
+    → IsTold c → IsCarriedOut c
+run_is_carried_out c run asked has unfailed due is written t =
+    done_is_carried_out c Run asked due unfailed t (λ n. absurd (n (Run, tt, asked))) (record {
+      headline = some_is (Headline c.source c.sink c.exit.status) c.exit.run (Ran run) is
+          (headline_of c.source c.sink c.exit.status run has written);
+      run = (λ _. ((Run, tt, asked), due), λ _. there c.exit.run (Ran run) is);
+      ran = λ _. some_is IsOfThreads c.exit.run (Ran run) is tt;
+      replayed = λ schedule turns a.
+          no_other c.words Run (Replay schedule turns) (λ e. absurd cc) asked a;
+      planned = λ a. no_other c.words Run Plan (λ e. absurd cc) asked a;
+      made = λ key lines a. no_other c.words Run (Make key lines) (λ e. absurd cc) asked a;
+      tried = λ key lines a. no_other c.words Run (Trial key lines) (λ e. absurd cc) asked a;
+    })
+
+-- the replay of the schedule and turns that the words say
+of_replay : (c : Call) (schedule : Schedule) (turns : ℕ) (f : Finish)
+    → AsksFor c.words (Replay schedule turns)
+    → IsReplay c.source c.sink c.exit.status schedule turns (Replayed f)
+    → (s : Schedule) (n : ℕ) → AsksFor c.words (Replay s n)
+    → IsReplay c.source c.sink c.exit.status s n (Replayed f)
+of_replay c schedule turns f asked h s n a =
+    let same = one_task c.words (Replay schedule turns) (Replay s n) asked a in
+    let schedules : schedule ≡ s = cc in
+    let numbers : turns ≡ n = cc in
+    subst (λ k. IsReplay c.source c.sink c.exit.status s k (Replayed f)) numbers
+    (subst (λ k. IsReplay c.source c.sink c.exit.status k turns (Replayed f)) schedules h)
+
+pub replay_is_carried_out : (c : Call) (schedule : Schedule) (turns : ℕ) (f : Finish)
+    → AsksFor c.words (Replay schedule turns) → (r : HasReplay c.source schedule turns f)
+    → IsUnfailed c.source → c.exit.due ≡ 0 → c.exit.run ≡ Some (Replayed f)
+    → IsWritten c.sink c.exit.status (text_in_order r.replayed.ran.history)
+    → IsTold c → IsCarriedOut c
+replay_is_carried_out c schedule turns f asked has unfailed due is written t =
+    let task = Replay schedule turns in
+    let replay = replay_of c.source c.sink c.exit.status schedule turns f has written in
+    done_is_carried_out c task asked due unfailed t (λ n. absurd (n (task, tt, asked))) (record {
+      headline = some_is (Headline c.source c.sink c.exit.status) c.exit.run (Replayed f) is replay.0;
+      run = (λ _. ((task, tt, asked), due), λ _. there c.exit.run (Replayed f) is);
+      ran = λ a. no_other c.words task Run (λ e. absurd cc) asked a;
+      replayed = λ s n a.
+          some_is (IsReplay c.source c.sink c.exit.status s n) c.exit.run (Replayed f) is
+          (of_replay c schedule turns f asked replay s n a);
+      planned = λ a. no_other c.words task Plan (λ e. absurd cc) asked a;
+      made = λ key lines a. no_other c.words task (Make key lines) (λ e. absurd cc) asked a;
+      tried = λ key lines a. no_other c.words task (Trial key lines) (λ e. absurd cc) asked a;
+    })
+
+-- a task that runs no job that was read
+module _ (c : Call) (task : Task) (asked : AsksFor c.words task) (due : c.exit.due ≡ 0)
+    (is : c.exit.run ≡ None) (none : Runs task → ⊥) where
+  not_run : IsSome c.exit.run ↔ (AskForRun c.words × (c.exit.due ≡ 0))
+  not_run =
+      (λ s. absurd (not_some c.exit.run is s), λ p. absurd (not_of c.words task none asked p.0))
+
+  no_replay : (schedule : Schedule) (turns : ℕ) → AsksFor c.words (Replay schedule turns)
+      → IfSome c.exit.run (IsReplay c.source c.sink c.exit.status schedule turns)
+  no_replay schedule turns a =
+      none_is (IsReplay c.source c.sink c.exit.status schedule turns) c.exit.run is
+
+pub plan_is_carried_out : (c : Call) (rate : ℕ) → AsksFor c.words Plan → HasRate c.source rate
+    → IsUnfailed c.source → c.exit.due ≡ 0 → c.exit.run ≡ None
+    → IsWritten c.sink c.exit.status (rate_text rate) → IsTold c → IsCarriedOut c
+plan_is_carried_out c rate asked has unfailed due is written t =
+    done_is_carried_out c Plan asked due unfailed t (λ n. absurd (n (Plan, tt, asked))) (record {
+      headline = none_is (Headline c.source c.sink c.exit.status) c.exit.run is;
+      run = not_run c Plan asked due is (λ r. r);
+      ran = λ a. none_is IsOfThreads c.exit.run is;
+      replayed = no_replay c Plan asked due is (λ r. r);
+      planned = λ _. record {
+        job = has.job;
+        read = has.read;
+        admitted = has.admitted;
+        rate = rate;
+        is_rate = has.is_rate;
+        text = written;
+      };
+      made = λ key lines a. no_other c.words Plan (Make key lines) (λ e. absurd cc) asked a;
+      tried = λ key lines a. no_other c.words Plan (Trial key lines) (λ e. absurd cc) asked a;
+    })
+
+pub make_is_carried_out : (c : Call) (key lines : ℕ) → AsksFor c.words (Make key lines)
+    → IsUntouched c.source → c.exit.due ≡ 0 → c.exit.run ≡ None
+    → IsWritten c.sink c.exit.status (job_text (generated_job key lines)) → IsTold c → IsCarriedOut c
+make_is_carried_out c key lines asked untouched due is written t =
+    let task = Make key lines in
+    done_is_carried_out c task asked due untouched.1 t (λ _. untouched) (record {
+      headline = none_is (Headline c.source c.sink c.exit.status) c.exit.run is;
+      run = not_run c task asked due is (λ r. r);
+      ran = λ a. none_is IsOfThreads c.exit.run is;
+      replayed = no_replay c task asked due is (λ r. r);
+      planned = λ a. no_other c.words task Plan (λ e. absurd cc) asked a;
+      made = λ k l a.
+          let same = one_task c.words task (Make k l) asked a in
+          let keys : key ≡ k = cc in
+          let numbers : lines ≡ l = cc in
+          subst (λ n. IsWritten c.sink c.exit.status (job_text (generated_job k n))) numbers
+          (subst (λ n. IsWritten c.sink c.exit.status (job_text (generated_job n lines))) keys written);
+      tried = λ k l a. no_other c.words task (Trial k l) (λ e. absurd cc) asked a;
+    })
+
+pub trial_is_carried_out : (c : Call) (key lines : ℕ) → AsksFor c.words (Trial key lines)
+    → IsUntouched c.source → c.exit.due ≡ 0 → c.exit.run ≡ None
+    → Tried c.sink c.exit.status key lines → IsTold c → IsCarriedOut c
+trial_is_carried_out c key lines asked untouched due is tried t =
+    let task = Trial key lines in
+    done_is_carried_out c task asked due untouched.1 t (λ _. untouched) (record {
+      headline = none_is (Headline c.source c.sink c.exit.status) c.exit.run is;
+      run = not_run c task asked due is (λ r. r);
+      ran = λ a. none_is IsOfThreads c.exit.run is;
+      replayed = no_replay c task asked due is (λ r. r);
+      planned = λ a. no_other c.words task Plan (λ e. absurd cc) asked a;
+      made = λ k l a. no_other c.words task (Make k l) (λ e. absurd cc) asked a;
+      tried = λ k l a.
+          let same = one_task c.words task (Trial k l) asked a in
+          let keys : key ≡ k = cc in
+          let numbers : lines ≡ l = cc in
+          subst (λ n. Tried c.sink c.exit.status k n) numbers
+          (subst (λ n. Tried c.sink c.exit.status n lines) keys tried);
+    })
 
 -- ---- a refusal
 
@@ -59,6 +234,7 @@ never_done LiveTooSmall e = absurd cc
 never_done NoRate e = absurd cc
 never_done ReadFault e = absurd cc
 never_done OutOfMemory e = absurd cc
+never_done (TurnsUsed thread) e = absurd cc
 
 is_due : (r : Refusal) → IsDue (status_of r)
 is_due Usage = inr (inl refl)
@@ -67,17 +243,24 @@ is_due TooLong = inr (inr (inl refl))
 is_due LiveTooSmall = inr (inr (inr (inl refl)))
 is_due NoRate = inr (inr (inr (inl refl)))
 is_due ReadFault = inr (inr (inr (inr (inl refl))))
-is_due OutOfMemory = inr (inr (inr (inr (inr refl))))
+is_due OutOfMemory = inr (inr (inr (inr (inr (inl refl)))))
+is_due (TurnsUsed thread) = inr (inr (inr (inr (inr (inr refl)))))
+
+-- words that ask for a job ask for something
+any_of : (words : List (List ℕ)) → AskForJob words → Ask words
+any_of words a = (a.0, a.2)
 
 module _ (words : List (List ℕ)) (source : Sides) where
   usage_is : (r : Refusal) → IsCause words source r → (status_of r ≡ 2) ↔ (Ask words → ⊥)
   usage_is Usage c = (λ _. c.0, λ _. refl)
-  usage_is (BadLine line why) c = (λ e. absurd cc, λ n. absurd (n c.0))
-  usage_is TooLong c = (λ e. absurd cc, λ n. absurd (n c.0))
-  usage_is LiveTooSmall c = (λ e. absurd cc, λ n. absurd (n c.0))
-  usage_is NoRate c = (λ e. absurd cc, λ n. absurd (n c.0))
-  usage_is ReadFault c = (λ e. absurd cc, λ n. absurd (n c.0))
+  usage_is (BadLine line why) c = (λ e. absurd cc, λ n. absurd (n (any_of words c.0)))
+  usage_is TooLong c = (λ e. absurd cc, λ n. absurd (n (any_of words c.0)))
+  usage_is LiveTooSmall c = (λ e. absurd cc, λ n. absurd (n (any_of words c.0)))
+  usage_is NoRate c = (λ e. absurd cc, λ n. absurd (n (any_of words c.0)))
+  usage_is ReadFault c = (λ e. absurd cc, λ n. absurd (n (any_of words c.0)))
   usage_is OutOfMemory c = (λ e. absurd cc, λ n. absurd (n c.0))
+  usage_is (TurnsUsed thread) c =
+      (λ e. absurd cc, λ n. absurd (n (Replay c.0.schedule c.0.turns, c.0.asked)))
 
   fault_rose : (r : Refusal) → IsCause words source r → status_of r ≡ 5
       → Rose source.faults source.faults_now
@@ -88,39 +271,40 @@ module _ (words : List (List ℕ)) (source : Sides) where
   fault_rose NoRate c e = absurd cc
   fault_rose ReadFault c e = c.1
   fault_rose OutOfMemory c e = absurd cc
+  fault_rose (TurnsUsed thread) c e = absurd cc
 
   no_fault : {P : Type 0} → IsUnfailed source → source.faults < source.faults_now → P
   no_fault same more = absurd (omega (arith, same, more))
 
   fault_is : (r : Refusal) → IsCause words source r → source.faults < source.faults_now
       → status_of r ≡ 5
-  fault_is Usage c more = no_fault c.2 more
+  fault_is Usage c more = no_fault c.1.1 more
   fault_is (BadLine line why) c more = no_fault c.3 more
   fault_is TooLong c more = no_fault c.2 more
   fault_is LiveTooSmall c more = no_fault c.2 more
   fault_is NoRate c more = no_fault c.2 more
   fault_is ReadFault c more = refl
   fault_is OutOfMemory c more = no_fault c.2 more
-
-none_is : (P : RunEnd → Type 0) (o : Option RunEnd) → o ≡ None → IfSome o P
-none_is P o e = subst (λ (x : Option RunEnd). IfSome x P) (sym e) tt
-
-not_some : (o : Option RunEnd) → o ≡ None → IsSome o → ⊥
-not_some o e s =
-    let none : IsSome {T = RunEnd} None = subst (λ (x : Option RunEnd). IsSome x) e s in
-    absurd cc
+  fault_is (TurnsUsed thread) c more = no_fault c.1 more
 
 pub refusal_is_carried_out : (c : Call) (r : Refusal) → c.exit.due ≡ status_of r
     → c.exit.run ≡ None → IsCause c.words c.source r
+    → ((AskForJob c.words → ⊥) → IsUntouched c.source)
     → (c.exit.status ≢ 6 → Appends c.sink.bytes c.sink.bytes_now (refusal_line r))
     → (c.exit.status ≡ 6 → AppendsPrefix c.sink.bytes c.sink.bytes_now (refusal_line r))
     → IsTold c → IsCarriedOut c
-refusal_is_carried_out c r due is cause line front t =
+refusal_is_carried_out c r due is cause unread line front t =
     let usage = usage_is c.words c.source r cause in
     record {
       headline = none_is (Headline c.source c.sink c.exit.status) c.exit.run is;
-      planned = λ _ e. absurd (never_done r (sym due ∙ e));
       run = (λ s. absurd (not_some c.exit.run is s), λ p. absurd (never_done r (sym due ∙ p.1)));
+      ran = λ _. none_is IsOfThreads c.exit.run is;
+      replayed = λ schedule turns _.
+          none_is (IsReplay c.source c.sink c.exit.status schedule turns) c.exit.run is;
+      planned = λ _ e. absurd (never_done r (sym due ∙ e));
+      made = λ _ _ _ e. absurd (never_done r (sym due ∙ e));
+      tried = λ _ _ _ e. absurd (never_done r (sym due ∙ e));
+      unread = unread;
       any_due = subst IsDue (sym due) (is_due r);
       any_status = t.status;
       refused = λ _.

@@ -1,13 +1,17 @@
 -- The headline of an ended run.
 use Rattle.std.proofs.Common.{ℕ, ◌≡◌, sym, ap, ◌∙◌, subst}
 use Rattle.never_heap.specs.Histories.{parts, starts_in}
-use Rattle.trace_text.specs.Texts.{run_text, text_by_threads}
 use Rattle.atom_board.specs.Mutators.{ClosedState}
+use Rattle.trace_text.specs.Texts.{run_text, text_by_threads}
+use Rattle.heap_system.specs.Systems.{Finish}
 use Rattle.heap_system.specs.Systems.{units_of as units_in}
-use Rattle.rtheap_core.specs.declared.exit.RunEnd.TheVariants.{Ran}
-use Rattle.rtheap_core.specs.Exits.{HasHistory, Headline, IsWritten}
+use Rattle.schedules.specs.declared.Schedule.{Schedule}
+use Rattle.trace_text.specs.Orders.{text_in_order}
+use Rattle.rtheap_core.specs.declared.exit.RunEnd.TheVariants.{Replayed, Ran}
+use Rattle.rtheap_core.specs.Ends.{HasHistory}
+use Rattle.rtheap_core.specs.Exits.{Headline, IsReplay, IsWritten}
+use Rattle.rtheap_core.specs.Outcomes.{HasRun, HasReplay}
 use Rattle.rtheap_core.specs.Sides.{Sides}
-use Rattle.rtheap_core.specs.Outcomes.{HasRun}
 
 -- what the run shows is the text of its history
 text_of_run : (run : ClosedState) (r : HasHistory (Ran run))
@@ -20,7 +24,8 @@ text_of_run run r =
     ∙ ap (λ k. run_text (parts run.config.threads r.history) (starts_in r.history) k)
     (sym r.work_counted)
 
-pub headline_of : (source sink : Sides) (status : ℕ) (run : ClosedState) → HasRun source (Ran run)
+pub headline_of : (source sink : Sides) (status : ℕ) (run : ClosedState)
+    → HasRun source (Ran run)
     → IsWritten sink status (run_text run.logs run.cycles (units_in run.logs))
     → Headline source sink status (Ran run)
 headline_of source sink status run r w = record {
@@ -29,3 +34,17 @@ headline_of source sink status run r w = record {
   ran = r.ran;
   text = subst (IsWritten sink status) (text_of_run run r.ran) w;
 }
+
+pub replay_of : (source sink : Sides) (status : ℕ) (schedule : Schedule) (turns : ℕ) (f : Finish)
+    → (r : HasReplay source schedule turns f)
+    → IsWritten sink status (text_in_order r.replayed.ran.history)
+    → IsReplay source sink status schedule turns (Replayed f)
+replay_of source sink status schedule turns f r w = (
+  record {
+    read = r.read;
+    admitted = r.admitted;
+    ran = r.replayed.ran;
+    text = w;
+  },
+  r.replayed.replay,
+)

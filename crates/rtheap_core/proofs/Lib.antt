@@ -1,3 +1,10 @@
+pub mod Asked
+pub mod Faults
+pub mod Untouched
+pub mod Ordered
+pub mod Replays
+pub mod Lasting
+pub mod Trials
 pub mod Shown
 pub mod CarriedOut
 pub mod Headlines

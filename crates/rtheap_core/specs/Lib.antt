@@ -1,7 +1,8 @@
+pub mod Tasks
 pub mod Sides
+pub mod Generated
+pub mod Ends
 pub mod Exits
 pub mod Refusals
 pub mod Outcomes
-pub mod Tasks
 pub mod Calls
-pub mod Generated

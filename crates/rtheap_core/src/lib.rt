@@ -5,16 +5,26 @@
 mod comparing;
 mod exit;
 mod generated;
+mod making;
+mod planning;
+mod reading;
 mod refusal;
+mod replay;
+mod replaying;
 mod run;
+mod running;
+#[cfg(test)]
+mod scheduled;
 #[cfg(test)]
 mod several;
 mod task;
+mod telling;
 #[cfg(test)]
 mod testing;
 #[cfg(test)]
 mod tests;
 mod top;
+mod trial;
 
 pub use exit::{Exit, RunEnd};
 pub use generated::generate;

@@ -25,6 +25,8 @@ pub enum Refusal {
     ReadFault,
     /// Memory ran out.
     OutOfMemory,
+    /// The turns of a replay were made, and this is the least thread that is not done.
+    TurnsUsed { thread: u32 },
 }
 
 impl Refusal {
@@ -38,6 +40,7 @@ impl Refusal {
             Refusal::LiveTooSmall | Refusal::NoRate => 4,
             Refusal::ReadFault => 5,
             Refusal::OutOfMemory => 7,
+            Refusal::TurnsUsed { .. } => 8,
         }
     }
 
@@ -70,6 +73,10 @@ impl Refusal {
             Refusal::NoRate => line.prepend(b"no rate"),
             Refusal::ReadFault => line.prepend(b"read fault"),
             Refusal::OutOfMemory => line.prepend(b"no memory"),
+            Refusal::TurnsUsed { thread } => {
+                line.prepend_short_number(thread);
+                line.prepend(b"turns used, thread ");
+            }
         }
     }
 }

@@ -6,7 +6,7 @@ ghost use Rattle.trace_text.specs.Jobs.{IsJobInBounds};
 ghost use Rattle.heap_system.specs.Locals.{is_done};
 ghost use Rattle.atom_board.specs.Mutators.{AreInOrder, AllAreDone, IsLater};
 ghost use Rattle.rtheap_core.specs.declared.exit.RunEnd.TheVariants as ends;
-ghost use Rattle.rtheap_core.specs.Exits.{HasHistory, job_of};
+ghost use Rattle.rtheap_core.specs.Ends.{HasHistory, job_of};
 
 use atom_board::{AtomBoard, Closed, Mutator};
 use block_store::OutOfMemory;

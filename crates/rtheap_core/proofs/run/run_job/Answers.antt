@@ -1,7 +1,7 @@
 use Rattle.std.proofs.Common.{◌≡◌}
 use Rattle.atom_board.proofs.Orders.{in_order_each}
 use Rattle.rtheap_core.specs.declared.exit.RunEnd.TheVariants.{Ran}
-use Rattle.rtheap_core.specs.Exits.{HasHistory, job_of}
+use Rattle.rtheap_core.specs.Ends.{HasHistory, job_of}
 use Rattle.rtheap_core.proofs.Shown.{run_shows}
 use Rattle.rtheap_core.proofs.run.run_job.Given.{Over}
 use Rattle.rtheap_core.proofs.run.run_job.Goals as goal
@@ -19,7 +19,7 @@ shows g c = run_shows (record {
   least = c.cycles_cost_few_units.ensures.least;
   most = c.cycles_cost_few_units.ensures.most;
   done = c.cycles_cost_few_units.ensures.done;
-}) _ _ _ _ _ _ c.close.ensures.config c.in_ok-board.ensures.board.0 c.in_ok-board.ensures.board.1
+}) _ _ _ _ (Ran c.close.result) _ c.close.ensures.config c.in_ok-board.ensures.board.0 c.in_ok-board.ensures.board.1
     c.close.ensures.finished c.job.view_is
 
 pub returns-clause-job : goal.returns-clause-job
