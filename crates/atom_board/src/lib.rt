@@ -4,8 +4,6 @@
 mod board;
 mod closed;
 mod mutator;
-#[cfg(test)]
-mod rounds;
 mod rules;
 #[cfg(test)]
 mod tests;

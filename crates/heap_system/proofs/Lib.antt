@@ -22,6 +22,7 @@ pub mod Loaded
 pub mod Collecting
 pub mod Waiting
 pub mod Making
+pub mod MadeFor
 pub mod Jobs
 pub mod Wanted
 pub mod Tallying

@@ -178,7 +178,7 @@ parts_low c traces job r kept =
 -- few starts where few units were made
 starts_few : (starts units events blocks : ℕ) → (starts - 1) * blocks ≤ units → units ≤ events → 1 ≤ blocks → starts ≤ 1 + events / blocks
 starts_few starts units events blocks least most some =
-    let few : starts - 1 ≤ events / blocks = (le-div_iff_mul-le (omega (arith, some))).1 (omega (arith, least, most)) in omega (arith, few)
+    let few : starts - 1 ≤ events / blocks = (le-div_iff_mul-le {k = blocks} {x = starts - 1} {y = events} (omega (arith, some))).1 (omega (arith, least, most)) in omega (arith, few)
 
 -- what a reached order holds
 order_few : (c : Config) (s : State) (k : IsReached c s) (events : ℕ) → units_so_far c k.run ≤ events → length k.run.order ≤ commands_in (traces_of s) + 1 + events / c.blocks

@@ -21,11 +21,12 @@ use Rattle.heap_system.specs.Locals.{LocalState, works, command_of, owed, entrie
 use Rattle.heap_system.specs.Machines.{State, no_local, local_at, heap_in, word_read, event_done, has_event, turned, answer, Run, next, after_turns, IsJob, opened, IsRunOf}
 use Rattle.heap_system.specs.Pictures.{waiting}
 use Rattle.heap_system.specs.Systems.{Ordered, Whole, traces_of, logs_of, AllDone, IsReached, IsFinished}
-use Rattle.heap_system.specs.Units.{units_made, IsRight}
+use Rattle.heap_system.specs.Units.{units_made, AreMadeFor, IsRight}
 use Rattle.heap_system.proofs.Always.{run_kept}
 use Rattle.heap_system.proofs.Balanced.{local_reads}
 use Rattle.heap_system.proofs.Kept.{Kept}
 use Rattle.heap_system.proofs.LawsOf.{laws_of}
+use Rattle.heap_system.proofs.MadeFor.{each_made}
 use Rattle.heap_system.proofs.Making.{run_makes}
 use Rattle.heap_system.proofs.Seeing.{IsSettled}
 use Rattle.heap_system.proofs.Starting.{one_rate}
@@ -191,6 +192,10 @@ module _ (c : Config) (s : State) (k : IsReached c s) (done : AllDone c s) where
       let log : works (get_or (logs_of s) t []) ≡ works (part t k.run.order) = ap works (log_at s.locals t (no_local c) ∙ sym (logged t tl)) in
       log ∙ omega (arith, paid, run_makes c (traces_of s) k.job k.turns k.run k.by_turns t tl)
 
+  each : (t : ℕ) → t < c.threads → AreMadeFor c t (get_or (logs_of s) t []) (opened c k.by_turns.first) k.turns
+  each t tl = subst (λ es. AreMadeFor c t es (opened c k.by_turns.first) k.turns) (logged t tl ∙ sym (log_at s.locals t (no_local c)))
+      (each_made c (traces_of s) k.job k.turns k.run k.by_turns t tl (run_kept c (traces_of s) (laws_of c) k.job k.turns k.run k.by_turns))
+
   whole : (t : ℕ) → map (λ (e : Entry). e.command) (part t k.run.order) ≡ get_or (traces_of s) t []
   whole t = elim (cases_lt t c.threads) [
     | inl tl ↦
@@ -212,6 +217,7 @@ module _ (c : Config) (s : State) (k : IsReached c s) (done : AllDone c s) where
     starts = sym kept.names.ordered.started;
     right_work = right_work c (traces_of s) (record { state = s; order = k.run.order; names = k.run.names }) kept;
     made = made;
+    each = each;
     works = kept.counted;
   }
 

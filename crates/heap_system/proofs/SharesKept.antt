@@ -16,7 +16,7 @@ use Rattle.heap_system.specs.Locals.{LocalState, Effect, Verdict, command_of, is
 use Rattle.heap_system.specs.Machines.{Run, IsJob, IsRunOf, local_at, word_read, heap_in, has_event, entries_by, starts_by, next, after_turns, opened}
 use Rattle.heap_system.specs.Naming.{Naming}
 use Rattle.heap_system.specs.Pictures.{stand_of, waiting}
-use Rattle.heap_system.specs.Shares.{is_unit_in, blocks_given, given_since}
+use Rattle.heap_system.specs.Shares.{is_unit_in, blocks_given}
 use Rattle.heap_system.specs.Units.{is_unit, turns_that}
 use Rattle.heap_system.proofs.Always.{here, opening_kept, turn_kept}
 use Rattle.heap_system.proofs.Growing.{part_starts, entries_told, entries_away}
@@ -24,7 +24,7 @@ use Rattle.heap_system.proofs.Kept.{Kept}
 use Rattle.heap_system.proofs.LawsOf.{laws_of}
 use Rattle.heap_system.proofs.Making.{idle_next, cond_no, cond_yes}
 use Rattle.heap_system.proofs.Seeing.{told_by}
-use Rattle.heap_system.proofs.Sharing.{IsShare, share_same, share_more, units_went_in, given_went_in, cycle_stays, units_grow, given_grows, unit_inside, reply_inside, reply_no_unit, inside_is_in, reply_gives, given_append, waiting_gives_none, since_more, since_late, since_same, entries_start_none}
+use Rattle.heap_system.proofs.Sharing.{IsShare, given_since, share_same, share_more, units_went_in, given_went_in, cycle_stays, units_grow, given_grows, unit_inside, reply_inside, reply_no_unit, inside_is_in, reply_gives, given_append, waiting_gives_none, since_more, since_late, since_same, entries_start_none}
 use Rattle.heap_system.proofs.Tallied.{RunTallied, opening_tallied, turn_tallied}
 use Rattle.heap_system.proofs.TalliesOf.{tallies_of}
 use Rattle.heap_system.proofs.Turning.{word_is, word_here, new_run, new_part, new_pass, new_graph, next_is, event, local_new}

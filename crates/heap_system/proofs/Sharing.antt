@@ -1,6 +1,6 @@
 -- What a thread's balance has of the cycle that it entered last is its share of that cycle.
-use Rattle.std.proofs.Common.{◌≡◌, ℕ, ◌+◌, ◌-◌, ◌<◌, ◌≤◌, Bool, true, false, eq-eqb, ne_eqb, lt-ltb, le-ltb, Option, None, Some, List, [], ◌∷◌, ◌++◌, append-nil, append_assoc, refl, sym, ap, ◌∙◌, subst, arith, inl, inr}
-use Rattle.std.proofs.lemmas.Bool.{cases_eq, cases_lt}
+use Rattle.std.proofs.Common.{◌≡◌, ℕ, ◌+◌, ◌-◌, ◌<◌, ◌≤◌, Bool, true, false, eqb, eq-eqb, ne_eqb, lt-ltb, le-ltb, Option, None, Some, List, [], ◌∷◌, ◌++◌, append-nil, append_assoc, refl, sym, ap, ◌∙◌, subst, arith, inl, inr}
+use Rattle.std.proofs.lemmas.Bool.{cases_Bool, cases_eq, cases_lt}
 use Rattle.block_store.specs.declared.Config.{Config}
 use Rattle.block_store.specs.declared.PhaseWord.{PhaseWord}
 use Rattle.block_store.specs.declared.Width.{Width}
@@ -9,7 +9,7 @@ use Rattle.never_heap.specs.declared.Command.{Command}
 use Rattle.never_heap.specs.declared.Entry.{Entry}
 use Rattle.never_heap.specs.declared.Reply.{Reply}
 use Rattle.never_heap.specs.declared.Reply.TheVariants as replies
-use Rattle.never_heap.specs.Cycles.{after_start}
+use Rattle.never_heap.specs.Cycles.{before_start, after_start}
 use Rattle.never_heap.specs.Graphs.{Graph}
 use Rattle.never_heap.specs.Histories.{HistoryItem, Started, Did, part, starts_in}
 use Rattle.never_heap.specs.Steps.{blocks_of}
@@ -26,9 +26,13 @@ use Rattle.heap_system.specs.Locals.{Verdict, Open, AsStep, Refused, effect, bal
 use Rattle.heap_system.specs.Machines.{entries_by, starts_by}
 use Rattle.heap_system.specs.Naming.{Naming, Begun}
 use Rattle.heap_system.specs.Pictures.{stand_of, waiting}
-use Rattle.heap_system.specs.Shares.{blocks_given, given_since}
+use Rattle.heap_system.specs.Shares.{blocks_given, given_in}
 use Rattle.heap_system.proofs.Balances.{units_over}
 use Rattle.heap_system.proofs.Seeing.{PartKept}
+
+-- the blocks that thread t was given in an order since the start of cycle z
+abbrev pub given_since : Width → ℕ → List HistoryItem → ℕ → ℕ
+given_since w t order z = blocks_given w (part t (after_start z order))
 
 -- a number that a balance has of its cycle, of those that f tells of each, and none is of a later
 -- cycle
@@ -169,6 +173,39 @@ waiting_gives_none c g now t q k (Serve f) w work kept =
     waits_none w t work k (waiting now (Serve f)) (others_have_none w k kept.serves)
 waiting_gives_none c g now t q k _ w work kept = refl
 
+-- what a thread was given, up to the next start and from there on
+given_parts : (w : Width) (t : ℕ) (h : List HistoryItem)
+    → blocks_given w (part t (before_start 1 h)) + blocks_given w (part t (after_start 1 h))
+    ≡ blocks_given w (part t h)
+given_parts w t [] = refl
+given_parts w t (Started ∷ h) = omega arith
+given_parts w t (Did e ∷ h) = elim (cases_Bool (eqb e.thread t)) [
+  | inl is ↦ rw is (omega (arith, given_parts w t h))
+  | inr is ↦ rw is (given_parts w t h)
+]
+
+next_start : (z : ℕ) (h : List HistoryItem) → 1 ≤ z
+    → after_start 1 (after_start z h) ≡ after_start (z + 1) h
+next_start z [] some = refl
+next_start z (Started ∷ h) some =
+    let other : eqb (z + 1) 1 ≡ false = ne_eqb (z + 1) 1 (λ e. omega (arith, e, some)) in
+    elim (cases_eq z 1) [
+      | inl one ↦
+          let same : z + 1 - 1 ≡ 1 = omega (arith, one) in
+          rw (eq-eqb z 1 one) (rw other (ap (λ n. after_start n h) (sym same)))
+      | inr n ↦
+          let same : z - 1 + 1 ≡ z + 1 - 1 = omega (arith, some) in
+          rw (ne_eqb z 1 n) (rw other (next_start (z - 1) h (omega (arith, some, n))
+          ∙ ap (λ n. after_start n h) same))
+    ]
+next_start z (Did e ∷ h) some = next_start z h some
+
+given_cut : (w : Width) (t : ℕ) (h : List HistoryItem) (z : ℕ) → 1 ≤ z
+    → given_in w t h z + given_since w t h (z + 1) ≡ given_since w t h z
+given_cut w t h z some =
+    ap (λ x. given_in w t h z + blocks_given w (part t x)) (sym (next_start z h some))
+    ∙ given_parts w t (after_start z h)
+
 -- what comes behind a start that there is not
 after_none : (z : ℕ) (h : List HistoryItem) → starts_in h < z → after_start z h ≡ []
 after_none z [] l = refl
@@ -204,6 +241,23 @@ after_late z h es n l none = by n
     by : (m : Naming) → after_start z (h ++ (es ++ starts_by m)) ≡ []
     by Begun = ap (after_start z) (sym (append_assoc h es (Started ∷ []))) ∙ after_last z (h ++ es) few
     by _ = ap (λ x. after_start z (h ++ x)) (append-nil es) ∙ after_none z (h ++ es) few
+
+-- what a thread's balance has of its own cycle it was given in that cycle, and in no later one
+pub given_here : (w : Width) (t : ℕ) (h : List HistoryItem) (b : Balance)
+    → IsShare b.given b (given_since w t h) → b.given ≡ given_in w t h b.cycle
+given_here w t h b s = elim (cases_eq b.cycle 0) [
+  | inl nought ↦
+      let none : blocks_given w (part t (after_start 0 h)) ≡ 0 =
+      ap (λ x. blocks_given w (part t x)) (after_nought h) in
+      s.here ∙ subst (λ z. given_since w t h z ≡ given_in w t h z) (sym nought)
+      (none ∙ sym (ap (λ x. blocks_given w (part t (before_start 1 x))) (after_nought h)))
+  | inr some ↦ omega (arith, s.here, given_cut w t h b.cycle (omega (arith, some)), s.later (b.cycle + 1) (omega arith))
+]
+
+pub given_later : (w : Width) (t : ℕ) (h : List HistoryItem) (b : Balance)
+    → IsShare b.given b (given_since w t h) → (z : ℕ) → b.cycle < z → given_in w t h z ≡ 0
+given_later w t h b s z l =
+    omega (arith, given_cut w t h z (omega (arith, l)), s.later z l)
 
 -- what a thread was given since a start, after entries of some thread, of which these are its own,
 -- and maybe a start

@@ -13,7 +13,7 @@ use Rattle.barrier_steps.proofs.Dues.{none_due, some_due}
 use Rattle.build_steps.specs.Rows.{BuildState}
 use Rattle.kept_names.specs.Pictures.{no_task}
 use Rattle.heap_system.specs.declared.local.Part.{Part}
-use Rattle.heap_system.specs.declared.local.Part.TheVariants.{Rest, Serve, Build}
+use Rattle.heap_system.specs.declared.local.Part.TheVariants.{Rest, Serve, Build, Leave}
 use Rattle.heap_system.specs.Locals.{task, is_rest, command_of, owed, entry_of, entries_of}
 use Rattle.heap_system.specs.Machines.{Run, local_at}
 use Rattle.heap_system.specs.Units.{IsRight}
@@ -65,6 +65,9 @@ module _ (c : Config) (traces : List (List Command)) (r : Run) (k : Kept c trace
 
   pub rest_settled : is_rest (local_at c r.state t).part ≡ true → (local_at c r.state t).balance.paid ≡ 0
   rest_settled e = settled_at Rest (rest_is (local_at c r.state t).part e)
+
+  pub leave_settled : (local_at c r.state t).part ≡ Leave → (local_at c r.state t).balance.paid ≡ 0
+  leave_settled is = settled_at Leave is
 
   pub build_settled : (b : BuildState) → (local_at c r.state t).part ≡ Build b → (0 < blocks_of c.width (command_of (local_at c r.state t))) × ((local_at c r.state t).balance.paid ≡ owed (local_at c r.state t))
   build_settled b is =

@@ -1,10 +1,10 @@
 -- A thread's share of a cycle: the units that its turns made in it, and the blocks that its entries
--- were given since its start.
+-- were given between its start and the next.
 use Rattle.std.specs.Prelude.{ℕ, ◌+◌, ◌&&◌, Bool, List, [], ◌∷◌}
 use Rattle.block_store.specs.declared.Config.{Config}
 use Rattle.block_store.specs.declared.Width.{Width}
 use Rattle.never_heap.specs.declared.Entry.{Entry}
-use Rattle.never_heap.specs.Cycles.{after_start}
+use Rattle.never_heap.specs.Cycles.{before_start, after_start}
 use Rattle.never_heap.specs.Histories.{HistoryItem, part}
 use Rattle.never_heap.specs.Taken.{taken_by}
 use Rattle.heap_system.specs.Cycles.{is_in_cycle}
@@ -24,6 +24,7 @@ abbrev pub blocks_given : Width → List Entry → ℕ
 blocks_given w [] = 0
 blocks_given w (e ∷ es) = taken_by w e + blocks_given w es
 
--- the blocks that thread t was given in an order since the start of cycle z
-abbrev pub given_since : Width → ℕ → List HistoryItem → ℕ → ℕ
-given_since w t order z = blocks_given w (part t (after_start z order))
+-- the blocks that thread t was given in an order after the start of cycle z and before the next
+-- start, or to the end
+abbrev pub given_in : Width → ℕ → List HistoryItem → ℕ → ℕ
+given_in w t order z = blocks_given w (part t (before_start 1 (after_start z order)))

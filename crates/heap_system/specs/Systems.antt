@@ -12,7 +12,7 @@ use Rattle.rate_plan.specs.Rates.{IsRate}
 use Rattle.heap_system.specs.Locals.{LocalState, Effect, Verdict, Open, AsStep, Refused, is_done, works}
 use Rattle.heap_system.specs.Machines.{State, local_at, next_effect, has_event, Run, opened, IsJob, IsRunOf}
 use Rattle.heap_system.specs.Naming.{Naming, Begun}
-use Rattle.heap_system.specs.Units.{units_made}
+use Rattle.heap_system.specs.Units.{units_made, AreMadeFor}
 
 -- an order as a system keeps it: its items so far, and how many events may still be made
 pub record Ordered : Type 0 where
@@ -104,8 +104,9 @@ units_of (log ∷ logs) = works log + units_of logs
 
 -- The logs are the parts of the order of some list of turns after which all threads are done, and
 -- the cycles are its starts. The order is legal, its parts are the traces, whole, and each of its
--- entries has the work that its command owes. The works of each log are the units that the turns
--- of its thread made, and those of all logs the work of the order.
+-- entries has the work that its command owes. The work of each entry of a log is the units that the
+-- turns of its thread made for its command, the works of a log are all that they made, and those of
+-- all logs the work of the order.
 pub record IsFinished (c : Config) (traces : List (List Command)) (logs : List (List Entry))
     (cycles : ℕ) : Type 0 where
   pub turns : List ℕ
@@ -121,6 +122,8 @@ pub record IsFinished (c : Config) (traces : List (List Command)) (logs : List (
   pub right_work : (rate : ℕ) → IsRate c rate → RightWork c.width rate run.order
   pub made : (t : ℕ) → t < c.threads → works (slice_index_or logs t [])
       ≡ units_made c t (opened c by_turns.first) turns
+  pub each : (t : ℕ) → t < c.threads
+      → AreMadeFor c t (slice_index_or logs t []) (opened c by_turns.first) turns
   pub works : work_in run.order ≡ units_of logs
 
 -- and the order that was kept makes the history of this list of turns, with the logs

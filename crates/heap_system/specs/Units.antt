@@ -1,5 +1,5 @@
 -- The units that a run makes, which its rows tell, and what a unit does.
-use Rattle.std.specs.Prelude.{ℕ, ◌+◌, ◌≡◌, ◌==◌, ◌&&◌, if◌then◌else◌, Bool, false, List, [], ◌∷◌}
+use Rattle.std.specs.Prelude.{ℕ, ◌+◌, ◌≡◌, ◌==◌, ◌&&◌, ◌<◌, if◌then◌else◌, Bool, false, List, [], ◌∷◌, length, slice_index_or}
 use Rattle.block_store.specs.declared.Config.{Config}
 use Rattle.block_store.specs.declared.Width.{Width}
 use Rattle.block_store.specs.Colours.{is_grey, black_word}
@@ -53,6 +53,20 @@ turns_that is c t r (u ∷ us) = (if u == t then bit (is t r.state) else 0)
 
 abbrev pub units_made : Config → ℕ → Run → List ℕ → ℕ
 units_made c = turns_that (is_unit c) c
+
+-- whether it makes a unit while its log has k entries: then that is for its k-th command, counted
+-- from 0
+abbrev pub is_unit_for : Config → ℕ → ℕ → State → Bool
+is_unit_for c k t s = is_unit c t s && (length (local_at c s t).log == k)
+
+-- how many units of thread t are for its k-th command
+abbrev pub units_made_for : Config → ℕ → ℕ → Run → List ℕ → ℕ
+units_made_for c t k = turns_that (is_unit_for c k) c t
+
+-- the work of each of these entries of thread t is the units that it made for its command
+abbrev pub AreMadeFor : Config → ℕ → List Entry → Run → List ℕ → Type 0
+AreMadeFor c t entries r ts = (k : ℕ) (d : Entry) → k < length entries
+    → (slice_index_or entries k d).work ≡ units_made_for c t k r ts
 
 abbrev pub blacks_made : Config → ℕ → Run → List ℕ → ℕ
 blacks_made c = turns_that (turn_blackens c) c

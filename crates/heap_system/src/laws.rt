@@ -1,7 +1,7 @@
 //! What holds after every list of turns, for the proofs above: each law is the contract of a
 //! function that does nothing.
 
-ghost use Rattle.std.specs.Prelude.{◌+◌, ◌^◌, ◌≡◌, ◌<◌, ◌≤◌, ◌++◌, ◌∷◌, [], ℕ, List, Some, true, false, if◌then◌else◌};
+ghost use Rattle.std.specs.Prelude.{◌+◌, ◌^◌, ◌≡◌, ◌<◌, ◌≤◌, ◌++◌, ◌∷◌, [], ℕ, List, length, Some, true, false, if◌then◌else◌};
 ghost use Rattle.block_store.specs.declared.Config.{Config};
 ghost use Rattle.block_store.specs.declared.Name.{Name};
 ghost use Rattle.block_store.specs.declared.TheConstants.{REGISTERS};
@@ -33,15 +33,16 @@ ghost use Rattle.heap_machine.specs.PhaseKept.{PhaseKept};
 ghost use Rattle.heap_machine.specs.Readings.{IsHeld};
 ghost use Rattle.barrier_steps.specs.Rows.{FieldState, field_decided};
 ghost use Rattle.build_steps.specs.Rows.{BuildState};
-ghost use Rattle.heap_system.specs.declared.local.Part.TheVariants.{Serve, Build};
+ghost use Rattle.heap_system.specs.declared.local.Part.{Part};
+ghost use Rattle.heap_system.specs.declared.local.Part.TheVariants.{Serve, Build, Leave};
 ghost use Rattle.heap_system.specs.declared.Turn.TheVariants as Turn;
 ghost use Rattle.heap_system.specs.Loaded.{IsLoadedBlock, IsInGet};
-ghost use Rattle.heap_system.specs.Locals.{task, is_done, waits, is_rest, command_of, owed, entry_of, works, part_want, LocalReads};
+ghost use Rattle.heap_system.specs.Locals.{task, is_done, waits, is_rest, command_of, owed, entry_of, works, part_want, part_step, turn_of, LocalReads};
 ghost use Rattle.heap_system.specs.Machines.{State, answer, turned, Run, opened, IsAfterTurns, local_in, local_at, heap_in, word_read};
 ghost use Rattle.heap_system.specs.Openings.{opening_heap};
 ghost use Rattle.heap_system.specs.Pictures.{stand_of, holding, gates_in, holdings_in, tasks_in, kept_state, entries_waiting};
 ghost use Rattle.heap_system.specs.Systems.{units_of, logs_of, Finish};
-ghost use Rattle.heap_system.specs.Units.{units_made, blacks_made, passes_made, IsRight};
+ghost use Rattle.heap_system.specs.Units.{units_made, units_made_for, blacks_made, passes_made, AreMadeFor, IsRight};
 
 use crate::Finished;
 use never_heap::Logs;
@@ -147,13 +148,20 @@ pub fn logs_are_parts()
 
 /// The works of a thread's entries, and the units that it has made for the command in hand, are its
 /// turns that are units: those at which it makes a grey block black, and those at which it passes a
-/// block of the sweep. It has made no more for any command than it owes, which is the rate times
-/// the blocks, and none at rest. Each entry has exactly what its command owes, and an allocation
-/// builds where it has made all.
+/// block of the sweep. The work of each entry is the units that the thread made for this command,
+/// which are those made while the log had the entries before it and no more; and so is what is paid
+/// for the command in hand. It has made no more for any command than it owes, which is the rate
+/// times the blocks, and none at rest or once its command is over and it goes out. Each entry has
+/// exactly what its command owes, and an allocation builds where it has made all.
 pub fn works_are_units()
     ensures made { (c : Config) (r : Run) → (is : IsAfterTurns c r) → (t : ℕ) → t < c.threads
         → works (part t r.order) + (local_in c r t).balance.paid
         ≡ units_made c t (opened c is.by_turns.first) is.turns }
+    ensures each { (c : Config) (r : Run) → (is : IsAfterTurns c r) → (t : ℕ) → t < c.threads
+        → AreMadeFor c t (part t r.order) (opened c is.by_turns.first) is.turns }
+    ensures hand { (c : Config) (r : Run) → (is : IsAfterTurns c r) → (t : ℕ) → t < c.threads
+        → (local_in c r t).balance.paid
+        ≡ units_made_for c t (length (local_in c r t).log) (opened c is.by_turns.first) is.turns }
     ensures units { (c : Config) (r : Run) → (is : IsAfterTurns c r) → (t : ℕ) → t < c.threads
         → units_made c t (opened c is.by_turns.first) is.turns
         ≡ blacks_made c t (opened c is.by_turns.first) is.turns
@@ -164,6 +172,8 @@ pub fn works_are_units()
         → (rate : ℕ) → IsRate c rate → IsRight c.width rate (part t r.order) }
     ensures rest { (c : Config) (r : Run) → IsAfterTurns c r → (t : ℕ) → t < c.threads
         → is_rest (local_in c r t).part ≡ true → (local_in c r t).balance.paid ≡ 0 }
+    ensures settled { (c : Config) (r : Run) → IsAfterTurns c r → (t : ℕ) → t < c.threads
+        → (local_in c r t).part ≡ Leave → (local_in c r t).balance.paid ≡ 0 }
     ensures paid { (c : Config) (r : Run) → IsAfterTurns c r → (t : ℕ) → t < c.threads
         → (b : BuildState) → (local_in c r t).part ≡ Build b
         → (0 < blocks_of c.width (command_of (local_in c r t)))
@@ -188,12 +198,15 @@ pub fn threads_inside_are_counted()
 /// A turn waits exactly where it looks at a closed gate, where another thread changed the phase
 /// word, the cursor or the free count since it was read, where it would close the gate in its
 /// pass's cycle and phase but finds it closed or somebody inside, and where the last of all free
-/// lists was empty. It answers that a thread is done exactly where it is, and then changes nothing.
+/// lists was empty. A thread's part and the word that its event reads tell it, whatever the state.
+/// It answers that a thread is done exactly where it is, and then changes nothing.
 pub fn turns_wait()
     ensures waits { (c : Config) (t : ℕ) (s : State) → is_done (local_at c s t) ≡ false
         → answer c t s
         ≡ (if waits (local_at c s t).part (word_read c s (local_at c s t))
         then Turn.Waited else Turn.Went) }
+    ensures rows { (c : Config) (p : Part) (w : ℕ)
+        → turn_of (part_step c p w) ≡ (if waits p w then Turn.Waited else Turn.Went) }
     ensures done { (c : Config) (t : ℕ) (s : State) → is_done (local_at c s t) ≡ true
         → (answer c t s ≡ Turn.Done) × (turned c t s ≡ s) }
 {}

@@ -5,6 +5,8 @@ mod accounts;
 mod bound;
 mod collector;
 mod cycles;
+#[cfg(test)]
+mod drawn;
 mod laws;
 mod local;
 #[cfg(test)]

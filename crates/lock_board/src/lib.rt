@@ -15,8 +15,6 @@ use std::sync::{Mutex, Wait};
 use std::thread;
 
 #[cfg(test)]
-mod rounds;
-#[cfg(test)]
 mod tests;
 
 // A system that keeps no order.

@@ -1,116 +1,38 @@
 //! Two threads that meet: neither gets on unless the other runs beside it. And two that allocate
 //! over many cycles.
 
-ghost use Rattle.std.specs.Prelude.{◌≡◌, ◌<◌, map, IfOk};
-ghost use Rattle.block_store.specs.declared.Width.TheVariants.{Four};
+ghost use Rattle.std.specs.Prelude.{◌<◌, map};
 ghost use Rattle.heap_system.specs.Machines.{IsJob};
 
-use crate::rounds::{TWO as TWO_ROUNDS, are_right, job};
 use crate::*;
-use block_store::{Config, Name, OutOfMemory, Value, Width};
-use never_heap::{Command, Logs, NoPace, Pace, Reply};
+use block_store::{Config, OutOfMemory};
+use board_jobs::{MEETING, Meeting, TWO, are_right, have_said, job, two_says};
+use never_heap::{Command, Logs, NoPace, Pace};
 use std::alloc::Global;
 use std::sync::Wait;
-use std::sync::atomic::{AtomicU64, Ordering};
 use std::thread;
 use std::thread::Threads;
 
-const TWO: Config = Config {
-    width: Width::Four,
-    threads: 2,
-    blocks: 64,
-    live: 20,
-    object: 2,
-    shared: 4,
-};
-
-const LOOKS: u32 = 50_000_000;
-
-// At command 1 each of two threads raises its flag and looks for the other's.
-#[derive(Drop)]
-struct Meeting {
-    // How often thread 0 was told of commands 0 and 1, and then thread 1.
-    told: [AtomicU64; 4],
-    // How often it was told of anything else.
-    other: AtomicU64,
-    flags: [AtomicU64; 2],
-    met: AtomicU64,
-}
-
-impl Pace for Meeting {
-    fn before<R: Wait>(&self, _rt: &R, thread: u32, command: u64) {
-        if thread > 1 || command > 1 {
-            self.other.fetch_add(1, Ordering::SeqCst);
-            return;
-        }
-        self.told[2 * thread as usize + command as usize].fetch_add(1, Ordering::SeqCst);
-        if command == 0 {
-            return;
-        }
-        self.flags[thread as usize].store(1, Ordering::SeqCst);
-        for _ in 0..LOOKS {
-            if self.flags[1 - thread as usize].load(Ordering::SeqCst) == 1 {
-                self.met.fetch_add(1, Ordering::SeqCst);
-                return;
-            }
-        }
-    }
-}
-
-// Each thread shows register 0 twice.
-fn two_says(alloc: Global) -> Result<Vec<Vec<Command>>, OutOfMemory>
-    ensures { IfOk result (λ v. IsJob
-        (record { width = Four; threads = 2; blocks = 64; live = 20; object = 2; shared = 4 })
-        (map (λ w. w.items) v.items)) }
-{
-    let first = vec![in alloc; Command::Say { s: 0 }, Command::Say { s: 0 }]?;
-    let second = vec![in alloc; Command::Say { s: 0 }, Command::Say { s: 0 }]?;
-    Ok(vec![in alloc; first, second]?)
-}
-
 #[test]
 fn two_threads_meet(rt: HostRuntime) -> Result<(), OutOfMemory> {
-    let pace = Meeting {
-        told: [
-            AtomicU64::new(0),
-            AtomicU64::new(0),
-            AtomicU64::new(0),
-            AtomicU64::new(0),
-        ],
-        other: AtomicU64::new(0),
-        flags: [AtomicU64::new(0), AtomicU64::new(0)],
-        met: AtomicU64::new(0),
-    };
-    let run = run(&rt, rt.alloc(), TWO, two_says(rt.alloc())?, &pace)?;
-    for calls in &pace.told {
-        assert_eq!(rt; calls.load(Ordering::SeqCst), 1);
-    }
-    assert_eq!(rt; pace.other.load(Ordering::SeqCst), 0);
-    assert_eq!(rt; pace.met.load(Ordering::SeqCst), 2);
-    let shown = Some(Reply::Val(Value::Ref(Name {
-        thread: 2,
-        serial: 0,
-    })));
+    let pace = Meeting::new();
+    let run = run(&rt, rt.alloc(), MEETING, two_says(rt.alloc())?, &pace)?;
+    assert!(rt; pace.took_place());
     let run = run.expect(&rt, "both threads are done");
-    assert!(rt; run.config() == &TWO);
+    assert!(rt; run.config() == &MEETING);
+    assert!(rt; have_said(&run));
     assert_eq!(rt; (run.threads(), run.cycles(), run.units()), (2, 1, 0));
-    for t in 0..run.threads() {
-        let entries = run.entries(t);
-        assert_eq!(rt; entries.len(), 2);
-        assert_eq!(rt; entries.first().map(|e| e.reply), shown);
-        assert_eq!(rt; entries.last().map(|e| e.reply), shown);
-    }
     Ok(())
 }
 
 // Rounds of two threads. A cycle gives at most two units for each block, so they take at least 12.
 #[test]
 fn two_threads_allocate_over_many_cycles(rt: HostRuntime) -> Result<(), OutOfMemory> {
-    let Some(traces) = job(rt.alloc(), &TWO_ROUNDS)? else {
+    let Some(traces) = job(rt.alloc(), &TWO)? else {
         assert!(rt; false, "no job");
         return Ok(());
     };
-    let run = run(&rt, rt.alloc(), TWO_ROUNDS, traces, &NoPace)?;
+    let run = run(&rt, rt.alloc(), TWO, traces, &NoPace)?;
     let run = run.expect(&rt, "both threads are done");
     assert!(rt; are_right(&run));
     assert_eq!(rt; (run.threads(), run.units()), (2, 3200));

@@ -1,5 +1,6 @@
 use Rattle.heap_system.proofs.Balanced.{account_sound, not_later, present}
 use Rattle.heap_system.proofs.SharesKept.{run_shares}
+use Rattle.heap_system.proofs.Sharing.{given_here, given_later}
 use Rattle.heap_system.proofs.accounts.accounts_are_sound.Goals as goal
 
 pub returns-clause-sound : goal.returns-clause-sound
@@ -15,4 +16,9 @@ pub returns-clause-units : goal.returns-clause-units
 returns-clause-units _ c r is t tl = (run_shares c is.traces is.job is.by_turns.opening.rate is.by_turns.opening.planned is.turns r is.by_turns t tl).units.here
 
 pub returns-clause-given : goal.returns-clause-given
-returns-clause-given _ c r is t tl = (run_shares c is.traces is.job is.by_turns.opening.rate is.by_turns.opening.planned is.turns r is.by_turns t tl).given.here
+returns-clause-given _ c r is t tl = given_here c.width t r.order _ (run_shares c is.traces is.job is.by_turns.opening.rate is.by_turns.opening.planned is.turns r is.by_turns t tl).given
+
+pub returns-clause-later : goal.returns-clause-later
+returns-clause-later _ c r is t tl z l =
+    let shares = run_shares c is.traces is.job is.by_turns.opening.rate is.by_turns.opening.planned is.turns r is.by_turns t tl in
+    (shares.units.later z l, given_later c.width t r.order _ shares.given z l)

@@ -1,11 +1,18 @@
 use Rattle.heap_system.proofs.Always.{run_kept}
 use Rattle.heap_system.proofs.LawsOf.{laws_of}
+use Rattle.heap_system.proofs.MadeFor.{each_made, hand_made}
 use Rattle.heap_system.proofs.Making.{run_makes, run_units}
-use Rattle.heap_system.proofs.Told.{paid_low, rest_settled, build_settled, rate_is, entries_right}
+use Rattle.heap_system.proofs.Told.{paid_low, rest_settled, leave_settled, build_settled, rate_is, entries_right}
 use Rattle.heap_system.proofs.laws.works_are_units.Goals as goal
 
 pub returns-clause-made : goal.returns-clause-made
 returns-clause-made _ c r is t tl = run_makes c is.traces is.job is.turns r is.by_turns t tl
+
+pub returns-clause-each : goal.returns-clause-each
+returns-clause-each _ c r is t tl = each_made c is.traces is.job is.turns r is.by_turns t tl (run_kept c is.traces (laws_of c) is.job is.turns r is.by_turns)
+
+pub returns-clause-hand : goal.returns-clause-hand
+returns-clause-hand _ c r is t tl = hand_made c is.traces is.job is.turns r is.by_turns t tl
 
 pub returns-clause-units : goal.returns-clause-units
 returns-clause-units _ c r is t tl = run_units c is.traces is.job is.turns r is.by_turns t tl
@@ -18,6 +25,9 @@ returns-clause-entries _ c r is t tl rate planned = entries_right c is.traces r 
 
 pub returns-clause-rest : goal.returns-clause-rest
 returns-clause-rest _ c r is t tl e = rest_settled c is.traces r (run_kept c is.traces (laws_of c) is.job is.turns r is.by_turns) t tl e
+
+pub returns-clause-settled : goal.returns-clause-settled
+returns-clause-settled _ c r is t tl e = leave_settled c is.traces r (run_kept c is.traces (laws_of c) is.job is.turns r is.by_turns) t tl e
 
 pub returns-clause-paid : goal.returns-clause-paid
 returns-clause-paid _ c r is t tl b at = build_settled c is.traces r (run_kept c is.traces (laws_of c) is.job is.turns r is.by_turns) t tl b at
