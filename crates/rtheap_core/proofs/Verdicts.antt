@@ -185,6 +185,16 @@ module _ (laws : Laws) (task : Task) (bytes : List ℕ) (due : ℕ) where
   when_stopped (Used j i a r e) job k d n = inl e
   when_stopped (Fails g) job k d n = inr g
 
+  -- done or not, nothing else is answered
+  pub when_known : Verdict task bytes due → (job : Job) → IsInput bytes job
+      → IsAdmitted job.config → IsDueOrFails 0 due ⊎ (due ≡ 8)
+  when_known (Done j i a r e) job k d = inl (inl e)
+  when_known (Bad l x v c e) job k d = absurd (laws.apart bytes job l x k.is_job c)
+  when_known (Long v e) job k d = absurd (omega (arith, k.within))
+  when_known (Rateless j g i r e) job k d = absurd (not_jobs job j k i d g r)
+  when_known (Used j i a r e) job k d = inr e
+  when_known (Fails g) job k d = inl (inr g)
+
 -- a fact of what is told, where something is
 if_told : (left : Option (List ℕ)) (P : List ℕ → Type 0)
     → ((bytes : List ℕ) → left ≡ Some bytes → P bytes) → IfSome left P
@@ -303,6 +313,9 @@ module _ (laws : Laws) (c : Call) (done : IsCarriedOut c) where
         (λ bytes e p. when_stopped laws (Replay schedule turns) bytes c.exit.due
         (verdict_of (Replay schedule turns) tt asked bytes e) job p.0 p.1
         (λ s. not_both_ways laws job schedule turns thread s.0 run s.1 leaves));
+    replay_due = λ schedule turns asked job. if_told c.source.bytes _
+        (λ bytes e p. when_known laws (Replay schedule turns) bytes c.exit.due
+        (verdict_of (Replay schedule turns) tt asked bytes e) job p.0 p.1);
     serial_ends = λ turns asked job rate is enough. fine (Replay Serial turns) tt asked job
         (λ j s. not_left job Serial turns s.1 s.0 s.2
         (laws.serial job.config job.traces turns rate s.0 j is s.2.replayed enough));

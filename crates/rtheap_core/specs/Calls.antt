@@ -78,6 +78,10 @@ pub record IsComplete (c : Call) : Type 0 where
       → (job : Job) (run : machines.Run) (thread : ℕ)
       → LeavesUndone job schedule turns thread run
       → IsDueFor 8 (λ bytes. IsInput bytes job × IsAdmitted job.config) c
+  pub replay_due : (schedule : Schedule) (turns : ℕ) → AsksFor c.words (Replay schedule turns)
+      → (job : Job)
+      → IfSome c.source.bytes (λ bytes. IsInput bytes job × IsAdmitted job.config
+      → IsDueOrFails 0 c.exit.due ⊎ (c.exit.due ≡ 8))
   -- As many turns as the bounds of all commands sum up to are enough: for a serial replay, and for
   -- each replay of one thread.
   pub serial_ends : (turns : ℕ) → AsksFor c.words (Replay Serial turns) → (job : Job) → (rate : ℕ)

@@ -68,8 +68,8 @@ IsReplay source sink status schedule turns (Replayed f) =
     (h : Headline source sink status (Replayed f)) × IsReplayOf schedule turns f h.ran.history
 IsReplay source sink status schedule turns (Ran f) = ⊥
 
--- The generated job was done by serial turns, no more than the bounds of all commands sum up to, and
--- the last line of its text was written.
+-- The generated job was done by serial turns, no more than the bounds of all commands sum up to,
+-- and the last line of its text was written.
 pub record Tried (sink : Sides) (status key lines : ℕ) : Type 0 where
   pub turns : ℕ
   pub few : (rate : ℕ) → IsRate (generated_job key lines).config rate

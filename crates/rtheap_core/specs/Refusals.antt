@@ -105,7 +105,8 @@ IsCause words source LiveTooSmall =
     AskForJob words
     × IsJobWith (λ job. IsRefusal job.config plans.LiveTooSmall) source × IsUnfailed source
 IsCause words source NoRate =
-    AskForJob words × IsJobWith (λ job. IsRefusal job.config plans.NoRate) source × IsUnfailed source
+    AskForJob words
+    × IsJobWith (λ job. IsRefusal job.config plans.NoRate) source × IsUnfailed source
 IsCause words source ReadFault = AskForJob words × Rose source.faults source.faults_now
 IsCause words source OutOfMemory =
     Ask words × TookAtMost (input_limit + 1) source.bytes source.bytes_now × IsUnfailed source

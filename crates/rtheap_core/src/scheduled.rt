@@ -192,6 +192,40 @@ end
     )
 }
 
+/// Two threads that read what the other has put in the shared array.
+const MEET: &str = "rtheap 1 threads 2 blocks 64 live 20 object 2 shared 4
+thread 0
+new 1 1
+put 0 0 1
+get 2 0 1
+say 2
+thread 1
+get 1 0 0
+get 1 0 0
+new 2 1
+put 0 1 2
+get 1 0 0
+end
+";
+
+#[test]
+fn a_drawn_schedule_goes_from_thread_to_thread(rt: HostRuntime) -> Result<(), Fail> {
+    let written = "start 1
+1 nil
+1 nil
+1 new 1.1 work 8
+1 ok
+0 new 0.1 work 8
+1 nil
+0 ok
+0 ref 1.1
+0 ref 1.1
+end cycles 1 work 16
+";
+    let words = ["replay", "7", "100000"];
+    says(&rt, rt.alloc(), &words, MEET, 0, written)
+}
+
 /// Allocates records of one block of which none is kept, and where cycles start in between.
 fn starts_between(alloc: Global) -> Result<(String, String), AllocError> {
     let mut text = job_begun(alloc)?;

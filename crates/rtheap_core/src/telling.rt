@@ -34,7 +34,8 @@ pub fn told<K: Sink>(line: &LineBuffer, due: u8, sink: &mut K) -> Exit
     ensures run { result.run ≡ None }
     ensures status { (result.status ≡ due) ⊎ (result.status ≡ 6) }
     ensures line { result.status ≢ 6 → Appends (K.held sink.old) (K.held sink.new) line.now }
-    ensures prefix { result.status ≡ 6 → AppendsPrefix (K.held sink.old) (K.held sink.new) line.now }
+    ensures prefix { result.status ≡ 6
+        → AppendsPrefix (K.held sink.old) (K.held sink.new) line.now }
     ensures still { result.status ≢ 6 → K.faults sink.new ≡ K.faults sink.old }
     ensures rose { result.status ≡ 6 → Rose (K.faults sink.old) (K.faults sink.new) }
 {

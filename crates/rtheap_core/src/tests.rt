@@ -404,7 +404,8 @@ fn a_fault_of_the_source_is_told(rt: HostRuntime) -> Result<(), Fail> {
 
 #[test]
 fn a_fault_of_the_sink_leaves_the_lines_before(rt: HostRuntime) -> Result<(), Fail> {
-    let text = job(rt.alloc(), "new 1 2\nsay 1\nnil 1\n")?;
+    let (commands, _written) = EACH_KIND;
+    let text = job(rt.alloc(), commands)?;
     let call = Call {
         write_fails: &[2],
         ..Call::run(text.as_str())
@@ -412,7 +413,7 @@ fn a_fault_of_the_sink_leaves_the_lines_before(rt: HostRuntime) -> Result<(), Fa
     let (exit, sink) = made(&rt, rt.alloc(), &call)?;
     assert_eq!(rt; (exit.status, exit.due), (6, 0));
     assert!(rt; exit.run.is_some());
-    assert_eq!(rt; sink.bytes(), b"0 new 0.1 work 7\n0 ref 0.1\n".as_slice());
+    assert_eq!(rt; sink.bytes(), b"0 new 0.1 work 7\n0 ok\n".as_slice());
     Ok(())
 }
 

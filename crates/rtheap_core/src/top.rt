@@ -27,9 +27,9 @@ use trace_text::{Sink, Source, inputs_are_told_apart, jobs_are_one};
 /// - `run` reads a job from the source, runs its threads beside each other, and writes what each
 ///   command answered, thread by thread, and a line of totals. The pace is told before each
 ///   command.
-/// - `replay SCHEDULE T` reads a job and makes the turns of a schedule, at most T of them, until all
-///   threads are done. It writes what each command answered and the start of each cycle, in order,
-///   and the totals. The schedule is `robin`, `serial`, or a key from which it is drawn.
+/// - `replay SCHEDULE T` reads a job and makes the turns of a schedule, at most T of them, until
+///   all threads are done. It writes what each command answered and the start of each cycle, in
+///   order, and the totals. The schedule is `robin`, `serial`, or a key from which it is drawn.
 /// - `plan` reads a job and writes the rate of its configuration.
 /// - `make KEY LINES` writes the generated job of a key, with so many commands for each thread.
 /// - `trial KEY LINES` does that job by serial turns, and writes the totals.
@@ -38,9 +38,10 @@ use trace_text::{Sink, Source, inputs_are_told_apart, jobs_are_one};
 /// front only in the number 0. Any other words are refused with the line `rtheap: usage`.
 ///
 /// The entries, cycles and units that an ended run shows by `Logs` are those that `done` is about:
-/// the order of one list of turns, which for a replay is that of its schedule. An allocation is answered `full` only where more blocks than the job's live limit were reachable
-/// at the start of the cycle that the reply names; so where no cycle of the run began with more, no
-/// command was answered `full` (`never_full`).
+/// the order of one list of turns, which for a replay is that of its schedule. An allocation is
+/// answered `full` only where more blocks than the job's live limit were reachable at the start of
+/// the cycle that the reply names; so where no cycle of the run began with more, no command was
+/// answered `full` (`never_full`).
 ///
 /// That a call with the word `run` returns is not promised, for it makes turns of the job's threads
 /// until each is done. With any other words it calls nothing that waits.
