@@ -3,3 +3,4 @@ pub mod Agreeing
 pub mod LeftTurns
 pub mod Runs
 pub mod Ending
+pub mod Drawn

@@ -1,6 +1,10 @@
 //! Replays of a job: a schedule says which thread has each turn.
 #![tactic(auto)]
 
+#[cfg(test)]
+mod drawing;
+#[cfg(test)]
+mod judging;
 mod laws;
 mod replaying;
 #[cfg(test)]

@@ -6,9 +6,9 @@ use Rattle.plain_runs.proofs.counts.given_in.Goals as goal
 between : (c : goal.After-before_start)
     → IsHistoryInBounds c.args.c.now (history c.before_start.result.now)
 between c =
-    before_in_bounds c.args.c.now c.after_start.result.now c.before_start.result.now 1
+    before_in_bounds c.args.c.now c.after_start.result.now c.before_start.result.now _
     c.before_start.ensures
-    (after_in_bounds c.args.c.now c.args.h.now c.after_start.result.now c.args.cycle
+    (after_in_bounds c.args.c.now c.args.h.now c.after_start.result.now _
     c.after_start.ensures c.requires)
 
 pub taken-requires-clause-few : goal.taken-requires-clause-few

@@ -1,0 +1,128 @@
+//! Jobs for the tests: drawn ones, and a chain that grows.
+
+ghost use Rattle.std.specs.Prelude.{◌≡◌, map, IfOk};
+ghost use Rattle.block_store.specs.Configs.{IsInBounds};
+ghost use Rattle.never_heap.specs.Jobs.{IsJobInBounds, IsTraceInBounds};
+
+use block_store::{Config, OutOfMemory, Width};
+use never_heap::Command;
+use rand_core::utils::NextWord;
+use rand_pcg::Lcg64Xsh32;
+use std::alloc::Global;
+
+/// How many commands each thread is drawn; those that are not in bounds are left out.
+const COMMANDS: u32 = 40;
+
+/// How many registers a drawn command may name.
+const REGISTERS: u32 = 12;
+
+/// A heap that is nearly too small for its one to four threads and its live limit.
+pub(crate) fn drawn_heap(draws: &mut Lcg64Xsh32) -> Config {
+    let width = if draws.next_word() % 2 == 0 {
+        Width::Four
+    } else {
+        Width::Eight
+    };
+    let threads = 1 + draws.next_word() % 4;
+    let object = 1 + draws.next_word() % 3;
+    let live = 5 * threads + 4 + draws.next_word() % 6;
+    Config {
+        width,
+        threads,
+        blocks: live + 2 * (1 + threads * object) + 8 + draws.next_word() % 16,
+        live,
+        object,
+        shared: draws.next_word() % 9,
+    }
+}
+
+/// A trace for each thread of the heap.
+pub(crate) fn drawn_traces(
+    alloc: Global,
+    c: &Config,
+    draws: &mut Lcg64Xsh32,
+) -> Result<Vec<Vec<Command>>, OutOfMemory>
+    requires { IsInBounds c.now }
+    ensures { IfOk result (λ traces. IsJobInBounds c.now (map (λ v. v.items) traces.items)) }
+{
+    let mut traces = Vec::new(alloc);
+    for _thread in 0..c.threads {
+        traces.push(drawn_trace(alloc, c, draws)?)?;
+    }
+    Ok(traces)
+}
+
+fn drawn_trace(
+    alloc: Global,
+    c: &Config,
+    draws: &mut Lcg64Xsh32,
+) -> Result<Vec<Command>, OutOfMemory>
+    ensures { IfOk result (λ v. IsTraceInBounds c.now v.items) }
+{
+    let mut trace = Vec::new(alloc);
+    for _command in 0..COMMANDS {
+        let command = drawn_command(draws);
+        if command.in_bounds(c) {
+            trace.push(command)?;
+        }
+    }
+    Ok(trace)
+}
+
+// Any command; about a third of them make an object.
+fn drawn_command(draws: &mut Lcg64Xsh32) -> Command {
+    let kind = draws.next_word() % 16;
+    let d = register(draws);
+    let s = register(draws);
+    let v = register(draws);
+    let i = u64::from(draws.next_word() % 5);
+    let length = draws.next_word() % 12;
+    match kind {
+        0..=4 => Command::New { d, fields: length },
+        5 => Command::Arr {
+            d,
+            elements: length,
+        },
+        6 => Command::Set { d, value: i },
+        7 => Command::Nil { d },
+        8 => Command::Mov { d, s },
+        9 | 10 => Command::Get { d, s, i },
+        11 | 12 => Command::Put { s, i, v },
+        13 => Command::Len { s },
+        14 => Command::Same { a: d, b: s },
+        _ => Command::Say { s },
+    }
+}
+
+fn register(draws: &mut Lcg64Xsh32) -> u8 {
+    (draws.next_word() % REGISTERS) as u8
+}
+
+/// One thread that makes 59 records, of which each but the last refers to the one before.
+pub(crate) fn chain_traces(alloc: Global, c: &Config) -> Result<Vec<Vec<Command>>, OutOfMemory>
+    requires bounds { IsInBounds c.now }
+    requires one { c.now.threads ≡ 1 }
+    ensures { IfOk result (λ traces. IsJobInBounds c.now (map (λ v. v.items) traces.items)) }
+{
+    let mut traces = Vec::new(alloc);
+    traces.push(chain(alloc, c)?)?;
+    Ok(traces)
+}
+
+fn chain(alloc: Global, c: &Config) -> Result<Vec<Command>, OutOfMemory>
+    ensures { IfOk result (λ v. IsTraceInBounds c.now v.items) }
+{
+    let link = [
+        Command::New { d: 1, fields: 1 },
+        Command::Put { s: 1, i: 0, v: 2 },
+        Command::Mov { d: 2, s: 1 },
+    ];
+    let mut trace = Vec::new(alloc);
+    for place in 0..175_usize {
+        let command = link[place % 3];
+        if command.in_bounds(c) {
+            trace.push(command)?;
+        }
+    }
+    Ok(trace)
+}
