@@ -13,17 +13,17 @@ use Rattle.never_heap.specs.declared.Command.{Command}
 use Rattle.never_heap.specs.declared.Entry.{Entry}
 use Rattle.heap_system.specs.Locals.{LocalState, is_done, at_start}
 use Rattle.heap_system.specs.Machines.{State, no_local, IsJob, IsOpening}
-use Rattle.heap_system.specs.Systems.{Whole, traces_of, IsFinished}
+use Rattle.heap_system.specs.Systems.{Whole, traces_of}
 use Rattle.heap_system.proofs.Always.{here}
 use Rattle.heap_system.proofs.Starting.{length_starts}
 use Rattle.atom_board.specs.declared.rules.Held.{Held}
 use Rattle.atom_board.specs.declared.rules.View.{View}
 use Rattle.atom_board.specs.Boards.{BoardKept, first_view, one_view}
 use Rattle.atom_board.specs.Ends.{EndsAlone}
-use Rattle.atom_board.specs.Mutators.{BoardState, MutatorState, AreInOrder, AllAreDone, AreFresh, start_mutator, held_of, local_of, log_of}
+use Rattle.atom_board.specs.Mutators.{BoardState, MutatorState, AreInOrder, AllAreDone, AreFresh, IsFinishedBy, start_mutator, held_of, local_of, log_of}
 use Rattle.atom_board.proofs.InTime.{in_time_at_first}
 use Rattle.atom_board.proofs.Openings.{opened_after, opens}
-use Rattle.atom_board.proofs.Endings.{ended}
+use Rattle.atom_board.proofs.Endings.{IsEndedBy, ended}
 
 middle : {A : Type 0} (ys zs : List A) (x d : A) → get_or (ys ++ x ∷ zs) (length ys) d ≡ x
 middle [] zs x d = refl
@@ -111,17 +111,35 @@ fresh_of id c traces s mutators job start are = subst (λ x. AreFresh c traces x
 
 -- a seat with the threads of all mutators, each done
 pub closes : (b : BoardState) (k : Whole) (s : table.State Unit View) (id : ℕ) (v : View) (mutators : List MutatorState) (logs : List (List Entry)) (cycles : ℕ) → BoardKept k s → get_elem? s.views id ≡ some v → v ≡ record { locals = map held_of mutators } → k.config ≡ b.config → traces_of k.state ≡ b.traces
-    → AreInOrder b mutators → AllAreDone mutators → logs ≡ map log_of mutators → cycles ≡ cycle_of (get_or s.words 0 0) → IsFinished b.config b.traces logs cycles
+    → AreInOrder b mutators → AllAreDone mutators → logs ≡ map log_of mutators → cycles ≡ cycle_of (get_or s.words 0 0) → IsFinishedBy b.config b.traces mutators logs cycles
 closes b k s id v mutators logs cycles kept at knows config traces crew done are read =
     let d : MutatorState = record { board = b.id; local = no_local b.config; turns = 0 } in
     let long : length v.locals ≡ length mutators = ap (λ (x : View). length x.locals) knows ∙ length-map mutators held_of in
     let seen : (t : ℕ) (e : Held) → t < length v.locals → get_or v.locals t e ≡ held_of (get_or mutators t d) = λ t e low.
     ap (λ (x : View). get_or x.locals t e) knows ∙ get_or_map held_of mutators t e d (omega arith) in
     let all : map (λ (h : Held). h.local.log) v.locals ≡ logs = ap (λ (x : View). map (λ (h : Held). h.local.log) x.locals) knows ∙ map_map held_of (λ (h : Held). h.local.log) mutators ∙ sym are in
-    let over : IsFinished k.config (traces_of k.state) (map (λ (h : Held). h.local.log) v.locals) (cycle_of (get_or s.words 0 0)) = ended k s id v kept at (long ∙ crew.count ∙ sym (ap (λ (x : Config). x.threads) config))
+    let e : IsEndedBy k.config (traces_of k.state) v.locals (map (λ (h : Held). h.local.log) v.locals) (cycle_of (get_or s.words 0 0)) = ended k s id v kept at (long ∙ crew.count ∙ sym (ap (λ (x : Config). x.threads) config))
     (λ t e low. ap (λ (h : Held). h.local.thread) (seen t e low) ∙ (crew.each t d (omega arith)).1)
     (λ t e low. ap (λ (h : Held). is_done h.local) (seen t e low) ∙ done t d (omega arith)) in
-    subst (λ n. IsFinished b.config b.traces logs n) (sym read)
-    (subst (λ x. IsFinished b.config x logs (cycle_of (get_or s.words 0 0))) traces
-    (subst (λ x. IsFinished x (traces_of k.state) logs (cycle_of (get_or s.words 0 0))) config
-    (subst (λ x. IsFinished k.config (traces_of k.state) x (cycle_of (get_or s.words 0 0))) all over)))
+    let count : length mutators ≡ k.config.threads = crew.count ∙ sym (ap (λ (x : Config). x.threads) config) in
+    let over : IsFinishedBy k.config (traces_of k.state) mutators (map (λ (h : Held). h.local.log) v.locals) (cycle_of (get_or s.words 0 0)) = record {
+      finished = e.finished;
+      counted = λ t tl. (
+        t,
+        omega (arith, count),
+        λ m. (
+            let ml : t < length mutators = omega (arith, count) in
+            let here : get_or v.locals t (held_of m) ≡ held_of (get_or mutators t m) =
+            ap (λ (x : View). get_or x.locals t (held_of m)) knows ∙ get_or_map held_of mutators t (held_of m) m ml in
+            record {
+              thread = (crew.each t m ml).1;
+              local = sym (ap (λ (h : Held). h.local) here) ∙ e.local t (held_of m) (omega (arith, long));
+              turns = sym (ap (λ (h : Held). h.turns) here) ∙ e.turns t (held_of m) (omega (arith, long));
+            }
+            ),
+      );
+    } in
+    subst (λ n. IsFinishedBy b.config b.traces mutators logs n) (sym read)
+    (subst (λ x. IsFinishedBy b.config x mutators logs (cycle_of (get_or s.words 0 0))) traces
+    (subst (λ x. IsFinishedBy x (traces_of k.state) mutators logs (cycle_of (get_or s.words 0 0))) config
+    (subst (λ x. IsFinishedBy k.config (traces_of k.state) mutators x (cycle_of (get_or s.words 0 0))) all over)))

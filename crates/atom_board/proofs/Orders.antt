@@ -3,11 +3,13 @@ use Rattle.std.proofs.Common.{◌≡◌, ℕ, ◌≤◌, ◌<◌, ◌+◌, refl,
 use Rattle.std.proofs.lemmas.Bool.{cases_eq}
 use Rattle.std.proofs.lemmas.List.{length-map}
 use Rattle.std.specs.List.{SwappedAt}
+use Rattle.block_store.specs.declared.Config.{Config}
 use Rattle.block_store.specs.declared.Width.TheVariants.{Four}
+use Rattle.never_heap.specs.declared.Command.{Command}
 use Rattle.never_heap.specs.declared.Entry.{Entry}
 use Rattle.heap_system.specs.Locals.{is_done}
 use Rattle.heap_system.specs.Machines.{no_local}
-use Rattle.atom_board.specs.Mutators.{BoardState, MutatorState, AreInOrder, AreEachOnce, HasMutator, AreAmong, AreLogsOf, AllAreDone, log_of}
+use Rattle.atom_board.specs.Mutators.{BoardState, MutatorState, AreInOrder, AreEachOnce, HasMutator, AreAmong, AreLogsOf, AllAreDone, EndsIn, IsFinishedBy, log_of}
 use Rattle.atom_board.proofs.Crews.{get_or_map}
 
 abbrev pub nobody : MutatorState
@@ -93,6 +95,16 @@ ordered_logs b hs ys logs crew among are t low =
         ap (λ xs. get_or xs t []) are ∙ get_or_map log_of ys t [] d tl ∙ ap log_of (j.2 d),
       ),
     )
+
+-- a run that has ended with mutators that are among these has ended with these
+pub ordered_counted : (c : Config) (traces : List (List Command)) (hs ys : List MutatorState) (logs : List (List Entry)) (cycles : ℕ) → AreAmong ys hs → IsFinishedBy c traces ys logs cycles → IsFinishedBy c traces hs logs cycles
+ordered_counted c traces hs ys logs cycles among f = record {
+  finished = f.finished;
+  counted = λ t tl.
+      (let i = f.counted t tl in
+      let j = among i.0 i.1 in
+      (j.0, j.1, λ d. subst (EndsIn c f.finished.turns f.finished.run t) (j.2 d) (i.2 d)));
+}
 
 -- mutators in order are all, each once
 pub in_order_each : (b : BoardState) (hs : List MutatorState) → AreInOrder b hs → AreEachOnce b hs

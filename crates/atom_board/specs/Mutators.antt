@@ -2,9 +2,12 @@
 use Rattle.std.specs.Prelude.{ℕ, ◌+◌, ◌<◌, ◌≤◌, ◌≡◌, ◌++◌, true, List, [], length, slice_index_or}
 use Rattle.atomic_table.specs.Seated.{TableId}
 use Rattle.block_store.specs.declared.Config.{Config}
+use Rattle.block_store.specs.Counts.{times}
 use Rattle.never_heap.specs.declared.Command.{Command}
 use Rattle.never_heap.specs.declared.Entry.{Entry}
 use Rattle.heap_system.specs.Locals.{LocalState, LocalReads, is_done, local_got, part_step, turn_of}
+use Rattle.heap_system.specs.Machines.{Run, local_in}
+use Rattle.heap_system.specs.Systems.{IsFinished}
 use Rattle.heap_system.specs.declared.Turn.{Turn}
 use Rattle.atom_board.specs.declared.rules.Held.{Held}
 use Rattle.atom_board.specs.Boards.{held}
@@ -114,3 +117,22 @@ pub record IsLater (old new : MutatorState) : Type 0 where
   pub turns : old.turns ≤ new.turns
   pub more : List Entry
   pub log : new.local.log ≡ old.local.log ++ more
+
+-- this mutator is of thread t, ends as the run of these turns leaves the thread, and has made as
+-- many turns as the list has of it
+pub record EndsIn (c : Config) (ts : List ℕ) (r : Run) (t : ℕ) (m : MutatorState) : Type 0 where
+  pub thread : m.local.thread ≡ t
+  pub local : m.local ≡ local_in c r t
+  pub turns : m.turns ≡ times t ts
+
+-- each thread has such a mutator
+abbrev pub AllEndIn : Config → List ℕ → Run → List MutatorState → Type 0
+AllEndIn c ts r ms = (t : ℕ) → t < c.threads
+    → (j : ℕ) × (j < length ms) × ((d : MutatorState) → EndsIn c ts r t (slice_index_or ms j d))
+
+-- The finished run is that of these mutators: its list of turns has each thread as often as the
+-- thread's mutator has made turns, and leaves the thread as that mutator is.
+pub record IsFinishedBy (c : Config) (traces : List (List Command)) (ms : List MutatorState)
+    (logs : List (List Entry)) (cycles : ℕ) : Type 0 where
+  pub finished : IsFinished c traces logs cycles
+  pub counted : AllEndIn c finished.turns finished.run ms

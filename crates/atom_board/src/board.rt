@@ -11,7 +11,7 @@ ghost use Rattle.heap_system.specs.Systems.{IsFinished};
 ghost use Rattle.heap_system.specs.declared.Turn.TheVariants as turns;
 ghost use Rattle.atom_board.specs.Boards.{one_view, turns_in, start_held};
 ghost use Rattle.atom_board.specs.Ends.{EndsAlone};
-ghost use Rattle.atom_board.specs.Mutators.{BoardState, MutatorState, AreInOrder, AreEachOnce, HasMutator, AreAmong, AreLogsOf, AllAreDone, AreFresh, HasFewTurns, Moved, IsLater, start_mutator, held_of, local_of, log_of};
+ghost use Rattle.atom_board.specs.Mutators.{BoardState, MutatorState, AreInOrder, AreEachOnce, HasMutator, AreAmong, AreLogsOf, AllAreDone, AreFresh, HasFewTurns, Moved, IsLater, IsFinishedBy, start_mutator, held_of, local_of, log_of};
 
 use crate::closed::Closed;
 use crate::mutator::Mutator;
@@ -286,13 +286,14 @@ impl AtomBoard {
     }
 
     /// Ends a run whose mutators are all done. They are all of this board's, each once, in any
-    /// order.
+    /// order. The run that it shows is that of the turns which they made.
     pub fn close(self, who: Vec<Mutator>) -> Closed
         requires mutators { AreEachOnce self who.items }
         requires done { AllAreDone who.items }
         ensures config { result.config ≡ self.config }
         ensures logs { AreLogsOf result.logs who.items }
         ensures finished { IsFinished self.config self.traces result.logs result.cycles }
+        ensures counted { IsFinishedBy self.config self.traces who.items result.logs result.cycles }
     {
         let threads = self.config.threads as usize;
         let mutators = ordered(who, threads);
@@ -305,7 +306,7 @@ impl AtomBoard {
         requires done { AllAreDone who.items }
         ensures config { result.config ≡ self.config }
         ensures logs { result.logs ≡ map log_of who.items }
-        ensures finished { IsFinished self.config self.traces result.logs result.cycles }
+        ensures counted { IsFinishedBy self.config self.traces who.items result.logs result.cycles }
     {
         let AtomBoard {
             table,

@@ -3,6 +3,7 @@
 
 mod board;
 mod closed;
+mod laws;
 mod mutator;
 mod rules;
 #[cfg(test)]
@@ -10,5 +11,6 @@ mod tests;
 
 pub use board::AtomBoard;
 pub use closed::Closed;
+pub use laws::closed_runs_show_their_logs;
 pub use mutator::Mutator;
 pub use rules::{Both, Cut, Held, Law, Turned, View};

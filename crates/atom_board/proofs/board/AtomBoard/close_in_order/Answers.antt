@@ -17,8 +17,8 @@ returns-clause-logs c =
     let ms : List MutatorState = c.first_and_rest-first.result.0 ∷ c.first_and_rest-first.result.1.items in
     ap (map (λ (l : LocalState). l.log)) c.gathered-seat.ensures.locals ∙ map_map local_of (λ (l : LocalState). l.log) ms ∙ ap (map log_of) c.first_and_rest-first.ensures
 
-pub returns-clause-finished : goal.returns-clause-finished
-returns-clause-finished c =
+pub returns-clause-counted : goal.returns-clause-counted
+returns-clause-counted c =
     let last = c.close_with-closed.ensures.values.2 in
     let ms : List MutatorState = c.first_and_rest-first.result.0 ∷ c.first_and_rest-first.result.1.items in
     closes c.args.self c.self.inside.table.shared.key last.0 c.gathered-seat.result.0.id c.gathered-seat.result.0.me.0 c.args.who.items (map (λ (l : LocalState). l.log) c.gathered-seat.result.1.items) c.read_phase-cycles.result.cycle
