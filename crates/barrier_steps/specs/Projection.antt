@@ -77,7 +77,10 @@ row_loading e k (LoadLink way word) = record {
   value = carried_load k word;
 }
 row_loading e k (LoadField way) = record { object = object_on e k way; value = None }
-row_loading e k (LoadOwner word) = record { object = None; value = pending_load (to_register k) word }
+row_loading e k (LoadOwner word) = record {
+  object = None;
+  value = pending_load (to_register k) word;
+}
 row_loading e k (StorePending word value) = store_loading e k (Pending word value)
 row_loading e k (StoreField way word) = store_loading e k (InField way word)
 row_loading e k (Shade r store) = store_loading e k store

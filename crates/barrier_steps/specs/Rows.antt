@@ -110,8 +110,8 @@ before_store p store = if shaded_for p (stored_word store) == 0 then store_row s
 abbrev pub in_barrier : GreyRow → FieldStore → FieldRow
 in_barrier r store = if grey_over r then store_row store else Shade r store
 
--- the operation of a row of command k in this pass. A part that is over would look at the phase once
--- more
+-- the operation of a row of command k in this pass. A part that is over would look at the phase
+-- once more
 abbrev pub row_want : Extent → Pass → Command → FieldRow → Operation
 row_want e p k StoreNumber = Exchange (register_place e p.thread (to_register k))
     (number_word (number_set k))
@@ -163,7 +163,8 @@ way_on way x = record { shape = way.shape; level = way.level + 1; block = x }
 abbrev pub after_shape : Extent → Pass → Command → ℕ → Shape → FieldRow
 after_shape e p (commands.Get d s i) x f = if nat_lt i (shape_length f)
     then on_way e p (commands.Get d s i) (way_from f x) 0 else Answered replies.Range
-after_shape e p (commands.Put s i v) x f = if nat_lt i (shape_length f) then LoadValue (way_from f x)
+after_shape e p (commands.Put s i v) x f = if nat_lt i (shape_length f)
+    then LoadValue (way_from f x)
     else Answered replies.Range
 after_shape e p _ x f = Answered (replies.Len (shape_length f))
 

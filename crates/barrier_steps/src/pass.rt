@@ -150,8 +150,8 @@ fn in_barrier(places: &Places, pass: Pass, row: GreyRow, store: FieldStore, read
     requires fits { GreyFits places.now (record { pass = pass; row = row }) }
     requires word { GreyReads places.now (record { pass = pass; row = row }) read }
     ensures { result
-        ≡ Rows.in_barrier (grey_got (extent places.now) (record { pass = pass; row = row }) read).row
-        store }
+        ≡ Rows.in_barrier
+        (grey_got (extent places.now) (record { pass = pass; row = row }) read).row store }
 {
     let mut part = GreyPass::at_row(pass, row);
     part.got(places, read);

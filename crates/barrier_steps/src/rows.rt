@@ -55,8 +55,8 @@ pub enum FieldRow {
     StorePending { word: u64, value: Value },
     /// `put`: stores the word in the field.
     StoreField { way: Way, word: u64 },
-    /// `mov`, `get` and `put` in Mark, where a reference is stored: the write barrier of its block has
-    /// come to this row of its own.
+    /// `mov`, `get` and `put` in Mark, where a reference is stored: the write barrier of its block
+    /// has come to this row of its own.
     Shade { shade: GreyRow, store: FieldStore },
     /// `same`: loads the first register.
     LoadFirst,

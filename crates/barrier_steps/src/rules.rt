@@ -29,7 +29,8 @@ ghost use Rattle.barrier_steps.specs.Replies.{answer, reply_due, IsKnown};
 
 /// In the phase and cycle of its pass each event keeps all that a heap keeps in either phase, while
 /// the other threads hold what they held, where the block to which it stores a reference is not
-/// Free. A command begins and ends with nothing in hand. Each word stays one that its place can hold.
+/// Free. A command begins and ends with nothing in hand. Each word stays one that its place can
+/// hold.
 pub fn rows_keep_the_heap()
     ensures kept { (c : Config) (h : Heap) (hs : ℕ → Holding) (f : FieldState) → FieldFits c f
         → FieldReads c f (h (place_of (field_want (extent c) f)))
@@ -37,8 +38,8 @@ pub fn rows_keep_the_heap()
         → NotFree (λ x. h (ColourOf x)) (target (word_stored f.row))
         → PhaseKept (extent c) h hs → hs f.pass.thread ≡ field_holding (extent c) f
         → PhaseKept (extent c) (heap_after h (field_want (extent c) f))
-        (changed hs f.pass.thread
-        (field_holding (extent c) (field_got (extent c) f (h (place_of (field_want (extent c) f)))))) }
+        (changed hs f.pass.thread (field_holding (extent c)
+        (field_got (extent c) f (h (place_of (field_want (extent c) f)))))) }
     ensures first { (e : Extent) (p : Pass) (k : Command)
         → field_holding e (at_first_row p k) ≡ holds_nothing }
     ensures over { (e : Extent) (f : FieldState) → IsSome (field_reply f.row)
@@ -47,11 +48,11 @@ pub fn rows_keep_the_heap()
         → IsHeld c (heap_after h (field_want (extent c) f)) }
 {}
 
-/// In the phase and cycle of its pass each event keeps what is kept of the names, where the thread's
-/// task is its row's, and then the next row's. At the deciding event the graph makes the command's
-/// step and the order gets its entry; else both stay. The block to which a loaded reference is to be
-/// stored is not Free. From the deciding event on the step's answer is due. Each event reads what it
-/// may read, where each word is one that its place can hold.
+/// In the phase and cycle of its pass each event keeps what is kept of the names, where the
+/// thread's task is its row's, and then the next row's. At the deciding event the graph makes the
+/// command's step and the order gets its entry; else both stay. The block to which a loaded
+/// reference is to be stored is not Free. From the deciding event on the step's answer is due. Each
+/// event reads what it may read, where each word is one that its place can hold.
 pub fn rows_keep_the_names()
     ensures kept { (c : Config) (g : Graph) (order : List HistoryItem) (h : Heap) (names : Names)
         (tasks : ℕ → Task) (f : FieldState) → FieldFits c f → field_reply f.row ≡ None

@@ -1,5 +1,5 @@
-//! Stores and the write barrier before them, done by hand on the words of a heap with one thread, in
-//! cycle 1. Its register 1 refers to a record of one field, in block 9.
+//! Stores and the write barrier before them, done by hand on the words of a heap with one thread,
+//! in cycle 1. Its register 1 refers to a record of one field, in block 9.
 
 use crate::*;
 use block_store::{Config, Name, PhaseWord, Places, Value, Width};

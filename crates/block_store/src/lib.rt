@@ -78,7 +78,8 @@ impl Width {
         self.registers() * threads
     }
 
-    /// The block of register `r` of thread `t`, and the payload at which it stands. Both are below 16.
+    /// The block of register `r` of thread `t`, and the payload at which it stands. Both numbers
+    /// are below 16.
     #[tactic(auto, using(crate::proofs::Registers::block_by, crate::proofs::Registers::slot_by))]
     pub fn register(self, t: u32, r: u32) -> (u32, u32)
         requires thread { t < 16 }

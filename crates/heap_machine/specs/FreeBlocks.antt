@@ -50,8 +50,8 @@ pub record FreeOf (e : Extent) (heads colour : ℕ → ℕ) (count : ℕ) (fs : 
 abbrev pub FreeKept : Extent → Heap → (ℕ → FreeHolding) → Type 0
 FreeKept e h fs = FreeOf e (λ t. h (FreeList t)) (λ x. h (ColourOf x)) (h FreeCount) fs
 
--- the blocks from a on are Free, in ascending order in the list of the first thread, and counted; the
--- others are not, and the other lists are empty: so is a heap that nobody has used yet
+-- the blocks from a on are Free, in ascending order in the list of the first thread, and counted;
+-- the others are not, and the other lists are empty: so is a heap that nobody has used yet
 pub record FreeFrom (e : Extent) (h : Heap) (a : ℕ) : Type 0 where
   pub threads : 0 < e.threads
   pub some : 1 ≤ a

@@ -128,8 +128,8 @@ pub fn what_keeps_free_blocks()
         (changed fs t (record old { held = xs; reserved = reserved })) }
 {}
 
-/// Where a thread puts its hand in its own free list and that list is not empty, not every Free block
-/// stands in one place any more: the blocks of that list are lost.
+/// Where a thread puts its hand in its own free list and that list is not empty, not every Free
+/// block stands in one place any more: the blocks of that list are lost.
 pub fn free_lists_are_lost_at_a_put()
     ensures { (e : Extent) (h : Heap) (fs : ℕ → FreeHolding) → FreeKept e h fs
         → (t : ℕ) → t < e.threads → h (FreeList t) ≢ 0

@@ -21,8 +21,8 @@ const COMMANDS: u32 = 30;
 // How many turns are enough to come to rest, or to end a command.
 const ENOUGH: u32 = 100_000;
 
-// An object has at most three blocks. What the heap has beyond what the rate needs is drawn, so that
-// a block is paid for with some ten units.
+// An object has at most three blocks. What the heap has beyond what the rate needs is drawn, so
+// that a block is paid for with some ten units.
 fn drawn_config(draws: &mut Lcg64Xsh32, width: Width) -> Config {
     let threads = 1 + draws.next_word() % 16;
     let object = 1 + draws.next_word() % 3;

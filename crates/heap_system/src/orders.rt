@@ -14,8 +14,8 @@ use block_store::{Config, OutOfMemory};
 use never_heap::{Command, Item};
 use std::alloc::Global;
 
-/// A turn adds to the order of a run, as items, what it adds to the items of a system; and it leaves
-/// one event less at most.
+/// A turn adds to the order of a run, as items, what it adds to the items of a system; and it
+/// leaves one event less at most.
 pub fn turns_add_their_items()
     ensures items { (c : Config) (t : ℕ) (r : Run)
         → map item_of (next c t r).order ≡ map item_of r.order ++ items_added c t r.state }

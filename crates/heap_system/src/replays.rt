@@ -1,5 +1,5 @@
-//! Runs of one job by one list of turns, for the proofs above: the law is the contract of a function
-//! that does nothing.
+//! Runs of one job by one list of turns, for the proofs above: the law is the contract of a
+//! function that does nothing.
 
 ghost use Rattle.std.specs.Prelude.{◌≡◌, ℕ, List, map};
 ghost use Rattle.block_store.specs.declared.Config.{Config};

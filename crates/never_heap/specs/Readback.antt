@@ -11,8 +11,8 @@ use Rattle.never_heap.specs.declared.Reply.TheVariants.{Stored}
 use Rattle.never_heap.specs.Graphs.{Graph, start_graph, register_of}
 use Rattle.never_heap.specs.Histories.{HistoryItem, Did, replay, replay_from, part}
 
--- On the graph g, the entry is a put that stores v in field i of the object a: its register s refers
--- to a, its register w holds v, and it is answered stored.
+-- On the graph g, the entry is a put that stores v in field i of the object a: its register s
+-- refers to a, its register w holds v, and it is answered stored.
 pub record StoresIn (g : Graph) (put : Entry) (a : Name) (i : ℕ) (v : Value) : Type 0 where
   pub s : ℕ
   pub w : ℕ

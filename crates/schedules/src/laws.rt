@@ -34,7 +34,8 @@ pub fn replays_have_one_order()
 {}
 
 /// A system that is as a job opens, with an order that has no more than the start of cycle 1 where
-/// it keeps one, has after the turns of a schedule the state of a replay of that job, and its order.
+/// it keeps one, has after the turns of a schedule the state of a replay of that job, and its
+/// order.
 pub fn replays_are_runs()
     ensures { (w : Whole) (traces : List (List Command)) (schedule : Schedule) (turns : ℕ)
         → IsOpening w.config traces w.state → IfSome w.ordered (λ o. o.items ≡ Item.Start ∷ [])
@@ -70,8 +71,8 @@ pub fn serial_turns_are_serial()
         → IsSerial c s (turns_of Schedule.Serial c s turns) }
 {}
 
-/// After as many turns as the bounds of all commands sum up to, a serial replay has all threads done
-/// (`serial`); and where there is one thread, so has a replay by any schedule (`single`).
+/// After as many turns as the bounds of all commands sum up to, a serial replay has all threads
+/// done (`serial`); and where there is one thread, so has a replay by any schedule (`single`).
 pub fn replays_end()
     ensures serial { (c : Config) (traces : List (List Command)) (turns rate : ℕ) (r : Run)
         → IsJob c traces → IsRate c rate → IsReplayed c traces Schedule.Serial turns r

@@ -16,8 +16,8 @@ pub use laws::{
 };
 pub use replaying::replay;
 
-/// Which thread has each turn. Turns are counted from 0, and a turn for a thread that is done counts
-/// and changes nothing.
+/// Which thread has each turn. Turns are counted from 0, and a turn for a thread that is done
+/// counts and changes nothing.
 #[derive(Clone, Copy, Debug, PartialEq, Eq)]
 pub enum Schedule {
     /// Turn j is for thread `j % n` of n.

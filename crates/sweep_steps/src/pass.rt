@@ -31,7 +31,13 @@ impl Model for SweepPass {
 
     ghost Value = { SweepState };
 
-    ghost view = { λ p. record { thread = p.thread; cycle = p.cycle; blocks = p.blocks; owed = p.owed; row = p.row } };
+    ghost view = { λ p. record {
+      thread = p.thread;
+      cycle = p.cycle;
+      blocks = p.blocks;
+      owed = p.owed;
+      row = p.row;
+    } };
 }
 
 // After the cursor was read.
