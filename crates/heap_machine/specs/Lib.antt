@@ -14,3 +14,4 @@ pub mod Holdings
 pub mod HeapKept
 pub mod ReuseKept
 pub mod PhaseKept
+pub mod Memories

@@ -1,5 +1,5 @@
 -- One atomic operation: on a place of the heap, and on the list of words.
-use Rattle.std.specs.Prelude.{ℕ, ◌+◌, ◌-◌, ◌^◌, ◌<◌, ◌≤◌, ◌==◌, cond, List, slice_index, slice_set}
+use Rattle.std.specs.Prelude.{ℕ, ◌+◌, ◌-◌, ◌^◌, ◌<◌, ◌≤◌, ◌≡◌, ◌==◌, cond, List, length, slice_index, slice_set}
 use Rattle.block_store.specs.Places.{Extent, Place, index}
 use Rattle.block_store.specs.Heaps.{Heap, put_at}
 use Rattle.heap_machine.specs.declared.op.Op.{Op}
@@ -66,3 +66,11 @@ words_after (ops.Exchange i v) ws = slice_set ws i v
 words_after (ops.CompareExchange i old v) ws = cond (slice_index ws i == old) (slice_set ws i v) ws
 words_after (ops.FetchAdd i v) ws = slice_set ws i (slice_index ws i + v)
 words_after (ops.FetchSub i v) ws = slice_set ws i (slice_index ws i - v)
+
+-- it is on one of the words, and its sum or difference stays in 64 bits
+abbrev pub MayAct : List ℕ → Op → Type 0
+MayAct ws op = (op_place op < length ws) × SumFits op (slice_index ws (op_place op))
+
+-- it read the word that was there, and changed the words
+abbrev pub HasActed : List ℕ → Op → ℕ → List ℕ → Type 0
+HasActed ws op w after = (w ≡ slice_index ws (op_place op)) × (after ≡ words_after op ws)

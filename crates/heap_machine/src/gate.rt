@@ -5,6 +5,7 @@
 ghost use Rattle.std.specs.Prelude.{◌+◌, false, true, ◌≡◌, ◌<◌, ◌≤◌, ◌-◌, ◌^◌, IfSome};
 ghost use Rattle.block_store.specs.Places.{extent};
 ghost use Rattle.heap_machine.specs.Operations.{op_at, place_of};
+ghost use Rattle.heap_machine.specs.Memories.{ReadsOnly, ActsOnce};
 ghost use Rattle.heap_machine.specs.Passes.{IsPass};
 ghost use Rattle.heap_machine.specs.Readings.{CanHold, IsPhaseWord};
 ghost use Rattle.heap_machine.specs.Gates.{gate_want, gate_got, going_got, gate_step, gate_entered, gate_started, is_going_in, GateFits, GateAt, SeenOpen};
@@ -13,7 +14,7 @@ use crate::turnover::{
     check, close, flip, list_checked, look_to_close, put_roots, reopen, root_shaded, shade_root,
     start, tried_to_close,
 };
-use crate::{Op, Pass, Step};
+use crate::{Memory, Op, Pass, Step};
 use block_store::{PhaseWord, Places, read_phase};
 use std::marker::Model;
 
@@ -291,6 +292,37 @@ impl Gate {
         match self.row {
             GateRow::Look => self.looked(word),
             GateRow::Enter { seen } => self.tried(seen, word),
+            _ => unreachable!(),
+        }
+    }
+
+    /// One event of a part on its way in: `want_in` and `got_in` at once.
+    #[inline(always)]
+    pub fn event_in<M: Memory>(
+        &mut self,
+        places: &Places,
+        memory: &mut M,
+        shared: &M::Shared,
+    ) -> Step
+        requires way { is_going_in self.old ≡ true }
+        requires may { M.may memory.old shared.now
+            (op_at (extent places.now) (gate_want places.now.width self.old)) }
+        requires reads { ReadsOnly M.acts memory.old shared.now
+            (op_at (extent places.now) (gate_want places.now.width self.old)) IsPhaseWord }
+        ensures { ActsOnce M.acts memory.old shared.now
+            (op_at (extent places.now) (gate_want places.now.width self.old)) memory.new
+            (λ w. (self.new ≡ going_got self.old w) × (result ≡ gate_step self.old w)) }
+    {
+        let place = places.phase();
+        match self.row {
+            GateRow::Look => {
+                let word = memory.act(shared, &Op::load(place));
+                self.looked(word)
+            }
+            GateRow::Enter { seen } => {
+                let word = memory.act(shared, &entering(place, seen));
+                self.tried(seen, word)
+            }
             _ => unreachable!(),
         }
     }

@@ -3,7 +3,7 @@
 ghost use Rattle.std.specs.Prelude.{◌≡◌, ◌<◌, ℕ, List, length, slice_index, slice_set, replicate, IfOk};
 ghost use Rattle.heap_machine.specs.Operations.{op_place, words_after, SumFits};
 
-use crate::Op;
+use crate::{Memory, Op};
 use block_store::OutOfMemory;
 use std::alloc::Global;
 use std::marker::Model;
@@ -55,6 +55,7 @@ impl Words {
     /// Does one operation on one word, and answers the word that was there before. So a
     /// compare-exchange wrote exactly where the answer is its old word. The place is below the
     /// number of words, and a sum or difference stays in 64 bits.
+    #[inline(always)]
     pub fn act(&mut self, op: &Op) -> u64
         requires place { op_place op.now < length self.old }
         requires sum { SumFits op.now (slice_index self.old (op_place op.now)) }
@@ -86,5 +87,22 @@ impl Words {
                 before
             }
         }
+    }
+}
+
+impl Memory for Words {
+    ghost use Rattle.heap_machine.specs.Operations.{MayAct, HasActed};
+
+    // They are one thread's alone.
+    type Shared = ();
+
+    ghost may = { λ ws none op. MayAct ws op };
+
+    ghost acts = { λ ws none op word after. HasActed ws op word after };
+
+    #[inline(always)]
+    fn act(&mut self, shared: &(), op: &Op) -> u64 {
+        let _shared = shared;
+        Words::act(self, op)
     }
 }
