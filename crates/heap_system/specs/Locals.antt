@@ -17,7 +17,8 @@ use Rattle.never_heap.specs.RightWork.{units_owed}
 use Rattle.never_heap.specs.Steps.{makes_object, blocks_of}
 use Rattle.work_account.specs.Accounts.{Balance, IsSound, entered, with_unit, published, refused}
 use Rattle.work_account.specs.Accounts as accounts
-use Rattle.heap_machine.specs.Operations.{Operation, place_of}
+use Rattle.heap_machine.specs.declared.op.Op.{Op}
+use Rattle.heap_machine.specs.Operations.{Operation, place_of, op_at}
 use Rattle.heap_machine.specs.Readings.{CanHold}
 use Rattle.heap_machine.specs.Gates.{gate_want, gate_got, gate_step, gate_entered, is_going_in, is_of_pass, is_empty, GateFits, GateAt}
 use Rattle.heap_machine.specs.Gating.{Stand, Outside, Inside}
@@ -517,6 +518,10 @@ EntersOn _ z w = Unit {0}
 -- the words that a thread may read at its next event
 abbrev pub LocalReads : Config → LocalState → ℕ → Type 0
 LocalReads c l w = PartReads c l.part w × EntersOn l.part l.balance.cycle w
+
+-- the operation of the thread's next event, as the code makes it
+abbrev pub op_wanted : LocalState → Op
+op_wanted l = op_at (extent l.config) (part_want l.config l.part)
 
 -- a thread has moved on by its next event, which read w, and told what its turn was
 abbrev pub HasGot : LocalState → ℕ → LocalState → Turn → Type 0

@@ -7,20 +7,21 @@ ghost use Rattle.block_store.specs.Places.{extent, words_count};
 ghost use Rattle.rate_plan.specs.Rates.{IsRate, IsAdmitted};
 ghost use Rattle.never_heap.specs.Steps.{makes_object, blocks_of};
 ghost use Rattle.work_account.specs.Accounts.{entered};
+ghost use Rattle.heap_machine.specs.Memories.{ReadsOnly, ActsOnce};
 ghost use Rattle.heap_machine.specs.Operations.{op_at, op_place};
 ghost use Rattle.heap_machine.specs.Passes.{IsPass};
 ghost use Rattle.never_heap.specs.Jobs.{IsTraceInBounds};
 ghost use Rattle.heap_machine.specs.declared.gate.GateRow.{GateRow};
 ghost use Rattle.grey_steps.specs.Rows.{scanning};
 ghost use Rattle.sweep_steps.specs.Rows.{sweeping};
-ghost use Rattle.heap_system.specs.Locals.{LocalReads, HasGot, is_done, is_rest, is_build, is_at_gate, is_in_command, is_marking, is_sweeping, is_on_way_out, part_want, part_step, local_got, at_start, turn_of, is_last, pass_by, first_part, errand_of, command_of, owed, made_got, works, entry_of, balance_paid, commands_decided};
+ghost use Rattle.heap_system.specs.Locals.{LocalReads, HasGot, is_done, is_rest, is_build, is_at_gate, is_in_command, is_marking, is_sweeping, is_on_way_out, part_want, part_step, local_got, at_start, turn_of, is_last, pass_by, first_part, errand_of, command_of, op_wanted, owed, made_got, works, entry_of, balance_paid, commands_decided};
 
 use crate::Turn;
 use barrier_steps::FieldPass;
 use block_store::{Config, OutOfMemory, PhaseWord, Places};
 use build_steps::BuildPass;
 use grey_steps::GreyPass;
-use heap_machine::{Gate, Op, Pass, Step};
+use heap_machine::{Gate, Memory, Op, Pass, Step};
 use never_heap::{Command, Entry, Reply};
 use rate_plan::plan;
 use std::alloc::Global;
@@ -387,6 +388,21 @@ impl Local {
             Part::Idle => self.out(word),
             Part::Leave => self.out(word),
         }
+    }
+
+    /// Makes the thread's next event by this memory: `want`, the operation and `got` at once. The
+    /// thread is not done, and the memory reads no word that its row may not.
+    #[inline(always)]
+    pub fn event<M: Memory>(&mut self, memory: &mut M, shared: &M::Shared) -> Turn
+        requires open { is_done self.old ≡ false }
+        requires may { M.may memory.old shared.now (op_wanted self.old) }
+        requires reads { ReadsOnly M.acts memory.old shared.now (op_wanted self.old)
+            (LocalReads self.old.config self.old) }
+        ensures { ActsOnce M.acts memory.old shared.now (op_wanted self.old) memory.new
+            (λ w. HasGot self.old w self.new result) }
+    {
+        let word = memory.act(shared, &self.want());
+        self.got(word)
     }
 
     // `got`, of a part outside. Before a method is called on `self` the part is put at rest, so
