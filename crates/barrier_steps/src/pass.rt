@@ -10,6 +10,7 @@ ghost use Rattle.block_store.specs.Registers.{register_block, register_slot};
 ghost use Rattle.block_store.specs.Shapes.{IsShape, shape_of};
 ghost use Rattle.never_heap.specs.Bounds.{IsCommandInRange};
 ghost use Rattle.never_heap.specs.Steps.{makes_object};
+ghost use Rattle.heap_machine.specs.Memories.{ReadsOnly, ActsOnce};
 ghost use Rattle.heap_machine.specs.Operations.{op_at, Load, Exchange};
 ghost use Rattle.grey_steps.specs.Fits.{GreyFits, GreyReads};
 ghost use Rattle.grey_steps.specs.Rows.{grey_got};
@@ -18,7 +19,7 @@ ghost use Rattle.barrier_steps.specs.Walks;
 ghost use Rattle.barrier_steps.specs.Walks.{shape_length, links_to};
 ghost use Rattle.barrier_steps.specs.Rows;
 ghost use Rattle.barrier_steps.specs.Rows.{at_first_row, register_place, field_want, field_got, field_step, field_decided, field_reply};
-ghost use Rattle.barrier_steps.specs.Fits.{IsThread, IsWalk, FieldFits, FieldReads};
+ghost use Rattle.barrier_steps.specs.Fits.{IsThread, IsWalk, FitsAt, ReadsAt, FieldFits, FieldReads};
 
 use crate::operands::{field_index, from_register, number_set, other_register, to_register};
 use crate::walks::{field_at, length_of, link_at, links_to};
@@ -28,7 +29,7 @@ use block_store::{
     read_shape,
 };
 use grey_steps::{GreyPass, GreyRow};
-use heap_machine::{Op, Pass, Step};
+use heap_machine::{Memory, Op, Pass, Step};
 use never_heap::{Command, Reply};
 use std::marker::Model;
 
@@ -349,6 +350,16 @@ fn field(places: &Places, command: Command, way: Way) -> usize
     )
 }
 
+// Whether an event that led to this row was the last.
+fn step_at(row: FieldRow) -> Step
+    ensures { result ≡ Rows.step_of (field_reply row) }
+{
+    match row {
+        FieldRow::Answered { .. } => Step::Over,
+        _ => Step::Went,
+    }
+}
+
 impl FieldPass {
     /// The part that does this command, which allocates nothing, for one of 1 to 16 threads that is
     /// inside. The command's registers are below 16, its numbers and indexes below 2^62. The phase
@@ -397,10 +408,21 @@ impl FieldPass {
         requires { FieldFits places.now self.now }
         ensures { result ≡ op_at (extent places.now) (field_want (extent places.now) self.now) }
     {
+        self.operation(places, self.row)
+    }
+
+    // The operation of the event at this row.
+    #[inline(always)]
+    fn operation(&self, places: &Places, row: FieldRow) -> Op
+        requires { FitsAt places.now self.now.pass self.now.command row }
+        ensures { result
+            ≡ op_at (extent places.now) (Rows.row_want (extent places.now)
+            self.now.pass self.now.command row) }
+    {
         use FieldRow::*;
 
         let command = self.command;
-        match self.row {
+        match row {
             StoreNumber => self.store(places, payload_word(Payload::Int(number_set(command)))),
             StoreNil => self.store(places, payload_word(Payload::Nil)),
             StoreMoved { word } | StorePending { word, .. } => self.store(places, word),
@@ -452,23 +474,22 @@ impl FieldPass {
         ensures step { result ≡ field_step (extent places.now) self.old word }
         ensures fits { FieldFits places.now self.new }
     {
-        self.row = self.after(places, word);
-        match self.reply() {
-            Some(_) => Step::Over,
-            None => Step::Went,
-        }
+        self.row = self.after(places, self.row, word);
+        step_at(self.row)
     }
 
-    // The row after one event, whose operation read the word.
-    fn after(&self, places: &Places, read: u64) -> FieldRow
-        requires fits { FieldFits places.now self.now }
-        requires word { FieldReads places.now self.now read }
-        ensures { result ≡ (field_got (extent places.now) self.now read).row }
+    // The row after the event at this one, whose operation read the word.
+    #[inline(always)]
+    fn after(&self, places: &Places, row: FieldRow, read: u64) -> FieldRow
+        requires fits { FitsAt places.now self.now.pass self.now.command row }
+        requires word { ReadsAt places.now self.now.pass self.now.command row read }
+        ensures { result
+            ≡ Rows.row_got (extent places.now) self.now.pass self.now.command row read }
     {
         use FieldRow::*;
 
         let (pass, command) = (self.pass, self.command);
-        match self.row {
+        match row {
             StoreNumber | StoreNil | StoreMoved { .. } | StoreField { .. } => {
                 answered(Reply::Stored)
             }
@@ -490,6 +511,76 @@ impl FieldPass {
             LoadSaidOwner { .. } => answered(Reply::Val(object_in(read))),
             Answered { reply } => answered(reply),
         }
+    }
+
+    /// One event: `want` and `got` at once, with the operation made by this memory.
+    #[inline(always)]
+    pub fn event<M: Memory>(&mut self, places: &Places, memory: &mut M, shared: &M::Shared) -> Step
+        requires fits { FieldFits places.now self.old }
+        requires may { M.may memory.old shared.now
+            (op_at (extent places.now) (field_want (extent places.now) self.old)) }
+        requires reads { ReadsOnly M.acts memory.old shared.now
+            (op_at (extent places.now) (field_want (extent places.now) self.old))
+            (FieldReads places.now self.old) }
+        ensures acted { ActsOnce M.acts memory.old shared.now
+            (op_at (extent places.now) (field_want (extent places.now) self.old)) memory.new
+            (λ w. (self.new ≡ field_got (extent places.now) self.old w)
+            × (result ≡ field_step (extent places.now) self.old w)) }
+        ensures fits { FieldFits places.now self.new }
+    {
+        use FieldRow::*;
+
+        // The row is made anew in each arm, so that the compiler leads each on its own way.
+        match self.row {
+            StoreNumber => self.makes(StoreNumber, places, memory, shared),
+            StoreNil => self.makes(StoreNil, places, memory, shared),
+            LoadObject => self.makes(LoadObject, places, memory, shared),
+            LoadShape { block } => self.makes(LoadShape { block }, places, memory, shared),
+            LoadValue { way } => self.makes(LoadValue { way }, places, memory, shared),
+            LoadLink { way, word } => self.makes(LoadLink { way, word }, places, memory, shared),
+            LoadField { way } => self.makes(LoadField { way }, places, memory, shared),
+            StoreField { way, word } => {
+                self.makes(StoreField { way, word }, places, memory, shared)
+            }
+            StorePending { word, value } => {
+                self.makes(StorePending { word, value }, places, memory, shared)
+            }
+            LoadOwner { word } => self.makes(LoadOwner { word }, places, memory, shared),
+            LoadMoved => self.makes(LoadMoved, places, memory, shared),
+            StoreMoved { word } => self.makes(StoreMoved { word }, places, memory, shared),
+            Shade { shade, store } => self.makes(Shade { shade, store }, places, memory, shared),
+            LoadFirst => self.makes(LoadFirst, places, memory, shared),
+            LoadSecond { word } => self.makes(LoadSecond { word }, places, memory, shared),
+            row => self.makes(row, places, memory, shared),
+        }
+    }
+
+    // One event at this row, which is the part's.
+    #[inline(always)]
+    fn makes<M: Memory>(
+        &mut self,
+        row: FieldRow,
+        places: &Places,
+        memory: &mut M,
+        shared: &M::Shared,
+    ) -> Step
+        requires row { self.old.row ≡ row }
+        requires fits { FieldFits places.now self.old }
+        requires may { M.may memory.old shared.now
+            (op_at (extent places.now) (field_want (extent places.now) self.old)) }
+        requires reads { ReadsOnly M.acts memory.old shared.now
+            (op_at (extent places.now) (field_want (extent places.now) self.old))
+            (FieldReads places.now self.old) }
+        ensures acted { ActsOnce M.acts memory.old shared.now
+            (op_at (extent places.now) (field_want (extent places.now) self.old)) memory.new
+            (λ w. (self.new ≡ field_got (extent places.now) self.old w)
+            × (result ≡ field_step (extent places.now) self.old w)) }
+        ensures fits { FieldFits places.now self.new }
+    {
+        let word = memory.act(shared, &self.operation(places, row));
+        let next = self.after(places, row, word);
+        self.row = next;
+        step_at(next)
     }
 
     /// Whether the deciding event was made: the one at which the command takes its place among the
