@@ -1,12 +1,13 @@
 //! The part of a thread's work that marks: it scans one grey block, or makes one block grey.
 
-ghost use Rattle.std.specs.Prelude.{◌≡◌, ◌+◌, ◌-◌, ◌^◌, ◌<◌, ◌≤◌, false, IsSome};
+ghost use Rattle.std.specs.Prelude.{◌≡◌, ◌+◌, ◌-◌, ◌^◌, ◌<◌, ◌≤◌, false, if◌then◌else◌, IsSome};
 ghost use Rattle.block_store.specs.Colours as colours;
 ghost use Rattle.block_store.specs.Colours.{colour_of, colour_link, white_word, grey_word};
 ghost use Rattle.block_store.specs.Payloads as words;
 ghost use Rattle.block_store.specs.Payloads.{payload_of, payload_target};
 ghost use Rattle.block_store.specs.Places.{extent, ColourOf, IsBlock};
 ghost use Rattle.heap_machine.specs.Operations.{op_at, CompareExchange};
+ghost use Rattle.heap_machine.specs.Memories.{ReadsOnly, ActsOnce};
 ghost use Rattle.heap_machine.specs.Passes.{IsPass};
 ghost use Rattle.grey_steps.specs.Rows;
 ghost use Rattle.grey_steps.specs.Rows.{GreyState, grey_want, grey_got, grey_step, grey_unit, grey_nothing, grey_over, scanning, shading};
@@ -14,7 +15,7 @@ ghost use Rattle.grey_steps.specs.Fits.{GreyFits, GreyReads};
 
 use crate::GreyRow;
 use block_store::{Colour, Payload, Places, black, colour_word, read_colour, read_payload, white};
-use heap_machine::{Op, Pass, Step};
+use heap_machine::{Memory, Op, Pass, Step};
 use std::marker::Model;
 
 /// Marking, done one event at a time while its thread is inside: a grey list is taken, one block of
@@ -163,6 +164,25 @@ fn after_own(target: u32, head: u64) -> GreyRow
     }
 }
 
+// The step of an event that led to this row.
+#[inline(always)]
+fn step_to(row: GreyRow) -> Step
+    ensures { result ≡ (if grey_over row then Step.Over else Step.Went) }
+{
+    if is_end(row) { Step::Over } else { Step::Went }
+}
+
+// Whether there is no event more at this row.
+#[inline(always)]
+fn is_end(row: GreyRow) -> bool
+    ensures { result ≡ grey_over row }
+{
+    matches!(
+        row,
+        GreyRow::Scanned | GreyRow::NothingGrey | GreyRow::Shaded { .. }
+    )
+}
+
 // A white block becomes grey, in front of the hand.
 fn shading(places: &Places, cycle: u64, target: u32, hand: u32) -> Op
     requires target { IsBlock places.now target }
@@ -252,24 +272,7 @@ impl GreyPass {
         requires { GreyFits places.now self.now }
         ensures { result ≡ op_at (extent places.now) (grey_want self.now) }
     {
-        use GreyRow::*;
-
-        let (thread, cycle) = (self.pass.thread, self.pass.cycle);
-        match self.row {
-            Take { u } => Op::exchange(places.grey_list(list_of(thread, self.pass.threads, u)), 0),
-            Pop { hand } => Op::load(places.colour(hand)),
-            ScanWord { block, j, .. } => Op::load(places.payload(block, j)),
-            Shade { target, hand, .. } | ShadeStored { target, hand } => {
-                shading(places, cycle, target, hand)
-            }
-            Blacken { block, .. } => Op::exchange(places.colour(block), colour_word(black(cycle))),
-            Put { hand } | PutOwn { hand, .. } => Op::exchange(
-                places.grey_list(thread),
-                hand as u64,
-            ),
-            TakeOwn { .. } => Op::exchange(places.grey_list(thread), 0),
-            Scanned | NothingGrey | Shaded { .. } => Op::load(places.phase()),
-        }
+        self.operation(places, self.row)
     }
 
     /// Moves on by one event, whose operation read the word: one that its place can hold. The
@@ -282,8 +285,62 @@ impl GreyPass {
         ensures step { result ≡ grey_step (extent places.now) self.old word }
         ensures fits { GreyFits places.now self.new }
     {
-        self.row = self.after(places, word);
-        if self.over() { Step::Over } else { Step::Went }
+        self.row = self.after(places, self.row, word);
+        step_to(self.row)
+    }
+
+    /// One event: `want` and `got` at once, with the operation made by this memory.
+    #[inline(always)]
+    pub fn event<M: Memory>(&mut self, places: &Places, memory: &mut M, shared: &M::Shared) -> Step
+        requires fits { GreyFits places.now self.old }
+        requires may { M.may memory.old shared.now
+            (op_at (extent places.now) (grey_want self.old)) }
+        requires reads { ReadsOnly M.acts memory.old shared.now
+            (op_at (extent places.now) (grey_want self.old)) (GreyReads places.now self.old) }
+        ensures acted { ActsOnce M.acts memory.old shared.now
+            (op_at (extent places.now) (grey_want self.old)) memory.new
+            (λ w. (self.new ≡ grey_got (extent places.now) self.old w)
+            × (result ≡ grey_step (extent places.now) self.old w)) }
+        ensures fits { GreyFits places.now self.new }
+    {
+        use GreyRow::*;
+
+        // The row is made anew in each arm, so that the compiler leads each on its own way.
+        match self.row {
+            ScanWord { block, j, hand } => {
+                self.makes(ScanWord { block, j, hand }, places, memory, shared)
+            }
+            Shade {
+                block,
+                j,
+                target,
+                hand,
+            } => self.makes(
+                Shade {
+                    block,
+                    j,
+                    target,
+                    hand,
+                },
+                places,
+                memory,
+                shared,
+            ),
+            Take { u } => self.makes(Take { u }, places, memory, shared),
+            Pop { hand } => self.makes(Pop { hand }, places, memory, shared),
+            Blacken { block, hand } => {
+                self.makes(Blacken { block, hand }, places, memory, shared)
+            }
+            Put { hand } => self.makes(Put { hand }, places, memory, shared),
+            TakeOwn { target } => self.makes(TakeOwn { target }, places, memory, shared),
+            ShadeStored { target, hand } => {
+                self.makes(ShadeStored { target, hand }, places, memory, shared)
+            }
+            PutOwn { target, hand } => {
+                self.makes(PutOwn { target, hand }, places, memory, shared)
+            }
+            row => self.makes(row, places, memory, shared),
+        }
     }
 
     /// Whether the part has made a block black; it stays so from that event on.
@@ -300,8 +357,37 @@ impl GreyPass {
         matches!(self.row, GreyRow::NothingGrey)
     }
 
-    // The row after one event, whose operation read the word.
-    fn after(&self, places: &Places, read: u64) -> GreyRow
+    // The operation of this row, which is the part's.
+    #[inline(always)]
+    fn operation(&self, places: &Places, row: GreyRow) -> Op
+        requires row { self.now.row ≡ row }
+        requires fits { GreyFits places.now self.now }
+        ensures { result ≡ op_at (extent places.now) (grey_want self.now) }
+    {
+        use GreyRow::*;
+
+        let (thread, cycle) = (self.pass.thread, self.pass.cycle);
+        match row {
+            Take { u } => Op::exchange(places.grey_list(list_of(thread, self.pass.threads, u)), 0),
+            Pop { hand } => Op::load(places.colour(hand)),
+            ScanWord { block, j, .. } => Op::load(places.payload(block, j)),
+            Shade { target, hand, .. } | ShadeStored { target, hand } => {
+                shading(places, cycle, target, hand)
+            }
+            Blacken { block, .. } => Op::exchange(places.colour(block), colour_word(black(cycle))),
+            Put { hand } | PutOwn { hand, .. } => Op::exchange(
+                places.grey_list(thread),
+                hand as u64,
+            ),
+            TakeOwn { .. } => Op::exchange(places.grey_list(thread), 0),
+            Scanned | NothingGrey | Shaded { .. } => Op::load(places.phase()),
+        }
+    }
+
+    // The row after one event at this row, which is the part's, where the operation read the word.
+    #[inline(always)]
+    fn after(&self, places: &Places, row: GreyRow, read: u64) -> GreyRow
+        requires row { self.now.row ≡ row }
         requires fits { GreyFits places.now self.now }
         requires word { GreyReads places.now self.now read }
         ensures { result ≡ (grey_got (extent places.now) self.now read).row }
@@ -310,7 +396,7 @@ impl GreyPass {
 
         let cycle = self.pass.cycle;
         let width = places.width().payloads();
-        match self.row {
+        match row {
             Take { u } => after_take(self.pass.threads, u, read),
             Pop { hand } => begin(hand, link_in(read)),
             ScanWord { block, j, hand } => after_scan(width, block, j, hand, target_of(read)),
@@ -331,13 +417,38 @@ impl GreyPass {
         }
     }
 
+    // The event of this row, which is the part's.
+    #[inline(always)]
+    #[tactic(auto, using(crate::proofs::Ranges::next_fits))]
+    fn makes<M: Memory>(
+        &mut self,
+        row: GreyRow,
+        places: &Places,
+        memory: &mut M,
+        shared: &M::Shared,
+    ) -> Step
+        requires row { self.old.row ≡ row }
+        requires fits { GreyFits places.now self.old }
+        requires may { M.may memory.old shared.now
+            (op_at (extent places.now) (grey_want self.old)) }
+        requires reads { ReadsOnly M.acts memory.old shared.now
+            (op_at (extent places.now) (grey_want self.old)) (GreyReads places.now self.old) }
+        ensures acted { ActsOnce M.acts memory.old shared.now
+            (op_at (extent places.now) (grey_want self.old)) memory.new
+            (λ w. (self.new ≡ grey_got (extent places.now) self.old w)
+            × (result ≡ grey_step (extent places.now) self.old w)) }
+        ensures fits { GreyFits places.now self.new }
+    {
+        let word = memory.act(shared, &self.operation(places, row));
+        let next = self.after(places, row, word);
+        self.row = next;
+        step_to(next)
+    }
+
     /// Whether there is no event more.
     pub fn over(&self) -> bool
         ensures { result ≡ grey_over self.now.row }
     {
-        matches!(
-            self.row,
-            GreyRow::Scanned | GreyRow::NothingGrey | GreyRow::Shaded { .. }
-        )
+        is_end(self.row)
     }
 }
