@@ -7,10 +7,11 @@ ghost use Rattle.block_store.specs.Places.{extent, index, PayloadOf, IsBlock};
 ghost use Rattle.block_store.specs.Payloads as words;
 ghost use Rattle.block_store.specs.Widths.{payloads};
 ghost use Rattle.heap_machine.specs.Operations.{op_at};
+ghost use Rattle.heap_machine.specs.Memories.{ReadsOnly, ActsOnce};
 ghost use Rattle.never_heap.specs.Bounds.{IsCommandInRange};
 ghost use Rattle.never_heap.specs.Steps.{makes_object, blocks_of};
 ghost use Rattle.build_steps.specs.Rows;
-ghost use Rattle.build_steps.specs.Rows.{BuildState, build_want, build_got, build_step, build_reply, building, built_at, built_owner, built_payload, held_got, row_got, made_place};
+ghost use Rattle.build_steps.specs.Rows.{BuildState, build_want, build_got, build_step, build_reply, building, built_at, built_owner, built_payload, held_got, row_want, row_got, row_step, made_place};
 ghost use Rattle.build_steps.specs.Fits.{BuildFits, BuildReads, IsOrdinal};
 
 use crate::BuildRow;
@@ -19,7 +20,7 @@ use block_store::{
     Colour, Name, Owner, Payload, Places, Width, black, colour_word, owner_word, payload_word,
     read_colour,
 };
-use heap_machine::{Op, Step};
+use heap_machine::{Memory, Op, Step};
 use never_heap::{Command, Reply};
 use std::marker::Model;
 
@@ -224,44 +225,12 @@ impl BuildPass {
         requires { BuildFits places.now self.now }
         ensures { result ≡ op_at (extent places.now) (build_want (extent places.now) self.now) }
     {
-        use BuildRow::*;
-
-        match self.row {
-            ReadCount => Op::load(places.free_count()),
-            Reserve { seen } => {
-                let rest = seen - self.blocks as u64;
-                Op::compare_exchange(places.free_count(), seen, rest)
-            }
-            TakeFree { u } => {
-                Op::exchange(places.free_list(list_of(self.thread, self.threads, u)), 0)
-            }
-            Collect { hand, .. } => Op::load(places.colour(hand)),
-            PutRest { hand } => Op::exchange(places.free_list(self.thread), hand as u64),
-            WriteOwner { ordinal } => {
-                Op::exchange(places.owner(self.block(ordinal)), self.owner(ordinal))
-            }
-            WriteShape { ordinal } => {
-                Op::exchange(places.shape(self.block(ordinal)), made_shape(self.command))
-            }
-            WritePayload { ordinal, j } => Op::exchange(
-                places.payload(self.block(ordinal), j),
-                self.payload(places, ordinal, j),
-            ),
-            WriteColour { ordinal } => {
-                Op::exchange(
-                    places.colour(self.block(ordinal)),
-                    colour_word(black(self.cycle)),
-                )
-            }
-            Publish => Op::exchange(self.register(places), self.reference(0)),
-            Built | Refused => Op::load(places.phase()),
-        }
+        self.operation(places, self.row)
     }
 
     /// Moves on by one event, whose operation read the word: one that its place can hold. The
     /// places are those that `want` was given. A part that is over stays as it is.
     #[inline(never)]
-    #[tactic(auto, using(crate::proofs::Ranges::fits_next))]
     pub fn got(&mut self, places: &Places, word: u64) -> Step
         requires fits { BuildFits places.now self.old }
         requires word { BuildReads places.now self.old word }
@@ -269,13 +238,43 @@ impl BuildPass {
         ensures step { result ≡ build_step self.old word }
         ensures fits { BuildFits places.now self.new }
     {
-        let step = self.step(places, word);
-        let row = self.after(places, word);
-        if let BuildRow::Collect { hand, .. } = self.row {
-            self.room.push_reserved(hand);
+        self.moves(self.row, places, word)
+    }
+
+    /// One event: `want` and `got` at once, with the operation made by this memory.
+    #[inline(always)]
+    pub fn event<M: Memory>(&mut self, places: &Places, memory: &mut M, shared: &M::Shared) -> Step
+        requires fits { BuildFits places.now self.old }
+        requires may { M.may memory.old shared.now
+            (op_at (extent places.now) (build_want (extent places.now) self.old)) }
+        requires reads { ReadsOnly M.acts memory.old shared.now
+            (op_at (extent places.now) (build_want (extent places.now) self.old))
+            (BuildReads places.now self.old) }
+        ensures acted { ActsOnce M.acts memory.old shared.now
+            (op_at (extent places.now) (build_want (extent places.now) self.old)) memory.new
+            (λ w. (self.new ≡ build_got (extent places.now) self.old w)
+            × (result ≡ build_step self.old w)) }
+        ensures fits { BuildFits places.now self.new }
+    {
+        use BuildRow::*;
+
+        // The row is made anew in each arm, so that the compiler leads each on its own way.
+        match self.row {
+            WritePayload { ordinal, j } => {
+                self.makes(WritePayload { ordinal, j }, places, memory, shared)
+            }
+            WriteOwner { ordinal } => self.makes(WriteOwner { ordinal }, places, memory, shared),
+            WriteShape { ordinal } => self.makes(WriteShape { ordinal }, places, memory, shared),
+            WriteColour { ordinal } => self.makes(WriteColour { ordinal }, places, memory, shared),
+            Collect { hand, u } => self.makes(Collect { hand, u }, places, memory, shared),
+            ReadCount => self.makes(ReadCount, places, memory, shared),
+            Reserve { seen } => self.makes(Reserve { seen }, places, memory, shared),
+            TakeFree { u } => self.makes(TakeFree { u }, places, memory, shared),
+            PutRest { hand } => self.makes(PutRest { hand }, places, memory, shared),
+            Publish => self.makes(Publish, places, memory, shared),
+            Built => self.makes(Built, places, memory, shared),
+            Refused => self.makes(Refused, places, memory, shared),
         }
-        self.row = row;
-        step
     }
 
     /// What the command answers, once that is decided: that the object was made, or that too few
@@ -367,16 +366,105 @@ impl BuildPass {
         places.payload(block, slot)
     }
 
-    // The row after one event, whose operation read the word.
-    fn after(&self, places: &Places, read: u64) -> BuildRow
+    // The operation of this row, which is the part's.
+    #[inline(always)]
+    fn operation(&self, places: &Places, row: BuildRow) -> Op
         requires fits { BuildFits places.now self.now }
+        requires row { self.now.row ≡ row }
+        ensures { result ≡ op_at (extent places.now) (row_want places.now.width self.now row) }
+    {
+        use BuildRow::*;
+
+        match row {
+            ReadCount => Op::load(places.free_count()),
+            Reserve { seen } => {
+                let rest = seen - self.blocks as u64;
+                Op::compare_exchange(places.free_count(), seen, rest)
+            }
+            TakeFree { u } => {
+                Op::exchange(places.free_list(list_of(self.thread, self.threads, u)), 0)
+            }
+            Collect { hand, .. } => Op::load(places.colour(hand)),
+            PutRest { hand } => Op::exchange(places.free_list(self.thread), hand as u64),
+            WriteOwner { ordinal } => {
+                Op::exchange(places.owner(self.block(ordinal)), self.owner(ordinal))
+            }
+            WriteShape { ordinal } => {
+                Op::exchange(places.shape(self.block(ordinal)), made_shape(self.command))
+            }
+            WritePayload { ordinal, j } => Op::exchange(
+                places.payload(self.block(ordinal), j),
+                self.payload(places, ordinal, j),
+            ),
+            WriteColour { ordinal } => {
+                Op::exchange(
+                    places.colour(self.block(ordinal)),
+                    colour_word(black(self.cycle)),
+                )
+            }
+            Publish => Op::exchange(self.register(places), self.reference(0)),
+            Built | Refused => Op::load(places.phase()),
+        }
+    }
+
+    // One event at this row, which is the part's.
+    #[inline(always)]
+    fn makes<M: Memory>(
+        &mut self,
+        row: BuildRow,
+        places: &Places,
+        memory: &mut M,
+        shared: &M::Shared,
+    ) -> Step
+        requires fits { BuildFits places.now self.old }
+        requires row { self.old.row ≡ row }
+        requires may { M.may memory.old shared.now
+            (op_at (extent places.now) (build_want (extent places.now) self.old)) }
+        requires reads { ReadsOnly M.acts memory.old shared.now
+            (op_at (extent places.now) (build_want (extent places.now) self.old))
+            (BuildReads places.now self.old) }
+        ensures acted { ActsOnce M.acts memory.old shared.now
+            (op_at (extent places.now) (build_want (extent places.now) self.old)) memory.new
+            (λ w. (self.new ≡ build_got (extent places.now) self.old w)
+            × (result ≡ build_step self.old w)) }
+        ensures fits { BuildFits places.now self.new }
+    {
+        let word = memory.act(shared, &self.operation(places, row));
+        self.moves(row, places, word)
+    }
+
+    // Moves on from this row, which is the part's, and of which the operation read the word.
+    #[inline(always)]
+    #[tactic(auto, using(crate::proofs::Ranges::fits_next))]
+    fn moves(&mut self, row: BuildRow, places: &Places, word: u64) -> Step
+        requires fits { BuildFits places.now self.old }
+        requires row { self.old.row ≡ row }
+        requires word { BuildReads places.now self.old word }
+        ensures state { self.new ≡ build_got (extent places.now) self.old word }
+        ensures step { result ≡ build_step self.old word }
+        ensures fits { BuildFits places.now self.new }
+    {
+        let step = self.step(places, row, word);
+        let next = self.after(places, row, word);
+        if let BuildRow::Collect { hand, .. } = row {
+            self.room.push_reserved(hand);
+        }
+        self.row = next;
+        step
+    }
+
+    // The row after the event of this row, which is the part's, where it read the word.
+    #[inline(always)]
+    fn after(&self, places: &Places, row: BuildRow, read: u64) -> BuildRow
+        requires fits { BuildFits places.now self.now }
+        requires row { self.now.row ≡ row }
         requires word { BuildReads places.now self.now read }
-        ensures { result ≡ row_got places.now.width self.now self.now.row read }
+        ensures { result ≡ row_got places.now.width self.now row read }
     {
         use BuildRow::*;
 
         let width = places.width().payloads();
-        match self.row {
+        match row {
             ReadCount => after_count(self.blocks, read),
             Reserve { seen } => after_reserve(seen, read),
             TakeFree { u } => after_take(self.threads, u, read),
@@ -396,15 +484,17 @@ impl BuildPass {
         }
     }
 
-    // What an event is that reads the word.
-    fn step(&self, places: &Places, read: u64) -> Step
-        requires { BuildFits places.now self.now }
-        ensures { result ≡ build_step self.now read }
+    // What the event of this row is, which is the part's, where it reads the word.
+    #[inline(always)]
+    fn step(&self, places: &Places, row: BuildRow, read: u64) -> Step
+        requires fits { BuildFits places.now self.now }
+        requires row { self.now.row ≡ row }
+        ensures { result ≡ row_step self.now row read }
     {
         use BuildRow::*;
 
         let _places = places;
-        match self.row {
+        match row {
             ReadCount if read < self.blocks as u64 => Step::Over,
             Reserve { seen } if read != seen => Step::Waited,
             TakeFree { u } if read == 0 && u + 1 >= self.threads => Step::Waited,
