@@ -366,6 +366,16 @@ impl Local {
         }
     }
 
+    /// The place of the thread's next event is one of the heap's words. It does nothing: what the
+    /// one who has the memory of an `event` is to know of it is the contract.
+    #[inline(always)]
+    #[tactic(auto, using(crate::proofs::Wanted::want_low))]
+    pub fn wants_a_word(&self)
+        ensures { op_place (op_wanted self.now) < words_count (extent self.now.config) }
+    {
+        let _part = &self.part;
+    }
+
     /// Moves on by one event, whose operation read the word. The thread is not done, and the word
     /// is one that its row may read: on the way in a phase word of cycle 1 or later, and of none
     /// before the one that the thread entered last.
