@@ -8,7 +8,9 @@ ghost use Rattle.rate_plan.specs.Rates.{IsRate, IsAdmitted};
 ghost use Rattle.never_heap.specs.Steps.{makes_object, blocks_of};
 ghost use Rattle.work_account.specs.Accounts.{entered};
 ghost use Rattle.heap_machine.specs.Memories.{ReadsOnly, ActsOnce};
-ghost use Rattle.heap_machine.specs.Operations.{op_at, op_place};
+ghost use Rattle.heap_machine.specs.Gates.{gate_want, gate_got, gate_step, GateAt};
+ghost use Rattle.heap_machine.specs.Operations.{op_at, op_place, place_of};
+ghost use Rattle.heap_machine.specs.Readings.{CanHold};
 ghost use Rattle.heap_machine.specs.Passes.{IsPass};
 ghost use Rattle.never_heap.specs.Jobs.{IsTraceInBounds};
 ghost use Rattle.heap_machine.specs.declared.gate.GateRow.{GateRow};
@@ -55,6 +57,28 @@ pub enum Part {
     TurnOver(Gate),
     /// On its way out, with its command in the log.
     Leave,
+}
+
+// A memory that answers one word, whatever is asked of it.
+#[derive(Drop)]
+struct Given {
+    word: u64,
+}
+
+impl Memory for Given {
+    ghost use Rattle.std.specs.Prelude.{◌≡◌};
+
+    type Shared = ();
+
+    ghost may = { λ given none op. Unit {0} };
+
+    ghost acts = { λ given none op word after. word ≡ given.word };
+
+    #[inline(always)]
+    fn act(&mut self, shared: &(), op: &Op) -> u64 {
+        let (_shared, _op) = (shared, op);
+        self.word
+    }
 }
 
 /// A thread's whole state: its commands, the entries of those that are done, and where it is in the
@@ -207,6 +231,30 @@ fn turning(pass: Pass) -> Gate
     ensures { result ≡ GateRow.CloseLook pass }
 {
     Gate::turn_over(pass.thread, pass.threads, pass.cycle, pass.sweep)
+}
+
+// An event of a part that turns the phase over, which comes once in many commands.
+#[inline(never)]
+fn turns_over<M: Memory>(
+    gate: &mut Gate,
+    places: &Places,
+    memory: &mut M,
+    shared: &M::Shared,
+) -> Step
+    requires places { GateAt places.now gate.old }
+    requires may { M.may memory.old shared.now
+        (op_at (extent places.now) (gate_want places.now.width gate.old)) }
+    requires reads { ReadsOnly M.acts memory.old shared.now
+        (op_at (extent places.now) (gate_want places.now.width gate.old))
+        (CanHold (extent places.now) (place_of (gate_want places.now.width gate.old))) }
+    ensures acted { ActsOnce M.acts memory.old shared.now
+        (op_at (extent places.now) (gate_want places.now.width gate.old)) memory.new
+        (λ w. (gate.new ≡ gate_got places.now.width gate.old w)
+        × (result ≡ gate_step gate.old w)) }
+    ensures places { GateAt places.now gate.new }
+{
+    let word = memory.act(shared, &gate.want(places));
+    gate.got(places, word)
 }
 
 // How many objects are made after this reply.
@@ -379,25 +427,13 @@ impl Local {
     /// Moves on by one event, whose operation read the word. The thread is not done, and the word
     /// is one that its row may read: on the way in a phase word of cycle 1 or later, and of none
     /// before the one that the thread entered last.
-    #[inline(always)]
     pub fn got(&mut self, word: u64) -> Turn
         requires open { is_done self.old ≡ false }
         requires word { LocalReads self.old.config self.old word }
         ensures local { self.new ≡ local_got self.old word }
         ensures turn { result ≡ turn_of (part_step self.old.config self.old.part word) }
     {
-        match &self.part {
-            Part::Rest => self.at_gate(word),
-            Part::Enter(_) => self.at_gate(word),
-            Part::TurnOver(_) => self.at_gate(word),
-            Part::Serve(_) => self.in_command(word),
-            Part::Build(_) => self.in_command(word),
-            Part::Mark(_) => self.marks(word),
-            Part::Sweep(_) => self.sweeps(word),
-            Part::Again => self.out(word),
-            Part::Idle => self.out(word),
-            Part::Leave => self.out(word),
-        }
+        self.event(&mut Given { word }, &())
     }
 
     /// Makes the thread's next event by this memory: `want`, the operation and `got` at once. The
@@ -411,27 +447,42 @@ impl Local {
         ensures { ActsOnce M.acts memory.old shared.now (op_wanted self.old) memory.new
             (λ w. HasGot self.old w self.new result) }
     {
-        let word = memory.act(shared, &self.want());
-        self.got(word)
+        match &self.part {
+            Part::Rest => self.at_gate(memory, shared),
+            Part::Enter(_) => self.at_gate(memory, shared),
+            Part::TurnOver(_) => self.at_gate(memory, shared),
+            Part::Serve(_) => self.in_command(memory, shared),
+            Part::Build(_) => self.in_command(memory, shared),
+            Part::Mark(_) => self.marks(memory, shared),
+            Part::Sweep(_) => self.sweeps(memory, shared),
+            Part::Again => self.out(memory, shared),
+            Part::Idle => self.out(memory, shared),
+            Part::Leave => self.out(memory, shared),
+        }
     }
 
-    // `got`, of a part outside. Before a method is called on `self` the part is put at rest, so
+    // `event`, of a part outside. Before a method is called on `self` the part is put at rest, so
     // that it may be any; and no arm makes a part, a gate or a pass before it puts it in its place.
     #[inline(always)]
-    #[tactic(auto, using(crate::proofs::Paying::turns_on))]
-    fn at_gate(&mut self, word: u64) -> Turn
+    #[tactic(auto, using(crate::proofs::Paying::turns_on, crate::proofs::Paying::going_at))]
+    fn at_gate<M: Memory>(&mut self, memory: &mut M, shared: &M::Shared) -> Turn
         requires part { is_at_gate self.old.part ≡ true }
         requires open { is_done self.old ≡ false }
-        requires word { LocalReads self.old.config self.old word }
-        ensures { HasGot self.old word self.new result }
+        requires may { M.may memory.old shared.now (op_wanted self.old) }
+        requires reads { ReadsOnly M.acts memory.old shared.now (op_wanted self.old)
+            (LocalReads self.old.config self.old) }
+        ensures { ActsOnce M.acts memory.old shared.now (op_wanted self.old) memory.new
+            (λ w. HasGot self.old w self.new result) }
     {
+        let places = Places::new(&self.config);
         match &mut self.part {
             Part::Rest => {
+                let word = memory.act(shared, &Op::load(places.phase()));
                 self.part = Part::Enter(Gate::after_look(word));
                 turn_after(Gate::look_step(word))
             }
             Part::Enter(gate) => {
-                let turn = turn_after(gate.got_in(word));
+                let turn = turn_after(gate.event_in(&places, memory, shared));
                 match gate.entered() {
                     Some(phase) => {
                         self.part = Part::Rest;
@@ -442,7 +493,7 @@ impl Local {
                 }
             }
             Part::TurnOver(gate) => {
-                let step = gate.got(&Places::new(&self.config), word);
+                let step = turns_over(gate, &places, memory, shared);
                 if is_last(step) {
                     self.part = Part::Enter(Gate::enter());
                     turn_after(step)
@@ -454,17 +505,20 @@ impl Local {
         }
     }
 
-    // `got`, of a part that does the command.
+    // `event`, of a part that does the command.
     #[inline(always)]
-    fn in_command(&mut self, word: u64) -> Turn
+    fn in_command<M: Memory>(&mut self, memory: &mut M, shared: &M::Shared) -> Turn
         requires part { is_in_command self.old.part ≡ true }
-        requires word { LocalReads self.old.config self.old word }
-        ensures { HasGot self.old word self.new result }
+        requires may { M.may memory.old shared.now (op_wanted self.old) }
+        requires reads { ReadsOnly M.acts memory.old shared.now (op_wanted self.old)
+            (LocalReads self.old.config self.old) }
+        ensures { ActsOnce M.acts memory.old shared.now (op_wanted self.old) memory.new
+            (λ w. HasGot self.old w self.new result) }
     {
         let places = Places::new(&self.config);
         match &mut self.part {
             Part::Serve(pass) => {
-                let turn = turn_after(pass.got(&places, word));
+                let turn = turn_after(pass.event(&places, memory, shared));
                 match pass.reply() {
                     Some(reply) => {
                         self.part = Part::Rest;
@@ -475,7 +529,7 @@ impl Local {
                 }
             }
             Part::Build(pass) => {
-                let turn = turn_after(pass.got(&places, word));
+                let turn = turn_after(pass.event(&places, memory, shared));
                 match pass.reply() {
                     Some(reply) => {
                         self.built(reply);
@@ -488,19 +542,22 @@ impl Local {
         }
     }
 
-    // `got`, of a part that marks.
+    // `event`, of a part that marks.
     #[inline(always)]
     #[tactic(auto, using(crate::proofs::Paying::unit_is_new))]
-    fn marks(&mut self, word: u64) -> Turn
+    fn marks<M: Memory>(&mut self, memory: &mut M, shared: &M::Shared) -> Turn
         requires part { is_marking self.old.part ≡ true }
-        requires word { LocalReads self.old.config self.old word }
-        ensures { HasGot self.old word self.new result }
+        requires may { M.may memory.old shared.now (op_wanted self.old) }
+        requires reads { ReadsOnly M.acts memory.old shared.now (op_wanted self.old)
+            (LocalReads self.old.config self.old) }
+        ensures { ActsOnce M.acts memory.old shared.now (op_wanted self.old) memory.new
+            (λ w. HasGot self.old w self.new result) }
     {
         let places = Places::new(&self.config);
         match &mut self.part {
             Part::Mark(pass) => {
                 let unit = pass.unit();
-                let step = pass.got(&places, word);
+                let step = pass.event(&places, memory, shared);
                 count(&mut self.account, is_new(pass.unit(), unit));
                 if is_last(step) {
                     self.part = after_pass(pass.nothing());
@@ -513,19 +570,22 @@ impl Local {
         }
     }
 
-    // `got`, of a part that sweeps.
+    // `event`, of a part that sweeps.
     #[inline(always)]
     #[tactic(auto, using(crate::proofs::Paying::passed_more, crate::proofs::Paying::swept_last))]
-    fn sweeps(&mut self, word: u64) -> Turn
+    fn sweeps<M: Memory>(&mut self, memory: &mut M, shared: &M::Shared) -> Turn
         requires part { is_sweeping self.old.part ≡ true }
-        requires word { LocalReads self.old.config self.old word }
-        ensures { HasGot self.old word self.new result }
+        requires may { M.may memory.old shared.now (op_wanted self.old) }
+        requires reads { ReadsOnly M.acts memory.old shared.now (op_wanted self.old)
+            (LocalReads self.old.config self.old) }
+        ensures { ActsOnce M.acts memory.old shared.now (op_wanted self.old) memory.new
+            (λ w. HasGot self.old w self.new result) }
     {
         let places = Places::new(&self.config);
         match &mut self.part {
             Part::Sweep(pass) => {
                 let passed = pass.passed();
-                let step = pass.got(&places, word);
+                let step = pass.event(&places, memory, shared);
                 count(&mut self.account, pass.passed() > passed);
                 if is_last(step) {
                     self.part = after_pass(pass.nothing());
@@ -538,13 +598,16 @@ impl Local {
         }
     }
 
-    // `got`, of a part on its way out.
+    // `event`, of a part on its way out.
     #[inline(always)]
-    fn out(&mut self, word: u64) -> Turn
+    fn out<M: Memory>(&mut self, memory: &mut M, shared: &M::Shared) -> Turn
         requires part { is_on_way_out self.old.part ≡ true }
-        ensures { HasGot self.old word self.new result }
+        requires may { M.may memory.old shared.now (op_wanted self.old) }
+        ensures { ActsOnce M.acts memory.old shared.now (op_wanted self.old) memory.new
+            (λ w. HasGot self.old w self.new result) }
     {
-        let _word = word;
+        let place = Places::new(&self.config).phase();
+        memory.act(shared, &Op::FetchSub { place, by: 1 });
         match self.part {
             Part::Again => {
                 self.part = Part::Enter(Gate::enter());
