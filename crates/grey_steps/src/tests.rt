@@ -1,8 +1,8 @@
 //! Scans and shades done by hand on the words of a heap with two threads, in cycle 1.
 
 use crate::*;
-use block_store::{Config, Places, Width};
-use heap_machine::{Op, Step};
+use block_store::{Config, OutOfMemory, Places, Width};
+use heap_machine::{Op, Step, Words};
 
 const SMALL: Config = Config {
     width: Width::Four,
@@ -13,10 +13,12 @@ const SMALL: Config = Config {
     shared: 5,
 };
 
-// A white block, a black one, and grey ones behind which block 6, 9 or 13 stands.
+// A white block, a black one, and grey ones behind which no block, or 6, 9 or 13 stands.
 const WHITE: u64 = 1;
 
 const BLACK: u64 = 2;
+
+const GREY: u64 = 3;
 
 const GREY_TO_6: u64 = 51;
 
@@ -103,4 +105,35 @@ fn a_block_is_shaded(rt: HostRuntime) {
     let mut again = GreyPass::shade(1, 2, 1, 12);
     assert_eq!(rt; again.got(&places, 0), Step::Went);
     assert_eq!(rt; again.got(&places, GREY_TO_9), Step::Over);
+}
+
+// Block 1 is shaded by events on the words of the heap up to its colour, and by hand on a copy.
+#[test]
+#[tactic(auto, unfolding(block_store::specs::Colours::grey_word, block_store::specs::Colours::white_word, block_store::specs::Colours::colour_of, block_store::specs::Colours::link))]
+fn an_event_is_want_act_and_got(rt: HostRuntime) -> Result<(), OutOfMemory> {
+    let places = Places::new(&SMALL);
+    let mut words = Words::zeroed(rt.alloc(), 8)?;
+    words.put(places.colour(1), WHITE);
+    let mut copy = Words::zeroed(rt.alloc(), 8)?;
+    copy.put(places.colour(1), WHITE);
+    let mut shade = GreyPass::shade(1, 2, 1, 1);
+    let mut by_hand = GreyPass::shade(1, 2, 1, 1);
+    assert_eq!(rt; shade.event(&places, &mut words, &()), Step::Went);
+    let head = copy.act(&by_hand.want(&places));
+    assert_eq!(rt; by_hand.got(&places, head), Step::Went);
+    assert_eq!(rt; shade.row(), by_hand.row());
+    assert_eq!(rt; shade.event(&places, &mut words, &()), Step::Went);
+    let colour = copy.act(&by_hand.want(&places));
+    assert_eq!(rt; by_hand.got(&places, colour), Step::Went);
+    assert_eq!(rt; shade.row(), by_hand.row());
+    assert_eq!(rt; words.word(places.colour(1)), GREY);
+    assert_eq!(rt; copy.word(places.colour(1)), GREY);
+    assert_eq!(rt; shade.event(&places, &mut words, &()), Step::Over);
+    let list = copy.act(&by_hand.want(&places));
+    assert_eq!(rt; by_hand.got(&places, list), Step::Over);
+    assert_eq!(rt; shade.row(), GreyRow::Shaded { target: 1 });
+    assert_eq!(rt; by_hand.row(), GreyRow::Shaded { target: 1 });
+    assert_eq!(rt; words.word(places.grey_list(1)), 1);
+    assert_eq!(rt; copy.word(places.grey_list(1)), 1);
+    Ok(())
 }
