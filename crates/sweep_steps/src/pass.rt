@@ -3,13 +3,14 @@
 ghost use Rattle.std.specs.Prelude.{◌≡◌, ◌+◌, ◌-◌, ◌^◌, ◌<◌, ◌≤◌};
 ghost use Rattle.block_store.specs.Places.{extent, FreeCount};
 ghost use Rattle.heap_machine.specs.Operations.{op_at, FetchAdd};
+ghost use Rattle.heap_machine.specs.Memories.{ReadsOnly, ActsOnce};
 ghost use Rattle.sweep_steps.specs.Rows;
-ghost use Rattle.sweep_steps.specs.Rows.{SweepState, sweep_want, sweep_got, sweep_step, sweep_unit, sweep_passed, sweep_nothing, step_to, sweeping};
+ghost use Rattle.sweep_steps.specs.Rows.{SweepState, sweep_want, sweep_got, sweep_step, sweep_unit, sweep_passed, sweep_nothing, sweeping};
 ghost use Rattle.sweep_steps.specs.Fits.{SweepFits, SweepReads};
 
 use crate::SweepRow;
 use block_store::{Colour, Places, colour_word, white};
-use heap_machine::{Op, Step};
+use heap_machine::{Memory, Op, Step};
 use std::marker::Model;
 
 // The most blocks that are claimed at once.
@@ -148,6 +149,19 @@ fn credit(places: &Places, freed: u32) -> Op
     }
 }
 
+// What the event was that led to this row.
+fn step_to(row: SweepRow) -> Step
+    ensures { result ≡ Rows.step_to row }
+{
+    match row {
+        SweepRow::ReadCursor => Step::Waited,
+        SweepRow::Swept { .. } | SweepRow::NothingLeft => Step::Over,
+        SweepRow::ClaimRange { .. } | SweepRow::PassBlock { .. } => Step::Went,
+        SweepRow::TakeFree { .. } | SweepRow::FreeBlock { .. } => Step::Went,
+        SweepRow::PutFree { .. } | SweepRow::Credit { .. } => Step::Went,
+    }
+}
+
 impl SweepPass {
     /// The part that claims a range of blocks and passes them, for the thread of this number below
     /// 16, which is inside in the Sweep phase of this cycle, 1 to 2^54 − 2. The heap has `blocks`
@@ -177,22 +191,7 @@ impl SweepPass {
         requires { SweepFits places.now self.now }
         ensures { result ≡ op_at (extent places.now) (sweep_want self.now) }
     {
-        use SweepRow::*;
-
-        match self.row {
-            ReadCursor => Op::load(places.cursor()),
-            ClaimRange { block, end } => {
-                Op::compare_exchange(places.cursor(), block as u64, end as u64)
-            }
-            PassBlock { block, .. } => Op::load(places.colour(block)),
-            TakeFree { .. } => Op::exchange(places.free_list(self.thread), 0),
-            FreeBlock { block, hand, .. } => {
-                Op::exchange(places.colour(block), colour_word(Colour::Free(hand)))
-            }
-            PutFree { hand, .. } => Op::exchange(places.free_list(self.thread), hand as u64),
-            Credit { freed, .. } => credit(places, freed),
-            Swept { .. } | NothingLeft => Op::load(places.phase()),
-        }
+        self.operation(places, self.row)
     }
 
     /// Moves on by one event, whose operation read the word: one that its place can hold. The
@@ -206,8 +205,64 @@ impl SweepPass {
         ensures step { result ≡ sweep_step self.old word }
         ensures fits { SweepFits places.now self.new }
     {
-        self.row = self.after(places, word);
-        self.step()
+        let next = self.after(places, self.row, word);
+        self.row = next;
+        step_to(next)
+    }
+
+    /// One event: `want` and `got` at once, with the operation made by this memory.
+    #[inline(always)]
+    pub fn event<M: Memory>(&mut self, places: &Places, memory: &mut M, shared: &M::Shared) -> Step
+        requires fits { SweepFits places.now self.old }
+        requires may { M.may memory.old shared.now
+            (op_at (extent places.now) (sweep_want self.old)) }
+        requires reads { ReadsOnly M.acts memory.old shared.now
+            (op_at (extent places.now) (sweep_want self.old)) (SweepReads places.now self.old) }
+        ensures acted { ActsOnce M.acts memory.old shared.now
+            (op_at (extent places.now) (sweep_want self.old)) memory.new
+            (λ w. (self.new ≡ sweep_got self.old w) × (result ≡ sweep_step self.old w)) }
+        ensures fits { SweepFits places.now self.new }
+    {
+        use SweepRow::*;
+
+        // Each row has an arm, so that the compiler leads each on its own way.
+        match self.row {
+            row @ PassBlock { .. } => self.makes(row, places, memory, shared),
+            row @ FreeBlock { .. } => self.makes(row, places, memory, shared),
+            row @ ReadCursor => self.makes(row, places, memory, shared),
+            row @ ClaimRange { .. } => self.makes(row, places, memory, shared),
+            row @ TakeFree { .. } => self.makes(row, places, memory, shared),
+            row @ PutFree { .. } => self.makes(row, places, memory, shared),
+            row @ Credit { .. } => self.makes(row, places, memory, shared),
+            row => self.makes(row, places, memory, shared),
+        }
+    }
+
+    // One event at this row, which is the part's.
+    #[inline(always)]
+    #[tactic(auto, using(crate::proofs::Ranges::fits_next))]
+    fn makes<M: Memory>(
+        &mut self,
+        row: SweepRow,
+        places: &Places,
+        memory: &mut M,
+        shared: &M::Shared,
+    ) -> Step
+        requires row { self.old.row ≡ row }
+        requires fits { SweepFits places.now self.old }
+        requires may { M.may memory.old shared.now
+            (op_at (extent places.now) (sweep_want self.old)) }
+        requires reads { ReadsOnly M.acts memory.old shared.now
+            (op_at (extent places.now) (sweep_want self.old)) (SweepReads places.now self.old) }
+        ensures acted { ActsOnce M.acts memory.old shared.now
+            (op_at (extent places.now) (sweep_want self.old)) memory.new
+            (λ w. (self.new ≡ sweep_got self.old w) × (result ≡ sweep_step self.old w)) }
+        ensures fits { SweepFits places.now self.new }
+    {
+        let word = memory.act(shared, &self.operation(places, row));
+        let next = self.after(places, row, word);
+        self.row = next;
+        step_to(next)
     }
 
     /// Whether the last event passed a block.
@@ -249,8 +304,35 @@ impl SweepPass {
         matches!(self.row, SweepRow::NothingLeft)
     }
 
-    // The row after one event, whose operation read the word.
-    fn after(&self, places: &Places, read: u64) -> SweepRow
+    // The operation at this row, which is the part's.
+    #[inline(always)]
+    fn operation(&self, places: &Places, row: SweepRow) -> Op
+        requires row { self.now.row ≡ row }
+        requires fits { SweepFits places.now self.now }
+        ensures { result ≡ op_at (extent places.now) (sweep_want self.now) }
+    {
+        use SweepRow::*;
+
+        match row {
+            ReadCursor => Op::load(places.cursor()),
+            ClaimRange { block, end } => {
+                Op::compare_exchange(places.cursor(), block as u64, end as u64)
+            }
+            PassBlock { block, .. } => Op::load(places.colour(block)),
+            TakeFree { .. } => Op::exchange(places.free_list(self.thread), 0),
+            FreeBlock { block, hand, .. } => {
+                Op::exchange(places.colour(block), colour_word(Colour::Free(hand)))
+            }
+            PutFree { hand, .. } => Op::exchange(places.free_list(self.thread), hand as u64),
+            Credit { freed, .. } => credit(places, freed),
+            Swept { .. } | NothingLeft => Op::load(places.phase()),
+        }
+    }
+
+    // The row after one event at this row, which is the part's, whose operation read the word.
+    #[inline(always)]
+    fn after(&self, places: &Places, row: SweepRow, read: u64) -> SweepRow
+        requires row { self.now.row ≡ row }
         requires fits { SweepFits places.now self.now }
         requires word { SweepReads places.now self.now read }
         ensures { result ≡ (sweep_got self.now read).row }
@@ -258,7 +340,7 @@ impl SweepPass {
         use SweepRow::*;
 
         let _places = places;
-        match self.row {
+        match row {
             ReadCursor => after_read(self.blocks, self.owed, read),
             ClaimRange { block, end } => after_claim(block, end, read),
             PassBlock {
@@ -285,19 +367,6 @@ impl SweepPass {
             PutFree { passed, freed, .. } => Credit { passed, freed },
             Credit { passed, freed } | Swept { passed, freed } => Swept { passed, freed },
             NothingLeft => NothingLeft,
-        }
-    }
-
-    // What the event was that led to this row.
-    fn step(&self) -> Step
-        ensures { result ≡ step_to self.now.row }
-    {
-        match self.row {
-            SweepRow::ReadCursor => Step::Waited,
-            SweepRow::Swept { .. } | SweepRow::NothingLeft => Step::Over,
-            SweepRow::ClaimRange { .. } | SweepRow::PassBlock { .. } => Step::Went,
-            SweepRow::TakeFree { .. } | SweepRow::FreeBlock { .. } => Step::Went,
-            SweepRow::PutFree { .. } | SweepRow::Credit { .. } => Step::Went,
         }
     }
 }
