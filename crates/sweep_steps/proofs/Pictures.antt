@@ -1,6 +1,6 @@
 -- The event that frees is the one that keeps what the graph reaches; the others change nothing that
 -- is seen of it.
-use Rattle.std.proofs.Common.{◌≡◌, ℕ, ◌<◌, true, eqb, refl, sym, ap, ◌∙◌, inl, inr, List}
+use Rattle.std.proofs.Common.{◌≡◌, ℕ, ◌<◌, true, eqb, sym, ap, ◌∙◌, inl, inr, List}
 use Rattle.std.proofs.lemmas.Bool.{cases_Bool}
 use Rattle.block_store.specs.declared.Config.{Config}
 use Rattle.block_store.specs.Colours.{white_word}

@@ -225,68 +225,15 @@ impl SweepPass {
     {
         use SweepRow::*;
 
-        // The row is made anew in each arm, so that the compiler leads each on its own way.
+        // Each row has an arm, so that the compiler leads each on its own way.
         match self.row {
-            PassBlock {
-                block,
-                end,
-                passed,
-                hand,
-                freed,
-            } => self.makes(
-                PassBlock {
-                    block,
-                    end,
-                    passed,
-                    hand,
-                    freed,
-                },
-                places,
-                memory,
-                shared,
-            ),
-            FreeBlock {
-                block,
-                end,
-                passed,
-                hand,
-                freed,
-            } => self.makes(
-                FreeBlock {
-                    block,
-                    end,
-                    passed,
-                    hand,
-                    freed,
-                },
-                places,
-                memory,
-                shared,
-            ),
-            ReadCursor => self.makes(ReadCursor, places, memory, shared),
-            ClaimRange { block, end } => {
-                self.makes(ClaimRange { block, end }, places, memory, shared)
-            }
-            TakeFree { block, end, passed } => {
-                self.makes(TakeFree { block, end, passed }, places, memory, shared)
-            }
-            PutFree {
-                hand,
-                passed,
-                freed,
-            } => self.makes(
-                PutFree {
-                    hand,
-                    passed,
-                    freed,
-                },
-                places,
-                memory,
-                shared,
-            ),
-            Credit { passed, freed } => {
-                self.makes(Credit { passed, freed }, places, memory, shared)
-            }
+            row @ PassBlock { .. } => self.makes(row, places, memory, shared),
+            row @ FreeBlock { .. } => self.makes(row, places, memory, shared),
+            row @ ReadCursor => self.makes(row, places, memory, shared),
+            row @ ClaimRange { .. } => self.makes(row, places, memory, shared),
+            row @ TakeFree { .. } => self.makes(row, places, memory, shared),
+            row @ PutFree { .. } => self.makes(row, places, memory, shared),
+            row @ Credit { .. } => self.makes(row, places, memory, shared),
             row => self.makes(row, places, memory, shared),
         }
     }

@@ -4,8 +4,8 @@
 ghost use Rattle.std.specs.Prelude.{◌≡◌};
 
 use crate::*;
-use block_store::{Config, Places, Width};
-use heap_machine::{Op, Step};
+use block_store::{Config, OutOfMemory, Places, Width};
+use heap_machine::{Op, Step, Words};
 
 const ALONE: Config = Config {
     width: Width::Four,
@@ -141,4 +141,32 @@ fn nothing_is_left(rt: HostRuntime) {
     assert!(rt; sweep.nothing());
     assert!(rt; !sweep.unit());
     assert_eq!(rt; sweep.passed(), 0);
+}
+
+const TINY: Config = Config {
+    width: Width::Four,
+    threads: 1,
+    blocks: 3,
+    live: 1,
+    object: 1,
+    shared: 0,
+};
+
+// The last block is black, and the cursor is at it.
+#[test]
+#[tactic(auto, unfolding(block_store::specs::Colours::colour_of, block_store::specs::Colours::link, block_store::specs::Colours::white_word))]
+fn a_block_is_passed_at_the_words(rt: HostRuntime) -> Result<(), OutOfMemory> {
+    let places = Places::new(&TINY);
+    let mut words = Words::zeroed(rt.alloc(), 26)?;
+    words.put(1, 3);
+    words.put(19, 2);
+    let mut sweep = SweepPass::new(0, 1, 3, 7);
+    assert_eq!(rt; sweep.event(&places, &mut words, &()), Step::Went);
+    assert_eq!(rt; words.word(1), 3);
+    assert_eq!(rt; sweep.event(&places, &mut words, &()), Step::Went);
+    assert_eq!(rt; words.word(1), 4);
+    assert_eq!(rt; sweep.event(&places, &mut words, &()), Step::Over);
+    assert_eq!(rt; words.word(19), 2);
+    assert_eq!(rt; sweep.passed(), 1);
+    Ok(())
 }
