@@ -3,13 +3,15 @@
 //! the fields of a record and one more than twice the elements of an array, a reference twice its
 //! block.
 
-ghost use Rattle.std.specs.Prelude.{◌≡◌, ◌<◌, ◌≤◌, length, vec_capacity, [], IfOk};
+ghost use Rattle.std.specs.Prelude.{◌≡◌, ◌<◌, ◌≤◌, length, slice_index, vec_capacity, [], IfOk};
 ghost use Rattle.block_store.specs.Places.{extent};
-ghost use Rattle.build_steps.specs.Fits.{BuildFits};
+ghost use Rattle.heap_machine.specs.Operations.{op_at, op_place, words_after, MayAct};
+ghost use Rattle.build_steps.specs.Fits.{BuildFits, BuildReads};
+ghost use Rattle.build_steps.specs.Rows.{build_want, build_got};
 
 use crate::*;
 use block_store::{Config, Name, OutOfMemory, Places, Width};
-use heap_machine::{Op, Step};
+use heap_machine::{Op, Step, Words};
 use never_heap::{Command, Reply};
 use std::alloc::Global;
 
@@ -303,5 +305,43 @@ fn a_lost_reservation_waits(rt: HostRuntime) -> Result<(), OutOfMemory> {
     assert_eq!(rt; pass.want(&places), Op::Exchange { place: 5, new: 0 });
     assert_eq!(rt; pass.got(&places, 0), Step::Waited);
     assert_eq!(rt; pass.want(&places), Op::Exchange { place: 6, new: 0 });
+    Ok(())
+}
+
+// One event of the part at these words.
+fn made(pass: &mut BuildPass, places: &Places, words: &mut Words) -> Step
+    requires fits { BuildFits places.now pass.old }
+    requires may { MayAct words.old
+        (op_at (extent places.now) (build_want (extent places.now) pass.old)) }
+    requires reads { BuildReads places.now pass.old (slice_index words.old
+        (op_place (op_at (extent places.now) (build_want (extent places.now) pass.old)))) }
+    ensures fits { BuildFits places.now pass.new }
+    ensures pass { pass.new ≡ build_got (extent places.now) pass.old (slice_index words.old
+        (op_place (op_at (extent places.now) (build_want (extent places.now) pass.old)))) }
+    ensures words { words.new ≡ words_after
+        (op_at (extent places.now) (build_want (extent places.now) pass.old)) words.old }
+{
+    pass.event(places, words, &())
+}
+
+// A record of two fields in one block, the sixth, until that block is collected. Its owner word,
+// by thread 0 with serial 1, is written next.
+#[test]
+#[tactic(auto, unfolding(block_store::specs::Colours::colour_of, block_store::specs::Colours::link, crate::specs::Rows::list_of))]
+fn events_change_the_words(rt: HostRuntime) -> Result<(), OutOfMemory> {
+    let places = Places::new(&ONE);
+    let command = Command::New { d: 0, fields: 2 };
+    let mut pass = BuildPass::new(Width::Four, 0, 1, 1, 1, command, room(rt.alloc(), 1)?);
+    let mut words = Words::zeroed(rt.alloc(), 131)?;
+    words.put(2, 1);
+    words.put(4, 6);
+    assert_eq!(rt; made(&mut pass, &places, &mut words), Step::Went);
+    assert_eq!(rt; words.word(2), 1);
+    assert_eq!(rt; made(&mut pass, &places, &mut words), Step::Went);
+    assert_eq!(rt; words.word(2), 0);
+    assert_eq!(rt; made(&mut pass, &places, &mut words), Step::Went);
+    assert_eq!(rt; words.word(4), 0);
+    assert_eq!(rt; made(&mut pass, &places, &mut words), Step::Went);
+    assert_eq!(rt; pass.want(&places), Op::exchange(41, 65_536));
     Ok(())
 }
