@@ -134,9 +134,7 @@ fn event(c: &Config, words: &mut Words, locals: &mut Vec<Local>, thread: u32) ->
     ensures answer { result
         ≡ answer c.now thread (record { words = words.old; locals = locals.old.items }) }
 {
-    let local = &mut locals[thread as usize];
-    let word = words.act(&local.want());
-    local.got(word)
+    locals[thread as usize].event(words, &())
 }
 
 // Makes the event of a thread that is not done, and adds to the order what the event adds.
