@@ -8,7 +8,7 @@ use Rattle.block_store.specs.Heaps.{Heap, put_at}
 use Rattle.block_store.specs.Places.{Place, extent, Phase, Cursor, ColourOf}
 use Rattle.block_store.specs.Widths.{payloads}
 use Rattle.never_heap.specs.declared.Command.{Command}
-use Rattle.heap_machine.specs.Holdings.{Holding, sweep_held}
+use Rattle.heap_machine.specs.Holdings.{sweep_held}
 use Rattle.heap_machine.specs.Operations.{CompareExchange, heap_after}
 use Rattle.heap_machine.specs.Sweeping.{no_claim}
 use Rattle.heap_machine.specs.declared.pass.Pass.{Pass}

@@ -2,8 +2,8 @@
 //! of five elements, in blocks 6 to 8, and register 1 to a record of one field, in block 9.
 
 use crate::*;
-use block_store::{Config, Name, PhaseWord, Places, Value, Width};
-use heap_machine::{Op, Step};
+use block_store::{Config, Name, OutOfMemory, PhaseWord, Places, Value, Width};
+use heap_machine::{Op, Step, Words};
 use never_heap::{Command, Reply};
 
 const SMALL: Config = Config {
@@ -128,4 +128,20 @@ fn refusals(rt: HostRuntime) {
     assert_eq!(rt; range.got(&places, TO_6), Step::Went);
     assert_eq!(rt; range.got(&places, FIVE), Step::Over);
     assert_eq!(rt; range.reply(), Some(Reply::Range));
+}
+
+// One event at a time over the words themselves: a register becomes 3, and says so.
+#[test]
+#[tactic(auto, unfolding(block_store::specs::Payloads::payload_of, block_store::specs::Payloads::target))]
+fn events_over_words(rt: HostRuntime) -> Result<(), OutOfMemory> {
+    let places = Places::new(&SMALL);
+    let mut words = Words::zeroed(rt.alloc(), 40)?;
+    let mut set = FieldPass::new(0, 1, MARK, Command::Set { d: 2, value: 3 });
+    assert_eq!(rt; set.event(&places, &mut words, &()), Step::Over);
+    assert_eq!(rt; set.reply(), Some(Reply::Stored));
+    assert_eq!(rt; words.word(places.payload(2, 2)), THREE);
+    let mut say = FieldPass::new(0, 1, MARK, Command::Say { s: 2 });
+    assert_eq!(rt; say.event(&places, &mut words, &()), Step::Over);
+    assert_eq!(rt; say.reply(), Some(Reply::Val(Value::Int(3))));
+    Ok(())
 }
