@@ -1,11 +1,12 @@
-use Rattle.std.proofs.Common.{ap, refl}
+use Rattle.std.proofs.Common.{ap, ◌∙◌, refl}
 use Rattle.heap_system.specs.Locals.{is_done, op_wanted}
+use Rattle.heap_system.specs.Machines.{State}
 use Rattle.heap_system.proofs.Reached.{cell_here, sum_here, reads_here, turn_made}
 use Rattle.heap_system.proofs.system.event.Goals as goal
 
 pub event-requires-clause-may : goal.event-requires-clause-may
 event-requires-clause-may c =
-    let s = record { words = c.args.words.now; locals = c.args.locals.now.items } in
+    let s : State = record { words = c.args.words.now; locals = c.args.locals.now.items } in
     let op = op_wanted c.index_mut.result.now in (
       cell_here c.args.c.now s c.args.thread c.index_mut.result.now c.requires.reached c.requires.thread c.index_mut.ensures.value op refl,
       sum_here c.args.c.now s c.args.thread c.index_mut.result.now c.requires.reached c.requires.thread c.index_mut.ensures.value op refl,
