@@ -1,6 +1,5 @@
 -- Where there is one thread, the list of turns tells how many it has made at most.
-use Rattle.std.proofs.Common.{◌≡◌, ℕ, zero, suc, ◌≤◌, ◌<◌, ◌+◌, false, refl, arith, subst, sym, ap, ◌∙◌, List, [], ◌∷◌, length, length-append, get_or, map}
-use Rattle.std.proofs.lemmas.List.{get_or_default, length-map}
+use Rattle.std.proofs.Common.{◌≡◌, ℕ, zero, suc, ◌<◌, ◌+◌, false, refl, arith, subst, sym, ap, ◌∙◌, List, [], ◌∷◌, get_or, map}
 use Rattle.block_store.specs.declared.Config.{Config}
 use Rattle.block_store.specs.Counts.{times, total}
 use Rattle.rate_plan.specs.Rates.{IsRate}
@@ -11,7 +10,7 @@ use Rattle.heap_system.specs.Serials.{trace_bound, job_bound}
 use Rattle.heap_system.specs.Systems.{traces_of}
 use Rattle.heap_system.proofs.alone.Serials.{single_few}
 use Rattle.atom_board.specs.Boards.{IsStateAfter}
-use Rattle.atom_board.specs.Ends.{lone_turns, IsInTime, EndsAlone}
+use Rattle.atom_board.specs.Ends.{lone_turns, EndsAlone}
 
 -- the bound of one trace, whatever the list is called
 one_bound : (c : Config) (rate : ℕ) (traces : List (List Command)) → c.threads ≡ 1 → job_bound c rate traces ≡ job_bound c rate (get_or traces 0 [] ∷ [])

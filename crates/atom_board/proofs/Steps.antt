@@ -9,11 +9,10 @@ use Rattle.atomic_table.proofs.Lists.{at_set, at_snoc}
 use Rattle.block_store.specs.declared.Config.{Config}
 use Rattle.block_store.specs.Counts.{times}
 use Rattle.block_store.specs.Phases.{bit}
-use Rattle.block_store.specs.Places.{extent}
 use Rattle.heap_machine.specs.declared.op.Op.{Op}
 use Rattle.heap_machine.specs.declared.op.Op.TheVariants as ops
-use Rattle.heap_machine.specs.Operations.{op_at, op_place, words_after, SumFits}
-use Rattle.heap_system.specs.Locals.{LocalState, is_done, part_want, part_step, turn_of, local_got}
+use Rattle.heap_machine.specs.Operations.{op_place, words_after, SumFits}
+use Rattle.heap_system.specs.Locals.{LocalState, is_done, part_step, turn_of, local_got, op_wanted}
 use Rattle.heap_system.specs.Machines.{State, Run, no_local, local_at, next, turned, after_turns, opened, IsJob, IsRunOf}
 use Rattle.heap_system.specs.Systems.{Whole, traces_of, IsReached}
 use Rattle.heap_system.proofs.Reached.{reached_kept, turned_traces, turn_facts, turn_made}
@@ -94,11 +93,8 @@ others_fit c ls ts t l (h ∷ hs) none fit =
     let count : times h.local.thread (ts ++ t ∷ []) ≡ times h.local.thread ts = times_last h.local.thread t ts ∙ rw (ne_eqb h.local.thread t ne) (omega arith) in
     ((f.0, f.1 ∙ sym (get_or-set_other ls t h.local.thread l h.local ne), f.2 ∙ sym count), others_fit c ls ts t l hs (omega arith) fit.1)
 
-abbrev pub op_of : LocalState → Op
-op_of l = op_at (extent l.config) (part_want l.config l.part)
-
 -- whatever the table is, a seat with one thread makes the turn of it
-pub allowed : (k : Whole) (id n : ℕ) (l : LocalState) → is_done l ≡ false → table.Allows (BoardKept k) 0 id (one_view l n, []) (op_place (op_of l)) (written (op_of l)) (moves_on (one_view l n, []))
+pub allowed : (k : Whole) (id n : ℕ) (l : LocalState) → is_done l ≡ false → table.Allows (BoardKept k) 0 id (one_view l n, []) (op_place (op_wanted l)) (written (op_wanted l)) (moves_on (one_view l n, []))
 allowed k id n l going s kept homes at low =
     let c = k.config in
     let ls = kept.locals in
@@ -109,11 +105,11 @@ allowed k id n l going s kept homes at low =
     let tl : t < c.threads = f.0 in
     let r : IsReached c st = reached c ts st kept.after in
     let facts = turn_facts c st t l r tl f.1 in
-    let w : ℕ = get_or s.words (op_place (op_of l)) 0 in
+    let w : ℕ = get_or s.words (op_place (op_wanted l)) 0 in
     let new : LocalState = local_got l w in
-    let made = turn_made c st t l r tl f.1 (op_of l) refl w refl going (words_after (op_of l) s.words) new (turn_of (part_step l.config l.part w)) refl refl refl in
-    let words : set s.words (op_place (op_of l)) (written (op_of l) w) ≡ words_after (op_of l) s.words = sym (one_write (op_of l) s.words facts.sums low) in
-    let state : record { words = set s.words (op_place (op_of l)) (written (op_of l) w); locals = set ls t new } ≡ turned c t st = ap (λ ws. let x : State = record { words = ws; locals = set ls t new } in x) words ∙ made.state in
+    let made = turn_made c st t l r tl f.1 (op_wanted l) refl w refl going (words_after (op_wanted l) s.words) new (turn_of (part_step l.config l.part w)) refl refl refl in
+    let words : set s.words (op_place (op_wanted l)) (written (op_wanted l) w) ≡ words_after (op_wanted l) s.words = sym (one_write (op_wanted l) s.words facts.sums low) in
+    let state : record { words = set s.words (op_place (op_wanted l)) (written (op_wanted l) w); locals = set ls t new } ≡ turned c t st = ap (λ ws. let x : State = record { words = ws; locals = set ls t new } in x) words ∙ made.state in
     let long : length ls ≡ c.threads = (reached_kept c st r).threads in
     let is_one : bit (eqb t t) ≡ 1 = rw (eq-eqb t t refl) refl in
     let count : n + 1 ≡ times t (ts ++ t ∷ []) = omega (arith, f.2, times_last t t ts) in
@@ -201,7 +197,7 @@ joins k id v other w s kept at ne that =
     }
 
 -- the same, for the operation that the thread wants
-pub op_allowed : (k : Whole) (slots id n : ℕ) (l : LocalState) (me : table.Me Unit View) (op : Op) → is_done l ≡ false → slots ≡ 0 → me ≡ (one_view l n, []) → op ≡ op_of l → table.Allows (BoardKept k) slots id me (op_place op) (written op) (moves_on me)
+pub op_allowed : (k : Whole) (slots id n : ℕ) (l : LocalState) (me : table.Me Unit View) (op : Op) → is_done l ≡ false → slots ≡ 0 → me ≡ (one_view l n, []) → op ≡ op_wanted l → table.Allows (BoardKept k) slots id me (op_place op) (written op) (moves_on me)
 op_allowed k slots id n l me op going none knows wants =
     subst (λ x. table.Allows (BoardKept k) x id me (op_place op) (written op) (moves_on me)) (sym none)
     (subst (λ x. table.Allows (BoardKept k) 0 id x (op_place op) (written op) (moves_on x)) (sym knows)

@@ -1,3 +1,4 @@
 pub mod Boards
 pub mod Ends
 pub mod Mutators
+pub mod Ports

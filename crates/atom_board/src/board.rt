@@ -2,24 +2,23 @@
 
 ghost use Rattle.std.specs.Prelude.{◌≡◌, ◌+◌, ◌<◌, ◌≤◌, ℕ, List, [], ◌∷◌, ◌++◌, false, true, map, length, slice_index_or, IfOk};
 ghost use Rattle.block_store.specs.Places.{extent, words_count};
-ghost use Rattle.heap_machine.specs.Operations.{op_at, op_place};
 ghost use Rattle.never_heap.specs.declared.Command.{Command};
 ghost use Rattle.std.specs.Vec.{vec_capacity};
-ghost use Rattle.heap_system.specs.Locals.{LocalState, LocalReads, part_want, part_step, local_got, is_done, turn_of};
+ghost use Rattle.heap_system.specs.Locals.{LocalState, is_done};
 ghost use Rattle.heap_system.specs.Machines.{IsJob};
 ghost use Rattle.heap_system.specs.Systems.{IsFinished};
 ghost use Rattle.heap_system.specs.declared.Turn.TheVariants as turns;
-ghost use Rattle.atom_board.specs.Boards.{one_view, turns_in, start_held};
+ghost use Rattle.atom_board.specs.Boards.{start_held};
 ghost use Rattle.atom_board.specs.Ends.{EndsAlone};
 ghost use Rattle.atom_board.specs.Mutators.{BoardState, MutatorState, AreInOrder, AreEachOnce, HasMutator, AreAmong, AreLogsOf, AllAreDone, AreFresh, HasFewTurns, Moved, IsLater, IsFinishedBy, start_mutator, held_of, local_of, log_of};
 
 use crate::closed::Closed;
 use crate::mutator::Mutator;
-use crate::rules::{Both, Cut, Law, Turned, View};
+use crate::port::Port;
+use crate::rules::{Both, Cut, Law, View};
 use atomic_table::{Seat, Shared, Table};
 use block_store::{Config, OutOfMemory, read_phase};
 use crossbeam_utils::Backoff;
-use heap_machine::Op;
 use heap_system::{Local, System, Turn};
 use never_heap::{Command, Pace};
 use std::alloc::Global;
@@ -59,38 +58,6 @@ impl Model for AtomBoard {
         × (b.config.threads ≤ vec_capacity b.room) };
 }
 
-// Makes the event of the one thread that the seat has, as one step of the table.
-fn act(
-    shared: &Shared<(), View, System, Law>,
-    seat: &mut Seat<(), View>,
-    op: &Op,
-    local: &Local,
-) -> u64
-    requires table { (seat.old.table_id ≡ shared.now.table_id)
-        × (shared.now.table_id.slots ≡ 0) }
-    requires place { op_place op.now < shared.now.table_id.words }
-    requires knows { seat.old.me ≡ (one_view local.now (turns_in seat.old.me.0.locals), []) }
-    requires going { is_done local.now ≡ false }
-    requires wants { op.now
-        ≡ op_at (extent local.now.config) (part_want local.now.config local.now.part) }
-    ensures table { (seat.new.table_id ≡ seat.old.table_id) × (seat.new.id ≡ seat.old.id) }
-    ensures found { seat.new.me
-        ≡ (one_view (local_got local.now result) (turns_in seat.old.me.0.locals + 1), []) }
-    ensures reads { LocalReads local.now.config local.now result }
-    ensures few { EndsAlone (local_got local.now result) (turns_in seat.old.me.0.locals + 1) }
-{
-    let _local = local;
-    match *op {
-        Op::Load { place } => shared.load::<Turned>(seat, place),
-        Op::Exchange { place, new } => shared.swap::<Turned>(seat, place, new),
-        Op::CompareExchange { place, old, new } => {
-            shared.compare_exchange::<Turned>(seat, place, old, new)
-        }
-        Op::FetchAdd { place, by } => shared.fetch_add::<Turned>(seat, place, by),
-        Op::FetchSub { place, by } => shared.fetch_sub::<Turned>(seat, place, by),
-    }
-}
-
 // A mutator for each thread of the seat, in order. Their room was taken before.
 fn dealt(
     shared: &Shared<(), View, System, Law>,
@@ -112,8 +79,9 @@ fn dealt(
     let mut seat = seat;
     let mut mutators = room;
     for local in locals {
-        let place = shared.split_seat::<Cut>(&mut seat);
-        mutators.push_reserved(Mutator { seat: place, local });
+        let own = shared.split_seat::<Cut>(&mut seat);
+        let port = Port { seat: own };
+        mutators.push_reserved(Mutator { port, local });
     }
     mutators
 }
@@ -177,13 +145,13 @@ fn gathered(
     ensures knows { result.0.me ≡ (record { locals = map held_of (first ∷ rest.items) }, []) }
     ensures locals { result.1.items ≡ map local_of (first ∷ rest.items) }
 {
-    let Mutator { seat, local } = first;
-    let mut seat = seat;
+    let Mutator { port, local } = first;
+    let mut seat = port.seat;
     let mut locals = room;
     locals.push_reserved(local);
     for mutator in rest {
-        let Mutator { seat: place, local } = mutator;
-        shared.join_seat::<Both>(&mut seat, place);
+        let Mutator { port, local } = mutator;
+        shared.join_seat::<Both>(&mut seat, port.seat);
         locals.push_reserved(local);
     }
     (seat, locals)
@@ -243,9 +211,20 @@ impl AtomBoard {
         if who.local.done() {
             return Turn::Done;
         }
-        let op = who.local.want();
-        let word = act(&self.table.shared, &mut who.seat, &op, &who.local);
-        who.local.got(word)
+        self.event(who)
+    }
+
+    // The turn of a mutator that is not done.
+    #[inline(always)]
+    fn event(&self, who: &mut Mutator) -> Turn
+        requires board { who.old.board ≡ self.now.id }
+        requires going { is_done who.old.local ≡ false }
+        ensures moved { Moved who.old who.new result }
+        ensures later { IsLater who.old who.new }
+        ensures few { HasFewTurns who.new }
+    {
+        who.local.wants_a_word();
+        who.local.event(&mut who.port, &self.table.shared)
     }
 
     /// Makes turns of a mutator of this board until it is done, and tells the pace before each
@@ -261,6 +240,8 @@ impl AtomBoard {
     {
         let mut who = who;
         let backoff = Backoff::new();
+        // How far it had got when it last waited, where it has got no further since.
+        let mut waited = None;
         for _ in rt.forever() {
             if who.at_rest() {
                 if who.done() {
@@ -268,16 +249,18 @@ impl AtomBoard {
                 }
                 pace.before(rt, who.thread(), who.log().len() as u64);
             }
-            let entries = who.local.log().len();
-            let units = who.local.paid();
-            match self.turn(&mut who) {
+            match self.event(&mut who) {
                 Turn::Waited => {
+                    waited = Some(who.progress());
                     backoff.snooze();
                     thread::yield_now();
                 }
                 Turn::Went | Turn::Done => {
-                    if who.local.paid() != units || who.local.log().len() != entries {
-                        backoff.reset();
+                    if let Some(before) = waited {
+                        if who.progress() != before {
+                            backoff.reset();
+                            waited = None;
+                        }
                     }
                 }
             }

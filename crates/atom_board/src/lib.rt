@@ -5,6 +5,7 @@ mod board;
 mod closed;
 mod laws;
 mod mutator;
+mod port;
 mod rules;
 #[cfg(test)]
 mod tests;

@@ -1,11 +1,10 @@
 //! One thread of a board.
 
-ghost use Rattle.std.specs.Prelude.{◌≡◌, true};
+ghost use Rattle.std.specs.Prelude.{◌≡◌, length};
 ghost use Rattle.heap_system.specs.Locals.{is_done, is_rest};
 ghost use Rattle.atom_board.specs.Mutators.{HasFewTurns};
 
-use crate::rules::View;
-use atomic_table::Seat;
+use crate::port::Port;
 use heap_system::Local;
 use never_heap::Entry;
 use std::marker::Model;
@@ -13,7 +12,7 @@ use std::marker::Model;
 /// One thread of a board, with its seat at the table.
 #[derive(Drop)]
 pub struct Mutator {
-    pub(crate) seat: Seat<(), View>,
+    pub(crate) port: Port,
     pub(crate) local: Local,
 }
 
@@ -27,15 +26,15 @@ impl Model for Mutator {
     ghost Value = { MutatorState };
 
     ghost view = { λ m. record {
-      board = m.seat.table_id;
+      board = m.port.seat.table_id;
       local = m.local;
-      turns = turns_in m.seat.me.0.locals;
+      turns = turns_in m.port.seat.me.0.locals;
     } };
 
-    ghost invariant = { λ m. (m.seat.me ≡ (one_view m.local (turns_in m.seat.me.0.locals), []))
-        × (m.seat.table_id.slots ≡ 0)
-        × (m.seat.table_id.words ≡ words_count (extent m.local.config))
-        × EndsAlone m.local (turns_in m.seat.me.0.locals) };
+    ghost invariant = { λ m. (m.port.seat.me ≡ (one_view m.local (turns_in m.port.seat.me.0.locals), []))
+        × (m.port.seat.table_id.slots ≡ 0)
+        × (m.port.seat.table_id.words ≡ words_count (extent m.local.config))
+        × EndsAlone m.local (turns_in m.port.seat.me.0.locals) };
 }
 
 impl Mutator {
@@ -57,10 +56,20 @@ impl Mutator {
     }
 
     /// Whether the thread is at rest outside the gate.
+    #[inline(always)]
     pub fn at_rest(&self) -> bool
         ensures { result ≡ is_rest self.now.local.part }
     {
         self.local.at_rest()
+    }
+
+    // How far the thread has got: the commands that it has ended, and the units that it has made
+    // for the one in hand.
+    #[inline(always)]
+    pub(crate) fn progress(&self) -> (usize, u64)
+        ensures { result ≡ (length self.now.local.log, self.now.local.balance.paid) }
+    {
+        (self.local.log().len(), self.local.paid())
     }
 
     /// The entries of the commands that are done, oldest first.
