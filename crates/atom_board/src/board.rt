@@ -223,6 +223,7 @@ impl AtomBoard {
         ensures later { IsLater who.old who.new }
         ensures few { HasFewTurns who.new }
     {
+        // The port asks that the place is one of its words.
         who.local.wants_a_word();
         who.local.event(&mut who.port, &self.table.shared)
     }

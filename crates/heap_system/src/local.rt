@@ -414,8 +414,8 @@ impl Local {
         }
     }
 
-    /// The place of the thread's next event is one of the heap's words. It does nothing: what the
-    /// one who has the memory of an `event` is to know of it is the contract.
+    /// That the place of the thread's next event is one of the heap's words, as the memory of an
+    /// `event` may ask. It does nothing.
     #[inline(always)]
     #[tactic(auto, using(crate::proofs::Wanted::want_low))]
     pub fn wants_a_word(&self)
