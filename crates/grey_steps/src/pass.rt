@@ -316,7 +316,9 @@ impl GreyPass {
             row @ TakeOwn { .. } => self.makes(row, places, memory, shared),
             row @ ShadeStored { .. } => self.makes(row, places, memory, shared),
             row @ PutOwn { .. } => self.makes(row, places, memory, shared),
-            row => self.makes(row, places, memory, shared),
+            row @ Scanned => self.makes(row, places, memory, shared),
+            row @ NothingGrey => self.makes(row, places, memory, shared),
+            row @ Shaded { .. } => self.makes(row, places, memory, shared),
         }
     }
 
