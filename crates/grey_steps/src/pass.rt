@@ -305,41 +305,20 @@ impl GreyPass {
     {
         use GreyRow::*;
 
-        // The row is made anew in each arm, so that the compiler leads each on its own way.
+        // An arm for each row, so that the compiler leads each on its own way.
         match self.row {
-            ScanWord { block, j, hand } => {
-                self.makes(ScanWord { block, j, hand }, places, memory, shared)
-            }
-            Shade {
-                block,
-                j,
-                target,
-                hand,
-            } => self.makes(
-                Shade {
-                    block,
-                    j,
-                    target,
-                    hand,
-                },
-                places,
-                memory,
-                shared,
-            ),
-            Take { u } => self.makes(Take { u }, places, memory, shared),
-            Pop { hand } => self.makes(Pop { hand }, places, memory, shared),
-            Blacken { block, hand } => {
-                self.makes(Blacken { block, hand }, places, memory, shared)
-            }
-            Put { hand } => self.makes(Put { hand }, places, memory, shared),
-            TakeOwn { target } => self.makes(TakeOwn { target }, places, memory, shared),
-            ShadeStored { target, hand } => {
-                self.makes(ShadeStored { target, hand }, places, memory, shared)
-            }
-            PutOwn { target, hand } => {
-                self.makes(PutOwn { target, hand }, places, memory, shared)
-            }
-            row => self.makes(row, places, memory, shared),
+            row @ ScanWord { .. } => self.makes(row, places, memory, shared),
+            row @ Shade { .. } => self.makes(row, places, memory, shared),
+            row @ Take { .. } => self.makes(row, places, memory, shared),
+            row @ Pop { .. } => self.makes(row, places, memory, shared),
+            row @ Blacken { .. } => self.makes(row, places, memory, shared),
+            row @ Put { .. } => self.makes(row, places, memory, shared),
+            row @ TakeOwn { .. } => self.makes(row, places, memory, shared),
+            row @ ShadeStored { .. } => self.makes(row, places, memory, shared),
+            row @ PutOwn { .. } => self.makes(row, places, memory, shared),
+            row @ Scanned => self.makes(row, places, memory, shared),
+            row @ NothingGrey => self.makes(row, places, memory, shared),
+            row @ Shaded { .. } => self.makes(row, places, memory, shared),
         }
     }
 
