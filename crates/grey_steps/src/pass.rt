@@ -63,7 +63,8 @@ fn list_of(thread: u32, threads: u32, u: u32) -> u32
     ensures list { result ≡ Rows.list_of thread threads u }
     ensures low { result < threads }
 {
-    (thread + u) % threads
+    let next = thread + u;
+    if next < threads { next } else { next - threads }
 }
 
 // After the u-th list, which began with this block.
