@@ -282,21 +282,8 @@ impl Gate {
         }
     }
 
-    /// `got`, of a part on its way in.
-    pub fn got_in(&mut self, word: u64) -> Step
-        requires way { is_going_in self.old ≡ true }
-        requires word { IsPhaseWord word }
-        ensures row { self.new ≡ going_got self.old word }
-        ensures step { result ≡ gate_step self.old word }
-    {
-        match self.row {
-            GateRow::Look => self.looked(word),
-            GateRow::Enter { seen } => self.tried(seen, word),
-            _ => unreachable!(),
-        }
-    }
-
-    /// One event of a part on its way in: `want_in` and `got_in` at once.
+    /// One event of a part on its way in: the operation of `want_in`, made by this memory, and what
+    /// `got` does by the word that it read.
     #[inline(always)]
     pub fn event_in<M: Memory>(
         &mut self,
