@@ -1,5 +1,5 @@
 -- The events of the example may come one after another, and lead to the next cycle.
-use Rattle.std.proofs.Common.{◌≡◌, ◌≢◌, ℕ, zero, suc, ◌≤◌, ◌<◌, inl, inr, Bool, true, false, ◌&&◌, ltb, refl, arith, subst, sym, ap, ◌∙◌, Option, Some, None, List, [], ◌∷◌, ◌++◌, ne_eqb}
+use Rattle.std.proofs.Common.{◌≡◌, ◌≢◌, ℕ, zero, suc, ◌≤◌, ◌<◌, inl, inr, Bool, true, false, ◌&&◌, ltb, refl, arith, subst, sym, ap, ◌∙◌, Option, Some, None, List, [], ◌∷◌, ◌++◌, take, ne_eqb}
 use Rattle.std.proofs.lemmas.Bool.{and_parts, ltb-true, lt-leb}
 use Rattle.block_store.specs.declared.Config.{Config}
 use Rattle.block_store.specs.declared.Value.TheVariants.{Ref}
@@ -10,6 +10,7 @@ use Rattle.block_store.specs.Configs.{IsInBounds}
 use Rattle.block_store.specs.Owners.{owner_word}
 use Rattle.block_store.specs.Payloads.{target, reference_word, number_word}
 use Rattle.block_store.specs.Registers.{root_block}
+use Rattle.block_store.specs.Widths.{payloads}
 use Rattle.block_store.specs.declared.Shape.TheVariants as shapes
 use Rattle.block_store.specs.Shapes.{record_word, shape_of}
 use Rattle.block_store.proofs.ColourWords.{free-black, free-white}
@@ -18,7 +19,12 @@ use Rattle.array_trees.specs.Openings.{opening_blocks}
 use Rattle.array_trees.specs.Trees.{tree}
 use Rattle.never_heap.specs.Graphs.{register_of}
 use Rattle.never_heap.specs.Reach.{reachable}
-use Rattle.shown_graph.specs.Events.{unloaded}
+use Rattle.block_store.specs.declared.Value.TheVariants.{Nil}
+use Rattle.never_heap.specs.declared.Entry.{Entry}
+use Rattle.never_heap.specs.declared.Command.TheVariants as commands
+use Rattle.never_heap.specs.declared.Reply.TheVariants as replies
+use Rattle.never_heap.specs.Histories.{Did, IsAnswered, after}
+use Rattle.shown_graph.specs.Events.{IsAtField, IsPrompt, object_at, register_word_in, unloaded}
 use Rattle.kept_names.specs.Building.{Build, build_blocks, IsHeldOnce}
 use Rattle.kept_names.specs.Colouring.{IfRefers, IsTricolour, NotRoot}
 use Rattle.block_store.specs.Counts.{changed}
@@ -26,7 +32,7 @@ use Rattle.kept_names.specs.States.{KeptState}
 use Rattle.kept_names.specs.Events.{KeptEvent, apply, run, Guarded, IsAlone, IsWriting, build_at, held_at}
 use Rattle.kept_names.specs.Events.KeptEvent.{ShadeRoot}
 use Rattle.kept_names.specs.Openings.{OpeningColours}
-use Rattle.kept_names.specs.Example.{one_thread, first_colours, mark_events, build_events, start_events, command_events, some_events, array_name, record_name, example_start, example_end}
+use Rattle.kept_names.specs.Example.{unpaid, one_thread, first_colours, mark_events, build_events, start_events, command_events, some_events, array_name, record_name, example_start, example_end}
 use Rattle.kept_names.proofs.Colours.{changed_else}
 
 -- one guard after another
@@ -428,54 +434,54 @@ starting Eight = (refl, omega arith) ▸ (
       (λ t. (shaded Eight).shaded t ≡ true) refl,
 ) ▸ tt
 
-commanding : (W : Width) → Guarded (one_thread W) (run (one_thread W) (built W) start_events)
-    (command_events W)
+-- the state after the first k of the commands' events
+abbrev commanded : Width → KeptState → ℕ → KeptState
+commanded W s k = run (one_thread W) s (take k (command_events W))
+
+abbrev got : Entry
+got = unpaid (commands.Get 2 0 0) (replies.Val Nil)
+
+abbrev null : Entry
+null = unpaid (commands.Len 3) replies.Null
+
+-- what the commands read, at either width
+module _ (W : Width) (s : KeptState) (mark : s.sweep ≡ false)
+    (prompt : IsPrompt (s.seen.loads 0))
+    (refers : target (register_word_in W s.seen.words 0 0) ≢ 0)
+    (white : s.colour (target (register_word_in W s.seen.words 0 0)) ≡ white_word s.cycle)
+    (still : target (register_word_in W (commanded W s 3).seen.words 0 0) ≢ 0)
+    (shape : shape_of ((commanded W s 4).seen.words.shape
+    (object_at (commanded W s 4).seen 0).block) ≡ Some (shapes.List (payloads W)))
+    (field : IsAtField W (commanded W s 5).seen 0 record_name 0 1)
+    (gets : IsAnswered (commanded W s 5).seen.graph (Did got))
+    (into : (commanded W s 6).seen.graph ≡ after (commanded W s 5).seen.graph (Did got))
+    (none : IsAnswered (commanded W s 7).seen.graph (Did null))
+    (same : after (commanded W s 7).seen.graph (Did null) ≡ (commanded W s 7).seen.graph) where
+  commanding_on : Guarded (one_thread W) s (command_events W)
+  commanding_on =
+      ((omega arith, omega arith, prompt), refl)
+      ▸ (mark, omega arith, refl, refers, white)
+      ▸ ((omega arith, omega arith, refl, refl), (omega arith, refl, inl refl), refl, refl)
+      ▸ ((omega arith, omega arith, refl, still), refl)
+      ▸ ((omega arith, refl, shape), refl)
+      ▸ ((omega arith, omega arith, refl, field), (omega arith, refl, gets), refl, into)
+      ▸ ((omega arith, refl, refl), refl)
+      ▸ ((omega arith, refl, none), same)
+      ▸ ((omega arith, refl, inr (refl, refl)), refl)
+      ▸ tt
+
+abbrev started : Width → KeptState
+started W = run (one_thread W) (built W) start_events
+
+commanding : (W : Width) → Guarded (one_thread W) (started W) (command_events W)
 unfolding target reference_word number_word owner_word kind grey_word free_word black_word
     white_word tree tree_depth record_word shape_of
-commanding Four =
-    ((omega arith, omega arith, refl), refl)
-    ▸ (refl, omega arith, refl, (λ e. omega arith), refl)
-    ▸ ((omega arith, omega arith, refl, refl), (omega arith, refl, inl refl), refl, refl)
-    ▸ ((omega arith, omega arith, refl, (λ e. omega arith)), refl)
-    ▸ ((omega arith, refl, refl), refl)
-    ▸ (
-      (
-        omega arith,
-        omega arith,
-        refl,
-        record
-            { object = refl; refers = refl; shape = shapes.List 4; read = refl; field = refl },
-      ),
-      (omega arith, refl, inl refl),
-      refl,
-      refl,
-    )
-    ▸ ((omega arith, refl, refl), refl)
-    ▸ ((omega arith, refl, inl refl), refl)
-    ▸ ((omega arith, refl, inr (refl, refl)), refl)
-    ▸ tt
-commanding Eight =
-    ((omega arith, omega arith, refl), refl)
-    ▸ (refl, omega arith, refl, (λ e. omega arith), refl)
-    ▸ ((omega arith, omega arith, refl, refl), (omega arith, refl, inl refl), refl, refl)
-    ▸ ((omega arith, omega arith, refl, (λ e. omega arith)), refl)
-    ▸ ((omega arith, refl, refl), refl)
-    ▸ (
-      (
-        omega arith,
-        omega arith,
-        refl,
-        record
-            { object = refl; refers = refl; shape = shapes.List 8; read = refl; field = refl },
-      ),
-      (omega arith, refl, inl refl),
-      refl,
-      refl,
-    )
-    ▸ ((omega arith, refl, refl), refl)
-    ▸ ((omega arith, refl, inl refl), refl)
-    ▸ ((omega arith, refl, inr (refl, refl)), refl)
-    ▸ tt
+commanding Four = commanding_on Four (started Four) refl refl (λ e. omega arith) refl (λ e. omega arith) refl
+    (record { object = refl; refers = refl; shape = shapes.List 4; read = refl; field = refl })
+    (inl refl) refl (inl refl) refl
+commanding Eight = commanding_on Eight (started Eight) refl refl (λ e. omega arith) refl (λ e. omega arith) refl
+    (record { object = refl; refers = refl; shape = shapes.List 8; read = refl; field = refl })
+    (inl refl) refl (inl refl) refl
 
 pub example_runs : (W : Width) → Guarded (one_thread W) (example_start W) (some_events W)
 example_runs W = guarded_on (one_thread W) (example_start W) (mark_events W)
