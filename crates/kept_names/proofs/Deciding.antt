@@ -1,5 +1,5 @@
 -- Facts that computing decides, each with its proof where it holds.
-use Rattle.std.proofs.Common.{◌≡◌, ◌≢◌, ℕ, zero, suc, ◌≤◌, ◌<◌, inl, inr, Bool, true, false, eqb, ltb, refl, arith, subst, sym, Option, Some, None, is_some, eqb-true, ltb-true, eq-eqb}
+use Rattle.std.proofs.Common.{◌≡◌, ◌≢◌, ℕ, zero, suc, ◌≤◌, ◌<◌, inl, inr, Bool, true, false, eqb, ltb, refl, arith, subst, Option, Some, None, is_some, eqb-true, ltb-true, eq-eqb}
 use Rattle.std.proofs.lemmas.Bool.{cases_lt}
 use Rattle.kept_names.proofs.Colours.{differ}
 

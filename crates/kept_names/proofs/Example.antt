@@ -1,6 +1,6 @@
 -- The events of the example may come one after another, and lead to the next cycle.
 use Rattle.std.proofs.Common.{◌≡◌, ◌≢◌, ℕ, zero, suc, ◌≤◌, ◌<◌, inl, inr, Bool, true, false, ◌&&◌, ltb, refl, arith, subst, sym, ap, ◌∙◌, Option, Some, None, List, [], ◌∷◌, ◌++◌, take, ne_eqb, eqb, eqb-true, ◌+◌}
-use Rattle.std.proofs.lemmas.Bool.{cases_lt, and_parts, ltb-true, lt-leb}
+use Rattle.std.proofs.lemmas.Bool.{cases_lt, and_parts, ltb-true, lt-leb, le-leb}
 use Rattle.block_store.specs.declared.Config.{Config}
 use Rattle.block_store.specs.declared.Value.TheVariants.{Ref}
 use Rattle.block_store.specs.declared.Width.{Width}
@@ -35,7 +35,7 @@ use Rattle.shown_graph.specs.Events.Event.{StoreConstant}
 use Rattle.shown_graph.specs.Layouts.{layout_blocks}
 use Rattle.never_heap.specs.Graphs.{count_of}
 use Rattle.kept_names.specs.Openings.{OpeningColours}
-use Rattle.kept_names.specs.Example.{unpaid, one_thread, first_colours, mark_events, build_events, start_events, command_events, some_events, array_name, record_name, example_start, example_end}
+use Rattle.kept_names.specs.Example.{array_block, unpaid, one_thread, first_colours, mark_events, build_events, start_events, command_events, some_events, array_name, record_name, example_start, example_end}
 use Rattle.kept_names.proofs.Colours.{changed_else}
 use Rattle.kept_names.proofs.Deciding.{decided, mapped, ◌&◌, is_bool, below, equal, unequal, if_equal, is_none, each_below, at_most, if_true, three, four, five}
 
@@ -94,34 +94,35 @@ far (w ∷ ws) f b x h le =
     let low : w.0 < b = ltb-true _ _ p.0 in
     changed_else (painted ws f) w.0 w.1 x (λ e. omega arith) ∙ far ws f b x p.1 le
 
-first_far : (W : Width) (x : ℕ) → 9 ≤ x → first_colours W x ≡ free_word 0
-first_far Four x h = rw (
-  ne_eqb x 0 (λ e. omega arith),
-  ne_eqb x 1 (λ e. omega arith),
-  lt-leb x 6
-      (omega arith),
-) refl
-first_far Eight x h = rw (
-  ne_eqb x 0 (λ e. omega arith),
-  ne_eqb x 1 (λ e. omega arith),
-  lt-leb x 4
-      (omega arith),
-) refl
+one_root : (W : Width) → root_block W 0 ≡ 1
+one_root Four = refl
+one_root Eight = refl
 
--- nine blocks, and those behind them
-nine : (P : ℕ → Type 0) → P 0 → P 1 → P 2 → P 3 → P 4 → P 5 → P 6 → P 7 → P 8
-    → ((x : ℕ) → 9 ≤ x → P x) → (x : ℕ) → P x
-nine P a b c d e f g h i more zero = a
-nine P a b c d e f g h i more (suc zero) = b
-nine P a b c d e f g h i more (suc (suc zero)) = c
-nine P a b c d e f g h i more (suc (suc (suc zero))) = d
-nine P a b c d e f g h i more (suc (suc (suc (suc zero)))) = e
-nine P a b c d e f g h i more (suc (suc (suc (suc (suc zero))))) = f
-nine P a b c d e f g h i more (suc (suc (suc (suc (suc (suc zero)))))) = g
-nine P a b c d e f g h i more (suc (suc (suc (suc (suc (suc (suc zero))))))) = h
-nine P a b c d e f g h i more (suc (suc (suc (suc (suc (suc (suc (suc zero)))))))) = i
-nine P a b c d e f g h i more (suc (suc (suc (suc (suc (suc (suc (suc (suc x))))))))) = more _
-    (omega arith)
+array_within : (W : Width) → (1 < array_block W) × (array_block W < 9)
+array_within Four = (omega arith, omega arith)
+array_within Eight = (omega arith, omega arith)
+
+behind_free : (W : Width) (x : ℕ) → array_block W < x → first_colours W x ≡ free_word 0
+behind_free W x h =
+    let low = (array_within W).0 in
+    rw (
+      ne_eqb x 0 (λ e. omega arith),
+      ne_eqb x 1 (λ e. omega arith),
+      lt-leb x (array_block W) h,
+    ) refl
+
+array_white : (W : Width) (x : ℕ) → 0 < x → x ≤ array_block W → NotRoot W 1 x
+    → first_colours W x ≡ white_word 1
+array_white W x some low other =
+    let ne : x ≢ 1 = subst (λ y. x ≢ y) (one_root W) (other 0 (omega arith)) in
+    rw (
+      ne_eqb x 0 (λ e. omega arith),
+      ne_eqb x 1 ne,
+      le-leb x (array_block W) low,
+    ) refl
+
+first_far : (W : Width) (x : ℕ) → 9 ≤ x → first_colours W x ≡ free_word 0
+first_far W x h = behind_free W x (omega (arith, (array_within W).1))
 
 pub bounds : (W : Width) → IsInBounds (one_thread W)
 bounds W = record {
@@ -135,38 +136,24 @@ bounds W = record {
   shared = omega arith;
 }
 
-pub room : (W : Width) → opening_blocks (one_thread W) ≤ 20
+opens : (W : Width) → opening_blocks (one_thread W) ≡ array_block W
 unfolding target reference_word number_word owner_word kind grey_word free_word black_word
     white_word tree tree_depth record_word shape_of
-room Four = omega arith
-room Eight = omega arith
+opens Four = refl
+opens Eight = refl
+
+pub room : (W : Width) → opening_blocks (one_thread W) ≤ 20
+room W = let low = (array_within W).1 in omega (arith, opens W, low)
 
 pub first_are : (W : Width) → OpeningColours (one_thread W) (first_colours W)
 unfolding target reference_word number_word owner_word kind grey_word free_word black_word
     white_word tree tree_depth record_word shape_of
-first_are Four = record {
-  roots = only_zero (λ t. is_grey (first_colours Four (root_block Four t)) ≡ true) refl;
+first_are W = record {
+  roots = only_zero (λ t. is_grey (first_colours W (root_block W t)) ≡ true) (rw (one_root W) refl);
   none = refl;
-  arrays = nine (λ x. 0 < x → x ≤ 6 → NotRoot Four 1 x → first_colours Four x ≡ white_word 1)
-      (λ h. absurd (omega arith)) (λ h l r. absurd (r 0 (omega arith) refl)) (λ h l r. refl)
-      (λ h l r. refl) (λ h l r. refl) (λ h l r. refl) (λ h l r. refl) (λ h l. absurd (omega arith))
-      (λ h l. absurd (omega arith)) (λ x m h l. absurd (omega arith));
-  others = nine (λ x. 6 < x → is_free (first_colours Four x) ≡ true) (λ h. refl)
-      (λ h. absurd (omega arith)) (λ h. absurd (omega arith)) (λ h. absurd (omega arith))
-      (λ h. absurd (omega arith)) (λ h. absurd (omega arith)) (λ h. absurd (omega arith))
-      (λ h. refl) (λ h. refl) (λ x m h. ap is_free (first_far Four x m));
-}
-first_are Eight = record {
-  roots = only_zero (λ t. is_grey (first_colours Eight (root_block Eight t)) ≡ true) refl;
-  none = refl;
-  arrays = nine (λ x. 0 < x → x ≤ 4 → NotRoot Eight 1 x → first_colours Eight x ≡ white_word 1)
-      (λ h. absurd (omega arith)) (λ h l r. absurd (r 0 (omega arith) refl)) (λ h l r. refl)
-      (λ h l r. refl) (λ h l r. refl) (λ h l. absurd (omega arith)) (λ h l. absurd (omega arith))
-      (λ h l. absurd (omega arith)) (λ h l. absurd (omega arith)) (λ x m h l. absurd (omega arith));
-  others = nine (λ x. 4 < x → is_free (first_colours Eight x) ≡ true) (λ h. refl)
-      (λ h. absurd (omega arith)) (λ h. absurd (omega arith)) (λ h. absurd (omega arith))
-      (λ h. absurd (omega arith)) (λ h. refl) (λ h. refl) (λ h. refl) (λ h. refl)
-      (λ x m h. ap is_free (first_far Eight x m));
+  arrays = λ x some low. array_white W x some (subst (λ n. x ≤ n) (opens W) low);
+  others = λ x high.
+      ap is_free (behind_free W x (subst (λ n. n < x) (opens W) high));
 }
 
 abbrev marked : Width → KeptState
