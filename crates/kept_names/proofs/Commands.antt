@@ -23,7 +23,6 @@ use Rattle.shown_graph.proofs.Blocks.{other_block}
 use Rattle.shown_graph.proofs.ObjectLayouts.{object_layout}
 use Rattle.shown_graph.proofs.Serving.{at_field, step_follows}
 use Rattle.shown_graph.proofs.Stores.{blocks_same}
-use Rattle.block_store.specs.declared.Width.{Width}
 use Rattle.kept_names.specs.Building.{Build, IsBuild, IsBuilt}
 use Rattle.kept_names.specs.Colouring.{IfRefers, IsBlockOf, Belongs, SweepColours}
 use Rattle.kept_names.specs.States.{KeptState, sizes, Known, Kept, IsKeptBlock}
@@ -56,15 +55,6 @@ entered c g h order cycle L entry answered is k = record {
     same x = omega arith
 
 module _ (c : Config) (s : KeptState) (k : IsKept c s) where
-  abbrev W : Width
-  W = c.width
-
-  abbrev n : ℕ
-  n = c.threads
-
-  abbrev m : ℕ
-  m = c.blocks
-
   abbrev g : Graph
   g = s.seen.graph
 
@@ -81,7 +71,8 @@ module _ (c : Config) (s : KeptState) (k : IsKept c s) where
   -- a move leaves the names and sizes of objects, and stores at most one word
   record Moves (h : Graph) (u : BlockWords) : Type 0 where
     names : (a : Name) → has_name h a ≡ has_name g a
-    blocks : (a : Name) → object_blocks W (object_of h a) ≡ object_blocks W (object_of g a)
+    blocks : (a : Name) → object_blocks c.width (object_of h a) ≡ object_blocks c.width
+        (object_of g a)
     counts : (t : ℕ) → count_of h t ≡ count_of g t
     store : IsStore u
 
@@ -93,14 +84,14 @@ module _ (c : Config) (s : KeptState) (k : IsKept c s) where
     store = store;
   }
 
-  in_graph : (t : ℕ) → t < n → t < length g.mutators
+  in_graph : (t : ℕ) → t < c.threads → t < length g.mutators
   in_graph t tn = subst (λ n. t < n) (sym (shown c s k).sized.threads) tn
 
-  in_register : (u : BlockWords) (t d : ℕ) (v : Value) → t < n → IsStore u
+  in_register : (u : BlockWords) (t d : ℕ) (v : Value) → t < c.threads → IsStore u
       → Moves (with_register g t d v) u
   in_register u t d v tn store = record {
     names = λ a. has_name_with_register g t d v a (in_graph t tn);
-    blocks = λ a. ap (object_blocks W) (object_with_register g t d v a (in_graph t tn));
+    blocks = λ a. ap (object_blocks c.width) (object_with_register g t d v a (in_graph t tn));
     counts = λ x. ap length
         (objects_with g t x (record {
           registers = set (mutator_at g t).registers d v;
@@ -109,8 +100,9 @@ module _ (c : Config) (s : KeptState) (k : IsKept c s) where
     store = store;
   }
 
-  in_array : (t r : ℕ) → t < n → r < REGISTERS → IsKeptBlock c s (register_block W t r)
-  in_array t r tn rl = inl (register_some W t r, register_low W n t r tn rl)
+  in_array : (t r : ℕ) → t < c.threads → r < REGISTERS
+      → IsKeptBlock c s (register_block c.width t r)
+  in_array t r tn rl = inl (register_some c.width t r, register_low c.width c.threads t r tn rl)
 
   constant_refers : (v : Value) → IsConstant v
       → IfRefers (IsBlockOf (Kept s) (sizes c s) s.at) (value_word (λ a. 0) v)
@@ -118,7 +110,7 @@ module _ (c : Config) (s : KeptState) (k : IsKept c s) where
       (λ a e. absurd (subst IsConstant e is))
 
   -- each event of a command is such a move
-  served_moves : (e : Event) → commanded.Guard W n s.seen e
+  served_moves : (e : Event) → commanded.Guard c.width c.threads s.seen e
       → Moves (served c s e).graph (served c s e).words
   served_moves (ReadObject t r) q = still w unwritten
   served_moves (ReadValue t r) q = still w unwritten
@@ -126,23 +118,26 @@ module _ (c : Config) (s : KeptState) (k : IsKept c s) where
   served_moves (ReadLink t j p) q = still w unwritten
   served_moves (ReadField t d a i j) q = in_register w t d _ q.0 unwritten
   served_moves (StorePending t) q = still _
-      (stored (register_block W t (value_at s.seen t).origin) _ _
+      (stored (register_block c.width t (value_at s.seen t).origin) _ _
       (in_array t (value_at s.seen t).origin q.0 (value_is c s k t q.0 q.1).origin)
       (loaded_kept c s k t q.0 q.1))
   served_moves (StoreValue t d) q = in_register _ t d _ q.0
-      (stored (register_block W t d) _ _ (in_array t d q.0 q.1) (loaded_kept c s k t q.0 q.3))
+      (stored (register_block c.width t d) _ _ (in_array t d q.0 q.1) (loaded_kept c s k t q.0 q.3))
   served_moves (StoreConstant t d v) q = in_register _ t d v q.0
-      (stored (register_block W t d) _ _ (in_array t d q.0 q.1) (constant_refers v q.3))
+      (stored (register_block c.width t d) _ _ (in_array t d q.0 q.1) (constant_refers v q.3))
   served_moves (StoreField t a i j) q =
-      let (ka, block, low, field) = at_field W n m (Kept s) s.at s.seen k.follows t a i j q.0 q.3 in
-      let place = (object_layout W (object_of g a)).slots (object_at s.seen t).ordinal j i field in
+      let (ka, block, low, field) = at_field c.width c.threads c.blocks (Kept s) s.at s.seen
+      k.follows t a i j q.0 q.3 in
+      let place = (object_layout c.width (object_of g a)).slots (object_at s.seen t).ordinal j i
+      field in
       let v = register_of g t (value_at s.seen t).origin in
       let kept = (shown c s k).closed.registers t (value_at s.seen t).origin q.0
       (value_is c s k t q.0 q.2).origin in
       let has = (shown c s k).names a ka in
       record {
         names = λ b. has_name_with_field g a i _ has b;
-        blocks = λ b. blocks_same W n m (Kept s) g s.at w (pending_registers s.seen.loads)
+        blocks = λ b. blocks_same c.width c.threads c.blocks (Kept s) g s.at w
+            (pending_registers s.seen.loads)
             (shown c s k) a i _ ka place.0 kept b;
         counts = λ x. count_with_field g a i _ has x;
         store = stored (object_at s.seen t).block j _
@@ -156,32 +151,36 @@ module _ (c : Config) (s : KeptState) (k : IsKept c s) where
       }
   served_moves (Finish t) q = still w unwritten
 
-  builds_moved : (u : BlockWords) → IsStore u → (t : ℕ) → t < n
-      → IfSome (s.builds t) (λ b. IsBuild W n m s.cycle s.colour u b)
+  builds_moved : (u : BlockWords) → IsStore u → (t : ℕ) → t < c.threads
+      → IfSome (s.builds t) (λ b. IsBuild c.width c.threads c.blocks s.cycle s.colour u b)
   builds_moved _ unwritten t tn = k.builds t tn
   builds_moved _ (stored x j v there refers) t tn = some_case
-      (λ b. IsBuild W n m s.cycle s.colour (with_payload w x j v) b) (s.builds t)
-      (λ b is. build_rewritten W n m s.cycle s.colour w b (build_of c s k t b tn is)
+      (λ b. IsBuild c.width c.threads c.blocks s.cycle s.colour (with_payload w x j v) b)
+      (s.builds t)
+      (λ b is. build_rewritten c.width c.threads c.blocks s.cycle s.colour w b
+      (build_of c s k t b tn is)
       (with_payload w x j v)
-      (λ o ol. other_block W w x j v (b.held o)
+      (λ o ol. other_block c.width w x j v (b.held o)
       (λ e. belongs_not_held c s k x there t b tn is o ol e)))
 
   sweep_moved : (u : BlockWords) → IsStore u → s.sweep ≡ true
-      → SweepColours W n s.cycle (Kept s) (sizes c s) s.at s.colour u.payload s.shaded
+      → SweepColours c.width c.threads s.cycle (Kept s) (sizes c s) s.at s.colour u.payload s.shaded
   sweep_moved _ unwritten sweep = k.sweeping sweep
-  sweep_moved _ (stored x j v there refers) sweep = payload_written W n s.cycle (Kept s)
+  sweep_moved _ (stored x j v there refers) sweep = payload_written c.width c.threads s.cycle
+      (Kept s)
       (sizes c s) s.at s.colour w.payload s.shaded (k.sweeping sweep) x j v
       (λ _. refers_more (IsBlockOf (Kept s) (sizes c s) s.at) _ v
       (λ y b. kept_black c s k sweep y b) refers)
 
   -- so it keeps everything, if it keeps the order
   moved : (now : GraphState) (order : List HistoryItem) → Moves now.graph now.words
-      → Follows W n m (Kept s) s.at now → IsOrdered c now.graph order s.cycle (Known s)
-      → ((u r : ℕ) → u < n → r < REGISTERS → pending_registers now.loads u r ≡ true
+      → Follows c.width c.threads c.blocks (Kept s) s.at now → IsOrdered c now.graph order s.cycle
+      (Known s)
+      → ((u r : ℕ) → u < c.threads → r < REGISTERS → pending_registers now.loads u r ≡ true
       → IsOlder c order now.words (Kept s) s.at u r)
       → IsKept c (record s { seen = now; order = order })
   moved now order m follows ordered older =
-      let same : sizes c s ≡ (λ a. object_blocks W (object_of now.graph a)) = λ i a. sym
+      let same : sizes c s ≡ (λ a. object_blocks c.width (object_of now.graph a)) = λ i a. sym
       (m.blocks a) i in
       record {
         ordered = ordered;
@@ -189,24 +188,26 @@ module _ (c : Config) (s : KeptState) (k : IsKept c s) where
         older = older;
         known = k.known;
         named = λ a la. m.names a ∙ k.named a la;
-        painted = subst (λ f. IsPainted W n s.cycle (Known s) (Kept s) f s.at s.colour
-            (IsBuilt W n s.builds)) same k.painted;
+        painted = subst (λ f. IsPainted c.width c.threads s.cycle (Known s) (Kept s) f s.at s.colour
+            (IsBuilt c.width c.threads s.builds)) same k.painted;
         builds = builds_moved now.words m.store;
         titles = λ t tn. some_more (λ (b : Build). b.name ≡ next_name g t)
             (λ (b : Build). b.name ≡ next_name now.graph t) (s.builds t)
             (λ b is e. e ∙ ap (λ z. record { thread = t; serial = z + 1 }) (sym (m.counts t)))
             (k.titles t tn);
-        scans = λ t tn some. subst (λ f. Belongs W n (Known s) f s.at (s.scans t)) same
+        scans = λ t tn some. subst (λ f. Belongs c.width c.threads (Known s) f s.at (s.scans t))
+            same
             (k.scans t tn some);
         marking = k.marking;
         sweeping = λ sweep. subst
-            (λ f. SweepColours W n s.cycle (Kept s) f s.at s.colour now.words.payload s.shaded) same
+            (λ f. SweepColours c.width c.threads s.cycle (Kept s) f s.at s.colour now.words.payload
+            s.shaded) same
             (sweep_moved now.words m.store sweep);
       }
 
-  follows_on : (e : Event) → commanded.Guard W n s.seen e
-      → Follows W n m (Kept s) s.at (served c s e)
-  follows_on e q = step_follows W n m (Kept s) s.at s.seen e q k.follows
+  follows_on : (e : Event) → commanded.Guard c.width c.threads s.seen e
+      → Follows c.width c.threads c.blocks (Kept s) s.at (served c s e)
+  follows_on e q = step_follows c.width c.threads c.blocks (Kept s) s.at s.seen e q k.follows
 
   graph_left : (e : Event) → leaves_graph e ≡ true → (served c s e).graph ≡ g
   graph_left (ReadObject t r) is = refl

@@ -1,6 +1,6 @@
 -- The events of the example may come one after another, and lead to the next cycle.
-use Rattle.std.proofs.Common.{◌≡◌, ◌≢◌, ℕ, zero, suc, ◌≤◌, ◌<◌, inl, inr, Bool, true, false, ◌&&◌, ltb, refl, arith, subst, sym, ap, ◌∙◌, Option, Some, None, List, [], ◌∷◌, ◌++◌, ne_eqb}
-use Rattle.std.proofs.lemmas.Bool.{and_parts, ltb-true, lt-leb}
+use Rattle.std.proofs.Common.{◌≡◌, ◌≢◌, ℕ, zero, suc, ◌≤◌, ◌<◌, inl, inr, Bool, true, false, ◌&&◌, ltb, refl, arith, subst, sym, ap, ◌∙◌, Option, Some, None, List, [], ◌∷◌, ◌++◌, take, ne_eqb, eqb, eqb-true, ◌+◌}
+use Rattle.std.proofs.lemmas.Bool.{cases_lt, and_parts, ltb-true, lt-leb, le-leb}
 use Rattle.block_store.specs.declared.Config.{Config}
 use Rattle.block_store.specs.declared.Value.TheVariants.{Ref}
 use Rattle.block_store.specs.declared.Width.{Width}
@@ -9,7 +9,8 @@ use Rattle.block_store.specs.Colours.{kind, is_free, is_grey, free_word, grey_wo
 use Rattle.block_store.specs.Configs.{IsInBounds}
 use Rattle.block_store.specs.Owners.{owner_word}
 use Rattle.block_store.specs.Payloads.{target, reference_word, number_word}
-use Rattle.block_store.specs.Registers.{root_block}
+use Rattle.block_store.specs.Registers.{root_block, registers_end}
+use Rattle.block_store.specs.Widths.{payloads}
 use Rattle.block_store.specs.declared.Shape.TheVariants as shapes
 use Rattle.block_store.specs.Shapes.{record_word, shape_of}
 use Rattle.block_store.proofs.ColourWords.{free-black, free-white}
@@ -18,16 +19,25 @@ use Rattle.array_trees.specs.Openings.{opening_blocks}
 use Rattle.array_trees.specs.Trees.{tree}
 use Rattle.never_heap.specs.Graphs.{register_of}
 use Rattle.never_heap.specs.Reach.{reachable}
-use Rattle.shown_graph.specs.Events.{unloaded}
-use Rattle.kept_names.specs.Building.{Build, build_blocks, IsHeldOnce}
+use Rattle.block_store.specs.declared.Value.TheVariants.{Nil}
+use Rattle.never_heap.specs.declared.Entry.{Entry}
+use Rattle.never_heap.specs.declared.Command.TheVariants as commands
+use Rattle.never_heap.specs.declared.Reply.TheVariants as replies
+use Rattle.never_heap.specs.Histories.{Did, IsAnswered, after}
+use Rattle.shown_graph.specs.Events.{ObjectLoad, ValueLoad, Loading, IsAtField, IsPrompt, object_at, register_word_in, unloaded}
+use Rattle.kept_names.specs.Building.{Build, build_in, build_blocks, IsHeldOnce}
 use Rattle.kept_names.specs.Colouring.{IfRefers, IsTricolour, NotRoot}
 use Rattle.block_store.specs.Counts.{changed}
 use Rattle.kept_names.specs.States.{KeptState}
-use Rattle.kept_names.specs.Events.{KeptEvent, apply, run, Guarded, IsAlone, IsWriting, build_at, held_at}
-use Rattle.kept_names.specs.Events.KeptEvent.{ShadeRoot}
+use Rattle.kept_names.specs.Events.{KeptEvent, Guard, apply, run, Guarded, IsAlone, IsWriting, build_at, held_at}
+use Rattle.kept_names.specs.Events.KeptEvent.{Decide, ReadWord, ShadeRead, Blacken, Flip, Free, Reserve, Collect, WriteOwner, WriteShape, WritePayload, WriteColour, Publish, ShadeRoot}
+use Rattle.shown_graph.specs.Events.Event.{StoreConstant}
+use Rattle.shown_graph.specs.Layouts.{layout_blocks}
+use Rattle.never_heap.specs.Graphs.{count_of}
 use Rattle.kept_names.specs.Openings.{OpeningColours}
-use Rattle.kept_names.specs.Example.{one_thread, first_colours, mark_events, build_events, start_events, command_events, some_events, array_name, record_name, example_start, example_end}
+use Rattle.kept_names.specs.Example.{array_block, unpaid, one_thread, first_colours, mark_events, build_events, start_events, command_events, some_events, array_name, record_name, example_start, example_end}
 use Rattle.kept_names.proofs.Colours.{changed_else}
+use Rattle.kept_names.proofs.Deciding.{decided, mapped, ◌&◌, is_bool, below, equal, unequal, if_equal, is_none, each_below, at_most, if_true, three, four, five}
 
 -- one guard after another
 infixr 5 ◌▸◌
@@ -84,52 +94,35 @@ far (w ∷ ws) f b x h le =
     let low : w.0 < b = ltb-true _ _ p.0 in
     changed_else (painted ws f) w.0 w.1 x (λ e. omega arith) ∙ far ws f b x p.1 le
 
+one_root : (W : Width) → root_block W 0 ≡ 1
+one_root Four = refl
+one_root Eight = refl
+
+array_within : (W : Width) → (1 < array_block W) × (array_block W < 9)
+array_within Four = (omega arith, omega arith)
+array_within Eight = (omega arith, omega arith)
+
+behind_free : (W : Width) (x : ℕ) → array_block W < x → first_colours W x ≡ free_word 0
+behind_free W x h =
+    let low = (array_within W).0 in
+    rw (
+      ne_eqb x 0 (λ e. omega arith),
+      ne_eqb x 1 (λ e. omega arith),
+      lt-leb x (array_block W) h,
+    ) refl
+
+array_white : (W : Width) (x : ℕ) → 0 < x → x ≤ array_block W → NotRoot W 1 x
+    → first_colours W x ≡ white_word 1
+array_white W x some low other =
+    let ne : x ≢ 1 = subst (λ y. x ≢ y) (one_root W) (other 0 (omega arith)) in
+    rw (
+      ne_eqb x 0 (λ e. omega arith),
+      ne_eqb x 1 ne,
+      le-leb x (array_block W) low,
+    ) refl
+
 first_far : (W : Width) (x : ℕ) → 9 ≤ x → first_colours W x ≡ free_word 0
-first_far Four x h = rw (
-  ne_eqb x 0 (λ e. omega arith),
-  ne_eqb x 1 (λ e. omega arith),
-  lt-leb x 6
-      (omega arith),
-) refl
-first_far Eight x h = rw (
-  ne_eqb x 0 (λ e. omega arith),
-  ne_eqb x 1 (λ e. omega arith),
-  lt-leb x 4
-      (omega arith),
-) refl
-
--- nine blocks, and those behind them
-nine : (P : ℕ → Type 0) → P 0 → P 1 → P 2 → P 3 → P 4 → P 5 → P 6 → P 7 → P 8
-    → ((x : ℕ) → 9 ≤ x → P x) → (x : ℕ) → P x
-nine P a b c d e f g h i more zero = a
-nine P a b c d e f g h i more (suc zero) = b
-nine P a b c d e f g h i more (suc (suc zero)) = c
-nine P a b c d e f g h i more (suc (suc (suc zero))) = d
-nine P a b c d e f g h i more (suc (suc (suc (suc zero)))) = e
-nine P a b c d e f g h i more (suc (suc (suc (suc (suc zero))))) = f
-nine P a b c d e f g h i more (suc (suc (suc (suc (suc (suc zero)))))) = g
-nine P a b c d e f g h i more (suc (suc (suc (suc (suc (suc (suc zero))))))) = h
-nine P a b c d e f g h i more (suc (suc (suc (suc (suc (suc (suc (suc zero)))))))) = i
-nine P a b c d e f g h i more (suc (suc (suc (suc (suc (suc (suc (suc (suc x))))))))) = more _
-    (omega arith)
-
-four : (P : ℕ → Type 0) → P 0 → P 1 → P 2 → P 3 → (j : ℕ) → j < 4 → P j
-four P a b c d zero h = a
-four P a b c d (suc zero) h = b
-four P a b c d (suc (suc zero)) h = c
-four P a b c d (suc (suc (suc zero))) h = d
-four P a b c d (suc (suc (suc (suc j)))) h = absurd (omega arith)
-
-eight : (P : ℕ → Type 0) → P 0 → P 1 → P 2 → P 3 → P 4 → P 5 → P 6 → P 7 → (j : ℕ) → j < 8 → P j
-eight P a b c d e f g h zero l = a
-eight P a b c d e f g h (suc zero) l = b
-eight P a b c d e f g h (suc (suc zero)) l = c
-eight P a b c d e f g h (suc (suc (suc zero))) l = d
-eight P a b c d e f g h (suc (suc (suc (suc zero)))) l = e
-eight P a b c d e f g h (suc (suc (suc (suc (suc zero))))) l = f
-eight P a b c d e f g h (suc (suc (suc (suc (suc (suc zero)))))) l = g
-eight P a b c d e f g h (suc (suc (suc (suc (suc (suc (suc zero))))))) l = h
-eight P a b c d e f g h (suc (suc (suc (suc (suc (suc (suc (suc j)))))))) l = absurd (omega arith)
+first_far W x h = behind_free W x (omega (arith, (array_within W).1))
 
 pub bounds : (W : Width) → IsInBounds (one_thread W)
 bounds W = record {
@@ -143,157 +136,39 @@ bounds W = record {
   shared = omega arith;
 }
 
-pub room : (W : Width) → opening_blocks (one_thread W) ≤ 20
+opens : (W : Width) → opening_blocks (one_thread W) ≡ array_block W
 unfolding target reference_word number_word owner_word kind grey_word free_word black_word
     white_word tree tree_depth record_word shape_of
-room Four = omega arith
-room Eight = omega arith
+opens Four = refl
+opens Eight = refl
+
+pub room : (W : Width) → opening_blocks (one_thread W) ≤ 20
+room W = let low = (array_within W).1 in omega (arith, opens W, low)
 
 pub first_are : (W : Width) → OpeningColours (one_thread W) (first_colours W)
 unfolding target reference_word number_word owner_word kind grey_word free_word black_word
     white_word tree tree_depth record_word shape_of
-first_are Four = record {
-  roots = only_zero (λ t. is_grey (first_colours Four (root_block Four t)) ≡ true) refl;
+first_are W = record {
+  roots = only_zero (λ t. is_grey (first_colours W (root_block W t)) ≡ true) (rw (one_root W) refl);
   none = refl;
-  arrays = nine (λ x. 0 < x → x ≤ 6 → NotRoot Four 1 x → first_colours Four x ≡ white_word 1)
-      (λ h. absurd (omega arith)) (λ h l r. absurd (r 0 (omega arith) refl)) (λ h l r. refl)
-      (λ h l r. refl) (λ h l r. refl) (λ h l r. refl) (λ h l r. refl) (λ h l. absurd (omega arith))
-      (λ h l. absurd (omega arith)) (λ x m h l. absurd (omega arith));
-  others = nine (λ x. 6 < x → is_free (first_colours Four x) ≡ true) (λ h. refl)
-      (λ h. absurd (omega arith)) (λ h. absurd (omega arith)) (λ h. absurd (omega arith))
-      (λ h. absurd (omega arith)) (λ h. absurd (omega arith)) (λ h. absurd (omega arith))
-      (λ h. refl) (λ h. refl) (λ x m h. ap is_free (first_far Four x m));
-}
-first_are Eight = record {
-  roots = only_zero (λ t. is_grey (first_colours Eight (root_block Eight t)) ≡ true) refl;
-  none = refl;
-  arrays = nine (λ x. 0 < x → x ≤ 4 → NotRoot Eight 1 x → first_colours Eight x ≡ white_word 1)
-      (λ h. absurd (omega arith)) (λ h l r. absurd (r 0 (omega arith) refl)) (λ h l r. refl)
-      (λ h l r. refl) (λ h l r. refl) (λ h l. absurd (omega arith)) (λ h l. absurd (omega arith))
-      (λ h l. absurd (omega arith)) (λ h l. absurd (omega arith)) (λ x m h l. absurd (omega arith));
-  others = nine (λ x. 4 < x → is_free (first_colours Eight x) ≡ true) (λ h. refl)
-      (λ h. absurd (omega arith)) (λ h. absurd (omega arith)) (λ h. absurd (omega arith))
-      (λ h. absurd (omega arith)) (λ h. refl) (λ h. refl) (λ h. refl) (λ h. refl)
-      (λ x m h. ap is_free (first_far Eight x m));
+  arrays = λ x some low. array_white W x some (subst (λ n. x ≤ n) (opens W) low);
+  others = λ x high.
+      ap is_free (behind_free W x (subst (λ n. n < x) (opens W) high));
 }
 
 abbrev marked : Width → KeptState
 marked W = run (one_thread W) (example_start W) (mark_events W)
 
-marking : (W : Width) → Guarded (one_thread W) (example_start W) (mark_events W)
-unfolding target reference_word number_word owner_word kind grey_word free_word black_word
-    white_word tree tree_depth record_word shape_of
-marking Four =
-    ((omega arith, omega arith, refl, tt), (omega arith, refl, inl refl), refl, refl)
-    ▸ (refl, refl, omega arith)
-    ▸ (refl, omega arith, (λ e. omega arith), refl)
-    ▸ (refl, refl, omega arith)
-    ▸ (refl, omega arith, (λ e. omega arith), refl)
-    ▸ (refl, refl, omega arith)
-    ▸ (refl, omega arith, (λ e. omega arith), refl)
-    ▸ (refl, refl, omega arith)
-    ▸ (refl, omega arith, (λ e. omega arith), refl)
-    ▸ (refl, refl)
-    ▸ (refl, refl)
-    ▸ (refl, refl)
-    ▸ (refl, refl)
-    ▸ (refl, refl)
-    ▸ tt
-marking Eight =
-    ((omega arith, omega arith, refl, tt), (omega arith, refl, inl refl), refl, refl)
-    ▸ (refl, refl, omega arith)
-    ▸ (refl, omega arith, (λ e. omega arith), refl)
-    ▸ (refl, refl, omega arith)
-    ▸ (refl, omega arith, (λ e. omega arith), refl)
-    ▸ (refl, refl)
-    ▸ (refl, refl)
-    ▸ (refl, refl)
-    ▸ tt
+abbrev some_build : (o : Option Build) → Option (o ≡ Some (build_in o))
+some_build None = None
+some_build (Some b) = Some refl
 
-abbrev marks : Width → List (ℕ × ℕ)
-marks Four = (5, black_word 1) ∷ (4, black_word 1) ∷ (3, black_word 1) ∷ (2, black_word 1) ∷
-    (1, black_word 1) ∷ (5, grey_word 0) ∷ (4, grey_word 0) ∷ (3, grey_word 0) ∷
-    (2, grey_word 0) ∷ []
-marks Eight = (3, black_word 1) ∷ (2, black_word 1) ∷ (1, black_word 1) ∷ (3, grey_word 0) ∷
-    (2, grey_word 0) ∷ []
+none_loaded : (o : Option ObjectLoad) (v : Option ValueLoad) → o ≡ None → v ≡ None
+    → record { object = o; value = v } ≡ unloaded
+none_loaded o v a b = cc
 
-marked_far : (W : Width) (x : ℕ) → 9 ≤ x → (marked W).colour x ≡ free_word 0
-unfolding target reference_word number_word owner_word kind grey_word free_word black_word
-    white_word tree tree_depth record_word shape_of
-marked_far Four x m = far (marks Four) (first_colours Four) 9 x refl m ∙ first_far Four x m
-marked_far Eight x m = far (marks Eight) (first_colours Eight) 9 x refl m ∙ first_far Eight x m
-
-none_grey : (W : Width) (x : ℕ) → is_grey ((marked W).colour x) ≡ false
-unfolding target reference_word number_word owner_word kind grey_word free_word black_word
-    white_word tree tree_depth record_word shape_of
-none_grey Four = nine (λ x. is_grey ((marked Four).colour x) ≡ false) refl refl refl refl refl refl
-    refl refl refl (λ x m. ap is_grey (marked_far Four x m))
-none_grey Eight = nine (λ x. is_grey ((marked Eight).colour x) ≡ false) refl refl refl refl refl
-    refl refl refl refl (λ x m. ap is_grey (marked_far Eight x m))
-
-tricolour : (W : Width) → IsTricolour W 1 (marked W).colour (marked W).seen.words.payload
-unfolding target reference_word number_word owner_word kind grey_word free_word black_word
-    white_word tree tree_depth record_word shape_of
-tricolour Four x j = nine (λ x. (j : ℕ) → (marked Four).colour x ≡ black_word 1 → j < 4
-    → IfRefers (λ y. (marked Four).colour y ≢ white_word 1) ((marked Four).seen.words.payload x j))
-    (λ j b. absurd (omega (arith, b)))
-    (λ j b jl. four (λ j. IfRefers (λ y. (marked Four).colour y ≢ white_word 1)
-    ((marked Four).seen.words.payload 1 j)) (λ some e. absurd (omega (arith, e)))
-    (λ some e. absurd (omega (arith, e))) (λ some e. absurd (omega (arith, e)))
-    (λ some e. absurd (omega (arith, e))) j jl)
-    (λ j b jl. four (λ j. IfRefers (λ y. (marked Four).colour y ≢ white_word 1)
-    ((marked Four).seen.words.payload 2 j)) (λ some. absurd (some refl))
-    (λ some. absurd (some refl)) (λ some. absurd (some refl)) (λ some. absurd (some refl)) j jl)
-    (λ j b jl. four (λ j. IfRefers (λ y. (marked Four).colour y ≢ white_word 1)
-    ((marked Four).seen.words.payload 3 j)) (λ some. absurd (some refl))
-    (λ some. absurd (some refl)) (λ some. absurd (some refl)) (λ some. absurd (some refl)) j jl)
-    (λ j b jl. four (λ j. IfRefers (λ y. (marked Four).colour y ≢ white_word 1)
-    ((marked Four).seen.words.payload 4 j)) (λ some. absurd (some refl))
-    (λ some. absurd (some refl)) (λ some. absurd (some refl)) (λ some. absurd (some refl)) j jl)
-    (λ j b jl. four (λ j. IfRefers (λ y. (marked Four).colour y ≢ white_word 1)
-    ((marked Four).seen.words.payload 5 j)) (λ some. absurd (some refl))
-    (λ some. absurd (some refl)) (λ some. absurd (some refl)) (λ some. absurd (some refl)) j jl)
-    (λ j b. absurd (omega (arith, b)))
-    (λ j b. absurd (omega (arith, b)))
-    (λ j b. absurd (omega (arith, b)))
-    (λ x m j b. absurd (free-black 0 1 (sym (marked_far Four x m) ∙ b))) x j
-tricolour Eight x j = nine (λ x. (j : ℕ) → (marked Eight).colour x ≡ black_word 1 → j < 8
-    → IfRefers (λ y. (marked Eight).colour y ≢ white_word 1)
-    ((marked Eight).seen.words.payload x j))
-    (λ j b. absurd (omega (arith, b)))
-    (λ j b jl. eight (λ j. IfRefers (λ y. (marked Eight).colour y ≢ white_word 1)
-    ((marked Eight).seen.words.payload 1 j)) (λ some e. absurd (omega (arith, e)))
-    (λ some e. absurd (omega (arith, e))) (λ some. absurd (some refl))
-    (λ some. absurd (some refl)) (λ some. absurd (some refl)) (λ some. absurd (some refl))
-    (λ some. absurd (some refl)) (λ some. absurd (some refl)) j jl)
-    (λ j b jl. eight (λ j. IfRefers (λ y. (marked Eight).colour y ≢ white_word 1)
-    ((marked Eight).seen.words.payload 2 j)) (λ some. absurd (some refl))
-    (λ some. absurd (some refl)) (λ some. absurd (some refl)) (λ some. absurd (some refl))
-    (λ some. absurd (some refl)) (λ some. absurd (some refl)) (λ some. absurd (some refl))
-    (λ some. absurd (some refl)) j jl)
-    (λ j b jl. eight (λ j. IfRefers (λ y. (marked Eight).colour y ≢ white_word 1)
-    ((marked Eight).seen.words.payload 3 j)) (λ some. absurd (some refl))
-    (λ some. absurd (some refl)) (λ some. absurd (some refl)) (λ some. absurd (some refl))
-    (λ some. absurd (some refl)) (λ some. absurd (some refl)) (λ some. absurd (some refl))
-    (λ some. absurd (some refl)) j jl)
-    (λ j b. absurd (omega (arith, b)))
-    (λ j b. absurd (omega (arith, b)))
-    (λ j b. absurd (omega (arith, b)))
-    (λ j b. absurd (omega (arith, b)))
-    (λ j b. absurd (omega (arith, b)))
-    (λ x m j b. absurd (free-black 0 1 (sym (marked_far Eight x m) ∙ b))) x j
-
-alone_first : (W : Width) → IsAlone (one_thread W) (marked W)
-alone_first Four = record {
-  loads = only_zero (λ t. (marked Four).seen.loads t ≡ unloaded) refl;
-  scans = only_zero (λ t. (marked Four).scans t ≡ 0) refl;
-  builds = only_zero (λ t. (marked Four).builds t ≡ None) refl;
-}
-alone_first Eight = record {
-  loads = only_zero (λ t. (marked Eight).seen.loads t ≡ unloaded) refl;
-  scans = only_zero (λ t. (marked Eight).scans t ≡ 0) refl;
-  builds = only_zero (λ t. (marked Eight).builds t ≡ None) refl;
-}
+abbrev is_unloaded : (l : Loading) → Option (l ≡ unloaded)
+is_unloaded l = mapped (λ p. none_loaded l.object l.value p.0 p.1) (is_none l.object & is_none l.value)
 
 -- a word of the record is next
 writing : (W : Width) (s : KeptState) (o words : ℕ) → s.builds 0 ≡ Some (build_at s 0)
@@ -309,61 +184,148 @@ writing W s o words is all blocks apart next step ol = record {
   once = held_once s.builds (build_at s 0) o is all apart ol;
 }
 
+abbrev writes : (W : Width) (s : KeptState) (o words : ℕ)
+    → Option (IsWriting (one_thread W) s 0 o words)
+writes W s o words =
+    mapped (λ p. writing W s o words p.0 p.1.0 p.1.1.0 p.1.1.1.0 p.1.1.1.1.0 p.1.1.1.1.1.0
+    p.1.1.1.1.1.1)
+    (some_build (s.builds 0) & equal (build_at s 0).collected 2
+    & equal (build_blocks W (build_at s 0)) 2 & unequal (held_at s 0 0) (held_at s 0 1)
+    & equal (suc o) (build_at s 0).left & equal (build_at s 0).step words & below o 2)
+
+abbrev builds : (s : KeptState) (t : ℕ)
+    → Option ((t < 1) × (s.builds t ≡ Some (build_at s t)))
+builds s t = below t 1 & some_build (s.builds t)
+
+-- whether an event may come, for those of marking and building that computing decides
+abbrev may : (W : Width) (s : KeptState) (e : KeptEvent) → Option (Guard (one_thread W) s e)
+may W s (ReadWord t x j) =
+    three (is_bool s.sweep false) (is_bool (is_grey (s.colour x)) true) (below j (payloads W))
+may W s (ShadeRead t a) =
+    four (is_bool s.sweep false) (below t 1) (unequal (s.scans t) 0)
+    (equal (s.colour (s.scans t)) (white_word s.cycle))
+may W s (Blacken x) = is_bool s.sweep false & is_bool (is_grey (s.colour x)) true
+may W s (Free x a) = is_bool s.sweep true & equal (s.colour x) (white_word s.cycle)
+may W s (Reserve t made size) =
+    four (below t 1) (is_none (s.builds t)) (at_most (count_of s.seen.graph t + 1) 131072)
+    (at_most (layout_blocks W made size) 1024)
+may W s (Collect t x) =
+    three (builds s t) (below (build_at s t).collected (build_blocks W (build_at s t)))
+    (three (below (registers_end W 1) x) (at_most x 20) (is_bool (is_free (s.colour x)) true))
+may W s (WriteOwner zero o) = writes W s o 0
+may W s (WriteShape zero o) = writes W s o 1
+may W s (WritePayload zero o j) = writes W s o (j + 2) & below j (payloads W)
+may W s (WriteColour zero o) = writes W s o (payloads W + 2)
+may W s (Publish t d work) =
+    five (builds s t) (equal (build_at s t).collected (build_blocks W (build_at s t)))
+    (equal (build_at s t).left 0) (below d 16) (is_unloaded (s.seen.loads t))
+may W s _ = None
+
+abbrev may_all : (W : Width) (s : KeptState) (es : List KeptEvent)
+    → Option (Guarded (one_thread W) s es)
+may_all W s [] = Some tt
+may_all W s (e ∷ es) = may W s e & may_all W (apply (one_thread W) s e) es
+
+abbrev rest : List KeptEvent → List KeptEvent
+rest [] = []
+rest (e ∷ es) = es
+
+abbrev give_up : KeptEvent
+give_up = Decide (StoreConstant 0 0 Nil) (unpaid (commands.Nil 0) replies.Stored)
+
+abbrev marking_on : (W : Width)
+    → Option (Guarded (one_thread W) (apply (one_thread W) (example_start W) give_up) (rest (mark_events W)))
+marking_on W = may_all W (apply (one_thread W) (example_start W) give_up) (rest (mark_events W))
+
+gives_up : (W : Width) → Guard (one_thread W) (example_start W) give_up
+gives_up W = ((omega arith, omega arith, refl, tt), (omega arith, refl, inl refl), refl, refl)
+
+marking : (W : Width) → Guarded (one_thread W) (example_start W) (mark_events W)
+unfolding target reference_word number_word owner_word kind grey_word free_word black_word
+    white_word tree tree_depth record_word shape_of
+marking Four = gives_up Four ▸ decided (marking_on Four) refl
+marking Eight = gives_up Eight ▸ decided (marking_on Eight) refl
+
+abbrev marks : Width → List (ℕ × ℕ)
+marks Four = (5, black_word 1) ∷ (4, black_word 1) ∷ (3, black_word 1) ∷ (2, black_word 1) ∷
+    (1, black_word 1) ∷ (5, grey_word 0) ∷ (4, grey_word 0) ∷ (3, grey_word 0) ∷
+    (2, grey_word 0) ∷ []
+marks Eight = (3, black_word 1) ∷ (2, black_word 1) ∷ (1, black_word 1) ∷ (3, grey_word 0) ∷
+    (2, grey_word 0) ∷ []
+
+marked_far : (W : Width) (x : ℕ) → 9 ≤ x → (marked W).colour x ≡ free_word 0
+unfolding target reference_word number_word owner_word kind grey_word free_word black_word
+    white_word tree tree_depth record_word shape_of
+marked_far Four x m = far (marks Four) (first_colours Four) 9 x refl m ∙ first_far Four x m
+marked_far Eight x m = far (marks Eight) (first_colours Eight) 9 x refl m ∙ first_far Eight x m
+
+abbrev greys : (W : Width) → Option ((x : ℕ) → x < 9 → is_grey ((marked W).colour x) ≡ false)
+greys W = each_below (λ x. is_grey ((marked W).colour x) ≡ false) 9
+    (λ x. is_bool (is_grey ((marked W).colour x)) false)
+
+low_grey : (W : Width) (x : ℕ) → x < 9 → is_grey ((marked W).colour x) ≡ false
+unfolding target reference_word number_word owner_word kind grey_word free_word black_word
+    white_word tree tree_depth record_word shape_of
+low_grey Four = decided (greys Four) refl
+low_grey Eight = decided (greys Eight) refl
+
+none_grey : (W : Width) (x : ℕ) → is_grey ((marked W).colour x) ≡ false
+unfolding target reference_word number_word owner_word kind grey_word free_word black_word
+    white_word tree tree_depth record_word shape_of
+none_grey W x = elim (cases_lt x 9) [
+  | inl low ↦ low_grey W x low
+  | inr high ↦ ap is_grey (marked_far W x high)
+]
+
+-- where a word refers to no white block
+abbrev if_refers : (P : ℕ → Type 0) (v : ℕ) → Option (P (target v)) → Option (IfRefers P v)
+if_refers P v (Some p) = Some (λ some. p)
+if_refers P v None = if_true (eqb (target v) 0) (λ h some. absurd (some (eqb-true _ _ h)))
+
+abbrev IsSolid : Width → ℕ → ℕ → Type 0
+IsSolid W x j = (marked W).colour x ≡ black_word 1
+    → IfRefers (λ y. (marked W).colour y ≢ white_word 1) ((marked W).seen.words.payload x j)
+
+abbrev solid : (W : Width) → Option ((x : ℕ) → x < 9 → (j : ℕ) → j < payloads W → IsSolid W x j)
+solid W = each_below (λ x. (j : ℕ) → j < payloads W → IsSolid W x j) 9
+    (λ x. each_below (IsSolid W x) (payloads W)
+    (λ j. if_equal ((marked W).colour x) (black_word 1)
+    (if_refers (λ y. (marked W).colour y ≢ white_word 1) ((marked W).seen.words.payload x j)
+    (unequal ((marked W).colour (target ((marked W).seen.words.payload x j))) (white_word 1)))))
+
+low_solid : (W : Width) (x : ℕ) → x < 9 → (j : ℕ) → j < payloads W → IsSolid W x j
+unfolding target reference_word number_word owner_word kind grey_word free_word black_word
+    white_word tree tree_depth record_word shape_of
+low_solid Four = decided (solid Four) refl
+low_solid Eight = decided (solid Eight) refl
+
+tricolour : (W : Width) → IsTricolour W 1 (marked W).colour (marked W).seen.words.payload
+tricolour W x j b jl = elim (cases_lt x 9) [
+  | inl low ↦ low_solid W x low j jl b
+  | inr high ↦ absurd (free-black 0 1 (sym (marked_far W x high) ∙ b))
+]
+
+alone : (W : Width) (s : KeptState) → s.seen.loads 0 ≡ unloaded → s.scans 0 ≡ 0
+    → s.builds 0 ≡ None → IsAlone (one_thread W) s
+alone W s loads scans builds = record {
+  loads = only_zero (λ t. s.seen.loads t ≡ unloaded) loads;
+  scans = only_zero (λ t. s.scans t ≡ 0) scans;
+  builds = only_zero (λ t. s.builds t ≡ None) builds;
+}
+
+abbrev building_on : (W : Width)
+    → Option (Guarded (one_thread W) (apply (one_thread W) (marked W) Flip) (rest (build_events W)))
+building_on W = may_all W (apply (one_thread W) (marked W) Flip) (rest (build_events W))
+
 building : (W : Width) → Guarded (one_thread W) (marked W) (build_events W)
 unfolding target reference_word number_word owner_word kind grey_word free_word black_word
     white_word tree tree_depth record_word shape_of
 building Four =
-    (refl, alone_first Four, none_grey Four, tricolour Four)
-    ▸ (refl, refl)
-    ▸ (omega arith, refl, omega arith, omega arith)
-    ▸ ((omega arith, refl), omega arith, (omega arith, omega arith, refl))
-    ▸ ((omega arith, refl), omega arith, (omega arith, omega arith, refl))
-    ▸ writing Four _ 1 0 refl refl refl (λ e. omega arith) refl refl (omega arith)
-    ▸ writing Four _ 1 1 refl refl refl (λ e. omega arith) refl refl (omega arith)
-    ▸ (writing Four _ 1 2 refl refl refl (λ e. omega arith) refl refl (omega arith), omega arith)
-    ▸ (writing Four _ 1 3 refl refl refl (λ e. omega arith) refl refl (omega arith), omega arith)
-    ▸ (writing Four _ 1 4 refl refl refl (λ e. omega arith) refl refl (omega arith), omega arith)
-    ▸ (writing Four _ 1 5 refl refl refl (λ e. omega arith) refl refl (omega arith), omega arith)
-    ▸ writing Four _ 1 6 refl refl refl (λ e. omega arith) refl refl (omega arith)
-    ▸ writing Four _ 0 0 refl refl refl (λ e. omega arith) refl refl (omega arith)
-    ▸ writing Four _ 0 1 refl refl refl (λ e. omega arith) refl refl (omega arith)
-    ▸ (writing Four _ 0 2 refl refl refl (λ e. omega arith) refl refl (omega arith), omega arith)
-    ▸ (writing Four _ 0 3 refl refl refl (λ e. omega arith) refl refl (omega arith), omega arith)
-    ▸ (writing Four _ 0 4 refl refl refl (λ e. omega arith) refl refl (omega arith), omega arith)
-    ▸ (writing Four _ 0 5 refl refl refl (λ e. omega arith) refl refl (omega arith), omega arith)
-    ▸ writing Four _ 0 6 refl refl refl (λ e. omega arith) refl refl (omega arith)
-    ▸ ((omega arith, refl), refl, refl, omega arith, refl)
-    ▸ tt
+    (refl, alone Four (marked Four) refl refl refl, none_grey Four, tricolour Four)
+    ▸ decided (building_on Four) refl
 building Eight =
-    (refl, alone_first Eight, none_grey Eight, tricolour Eight)
-    ▸ (refl, refl)
-    ▸ (omega arith, refl, omega arith, omega arith)
-    ▸ ((omega arith, refl), omega arith, (omega arith, omega arith, refl))
-    ▸ ((omega arith, refl), omega arith, (omega arith, omega arith, refl))
-    ▸ writing Eight _ 1 0 refl refl refl (λ e. omega arith) refl refl (omega arith)
-    ▸ writing Eight _ 1 1 refl refl refl (λ e. omega arith) refl refl (omega arith)
-    ▸ (writing Eight _ 1 2 refl refl refl (λ e. omega arith) refl refl (omega arith), omega arith)
-    ▸ (writing Eight _ 1 3 refl refl refl (λ e. omega arith) refl refl (omega arith), omega arith)
-    ▸ (writing Eight _ 1 4 refl refl refl (λ e. omega arith) refl refl (omega arith), omega arith)
-    ▸ (writing Eight _ 1 5 refl refl refl (λ e. omega arith) refl refl (omega arith), omega arith)
-    ▸ (writing Eight _ 1 6 refl refl refl (λ e. omega arith) refl refl (omega arith), omega arith)
-    ▸ (writing Eight _ 1 7 refl refl refl (λ e. omega arith) refl refl (omega arith), omega arith)
-    ▸ (writing Eight _ 1 8 refl refl refl (λ e. omega arith) refl refl (omega arith), omega arith)
-    ▸ (writing Eight _ 1 9 refl refl refl (λ e. omega arith) refl refl (omega arith), omega arith)
-    ▸ writing Eight _ 1 10 refl refl refl (λ e. omega arith) refl refl (omega arith)
-    ▸ writing Eight _ 0 0 refl refl refl (λ e. omega arith) refl refl (omega arith)
-    ▸ writing Eight _ 0 1 refl refl refl (λ e. omega arith) refl refl (omega arith)
-    ▸ (writing Eight _ 0 2 refl refl refl (λ e. omega arith) refl refl (omega arith), omega arith)
-    ▸ (writing Eight _ 0 3 refl refl refl (λ e. omega arith) refl refl (omega arith), omega arith)
-    ▸ (writing Eight _ 0 4 refl refl refl (λ e. omega arith) refl refl (omega arith), omega arith)
-    ▸ (writing Eight _ 0 5 refl refl refl (λ e. omega arith) refl refl (omega arith), omega arith)
-    ▸ (writing Eight _ 0 6 refl refl refl (λ e. omega arith) refl refl (omega arith), omega arith)
-    ▸ (writing Eight _ 0 7 refl refl refl (λ e. omega arith) refl refl (omega arith), omega arith)
-    ▸ (writing Eight _ 0 8 refl refl refl (λ e. omega arith) refl refl (omega arith), omega arith)
-    ▸ (writing Eight _ 0 9 refl refl refl (λ e. omega arith) refl refl (omega arith), omega arith)
-    ▸ writing Eight _ 0 10 refl refl refl (λ e. omega arith) refl refl (omega arith)
-    ▸ ((omega arith, refl), refl, refl, omega arith, refl)
-    ▸ tt
+    (refl, alone Eight (marked Eight) refl refl refl, none_grey Eight, tricolour Eight)
+    ▸ decided (building_on Eight) refl
 
 abbrev built : Width → KeptState
 built W = run (one_thread W) (marked W) (build_events W)
@@ -388,94 +350,80 @@ shaded_far Four x m = far (built_marks Four) (first_colours Four) 9 x refl m ∙
 shaded_far Eight x m = far (built_marks Eight) (first_colours Eight) 9 x refl m
     ∙ first_far Eight x m
 
-none_white : (W : Width) (x : ℕ) → (shaded W).colour x ≢ white_word 1
+abbrev whites : (W : Width) → Option ((x : ℕ) → x < 9 → (shaded W).colour x ≢ white_word 1)
+whites W = each_below (λ x. (shaded W).colour x ≢ white_word 1) 9
+    (λ x. unequal ((shaded W).colour x) (white_word 1))
+
+low_white : (W : Width) (x : ℕ) → x < 9 → (shaded W).colour x ≢ white_word 1
 unfolding target reference_word number_word owner_word kind grey_word free_word black_word
     white_word tree tree_depth record_word shape_of
-none_white Four = nine (λ x. (shaded Four).colour x ≢ white_word 1) (λ e. omega (arith, e))
-    (λ e. omega (arith, e)) (λ e. omega (arith, e)) (λ e. omega (arith, e)) (λ e. omega (arith, e))
-    (λ e. omega (arith, e)) (λ e. omega (arith, e)) (λ e. omega (arith, e)) (λ e. omega (arith, e))
-    (λ x m e. free-white 0 1 (sym (shaded_far Four x m) ∙ e))
-none_white Eight = nine (λ x. (shaded Eight).colour x ≢ white_word 1) (λ e. omega (arith, e))
-    (λ e. omega (arith, e)) (λ e. omega (arith, e)) (λ e. omega (arith, e)) (λ e. omega (arith, e))
-    (λ e. omega (arith, e)) (λ e. omega (arith, e)) (λ e. omega (arith, e)) (λ e. omega (arith, e))
-    (λ x m e. free-white 0 1 (sym (shaded_far Eight x m) ∙ e))
+low_white Four = decided (whites Four) refl
+low_white Eight = decided (whites Eight) refl
 
-alone_last : (W : Width) → IsAlone (one_thread W) (shaded W)
-alone_last Four = record {
-  loads = only_zero (λ t. (shaded Four).seen.loads t ≡ unloaded) refl;
-  scans = only_zero (λ t. (shaded Four).scans t ≡ 0) refl;
-  builds = only_zero (λ t. (shaded Four).builds t ≡ None) refl;
-}
-alone_last Eight = record {
-  loads = only_zero (λ t. (shaded Eight).seen.loads t ≡ unloaded) refl;
-  scans = only_zero (λ t. (shaded Eight).scans t ≡ 0) refl;
-  builds = only_zero (λ t. (shaded Eight).builds t ≡ None) refl;
-}
+none_white : (W : Width) (x : ℕ) → (shaded W).colour x ≢ white_word 1
+none_white W x e = elim (cases_lt x 9) [
+  | inl low ↦ low_white W x low e
+  | inr high ↦ free-white 0 1 (sym (shaded_far W x high) ∙ e)
+]
 
 starting : (W : Width) → Guarded (one_thread W) (built W) start_events
-starting Four = (refl, omega arith) ▸ (
-  refl,
-  alone_last Four,
-  none_white Four,
-  only_zero
-      (λ t. (shaded Four).shaded t ≡ true) refl,
-) ▸ tt
-starting Eight = (refl, omega arith) ▸ (
-  refl,
-  alone_last Eight,
-  none_white Eight,
-  only_zero
-      (λ t. (shaded Eight).shaded t ≡ true) refl,
-) ▸ tt
+starting Four =
+    (refl, omega arith)
+    ▸ (refl, alone Four (shaded Four) refl refl refl, none_white Four, only_zero (λ t. (shaded Four).shaded t ≡ true) refl)
+    ▸ tt
+starting Eight =
+    (refl, omega arith)
+    ▸ (refl, alone Eight (shaded Eight) refl refl refl, none_white Eight, only_zero (λ t. (shaded Eight).shaded t ≡ true) refl)
+    ▸ tt
 
-commanding : (W : Width) → Guarded (one_thread W) (run (one_thread W) (built W) start_events)
-    (command_events W)
+-- the state after the first k of the commands' events
+abbrev commanded : Width → KeptState → ℕ → KeptState
+commanded W s k = run (one_thread W) s (take k (command_events W))
+
+abbrev got : Entry
+got = unpaid (commands.Get 2 0 0) (replies.Val Nil)
+
+abbrev null : Entry
+null = unpaid (commands.Len 3) replies.Null
+
+-- what the commands read, at either width
+module _ (W : Width) (s : KeptState) (mark : s.sweep ≡ false)
+    (prompt : IsPrompt (s.seen.loads 0))
+    (refers : target (register_word_in W s.seen.words 0 0) ≢ 0)
+    (white : s.colour (target (register_word_in W s.seen.words 0 0)) ≡ white_word s.cycle)
+    (still : target (register_word_in W (commanded W s 3).seen.words 0 0) ≢ 0)
+    (shape : shape_of ((commanded W s 4).seen.words.shape
+    (object_at (commanded W s 4).seen 0).block) ≡ Some (shapes.List (payloads W)))
+    (field : IsAtField W (commanded W s 5).seen 0 record_name 0 1)
+    (gets : IsAnswered (commanded W s 5).seen.graph (Did got))
+    (into : (commanded W s 6).seen.graph ≡ after (commanded W s 5).seen.graph (Did got))
+    (none : IsAnswered (commanded W s 7).seen.graph (Did null))
+    (same : after (commanded W s 7).seen.graph (Did null) ≡ (commanded W s 7).seen.graph) where
+  commanding_on : Guarded (one_thread W) s (command_events W)
+  commanding_on =
+      ((omega arith, omega arith, prompt), refl)
+      ▸ (mark, omega arith, refl, refers, white)
+      ▸ ((omega arith, omega arith, refl, refl), (omega arith, refl, inl refl), refl, refl)
+      ▸ ((omega arith, omega arith, refl, still), refl)
+      ▸ ((omega arith, refl, shape), refl)
+      ▸ ((omega arith, omega arith, refl, field), (omega arith, refl, gets), refl, into)
+      ▸ ((omega arith, refl, refl), refl)
+      ▸ ((omega arith, refl, none), same)
+      ▸ ((omega arith, refl, inr (refl, refl)), refl)
+      ▸ tt
+
+abbrev started : Width → KeptState
+started W = run (one_thread W) (built W) start_events
+
+commanding : (W : Width) → Guarded (one_thread W) (started W) (command_events W)
 unfolding target reference_word number_word owner_word kind grey_word free_word black_word
     white_word tree tree_depth record_word shape_of
-commanding Four =
-    ((omega arith, omega arith, refl), refl)
-    ▸ (refl, omega arith, refl, (λ e. omega arith), refl)
-    ▸ ((omega arith, omega arith, refl, refl), (omega arith, refl, inl refl), refl, refl)
-    ▸ ((omega arith, omega arith, refl, (λ e. omega arith)), refl)
-    ▸ ((omega arith, refl, refl), refl)
-    ▸ (
-      (
-        omega arith,
-        omega arith,
-        refl,
-        record
-            { object = refl; refers = refl; shape = shapes.List 4; read = refl; field = refl },
-      ),
-      (omega arith, refl, inl refl),
-      refl,
-      refl,
-    )
-    ▸ ((omega arith, refl, refl), refl)
-    ▸ ((omega arith, refl, inl refl), refl)
-    ▸ ((omega arith, refl, inr (refl, refl)), refl)
-    ▸ tt
-commanding Eight =
-    ((omega arith, omega arith, refl), refl)
-    ▸ (refl, omega arith, refl, (λ e. omega arith), refl)
-    ▸ ((omega arith, omega arith, refl, refl), (omega arith, refl, inl refl), refl, refl)
-    ▸ ((omega arith, omega arith, refl, (λ e. omega arith)), refl)
-    ▸ ((omega arith, refl, refl), refl)
-    ▸ (
-      (
-        omega arith,
-        omega arith,
-        refl,
-        record
-            { object = refl; refers = refl; shape = shapes.List 8; read = refl; field = refl },
-      ),
-      (omega arith, refl, inl refl),
-      refl,
-      refl,
-    )
-    ▸ ((omega arith, refl, refl), refl)
-    ▸ ((omega arith, refl, inl refl), refl)
-    ▸ ((omega arith, refl, inr (refl, refl)), refl)
-    ▸ tt
+commanding Four = commanding_on Four (started Four) refl refl (λ e. omega arith) refl (λ e. omega arith) refl
+    (record { object = refl; refers = refl; shape = shapes.List 4; read = refl; field = refl })
+    (inl refl) refl (inl refl) refl
+commanding Eight = commanding_on Eight (started Eight) refl refl (λ e. omega arith) refl (λ e. omega arith) refl
+    (record { object = refl; refers = refl; shape = shapes.List 8; read = refl; field = refl })
+    (inl refl) refl (inl refl) refl
 
 pub example_runs : (W : Width) → Guarded (one_thread W) (example_start W) (some_events W)
 example_runs W = guarded_on (one_thread W) (example_start W) (mark_events W)

@@ -15,3 +15,4 @@ pub mod Opening
 pub mod Showing
 pub mod Example
 pub mod Pictured
+pub mod Deciding

@@ -6,7 +6,6 @@ use Rattle.block_store.proofs.Functions.{changed_map, changed_self}
 use Rattle.never_heap.specs.Graphs.{Graph}
 use Rattle.never_heap.specs.Histories.{HistoryItem}
 use Rattle.shown_graph.specs.Events.{Loading}
-use Rattle.shown_graph.specs.Words.{block_words}
 use Rattle.kept_names.specs.Building.{Build}
 use Rattle.kept_names.specs.Pictures.{Task, Names, picture}
 use Rattle.kept_names.specs.States.{KeptState}

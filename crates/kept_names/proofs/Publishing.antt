@@ -5,7 +5,6 @@ use Rattle.block_store.specs.declared.Config.{Config}
 use Rattle.block_store.specs.declared.Name.{Name}
 use Rattle.block_store.specs.declared.TheConstants.{REGISTERS}
 use Rattle.block_store.specs.declared.Value.TheVariants.{Nil, Ref}
-use Rattle.block_store.specs.declared.Width.{Width}
 use Rattle.block_store.specs.Colours.{is_free, black_word}
 use Rattle.block_store.specs.Configs.{IsInBounds}
 use Rattle.block_store.specs.Payloads.{reference_word}
@@ -85,15 +84,6 @@ graph_new g t d size work Array = refl
 module _ (c : Config) (inside : IsInBounds c) (s : KeptState) (k : IsKept c s) (t d work : ℕ)
     (building : IsBuilding c s t) (all : HasAll c s t) (ready : (build_at s t).left ≡ 0)
     (small : d < REGISTERS) (idle : s.seen.loads t ≡ unloaded) where
-  abbrev W : Width
-  W = c.width
-
-  abbrev n : ℕ
-  n = c.threads
-
-  abbrev m : ℕ
-  m = c.blocks
-
   abbrev g : Graph
   g = s.seen.graph
 
@@ -135,16 +125,16 @@ module _ (c : Config) (inside : IsInBounds c) (s : KeptState) (k : IsKept c s) (
   abbrev pending : ℕ → ℕ → Bool
   pending = pending_registers s.seen.loads
 
-  mine : IsBuild W n m s.cycle s.colour w own
+  mine : IsBuild c.width c.threads c.blocks s.cycle s.colour w own
   mine = build_of c s k t own building.0 building.1
 
   title : own.name ≡ next_name g t
   title = title_of c s k t own building.0 building.1
 
-  held_is : (o : ℕ) → o < build_blocks W own → o < own.collected
+  held_is : (o : ℕ) → o < build_blocks c.width own → o < own.collected
   held_is o ol = omega (arith, all)
 
-  made : IsMade W n m g w t own.kind own.size own.held
+  made : IsMade c.width c.threads c.blocks g w t own.kind own.size own.held
   made = record {
     thread = building.0;
     few_threads = omega (arith, building.0, inside.threads);
@@ -152,8 +142,8 @@ module _ (c : Config) (inside : IsInBounds c) (s : KeptState) (k : IsKept c s) (
     ordinals = mine.few_blocks;
     behind = λ o ol. mine.behind o (held_is o ol);
     within = λ o ol. mine.within o (held_is o ol);
-    blocks = λ o ol. written_shows W (λ a. 0) w new own.kind own.size own.held o
-        (subst (λ (a : Name). IsWritten W w a own.kind own.size own.held o) title
+    blocks = λ o ol. written_shows c.width (λ a. 0) w new own.kind own.size own.held o
+        (subst (λ (a : Name). IsWritten c.width w a own.kind own.size own.held o) title
         (mine.written o (omega (arith, ready)) ol));
   }
 
@@ -178,13 +168,14 @@ module _ (c : Config) (inside : IsInBounds c) (s : KeptState) (k : IsKept c s) (
   object_old a has = object_now a ∙ ap (λ b. cond b object (object_of g a)) (fresh a has)
 
   size_old : (a : Name) → has_name g a ≡ true
-      → object_blocks W (object_of after_it a) ≡ object_blocks W (object_of g a)
-  size_old a has = ap (object_blocks W) (object_old a has)
+      → object_blocks c.width (object_of after_it a) ≡ object_blocks c.width (object_of g a)
+  size_old a has = ap (object_blocks c.width) (object_old a has)
 
   size_new : (a : Name) → same_name new a ≡ true
-      → object_blocks W (object_of after_it a) ≡ build_blocks W own
-  size_new a is = ap (object_blocks W) (object_now a ∙ ap (λ b. cond b object (object_of g a)) is)
-      ∙ blocks_of_new W own.kind own.size
+      → object_blocks c.width (object_of after_it a) ≡ build_blocks c.width own
+  size_new a is = ap (object_blocks c.width) (object_now a ∙ ap (λ b. cond b object (object_of g a))
+      is)
+      ∙ blocks_of_new c.width own.kind own.size
 
   place_old : (a : Name) → has_name g a ≡ true → placed a ≡ s.at a
   place_old a has = ap (λ b. cond b own.held (s.at a)) (fresh a has)
@@ -209,33 +200,38 @@ module _ (c : Config) (inside : IsInBounds c) (s : KeptState) (k : IsKept c s) (
   new_kept : with_name s.kept new new ≡ true
   new_kept = or_left _ _ (same_self new)
 
-  shown_named : Shows W n m More grown placed w pending
-  shown_named = same_names W n m (and_name (Kept s) new) grown placed w pending
-      (publish W n m (Kept s) g s.at w pending (shown c s k) t own.kind own.size own.held made)
+  shown_named : Shows c.width c.threads c.blocks More grown placed w pending
+  shown_named = same_names c.width c.threads c.blocks (and_name (Kept s) new) grown placed w pending
+      (publish c.width c.threads c.blocks (Kept s) g s.at w pending (shown c s k) t own.kind
+      own.size own.held made)
       More (λ a h. or_cases _ _ h) (λ a h. from a h)
     where
       from : (a : Name) → and_name (Kept s) new a → with_name s.kept new a ≡ true
       from a (inl is) = or_left _ _ is
       from a (inr ka) = or_right _ _ ka
 
-  shown_new : Shows W n m More after_it placed
+  shown_new : Shows c.width c.threads c.blocks More after_it placed
       words pending
-  shown_new = subst (λ x. Shows W n m More after_it placed
-      (with_payload w (register_block W t d) (register_slot W d) (reference_word x)) pending)
-      (fresh_head W n m (Kept s) g s.at w pending (shown c s k) t own.kind own.size own.held made)
-      (register_store W n m More grown placed w pending shown_named
+  shown_new = subst (λ x. Shows c.width c.threads c.blocks More after_it placed
+      (with_payload w (register_block c.width t d) (register_slot c.width d) (reference_word x))
+      pending)
+      (fresh_head c.width c.threads c.blocks (Kept s) g s.at w pending (shown c s k) t own.kind
+      own.size own.held made)
+      (register_store c.width c.threads c.blocks More grown placed w pending shown_named
       pending t d building.0 small (Ref new) new_kept (λ u q e _. e))
 
   -- what other threads have loaded stays of the graph
   register_other : (u r : ℕ) → (t ≡ u → ⊥) → register_of after_it u r ≡ register_of g u r
-  register_other u r ne = sym (register_same W n m More grown placed w pending shown_named
+  register_other u r ne = sym (register_same c.width c.threads c.blocks More grown placed w pending
+      shown_named
       pending t d building.0 small (Ref new) new_kept u r (λ e _. ne e))
       ∙ ap (λ rs. get_or rs r Nil) (registers_with_object g t object in_graph u)
 
-  load_other : (u : ℕ) → u < n → (t ≡ u → ⊥) → (l : Loading) → LoadIs W g s.at u l
-      → LoadIs W after_it placed u l
+  load_other : (u : ℕ) → u < c.threads → (t ≡ u → ⊥) → (l : Loading) → LoadIs c.width g s.at u l
+      → LoadIs c.width after_it placed u l
   load_other u un ne l is = record {
-    object = some_map (λ o. ObjectIs W g s.at u o) (λ o. ObjectIs W after_it placed u o) l.object
+    object = some_map (λ o. ObjectIs c.width g s.at u o) (λ o. ObjectIs c.width after_it placed u o)
+        l.object
         (λ o i.
         (let has = kept_name i.name
         (subst (IsValueOf (Kept s)) i.refers
@@ -260,9 +256,9 @@ module _ (c : Config) (inside : IsInBounds c) (s : KeptState) (k : IsKept c s) (
         }) is.value;
   }
 
-  loads_now : (u : ℕ) → u < n → LoadIs W after_it placed u (s.seen.loads u)
+  loads_now : (u : ℕ) → u < c.threads → LoadIs c.width after_it placed u (s.seen.loads u)
   loads_now u un = elim (cases_eq t u) [
-    | inl e ↦ subst (λ (l : Loading). LoadIs W after_it placed u l)
+    | inl e ↦ subst (λ (l : Loading). LoadIs c.width after_it placed u l)
         (sym (ap s.seen.loads (sym e) ∙ idle)) (record { object = tt; value = tt })
     | inr ne ↦ load_other u un ne (s.seen.loads u) (k.follows.loads u un)
   ]
@@ -297,7 +293,7 @@ module _ (c : Config) (inside : IsInBounds c) (s : KeptState) (k : IsKept c s) (
           ]))
 
   -- the blocks of known names, and those that this builder has coloured, are of known names
-  known_old : (x : ℕ) → IsKnownBlock c s x → Belongs W n MoreKnown more_sizes placed x
+  known_old : (x : ℕ) → IsKnownBlock c s x → Belongs c.width c.threads MoreKnown more_sizes placed x
   known_old x (inl r) = inl r
   known_old x (inr b) = inr (record {
     name = b.name;
@@ -307,8 +303,8 @@ module _ (c : Config) (inside : IsInBounds c) (s : KeptState) (k : IsKept c s) (
     is = b.is ∙ ap (λ (f : ℕ → ℕ). f b.ordinal) (sym (place_old b.name (k.named b.name b.kept)));
   })
 
-  known_new : (x : ℕ) (b : Build) (o : ℕ) → s.builds t ≡ Some b → o < build_blocks W b
-      → x ≡ b.held o → Belongs W n MoreKnown more_sizes placed x
+  known_new : (x : ℕ) (b : Build) (o : ℕ) → s.builds t ≡ Some b → o < build_blocks c.width b
+      → x ≡ b.held o → Belongs c.width c.threads MoreKnown more_sizes placed x
   known_new x b o is ol e =
       let one : Some b ≡ Some own = sym is ∙ building.1 in
       let same : b ≡ build_at s t = cc in
@@ -317,13 +313,14 @@ module _ (c : Config) (inside : IsInBounds c) (s : KeptState) (k : IsKept c s) (
         ordinal = o;
         kept = or_left _ _ (same_self new);
         low = subst (λ z. o < z) (sym (size_new new (same_self new)))
-            (subst (λ b. o < build_blocks W b) same ol);
+            (subst (λ b. o < build_blocks c.width b) same ol);
         is = e ∙ ap (λ (b : Build). b.held o) same
             ∙ ap (λ (f : ℕ → ℕ). f o) (sym (place_new new (same_self new)));
       })
 
-  marked_now : (x : ℕ) → IsKnownBlock c s x ⊎ IsBuilt W n s.builds x
-      → Belongs W n MoreKnown more_sizes placed x ⊎ IsBuilt W n (changed s.builds t None) x
+  marked_now : (x : ℕ) → IsKnownBlock c s x ⊎ IsBuilt c.width c.threads s.builds x
+      → Belongs c.width c.threads MoreKnown more_sizes placed x ⊎ IsBuilt c.width c.threads
+      (changed s.builds t None) x
   marked_now x (inl b) = inl (known_old x b)
   marked_now x (inr q) = elim (cases_eq t q.thread) [
     | inl e ↦ inl (known_new x q.build q.ordinal (ap s.builds e ∙ q.builds_it) q.low q.is)
@@ -340,10 +337,11 @@ module _ (c : Config) (inside : IsInBounds c) (s : KeptState) (k : IsKept c s) (
   ]
 
   -- the blocks of kept names have a colour that the old ones and the new ones have
-  coloured_now : (P : ℕ → Type 0) → ((o : ℕ) → o < build_blocks W own → P (s.colour (own.held o)))
+  coloured_now : (P : ℕ → Type 0)
+      → ((o : ℕ) → o < build_blocks c.width own → P (s.colour (own.held o)))
       → ((a : Name) (o : ℕ) → Kept s a → o < sizes c s a → P (s.colour (s.at a o)))
       → (a : Name) (o : ℕ) → with_name s.kept new a ≡ true
-      → o < object_blocks W (object_of after_it a) → P (s.colour (placed a o))
+      → o < object_blocks c.width (object_of after_it a) → P (s.colour (placed a o))
   coloured_now P fresh_ones old a o h ol = either (or_cases _ _ h)
     where
       either : (same_name new a ≡ true) ⊎ Kept s a → P (s.colour (placed a o))
@@ -353,17 +351,18 @@ module _ (c : Config) (inside : IsInBounds c) (s : KeptState) (k : IsKept c s) (
           (sym (place_old a (kept_name a ka)))
           (old a o ka (subst (λ z. o < z) (size_old a (kept_name a ka)) ol))
 
-  new_black : (o : ℕ) → o < build_blocks W own → s.colour (own.held o) ≡ black_word s.cycle
+  new_black : (o : ℕ) → o < build_blocks c.width own → s.colour (own.held o) ≡ black_word s.cycle
   new_black o ol = mine.black o (omega (arith, ready)) ol
 
-  first : 0 < build_blocks W own
-  first = (layout_laws W own.kind own.size).first
+  first : 0 < build_blocks c.width own
+  first = (layout_laws c.width own.kind own.size).first
 
-  sweep_now : s.sweep ≡ true → SweepColours W n s.cycle More more_sizes placed s.colour
+  sweep_now : s.sweep ≡ true → SweepColours c.width c.threads s.cycle More more_sizes placed
+      s.colour
       words.payload s.shaded
   sweep_now sweep =
       let q = k.sweeping sweep in
-      payload_written W n s.cycle More more_sizes placed s.colour w.payload s.shaded
+      payload_written c.width c.threads s.cycle More more_sizes placed s.colour w.payload s.shaded
       (record {
         kept = λ a o h ol. coloured_now (λ w. w ≡ black_word s.cycle) new_black q.kept a o h ol;
         arrays = q.arrays;
@@ -371,11 +370,12 @@ module _ (c : Config) (inside : IsInBounds c) (s : KeptState) (k : IsKept c s) (
         roots = q.roots;
         darks = q.darks;
       })
-      (register_block W t d) (register_slot W d) (reference_word (own.held 0))
-      (λ _. refers_block (λ y. (s.colour y ≡ black_word s.cycle) × NotRoot W n y) (own.held 0)
+      (register_block c.width t d) (register_slot c.width d) (reference_word (own.held 0))
+      (λ _. refers_block (λ y. (s.colour y ≡ black_word s.cycle) × NotRoot c.width c.threads y)
+      (own.held 0)
       (λ _. (
         new_black 0 first,
-        behind_roots W n (own.held 0)
+        behind_roots c.width c.threads (own.held 0)
             (mine.behind 0 (held_is 0 first)),
       )))
 
@@ -393,7 +393,7 @@ module _ (c : Config) (inside : IsInBounds c) (s : KeptState) (k : IsKept c s) (
   all_kept mark a (inr ka) = or_right _ _ ((k.marking mark).all a ka)
 
   -- a register of another thread that is pending has its older value
-  older_now : (u r : ℕ) → u < n → r < REGISTERS → pending_registers s.seen.loads u r ≡ true
+  older_now : (u r : ℕ) → u < c.threads → r < REGISTERS → pending_registers s.seen.loads u r ≡ true
       → IsOlder c (s.order ++ Did (made_entry s t d work) ∷ []) words More placed u r
   older_now u r un rl is = elim (cases_eq t u) [
     | inl e ↦ absurd (differ _ is (ap (λ v. pending_registers s.seen.loads v r) (sym e)
@@ -422,14 +422,18 @@ module _ (c : Config) (inside : IsInBounds c) (s : KeptState) (k : IsKept c s) (
           (λ o ol. black_solid s.cycle _ (new_black o ol)) k.painted.solid a o h ol;
       marked = λ x q. marked_now x (k.painted.marked x q);
     };
-    builds = λ u un. changed_case (λ _ o. IfSome o (λ b. IsBuild W n m s.cycle s.colour words b))
+    builds = λ u un. changed_case (λ _ o. IfSome o (λ b. IsBuild c.width c.threads c.blocks s.cycle
+        s.colour words b))
         s.builds t None u (λ _. tt)
-        (λ _. some_case (λ b. IsBuild W n m s.cycle s.colour words b) (s.builds u) (λ b is.
+        (λ _. some_case (λ b. IsBuild c.width c.threads c.blocks s.cycle s.colour words b)
+        (s.builds u) (λ b is.
         (let q = build_of c s k u b un is in
-        build_rewritten W n m s.cycle s.colour w b q _
-        (λ o ol. other_block W w (register_block W t d) (register_slot W d) _ (b.held o)
-        (λ e. not_held_array W n m s.cycle s.colour w b q (register_block W t d)
-        (register_low W n t d building.0 small) o ol e)))));
+        build_rewritten c.width c.threads c.blocks s.cycle s.colour w b q _
+        (λ o ol. other_block c.width w (register_block c.width t d) (register_slot c.width d) _
+        (b.held o)
+        (λ e. not_held_array c.width c.threads c.blocks s.cycle s.colour w b q
+        (register_block c.width t d)
+        (register_low c.width c.threads t d building.0 small) o ol e)))));
     titles = λ u un. changed_case (λ _ o. IfSome o (λ (b : Build). b.name ≡ next_name after_it u))
         s.builds t None u (λ _. tt)
         (λ ne. some_more (λ (b : Build). b.name ≡ next_name g u)

@@ -37,15 +37,6 @@ belongs_more W n K L blocks at x more (inr b) = inr
     })
 
 module _ (c : Config) (s : KeptState) (k : IsKept c s) where
-  abbrev W : Width
-  W = c.width
-
-  abbrev n : ℕ
-  n = c.threads
-
-  abbrev m : ℕ
-  m = c.blocks
-
   abbrev g : Graph
   g = s.seen.graph
 
@@ -55,33 +46,36 @@ module _ (c : Config) (s : KeptState) (k : IsKept c s) where
   abbrev pending : ℕ → ℕ → Bool
   pending = pending_registers s.seen.loads
 
-  pub shown : Shows W n m (Kept s) g s.at w pending
+  pub shown : Shows c.width c.threads c.blocks (Kept s) g s.at w pending
   shown = k.follows.shows
 
-  pub build_of : (t : ℕ) (b : Build) → t < n → s.builds t ≡ Some b
-      → IsBuild W n m s.cycle s.colour w b
-  build_of t b tn e = some_is (λ b. IsBuild W n m s.cycle s.colour w b) (s.builds t) b e
+  pub build_of : (t : ℕ) (b : Build) → t < c.threads → s.builds t ≡ Some b
+      → IsBuild c.width c.threads c.blocks s.cycle s.colour w b
+  build_of t b tn e = some_is (λ b. IsBuild c.width c.threads c.blocks s.cycle s.colour w b)
+      (s.builds t) b e
       (k.builds t tn)
 
-  pub title_of : (t : ℕ) (b : Build) → t < n → s.builds t ≡ Some b → b.name ≡ next_name g t
+  pub title_of : (t : ℕ) (b : Build) → t < c.threads → s.builds t ≡ Some b → b.name ≡ next_name g t
   title_of t b tn e = some_is (λ (b : Build). b.name ≡ next_name g t) (s.builds t) b e
       (k.titles t tn)
 
   -- a name that is being built is not known
-  pub unknown : (t : ℕ) (b : Build) → t < n → s.builds t ≡ Some b → Known s b.name → ⊥
+  pub unknown : (t : ℕ) (b : Build) → t < c.threads → s.builds t ≡ Some b → Known s b.name → ⊥
   unknown t b tn e known =
       let fresh : same_name (next_name g t) b.name ≡ false = not_next g t b.name
       (k.named b.name known) in
       differ _ (is_same (next_name g t) b.name (sym (title_of t b tn e))) fresh
 
   -- a block of a kept object is not held: it is not Free, and what is black has another owner
-  pub kept_not_held : (x : ℕ) → IsBlockOf (Kept s) (sizes c s) s.at x → (t : ℕ) (b : Build) → t < n
+  pub kept_not_held : (x : ℕ) → IsBlockOf (Kept s) (sizes c s) s.at x → (t : ℕ) (b : Build)
+      → t < c.threads
       → s.builds t ≡ Some b → NotHeld b x
   kept_not_held x q t b tn is o ol e = either
-      (held_is W n m s.cycle s.colour w b (build_of t b tn is) o ol)
+      (held_is c.width c.threads c.blocks s.cycle s.colour w b (build_of t b tn is) o ol)
     where
       either : (is_free (s.colour (b.held o)) ≡ true)
-          ⊎ ((b.left ≤ o) × (o < build_blocks W b) × (s.colour (b.held o) ≡ black_word s.cycle)) → ⊥
+          ⊎ ((b.left ≤ o) × (o < build_blocks c.width b)
+          × (s.colour (b.held o) ≡ black_word s.cycle)) → ⊥
       either (inl f) = differ _ (subst (λ z. is_free (s.colour z) ≡ true) (sym e ∙ q.is) f)
           (k.painted.solid q.name q.ordinal q.kept q.low)
       either (inr h) =
@@ -95,15 +89,17 @@ module _ (c : Config) (s : KeptState) (k : IsKept c s) where
           unknown t b tn is (subst (Known s)
           (λ i. record { thread = sym one.0 i; serial = sym one.1 i }) (k.known q.name q.kept))
 
-  pub belongs_not_held : (x : ℕ) → IsKeptBlock c s x → (t : ℕ) (b : Build) → t < n
+  pub belongs_not_held : (x : ℕ) → IsKeptBlock c s x → (t : ℕ) (b : Build) → t < c.threads
       → s.builds t ≡ Some b → NotHeld b x
-  belongs_not_held x (inl r) t b tn is = not_held_array W n m s.cycle s.colour w b
+  belongs_not_held x (inl r) t b tn is = not_held_array c.width c.threads c.blocks s.cycle s.colour
+      w b
       (build_of t b tn is) x r.1
   belongs_not_held x (inr q) t b tn is = kept_not_held x q t b tn is
 
   -- nor is a Free block that another thread holds
-  pub once_not_held : (t o x : ℕ) → is_free (s.colour x) ≡ true → IsHeldOnce n s.builds t o x
-      → (u : ℕ) (b : Build) → u < n → (t ≡ u → ⊥) → s.builds u ≡ Some b → NotHeld b x
+  pub once_not_held : (t o x : ℕ) → is_free (s.colour x) ≡ true → IsHeldOnce c.threads s.builds t o
+      x
+      → (u : ℕ) (b : Build) → u < c.threads → (t ≡ u → ⊥) → s.builds u ≡ Some b → NotHeld b x
   once_not_held t o x free once u b un ne is p pl e = elim (cases_lt p b.left) [
     | inl lo ↦ ne (once u p b un is pl lo e).0
     | inr hi ↦
@@ -113,42 +109,44 @@ module _ (c : Config) (s : KeptState) (k : IsKept c s) where
   ]
 
   -- what a builder has coloured is black
-  pub built_black : (x : ℕ) → IsBuilt W n s.builds x → s.colour x ≡ black_word s.cycle
+  pub built_black : (x : ℕ) → IsBuilt c.width c.threads s.builds x → s.colour x ≡ black_word s.cycle
   built_black x q = ap s.colour q.is ∙ (build_of q.thread q.build q.there q.builds_it).black
       q.ordinal q.coloured q.low
 
   pub grey_known : (x : ℕ) → is_grey (s.colour x) ≡ true → IsKnownBlock c s x
   grey_known x grey = either (k.painted.marked x (inl grey))
     where
-      either : IsKnownBlock c s x ⊎ IsBuilt W n s.builds x → IsKnownBlock c s x
+      either : IsKnownBlock c s x ⊎ IsBuilt c.width c.threads s.builds x → IsKnownBlock c s x
       either (inl b) = b
       either (inr q) = absurd (black_grey s.cycle _ (built_black x q) grey)
 
   pub kept_is_known : (x : ℕ) → IsKeptBlock c s x → IsKnownBlock c s x
-  kept_is_known x b = belongs_more W n (Kept s) (Known s) (sizes c s) s.at x k.known b
+  kept_is_known x b = belongs_more c.width c.threads (Kept s) (Known s) (sizes c s) s.at x k.known b
 
   pub known_is_kept : s.sweep ≡ false → (x : ℕ) → IsKnownBlock c s x → IsKeptBlock c s x
-  known_is_kept mark x b = belongs_more W n (Known s) (Kept s) (sizes c s) s.at x
+  known_is_kept mark x b = belongs_more c.width c.threads (Known s) (Kept s) (sizes c s) s.at x
       (k.marking mark).all b
 
   -- a kept block is not white while the phase is Sweep, and black but for roots
   pub kept_black : s.sweep ≡ true → (x : ℕ) → IsBlockOf (Kept s) (sizes c s) s.at x
-      → (s.colour x ≡ black_word s.cycle) × NotRoot W n x
+      → (s.colour x ≡ black_word s.cycle) × NotRoot c.width c.threads x
   kept_black sweep x q = (
     ap s.colour q.is ∙ (k.sweeping sweep).kept q.name q.ordinal q.kept q.low,
-    behind_roots W n x (block_behind W n m (Kept s) g s.at w pending shown x q),
+    behind_roots c.width c.threads x (block_behind c.width c.threads c.blocks (Kept s) g s.at w
+        pending shown x q),
   )
 
   -- what a kept value's word refers to
   pub value_refers : (v : Value) → IsValueOf (Kept s) v
       → IfRefers (IsBlockOf (Kept s) (sizes c s) s.at) (value_word (heads s.at) v)
-  value_refers v kept = kept_value_refers W n m (Kept s) g s.at w pending shown v kept
+  value_refers v kept = kept_value_refers c.width c.threads c.blocks (Kept s) g s.at w pending shown
+      v kept
 
   -- what a thread has loaded
-  pub value_is : (t : ℕ) → t < n → HasValue s.seen t → ValueIs g s.at t (value_at s.seen t)
+  pub value_is : (t : ℕ) → t < c.threads → HasValue s.seen t → ValueIs g s.at t (value_at s.seen t)
   value_is t tn has = some_is (λ v. ValueIs g s.at t v) _ _ has (k.follows.loads t tn).value
 
-  pub loaded_kept : (t : ℕ) → t < n → HasValue s.seen t
+  pub loaded_kept : (t : ℕ) → t < c.threads → HasValue s.seen t
       → IfRefers (IsBlockOf (Kept s) (sizes c s) s.at) (loaded_word s t)
   loaded_kept t tn has =
       let v = value_is t tn has in
@@ -157,12 +155,12 @@ module _ (c : Config) (s : KeptState) (k : IsKept c s) where
 
   -- Block x becomes v.
   pub recoloured : (x v : ℕ) (shaded : ℕ → Bool) → IsColoured s.cycle v
-      → (IsRegisterBlock W n x → is_free v ≡ false)
+      → (IsRegisterBlock c.width c.threads x → is_free v ≡ false)
       → (IsBlockOf (Kept s) (sizes c s) s.at x → is_free v ≡ false)
-      → (IsDark s.cycle v → IsKnownBlock c s x ⊎ IsBuilt W n s.builds x)
+      → (IsDark s.cycle v → IsKnownBlock c s x ⊎ IsBuilt c.width c.threads s.builds x)
       → (s.sweep ≡ false → IsDark s.cycle v)
-      → ((t : ℕ) (b : Build) → t < n → s.builds t ≡ Some b → NotHeld b x)
-      → (s.sweep ≡ true → SweepColours W n s.cycle (Kept s) (sizes c s) s.at
+      → ((t : ℕ) (b : Build) → t < c.threads → s.builds t ≡ Some b → NotHeld b x)
+      → (s.sweep ≡ true → SweepColours c.width c.threads s.cycle (Kept s) (sizes c s) s.at
       (changed s.colour x v) w.payload shaded)
       → IsKept c (record (with_colour s x v) { shaded = shaded })
   recoloured x v shaded fits arrays solid marked dark away sweeping = record {
@@ -171,17 +169,19 @@ module _ (c : Config) (s : KeptState) (k : IsKept c s) where
     older = k.older;
     known = k.known;
     named = k.named;
-    painted = painted_at W n s.cycle (Known s) (Kept s) (sizes c s) s.at s.colour
-        (IsBuilt W n s.builds) x v fits arrays solid marked k.painted;
-    builds = λ t tn. some_case (λ b. IsBuild W n m s.cycle (changed s.colour x v) w b) (s.builds t)
-        (λ b is. build_recoloured W n m s.cycle s.colour w b (build_of t b tn is) x v
+    painted = painted_at c.width c.threads s.cycle (Known s) (Kept s) (sizes c s) s.at s.colour
+        (IsBuilt c.width c.threads s.builds) x v fits arrays solid marked k.painted;
+    builds = λ t tn. some_case (λ b. IsBuild c.width c.threads c.blocks s.cycle
+        (changed s.colour x v) w b) (s.builds t)
+        (λ b is. build_recoloured c.width c.threads c.blocks s.cycle s.colour w b
+        (build_of t b tn is) x v
         (away t b tn is));
     titles = k.titles;
     scans = k.scans;
-    marking = λ mark. (let m = k.marking mark in record {
-      all = m.all;
+    marking = λ mark. (let q = k.marking mark in record {
+      all = q.all;
       roots = λ t tn. changed_case (λ y w. IsDark s.cycle w) s.colour x v
-          (root_block W t) (λ _. dark mark) (λ _. m.roots t tn);
+          (root_block c.width t) (λ _. dark mark) (λ _. q.roots t tn);
     });
     sweeping = sweeping;
   }

@@ -1,5 +1,5 @@
 -- The flip to Sweep, and the start of a cycle.
-use Rattle.std.proofs.Common.{Bool, ◌≡◌, ◌≢◌, ℕ, ◌+◌, ◌≤◌, ◌<◌, ◌⊎◌, inl, inr, true, false, ◌&&◌, eqb, [], ◌∷◌, ◌++◌, length, get_or, refl, arith, subst, sym, ap, ◌∙◌, Some, None, IfSome, eq-eqb, eqb-true}
+use Rattle.std.proofs.Common.{◌≡◌, ◌≢◌, ℕ, ◌+◌, ◌≤◌, ◌<◌, ◌⊎◌, inl, inr, true, false, ◌&&◌, eqb, [], ◌∷◌, ◌++◌, length, get_or, refl, arith, subst, sym, ap, ◌∙◌, Some, None, IfSome, eq-eqb, eqb-true}
 use Rattle.std.proofs.lemmas.Bool.{cases_lt, and_parts, and_from}
 use Rattle.std.proofs.lemmas.List.{get_or_past}
 use Rattle.block_store.specs.declared.Config.{Config}
@@ -19,7 +19,6 @@ use Rattle.never_heap.proofs.Reaching.{reachable_closed, reachable_least}
 use Rattle.shown_graph.specs.Shown.{IsValueOf, Closed}
 use Rattle.shown_graph.specs.Events.{Loading, is_pending, pending_registers}
 use Rattle.shown_graph.proofs.Stores.{fewer_names}
-use Rattle.block_store.specs.declared.Width.{Width}
 use Rattle.shown_graph.specs.Words.{BlockWords}
 use Rattle.kept_names.specs.Building.{IsBuild, IsBuilt}
 use Rattle.kept_names.specs.Colouring.{IsDark, IsColoured, IsTricolour, Belongs}
@@ -49,47 +48,36 @@ register_there n g threads sixteen t r a e = elim (cases_lt t (length g.mutators
 ]
 
 module _ (c : Config) (s : KeptState) (k : IsKept c s) where
-  abbrev W : Width
-  W = c.width
-
-  abbrev n : ℕ
-  n = c.threads
-
-  abbrev m : ℕ
-  m = c.blocks
-
   abbrev g : Graph
   g = s.seen.graph
 
   abbrev w : BlockWords
   w = s.seen.words
 
-  abbrev pending : ℕ → ℕ → Bool
-  pending = pending_registers s.seen.loads
-
   -- what the graph reaches is kept
   pub reached_kept : (a : Name) → reachable g a ≡ true → Kept s a
   reached_kept a h = reachable_least g (Kept s)
-      (λ t r b e. (let there = register_there n g (shown c s k).sized.threads
+      (λ t r b e. (let there = register_there c.threads g (shown c s k).sized.threads
       (shown c s k).sized.sixteen t r b e in
       subst (IsValueOf (Kept s)) e ((shown c s k).closed.registers t r there.0 there.1)))
       (λ b d i kb e. subst (IsValueOf (Kept s)) e ((shown c s k).closed.fields b i kb)) a h
 
   module _ (alone : IsAlone c s) where
-    no_late : (t r : ℕ) → t < n → r < REGISTERS → pending_registers s.seen.loads t r ≡ false
+    no_late : (t r : ℕ) → t < c.threads → r < REGISTERS → pending_registers s.seen.loads t r ≡ false
     no_late t r tn rl = ap (λ (l : Loading). is_pending l.value r) (alone.loads t tn)
 
-    no_built : (x : ℕ) → IsBuilt W n s.builds x → ⊥
+    no_built : (x : ℕ) → IsBuilt c.width c.threads s.builds x → ⊥
     no_built x b = let z : None ≡ Some b.build = sym (alone.builds b.thread b.there)
         ∙ b.builds_it in cc
 
     pub flips : s.sweep ≡ false → ((x : ℕ) → is_grey (s.colour x) ≡ false)
-        → IsTricolour W s.cycle s.colour w.payload → IsKept c (apply c s Flip)
+        → IsTricolour c.width s.cycle s.colour w.payload → IsKept c (apply c s Flip)
     flips mark none tricolour = record {
       ordered = k.ordered;
       older = λ t r tn rl is. absurd (differ _ is (no_late t r tn rl));
       follows = record {
-        shows = fewer_names W n m (Kept s) g s.at w pending (shown c s k) Fewer
+        shows = fewer_names c.width c.threads c.blocks (Kept s) g s.at w
+            (pending_registers s.seen.loads) (shown c s k) Fewer
             (λ a la. (down a la).0) closed no_late;
         loads = k.follows.loads;
       };
@@ -105,7 +93,8 @@ module _ (c : Config) (s : KeptState) (k : IsKept c s) where
       titles = k.titles;
       scans = k.scans;
       marking = λ e. absurd (differ true refl e);
-      sweeping = λ _. flip_colours W n m s.cycle (Kept s) Fewer g s.at w pending s.colour
+      sweeping = λ _. flip_colours c.width c.threads c.blocks s.cycle (Kept s) Fewer g s.at w
+          (pending_registers s.seen.loads) s.colour
           (shown c s k) k.painted.fits solid marked no_late none tricolour
           (k.marking mark).roots down up;
     }
@@ -127,21 +116,24 @@ module _ (c : Config) (s : KeptState) (k : IsKept c s) where
         solid x (inr b) = subst (λ z. is_free (s.colour z) ≡ false) (sym b.is)
             (k.painted.solid b.name b.ordinal b.kept b.low)
 
-        kept_mark : (x : ℕ) → IsKnownBlock c s x ⊎ IsBuilt W n s.builds x → IsKeptBlock c s x
+        kept_mark : (x : ℕ) → IsKnownBlock c s x ⊎ IsBuilt c.width c.threads s.builds x
+            → IsKeptBlock c s x
         kept_mark x (inl b) = known_is_kept c s k mark x b
         kept_mark x (inr b) = absurd (no_built x b)
 
         marked : (x : ℕ) → IsDark s.cycle (s.colour x) → IsKeptBlock c s x
         marked x d = kept_mark x (k.painted.marked x d)
 
-        closed : Closed n (λ a. s.kept a && eqb (s.colour (s.at a 0)) (black_word s.cycle) ≡ true)
+        closed : Closed c.threads (λ a. s.kept a && eqb (s.colour (s.at a 0)) (black_word s.cycle)
+            ≡ true)
             (object_of g) (register_of g)
-        closed = flip_closed W n m s.cycle (Kept s)
+        closed = flip_closed c.width c.threads c.blocks s.cycle (Kept s)
             (λ a. s.kept a && eqb (s.colour (s.at a 0)) (black_word s.cycle) ≡ true) g s.at w
-            pending s.colour (shown c s k) k.painted.fits solid marked no_late none tricolour
+            (pending_registers s.seen.loads) s.colour (shown c s k) k.painted.fits solid marked
+            no_late none tricolour
             (k.marking mark).roots down up
 
-    reached_closed : Closed n (λ a. reachable g a ≡ true) (object_of g) (register_of g)
+    reached_closed : Closed c.threads (λ a. reachable g a ≡ true) (object_of g) (register_of g)
     reached_closed = record {
       fields = λ a i ra. value_kept (Kept s) (λ b. reachable g b ≡ true)
           (field_of (object_of g a) i) (λ d e _. (reachable_closed g).fields a d i ra e)
@@ -159,15 +151,16 @@ module _ (c : Config) (s : KeptState) (k : IsKept c s) where
     started_fits passed x (inr (inr (inr black))) = inr (inl (black ∙ sym (white-next s.cycle)))
 
     started_marked : s.sweep ≡ true → ((x : ℕ) → s.colour x ≢ white_word s.cycle) → (x : ℕ)
-        → IsDark (s.cycle + 1) (s.colour x) → Belongs W n (λ a. reachable g a ≡ true)
-        (sizes c s) s.at x ⊎ IsBuilt W n s.builds x
+        → IsDark (s.cycle + 1) (s.colour x) → Belongs c.width c.threads (λ a. reachable g a ≡ true)
+        (sizes c s) s.at x ⊎ IsBuilt c.width c.threads s.builds x
     started_marked sweep passed x (inl grey) =
         (let r = (k.sweeping sweep).greys x grey in inl
-        (inl (subst (λ y. (0 < y) × (y ≤ registers_end W n)) (sym r.2) (root_in W n r.0 r.1))))
+        (inl (subst (λ y. (0 < y) × (y ≤ registers_end c.width c.threads)) (sym r.2)
+        (root_in c.width c.threads r.0 r.1))))
     started_marked sweep passed x (inr black) = absurd (passed x (black ∙ black-next s.cycle))
 
     pub starts : s.sweep ≡ true → ((x : ℕ) → s.colour x ≢ white_word s.cycle)
-        → ((t : ℕ) → t < n → s.shaded t ≡ true) → IsKept c (apply c s Start)
+        → ((t : ℕ) → t < c.threads → s.shaded t ≡ true) → IsKept c (apply c s Start)
     starts sweep passed shaded = record {
       ordered = record {
         legal = legal_history_more c s.order Started k.ordered.legal tt;
@@ -180,7 +173,8 @@ module _ (c : Config) (s : KeptState) (k : IsKept c s) where
       };
       older = λ t r tn rl is. absurd (differ _ is (no_late t r tn rl));
       follows = record {
-        shows = fewer_names W n m (Kept s) g s.at w pending (shown c s k)
+        shows = fewer_names c.width c.threads c.blocks (Kept s) g s.at w
+            (pending_registers s.seen.loads) (shown c s k)
             (λ a. reachable g a ≡ true) reached_kept reached_closed no_late;
         loads = k.follows.loads;
       };
@@ -192,7 +186,8 @@ module _ (c : Config) (s : KeptState) (k : IsKept c s) where
         solid = λ a o ra ol. k.painted.solid a o (reached_kept a ra) ol;
         marked = λ x d. started_marked sweep passed x d;
       };
-      builds = λ t tn. subst (λ o. IfSome o (λ b. IsBuild W n m (s.cycle + 1) s.colour w b))
+      builds = λ t tn. subst (λ o. IfSome o (λ b. IsBuild c.width c.threads c.blocks (s.cycle + 1)
+          s.colour w b))
           (sym (alone.builds t tn)) tt;
       titles = k.titles;
       scans = λ t tn some. absurd (some (alone.scans t tn));

@@ -1,6 +1,7 @@
 -- The events of the example may come one after another, and its record is one that was made.
-use Rattle.std.proofs.Common.{zero, suc, ◌+◌, ◌*◌, ◌≡◌, ℕ, ◌<◌, None, cond, eqb, ltb, inl, inr, refl, sym, ap, ◌∙◌, ne_eqb, arith}
+use Rattle.std.proofs.Common.{zero, suc, ◌+◌, ◌*◌, ◌≡◌, ◌≢◌, ℕ, ◌<◌, Some, None, take, Option, cond, eqb, ltb, inl, inr, refl, sym, ap, ◌∙◌, ne_eqb, arith}
 use Rattle.std.proofs.lemmas.Bool.{cases_Bool}
+use Rattle.block_store.specs.declared.Shape.{Shape}
 use Rattle.block_store.specs.declared.Shape.TheVariants as shapes
 use Rattle.block_store.specs.declared.Value.TheVariants.{Int}
 use Rattle.block_store.specs.Owners.{owner_word}
@@ -13,83 +14,66 @@ use Rattle.block_store.specs.Registers.{registers_end}
 use Rattle.array_trees.specs.Trees.{tree}
 use Rattle.array_trees.specs.Levels.{tree_depth}
 use Rattle.never_heap.specs.Graphs.{Record, start_graph, register_of}
-use Rattle.object_lists.specs.Parts.{link_in}
+use Rattle.object_lists.specs.Parts.{Field, link_in}
 use Rattle.object_lists.specs.Records.{list_part}
-use Rattle.shown_graph.specs.Layouts.{layout_blocks, layout_part}
+use Rattle.shown_graph.specs.Layouts.{layout_blocks, layout_part, shape_part}
 use Rattle.shown_graph.specs.Made.{IsMade, IsWritten, link_word}
 use Rattle.shown_graph.specs.Openings.{opening_words}
 use Rattle.shown_graph.proofs.Publish.{written_shows}
-use Rattle.shown_graph.specs.Events.{run, Guarded, opening_state}
+use Rattle.shown_graph.specs.Events.{GraphState, object_at, register_word_in, run, Guarded, opening_state}
 use Rattle.shown_graph.specs.Example.{small_config, wide_config, some_events, with_record}
 
 -- what one event asks, and then the others
 both : {A B : Type 0} → A → B → A × B
 both a b = (a, b)
 
+-- the state after the first of the events
+abbrev after : Width → ℕ → GraphState
+after W k = run W (opening_state (small_config W)) (take k some_events)
+
+-- register 0 of each thread refers to the array
+found : (W : Width) → (target (register_word_in W (after W 1).words 0 0) ≢ 0)
+    × (target (register_word_in W (after W 5).words 1 0) ≢ 0)
+unfolding target reference_word number_word array_word shape_of tree tree_depth
+found Four = ((λ e. omega arith), (λ e. omega arith))
+found Eight = ((λ e. omega arith), (λ e. omega arith))
+
+-- whose shape each reads
+abbrev shape_at : Width → ℕ → ℕ → Option Shape
+shape_at W k t = shape_of ((after W k).words.shape (object_at (after W k) t).block)
+
+shaped : (W : Width) → (shape_at W 2 0 ≡ Some (shapes.Tree 4))
+    × (shape_at W 6 1 ≡ Some (shapes.Tree 4))
+unfolding target reference_word number_word array_word shape_of tree tree_depth
+shaped Four = (refl, refl)
+shaped Eight = (refl, refl)
+
+-- and its payload 2 is field 2
+at_two : (W : Width) → shape_part W (shapes.Tree 4) 0 2 ≡ Field 2
+unfolding tree tree_depth
+at_two Four = refl
+at_two Eight = refl
+
 pub example_runs : (W : Width) → Guarded W 2 (opening_state (small_config W)) some_events
 unfolding target reference_word number_word array_word shape_of tree tree_depth
-example_runs Four =
+example_runs W =
     both (omega arith, omega arith, refl, omega arith)
-    (both (omega arith, omega arith, refl, λ e. omega arith)
-    (both (omega arith, refl, refl)
+    (both (omega arith, omega arith, refl, (found W).0)
+    (both (omega arith, refl, (shaped W).0)
     (both (omega arith, omega arith, refl)
     (both (
       omega arith,
       refl,
       refl,
-      record {
-        object = refl;
-        refers = refl;
-        shape = shapes.Tree 4;
-        read = refl;
-        field = refl;
-      },
+      record { object = refl; refers = refl; shape = shapes.Tree 4; read = refl; field = at_two W },
     )
-    (both (omega arith, omega arith, refl, λ e. omega arith)
-    (both (omega arith, refl, refl)
+    (both (omega arith, omega arith, refl, (found W).1)
+    (both (omega arith, refl, (shaped W).1)
     (both (
       omega arith,
       omega arith,
       refl,
-      record {
-        object = refl;
-        refers = refl;
-        shape = shapes.Tree 4;
-        read = refl;
-        field = refl;
-      },
-    )
-    (both (omega arith, refl, refl) tt))))))))
-example_runs Eight =
-    both (omega arith, omega arith, refl, omega arith)
-    (both (omega arith, omega arith, refl, λ e. omega arith)
-    (both (omega arith, refl, refl)
-    (both (omega arith, omega arith, refl)
-    (both (
-      omega arith,
-      refl,
-      refl,
-      record {
-        object = refl;
-        refers = refl;
-        shape = shapes.Tree 4;
-        read = refl;
-        field = refl;
-      },
-    )
-    (both (omega arith, omega arith, refl, λ e. omega arith)
-    (both (omega arith, refl, refl)
-    (both (
-      omega arith,
-      omega arith,
-      refl,
-      record {
-        object = refl;
-        refers = refl;
-        shape = shapes.Tree 4;
-        read = refl;
-        field = refl;
-      },
+      record { object = refl; refers = refl; shape = shapes.Tree 4; read = refl; field = at_two W },
     )
     (both (omega arith, refl, refl) tt))))))))
 
@@ -164,17 +148,24 @@ pub wide_root : ((opening_words wide_config).payload 1 0 ≡ 4)
 unfolding reference_word tree tree_depth
 wide_root = (refl, refl)
 
+-- what is 0 from 2 on
+zeros : (f : ℕ → ℕ) → f 2 ≡ 0 → f 3 ≡ 0 → f 4 ≡ 0 → f 5 ≡ 0 → f 6 ≡ 0 → f 7 ≡ 0
+    → (j : ℕ) → 1 < j → j < 8 → f j ≡ 0
+zeros f c d e g h i zero low high = absurd (omega arith)
+zeros f c d e g h i (suc zero) low high = absurd (omega arith)
+zeros f c d e g h i (suc (suc zero)) low high = c
+zeros f c d e g h i (suc (suc (suc zero))) low high = d
+zeros f c d e g h i (suc (suc (suc (suc zero)))) low high = e
+zeros f c d e g h i (suc (suc (suc (suc (suc zero))))) low high = g
+zeros f c d e g h i (suc (suc (suc (suc (suc (suc zero)))))) low high = h
+zeros f c d e g h i (suc (suc (suc (suc (suc (suc (suc zero))))))) low high = i
+zeros f c d e g h i (suc (suc (suc (suc (suc (suc (suc (suc j)))))))) low high =
+    absurd (omega arith)
+
 pub wide_root_rest : (j : ℕ) → 1 < j → j < 8 → (opening_words wide_config).payload 1 j ≡ 0
 unfolding reference_word tree tree_depth
-wide_root_rest zero low high = absurd (omega arith)
-wide_root_rest (suc zero) low high = absurd (omega arith)
-wide_root_rest (suc (suc zero)) low high = refl
-wide_root_rest (suc (suc (suc zero))) low high = refl
-wide_root_rest (suc (suc (suc (suc zero)))) low high = refl
-wide_root_rest (suc (suc (suc (suc (suc zero))))) low high = refl
-wide_root_rest (suc (suc (suc (suc (suc (suc zero)))))) low high = refl
-wide_root_rest (suc (suc (suc (suc (suc (suc (suc zero))))))) low high = refl
-wide_root_rest (suc (suc (suc (suc (suc (suc (suc (suc j)))))))) low high = absurd (omega arith)
+wide_root_rest =
+    zeros (λ j. (opening_words wide_config).payload 1 j) refl refl refl refl refl refl
 
 pub wide_registers : (opening_words wide_config).payload 2 0 ≡ 8
 unfolding reference_word tree tree_depth
@@ -184,13 +175,9 @@ pub wide_rest : (j : ℕ) → 0 < j → j < 8 → (opening_words wide_config).pa
 unfolding reference_word tree tree_depth
 wide_rest zero low high = absurd (omega arith)
 wide_rest (suc zero) low high = refl
-wide_rest (suc (suc zero)) low high = refl
-wide_rest (suc (suc (suc zero))) low high = refl
-wide_rest (suc (suc (suc (suc zero)))) low high = refl
-wide_rest (suc (suc (suc (suc (suc zero))))) low high = refl
-wide_rest (suc (suc (suc (suc (suc (suc zero)))))) low high = refl
-wide_rest (suc (suc (suc (suc (suc (suc (suc zero))))))) low high = refl
-wide_rest (suc (suc (suc (suc (suc (suc (suc (suc j)))))))) low high = absurd (omega arith)
+wide_rest (suc (suc j)) low high =
+    zeros (λ j. (opening_words wide_config).payload 2 j) refl refl refl refl refl refl
+    (suc (suc j)) (omega arith) high
 
 pub wide_shared : ((opening_words wide_config).owner 4 ≡ 1099511627776)
     × ((opening_words wide_config).shape 4 ≡ 1)
