@@ -11,6 +11,6 @@ Acts M S = M → S → Op → ℕ → M → Type 0
 abbrev pub ReadsOnly : {M S : Type 0} → Acts M S → M → S → Op → (ℕ → Type 0) → Type 0
 ReadsOnly {M} acts old shared op good = (w : ℕ) (new : M) → acts old shared op w new → good w
 
--- the operation was made once, and this is so of the word that it read
+-- the memory is as after one such operation, which read a word of which this is so
 abbrev pub ActsOnce : {M S : Type 0} → Acts M S → M → S → Op → M → (ℕ → Type 0) → Type 0
 ActsOnce acts old shared op new so = (w : ℕ) × acts old shared op w new × so w

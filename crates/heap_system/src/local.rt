@@ -59,7 +59,8 @@ pub enum Part {
     Leave,
 }
 
-// A memory that answers one word, whatever is asked of it.
+// A memory that answers one word, whatever is asked of it: it stands for an operation that was made
+// elsewhere.
 #[derive(Drop)]
 struct Given {
     word: u64,
@@ -555,12 +556,12 @@ impl Local {
     {
         let places = Places::new(&self.config);
         match &mut self.part {
-            Part::Mark(pass) => {
-                let unit = pass.unit();
-                let step = pass.event(&places, memory, shared);
-                count(&mut self.account, is_new(pass.unit(), unit));
+            Part::Mark(scan) => {
+                let unit = scan.unit();
+                let step = scan.event(&places, memory, shared);
+                count(&mut self.account, is_new(scan.unit(), unit));
                 if is_last(step) {
-                    self.part = after_pass(pass.nothing());
+                    self.part = after_pass(scan.nothing());
                     turn_after(step)
                 } else {
                     turn_after(step)

@@ -11,7 +11,7 @@ pub count-requires-clause-owed : goal.count-requires-clause-owed
 count-requires-clause-owed g c =
     -- the units owed behind the event
     let owes : c.self.inside.account.balance.paid + bit c.is_new.result + bit (not (grey_unit c.event-step.new.self.row)) ≤ owed (view_of c.self.inside) =
-    mark_owes (extent c.new-places.result) c.in-Mark.pass c.event-step.new.self c.event-step.ensures.acted.0 c.unit-unit.result c.unit.result c.is_new.result c.event-step.ensures.acted.2.0 c.unit-unit.ensures c.unit.ensures c.is_new.ensures _ _
+    mark_owes (extent c.new-places.result) c.in-Mark.scan c.event-step.new.self c.event-step.ensures.acted.0 c.unit-unit.result c.unit.result c.is_new.result c.event-step.ensures.acted.2.0 c.unit-unit.ensures c.unit.ensures c.is_new.ensures _ _
     (subst (λ p. c.self.inside.account.balance.paid + unit_to_come c.self.inside.config p ≤ owed (view_of c.self.inside)) c.in-Mark.is c.self.invariant.0.paid) in
     unit_owed c.self.inside c.self.invariant.0 c.self.invariant.1 c.self.invariant.2 c.is_new.result _ owes
 
