@@ -31,8 +31,8 @@ impl Model for Mutator {
       turns = turns_in m.port.seat.me.0.locals;
     } };
 
-    ghost invariant = { λ m.
-        (m.port.seat.me ≡ (one_view m.local (turns_in m.port.seat.me.0.locals), []))
+    ghost invariant = { λ m. (m.port.seat.me
+        ≡ (one_view m.local (turns_in m.port.seat.me.0.locals), []))
         × (m.port.seat.table_id.slots ≡ 0)
         × (m.port.seat.table_id.words ≡ words_count (extent m.local.config))
         × EndsAlone m.local (turns_in m.port.seat.me.0.locals) };
