@@ -3,9 +3,10 @@ use Rattle.std.proofs.Common.{◌≡◌, ℕ, ◌+◌, ◌-◌, ◌≤◌, ◌<�
 use Rattle.std.proofs.lemmas.Bool.{cases_Bool, and_parts}
 use Rattle.block_store.proofs.PhaseWords.{phase-more, phase-less}
 use Rattle.block_store.specs.declared.PhaseWord.{PhaseWord}
+use Rattle.block_store.specs.declared.Width.{Width}
 use Rattle.block_store.proofs.ColourWords.{black-white, grey-white, not_free_black, not_free_grey}
 use Rattle.block_store.specs.Colours.{is_free, grey_word, white_word}
-use Rattle.block_store.specs.Heaps.{Heap}
+use Rattle.block_store.specs.Heaps.{Heap, put_at}
 use Rattle.block_store.specs.Registers.{root_block}
 use Rattle.block_store.specs.Phases.{inside_of, is_sweep, is_closed, cycle_of}
 use Rattle.block_store.specs.Places.{Extent, Phase, Cursor, GreyList}
@@ -26,28 +27,32 @@ use Rattle.heap_machine.proofs.Reusing.{reuse_phase, reuse_turns, reuse_cursor, 
 nobody : (w : ℕ) → is_empty w ≡ true → inside_of w ≡ 0
 nobody w e = eqb-true (inside_of w) 0 (and_parts (not (is_closed w)) (eqb (inside_of w) 0) e).1
 
-module _ (e : Extent) (h : Heap) (hs : ℕ → Holding) (k : ReuseKept e h hs) where
-  -- nothing is claimed
-  abbrev NoClaims : Type 0
-  NoClaims = (u : ℕ) → u < e.threads → sweep_held (hs u) ≡ no_claim
-
-  enters : (seen : ℕ) → inside_of seen < 255
-      → ReuseKept e (heap_after h (gate_want e.width (Enter seen))) hs
-  enters seen small = elim (cases_Bool (eqb (h Phase) seen)) [
+-- to go in or out keeps what a new phase word keeps, of the same cycle and phase
+module _ (W : Width) (h : Heap) (P : Heap → Type 0) (k : P h)
+    (stays : (v : ℕ) → cycle_of v ≡ cycle_of (h Phase) → is_sweep v ≡ is_sweep (h Phase)
+    → P (put_at h Phase v)) where
+  pub enter_keeps : (seen : ℕ) → inside_of seen < 255
+      → P (heap_after h (gate_want W (Enter seen)))
+  enter_keeps seen small = elim (cases_Bool (eqb (h Phase) seen)) [
     | inl is ↦
         let at : seen ≡ h Phase = sym (eqb-true (h Phase) seen is) in
         let more = phase-more seen small in
-        rw is (reuse_phase e h hs k (seen + 1)
+        rw is (stays (seen + 1)
         (ap (λ (p : PhaseWord). p.cycle) more ∙ ap cycle_of at)
         (ap (λ (p : PhaseWord). p.sweep) more ∙ ap is_sweep at))
     | inr is ↦ rw is k
   ]
 
-  leaves : 1 ≤ inside_of (h Phase) → ReuseKept e (heap_after h (gate_want e.width Leave)) hs
-  leaves some =
+  pub leave_keeps : 1 ≤ inside_of (h Phase) → P (heap_after h (gate_want W Leave))
+  leave_keeps some =
       let less = phase-less (h Phase) some in
-      reuse_phase e h hs k (h Phase - 1) (ap (λ (p : PhaseWord). p.cycle) less)
+      stays (h Phase - 1) (ap (λ (p : PhaseWord). p.cycle) less)
       (ap (λ (p : PhaseWord). p.sweep) less)
+
+module _ (e : Extent) (h : Heap) (hs : ℕ → Holding) (k : ReuseKept e h hs) where
+  -- nothing is claimed
+  abbrev NoClaims : Type 0
+  NoClaims = (u : ℕ) → u < e.threads → sweep_held (hs u) ≡ no_claim
 
   closes : (p : Pass) (seen : ℕ) → inside_of seen ≡ 0
       → ReuseKept e (heap_after h (gate_want e.width (Close p seen))) hs
@@ -65,9 +70,11 @@ module _ (e : Extent) (h : Heap) (hs : ℕ → Holding) (k : ReuseKept e h hs) w
       → (r ≡ Leave → 1 ≤ inside_of (h Phase))
       → ReuseKept e (heap_after h (gate_want e.width r)) hs
   passing_keeps Look away f some = k
-  passing_keeps (Enter seen) away f some = enters seen f.word.inside
+  passing_keeps (Enter seen) away f some =
+      enter_keeps e.width h (λ g. ReuseKept e g hs) k (reuse_phase e h hs k) seen f.word.inside
   passing_keeps (Entered seen) away f some = k
-  passing_keeps Leave away f some = leaves (some refl)
+  passing_keeps Leave away f some =
+      leave_keeps e.width h (λ g. ReuseKept e g hs) k (reuse_phase e h hs k) (some refl)
   passing_keeps Left away f some = k
   passing_keeps _ away f some = absurd cc
 

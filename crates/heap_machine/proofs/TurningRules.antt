@@ -1,6 +1,6 @@
 -- The events of a part that turns the phase over or starts a cycle keep what a heap keeps in each
 -- phase, and what their thread knows.
-use Rattle.std.proofs.Common.{◌≡◌, ◌≢◌, ℕ, ◌+◌, ◌-◌, ◌≤◌, ◌<◌, Bool, true, false, cond, eqb, ltb, refl, arith, subst, sym, ap, ◌∙◌, inl, inr, eq-eqb, ne_eqb, eqb-true, None}
+use Rattle.std.proofs.Common.{◌≡◌, ◌≢◌, ℕ, ◌+◌, ◌≤◌, ◌<◌, Bool, true, false, cond, eqb, ltb, refl, arith, subst, sym, ap, ◌∙◌, inl, inr, eq-eqb, ne_eqb, eqb-true, None}
 use Rattle.std.proofs.lemmas.Bool.{cases_eq, cases_Bool}
 use Rattle.block_store.specs.declared.Config.{Config}
 use Rattle.block_store.specs.declared.Width.{Width}
@@ -15,8 +15,6 @@ use Rattle.block_store.specs.Widths.{payloads}
 use Rattle.block_store.proofs.ColourWords.{black-next, black-white, grey-white, not_free_black, not_free_grey, not_grey_black}
 use Rattle.block_store.proofs.Functions.{funext}
 use Rattle.block_store.proofs.Registers.{root_some}
-use Rattle.block_store.proofs.PhaseWords.{phase-more, phase-less}
-use Rattle.block_store.specs.declared.PhaseWord.{PhaseWord}
 use Rattle.heap_machine.specs.Gates.{gate_want, gate_got, closed_by, list_checked, look_to_close, root_shaded, is_of_pass, is_empty, GateFits}
 use Rattle.heap_machine.specs.Gating.{Gating, Closing, is_closing, closed_word, open_word}
 use Rattle.heap_machine.specs.Grey.{GreyHolding, GreyKept, Stands}
@@ -28,6 +26,7 @@ use Rattle.heap_machine.specs.Turning.{turns_over, in_pass, turning_gating, turn
 use Rattle.heap_machine.specs.declared.gate.GateRow.{GateRow}
 use Rattle.heap_machine.specs.declared.gate.GateRow.TheVariants.{Look, Enter, Entered, Leave, Left, CloseLook, Close, CheckList, SetCursor, Flip, Reopen, ShadeRoot, PutRoots, Start, TurnedOver, StartedCycle, KeptOut}
 use Rattle.heap_machine.specs.declared.pass.Pass.{Pass}
+use Rattle.heap_machine.proofs.GateReuse.{enter_keeps, leave_keeps}
 use Rattle.heap_machine.proofs.Gatings.{closed_phase, open_parts}
 use Rattle.heap_machine.proofs.GreyBlocks.{colours, first_is_grey, kept_held, kept_other}
 use Rattle.heap_machine.proofs.GreyEvents.{shades, puts}
@@ -265,30 +264,14 @@ module _ (c : Config) (h : Heap) (gs : ℕ → Gating) (hs : ℕ → Holding) (t
 
 -- to go in or out keeps what a heap keeps in each phase
 module _ (e : Extent) (h : Heap) (hs : ℕ → Holding) (k : PhaseKept e h hs) where
-  enters : (seen : ℕ) → inside_of seen < 255
-      → PhaseKept e (heap_after h (gate_want e.width (Enter seen))) hs
-  enters seen small = elim (cases_Bool (eqb (h Phase) seen)) [
-    | inl is ↦
-        let at : seen ≡ h Phase = sym (eqb-true (h Phase) seen is) in
-        let more = phase-more seen small in
-        rw is (phase_stays e h hs k (seen + 1)
-        (ap (λ (p : PhaseWord). p.cycle) more ∙ ap cycle_of at)
-        (ap (λ (p : PhaseWord). p.sweep) more ∙ ap is_sweep at))
-    | inr is ↦ rw is k
-  ]
-
-  leaves : 1 ≤ inside_of (h Phase) → PhaseKept e (heap_after h (gate_want e.width Leave)) hs
-  leaves some =
-      let less = phase-less (h Phase) some in
-      phase_stays e h hs k (h Phase - 1) (ap (λ (p : PhaseWord). p.cycle) less)
-      (ap (λ (p : PhaseWord). p.sweep) less)
-
   pub passing_rules : (r : GateRow) → turns_over r ≡ false → GateFits r
       → (r ≡ Leave → 1 ≤ inside_of (h Phase))
       → PhaseKept e (heap_after h (gate_want e.width r)) hs
   passing_rules Look away f some = k
-  passing_rules (Enter seen) away f some = enters seen f.word.inside
+  passing_rules (Enter seen) away f some =
+      enter_keeps e.width h (λ g. PhaseKept e g hs) k (phase_stays e h hs k) seen f.word.inside
   passing_rules (Entered seen) away f some = k
-  passing_rules Leave away f some = leaves (some refl)
+  passing_rules Leave away f some =
+      leave_keeps e.width h (λ g. PhaseKept e g hs) k (phase_stays e h hs k) (some refl)
   passing_rules Left away f some = k
   passing_rules _ away f some = absurd (let z : true ≡ false = away in cc)

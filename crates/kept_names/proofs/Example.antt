@@ -168,7 +168,8 @@ none_loaded : (o : Option ObjectLoad) (v : Option ValueLoad) → o ≡ None → 
 none_loaded o v a b = cc
 
 abbrev is_unloaded : (l : Loading) → Option (l ≡ unloaded)
-is_unloaded l = mapped (λ p. none_loaded l.object l.value p.0 p.1) (is_none l.object & is_none l.value)
+is_unloaded l = mapped (λ p. none_loaded l.object l.value p.0 p.1)
+    (is_none l.object & is_none l.value)
 
 -- a word of the record is next
 writing : (W : Width) (s : KeptState) (o words : ℕ) → s.builds 0 ≡ Some (build_at s 0)
@@ -234,7 +235,8 @@ abbrev give_up : KeptEvent
 give_up = Decide (StoreConstant 0 0 Nil) (unpaid (commands.Nil 0) replies.Stored)
 
 abbrev marking_on : (W : Width)
-    → Option (Guarded (one_thread W) (apply (one_thread W) (example_start W) give_up) (rest (mark_events W)))
+    → Option (Guarded (one_thread W) (apply (one_thread W) (example_start W) give_up)
+    (rest (mark_events W)))
 marking_on W = may_all W (apply (one_thread W) (example_start W) give_up) (rest (mark_events W))
 
 gives_up : (W : Width) → Guard (one_thread W) (example_start W) give_up
@@ -366,15 +368,26 @@ none_white W x e = elim (cases_lt x 9) [
   | inr high ↦ free-white 0 1 (sym (shaded_far W x high) ∙ e)
 ]
 
+starting_on : (W : Width) (s : KeptState) → s.sweep ≡ true
+    → IsAlone (one_thread W) (apply (one_thread W) s (ShadeRoot 0 0))
+    → ((x : ℕ) → (apply (one_thread W) s (ShadeRoot 0 0)).colour x ≢ white_word s.cycle)
+    → Guarded (one_thread W) s start_events
+starting_on W s mark alone none =
+    (mark, omega arith)
+    ▸ (
+      mark,
+      alone,
+      none,
+      only_zero (λ t. (apply (one_thread W) s (ShadeRoot 0 0)).shaded t ≡ true)
+          refl,
+    )
+    ▸ tt
+
 starting : (W : Width) → Guarded (one_thread W) (built W) start_events
-starting Four =
-    (refl, omega arith)
-    ▸ (refl, alone Four (shaded Four) refl refl refl, none_white Four, only_zero (λ t. (shaded Four).shaded t ≡ true) refl)
-    ▸ tt
-starting Eight =
-    (refl, omega arith)
-    ▸ (refl, alone Eight (shaded Eight) refl refl refl, none_white Eight, only_zero (λ t. (shaded Eight).shaded t ≡ true) refl)
-    ▸ tt
+starting Four = starting_on Four (built Four) refl (alone Four (shaded Four) refl refl refl)
+    (none_white Four)
+starting Eight = starting_on Eight (built Eight) refl (alone Eight (shaded Eight) refl refl refl)
+    (none_white Eight)
 
 -- the state after the first k of the commands' events
 abbrev commanded : Width → KeptState → ℕ → KeptState
@@ -418,10 +431,12 @@ started W = run (one_thread W) (built W) start_events
 commanding : (W : Width) → Guarded (one_thread W) (started W) (command_events W)
 unfolding target reference_word number_word owner_word kind grey_word free_word black_word
     white_word tree tree_depth record_word shape_of
-commanding Four = commanding_on Four (started Four) refl refl (λ e. omega arith) refl (λ e. omega arith) refl
+commanding Four = commanding_on Four (started Four) refl refl (λ e. omega arith) refl
+    (λ e. omega arith) refl
     (record { object = refl; refers = refl; shape = shapes.List 4; read = refl; field = refl })
     (inl refl) refl (inl refl) refl
-commanding Eight = commanding_on Eight (started Eight) refl refl (λ e. omega arith) refl (λ e. omega arith) refl
+commanding Eight = commanding_on Eight (started Eight) refl refl (λ e. omega arith) refl
+    (λ e. omega arith) refl
     (record { object = refl; refers = refl; shape = shapes.List 8; read = refl; field = refl })
     (inl refl) refl (inl refl) refl
 

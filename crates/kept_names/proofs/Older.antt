@@ -4,7 +4,6 @@ use Rattle.std.proofs.lemmas.Bool.{cases_eq}
 use Rattle.block_store.specs.declared.Config.{Config}
 use Rattle.block_store.specs.declared.Name.{Name}
 use Rattle.block_store.specs.declared.TheConstants.{REGISTERS}
-use Rattle.block_store.specs.declared.Width.{Width}
 use Rattle.block_store.specs.Registers.{register_block, register_slot}
 use Rattle.block_store.proofs.Registers.{register_low, own_array}
 use Rattle.never_heap.specs.declared.Entry.{Entry}
@@ -77,12 +76,6 @@ pub not_own : (t : ℕ) (e : Entry) → (e.thread ≡ t → ⊥) → part t (Did
 not_own t e ne = ap (λ b. cond b (e ∷ []) []) (ne_eqb e.thread t ne)
 
 module _ (c : Config) (s : KeptState) (k : IsKept c s) where
-  abbrev W : Width
-  W = c.width
-
-  abbrev n : ℕ
-  n = c.threads
-
   abbrev w : BlockWords
   w = s.seen.words
 
@@ -103,14 +96,16 @@ module _ (c : Config) (s : KeptState) (k : IsKept c s) where
   other_payload : (x j v u r : ℕ) → (x ≡ register_block c.width u r → ⊥)
       → register_word_in c.width (with_payload s.seen.words x j v) u r ≡ register_word_in c.width
       s.seen.words u r
-  other_payload x j v u r ne = payload_other w x j v (register_block W u r) (register_slot W r)
-      (rw (ne_eqb x (register_block W u r) ne) refl)
+  other_payload x j v u r ne = payload_other w x j v (register_block c.width u r)
+      (register_slot c.width r)
+      (rw (ne_eqb x (register_block c.width u r) ne) refl)
 
   pub other_register : (t d v u r : ℕ) → d < REGISTERS → r < REGISTERS → (t ≡ u → ⊥)
       → register_word_in c.width (with_payload s.seen.words (register_block c.width t d)
       (register_slot c.width d) v) u r ≡ register_word_in c.width s.seen.words u r
-  other_register t d v u r dl rl ne = other_payload (register_block W t d) (register_slot W d) v u r
-      (λ e. ne (own_array W t d u r dl rl e))
+  other_register t d v u r dl rl ne = other_payload (register_block c.width t d)
+      (register_slot c.width d) v u r
+      (λ e. ne (own_array c.width t d u r dl rl e))
 
   other_word : (e : Event) → commanded.Guard c.width c.threads s.seen e → (u r : ℕ) → u < c.threads
       → r < REGISTERS → (event_thread e ≡ u → ⊥)
@@ -126,12 +121,13 @@ module _ (c : Config) (s : KeptState) (k : IsKept c s) where
   other_word (StoreValue t d) guard u r un rl ne = other_register t d _ u r guard.1 rl ne
   other_word (StoreConstant t d v) guard u r un rl ne = other_register t d _ u r guard.1 rl ne
   other_word (StoreField t a i j) guard u r un rl ne =
-      let (ka, block, low, field) = at_field W n c.blocks (Kept s) s.at s.seen k.follows t a i j
+      let (ka, block, low, field) = at_field c.width c.threads c.blocks (Kept s) s.at s.seen
+      k.follows t a i j
       guard.0 guard.3 in
       other_payload _ j _ u r
       (λ e. omega (
         arith,
-        register_low W n u r un rl,
+        register_low c.width c.threads u r un rl,
         (shown c s k).placed.behind a
             (object_at s.seen t).ordinal ka low,
         block,
@@ -212,7 +208,8 @@ module _ (c : Config) (s : KeptState) (k : IsKept c s) where
     others = refl;
     kept = subst (λ (h : Graph). IsValueOf (Kept s) (register_of h entry.thread r))
         k.ordered.replayed ((shown c s k).closed.registers entry.thread r tn rl);
-    word = register_read W n c.blocks (Kept s) s.seen.graph s.at w (pending_registers s.seen.loads)
+    word = register_read c.width c.threads c.blocks (Kept s) s.seen.graph s.at w
+        (pending_registers s.seen.loads)
         (shown c s k) entry.thread r tn rl
         (prompt_register (s.seen.loads entry.thread).value r prompt)
         ∙ ap (λ (h : Graph). value_word (heads s.at) (register_of h entry.thread r))

@@ -119,6 +119,31 @@ module _ (g : Graph) (a : Name) (i : ℕ) (v : Value) (has : has_name g a ≡ tr
   object_with_field b = elim
       (cases_eq a.serial 0) [ inl z ↦ shared_case z b | inr z ↦ thread_case z b ]
 
+  -- a thread has as many objects as before
+  lengths_with : (u : ℕ) → (a.serial ≡ 0 → ⊥)
+      → length (mutator_at (with_mutator g a.thread (record {
+        registers = (mutator_at g a.thread).registers;
+        objects = set (mutator_at g a.thread).objects (a.serial - 1)
+            (set_field (object_of g a) i v);
+      })) u).objects ≡ length (mutator_at g u).objects
+  lengths_with u z =
+      let m : Mutator = record {
+        registers = (mutator_at g a.thread).registers;
+        objects = set (mutator_at g a.thread).objects (a.serial - 1)
+            (set_field (object_of g a) i v);
+      } in
+      let there : a.thread < length g.mutators = thread_of_name g a z has in
+      elim (cases_eq a.thread u) [
+        | inl t ↦ ap (λ (x : Mutator). length x.objects)
+            (mutator_with g a.thread u m there
+            ∙ ap (λ k. cond k m (mutator_at g u)) (eq-eqb a.thread u t))
+            ∙ length-set (mutator_at g a.thread).objects (a.serial - 1)
+            (set_field (object_of g a) i v) ∙ ap (λ k. length (mutator_at g k).objects) t
+        | inr t ↦ ap (λ (x : Mutator). length x.objects)
+            (mutator_with g a.thread u m there
+            ∙ ap (λ k. cond k m (mutator_at g u)) (ne_eqb a.thread u t))
+      ]
+
   -- and leaves names, registers, threads
   pub has_name_with_field : (b : Name) → has_name (with_field g a i v) b ≡ has_name g b
   has_name_with_field b = elim (cases_eq a.serial 0) [
@@ -129,21 +154,11 @@ module _ (g : Graph) (a : Name) (i : ℕ) (v : Value) (has : has_name g a ≡ tr
           objects = set (mutator_at g a.thread).objects (a.serial - 1)
               (set_field (object_of g a) i v);
         } in
-        let there : a.thread < length g.mutators = thread_of_name g a z has in
         ap (λ (h : Graph). has_name h b) (thread_store g a i v z)
         ∙ ap (λ n. name_from n (length
         (mutator_at (with_mutator g a.thread m) b.thread).objects) b)
         (length-set g.mutators a.thread m)
-        ∙ ap (λ k. name_from (length g.mutators) k b) (elim (cases_eq a.thread b.thread) [
-          | inl t ↦ ap (λ (x : Mutator). length x.objects)
-              (mutator_with g a.thread b.thread m there
-              ∙ ap (λ k. cond k m (mutator_at g b.thread)) (eq-eqb a.thread b.thread t))
-              ∙ length-set (mutator_at g a.thread).objects (a.serial - 1)
-              (set_field (object_of g a) i v) ∙ ap (λ k. length (mutator_at g k).objects) t
-          | inr t ↦ ap (λ (x : Mutator). length x.objects)
-              (mutator_with g a.thread b.thread m there
-              ∙ ap (λ k. cond k m (mutator_at g b.thread)) (ne_eqb a.thread b.thread t))
-        ])
+        ∙ ap (λ k. name_from (length g.mutators) k b) (lengths_with b.thread z)
   ]
 
   pub registers_with_field : (u : ℕ)
@@ -171,24 +186,7 @@ module _ (g : Graph) (a : Name) (i : ℕ) (v : Value) (has : has_name g a ≡ tr
   pub count_with_field : (u : ℕ) → count_of (with_field g a i v) u ≡ count_of g u
   count_with_field u = elim (cases_eq a.serial 0) [
     | inl z ↦ ap (λ (h : Graph). count_of h u) (shared_store g a i v z (name_of_shared g a z has))
-    | inr z ↦
-        let m : Mutator = record {
-          registers = (mutator_at g a.thread).registers;
-          objects = set (mutator_at g a.thread).objects (a.serial - 1)
-              (set_field (object_of g a) i v);
-        } in
-        let there : a.thread < length g.mutators = thread_of_name g a z has in
-        ap (λ (h : Graph). count_of h u) (thread_store g a i v z)
-        ∙ elim (cases_eq a.thread u) [
-          | inl t ↦ ap (λ (x : Mutator). length x.objects)
-              (mutator_with g a.thread u m there
-              ∙ ap (λ k. cond k m (mutator_at g u)) (eq-eqb a.thread u t))
-              ∙ length-set (mutator_at g a.thread).objects (a.serial - 1)
-              (set_field (object_of g a) i v) ∙ ap (λ k. length (mutator_at g k).objects) t
-          | inr t ↦ ap (λ (x : Mutator). length x.objects)
-              (mutator_with g a.thread u m there
-              ∙ ap (λ k. cond k m (mutator_at g u)) (ne_eqb a.thread u t))
-        ]
+    | inr z ↦ ap (λ (h : Graph). count_of h u) (thread_store g a i v z) ∙ lengths_with u z
   ]
 
 module _ (g : Graph) (t : ℕ) (o : Object) (there : t < length g.mutators) where
