@@ -52,82 +52,59 @@ fn words_that_are_out_of_range_are_refused(rt: HostRuntime) -> Result<(), Fail> 
     Ok(())
 }
 
+/// Jobs on the usual heap by their commands, each with a schedule, just as many turns as it takes,
+/// and what is written.
+const ENDED: [(&str, &str, &str, &str); 5] = [
+    ("", "serial", "0", "start 1\nend cycles 1 work 0\n"),
+    (
+        "say 1\n",
+        "robin",
+        "4",
+        "start 1\n0 nil\nend cycles 1 work 0\n",
+    ),
+    ("say 1\n", "7", "4", "start 1\n0 nil\nend cycles 1 work 0\n"),
+    (
+        "new 1 1\n",
+        "serial",
+        "101",
+        "start 1\n0 new 0.1 work 7\nend cycles 1 work 7\n",
+    ),
+    (
+        "new 1 1\nnew 1 1\n",
+        "serial",
+        "129",
+        "start 1\n0 new 0.1 work 7\n0 new 0.2 work 7\nend cycles 1 work 14\n",
+    ),
+];
+
 #[test]
-fn a_replay_ends_with_its_last_turn_and_not_before(rt: HostRuntime) -> Result<(), Fail> {
+fn a_replay_ends_with_its_last_turn(rt: HostRuntime) -> Result<(), Fail> {
     let alloc = rt.alloc();
-    let used = "rtheap: turns used, thread 0\n";
-    let shows = job(alloc, "say 1\n")?;
-    let written = "start 1\n0 nil\nend cycles 1 work 0\n";
-    says(
-        &rt,
-        alloc,
-        &["replay", "robin", "4"],
-        shows.as_str(),
-        0,
-        written,
-    )?;
-    says(
-        &rt,
-        alloc,
-        &["replay", "robin", "3"],
-        shows.as_str(),
-        8,
-        used,
-    )?;
-    says(
-        &rt,
-        alloc,
-        &["replay", "7", "4"],
-        shows.as_str(),
-        0,
-        written,
-    )?;
-    let one = job(alloc, "new 1 1\n")?;
-    let written = "start 1\n0 new 0.1 work 7\nend cycles 1 work 7\n";
-    says(
-        &rt,
-        alloc,
-        &["replay", "serial", "101"],
-        one.as_str(),
-        0,
-        written,
-    )?;
-    says(
-        &rt,
-        alloc,
-        &["replay", "serial", "100"],
-        one.as_str(),
-        8,
-        used,
-    )?;
-    let two = job(alloc, "new 1 1\nnew 1 1\n")?;
-    let written = "start 1\n0 new 0.1 work 7\n0 new 0.2 work 7\nend cycles 1 work 14\n";
-    says(
-        &rt,
-        alloc,
-        &["replay", "serial", "129"],
-        two.as_str(),
-        0,
-        written,
-    )?;
-    says(
-        &rt,
-        alloc,
-        &["replay", "serial", "128"],
-        two.as_str(),
-        8,
-        used,
-    )?;
-    let none = job(alloc, "")?;
-    let written = "start 1\nend cycles 1 work 0\n";
-    says(
-        &rt,
-        alloc,
-        &["replay", "serial", "0"],
-        none.as_str(),
-        0,
-        written,
-    )
+    for (commands, schedule, turns, written) in ENDED {
+        let text = job(alloc, commands)?;
+        let words = ["replay", schedule, turns];
+        says(&rt, alloc, &words, text.as_str(), 0, written)?;
+    }
+    Ok(())
+}
+
+/// The same with one turn too few.
+const SHORT: [(&str, &str, &str); 3] = [
+    ("say 1\n", "robin", "3"),
+    ("new 1 1\n", "serial", "100"),
+    ("new 1 1\nnew 1 1\n", "serial", "128"),
+];
+
+#[test]
+fn a_replay_does_not_end_before_its_last_turn(rt: HostRuntime) -> Result<(), Fail> {
+    let alloc = rt.alloc();
+    for (commands, schedule, turns) in SHORT {
+        let text = job(alloc, commands)?;
+        let words = ["replay", schedule, turns];
+        let used = "rtheap: turns used, thread 0\n";
+        says(&rt, alloc, &words, text.as_str(), 8, used)?;
+    }
+    Ok(())
 }
 
 #[test]

@@ -1,63 +1,9 @@
 //! Runs of several threads.
 
 use crate::testing::{Call, made, made_at};
-use never_heap::Pace;
+use board_jobs::Meeting;
 use std::alloc::Global;
-use std::process::Abort;
-use std::sync::Wait;
-use std::sync::atomic::{AtomicU64, Ordering};
 use std::test::Fail;
-use std::thread::Threads;
-
-/// How often a thread looks for the flag of the other before it gives up.
-const LOOKS: u32 = 50_000_000;
-
-/// At command 1 each of two threads raises its flag and looks for the other's.
-#[derive(Drop)]
-struct Meeting {
-    /// How often thread 0 was told of commands 0 and 1, and then thread 1.
-    told: [AtomicU64; 4],
-    /// How often it was told of anything else.
-    other: AtomicU64,
-    flags: [AtomicU64; 2],
-    met: AtomicU64,
-}
-
-impl Meeting {
-    fn new() -> Meeting {
-        Meeting {
-            told: [
-                AtomicU64::new(0),
-                AtomicU64::new(0),
-                AtomicU64::new(0),
-                AtomicU64::new(0),
-            ],
-            other: AtomicU64::new(0),
-            flags: [AtomicU64::new(0), AtomicU64::new(0)],
-            met: AtomicU64::new(0),
-        }
-    }
-}
-
-impl Pace for Meeting {
-    fn before<R: Wait>(&self, _rt: &R, thread: u32, command: u64) {
-        if thread > 1 || command > 1 {
-            self.other.fetch_add(1, Ordering::SeqCst);
-            return;
-        }
-        self.told[2 * thread as usize + command as usize].fetch_add(1, Ordering::SeqCst);
-        if command == 0 {
-            return;
-        }
-        self.flags[thread as usize].store(1, Ordering::SeqCst);
-        for _ in 0..LOOKS {
-            if self.flags[1 - thread as usize].load(Ordering::SeqCst) == 1 {
-                self.met.fetch_add(1, Ordering::SeqCst);
-                return;
-            }
-        }
-    }
-}
 
 #[test]
 fn threads_run_beside_each_other(rt: HostRuntime) -> Result<(), Fail> {
@@ -75,11 +21,7 @@ end
     assert_eq!(rt; (exit.status, exit.due), (0, 0));
     let written = b"0 ref 2.0\n0 ref 2.0\n1 ref 2.0\n1 ref 2.0\nend cycles 1 work 0\n";
     assert_eq!(rt; sink.bytes(), written.as_slice());
-    for calls in &pace.told {
-        assert_eq!(rt; calls.load(Ordering::SeqCst), 1);
-    }
-    assert_eq!(rt; pace.other.load(Ordering::SeqCst), 0);
-    assert_eq!(rt; pace.met.load(Ordering::SeqCst), 2);
+    assert!(rt; pace.took_place());
     Ok(())
 }
 

@@ -139,16 +139,8 @@ fn the_heap_is_full_when_the_last_block_is_reachable(rt: HostRuntime) -> Result<
     fills(&rt, alloc, 2, 60, "new 1 1\n", full)
 }
 
-#[test]
-fn a_heap_that_was_full_gives_blocks_again_where_the_chain_is_let_go(
-    rt: HostRuntime,
-) -> Result<(), Fail> {
-    fills(
-        &rt,
-        rt.alloc(),
-        1,
-        58,
-        "new 1 1
+/// An allocation that finds the usual heap full, and more after its chain was let go.
+const LET_GO: &str = "new 1 1
 nil 1
 nil 2
 new 3 1
@@ -162,8 +154,10 @@ new 3 1
 new 3 1
 new 3 1
 new 3 1
-",
-        "0 full 4 work 7
+";
+
+/// What these commands are answered.
+const GIVEN_AGAIN: &str = "0 full 4 work 7
 0 ok
 0 ok
 0 full 4 work 7
@@ -178,8 +172,13 @@ new 3 1
 0 new 0.59 work 7
 0 new 0.60 work 7
 end cycles 6 work 490
-",
-    )
+";
+
+#[test]
+fn a_heap_that_was_full_gives_blocks_again_where_the_chain_is_let_go(
+    rt: HostRuntime,
+) -> Result<(), Fail> {
+    fills(&rt, rt.alloc(), 1, 58, LET_GO, GIVEN_AGAIN)
 }
 
 #[test]

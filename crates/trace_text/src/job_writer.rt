@@ -207,9 +207,8 @@ fn prepend_operand(line: &mut LineBuffer, operand: u64)
 #[cfg(test)]
 mod tests {
     use super::*;
-    use crate::MemSink;
+    use crate::testing::sink_failing_at;
     use std::alloc::{AllocError, Global};
-    use std::process::Abort;
     use std::test::Fail;
 
     /// Two threads and one command of each kind.
@@ -249,23 +248,10 @@ mod tests {
         })
     }
 
-    /// That writing the job has this answer and leaves this text. The calls in `fail` fail.
-    fn expect_text(
-        rt: &impl Abort,
-        alloc: Global,
-        fail: &[u64],
-        answer: Result<(), Failed>,
-        text: &[u8],
-    ) -> Result<(), Fail> {
-        let fail = Vec::from_slice(alloc, fail)?;
-        let mut sink = MemSink::new(alloc, 1000, fail).ok().ok_or("memory")?;
-        assert_eq!(rt; write_job(&job(alloc)?, &mut sink), answer);
-        assert_eq!(rt; sink.bytes(), text);
-        Ok(())
-    }
-
     #[test]
     fn a_job_of_two_threads(rt: HostRuntime) -> Result<(), Fail> {
+        let mut sink = sink_failing_at(rt.alloc(), &[])?;
+        assert_eq!(rt; write_job(&job(rt.alloc())?, &mut sink), Ok(()));
         let text = b"rtheap 1 threads 2 blocks 65535 live 0 object 2 shared 1024
 thread 0
 new 3 5
@@ -281,12 +267,16 @@ same 8 9
 say 10
 end
 ";
-        expect_text(&rt, rt.alloc(), &[], Ok(()), text)
+        assert_eq!(rt; sink.bytes(), text.as_slice());
+        Ok(())
     }
 
     #[test]
     fn a_put_that_fails_leaves_the_lines_before(rt: HostRuntime) -> Result<(), Fail> {
+        let mut sink = sink_failing_at(rt.alloc(), &[2])?;
+        assert_eq!(rt; write_job(&job(rt.alloc())?, &mut sink), Err(Failed));
         let text = b"rtheap 1 threads 2 blocks 65535 live 0 object 2 shared 1024\nthread 0\n";
-        expect_text(&rt, rt.alloc(), &[2], Err(Failed), text)
+        assert_eq!(rt; sink.bytes(), text.as_slice());
+        Ok(())
     }
 }

@@ -130,87 +130,11 @@ impl Place {
 mod tests {
     use super::*;
     use crate::MemSink;
-    use block_store::{Name, Value};
-    use never_heap::{Command, Entry, Reply};
-    use std::alloc::Global;
-    use std::process::Abort;
+    use crate::testing::{replies, sink_failing_at};
     use std::test::Fail;
 
-    /// What two threads answered, one reply of each kind, in two cycles.
-    #[derive(Drop)]
-    struct Pair {
-        first: [Entry; 7],
-        second: [Entry; 5],
-    }
-
-    impl Logs for Pair {
-        ghost use Rattle.std.specs.Prelude.{[], ◌∷◌};
-
-        ghost logs = { λ s. s.first ∷ s.second ∷ [] };
-
-        ghost cycle_count = { λ _. 2 };
-
-        ghost unit_count = { λ _. 43 };
-
-        fn threads(&self) -> u32 {
-            2
-        }
-
-        fn entries(&self, t: u32) -> &[Entry] {
-            if t == 0 { &self.first } else { &self.second }
-        }
-
-        fn cycles(&self) -> u64 {
-            2
-        }
-
-        fn units(&self) -> u64 {
-            43
-        }
-    }
-
-    fn entry(thread: u32, reply: Reply, work: u64) -> Entry {
-        Entry {
-            thread,
-            command: Command::Nil { d: 0 },
-            reply,
-            work,
-        }
-    }
-
-    fn name(thread: u32, serial: u32) -> Name {
-        Name { thread, serial }
-    }
-
-    fn replies() -> Pair {
-        Pair {
-            first: [
-                entry(0, Reply::New(name(0, 1)), 36),
-                entry(0, Reply::Full(3), 7),
-                entry(0, Reply::Stored, 0),
-                entry(0, Reply::Val(Value::Nil), 0),
-                entry(0, Reply::Val(Value::Int(5)), 0),
-                entry(0, Reply::Val(Value::Ref(name(1, 120))), 0),
-                entry(0, Reply::Len(17), 0),
-            ],
-            second: [
-                entry(1, Reply::Yes, 0),
-                entry(1, Reply::No, 0),
-                entry(1, Reply::Null, 0),
-                entry(1, Reply::Kind, 0),
-                entry(1, Reply::Range, 0),
-            ],
-        }
-    }
-
-    /// That writing the replies has this answer and leaves this text. The calls in `fail` fail.
-    fn expect_text(
-        rt: &impl Abort,
-        alloc: Global,
-        fail: &[u64],
-        answer: Result<(), Failed>,
-        text: &[u8],
-    ) -> Result<(), Fail> {
+    /// Writes the replies in an order.
+    fn written(sink: &mut MemSink) -> Result<(), Failed> {
         let order = [
             Item::Start,
             Item::Entry(1),
@@ -227,58 +151,50 @@ mod tests {
             Item::Entry(0),
             Item::Entry(1),
         ];
-        let fail = Vec::from_slice(alloc, fail)?;
-        let mut sink = MemSink::new(alloc, 1000, fail).ok().ok_or("memory")?;
-        let written = write_order(&replies(), &order, &mut sink);
-        assert_eq!(rt; written, answer);
-        assert_eq!(rt; sink.bytes(), text);
+        write_order(&replies(), &order, sink)
+    }
+
+    /// The lines of the replies in that order.
+    const LINES: &[u8] = b"start 1
+1 yes
+0 new 0.1 work 36
+0 full 3 work 7
+1 no
+start 2
+0 ok
+0 nil
+0 int 5
+1 null
+0 ref 1.120
+1 kind
+0 len 17
+1 range
+";
+
+    #[test]
+    fn replies_and_starts_stand_in_order(rt: HostRuntime) -> Result<(), Fail> {
+        let mut sink = sink_failing_at(rt.alloc(), &[])?;
+        assert_eq!(rt; written(&mut sink), Ok(()));
+        assert!(rt; sink.bytes().starts_with(LINES));
+        let totals = sink.bytes().get(LINES.len()..).ok_or("no totals")?;
+        assert_eq!(rt; totals, b"end cycles 2 work 43\n".as_slice());
         Ok(())
     }
 
     #[test]
-    fn replies_and_starts_stand_in_order(rt: HostRuntime) -> Result<(), Fail> {
-        let text = b"start 1
-1 yes
-0 new 0.1 work 36
-0 full 3 work 7
-1 no
-start 2
-0 ok
-0 nil
-0 int 5
-1 null
-0 ref 1.120
-1 kind
-0 len 17
-1 range
-end cycles 2 work 43
-";
-        expect_text(&rt, rt.alloc(), &[], Ok(()), text)
-    }
-
-    #[test]
     fn a_put_that_fails_leaves_the_lines_before(rt: HostRuntime) -> Result<(), Fail> {
+        let mut sink = sink_failing_at(rt.alloc(), &[5])?;
+        assert_eq!(rt; written(&mut sink), Err(Failed));
         let text = b"start 1\n1 yes\n0 new 0.1 work 36\n0 full 3 work 7\n1 no\n";
-        expect_text(&rt, rt.alloc(), &[5], Err(Failed), text)
+        assert_eq!(rt; sink.bytes(), text.as_slice());
+        Ok(())
     }
 
     #[test]
     fn the_totals_may_fail_too(rt: HostRuntime) -> Result<(), Fail> {
-        let text = b"start 1
-1 yes
-0 new 0.1 work 36
-0 full 3 work 7
-1 no
-start 2
-0 ok
-0 nil
-0 int 5
-1 null
-0 ref 1.120
-1 kind
-0 len 17
-1 range
-";
-        expect_text(&rt, rt.alloc(), &[14], Err(Failed), text)
+        let mut sink = sink_failing_at(rt.alloc(), &[14])?;
+        assert_eq!(rt; written(&mut sink), Err(Failed));
+        assert_eq!(rt; sink.bytes(), LINES);
+        Ok(())
     }
 }

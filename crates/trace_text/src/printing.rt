@@ -171,107 +171,13 @@ fn prepend_name(line: &mut LineBuffer, name: Name)
 #[cfg(test)]
 mod tests {
     use super::*;
-    use crate::MemSink;
-    use never_heap::Command;
-    use std::alloc::{AllocError, Global};
-    use std::process::Abort;
+    use crate::testing::{entry, replies, sink_failing_at};
     use std::test::Fail;
-
-    /// What two threads answered, in two cycles.
-    #[derive(Drop)]
-    struct Pair {
-        first: Vec<Entry>,
-        second: Vec<Entry>,
-    }
-
-    impl Logs for Pair {
-        ghost use Rattle.std.specs.Prelude.{[], ◌∷◌};
-
-        ghost logs = { λ s. s.first.items ∷ s.second.items ∷ [] };
-
-        ghost cycle_count = { λ _. 2 };
-
-        ghost unit_count = { λ _. 43 };
-
-        fn threads(&self) -> u32 {
-            2
-        }
-
-        fn entries(&self, t: u32) -> &[Entry] {
-            if t == 0 {
-                self.first.as_slice()
-            } else {
-                self.second.as_slice()
-            }
-        }
-
-        fn cycles(&self) -> u64 {
-            2
-        }
-
-        fn units(&self) -> u64 {
-            43
-        }
-    }
-
-    fn entry(thread: u32, reply: Reply, work: u64) -> Entry {
-        Entry {
-            thread,
-            command: Command::Nil { d: 0 },
-            reply,
-            work,
-        }
-    }
-
-    /// One reply of each kind.
-    fn replies(alloc: Global) -> Result<Pair, AllocError> {
-        let made = Name {
-            thread: 0,
-            serial: 1,
-        };
-        let seen = Name {
-            thread: 1,
-            serial: 120,
-        };
-        let first = [
-            entry(0, Reply::New(made), 36),
-            entry(0, Reply::Full(3), 7),
-            entry(0, Reply::Stored, 0),
-            entry(0, Reply::Val(Value::Nil), 0),
-            entry(0, Reply::Val(Value::Int(5)), 0),
-            entry(0, Reply::Val(Value::Ref(seen)), 0),
-            entry(0, Reply::Len(17), 0),
-        ];
-        let second = [
-            entry(1, Reply::Yes, 0),
-            entry(1, Reply::No, 0),
-            entry(1, Reply::Null, 0),
-            entry(1, Reply::Kind, 0),
-            entry(1, Reply::Range, 0),
-        ];
-        Ok(Pair {
-            first: Vec::from_slice(alloc, &first)?,
-            second: Vec::from_slice(alloc, &second)?,
-        })
-    }
-
-    /// That writing the replies has this answer and leaves this text. The calls in `fail` fail.
-    fn expect_text(
-        rt: &impl Abort,
-        alloc: Global,
-        fail: &[u64],
-        answer: Result<(), Failed>,
-        text: &[u8],
-    ) -> Result<(), Fail> {
-        let fail = Vec::from_slice(alloc, fail)?;
-        let mut sink = MemSink::new(alloc, 1000, fail).ok().ok_or("memory")?;
-        assert_eq!(rt; write_run(&replies(alloc)?, &mut sink), answer);
-        assert_eq!(rt; sink.bytes(), text);
-        Ok(())
-    }
 
     #[test]
     fn each_reply_has_its_text(rt: HostRuntime) -> Result<(), Fail> {
+        let mut sink = sink_failing_at(rt.alloc(), &[])?;
+        assert_eq!(rt; write_run(&replies(), &mut sink), Ok(()));
         let text = b"0 new 0.1 work 36
 0 full 3 work 7
 0 ok
@@ -286,13 +192,17 @@ mod tests {
 1 range
 end cycles 2 work 43
 ";
-        expect_text(&rt, rt.alloc(), &[], Ok(()), text)
+        assert_eq!(rt; sink.bytes(), text.as_slice());
+        Ok(())
     }
 
     #[test]
     fn a_put_that_fails_leaves_the_lines_before(rt: HostRuntime) -> Result<(), Fail> {
+        let mut sink = sink_failing_at(rt.alloc(), &[3])?;
+        assert_eq!(rt; write_run(&replies(), &mut sink), Err(Failed));
         let text = b"0 new 0.1 work 36\n0 full 3 work 7\n0 ok\n";
-        expect_text(&rt, rt.alloc(), &[3], Err(Failed), text)
+        assert_eq!(rt; sink.bytes(), text.as_slice());
+        Ok(())
     }
 
     #[test]
