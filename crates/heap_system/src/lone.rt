@@ -51,6 +51,11 @@ fn made(serial: u32) -> Reply {
     Reply::New(Name { thread: 0, serial })
 }
 
+// The reply that shows this object.
+fn shown(thread: u32, serial: u32) -> Reply {
+    Reply::Val(Value::Ref(Name { thread, serial }))
+}
+
 #[test]
 fn no_command_is_done_in_no_turn(rt: HostRuntime) -> Result<(), OutOfMemory> {
     for width in [Width::Four, Width::Eight] {
@@ -64,41 +69,41 @@ fn no_command_is_done_in_no_turn(rt: HostRuntime) -> Result<(), OutOfMemory> {
     Ok(())
 }
 
-#[test]
-fn every_command_is_answered(rt: HostRuntime) -> Result<(), OutOfMemory> {
-    let commands = [
-        New { d: 1, fields: 2 },
-        Set { d: 2, value: 5 },
-        Put { s: 1, i: 1, v: 2 },
-        Get { d: 3, s: 1, i: 1 },
-        Get { d: 3, s: 1, i: 2 },
-        Say { s: 3 },
-        Get { d: 3, s: 4, i: 0 },
-        Get { d: 3, s: 2, i: 0 },
-        Len { s: 1 },
-        Len { s: 4 },
-        Same { a: 1, b: 1 },
-        Same { a: 1, b: 2 },
-        Put { s: 4, i: 0, v: 2 },
-        Say { s: 1 },
-        Say { s: 0 },
-        Len { s: 0 },
-        Mov { d: 3, s: 1 },
-        Same { a: 3, b: 1 },
-        Nil { d: 1 },
-        Say { s: 1 },
-        Arr { d: 1, elements: 4 },
-        Len { s: 1 },
-    ];
-    let object = |thread, serial| Reply::Val(Value::Ref(Name { thread, serial }));
-    let five = Reply::Val(Value::Int(5));
-    let replies = [
+// Commands of every kind.
+const EACH_KIND: [Command; 22] = [
+    New { d: 1, fields: 2 },
+    Set { d: 2, value: 5 },
+    Put { s: 1, i: 1, v: 2 },
+    Get { d: 3, s: 1, i: 1 },
+    Get { d: 3, s: 1, i: 2 },
+    Say { s: 3 },
+    Get { d: 3, s: 4, i: 0 },
+    Get { d: 3, s: 2, i: 0 },
+    Len { s: 1 },
+    Len { s: 4 },
+    Same { a: 1, b: 1 },
+    Same { a: 1, b: 2 },
+    Put { s: 4, i: 0, v: 2 },
+    Say { s: 1 },
+    Say { s: 0 },
+    Len { s: 0 },
+    Mov { d: 3, s: 1 },
+    Same { a: 3, b: 1 },
+    Nil { d: 1 },
+    Say { s: 1 },
+    Arr { d: 1, elements: 4 },
+    Len { s: 1 },
+];
+
+// What these are answered.
+fn replies() -> [Reply; 22] {
+    [
         made(1),
         Reply::Stored,
         Reply::Stored,
-        five,
+        Reply::Val(Value::Int(5)),
         Reply::Range,
-        five,
+        Reply::Val(Value::Int(5)),
         Reply::Null,
         Reply::Kind,
         Reply::Len(2),
@@ -106,8 +111,8 @@ fn every_command_is_answered(rt: HostRuntime) -> Result<(), OutOfMemory> {
         Reply::Yes,
         Reply::No,
         Reply::Null,
-        object(0, 1),
-        object(1, 0),
+        shown(0, 1),
+        shown(1, 0),
         Reply::Len(0),
         Reply::Stored,
         Reply::Yes,
@@ -115,12 +120,17 @@ fn every_command_is_answered(rt: HostRuntime) -> Result<(), OutOfMemory> {
         Reply::Val(Value::Nil),
         made(2),
         Reply::Len(4),
-    ];
+    ]
+}
+
+#[test]
+fn every_command_is_answered(rt: HostRuntime) -> Result<(), OutOfMemory> {
     for width in [Width::Four, Width::Eight] {
-        let Some((logs, _)) = run(rt.alloc(), width, &[(1, &commands)])? else {
+        let Some((logs, _)) = run(rt.alloc(), width, &[(1, &EACH_KIND)])? else {
             assert!(rt; false, "not finished");
             return Ok(());
         };
+        let replies = replies();
         for (entry, reply) in entries(&logs).iter().zip(&replies) {
             assert_eq!(rt; entry.reply, *reply);
         }
@@ -197,10 +207,8 @@ fn no_old_value_shows_through(rt: HostRuntime) -> Result<(), OutOfMemory> {
     Ok(())
 }
 
-// A list grows by a record a round, until more is reachable than may be. The allocations are
-// refused until two cycles later the list, which was let go, is swept.
-#[test]
-fn an_allocation_is_refused_while_the_list_is_too_long(rt: HostRuntime) -> Result<(), OutOfMemory> {
+// A list grows by a record a round, until more is reachable than may be, and is let go.
+fn run_of_a_list(alloc: Global) -> Result<Option<Finished>, OutOfMemory> {
     let grows = [
         New { d: 1, fields: 1 },
         Put { s: 1, i: 0, v: 2 },
@@ -212,21 +220,31 @@ fn an_allocation_is_refused_while_the_list_is_too_long(rt: HostRuntime) -> Resul
         (1, &let_go),
         (11, &[New { d: 3, fields: 1 }]),
     ];
-    let Some((logs, _)) = run(rt.alloc(), Width::Four, &parts)? else {
+    Ok(run(alloc, Width::Four, &parts)?.map(|(logs, _)| logs))
+}
+
+#[test]
+fn a_list_grows_as_long_as_it_may(rt: HostRuntime) -> Result<(), OutOfMemory> {
+    let Some(logs) = run_of_a_list(rt.alloc())? else {
         assert!(rt; false, "not finished");
         return Ok(());
     };
     for round in 0..58_u32 {
         assert!(rt; says(&logs, 3 * round, made(round + 1), 7), "round {round}");
-        assert!(rt;
-            says(&logs, 3 * round + 1, Reply::Stored, 0),
-            "round {round}"
-        );
-        assert!(rt;
-            says(&logs, 3 * round + 2, Reply::Stored, 0),
-            "round {round}"
-        );
+        for number in [3 * round + 1, 3 * round + 2] {
+            assert!(rt; says(&logs, number, Reply::Stored, 0), "round {round}");
+        }
     }
+    Ok(())
+}
+
+// The allocations are refused until two cycles later the list, which was let go, is swept.
+#[test]
+fn an_allocation_is_refused_while_the_list_is_too_long(rt: HostRuntime) -> Result<(), OutOfMemory> {
+    let Some(logs) = run_of_a_list(rt.alloc())? else {
+        assert!(rt; false, "not finished");
+        return Ok(());
+    };
     assert!(rt; says(&logs, 174, Reply::Full(4), 7));
     for number in 0..7_u32 {
         assert!(rt;
