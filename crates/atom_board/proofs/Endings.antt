@@ -64,8 +64,8 @@ module _ (c : Config) (s : State) (k : IsReached c s) (over : AllDone c s) where
   made t tl =
       let l : LocalState = local_at c s t in
       let rest : l.part ≡ Rest = rest_is l.part (and_parts (is_rest l.part) (eqb (length l.log) (length l.trace)) (over t tl)).0 in
-      let settled : IsSettled (owed l) l.balance.paid Rest = subst (λ p. IsSettled (owed l) l.balance.paid p) rest (kept.locals t tl).settled in
-      let paid : (local_at c k.run.state t).balance.paid ≡ 0 = ap (λ x. (local_at c x t).balance.paid) (sym k.state) ∙ settled in
+      let settled : IsSettled (owed l) l.spent Rest = subst (λ p. IsSettled (owed l) l.spent p) rest (kept.locals t tl).settled in
+      let paid : (local_at c k.run.state t).spent ≡ 0 = ap (λ x. (local_at c x t).spent) (sym k.state) ∙ settled in
       ap works (sym (there t)) ∙ omega (arith, paid, run_makes c (traces_of s) k.job k.turns k.run k.by_turns t tl)
 
   each : (t : ℕ) → t < c.threads → AreMadeFor c t (get_or (logs_of s) t []) (opened c k.by_turns.first) k.turns

@@ -13,13 +13,13 @@ use Rattle.block_store.specs.declared.Name.{Name}
 use Rattle.block_store.specs.Payloads.{target}
 use Rattle.never_heap.specs.Steps.{makes_object}
 use Rattle.barrier_steps.specs.declared.rows.FieldRow.{FieldRow}
-use Rattle.barrier_steps.specs.declared.rows.FieldRow.TheVariants.{StoreNumber, StoreNil, LoadMoved, StoreMoved, LoadObject, LoadShape, LoadValue, LoadLink, LoadField, LoadOwner, StorePending, StoreField, Shade, LoadFirst, LoadSecond, LoadSaid, LoadSaidOwner, Answered}
+use Rattle.barrier_steps.specs.declared.rows.FieldRow.TheVariants.{StoreNumber, StoreNil, LoadMoved, StoreMoved, LoadObject, LoadShape, LoadValue, LoadLink, LoadField, LoadOwner, StorePending, StoreField, Shade, LoadFirst, LoadSecond, LoadSaid, LoadSaidOwner, Answered, LoadExpected, ExchangeField, CompareField, IdleLook}
 use Rattle.heap_machine.specs.declared.pass.Pass.{Pass}
 use Rattle.grey_steps.specs.declared.rows.GreyRow.{GreyRow}
 use Rattle.barrier_steps.specs.declared.rows.FieldStore.{FieldStore}
-use Rattle.barrier_steps.specs.declared.rows.FieldStore.TheVariants.{Moved, Pending, InField}
+use Rattle.barrier_steps.specs.declared.rows.FieldStore.TheVariants.{Moved, Pending, InField, Exchanged, Compared}
 use Rattle.barrier_steps.specs.declared.rows.Way.{Way}
-use Rattle.barrier_steps.specs.Operands.{field_index}
+use Rattle.barrier_steps.specs.Operands.{field_index, expected_register, is_swap, is_cas, is_idle, takes_field, stores_in_field}
 use Rattle.barrier_steps.specs.Walks.{shape_length, links_to}
 use Rattle.barrier_steps.specs.Rows.{payload_in, shape_in, object_in, store_row, before_store, first_row, row_got, field_reply, field_decided, after_object, after_shape, after_field, after_said, at_block, on_way, way_from, way_on, in_barrier}
 use Rattle.barrier_steps.specs.Deciding.{refers, length_decides, is_deciding}
@@ -36,6 +36,8 @@ moved_undecided p word = before_is (λ row. field_decided row ≡ false) p (Move
 
 block_undecided : (p : Pass) (k : Command) (way : Way) (word : ℕ) → field_decided (at_block p k way word) ≡ false
 block_undecided p (commands.Put s i v) way word = before_is (λ row. field_decided row ≡ false) p (InField way word) (λ _. refl) (λ _. refl)
+block_undecided p (commands.Swap s i v) way word = before_is (λ row. field_decided row ≡ false) p (Exchanged way word) (λ _. refl) (λ _. refl)
+block_undecided p (commands.Cas s i a v) way word = before_is (λ row. field_decided row ≡ false) p (Compared way word) (λ _. refl) (λ _. refl)
 block_undecided p _ way word = refl
 
 -- the barrier decides nothing
@@ -43,6 +45,8 @@ barrier_decides : (r q : GreyRow) (store : FieldStore) → field_decided (in_bar
 barrier_decides r q (Moved word) = barrier_is (λ row. field_decided row ≡ false) r (Moved word) (λ _. refl) (λ _. refl)
 barrier_decides r q (Pending word value) = barrier_is (λ row. field_decided row ≡ true) r (Pending word value) (λ _. refl) (λ _. refl)
 barrier_decides r q (InField way word) = barrier_is (λ row. field_decided row ≡ false) r (InField way word) (λ _. refl) (λ _. refl)
+barrier_decides r q (Exchanged way word) = barrier_is (λ row. field_decided row ≡ false) r (Exchanged way word) (λ _. refl) (λ _. refl)
+barrier_decides r q (Compared way word) = barrier_is (λ row. field_decided row ≡ false) r (Compared way word) (λ _. refl) (λ _. refl)
 
 way_undecided : (c : Config) (p : Pass) (k : Command) (way : Way) (word : ℕ) → field_decided (on_way (extent c) p k way word) ≡ false
 way_undecided c p k way word = elim (cases_Bool (ltb way.level (links_to (extent c) way.shape (field_index k)))) [
@@ -56,6 +60,14 @@ shape_decided c p (commands.Get d s i) x f = elim (cases_Bool (ltb i (shape_leng
   | inr is ↦ rw is refl
 ]
 shape_decided c p (commands.Put s i v) x f = elim (cases_Bool (ltb i (shape_length f))) [
+  | inl is ↦ rw is refl
+  | inr is ↦ rw is refl
+]
+shape_decided c p (commands.Swap s i v) x f = elim (cases_Bool (ltb i (shape_length f))) [
+  | inl is ↦ rw is refl
+  | inr is ↦ rw is refl
+]
+shape_decided c p (commands.Cas s i a v) x f = elim (cases_Bool (ltb i (shape_length f))) [
   | inl is ↦ rw is refl
   | inr is ↦ rw is refl
 ]
@@ -79,16 +91,20 @@ decided_after c p k (StoreMoved word) w = refl
 decided_after c p k LoadObject w = object_decided (payload_in w)
 decided_after c p k (LoadShape x) w = shape_decided c p k x (shape_in w)
 decided_after c p k (LoadValue way) w = way_undecided c p k way w
+decided_after c p k (LoadExpected way) w = refl
 decided_after c p k (LoadLink way word) w = way_undecided c p k _ word
 decided_after c p k (LoadField way) w = field_decides w (payload_in w)
 decided_after c p k (LoadOwner word) w = before_is (λ row. field_decided row ≡ true) p (Pending word (object_in w)) (λ _. refl) (λ _. refl)
 decided_after c p k (StorePending word value) w = refl
 decided_after c p k (StoreField way word) w = refl
+decided_after c p k (ExchangeField way word) w = field_decides w (payload_in w)
+decided_after c p k (CompareField way word) w = refl
 decided_after c p k (Shade r store) w = barrier_decides _ r store
 decided_after c p k LoadFirst w = refl
 decided_after c p k (LoadSecond word) w = refl
 decided_after c p k LoadSaid w = said_decides w (payload_in w)
 decided_after c p k (LoadSaidOwner word) w = refl
+decided_after c p k IdleLook w = refl
 decided_after c p k (Answered reply) w = refl
 
 pub decided_once : (k : Command) (row : FieldRow) (w : ℕ) → field_decided row ≡ true → is_deciding k row w ≡ false
@@ -131,6 +147,8 @@ store_makes : (store : FieldStore) → MakesNone (store_row store)
 store_makes (Moved word) n e = cc
 store_makes (Pending word value) n e = cc
 store_makes (InField way word) n e = cc
+store_makes (Exchanged way word) n e = cc
+store_makes (Compared way word) n e = cc
 
 before_makes : (p : Pass) (store : FieldStore) → MakesNone (before_store p store)
 before_makes p store = before_is MakesNone p store (λ _. store_makes store) (λ _ n e. cc)
@@ -141,6 +159,8 @@ chosen_makes false r s x y = y
 
 block_makes : (p : Pass) (k : Command) (way : Way) (word : ℕ) → MakesNone (at_block p k way word)
 block_makes p (commands.Put s i v) way word n e = before_makes p (InField way word) n e
+block_makes p (commands.Swap s i v) way word n e = before_makes p (Exchanged way word) n e
+block_makes p (commands.Cas s i a v) way word n e = before_makes p (Compared way word) n e
 block_makes p _ way word n e = cc
 
 way_makes : (c : Config) (p : Pass) (k : Command) (way : Way) (word : ℕ)
@@ -155,7 +175,15 @@ shape_makes c p (commands.Get d s i) x f = chosen_makes (ltb i (shape_length f))
     (way_makes c p (commands.Get d s i) (way_from f x) 0) (λ n e. cc)
 shape_makes c p (commands.Put s i v) x f = chosen_makes (ltb i (shape_length f)) _ _
     (λ n e. cc) (λ n e. cc)
+shape_makes c p (commands.Swap s i v) x f = chosen_makes (ltb i (shape_length f)) _ _
+    (λ n e. cc) (λ n e. cc)
+shape_makes c p (commands.Cas s i a v) x f = chosen_makes (ltb i (shape_length f)) _ _
+    (λ n e. cc) (λ n e. cc)
 shape_makes c p _ x f = λ n e. cc
+
+both_make : (b : Bool) → MakesNone (Answered (cond b replies.Yes replies.No))
+both_make true n e = cc
+both_make false n e = cc
 
 pub makes_none : (c : Config) (p : Pass) (k : Command) (row : FieldRow) (w : ℕ)
     → field_reply row ≡ None → MakesNone (row_got (extent c) p k row w)
@@ -168,11 +196,9 @@ makes_none c p k (LoadField way) w going = field_makes w (payload_in w)
 makes_none c p k (LoadOwner word) w going = before_makes p (Pending word (object_in w))
 makes_none c p k (Shade r store) w going = barrier_is MakesNone _ store (λ _. store_makes store)
     (λ _ n e. cc)
-makes_none c p k (LoadSecond word) w going = both (eqb word w)
-  where
-    both : (b : Bool) → MakesNone (Answered (cond b replies.Yes replies.No))
-    both true n e = cc
-    both false n e = cc
+makes_none c p k (LoadSecond word) w going = both_make (eqb word w)
+makes_none c p k (ExchangeField way word) w going = field_makes w (payload_in w)
+makes_none c p k (CompareField way word) w going = both_make (eqb w way.expected)
 makes_none c p k LoadSaid w going = said_makes w (payload_in w)
 makes_none c p k (Answered reply) w going = absurd cc
 makes_none c p k _ w going = λ n e. cc

@@ -20,7 +20,7 @@ use Rattle.heap_machine.specs.Operations.{place_of, Fits}
 use Rattle.heap_machine.specs.Readings.{StoresHeld}
 use Rattle.heap_machine.specs.declared.pass.Pass.{Pass}
 use Rattle.barrier_steps.specs.declared.rows.FieldRow.{FieldRow}
-use Rattle.barrier_steps.specs.declared.rows.FieldRow.TheVariants.{StoreNumber, StoreNil, LoadMoved, StoreMoved, LoadObject, LoadShape, LoadValue, LoadLink, LoadField, LoadOwner, StorePending, StoreField, Shade, LoadFirst, LoadSecond, LoadSaid, LoadSaidOwner, Answered}
+use Rattle.barrier_steps.specs.declared.rows.FieldRow.TheVariants.{StoreNumber, StoreNil, LoadMoved, StoreMoved, LoadObject, LoadShape, LoadValue, LoadLink, LoadField, LoadOwner, StorePending, StoreField, Shade, LoadFirst, LoadSecond, LoadSaid, LoadSaidOwner, Answered, LoadExpected, ExchangeField, CompareField, IdleLook}
 use Rattle.grey_steps.specs.declared.rows.GreyRow.{GreyRow}
 use Rattle.grey_steps.specs.declared.rows.GreyRow.TheVariants.{TakeOwn, ShadeStored, PutOwn, Shaded}
 use Rattle.grey_steps.specs.Rows as marking
@@ -28,13 +28,13 @@ use Rattle.grey_steps.specs.Ends.{is_shading, block_stored}
 use Rattle.grey_steps.proofs.Ends.{block_stays}
 use Rattle.grey_steps.proofs.Ranges as ranges
 use Rattle.barrier_steps.specs.declared.rows.FieldStore.{FieldStore}
-use Rattle.barrier_steps.specs.declared.rows.FieldStore.TheVariants.{Moved, Pending, InField}
+use Rattle.barrier_steps.specs.declared.rows.FieldStore.TheVariants.{Moved, Pending, InField, Exchanged, Compared}
 use Rattle.barrier_steps.specs.declared.rows.Way.{Way}
-use Rattle.barrier_steps.specs.Operands.{to_register, from_register, other_register, field_index, number_set, is_put, is_get, goes_to_field, looks_at_object}
+use Rattle.barrier_steps.specs.Operands.{to_register, from_register, other_register, field_index, number_set, is_put, is_get, goes_to_field, looks_at_object, expected_register, is_swap, is_cas, is_idle, takes_field, stores_in_field}
 use Rattle.barrier_steps.specs.Walks.{shape_length, links_to}
-use Rattle.barrier_steps.specs.Rows.{FieldState, register_place, payload_in, shape_in, object_in, stored_word, store_row, shaded_for, before_store, first_row, at_first_row, row_want, row_got, field_want, field_got, after_object, after_shape, after_field, after_said, on_way, at_block, way_from, way_on}
+use Rattle.barrier_steps.specs.Rows.{FieldState, register_place, payload_in, shape_in, object_in, stored_word, store_row, shaded_for, before_store, first_row, at_first_row, row_want, row_got, field_want, field_got, after_object, after_shape, after_field, after_said, on_way, at_block, way_from, way_on, way_with}
 use Rattle.barrier_steps.specs.Fits.{IsThread, IsLoaded, IsWalk, IsThere, IsBarrier, is_store_of, StoreFits, is_row_of, RowFits, FitsAt, FieldFits, ReadsAt, FieldReads}
-use Rattle.barrier_steps.proofs.Named.{to_low, from_low, other_low, number_low}
+use Rattle.barrier_steps.proofs.Named.{to_low, from_low, other_low, expected_low, number_low}
 use Rattle.barrier_steps.proofs.Walking.{link_low, field_low}
 use Rattle.barrier_steps.proofs.ReadWords.{payload_cases, shape_fits}
 use Rattle.barrier_steps.proofs.Stores.{before_is, barrier_is}
@@ -73,16 +73,20 @@ place_at c p k (StoreMoved word) f = register_in c p.thread (to_register k) f.th
 place_at c p k LoadObject f = register_in c p.thread (from_register k) f.thread (from_low k f.command)
 place_at c p k (LoadShape x) f = block_in c x f.row
 place_at c p k (LoadValue way) f = register_in c p.thread (other_register k) f.thread (other_low k f.command)
+place_at c p k (LoadExpected way) f = register_in c p.thread (expected_register k) f.thread (expected_low k f.command)
 place_at c p k (LoadLink way word) f = payload_in_range c way.block _ f.row.0.block (link_low c way.shape (field_index k) way.level)
 place_at c p k (LoadField way) f = payload_in_range c way.block _ f.row.0.block (field_low c way.shape (field_index k))
 place_at c p k (LoadOwner word) f = block_in c (target word) (target_block c word f.row.0 f.row.1)
 place_at c p k (StorePending word value) f = register_in c p.thread (to_register k) f.thread (to_low k f.command)
 place_at c p k (StoreField way word) f = payload_in_range c way.block _ f.row.0.block (field_low c way.shape (field_index k))
+place_at c p k (ExchangeField way word) f = payload_in_range c way.block _ f.row.0.block (field_low c way.shape (field_index k))
+place_at c p k (CompareField way word) f = payload_in_range c way.block _ f.row.0.block (field_low c way.shape (field_index k))
 place_at c p k (Shade r store) f = ranges.place_fits c (record { pass = p; row = r }) f.row.0.fits
 place_at c p k LoadFirst f = register_in c p.thread (from_register k) f.thread (from_low k f.command)
 place_at c p k (LoadSecond word) f = register_in c p.thread (other_register k) f.thread (other_low k f.command)
 place_at c p k LoadSaid f = register_in c p.thread (from_register k) f.thread (from_low k f.command)
 place_at c p k (LoadSaidOwner word) f = block_in c (target word) (target_block c word f.row.0 f.row.1)
+place_at c p k IdleLook f = refl
 place_at c p k (Answered reply) f = refl
 
 pub field_place : (c : Config) (s : FieldState) → FieldFits c s → in_range (extent c) (place_of (field_want (extent c) s)) ≡ true
@@ -97,16 +101,20 @@ sum_at c p k (StoreMoved word) w = tt
 sum_at c p k LoadObject w = tt
 sum_at c p k (LoadShape x) w = tt
 sum_at c p k (LoadValue way) w = tt
+sum_at c p k (LoadExpected way) w = tt
 sum_at c p k (LoadLink way word) w = tt
 sum_at c p k (LoadField way) w = tt
 sum_at c p k (LoadOwner word) w = tt
 sum_at c p k (StorePending word value) w = tt
 sum_at c p k (StoreField way word) w = tt
+sum_at c p k (ExchangeField way word) w = tt
+sum_at c p k (CompareField way word) w = tt
 sum_at c p k (Shade r store) w = ranges.sum_fits (record { pass = p; row = r }) w
 sum_at c p k LoadFirst w = tt
 sum_at c p k (LoadSecond word) w = tt
 sum_at c p k LoadSaid w = tt
 sum_at c p k (LoadSaidOwner word) w = tt
+sum_at c p k IdleLook w = tt
 sum_at c p k (Answered reply) w = tt
 
 pub field_sum : (c : Config) (s : FieldState) (w : ℕ) → Fits (field_want (extent c) s) w
@@ -134,6 +142,8 @@ store_belongs : (k : Command) (store : FieldStore) → is_store_of k store ≡ t
 store_belongs k (Moved word) is = is
 store_belongs k (Pending word value) is = is
 store_belongs k (InField way word) is = is
+store_belongs k (Exchanged way word) is = is
+store_belongs k (Compared way word) is = is
 
 before_belongs : (p : Pass) (k : Command) (store : FieldStore) → is_store_of k store ≡ true → is_row_of k (before_store p store) ≡ true
 before_belongs p k store is = before_is (λ row. is_row_of k row ≡ true) p store (λ _. store_belongs k store is) (λ _. is)
@@ -141,18 +151,36 @@ before_belongs p k store is = before_is (λ row. is_row_of k row ≡ true) p sto
 block_belongs : (p : Pass) (k : Command) (way : Way) (word : ℕ) → goes_to_field k ≡ true → is_row_of k (at_block p k way word) ≡ true
 block_belongs p (commands.Get d s i) way word is = refl
 block_belongs p (commands.Put s i v) way word is = before_belongs p (commands.Put s i v) (InField way word) refl
+block_belongs p (commands.Swap s i v) way word is = before_belongs p (commands.Swap s i v) (Exchanged way word) refl
+block_belongs p (commands.Cas s i a v) way word is = before_belongs p (commands.Cas s i a v) (Compared way word) refl
 block_belongs p _ way word is = absurd cc
 
 way_belongs : (c : Config) (p : Pass) (k : Command) (way : Way) (word : ℕ) → goes_to_field k ≡ true → is_row_of k (on_way (extent c) p k way word) ≡ true
 way_belongs c p k way word is = either (λ row. is_row_of k row ≡ true) (ltb way.level (links_to (extent c) way.shape (field_index k))) (LoadLink way word) (at_block p k way word) is (block_belongs p k way word is)
 
-put_goes : (k : Command) → is_put k ≡ true → goes_to_field k ≡ true
-put_goes (commands.Put s i v) is = refl
-put_goes _ is = absurd cc
+stores_goes : (k : Command) → stores_in_field k ≡ true → goes_to_field k ≡ true
+stores_goes (commands.Put s i v) is = refl
+stores_goes (commands.Swap s i v) is = refl
+stores_goes (commands.Cas s i a v) is = refl
+stores_goes _ is = absurd cc
+
+cas_stores : (k : Command) → is_cas k ≡ true → stores_in_field k ≡ true
+cas_stores (commands.Cas s i a v) is = refl
+cas_stores _ is = absurd cc
+
+pub get_takes : (k : Command) → is_get k ≡ true → takes_field k ≡ true
+get_takes (commands.Get d s i) is = refl
+get_takes _ is = absurd cc
+
+pub swap_takes : (k : Command) → is_swap k ≡ true → takes_field k ≡ true
+swap_takes (commands.Swap s i v) is = refl
+swap_takes _ is = absurd cc
 
 shape_belongs : (c : Config) (p : Pass) (k : Command) (x : ℕ) (f : Shape) → looks_at_object k ≡ true → is_row_of k (after_shape (extent c) p k x f) ≡ true
 shape_belongs c p (commands.Get d s i) x f is = either (λ row. is_row_of (commands.Get d s i) row ≡ true) (ltb i (shape_length f)) _ _ (way_belongs c p (commands.Get d s i) (way_from f x) 0 refl) refl
 shape_belongs c p (commands.Put s i v) x f is = either (λ row. is_row_of (commands.Put s i v) row ≡ true) (ltb i (shape_length f)) _ _ refl refl
+shape_belongs c p (commands.Swap s i v) x f is = either (λ row. is_row_of (commands.Swap s i v) row ≡ true) (ltb i (shape_length f)) _ _ refl refl
+shape_belongs c p (commands.Cas s i a v) x f is = either (λ row. is_row_of (commands.Cas s i a v) row ≡ true) (ltb i (shape_length f)) _ _ refl refl
 shape_belongs c p (commands.Len s) x f is = refl
 shape_belongs c p _ x f is = absurd cc
 
@@ -161,7 +189,7 @@ object_belongs k payloads.Nil is = refl
 object_belongs k (payloads.Int v) is = refl
 object_belongs k (payloads.Block x) is = is
 
-field_belongs : (k : Command) (w : ℕ) (p : Payload) → is_get k ≡ true → is_row_of k (after_field w p) ≡ true
+field_belongs : (k : Command) (w : ℕ) (p : Payload) → takes_field k ≡ true → is_row_of k (after_field w p) ≡ true
 field_belongs k w payloads.Nil is = is
 field_belongs k w (payloads.Int v) is = is
 field_belongs k w (payloads.Block x) is = is
@@ -178,17 +206,21 @@ belongs_on c p k LoadMoved w is = before_belongs p k (Moved w) is
 belongs_on c p k (StoreMoved word) w is = refl
 belongs_on c p k LoadObject w is = object_belongs k (payload_in w) is
 belongs_on c p k (LoadShape x) w is = shape_belongs c p k x (shape_in w) is
-belongs_on c p k (LoadValue way) w is = way_belongs c p k way w (put_goes k is)
+belongs_on c p k (LoadExpected way) w is = cas_stores k is
+belongs_on c p k (LoadValue way) w is = way_belongs c p k way w (stores_goes k is)
 belongs_on c p k (LoadLink way word) w is = way_belongs c p k (way_on way (target w)) word is
-belongs_on c p k (LoadField way) w is = field_belongs k w (payload_in w) is
+belongs_on c p k (LoadField way) w is = field_belongs k w (payload_in w) (get_takes k is)
 belongs_on c p k (LoadOwner word) w is = before_belongs p k (Pending word (object_in w)) is
 belongs_on c p k (StorePending word value) w is = refl
 belongs_on c p k (StoreField way word) w is = refl
+belongs_on c p k (ExchangeField way word) w is = field_belongs k w (payload_in w) (swap_takes k is)
+belongs_on c p k (CompareField way word) w is = refl
 belongs_on c p k (Shade r store) w is = barrier_is (λ row. is_row_of k row ≡ true) _ store (λ _. store_belongs k store is) (λ _. is)
 belongs_on c p k LoadFirst w is = is
 belongs_on c p k (LoadSecond word) w is = refl
 belongs_on c p k LoadSaid w is = said_belongs k w (payload_in w) is
 belongs_on c p k (LoadSaidOwner word) w is = refl
+belongs_on c p k IdleLook w is = refl
 belongs_on c p k (Answered reply) w is = refl
 
 -- and then its numbers
@@ -196,11 +228,15 @@ store_fits : (c : Config) (p : Pass) (k : Command) (store : FieldStore) → Stor
 store_fits c p k (Moved word) fits = fits
 store_fits c p k (Pending word value) fits = fits
 store_fits c p k (InField way word) fits = fits
+store_fits c p k (Exchanged way word) fits = fits
+store_fits c p k (Compared way word) fits = fits
 
 store_loaded : (c : Config) (k : Command) (store : FieldStore) → StoreFits c k store → IsLoaded c (stored_word store)
 store_loaded c k (Moved word) fits = fits
 store_loaded c k (Pending word value) fits = fits
 store_loaded c k (InField way word) fits = fits.2
+store_loaded c k (Exchanged way word) fits = fits.2
+store_loaded c k (Compared way word) fits = fits.2
 
 -- a thread of the heap's in this pass
 pub record IsOwn (c : Config) (p : Pass) : Type 0 where
@@ -234,6 +270,8 @@ before_fits c p k store own fits = before_is (λ row. RowFits c p k row) p store
 
 block_fits : (c : Config) (p : Pass) (k : Command) (way : Way) (word : ℕ) → IsOwn c p → IsWalk c (field_index k) way → IsThere c (field_index k) way → IsLoaded c word → RowFits c p k (at_block p k way word)
 block_fits c p (commands.Put s i v) way word own is there fits = before_fits c p (commands.Put s i v) (InField way word) own (is, there, fits)
+block_fits c p (commands.Swap s i v) way word own is there fits = before_fits c p (commands.Swap s i v) (Exchanged way word) own (is, there, fits)
+block_fits c p (commands.Cas s i a v) way word own is there fits = before_fits c p (commands.Cas s i a v) (Compared way word) own (is, there, fits)
 block_fits c p _ way word own is there fits = (is, there)
 
 -- a row that shades a block is one of a barrier
@@ -283,6 +321,14 @@ shape_row_fits c p (commands.Put s i v) x f own block shape = elim (cases_lt i (
   | inl less ↦ rw (lt-ltb i (shape_length f) less) (start_is_walk c x f i block shape less, refl)
   | inr more ↦ rw (le-ltb i (shape_length f) more) tt
 ]
+shape_row_fits c p (commands.Swap s i v) x f own block shape = elim (cases_lt i (shape_length f)) [
+  | inl less ↦ rw (lt-ltb i (shape_length f) less) (start_is_walk c x f i block shape less, refl)
+  | inr more ↦ rw (le-ltb i (shape_length f) more) tt
+]
+shape_row_fits c p (commands.Cas s i a v) x f own block shape = elim (cases_lt i (shape_length f)) [
+  | inl less ↦ rw (lt-ltb i (shape_length f) less) (start_is_walk c x f i block shape less, refl)
+  | inr more ↦ rw (le-ltb i (shape_length f) more) tt
+]
 shape_row_fits c p _ x f own block shape = tt
 
 row_fits : (c : Config) (p : Pass) (k : Command) (row : FieldRow) (w : ℕ) → IsOwn c p → RowFits c p k row → ReadsAt c p k row w → RowFits c p k (row_got (extent c) p k row w)
@@ -295,6 +341,7 @@ row_fits c p k LoadObject w own h r =
     (λ x is some. let high : target w ≤ c.blocks = r.0.1 in (some, omega (arith, is, high)))
 row_fits c p k (LoadShape x) w own h r = shape_row_fits c p k x (shape_in w) own h (shape_fits w r.0)
 row_fits c p k (LoadValue way) w own h r = way_fits c p k way w own h.0 (loaded c w r.0)
+row_fits c p k (LoadExpected way) w own h r = (record { shape = h.0.shape; index = h.0.index; level = h.0.level; block = h.0.block }, h.1)
 row_fits c p k (LoadLink way word) w own h r =
     let is = h.0 in
     let next : IsWalk c (field_index k) (way_on way (target w)) = record {
@@ -313,6 +360,10 @@ row_fits c p k (LoadField way) w own h r =
 row_fits c p k (LoadOwner word) w own h r = before_fits c p k (Pending word (object_in w)) own h.0
 row_fits c p k (StorePending word value) w own h r = tt
 row_fits c p k (StoreField way word) w own h r = tt
+row_fits c p k (ExchangeField way word) w own h r =
+    payload_cases w r.0.0 (λ q. RowFits c p k (after_field w q)) (loaded c w r.0) (λ v low. loaded c w r.0)
+    (λ x is some. (loaded c w r.0, reference x w is some))
+row_fits c p k (CompareField way word) w own h r = tt
 row_fits c p k (Shade r store) w own h reads = barrier_fits c p k r store w h.0 h.1 reads
 row_fits c p k LoadFirst w own h r = loaded c w r.0
 row_fits c p k (LoadSecond word) w own h r = tt
@@ -320,6 +371,7 @@ row_fits c p k LoadSaid w own h r =
     payload_cases w r.0.0 (λ q. RowFits c p k (after_said w q)) tt (λ v low. tt)
     (λ x is some. (loaded c w r.0, reference x w is some))
 row_fits c p k (LoadSaidOwner word) w own h r = tt
+row_fits c p k IdleLook w own h r = tt
 row_fits c p k (Answered reply) w own h r = tt
 
 pub field_fits : (c : Config) (s : FieldState) (w : ℕ) → FieldFits c s → FieldReads c s w → FieldFits c (field_got (extent c) s w)
@@ -341,16 +393,20 @@ stores_at c p k (StoreMoved word) f = (f.row.payload, f.row.block)
 stores_at c p k LoadObject f = tt
 stores_at c p k (LoadShape x) f = tt
 stores_at c p k (LoadValue way) f = tt
+stores_at c p k (LoadExpected way) f = tt
 stores_at c p k (LoadLink way word) f = tt
 stores_at c p k (LoadField way) f = tt
 stores_at c p k (LoadOwner word) f = tt
 stores_at c p k (StorePending word value) f = (f.row.payload, f.row.block)
 stores_at c p k (StoreField way word) f = (f.row.2.payload, f.row.2.block)
+stores_at c p k (ExchangeField way word) f = (f.row.2.payload, f.row.2.block)
+stores_at c p k (CompareField way word) f = (f.row.2.payload, f.row.2.block)
 stores_at c p k (Shade r store) f = ranges.stores_held c (record { pass = p; row = r }) f.row.0.fits
 stores_at c p k LoadFirst f = tt
 stores_at c p k (LoadSecond word) f = tt
 stores_at c p k LoadSaid f = tt
 stores_at c p k (LoadSaidOwner word) f = tt
+stores_at c p k IdleLook f = tt
 stores_at c p k (Answered reply) f = tt
 
 pub stores_held : (c : Config) (s : FieldState) → FieldFits c s → StoresHeld c (field_want (extent c) s)

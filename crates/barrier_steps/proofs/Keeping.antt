@@ -1,5 +1,5 @@
 -- Each event of a command keeps all that a heap keeps in either phase.
-use Rattle.std.proofs.Common.{◌≡◌, ℕ, ◌<◌, true, false, cond, ltb, IsSome, Option, None, Some, refl, sym, ap, ◌∙◌, subst, inl, inr}
+use Rattle.std.proofs.Common.{◌≡◌, ℕ, ◌<◌, true, false, cond, ltb, eqb, IsSome, Option, None, Some, refl, sym, ap, ◌∙◌, subst, inl, inr}
 use Rattle.std.proofs.lemmas.Bool.{cases_Bool}
 use Rattle.block_store.specs.declared.Config.{Config}
 use Rattle.block_store.specs.declared.Payload.{Payload}
@@ -19,7 +19,7 @@ use Rattle.never_heap.specs.declared.Command.TheVariants as commands
 use Rattle.heap_machine.specs.Grey.{GreyHolding, GreyKept}
 use Rattle.heap_machine.specs.HeapKept.{CanRefer}
 use Rattle.heap_machine.specs.Holdings.{Holding, holds_nothing, grey_held, tricolour_held, free_held, sweep_held}
-use Rattle.heap_machine.specs.Operations.{Exchange, place_of, heap_after}
+use Rattle.heap_machine.specs.Operations.{Exchange, CompareExchange, place_of, heap_after}
 use Rattle.heap_machine.specs.PhaseKept.{PhaseKept}
 use Rattle.heap_machine.specs.Readings.{IsHeld}
 use Rattle.heap_machine.specs.Solid.{NotFree}
@@ -39,12 +39,12 @@ use Rattle.grey_steps.specs.Rows.{grey_over, grey_holding}
 use Rattle.grey_steps.proofs.Ends.{shading_goes_on, block_stays}
 use Rattle.grey_steps.proofs.Reuses as reuses
 use Rattle.barrier_steps.specs.declared.rows.FieldRow.{FieldRow}
-use Rattle.barrier_steps.specs.declared.rows.FieldRow.TheVariants.{StoreNumber, StoreNil, LoadMoved, StoreMoved, LoadObject, LoadShape, LoadValue, LoadLink, LoadField, LoadOwner, StorePending, StoreField, Shade, LoadFirst, LoadSecond, LoadSaid, LoadSaidOwner, Answered}
+use Rattle.barrier_steps.specs.declared.rows.FieldRow.TheVariants.{StoreNumber, StoreNil, LoadMoved, StoreMoved, LoadObject, LoadShape, LoadValue, LoadLink, LoadField, LoadOwner, StorePending, StoreField, Shade, LoadFirst, LoadSecond, LoadSaid, LoadSaidOwner, Answered, LoadExpected, ExchangeField, CompareField, IdleLook}
 use Rattle.barrier_steps.specs.declared.rows.FieldStore.{FieldStore}
-use Rattle.barrier_steps.specs.declared.rows.FieldStore.TheVariants.{Moved, Pending, InField}
+use Rattle.barrier_steps.specs.declared.rows.FieldStore.TheVariants.{Moved, Pending, InField, Exchanged, Compared}
 use Rattle.barrier_steps.specs.declared.rows.Way.{Way}
 use Rattle.barrier_steps.specs.Fits.{IsBarrier, FitsAt, FieldFits, ReadsAt, FieldReads}
-use Rattle.barrier_steps.specs.Operands.{field_index, number_set}
+use Rattle.barrier_steps.specs.Operands.{field_index, number_set, expected_register, is_swap, is_cas, is_idle, takes_field, stores_in_field}
 use Rattle.barrier_steps.specs.Rows.{FieldState, payload_or_nil, payload_in, shape_in, object_in, at_first_row, stored_word, store_row, shaded_for, before_store, at_block, on_way, way_from, way_on, after_object, after_shape, after_field, after_said, row_want, row_got, word_stored, field_want, field_got, field_reply, held_before_store, row_holding, field_holding}
 use Rattle.barrier_steps.specs.Walks.{shape_length, links_to}
 use Rattle.barrier_steps.proofs.FieldRows.{barrier_shades, stores_held}
@@ -92,6 +92,8 @@ nothing_shaded : (m : ℕ) (p : Pass) (store : FieldStore) → shaded_for p (sto
 nothing_shaded m p (Moved word) none = ap (λ y. record holds_nothing { shaded = y }) none
 nothing_shaded m p (Pending word value) none = ap (λ y. record holds_nothing { shaded = y }) none
 nothing_shaded m p (InField way word) none = ap (λ y. record holds_nothing { shaded = y }) none
+nothing_shaded m p (Exchanged way word) none = ap (λ y. record holds_nothing { shaded = y }) none
+nothing_shaded m p (Compared way word) none = ap (λ y. record holds_nothing { shaded = y }) none
 
 before_nothing : (m : ℕ) (p : Pass) (store : FieldStore)
     → row_holding m p (before_store p store) ≡ holds_nothing
@@ -101,6 +103,8 @@ before_nothing m p store = before_is (λ row. row_holding m p row ≡ holds_noth
 block_nothing : (m : ℕ) (p : Pass) (k : Command) (way : Way) (word : ℕ)
     → row_holding m p (at_block p k way word) ≡ holds_nothing
 block_nothing m p (commands.Put s i v) way word = before_nothing m p (InField way word)
+block_nothing m p (commands.Swap s i v) way word = before_nothing m p (Exchanged way word)
+block_nothing m p (commands.Cas s i a v) way word = before_nothing m p (Compared way word)
 block_nothing m p _ way word = refl
 
 way_nothing : (e : Extent) (m : ℕ) (p : Pass) (k : Command) (way : Way) (word : ℕ)
@@ -129,6 +133,14 @@ shape_nothing e m p (commands.Get d s i) x f = elim (cases_Bool (ltb i (shape_le
   | inr is ↦ rw is refl
 ]
 shape_nothing e m p (commands.Put s i v) x f = elim (cases_Bool (ltb i (shape_length f))) [
+  | inl is ↦ rw is refl
+  | inr is ↦ rw is refl
+]
+shape_nothing e m p (commands.Swap s i v) x f = elim (cases_Bool (ltb i (shape_length f))) [
+  | inl is ↦ rw is refl
+  | inr is ↦ rw is refl
+]
+shape_nothing e m p (commands.Cas s i a v) x f = elim (cases_Bool (ltb i (shape_length f))) [
   | inl is ↦ rw is refl
   | inr is ↦ rw is refl
 ]
@@ -172,6 +184,8 @@ shaded_holds m p store mark = go store
     go (Moved word) = ap (λ y. record holds_nothing { shaded = y }) (in_mark word)
     go (Pending word value) = ap (λ y. record holds_nothing { shaded = y }) (in_mark word)
     go (InField way word) = ap (λ y. record holds_nothing { shaded = y }) (in_mark word)
+    go (Exchanged way word) = ap (λ y. record holds_nothing { shaded = y }) (in_mark word)
+    go (Compared way word) = ap (λ y. record holds_nothing { shaded = y }) (in_mark word)
 
 module _ (c : Config) (h : Heap) (hs : ℕ → Holding) (p : Pass) (k : Command)
     (sweep : is_sweep (h Phase) ≡ p.sweep) (cycle : cycle_of (h Phase) ≡ p.cycle)
@@ -212,6 +226,27 @@ module _ (c : Config) (h : Heap) (hs : ℕ → Holding) (p : Pass) (k : Command)
     solid = solid;
   }
 
+  -- an exchange, after which the thread holds nothing
+  exchanges : (row : FieldRow) (x j w y : ℕ) → hs p.thread ≡ record holds_nothing { shaded = y }
+      → (is_sweep (h Phase) ≡ false → CanRefer (cycle_of (h Phase)) h (target w))
+      → row_holding m p (next row) ≡ holds_nothing → After (put_at h (PayloadOf x j) w) (next row)
+  exchanges row x j w y is can goes =
+      subst (λ (v : Holding). PhaseKept (extent c) (put_at h (PayloadOf x j) w) (changed hs p.thread v))
+      (sym goes) (stores x j w y is can)
+
+  -- a comparison, which stores where the field has the expected word
+  compares : (x j old w y : ℕ) → hs p.thread ≡ record holds_nothing { shaded = y }
+      → (is_sweep (h Phase) ≡ false → CanRefer (cycle_of (h Phase)) h (target w))
+      → PhaseKept (extent c) (heap_after h (CompareExchange (PayloadOf x j) old w))
+      (changed hs p.thread holds_nothing)
+  compares x j old w y is can = elim (cases_Bool (eqb (h (PayloadOf x j)) old)) [
+    | inl won ↦ subst (λ b. PhaseKept (extent c) (cond b (put_at h (PayloadOf x j) w) h)
+        (changed hs p.thread holds_nothing)) (sym won) (stores x j w y is can)
+    | inr lost ↦ subst (λ b. PhaseKept (extent c) (cond b (put_at h (PayloadOf x j) w) h)
+        (changed hs p.thread holds_nothing)) (sym lost)
+        (lets_shaded_go (extent c) h hs kept p.thread y low is)
+  ]
+
   shades : (r : GreyRow) (store : FieldStore) → IsBarrier c p r (stored_word store)
       → hs p.thread ≡ grey_holding m r
       → After (heap_after h (row_want (extent c) p k (Shade r store)))
@@ -242,16 +277,23 @@ module _ (c : Config) (h : Heap) (hs : ℕ → Holding) (p : Pass) (k : Command)
   row_keeps LoadObject fits reads solid is = loads LoadObject is (object_nothing m p (payload_in (read LoadObject)))
   row_keeps (LoadShape x) fits reads solid is = loads (LoadShape x) is (shape_nothing (extent c) m p k x (shape_in (read (LoadShape x))))
   row_keeps (LoadValue way) fits reads solid is = loads (LoadValue way) is (way_nothing (extent c) m p k way (read (LoadValue way)))
+  row_keeps (LoadExpected way) fits reads solid is = loads (LoadExpected way) is refl
   row_keeps (LoadLink way word) fits reads solid is = loads (LoadLink way word) is (way_nothing (extent c) m p k (way_on way (target (read (LoadLink way word)))) word)
   row_keeps (LoadField way) fits reads solid is = loads (LoadField way) is (field_nothing m p (read (LoadField way)) reads.0.0)
   row_keeps (LoadOwner word) fits reads solid is = loads (LoadOwner word) is (before_nothing m p (Pending word (object_in (read (LoadOwner word)))))
   row_keeps (StorePending word value) fits reads solid is = stores _ _ word _ is (can_store word is solid)
   row_keeps (StoreField way word) fits reads solid is = stores _ _ word _ is (can_store word is solid)
+  row_keeps (ExchangeField way word) fits reads solid is =
+      exchanges (ExchangeField way word) _ _ word _ is (can_store word is solid)
+      (field_nothing m p (read (ExchangeField way word)) reads.0.0)
+  row_keeps (CompareField way word) fits reads solid is =
+      compares _ _ way.expected word _ is (can_store word is solid)
   row_keeps (Shade r store) fits reads solid is = shades r store fits.row.0 is
   row_keeps LoadFirst fits reads solid is = loads LoadFirst is refl
   row_keeps (LoadSecond word) fits reads solid is = loads (LoadSecond word) is refl
   row_keeps LoadSaid fits reads solid is = loads LoadSaid is (said_nothing m p (read LoadSaid) (payload_in (read LoadSaid)))
   row_keeps (LoadSaidOwner word) fits reads solid is = loads (LoadSaidOwner word) is refl
+  row_keeps IdleLook fits reads solid is = loads IdleLook is refl
   row_keeps (Answered reply) fits reads solid is = loads (Answered reply) is refl
 
 pub keeps_phase : (c : Config) (h : Heap) (hs : ℕ → Holding) (f : FieldState) → FieldFits c f

@@ -5,7 +5,7 @@ use Rattle.block_store.specs.declared.Config.{Config}
 use Rattle.block_store.specs.Colours.{is_grey, white_word, grey_word}
 use Rattle.block_store.proofs.ColourWords.{not_grey_white}
 use Rattle.block_store.specs.Heaps.{Heap, put_at}
-use Rattle.block_store.specs.Places.{Place, extent, Phase, Cursor, ColourOf}
+use Rattle.block_store.specs.Places.{Place, extent, Phase, Cursor, ColourOf, PayloadOf}
 use Rattle.block_store.specs.Widths.{payloads}
 use Rattle.never_heap.specs.declared.Command.{Command}
 use Rattle.heap_machine.specs.Holdings.{sweep_held}
@@ -18,7 +18,7 @@ use Rattle.grey_steps.specs.Ends.{is_shading}
 use Rattle.grey_steps.specs.Rows.{grey_holding}
 use Rattle.grey_steps.specs.Rows as marking
 use Rattle.barrier_steps.specs.declared.rows.FieldRow.{FieldRow}
-use Rattle.barrier_steps.specs.declared.rows.FieldRow.TheVariants.{Shade}
+use Rattle.barrier_steps.specs.declared.rows.FieldRow.TheVariants.{Shade, LoadExpected, ExchangeField, CompareField, IdleLook}
 use Rattle.barrier_steps.specs.Fits.{FitsAt, FieldFits}
 use Rattle.barrier_steps.specs.Rows.{FieldState, shades, row_want, field_want, row_holding, field_holding}
 use Rattle.barrier_steps.proofs.FieldRows.{barrier_shades}
@@ -27,6 +27,14 @@ use Rattle.barrier_steps.proofs.FieldRows.{barrier_shades}
 shade_leaves : (h : Heap) (y old v : ℕ) (at : Place) → put_at h (ColourOf y) v at ≡ h at
     → heap_after h (CompareExchange (ColourOf y) old v) at ≡ h at
 shade_leaves h y old v at other = elim (cases_Bool (eqb (h (ColourOf y)) old)) [
+  | inl is ↦ rw is other
+  | inr is ↦ rw is refl
+]
+
+-- a place where nothing is written but where a field has the expected word
+compare_leaves : (h : Heap) (x j old v : ℕ) (at : Place) → put_at h (PayloadOf x j) v at ≡ h at
+    → heap_after h (CompareExchange (PayloadOf x j) old v) at ≡ h at
+compare_leaves h x j old v at other = elim (cases_Bool (eqb (h (PayloadOf x j)) old)) [
   | inl is ↦ rw is other
   | inr is ↦ rw is refl
 ]
@@ -50,17 +58,21 @@ module _ (c : Config) (h : Heap) where
   row_phase : (p : Pass) (k : Command) (row : FieldRow)
       → heap_after h (row_want (extent c) p k row) Phase ≡ h Phase
   row_phase p k (Shade r store) = marking_phase h p.thread p.threads p.cycle r
+  row_phase p k (CompareField way word) = compare_leaves h way.block _ way.expected word Phase refl
   row_phase p k _ = refl
 
   row_cursor : (p : Pass) (k : Command) (row : FieldRow)
       → heap_after h (row_want (extent c) p k row) Cursor ≡ h Cursor
   row_cursor p k (Shade r store) = marking_cursor h p.thread p.threads p.cycle r
+  row_cursor p k (CompareField way word) = compare_leaves h way.block _ way.expected word Cursor refl
   row_cursor p k _ = refl
 
   -- but by the barrier no colour changes
   pub row_colour : (p : Pass) (k : Command) (row : FieldRow) → shades row ≡ false → (x : ℕ)
       → heap_after h (row_want (extent c) p k row) (ColourOf x) ≡ h (ColourOf x)
   row_colour p k (Shade r store) none x = absurd cc
+  row_colour p k (CompareField way word) none x =
+      compare_leaves h way.block _ way.expected word (ColourOf x) refl
   row_colour p k _ none x = refl
 
   pub field_phase : (f : FieldState) → heap_after h (field_want (extent c) f) Phase ≡ h Phase
@@ -97,6 +109,8 @@ module _ (c : Config) (h : Heap) (x : ℕ) (grey : is_grey (h (ColourOf x)) ≡ 
       go (greys.PutOwn y a) is = refl
       go (greys.Shaded y) is = refl
       go _ is = absurd cc
+  row_grey p k (CompareField way word) fits =
+      compare_leaves h way.block _ way.expected word (ColourOf x) refl
   row_grey p k _ fits = refl
 
 pub grey_stays : (c : Config) (h : Heap) (f : FieldState) (x : ℕ) → FieldFits c f

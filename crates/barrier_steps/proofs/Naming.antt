@@ -1,5 +1,5 @@
 -- Each event of a command is one that keeps what the graph reaches, or changes nothing that those see.
-use Rattle.std.proofs.Common.{◌≡◌, ℕ, ◌<◌, ◌≤◌, Bool, true, false, cond, Option, None, Some, IfSome, List, [], ◌∷◌, ◌++◌, refl, arith, sym, ap, ◌∙◌, subst, inl, inr}
+use Rattle.std.proofs.Common.{◌≡◌, ℕ, ◌<◌, ◌≤◌, Bool, true, false, cond, Option, None, Some, IfSome, List, [], ◌∷◌, ◌++◌, refl, arith, sym, ap, ◌∙◌, subst, inl, inr, eqb}
 use Rattle.std.proofs.lemmas.Bool.{cases_Bool}
 use Rattle.block_store.specs.declared.Config.{Config}
 use Rattle.block_store.specs.declared.Name.{Name}
@@ -34,9 +34,9 @@ use Rattle.grey_steps.specs.declared.rows.GreyRow.{GreyRow}
 use Rattle.grey_steps.specs.Ends.{block_stored}
 use Rattle.grey_steps.proofs.Pictures.{shading_keeps_names}
 use Rattle.barrier_steps.specs.declared.rows.FieldRow.{FieldRow}
-use Rattle.barrier_steps.specs.declared.rows.FieldRow.TheVariants.{StoreNumber, StoreNil, LoadMoved, StoreMoved, LoadObject, LoadShape, LoadValue, LoadLink, LoadField, LoadOwner, StorePending, StoreField, Shade, LoadFirst, LoadSecond, LoadSaid, LoadSaidOwner, Answered}
+use Rattle.barrier_steps.specs.declared.rows.FieldRow.TheVariants.{StoreNumber, StoreNil, LoadMoved, StoreMoved, LoadObject, LoadShape, LoadValue, LoadLink, LoadField, LoadOwner, StorePending, StoreField, Shade, LoadFirst, LoadSecond, LoadSaid, LoadSaidOwner, Answered, LoadExpected, ExchangeField, CompareField, IdleLook}
 use Rattle.barrier_steps.specs.declared.rows.FieldStore.{FieldStore}
-use Rattle.barrier_steps.specs.declared.rows.FieldStore.TheVariants.{Moved, Pending, InField}
+use Rattle.barrier_steps.specs.declared.rows.FieldStore.TheVariants.{Moved, Pending, InField, Exchanged, Compared}
 use Rattle.barrier_steps.specs.Decided.{field_task, entry_on, graph_on, order_on}
 use Rattle.barrier_steps.specs.Deciding.{refers, length_decides, is_deciding}
 use Rattle.barrier_steps.specs.Fits.{FitsAt, FieldFits, FieldReads}
@@ -66,17 +66,21 @@ module _ (e : Extent) (a : Name) (t : ℕ) (k : Command) where
   own_event LoadObject w = chosen (λ x. t ≡ event_thread x) (refers (payload_in w)) _ _ refl tt
   own_event (LoadShape x) w = chosen (λ x. t ≡ event_thread x)
       (length_decides k (shape_length (shape_in w))) _ _ refl refl
+  own_event (CompareField way word) w = chosen (λ x. t ≡ event_thread x) (eqb w way.expected) _ _ refl refl
   own_event LoadSaid w = chosen (λ x. t ≡ event_thread x) (refers (payload_in w)) _ _ refl tt
   own_event StoreNumber w = refl
   own_event StoreNil w = refl
   own_event LoadMoved w = refl
   own_event (StoreMoved word) w = refl
   own_event (LoadValue way) w = refl
+  own_event (LoadExpected way) w = refl
   own_event (LoadLink way word) w = refl
   own_event (LoadField way) w = refl
   own_event (LoadOwner word) w = tt
   own_event (StorePending word value) w = refl
   own_event (StoreField way word) w = refl
+  own_event (ExchangeField way word) w = refl
+  own_event IdleLook w = refl
   own_event (Shade r store) w = tt
   own_event LoadFirst w = refl
   own_event (LoadSecond word) w = refl
@@ -91,6 +95,7 @@ module _ (e : Extent) (a : Name) (t : ℕ) (k : Command) where
   left_event (LoadShape x) w n = chosen (λ x. leaves_graph x ≡ true)
       (length_decides k (shape_length (shape_in w))) _ _ refl refl
   left_event (LoadValue way) w n = refl
+  left_event (LoadExpected way) w n = refl
   left_event (LoadLink way word) w n = refl
   left_event (LoadOwner word) w n = tt
   left_event (StorePending word value) w n = refl
@@ -110,6 +115,9 @@ module _ (e : Extent) (a : Name) (t : ℕ) (k : Command) where
   prompt_row (LoadShape x) w n = refl
   prompt_row (LoadField way) w n = refl
   prompt_row (StoreField way word) w n = refl
+  prompt_row (ExchangeField way word) w n = refl
+  prompt_row (CompareField way word) w n = refl
+  prompt_row IdleLook w n = refl
   prompt_row (LoadSecond word) w n = refl
   prompt_row LoadSaid w n = refl
   prompt_row _ w n = absurd cc
@@ -119,6 +127,8 @@ pub in_hand : (s : GraphState) (at : Name → ℕ → ℕ) (t : ℕ) (k : Comman
     → ShownAt (heads at) s.graph t k r w → (a : Name) × InHandAt s a t k r
 in_hand s at t k (LoadField way) w shown = (shown.0.name, shown.0.refers)
 in_hand s at t k (StoreField way word) w shown = (shown.name, shown.refers)
+in_hand s at t k (ExchangeField way word) w shown = (shown.0.name, shown.0.refers)
+in_hand s at t k (CompareField way word) w shown = (shown.0.name, shown.0.refers)
 in_hand s at t k _ w shown = (record { thread = 0; serial = 0 }, tt)
 
 -- an event, or none, of a command, with which it is decided or is not
@@ -193,7 +203,7 @@ module _ (c : Config) (g : Graph) (order : List HistoryItem) (h : Heap) (names :
 
   pub reads_on : IsHeld c h → field_reply f.row ≡ None → FieldReads c f w
   reads_on held going = row_reads c c.blocks (Kept now) names.at fits.blocks whole now.seen
-      k.follows h f.pass f.command f.row w fits at_row (λ _. held) going
+      k.follows h f.pass f.command f.row w fits at_row held going
 
   decided : is_deciding f.command f.row w ≡ true → MayDecide c now (entry_on g f)
   decided d = (
@@ -208,11 +218,10 @@ module _ (c : Config) (g : Graph) (order : List HistoryItem) (h : Heap) (names :
       ∙ ap (λ b. cond b g (graph_after g t f.command)) (sym (step_not_full g t f.command))
 
   -- rows that are no part of a barrier
-  module _ (plain : shades f.row ≡ false) (going : field_reply f.row ≡ None) where
+  module _ (plain : shades f.row ≡ false) (held : IsHeld c h) (going : field_reply f.row ≡ None) where
     reads : FieldReads c f w
     reads = row_reads c c.blocks (Kept now) names.at fits.blocks whole now.seen k.follows h f.pass
-        f.command f.row w fits at_row (λ part. absurd (let z : true ≡ false = sym part ∙ plain in cc))
-        going
+        f.command f.row w fits at_row held going
 
     goes : IsKept c (record now {
       seen = after_event (extent c) now.seen event;
@@ -248,7 +257,7 @@ module _ (c : Config) (g : Graph) (order : List HistoryItem) (h : Heap) (names :
     is_picture = λ i. record now {
       seen = record {
         graph = graph_is i;
-        words = words_moved c h now.seen hand.0 f.pass f.command f.row w refl at_row.loads i;
+        words = words_moved c h now.seen hand.0 f.pass f.command f.row w refl at_row.loads refl i;
         loads = loads_is i;
       };
       order = order_on g order f w;
@@ -269,12 +278,16 @@ store_value : (c : Config) (k : Command) (store : FieldStore)
 store_value c k (Moved word) = refl
 store_value c k (Pending word value) = refl
 store_value c k (InField way word) = refl
+store_value c k (Exchanged way word) = refl
+store_value c k (Compared way word) = refl
 
 store_word : (c : Config) (k : Command) (store : FieldStore)
     → (value_in (store_loading (extent c) k store).value).word ≡ stored_word store
 store_word c k (Moved word) = refl
 store_word c k (Pending word value) = refl
 store_word c k (InField way word) = refl
+store_word c k (Exchanged way word) = refl
+store_word c k (Compared way word) = refl
 
 module _ (c : Config) (g : Graph) (order : List HistoryItem) (h : Heap) (names : Names)
     (tasks : ℕ → Task) where
@@ -338,7 +351,7 @@ module _ (c : Config) (g : Graph) (order : List HistoryItem) (h : Heap) (names :
       go p k _ part fits sweep cycle is kept = absurd cc
 
 pub keeps_names : (c : Config) (g : Graph) (order : List HistoryItem) (h : Heap) (names : Names)
-    (tasks : ℕ → Task) (f : FieldState) → FieldFits c f → field_reply f.row ≡ None
+    (tasks : ℕ → Task) (f : FieldState) → FieldFits c f → IsHeld c h → field_reply f.row ≡ None
     → is_sweep (h Phase) ≡ f.pass.sweep → cycle_of (h Phase) ≡ f.pass.cycle
     → tasks f.pass.thread ≡ field_task (extent c) f
     → IsKept c (picture g order h names tasks)
@@ -347,9 +360,9 @@ pub keeps_names : (c : Config) (g : Graph) (order : List HistoryItem) (h : Heap)
     (heap_after h (field_want (extent c) f)) names
     (changed tasks f.pass.thread (field_task (extent c)
     (field_got (extent c) f (h (place_of (field_want (extent c) f)))))))
-keeps_names c g order h names tasks f fits going sweep cycle is kept = elim (cases_Bool (shades f.row)) [
+keeps_names c g order h names tasks f fits held going sweep cycle is kept = elim (cases_Bool (shades f.row)) [
   | inl part ↦ barrier_names c g order h names tasks f part fits sweep cycle is kept
-  | inr plain ↦ plain_names c g order h names tasks f fits is kept plain going
+  | inr plain ↦ plain_names c g order h names tasks f fits is kept plain held going
 ]
 
 -- what is loaded is of a kept name, and its block is not Free
@@ -372,5 +385,7 @@ loaded_solid c g order h names tasks f fits is k = go f.row (ap (λ (x : Task). 
         → NotFree (λ x. h (ColourOf x)) (target (word_stored row))
     go (StoreMoved word) e = value_solid c (picture g order h names tasks) k f.pass.thread _ fits.thread.thread (ap (λ (l : Loading). l.value) e)
     go (StorePending word value) e = value_solid c (picture g order h names tasks) k f.pass.thread _ fits.thread.thread (ap (λ (l : Loading). l.value) e)
+    go (ExchangeField way word) e = value_solid c (picture g order h names tasks) k f.pass.thread _ fits.thread.thread (ap (λ (l : Loading). l.value) e)
+    go (CompareField way word) e = value_solid c (picture g order h names tasks) k f.pass.thread _ fits.thread.thread (ap (λ (l : Loading). l.value) e)
     go (StoreField way word) e = value_solid c (picture g order h names tasks) k f.pass.thread _ fits.thread.thread (ap (λ (l : Loading). l.value) e)
     go _ e = λ some. absurd (some target-nil)

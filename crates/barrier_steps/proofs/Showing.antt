@@ -1,5 +1,5 @@
 -- Where the words show the graph, a row reads words that its places can hold, and these are what the graph says.
-use Rattle.std.proofs.Common.{◌≡◌, ◌≢◌, ℕ, ◌+◌, ◌<◌, ◌≤◌, Bool, true, false, None, Some, IfSome, IsSome, is_some, length, refl, sym, ap, ◌∙◌, subst, arith}
+use Rattle.std.proofs.Common.{◌≡◌, ◌≢◌, ℕ, ◌+◌, ◌<◌, ◌≤◌, Bool, true, false, None, Some, IfSome, IsSome, is_some, eqb, length, refl, sym, ap, ◌∙◌, subst, arith}
 use Rattle.block_store.specs.declared.Config.{Config}
 use Rattle.block_store.specs.declared.TheConstants.{REGISTERS}
 use Rattle.block_store.specs.declared.Name.{Name}
@@ -9,7 +9,7 @@ use Rattle.block_store.specs.declared.Value.TheVariants as values
 use Rattle.block_store.specs.Heaps.{Heap}
 use Rattle.block_store.specs.Owners.{owner_of}
 use Rattle.block_store.specs.Payloads.{payload_of, target, reference_word}
-use Rattle.block_store.specs.Places.{extent, OwnerOf}
+use Rattle.block_store.specs.Places.{extent, Phase, OwnerOf}
 use Rattle.block_store.specs.Shapes.{shape_of}
 use Rattle.block_store.proofs.PayloadWords.{payload-code, target-reference, target-number, target-nil}
 use Rattle.never_heap.specs.declared.Command.{Command}
@@ -23,25 +23,25 @@ use Rattle.shown_graph.specs.Words.{block_words, value_word, part_word}
 use Rattle.shown_graph.specs.Shown.{IsValueOf, heads}
 use Rattle.shown_graph.specs.Events.{ObjectLoad, ValueLoad, Loading, GraphState, pending_registers, is_pending, object_in, value_in, ObjectIs, ValueIs, Follows}
 use Rattle.shown_graph.proofs.ObjectLayouts.{object_layout}
-use Rattle.shown_graph.proofs.Reading.{value_read, owner_read, length_read, register_read, link_read, blocks_apart}
+use Rattle.shown_graph.proofs.Reading.{value_read, owner_read, length_read, register_read, link_read, blocks_apart, words_tell}
 use Rattle.shown_graph.proofs.Loads.{name_shown}
 use Rattle.barrier_steps.specs.declared.rows.Way.{Way}
 use Rattle.heap_machine.specs.declared.pass.Pass.{Pass}
 use Rattle.heap_machine.specs.Operations.{place_of}
 use Rattle.heap_machine.specs.Readings.{CanHold, IsHeld}
 use Rattle.barrier_steps.specs.declared.rows.FieldRow.{FieldRow}
-use Rattle.barrier_steps.specs.declared.rows.FieldRow.TheVariants.{StoreNumber, StoreNil, LoadMoved, StoreMoved, LoadObject, LoadShape, LoadValue, LoadLink, LoadField, LoadOwner, StorePending, StoreField, Shade, LoadFirst, LoadSecond, LoadSaid, LoadSaidOwner, Answered}
+use Rattle.barrier_steps.specs.declared.rows.FieldRow.TheVariants.{StoreNumber, StoreNil, LoadMoved, StoreMoved, LoadObject, LoadShape, LoadValue, LoadLink, LoadField, LoadOwner, StorePending, StoreField, Shade, LoadFirst, LoadSecond, LoadSaid, LoadSaidOwner, Answered, LoadExpected, ExchangeField, CompareField, IdleLook}
 use Rattle.barrier_steps.specs.declared.rows.FieldStore.TheVariants.{Pending}
 use Rattle.barrier_steps.specs.Walks.{shape_length, links_to, link_at, field_at, ordinal_at}
-use Rattle.barrier_steps.specs.Operands.{to_register, from_register, other_register, field_index}
+use Rattle.barrier_steps.specs.Operands.{to_register, from_register, other_register, field_index, expected_register, is_swap, is_cas, is_idle, takes_field, stores_in_field}
 use Rattle.barrier_steps.specs.Rows.{register_place, row_want, shades, field_reply}
 use Rattle.barrier_steps.specs.Fits.{IsWalk, IsThere, FitsAt, ReadsAt}
 use Rattle.barrier_steps.specs.Replies.{IsWordOf, ShapeShown, FieldFound, ShownAt, RefersTo, Promises, OwnerShown, NameShown, ShowsAt, due_at, KnownAt}
 use Rattle.barrier_steps.specs.Projection.{walk_load, object_on, object_load, value_load, pending_load, IsAt}
-use Rattle.barrier_steps.proofs.Named.{to_low, from_low, other_low}
+use Rattle.barrier_steps.proofs.Named.{to_low, from_low, other_low, expected_low}
 use Rattle.barrier_steps.proofs.Walking.{way_is, field_low}
 use Rattle.barrier_steps.proofs.FieldRows.{place_at}
-use Rattle.barrier_steps.proofs.Projecting.{payload_read}
+use Rattle.barrier_steps.proofs.Projecting.{payload_read, cas_expects}
 use Rattle.barrier_steps.proofs.Promising.{kind_length}
 
 -- what stands in the blocks of an object's shape is what stands in those of the object
@@ -83,6 +83,9 @@ module _ (c : Config) (m : ℕ) (K : Name → Type 0) (at : Name → ℕ → ℕ
 
   value_is : (t : ℕ) (l : Loading) (v : ValueLoad) → t < c.threads → s.loads t ≡ l → l.value ≡ Some v → ValueIs s.graph at t v
   value_is t l v tn e there = subst (λ x. IfSome x (λ y. ValueIs s.graph at t y)) (ap (λ x. x.value) e ∙ there) (follows.loads t tn).value
+
+  expected_is : (t : ℕ) (l : Loading) (v : ValueLoad) → t < c.threads → s.loads t ≡ l → l.expected ≡ Some v → ValueIs s.graph at t v
+  expected_is t l v tn e there = subst (λ x. IfSome x (λ y. ValueIs s.graph at t y)) (ap (λ x. x.expected) e ∙ there) (follows.loads t tn).expected
 
   is_kept : (t r : ℕ) (a : Name) → t < c.threads → r < REGISTERS → register_of s.graph t r ≡ values.Ref a → K a
   is_kept t r a tn rl e = subst (IsValueOf K) e (follows.shows.closed.registers t r tn rl)
@@ -214,6 +217,7 @@ module _ (c : Config) (m : ℕ) (K : Name → Type 0) (at : Name → ℕ → ℕ
   row_shown p k (LoadShape x) w fits is =
       shape_word p.thread (from_register k) x w (object_is p.thread _ _ fits.thread.thread is.loads refl) fits.thread.thread (from_low k fits.command) (ap (λ b. b.shape x) is.words ∙ sym is.reads)
   row_shown p k (LoadValue way) w fits is = tt
+  row_shown p k (LoadExpected way) w fits is = tt
   row_shown p k (LoadLink way word) w fits is = tt
   row_shown p k (LoadField way) w fits is =
       let object = way_object p.thread k way _ fits.thread.thread is.loads refl in (
@@ -225,6 +229,26 @@ module _ (c : Config) (m : ℕ) (K : Name → Type 0) (at : Name → ℕ → ℕ
   row_shown p k (StorePending word value) w fits is = tt
   row_shown p k (StoreField way word) w fits is =
       found_field p.thread (from_register k) (field_index k) way (way_object p.thread k way _ fits.thread.thread is.loads refl) fits.row.0 fits.thread.thread (from_low k fits.command)
+  row_shown p k (ExchangeField way word) w fits is =
+      let object = way_object p.thread k way _ fits.thread.thread is.loads refl in (
+        found_field p.thread (from_register k) (field_index k) way object fits.row.0 fits.thread.thread (from_low k fits.command),
+        read_word (field_of (object_of s.graph object.name) (field_index k)) w (field_kept p.thread (from_register k) (field_index k) way object fits.row.0 fits.thread.thread (from_low k fits.command))
+            (field_word p.thread (from_register k) (field_index k) way object fits.row.0 fits.thread.thread (from_low k fits.command) w fits.row.1 (payload_read s h _ _ w is.words is.reads)),
+      )
+  row_shown p k (CompareField way word) w fits is =
+      let object = way_object p.thread k way _ fits.thread.thread is.loads refl in
+      let expected = expected_is p.thread _ (value_in (value_load (expected_register k) way.expected)) fits.thread.thread is.loads (cas_expects k way.expected fits.belongs) in
+      let v = field_of (object_of s.graph object.name) (field_index k) in
+      let u = register_of s.graph p.thread (expected_register k) in
+      let field : value_word (heads at) (field_of (object_of s.graph object.name) (field_index k)) ≡ w =
+      field_word p.thread (from_register k) (field_index k) way object fits.row.0 fits.thread.thread (from_low k fits.command) w fits.row.1 (payload_read s h _ _ w is.words is.reads) in (
+        found_field p.thread (from_register k) (field_index k) way object fits.row.0 fits.thread.thread (from_low k fits.command),
+        ap (λ x. eqb x way.expected) (sym field) ∙ ap (λ y. eqb (value_word (heads at) v) y) expected.word
+            ∙ words_tell c.width c.threads m K s.graph at s.words (pending_registers s.loads) follows.shows v u
+            (field_kept p.thread (from_register k) (field_index k) way object fits.row.0 fits.thread.thread (from_low k fits.command))
+            (follows.shows.closed.registers p.thread (expected_register k) fits.thread.thread (expected_low k fits.command)),
+      )
+  row_shown p k IdleLook w fits is = tt
   row_shown p k (Shade r store) w fits is = tt
   row_shown p k LoadFirst w fits is = tt
   row_shown p k (LoadSecond word) w fits is =
@@ -253,7 +277,7 @@ module _ (c : Config) (m : ℕ) (K : Name → Type 0) (at : Name → ℕ → ℕ
   other_held p k row w fits reads is = register_held p.thread (other_register k) w fits.thread.thread (other_low k fits.command) (register_at p.thread (other_register k) w is reads)
 
   -- the words that a row reads are among those that it may read
-  pub row_reads : (p : Pass) (k : Command) (row : FieldRow) (w : ℕ) → FitsAt c p k row → IsAt (extent c) s h p k row w → (shades row ≡ true → IsHeld c h) → field_reply row ≡ None → ReadsAt c p k row w
+  pub row_reads : (p : Pass) (k : Command) (row : FieldRow) (w : ℕ) → FitsAt c p k row → IsAt (extent c) s h p k row w → IsHeld c h → field_reply row ≡ None → ReadsAt c p k row w
   row_reads p k StoreNumber w fits is held goes = (to_held p k StoreNumber w fits is.reads is.words, tt)
   row_reads p k StoreNil w fits is held goes = (to_held p k StoreNil w fits is.reads is.words, tt)
   row_reads p k LoadMoved w fits is held goes = (from_held p k LoadMoved w fits is.reads is.words, tt)
@@ -261,6 +285,8 @@ module _ (c : Config) (m : ℕ) (K : Name → Type 0) (at : Name → ℕ → ℕ
   row_reads p k LoadObject w fits is held goes = (from_held p k LoadObject w fits is.reads is.words, tt)
   row_reads p k (LoadShape x) w fits is held goes = (ap is_some (row_shown p k (LoadShape x) w fits is).shape, tt)
   row_reads p k (LoadValue way) w fits is held goes = (other_held p k (LoadValue way) w fits is.reads is.words, tt)
+  row_reads p k (LoadExpected way) w fits is held goes =
+      (register_held p.thread (expected_register k) w fits.thread.thread (expected_low k fits.command) (register_at p.thread (expected_register k) w is.words is.reads), tt)
   row_reads p k (LoadLink way word) w fits is held goes =
       link_held p.thread (from_register k) (field_index k) way (way_object p.thread k way _ fits.thread.thread is.loads refl) fits.row.0 fits.thread.thread (from_low k fits.command) w fits.row.1 (payload_read s h _ _ w is.words is.reads)
   row_reads p k (LoadField way) w fits is held goes =
@@ -278,8 +304,21 @@ module _ (c : Config) (m : ℕ) (K : Name → Type 0) (at : Name → ℕ → ℕ
             (field_word p.thread (from_register k) (field_index k) way object fits.row.0 fits.thread.thread (from_low k fits.command) w fits.row.1 (payload_read s h _ _ w is.words is.reads)),
         tt,
       )
+  row_reads p k (ExchangeField way word) w fits is held goes =
+      let object = way_object p.thread k way _ fits.thread.thread is.loads refl in (
+        value_held (field_of (object_of s.graph object.name) (field_index k)) w (field_kept p.thread (from_register k) (field_index k) way object fits.row.0 fits.thread.thread (from_low k fits.command))
+            (field_word p.thread (from_register k) (field_index k) way object fits.row.0 fits.thread.thread (from_low k fits.command) w fits.row.1 (payload_read s h _ _ w is.words is.reads)),
+        tt,
+      )
+  row_reads p k (CompareField way word) w fits is held goes =
+      let object = way_object p.thread k way _ fits.thread.thread is.loads refl in (
+        value_held (field_of (object_of s.graph object.name) (field_index k)) w (field_kept p.thread (from_register k) (field_index k) way object fits.row.0 fits.thread.thread (from_low k fits.command))
+            (field_word p.thread (from_register k) (field_index k) way object fits.row.0 fits.thread.thread (from_low k fits.command) w fits.row.1 (payload_read s h _ _ w is.words is.reads)),
+        tt,
+      )
+  row_reads p k IdleLook w fits is held goes = (subst (CanHold (extent c) Phase) (sym is.reads) (held Phase refl), tt)
   row_reads p k (Shade r store) w fits is held goes =
-      (subst (CanHold (extent c) (place_of (row_want (extent c) p k (Shade r store)))) (sym is.reads) (held refl (place_of (row_want (extent c) p k (Shade r store))) (place_at c p k (Shade r store) fits)), tt)
+      (subst (CanHold (extent c) (place_of (row_want (extent c) p k (Shade r store)))) (sym is.reads) (held (place_of (row_want (extent c) p k (Shade r store))) (place_at c p k (Shade r store) fits)), tt)
   row_reads p k LoadFirst w fits is held goes = (from_held p k LoadFirst w fits is.reads is.words, tt)
   row_reads p k (LoadSecond word) w fits is held goes = (other_held p k (LoadSecond word) w fits is.reads is.words, tt)
   row_reads p k LoadSaid w fits is held goes = (from_held p k LoadSaid w fits is.reads is.words, tt)
@@ -300,10 +339,14 @@ module _ (c : Config) (m : ℕ) (K : Name → Type 0) (at : Name → ℕ → ℕ
   row_named p k LoadObject w reply fits is shows = tt
   row_named p k (LoadShape x) w reply fits is shows = tt
   row_named p k (LoadValue way) w reply fits is shows = tt
+  row_named p k (LoadExpected way) w reply fits is shows = tt
   row_named p k (LoadLink way word) w reply fits is shows = tt
   row_named p k (LoadField way) w reply fits is shows = tt
   row_named p k (StorePending word value) w reply fits is shows = tt
   row_named p k (StoreField way word) w reply fits is shows = tt
+  row_named p k (ExchangeField way word) w reply fits is shows = tt
+  row_named p k (CompareField way word) w reply fits is shows = tt
+  row_named p k IdleLook w reply fits is shows = tt
   row_named p k (Shade r store) w reply fits is shows = tt
   row_named p k LoadFirst w reply fits is shows = tt
   row_named p k (LoadSecond word) w reply fits is shows = tt

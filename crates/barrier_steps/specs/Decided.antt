@@ -4,6 +4,7 @@ use Rattle.block_store.specs.Places.{Extent}
 use Rattle.never_heap.specs.declared.Entry.{Entry}
 use Rattle.never_heap.specs.Graphs.{Graph}
 use Rattle.never_heap.specs.Histories.{HistoryItem, Did}
+use Rattle.never_heap.specs.RightWork.{units_told}
 use Rattle.kept_names.specs.Pictures.{Task, no_task}
 use Rattle.barrier_steps.specs.Rows.{FieldState}
 use Rattle.barrier_steps.specs.Deciding.{is_deciding}
@@ -20,7 +21,7 @@ entry_on g f = record {
   thread = f.pass.thread;
   command = f.command;
   reply = answer g f.pass.thread f.command;
-  work = 0;
+  work = units_told f.command;
 }
 
 -- the graph and the order after the event that reads w

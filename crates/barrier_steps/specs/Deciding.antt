@@ -6,7 +6,7 @@ use Rattle.block_store.specs.declared.Payload.TheVariants as payloads
 use Rattle.never_heap.specs.declared.Command.{Command}
 use Rattle.never_heap.specs.declared.Command.TheVariants as commands
 use Rattle.barrier_steps.specs.declared.rows.FieldRow.{FieldRow}
-use Rattle.barrier_steps.specs.declared.rows.FieldRow.TheVariants.{StoreNumber, StoreNil, LoadMoved, StoreMoved, LoadObject, LoadShape, LoadValue, LoadLink, LoadField, LoadOwner, StorePending, StoreField, Shade, LoadFirst, LoadSecond, LoadSaid, LoadSaidOwner, Answered}
+use Rattle.barrier_steps.specs.declared.rows.FieldRow.TheVariants.{StoreNumber, StoreNil, LoadMoved, StoreMoved, LoadObject, LoadShape, LoadValue, LoadLink, LoadField, LoadOwner, StorePending, StoreField, Shade, LoadFirst, LoadSecond, LoadSaid, LoadSaidOwner, Answered, LoadExpected, ExchangeField, CompareField, IdleLook}
 use Rattle.barrier_steps.specs.Walks.{shape_length}
 use Rattle.barrier_steps.specs.Rows.{payload_in, shape_in}
 
@@ -20,11 +20,14 @@ refers (payloads.Block x) = true
 abbrev pub length_decides : Command → ℕ → Bool
 length_decides (commands.Get d s i) n = not (nat_lt i n)
 length_decides (commands.Put s i v) n = not (nat_lt i n)
+length_decides (commands.Swap s i v) n = not (nat_lt i n)
+length_decides (commands.Cas s i a v) n = not (nat_lt i n)
 length_decides _ n = true
 
 -- whether the event of a row of command k that reads w is the deciding one: the store of `set`,
--- `nil`, `mov` and `put`, the load of the field of `get`, of the second register of `same`, of the
--- register of `say`, of the shape of `len`; or the one that shows a refusal
+-- `nil`, `mov` and `put`, the load of the field of `get`, its exchange of `swap`, its comparison of
+-- `cas`, the load of the second register of `same`, of the register of `say`, of the shape of
+-- `len`, the look of `idle`; or the one that shows a refusal
 abbrev pub is_deciding : Command → FieldRow → ℕ → Bool
 is_deciding k StoreNumber w = true
 is_deciding k StoreNil w = true
@@ -33,14 +36,18 @@ is_deciding k (StoreMoved word) w = true
 is_deciding k LoadObject w = not (refers (payload_in w))
 is_deciding k (LoadShape x) w = length_decides k (shape_length (shape_in w))
 is_deciding k (LoadValue way) w = false
+is_deciding k (LoadExpected way) w = false
 is_deciding k (LoadLink way word) w = false
 is_deciding k (LoadField way) w = true
 is_deciding k (LoadOwner word) w = false
 is_deciding k (StorePending word value) w = false
 is_deciding k (StoreField way word) w = true
+is_deciding k (ExchangeField way word) w = true
+is_deciding k (CompareField way word) w = true
 is_deciding k (Shade r store) w = false
 is_deciding k LoadFirst w = false
 is_deciding k (LoadSecond word) w = true
 is_deciding k LoadSaid w = true
 is_deciding k (LoadSaidOwner word) w = false
+is_deciding k IdleLook w = true
 is_deciding k (Answered reply) w = false

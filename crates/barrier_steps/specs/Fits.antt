@@ -14,11 +14,11 @@ use Rattle.grey_steps.specs.declared.rows.GreyRow.{GreyRow}
 use Rattle.grey_steps.specs.Ends.{block_stored}
 use Rattle.grey_steps.specs.Fits.{GreyFits}
 use Rattle.barrier_steps.specs.declared.rows.FieldRow.{FieldRow}
-use Rattle.barrier_steps.specs.declared.rows.FieldRow.TheVariants.{StoreNumber, StoreNil, LoadMoved, StoreMoved, LoadObject, LoadShape, LoadValue, LoadLink, LoadField, LoadOwner, StorePending, StoreField, Shade, LoadFirst, LoadSecond, LoadSaid, LoadSaidOwner, Answered}
+use Rattle.barrier_steps.specs.declared.rows.FieldRow.TheVariants.{StoreNumber, StoreNil, LoadMoved, StoreMoved, LoadObject, LoadShape, LoadValue, LoadLink, LoadField, LoadOwner, StorePending, StoreField, Shade, LoadFirst, LoadSecond, LoadSaid, LoadSaidOwner, Answered, LoadExpected, ExchangeField, CompareField, IdleLook}
 use Rattle.barrier_steps.specs.declared.rows.Way.{Way}
 use Rattle.barrier_steps.specs.declared.rows.FieldStore.{FieldStore}
-use Rattle.barrier_steps.specs.declared.rows.FieldStore.TheVariants.{Moved, Pending, InField}
-use Rattle.barrier_steps.specs.Operands.{field_index, is_set, is_nil, is_mov, is_get, is_put, goes_to_field, looks_at_object, is_same, is_say}
+use Rattle.barrier_steps.specs.declared.rows.FieldStore.TheVariants.{Moved, Pending, InField, Exchanged, Compared}
+use Rattle.barrier_steps.specs.Operands.{field_index, is_set, is_nil, is_mov, is_get, is_put, goes_to_field, looks_at_object, is_same, is_say, expected_register, is_swap, is_cas, is_idle, takes_field, stores_in_field}
 use Rattle.barrier_steps.specs.Walks.{shape_length, links_to}
 use Rattle.barrier_steps.specs.Rows.{FieldState, stored_word, row_want}
 
@@ -55,14 +55,20 @@ pub record IsBarrier (c : Config) (p : Pass) (r : GreyRow) (word : ℕ) : Type 0
 -- whether command k makes this store
 abbrev pub is_store_of : Command → FieldStore → Bool
 is_store_of k (Moved word) = is_mov k
-is_store_of k (Pending word value) = is_get k
+is_store_of k (Pending word value) = takes_field k
 is_store_of k (InField way word) = is_put k
+is_store_of k (Exchanged way word) = is_swap k
+is_store_of k (Compared way word) = is_cas k
 
 -- the numbers in a store are in range
 abbrev pub StoreFits : Config → Command → FieldStore → Type 0
 StoreFits c k (Moved word) = IsLoaded c word
 StoreFits c k (Pending word value) = IsLoaded c word
 StoreFits c k (InField way word) = IsWalk c (field_index k) way × IsThere c (field_index k) way
+    × IsLoaded c word
+StoreFits c k (Exchanged way word) = IsWalk c (field_index k) way × IsThere c (field_index k) way
+    × IsLoaded c word
+StoreFits c k (Compared way word) = IsWalk c (field_index k) way × IsThere c (field_index k) way
     × IsLoaded c word
 
 -- whether command k comes to this row
@@ -73,17 +79,21 @@ is_row_of k LoadMoved = is_mov k
 is_row_of k (StoreMoved word) = is_mov k
 is_row_of k LoadObject = looks_at_object k
 is_row_of k (LoadShape x) = looks_at_object k
-is_row_of k (LoadValue way) = is_put k
+is_row_of k (LoadValue way) = stores_in_field k
+is_row_of k (LoadExpected way) = is_cas k
 is_row_of k (LoadLink way word) = goes_to_field k
 is_row_of k (LoadField way) = is_get k
-is_row_of k (LoadOwner word) = is_get k
-is_row_of k (StorePending word value) = is_get k
+is_row_of k (LoadOwner word) = takes_field k
+is_row_of k (StorePending word value) = takes_field k
 is_row_of k (StoreField way word) = is_put k
+is_row_of k (ExchangeField way word) = is_swap k
+is_row_of k (CompareField way word) = is_cas k
 is_row_of k (Shade r store) = is_store_of k store
 is_row_of k LoadFirst = is_same k
 is_row_of k (LoadSecond word) = is_same k
 is_row_of k LoadSaid = is_say k
 is_row_of k (LoadSaidOwner word) = is_say k
+is_row_of k IdleLook = is_idle k
 is_row_of k (Answered reply) = true
 
 -- the numbers that a row of command k in this pass names are in range
@@ -95,6 +105,7 @@ RowFits c p k (StoreMoved word) = IsLoaded c word
 RowFits c p k LoadObject = Unit {0}
 RowFits c p k (LoadShape x) = IsBlock c x
 RowFits c p k (LoadValue way) = IsWalk c (field_index k) way × (way.level ≡ 0)
+RowFits c p k (LoadExpected way) = IsWalk c (field_index k) way × (way.level ≡ 0)
 RowFits c p k (LoadLink way word) = IsWalk c (field_index k) way
     × (way.level < links_to (extent c) way.shape (field_index k)) × IsLoaded c word
 RowFits c p k (LoadField way) = IsWalk c (field_index k) way × IsThere c (field_index k) way
@@ -102,11 +113,16 @@ RowFits c p k (LoadOwner word) = IsLoaded c word × (target word ≢ 0)
 RowFits c p k (StorePending word value) = IsLoaded c word
 RowFits c p k (StoreField way word) = IsWalk c (field_index k) way × IsThere c (field_index k) way
     × IsLoaded c word
+RowFits c p k (ExchangeField way word) = IsWalk c (field_index k) way × IsThere c (field_index k) way
+    × IsLoaded c word
+RowFits c p k (CompareField way word) = IsWalk c (field_index k) way × IsThere c (field_index k) way
+    × IsLoaded c word
 RowFits c p k (Shade r store) = IsBarrier c p r (stored_word store) × StoreFits c k store
 RowFits c p k LoadFirst = Unit {0}
 RowFits c p k (LoadSecond word) = IsLoaded c word
 RowFits c p k LoadSaid = Unit {0}
 RowFits c p k (LoadSaidOwner word) = IsLoaded c word × (target word ≢ 0)
+RowFits c p k IdleLook = Unit {0}
 RowFits c p k (Answered reply) = Unit {0}
 
 -- the heap has the pass's threads, of which this is one, and at most 65,535 blocks; the command is

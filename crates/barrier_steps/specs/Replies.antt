@@ -1,5 +1,5 @@
 -- What the words that a command reads show of a graph, and what it will answer.
-use Rattle.std.specs.Prelude.{ℕ, ◌<◌, ◌≡◌, Option, Some, None, length}
+use Rattle.std.specs.Prelude.{ℕ, ◌<◌, ◌≡◌, ◌==◌, Option, Some, None, length}
 use Rattle.block_store.specs.declared.Name.{Name}
 use Rattle.block_store.specs.declared.Value.{Value}
 use Rattle.block_store.specs.declared.Value.TheVariants.{Ref}
@@ -10,13 +10,13 @@ use Rattle.never_heap.specs.declared.Command.{Command}
 use Rattle.never_heap.specs.declared.Reply.{Reply}
 use Rattle.never_heap.specs.declared.Reply.TheVariants.{Val}
 use Rattle.never_heap.specs.Graphs.{Graph, object_of, field_of, register_of}
-use Rattle.never_heap.specs.Steps.{step}
+use Rattle.never_heap.specs.Steps.{step, same_value}
 use Rattle.shown_graph.specs.Layouts.{kind_shape}
 use Rattle.shown_graph.specs.Read.{value_payload}
 use Rattle.barrier_steps.specs.declared.rows.FieldRow.{FieldRow}
-use Rattle.barrier_steps.specs.declared.rows.FieldRow.TheVariants.{LoadObject, LoadShape, LoadField, LoadOwner, StorePending, StoreField, Shade, LoadSecond, LoadSaid, LoadSaidOwner, Answered}
+use Rattle.barrier_steps.specs.declared.rows.FieldRow.TheVariants.{LoadObject, LoadShape, LoadField, LoadOwner, StorePending, StoreField, Shade, LoadSecond, LoadSaid, LoadSaidOwner, Answered, LoadExpected, ExchangeField, CompareField, IdleLook}
 use Rattle.barrier_steps.specs.declared.rows.FieldStore.TheVariants.{Pending}
-use Rattle.barrier_steps.specs.Operands.{to_register, from_register, other_register, field_index}
+use Rattle.barrier_steps.specs.Operands.{to_register, from_register, other_register, field_index, expected_register, is_swap, is_cas, is_idle, takes_field, stores_in_field}
 use Rattle.barrier_steps.specs.Rows.{FieldState}
 
 -- what the step of command k of thread t answers on a graph
@@ -59,6 +59,13 @@ ShownAt head g t k (LoadShape x) w = ShapeShown g t (from_register k) w
 ShownAt head g t k (LoadField way) w = (found : FieldFound g t (from_register k) (field_index k))
     × IsWordOf head (field_of (object_of g found.name) (field_index k)) w
 ShownAt head g t k (StoreField way word) w = FieldFound g t (from_register k) (field_index k)
+ShownAt head g t k (ExchangeField way word) w =
+    (found : FieldFound g t (from_register k) (field_index k))
+    × IsWordOf head (field_of (object_of g found.name) (field_index k)) w
+ShownAt head g t k (CompareField way word) w =
+    (found : FieldFound g t (from_register k) (field_index k))
+    × ((w == way.expected) ≡ same_value (field_of (object_of g found.name) (field_index k))
+    (register_of g t (expected_register k)))
 ShownAt head g t k (LoadSecond word) w = BothShown head g t (from_register k)
     (other_register k) word w
 ShownAt head g t k LoadSaid w = IsWordOf head (register_of g t (from_register k)) w

@@ -19,20 +19,20 @@ use Rattle.never_heap.specs.declared.Reply.{Reply}
 use Rattle.never_heap.specs.declared.Reply.TheVariants as replies
 use Rattle.block_store.specs.Registers.{register_block, register_slot}
 use Rattle.heap_machine.specs.Holdings.{Holding, holds_nothing}
-use Rattle.heap_machine.specs.Operations.{Operation, Load, Exchange}
+use Rattle.heap_machine.specs.Operations.{Operation, Load, Exchange, CompareExchange}
 use Rattle.heap_machine.specs.declared.pass.Pass.{Pass}
 use Rattle.heap_machine.specs.declared.Step.{Step}
 use Rattle.heap_machine.specs.declared.Step.TheVariants.{Went, Over}
 use Rattle.barrier_steps.specs.declared.rows.FieldRow.{FieldRow}
-use Rattle.barrier_steps.specs.declared.rows.FieldRow.TheVariants.{StoreNumber, StoreNil, LoadMoved, StoreMoved, LoadObject, LoadShape, LoadValue, LoadLink, LoadField, LoadOwner, StorePending, StoreField, Shade, LoadFirst, LoadSecond, LoadSaid, LoadSaidOwner, Answered}
+use Rattle.barrier_steps.specs.declared.rows.FieldRow.TheVariants.{StoreNumber, StoreNil, LoadMoved, StoreMoved, LoadObject, LoadShape, LoadValue, LoadLink, LoadField, LoadOwner, StorePending, StoreField, Shade, LoadFirst, LoadSecond, LoadSaid, LoadSaidOwner, Answered, LoadExpected, ExchangeField, CompareField, IdleLook}
 use Rattle.barrier_steps.specs.declared.rows.Way.{Way}
 use Rattle.barrier_steps.specs.declared.rows.FieldStore.{FieldStore}
-use Rattle.barrier_steps.specs.declared.rows.FieldStore.TheVariants.{Moved, Pending, InField}
+use Rattle.barrier_steps.specs.declared.rows.FieldStore.TheVariants.{Moved, Pending, InField, Exchanged, Compared}
 use Rattle.grey_steps.specs.declared.rows.GreyRow.{GreyRow}
 use Rattle.grey_steps.specs.declared.rows.GreyRow.TheVariants.{TakeOwn}
 use Rattle.grey_steps.specs.Rows as marking
 use Rattle.grey_steps.specs.Rows.{grey_over, grey_holding}
-use Rattle.barrier_steps.specs.Operands.{to_register, from_register, other_register, field_index, number_set}
+use Rattle.barrier_steps.specs.Operands.{to_register, from_register, other_register, field_index, number_set, expected_register, is_swap, is_cas, is_idle, takes_field, stores_in_field}
 use Rattle.barrier_steps.specs.Walks.{shape_length, links_to, link_at, field_at}
 
 -- a thread in a command: its pass, the command, and its row
@@ -81,6 +81,9 @@ first_row (commands.Put s i v) = LoadObject
 first_row (commands.Len s) = LoadObject
 first_row (commands.Same a b) = LoadFirst
 first_row (commands.Say s) = LoadSaid
+first_row (commands.Swap s i v) = LoadObject
+first_row (commands.Cas s i a v) = LoadObject
+first_row (commands.Idle u) = IdleLook
 
 abbrev pub at_first_row : Pass → Command → FieldState
 at_first_row p k = record { pass = p; command = k; row = first_row k }
@@ -90,11 +93,15 @@ abbrev pub stored_word : FieldStore → ℕ
 stored_word (Moved word) = word
 stored_word (Pending word value) = word
 stored_word (InField way word) = word
+stored_word (Exchanged way word) = word
+stored_word (Compared way word) = word
 
 abbrev pub store_row : FieldStore → FieldRow
 store_row (Moved word) = StoreMoved word
 store_row (Pending word value) = StorePending word value
 store_row (InField way word) = StoreField way word
+store_row (Exchanged way word) = ExchangeField way word
+store_row (Compared way word) = CompareField way word
 
 -- the block that is shaded before this word is stored, or 0: while the phase is Mark the one to
 -- which the word refers
@@ -121,6 +128,7 @@ row_want e p k (StoreMoved word) = Exchange (register_place e p.thread (to_regis
 row_want e p k LoadObject = Load (register_place e p.thread (from_register k))
 row_want e p k (LoadShape x) = Load (ShapeOf x)
 row_want e p k (LoadValue way) = Load (register_place e p.thread (other_register k))
+row_want e p k (LoadExpected way) = Load (register_place e p.thread (expected_register k))
 row_want e p k (LoadLink way word) = Load (PayloadOf way.block
     (link_at e way.shape (field_index k) way.level))
 row_want e p k (LoadField way) = Load (PayloadOf way.block (field_at e way.shape (field_index k)))
@@ -128,11 +136,16 @@ row_want e p k (LoadOwner word) = Load (OwnerOf (target word))
 row_want e p k (StorePending word value) = Exchange (register_place e p.thread (to_register k)) word
 row_want e p k (StoreField way word) = Exchange
     (PayloadOf way.block (field_at e way.shape (field_index k))) word
+row_want e p k (ExchangeField way word) = Exchange
+    (PayloadOf way.block (field_at e way.shape (field_index k))) word
+row_want e p k (CompareField way word) = CompareExchange
+    (PayloadOf way.block (field_at e way.shape (field_index k))) way.expected word
 row_want e p k (Shade r store) = marking.row_want p.thread p.threads p.cycle r
 row_want e p k LoadFirst = Load (register_place e p.thread (from_register k))
 row_want e p k (LoadSecond word) = Load (register_place e p.thread (other_register k))
 row_want e p k LoadSaid = Load (register_place e p.thread (from_register k))
 row_want e p k (LoadSaidOwner word) = Load (OwnerOf (target word))
+row_want e p k IdleLook = Load Phase
 row_want e p k (Answered reply) = Load Phase
 
 -- after the register that refers to the object: nil is answered null, a number kind
@@ -141,9 +154,12 @@ after_object payloads.Nil = Answered replies.Null
 after_object (payloads.Int v) = Answered replies.Kind
 after_object (payloads.Block x) = LoadShape x
 
--- at the block of the field: `put` stores in it the word that it has loaded, `get` loads it
+-- at the block of the field: `put`, `swap` and `cas` store in it the word that they have loaded,
+-- `get` loads it
 abbrev pub at_block : Pass → Command → Way → ℕ → FieldRow
 at_block p (commands.Put s i v) way word = before_store p (InField way word)
+at_block p (commands.Swap s i v) way word = before_store p (Exchanged way word)
+at_block p (commands.Cas s i a v) way word = before_store p (Compared way word)
 at_block p _ way word = LoadField way
 
 -- the next link of the way, while there is one
@@ -153,11 +169,15 @@ on_way e p k way word = if nat_lt way.level (links_to e way.shape (field_index k
 
 -- the way at its first block
 abbrev pub way_from : Shape → ℕ → Way
-way_from f x = record { shape = f; level = 0; block = x }
+way_from f x = record { shape = f; level = 0; block = x; expected = 0 }
 
 -- and one link further, at block x
 abbrev pub way_on : Way → ℕ → Way
-way_on way x = record { shape = way.shape; level = way.level + 1; block = x }
+way_on way x = record way { level = way.level + 1; block = x }
+
+-- with the word with which the field is compared
+abbrev pub way_with : Way → ℕ → Way
+way_with way word = record way { expected = word }
 
 -- after the object's shape: an index that is not below its length is answered range
 abbrev pub after_shape : Extent → Pass → Command → ℕ → Shape → FieldRow
@@ -166,9 +186,16 @@ after_shape e p (commands.Get d s i) x f = if nat_lt i (shape_length f)
 after_shape e p (commands.Put s i v) x f = if nat_lt i (shape_length f)
     then LoadValue (way_from f x)
     else Answered replies.Range
+after_shape e p (commands.Swap s i v) x f = if nat_lt i (shape_length f)
+    then LoadValue (way_from f x)
+    else Answered replies.Range
+after_shape e p (commands.Cas s i a v) x f = if nat_lt i (shape_length f)
+    then LoadExpected (way_from f x)
+    else Answered replies.Range
 after_shape e p _ x f = Answered (replies.Len (shape_length f))
 
--- after the field that `get` loads: its word is then stored, once its value is known
+-- after the field that `get` loads, or `swap` exchanges: its word is then stored, once its value is
+-- known
 abbrev pub after_field : ℕ → Payload → FieldRow
 after_field word payloads.Nil = StorePending word values.Nil
 after_field word (payloads.Int v) = StorePending word (values.Int v)
@@ -189,17 +216,22 @@ row_got e p k (StoreMoved word) w = Answered replies.Stored
 row_got e p k LoadObject w = after_object (payload_in w)
 row_got e p k (LoadShape x) w = after_shape e p k x (shape_in w)
 row_got e p k (LoadValue way) w = on_way e p k way w
+row_got e p k (LoadExpected way) w = LoadValue (way_with way w)
 row_got e p k (LoadLink way word) w = on_way e p k (way_on way (target w)) word
 row_got e p k (LoadField way) w = after_field w (payload_in w)
 row_got e p k (LoadOwner word) w = before_store p (Pending word (object_in w))
 row_got e p k (StorePending word value) w = Answered (replies.Val value)
 row_got e p k (StoreField way word) w = Answered replies.Stored
+row_got e p k (ExchangeField way word) w = after_field w (payload_in w)
+row_got e p k (CompareField way word) w =
+    Answered (if w == way.expected then replies.Yes else replies.No)
 row_got e p k (Shade r store) w =
     in_barrier (marking.row_got (payloads e.width) p.threads p.cycle r w) store
 row_got e p k LoadFirst w = LoadSecond w
 row_got e p k (LoadSecond word) w = Answered (if word == w then replies.Yes else replies.No)
 row_got e p k LoadSaid w = after_said w (payload_in w)
 row_got e p k (LoadSaidOwner word) w = Answered (replies.Val (object_in w))
+row_got e p k IdleLook w = Answered replies.Idle
 row_got e p k (Answered reply) w = Answered reply
 
 abbrev pub field_want : Extent → FieldState → Operation
@@ -222,6 +254,8 @@ abbrev pub word_stored : FieldRow → ℕ
 word_stored (StoreMoved word) = word
 word_stored (StorePending word value) = word
 word_stored (StoreField way word) = word
+word_stored (ExchangeField way word) = word
+word_stored (CompareField way word) = word
 word_stored _ = 0
 
 -- the reply, once the part is over
@@ -255,6 +289,8 @@ abbrev pub row_holding : ℕ → Pass → FieldRow → Holding
 row_holding width p (StoreMoved word) = held_before_store p word
 row_holding width p (StorePending word value) = held_before_store p word
 row_holding width p (StoreField way word) = held_before_store p word
+row_holding width p (ExchangeField way word) = held_before_store p word
+row_holding width p (CompareField way word) = held_before_store p word
 row_holding width p (Shade r store) = grey_holding width r
 row_holding width p _ = holds_nothing
 

@@ -85,6 +85,7 @@ pub fn rows_answer_as_steps()
 pub fn rows_are_events()
     ensures words { (c : Config) (h : Heap) (s : GraphState) (a : Name) (f : FieldState) (w : ℕ)
         → s.words ≡ block_words h → s.loads f.pass.thread ≡ loading_of (extent c) f
+        → w ≡ h (place_of (field_want (extent c) f))
         → (after_event (extent c) s (event_of (extent c) a f w)).words
         ≡ block_words (heap_after h (field_want (extent c) f)) }
     ensures loads { (c : Config) (h : Heap) (s : GraphState) (a : Name) (f : FieldState) (w : ℕ)
@@ -114,7 +115,7 @@ pub fn rows_read_the_graph()
         → ℕ) (s : GraphState) (h : Heap)
         (f : FieldState) (w : ℕ) → c.blocks ≤ 65535 → m ≤ c.blocks
         → Follows c.width c.threads m (named kept) at s → FieldFits c f → IsAtRow (extent c) s h f w
-        → (shades f.row ≡ true → IsHeld c h) → field_reply f.row ≡ None → FieldReads c f w }
+        → IsHeld c h → field_reply f.row ≡ None → FieldReads c f w }
     ensures shown { (c : Config) (m : ℕ) (kept : Name → Bool) (at : Name → ℕ
         → ℕ) (s : GraphState) (h : Heap)
         (f : FieldState) (w : ℕ) → c.blocks ≤ 65535 → m ≤ c.blocks
@@ -122,7 +123,8 @@ pub fn rows_read_the_graph()
         → Shown (heads at) s.graph f w }
     ensures register { (c : Config) (head : Name
         → ℕ) (s : GraphState) (a : Name) (f : FieldState) (w : ℕ)
-        → IsSized c.threads s.graph → FieldFits c f → Shown head s.graph f w → IsInHand s a f
+        → IsSized c.threads s.graph → FieldFits c f → Shown head s.graph f w
+        → s.loads f.pass.thread ≡ loading_of (extent c) f → IsInHand s a f
         → is_deciding f.command f.row w ≡ true
         → ShowsRegister (after_event (extent c) s (event_of (extent c) a f w)).graph
         (field_got (extent c) f w)

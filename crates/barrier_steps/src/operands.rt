@@ -19,7 +19,9 @@ pub(crate) fn to_register(command: Command) -> u8
 
     match command {
         Set { d, .. } | Nil { d } | Mov { d, .. } | Get { d, .. } => d,
+        Swap { v, .. } => v,
         New { .. } | Arr { .. } | Put { .. } | Len { .. } | Same { .. } | Say { .. } => 0,
+        Cas { .. } | Idle { .. } => 0,
     }
 }
 
@@ -33,8 +35,9 @@ pub(crate) fn from_register(command: Command) -> u8
 
     match command {
         Mov { s, .. } | Get { s, .. } | Put { s, .. } | Len { s } | Say { s } => s,
+        Swap { s, .. } | Cas { s, .. } => s,
         Same { a, .. } => a,
-        New { .. } | Arr { .. } | Set { .. } | Nil { .. } => 0,
+        New { .. } | Arr { .. } | Set { .. } | Nil { .. } | Idle { .. } => 0,
     }
 }
 
@@ -47,10 +50,22 @@ pub(crate) fn other_register(command: Command) -> u8
     use Command::*;
 
     match command {
-        Put { v, .. } => v,
+        Put { v, .. } | Swap { v, .. } | Cas { v, .. } => v,
         Same { b, .. } => b,
         New { .. } | Arr { .. } | Set { .. } | Nil { .. } => 0,
-        Mov { .. } | Get { .. } | Len { .. } | Say { .. } => 0,
+        Mov { .. } | Get { .. } | Len { .. } | Say { .. } | Idle { .. } => 0,
+    }
+}
+
+// The register with whose value a field is compared.
+pub(crate) fn expected_register(command: Command) -> u8
+    requires { IsCommandInRange command }
+    ensures is { result ≡ Operands.expected_register command }
+    ensures low { result < 16 }
+{
+    match command {
+        Command::Cas { a, .. } => a,
+        _ => 0,
     }
 }
 
@@ -66,6 +81,7 @@ pub(crate) fn number_set(command: Command) -> u64
         Set { value, .. } => value,
         New { .. } | Arr { .. } | Nil { .. } | Mov { .. } | Get { .. } => 0,
         Put { .. } | Len { .. } | Same { .. } | Say { .. } => 0,
+        Swap { .. } | Cas { .. } | Idle { .. } => 0,
     }
 }
 
@@ -86,8 +102,8 @@ fn index_named(command: Command) -> u64
     use Command::*;
 
     match command {
-        Get { i, .. } | Put { i, .. } => i,
-        New { .. } | Arr { .. } | Set { .. } | Nil { .. } => 0,
+        Get { i, .. } | Put { i, .. } | Swap { i, .. } | Cas { i, .. } => i,
+        New { .. } | Arr { .. } | Set { .. } | Nil { .. } | Idle { .. } => 0,
         Mov { .. } | Len { .. } | Same { .. } | Say { .. } => 0,
     }
 }

@@ -21,7 +21,9 @@ ghost use Rattle.barrier_steps.specs.Rows;
 ghost use Rattle.barrier_steps.specs.Rows.{at_first_row, register_place, field_want, field_got, field_step, field_decided, field_reply};
 ghost use Rattle.barrier_steps.specs.Fits.{IsThread, IsWalk, FitsAt, ReadsAt, FieldFits, FieldReads};
 
-use crate::operands::{field_index, from_register, number_set, other_register, to_register};
+use crate::operands::{
+    expected_register, field_index, from_register, number_set, other_register, to_register,
+};
 use crate::walks::{field_at, length_of, link_at, links_to};
 use crate::{FieldRow, FieldStore, Way};
 use block_store::{
@@ -108,6 +110,8 @@ fn word_of(store: FieldStore) -> u64
         FieldStore::Moved { word } => word,
         FieldStore::Pending { word, .. } => word,
         FieldStore::InField { word, .. } => word,
+        FieldStore::Exchanged { word, .. } => word,
+        FieldStore::Compared { word, .. } => word,
     }
 }
 
@@ -119,6 +123,8 @@ fn store_row(store: FieldStore) -> FieldRow
         FieldStore::Moved { word } => FieldRow::StoreMoved { word },
         FieldStore::Pending { word, value } => FieldRow::StorePending { word, value },
         FieldStore::InField { way, word } => FieldRow::StoreField { way, word },
+        FieldStore::Exchanged { way, word } => FieldRow::ExchangeField { way, word },
+        FieldStore::Compared { way, word } => FieldRow::CompareField { way, word },
     }
 }
 
@@ -177,6 +183,8 @@ fn first_row(command: Command) -> FieldRow
         Command::Nil { .. } => FieldRow::StoreNil,
         Command::Mov { .. } => FieldRow::LoadMoved,
         Command::Get { .. } | Command::Put { .. } | Command::Len { .. } => FieldRow::LoadObject,
+        Command::Swap { .. } | Command::Cas { .. } => FieldRow::LoadObject,
+        Command::Idle { .. } => FieldRow::IdleLook,
         Command::Same { .. } => FieldRow::LoadFirst,
         Command::Say { .. } => FieldRow::LoadSaid,
     }
@@ -209,8 +217,10 @@ fn at_block(pass: Pass, command: Command, way: Way, word: u64) -> FieldRow
 
     match command {
         Put { .. } => before_store(pass, FieldStore::InField { way, word }),
+        Swap { .. } => before_store(pass, FieldStore::Exchanged { way, word }),
+        Cas { .. } => before_store(pass, FieldStore::Compared { way, word }),
         New { .. } | Arr { .. } | Set { .. } | Nil { .. } => FieldRow::LoadField { way },
-        Mov { .. } | Get { .. } | Len { .. } | Same { .. } | Say { .. } => {
+        Mov { .. } | Get { .. } | Len { .. } | Same { .. } | Say { .. } | Idle { .. } => {
             FieldRow::LoadField { way }
         }
     }
@@ -238,6 +248,7 @@ fn way_from(shape: Shape, block: u32) -> Way
         shape,
         level: 0,
         block,
+        expected: 0,
     }
 }
 
@@ -253,10 +264,13 @@ fn after_shape(places: &Places, pass: Pass, command: Command, block: u32, shape:
     let way = way_from(shape, block);
     match command {
         Get { i, .. } if i < length => on_way(places, pass, command, way, 0),
-        Put { i, .. } if i < length => FieldRow::LoadValue { way },
-        Get { .. } | Put { .. } => answered(Reply::Range),
+        Put { i, .. } | Swap { i, .. } if i < length => FieldRow::LoadValue { way },
+        Cas { i, .. } if i < length => FieldRow::LoadExpected { way },
+        Get { .. } | Put { .. } | Swap { .. } | Cas { .. } => answered(Reply::Range),
         New { .. } | Arr { .. } | Set { .. } | Nil { .. } => answered(Reply::Len(length)),
-        Mov { .. } | Len { .. } | Same { .. } | Say { .. } => answered(Reply::Len(length)),
+        Mov { .. } | Len { .. } | Same { .. } | Say { .. } | Idle { .. } => {
+            answered(Reply::Len(length))
+        }
     }
 }
 
@@ -430,13 +444,19 @@ impl FieldPass {
                 self.load(places, from_register(command))
             }
             LoadValue { .. } | LoadSecond { .. } => self.load(places, other_register(command)),
+            LoadExpected { .. } => self.load(places, expected_register(command)),
             LoadShape { block } => Op::load(places.shape(block)),
             LoadLink { way, .. } => Op::load(link(places, command, way)),
             LoadField { way } => Op::load(field(places, command, way)),
-            StoreField { way, word } => Op::exchange(field(places, command, way), word),
+            StoreField { way, word } | ExchangeField { way, word } => {
+                Op::exchange(field(places, command, way), word)
+            }
+            CompareField { way, word } => {
+                Op::compare_exchange(field(places, command, way), way.expected, word)
+            }
             Shade { shade, .. } => GreyPass::at_row(self.pass, shade).want(places),
             LoadOwner { word } | LoadSaidOwner { word } => Op::load(places.owner(target(word))),
-            Answered { .. } => Op::load(places.phase()),
+            IdleLook | Answered { .. } => Op::load(places.phase()),
         }
     }
 
@@ -497,8 +517,15 @@ impl FieldPass {
             LoadObject => after_object(payload_in(read)),
             LoadShape { block } => after_shape(places, pass, command, block, shape_in(read)),
             LoadValue { way } => on_way(places, pass, command, way, read),
+            LoadExpected { way } => LoadValue {
+                way: Way {
+                    expected: read,
+                    ..way
+                },
+            },
             LoadLink { way, word } => after_link(places, pass, command, way, word, target(read)),
-            LoadField { .. } => after_field(read, payload_in(read)),
+            LoadField { .. } | ExchangeField { .. } => after_field(read, payload_in(read)),
+            CompareField { way, .. } => after_both(read, way.expected),
             LoadOwner { word } => {
                 let value = object_in(read);
                 before_store(pass, FieldStore::Pending { word, value })
@@ -509,6 +536,7 @@ impl FieldPass {
             LoadSecond { word } => after_both(word, read),
             LoadSaid => after_said(read, payload_in(read)),
             LoadSaidOwner { .. } => answered(Reply::Val(object_in(read))),
+            IdleLook => answered(Reply::Idle),
             Answered { reply } => answered(reply),
         }
     }
@@ -544,6 +572,12 @@ impl FieldPass {
             }
             StorePending { word, value } => {
                 self.makes(StorePending { word, value }, places, memory, shared)
+            }
+            ExchangeField { way, word } => {
+                self.makes(ExchangeField { way, word }, places, memory, shared)
+            }
+            CompareField { way, word } => {
+                self.makes(CompareField { way, word }, places, memory, shared)
             }
             LoadOwner { word } => self.makes(LoadOwner { word }, places, memory, shared),
             LoadMoved => self.makes(LoadMoved, places, memory, shared),

@@ -13,6 +13,8 @@ pub struct Way {
     pub level: u32,
     /// The block that they led to.
     pub block: u32,
+    /// Of `cas` the word with which the field is compared, once it is loaded. Else 0.
+    pub expected: u64,
 }
 
 /// What a command stores next: the word, and where it goes.
@@ -20,10 +22,14 @@ pub struct Way {
 pub enum FieldStore {
     /// `mov`: the word of the register that it copies, in the other one.
     Moved { word: u64 },
-    /// `get`: the field's word, which shows this value, in its register.
+    /// `get` and `swap`: the field's word, which shows this value, in its register.
     Pending { word: u64, value: Value },
     /// `put`: the word in the field.
     InField { way: Way, word: u64 },
+    /// `swap`: the word in the field, whose own word goes to the register.
+    Exchanged { way: Way, word: u64 },
+    /// `cas`: the word in the field, where that has the expected one.
+    Compared { way: Way, word: u64 },
 }
 
 /// The next event of a command that allocates nothing, or its reply. A row has what was loaded for
@@ -38,25 +44,31 @@ pub enum FieldRow {
     LoadMoved,
     /// `mov`: stores the word of that register in the other one.
     StoreMoved { word: u64 },
-    /// `get`, `put` and `len`: loads the register that should refer to an object.
+    /// All that look at an object: loads the register that should refer to it.
     LoadObject,
-    /// `get`, `put` and `len`: loads the shape of the object, whose first block this is.
+    /// All that look at an object: loads its shape, at its first block.
     LoadShape { block: u32 },
-    /// `put`: loads the register whose word it stores.
+    /// `cas`: loads the register with whose word the field is compared.
+    LoadExpected { way: Way },
+    /// `put`, `swap` and `cas`: loads the register whose word they store.
     LoadValue { way: Way },
-    /// `get` and `put`: loads the next link on the way to the field. Of `put` the word is the one
-    /// that it stores, and of `get` it is 0.
+    /// All that go to a field: loads the next link on the way to it. Of `get` the word is 0, and of
+    /// the others the one that they store.
     LoadLink { way: Way, word: u64 },
     /// `get`: loads the field.
     LoadField { way: Way },
-    /// `get`: loads the owner of the block to which the field's word refers.
+    /// `get` and `swap`: loads the owner of the block to which the field's word refers.
     LoadOwner { word: u64 },
-    /// `get`: stores the field's word, which shows this value, in its register.
+    /// `get` and `swap`: stores the field's word, which shows this value, in its register.
     StorePending { word: u64, value: Value },
     /// `put`: stores the word in the field.
     StoreField { way: Way, word: u64 },
-    /// `mov`, `get` and `put` in Mark, where a reference is stored: the write barrier of its block
-    /// has come to this row of its own.
+    /// `swap`: exchanges the field with the word.
+    ExchangeField { way: Way, word: u64 },
+    /// `cas`: compares the field, and stores the word in it where it has the expected one.
+    CompareField { way: Way, word: u64 },
+    /// All that store a reference, in Mark: the write barrier of its block has come to this row of
+    /// its own.
     Shade { shade: GreyRow, store: FieldStore },
     /// `same`: loads the first register.
     LoadFirst,
@@ -66,6 +78,8 @@ pub enum FieldRow {
     LoadSaid,
     /// `say`: loads the owner of the block to which the word of the register refers.
     LoadSaidOwner { word: u64 },
+    /// `idle`: looks at the phase.
+    IdleLook,
     /// The command is over, with this reply.
     Answered { reply: Reply },
 }

@@ -43,9 +43,11 @@ module _ (c : Config) (rate : ℕ) (black : ℕ → ℕ) (some : 0 < rate) (s : 
         entered = o.entered;
         present = o.present;
         asked = o.asked;
+        told = o.told;
+        within = o.within;
         owed = o.owed;
         claimed = o.claimed;
-        reserved = λ h. (g.1, refl, g.3);
+        reserved = λ h. (g.1, refl, g.3.paid);
       })
       (record {
         cursor = k.cursor;
@@ -66,13 +68,16 @@ module _ (c : Config) (rate : ℕ) (black : ℕ → ℕ) (some : 0 < rate) (s : 
       let more : given_in s.cycle (published w0.asked w0.balance)
       ≡ given_in s.cycle w0.balance + w0.asked =
       given_more_in s.cycle w0.asked w0.balance (o.present g.1) in
+      let none_idled : w0.idled ≡ 0 = o.told.none g.5.untold in
       decided c rate black some s k t w e g.0 g.3
       (record {
-        sound = published_sound rate c.object w0.asked w0.balance g.5 o.sound;
+        sound = published_sound rate c.object w0.asked w0.balance g.5.paid o.sound;
         entered = o.entered;
         present = o.present;
         asked = o.asked;
-        owed = omega arith;
+        told = o.told;
+        within = omega arith;
+        owed = omega (arith, none_idled);
         claimed = λ h. absurd (omega (arith, g.2));
         reserved = λ h. absurd (h refl);
       })
@@ -81,8 +86,8 @@ module _ (c : Config) (rate : ℕ) (black : ℕ → ℕ) (some : 0 < rate) (s : 
         made = refl;
         given = more ∙ ap (λ z. given_in s.cycle w0.balance + z) (sym g.6);
         reserved = omega (arith, g.6, g.4);
-        unpaid = refl;
-        whole = g.5;
+        unpaid = omega (arith, none_idled);
+        whole = omega (arith, g.5.paid, g.5.untold, none_idled);
         licensed = not_full c s.order e.reply g.7;
       })
 
@@ -90,21 +95,31 @@ module _ (c : Config) (rate : ℕ) (black : ℕ → ℕ) (some : 0 < rate) (s : 
       → TallyKept c rate black (apply c rate black s (Answer t e))
   answers t e g =
       let o = k.each t g.0 in
+      let w0 : Spending = s.threads t in
+      let w : Spending = record w0 { idled = 0 } in
       let cost : rate * (s.threads t).asked ≡ rate * 0 = ap (λ z. rate * z) g.2 in
-      let paid : (s.threads t).balance.paid ≡ 0 = omega (arith, o.owed) in
+      let paid : (s.threads t).balance.paid ≡ 0 = omega (arith, o.within) in
       let taken : taken_by c.width e ≡ 0 = taken_none e.reply (blocks_of c.width e.command)
       (g.1.blocks ∙ g.2) in
-      subst (λ f. TallyKept c rate black (ordered (record s { threads = f }) (Did e)))
-      (changed_self s.threads t (s.threads t) refl)
-      (decided c rate black some s k t (s.threads t) e g.0 g.1 o (record {
+      decided c rate black some s k t w e g.0 g.1 (record {
+        sound = o.sound;
+        entered = o.entered;
+        present = o.present;
+        asked = o.asked;
+        told = record { apart = o.told.apart; none = λ _. refl; few = o.told.few };
+        within = o.within;
+        owed = omega (arith, o.owed);
+        claimed = λ h. (let q = o.claimed h in (q.0, q.1, omega (arith, q.2)));
+        reserved = o.reserved;
+      }) (record {
         claimed = λ x. refl;
         made = refl;
         given = omega arith;
         reserved = omega arith;
-        unpaid = paid;
-        whole = omega arith;
+        unpaid = omega arith;
+        whole = omega (arith, g.4);
         licensed = not_full c s.order e.reply g.3;
-      }))
+      })
 
   -- the blocks reserved, and those of a thread that has paid and not reserved, are paid
   pub reserved_paid : (u : ℕ) → u < c.threads
@@ -155,6 +170,7 @@ module _ (c : Config) (rate : ℕ) (black : ℕ → ℕ) (some : 0 < rate) (s : 
       let w0 : Spending = s.threads t in
       let w : Spending = record w0 { balance = refused w0.balance } in
       let o = k.each t g.0 in
+      let none_idled : w0.idled ≡ 0 = o.told.none g.5.untold in
       let taken : taken_by c.width e ≡ 0 = taken_full e.reply _ (blocks_of c.width e.command) g.7 in
       decided c rate black some s k t w e g.0 g.3
       (record {
@@ -162,7 +178,9 @@ module _ (c : Config) (rate : ℕ) (black : ℕ → ℕ) (some : 0 < rate) (s : 
         entered = o.entered;
         present = o.present;
         asked = o.asked;
-        owed = omega arith;
+        told = o.told;
+        within = omega arith;
+        owed = omega (arith, none_idled);
         claimed = λ h. absurd (omega (arith, g.2));
         reserved = λ h. absurd (h g.4);
       })
@@ -171,8 +189,8 @@ module _ (c : Config) (rate : ℕ) (black : ℕ → ℕ) (some : 0 < rate) (s : 
         made = refl;
         given = omega arith;
         reserved = omega (arith, g.4);
-        unpaid = refl;
-        whole = g.5;
+        unpaid = omega (arith, none_idled);
+        whole = omega (arith, g.5.paid, g.5.untold, none_idled);
         licensed = subst (λ r. IsLicensedReply c s.order r) (sym g.7)
-            (omega (arith, k.starts), omega (arith, spare t plan g.0 g.4 g.5, g.6));
+            (omega (arith, k.starts), omega (arith, spare t plan g.0 g.4 g.5.paid, g.6));
       })

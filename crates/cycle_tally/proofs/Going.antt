@@ -1,5 +1,6 @@
 -- What an event of one thread makes of a tally.
 use Rattle.std.proofs.Common.{◌≡◌, ℕ, ◌+◌, ◌-◌, ◌*◌, ◌≤◌, ◌<◌, ◌&&◌, ◌||◌, eqb, ltb, arith, ap, sym, ◌∙◌, [], ◌∷◌, ◌++◌}
+use Rattle.std.proofs.lemmas.Nat.{mul-le}
 use Rattle.block_store.specs.declared.Config.{Config}
 use Rattle.block_store.specs.Counts.{changed, total}
 use Rattle.block_store.specs.Phases.{bit}
@@ -8,15 +9,21 @@ use Rattle.never_heap.specs.declared.Entry.{Entry}
 use Rattle.never_heap.specs.Given.{given}
 use Rattle.never_heap.specs.Histories.{Did, work_in}
 use Rattle.never_heap.specs.Licensed.{IsLicensedReply}
+use Rattle.never_heap.specs.Steps.{blocks_of}
 use Rattle.never_heap.specs.Taken.{taken_by}
 use Rattle.never_heap.proofs.Cycling.{right_work_more, licensed_more}
 use Rattle.never_heap.proofs.Growing.{starts_append, work_append}
 use Rattle.work_account.specs.Accounts.{units_in, given_in}
 use Rattle.cycle_tally.specs.Entries.{entries_in}
 use Rattle.cycle_tally.specs.Events.{Decides, with_thread, ordered}
-use Rattle.cycle_tally.specs.Kept.{SpendingKept, TallyKept}
-use Rattle.cycle_tally.specs.Tallies.{Spending, Tally, claims, units_now}
+use Rattle.cycle_tally.specs.Kept.{most_work, SpendingKept, TallyKept}
+use Rattle.cycle_tally.specs.Tallies.{Spending, Tally, claims, units_now, made_of, due_of}
 use Rattle.cycle_tally.proofs.Counting.{one_more, entries_more, in_threads_more, given_here, given_then, base_same, each_changed}
+
+-- plain arithmetic
+cheaper_by : (work more due most below now limit : ℕ) → now ≡ work + more → limit ≡ below + most
+    → more ≤ due → due ≤ most → work ≤ below → now ≤ limit
+cheaper_by work more due most below now limit a b c d e = omega arith
 
 -- the sums over n threads in the cycle z, where thread t becomes w
 record Sums (n z : ℕ) (f : ℕ → Spending) (t : ℕ) (w : Spending) : Type 0 where
@@ -28,8 +35,8 @@ record Sums (n z : ℕ) (f : ℕ → Spending) (t : ℕ) (w : Spending) : Type 0
       ≡ total n (λ u. given_in z (f u).balance) + given_in z w.balance
   reserved : total n (λ u. (changed f t w u).reserved) + (f t).reserved
       ≡ total n (λ u. (f u).reserved) + w.reserved
-  paid : total n (λ u. (changed f t w u).balance.paid) + (f t).balance.paid
-      ≡ total n (λ u. (f u).balance.paid) + w.balance.paid
+  paid : total n (λ u. made_of (changed f t w u)) + made_of (f t)
+      ≡ total n (λ u. made_of (f u)) + made_of w
 
 sums : (n z : ℕ) (f : ℕ → Spending) (t : ℕ) (w : Spending) → t < n → Sums n z f t w
 sums n z f t w tl = record {
@@ -37,7 +44,7 @@ sums n z f t w tl = record {
   made = total_changed (λ (v : Spending). units_in z v.balance) n f t w tl;
   given = total_changed (λ (v : Spending). given_in z v.balance) n f t w tl;
   reserved = total_changed (λ (v : Spending). v.reserved) n f t w tl;
-  paid = total_changed (λ (v : Spending). v.balance.paid) n f t w tl;
+  paid = total_changed made_of n f t w tl;
 }
 
 -- The counts of r go with thread t, which becomes w, in the cycle and phase of s.
@@ -52,8 +59,7 @@ pub record Goes (c : Config) (black : ℕ → ℕ) (s : Tally) (t : ℕ) (w : Sp
       ≡ units_now c.blocks s + units_in s.cycle w.balance
   pub given : given_in s.cycle w.balance ≡ given_in s.cycle (s.threads t).balance
   pub free : s.free + (s.threads t).reserved ≤ r.free + w.reserved
-  pub paid : w.balance.paid + units_now c.blocks s
-      ≡ (s.threads t).balance.paid + units_now c.blocks r
+  pub paid : made_of w + units_now c.blocks s ≡ made_of (s.threads t) + units_now c.blocks r
 
 -- The phase, the cursor, the free count and the colours of r go with the threads and counts of s.
 pub record Stays (c : Config) (black : ℕ → ℕ) (s r : Tally) : Type 0 where
@@ -71,8 +77,8 @@ pub record Settles (c : Config) (rate : ℕ) (s : Tally) (t : ℕ) (w : Spending
   pub given : given_in s.cycle w.balance
       ≡ given_in s.cycle (s.threads t).balance + taken_by c.width e
   pub reserved : w.reserved + taken_by c.width e ≡ (s.threads t).reserved
-  pub unpaid : w.balance.paid ≡ 0
-  pub whole : (s.threads t).balance.paid ≡ rate * (s.threads t).asked
+  pub unpaid : made_of w ≡ 0
+  pub whole : made_of (s.threads t) ≡ due_of rate (s.threads t)
   pub licensed : IsLicensedReply c s.order e.reply
 
 module _ (c : Config) (rate : ℕ) (black : ℕ → ℕ) (some : 0 < rate) (s : Tally)
@@ -135,15 +141,22 @@ module _ (c : Config) (rate : ℕ) (black : ℕ → ℕ) (some : 0 < rate) (s : 
   work_more e = work_append s.order (Did e ∷ []) ∙ ap (λ z. work_in s.order + z) (omega arith)
 
   cheaper : (t : ℕ) (e : Entry) → t < c.threads → Decides c t (s.threads t) e
-      → work_in (s.order ++ Did e ∷ []) ≤ entries_in (s.order ++ Did e ∷ []) * (rate * c.object)
+      → work_in (s.order ++ Did e ∷ []) ≤ entries_in (s.order ++ Did e ∷ []) * most_work c rate
   cheaper t e tl d =
-      let q : entries_in (s.order ++ Did e ∷ []) * (rate * c.object)
-      ≡ (entries_in s.order + 1) * (rate * c.object) =
-      ap (λ z. z * (rate * c.object)) (entries_more s.order e) in
-      let r : (entries_in s.order + 1) * (rate * c.object)
-      ≡ entries_in s.order * (rate * c.object) + rate * c.object =
-      one_more (entries_in s.order) (rate * c.object) in
-      omega (arith, work_more e, d.work, (k.each t tl).sound.within, k.cheap)
+      let most : ℕ = most_work c rate in
+      let q : entries_in (s.order ++ Did e ∷ []) * most_work c rate
+      ≡ (entries_in s.order + 1) * most_work c rate =
+      ap (λ z. z * most_work c rate) (entries_more s.order e) in
+      let r : (entries_in s.order + 1) * most_work c rate
+      ≡ entries_in s.order * most_work c rate + most_work c rate =
+      one_more (entries_in s.order) (most_work c rate) in
+      let o = k.each t tl in
+      let product : rate * (s.threads t).asked ≤ rate * c.object =
+      mul-le rate (s.threads t).asked rate c.object (omega arith) o.asked in
+      cheaper_by (work_in s.order) e.work (rate * (s.threads t).asked + (s.threads t).told)
+      (most_work c rate) (entries_in s.order * most_work c rate) _ _
+      (work_more e) (q ∙ r) (omega (arith, d.work, o.owed))
+      (omega (arith, o.told.few)) k.cheap
 
   pub decided : (t : ℕ) (w : Spending) (e : Entry) → t < c.threads
       → Decides c t (s.threads t) e → SpendingKept c rate s.cycle w → Settles c rate s t w e
@@ -175,6 +188,7 @@ module _ (c : Config) (rate : ℕ) (black : ℕ → ℕ) (some : 0 < rate) (s : 
         cheap = cheaper t e tl d;
         entries = in_threads_more c.threads s.order (Did e) k.entries (omega (arith, d.thread), tt);
         right = right_work_more c.width rate s.order (Did e) k.right
-            (d.work ∙ q.whole ∙ ap (λ z. rate * z) (sym d.blocks));
+            (d.work ∙ q.whole ∙ ap (λ z. rate * z + (s.threads t).told) (sym d.blocks)
+            ∙ ap (λ z. rate * blocks_of c.width e.command + z) (sym d.told));
         licensed = licensed_more c s.order (Did e) k.licensed q.licensed;
       }

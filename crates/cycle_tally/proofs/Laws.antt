@@ -2,6 +2,7 @@
 -- within the bound.
 use Rattle.std.proofs.Common.{◌≡◌, ℕ, zero, suc, ◌+◌, ◌-◌, ◌*◌, ◌≤◌, ◌<◌, max, ◌&&◌, ◌||◌, eqb, ltb, arith, ap, sym, ◌∙◌, subst, List, [], ◌∷◌, inl, inr}
 use Rattle.std.proofs.lemmas.Bool.{cases_eq, both_ways}
+use Rattle.std.proofs.lemmas.Nat.{mul-le}
 use Rattle.block_store.specs.declared.Config.{Config}
 use Rattle.block_store.specs.Phases.{bit}
 use Rattle.rate_plan.specs.Rates.{KeepsUp}
@@ -15,10 +16,10 @@ use Rattle.block_store.specs.Counts.{total}
 use Rattle.work_account.specs.Accounts.{Balance, opened, IsSound, units_in, given_in}
 use Rattle.block_store.proofs.Functions.{total_none, bit_le}
 use Rattle.work_account.proofs.Balances.{opened_sound}
-use Rattle.cycle_tally.specs.Tallies.{Tally, claims, units, given_now, paid_now}
+use Rattle.cycle_tally.specs.Tallies.{Spending, Tally, claims, units, given_now, made_of, made_now}
 use Rattle.cycle_tally.specs.Events.{Event, apply, run, Guarded}
 use Rattle.cycle_tally.specs.Entries.{entries_in, InThreads}
-use Rattle.cycle_tally.specs.Kept.{live_before, TallyKept}
+use Rattle.cycle_tally.specs.Kept.{most_work, SpendingKept, live_before, TallyKept}
 use Rattle.cycle_tally.specs.Openings.{Opened}
 use Rattle.cycle_tally.specs.Bounds.{AsksNothing, Bound}
 use Rattle.cycle_tally.proofs.Sums.{given_nought, no_claims}
@@ -28,6 +29,13 @@ use Rattle.cycle_tally.proofs.Steps.{step_kept}
 
 both_parts : (x y z : ℕ) → (x + y) * z ≡ x * z + y * z
 both_parts x y z = omega arith
+
+sum_few : (sum one n most : ℕ) → sum ≤ n * most → one ≤ most → sum + one ≤ suc n * most
+sum_few sum one n most a b = omega arith
+
+all_few : (work made all a b limit : ℕ) → work + made ≡ all → work ≤ a → made ≤ b → limit ≡ a + b
+    → all ≤ limit
+all_few work made all a b limit e f g h = omega arith
 
 module _ (c : Config) (rate : ℕ) (black : ℕ → ℕ) (some : 0 < rate) where
   pub opening_kept : (s : Tally) → Opened c s → TallyKept c rate black s
@@ -61,7 +69,9 @@ module _ (c : Config) (rate : ℕ) (black : ℕ → ℕ) (some : 0 < rate) where
               ap (λ (b : Balance). b.cycle) i.balance in omega (arith, o.cycle));
           present = λ h. absurd (both_ways _ i.inside h);
           asked = i.asked;
-          owed = omega (arith, paid t tl);
+          told = i.told;
+          within = omega (arith, paid t tl);
+          owed = omega (arith, paid t tl, i.idled);
           claimed = λ h. absurd (omega (arith, i.claimed));
           reserved = λ h. absurd (h i.reserved);
         });
@@ -87,8 +97,9 @@ module _ (c : Config) (rate : ℕ) (black : ℕ → ℕ) (some : 0 < rate) where
         many = omega (arith, o.past);
         works =
             let w : work_in s.order ≡ 0 = ap work_in o.order in
-            let p : paid_now c.threads s ≡ 0 =
-            total_none c.threads (λ t. (s.threads t).balance.paid) paid in
+            let p : made_now c.threads s ≡ 0 =
+            total_none c.threads (λ t. made_of (s.threads t))
+            (λ t tl. omega (arith, paid t tl, (o.threads t tl).idled)) in
             omega (arith, o.past);
         cheap = (let w : work_in s.order ≡ 0 = ap work_in o.order in omega arith);
         entries = subst (λ h. InThreads c.threads h) (sym o.order) tt;
@@ -102,30 +113,40 @@ module _ (c : Config) (rate : ℕ) (black : ℕ → ℕ) (some : 0 < rate) where
   run_kept plan (e ∷ es) s k g = run_kept plan es (apply c rate black s e)
       (step_kept c rate black some s k e plan g.0) g.1
 
-  -- what all threads have paid
-  paid_few : (n : ℕ) (s : Tally) → ((t : ℕ) → t < n → IsSound rate c.object (s.threads t).balance)
-      → paid_now n s ≤ n * (rate * c.object)
-  paid_few zero s k = omega arith
-  paid_few (suc n) s k = (let r : paid_now n s ≤ n * (rate * c.object) =
-      paid_few n s (λ t l. k t (omega arith)) in omega (arith, (k n (omega arith)).within))
+  -- what all threads have made for what is not decided yet
+  one_few : (z : ℕ) (w : Spending) → SpendingKept c rate z w → made_of w ≤ most_work c rate
+  one_few z w k =
+      let product : rate * w.asked ≤ rate * c.object =
+      mul-le rate w.asked rate c.object (omega arith) k.asked in
+      omega (arith, k.owed, k.told.few)
+
+  made_few : (n z : ℕ) (s : Tally) → ((t : ℕ) → t < n → SpendingKept c rate z (s.threads t))
+      → made_now n s ≤ n * most_work c rate
+  made_few zero z s k = omega arith
+  made_few (suc n) z s k =
+      let r : made_now n s ≤ n * most_work c rate = made_few n z s (λ t l. k t (omega arith)) in
+      sum_few (made_now n s) (made_of (s.threads n)) n (most_work c rate) r
+      (one_few z (s.threads n) (k n (omega arith)))
 
   all_cheap : (s : Tally) → TallyKept c rate black s
-      → units c.blocks s ≤ (entries_in s.order + c.threads) * (rate * c.object)
+      → units c.blocks s ≤ (entries_in s.order + c.threads) * most_work c rate
   all_cheap s k =
-      let p : paid_now c.threads s ≤ c.threads * (rate * c.object) =
-      paid_few c.threads s (λ t tl. (k.each t tl).sound) in
-      let q : (entries_in s.order + c.threads) * (rate * c.object)
-      ≡ entries_in s.order * (rate * c.object) + c.threads * (rate * c.object) =
-      both_parts (entries_in s.order) c.threads (rate * c.object) in
-      omega (arith, k.works, k.cheap)
+      let p : made_now c.threads s ≤ c.threads * most_work c rate =
+      made_few c.threads s.cycle s k.each in
+      let q : (entries_in s.order + c.threads) * most_work c rate
+      ≡ entries_in s.order * most_work c rate + c.threads * most_work c rate =
+      both_parts (entries_in s.order) c.threads (most_work c rate) in
+      all_few (work_in s.order) (made_now c.threads s) (units c.blocks s)
+      (entries_in s.order * most_work c rate) (c.threads * most_work c rate) _
+      k.works k.cheap p q
 
   all_worked : (s : Tally) → TallyKept c rate black s → AsksNothing c s
       → work_in s.order ≡ units c.blocks s
   all_worked s k nothing =
-      let paid : paid_now c.threads s ≡ 0 =
-      total_none c.threads (λ t. (s.threads t).balance.paid) (λ t tl.
-      let cost : rate * (s.threads t).asked ≡ rate * 0 = ap (λ z. rate * z) (nothing t tl) in
-      omega (arith, (k.each t tl).owed)) in
+      let made : made_now c.threads s ≡ 0 =
+      total_none c.threads (λ t. made_of (s.threads t)) (λ t tl.
+      let cost : rate * (s.threads t).asked ≡ rate * 0 = ap (λ z. rate * z) (nothing t tl).0 in
+      omega (arith, (k.each t tl).owed, (nothing t tl).1)) in
       omega (arith, k.works)
 
   pub bound_of : (s : Tally) → TallyKept c rate black s → Bound c rate s

@@ -22,7 +22,7 @@ use Rattle.never_heap.specs.Taken.{taken_by, taken_in, blocks_if_new}
 use Rattle.never_heap.specs.Steps.{step, made, makes_object, blocks_of}
 use Rattle.never_heap.proofs.GraphMoves.{object_with_register, has_name_with_register}
 use Rattle.never_heap.proofs.FieldStores.{object_with_object, has_name_with_object, has_name_with_field}
-use Rattle.never_heap.proofs.Stepping.{Change, none, store, put, make, change_of, has_field, with_object_threads, step_threads}
+use Rattle.never_heap.proofs.Stepping.{Change, none, store, put, swap, make, change_of, has_field, with_object_threads, threads_put, step_threads}
 use Rattle.never_heap.proofs.Staying.{replay_keeps, replay_shape}
 use Rattle.never_heap.proofs.Naming.{same_itself, one_name}
 use Rattle.cycle_tally.specs.Entries.{InThreads}
@@ -59,6 +59,13 @@ new_name g t new _ there (put s i v b e l) a y n =
     let same = has_name_with_field g b i (Rattle.never_heap.specs.Graphs.register_of g t v)
     (has_field g b i l) a in
     absurd (both_ways (has_name g a) n (sym same ∙ y))
+new_name g t new _ there (swap s i v b e l) a y n =
+    let w = Rattle.never_heap.specs.Graphs.register_of g t v in
+    let named = has_name_with_field g b i w (has_field g b i l) a in
+    let same = has_name_with_register (Rattle.never_heap.specs.Graphs.with_field g b i w) t v
+    (Rattle.never_heap.specs.Graphs.field_of (Rattle.never_heap.specs.Graphs.object_of g b) i) a
+    (omega (arith, threads_put g b i w l)) in
+    absurd (both_ways (has_name g a) n (sym named ∙ sym same ∙ y))
 new_name g t new _ there (make d o m f is) a y n =
     let moved = has_name_with_register (with_object g t o) t d (Ref (next_name g t)) a
     (omega (arith, with_object_threads g t o)) ∙ has_name_with_object g t o there a in (

@@ -13,13 +13,17 @@ use Rattle.block_store.specs.Counts.{total}
 use Rattle.work_account.specs.Accounts.{entered, units_in, given_in}
 use Rattle.block_store.proofs.Functions.{total_none}
 use Rattle.work_account.proofs.Balances.{entered_sound}
-use Rattle.cycle_tally.specs.Tallies.{Spending, Tally, claims, given_now}
+use Rattle.cycle_tally.specs.Tallies.{Spending, Tally, claims, given_now, made_of}
 use Rattle.cycle_tally.specs.Events.{Enter, Leave, SetCursor, Flip, Start, Clear, Next, with_thread, apply, Guard}
 use Rattle.cycle_tally.specs.Entries.{entries_in}
-use Rattle.cycle_tally.specs.Kept.{SpendingKept, live_before, TallyKept}
+use Rattle.cycle_tally.specs.Kept.{IsTold, most_work, SpendingKept, live_before, TallyKept}
 use Rattle.cycle_tally.proofs.Sums.{total_least, total_nought, paid_entered, cycle_entered, units_entered, given_entered, units_later, given_later, no_claims}
 use Rattle.cycle_tally.proofs.Going.{goes, stays}
 use Rattle.cycle_tally.proofs.Counting.{one_less, entries_started, in_threads_more, bool_no, scanned_one, few_units, all_given_now, given_then}
+
+-- plain arithmetic
+cheap_on : (new old now before : ℕ) → new ≡ old + 0 → now ≡ before → old ≤ before → new ≤ now
+cheap_on new old now before a b c = omega arith
 
 module _ (c : Config) (rate : ℕ) (black : ℕ → ℕ) (some : 0 < rate) (s : Tally)
     (k : TallyKept c rate black s) where
@@ -28,7 +32,7 @@ module _ (c : Config) (rate : ℕ) (black : ℕ → ℕ) (some : 0 < rate) (s : 
       → ((x : ℕ) → claims x w ≡ claims x (s.threads t))
       → units_in s.cycle w.balance ≡ units_in s.cycle (s.threads t).balance
       → given_in s.cycle w.balance ≡ given_in s.cycle (s.threads t).balance
-      → w.reserved ≡ (s.threads t).reserved → w.balance.paid ≡ (s.threads t).balance.paid
+      → w.reserved ≡ (s.threads t).reserved → made_of w ≡ made_of (s.threads t)
       → TallyKept c rate black (with_thread s t w)
   moved t tl w kw same u g r p = goes c rate black some s k t w s tl kw (record {
     cursor = k.cursor;
@@ -54,12 +58,14 @@ module _ (c : Config) (rate : ℕ) (black : ℕ → ℕ) (some : 0 < rate) (s : 
         entered = omega arith;
         present = λ _. z;
         asked = o.asked;
+        told = o.told;
+        within = omega (arith, o.within);
         owed = omega (arith, o.owed);
         claimed = λ h. (let q = o.claimed h in (q.0, refl, omega (arith, q.2)));
         reserved = λ h. (let q = o.reserved h in (refl, q.1, p ∙ q.2));
       })
       (λ x. refl) (units_entered s.cycle w0.balance o.entered)
-      (given_entered s.cycle w0.balance o.entered) refl p
+      (given_entered s.cycle w0.balance o.entered) refl (ap (λ x. x + w0.idled) p)
 
   pub leaves : (t : ℕ) → Guard c rate black s (Leave t)
       → TallyKept c rate black (apply c rate black s (Leave t))
@@ -70,6 +76,8 @@ module _ (c : Config) (rate : ℕ) (black : ℕ → ℕ) (some : 0 < rate) (s : 
         sound = o.sound;
         entered = o.entered;
         asked = o.asked;
+        told = o.told;
+        within = o.within;
         owed = o.owed;
         present = λ h. absurd (let q : false ≡ true = h in cc);
         claimed = λ h. absurd (omega (arith, g.1));
@@ -77,16 +85,18 @@ module _ (c : Config) (rate : ℕ) (black : ℕ → ℕ) (some : 0 < rate) (s : 
       })
       (λ x. refl) refl refl refl refl
 
-  pub asks : (t y : ℕ) → Guard c rate black s (Next t y)
-      → TallyKept c rate black (apply c rate black s (Next t y))
-  asks t y g =
+  pub asks : (t y u : ℕ) → Guard c rate black s (Next t y u)
+      → TallyKept c rate black (apply c rate black s (Next t y u))
+  asks t y u g =
       let o = k.each t g.0 in
-      moved t g.0 (record (s.threads t) { asked = y })
+      moved t g.0 (record (s.threads t) { asked = y; told = u })
       (record {
         sound = o.sound;
         entered = o.entered;
         present = o.present;
         asked = g.4;
+        told = record { apart = g.5; none = λ _. omega (arith, g.3); few = g.6 };
+        within = omega (arith, g.3);
         owed = omega (arith, g.3);
         claimed = λ h. absurd (omega (arith, g.1));
         reserved = λ h. absurd (h g.2);
@@ -104,6 +114,8 @@ module _ (c : Config) (rate : ℕ) (black : ℕ → ℕ) (some : 0 < rate) (s : 
         entered = o.entered;
         present = o.present;
         asked = o.asked;
+        told = o.told;
+        within = o.within;
         owed = o.owed;
         reserved = o.reserved;
         claimed = λ h. absurd (omega (arith, g.1));
@@ -175,6 +187,8 @@ module _ (c : Config) (rate : ℕ) (black : ℕ → ℕ) (some : 0 < rate) (s : 
         each = λ t tl. (let o = k.each t tl in record {
           sound = o.sound;
           asked = o.asked;
+          told = o.told;
+          within = o.within;
           owed = o.owed;
           claimed = o.claimed;
           reserved = o.reserved;
@@ -222,9 +236,10 @@ module _ (c : Config) (rate : ℕ) (black : ℕ → ℕ) (some : 0 < rate) (s : 
             work_append s.order (Started ∷ []) in omega (arith, k.works));
         cheap = (let w : work_in (s.order ++ Started ∷ []) ≡ work_in s.order + 0 =
             work_append s.order (Started ∷ []) in
-            let q : entries_in (s.order ++ Started ∷ []) * (rate * c.object)
-            ≡ entries_in s.order * (rate * c.object) =
-            ap (λ z. z * (rate * c.object)) (entries_started s.order) in omega (arith, k.cheap));
+            let q : entries_in (s.order ++ Started ∷ []) * most_work c rate
+            ≡ entries_in s.order * most_work c rate =
+            ap (λ z. z * most_work c rate) (entries_started s.order) in
+            cheap_on (work_in (s.order ++ Started ∷ [])) (work_in s.order) _ _ w q k.cheap);
         entries = in_threads_more c.threads s.order Started k.entries tt;
         right = right_work_more c.width rate s.order Started k.right tt;
         licensed = licensed_more c s.order Started k.licensed tt;

@@ -6,12 +6,14 @@ use Rattle.array_trees.specs.Openings.{opening_blocks}
 use Rattle.never_heap.specs.Graphs.{start_graph}
 use Rattle.never_heap.specs.LiveBlocks.{live_blocks}
 use Rattle.cycle_tally.specs.Openings.{Opened, opening_tally}
+use Rattle.cycle_tally.specs.Kept.{IsTold}
 
-pub opens : (c : Config) (colour asked : ℕ → ℕ)
+pub opens : (c : Config) (colour asked told : ℕ → ℕ)
     → live_blocks c.width (start_graph c) ≡ opening_blocks c → opening_blocks c ≤ c.blocks
     → ((t : ℕ) → t < c.threads → asked t ≤ c.object)
-    → Opened c (opening_tally c colour asked)
-opens c colour asked live room few = record {
+    → ((t : ℕ) → t < c.threads → IsTold (asked t) (told t) 0)
+    → Opened c (opening_tally c colour asked told)
+opens c colour asked told live room few owes = record {
   cycle = refl;
   sweep = refl;
   cursor = refl;
@@ -23,6 +25,8 @@ opens c colour asked live room few = record {
     inside = refl;
     balance = refl;
     asked = few t tl;
+    told = owes t tl;
+    idled = refl;
     claimed = omega arith;
     reserved = refl;
   };

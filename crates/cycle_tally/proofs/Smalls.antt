@@ -9,6 +9,7 @@ use Rattle.block_store.specs.Counts.{total}
 use Rattle.cycle_tally.specs.Tallies.{Tally, units}
 use Rattle.cycle_tally.specs.Entries.{entries_in, InThreads}
 use Rattle.cycle_tally.specs.Bounds.{Bound}
+use Rattle.cycle_tally.specs.Kept.{most_work}
 
 -- the entries in the parts of n threads
 abbrev in_parts : ℕ → List HistoryItem → ℕ
@@ -65,13 +66,13 @@ module _ (c : Config) (rate : ℕ) (s : Tally) (b : Bound c rate s)
       mul-le c.threads 131072 16 131072 threads (omega arith) in
       omega (arith, entries_few c.threads s.order b.entries)
 
-  few_units : units c.blocks s ≤ (16 * 131072 + 16) * (131070 * 1024)
+  few_units : units c.blocks s ≤ (16 * 131072 + 16) * (131070 * 1024 + 131070)
   few_units =
       let cost : rate * c.object ≤ 131070 * 1024 = mul-le rate c.object 131070 1024 cheap object in
-      let all : (entries_in s.order + c.threads) * (rate * c.object)
-      ≤ (16 * 131072 + 16) * (131070 * 1024)
-      = mul-le (entries_in s.order + c.threads) (rate * c.object) (16 * 131072 + 16)
-      (131070 * 1024) (omega (arith, few_entries)) cost in
+      let all : (entries_in s.order + c.threads) * most_work c rate
+      ≤ (16 * 131072 + 16) * (131070 * 1024 + 131070)
+      = mul-le (entries_in s.order + c.threads) (most_work c rate) (16 * 131072 + 16)
+      (131070 * 1024 + 131070) (omega (arith, few_entries)) (omega arith) in
       omega (arith, b.cheap)
 
   pub counts_small : (units c.blocks s < 2 ^ 50) × (s.cycle < 2 ^ 50)

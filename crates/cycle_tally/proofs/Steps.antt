@@ -29,4 +29,4 @@ module _ (c : Config) (rate : ℕ) (black : ℕ → ℕ) (some : 0 < rate) (s : 
   step_kept (Publish t e) plan g = gives c rate black some s k t e g
   step_kept (Refuse t e) plan g = refuses c rate black some s k t e plan g
   step_kept (Answer t e) plan g = answers c rate black some s k t e g
-  step_kept (Next t y) plan g = asks c rate black some s k t y g
+  step_kept (Next t y u) plan g = asks c rate black some s k t y u g

@@ -1,5 +1,5 @@
 -- Sums over the threads and the blocks, and what an event of one thread makes of them.
-use Rattle.std.proofs.Common.{◌≡◌, ℕ, zero, suc, ◌+◌, ◌≤◌, ◌<◌, false, leb, refl, arith, ap, List, [], ◌∷◌, inl, inr, eq-eqb, ne_eqb, lt-ltb}
+use Rattle.std.proofs.Common.{◌≡◌, ℕ, zero, suc, ◌+◌, ◌*◌, ◌≤◌, ◌<◌, false, leb, refl, arith, ap, ◌∙◌, List, [], ◌∷◌, inl, inr, eq-eqb, ne_eqb, lt-ltb}
 use Rattle.std.proofs.lemmas.Bool.{cases_eq, cases_lt, le-leb, lt-leb, le-ltb, and_right}
 use Rattle.block_store.specs.declared.Width.{Width}
 use Rattle.block_store.specs.Phases.{bit}
@@ -8,8 +8,10 @@ use Rattle.never_heap.specs.Given.{given}
 use Rattle.never_heap.specs.Cycles.{before_start, after_start}
 use Rattle.never_heap.specs.Taken.{taken_in}
 use Rattle.block_store.specs.Counts.{changed, total}
-use Rattle.work_account.specs.Accounts.{Balance, entered, with_unit, published, units_in, given_in}
-use Rattle.cycle_tally.specs.Tallies.{Spending, claims}
+use Rattle.work_account.specs.Accounts.{Balance, IsSound, entered, with_unit, published, units_in, given_in}
+use Rattle.cycle_tally.specs.Tallies.{Spending, claims, made_of, due_of, with_made}
+use Rattle.cycle_tally.specs.Kept.{IsTold}
+use Rattle.work_account.proofs.Balances.{unit_sound, idle_sound}
 
 pub total_ones : (n : ℕ) (f : ℕ → ℕ) → ((x : ℕ) → x < n → f x ≤ 1) → total n f ≤ n
 total_ones zero f h = omega arith
@@ -80,6 +82,67 @@ given_entered z a low = elim (cases_lt a.cycle z) [
 
 pub units_more : (z : ℕ) (a : Balance) → a.cycle ≡ z → units_in z (with_unit a) ≡ units_in z a + 1
 units_more z a e = rw (eq-eqb a.cycle z e) refl
+
+-- a unit more for the command in hand
+pub made_more : (w : Spending) → made_of (with_made w) ≡ made_of w + 1
+made_more w = elim (cases_eq w.told 0) [
+  | inl e ↦ rw (eq-eqb w.told 0 e) (omega arith)
+  | inr ne ↦ rw (ne_eqb w.told 0 ne) (omega arith)
+]
+
+pub made_cycle : (w : Spending) → (with_made w).balance.cycle ≡ w.balance.cycle
+made_cycle w = elim (cases_eq w.told 0) [
+  | inl e ↦ rw (eq-eqb w.told 0 e) refl
+  | inr ne ↦ rw (ne_eqb w.told 0 ne) refl
+]
+
+pub made_units : (z : ℕ) (w : Spending) → w.balance.cycle ≡ z
+    → units_in z (with_made w).balance ≡ units_in z w.balance + 1
+made_units z w here = elim (cases_eq w.told 0) [
+  | inl e ↦ rw (eq-eqb w.told 0 e) (rw (eq-eqb w.balance.cycle z here) refl)
+  | inr ne ↦ rw (ne_eqb w.told 0 ne) (rw (eq-eqb w.balance.cycle z here) refl)
+]
+
+pub made_given : (z : ℕ) (w : Spending)
+    → given_in z (with_made w).balance ≡ given_in z w.balance
+made_given z w = elim (cases_eq w.told 0) [
+  | inl e ↦ rw (eq-eqb w.told 0 e) refl
+  | inr ne ↦ rw (ne_eqb w.told 0 ne) refl
+]
+
+-- a told command has made units outside the account, and another none
+pub made_told : (w : Spending) → IsTold w.asked w.told w.idled
+    → IsTold w.asked w.told (with_made w).idled
+made_told w k = elim (cases_eq w.told 0) [
+  | inl e ↦ rw (eq-eqb w.told 0 e) k
+  | inr ne ↦ rw (ne_eqb w.told 0 ne)
+      (record { apart = k.apart; none = λ e. absurd (ne e); few = k.few })
+]
+
+pub made_sound : (rate object : ℕ) (w : Spending) → IsTold w.asked w.told w.idled
+    → made_of w < due_of rate w → rate * w.asked ≤ rate * object
+    → IsSound rate object w.balance → IsSound rate object (with_made w).balance
+made_sound rate object w k less few sound = elim (cases_eq w.told 0) [
+  | inl e ↦ rw (eq-eqb w.told 0 e) (unit_sound rate object w.balance (omega arith) sound)
+  | inr ne ↦ rw (ne_eqb w.told 0 ne) (idle_sound rate object w.balance sound)
+]
+
+pub made_within : (rate : ℕ) (w : Spending) → IsTold w.asked w.told w.idled
+    → made_of w < due_of rate w → w.balance.paid ≤ rate * w.asked
+    → (with_made w).balance.paid ≤ rate * w.asked
+made_within rate w k less low = elim (cases_eq w.told 0) [
+  | inl e ↦ rw (eq-eqb w.told 0 e) (omega arith)
+  | inr ne ↦ rw (ne_eqb w.told 0 ne) low
+]
+
+-- an allocation that has paid all makes no unit more
+pub full_is_full : (rate : ℕ) (w : Spending) → IsTold w.asked w.told w.idled
+    → (w.reserved ≡ 0 → ⊥) → w.reserved ≡ w.asked → w.balance.paid ≡ rate * w.asked
+    → made_of w < due_of rate w → ⊥
+full_is_full rate w k some is paid less = elim k.apart [
+  | inl untold ↦ omega arith
+  | inr unasked ↦ some (is ∙ unasked)
+]
 
 pub given_more_in : (z k : ℕ) (a : Balance) → a.cycle ≡ z
     → given_in z (published k a) ≡ given_in z a + k

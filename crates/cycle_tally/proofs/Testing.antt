@@ -1,5 +1,5 @@
 -- Tests of guards: an event may come where its test says so.
-use Rattle.std.proofs.Common.{◌≡◌, ◌≢◌, ℕ, zero, suc, ◌+◌, ◌-◌, ◌*◌, ◌≤◌, ◌<◌, max, not, Bool, true, false, ◌&&◌, ◌||◌, eqb, ltb, leb, arith, List, [], ◌∷◌, eq-eqb, inl, inr}
+use Rattle.std.proofs.Common.{◌≡◌, ◌≢◌, ℕ, zero, suc, ◌+◌, ◌-◌, ◌*◌, ◌≤◌, ◌<◌, max, not, Bool, true, false, ◌&&◌, ◌||◌, eqb, ltb, leb, arith, List, [], ◌∷◌, eq-eqb, inl, inr, ◌⊎◌}
 use Rattle.std.proofs.lemmas.Bool.{both_ways, ltb-true, leb-true, eqb-true, and_parts, or_cases, cases_eq, not-true}
 use Rattle.block_store.specs.declared.Config.{Config}
 use Rattle.block_store.specs.Configs.{IsInBounds}
@@ -10,10 +10,11 @@ use Rattle.never_heap.specs.Cycles.{graph_at}
 use Rattle.never_heap.specs.Given.{given}
 use Rattle.never_heap.specs.Histories.{HistoryItem, is_full}
 use Rattle.never_heap.specs.LiveBlocks.{live_blocks}
+use Rattle.never_heap.specs.RightWork.{units_told}
 use Rattle.never_heap.specs.Steps.{blocks_of}
 use Rattle.never_heap.specs.Taken.{taken_by}
-use Rattle.cycle_tally.specs.Tallies.{Spending, Tally}
-use Rattle.cycle_tally.specs.Events.{Event, Enter, Leave, SetCursor, Flip, Start, Paint, Scan, Claim, Pass, Clear, Credit, Reserve, Publish, Refuse, Answer, Next, apply, Decides, Guard, Guarded}
+use Rattle.cycle_tally.specs.Tallies.{Spending, Tally, made_of, due_of}
+use Rattle.cycle_tally.specs.Events.{Event, Enter, Leave, SetCursor, Flip, Start, Paint, Scan, Claim, Pass, Clear, Credit, Reserve, Publish, Refuse, Answer, Next, apply, IsAllPaid, Decides, Guard, Guarded}
 
 -- two tests
 both : {P Q : Type 0} (a b : Bool) → (a ≡ true → P) → (b ≡ true → Q) → (a && b) ≡ true → P × Q
@@ -59,6 +60,12 @@ full_is z (Full y) h = ap_full y z (eqb-true y z h)
     ap_full : (y z : ℕ) → y ≡ z → Full y ≡ Full z
     ap_full y z e = cc
 full_is z _ h = absurd cc
+
+one_nought : (a b : ℕ) → (eqb a 0 || eqb b 0) ≡ true → (a ≡ 0) ⊎ (b ≡ 0)
+one_nought a b h = elim (or_cases (eqb a 0) (eqb b 0) h) [
+  | inl e ↦ inl (eqb-true a 0 e)
+  | inr e ↦ inr (eqb-true b 0 e)
+]
 
 -- a configuration is in bounds where its tests say so
 pub in_bounds : (c : Config)
@@ -119,12 +126,22 @@ outside_is (suc n) f h t l =
 module _ (c : Config) (rate : ℕ) (black : ℕ → ℕ) where
   abbrev decides : ℕ → Spending → Entry → Bool
   decides t w e =
-      eqb e.thread t && (eqb (blocks_of c.width e.command) w.asked && eqb e.work w.balance.paid)
+      eqb e.thread t && (eqb (blocks_of c.width e.command) w.asked
+      && (eqb (units_told e.command) w.told && eqb e.work (made_of w)))
+
+  abbrev all_paid : Spending → Bool
+  all_paid w = eqb w.balance.paid (rate * w.asked) && eqb w.told 0
+
+  all_paid_is : (w : Spending) → all_paid w ≡ true → IsAllPaid rate w
+  all_paid_is w h =
+      let p = both _ _ (eqb-true _ _) (eqb-true _ _) h in
+      record { paid = p.0; untold = p.1 }
 
   decides_is : (t : ℕ) (w : Spending) (e : Entry) → decides t w e ≡ true → Decides c t w e
   decides_is t w e h =
-      let p = flat3 (both _ _ (eqb-true _ _) (both _ _ (eqb-true _ _) (eqb-true _ _)) h) in
-      record { thread = p.0; blocks = p.1; work = p.2 }
+      let p = flat4 (both _ _ (eqb-true _ _) (both _ _ (eqb-true _ _) (both _ _ (eqb-true _ _)
+      (eqb-true _ _))) h) in
+      record { thread = p.0; blocks = p.1; told = p.2; work = p.3 }
 
   abbrev may : Tally → Event → Bool
   may s (Enter t) = ltb t c.threads
@@ -140,36 +157,37 @@ module _ (c : Config) (rate : ℕ) (black : ℕ → ℕ) where
   may s (Scan t x) =
       let w = s.threads t in
       ltb t c.threads && (w.inside && (not s.sweep && (ltb 0 x && (leb x c.blocks
-      && (not (eqb (s.colour x) (black s.cycle)) && (ltb w.balance.paid (rate * w.asked)
+      && (not (eqb (s.colour x) (black s.cycle)) && (ltb (made_of w) (due_of rate w)
       && leb w.high w.low))))))
   may s (Claim t r) =
       let w = s.threads t in
       ltb t c.threads && (w.inside && (s.sweep && (leb (s.cursor + r) (c.blocks + 1)
-      && (leb (w.balance.paid + r) (rate * w.asked) && leb w.high w.low))))
+      && (leb (made_of w + r) (due_of rate w) && leb w.high w.low))))
   may s (Pass t) = ltb t c.threads && ltb (s.threads t).low (s.threads t).high
   may s (Clear t) = ltb t c.threads && leb (s.threads t).high (s.threads t).low
   may s (Credit k) = true
   may s (Reserve t) =
       let w = s.threads t in
-      ltb t c.threads && (w.inside && (eqb w.reserved 0 && (eqb w.balance.paid (rate * w.asked)
+      ltb t c.threads && (w.inside && (eqb w.reserved 0 && (all_paid w
       && leb w.asked s.free)))
   may s (Publish t e) =
       let w = s.threads t in
       ltb t c.threads && (w.inside && (leb w.high w.low && (decides t w e
-      && (eqb w.reserved w.asked && (eqb w.balance.paid (rate * w.asked)
+      && (eqb w.reserved w.asked && (all_paid w
       && (eqb (taken_by c.width e) w.asked && not (is_full e.reply)))))))
   may s (Refuse t e) =
       let w = s.threads t in
       ltb t c.threads && (w.inside && (leb w.high w.low && (decides t w e
-      && (eqb w.reserved 0 && (eqb w.balance.paid (rate * w.asked)
+      && (eqb w.reserved 0 && (all_paid w
       && (ltb s.free w.asked && is_full_of (max 1 (s.cycle - 1)) e.reply))))))
   may s (Answer t e) =
       let w = s.threads t in
-      ltb t c.threads && (decides t w e && (eqb w.asked 0 && not (is_full e.reply)))
-  may s (Next t k) =
+      ltb t c.threads && (decides t w e && (eqb w.asked 0 && (not (is_full e.reply)
+      && eqb (made_of w) w.told)))
+  may s (Next t k u) =
       let w = s.threads t in
-      ltb t c.threads && (leb w.high w.low && (eqb w.reserved 0 && (eqb w.balance.paid 0
-      && leb k c.object)))
+      ltb t c.threads && (leb w.high w.low && (eqb w.reserved 0 && (eqb (made_of w) 0
+      && (leb k c.object && ((eqb u 0 || eqb k 0) && leb u 131070)))))
 
   painted : (s : Tally) (x w : ℕ) → (s.sweep || eqb w (black s.cycle)) ≡ true
       → s.sweep ≡ false → s.colour x ≡ black s.cycle → w ≡ black s.cycle
@@ -196,20 +214,20 @@ module _ (c : Config) (rate : ℕ) (black : ℕ → ℕ) where
   may_is s (Credit k) h = tt
   may_is s (Reserve t) h = flat5 (both _ _ (ltb-true _ _)
       (both _ _ (yes_is _) (both _ _ (eqb-true _ _)
-      (both _ _ (eqb-true _ _) (leb-true _ _)))) h)
+      (both _ _ (all_paid_is (s.threads t)) (leb-true _ _)))) h)
   may_is s (Publish t e) h = flat8 (both _ _ (ltb-true _ _)
       (both _ _ (yes_is _) (both _ _ (leb-true _ _)
-      (both _ _ (decides_is t (s.threads t) e) (both _ _ (eqb-true _ _) (both _ _ (eqb-true _ _)
+      (both _ _ (decides_is t (s.threads t) e) (both _ _ (eqb-true _ _) (both _ _ (all_paid_is (s.threads t))
       (both _ _ (eqb-true _ _) (no_is _))))))) h)
   may_is s (Refuse t e) h = flat8 (both _ _ (ltb-true _ _)
       (both _ _ (yes_is _) (both _ _ (leb-true _ _)
-      (both _ _ (decides_is t (s.threads t) e) (both _ _ (eqb-true _ _) (both _ _ (eqb-true _ _)
+      (both _ _ (decides_is t (s.threads t) e) (both _ _ (eqb-true _ _) (both _ _ (all_paid_is (s.threads t))
       (both _ _ (ltb-true _ _) (full_is (max 1 (s.cycle - 1)) e.reply))))))) h)
-  may_is s (Answer t e) h = flat4 (both _ _ (ltb-true _ _) (both _ _ (decides_is t (s.threads t) e)
-      (both _ _ (eqb-true _ _) (no_is _))) h)
-  may_is s (Next t k) h = flat5 (both _ _ (ltb-true _ _)
+  may_is s (Answer t e) h = flat5 (both _ _ (ltb-true _ _) (both _ _ (decides_is t (s.threads t) e)
+      (both _ _ (eqb-true _ _) (both _ _ (no_is _) (eqb-true _ _)))) h)
+  may_is s (Next t k u) h = flat7 (both _ _ (ltb-true _ _)
       (both _ _ (leb-true _ _) (both _ _ (eqb-true _ _)
-      (both _ _ (eqb-true _ _) (leb-true _ _)))) h)
+      (both _ _ (eqb-true _ _) (both _ _ (leb-true _ _) (both _ _ (one_nought u k) (leb-true _ _)))))) h)
 
   -- all of a list may come, one after another
   abbrev pub all_may : Tally → List Event → Bool

@@ -9,10 +9,10 @@ use Rattle.block_store.specs.Counts.{total}
 use Rattle.work_account.specs.Accounts.{Balance, with_unit, IsSound, units_in}
 use Rattle.block_store.proofs.Functions.{total_part, bit_le, bit_one}
 use Rattle.work_account.proofs.Balances.{unit_sound}
-use Rattle.cycle_tally.specs.Tallies.{Spending, Tally, claims}
+use Rattle.cycle_tally.specs.Tallies.{Spending, Tally, claims, made_of, due_of, with_made}
 use Rattle.cycle_tally.specs.Events.{Paint, Scan, Claim, Pass, apply, Guard}
-use Rattle.cycle_tally.specs.Kept.{SpendingKept, TallyKept}
-use Rattle.cycle_tally.proofs.Sums.{rises, units_more, no_claims, claims_within, claims_below, claims_above}
+use Rattle.cycle_tally.specs.Kept.{IsTold, SpendingKept, TallyKept}
+use Rattle.cycle_tally.proofs.Sums.{rises, made_more, made_cycle, made_units, made_given, made_told, made_sound, made_within, full_is_full, no_claims, claims_within, claims_below, claims_above}
 use Rattle.cycle_tally.proofs.Going.{goes, stays}
 
 module _ (c : Config) (rate : ℕ) (black : ℕ → ℕ) (some : 0 < rate) (s : Tally)
@@ -40,42 +40,44 @@ module _ (c : Config) (rate : ℕ) (black : ℕ → ℕ) (some : 0 < rate) (s : 
 
   -- a thread makes a unit
   pub spends : (t : ℕ) (w : Spending) → t < c.threads → (s.threads t).inside ≡ true
-      → (s.threads t).balance.paid < rate * (s.threads t).asked → w.inside ≡ true
-      → w.balance ≡ with_unit (s.threads t).balance → w.asked ≡ (s.threads t).asked
-      → w.reserved ≡ (s.threads t).reserved
-      → (w.low < w.high → (0 < w.low) × ((s.threads t).balance.paid + 1 + w.high
-      ≤ rate * (s.threads t).asked + w.low)) → SpendingKept c rate s.cycle w
-  spends t w tl inside less i b a r cl =
+      → made_of (s.threads t) < due_of rate (s.threads t)
+      → w ≡ record (with_made (s.threads t)) { low = w.low; high = w.high }
+      → (w.low < w.high → (0 < w.low) × (made_of (s.threads t) + 1 + w.high
+      ≤ due_of rate (s.threads t) + w.low)) → SpendingKept c rate s.cycle w
+  spends t w tl inside less is cl =
+      let w0 : Spending = s.threads t in
       let o = k.each t tl in
-      let bal : Balance = (s.threads t).balance in
       let product : rate * (s.threads t).asked ≤ rate * c.object =
       Rattle.std.proofs.lemmas.Nat.mul-le rate (s.threads t).asked rate c.object
       (omega arith) o.asked in
-      let cost : rate * w.asked ≡ rate * (s.threads t).asked = ap (λ z. rate * z) a in
-      let paid : w.balance.paid ≡ bal.paid + 1 = ap (λ (z : Balance). z.paid) b in
-      let cycle : w.balance.cycle ≡ bal.cycle = ap (λ (z : Balance). z.cycle) b in
-      record {
-        sound = subst (λ z. IsSound rate c.object z) (sym b)
-            (unit_sound rate c.object bal (omega arith) o.sound);
+      let cycle : (with_made (s.threads t)).balance.cycle ≡ (s.threads t).balance.cycle =
+      made_cycle (s.threads t) in
+      let one : made_of (with_made (s.threads t)) ≡ made_of (s.threads t) + 1 =
+      made_more (s.threads t) in
+      subst (SpendingKept c rate s.cycle) (sym is) (record {
+        sound = made_sound rate c.object w0 o.told less product o.sound;
         entered = omega (arith, o.entered);
         present = λ _. cycle ∙ o.present inside;
-        asked = omega (arith, o.asked);
+        asked = o.asked;
+        told = made_told w0 o.told;
+        within = made_within rate w0 o.told less o.within;
         owed = omega arith;
-        claimed = λ h. (let q = cl h in (q.0, i, omega (arith, q.1)));
-        reserved = λ h. absurd (let q = (o.reserved (λ e. h (r ∙ e))).2 in omega arith);
-      }
+        claimed = λ h. (let q = cl h in (q.0, inside, omega (arith, q.1)));
+        reserved = λ h. absurd (let q = o.reserved h in full_is_full rate w0 o.told h q.1 q.2 less);
+      })
 
   pub scans_one : (t x : ℕ) → Guard c rate black s (Scan t x)
       → TallyKept c rate black (apply c rate black s (Scan t x))
   scans_one t x g =
       let w0 : Spending = s.threads t in
-      let w : Spending = record w0 { balance = with_unit w0.balance } in
+      let w : Spending = with_made w0 in
       let o = k.each t g.0 in
       let up = rises c.blocks s.scanned x g.3 g.4 in
-      let uu : units_in s.cycle (with_unit w0.balance) ≡ units_in s.cycle w0.balance + 1 =
-      units_more s.cycle w0.balance (o.present g.1) in
+      let uu : units_in s.cycle (with_made w0).balance ≡ units_in s.cycle w0.balance + 1 =
+      made_units s.cycle w0 (o.present g.1) in
+      let one : made_of (with_made w0) ≡ made_of w0 + 1 = made_more w0 in
       goes c rate black some s k t w (apply c rate black s (Scan t x)) g.0
-      (spends t w g.0 g.1 g.6 g.1 refl refl refl (λ h. absurd (omega (arith, g.7))))
+      (spends t w g.0 g.1 g.6 refl (λ h. absurd (omega (arith, g.7))))
       (record {
         cursor = k.cursor;
         scans = λ y. elim (cases_eq x y) [
@@ -92,7 +94,7 @@ module _ (c : Config) (rate : ℕ) (black : ℕ → ℕ) (some : 0 < rate) (s : 
         ];
         passes = λ y yp. refl;
         made = omega arith;
-        given = refl;
+        given = made_given s.cycle w0;
         free = omega arith;
         paid = omega arith;
       })
@@ -109,6 +111,8 @@ module _ (c : Config) (rate : ℕ) (black : ℕ → ℕ) (some : 0 < rate) (s : 
         entered = o.entered;
         present = o.present;
         asked = o.asked;
+        told = o.told;
+        within = o.within;
         owed = o.owed;
         reserved = o.reserved;
         claimed = λ h. (k.cursor.0, g.1, omega (arith, g.4));
@@ -177,15 +181,16 @@ module _ (c : Config) (rate : ℕ) (black : ℕ → ℕ) (some : 0 < rate) (s : 
       → TallyKept c rate black (apply c rate black s (Pass t))
   passes_one t g =
       let w0 : Spending = s.threads t in
-      let w : Spending = record w0 { low = w0.low + 1; balance = with_unit w0.balance } in
+      let w : Spending = record (with_made w0) { low = w0.low + 1 } in
       let o = k.each t g.0 in
       let cl = o.claimed g.1 in
       let low : w0.low ≤ c.blocks = claim_low t g.0 cl.0 g.1 in
       let up = rises c.blocks s.passed w0.low cl.0 low in
-      let uu : units_in s.cycle (with_unit w0.balance) ≡ units_in s.cycle w0.balance + 1 =
-      units_more s.cycle w0.balance (o.present cl.1) in
+      let uu : units_in s.cycle (with_made w0).balance ≡ units_in s.cycle w0.balance + 1 =
+      made_units s.cycle w0 (o.present cl.1) in
+      let one : made_of (with_made w0) ≡ made_of w0 + 1 = made_more w0 in
       goes c rate black some s k t w (apply c rate black s (Pass t)) g.0
-      (spends t w g.0 cl.1 (omega (arith, cl.2)) cl.1 refl refl refl
+      (spends t w g.0 cl.1 (omega (arith, cl.2)) refl
       (λ h. (omega arith, omega (arith, cl.2))))
       (record {
         cursor = k.cursor;
@@ -202,7 +207,7 @@ module _ (c : Config) (rate : ℕ) (black : ℕ → ℕ) (some : 0 < rate) (s : 
                   rw (ne_eqb w0.low x ne) (omega (arith, k.passes x pos))
             ];
         made = omega arith;
-        given = refl;
+        given = made_given s.cycle w0;
         free = omega arith;
         paid = omega arith;
       })

@@ -6,14 +6,15 @@ use Rattle.never_heap.specs.Given.{given}
 use Rattle.never_heap.specs.Licensed.{Licensed}
 use Rattle.never_heap.specs.RightWork.{RightWork}
 use Rattle.work_account.specs.Accounts.{IsSound}
-use Rattle.cycle_tally.specs.Tallies.{Tally, units, paid_now}
+use Rattle.cycle_tally.specs.Tallies.{Tally, units, made_now}
 use Rattle.cycle_tally.specs.Events.{IsEmpty}
 use Rattle.cycle_tally.specs.Entries.{entries_in, InThreads}
-use Rattle.cycle_tally.specs.Kept.{most_given}
+use Rattle.cycle_tally.specs.Kept.{most_given, most_work}
 
--- no thread asks for a block
+-- no thread asks for a block, or is told of a unit
 abbrev pub AsksNothing : Config → Tally → Type 0
-AsksNothing c s = (t : ℕ) → t < c.threads → (s.threads t).asked ≡ 0
+AsksNothing c s =
+    (t : ℕ) → t < c.threads → ((s.threads t).asked ≡ 0) × ((s.threads t).told ≡ 0)
 
 -- the sweep has come to the end, and nobody is inside
 pub record IsSwept (c : Config) (s : Tally) : Type 0 where
@@ -29,13 +30,13 @@ pub record Bound (c : Config) (rate : ℕ) (s : Tally) : Type 0 where
   pub passed_once : (x : ℕ) → 0 < x → s.passed x ≤ 1
   pub all_passed : IsSwept c s → (x : ℕ) → 0 < x → x ≤ c.blocks → s.passed x ≡ 1
   pub gave : (z : ℕ) → z ≤ s.cycle → given c.width s.order z ≤ most_given c rate
-  -- the units of all cycles are the works of what was decided, and what is paid for the rest
+  -- the units of all cycles are the works of what was decided, and what was made for the rest
   pub cycles : starts_in s.order ≡ s.cycle
   pub few : (s.cycle - 1) * c.blocks ≤ units c.blocks s
   pub many : units c.blocks s ≤ 2 * c.blocks * s.cycle
-  pub works : work_in s.order + paid_now c.threads s ≡ units c.blocks s
+  pub works : work_in s.order + made_now c.threads s ≡ units c.blocks s
   pub all_works : AsksNothing c s → work_in s.order ≡ units c.blocks s
-  pub cheap : units c.blocks s ≤ (entries_in s.order + c.threads) * (rate * c.object)
+  pub cheap : units c.blocks s ≤ (entries_in s.order + c.threads) * most_work c rate
   pub entries : InThreads c.threads s.order
   pub right : RightWork c.width rate s.order
   pub licensed : Licensed c s.order

@@ -1,5 +1,5 @@
 -- What an event makes of a tally, and when it may come.
-use Rattle.std.specs.Prelude.{ℕ, ◌+◌, ◌-◌, ◌*◌, ◌<◌, ◌≤◌, ◌≡◌, ◌≢◌, max, true, false, List, [], ◌∷◌, ◌++◌}
+use Rattle.std.specs.Prelude.{ℕ, ◌+◌, ◌-◌, ◌*◌, ◌<◌, ◌≤◌, ◌≡◌, ◌≢◌, ◌⊎◌, max, true, false, List, [], ◌∷◌, ◌++◌}
 use Rattle.block_store.specs.declared.Config.{Config}
 use Rattle.never_heap.specs.declared.Entry.{Entry}
 use Rattle.never_heap.specs.declared.Reply.TheVariants.{Full}
@@ -8,9 +8,10 @@ use Rattle.never_heap.specs.Cycles.{graph_at}
 use Rattle.never_heap.specs.Given.{given}
 use Rattle.never_heap.specs.LiveBlocks.{live_blocks}
 use Rattle.never_heap.specs.Taken.{taken_by}
+use Rattle.never_heap.specs.RightWork.{units_told}
 use Rattle.never_heap.specs.Steps.{blocks_of}
 use Rattle.work_account.specs.Accounts.{Balance, entered, with_unit, published, refused}
-use Rattle.cycle_tally.specs.Tallies.{Spending, Tally, units_now}
+use Rattle.cycle_tally.specs.Tallies.{Spending, Tally, units_now, made_of, due_of, with_made}
 use Rattle.block_store.specs.Counts.{changed}
 
 pub data Event : Type 0 where
@@ -29,7 +30,7 @@ pub data Event : Type 0 where
   Publish : (t : ℕ) (e : Entry) → Event  -- the object is published
   Refuse : (t : ℕ) (e : Entry) → Event  -- the free count was too small for it
   Answer : (t : ℕ) (e : Entry) → Event  -- a command that allocates nothing is decided
-  Next : (t k : ℕ) → Event  -- the next command asks for k blocks
+  Next : (t k u : ℕ) → Event  -- the next command asks for k blocks, and is told to make u units
 
 -- thread t is at this
 abbrev pub with_thread : Tally → ℕ → Spending → Tally
@@ -43,11 +44,17 @@ with_balance s t b = with_thread s t (record (s.threads t) { balance = b })
 abbrev pub ordered : Tally → HistoryItem → Tally
 ordered s i = record s { order = s.order ++ i ∷ [] }
 
--- the entry is of the command that thread t has in hand, and its work is what was paid
+-- the entry is of the command that thread t has in hand, and its work is what was made for it
 pub record Decides (c : Config) (t : ℕ) (w : Spending) (e : Entry) : Type 0 where
   pub thread : e.thread ≡ t
   pub blocks : blocks_of c.width e.command ≡ w.asked
-  pub work : e.work ≡ w.balance.paid
+  pub told : units_told e.command ≡ w.told
+  pub work : e.work ≡ made_of w
+
+-- all that an allocation owes is paid
+pub record IsAllPaid (rate : ℕ) (w : Spending) : Type 0 where
+  pub paid : w.balance.paid ≡ rate * w.asked
+  pub untold : w.told ≡ 0
 
 -- the blocks in use at a start are at most those that were live at the last one and those given
 -- since
@@ -83,7 +90,7 @@ module _ (c : Config) (rate : ℕ) (black : ℕ → ℕ) where
     past = s.past + units_now c.blocks s;
   }
   apply s (Paint x w) = record s { colour = changed s.colour x w }
-  apply s (Scan t x) = record (with_balance s t (with_unit (s.threads t).balance)) {
+  apply s (Scan t x) = record (with_thread s t (with_made (s.threads t))) {
     colour = changed s.colour x (black s.cycle);
     scanned = changed s.scanned x (s.scanned x + 1);
   }
@@ -94,7 +101,7 @@ module _ (c : Config) (rate : ℕ) (black : ℕ → ℕ) where
       }
   apply s (Pass t) =
       let w = s.threads t in
-      record (with_thread s t (record w { low = w.low + 1; balance = with_unit w.balance })) {
+      record (with_thread s t (record (with_made w) { low = w.low + 1 })) {
         passed = changed s.passed w.low (s.passed w.low + 1);
       }
   apply s (Clear t) = with_thread s t (record (s.threads t) { low = 0; high = 0 })
@@ -107,8 +114,8 @@ module _ (c : Config) (rate : ℕ) (black : ℕ → ℕ) where
       ordered (with_thread s t (record w { reserved = 0; balance = published w.asked w.balance }))
       (Did e)
   apply s (Refuse t e) = ordered (with_balance s t (refused (s.threads t).balance)) (Did e)
-  apply s (Answer t e) = ordered s (Did e)
-  apply s (Next t k) = with_thread s t (record (s.threads t) { asked = k })
+  apply s (Answer t e) = ordered (with_thread s t (record (s.threads t) { idled = 0 })) (Did e)
+  apply s (Next t k u) = with_thread s t (record (s.threads t) { asked = k; told = u })
 
   abbrev pub Guard : Tally → Event → Type 0
   Guard s (Enter t) = t < c.threads
@@ -120,34 +127,36 @@ module _ (c : Config) (rate : ℕ) (black : ℕ → ℕ) where
   Guard s (Scan t x) =
       let w = s.threads t in
       (t < c.threads) × (w.inside ≡ true) × (s.sweep ≡ false) × (0 < x) × (x ≤ c.blocks)
-      × (s.colour x ≢ black s.cycle) × (w.balance.paid < rate * w.asked) × NoClaim w
+      × (s.colour x ≢ black s.cycle) × (made_of w < due_of rate w) × NoClaim w
   Guard s (Claim t r) =
       let w = s.threads t in
       (t < c.threads) × (w.inside ≡ true) × (s.sweep ≡ true) × (s.cursor + r ≤ c.blocks + 1)
-      × (w.balance.paid + r ≤ rate * w.asked) × NoClaim w
+      × (made_of w + r ≤ due_of rate w) × NoClaim w
   Guard s (Pass t) = (t < c.threads) × ((s.threads t).low < (s.threads t).high)
   Guard s (Clear t) = (t < c.threads) × NoClaim (s.threads t)
   Guard s (Credit k) = Unit {0}
   Guard s (Reserve t) =
       let w = s.threads t in
-      (t < c.threads) × (w.inside ≡ true) × (w.reserved ≡ 0) × (w.balance.paid ≡ rate * w.asked)
+      (t < c.threads) × (w.inside ≡ true) × (w.reserved ≡ 0) × IsAllPaid rate w
       × (w.asked ≤ s.free)
   Guard s (Publish t e) =
       let w = s.threads t in
       (t < c.threads) × (w.inside ≡ true) × NoClaim w × Decides c t w e × (w.reserved ≡ w.asked)
-      × (w.balance.paid ≡ rate * w.asked) × (taken_by c.width e ≡ w.asked)
+      × IsAllPaid rate w × (taken_by c.width e ≡ w.asked)
       × (is_full e.reply ≡ false)
   Guard s (Refuse t e) =
       let w = s.threads t in
       (t < c.threads) × (w.inside ≡ true) × NoClaim w × Decides c t w e × (w.reserved ≡ 0)
-      × (w.balance.paid ≡ rate * w.asked) × (s.free < w.asked)
+      × IsAllPaid rate w × (s.free < w.asked)
       × (e.reply ≡ Full (max 1 (s.cycle - 1)))
   Guard s (Answer t e) =
       let w = s.threads t in
       (t < c.threads) × Decides c t w e × (w.asked ≡ 0) × (is_full e.reply ≡ false)
-  Guard s (Next t k) =
+      × (made_of w ≡ w.told)
+  Guard s (Next t k u) =
       let w = s.threads t in
-      (t < c.threads) × NoClaim w × (w.reserved ≡ 0) × (w.balance.paid ≡ 0) × (k ≤ c.object)
+      (t < c.threads) × NoClaim w × (w.reserved ≡ 0) × (made_of w ≡ 0) × (k ≤ c.object)
+      × ((u ≡ 0) ⊎ (k ≡ 0)) × (u ≤ 131070)
 
   abbrev pub run : Tally → List Event → Tally
   run s [] = s

@@ -55,13 +55,13 @@ sweep_events =
 -- the record is dropped, and the cycle after that begins with a unit
 abbrev pub next_events : List Event
 next_events =
-    Next 0 0 ∷ Answer 0 dropped_entry ∷ Start ∷ Next 0 1 ∷ Enter 0 ∷ Scan 0 1 ∷ []
+    Next 0 0 0 ∷ Answer 0 dropped_entry ∷ Start ∷ Next 0 1 0 ∷ Enter 0 ∷ Scan 0 1 ∷ []
 
 abbrev pub some_events : List Event
 some_events = mark_events ++ (sweep_events ++ next_events)
 
 abbrev pub example_start : Width → Tally
-example_start w = opening_tally (small w) (λ x. 0) (λ t. 1)
+example_start w = opening_tally (small w) (λ x. 0) (λ t. 1) (λ t. 0)
 
 abbrev pub example_end : Width → Tally
 example_end w = run (small w) small_rate blacks (example_start w) some_events
@@ -107,7 +107,7 @@ giving_events w zero = []
 giving_events w (suc k) =
     let name : Name = record { thread = 0; serial = suc k } in
     giving_events w k ++ (paying_events w
-    ++ (Reserve 0 ∷ Publish 0 (asked_entry w (suc k) (replies.New name)) ∷ Leave 0 ∷ Next 0 1
+    ++ (Reserve 0 ∷ Publish 0 (asked_entry w (suc k) (replies.New name)) ∷ Leave 0 ∷ Next 0 1 0
     ∷ Start ∷ []))
 
 abbrev pub full_events : Width → List Event
@@ -116,7 +116,7 @@ full_events w =
     ++ (paying_events w ++ (Refuse 0 (asked_entry w 5 (replies.Full 4)) ∷ Leave 0 ∷ []))
 
 abbrev pub full_start : Width → Tally
-full_start w = opening_tally (tight w) (λ x. 0) (λ t. 1)
+full_start w = opening_tally (tight w) (λ x. 0) (λ t. 1) (λ t. 0)
 
 abbrev pub full_end : Width → Tally
 full_end w = run (tight w) (tight_rate w) blacks (full_start w) (full_events w)

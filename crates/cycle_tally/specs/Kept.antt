@@ -1,5 +1,5 @@
 -- What holds of a tally before and after each event that may come.
-use Rattle.std.specs.Prelude.{ℕ, ◌+◌, ◌-◌, ◌*◌, ◌/◌, ◌<◌, ◌≤◌, ◌≡◌, ◌≢◌, ◌==◌, ◌&&◌, ◌||◌, nat_lt, max, true}
+use Rattle.std.specs.Prelude.{ℕ, ◌+◌, ◌-◌, ◌*◌, ◌/◌, ◌<◌, ◌≤◌, ◌≡◌, ◌≢◌, ◌⊎◌, ◌==◌, ◌&&◌, ◌||◌, nat_lt, max, true}
 use Rattle.block_store.specs.declared.Config.{Config}
 use Rattle.block_store.specs.Phases.{bit}
 use Rattle.never_heap.specs.Histories.{starts_in, work_in}
@@ -11,11 +11,22 @@ use Rattle.never_heap.specs.RightWork.{RightWork}
 use Rattle.block_store.specs.Counts.{total}
 use Rattle.work_account.specs.Accounts.{IsSound, units_in}
 use Rattle.cycle_tally.specs.Entries.{entries_in, InThreads}
-use Rattle.cycle_tally.specs.Tallies.{Spending, Tally, claims, units_now, given_now, reserved_now, paid_now}
+use Rattle.cycle_tally.specs.Tallies.{Spending, Tally, claims, units_now, given_now, reserved_now, made_of, due_of, made_now}
 
 -- the most blocks that are given in a cycle, with those that are paid
 abbrev pub most_given : Config → ℕ → ℕ
 most_given c rate = (2 * c.blocks) / rate + c.threads * c.object
+
+-- what a command owes: it has blocks or is told of units, and not both. No unit was made outside the
+-- account but for an idle
+pub record IsTold (asked told idled : ℕ) : Type 0 where
+  pub apart : (told ≡ 0) ⊎ (asked ≡ 0)
+  pub none : told ≡ 0 → idled ≡ 0
+  pub few : told ≤ 131070
+
+-- the most units that are made for one command
+abbrev pub most_work : Config → ℕ → ℕ
+most_work c rate = rate * c.object + 131070
 
 -- A thread in this cycle. What it has claimed it can still pay, and what it has reserved is paid.
 pub record SpendingKept (c : Config) (rate cycle : ℕ) (w : Spending) : Type 0 where
@@ -23,9 +34,11 @@ pub record SpendingKept (c : Config) (rate cycle : ℕ) (w : Spending) : Type 0 
   pub entered : w.balance.cycle ≤ cycle
   pub present : w.inside ≡ true → w.balance.cycle ≡ cycle
   pub asked : w.asked ≤ c.object
-  pub owed : w.balance.paid ≤ rate * w.asked
+  pub told : IsTold w.asked w.told w.idled
+  pub within : w.balance.paid ≤ rate * w.asked
+  pub owed : made_of w ≤ due_of rate w
   pub claimed : w.low < w.high
-      → (0 < w.low) × (w.inside ≡ true) × (w.balance.paid + w.high ≤ rate * w.asked + w.low)
+      → (0 < w.low) × (w.inside ≡ true) × (made_of w + w.high ≤ due_of rate w + w.low)
   pub reserved : w.reserved ≢ 0
       → (w.inside ≡ true) × (w.reserved ≡ w.asked) × (w.balance.paid ≡ rate * w.asked)
 
@@ -55,8 +68,8 @@ module _ (c : Config) (rate : ℕ) (black : ℕ → ℕ) where
         + given_now c.threads s + reserved_now c.threads s
     pub few : (s.cycle - 1) * c.blocks ≤ s.past
     pub many : s.past ≤ 2 * c.blocks * (s.cycle - 1)
-    pub works : work_in s.order + paid_now c.threads s ≡ s.past + units_now c.blocks s
-    pub cheap : work_in s.order ≤ entries_in s.order * (rate * c.object)
+    pub works : work_in s.order + made_now c.threads s ≡ s.past + units_now c.blocks s
+    pub cheap : work_in s.order ≤ entries_in s.order * most_work c rate
     pub entries : InThreads c.threads s.order
     pub right : RightWork c.width rate s.order
     pub licensed : Licensed c s.order

@@ -7,12 +7,15 @@ use Rattle.never_heap.specs.Histories.{Started}
 use Rattle.never_heap.specs.LiveBlocks.{live_blocks}
 use Rattle.work_account.specs.Accounts.{opened}
 use Rattle.cycle_tally.specs.Tallies.{Spending, Tally}
+use Rattle.cycle_tally.specs.Kept.{IsTold}
 
 -- a thread before its first command, which asks for at most one object
 pub record IsIdle (c : Config) (w : Spending) : Type 0 where
   pub inside : w.inside ≡ false
   pub balance : w.balance ≡ opened
   pub asked : w.asked ≤ c.object
+  pub told : IsTold w.asked w.told w.idled
+  pub idled : w.idled ≡ 0
   pub claimed : w.high ≤ w.low
   pub reserved : w.reserved ≡ 0
 
@@ -28,9 +31,9 @@ pub record Opened (c : Config) (s : Tally) : Type 0 where
   pub free : c.blocks ≤ s.free + live_blocks c.width (graph_at c s.order 1)
 
 -- the tally of the opening heap, with these colours, where each thread first asks for so many
--- blocks
-abbrev pub opening_tally : Config → (colour asked : ℕ → ℕ) → Tally
-opening_tally c colour asked = record {
+-- blocks, or is told of so many units
+abbrev pub opening_tally : Config → (colour asked told : ℕ → ℕ) → Tally
+opening_tally c colour asked told = record {
   cycle = 1;
   sweep = false;
   cursor = c.blocks + 1;
@@ -41,6 +44,8 @@ opening_tally c colour asked = record {
     inside = false;
     balance = opened;
     asked = asked t;
+    told = told t;
+    idled = 0;
     low = 0;
     high = 0;
     reserved = 0;

@@ -22,7 +22,7 @@ ghost use Rattle.kept_names.specs.Kept.{IsKept};
 ghost use Rattle.kept_names.specs.Events as kept_events;
 ghost use Rattle.cycle_tally.specs.Tallies.{Tally, units};
 ghost use Rattle.cycle_tally.specs.Events.{Event, apply, Guard, run, Guarded};
-ghost use Rattle.cycle_tally.specs.Kept.{TallyKept};
+ghost use Rattle.cycle_tally.specs.Kept.{IsTold, TallyKept};
 ghost use Rattle.cycle_tally.specs.Openings.{Opened, opening_tally};
 ghost use Rattle.cycle_tally.specs.Bounds.{Bound};
 ghost use Rattle.cycle_tally.specs.Example.{small, small_rate, blacks, some_events, example_start, example_end, tight, tight_rate, full_events, full_start, full_end};
@@ -44,9 +44,10 @@ pub fn events_are_kept()
 pub fn openings_are_kept()
     ensures kept { (c : Config) (rate : ℕ) (black : ℕ → ℕ) (s : Tally)
         → 0 < rate → Opened c s → TallyKept c rate black s }
-    ensures heap { (c : Config) (colour asked : ℕ → ℕ) → IsInBounds c
+    ensures heap { (c : Config) (colour asked told : ℕ → ℕ) → IsInBounds c
         → opening_blocks c ≤ c.blocks → ((t : ℕ) → t < c.threads → asked t ≤ c.object)
-        → Opened c (opening_tally c colour asked) }
+        → ((t : ℕ) → t < c.threads → IsTold (asked t) (told t) 0)
+        → Opened c (opening_tally c colour asked told) }
 {}
 
 /// What is kept is within the bound; and so is what comes after an opening.

@@ -16,6 +16,9 @@ use Rattle.heap_machine.specs.Gating.{Gating, is_outside, is_inside, is_closing}
 use Rattle.heap_machine.specs.Holdings.{holds_nothing}
 use Rattle.kept_names.specs.Pictures.{no_task}
 use Rattle.work_account.proofs.Balances.{opened_sound}
+use Rattle.never_heap.specs.declared.Command.TheVariants as commands
+use Rattle.never_heap.specs.RightWork.{units_told}
+use Rattle.heap_system.proofs.Balances.{none_spent}
 use Rattle.heap_system.specs.declared.local.Part.{Part}
 use Rattle.heap_system.specs.declared.local.Part.TheVariants.{Rest}
 use Rattle.heap_system.specs.Locals.{LocalState, command_of, no_pass, at_start, task}
@@ -110,6 +113,7 @@ module _ (c : Config) (traces : List (List Command)) (job : IsJob c traces) (s :
       paid = omega arith;
       settled = tt;
       sound = opened_sound start.rate c.object;
+      account = sym (none_spent (units_told (get_or (get_or traces t []) 0 (commands.Nil 0))));
       units = omega arith;
       worked = omega arith;
       made = omega arith;
@@ -155,7 +159,7 @@ module _ (c : Config) (traces : List (List Command)) (laws : (p : Part) → Part
         let none : has_event c t r.state ≡ false = rw (le-ltb t c.threads out) refl in
         subst (λ x. Kept c traces (record {
           state = cond x (event_done c t r.state) r.state;
-          order = r.order ++ cond x (items_by c t (command_of (local_at c r.state t)) (local_at c r.state t).balance.paid r.order (next_effect c r.state t)) [];
+          order = r.order ++ cond x (items_by c t (command_of (local_at c r.state t)) (local_at c r.state t).spent r.order (next_effect c r.state t)) [];
           names = cond x (renamed t (replay c r.order) (heap_in c r.state) (next_effect c r.state t).naming r.names) r.names;
         })) (sym none)
         (subst (λ o. Kept c traces (record { state = r.state; order = o; names = r.names })) (sym (append-nil r.order)) kept)

@@ -1,56 +1,133 @@
 -- What an event makes of a thread's balance.
-use Rattle.std.proofs.Common.{◌≡◌, ℕ, ◌+◌, ◌*◌, ◌≤◌, Bool, true, false, Option, None, Some, refl, sym, ap, ◌∙◌, arith, inl, inr, lt-ltb}
-use Rattle.std.proofs.lemmas.Bool.{cases_lt, le-ltb}
+use Rattle.std.proofs.Common.{◌≡◌, ℕ, ◌+◌, ◌*◌, ◌≤◌, Bool, true, false, Option, None, Some, refl, sym, ap, ◌∙◌, arith, inl, inr, lt-ltb, ◌<◌, cond, eqb, eq-eqb, ne_eqb}
+use Rattle.std.proofs.lemmas.Bool.{cases_eq, cases_lt, le-ltb}
 use Rattle.block_store.specs.declared.Config.{Config}
 use Rattle.block_store.specs.declared.PhaseWord.{PhaseWord}
 use Rattle.never_heap.specs.declared.Reply.{Reply}
 use Rattle.never_heap.specs.declared.Reply.TheVariants as replies
 use Rattle.work_account.specs.Accounts.{Balance, IsSound, entered}
-use Rattle.work_account.proofs.Balances.{entered_sound, unit_sound, published_sound, refused_sound}
+use Rattle.work_account.proofs.Balances.{entered_sound, unit_sound, idle_sound, published_sound, refused_sound}
 use Rattle.cycle_tally.proofs.Sums.{paid_entered}
 use Rattle.heap_system.specs.declared.local.Part.{Part}
 use Rattle.heap_system.specs.declared.local.Part.TheVariants.{Serve, Build}
-use Rattle.heap_system.specs.Locals.{balance_in, balance_paid, paid_got, effect, IsPaid}
+use Rattle.heap_system.specs.Locals.{balance_in, balance_made, balance_paid, paid_got, paid_part, idle_part, effect, IsPaid}
 use Rattle.heap_system.proofs.Seeing.{IsSettled}
 
 -- what is paid after it
-pub paid_after : (o : Option Reply) (unit : Bool) (k : ℕ) (b : Balance)
-    → (balance_paid o unit k b).paid ≡ paid_got o unit b.paid
-paid_after None true k b = refl
-paid_after None false k b = refl
-paid_after (Some (replies.New a)) unit k b = refl
-paid_after (Some _) unit k b = refl
+made_paid : (told spent : ℕ) (b : Balance) → b.paid ≡ paid_part told spent
+    → (balance_made told b).paid ≡ paid_part told (spent + 1)
+made_paid told spent b is = elim (cases_eq told 0) [
+  | inl e ↦ rw (eq-eqb told 0 e) (ap (λ n. n + 1) (is ∙ ap (λ x. cond x spent 0) (eq-eqb told 0 e)))
+  | inr ne ↦ rw (ne_eqb told 0 ne) (is ∙ ap (λ x. cond x spent 0) (ne_eqb told 0 ne))
+]
+
+pub none_spent : (told : ℕ) → paid_part told 0 ≡ 0
+none_spent told = elim (cases_eq told 0) [
+  | inl e ↦ rw (eq-eqb told 0 e) refl
+  | inr ne ↦ rw (ne_eqb told 0 ne) refl
+]
+
+pub paid_after : (o : Option Reply) (unit : Bool) (told k spent : ℕ) (b : Balance) → b.paid ≡ paid_part told spent
+    → (balance_paid o unit told k b).paid ≡ paid_part told (paid_got o unit spent)
+paid_after None true told k spent b is = made_paid told spent b is
+paid_after None false told k spent b is = is
+paid_after (Some (replies.New a)) unit told k spent b is = sym (none_spent told)
+paid_after (Some _) unit told k spent b is = sym (none_spent told)
+
+-- behind a reply nothing is paid, whatever the next command is
+pub paid_over : (r : Reply) (unit : Bool) (told next k : ℕ) (b : Balance)
+    → (balance_paid (Some r) unit told k b).paid ≡ paid_part next 0
+paid_over (replies.New a) unit told next k b = sym (none_spent next)
+paid_over _ unit told next k b = sym (none_spent next)
+
+-- a command with blocks has paid all that was made for it
+pub all_paid : (told spent paid : ℕ) → paid ≡ paid_part told spent → told ≡ 0 → paid ≡ spent
+all_paid told spent paid is e = is ∙ ap (λ x. cond x spent 0) (eq-eqb told 0 e)
+
+pub part_low : (told spent paid : ℕ) → paid ≡ paid_part told spent → paid ≤ spent
+part_low told spent paid is = elim (cases_eq told 0) [
+  | inl e ↦ omega (arith, all_paid told spent paid is e)
+  | inr ne ↦ (let none : paid ≡ 0 = is ∙ ap (λ x. cond x spent 0) (ne_eqb told 0 ne) in omega arith)
+]
+
+-- where all that a command is told to make is made nothing is paid
+pub all_made : (told spent : ℕ) → spent ≡ told → paid_part told spent ≡ 0
+all_made told spent is = elim (cases_eq told 0) [
+  | inl e ↦ rw (eq-eqb told 0 e) (is ∙ e)
+  | inr ne ↦ rw (ne_eqb told 0 ne) refl
+]
+
+-- and for a command that is told of none nothing is made outside the account
+pub no_idle : (told spent : ℕ) → told ≡ 0 → idle_part told spent ≡ 0
+no_idle told spent e = ap (λ x. cond x 0 spent) (eq-eqb told 0 e)
+
+pub none_idled : (told : ℕ) → idle_part told 0 ≡ 0
+none_idled told = elim (cases_eq told 0) [
+  | inl e ↦ rw (eq-eqb told 0 e) refl
+  | inr ne ↦ rw (ne_eqb told 0 ne) refl
+]
+
+pub idle_more : (told spent told_here idled : ℕ) → told_here ≡ told → idled ≡ idle_part told spent
+    → cond (eqb told_here 0) idled (idled + 1) ≡ idle_part told (spent + 1)
+idle_more told spent told_here idled is made = elim (cases_eq told 0) [
+  | inl e ↦ rw (eq-eqb told_here 0 (is ∙ e), eq-eqb told 0 e) (made ∙ ap (λ x. cond x 0 spent) (eq-eqb told 0 e))
+  | inr ne ↦ rw (ne_eqb told_here 0 (λ z. ne (sym is ∙ z)), ne_eqb told 0 ne) (ap (λ n. n + 1) (made ∙ ap (λ x. cond x 0 spent) (ne_eqb told 0 ne)))
+]
+
+-- what is paid and what is made for an idle are all that was made
+pub both_parts : (told spent : ℕ) → paid_part told spent + idle_part told spent ≡ spent
+both_parts told spent = elim (cases_eq told 0) [
+  | inl e ↦ rw (eq-eqb told 0 e) (omega arith)
+  | inr ne ↦ rw (ne_eqb told 0 ne) (omega arith)
+]
 
 pub paid_in : (i : Option PhaseWord) (b : Balance) → (balance_in i b).paid ≡ b.paid
 paid_in None b = refl
 paid_in (Some p) b = paid_entered p.cycle b
 
-pub got_paid : (i : Option PhaseWord) (o : Option Reply) (unit : Bool) (k : ℕ) (b : Balance)
-    → (balance_paid o unit k (balance_in i b)).paid ≡ paid_got o unit b.paid
-got_paid i o unit k b = paid_after o unit k (balance_in i b) ∙ ap (paid_got o unit) (paid_in i b)
+pub got_paid : (i : Option PhaseWord) (o : Option Reply) (unit : Bool) (told k spent : ℕ) (b : Balance) → b.paid ≡ paid_part told spent
+    → (balance_paid o unit told k (balance_in i b)).paid ≡ paid_part told (paid_got o unit spent)
+got_paid i o unit told k spent b is = paid_after o unit told k spent (balance_in i b) (paid_in i b ∙ is)
 
 -- its units are among these, or paid
-pub units_entered : (z n : ℕ) (b : Balance) → b.units ≤ n + b.paid
-    → (entered z b).units ≤ n + (entered z b).paid
+pub units_entered : (z n : ℕ) (b : Balance) → b.units ≤ n → (entered z b).units ≤ n
 units_entered z n b few = elim (cases_lt b.cycle z) [
   | inl l ↦ rw (lt-ltb b.cycle z l) (omega arith)
   | inr g ↦ rw (le-ltb b.cycle z g) few
 ]
 
-pub units_in : (i : Option PhaseWord) (n : ℕ) (b : Balance) → b.units ≤ n + b.paid
-    → (balance_in i b).units ≤ n + (balance_in i b).paid
+pub units_in : (i : Option PhaseWord) (n : ℕ) (b : Balance) → b.units ≤ n
+    → (balance_in i b).units ≤ n
 units_in None n b few = few
 units_in (Some p) n b few = units_entered p.cycle n b few
 
-pub units_on : (unit : Bool) (k n : ℕ) (b : Balance) → b.units ≤ n + b.paid
-    → (balance_paid None unit k b).units ≤ n + (balance_paid None unit k b).paid
-units_on true k n b few = omega arith
-units_on false k n b few = few
+pub made_units : (told : ℕ) (b : Balance) → (balance_made told b).units ≡ b.units + 1
+made_units told b = elim (cases_eq told 0) [
+  | inl e ↦ rw (eq-eqb told 0 e) refl
+  | inr ne ↦ rw (ne_eqb told 0 ne) refl
+]
 
-pub units_over : (r : Reply) (unit : Bool) (k : ℕ) (b : Balance)
-    → (balance_paid (Some r) unit k b).units ≡ b.units
-units_over (replies.New a) unit k b = refl
-units_over _ unit k b = refl
+pub made_cycle : (told : ℕ) (b : Balance) → (balance_made told b).cycle ≡ b.cycle
+made_cycle told b = elim (cases_eq told 0) [
+  | inl e ↦ rw (eq-eqb told 0 e) refl
+  | inr ne ↦ rw (ne_eqb told 0 ne) refl
+]
+
+pub made_given : (told : ℕ) (b : Balance) → (balance_made told b).given ≡ b.given
+made_given told b = elim (cases_eq told 0) [
+  | inl e ↦ rw (eq-eqb told 0 e) refl
+  | inr ne ↦ rw (ne_eqb told 0 ne) refl
+]
+
+pub units_on : (unit : Bool) (told k n spent : ℕ) (b : Balance) → b.units ≤ n + spent
+    → (balance_paid None unit told k b).units ≤ n + paid_got None unit spent
+units_on true told k n spent b few = omega (arith, made_units told b)
+units_on false told k n spent b few = few
+
+pub units_over : (r : Reply) (unit : Bool) (told k : ℕ) (b : Balance)
+    → (balance_paid (Some r) unit told k b).units ≡ b.units
+units_over (replies.New a) unit told k b = refl
+units_over _ unit told k b = refl
 
 -- and it stays sound
 pub sound_in : (rate object : ℕ) (i : Option PhaseWord) (b : Balance) → IsSound rate object b
@@ -58,16 +135,30 @@ pub sound_in : (rate object : ℕ) (i : Option PhaseWord) (b : Balance) → IsSo
 sound_in rate object None b s = s
 sound_in rate object (Some p) b s = entered_sound rate object p.cycle b s
 
-pub sound_on : (rate object : ℕ) (unit : Bool) (k : ℕ) (b : Balance)
-    → (balance_paid None unit k b).paid ≤ rate * object → IsSound rate object b
-    → IsSound rate object (balance_paid None unit k b)
-sound_on rate object true k b low s = unit_sound rate object b (omega (arith, low)) s
-sound_on rate object false k b low s = s
+-- of a command of k blocks, or told of so many units, that owes more than was made
+pub sound_on : (rate object : ℕ) (unit : Bool) (told k spent : ℕ) (b : Balance)
+    → b.paid ≡ paid_part told spent → rate * k ≤ rate * object
+    → paid_got None unit spent ≤ rate * k + told → IsSound rate object b
+    → IsSound rate object (balance_paid None unit told k b)
+sound_on rate object true told k spent b is few low s = elim (cases_eq told 0) [
+  | inl e ↦ rw (eq-eqb told 0 e) (unit_sound rate object b (omega (arith, all_paid told spent b.paid is e)) s)
+  | inr ne ↦ rw (ne_eqb told 0 ne) (idle_sound rate object b s)
+]
+sound_on rate object false told k spent b is few low s = s
 
-pub sound_over : (rate object : ℕ) (r : Reply) (unit : Bool) (k : ℕ) (b : Balance)
-    → b.paid ≡ rate * k → IsSound rate object b → IsSound rate object (balance_paid (Some r) unit k b)
-sound_over rate object (replies.New a) unit k b all s = published_sound rate object k b all s
-sound_over rate object _ unit k b all s = refused_sound rate object b s
+-- the same, for what a unit changes of a balance
+pub sound_made : (rate object : ℕ) (unit : Bool) (told k spent : ℕ) (b : Balance)
+    → b.paid ≡ paid_part told spent → rate * k ≤ rate * object
+    → paid_got None unit spent ≤ rate * k + told → IsSound rate object b
+    → IsSound rate object (balance_paid None unit told 0 b)
+sound_made rate object true told k spent b is few low s = sound_on rate object true told k spent b is few low s
+sound_made rate object false told k spent b is few low s = s
+
+pub sound_over : (rate object : ℕ) (r : Reply) (unit : Bool) (told k : ℕ) (b : Balance)
+    → b.paid ≡ rate * k → IsSound rate object b
+    → IsSound rate object (balance_paid (Some r) unit told k b)
+sound_over rate object (replies.New a) unit told k b all s = published_sound rate object k b all s
+sound_over rate object _ unit told k b all s = refused_sound rate object b s
 
 -- where a thread does its command it has paid all
 pub is_paid : (due paid : ℕ) (p : Part) → IsSettled due paid p → IsPaid due paid p
@@ -83,9 +174,9 @@ replied_paid c due paid (Build b) w r all e = all
 replied_paid c due paid _ w r all e = absurd cc
 
 -- a reply to a command that gives and pays nothing
-pub nothing_paid : (r : Reply) (unit : Bool) (k : ℕ) (b : Balance) → k ≡ 0 → b.paid ≡ 0
-    → balance_paid (Some r) unit k b ≡ b
-nothing_paid (replies.New a) unit k b none zero =
+pub nothing_paid : (r : Reply) (unit : Bool) (told k : ℕ) (b : Balance) → k ≡ 0 → b.paid ≡ 0
+    → balance_paid (Some r) unit told k b ≡ b
+nothing_paid (replies.New a) unit told k b none zero =
     let same : b.given + k ≡ b.given = omega arith in
     λ i. record b { paid = sym zero i; given = same i }
-nothing_paid _ unit k b none zero = λ i. record b { paid = sym zero i }
+nothing_paid _ unit told k b none zero = λ i. record b { paid = sym zero i }

@@ -17,7 +17,7 @@ use Rattle.work_account.specs.Accounts.{Balance}
 use Rattle.cycle_tally.specs.Bounds.{Bound}
 use Rattle.cycle_tally.specs.Entries.{InThreads}
 use Rattle.cycle_tally.specs.Kept.{most_given}
-use Rattle.cycle_tally.specs.Tallies.{units, paid_now}
+use Rattle.cycle_tally.specs.Tallies.{units, made_now}
 use Rattle.cycle_tally.proofs.Laws.{bound_of}
 use Rattle.cycle_tally.proofs.Listing.{total_plus}
 use Rattle.cycle_tally.proofs.Smalls.{counts_small}
@@ -32,7 +32,7 @@ use Rattle.heap_system.proofs.Always.{run_kept}
 use Rattle.heap_system.proofs.Kept.{Kept}
 use Rattle.heap_system.proofs.PartLaws.{PartLaws}
 use Rattle.heap_system.proofs.Paying.{rate_low}
-use Rattle.heap_system.proofs.Tallied.{RunTallied, run_tallied}
+use Rattle.heap_system.proofs.Tallied.{RunTallied, run_tallied, spent_is}
 use Rattle.heap_system.proofs.Tallying.{TallyLaw}
 use Rattle.heap_system.proofs.Told.{rest_settled}
 
@@ -57,16 +57,16 @@ module _ (c : Config) (traces : List (List Command)) (r : Run) (kept : Kept c tr
   abbrev me : LocalState
   me = local_at c r.state t
 
-  one_waits : (o : Option Reply) → length (entries_of me.thread (command_of me) me.balance.paid o) ≤ 1
+  one_waits : (o : Option Reply) → length (entries_of me.thread (command_of me) me.spent o) ≤ 1
   one_waits None = omega arith
   one_waits (Some y) = omega arith
 
-  with_waiting : (p : Part) → PartFits me.config (length me.log) (length me.trace) me.pass p → length me.log + length (entries_of me.thread (command_of me) me.balance.paid (waiting (replay c r.order) p)) ≤ length me.trace
+  with_waiting : (p : Part) → PartFits me.config (length me.log) (length me.trace) me.pass p → length me.log + length (entries_of me.thread (command_of me) me.spent (waiting (replay c r.order) p)) ≤ length me.trace
   with_waiting (Serve f) fits = omega (arith, fits.1, one_waits (waiting (replay c r.order) (Serve f)))
   with_waiting _ fits = omega (arith, (kept.locals t tl).fits.log)
 
   pub part_few : length (part t r.order) ≤ 131072
-  part_few = (let own = kept.locals t tl in omega (arith, ap length own.told, length-append me.log (entries_of me.thread (command_of me) me.balance.paid (waiting (replay c r.order) me.part)), with_waiting me.part own.fits.part, own.fits.trace.few))
+  part_few = (let own = kept.locals t tl in omega (arith, ap length own.told, length-append me.log (entries_of me.thread (command_of me) me.spent (waiting (replay c r.order) me.part)), with_waiting me.part own.fits.part, own.fits.trace.few))
 
 module _ (c : Config) (traces : List (List Command)) (laws : (p : Part) → PartLaws c p) (tally_laws : (p : Part) → TallyLaw c p) (job : IsJob c traces) (ts : List ℕ) (r : Run) (is : IsRunOf c traces ts r) (rate : ℕ) (planned : IsRate c rate) where
   kept : Kept c traces r
@@ -84,8 +84,8 @@ module _ (c : Config) (traces : List (List Command)) (laws : (p : Part) → Part
   cycles : starts_in r.order ≡ counts.tally.cycle
   cycles = ap starts_in (sym order) ∙ bound.cycles
 
-  paid : paid_now c.threads counts.tally ≡ total c.threads (λ t. (local_in c r t).balance.paid)
-  paid = total_same c.threads _ _ (λ t tl. ap (λ (b : Balance). b.paid) (counts.threads t tl).account)
+  paid : made_now c.threads counts.tally ≡ total c.threads (λ t. (local_in c r t).spent)
+  paid = total_same c.threads _ _ (λ t tl. spent_is c (local_at c r.state t) (counts.tally.threads t) (counts.threads t tl) (kept.locals t tl).fits.account)
 
   so_far : units c.blocks counts.tally ≡ units_so_far c r
   so_far = omega (arith, bound.works, paid, ap work_in order)
@@ -117,12 +117,12 @@ module _ (c : Config) (traces : List (List Command)) (laws : (p : Part) → Part
   -- where no command is in hand they are the work of the order
   pub all_done : AllDone c r.state → units_so_far c r ≡ work_in r.order
   all_done done =
-      let none : total c.threads (λ t. (local_in c r t).balance.paid) ≡ 0 = total_none c.threads _ (λ t tl. rest_settled c traces r kept t tl (and_parts _ _ (done t tl)).0) in
+      let none : total c.threads (λ t. (local_in c r t).spent) ≡ 0 = total_none c.threads _ (λ t tl. rest_settled c traces r kept t tl (and_parts _ _ (done t tl)).0) in
       omega (arith, none)
 
   pub in_threads : InThreads c.threads r.order
   in_threads = subst (λ h. InThreads c.threads h) order bound.entries
 
   -- and always those of the threads' entries and what they paid since
-  pub by_thread : units_so_far c r ≡ total c.threads (λ t. works (part t r.order) + (local_in c r t).balance.paid)
-  by_thread = omega (arith, work_of c.threads r.order in_threads, total_plus c.threads (λ t. works (part t r.order)) (λ t. (local_in c r t).balance.paid))
+  pub by_thread : units_so_far c r ≡ total c.threads (λ t. works (part t r.order) + (local_in c r t).spent)
+  by_thread = omega (arith, work_of c.threads r.order in_threads, total_plus c.threads (λ t. works (part t r.order)) (λ t. (local_in c r t).spent))

@@ -27,7 +27,7 @@ use Rattle.sweep_steps.specs.declared.rows.SweepRow.TheVariants as sweeps
 use Rattle.build_steps.specs.Ends.{is_publishing}
 use Rattle.work_account.specs.Accounts.{Balance}
 use Rattle.cycle_tally.specs.Bounds.{Bound, IsSwept}
-use Rattle.cycle_tally.specs.Tallies.{Spending, Tally, units_now, paid_now}
+use Rattle.cycle_tally.specs.Tallies.{Spending, Tally, units_now, made_now}
 use Rattle.cycle_tally.specs.Tallies as tallying
 use Rattle.cycle_tally.proofs.Laws.{bound_of}
 use Rattle.heap_system.specs.declared.local.Part.{Part}
@@ -39,13 +39,13 @@ use Rattle.heap_system.specs.Machines.{State, Run, local_at, local_in, heap_in, 
 use Rattle.heap_system.specs.Naming.{Begun, Made, Same}
 use Rattle.heap_system.specs.Pictures.{holding, holdings_in}
 use Rattle.heap_system.specs.Units.{turns_black, blackens, passes}
-use Rattle.heap_system.proofs.Always.{opening_kept, turn_kept}
+use Rattle.heap_system.proofs.Always.{opening_kept, turn_kept, run_kept}
 use Rattle.heap_system.proofs.Kept.{Kept}
 use Rattle.heap_system.proofs.Making.{idle_next}
 use Rattle.heap_system.proofs.PartLaws.{AtPart, PartLaws, word_at}
 use Rattle.heap_system.proofs.Seeing.{Seen, items_told}
 use Rattle.heap_system.proofs.Taking.{IsTaken, taken_of, same_taken, turn_taken}
-use Rattle.heap_system.proofs.Tallied.{RunTallied, opening_tallied, counted, after, event_tallied}
+use Rattle.heap_system.proofs.Tallied.{RunTallied, opening_tallied, counted, after, event_tallied, spent_is}
 use Rattle.heap_system.proofs.Tallying.{TallyLaw, Counted, scans_at, passes_at}
 use Rattle.heap_system.proofs.Turning.{seen, at_part, effect_here, new_run, next_is, word_is}
 use Rattle.heap_system.proofs.parts.Closing.{in_phase, behind_last}
@@ -202,7 +202,7 @@ module _ (c : Config) (traces : List (List Command)) (job : IsJob c traces) (rat
           let then = after c traces job rate planned laws tally_laws r kept k.counts t tl going in
           let bound : Bound c rate before = bound_of c rate black_word planned.some before k.counts.kept in
           let cycles : then.tally.cycle ≡ before.cycle + starts_in (starts_by e.naming) =
-          sym then.kept.starts ∙ ap starts_in then.of.order ∙ starts_after (replay c r.order) t (command_of (local_at c r.state t)) (local_at c r.state t).balance.paid e.verdict r.order (starts_by e.naming)
+          sym then.kept.starts ∙ ap starts_in then.of.order ∙ starts_after (replay c r.order) t (command_of (local_at c r.state t)) (local_at c r.state t).spent e.verdict r.order (starts_by e.naming)
           ∙ ap (λ n. n + starts_in (starts_by e.naming)) (ap starts_in (sym k.counts.of.order) ∙ k.counts.kept.starts) in
           record {
             counts = event_tallied c traces job rate planned laws tally_laws r kept k.counts t tl going;
@@ -327,7 +327,7 @@ module _ (c : Config) (traces : List (List Command)) (job : IsJob c traces) (rat
 
     pub units_taken : units_so_far c r ≡ total (starts_in r.order) (λ z. taken_in (suc z))
     units_taken =
-        let paid : paid_now c.threads tally ≡ total c.threads (λ t. (local_in c r t).balance.paid) = total_same c.threads _ _ (λ t tl. ap (λ (b : Balance). b.paid) (run_taken.counts.threads t tl).account) in
+        let paid : made_now c.threads tally ≡ total c.threads (λ t. (local_in c r t).spent) = total_same c.threads _ _ (λ t tl. spent_is c (local_at c r.state t) (tally.threads t) (run_taken.counts.threads t tl) ((run_kept c traces laws job ts r is).locals t tl).fits.account) in
         let work : work_in tally.order ≡ work_in r.order = ap work_in run_taken.counts.of.order in
         let one : suc (tally.cycle - 1) ≡ tally.cycle = (let some = run_taken.counts.kept.some in omega arith) in
         let last : taken_in (suc (tally.cycle - 1)) ≡ taken_in tally.cycle = ap taken_in one in

@@ -31,7 +31,7 @@ pub record LocalKept (c : Config) (given : List Command) (g : Graph) (order : Li
   pub stands : PartKept c g t l.pass (command_of l) l.part
   pub knows : Knows c h ns l.pass l.part
   pub behind : stage l.pass.cycle l.pass.sweep ≤ stage_of h
-  pub settled : IsSettled (owed l) l.balance.paid l.part
+  pub settled : IsSettled (owed l) l.spent l.part
   pub made : l.made ≡ count_of g t
   pub right : IsRight c.width l.rate (part t order)
   pub told : part t order ≡ l.log ++ entries_waiting g l
@@ -39,7 +39,7 @@ pub record LocalKept (c : Config) (given : List Command) (g : Graph) (order : Li
 
 -- the units of a thread, and the blocks that it has claimed and not passed
 abbrev pub progress : Config → LocalState → ℕ
-progress c l = works l.log + l.balance.paid + unpassed (holding c l.part)
+progress c l = works l.log + l.spent + unpassed (holding c l.part)
 
 pub record Kept (c : Config) (traces : List (List Command)) (r : Run) : Type 0 where
   pub long : length r.state.words ≡ words_count (extent c)

@@ -19,6 +19,7 @@ pub mod Rooms
 pub mod Reached
 pub mod Told
 pub mod Loaded
+mod Looking
 pub mod Collecting
 pub mod Waiting
 pub mod Making

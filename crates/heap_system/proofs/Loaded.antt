@@ -21,7 +21,7 @@ use Rattle.kept_names.proofs.Holding.{some_is}
 use Rattle.kept_names.proofs.Showing.{reached_black, dark_refers}
 use Rattle.kept_names.proofs.Standing.{kept_not_held, loaded_kept}
 use Rattle.barrier_steps.specs.Fits.{is_row_of}
-use Rattle.barrier_steps.specs.Operands.{to_register, is_get}
+use Rattle.barrier_steps.specs.Operands.{to_register, takes_field}
 use Rattle.barrier_steps.specs.Projection.{row_loading, carried_load}
 use Rattle.barrier_steps.specs.Rows.{FieldState, field_decided}
 use Rattle.barrier_steps.specs.declared.rows.FieldRow.{FieldRow}
@@ -30,7 +30,7 @@ use Rattle.barrier_steps.specs.declared.rows.FieldStore.TheVariants as stores
 use Rattle.barrier_steps.proofs.Projecting.{has_value}
 use Rattle.heap_system.specs.declared.local.Part.{Part}
 use Rattle.heap_system.specs.declared.local.Part.TheVariants.{Serve}
-use Rattle.heap_system.specs.Loaded.{IsLoadedBlock, IsInGet}
+use Rattle.heap_system.specs.Loaded.{IsLoadedBlock, IsTaking}
 use Rattle.heap_system.specs.Locals.{PartFits, task, command_of}
 use Rattle.heap_system.specs.Machines.{Run, local_at}
 use Rattle.heap_system.proofs.Kept.{Kept}
@@ -91,13 +91,15 @@ module _ (c : Config) (s : KeptState) (k : IsKept c s) where
   spared_refers sweep x j (inl black) jl = dark_refers c s k sweep x j (inr black) jl
   spared_refers sweep x j (inr root) jl = dark_refers c s k sweep x j (inl (shaded_grey sweep x root)) jl
 
--- A pending register is the one that a `get` is about to store, behind its deciding event.
+-- A pending register is the one that a `get` or a `swap` is about to store, behind its deciding event.
 carries_none : (k : Command) (word q : ℕ) → is_pending (carried_load k word) q ≡ false
 carries_none (commands.Put s i v) word q = refl
+carries_none (commands.Swap s i v) word q = refl
+carries_none (commands.Cas s i a v) word q = refl
 carries_none _ word q = refl
 
 abbrev Gets : Command → FieldRow → ℕ → Type 0
-Gets k row q = (is_get k ≡ true) × (to_register k ≡ q) × (field_decided row ≡ true)
+Gets k row q = (takes_field k ≡ true) × (to_register k ≡ q) × (field_decided row ≡ true)
 
 row_gets : (e : Extent) (k : Command) (row : FieldRow) (q : ℕ) → is_pending (row_loading e k row).value q ≡ true → is_row_of k row ≡ true → Gets k row q
 row_gets e k (fields.LoadOwner word) q is of = (of, eqb-true (to_register k) q is, refl)
@@ -105,37 +107,30 @@ row_gets e k (fields.StorePending word value) q is of = (of, eqb-true (to_regist
 row_gets e k (fields.Shade r (stores.Pending word value)) q is of = (of, eqb-true (to_register k) q is, refl)
 row_gets e k (fields.Shade r (stores.Moved word)) q is of = absurd cc
 row_gets e k (fields.Shade r (stores.InField way word)) q is of = absurd cc
+row_gets e k (fields.Shade r (stores.Exchanged way word)) q is of = absurd cc
+row_gets e k (fields.Shade r (stores.Compared way word)) q is of = absurd cc
 row_gets e k (fields.LoadLink way word) q is of = absurd (cc (is, carries_none k word q))
 row_gets e k _ q is of = absurd cc
 
-abbrev IsGet : Command → ℕ → Type 0
-IsGet k q = (source : ℕ) × (index : ℕ) × (k ≡ commands.Get q source index)
-
-is_get_of : (k : Command) (q : ℕ) → is_get k ≡ true → to_register k ≡ q → IsGet k q
-is_get_of (commands.Get d s i) q is e = (s, i, ap (λ x. commands.Get x s i) e)
-is_get_of _ q is e = absurd cc
-
 module _ (c : Config) (traces : List (List Command)) (r : Run) (k : Kept c traces r) (t : ℕ) (tl : t < c.threads) where
-  in_get : (f : FieldState) → (local_at c r.state t).part ≡ Serve f → (q : ℕ) → Gets f.command f.row q → IsInGet (local_at c r.state t) q
+  in_get : (f : FieldState) → (local_at c r.state t).part ≡ Serve f → (q : ℕ) → Gets f.command f.row q → IsTaking (local_at c r.state t) q
   in_get f is q gets =
-      let get = is_get_of f.command q gets.0 gets.1 in
       let row : RowKept (replay c r.order) t (local_at c r.state t).pass (command_of (local_at c r.state t)) f =
       subst (λ p. PartKept c (replay c r.order) t (local_at c r.state t).pass (command_of (local_at c r.state t)) p) is (k.locals t tl).stands in
       record {
         field = f;
-        source = get.0;
-        index = get.1;
         serves = is;
-        gets = get.2;
-        own = sym row.command ∙ get.2;
+        takes = ap takes_field (sym row.command) ∙ gets.0;
+        register = ap to_register (sym row.command) ∙ gets.1;
+        own = row.command;
         decided = gets.2;
       }
 
-  at_part : (p : Part) → (local_at c r.state t).part ≡ p → (q : ℕ) → is_pending (task c p).loading.value q ≡ true → IsInGet (local_at c r.state t) q
+  at_part : (p : Part) → (local_at c r.state t).part ≡ p → (q : ℕ) → is_pending (task c p).loading.value q ≡ true → IsTaking (local_at c r.state t) q
   at_part (Serve f) is q e =
       let fits = subst (λ p. PartFits (local_at c r.state t).config (length (local_at c r.state t).log) (length (local_at c r.state t).trace) (local_at c r.state t).pass p) is (k.locals t tl).fits.part in
       in_get f is q (row_gets (extent c) f.command f.row q e fits.0.belongs)
   at_part _ is q e = absurd cc
 
-  pub pending_get : (q : ℕ) → is_pending (task c (local_at c r.state t).part).loading.value q ≡ true → IsInGet (local_at c r.state t) q
+  pub pending_get : (q : ℕ) → is_pending (task c (local_at c r.state t).part).loading.value q ≡ true → IsTaking (local_at c r.state t) q
   pending_get q e = at_part (local_at c r.state t).part refl q e

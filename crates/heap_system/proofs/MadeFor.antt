@@ -88,7 +88,7 @@ hand_work (e ∷ es) paid = hand_work es paid
 
 -- what thread t made for its k-th command
 abbrev made_for : Config → ℕ → ℕ → Run → ℕ
-made_for c t k r = work_for (local_at c r.state t).log (local_at c r.state t).balance.paid k
+made_for c t k r = work_for (local_at c r.state t).log (local_at c r.state t).spent k
 
 -- what a turn of thread u adds
 abbrev adds : Config → ℕ → ℕ → ℕ → Run → ℕ
@@ -108,12 +108,12 @@ module _ (c : Config) (traces : List (List Command)) (job : IsJob c traces) (r :
   own_made =
       let e = effect c me.part word in
       let new = local_new c traces (laws_of c) job.bounds.config job.plan r kept u ul going u ∙ cond_yes _ _ _ (eq-eqb u u refl) in
-      ap (λ (l : LocalState). work_for l.log l.balance.paid k) new
-      ∙ ap (λ n. work_for (me.log ++ entries_of u (command_of me) me.balance.paid e.reply) n k) (paid_new c traces (laws_of c) job.bounds.config job.plan r kept u ul)
-      ∙ work_got me.log u (command_of me) me.balance.paid e.reply e.unit (reply_no_unit c me.part word) k
+      ap (λ (l : LocalState). work_for l.log l.spent k) new
+      ∙ ap (λ n. work_for (me.log ++ entries_of u (command_of me) me.spent e.reply) n k) (paid_new c traces (laws_of c) job.bounds.config job.plan r kept u ul)
+      ∙ work_got me.log u (command_of me) me.spent e.reply e.unit (reply_no_unit c me.part word) k
 
   other_made : (t : ℕ) → (u ≡ t → ⊥) → made_for c t k after ≡ made_for c t k r
-  other_made t n = ap (λ (l : LocalState). work_for l.log l.balance.paid k)
+  other_made t n = ap (λ (l : LocalState). work_for l.log l.spent k)
       (local_new c traces (laws_of c) job.bounds.config job.plan r kept u ul going t ∙ cond_no _ _ _ (ne_eqb u t n))
 
   event_made : (t : ℕ) → made_for c t k (next c u r) ≡ made_for c t k r + adds c t k u r
@@ -155,16 +155,16 @@ module _ (c : Config) (traces : List (List Command)) (job : IsJob c traces) (k :
 
   run_made : (ts : List ℕ) (r : Run) (is : IsRunOf c traces ts r) (t : ℕ) → t < c.threads → made_for c t k r ≡ units_made_for c t k (opened c is.first) ts
   run_made ts r is t tl =
-      let start : made_for c t k (opened c is.first) ≡ 0 = ap (λ (l : LocalState). work_for l.log l.balance.paid k) (here c traces job is.first is.opening t tl) ∙ none_for k in
+      let start : made_for c t k (opened c is.first) ≡ 0 = ap (λ (l : LocalState). work_for l.log l.spent k) (here c traces job is.first is.opening t tl) ∙ none_for k in
       ap (made_for c t k) is.turns ∙ turns_made ts (opened c is.first) (opening_kept c traces job is.first is.opening) t ∙ omega (arith, start)
 
 -- every run: each entry of the order, and the command in hand
 module _ (c : Config) (traces : List (List Command)) (job : IsJob c traces) (ts : List ℕ) (r : Run) (is : IsRunOf c traces ts r) (t : ℕ) (tl : t < c.threads) where
-  pub hand_made : (local_at c r.state t).balance.paid ≡ units_made_for c t (length (local_at c r.state t).log) (opened c is.first) ts
+  pub hand_made : (local_at c r.state t).spent ≡ units_made_for c t (length (local_at c r.state t).log) (opened c is.first) ts
   hand_made =
-      sym (hand_work (local_at c r.state t).log (local_at c r.state t).balance.paid)
+      sym (hand_work (local_at c r.state t).log (local_at c r.state t).spent)
       ∙ run_made c traces job (length (local_at c r.state t).log) ts r is t tl
 
   pub each_made : Kept c traces r → AreMadeFor c t (part t r.order) (opened c is.first) ts
   each_made kept = subst (λ es. AreMadeFor c t es (opened c is.first) ts) (sym (kept.locals t tl).told)
-      (λ k d l. entry_work (local_at c r.state t).log _ _ (local_at c r.state t).balance.paid _ k d l ∙ run_made c traces job k ts r is t tl)
+      (λ k d l. entry_work (local_at c r.state t).log _ _ (local_at c r.state t).spent _ k d l ∙ run_made c traces job k ts r is t tl)

@@ -32,7 +32,7 @@ split false p (inr e) = rw e refl
 
 -- the works of thread t's entries, and its units for the command in hand
 abbrev pub made_by : Config → ℕ → Run → ℕ
-made_by c t r = works (part t r.order) + (local_at c r.state t).balance.paid
+made_by c t r = works (part t r.order) + (local_at c r.state t).spent
 
 pub cond_no : {A : Type 0} (b : Bool) (x y : A) → b ≡ false → cond b x y ≡ y
 cond_no b x y e = rw e refl
@@ -45,7 +45,7 @@ pub idle_next : (c : Config) (u : ℕ) (r : Run) → has_event c u r.state ≡ f
 idle_next c u r none =
     ap (λ b. let x : Run = record {
       state = cond b (event_done c u r.state) r.state;
-      order = r.order ++ cond b (items_by c u (command_of (local_at c r.state u)) (local_at c r.state u).balance.paid r.order (next_effect c r.state u)) [];
+      order = r.order ++ cond b (items_by c u (command_of (local_at c r.state u)) (local_at c r.state u).spent r.order (next_effect c r.state u)) [];
       names = cond b (renamed u (replay c r.order) (heap_in c r.state) (next_effect c r.state u).naming r.names) r.names;
     } in x) none
     ∙ ap (λ o. let x : Run = record { state = r.state; order = o; names = r.names } in x) (append-nil r.order)
@@ -61,18 +61,18 @@ module _ (c : Config) (traces : List (List Command)) (job : IsJob c traces) (r :
   own_makes =
       let l = local_at c r.state u in
       let e = effect c l.part word in
-      let parts : works (part u after.order) ≡ works (part u r.order) + works (told_by (replay c r.order) u (command_of l) l.balance.paid e.verdict) =
-      ap works (part_grows c r.order u (command_of l) l.balance.paid e.verdict e.naming) ∙ works_append (part u r.order) (told_by (replay c r.order) u (command_of l) l.balance.paid e.verdict) in
-      let paid : (local_at c after.state u).balance.paid ≡ paid_got e.reply e.unit l.balance.paid =
-      ap (λ (x : LocalState). x.balance.paid) (local_new c traces (laws_of c) job.bounds.config job.plan r kept u ul going u ∙ cond_yes _ _ _ (eq-eqb u u refl)) ∙ paid_new c traces (laws_of c) job.bounds.config job.plan r kept u ul in
-      omega (arith, parts, paid, (event c traces (laws_of c) job.bounds.config job.plan r kept u ul going).counted, (laws_of c l.part).units u (command_of l) l.balance.paid word)
+      let parts : works (part u after.order) ≡ works (part u r.order) + works (told_by (replay c r.order) u (command_of l) l.spent e.verdict) =
+      ap works (part_grows c r.order u (command_of l) l.spent e.verdict e.naming) ∙ works_append (part u r.order) (told_by (replay c r.order) u (command_of l) l.spent e.verdict) in
+      let paid : (local_at c after.state u).spent ≡ paid_got e.reply e.unit l.spent =
+      ap (λ (x : LocalState). x.spent) (local_new c traces (laws_of c) job.bounds.config job.plan r kept u ul going u ∙ cond_yes _ _ _ (eq-eqb u u refl)) ∙ paid_new c traces (laws_of c) job.bounds.config job.plan r kept u ul in
+      omega (arith, parts, paid, (event c traces (laws_of c) job.bounds.config job.plan r kept u ul going).counted, (laws_of c l.part).units u (command_of l) l.spent word)
 
   other_makes : (t : ℕ) → (u ≡ t → ⊥) → made_by c t after ≡ made_by c t r
   other_makes t n =
       let l = local_at c r.state u in
       let e = effect c l.part word in
-      let parts : works (part t after.order) ≡ works (part t r.order) = ap works (part_stays c r.order u (command_of l) l.balance.paid e.verdict e.naming t n) in
-      let paid : (local_at c after.state t).balance.paid ≡ (local_at c r.state t).balance.paid = ap (λ (x : LocalState). x.balance.paid) (local_new c traces (laws_of c) job.bounds.config job.plan r kept u ul going t ∙ cond_no _ _ _ (ne_eqb u t n)) in
+      let parts : works (part t after.order) ≡ works (part t r.order) = ap works (part_stays c r.order u (command_of l) l.spent e.verdict e.naming t n) in
+      let paid : (local_at c after.state t).spent ≡ (local_at c r.state t).spent = ap (λ (x : LocalState). x.spent) (local_new c traces (laws_of c) job.bounds.config job.plan r kept u ul going t ∙ cond_no _ _ _ (ne_eqb u t n)) in
       omega (arith, parts, paid)
 
   event_makes : (t : ℕ) → made_by c t (next c u r) ≡ made_by c t r + cond (eqb u t) (bit (is_unit c t r.state)) 0
@@ -109,9 +109,9 @@ module _ (c : Config) (traces : List (List Command)) (job : IsJob c traces) wher
   turns_make (u ∷ ts) r kept t = omega (arith, turns_make ts (next c u r) (turn_kept c traces (laws_of c) job r kept u) t, turn_makes r kept t u)
 
   -- every run
-  pub run_makes : (ts : List ℕ) (r : Run) (is : IsRunOf c traces ts r) (t : ℕ) → t < c.threads → works (part t r.order) + (local_at c r.state t).balance.paid ≡ units_made c t (opened c is.first) ts
+  pub run_makes : (ts : List ℕ) (r : Run) (is : IsRunOf c traces ts r) (t : ℕ) → t < c.threads → works (part t r.order) + (local_at c r.state t).spent ≡ units_made c t (opened c is.first) ts
   run_makes ts r is t tl =
-      let start : (local_at c is.first t).balance.paid ≡ 0 = ap (λ (l : LocalState). l.balance.paid) (here c traces job is.first is.opening t tl) in
+      let start : (local_at c is.first t).spent ≡ 0 = ap (λ (l : LocalState). l.spent) (here c traces job is.first is.opening t tl) in
       ap (made_by c t) is.turns ∙ turns_make ts (opened c is.first) (opening_kept c traces job is.first is.opening) t ∙ omega (arith, start)
 
   -- a turn is a unit where it makes a grey block black or passes a block, and not both

@@ -9,7 +9,8 @@ use Rattle.never_heap.specs.declared.Entry.{Entry}
 use Rattle.never_heap.specs.declared.Reply.{Reply}
 use Rattle.never_heap.specs.Graphs.{Graph, register_of, count_of}
 use Rattle.never_heap.specs.Histories.{HistoryItem, part}
-use Rattle.never_heap.specs.RightWork.{units_owed}
+use Rattle.never_heap.specs.RightWork.{units_told, units_owed}
+use Rattle.cycle_tally.specs.Kept.{most_work}
 use Rattle.never_heap.specs.Steps.{blocks_of}
 use Rattle.work_account.specs.Accounts.{Balance, IsSound}
 use Rattle.heap_machine.specs.Gating.{is_closing}
@@ -17,15 +18,25 @@ use Rattle.heap_machine.specs.declared.pass.Pass.{Pass}
 use Rattle.kept_names.specs.Pictures.{Names}
 use Rattle.heap_system.specs.declared.local.Part.{Part}
 use Rattle.heap_system.specs.declared.local.Part.TheVariants.{Leave}
-use Rattle.heap_system.specs.Locals.{LocalState, command_of, owed, errand_of, effect, part_got, pass_got, balance_in, balance_paid, balance_got, paid_got, made_got, Verdict, entry_of, entries_of, works, unit_to_come, PartFits, IsRoomy}
+use Rattle.heap_system.specs.Locals.{LocalState, command_of, owed, errand_of, effect, part_got, pass_got, balance_in, balance_paid, balance_got, paid_got, paid_part, made_got, Verdict, entry_of, entries_of, works, unit_to_come, PartFits, IsRoomy}
 use Rattle.heap_system.specs.Pictures.{stand_of, waiting}
 use Rattle.heap_system.specs.Units.{IsRight}
-use Rattle.heap_system.proofs.Balances.{paid_in, got_paid, units_in, units_on, units_over, sound_in, sound_on, sound_over, is_paid}
+use Rattle.heap_system.proofs.Balances.{paid_in, got_paid, paid_over, units_in, units_on, units_over, sound_in, sound_on, sound_over, is_paid}
 use Rattle.heap_system.proofs.Growing.{said_more, right_more, made_more}
 use Rattle.heap_system.proofs.Kept.{LocalKept}
 use Rattle.heap_system.proofs.PartLaws.{PartLaws}
-use Rattle.heap_system.proofs.Paying.{works_append, owed_low}
+use Rattle.heap_system.proofs.Paying.{works_append, owed_low, price_low, price_paid}
 use Rattle.heap_system.proofs.Seeing.{stage, stage_of, PartKept, Knows, IsSettled, Forward, graph_decided, told_by, IsDecided}
+
+-- plain arithmetic
+low_enough : (made come due other : ℕ) → made + come ≤ due → due ≡ other → made ≤ other
+low_enough made come due other a e = omega arith
+
+work_grows : (new old more most n : ℕ) → new ≡ old + (more + 0) → old ≤ n * most → more ≤ most → new ≤ suc n * most
+work_grows new old more most n e a b = omega arith
+
+ap-le : {A : Type 0} {x y : A} {n : ℕ} (f : A → ℕ) → x ≡ y → f x ≤ n → f y ≤ n
+ap-le {n = n} f e low = subst (λ z. f z ≤ n) e low
 
 -- another thread, whose registers and objects are as before
 pub local_stays : (c : Config) (given : List Command) (g later : Graph) (order longer : List HistoryItem) (h new : Heap) (ns names : Names) (u : ℕ) (l : LocalState) → PartLaws c l.part → LocalKept c given g order h ns u l
@@ -43,7 +54,7 @@ local_stays c given g later order longer h new ns names u l laws kept same count
       settled = kept.settled;
       made = kept.made ∙ sym count;
       right = subst (λ x. IsRight c.width l.rate x) (sym more) kept.right;
-      told = more ∙ kept.told ∙ sym (ap (λ o. l.log ++ entries_of l.thread (command_of l) l.balance.paid o) s.1);
+      told = more ∙ kept.told ∙ sym (ap (λ o. l.log ++ entries_of l.thread (command_of l) l.spent o) s.1);
       said = kept.said;
     }
 
@@ -54,8 +65,9 @@ moved_on l t c w = record {
   rate = l.rate;
   thread = t;
   trace = l.trace;
-  log = l.log ++ entries_of t (command_of l) l.balance.paid (effect c l.part w).reply;
-  balance = balance_got (effect c l.part w) (blocks_of c.width (command_of l)) l.balance;
+  log = l.log ++ entries_of t (command_of l) l.spent (effect c l.part w).reply;
+  balance = balance_got (effect c l.part w) (units_told (command_of l)) (blocks_of c.width (command_of l)) l.balance;
+  spent = paid_got (effect c l.part w).reply (effect c l.part w).unit l.spent;
   made = made_got (effect c l.part w).reply l.made;
   space = l.space;
   pass = pass_got (effect c l.part w).entered t c.threads l.pass;
@@ -64,19 +76,19 @@ moved_on l t c w = record {
 
 -- what its event says of it alone, by the reply that it brings
 pub record Moved (c : Config) (g : Graph) (order longer : List HistoryItem) (new : Heap) (names : Names) (t : ℕ) (l : LocalState) (v : Verdict) (unit : Bool) (q : Pass) (p : Part) (o : Option Reply) : Type 0 where
-  pub more : part t longer ≡ part t order ++ told_by g t (command_of l) l.balance.paid v
+  pub more : part t longer ≡ part t order ++ told_by g t (command_of l) l.spent v
   pub stands : PartKept c (graph_decided g t (command_of l) v) t q (command_of l) p
   pub knows : Knows c new names q p
   pub fits : PartFits c (length l.log) (length l.trace) q p
   pub roomy : IsRoomy l.space p
   pub behind : stage q.cycle q.sweep ≤ stage_of new
   pub over : (r : Reply) → o ≡ Some r → p ≡ Leave
-  pub told : entries_of t (command_of l) l.balance.paid (waiting g l.part) ++ told_by g t (command_of l) l.balance.paid v
-      ≡ entries_of t (command_of l) l.balance.paid o ++ entries_of t (command_of l) (paid_got o unit l.balance.paid) (waiting (graph_decided g t (command_of l) v) p)
-  pub low : paid_got o unit l.balance.paid + unit_to_come c p ≤ owed l
-  pub settled : IsSettled (owed l) (paid_got o unit l.balance.paid) p
-  pub exact : IsDecided v → l.balance.paid ≡ owed l
-  pub whole : (r : Reply) → o ≡ Some r → l.balance.paid ≡ owed l
+  pub told : entries_of t (command_of l) l.spent (waiting g l.part) ++ told_by g t (command_of l) l.spent v
+      ≡ entries_of t (command_of l) l.spent o ++ entries_of t (command_of l) (paid_got o unit l.spent) (waiting (graph_decided g t (command_of l) v) p)
+  pub low : paid_got o unit l.spent + unit_to_come c p ≤ owed l
+  pub settled : IsSettled (owed l) (paid_got o unit l.spent) p
+  pub exact : IsDecided v → l.spent ≡ owed l
+  pub whole : (r : Reply) → o ≡ Some r → l.spent ≡ owed l
   pub counts : made_got o l.made ≡ count_of (graph_decided g t (command_of l) v) t
   pub some : (r : Reply) → o ≡ Some r → length l.log < length l.trace
 
@@ -85,39 +97,45 @@ module _ (c : Config) (given : List Command) (g : Graph) (order longer : List Hi
   abbrev Event : Option Reply → Type 0
   Event o = Moved c g order longer new names t l v unit q p o
 
-  abbrev after_part : List Entry → Balance → ℕ → Part → LocalState
-  after_part log balance made x = record { config = l.config; rate = l.rate; thread = t; trace = l.trace; log = log; balance = balance; made = made; space = l.space; pass = q; part = x }
+  abbrev after_part : List Entry → Balance → ℕ → ℕ → Part → LocalState
+  after_part log balance spent made x = record { config = l.config; rate = l.rate; thread = t; trace = l.trace; log = log; balance = balance; spent = spent; made = made; space = l.space; pass = q; part = x }
+
+  abbrev told : ℕ
+  told = units_told (command_of l)
 
   -- its balance then
   abbrev balance_then : Option Reply → Balance
-  balance_then o = balance_paid o unit (blocks_of c.width (command_of l)) (balance_in i l.balance)
+  balance_then o = balance_paid o unit told (blocks_of c.width (command_of l)) (balance_in i l.balance)
 
-  paid_then : (o : Option Reply) → (balance_then o).paid ≡ paid_got o unit l.balance.paid
-  paid_then o = got_paid i o unit (blocks_of c.width (command_of l)) l.balance
+  paid_then : (o : Option Reply) → (balance_then o).paid ≡ paid_part told (paid_got o unit l.spent)
+  paid_then o = got_paid i o unit told (blocks_of c.width (command_of l)) l.spent l.balance kept.fits.account
 
   sound_then : IsSound l.rate l.config.object (balance_in i l.balance)
   sound_then = sound_in l.rate l.config.object i l.balance kept.fits.sound
 
-  units_then : (balance_in i l.balance).units ≤ works l.log + (balance_in i l.balance).paid
-  units_then = units_in i (works l.log) l.balance kept.fits.units
+  units_then : (balance_in i l.balance).units ≤ works l.log + l.spent
+  units_then = units_in i (works l.log + l.spent) l.balance kept.fits.units
 
   abbrev Later : LocalState → Type 0
   Later x = LocalKept c given (graph_decided g t (command_of l) v) longer new names t x
 
-  told_so : (o : Option Reply) → Event o → part t longer ≡ l.log ++ (entries_of t (command_of l) l.balance.paid o ++ entries_of t (command_of l) (balance_then o).paid (waiting (graph_decided g t (command_of l) v) p))
+  told_so : (o : Option Reply) → Event o → part t longer ≡ l.log ++ (entries_of t (command_of l) l.spent o ++ entries_of t (command_of l) (paid_got o unit l.spent) (waiting (graph_decided g t (command_of l) v) p))
   told_so o event =
-      event.more ∙ ap (λ x. x ++ told_by g t (command_of l) l.balance.paid v) (kept.told ∙ ap (λ x. l.log ++ entries_of x (command_of l) l.balance.paid (waiting g l.part)) kept.thread)
+      event.more ∙ ap (λ x. x ++ told_by g t (command_of l) l.spent v) (kept.told ∙ ap (λ x. l.log ++ entries_of x (command_of l) l.spent (waiting g l.part)) kept.thread)
       ∙ append_assoc l.log _ _ ∙ ap (λ x. l.log ++ x) event.told
-      ∙ ap (λ n. l.log ++ (entries_of t (command_of l) l.balance.paid o ++ entries_of t (command_of l) n (waiting (graph_decided g t (command_of l) v) p))) (sym (paid_then o))
 
   right_so : (o : Option Reply) → Event o → IsRight c.width l.rate (part t longer)
-  right_so o event = subst (λ x. IsRight c.width l.rate x) (sym event.more) (right_more c.width l.rate (part t order) g t (command_of l) l.balance.paid v kept.right
+  right_so o event = subst (λ x. IsRight c.width l.rate x) (sym event.more) (right_more c.width l.rate (part t order) g t (command_of l) l.spent v kept.right
       (λ d. event.exact d ∙ ap (λ (x : Config). units_owed x.width l.rate (command_of l)) kept.config))
 
-  settled_so : (o : Option Reply) → Event o → IsSettled (owed l) (balance_then o).paid p
-  settled_so o event = subst (λ n. IsSettled (owed l) n p) (sym (paid_then o)) event.settled
+  -- what its blocks cost is no more than what the largest object does
+  price_few : l.rate * blocks_of c.width (command_of l) ≤ l.rate * l.config.object
+  price_few = ap-le (λ (x : Config). l.rate * blocks_of x.width (command_of l)) kept.config (price_low l kept.fits)
 
-  none_moves : Event None → Later (after_part l.log (balance_then None) l.made p)
+  due_is : owed l ≡ l.rate * blocks_of c.width (command_of l) + units_told (command_of l)
+  due_is = ap (λ (x : Config). l.rate * blocks_of x.width (command_of l) + units_told (command_of l)) kept.config
+
+  none_moves : Event None → Later (after_part l.log (balance_then None) (paid_got None unit l.spent) l.made p)
   none_moves event = record {
     config = kept.config;
     thread = refl;
@@ -130,10 +148,11 @@ module _ (c : Config) (given : List Command) (g : Graph) (order longer : List Hi
       trace = kept.fits.trace;
       log = kept.fits.log;
       part = subst (λ x. PartFits x (length l.log) (length l.trace) q p) (sym kept.config) event.fits;
-      paid = subst (λ x. (balance_then None).paid + unit_to_come x p ≤ owed l) (sym kept.config) (omega (arith, event.low, paid_then None));
-      settled = is_paid (owed l) (balance_then None).paid p (settled_so None event);
-      sound = sound_on l.rate l.config.object unit (blocks_of c.width (command_of l)) (balance_in i l.balance) (omega (arith, event.low, paid_then None, owed_low l kept.fits)) sound_then;
-      units = units_on unit (blocks_of c.width (command_of l)) (works l.log) (balance_in i l.balance) units_then;
+      paid = subst (λ x. paid_got None unit l.spent + unit_to_come x p ≤ owed l) (sym kept.config) event.low;
+      settled = is_paid (owed l) (paid_got None unit l.spent) p event.settled;
+      sound = sound_on l.rate l.config.object unit told (blocks_of c.width (command_of l)) l.spent (balance_in i l.balance) (paid_in i l.balance ∙ kept.fits.account) price_few (low_enough _ _ _ _ event.low due_is) sound_then;
+      account = paid_then None;
+      units = units_on unit told (blocks_of c.width (command_of l)) (works l.log) l.spent (balance_in i l.balance) units_then;
       worked = kept.fits.worked;
       made = kept.fits.made;
       space = kept.fits.space;
@@ -142,7 +161,7 @@ module _ (c : Config) (given : List Command) (g : Graph) (order longer : List Hi
     stands = event.stands;
     knows = event.knows;
     behind = event.behind;
-    settled = settled_so None event;
+    settled = event.settled;
     made = event.counts;
     right = right_so None event;
     told = told_so None event;
@@ -150,21 +169,21 @@ module _ (c : Config) (given : List Command) (g : Graph) (order longer : List Hi
   }
 
   module _ (r : Reply) where
-    longer_by : length (l.log ++ entry_of t (command_of l) l.balance.paid r ∷ []) ≡ suc (length l.log)
-    longer_by = length-append l.log (entry_of t (command_of l) l.balance.paid r ∷ []) ∙ omega arith
+    longer_by : length (l.log ++ entry_of t (command_of l) l.spent r ∷ []) ≡ suc (length l.log)
+    longer_by = length-append l.log (entry_of t (command_of l) l.spent r ∷ []) ∙ omega arith
 
-    more_worked : works (l.log ++ entry_of t (command_of l) l.balance.paid r ∷ []) ≡ works l.log + (l.balance.paid + 0)
-    more_worked = works_append l.log (entry_of t (command_of l) l.balance.paid r ∷ [])
+    more_worked : works (l.log ++ entry_of t (command_of l) l.spent r ∷ []) ≡ works l.log + (l.spent + 0)
+    more_worked = works_append l.log (entry_of t (command_of l) l.spent r ∷ [])
 
-    worked_so : works (l.log ++ entry_of t (command_of l) l.balance.paid r ∷ []) ≤ length (l.log ++ entry_of t (command_of l) l.balance.paid r ∷ []) * (l.rate * l.config.object)
+    worked_so : works (l.log ++ entry_of t (command_of l) l.spent r ∷ []) ≤ length (l.log ++ entry_of t (command_of l) l.spent r ∷ []) * most_work l.config l.rate
     worked_so =
-        subst (λ n. works (l.log ++ entry_of t (command_of l) l.balance.paid r ∷ []) ≤ n * (l.rate * l.config.object)) (sym longer_by) (omega (arith, more_worked, kept.fits.worked, kept.fits.paid, owed_low l kept.fits))
+        subst (λ n. works (l.log ++ entry_of t (command_of l) l.spent r ∷ []) ≤ n * most_work l.config l.rate) (sym longer_by) (work_grows _ _ _ _ _ more_worked kept.fits.worked (omega (arith, kept.fits.paid, owed_low l kept.fits)))
 
     -- what it has paid is the price of its command
     price_is : Event (Some r) → (balance_in i l.balance).paid ≡ l.rate * blocks_of c.width (command_of l)
-    price_is event = paid_in i l.balance ∙ event.whole r refl ∙ ap (λ (x : Config). l.rate * blocks_of x.width (command_of l)) kept.config
+    price_is event = paid_in i l.balance ∙ price_paid l kept.fits (event.whole r refl) ∙ ap (λ (x : Config). l.rate * blocks_of x.width (command_of l)) kept.config
 
-    some_moves : length l.log < length l.trace → Event (Some r) → Later (after_part (l.log ++ entry_of t (command_of l) l.balance.paid r ∷ []) (balance_then (Some r)) (made_got (Some r) l.made) Leave)
+    some_moves : length l.log < length l.trace → Event (Some r) → Later (after_part (l.log ++ entry_of t (command_of l) l.spent r ∷ []) (balance_then (Some r)) 0 (made_got (Some r) l.made) Leave)
     some_moves low event =
         let over : p ≡ Leave = event.over r refl in
         record {
@@ -179,10 +198,11 @@ module _ (c : Config) (given : List Command) (g : Graph) (order longer : List Hi
             trace = kept.fits.trace;
             log = omega (arith, longer_by);
             part = tt;
-            paid = omega (arith, paid_then (Some r));
+            paid = omega arith;
             settled = tt;
-            sound = sound_over l.rate l.config.object r unit (blocks_of c.width (command_of l)) (balance_in i l.balance) (price_is event) sound_then;
-            units = omega (arith, more_worked, units_over r unit (blocks_of c.width (command_of l)) (balance_in i l.balance), units_then, paid_in i l.balance);
+            sound = sound_over l.rate l.config.object r unit told (blocks_of c.width (command_of l)) (balance_in i l.balance) (price_is event) sound_then;
+            account = paid_over r unit told _ (blocks_of c.width (command_of l)) (balance_in i l.balance);
+            units = omega (arith, more_worked, units_over r unit told (blocks_of c.width (command_of l)) (balance_in i l.balance), units_then);
             worked = worked_so;
             made = omega (arith, longer_by, kept.fits.made, made_more r l.made);
             space = kept.fits.space;
@@ -191,14 +211,14 @@ module _ (c : Config) (given : List Command) (g : Graph) (order longer : List Hi
           stands = tt;
           knows = tt;
           behind = event.behind;
-          settled = paid_then (Some r);
+          settled = refl;
           made = event.counts;
           right = right_so (Some r) event;
-          told = told_so (Some r) event ∙ ap (λ x. l.log ++ (entry_of t (command_of l) l.balance.paid r ∷ entries_of t (command_of l) (balance_then (Some r)).paid (waiting (graph_decided g t (command_of l) v) x))) over
-              ∙ sym (append-nil (l.log ++ entry_of t (command_of l) l.balance.paid r ∷ []));
-          said = said_more l.log l.trace (entry_of t (command_of l) l.balance.paid r) (command_of l) refl refl low kept.said;
+          told = told_so (Some r) event ∙ ap (λ x. l.log ++ (entry_of t (command_of l) l.spent r ∷ entries_of t (command_of l) 0 (waiting (graph_decided g t (command_of l) v) x))) over
+              ∙ sym (append-nil (l.log ++ entry_of t (command_of l) l.spent r ∷ []));
+          said = said_more l.log l.trace (entry_of t (command_of l) l.spent r) (command_of l) refl refl low kept.said;
         }
 
-  pub local_moves : (o : Option Reply) → Event o → Later (after_part (l.log ++ entries_of t (command_of l) l.balance.paid o) (balance_then o) (made_got o l.made) p)
-  local_moves None event = subst (λ x. Later (after_part x (balance_then None) l.made p)) (sym (append-nil l.log)) (none_moves event)
-  local_moves (Some r) event = subst (λ x. Later (after_part (l.log ++ entry_of t (command_of l) l.balance.paid r ∷ []) (balance_then (Some r)) (made_got (Some r) l.made) x)) (sym (event.over r refl)) (some_moves r (event.some r refl) event)
+  pub local_moves : (o : Option Reply) → Event o → Later (after_part (l.log ++ entries_of t (command_of l) l.spent o) (balance_then o) (paid_got o unit l.spent) (made_got o l.made) p)
+  local_moves None event = subst (λ x. Later (after_part x (balance_then None) (paid_got None unit l.spent) l.made p)) (sym (append-nil l.log)) (none_moves event)
+  local_moves (Some r) event = subst (λ x. Later (after_part (l.log ++ entry_of t (command_of l) l.spent r ∷ []) (balance_then (Some r)) 0 (made_got (Some r) l.made) x)) (sym (event.over r refl)) (some_moves r (event.some r refl) event)

@@ -383,7 +383,7 @@ opening_in_order c s traces job start turns o is room = record {
 }
   where
     no_units : units_so_far c (opened c s) ≡ 0
-    no_units = omega (arith, total_none c.threads (λ t. (local_in c (opened c s) t).balance.paid) (λ t tl. ap (λ (l : LocalState). l.balance.paid) (here c traces job s start t tl)))
+    no_units = omega (arith, total_none c.threads (λ t. (local_in c (opened c s) t).spent) (λ t tl. ap (λ (l : LocalState). l.spent) (here c traces job s start t tl)))
 
 -- a finished run makes the history that its order says
 pub finished_in_order : (c : Config) (s : State) (order : Option KeptOrder) → IsInOrder c s order → AllDone c s → (n : ℕ) → n ≡ cycle_at c s → IsFinishedInOrder c (traces_of s) (logs_of s) n (items_kept (ordered order))

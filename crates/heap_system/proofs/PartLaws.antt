@@ -31,8 +31,8 @@ pub record AtPart (c : Config) (s : Seen c) (p : Part) : Type 0 where
   pub knows : Knows c s.heap s.names s.pass p
   pub fits : PartFits c s.done s.all s.pass p
   pub roomy : IsRoomy s.space p
-  pub pays : s.balance.paid + unit_to_come c p ≤ s.due
-  pub settled : IsSettled s.due s.balance.paid p
+  pub pays : s.spent + unit_to_come c p ≤ s.due
+  pub settled : IsSettled s.due s.spent p
 
 -- the word that its event reads
 abbrev pub word_at : (c : Config) → Seen c → Part → ℕ

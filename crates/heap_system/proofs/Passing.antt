@@ -63,8 +63,8 @@ module _ (c : Config) (s : Seen c) where
     pub part : PartKept c s.graph s.thread q s.command p
     pub fits : PartFits c s.done s.all q p
     pub roomy : IsRoomy s.space p
-    pub low : s.balance.paid + unit_to_come c p ≤ s.due
-    pub settled : IsSettled s.due s.balance.paid p
+    pub low : s.spent + unit_to_come c p ≤ s.due
+    pub settled : IsSettled s.due s.spent p
 
   -- an event at the gate that leaves the phase and the cycle, of a thread that holds nothing
   module _ (step : Step) (entered : Option PhaseWord) (p : Part) (comes : Comes (pass_got entered s.thread c.threads s.pass) p) (at : s.tasks s.thread ≡ no_task) (empty : s.holds s.thread ≡ holds_nothing) where
@@ -94,7 +94,7 @@ module _ (c : Config) (s : Seen c) where
           fits = comes.fits;
           roomy = comes.roomy;
           over = λ r e. absurd cc;
-          told = sym (ap (entries_of s.thread s.command s.balance.paid) comes.waits);
+          told = sym (ap (entries_of s.thread s.command s.spent) comes.waits);
           low = comes.low;
           settled = comes.settled;
           exact = λ e. absurd e;

@@ -1,6 +1,6 @@
 -- What a thread owes and has paid, and the ranges of the parts that it comes to.
-use Rattle.std.proofs.Common.{◌≡◌, ℕ, zero, suc, ◌+◌, ◌-◌, ◌*◌, ◌<◌, ◌≤◌, ◌^◌, Bool, true, false, not, ◌&&◌, ◌||◌, cond, ltb, eqb, ltb-true, refl, sym, ap, ◌∙◌, subst, arith, List, [], ◌∷◌, ◌++◌, length, length-append, get_or, take, Some, is_some, inl, inr, mul_comm}
-use Rattle.std.proofs.lemmas.Bool.{cases_Bool, cases_lt, lt-ltb}
+use Rattle.std.proofs.Common.{◌≡◌, ℕ, zero, suc, ◌+◌, ◌-◌, ◌*◌, ◌<◌, ◌≤◌, ◌^◌, Bool, true, false, not, ◌&&◌, ◌||◌, cond, ltb, eqb, ltb-true, refl, sym, ap, ◌∙◌, subst, arith, List, [], ◌∷◌, ◌++◌, length, length-append, get_or, take, Some, is_some, inl, inr, mul_comm, ◌⊎◌, ne_eqb}
+use Rattle.std.proofs.lemmas.Bool.{cases_Bool, cases_eq, cases_lt, lt-ltb}
 use Rattle.std.proofs.lemmas.List.{get_or_past}
 use Rattle.std.proofs.Math.Nat.{mul-le-mul_right}
 use Rattle.block_store.specs.declared.Config.{Config}
@@ -22,6 +22,8 @@ use Rattle.std.specs.List.{AllByRecursion}
 use Rattle.std.proofs.lemmas.List.Elements.{All-from_recursion}
 use Rattle.never_heap.specs.Bounds.{IsCommandInBounds}
 use Rattle.never_heap.specs.Jobs.{IsTraceInBounds}
+use Rattle.never_heap.specs.RightWork.{units_told}
+use Rattle.cycle_tally.specs.Kept.{most_work}
 use Rattle.never_heap.specs.Steps.{blocks_of, makes_object}
 use Rattle.never_heap.proofs.Ranges as ranges
 use Rattle.heap_machine.specs.Gates.{gate_got, closed_by, is_going_in, is_of_pass, is_empty, GateFits, GateAt}
@@ -54,11 +56,11 @@ use Rattle.heap_system.specs.Machines.{IsJob}
 use Rattle.heap_system.specs.Locals.{LocalState, IsLocal, PartFits, PartReads, IsRoomy, IsPaid, HasRoom, errand_of, command_of, owed, pass_by, is_last, unit_to_come, works, entry_of, made_got, balance_paid}
 use Rattle.work_account.proofs.Balances.{entered_sound}
 use Rattle.cycle_tally.proofs.Sums.{paid_entered}
-use Rattle.heap_system.proofs.Balances.{units_entered, paid_after, units_over, sound_over}
+use Rattle.heap_system.proofs.Balances.{units_entered, paid_after, paid_over, all_paid, units_over, sound_over}
 
 -- what is seen of a thread
 abbrev pub view_of : Inside → LocalState
-view_of l = record { config = l.config; rate = l.rate; thread = l.thread; trace = l.trace.items; log = l.log.items; balance = l.account.balance; made = l.made; space = l.space; pass = l.pass; part = l.part }
+view_of l = record { config = l.config; rate = l.rate; thread = l.thread; trace = l.trace.items; log = l.log.items; balance = l.account.balance; spent = l.spent; made = l.made; space = l.space; pass = l.pass; part = l.part }
 
 -- an object takes no more blocks than one object may
 pub blocks_low : (c : Config) (k : Command) → IsCommandInBounds c k → blocks_of c.width k ≤ c.object
@@ -72,6 +74,26 @@ blocks_low c (commands.Put s i v) h = omega arith
 blocks_low c (commands.Len s) h = omega arith
 blocks_low c (commands.Same a b) h = omega arith
 blocks_low c (commands.Say s) h = omega arith
+blocks_low c (commands.Swap s i v) h = omega arith
+blocks_low c (commands.Cas s i a v) h = omega arith
+blocks_low c (commands.Idle u) h = omega arith
+
+-- it has blocks or is told of units, and not both, and of few
+pub told_low : (c : Config) (k : Command) → IsCommandInBounds c k → units_told k ≤ 131070
+told_low c (commands.Idle u) h = h.0
+told_low c _ h = omega arith
+
+pub told_apart : (w : Width) (k : Command) → (units_told k ≡ 0) ⊎ (blocks_of w k ≡ 0)
+told_apart w (commands.Idle u) = inr refl
+told_apart w (commands.New d f) = inl refl
+told_apart w (commands.Arr d e) = inl refl
+told_apart w _ = inl refl
+
+pub makers_untold : (k : Command) → makes_object k ≡ true → units_told k ≡ 0
+makers_untold (commands.Idle u) y = absurd cc
+makers_untold (commands.New d f) y = refl
+makers_untold (commands.Arr d e) y = refl
+makers_untold _ y = refl
 
 -- the trace of a thread of a job
 pub each_at : (c : Config) (traces : List (List Command)) → IsJob c traces → (t : ℕ) → t < c.threads → IsTraceInBounds c (get_or traces t [])
@@ -87,12 +109,31 @@ bounds_at c ks i all = elim (cases_lt i (length ks)) [
 pub rate_low : (c : Config) (rate : ℕ) → IsInBounds c → IsAdmitted c → IsRate c rate → rate ≤ 131070
 rate_low c rate bounds plan is = let s = small c rate plan is in omega (arith, bounds.blocks)
 
--- the units owed are at most those of the largest object
-pub owed_low : (l : LocalState) → IsLocal l → owed l ≤ l.rate * l.config.object
-owed_low l k =
+-- the price of its blocks is at most that of the largest object
+pub price_low : (l : LocalState) → IsLocal l → l.rate * blocks_of l.config.width (command_of l) ≤ l.rate * l.config.object
+price_low l k =
     let low : blocks_of l.config.width (command_of l) ≤ l.config.object = blocks_low l.config (command_of l) (bounds_at l.config l.trace (length l.log) k.trace.commands) in
     let more : blocks_of l.config.width (command_of l) * l.rate ≤ l.config.object * l.rate = mul-le-mul_right l.rate low in
     omega (arith, mul_comm l.rate (blocks_of l.config.width (command_of l)), mul_comm l.rate l.config.object)
+
+pub told_few : (l : LocalState) → IsLocal l → units_told (command_of l) ≤ 131070
+told_few l k = told_low l.config (command_of l) (bounds_at l.config l.trace (length l.log) k.trace.commands)
+
+-- so the units owed are few
+pub owed_low : (l : LocalState) → IsLocal l → owed l ≤ most_work l.config l.rate
+owed_low l k = omega (arith, price_low l k, told_few l k)
+
+-- where all is made that a command owes, the price of its blocks is paid
+pub price_paid : (l : LocalState) → IsLocal l → l.spent ≡ owed l → l.balance.paid ≡ l.rate * blocks_of l.config.width (command_of l)
+price_paid l k all = elim (cases_eq (units_told (command_of l)) 0) [
+  | inl e ↦ (let paid : l.balance.paid ≡ l.spent = all_paid (units_told (command_of l)) l.spent l.balance.paid k.account e in omega arith)
+  | inr ne ↦
+      let none : l.balance.paid ≡ 0 = k.account ∙ ap (λ x. cond x l.spent 0) (ne_eqb (units_told (command_of l)) 0 ne) in
+      elim (told_apart l.config.width (command_of l)) [
+        | inl e ↦ absurd (ne e)
+        | inr b ↦ (let zero : l.rate * blocks_of l.config.width (command_of l) ≡ l.rate * 0 = ap (λ x. l.rate * x) b in omega arith)
+      ]
+]
 
 -- and these are few
 pub units_low : (l : LocalState) → IsLocal l → l.rate * l.config.object ≤ 134215680
@@ -148,8 +189,8 @@ pub room_there : (p : Part) (g : GateRow) (space capacity : ℕ) (held : List �
 room_there p g space capacity held e h = subst (λ x. HasRoom x space held capacity) e h
 
 -- a thread in another pass and part
-pub begins : (l : LocalState) (p : Pass) (part : Part) → IsLocal l → PartFits l.config (length l.log) (length l.trace) p part → l.balance.paid + unit_to_come l.config part ≤ owed l → IsPaid (owed l) l.balance.paid part → IsRoomy l.space part → IsLocal (record l { pass = p; part = part })
-begins l p part k fits pays all roomy = record { bounds = k.bounds; plan = k.plan; rate = k.rate; thread = k.thread; trace = k.trace; log = k.log; part = fits; paid = pays; settled = all; sound = k.sound; units = k.units; worked = k.worked; made = k.made; space = k.space; roomy = roomy }
+pub begins : (l : LocalState) (p : Pass) (part : Part) → IsLocal l → PartFits l.config (length l.log) (length l.trace) p part → l.spent + unit_to_come l.config part ≤ owed l → IsPaid (owed l) l.spent part → IsRoomy l.space part → IsLocal (record l { pass = p; part = part })
+begins l p part k fits pays all roomy = record { bounds = k.bounds; plan = k.plan; rate = k.rate; thread = k.thread; trace = k.trace; log = k.log; part = fits; paid = pays; settled = all; sound = k.sound; account = k.account; units = k.units; worked = k.worked; made = k.made; space = k.space; roomy = roomy }
 
 -- a thread at rest that enters a cycle
 pub entered_local : (i : Inside) (z : ℕ) (a : AccountState) → IsLocal (view_of i) → i.part ≡ Rest → a ≡ record i.account { balance = entered z i.account.balance } → IsLocal (record (view_of i) { balance = a.balance })
@@ -163,10 +204,11 @@ entered_local i z a k rest is =
       trace = k.trace;
       log = k.log;
       part = k.part;
-      paid = omega (arith, same, k.paid);
-      settled = subst (λ p. IsPaid (owed (view_of i)) (entered z i.account.balance).paid p) (sym rest) tt;
+      paid = k.paid;
+      settled = k.settled;
       sound = entered_sound i.rate i.config.object z i.account.balance k.sound;
-      units = units_entered z (works i.log.items) i.account.balance k.units;
+      account = same ∙ k.account;
+      units = units_entered z (works i.log.items + i.spent) i.account.balance k.units;
       worked = k.worked;
       made = k.made;
       space = k.space;
@@ -174,7 +216,7 @@ entered_local i z a k rest is =
     })
 
 -- a build that begins in a room of this capacity
-pub begins_build : (l : LocalState) (phase : PhaseWord) (p : Pass) (command : Command) (capacity : ℕ) (b : BuildState) → IsLocal l → length l.log < length l.trace → p ≡ pass_by l.thread l.config.threads phase → IsPass p → command ≡ command_of l → makes_object command ≡ true → owed l - l.balance.paid ≡ 0 → capacity ≡ l.space → b ≡ building l.config.width p.thread p.threads p.cycle (l.made + 1) command capacity → IsLocal (record l { pass = p; part = Build b })
+pub begins_build : (l : LocalState) (phase : PhaseWord) (p : Pass) (command : Command) (capacity : ℕ) (b : BuildState) → IsLocal l → length l.log < length l.trace → p ≡ pass_by l.thread l.config.threads phase → IsPass p → command ≡ command_of l → makes_object command ≡ true → owed l - l.spent ≡ 0 → capacity ≡ l.space → b ≡ building l.config.width p.thread p.threads p.cycle (l.made + 1) command capacity → IsLocal (record l { pass = p; part = Build b })
 begins_build l phase p command capacity b k low by pass is makes none space built =
     let whole : b ≡ building l.config.width p.thread p.threads p.cycle (l.made + 1) (command_of l) l.space = built ∙ ap (λ n. building l.config.width p.thread p.threads p.cycle (l.made + 1) command n) space ∙ ap (λ q. building l.config.width p.thread p.threads p.cycle (l.made + 1) q l.space) is in
     subst (λ x. IsLocal (record l { pass = p; part = Build x })) (sym whole)
@@ -270,16 +312,20 @@ made_low : (r : Reply) (n : ℕ) → made_got (Some r) n ≤ n + 1
 made_low (replies.New a) n = omega arith
 made_low _ n = omega arith
 
+grows : (new old more most n : ℕ) → new ≡ old + (more + 0) → old ≤ n * most → more ≤ most → new ≤ suc n * most
+grows new old more most n e a b = omega arith
+
 -- a thread with its command in the log
 abbrev pub answered : LocalState → Reply → LocalState
 answered l reply = record l {
-  log = l.log ++ entry_of l.thread (command_of l) l.balance.paid reply ∷ [];
-  balance = balance_paid (Some reply) false (blocks_of l.config.width (command_of l)) l.balance;
+  log = l.log ++ entry_of l.thread (command_of l) l.spent reply ∷ [];
+  balance = balance_paid (Some reply) false (units_told (command_of l)) (blocks_of l.config.width (command_of l)) l.balance;
+  spent = 0;
   made = made_got (Some reply) l.made;
   part = Leave;
 }
 
-pub answered_local : (l : LocalState) (reply : Reply) → IsLocal l → length l.log < length l.trace → l.balance.paid ≡ owed l → IsLocal (answered l reply)
+pub answered_local : (l : LocalState) (reply : Reply) → IsLocal l → length l.log < length l.trace → l.spent ≡ owed l → IsLocal (answered l reply)
 answered_local l reply k low all = record {
   bounds = k.bounds;
   plan = k.plan;
@@ -288,38 +334,39 @@ answered_local l reply k low all = record {
   trace = k.trace;
   log = omega (arith, longer);
   part = tt;
-  paid = omega (arith, paid_after (Some reply) false (blocks_of l.config.width (command_of l)) l.balance);
+  paid = omega arith;
   settled = tt;
-  sound = sound_over l.rate l.config.object reply false (blocks_of l.config.width (command_of l)) l.balance all k.sound;
-  units = omega (arith, more, k.units, units_over reply false (blocks_of l.config.width (command_of l)) l.balance);
-  worked = subst (λ n. works (l.log ++ entry_of l.thread (command_of l) l.balance.paid reply ∷ []) ≤ n * (l.rate * l.config.object)) (sym longer) (omega (arith, more, k.worked, k.paid, owed_low l k));
+  sound = sound_over l.rate l.config.object reply false (units_told (command_of l)) (blocks_of l.config.width (command_of l)) l.balance (price_paid l k all) k.sound;
+  account = paid_over reply false (units_told (command_of l)) _ (blocks_of l.config.width (command_of l)) l.balance;
+  units = omega (arith, more, k.units, units_over reply false (units_told (command_of l)) (blocks_of l.config.width (command_of l)) l.balance);
+  worked = subst (λ n. works (l.log ++ entry_of l.thread (command_of l) l.spent reply ∷ []) ≤ n * most_work l.config l.rate) (sym longer) (grows _ _ _ _ _ more k.worked (omega (arith, k.paid, owed_low l k)));
   made = omega (arith, longer, made_low reply l.made, k.made);
   space = k.space;
   roomy = tt;
 }
   where
-    longer : length (l.log ++ entry_of l.thread (command_of l) l.balance.paid reply ∷ []) ≡ suc (length l.log)
-    longer = length-append l.log (entry_of l.thread (command_of l) l.balance.paid reply ∷ []) ∙ omega arith
+    longer : length (l.log ++ entry_of l.thread (command_of l) l.spent reply ∷ []) ≡ suc (length l.log)
+    longer = length-append l.log (entry_of l.thread (command_of l) l.spent reply ∷ []) ∙ omega arith
 
-    more : works (l.log ++ entry_of l.thread (command_of l) l.balance.paid reply ∷ []) ≡ works l.log + (l.balance.paid + 0)
-    more = works_append l.log (entry_of l.thread (command_of l) l.balance.paid reply ∷ [])
+    more : works (l.log ++ entry_of l.thread (command_of l) l.spent reply ∷ []) ≡ works l.log + (l.spent + 0)
+    more = works_append l.log (entry_of l.thread (command_of l) l.spent reply ∷ [])
 
-pub answered_with : (l : LocalState) (reply : Reply) (log : List Entry) (k : Command) (b : Balance) (made : ℕ) → IsLocal l → length l.log < length l.trace → l.balance.paid ≡ owed l → log ≡ l.log ++ entry_of l.thread k l.balance.paid reply ∷ [] → k ≡ command_of l
-    → b ≡ balance_paid (Some reply) false (blocks_of l.config.width k) l.balance → made ≡ made_got (Some reply) l.made → IsLocal (record l { log = log; balance = b; made = made; part = Leave })
+pub answered_with : (l : LocalState) (reply : Reply) (log : List Entry) (k : Command) (b : Balance) (made : ℕ) → IsLocal l → length l.log < length l.trace → l.spent ≡ owed l → log ≡ l.log ++ entry_of l.thread k l.spent reply ∷ [] → k ≡ command_of l
+    → b ≡ balance_paid (Some reply) false (units_told k) (blocks_of l.config.width k) l.balance → made ≡ made_got (Some reply) l.made → IsLocal (record l { log = log; balance = b; spent = 0; made = made; part = Leave })
 answered_with l reply log k b made inside low all is e pays more =
-    subst (λ x. IsLocal (record l { log = log; balance = b; made = x; part = Leave })) (sym more)
-    (subst (λ x. IsLocal (record l { log = log; balance = x; made = made_got (Some reply) l.made; part = Leave })) (sym (pays ∙ ap (λ y. balance_paid (Some reply) false (blocks_of l.config.width y) l.balance) e))
-    (subst (λ x. IsLocal (record l { log = x; balance = balance_paid (Some reply) false (blocks_of l.config.width (command_of l)) l.balance; made = made_got (Some reply) l.made; part = Leave }))
-    (sym (is ∙ ap (λ y. l.log ++ entry_of l.thread y l.balance.paid reply ∷ []) e)) (answered_local l reply inside low all)))
+    subst (λ x. IsLocal (record l { log = log; balance = b; spent = 0; made = x; part = Leave })) (sym more)
+    (subst (λ x. IsLocal (record l { log = log; balance = x; spent = 0; made = made_got (Some reply) l.made; part = Leave })) (sym (pays ∙ ap (λ y. balance_paid (Some reply) false (units_told y) (blocks_of l.config.width y) l.balance) e))
+    (subst (λ x. IsLocal (record l { log = x; balance = balance_paid (Some reply) false (units_told (command_of l)) (blocks_of l.config.width (command_of l)) l.balance; spent = 0; made = made_got (Some reply) l.made; part = Leave }))
+    (sym (is ∙ ap (λ y. l.log ++ entry_of l.thread y l.spent reply ∷ []) e)) (answered_local l reply inside low all)))
 
 -- the units owed fit
 pub product_low : (l : LocalState) (n : ℕ) → IsLocal l → n ≡ blocks_of l.config.width (command_of l) → l.rate * n ≤ 134215680
-product_low l n k e = let due : l.rate * n ≡ owed l = ap (λ x. l.rate * x) e in omega (arith, owed_low l k, units_low l k)
+product_low l n k e = let due : l.rate * n ≡ l.rate * blocks_of l.config.width (command_of l) = ap (λ x. l.rate * x) e in omega (arith, price_low l k, units_low l k)
 
-pub paid_low : (l : LocalState) → IsLocal l → l.balance.paid ≤ 134215680
+pub paid_low : (l : LocalState) → IsLocal l → l.spent ≤ 134346750
 paid_low l k = omega (arith, k.paid, owed_low l k, units_low l k)
 
 pub worked_low : (l : LocalState) → IsLocal l → works l.log ≤ 2 ^ 45
 worked_low l k =
-    let a : length l.log * (l.rate * l.config.object) ≤ 131072 * (l.rate * l.config.object) = mul-le-mul_right (l.rate * l.config.object) (omega (arith, k.log, k.trace.few)) in
+    let a : length l.log * most_work l.config l.rate ≤ 131072 * most_work l.config l.rate = mul-le-mul_right (most_work l.config l.rate) (omega (arith, k.log, k.trace.few)) in
     omega (arith, k.worked, units_low l k)

@@ -183,12 +183,12 @@ module _ (c : Config) (s : State) (k : IsReached c s) (done : AllDone c s) where
 
   logged : (t : ℕ) → t < c.threads → part t k.run.order ≡ (local_at c s t).log
   logged t tl =
-      (kept.locals t tl).told ∙ ap (λ p. (local_at c s t).log ++ entries_of (local_at c s t).thread (command_of (local_at c s t)) (local_at c s t).balance.paid (waiting (replay c k.run.order) p)) (rest_is (local_at c s t).part (over t tl).0) ∙ append-nil (local_at c s t).log
+      (kept.locals t tl).told ∙ ap (λ p. (local_at c s t).log ++ entries_of (local_at c s t).thread (command_of (local_at c s t)) (local_at c s t).spent (waiting (replay c k.run.order) p)) (rest_is (local_at c s t).part (over t tl).0) ∙ append-nil (local_at c s t).log
 
   made : (t : ℕ) → t < c.threads → works (get_or (logs_of s) t []) ≡ units_made c t (opened c k.by_turns.first) k.turns
   made t tl =
-      let settled : IsSettled (owed (local_at c s t)) (local_at c s t).balance.paid Rest = subst (λ p. IsSettled (owed (local_at c s t)) (local_at c s t).balance.paid p) (rest_is (local_at c s t).part (over t tl).0) (kept.locals t tl).settled in
-      let paid : (local_at c k.run.state t).balance.paid ≡ 0 = ap (λ x. (local_at c x t).balance.paid) (sym k.state) ∙ settled in
+      let settled : IsSettled (owed (local_at c s t)) (local_at c s t).spent Rest = subst (λ p. IsSettled (owed (local_at c s t)) (local_at c s t).spent p) (rest_is (local_at c s t).part (over t tl).0) (kept.locals t tl).settled in
+      let paid : (local_at c k.run.state t).spent ≡ 0 = ap (λ x. (local_at c x t).spent) (sym k.state) ∙ settled in
       let log : works (get_or (logs_of s) t []) ≡ works (part t k.run.order) = ap works (log_at s.locals t (no_local c) ∙ sym (logged t tl)) in
       log ∙ omega (arith, paid, run_makes c (traces_of s) k.job k.turns k.run k.by_turns t tl)
 

@@ -26,7 +26,8 @@ use Rattle.build_steps.specs.Rows.{BuildState, build_got, build_reply}
 use Rattle.heap_system.specs.declared.local.Part.{Part}
 use Rattle.heap_system.specs.declared.local.Part.TheVariants.{Rest, Enter, Serve, Mark, Sweep, Build, Again, Idle, TurnOver, Leave}
 use Rattle.build_steps.specs.declared.rows.BuildRow.{BuildRow}
-use Rattle.heap_system.specs.Locals.{LocalState, Effect, Errand, View, command_of, errand_of, entries_of, balance_got, made_got, pass_got, effect, view, first_part, if_entered, if_over, if_replied, is_last, part_got, local_got, is_done, is_rest, pass_by, at_start}
+use Rattle.never_heap.specs.RightWork.{units_told}
+use Rattle.heap_system.specs.Locals.{LocalState, Effect, Errand, View, command_of, errand_of, entries_of, paid_got, balance_got, made_got, pass_got, effect, view, first_part, if_entered, if_over, if_replied, is_last, part_got, local_got, is_done, is_rest, pass_by, at_start}
 use Rattle.heap_system.specs.Machines.{State, Run, local_at, no_local, heap_in, word_read, next_effect, event_done, has_event, turned, items_by, decided, names_after, next, after_turns, starts_from, opened, IsOpening, IsRunOf}
 use Rattle.heap_system.specs.Naming.{renamed, opening_names}
 use Rattle.heap_system.specs.Systems.{logs_of}
@@ -177,8 +178,9 @@ local_room : (l : LocalState) (w : ℕ) → local_got (without_room l) w ≡ wit
 local_room l w = λ i.
     let e : Effect = effect_room l.config l.part w i in
     record (without_room (local_got l w)) {
-      log = l.log ++ entries_of l.thread (command_of l) l.balance.paid e.reply;
-      balance = balance_got e (blocks_of l.config.width (command_of l)) l.balance;
+      log = l.log ++ entries_of l.thread (command_of l) l.spent e.reply;
+      balance = balance_got e (units_told (command_of l)) (blocks_of l.config.width (command_of l)) l.balance;
+      spent = paid_got e.reply e.unit l.spent;
       made = made_got e.reply l.made;
       pass = pass_got e.entered l.thread l.config.threads l.pass;
       part = got_room l.config l.thread (errand_of l) l.pass l.part w i;
@@ -232,7 +234,7 @@ module _ (c : Config) (t : ℕ) (s : State) where
   turned_room = (λ i. cond (event_room i) (done_without_room i) (state_without_room s)) ∙ cond_of state_without_room (has_event c t s) (event_done c t s) s
 
   decided_room : (order : List HistoryItem) → decided c t (state_without_room s) order ≡ decided c t s order
-  decided_room order = λ i. cond (event_room i) (items_by c t (command_of (local_at_room c s t i)) (local_at_room c s t i).balance.paid order (next_effect_room i)) []
+  decided_room order = λ i. cond (event_room i) (items_by c t (command_of (local_at_room c s t i)) (local_at_room c s t i).spent order (next_effect_room i)) []
 
   names_room : (order : List HistoryItem) (ns : Names) → names_after c t (record { state = state_without_room s; order = order; names = ns }) ≡ names_after c t (record { state = s; order = order; names = ns })
   names_room order ns = λ i. cond (event_room i) (renamed t (replay c order) (heap_in c s) (next_effect_room i).naming ns) ns

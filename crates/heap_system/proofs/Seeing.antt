@@ -14,6 +14,7 @@ use Rattle.never_heap.specs.declared.Reply.{Reply}
 use Rattle.never_heap.specs.Bounds.{IsCommandInBounds}
 use Rattle.never_heap.specs.Graphs.{Graph, count_of}
 use Rattle.never_heap.specs.Histories.{HistoryItem, Did}
+use Rattle.never_heap.specs.RightWork.{units_told}
 use Rattle.never_heap.specs.Steps.{step, makes_object}
 use Rattle.heap_machine.specs.Gating.{Gating, GateOf, is_outside, is_inside}
 use Rattle.heap_machine.specs.Holdings.{Holding, holds_nothing}
@@ -36,7 +37,7 @@ use Rattle.work_account.specs.Accounts.{Balance}
 use Rattle.kept_names.specs.Pictures.{Names, Task, no_task, picture}
 use Rattle.heap_system.specs.declared.local.Part.{Part}
 use Rattle.heap_system.specs.declared.local.Part.TheVariants.{Rest, Enter, Serve, Mark, Sweep, Build, Idle, TurnOver, Leave}
-use Rattle.heap_system.specs.Locals.{Errand, Effect, Verdict, Open, AsStep, Refused, task, pass_got, paid_got, made_got, entry_of, entries_of, works, unit_to_come, PartFits, IsRoomy}
+use Rattle.heap_system.specs.Locals.{paid_part, Errand, Effect, Verdict, Open, AsStep, Refused, task, pass_got, paid_got, made_got, entry_of, entries_of, works, unit_to_come, PartFits, IsRoomy}
 use Rattle.heap_system.specs.Machines.{starts_by}
 use Rattle.heap_system.specs.Naming.{renamed}
 use Rattle.heap_system.specs.Pictures.{gating, holding, waiting}
@@ -178,6 +179,7 @@ pub record Seen (c : Config) : Type 0 where
   pub all : ℕ
   pub due : ℕ
   pub balance : Balance
+  pub spent : ℕ
   pub made : ℕ
   pub space : ℕ
   pub bounds : IsInBounds c
@@ -188,7 +190,8 @@ pub record Seen (c : Config) : Type 0 where
   pub few : made ≤ done
   pub many : all ≤ 131072
   pub room : c.object ≤ space
-  pub free : makes_object command ≡ false → due ≡ 0
+  pub free : makes_object command ≡ false → due ≡ units_told command
+  pub account : balance.paid ≡ paid_part (units_told command) spent
   pub gate : GateOf c.threads (heap Phase) gatings
   pub held : IsHeld c heap
   pub beyond : (x : ℕ) → is_block (extent c) x ≡ false → heap (ColourOf x) ≡ 0
@@ -202,7 +205,7 @@ pub record Seen (c : Config) : Type 0 where
   pub builders : (u : ℕ) → u < c.threads → HoldsBuild (tasks u).build (holds u)
 
 abbrev pub errand : (c : Config) → Seen c → Errand
-errand c s = record { command = s.command; due = s.due - s.balance.paid; serial = s.made + 1; space = s.space }
+errand c s = record { command = s.command; due = s.due - s.spent; serial = s.made + 1; space = s.space }
 
 -- the graph after an event of thread t in command k, by its verdict
 abbrev pub graph_decided : Graph → ℕ → Command → Verdict → Graph
@@ -232,21 +235,21 @@ pub record EventKept (c : Config) (s : Seen c) (new : Heap) (e : Effect) (before
   pub gate : GateOf c.threads (new Phase) (changed s.gatings s.thread (gating c (pass_got e.entered s.thread c.threads s.pass) p))
   pub held : IsHeld c new
   pub rules : PhaseKept (extent c) new (changed s.holds s.thread (holding c p))
-  pub kept : IsKept c (picture (graph_decided s.graph s.thread s.command e.verdict) (s.order ++ (items_told s.graph s.thread s.command s.balance.paid e.verdict ++ starts_by e.naming)) new
+  pub kept : IsKept c (picture (graph_decided s.graph s.thread s.command e.verdict) (s.order ++ (items_told s.graph s.thread s.command s.spent e.verdict ++ starts_by e.naming)) new
       (renamed s.thread s.graph s.heap e.naming s.names) (changed s.tasks s.thread (task c p)))
   pub unshaded : is_sweep (new Phase) ≡ true → is_closed (new Phase) ≡ false → (t : ℕ) → t < c.threads → (renamed s.thread s.graph s.heap e.naming s.names).shaded t ≡ false
   pub forward : Forward s.heap new
   pub behind : stage (pass_got e.entered s.thread c.threads s.pass).cycle (pass_got e.entered s.thread c.threads s.pass).sweep ≤ stage_of new
-  pub leads : lead c new + (s.balance.paid + unpassed (s.holds s.thread)) ≤ lead c s.heap + (works (entries_of s.thread s.command s.balance.paid e.reply) + paid_got e.reply e.unit s.balance.paid + unpassed (holding c p))
+  pub leads : lead c new + (s.spent + unpassed (s.holds s.thread)) ≤ lead c s.heap + (works (entries_of s.thread s.command s.spent e.reply) + paid_got e.reply e.unit s.spent + unpassed (holding c p))
   pub part : PartKept c (graph_decided s.graph s.thread s.command e.verdict) s.thread (pass_got e.entered s.thread c.threads s.pass) s.command p
   pub knows : Knows c new (renamed s.thread s.graph s.heap e.naming s.names) (pass_got e.entered s.thread c.threads s.pass) p
   pub fits : PartFits c s.done s.all (pass_got e.entered s.thread c.threads s.pass) p
   pub roomy : IsRoomy s.space p
   pub over : (r : Reply) → e.reply ≡ Some r → p ≡ Leave
-  pub told : entries_of s.thread s.command s.balance.paid before ++ told_by s.graph s.thread s.command s.balance.paid e.verdict
-      ≡ entries_of s.thread s.command s.balance.paid e.reply ++ entries_of s.thread s.command (paid_got e.reply e.unit s.balance.paid) (waiting (graph_decided s.graph s.thread s.command e.verdict) p)
-  pub low : paid_got e.reply e.unit s.balance.paid + unit_to_come c p ≤ s.due
-  pub settled : IsSettled s.due (paid_got e.reply e.unit s.balance.paid) p
-  pub exact : IsDecided e.verdict → s.balance.paid ≡ s.due
-  pub counted : works (told_by s.graph s.thread s.command s.balance.paid e.verdict) ≡ works (entries_of s.thread s.command s.balance.paid e.reply)
+  pub told : entries_of s.thread s.command s.spent before ++ told_by s.graph s.thread s.command s.spent e.verdict
+      ≡ entries_of s.thread s.command s.spent e.reply ++ entries_of s.thread s.command (paid_got e.reply e.unit s.spent) (waiting (graph_decided s.graph s.thread s.command e.verdict) p)
+  pub low : paid_got e.reply e.unit s.spent + unit_to_come c p ≤ s.due
+  pub settled : IsSettled s.due (paid_got e.reply e.unit s.spent) p
+  pub exact : IsDecided e.verdict → s.spent ≡ s.due
+  pub counted : works (told_by s.graph s.thread s.command s.spent e.verdict) ≡ works (entries_of s.thread s.command s.spent e.reply)
   pub counts : made_got e.reply s.made ≡ count_of (graph_decided s.graph s.thread s.command e.verdict) s.thread

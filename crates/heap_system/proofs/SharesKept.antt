@@ -8,6 +8,7 @@ use Rattle.block_store.proofs.Functions.{bit_one}
 use Rattle.rate_plan.specs.Rates.{IsRate}
 use Rattle.never_heap.specs.declared.Command.{Command}
 use Rattle.never_heap.specs.Histories.{HistoryItem, Started, part, replay, starts_in}
+use Rattle.never_heap.specs.RightWork.{units_told}
 use Rattle.never_heap.specs.Steps.{blocks_of}
 use Rattle.never_heap.proofs.Growing.{part_append}
 use Rattle.work_account.specs.Accounts.{Balance}
@@ -95,7 +96,7 @@ module _ (c : Config) (traces : List (List Command)) (job : IsJob c traces) (rat
     after = new_run c traces (laws_of c) job.bounds.config job.plan r kept u ul
 
     abbrev entries : List HistoryItem
-    entries = entries_by c u (command_of me) me.balance.paid r.order e.verdict
+    entries = entries_by c u (command_of me) me.spent r.order e.verdict
 
     started : starts_in r.order ≡ now
     started = kept.names.ordered.started
@@ -119,7 +120,7 @@ module _ (c : Config) (traces : List (List Command)) (job : IsJob c traces) (rat
         ap (λ b. bit (b && eqb now z)) unit ∙ and_at e.unit now z
 
     abbrev balance_then : Balance
-    balance_then = balance_got e (blocks_of c.width (command_of me)) me.balance
+    balance_then = balance_got e (units_told (command_of me)) (blocks_of c.width (command_of me)) me.balance
 
     -- its units
     own_units : (f : ℕ → ℕ) → IsShare me.balance.units me.balance f
@@ -128,9 +129,9 @@ module _ (c : Config) (traces : List (List Command)) (job : IsJob c traces) (rat
         let k : ℕ = blocks_of c.width (command_of me) in
         let b : Balance = balance_in e.entered me.balance in
         subst (λ n. IsShare n balance_then (λ z. f z + bit (is_unit_in c z u r.state)))
-        (sym (units_grow e.reply e.unit k b (reply_no_unit c me.part word)))
+        (sym (units_grow e.reply e.unit (units_told (command_of me)) k b (reply_no_unit c me.part word)))
         (share_more b.units (bit e.unit) now b balance_then f (λ z. f z + bit (is_unit_in c z u r.state))
-        (cycle_stays e.reply e.unit k b) (units_went_in e.entered me.balance f s)
+        (cycle_stays e.reply e.unit (units_told (command_of me)) k b) (units_went_in e.entered me.balance f s)
         (λ zero z. let no : cond (eqb now z) (bit e.unit) 0 ≡ 0 = cond_zero (eqb now z) (bit e.unit) zero in omega (arith, adds z, no))
         (λ some. (
           present (unit_inside c me.part word (bit_one e.unit (omega (arith, some)))),
@@ -139,17 +140,17 @@ module _ (c : Config) (traces : List (List Command)) (job : IsJob c traces) (rat
         )))
 
     -- what it was given: the blocks of the entry that the order gets and those of its reply
-    told_gives : blocks_given c.width (told_by (replay c r.order) u (command_of me) me.balance.paid e.verdict)
-        ≡ blocks_given c.width (entries_of u (command_of me) me.balance.paid e.reply)
+    told_gives : blocks_given c.width (told_by (replay c r.order) u (command_of me) me.spent e.verdict)
+        ≡ blocks_given c.width (entries_of u (command_of me) me.spent e.reply)
     told_gives =
         let did = event c traces (laws_of c) job.bounds.config job.plan r kept u ul going in
         let part = new_part c traces (laws_of c) job.bounds.config job.plan r kept u ul in
-        let before = entries_of u (command_of me) me.balance.paid (waiting (replay c r.order) me.part) in
-        let told = told_by (replay c r.order) u (command_of me) me.balance.paid e.verdict in
-        let reply = entries_of u (command_of me) me.balance.paid e.reply in
+        let before = entries_of u (command_of me) me.spent (waiting (replay c r.order) me.part) in
+        let told = told_by (replay c r.order) u (command_of me) me.spent e.verdict in
+        let reply = entries_of u (command_of me) me.spent e.reply in
         let graph = new_graph c traces (laws_of c) job.bounds.config job.plan r kept u ul in
         let pass = new_pass c traces (laws_of c) job.bounds.config job.plan r kept u ul in
-        let paid = paid_got e.reply e.unit me.balance.paid in
+        let paid = paid_got e.reply e.unit me.spent in
         let behind = entries_of u (command_of me) paid (waiting graph part) in
         let both : blocks_given c.width (before ++ told) ≡ blocks_given c.width (reply ++ behind) = ap (blocks_given c.width) did.told in
         omega (
@@ -157,14 +158,14 @@ module _ (c : Config) (traces : List (List Command)) (job : IsJob c traces) (rat
           both,
           given_append c.width before told,
           given_append c.width reply behind,
-          waiting_gives_none c (replay c r.order) (replay c r.order) u me.pass (command_of me) me.part c.width me.balance.paid (kept.locals u ul).stands,
+          waiting_gives_none c (replay c r.order) (replay c r.order) u me.pass (command_of me) me.part c.width me.spent (kept.locals u ul).stands,
           waiting_gives_none c graph graph u pass (command_of me) part c.width paid did.part,
         )
 
     own_entries : blocks_given c.width (part u (entries ++ starts_by e.naming))
-        ≡ blocks_given c.width (entries_of u (command_of me) me.balance.paid e.reply)
+        ≡ blocks_given c.width (entries_of u (command_of me) me.spent e.reply)
     own_entries =
-        ap (blocks_given c.width) (own_items c r.order u (command_of me) me.balance.paid e.verdict e.naming)
+        ap (blocks_given c.width) (own_items c r.order u (command_of me) me.spent e.verdict e.naming)
         ∙ told_gives
 
     own_given : IsShare me.balance.given me.balance (given_since c.width u r.order)
@@ -172,15 +173,15 @@ module _ (c : Config) (traces : List (List Command)) (job : IsJob c traces) (rat
     own_given s =
         let k : ℕ = blocks_of c.width (command_of me) in
         let b : Balance = balance_in e.entered me.balance in
-        let d : ℕ = blocks_given c.width (entries_of u (command_of me) me.balance.paid e.reply) in
-        let none = entries_start_none c u (command_of me) me.balance.paid r.order e.verdict in
+        let d : ℕ = blocks_given c.width (entries_of u (command_of me) me.spent e.reply) in
+        let none = entries_start_none c u (command_of me) me.spent r.order e.verdict in
         subst (λ n. IsShare n balance_then (given_since c.width u after.order))
-        (sym (given_grows c.width e.reply e.unit u me.balance.paid (command_of me) b))
+        (sym (given_grows c.width e.reply e.unit (units_told (command_of me)) u me.spent (command_of me) b))
         (share_more b.given d now b balance_then (given_since c.width u r.order) (given_since c.width u after.order)
-        (cycle_stays e.reply e.unit k b) (given_went_in e.entered me.balance (given_since c.width u r.order) s)
+        (cycle_stays e.reply e.unit (units_told (command_of me)) k b) (given_went_in e.entered me.balance (given_since c.width u r.order) s)
         (λ zero. since_same c.width u r.order entries e.naming none (own_entries ∙ zero))
         (λ some. (
-          (let had = reply_gives c.width u me.balance.paid (command_of me) e.reply some in
+          (let had = reply_gives c.width u me.spent (command_of me) e.reply some in
               present (reply_inside c me.part word had.0 had.1)),
           subst (λ z. given_since c.width u after.order z ≡ given_since c.width u r.order z + d) started
               (since_more c.width u r.order entries e.naming none (starts_in r.order) (omega (arith, started, kept.names.ordered.some)) (omega arith)
@@ -210,9 +211,9 @@ module _ (c : Config) (traces : List (List Command)) (job : IsJob c traces) (rat
         ∙ cond_no _ _ _ (ne_eqb u t ne) in
         let items : part t (entries ++ starts_by e.naming) ≡ [] =
         part_append t entries (starts_by e.naming)
-        ∙ ap (λ xs. xs ++ part t (starts_by e.naming)) (entries_away c r.order u (command_of me) me.balance.paid e.verdict t ne)
+        ∙ ap (λ xs. xs ++ part t (starts_by e.naming)) (entries_away c r.order u (command_of me) me.spent e.verdict t ne)
         ∙ part_starts t e.naming in
-        let given = since_same c.width t r.order entries e.naming (entries_start_none c u (command_of me) me.balance.paid r.order e.verdict) (ap (blocks_given c.width) items) in
+        let given = since_same c.width t r.order entries e.naming (entries_start_none c u (command_of me) me.spent r.order e.verdict) (ap (blocks_given c.width) items) in
         record {
           units = subst (λ (l : LocalState). IsShare l.balance.units l.balance f) (sym same) s.units;
           given = subst (λ (l : LocalState). IsShare l.balance.given l.balance (given_since c.width t after.order)) (sym same)

@@ -27,7 +27,7 @@ use Rattle.heap_system.specs.Machines.{entries_by, starts_by}
 use Rattle.heap_system.specs.Naming.{Naming, Begun}
 use Rattle.heap_system.specs.Pictures.{stand_of, waiting}
 use Rattle.heap_system.specs.Shares.{blocks_given, given_in}
-use Rattle.heap_system.proofs.Balances.{units_over}
+use Rattle.heap_system.proofs.Balances.{units_over, made_cycle, made_units, made_given}
 use Rattle.heap_system.proofs.Seeing.{PartKept}
 
 -- the blocks that thread t was given in an order since the start of cycle z
@@ -93,32 +93,32 @@ given_went_in None b f s = s
 given_went_in (Some p) b f s = given_begins p.cycle b f s
 
 -- what an event makes of a balance, once its thread is in
-pub cycle_stays : (o : Option Reply) (unit : Bool) (k : ℕ) (b : Balance)
-    → (balance_paid o unit k b).cycle ≡ b.cycle
-cycle_stays None true k b = refl
-cycle_stays None false k b = refl
-cycle_stays (Some (replies.New a)) unit k b = refl
-cycle_stays (Some _) unit k b = refl
+pub cycle_stays : (o : Option Reply) (unit : Bool) (told k : ℕ) (b : Balance)
+    → (balance_paid o unit told k b).cycle ≡ b.cycle
+cycle_stays None true told k b = made_cycle told b
+cycle_stays None false told k b = refl
+cycle_stays (Some (replies.New a)) unit told k b = refl
+cycle_stays (Some _) unit told k b = refl
 
-pub units_grow : (o : Option Reply) (unit : Bool) (k : ℕ) (b : Balance)
+pub units_grow : (o : Option Reply) (unit : Bool) (told k : ℕ) (b : Balance)
     → ((r : Reply) → o ≡ Some r → unit ≡ false)
-    → (balance_paid o unit k b).units ≡ b.units + bit unit
-units_grow None true k b none = refl
-units_grow None false k b none = omega arith
-units_grow (Some (replies.New a)) unit k b none =
+    → (balance_paid o unit told k b).units ≡ b.units + bit unit
+units_grow None true told k b none = made_units told b
+units_grow None false told k b none = omega arith
+units_grow (Some (replies.New a)) unit told k b none =
     let no : bit unit ≡ 0 = ap bit (none (replies.New a) refl) in omega (arith, no)
-units_grow (Some r) unit k b none =
+units_grow (Some r) unit told k b none =
     let no : bit unit ≡ 0 = ap bit (none r refl) in
-    let same : (balance_paid (Some r) unit k b).units ≡ b.units = units_over r unit k b in
+    let same : (balance_paid (Some r) unit told k b).units ≡ b.units = units_over r unit told k b in
     omega (arith, no, same)
 
-pub given_grows : (w : Width) (o : Option Reply) (unit : Bool) (t work : ℕ) (k : Command) (b : Balance)
-    → (balance_paid o unit (blocks_of w k) b).given
+pub given_grows : (w : Width) (o : Option Reply) (unit : Bool) (told t work : ℕ) (k : Command) (b : Balance)
+    → (balance_paid o unit told (blocks_of w k) b).given
     ≡ b.given + blocks_given w (entries_of t k work o)
-given_grows w None true t work k b = omega arith
-given_grows w None false t work k b = omega arith
-given_grows w (Some (replies.New a)) unit t work k b = omega arith
-given_grows w (Some _) unit t work k b = omega arith
+given_grows w None true told t work k b = omega (arith, made_given told b)
+given_grows w None false told t work k b = omega arith
+given_grows w (Some (replies.New a)) unit told t work k b = omega arith
+given_grows w (Some _) unit told t work k b = omega arith
 
 -- a thread that makes a unit or has a reply is inside, and does not go in
 pub unit_inside : (c : Config) (p : Part) (w : ℕ) → (effect c p w).unit ≡ true

@@ -9,13 +9,13 @@ use Rattle.never_heap.specs.declared.Command.{Command}
 use Rattle.never_heap.specs.declared.Command.TheVariants as commands
 use Rattle.never_heap.specs.declared.Reply.{Reply}
 use Rattle.never_heap.specs.declared.Reply.TheVariants as replies
-use Rattle.never_heap.specs.Graphs.{Graph, Mutator, count_of, object_of, mutator_at, register_of, with_register, with_object, next_name}
+use Rattle.never_heap.specs.Graphs.{Graph, Mutator, count_of, object_of, field_of, mutator_at, register_of, with_register, with_field, with_object, next_name}
 use Rattle.never_heap.specs.Histories.{is_full}
 use Rattle.never_heap.specs.Steps.{step, makes_object, at_field, at_object, same_value}
 use Rattle.never_heap.proofs.GraphMoves.{mutator_with}
 use Rattle.never_heap.proofs.FieldStores.{registers_with_field, registers_with_object}
-use Rattle.never_heap.proofs.Stepping.{has_field, Change, change_of, step_count, count_of_other}
-use Rattle.never_heap.proofs.Stepping.Change.{none, store, put, make}
+use Rattle.never_heap.proofs.Stepping.{has_field, threads_put, Change, change_of, step_count, count_of_other}
+use Rattle.never_heap.proofs.Stepping.Change.{none, store, put, swap, make}
 
 field_answers : (g : Graph) (v : Value) (i : ℕ) (act : Name → Graph × Reply) → ((a : Name) → is_full (act a).1 ≡ false) → is_full (at_field g v i act).1 ≡ false
 field_answers g Nil i act h = refl
@@ -34,6 +34,10 @@ same_answers : (b : Bool) → is_full (cond b replies.Yes replies.No) ≡ false
 same_answers true = refl
 same_answers false = refl
 
+same_stored : (b : Bool) (h g : Graph) → is_full (cond {A = Graph × Reply} b (h, replies.Yes) (g, replies.No)).1 ≡ false
+same_stored true h g = refl
+same_stored false h g = refl
+
 -- no step answers full
 pub never_full : (g : Graph) (t : ℕ) (command : Command) → is_full (step g t command).1 ≡ false
 never_full g t (commands.New d f) = refl
@@ -46,6 +50,9 @@ never_full g t (commands.Put s i v) = field_answers g (register_of g t s) i _ (�
 never_full g t (commands.Len s) = object_answers g (register_of g t s) _ (λ a. refl)
 never_full g t (commands.Same a b) = same_answers (same_value (register_of g t a) (register_of g t b))
 never_full g t (commands.Say s) = refl
+never_full g t (commands.Swap s i v) = field_answers g (register_of g t s) i _ (λ a. refl)
+never_full g t (commands.Cas s i a v) = field_answers g (register_of g t s) i _ (λ n. same_stored (same_value (field_of (object_of g n) i) (register_of g t a)) (with_field g n i (register_of g t v)) g)
+never_full g t (commands.Idle u) = refl
 
 stored_registers : (g : Graph) (t d u : ℕ) (v : Value) → t < length g.mutators → (t ≡ u → ⊥) → (mutator_at (with_register g t d v) u).registers ≡ (mutator_at g u).registers
 stored_registers g t d u v there other =
@@ -57,6 +64,9 @@ other_registers : (g : Graph) (t u : ℕ) (new : Bool) (h : Graph) → t < lengt
 other_registers g t u new _ there other none = refl
 other_registers g t u new _ there other (store d v s) = stored_registers g t d u v there other
 other_registers g t u new _ there other (put s i v a e l) = registers_with_field g a i (register_of g t v) (has_field g a i l) u
+other_registers g t u new _ there other (swap s i v a e l) =
+    let same : length (with_field g a i (register_of g t v)).mutators ≡ length g.mutators = threads_put g a i (register_of g t v) l in
+    stored_registers (with_field g a i (register_of g t v)) t v u (field_of (object_of g a) i) (omega arith) other ∙ registers_with_field g a i (register_of g t v) (has_field g a i l) u
 other_registers g t u new _ there other (make d o n e y) =
     let same : length (with_object g t o).mutators ≡ length g.mutators = length-set g.mutators t _ in
     stored_registers (with_object g t o) t d u (Ref (next_name g t)) (omega arith) other ∙ registers_with_object g t o there u

@@ -1,5 +1,5 @@
 -- The laws, from what every run keeps.
-use Rattle.std.proofs.Common.{◌≤◌, ◌≡◌, ℕ, ◌<◌, ◌*◌, true, false, List, ◌++◌, ◌∷◌, [], append-nil, ap, ◌∙◌, subst, arith}
+use Rattle.std.proofs.Common.{◌≤◌, ◌≡◌, ℕ, ◌<◌, ◌*◌, true, false, List, ◌++◌, ◌∷◌, [], append-nil, ap, ◌∙◌, subst, sym, arith, length, ◌+◌}
 use Rattle.block_store.specs.declared.Config.{Config}
 use Rattle.never_heap.specs.declared.Command.{Command}
 use Rattle.never_heap.specs.declared.Reply.{Reply}
@@ -14,7 +14,9 @@ use Rattle.build_steps.specs.Rows.{BuildState}
 use Rattle.kept_names.specs.Pictures.{no_task}
 use Rattle.heap_system.specs.declared.local.Part.{Part}
 use Rattle.heap_system.specs.declared.local.Part.TheVariants.{Rest, Serve, Build, Leave}
-use Rattle.heap_system.specs.Locals.{task, is_rest, command_of, owed, entry_of, entries_of}
+use Rattle.never_heap.specs.RightWork.{units_told}
+use Rattle.heap_system.proofs.Looking.{decided_untold}
+use Rattle.heap_system.specs.Locals.{PartFits, task, is_rest, command_of, owed, entry_of, entries_of}
 use Rattle.heap_system.specs.Machines.{Run, local_at}
 use Rattle.heap_system.specs.Units.{IsRight}
 use Rattle.heap_system.specs.Pictures.{holding, waiting}
@@ -28,48 +30,50 @@ module _ (c : Config) (traces : List (List Command)) (r : Run) (k : Kept c trace
   kept_at : (p : Part) → (local_at c r.state t).part ≡ p → PartKept c (replay c r.order) t (local_at c r.state t).pass (command_of (local_at c r.state t)) p
   kept_at p is = subst (λ x. PartKept c (replay c r.order) t (local_at c r.state t).pass (command_of (local_at c r.state t)) x) is (k.locals t tl).stands
 
-  settled_at : (p : Part) → (local_at c r.state t).part ≡ p → IsSettled (owed (local_at c r.state t)) (local_at c r.state t).balance.paid p
-  settled_at p is = subst (λ x. IsSettled (owed (local_at c r.state t)) (local_at c r.state t).balance.paid x) is (k.locals t tl).settled
+  settled_at : (p : Part) → (local_at c r.state t).part ≡ p → IsSettled (owed (local_at c r.state t)) (local_at c r.state t).spent p
+  settled_at p is = subst (λ x. IsSettled (owed (local_at c r.state t)) (local_at c r.state t).spent x) is (k.locals t tl).settled
 
   -- the part of the order
-  told_at : (p : Part) → (local_at c r.state t).part ≡ p → part t r.order ≡ (local_at c r.state t).log ++ entries_of t (command_of (local_at c r.state t)) (local_at c r.state t).balance.paid (waiting (replay c r.order) p)
+  told_at : (p : Part) → (local_at c r.state t).part ≡ p → part t r.order ≡ (local_at c r.state t).log ++ entries_of t (command_of (local_at c r.state t)) (local_at c r.state t).spent (waiting (replay c r.order) p)
   told_at p is =
-      (k.locals t tl).told ∙ ap (λ u. (local_at c r.state t).log ++ entries_of u (command_of (local_at c r.state t)) (local_at c r.state t).balance.paid (waiting (replay c r.order) (local_at c r.state t).part)) (k.locals t tl).thread
-      ∙ ap (λ x. (local_at c r.state t).log ++ entries_of t (command_of (local_at c r.state t)) (local_at c r.state t).balance.paid (waiting (replay c r.order) x)) is
+      (k.locals t tl).told ∙ ap (λ u. (local_at c r.state t).log ++ entries_of u (command_of (local_at c r.state t)) (local_at c r.state t).spent (waiting (replay c r.order) (local_at c r.state t).part)) (k.locals t tl).thread
+      ∙ ap (λ x. (local_at c r.state t).log ++ entries_of t (command_of (local_at c r.state t)) (local_at c r.state t).spent (waiting (replay c r.order) x)) is
 
   pub rest_told : is_rest (local_at c r.state t).part ≡ true → (part t r.order ≡ (local_at c r.state t).log) × (task c (local_at c r.state t).part ≡ no_task) × (holding c (local_at c r.state t).part ≡ holds_nothing)
   rest_told e = let is = rest_is (local_at c r.state t).part e in (told_at Rest is ∙ append-nil (local_at c r.state t).log, ap (task c) is, ap (holding c) is)
 
-  -- a command that allocates nothing has made no unit
-  unpaid : (f : FieldState) → (local_at c r.state t).part ≡ Serve f → (local_at c r.state t).balance.paid ≡ 0
-  unpaid f is =
+  -- a command that is decided and has no reply yet is told of no units, and has made none
+  unpaid : (f : FieldState) → (local_at c r.state t).part ≡ Serve f → field_decided f.row ≡ true → (local_at c r.state t).spent ≡ 0
+  unpaid f is e =
       let row : RowKept (replay c r.order) t (local_at c r.state t).pass (command_of (local_at c r.state t)) f = kept_at (Serve f) is in
-      let none : owed (local_at c r.state t) ≡ (local_at c r.state t).rate * 0 = ap (λ n. (local_at c r.state t).rate * n) (others_have_none (local_at c r.state t).config.width (command_of (local_at c r.state t)) row.serves) in
+      let fits = subst (λ p. PartFits (local_at c r.state t).config (length (local_at c r.state t).log) (length (local_at c r.state t).trace) (local_at c r.state t).pass p) is (k.locals t tl).fits.part in
+      let untold : units_told (command_of (local_at c r.state t)) ≡ 0 = ap units_told (sym row.command) ∙ decided_untold f.command f.row fits.0.belongs e row.going in
+      let none : owed (local_at c r.state t) ≡ (local_at c r.state t).rate * 0 + 0 = (λ i. (local_at c r.state t).rate * others_have_none (local_at c r.state t).config.width (command_of (local_at c r.state t)) row.serves i + untold i) in
       omega (arith, (k.locals t tl).fits.paid, none)
 
   pub decided_told : (f : FieldState) → (local_at c r.state t).part ≡ Serve f → field_decided f.row ≡ true → (y : Reply) × (part t r.order ≡ (local_at c r.state t).log ++ entry_of t (command_of (local_at c r.state t)) 0 y ∷ [])
   decided_told f is e =
       let y = some_due (replay c r.order) f.pass.thread f.command f.row e in
-      (y.0, told_at (Serve f) is ∙ ap (λ o. (local_at c r.state t).log ++ entries_of t (command_of (local_at c r.state t)) (local_at c r.state t).balance.paid o) y.1 ∙ ap (λ n. (local_at c r.state t).log ++ entry_of t (command_of (local_at c r.state t)) n y.0 ∷ []) (unpaid f is))
+      (y.0, told_at (Serve f) is ∙ ap (λ o. (local_at c r.state t).log ++ entries_of t (command_of (local_at c r.state t)) (local_at c r.state t).spent o) y.1 ∙ ap (λ n. (local_at c r.state t).log ++ entry_of t (command_of (local_at c r.state t)) n y.0 ∷ []) (unpaid f is e))
 
   pub undecided_told : (f : FieldState) → (local_at c r.state t).part ≡ Serve f → field_decided f.row ≡ false → part t r.order ≡ (local_at c r.state t).log
   undecided_told f is e =
-      told_at (Serve f) is ∙ ap (λ o. (local_at c r.state t).log ++ entries_of t (command_of (local_at c r.state t)) (local_at c r.state t).balance.paid o) (none_due (replay c r.order) f.pass.thread f.command f.row e).0 ∙ append-nil (local_at c r.state t).log
+      told_at (Serve f) is ∙ ap (λ o. (local_at c r.state t).log ++ entries_of t (command_of (local_at c r.state t)) (local_at c r.state t).spent o) (none_due (replay c r.order) f.pass.thread f.command f.row e).0 ∙ append-nil (local_at c r.state t).log
 
   pub building_told : (b : BuildState) → (local_at c r.state t).part ≡ Build b → part t r.order ≡ (local_at c r.state t).log
   building_told b is = told_at (Build b) is ∙ append-nil (local_at c r.state t).log
 
   -- what is said of the units
-  pub paid_low : (local_at c r.state t).balance.paid ≤ owed (local_at c r.state t)
+  pub paid_low : (local_at c r.state t).spent ≤ owed (local_at c r.state t)
   paid_low = omega (arith, (k.locals t tl).fits.paid)
 
-  pub rest_settled : is_rest (local_at c r.state t).part ≡ true → (local_at c r.state t).balance.paid ≡ 0
+  pub rest_settled : is_rest (local_at c r.state t).part ≡ true → (local_at c r.state t).spent ≡ 0
   rest_settled e = settled_at Rest (rest_is (local_at c r.state t).part e)
 
-  pub leave_settled : (local_at c r.state t).part ≡ Leave → (local_at c r.state t).balance.paid ≡ 0
+  pub leave_settled : (local_at c r.state t).part ≡ Leave → (local_at c r.state t).spent ≡ 0
   leave_settled is = settled_at Leave is
 
-  pub build_settled : (b : BuildState) → (local_at c r.state t).part ≡ Build b → (0 < blocks_of c.width (command_of (local_at c r.state t))) × ((local_at c r.state t).balance.paid ≡ owed (local_at c r.state t))
+  pub build_settled : (b : BuildState) → (local_at c r.state t).part ≡ Build b → (0 < blocks_of c.width (command_of (local_at c r.state t))) × ((local_at c r.state t).spent ≡ owed (local_at c r.state t))
   build_settled b is =
       let row : BuildKept c (replay c r.order) t (local_at c r.state t).pass (command_of (local_at c r.state t)) b = kept_at (Build b) is in
       (makers_have_blocks c.width (command_of (local_at c r.state t)) row.makes, settled_at (Build b) is)

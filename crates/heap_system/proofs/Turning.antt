@@ -13,6 +13,7 @@ use Rattle.rate_plan.specs.Rates.{IsAdmitted}
 use Rattle.never_heap.specs.declared.Command.{Command}
 use Rattle.never_heap.specs.Bounds.{IsCommandInBounds}
 use Rattle.never_heap.specs.Graphs.{Graph}
+use Rattle.never_heap.specs.RightWork.{units_told}
 use Rattle.never_heap.specs.Histories.{HistoryItem, replay}
 use Rattle.never_heap.specs.Steps.{makes_object, blocks_of}
 use Rattle.never_heap.proofs.Answering.{others_have_none}
@@ -86,9 +87,9 @@ module _ (c : Config) (traces : List (List Command)) (laws : (p : Part) → Part
   pub inside : IsCommandInBounds c (command_of (local_at c r.state t))
   inside = bounds_at c (local_at c r.state t).trace (length (local_at c r.state t).log) (subst (λ x. AllByRecursion (IsCommandInBounds x) (local_at c r.state t).trace) (kept.locals t tl).config (kept.locals t tl).fits.trace.commands)
 
-  pub free_of : makes_object (command_of (local_at c r.state t)) ≡ false → owed (local_at c r.state t) ≡ 0
+  pub free_of : makes_object (command_of (local_at c r.state t)) ≡ false → owed (local_at c r.state t) ≡ units_told (command_of (local_at c r.state t))
   free_of z =
-      let none : owed (local_at c r.state t) ≡ (local_at c r.state t).rate * 0 = ap (λ n. (local_at c r.state t).rate * n) (others_have_none (local_at c r.state t).config.width (command_of (local_at c r.state t)) z) in
+      let none : (local_at c r.state t).rate * blocks_of (local_at c r.state t).config.width (command_of (local_at c r.state t)) ≡ (local_at c r.state t).rate * 0 = ap (λ n. (local_at c r.state t).rate * n) (others_have_none (local_at c r.state t).config.width (command_of (local_at c r.state t)) z) in
       omega (arith, none)
 
   pub cycle_low : cycle_of (heap_in c r.state Phase) ≤ 2 ^ 54 - 3
@@ -117,6 +118,7 @@ module _ (c : Config) (traces : List (List Command)) (laws : (p : Part) → Part
     all = length (local_at c r.state t).trace;
     due = owed (local_at c r.state t);
     balance = (local_at c r.state t).balance;
+    spent = (local_at c r.state t).spent;
     made = (local_at c r.state t).made;
     space = (local_at c r.state t).space;
     bounds = bounds;
@@ -128,6 +130,7 @@ module _ (c : Config) (traces : List (List Command)) (laws : (p : Part) → Part
     many = (kept.locals t tl).fits.trace.few;
     room = room_of;
     free = free_of;
+    account = (kept.locals t tl).fits.account;
     gate = kept.gate;
     held = kept.held;
     beyond = λ x out. rw out refl;
@@ -144,8 +147,8 @@ module _ (c : Config) (traces : List (List Command)) (laws : (p : Part) → Part
   roomy : IsRoomy (local_at c r.state t).space (local_at c r.state t).part
   roomy = (kept.locals t tl).fits.roomy
 
-  pays : (local_at c r.state t).balance.paid + unit_to_come c (local_at c r.state t).part ≤ owed (local_at c r.state t)
-  pays = subst (λ (x : Config). (local_at c r.state t).balance.paid + unit_to_come x (local_at c r.state t).part ≤ owed (local_at c r.state t)) (kept.locals t tl).config (kept.locals t tl).fits.paid
+  pays : (local_at c r.state t).spent + unit_to_come c (local_at c r.state t).part ≤ owed (local_at c r.state t)
+  pays = subst (λ (x : Config). (local_at c r.state t).spent + unit_to_come x (local_at c r.state t).part ≤ owed (local_at c r.state t)) (kept.locals t tl).config (kept.locals t tl).fits.paid
 
   pub at_part : AtPart c seen (local_at c r.state t).part
   at_part = record {
@@ -195,7 +198,7 @@ module _ (c : Config) (traces : List (List Command)) (laws : (p : Part) → Part
   new_graph = graph_decided (replay c r.order) t (command_of (local_at c r.state t)) effect_here.verdict
 
   abbrev pub new_order : List HistoryItem
-  new_order = order_after c r.order t (command_of (local_at c r.state t)) (local_at c r.state t).balance.paid effect_here.verdict effect_here.naming
+  new_order = order_after c r.order t (command_of (local_at c r.state t)) (local_at c r.state t).spent effect_here.verdict effect_here.naming
 
   abbrev pub new_names : Names
   new_names = renamed t (replay c r.order) (heap_in c r.state) effect_here.naming r.names
@@ -206,8 +209,8 @@ module _ (c : Config) (traces : List (List Command)) (laws : (p : Part) → Part
   abbrev pub new_run : Run
   new_run = record { state = event_done c t r.state; order = new_order; names = new_names }
 
-  pub paid_new : new_local.balance.paid ≡ paid_got effect_here.reply effect_here.unit (local_at c r.state t).balance.paid
-  paid_new = got_paid effect_here.entered effect_here.reply effect_here.unit (blocks_of c.width (command_of (local_at c r.state t))) (local_at c r.state t).balance
+  pub paid_new : new_local.spent ≡ paid_got effect_here.reply effect_here.unit (local_at c r.state t).spent
+  paid_new = refl
 
   module _ (going : is_done (local_at c r.state t) ≡ false) where
     pub event : PartEvent c seen (local_at c r.state t).part
@@ -218,7 +221,7 @@ module _ (c : Config) (traces : List (List Command)) (laws : (p : Part) → Part
 
     moved : LocalKept c (get_or traces t []) new_graph new_order new_heap new_names t new_local
     moved = local_moves c (get_or traces t []) (replay c r.order) r.order new_order (heap_in c r.state) new_heap r.names new_names t (local_at c r.state t) effect_here.verdict effect_here.entered effect_here.unit new_pass new_part (kept.locals t tl) effect_here.reply (record {
-      more = part_grows c r.order t (command_of (local_at c r.state t)) (local_at c r.state t).balance.paid effect_here.verdict effect_here.naming;
+      more = part_grows c r.order t (command_of (local_at c r.state t)) (local_at c r.state t).spent effect_here.verdict effect_here.naming;
       stands = event.part;
       knows = event.knows;
       fits = event.fits;
@@ -252,8 +255,8 @@ module _ (c : Config) (traces : List (List Command)) (laws : (p : Part) → Part
     tasks_new : tasks_in c (event_done c t r.state) ≡ changed (tasks_in c r.state) t (task c new_part)
     tasks_new = funext _ _ (λ u. ap (λ (l : LocalState). task c l.part) (local_new u) ∙ cond_of (λ (l : LocalState). task c l.part) (eqb t u) new_local (local_at c r.state u))
 
-    logs_new : units_of (logs_of (event_done c t r.state)) ≡ units_of (logs_of r.state) + works (entries_of t (command_of (local_at c r.state t)) (local_at c r.state t).balance.paid effect_here.reply)
-    logs_new = units_grow r.state.locals t (local_got (local_at c r.state t) (word_read c r.state (local_at c r.state t))) (no_local c) (entries_of t (command_of (local_at c r.state t)) (local_at c r.state t).balance.paid effect_here.reply) (omega (arith, kept.threads, tl))
+    logs_new : units_of (logs_of (event_done c t r.state)) ≡ units_of (logs_of r.state) + works (entries_of t (command_of (local_at c r.state t)) (local_at c r.state t).spent effect_here.reply)
+    logs_new = units_grow r.state.locals t (local_got (local_at c r.state t) (word_read c r.state (local_at c r.state t))) (no_local c) (entries_of t (command_of (local_at c r.state t)) (local_at c r.state t).spent effect_here.reply) (omega (arith, kept.threads, tl))
         (ap (λ (x : LocalState). x.log) moved_is)
 
     pub heap_new : heap_in c (event_done c t r.state) ≡ new_heap
@@ -262,7 +265,7 @@ module _ (c : Config) (traces : List (List Command)) (laws : (p : Part) → Part
     -- the event's picture, in the order as the table says it
     named : IsKept c (picture new_graph new_order new_heap new_names (changed (tasks_in c r.state) t (task c new_part)))
     named = subst (λ x. IsKept c (picture new_graph (r.order ++ x) new_heap new_names (changed (tasks_in c r.state) t (task c new_part))))
-        (items_are c r.order t (command_of (local_at c r.state t)) (local_at c r.state t).balance.paid effect_here.verdict effect_here.naming) event.kept
+        (items_are c r.order t (command_of (local_at c r.state t)) (local_at c r.state t).spent effect_here.verdict effect_here.naming) event.kept
 
     pub graph_new : new_graph ≡ replay c new_order
     graph_new = named.ordered.replayed
@@ -275,7 +278,7 @@ module _ (c : Config) (traces : List (List Command)) (laws : (p : Part) → Part
 
     leads_new : lead c (heap_in c (event_done c t r.state)) ≤ total c.threads (λ u. progress c (local_at c (event_done c t r.state) u))
     leads_new =
-        let works_new : works new_local.log ≡ works (local_at c r.state t).log + works (entries_of t (command_of (local_at c r.state t)) (local_at c r.state t).balance.paid effect_here.reply) = works_append (local_at c r.state t).log _ in
+        let works_new : works new_local.log ≡ works (local_at c r.state t).log + works (entries_of t (command_of (local_at c r.state t)) (local_at c r.state t).spent effect_here.reply) = works_append (local_at c r.state t).log _ in
         let more : lead c new_heap + progress c (local_at c r.state t) ≤ lead c (heap_in c r.state) + progress c new_local = omega (arith, event.leads, works_new, paid_new) in
         subst (λ h. lead c h ≤ total c.threads (λ u. progress c (local_at c (event_done c t r.state) u))) (sym heap_new)
         (leads_on c c.threads t (local_at c r.state) (local_at c (event_done c t r.state)) new_local (lead c (heap_in c r.state)) (lead c new_heap) 0 tl local_new kept.leads more)
@@ -295,7 +298,7 @@ module _ (c : Config) (traces : List (List Command)) (laws : (p : Part) → Part
     stayed u ul other = local_stays c (get_or traces u []) (replay c r.order) new_graph r.order new_order (heap_in c r.state) new_heap r.names new_names u (local_at c r.state u) (laws (local_at c r.state u).part) (kept.locals u ul)
         (λ q. registers_stay (replay c r.order) t (command_of (local_at c r.state t)) effect_here.verdict u q there other)
         (counts_stay (replay c r.order) t (command_of (local_at c r.state t)) effect_here.verdict u there other)
-        (part_stays c r.order t (command_of (local_at c r.state t)) (local_at c r.state t).balance.paid effect_here.verdict effect_here.naming u other)
+        (part_stays c r.order t (command_of (local_at c r.state t)) (local_at c r.state t).spent effect_here.verdict effect_here.naming u other)
         event.forward event.rules.reuse.sweep.cursor_in.1 (rests u ul other)
 
     each : (u : ℕ) → u < c.threads → LocalKept c (get_or traces u []) (replay c new_order) new_order (heap_in c (event_done c t r.state)) new_names u (local_at c (event_done c t r.state) u)
@@ -319,22 +322,22 @@ module _ (c : Config) (traces : List (List Command)) (laws : (p : Part) → Part
       unshaded = subst (λ x. is_sweep (x Phase) ≡ true → is_closed (x Phase) ≡ false → (u : ℕ) → u < c.threads → new_names.shaded u ≡ false) (sym heap_new) event.unshaded;
       leads = leads_new;
       locals = each;
-      foreign = λ u ul. part_stays c r.order t (command_of (local_at c r.state t)) (local_at c r.state t).balance.paid effect_here.verdict effect_here.naming u (λ e. omega (arith, e, tl, ul)) ∙ kept.foreign u ul;
-      counted = omega (arith, work_grows c r.order t (command_of (local_at c r.state t)) (local_at c r.state t).balance.paid effect_here.verdict effect_here.naming, kept.counted, event.counted, logs_new);
+      foreign = λ u ul. part_stays c r.order t (command_of (local_at c r.state t)) (local_at c r.state t).spent effect_here.verdict effect_here.naming u (λ e. omega (arith, e, tl, ul)) ∙ kept.foreign u ul;
+      counted = omega (arith, work_grows c r.order t (command_of (local_at c r.state t)) (local_at c r.state t).spent effect_here.verdict effect_here.naming, kept.counted, event.counted, logs_new);
     }
 
   -- the run after a turn, by whether there is an event, and by the word that it reads
   abbrev next_if : Bool → Run
   next_if b = record {
     state = cond b (event_done c t r.state) r.state;
-    order = r.order ++ cond b (items_by c t (command_of (local_at c r.state t)) (local_at c r.state t).balance.paid r.order (next_effect c r.state t)) [];
+    order = r.order ++ cond b (items_by c t (command_of (local_at c r.state t)) (local_at c r.state t).spent r.order (next_effect c r.state t)) [];
     names = cond b (renamed t (replay c r.order) (heap_in c r.state) (next_effect c r.state t).naming r.names) r.names;
   }
 
   abbrev next_at : ℕ → Run
   next_at w = record {
     state = event_done c t r.state;
-    order = r.order ++ items_by c t (command_of (local_at c r.state t)) (local_at c r.state t).balance.paid r.order (effect c (local_at c r.state t).part w);
+    order = r.order ++ items_by c t (command_of (local_at c r.state t)) (local_at c r.state t).spent r.order (effect c (local_at c r.state t).part w);
     names = renamed t (replay c r.order) (heap_in c r.state) (effect c (local_at c r.state t).part w).naming r.names;
   }
 

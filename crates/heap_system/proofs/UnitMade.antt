@@ -15,9 +15,11 @@ use Rattle.work_account.specs.Accounts.{AccountState}
 use Rattle.heap_system.specs.declared.local.Local.TheInside.{Inside}
 use Rattle.heap_system.specs.declared.local.Part.{Part}
 use Rattle.heap_system.specs.declared.local.Part.TheVariants.{Sweep, Again, Idle}
-use Rattle.heap_system.specs.Locals.{IsLocal, PartFits, IsRoomy, IsPaid, IsPassAt, HasRoom, balance_paid, owed, unit_to_come, works, is_last, local_got}
-use Rattle.heap_system.proofs.Balances.{paid_after, units_on, sound_on}
-use Rattle.heap_system.proofs.Paying.{view_of, owed_low, paid_low, worked_low, passed_more, swept_last}
+use Rattle.never_heap.specs.RightWork.{units_told}
+use Rattle.never_heap.specs.Steps.{blocks_of}
+use Rattle.heap_system.specs.Locals.{IsLocal, PartFits, IsRoomy, IsPaid, IsPassAt, HasRoom, balance_paid, paid_got, command_of, owed, unit_to_come, works, is_last, local_got}
+use Rattle.heap_system.proofs.Balances.{paid_after, part_low, units_on, sound_made}
+use Rattle.heap_system.proofs.Paying.{view_of, price_low, paid_low, worked_low, passed_more, swept_last}
 use Rattle.heap_system.proofs.parts.InPass.{paid_more}
 
 -- a Mark pass makes one unit at most
@@ -60,17 +62,24 @@ module _ (i : Inside) (k : IsLocal (view_of i)) (rate : i.account.rate ≡ i.rat
   pub units_few : i.account.balance.units < 2 ^ 50
   units_few = omega (arith, k.units, worked_low (view_of i) k, paid_low (view_of i) k)
 
-  pub unit_owed : (unit : Bool) (more : ℕ)
-      → i.account.balance.paid + bit unit + more ≤ owed (view_of i) → unit ≡ true
+  pub spent_few : i.spent < 2 ^ 50
+  spent_few = omega (arith, paid_low (view_of i) k)
+
+  pub unit_owed : (told : ℕ) (unit : Bool) (more : ℕ) → told ≡ units_told (command_of (view_of i))
+      → i.spent + bit unit + more ≤ owed (view_of i) → unit ≡ true → told ≡ 0
       → i.account.balance.paid < i.account.rate * i.account.object
-  unit_owed unit more low e =
+  unit_owed told unit more same low e untold =
       let price : i.account.rate * i.account.object ≡ i.rate * i.config.object =
       λ j. rate j * object j in
       let one : bit unit ≡ 1 = ap bit e in
-      omega (arith, price, one, low, owed_low (view_of i) k)
+      let paid : i.account.balance.paid ≤ i.spent =
+      part_low (units_told (command_of (view_of i))) i.spent i.account.balance.paid k.account in
+      omega (arith, price, one, low, same, untold, paid, price_low (view_of i) k)
 
-  module _ (n : AccountState) (unit : Bool)
-      (counts : n ≡ record i.account { balance = balance_paid None unit 0 i.account.balance }) where
+  module _ (n : AccountState) (unit : Bool) (told spent : ℕ)
+      (counts : n ≡ record i.account { balance = balance_paid None unit told 0 i.account.balance })
+      (same : told ≡ units_told (command_of (view_of i)))
+      (makes : spent ≡ paid_got None unit i.spent) where
     pub ties : (n.rate ≡ i.rate) × (n.object ≡ i.config.object)
     ties = (
       ap (λ (a : AccountState). a.rate) counts ∙ rate,
@@ -80,16 +89,20 @@ module _ (i : Inside) (k : IsLocal (view_of i)) (rate : i.account.rate ≡ i.rat
     -- the thread that has counted it, in its next part
     pub counted_local : (part : Part)
         → PartFits i.config (length i.log.items) (length i.trace.items) i.pass part
-        → i.account.balance.paid + bit unit + unit_to_come i.config part ≤ owed (view_of i)
-        → IsPaid (owed (view_of i)) n.balance.paid part → IsRoomy i.space part
-        → IsLocal (record (view_of i) { balance = n.balance; part = part })
+        → i.spent + bit unit + unit_to_come i.config part ≤ owed (view_of i)
+        → IsPaid (owed (view_of i)) spent part → IsRoomy i.space part
+        → IsLocal (record (view_of i) { balance = n.balance; spent = spent; part = part })
     counted_local part fits pays all roomy =
-        let is : n.balance ≡ balance_paid None unit 0 i.account.balance =
-        ap (λ (a : AccountState). a.balance) counts in
-        let paid : (balance_paid None unit 0 i.account.balance).paid ≡ i.account.balance.paid + bit unit =
-        paid_after None unit 0 i.account.balance ∙ paid_more unit i.account.balance.paid in
-        subst (λ b. IsPaid (owed (view_of i)) b.paid part
-        → IsLocal (record (view_of i) { balance = b; part = part })) (sym is)
+        let is : n.balance ≡ balance_paid None unit (units_told (command_of (view_of i))) 0 i.account.balance =
+        ap (λ (a : AccountState). a.balance) counts
+        ∙ ap (λ x. balance_paid None unit x 0 i.account.balance) same in
+        let more : paid_got None unit i.spent ≡ i.spent + bit unit = paid_more unit i.spent in
+        subst (λ b. IsLocal (record (view_of i) { balance = b; spent = spent; part = part })) (sym is)
+        (subst (λ x. IsPaid (owed (view_of i)) x part → IsLocal (record (view_of i) {
+          balance = balance_paid None unit (units_told (command_of (view_of i))) 0 i.account.balance;
+          spent = x;
+          part = part;
+        })) (sym makes)
         (λ settled. record {
           bounds = k.bounds;
           plan = k.plan;
@@ -98,27 +111,29 @@ module _ (i : Inside) (k : IsLocal (view_of i)) (rate : i.account.rate ≡ i.rat
           trace = k.trace;
           log = k.log;
           part = fits;
-          paid = omega (arith, paid, pays);
+          paid = omega (arith, more, pays);
           settled = settled;
-          sound = sound_on i.rate i.config.object unit 0 i.account.balance
-              (omega (arith, paid, pays, owed_low (view_of i) k)) k.sound;
-          units = units_on unit 0 (works i.log.items) i.account.balance k.units;
+          sound = sound_made i.rate i.config.object unit (units_told (command_of (view_of i)))
+              (blocks_of i.config.width (command_of (view_of i))) i.spent i.account.balance
+              k.account (price_low (view_of i) k) (omega (arith, more, pays)) k.sound;
+          account = paid_after None unit (units_told (command_of (view_of i))) 0 i.spent i.account.balance k.account;
+          units = units_on unit (units_told (command_of (view_of i))) 0 (works i.log.items) i.spent i.account.balance k.units;
           worked = k.worked;
           made = k.made;
           space = k.space;
           roomy = roomy;
-        }) all
+        }) all)
 
     -- on its way out
     pub over_local : (part : Part) (none : Bool) → part ≡ cond none Idle Again
         → length i.log.items < length i.trace.items → IsPassAt i.config i.pass
-        → i.account.balance.paid + bit unit ≤ owed (view_of i)
-        → IsLocal (record (view_of i) { balance = n.balance; part = part })
+        → i.spent + bit unit ≤ owed (view_of i)
+        → IsLocal (record (view_of i) { balance = n.balance; spent = spent; part = part })
     over_local part none is low pass pays =
-        subst (λ p. IsLocal (record (view_of i) { balance = n.balance; part = p })) (sym is) (by none)
+        subst (λ p. IsLocal (record (view_of i) { balance = n.balance; spent = spent; part = p })) (sym is) (by none)
       where
         by : (b : Bool)
-            → IsLocal (record (view_of i) { balance = n.balance; part = cond b Idle Again })
+            → IsLocal (record (view_of i) { balance = n.balance; spent = spent; part = cond b Idle Again })
         by true = counted_local Idle (low, pass) (omega (arith, pays)) tt tt
         by false = counted_local Again low (omega (arith, pays)) tt tt
 
@@ -129,15 +144,15 @@ module _ (i : Inside) (k : IsLocal (view_of i)) (s n : SweepState) (at : i.part 
 
   pub swept_owes : (x : Config) (w before now : ℕ) → n ≡ sweep_got s w → before ≡ sweep_passed s.row
       → now ≡ sweep_passed n.row → SweepFits x n
-      → i.account.balance.paid + bit (ltb before now) + (n.owed - sweep_passed n.row) ≤ owed (view_of i)
+      → i.spent + bit (ltb before now) + (n.owed - sweep_passed n.row) ≤ owed (view_of i)
   swept_owes x w before now got was is fits =
       let same : n.owed ≡ s.owed = ap (λ (y : SweepState). y.owed) got in
       omega (
         arith,
         same,
         sweep_owes s n w before now (ltb before now) got was is refl
-            (omega (arith, same, (passed_few x n fits).1)) i.account.balance.paid (owed (view_of i))
-            (subst (λ p. i.account.balance.paid + unit_to_come i.config p ≤ owed (view_of i)) at k.paid),
+            (omega (arith, same, (passed_few x n fits).1)) i.spent (owed (view_of i))
+            (subst (λ p. i.spent + unit_to_come i.config p ≤ owed (view_of i)) at k.paid),
       )
 
 -- the room of a thread whose pass is over
@@ -152,20 +167,22 @@ room_over part none space capacity held is room =
     by false = room
 
 -- a Sweep pass that is not over
-pub swept_got : (i : Inside) (s n : SweepState) (w : ℕ) (a : AccountState) (before now : ℕ) (step : Step)
+pub swept_got : (i : Inside) (s n : SweepState) (w : ℕ) (a : AccountState) (told spent before now : ℕ) (step : Step)
     → i.part ≡ Sweep s → n ≡ sweep_got s w → is_last step ≡ false → step ≡ sweep_step s w
     → before ≡ sweep_passed s.row → now ≡ sweep_passed n.row
-    → a ≡ record i.account { balance = balance_paid None (ltb before now) 0 i.account.balance }
-    → record (view_of i) { balance = a.balance; part = Sweep n } ≡ local_got (view_of i) w
-swept_got i s n w a before now step at got on stepped was is counts =
+    → a ≡ record i.account { balance = balance_paid None (ltb before now) told 0 i.account.balance }
+    → told ≡ units_told (command_of (view_of i)) → spent ≡ paid_got None (ltb before now) i.spent
+    → record (view_of i) { balance = a.balance; spent = spent; part = Sweep n } ≡ local_got (view_of i) w
+swept_got i s n w a told spent before now step at got on stepped was is counts same makes =
     let unit : ltb before now ≡ is_some (row_passes s.cycle s.row w) =
     (λ j. ltb (was j) ((is ∙ ap (λ (x : SweepState). sweep_passed x.row) got) j)) ∙ passed_more s w in
     let goes : sweep_over (sweep_got s w).row ≡ false =
     sym (swept_last s w) ∙ sym (ap is_last stepped) ∙ on in
-    (λ j. record (view_of i) { balance = (counts j).balance; part = Sweep (got j) })
+    (λ j. record (view_of i) { balance = (counts j).balance; spent = makes j; part = Sweep (got j) })
     ∙ (λ j. record (view_of i) {
       log = sym (append-nil i.log.items) j;
-      balance = balance_paid None (unit j) 0 i.account.balance;
+      balance = balance_paid None (unit j) (same j) 0 i.account.balance;
+      spent = paid_got None (unit j) i.spent;
       part = cond (sym goes j) (cond (sweep_nothing (sweep_got s w).row) Idle Again)
           (Sweep (sweep_got s w));
     })

@@ -6,8 +6,10 @@ use Rattle.block_store.specs.Phases.{inside_of, is_closed, is_sweep}
 use Rattle.block_store.specs.Places.{Phase}
 use Rattle.never_heap.specs.declared.Command.{Command}
 use Rattle.never_heap.specs.declared.Entry.{Entry}
+use Rattle.never_heap.specs.RightWork.{units_told}
+use Rattle.barrier_steps.specs.Operands.{is_idle}
 use Rattle.never_heap.specs.Steps.{makes_object, blocks_of}
-use Rattle.lone_bound.specs.Prices.{allocation_bound, other_bound}
+use Rattle.lone_bound.specs.Prices.{allocation_bound, idle_bound, other_bound}
 use Rattle.heap_system.specs.declared.Turn.TheVariants.{Went}
 use Rattle.heap_system.specs.Locals.{LocalState, command_of, is_rest}
 use Rattle.heap_system.specs.Machines.{Run, local_in, heap_in, after_turns, answer}
@@ -27,7 +29,7 @@ pub record HasCommand (l : LocalState) : Type 0 where
 abbrev pub command_bound : Config → ℕ → Command → ℕ
 command_bound c rate k =
     if makes_object k then allocation_bound c.threads (blocks_of c.width k) rate
-    else other_bound c.object
+    else (if is_idle k then idle_bound c.threads (units_told k) else other_bound c.object)
 
 -- after so many turns of thread t, and of no other
 abbrev pub after_alone : Config → ℕ → Run → ℕ → Run

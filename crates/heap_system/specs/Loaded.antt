@@ -1,8 +1,8 @@
--- The blocks to which a thread has loaded a reference, and the command in which a register's word
+-- The blocks to which a thread has loaded a reference, and the commands in which a register's word
 -- is older than its value.
 use Rattle.std.specs.Prelude.{ℕ, ◌≡◌, ◌≢◌, ◌⊎◌, true, Some}
 use Rattle.block_store.specs.Payloads.{target}
-use Rattle.never_heap.specs.declared.Command.TheVariants.{Get}
+use Rattle.barrier_steps.specs.Operands.{takes_field, to_register}
 use Rattle.shown_graph.specs.Events.{Loading, ObjectLoad, ValueLoad}
 use Rattle.barrier_steps.specs.Rows.{FieldState, field_decided}
 use Rattle.heap_system.specs.declared.local.Part.TheVariants.{Serve}
@@ -25,12 +25,11 @@ pub record IsOfObject (l : Loading) (x : ℕ) : Type 0 where
 abbrev pub IsLoadedBlock : Loading → ℕ → Type 0
 IsLoadedBlock l x = IsOfValue l x ⊎ IsOfObject l x
 
--- the thread is in a `get` into register q that is decided
-pub record IsInGet (l : LocalState) (q : ℕ) : Type 0 where
+-- the thread is in a `get` or a `swap` that is decided, by which register q becomes what a field held
+pub record IsTaking (l : LocalState) (q : ℕ) : Type 0 where
   pub field : FieldState
-  pub source : ℕ
-  pub index : ℕ
   pub serves : l.part ≡ Serve field
-  pub gets : field.command ≡ Get q source index
-  pub own : command_of l ≡ Get q source index
+  pub takes : takes_field (command_of l) ≡ true
+  pub register : to_register (command_of l) ≡ q
+  pub own : field.command ≡ command_of l
   pub decided : field_decided field.row ≡ true

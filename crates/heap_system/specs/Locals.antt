@@ -13,9 +13,10 @@ use Rattle.never_heap.specs.declared.Entry.{Entry}
 use Rattle.never_heap.specs.declared.Reply.{Reply}
 use Rattle.never_heap.specs.declared.Reply.TheVariants as replies
 use Rattle.never_heap.specs.Jobs.{IsTraceInBounds}
-use Rattle.never_heap.specs.RightWork.{units_owed}
+use Rattle.never_heap.specs.RightWork.{units_told, units_owed}
+use Rattle.cycle_tally.specs.Kept.{most_work}
 use Rattle.never_heap.specs.Steps.{makes_object, blocks_of}
-use Rattle.work_account.specs.Accounts.{Balance, IsSound, entered, with_unit, published, refused}
+use Rattle.work_account.specs.Accounts.{Balance, IsSound, entered, with_unit, with_idle, published, refused}
 use Rattle.work_account.specs.Accounts as accounts
 use Rattle.heap_machine.specs.declared.op.Op.{Op}
 use Rattle.heap_machine.specs.Operations.{Operation, place_of, op_at}
@@ -59,9 +60,9 @@ use Rattle.heap_system.specs.declared.Turn.TheVariants as turns
 
 -- A thread of a heap: its commands, the entries of those that are done, and the row at which it
 -- stands. The rate is the number of units that an allocation owes for each of its blocks; the
--- balance has those made for the command in hand, and those of the cycle that it entered last. It
--- has made so many objects, and has room to hold so many blocks. The pass is the one of its last
--- entry.
+-- balance has those paid for the command in hand, and those of the cycle that it entered last; and
+-- so many units were made for the command in hand, be they paid or made for an idle. It has made so
+-- many objects, and has room to hold so many blocks. The pass is the one of its last entry.
 pub record LocalState : Type 0 where
   pub config : Config
   pub rate : ℕ
@@ -69,6 +70,7 @@ pub record LocalState : Type 0 where
   pub trace : List Command
   pub log : List Entry
   pub balance : Balance
+  pub spent : ℕ
   pub made : ℕ
   pub space : ℕ
   pub pass : Pass
@@ -93,7 +95,7 @@ pub record Errand : Type 0 where
 abbrev pub errand_of : LocalState → Errand
 errand_of l = record {
   command = command_of l;
-  due = owed l - l.balance.paid;
+  due = owed l - l.spent;
   serial = l.made + 1;
   space = l.space;
 }
@@ -350,13 +352,25 @@ abbrev pub balance_in : Option PhaseWord → Balance → Balance
 balance_in None b = b
 balance_in (Some p) b = entered p.cycle b
 
-abbrev pub balance_paid : Option Reply → Bool → ℕ → Balance → Balance
-balance_paid None unit k b = if unit then with_unit b else b
-balance_paid (Some (replies.New name)) unit k b = published k b
-balance_paid (Some _) unit k b = refused b
+-- a unit of a command that is told of so many: it is paid, but for an idle
+abbrev pub balance_made : ℕ → Balance → Balance
+balance_made told b = if told == 0 then with_unit b else with_idle b
 
-abbrev pub balance_got : Effect → ℕ → Balance → Balance
-balance_got e k b = balance_paid e.reply e.unit k (balance_in e.entered b)
+abbrev pub balance_paid : Option Reply → Bool → ℕ → ℕ → Balance → Balance
+balance_paid None unit told k b = if unit then balance_made told b else b
+balance_paid (Some (replies.New name)) unit told k b = published k b
+balance_paid (Some _) unit told k b = refused b
+
+-- of so many units made for a command that is told of so many, those that are paid, and those of an
+-- idle
+abbrev pub paid_part : ℕ → ℕ → ℕ
+paid_part told spent = if told == 0 then spent else 0
+
+abbrev pub idle_part : ℕ → ℕ → ℕ
+idle_part told spent = if told == 0 then 0 else spent
+
+abbrev pub balance_got : Effect → ℕ → ℕ → Balance → Balance
+balance_got e told k b = balance_paid e.reply e.unit told k (balance_in e.entered b)
 
 -- and the objects made
 abbrev pub made_got : Option Reply → ℕ → ℕ
@@ -426,8 +440,10 @@ local_got l w =
       rate = l.rate;
       thread = l.thread;
       trace = l.trace;
-      log = l.log ++ entries_of l.thread (command_of l) l.balance.paid e.reply;
-      balance = balance_got e (blocks_of l.config.width (command_of l)) l.balance;
+      log = l.log ++ entries_of l.thread (command_of l) l.spent e.reply;
+      balance = balance_got e (units_told (command_of l)) (blocks_of l.config.width (command_of l))
+          l.balance;
+      spent = paid_got e.reply e.unit l.spent;
       made = made_got e.reply l.made;
       space = l.space;
       pass = pass_got e.entered l.thread l.config.threads l.pass;
@@ -461,7 +477,7 @@ abbrev pub works : List Entry → ℕ
 works [] = 0
 works (e ∷ es) = e.work + works es
 
--- where a thread does its command, all that this owes is paid
+-- where a thread does its command, all that this owes is made
 abbrev pub IsPaid : ℕ → ℕ → Part → Type 0
 IsPaid due paid (Serve f) = paid ≡ due
 IsPaid due paid (Build b) = paid ≡ due
@@ -488,11 +504,12 @@ pub record IsLocal (l : LocalState) : Type 0 where
   pub trace : IsTraceInBounds l.config l.trace
   pub log : length l.log ≤ length l.trace
   pub part : PartFits l.config (length l.log) (length l.trace) l.pass l.part
-  pub paid : l.balance.paid + unit_to_come l.config l.part ≤ owed l
-  pub settled : IsPaid (owed l) l.balance.paid l.part
+  pub paid : l.spent + unit_to_come l.config l.part ≤ owed l
+  pub settled : IsPaid (owed l) l.spent l.part
   pub sound : IsSound l.rate l.config.object l.balance
-  pub units : l.balance.units ≤ works l.log + l.balance.paid
-  pub worked : works l.log ≤ length l.log * (l.rate * l.config.object)
+  pub account : l.balance.paid ≡ paid_part (units_told (command_of l)) l.spent
+  pub units : l.balance.units ≤ works l.log + l.spent
+  pub worked : works l.log ≤ length l.log * most_work l.config l.rate
   pub made : l.made ≤ length l.log
   pub space : l.config.object ≤ l.space
   pub roomy : IsRoomy l.space l.part
@@ -541,6 +558,7 @@ at_start c rate space t trace = record {
   trace = trace;
   log = [];
   balance = accounts.opened;
+  spent = 0;
   made = 0;
   space = space;
   pass = no_pass t c.threads;

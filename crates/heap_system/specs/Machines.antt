@@ -33,6 +33,7 @@ no_local c = record {
   trace = [];
   log = [];
   balance = accounts.opened;
+  spent = 0;
   made = 0;
   space = 0;
   pass = no_pass c.threads c.threads;
@@ -92,7 +93,7 @@ items_by c t k work order e = entries_by c t k work order e.verdict ++ starts_by
 abbrev pub decided : Config → ℕ → State → List HistoryItem → List HistoryItem
 decided c t s order =
     if has_event c t s
-    then items_by c t (command_of (local_at c s t)) (local_at c s t).balance.paid order
+    then items_by c t (command_of (local_at c s t)) (local_at c s t).spent order
     (next_effect c s t)
     else []
 

@@ -36,7 +36,7 @@ waiting g _ = None
 
 -- the entry of thread l that the order has and the log has not yet
 abbrev pub entries_waiting : Graph → LocalState → List Entry
-entries_waiting g l = entries_of l.thread (command_of l) l.balance.paid (waiting g l.part)
+entries_waiting g l = entries_of l.thread (command_of l) l.spent (waiting g l.part)
 
 -- where each thread stands, what it holds, and what it is at
 abbrev pub gates_in : Config → State → ℕ → Gating

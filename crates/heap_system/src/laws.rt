@@ -15,7 +15,7 @@ ghost use Rattle.rate_plan.specs.Rates.{IsRate, IsAdmitted};
 ghost use Rattle.never_heap.specs.declared.Reply.{Reply};
 ghost use Rattle.never_heap.specs.Histories.{replay, part, Legal, starts_in, work_in};
 ghost use Rattle.never_heap.specs.Reach.{reachable};
-ghost use Rattle.never_heap.specs.RightWork.{RightWork};
+ghost use Rattle.never_heap.specs.RightWork.{RightWork, units_told};
 ghost use Rattle.never_heap.specs.Steps.{blocks_of};
 ghost use Rattle.shown_graph.specs.Events.{pending_registers, Follows};
 ghost use Rattle.shown_graph.specs.Openings.{opening_words};
@@ -36,8 +36,8 @@ ghost use Rattle.build_steps.specs.Rows.{BuildState};
 ghost use Rattle.heap_system.specs.declared.local.Part.{Part};
 ghost use Rattle.heap_system.specs.declared.local.Part.TheVariants.{Serve, Build, Leave};
 ghost use Rattle.heap_system.specs.declared.Turn.TheVariants as Turn;
-ghost use Rattle.heap_system.specs.Loaded.{IsLoadedBlock, IsInGet};
-ghost use Rattle.heap_system.specs.Locals.{task, is_done, waits, is_rest, command_of, owed, entry_of, works, part_want, part_step, turn_of, LocalReads};
+ghost use Rattle.heap_system.specs.Loaded.{IsLoadedBlock, IsTaking};
+ghost use Rattle.heap_system.specs.Locals.{task, is_done, waits, is_rest, command_of, owed, paid_part, entry_of, works, part_want, part_step, turn_of, LocalReads};
 ghost use Rattle.heap_system.specs.Machines.{State, answer, turned, Run, opened, IsAfterTurns, local_in, local_at, heap_in, word_read};
 ghost use Rattle.heap_system.specs.Openings.{opening_heap};
 ghost use Rattle.heap_system.specs.Pictures.{stand_of, holding, gates_in, holdings_in, tasks_in, kept_state, entries_waiting};
@@ -57,8 +57,8 @@ pub fn opening_shows_the_start()
 
 /// The words show, of the replay of the order, each object that the rules keep, where they say that
 /// it stands, and no two of its blocks are one; and they keep each one that the graph reaches.
-/// Between the load of the field and the store of a `get`, and nowhere else, its register's word is
-/// still that of the value that it had before. What a thread has loaded is of that graph. No block
+/// Between the load of the field and the store of a `get`, and between the exchange and the store of
+/// a `swap`, and nowhere else, its register's word is still that of the value that it had before. What a thread has loaded is of that graph. No block
 /// that the graph reaches is Free, or held by a thread that builds; nor is one to which a thread
 /// has loaded a reference, also where this is the only one.
 pub fn words_show_the_order()
@@ -94,7 +94,7 @@ pub fn words_show_the_order()
     ensures pending { (c : Config) (r : Run) → IsAfterTurns c r
         → (t q : ℕ) → t < c.threads → q < REGISTERS
         → pending_registers (λ u. (tasks_in c r.state u).loading) t q ≡ true
-        → IsInGet (local_in c r t) q }
+        → IsTaking (local_in c r t) q }
 {}
 
 /// Each rule on the heap and on its names is kept: each word is one that its place can hold; grey
@@ -155,29 +155,32 @@ pub fn logs_are_parts()
 /// exactly what its command owes, and an allocation builds where it has made all.
 pub fn works_are_units()
     ensures made { (c : Config) (r : Run) → (is : IsAfterTurns c r) → (t : ℕ) → t < c.threads
-        → works (part t r.order) + (local_in c r t).balance.paid
+        → works (part t r.order) + (local_in c r t).spent
         ≡ units_made c t (opened c is.by_turns.first) is.turns }
     ensures each { (c : Config) (r : Run) → (is : IsAfterTurns c r) → (t : ℕ) → t < c.threads
         → AreMadeFor c t (part t r.order) (opened c is.by_turns.first) is.turns }
     ensures hand { (c : Config) (r : Run) → (is : IsAfterTurns c r) → (t : ℕ) → t < c.threads
-        → (local_in c r t).balance.paid
+        → (local_in c r t).spent
         ≡ units_made_for c t (length (local_in c r t).log) (opened c is.by_turns.first) is.turns }
     ensures units { (c : Config) (r : Run) → (is : IsAfterTurns c r) → (t : ℕ) → t < c.threads
         → units_made c t (opened c is.by_turns.first) is.turns
         ≡ blacks_made c t (opened c is.by_turns.first) is.turns
         + passes_made c t (opened c is.by_turns.first) is.turns }
     ensures owed { (c : Config) (r : Run) → IsAfterTurns c r → (t : ℕ) → t < c.threads
-        → (local_in c r t).balance.paid ≤ owed (local_in c r t) }
+        → (local_in c r t).spent ≤ owed (local_in c r t) }
     ensures entries { (c : Config) (r : Run) → IsAfterTurns c r → (t : ℕ) → t < c.threads
         → (rate : ℕ) → IsRate c rate → IsRight c.width rate (part t r.order) }
+    ensures account { (c : Config) (r : Run) → IsAfterTurns c r → (t : ℕ) → t < c.threads
+        → (local_in c r t).balance.paid
+        ≡ paid_part (units_told (command_of (local_in c r t))) (local_in c r t).spent }
     ensures rest { (c : Config) (r : Run) → IsAfterTurns c r → (t : ℕ) → t < c.threads
-        → is_rest (local_in c r t).part ≡ true → (local_in c r t).balance.paid ≡ 0 }
+        → is_rest (local_in c r t).part ≡ true → (local_in c r t).spent ≡ 0 }
     ensures settled { (c : Config) (r : Run) → IsAfterTurns c r → (t : ℕ) → t < c.threads
-        → (local_in c r t).part ≡ Leave → (local_in c r t).balance.paid ≡ 0 }
+        → (local_in c r t).part ≡ Leave → (local_in c r t).spent ≡ 0 }
     ensures paid { (c : Config) (r : Run) → IsAfterTurns c r → (t : ℕ) → t < c.threads
         → (b : BuildState) → (local_in c r t).part ≡ Build b
         → (0 < blocks_of c.width (command_of (local_in c r t)))
-        × ((local_in c r t).balance.paid ≡ owed (local_in c r t)) }
+        × ((local_in c r t).spent ≡ owed (local_in c r t)) }
     ensures rate { (c : Config) (r : Run) → IsAfterTurns c r → (t : ℕ) → t < c.threads
         → IsRate c (local_in c r t).rate }
 {}

@@ -5,6 +5,7 @@ ghost use Rattle.block_store.specs.Configs.{IsInBounds};
 ghost use Rattle.block_store.specs.Phases.{bit};
 ghost use Rattle.block_store.specs.Places.{extent, words_count};
 ghost use Rattle.rate_plan.specs.Rates.{IsRate, IsAdmitted};
+ghost use Rattle.never_heap.specs.RightWork.{units_told};
 ghost use Rattle.never_heap.specs.Steps.{makes_object, blocks_of};
 ghost use Rattle.work_account.specs.Accounts.{entered};
 ghost use Rattle.heap_machine.specs.Memories.{ReadsOnly, ActsOnce};
@@ -16,7 +17,7 @@ ghost use Rattle.never_heap.specs.Jobs.{IsTraceInBounds};
 ghost use Rattle.heap_machine.specs.declared.gate.GateRow.{GateRow};
 ghost use Rattle.grey_steps.specs.Rows.{scanning};
 ghost use Rattle.sweep_steps.specs.Rows.{sweeping};
-ghost use Rattle.heap_system.specs.Locals.{LocalReads, HasGot, is_done, is_rest, is_build, is_at_gate, is_in_command, is_marking, is_sweeping, is_on_way_out, part_want, part_step, local_got, at_start, turn_of, is_last, pass_by, first_part, errand_of, command_of, op_wanted, owed, made_got, works, entry_of, balance_paid, commands_decided};
+ghost use Rattle.heap_system.specs.Locals.{LocalReads, HasGot, is_done, is_rest, is_build, is_at_gate, is_in_command, is_marking, is_sweeping, is_on_way_out, part_want, part_step, local_got, at_start, turn_of, is_last, pass_by, first_part, errand_of, command_of, op_wanted, owed, made_got, works, entry_of, balance_paid, paid_got, commands_decided};
 
 use crate::Turn;
 use barrier_steps::FieldPass;
@@ -39,12 +40,12 @@ pub enum Part {
     Rest,
     /// On its way in.
     Enter(Gate),
-    /// Inside, in a command that makes no object.
+    /// Inside, in a command that makes no object and owes no more.
     Serve(FieldPass),
-    /// Inside while the phase is Mark, in an allocation that owes units, of which it makes one at
+    /// Inside while the phase is Mark, in a command that owes units, of which it makes one at
     /// most: none where nothing is grey.
     Mark(GreyPass),
-    /// Inside while the phase is Sweep, in an allocation that owes units: it makes up to eight, and
+    /// Inside while the phase is Sweep, in a command that owes units: it makes up to eight, and
     /// none where each block is claimed.
     Sweep(SweepPass),
     /// Inside, in an allocation that owes no more: it makes the object, or is refused.
@@ -94,6 +95,8 @@ pub struct Local {
     log: Vec<Entry>,
     // What is paid for the command in hand, and the units and blocks of the cycle entered last.
     account: Account,
+    // The units made for the command in hand; those of an idle are not paid.
+    spent: u64,
     // The objects made so far.
     made: u32,
     // For how many blocks the room has capacity.
@@ -120,6 +123,7 @@ impl Model for Local {
       trace = l.trace.items;
       log = l.log.items;
       balance = l.account.balance;
+      spent = l.spent;
       made = l.made;
       space = l.space;
       pass = l.pass;
@@ -133,6 +137,7 @@ impl Model for Local {
       trace = l.trace.items;
       log = l.log.items;
       balance = l.account.balance;
+      spent = l.spent;
       made = l.made;
       space = l.space;
       pass = l.pass;
@@ -162,17 +167,29 @@ fn is_last(step: Step) -> bool
     }
 }
 
-// An event by which a unit is made, or not.
-fn count(account: &mut Account, unit: bool)
-    requires owed { unit ≡ true
+// An event by which a unit is made, or not, for a command that is told of so many.
+fn count(account: &mut Account, told: u64, unit: bool)
+    requires owed { unit ≡ true → told ≡ 0
         → account.old.balance.paid < account.old.rate * account.old.object }
     requires few { account.old.balance.units < 2 ^ 50 }
     ensures { account.new
-        ≡ record account.old { balance = balance_paid None unit 0 account.old.balance } }
+        ≡ record account.old { balance = balance_paid None unit told 0 account.old.balance } }
 {
     if unit {
-        account.unit();
+        if told == 0 {
+            account.unit();
+        } else {
+            account.idle();
+        }
     }
+}
+
+// The units made for the command in hand, after such an event.
+fn spend(spent: u64, unit: bool) -> u64
+    requires { spent < 2 ^ 50 }
+    ensures { result ≡ paid_got None unit spent }
+{
+    if unit { spent + 1 } else { spent }
 }
 
 // Whether what is so now was not so before.
@@ -183,13 +200,14 @@ fn is_new(now: bool, before: bool) -> bool
 }
 
 // The reply to a command of so many blocks, whose price was paid.
-fn settle(account: &mut Account, reply: Reply, blocks: u32)
+fn settle(account: &mut Account, reply: Reply, told: u64, blocks: u32)
     requires { account.old.balance.paid ≡ account.old.rate * blocks }
     ensures { account.new
         ≡ record account.old {
-          balance = balance_paid (Some reply) false blocks account.old.balance;
+          balance = balance_paid (Some reply) false told blocks account.old.balance;
         } }
 {
+    let _told = told;
     match reply {
         Reply::New(_) => account.publish(blocks),
         _ => account.refuse(blocks),
@@ -322,6 +340,7 @@ impl Local {
             trace,
             log,
             account: Account::new(rate, c.object),
+            spent: 0,
             made: 0,
             space: room.capacity(),
             room,
@@ -350,7 +369,7 @@ impl Local {
         &self.log
     }
 
-    /// How many units were made for the command in hand.
+    /// How many units were paid for the command in hand. An idle pays none.
     pub fn paid(&self) -> u64
         ensures { result ≡ self.now.balance.paid }
     {
@@ -555,11 +574,14 @@ impl Local {
             (λ w. HasGot self.old w self.new result) }
     {
         let places = Places::new(&self.config);
+        let told = self.told();
         match &mut self.part {
             Part::Mark(scan) => {
-                let unit = scan.unit();
+                let before = scan.unit();
                 let step = scan.event(&places, memory, shared);
-                count(&mut self.account, is_new(scan.unit(), unit));
+                let unit = is_new(scan.unit(), before);
+                count(&mut self.account, told, unit);
+                self.spent = spend(self.spent, unit);
                 if is_last(step) {
                     self.part = after_pass(scan.nothing());
                     turn_after(step)
@@ -583,11 +605,14 @@ impl Local {
             (λ w. HasGot self.old w self.new result) }
     {
         let places = Places::new(&self.config);
+        let told = self.told();
         match &mut self.part {
             Part::Sweep(pass) => {
                 let passed = pass.passed();
                 let step = pass.event(&places, memory, shared);
-                count(&mut self.account, pass.passed() > passed);
+                let unit = pass.passed() > passed;
+                count(&mut self.account, told, unit);
+                self.spent = spend(self.spent, unit);
                 if is_last(step) {
                     self.part = after_pass(pass.nothing());
                     turn_after(step)
@@ -677,27 +702,36 @@ impl Local {
         }
     }
 
+    // The units that the command in hand is told to make.
+    fn told(&self) -> u64
+        requires { length self.now.log < length self.now.trace }
+        ensures { result ≡ units_told (command_of self.now) }
+    {
+        self.trace[self.log.len()].told()
+    }
+
     // The units that the command in hand still owes.
     fn due(&self, command: &Command) -> u64
         requires command { command.now ≡ command_of self.now }
         requires there { length self.now.log < length self.now.trace }
-        ensures { result ≡ owed self.now - self.now.balance.paid }
+        ensures { result ≡ owed self.now - self.now.spent }
     {
-        self.rate * u64::from(command.blocks(self.config.width)) - self.account.paid()
+        self.rate * u64::from(command.blocks(self.config.width)) + command.told() - self.spent
     }
 
     // The command in hand, which made an object or was refused, is done.
     fn built(&mut self, reply: Reply)
         requires command { length self.old.log < length self.old.trace }
         requires build { is_build self.old.part ≡ true }
-        requires paid { self.old.balance.paid ≡ owed self.old }
+        requires paid { self.old.spent ≡ owed self.old }
         ensures { self.new
             ≡ record self.old {
               part = Part.Leave;
               log = self.old.log ++ entry_of
-                  self.old.thread (command_of self.old) self.old.balance.paid reply ∷ [];
-              balance = balance_paid (Some reply) false
+                  self.old.thread (command_of self.old) self.old.spent reply ∷ [];
+              balance = balance_paid (Some reply) false (units_told (command_of self.old))
                   (blocks_of self.old.config.width (command_of self.old)) self.old.balance;
+              spent = 0;
               made = made_got (Some reply) self.old.made;
             } }
     {
@@ -712,14 +746,15 @@ impl Local {
     fn answer(&mut self, reply: Reply)
         requires rest { self.old.part ≡ Part.Rest }
         requires command { length self.old.log < length self.old.trace }
-        requires paid { self.old.balance.paid ≡ owed self.old }
+        requires paid { self.old.spent ≡ owed self.old }
         ensures { self.new
             ≡ record self.old {
               part = Part.Leave;
               log = self.old.log ++ entry_of
-                  self.old.thread (command_of self.old) self.old.balance.paid reply ∷ [];
-              balance = balance_paid (Some reply) false
+                  self.old.thread (command_of self.old) self.old.spent reply ∷ [];
+              balance = balance_paid (Some reply) false (units_told (command_of self.old))
                   (blocks_of self.old.config.width (command_of self.old)) self.old.balance;
+              spent = 0;
               made = made_got (Some reply) self.old.made;
             } }
     {
@@ -728,9 +763,16 @@ impl Local {
             thread: self.thread,
             command,
             reply,
-            work: self.account.paid(),
+            work: self.spent,
         });
-        settle(&mut self.account, reply, command.blocks(self.config.width));
+        let told = command.told();
+        settle(
+            &mut self.account,
+            reply,
+            told,
+            command.blocks(self.config.width),
+        );
+        self.spent = 0;
         self.made = made_after(self.made, reply);
         self.part = Part::Leave;
     }

@@ -7,18 +7,18 @@ use Rattle.block_store.specs.declared.Value.{Value}
 use Rattle.block_store.specs.Registers.{register_block}
 use Rattle.block_store.proofs.Registers.{register_low, register_some}
 use Rattle.never_heap.specs.declared.Entry.{Entry}
-use Rattle.never_heap.specs.Graphs.{Graph, mutator_at, object_of, register_of, has_name, count_of, next_name, with_register, start_graph}
+use Rattle.never_heap.specs.Graphs.{Graph, mutator_at, object_of, field_of, register_of, has_name, count_of, next_name, with_register, with_field, start_graph}
 use Rattle.never_heap.specs.Histories.{HistoryItem, Did, IsAnswered, after, starts_in}
 use Rattle.never_heap.specs.Reach.{reachable}
 use Rattle.never_heap.proofs.Cycling.{graph_at_more}
 use Rattle.never_heap.proofs.Growing.{replay_more, legal_history_more, starts_append}
 use Rattle.never_heap.proofs.GraphMoves.{objects_with, object_with_register, has_name_with_register}
-use Rattle.never_heap.proofs.FieldStores.{has_name_with_field, count_with_field}
+use Rattle.never_heap.proofs.FieldStores.{has_name_with_field, count_with_field, threads_with_field}
 use Rattle.shown_graph.specs.Layouts.{object_blocks}
 use Rattle.shown_graph.specs.Words.{BlockWords, value_word, with_payload}
 use Rattle.shown_graph.specs.Events as commanded
 use Rattle.shown_graph.specs.Events.{Loading, GraphState, Event, pending_registers, object_at, value_at, IsConstant, HasValue, IsAtField, Follows}
-use Rattle.shown_graph.specs.Events.Event.{ReadObject, ReadValue, ReadShape, ReadLink, ReadField, StorePending, StoreValue, StoreConstant, StoreField, Finish}
+use Rattle.shown_graph.specs.Events.Event.{ReadObject, ReadValue, ReadExpected, ReadShape, ReadLink, ReadField, StorePending, StoreValue, StoreConstant, StoreField, ExchangeField, Finish}
 use Rattle.shown_graph.proofs.Blocks.{other_block}
 use Rattle.shown_graph.proofs.ObjectLayouts.{object_layout}
 use Rattle.shown_graph.proofs.Serving.{at_field, step_follows}
@@ -109,11 +109,56 @@ module _ (c : Config) (s : KeptState) (k : IsKept c s) where
   constant_refers v is = refers_value (IsBlockOf (Kept s) (sizes c s) s.at) (λ a. 0) v
       (λ a e. absurd (subst IsConstant e is))
 
+  -- the loaded value is stored in a field
+  in_field : (t : ℕ) (a : Name) (i j : ℕ) → t < c.threads → HasValue s.seen t
+      → IsAtField c.width s.seen t a i j
+      → Moves (with_field g a i (register_of g t (value_at s.seen t).origin))
+      (with_payload w (object_at s.seen t).block j (value_at s.seen t).word)
+  in_field t a i j tn has q =
+      let (ka, block, low, field) = at_field c.width c.threads c.blocks (Kept s) s.at s.seen
+      k.follows t a i j tn q in
+      let place = (object_layout c.width (object_of g a)).slots (object_at s.seen t).ordinal j i
+      field in
+      let v = register_of g t (value_at s.seen t).origin in
+      let kept = (shown c s k).closed.registers t (value_at s.seen t).origin tn
+      (value_is c s k t tn has).origin in
+      let named = (shown c s k).names a ka in
+      record {
+        names = λ b. has_name_with_field g a i _ named b;
+        blocks = λ b. blocks_same c.width c.threads c.blocks (Kept s) g s.at w
+            (pending_registers s.seen.loads)
+            (shown c s k) a i _ ka place.0 kept b;
+        counts = λ x. count_with_field g a i _ named x;
+        store = stored (object_at s.seen t).block j _
+            (inr (record {
+              name = a;
+              ordinal = (object_at s.seen t).ordinal;
+              kept = ka;
+              low = low;
+              is = block;
+            })) (loaded_kept c s k t tn has);
+      }
+
+  -- and a register takes what was there
+  and_register : (h : Graph) (u : BlockWords) (t d : ℕ) (v : Value) → t < length h.mutators
+      → Moves h u → Moves (with_register h t d v) u
+  and_register h u t d v tn m = record {
+    names = λ a. has_name_with_register h t d v a tn ∙ m.names a;
+    blocks = λ a. ap (object_blocks c.width) (object_with_register h t d v a tn) ∙ m.blocks a;
+    counts = λ x. ap length
+        (objects_with h t x (record {
+          registers = set (mutator_at h t).registers d v;
+          objects = (mutator_at h t).objects;
+        }) tn refl) ∙ m.counts x;
+    store = m.store;
+  }
+
   -- each event of a command is such a move
   served_moves : (e : Event) → commanded.Guard c.width c.threads s.seen e
       → Moves (served c s e).graph (served c s e).words
   served_moves (ReadObject t r) q = still w unwritten
   served_moves (ReadValue t r) q = still w unwritten
+  served_moves (ReadExpected t r) q = still w unwritten
   served_moves (ReadShape t f) q = still w unwritten
   served_moves (ReadLink t j p) q = still w unwritten
   served_moves (ReadField t d a i j) q = in_register w t d _ q.0 unwritten
@@ -125,30 +170,14 @@ module _ (c : Config) (s : KeptState) (k : IsKept c s) where
       (stored (register_block c.width t d) _ _ (in_array t d q.0 q.1) (loaded_kept c s k t q.0 q.3))
   served_moves (StoreConstant t d v) q = in_register _ t d v q.0
       (stored (register_block c.width t d) _ _ (in_array t d q.0 q.1) (constant_refers v q.3))
-  served_moves (StoreField t a i j) q =
-      let (ka, block, low, field) = at_field c.width c.threads c.blocks (Kept s) s.at s.seen
-      k.follows t a i j q.0 q.3 in
-      let place = (object_layout c.width (object_of g a)).slots (object_at s.seen t).ordinal j i
-      field in
-      let v = register_of g t (value_at s.seen t).origin in
-      let kept = (shown c s k).closed.registers t (value_at s.seen t).origin q.0
-      (value_is c s k t q.0 q.2).origin in
-      let has = (shown c s k).names a ka in
-      record {
-        names = λ b. has_name_with_field g a i _ has b;
-        blocks = λ b. blocks_same c.width c.threads c.blocks (Kept s) g s.at w
-            (pending_registers s.seen.loads)
-            (shown c s k) a i _ ka place.0 kept b;
-        counts = λ x. count_with_field g a i _ has x;
-        store = stored (object_at s.seen t).block j _
-            (inr (record {
-              name = a;
-              ordinal = (object_at s.seen t).ordinal;
-              kept = ka;
-              low = low;
-              is = block;
-            })) (loaded_kept c s k t q.0 q.2);
-      }
+  served_moves (StoreField t a i j) q = in_field t a i j q.0 q.2 q.3
+  served_moves (ExchangeField t a i j) q =
+      and_register (with_field g a i (register_of g t (value_at s.seen t).origin)) _ t
+      (value_at s.seen t).origin (field_of (object_of g a) i)
+      (subst (λ n. t < n) (sym (threads_with_field g a i _
+      ((shown c s k).names a (at_field c.width c.threads c.blocks (Kept s) s.at s.seen k.follows t a
+      i j q.0 q.3).0))) (in_graph t q.0))
+      (in_field t a i j q.0 q.2 q.3)
   served_moves (Finish t) q = still w unwritten
 
   builds_moved : (u : BlockWords) → IsStore u → (t : ℕ) → t < c.threads
@@ -212,6 +241,7 @@ module _ (c : Config) (s : KeptState) (k : IsKept c s) where
   graph_left : (e : Event) → leaves_graph e ≡ true → (served c s e).graph ≡ g
   graph_left (ReadObject t r) is = refl
   graph_left (ReadValue t r) is = refl
+  graph_left (ReadExpected t r) is = refl
   graph_left (ReadShape t f) is = refl
   graph_left (ReadLink t j p) is = refl
   graph_left (ReadField t d a i j) is = absurd (differ false is refl)
@@ -219,6 +249,7 @@ module _ (c : Config) (s : KeptState) (k : IsKept c s) where
   graph_left (StoreValue t d) is = absurd (differ false is refl)
   graph_left (StoreConstant t d v) is = absurd (differ false is refl)
   graph_left (StoreField t a i j) is = absurd (differ false is refl)
+  graph_left (ExchangeField t a i j) is = absurd (differ false is refl)
   graph_left (Finish t) is = refl
 
   pub serves : (e : Event) → Guard c s (Serve e) → IsKept c (apply c s (Serve e))

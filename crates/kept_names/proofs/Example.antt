@@ -163,13 +163,13 @@ abbrev some_build : (o : Option Build) → Option (o ≡ Some (build_in o))
 some_build None = None
 some_build (Some b) = Some refl
 
-none_loaded : (o : Option ObjectLoad) (v : Option ValueLoad) → o ≡ None → v ≡ None
-    → record { object = o; value = v } ≡ unloaded
-none_loaded o v a b = cc
+none_loaded : (o : Option ObjectLoad) (x v : Option ValueLoad) → o ≡ None → x ≡ None → v ≡ None
+    → record { object = o; expected = x; value = v } ≡ unloaded
+none_loaded o x v a b c = cc
 
 abbrev is_unloaded : (l : Loading) → Option (l ≡ unloaded)
-is_unloaded l = mapped (λ p. none_loaded l.object l.value p.0 p.1)
-    (is_none l.object & is_none l.value)
+is_unloaded l = mapped (λ p. none_loaded l.object l.expected l.value p.0 p.1 p.2)
+    (three (is_none l.object) (is_none l.expected) (is_none l.value))
 
 -- a word of the record is next
 writing : (W : Width) (s : KeptState) (o words : ℕ) → s.builds 0 ≡ Some (build_at s 0)

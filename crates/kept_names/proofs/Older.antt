@@ -13,8 +13,8 @@ use Rattle.never_heap.proofs.Growing.{part_append}
 use Rattle.shown_graph.specs.Words.{BlockWords, value_word, with_payload}
 use Rattle.shown_graph.specs.Shown.{IsValueOf, heads}
 use Rattle.shown_graph.specs.Events as commanded
-use Rattle.shown_graph.specs.Events.{Loading, Event, is_pending, pending_registers, object_at, value_at, register_word_in, IsPrompt}
-use Rattle.shown_graph.specs.Events.Event.{ReadObject, ReadValue, ReadShape, ReadLink, ReadField, StorePending, StoreValue, StoreConstant, StoreField, Finish}
+use Rattle.shown_graph.specs.Events.{Loading, Event, is_pending, pending_registers, object_at, value_at, register_word_in, IsPrompt, IsAtField}
+use Rattle.shown_graph.specs.Events.Event.{ReadObject, ReadValue, ReadExpected, ReadShape, ReadLink, ReadField, StorePending, StoreValue, StoreConstant, StoreField, ExchangeField, Finish}
 use Rattle.shown_graph.proofs.Blocks.{payload_other}
 use Rattle.shown_graph.proofs.Names.{value_stays, word_stays}
 use Rattle.shown_graph.proofs.Reading.{register_read}
@@ -84,6 +84,7 @@ module _ (c : Config) (s : KeptState) (k : IsKept c s) where
       → (served c s e).loads u ≡ s.seen.loads u
   other_loads (ReadObject t r) u ne = load_other s.seen.loads t u _ ne
   other_loads (ReadValue t r) u ne = load_other s.seen.loads t u _ ne
+  other_loads (ReadExpected t r) u ne = load_other s.seen.loads t u _ ne
   other_loads (ReadShape t f) u ne = load_other s.seen.loads t u _ ne
   other_loads (ReadLink t j p) u ne = load_other s.seen.loads t u _ ne
   other_loads (ReadField t d a i j) u ne = load_other s.seen.loads t u _ ne
@@ -91,6 +92,7 @@ module _ (c : Config) (s : KeptState) (k : IsKept c s) where
   other_loads (StoreValue t d) u ne = load_other s.seen.loads t u _ ne
   other_loads (StoreConstant t d v) u ne = load_other s.seen.loads t u _ ne
   other_loads (StoreField t a i j) u ne = load_other s.seen.loads t u _ ne
+  other_loads (ExchangeField t a i j) u ne = load_other s.seen.loads t u _ ne
   other_loads (Finish t) u ne = load_other s.seen.loads t u _ ne
 
   other_payload : (x j v u r : ℕ) → (x ≡ register_block c.width u r → ⊥)
@@ -107,12 +109,30 @@ module _ (c : Config) (s : KeptState) (k : IsKept c s) where
       (register_slot c.width d) v u r
       (λ e. ne (own_array c.width t d u r dl rl e))
 
+  -- a store in a field leaves the words of all registers
+  field_apart : (t : ℕ) (a : Name) (i j v : ℕ) → t < c.threads → IsAtField c.width s.seen t a i j
+      → (u r : ℕ) → u < c.threads → r < REGISTERS
+      → register_word_in c.width (with_payload s.seen.words (object_at s.seen t).block j v) u r
+      ≡ register_word_in c.width s.seen.words u r
+  field_apart t a i j v tn q u r un rl =
+      let (ka, block, low, field) = at_field c.width c.threads c.blocks (Kept s) s.at s.seen
+      k.follows t a i j tn q in
+      other_payload _ j v u r
+      (λ e. omega (
+        arith,
+        register_low c.width c.threads u r un rl,
+        (shown c s k).placed.behind a
+            (object_at s.seen t).ordinal ka low,
+        block,
+      ))
+
   other_word : (e : Event) → commanded.Guard c.width c.threads s.seen e → (u r : ℕ) → u < c.threads
       → r < REGISTERS → (event_thread e ≡ u → ⊥)
       → register_word_in c.width (served c s e).words u r ≡ register_word_in c.width s.seen.words u
       r
   other_word (ReadObject t q) guard u r un rl ne = refl
   other_word (ReadValue t q) guard u r un rl ne = refl
+  other_word (ReadExpected t q) guard u r un rl ne = refl
   other_word (ReadShape t f) guard u r un rl ne = refl
   other_word (ReadLink t j p) guard u r un rl ne = refl
   other_word (ReadField t d a i j) guard u r un rl ne = refl
@@ -121,17 +141,9 @@ module _ (c : Config) (s : KeptState) (k : IsKept c s) where
   other_word (StoreValue t d) guard u r un rl ne = other_register t d _ u r guard.1 rl ne
   other_word (StoreConstant t d v) guard u r un rl ne = other_register t d _ u r guard.1 rl ne
   other_word (StoreField t a i j) guard u r un rl ne =
-      let (ka, block, low, field) = at_field c.width c.threads c.blocks (Kept s) s.at s.seen
-      k.follows t a i j
-      guard.0 guard.3 in
-      other_payload _ j _ u r
-      (λ e. omega (
-        arith,
-        register_low c.width c.threads u r un rl,
-        (shown c s k).placed.behind a
-            (object_at s.seen t).ordinal ka low,
-        block,
-      ))
+      field_apart t a i j _ guard.0 guard.3 u r un rl
+  other_word (ExchangeField t a i j) guard u r un rl ne =
+      field_apart t a i j _ guard.0 guard.3 u r un rl
   other_word (Finish t) guard u r un rl ne = refl
 
   -- the thread's own pending register, behind an event that leaves the graph
@@ -148,6 +160,11 @@ module _ (c : Config) (s : KeptState) (k : IsKept c s) where
   own_late (ReadValue t q) guard is r pending = absurd
       (differ false (sym (ap (λ (l : Loading). is_pending l.value r)
       (load_here s.seen.loads t t _ refl)) ∙ pending) refl)
+  own_late (ReadExpected t q) guard is r pending = (
+    sym (ap (λ (l : Loading). is_pending l.value r) (load_here s.seen.loads t t _ refl))
+        ∙ pending,
+    refl,
+  )
   own_late (ReadShape t f) guard is r pending = (
     sym (ap (λ (l : Loading). is_pending l.value r) (load_here s.seen.loads t t _ refl))
         ∙ pending,
@@ -165,33 +182,39 @@ module _ (c : Config) (s : KeptState) (k : IsKept c s) where
   own_late (StoreValue t d) guard is r pending = absurd (differ false is refl)
   own_late (StoreConstant t d v) guard is r pending = absurd (differ false is refl)
   own_late (StoreField t a i j) guard is r pending = absurd (differ false is refl)
+  own_late (ExchangeField t a i j) guard is r pending = absurd (differ false is refl)
   own_late (Finish t) guard is r pending = absurd
       (differ false (sym (ap (λ (l : Loading). is_pending l.value r)
       (load_here s.seen.loads t t _ refl)) ∙ pending) refl)
 
-  -- behind a deciding event no register of the thread is pending but that of a `get`
+  -- Behind a deciding event no register of the thread is pending but that of a `get` or a `swap`,
+  -- whose word is as it was.
   decided_late : (e : Event) → commanded.Guard c.width c.threads s.seen e
-      → IsPrompt (s.seen.loads (event_thread e)) → (r : ℕ)
-      → is_pending ((served c s e).loads (event_thread e)).value r ≡ true
-      → (served c s e).words ≡ s.seen.words
-  decided_late (ReadObject t q) guard prompt r pending = refl
-  decided_late (ReadValue t q) guard prompt r pending = refl
-  decided_late (ReadShape t f) guard prompt r pending = refl
-  decided_late (ReadLink t j p) guard prompt r pending = refl
-  decided_late (ReadField t d a i j) guard prompt r pending = refl
-  decided_late (StorePending t) guard prompt r pending = absurd
+      → event_thread e < c.threads → IsPrompt (s.seen.loads (event_thread e)) → (r : ℕ)
+      → r < REGISTERS → is_pending ((served c s e).loads (event_thread e)).value r ≡ true
+      → register_word_in c.width (served c s e).words (event_thread e) r
+      ≡ register_word_in c.width s.seen.words (event_thread e) r
+  decided_late (ReadObject t q) guard there prompt r rl pending = refl
+  decided_late (ReadValue t q) guard there prompt r rl pending = refl
+  decided_late (ReadExpected t q) guard there prompt r rl pending = refl
+  decided_late (ReadShape t f) guard there prompt r rl pending = refl
+  decided_late (ReadLink t j p) guard there prompt r rl pending = refl
+  decided_late (ReadField t d a i j) guard there prompt r rl pending = refl
+  decided_late (ExchangeField t a i j) guard there prompt r rl pending =
+      field_apart t a i j _ guard.0 guard.3 t r there rl
+  decided_late (StorePending t) guard there prompt r rl pending = absurd
       (differ false (sym (ap (λ (l : Loading). is_pending l.value r)
       (load_here s.seen.loads t t _ refl)) ∙ pending) refl)
-  decided_late (StoreValue t d) guard prompt r pending = absurd
+  decided_late (StoreValue t d) guard there prompt r rl pending = absurd
       (differ false (sym (ap (λ (l : Loading). is_pending l.value r)
       (load_here s.seen.loads t t _ refl)) ∙ pending) refl)
-  decided_late (StoreConstant t d v) guard prompt r pending = absurd
+  decided_late (StoreConstant t d v) guard there prompt r rl pending = absurd
       (differ false (sym (ap (λ (l : Loading). is_pending l.value r)
       (load_here s.seen.loads t t _ refl)) ∙ pending) refl)
-  decided_late (StoreField t a i j) guard prompt r pending = absurd
+  decided_late (StoreField t a i j) guard there prompt r rl pending = absurd
       (differ false (sym (ap (λ (l : Loading). is_pending l.value r)
       (load_here s.seen.loads t t _ refl)) ∙ pending) refl)
-  decided_late (Finish t) guard prompt r pending = absurd
+  decided_late (Finish t) guard there prompt r rl pending = absurd
       (differ false (sym (ap (λ (l : Loading). is_pending l.value r)
       (load_here s.seen.loads t t _ refl)) ∙ pending) refl)
 
@@ -245,12 +268,15 @@ module _ (c : Config) (s : KeptState) (k : IsKept c s) where
         ∙ pending)) (Did entry) (not_own u entry (λ z. ne (sym own ∙ z))))
         (served c s e).words (other_word e guard u r un rl ne)
     | inl same ↦
-        let words = decided_late e guard (subst (λ v. IsPrompt (s.seen.loads v)) own may.1) r
+        let word = decided_late e guard (subst (λ v. v < c.threads) own may.0)
+        (subst (λ v. IsPrompt (s.seen.loads v)) own may.1) r rl
         (ap (λ v. pending_registers (served c s e).loads v r) same ∙ pending) in
         subst (λ v. IsOlder c (s.order ++ Did entry ∷ []) (served c s e).words (Kept s) s.at v r)
-        (own ∙ same)
-        (subst (λ (x : BlockWords). IsOlder c (s.order ++ Did entry ∷ []) x
-        (Kept s) s.at entry.thread r) (sym words) (now_older entry r may.0 rl may.1))
+        same
+        (older_words c (s.order ++ Did entry ∷ []) w (Kept s) s.at (event_thread e) r
+        (subst (λ v. IsOlder c (s.order ++ Did entry ∷ []) w (Kept s) s.at v r) own
+        (now_older entry r may.0 rl may.1))
+        (served c s e).words word)
   ]
 
   pub older_answered : (entry : Entry) → MayDecide c s entry → (u r : ℕ) → u < c.threads

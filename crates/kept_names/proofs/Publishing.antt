@@ -24,7 +24,7 @@ use Rattle.shown_graph.specs.Layouts.{object_blocks, kind_shape}
 use Rattle.shown_graph.specs.Made.{new_object, with_blocks, and_name, IsMade, IsWritten}
 use Rattle.shown_graph.specs.Words.{BlockWords, value_word, with_payload}
 use Rattle.shown_graph.specs.Shown.{IsValueOf, heads, Shows}
-use Rattle.shown_graph.specs.Events.{is_pending, Loading, unloaded, pending_registers, ObjectIs, ValueIs, LoadIs}
+use Rattle.shown_graph.specs.Events.{is_pending, ValueLoad, Loading, unloaded, pending_registers, ObjectIs, ValueIs, LoadIs}
 use Rattle.shown_graph.proofs.Blocks.{other_block}
 use Rattle.shown_graph.proofs.Names.{same_is, same_self, not_next, word_stays}
 use Rattle.shown_graph.proofs.ObjectLayouts.{layout_laws}
@@ -245,21 +245,26 @@ module _ (c : Config) (inside : IsInBounds c) (s : KeptState) (k : IsKept c s) (
           shape = subst (λ (x : Object). IfSome o.shape
               (λ f. f ≡ kind_shape x.kind (length x.fields))) (sym (object_old i.name has)) i.shape;
         })) is.object;
-    value = some_map (λ v. ValueIs g s.at u v) (λ v. ValueIs after_it placed u v) l.value
-        (λ v i. record {
-          origin = i.origin;
-          word = i.word ∙ sym (word_stays (Kept s) (heads s.at) (heads placed)
-              (register_of g u v.origin)
-              (λ a ka. ap (λ (f : ℕ → ℕ). f 0) (place_old a (kept_name a ka)))
-              ((shown c s k).closed.registers u v.origin un i.origin))
-              ∙ ap (value_word (heads placed)) (sym (register_other u v.origin ne));
-        }) is.value;
+    expected = some_map (λ v. ValueIs g s.at u v) (λ v. ValueIs after_it placed u v) l.expected
+        moved is.expected;
+    value = some_map (λ v. ValueIs g s.at u v) (λ v. ValueIs after_it placed u v) l.value moved
+        is.value;
   }
+    where
+      moved : (v : ValueLoad) → ValueIs g s.at u v → ValueIs after_it placed u v
+      moved v i = record {
+        origin = i.origin;
+        word = i.word ∙ sym (word_stays (Kept s) (heads s.at) (heads placed)
+            (register_of g u v.origin)
+            (λ a ka. ap (λ (f : ℕ → ℕ). f 0) (place_old a (kept_name a ka)))
+            ((shown c s k).closed.registers u v.origin un i.origin))
+            ∙ ap (value_word (heads placed)) (sym (register_other u v.origin ne));
+      }
 
   loads_now : (u : ℕ) → u < c.threads → LoadIs c.width after_it placed u (s.seen.loads u)
   loads_now u un = elim (cases_eq t u) [
     | inl e ↦ subst (λ (l : Loading). LoadIs c.width after_it placed u l)
-        (sym (ap s.seen.loads (sym e) ∙ idle)) (record { object = tt; value = tt })
+        (sym (ap s.seen.loads (sym e) ∙ idle)) (record { object = tt; expected = tt; value = tt })
     | inr ne ↦ load_other u un ne (s.seen.loads u) (k.follows.loads u un)
   ]
 

@@ -21,7 +21,7 @@ use Rattle.shown_graph.specs.Made.{new_object, with_blocks}
 use Rattle.shown_graph.specs.Words.{BlockWords, with_payload, with_register_word}
 use Rattle.shown_graph.specs.Events as commanded
 use Rattle.shown_graph.specs.Events.{GraphState, Event, HasValue, IsPrompt, unloaded, value_at}
-use Rattle.shown_graph.specs.Events.Event.{ReadObject, ReadValue, ReadShape, ReadLink, ReadField, StorePending, StoreValue, StoreConstant, StoreField, Finish}
+use Rattle.shown_graph.specs.Events.Event.{ReadObject, ReadValue, ReadExpected, ReadShape, ReadLink, ReadField, StorePending, StoreValue, StoreConstant, StoreField, ExchangeField, Finish}
 use Rattle.kept_names.specs.Building.{Build, build_in, build_blocks, build_owner, build_shape, build_payload, with_owner, with_shape, IsHeldOnce}
 use Rattle.kept_names.specs.Colouring.{IsTricolour}
 use Rattle.block_store.specs.Counts.{changed}
@@ -68,6 +68,7 @@ pub data KeptEvent : Type 0 where
 abbrev pub event_thread : Event → ℕ
 event_thread (ReadObject t r) = t
 event_thread (ReadValue t r) = t
+event_thread (ReadExpected t r) = t
 event_thread (ReadShape t f) = t
 event_thread (ReadLink t j p) = t
 event_thread (ReadField t d a i j) = t
@@ -75,6 +76,7 @@ event_thread (StorePending t) = t
 event_thread (StoreValue t d) = t
 event_thread (StoreConstant t d v) = t
 event_thread (StoreField t a i j) = t
+event_thread (ExchangeField t a i j) = t
 event_thread (Finish t) = t
 
 abbrev pub leaves_graph : Event → Bool
@@ -82,6 +84,7 @@ leaves_graph (ReadField t d a i j) = false
 leaves_graph (StoreValue t d) = false
 leaves_graph (StoreConstant t d v) = false
 leaves_graph (StoreField t a i j) = false
+leaves_graph (ExchangeField t a i j) = false
 leaves_graph _ = true
 
 -- what an event of a command makes of the graph, the words and the loads

@@ -2,10 +2,13 @@
 use Rattle.std.specs.Prelude.{ℕ, zero, suc, ◌+◌, ◌-◌, ◌*◌, Bool, true, false, if◌then◌else◌}
 use Rattle.lone_bound.specs.Moves.{Spot, Over, LeaveDone, Look, Enter, Leave, LeaveNone, CloseLook, Close, Check, SetCursor, Flip, ShadeRoot, PutRoots, Start, Take, Pop, Scan, Shade, Blacken, PutGrey, ReadCursor, Claim, Pass, TakeFree, Free, PutFree, Credit, Count, Reserve, Grab, Collect, PutRest, Write, Publish, Serve, Lone, Terms}
 
--- the bounds: of an allocation of k blocks on n threads, at this rate; and of another command,
--- where the largest object has b blocks
+-- the bounds: of an allocation of k blocks on n threads, at this rate; of a command that is told to
+-- make u units; and of another command, where the largest object has b blocks
 abbrev pub allocation_bound : ℕ → ℕ → ℕ → ℕ
 allocation_bound n k rate = (rate * k + 1) * (8 * n + 64) + 16 * k + 8 * n + 64
+
+abbrev pub idle_bound : ℕ → ℕ → ℕ
+idle_bound n u = (u + 1) * (8 * n + 64)
 
 abbrev pub other_bound : ℕ → ℕ
 other_bound b = b + 64

@@ -13,7 +13,7 @@ use Rattle.never_heap.specs.declared.Command.{Command}
 use Rattle.never_heap.specs.declared.Command.TheVariants as commands
 use Rattle.never_heap.specs.declared.Reply.{Reply}
 use Rattle.never_heap.specs.declared.Reply.TheVariants as replies
-use Rattle.never_heap.specs.Graphs.{Graph, object_of, register_of}
+use Rattle.never_heap.specs.Graphs.{Graph, object_of, register_of, field_of, with_field}
 use Rattle.never_heap.specs.Histories.{is_full}
 use Rattle.never_heap.specs.Steps.{step, at_field, at_object, blocks_of, makes_object, same_value}
 
@@ -45,6 +45,15 @@ step_not_full g t (commands.Same a b) =
     elim (same_value (register_of g t a) (register_of g t b)) as
     (λ k. is_full (cond k replies.Yes replies.No) ≡ false) [ true ↦ refl | false ↦ refl ]
 step_not_full g t (commands.Say s) = refl
+step_not_full g t (commands.Swap s i v) = field_not_full g (register_of g t s) i _ (λ a. refl)
+step_not_full g t (commands.Cas s i b v) = field_not_full g (register_of g t s) i _ (λ a.
+    elim (same_value (field_of (object_of g a) i) (register_of g t b)) as
+    (λ k. is_full (cond {A = Graph × Reply} k
+    (with_field g a i (register_of g t v), replies.Yes) (g, replies.No)).1 ≡ false) [
+      | true ↦ refl
+      | false ↦ refl
+    ])
+step_not_full g t (commands.Idle u) = refl
 
 -- a command that makes an object has a block at least, and any other has none
 pub makers_have_blocks : (w : Width) (command : Command) → makes_object command ≡ true
@@ -60,6 +69,9 @@ makers_have_blocks w (commands.Put s i v) e = absurd cc
 makers_have_blocks w (commands.Len s) e = absurd cc
 makers_have_blocks w (commands.Same a b) e = absurd cc
 makers_have_blocks w (commands.Say s) e = absurd cc
+makers_have_blocks w (commands.Swap s i v) e = absurd cc
+makers_have_blocks w (commands.Cas s i a v) e = absurd cc
+makers_have_blocks w (commands.Idle u) e = absurd cc
 
 pub others_have_none : (w : Width) (command : Command) → makes_object command ≡ false
     → blocks_of w command ≡ 0
@@ -73,6 +85,9 @@ others_have_none w (commands.Put s i v) e = refl
 others_have_none w (commands.Len s) e = refl
 others_have_none w (commands.Same a b) e = refl
 others_have_none w (commands.Say s) e = refl
+others_have_none w (commands.Swap s i v) e = refl
+others_have_none w (commands.Cas s i a v) e = refl
+others_have_none w (commands.Idle u) e = refl
 
 pub blocks_make : (w : Width) (command : Command) → 0 < blocks_of w command
     → makes_object command ≡ true

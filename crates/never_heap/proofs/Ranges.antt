@@ -1,7 +1,7 @@
 -- A command in the bounds of a configuration is in range.
 use Rattle.block_store.specs.declared.Config.{Config}
 use Rattle.never_heap.specs.declared.Command.{Command}
-use Rattle.never_heap.specs.declared.Command.TheVariants.{New, Arr, Set, Nil, Mov, Get, Put, Len, Same, Say}
+use Rattle.never_heap.specs.declared.Command.TheVariants.{New, Arr, Set, Nil, Mov, Get, Put, Len, Same, Say, Swap, Cas, Idle}
 use Rattle.never_heap.specs.Bounds.{IsCommandInBounds, IsCommandInRange}
 
 pub in_range : (c : Config) (command : Command) → IsCommandInBounds c command
@@ -16,3 +16,6 @@ in_range c (Put s i v) h = h
 in_range c (Len s) h = h
 in_range c (Same a b) h = h
 in_range c (Say s) h = h
+in_range c (Swap s i v) h = (h.0, h.1, h.2)
+in_range c (Cas s i a v) h = (h.0, h.1, h.2, h.3)
+in_range c (Idle u) h = h.0

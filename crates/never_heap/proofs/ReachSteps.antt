@@ -18,7 +18,7 @@ use Rattle.never_heap.proofs.Naming.{one_name, same_itself}
 use Rattle.never_heap.proofs.Reaching.{field_there, reachable_closed, reachable_least, reachable_within}
 use Rattle.never_heap.proofs.Starting.{threads_of_start, object_of_start, has_shared, start_at}
 use Rattle.never_heap.proofs.Staying.{change_past, next_is_new, names_of_change, replay_keeps}
-use Rattle.never_heap.proofs.Stepping.{Stored, nil, number, register, field, Change, none, store, put, make, change_of, has_field, with_object_threads}
+use Rattle.never_heap.proofs.Stepping.{Stored, nil, number, register, field, Change, none, store, put, swap, make, change_of, has_field, with_object_threads, threads_put}
 
 -- what stands in a list after a write was written, or stood there before
 set_cases : (xs : List Value) (i k : ℕ) (v : Value)
@@ -92,6 +92,14 @@ module _ (g : Graph) (t : ℕ) (new : Bool) (there : t < length g.mutators) (P :
   registers_after _ (put s i v b h l) fresh u r a e =
       registers u r a (sym (ap (λ rs. get_or rs r Nil)
       (registers_with_field g b i (register_of g t v) (has_field g b i l) u)) ∙ e)
+  registers_after _ (swap s i v b h l) fresh u r a e =
+      let w : Value = register_of g t v in
+      let old : Value = field_of (object_of g b) i in
+      elim (register_cases (with_field g b i w) t v u r old (omega (arith, threads_put g b i w l))) [
+        | inl now ↦ fields b a i (registers t s b h) (sym now ∙ e)
+        | inr before ↦ registers u r a (sym (before ∙ ap (λ rs. get_or rs r Nil)
+            (registers_with_field g b i w (has_field g b i l) u)) ∙ e)
+      ]
   registers_after _ (make d o n f y) fresh u r a e =
       elim (register_cases (with_object g t o) t d u r (Ref (next_name g t))
       (omega (arith, with_object_threads g t o))) [
@@ -102,13 +110,10 @@ module _ (g : Graph) (t : ℕ) (new : Bool) (there : t < length g.mutators) (P :
             (sym (before ∙ ap (λ rs. get_or rs r Nil) (registers_with_object g t o there u)) ∙ e)
       ]
 
-  fields_after : (h : Graph) → Change g t new h → (b a : Name) (i : ℕ) → P b
-      → field_of (object_of h b) i ≡ Ref a → P a
-  fields_after _ none b a i p e = fields b a i p e
-  fields_after _ (store d v s) b a i p e =
-      fields b a i p (sym (ap (λ (o : Object). field_of o i)
-      (object_with_register g t d v b there)) ∙ e)
-  fields_after _ (put s j v c h l) b a i p e =
+  -- a field after a store of what a register holds in a field
+  field_put : (v i j : ℕ) (c b a : Name) → j < length (object_of g c).fields → P b
+      → field_of (object_of (with_field g c j (register_of g t v)) b) i ≡ Ref a → P a
+  field_put v i j c b a l p e =
       let w : Value = register_of g t v in
       let now : object_of (with_field g c j w) b
       ≡ cond (same_name c b) (set_field (object_of g c) j w) (object_of g b) =
@@ -129,6 +134,18 @@ module _ (g : Graph) (t : ℕ) (new : Bool) (there : t < length g.mutators) (P :
                   ∙ sym (here ∙ before) ∙ e)
             ]
       ]
+
+  fields_after : (h : Graph) → Change g t new h → (b a : Name) (i : ℕ) → P b
+      → field_of (object_of h b) i ≡ Ref a → P a
+  fields_after _ none b a i p e = fields b a i p e
+  fields_after _ (store d v s) b a i p e =
+      fields b a i p (sym (ap (λ (o : Object). field_of o i)
+      (object_with_register g t d v b there)) ∙ e)
+  fields_after _ (put s j v c h l) b a i p e = field_put v i j c b a l p e
+  fields_after _ (swap s j v c h l) b a i p e =
+      field_put v i j c b a l p (sym (ap (λ (o : Object). field_of o i)
+      (object_with_register (with_field g c j (register_of g t v)) t v
+      (field_of (object_of g c) j) b (omega (arith, threads_put g c j (register_of g t v) l)))) ∙ e)
   fields_after _ (make d o n f y) b a i p e =
       let now : object_of (with_register (with_object g t o) t d (Ref (next_name g t))) b
       ≡ cond (same_name (next_name g t) b) o (object_of g b) =

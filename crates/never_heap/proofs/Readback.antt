@@ -1,5 +1,5 @@
 -- What a field holds is what was last stored there.
-use Rattle.std.proofs.Common.{ℕ, ◌≡◌, ◌<◌, true, false, cond, ltb, List, [], ◌∷◌, ◌++◌, length, get_or, ap, sym, ◌∙◌, refl, subst, arith, inl, inr, ◌⊎◌}
+use Rattle.std.proofs.Common.{ℕ, Bool, Option, Some, None, ◌≡◌, ◌<◌, true, false, cond, ltb, List, [], ◌∷◌, ◌++◌, length, get_or, ap, sym, ◌∙◌, refl, subst, arith, inl, inr, ◌⊎◌}
 use Rattle.std.proofs.lemmas.Bool.{cases_eq, cases_lt, cases_Bool, ltb-true, lt-ltb}
 use Rattle.std.proofs.lemmas.List.{get_or_past, get_or-set_same}
 use Rattle.block_store.specs.declared.Config.{Config}
@@ -14,18 +14,15 @@ use Rattle.never_heap.specs.declared.Reply.TheVariants as replies
 use Rattle.never_heap.specs.Graphs.{Graph, Object, start_graph, register_of, object_of, has_name, same_name, with_register, with_field, with_object, set_field, field_of, nils, next_name}
 use Rattle.never_heap.specs.Histories.{HistoryItem, Started, Did, is_full, after, replay, replay_from, IsAnswered, Legal, LegalFrom}
 use Rattle.never_heap.specs.Reach.{refers}
-use Rattle.never_heap.specs.Steps.{step, made, at_field, makes_object}
-use Rattle.never_heap.specs.Readback.{StoresIn, NoneStores, IsLastPut, IsLastStored}
+use Rattle.never_heap.specs.Steps.{step, made, swapped, at_field, makes_object, same_value}
+use Rattle.never_heap.specs.Readback.{put_by, tells_stored, StoresIn, NoneStores, IsLastPut, IsLastStored}
 use Rattle.never_heap.proofs.FieldStores.{object_with_field, object_with_object}
 use Rattle.never_heap.proofs.Growing.{replay_more, legal_front}
 use Rattle.never_heap.proofs.Naming.{one_name, same_itself, refers-ref, ref-refers}
 use Rattle.never_heap.proofs.ReachSteps.{nil_of}
 use Rattle.never_heap.proofs.Starting.{object_of_start}
 use Rattle.never_heap.proofs.Stepping.{has_field}
-use Rattle.never_heap.proofs.Staying.{past_with, next_is_new, register_object, field_keeps, object_keeps, put_field, replay_shape}
-
-abbrev field_at : Graph → Name → ℕ → Value
-field_at g a i = field_of (object_of g a) i
+use Rattle.never_heap.proofs.Staying.{past_with, next_is_new, register_object, field_keeps, either_graph, object_keeps, field_at, put_apart, replay_shape}
 
 -- a field of a name that the graph has not is nil
 field_of_none : (g : Graph) (a : Name) (i : ℕ) → has_name g a ≡ false → field_at g a i ≡ Nil
@@ -52,29 +49,65 @@ made_fields g t d n o a i nil =
           ]
     ]
 
--- a put into field i of a, on this graph
+-- what is done at a field that the object has
+at_field_there : (g : Graph) (v : Value) (a : Name) (i : ℕ) (act : Name → Graph × Reply)
+    → v ≡ Ref a → i < length (object_of g a).fields → at_field g v i act ≡ act a
+at_field_there g v a i act e l =
+    ap (λ w. at_field g w i act) e
+    ∙ ap (λ b. cond b (act a) (g, replies.Range)) (lt-ltb i (length (object_of g a).fields) l)
+
+-- a command that stores in field i of a, on this graph
 abbrev PutsIn : Graph → ℕ → Command → Name → ℕ → Type 0
 PutsIn g t command a i =
-    (s w : ℕ) → command ≡ commands.Put s i w → register_of g t s ≡ Ref a
-    → i < length (object_of g a).fields → ⊥
+    (s w : ℕ) → put_by command ≡ Some (s, (i, w)) → register_of g t s ≡ Ref a
+    → tells_stored (step g t command).1 ≡ true → ⊥
 
-put_here : (g : Graph) (t s j w : ℕ) (a : Name) (i : ℕ) → j ≡ i
-    → PutsIn g t (commands.Put s j w) a i
-    → field_at (step g t (commands.Put s j w)).0 a i ≡ field_at g a i
-put_here g t s j w a i e apart =
-    field_keeps (λ k. field_at k a i ≡ field_at g a i) g j (register_of g t s) _ refl
-    (λ b r l. ap (λ (o : Object). field_of o i)
-    (object_with_field g b j (register_of g t w) (has_field g b j l) a)
-    ∙ elim (cases_Bool (same_name b a)) [
-      | inr other ↦ ap (λ k. field_of
-          (cond k (set_field (object_of g b) j (register_of g t w)) (object_of g a)) i) other
-      | inl same ↦ absurd (apart s w (ap (λ k. commands.Put s k w) e)
-          (r ∙ ap Ref (one_name b a same))
-          (subst (λ k. k < length (object_of g a).fields) e
-          (subst (λ (x : Name). j < length (object_of g x).fields) (one_name b a same) l)))
-    ])
+-- what a cas does with a field that there is
+abbrev chosen : Graph → ℕ → Name → ℕ → ℕ → ℕ → Bool → Graph × Reply
+chosen g t a i b v k = cond k (with_field g a i (register_of g t v), replies.Yes) (g, replies.No)
 
--- a command that is no put into a field leaves it
+module _ (g : Graph) (t s j w : ℕ) (a : Name) (i : ℕ) where
+  put_leaves : PutsIn g t (commands.Put s j w) a i
+      → field_at (step g t (commands.Put s j w)).0 a i ≡ field_at g a i
+  put_leaves apart =
+      field_keeps (λ k. field_at k a i ≡ field_at g a i) g j (register_of g t s) _ refl
+      (λ b r l. put_apart g j (register_of g t w) b a i l (λ same e.
+      apart s w (ap (λ k. Some (s, (k, w))) e) (r ∙ ap Ref same)
+      (ap (λ (p : Graph × Reply). tells_stored p.1)
+      (at_field_there g (register_of g t s) b j
+      (λ name. (with_field g name j (register_of g t w), replies.Stored)) r l))))
+
+  swap_leaves : PutsIn g t (commands.Swap s j w) a i
+      → field_at (step g t (commands.Swap s j w)).0 a i ≡ field_at g a i
+  swap_leaves apart =
+      field_keeps (λ k. field_at k a i ≡ field_at g a i) g j (register_of g t s) _ refl
+      (λ b r l. ap (λ (o : Object). field_of o i)
+      (register_object (with_field g b j (register_of g t w)) t w (field_at g b j) a)
+      ∙ put_apart g j (register_of g t w) b a i l (λ same e.
+      apart s w (ap (λ k. Some (s, (k, w))) e) (r ∙ ap Ref same)
+      (ap (λ (p : Graph × Reply). tells_stored p.1)
+      (at_field_there g (register_of g t s) b j
+      (λ name. (swapped g t name j w, replies.Val (field_at g name j))) r l))))
+
+  -- a cas by what its test says
+  chosen_leaves : (c : ℕ) (b : Name) (k : Bool) → j < length (object_of g b).fields
+      → (k ≡ true → b ≡ a → j ≡ i → ⊥)
+      → field_at (chosen g t b j c w k).0 a i ≡ field_at g a i
+  chosen_leaves c b true l n = put_apart g j (register_of g t w) b a i l (n refl)
+  chosen_leaves c b false l n = refl
+
+  cas_leaves : (c : ℕ) → PutsIn g t (commands.Cas s j c w) a i
+      → field_at (step g t (commands.Cas s j c w)).0 a i ≡ field_at g a i
+  cas_leaves c apart =
+      field_keeps (λ k. field_at k a i ≡ field_at g a i) g j (register_of g t s) _ refl
+      (λ b r l. chosen_leaves c b (same_value (field_at g b j) (register_of g t c)) l
+      (λ won same e. apart s w (ap (λ k. Some (s, (k, w))) e) (r ∙ ap Ref same)
+      (ap (λ (p : Graph × Reply). tells_stored p.1)
+      (at_field_there g (register_of g t s) b j (λ name. chosen g t name j c w
+      (same_value (field_at g name j) (register_of g t c))) r l
+      ∙ ap (chosen g t b j c w) won))))
+
+-- a command that does not store in a field leaves it
 step_leaves_field : (g : Graph) (t : ℕ) (command : Command) (a : Name) (i : ℕ)
     → PutsIn g t command a i
     → field_at (step g t command).0 a i ≡ field_at g a i
@@ -89,33 +122,115 @@ step_leaves_field g t (commands.Mov d s) a i apart =
 step_leaves_field g t (commands.Get d s j) a i apart =
     field_keeps (λ k. field_at k a i ≡ field_at g a i) g j (register_of g t s) _ refl
     (λ b e l. ap (λ (o : Object). field_of o i) (register_object g t d _ a))
-step_leaves_field g t (commands.Put s j w) a i apart = elim (cases_eq j i) [
-  | inl e ↦ put_here g t s j w a i e apart
-  | inr n ↦ put_field g t s j w a i n
-]
+step_leaves_field g t (commands.Put s j w) a i apart = put_leaves g t s j w a i apart
 step_leaves_field g t (commands.Len s) a i apart =
     object_keeps (λ k. field_at k a i ≡ field_at g a i) g (register_of g t s) _ refl (λ b. refl)
 step_leaves_field g t (commands.Same b c) a i apart = refl
 step_leaves_field g t (commands.Say s) a i apart = refl
+step_leaves_field g t (commands.Swap s j w) a i apart = swap_leaves g t s j w a i apart
+step_leaves_field g t (commands.Cas s j c w) a i apart = cas_leaves g t s j w a i c apart
+step_leaves_field g t (commands.Idle u) a i apart = refl
 
--- what is done at a field that the object has
-at_field_there : (g : Graph) (v : Value) (a : Name) (i : ℕ) (act : Name → Graph × Reply)
-    → v ≡ Ref a → i < length (object_of g a).fields → at_field g v i act ≡ act a
-at_field_there g v a i act e l =
-    ap (λ w. at_field g w i act) e
-    ∙ ap (λ b. cond b (act a) (g, replies.Range)) (lt-ltb i (length (object_of g a).fields) l)
-
--- and a field at which it is answered as what is done there
+-- and a field at which it is answered that something was stored is there
 field_is_there : (g : Graph) (v : Value) (a : Name) (i : ℕ) (act : Name → Graph × Reply)
-    → v ≡ Ref a → (replies.Range ≡ (at_field g v i act).1 → ⊥)
+    → v ≡ Ref a → tells_stored (at_field g v i act).1 ≡ true
     → i < length (object_of g a).fields
-field_is_there g v a i act e not =
+field_is_there g v a i act e told =
     elim (cases_Bool (ltb i (length (object_of g a).fields))) [
       | inl y ↦ ltb-true i (length (object_of g a).fields) y
-      | inr n ↦ absurd (not (sym (ap (λ (p : Graph × Reply). p.1)
+      | inr n ↦ absurd (let both : true ≡ false = sym told ∙ ap (λ (p : Graph × Reply). tells_stored p.1)
           (ap (λ w. at_field g w i act) e
-          ∙ ap (λ b. cond b (act a) (g, replies.Range)) n))))
+          ∙ ap (λ b. cond b (act a) (g, replies.Range)) n) in cc)
     ]
+
+-- what stands in a field in which it was just stored
+field_put_there : (g : Graph) (a : Name) (i : ℕ) (w : Value) → i < length (object_of g a).fields
+    → field_at (with_field g a i w) a i ≡ w
+field_put_there g a i w there =
+    ap (λ (o : Object). field_of o i)
+    (object_with_field g a i w (has_field g a i there) a
+    ∙ ap (λ b. cond b (set_field (object_of g a) i w) (object_of g a)) (same_itself a))
+    ∙ get_or-set_same (object_of g a).fields i w Nil there
+
+-- A command that is answered that it stored has found its field, which holds what its register held.
+record Stores (g : Graph) (t : ℕ) (command : Command) (a : Name) (i w : ℕ) : Type 0 where
+  there : i < length (object_of g a).fields
+  now : field_at (step g t command).0 a i ≡ register_of g t w
+
+module _ (g : Graph) (t s i w : ℕ) (a : Name) (e : register_of g t s ≡ Ref a) where
+  put_does : tells_stored (step g t (commands.Put s i w)).1 ≡ true
+      → Stores g t (commands.Put s i w) a i w
+  put_does told =
+      let act : Name → Graph × Reply =
+      λ name. (with_field g name i (register_of g t w), replies.Stored) in
+      let there : i < length (object_of g a).fields =
+      field_is_there g (register_of g t s) a i act e told in
+      record {
+        there = there;
+        now = ap (λ (p : Graph × Reply). field_at p.0 a i)
+            (at_field_there g (register_of g t s) a i act e there)
+            ∙ field_put_there g a i (register_of g t w) there;
+      }
+
+  swap_does : tells_stored (step g t (commands.Swap s i w)).1 ≡ true
+      → Stores g t (commands.Swap s i w) a i w
+  swap_does told =
+      let act : Name → Graph × Reply =
+      λ name. (swapped g t name i w, replies.Val (field_at g name i)) in
+      let there : i < length (object_of g a).fields =
+      field_is_there g (register_of g t s) a i act e told in
+      record {
+        there = there;
+        now = ap (λ (p : Graph × Reply). field_at p.0 a i)
+            (at_field_there g (register_of g t s) a i act e there)
+            ∙ ap (λ (o : Object). field_of o i)
+            (register_object (with_field g a i (register_of g t w)) t w (field_at g a i) a)
+            ∙ field_put_there g a i (register_of g t w) there;
+      }
+
+  chosen_does : (c : ℕ) (k : Bool) → i < length (object_of g a).fields
+      → tells_stored (chosen g t a i c w k).1 ≡ true
+      → field_at (chosen g t a i c w k).0 a i ≡ register_of g t w
+  chosen_does c true there told = field_put_there g a i (register_of g t w) there
+  chosen_does c false there told = absurd cc
+
+  cas_does : (c : ℕ) → tells_stored (step g t (commands.Cas s i c w)).1 ≡ true
+      → Stores g t (commands.Cas s i c w) a i w
+  cas_does c told =
+      let act : Name → Graph × Reply =
+      λ name. chosen g t name i c w (same_value (field_at g name i) (register_of g t c)) in
+      let there : i < length (object_of g a).fields =
+      field_is_there g (register_of g t s) a i act e told in
+      let same : step g t (commands.Cas s i c w) ≡ act a =
+      at_field_there g (register_of g t s) a i act e there in
+      record {
+        there = there;
+        now = ap (λ (p : Graph × Reply). field_at p.0 a i) same
+            ∙ chosen_does c (same_value (field_at g a i) (register_of g t c)) there
+            (ap (λ (p : Graph × Reply). tells_stored p.1) (sym same) ∙ told);
+      }
+
+abbrev Put3 : Type 0
+Put3 = ℕ × (ℕ × ℕ)
+
+abbrev parts_of : Option Put3 → Put3
+parts_of None = (0, (0, 0))
+parts_of (Some p) = p
+
+-- the same of each command that may store
+does : (g : Graph) (t : ℕ) (command : Command) (s i w : ℕ) (a : Name)
+    → put_by command ≡ Some (s, (i, w)) → register_of g t s ≡ Ref a
+    → tells_stored (step g t command).1 ≡ true → Stores g t command a i w
+does g t (commands.Put q j u) s i w a is e told =
+    subst (λ (p : Put3). Stores g t (commands.Put q j u) a p.1.0 p.1.1) (ap parts_of is)
+    (put_does g t q j u a (ap (λ (p : Option Put3). register_of g t (parts_of p).0) is ∙ e) told)
+does g t (commands.Swap q j u) s i w a is e told =
+    subst (λ (p : Put3). Stores g t (commands.Swap q j u) a p.1.0 p.1.1) (ap parts_of is)
+    (swap_does g t q j u a (ap (λ (p : Option Put3). register_of g t (parts_of p).0) is ∙ e) told)
+does g t (commands.Cas q j c u) s i w a is e told =
+    subst (λ (p : Put3). Stores g t (commands.Cas q j c u) a p.1.0 p.1.1) (ap parts_of is)
+    (cas_does g t q j u a (ap (λ (p : Option Put3). register_of g t (parts_of p).0) is ∙ e) c told)
+does g t _ s i w a is e told = absurd cc
 
 -- a reply that is no full comes of the step, and so does the graph
 answered : (g : Graph) (e : Entry) → IsAnswered g (Did e) → is_full e.reply ≡ false
@@ -127,54 +242,42 @@ stepped : (g : Graph) (e : Entry) → is_full e.reply ≡ false
     → after g (Did e) ≡ (step g e.thread e.command).0
 stepped g e unfull = ap (λ b. cond b g (step g e.thread e.command).0) unfull
 
--- a put that stores in a field finds it there
+-- a reply that something was stored is no full
+stored_not_full : (r : Reply) → tells_stored r ≡ true → is_full r ≡ false
+stored_not_full (replies.Full c) told = absurd cc
+stored_not_full _ told = refl
+
+-- a command that stores in a field finds it there
 module _ (g : Graph) (e : Entry) (a : Name) (i : ℕ) (v : Value) (s : StoresIn g e a i v)
     (ok : IsAnswered g (Did e)) where
   not_full : is_full e.reply ≡ false
-  not_full = ap is_full s.stored
+  not_full = stored_not_full e.reply s.stored
 
-  put_reply : replies.Stored ≡ (step g e.thread (commands.Put s.s i s.w)).1
-  put_reply =
-      sym s.stored ∙ answered g e ok not_full
-      ∙ ap (λ k. (step g e.thread k).1) s.command
+  stores : Stores g e.thread e.command a i s.w
+  stores = does g e.thread e.command s.s i s.w a s.command s.object
+      (ap tells_stored (sym (answered g e ok not_full)) ∙ s.stored)
 
   pub put_there : i < length (object_of g a).fields
-  put_there = field_is_there g (register_of g e.thread s.s) a i
-      (λ name. (with_field g name i (register_of g e.thread s.w), replies.Stored)) s.object
-      (λ r. let both : replies.Range ≡ replies.Stored = r ∙ sym put_reply in cc)
+  put_there = stores.there
 
   -- which holds what was stored
   pub put_stores : field_at (after g (Did e)) a i ≡ v
-  put_stores =
-      let w : Value = register_of g e.thread s.w in
-      ap (λ k. field_at k a i) (stepped g e not_full ∙ ap (λ k. (step g e.thread k).0) s.command)
-      ∙ ap (λ (p : Graph × Reply). field_at p.0 a i)
-      (at_field_there g (register_of g e.thread s.s) a i
-      (λ name. (with_field g name i w, replies.Stored)) s.object put_there)
-      ∙ ap (λ (o : Object). field_of o i)
-      (object_with_field g a i w (has_field g a i put_there) a
-      ∙ ap (λ b. cond b (set_field (object_of g a) i w) (object_of g a)) (same_itself a))
-      ∙ get_or-set_same (object_of g a).fields i w Nil put_there
-      ∙ s.value
+  put_stores = ap (λ k. field_at k a i) (stepped g e not_full) ∙ stores.now ∙ s.value
 
--- an entry that is no put into a field leaves it
+-- an entry that does not store in a field leaves it
 no_put : (g : Graph) (e : Entry) (a : Name) (i : ℕ) → IsAnswered g (Did e)
     → ((v : Value) → StoresIn g e a i v → ⊥) → field_at (after g (Did e)) a i ≡ field_at g a i
 no_put g e a i ok none = elim (cases_Bool (is_full e.reply)) [
   | inl y ↦ ap (λ b. field_at (cond b g (step g e.thread e.command).0) a i) y
   | inr n ↦ ap (λ k. field_at k a i) (stepped g e n)
-      ∙ step_leaves_field g e.thread e.command a i (λ s w is object there.
+      ∙ step_leaves_field g e.thread e.command a i (λ s w is object told.
       none (register_of g e.thread w) (record {
         s = s;
         w = w;
         command = is;
         object = object;
         value = refl;
-        stored = answered g e ok n ∙ ap (λ k. (step g e.thread k).1) is
-            ∙ ap (λ (p : Graph × Reply). p.1)
-            (at_field_there g (register_of g e.thread s) a i
-            (λ name. (with_field g name i (register_of g e.thread w), replies.Stored))
-            object there);
+        stored = ap tells_stored (answered g e ok n) ∙ told;
       }))
 ]
 
@@ -251,33 +354,23 @@ is_ref v a = elim (cases_Bool (refers a v)) [
   | inr n ↦ inr (λ e. let both : true ≡ false = sym (ref-refers a v e) ∙ n in cc)
 ]
 
-is_stored : (r : Reply) → (r ≡ replies.Stored) ⊎ (r ≡ replies.Stored → ⊥)
-is_stored replies.Stored = inl refl
-is_stored r = inr (λ e. cc)
-
-abbrev index_put : Command → ℕ
-index_put (commands.Put s i w) = i
-index_put _ = 0
-
-abbrev object_put : Command → ℕ
-object_put (commands.Put s i w) = s
-object_put _ = 0
-
-decide : (g : Graph) (e : Entry) (a : Name) (i : ℕ) (command : Command) → e.command ≡ command
+decide : (g : Graph) (e : Entry) (a : Name) (i : ℕ) (p : Option Put3) → put_by e.command ≡ p
     → Decided g e a i
-decide g e a i (commands.Put s j w) is = elim (cases_eq j i) [
-  | inr n ↦ inr (λ v p. n (ap index_put (sym is ∙ p.command)))
+decide g e a i None is =
+    inr (λ v p. let both : None ≡ Some (p.s, (i, p.w)) = sym is ∙ p.command in cc)
+decide g e a i (Some (s, (j, w))) is = elim (cases_eq j i) [
+  | inr n ↦ inr (λ v p. n (ap (λ (o : Option Put3). (parts_of o).1.0) (sym is ∙ p.command)))
   | inl same ↦ elim (is_ref (register_of g e.thread s) a) [
-    | inr n ↦ inr (λ v p. n (ap (register_of g e.thread) (ap object_put (sym is ∙ p.command))
-        ∙ p.object))
-    | inl object ↦ elim (is_stored e.reply) [
-      | inr n ↦ inr (λ v p. n p.stored)
+    | inr n ↦ inr (λ v p. n (ap (λ (o : Option Put3). register_of g e.thread (parts_of o).0)
+        (sym is ∙ p.command) ∙ p.object))
+    | inl object ↦ elim (cases_Bool (tells_stored e.reply)) [
+      | inr n ↦ inr (λ v p. let both : true ≡ false = sym p.stored ∙ n in cc)
       | inl stored ↦ inl (
         register_of g e.thread w,
         record {
           s = s;
           w = w;
-          command = is ∙ ap (λ k. commands.Put s k w) same;
+          command = is ∙ ap (λ k. Some (s, (k, w))) same;
           object = object;
           value = refl;
           stored = stored;
@@ -286,8 +379,6 @@ decide g e a i (commands.Put s j w) is = elim (cases_eq j i) [
     ]
   ]
 ]
-decide g e a i command is =
-    inr (λ v p. let both : command ≡ commands.Put p.s i p.w = sym is ∙ p.command in cc)
 
 -- the last put into a field, from a graph on
 record LastFrom (g : Graph) (h : List HistoryItem) (a : Name) (i : ℕ) : Type 0 where
@@ -337,7 +428,7 @@ look g (Started ∷ h) a i = elim (look g h a i) [
 ]
 look g (Did x ∷ h) a i = elim (look (after g (Did x)) h a i) [
   | inl p ↦ inl (last_behind g (Did x) h a i p)
-  | inr none ↦ elim (decide g x a i x.command refl) [
+  | inr none ↦ elim (decide g x a i (put_by x.command) refl) [
     | inl s ↦ inl (record {
       before = [];
       put = x;

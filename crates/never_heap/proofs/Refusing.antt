@@ -8,9 +8,9 @@ use Rattle.never_heap.specs.declared.Command.{Command}
 use Rattle.never_heap.specs.declared.Command.TheVariants as commands
 use Rattle.never_heap.specs.declared.Reply.{Reply}
 use Rattle.never_heap.specs.declared.Reply.TheVariants as replies
-use Rattle.never_heap.specs.Graphs.{Graph, object_of, register_of}
+use Rattle.never_heap.specs.Graphs.{Graph, object_of, register_of, field_of, with_field}
 use Rattle.never_heap.specs.Histories.{is_refusal}
-use Rattle.never_heap.specs.Steps.{step, at_field, at_object}
+use Rattle.never_heap.specs.Steps.{step, at_field, at_object, same_value}
 
 -- what is done and what is answered leave the graph where the answer is a refusal
 abbrev Leaves : Graph → Graph × Reply → Type 0
@@ -34,6 +34,19 @@ object_leaves g Nil act f y = refl
 object_leaves g (Int n) act f y = refl
 object_leaves g (Ref a) act f y = f a
 
+-- a cas that finds its field is no refusal
+cas_answers : (g : Graph) (a : Name) (i b v t : ℕ)
+    → is_refusal (cond {A = Graph × Reply}
+    (same_value (field_of (object_of g a) i) (register_of g t b))
+    (with_field g a i (register_of g t v), replies.Yes) (g, replies.No)).1 ≡ false
+cas_answers g a i b v t =
+    elim (same_value (field_of (object_of g a) i) (register_of g t b)) as
+    (λ k. is_refusal (cond {A = Graph × Reply} k
+    (with_field g a i (register_of g t v), replies.Yes) (g, replies.No)).1 ≡ false) [
+      | true ↦ refl
+      | false ↦ refl
+    ]
+
 pub step_refused : (g : Graph) (t : ℕ) (command : Command) → Leaves g (step g t command)
 step_refused g t (commands.New d f) y = absurd cc
 step_refused g t (commands.Arr d e) y = absurd cc
@@ -45,3 +58,7 @@ step_refused g t (commands.Put s i v) y = field_leaves g (register_of g t s) i _
 step_refused g t (commands.Len s) y = object_leaves g (register_of g t s) _ (λ a. refl) y
 step_refused g t (commands.Same a b) y = refl
 step_refused g t (commands.Say s) y = refl
+step_refused g t (commands.Swap s i v) y = field_leaves g (register_of g t s) i _ (λ a. refl) y
+step_refused g t (commands.Cas s i b v) y =
+    field_leaves g (register_of g t s) i _ (λ a. cas_answers g a i b v t) y
+step_refused g t (commands.Idle u) y = refl

@@ -9,14 +9,15 @@ use Rattle.block_store.specs.declared.Value.TheVariants.{Nil, Int, Ref}
 use Rattle.never_heap.specs.declared.Command.{Command}
 use Rattle.never_heap.specs.declared.Command.TheVariants as commands
 use Rattle.never_heap.specs.declared.Reply.{Reply}
+use Rattle.never_heap.specs.declared.Reply.TheVariants as replies
 use Rattle.never_heap.specs.declared.Reply.TheVariants.{Range}
 use Rattle.never_heap.specs.Graphs.{SameShape, Graph, Mutator, Object, no_mutator, mutator_at, count_of, register_of, object_of, has_name, same_name, with_mutator, with_register, with_field, with_object, set_field, field_of, next_name}
 use Rattle.never_heap.specs.Histories.{HistoryItem, Started, Did, is_full, after, replay_from}
-use Rattle.never_heap.specs.Steps.{step, made, at_field, at_object, makes_object, stores_in, stored_at}
+use Rattle.never_heap.specs.Steps.{step, made, swapped, at_field, at_object, makes_object, same_value, stores_in, stored_at}
 use Rattle.never_heap.proofs.GraphMoves.{mutator_with, object_with_register, has_name_with_register}
 use Rattle.never_heap.proofs.FieldStores.{object_with_field, has_name_with_field, object_with_object, has_name_with_object, registers_with_field, registers_with_object}
 use Rattle.never_heap.proofs.Naming.{one_name}
-use Rattle.never_heap.proofs.Stepping.{Change, none, store, put, make, change_of, has_field, with_object_threads, count_stays, made_count}
+use Rattle.never_heap.proofs.Stepping.{Change, none, store, put, swap, make, change_of, has_field, with_object_threads, threads_put, count_stays, made_count}
 
 -- a thread that there is not changes nothing
 pub past_with : (g : Graph) (t : ℕ) (m : Mutator) → length g.mutators ≤ t → with_mutator g t m ≡ g
@@ -32,6 +33,8 @@ pub change_past : (g : Graph) (t : ℕ) (new : Bool) (h : Graph) → length g.mu
 change_past g t new _ l none = refl
 change_past g t new _ l (store d v s) = past_with g t _ l
 change_past g t new _ l (put s i v a e k) = let nil : register_of g t s ≡ Nil =
+    past_register g t s l in absurd cc
+change_past g t new _ l (swap s i v a e k) = let nil : register_of g t s ≡ Nil =
     past_register g t s l in absurd cc
 change_past g t new _ l (make d o n e y) =
     ap (λ (k : Graph). with_register k t d (Ref (next_name g t))) (past_with g t _ l)
@@ -63,27 +66,40 @@ module _ (g : Graph) (t : ℕ) (new : Bool) (there : t < length g.mutators) wher
   names_here _ (store d v s) a has = has_name_with_register g t d v a there ∙ has
   names_here _ (put s i v b e l) a has =
       has_name_with_field g b i (register_of g t v) (has_field g b i l) a ∙ has
+  names_here _ (swap s i v b e l) a has =
+      has_name_with_register (with_field g b i (register_of g t v)) t v
+      (field_of (object_of g b) i) a (omega (arith, threads_put g b i (register_of g t v) l))
+      ∙ has_name_with_field g b i (register_of g t v) (has_field g b i l) a ∙ has
   names_here _ (make d o n e y) a has =
       has_name_with_register (with_object g t o) t d (Ref (next_name g t)) a
       (omega (arith, with_object_threads g t o))
       ∙ has_name_with_object g t o there a
       ∙ or_right (same_name (next_name g t) a) (has_name g a) has
 
+  shape_put : (i : ℕ) (w : Value) (b a : Name) → i < length (object_of g b).fields
+      → SameShape (object_of g a) (object_of (with_field g b i w) a)
+  shape_put i w b a l = elim (cases_Bool (same_name b a)) [
+    | inl y ↦ subst (λ (x : Name). SameShape (object_of g x)
+        (object_of (with_field g b i w) a)) (one_name b a y)
+        (shape_set (object_of g b) (object_of (with_field g b i w) a) i
+        w (object_with_field g b i w (has_field g b i l) a
+        ∙ ap (λ k. cond k (set_field (object_of g b) i w) (object_of g a)) y))
+    | inr n ↦ same_shape (object_of g a) _
+        (object_with_field g b i w (has_field g b i l) a
+        ∙ ap (λ k. cond k (set_field (object_of g b) i w) (object_of g a)) n)
+  ]
+
   shape_here : (h : Graph) → Change g t new h → (a : Name) → has_name g a ≡ true
       → SameShape (object_of g a) (object_of h a)
   shape_here _ none a has = same_shape (object_of g a) (object_of g a) refl
   shape_here _ (store d v s) a has =
       same_shape (object_of g a) _ (object_with_register g t d v a there)
-  shape_here _ (put s i v b e l) a has = elim (cases_Bool (same_name b a)) [
-    | inl y ↦ subst (λ (x : Name). SameShape (object_of g x)
-        (object_of (with_field g b i (register_of g t v)) a)) (one_name b a y)
-        (shape_set (object_of g b) (object_of (with_field g b i (register_of g t v)) a) i
-        (register_of g t v) (object_with_field g b i (register_of g t v) (has_field g b i l) a
-        ∙ ap (λ k. cond k (set_field (object_of g b) i (register_of g t v)) (object_of g a)) y))
-    | inr n ↦ same_shape (object_of g a) _
-        (object_with_field g b i (register_of g t v) (has_field g b i l) a
-        ∙ ap (λ k. cond k (set_field (object_of g b) i (register_of g t v)) (object_of g a)) n)
-  ]
+  shape_here _ (put s i v b e l) a has = shape_put i (register_of g t v) b a l
+  shape_here _ (swap s i v b e l) a has =
+      subst (λ (p : Object). SameShape (object_of g a) p)
+      (sym (object_with_register (with_field g b i (register_of g t v)) t v
+      (field_of (object_of g b) i) a (omega (arith, threads_put g b i (register_of g t v) l))))
+      (shape_put i (register_of g t v) b a l)
   shape_here _ (make d o n e y) a has = elim (cases_Bool (same_name (next_name g t) a)) [
     | inl same ↦ absurd (both_ways (has_name g (next_name g t)) (next_is_new g t)
         (ap (has_name g) (one_name (next_name g t) a same) ∙ has))
@@ -195,11 +211,24 @@ field_keeps P g i (Ref a) act p f = elim (cases_Bool (ltb i (length (object_of g
   | inr n ↦ subst (λ b. P (cond b (act a) (g, Range)).0) (sym n) p
 ]
 
+-- what holds of both graphs holds of the one that a test chooses
+pub either_graph : (P : Graph → Type 0) (k : Bool) (h g : Graph) → P h → P g
+    → P (cond {A = Graph × Reply} k (h, replies.Yes) (g, replies.No)).0
+either_graph P true h g p q = p
+either_graph P false h g p q = q
+
 pub object_keeps : (P : Graph → Type 0) (g : Graph) (v : Value) (act : Name → Graph × Reply) → P g
     → ((a : Name) → (act a).0 ≡ g) → P (at_object g v act).0
 object_keeps P g Nil act p f = p
 object_keeps P g (Int n) act p f = p
 object_keeps P g (Ref a) act p f = subst (λ k. P k) (sym (f a)) p
+
+-- a store in a field leaves the registers
+put_register : (g : Graph) (i : ℕ) (w : Value) (a : Name) (u q : ℕ)
+    → i < length (object_of g a).fields
+    → register_of (with_field g a i w) u q ≡ register_of g u q
+put_register g i w a u q l = ap (λ rs. get_or rs q Nil)
+    (registers_with_field g a i w (has_field g a i l) u)
 
 pub step_register : (g : Graph) (t : ℕ) (command : Command) (u q : ℕ)
     → (t ≡ u → stores_in command q ≡ false)
@@ -214,13 +243,22 @@ step_register g t (commands.Get d s i) u q n =
     (λ a e l. other_register g t d u q _ n)
 step_register g t (commands.Put s i v) u q n =
     field_keeps (λ k. register_of k u q ≡ register_of g u q) g i (register_of g t s) _ refl
-    (λ a e l. ap (λ rs. get_or rs q Nil)
-    (registers_with_field g a i (register_of g t v) (has_field g a i l) u))
+    (λ a e l. put_register g i (register_of g t v) a u q l)
 step_register g t (commands.Len s) u q n =
     object_keeps (λ k. register_of k u q ≡ register_of g u q) g (register_of g t s) _ refl
     (λ a. refl)
 step_register g t (commands.Same a b) u q n = refl
 step_register g t (commands.Say s) u q n = refl
+step_register g t (commands.Swap s i v) u q n =
+    field_keeps (λ k. register_of k u q ≡ register_of g u q) g i (register_of g t s) _ refl
+    (λ a e l. other_register (with_field g a i (register_of g t v)) t v u q
+    (field_of (object_of g a) i) n ∙ put_register g i (register_of g t v) a u q l)
+step_register g t (commands.Cas s i b v) u q n =
+    field_keeps (λ k. register_of k u q ≡ register_of g u q) g i (register_of g t s) _ refl
+    (λ a e l. either_graph (λ k. register_of k u q ≡ register_of g u q)
+    (same_value (field_of (object_of g a) i) (register_of g t b)) _ g
+    (put_register g i (register_of g t v) a u q l) refl)
+step_register g t (commands.Idle k) u q n = refl
 
 -- objects, but for the one in which a put stores
 pub register_object : (g : Graph) (t d : ℕ) (v : Value) (a : Name)
@@ -258,37 +296,91 @@ step_object g t (commands.Len s) a has n =
     object_keeps (λ k. object_of k a ≡ object_of g a) g (register_of g t s) _ refl (λ b. refl)
 step_object g t (commands.Same b c) a has n = refl
 step_object g t (commands.Say s) a has n = refl
+step_object g t (commands.Swap s i v) a has n = absurd cc
+step_object g t (commands.Cas s i b v) a has n = absurd cc
+step_object g t (commands.Idle u) a has n = refl
 
--- a put leaves the objects to which its register does not refer
-pub put_other : (g : Graph) (t s i v : ℕ) (a : Name) → (register_of g t s ≡ Ref a → ⊥)
-    → object_of (step g t (commands.Put s i v)).0 a ≡ object_of g a
+-- a store in a field leaves the objects of other names
+put_object : (g : Graph) (i : ℕ) (w : Value) (b a : Name) → i < length (object_of g b).fields
+    → (b ≡ a → ⊥) → object_of (with_field g b i w) a ≡ object_of g a
+put_object g i w b a l n = elim (cases_Bool (same_name b a)) [
+  | inl same ↦ absurd (n (one_name b a same))
+  | inr other ↦ object_with_field g b i w (has_field g b i l) a
+      ∙ ap (λ k. cond k (set_field (object_of g b) i w) (object_of g a)) other
+]
+
+-- and so those to which its register does not refer
+abbrev LeavesOther : ℕ → Graph → ℕ → Command → Name → Type 0
+LeavesOther s g t command a =
+    (register_of g t s ≡ Ref a → ⊥) → object_of (step g t command).0 a ≡ object_of g a
+
+put_other : (g : Graph) (t s i v : ℕ) (a : Name) → LeavesOther s g t (commands.Put s i v) a
 put_other g t s i v a n =
     field_keeps (λ k. object_of k a ≡ object_of g a) g i (register_of g t s) _ refl
-    (λ b e l. elim (cases_Bool (same_name b a)) [
-      | inl same ↦ absurd (n (e ∙ ap Ref (one_name b a same)))
-      | inr other ↦ object_with_field g b i (register_of g t v) (has_field g b i l) a
-          ∙ ap (λ k. cond k (set_field (object_of g b) i (register_of g t v)) (object_of g a)) other
-    ])
+    (λ b e l. put_object g i (register_of g t v) b a l (λ same. n (e ∙ ap Ref same)))
+
+swap_other : (g : Graph) (t s i v : ℕ) (a : Name) → LeavesOther s g t (commands.Swap s i v) a
+swap_other g t s i v a n =
+    field_keeps (λ k. object_of k a ≡ object_of g a) g i (register_of g t s) _ refl
+    (λ b e l. register_object (with_field g b i (register_of g t v)) t v
+    (field_of (object_of g b) i) a
+    ∙ put_object g i (register_of g t v) b a l (λ same. n (e ∙ ap Ref same)))
+
+cas_other : (g : Graph) (t s i c v : ℕ) (a : Name) → LeavesOther s g t (commands.Cas s i c v) a
+cas_other g t s i c v a n =
+    field_keeps (λ k. object_of k a ≡ object_of g a) g i (register_of g t s) _ refl
+    (λ b e l. either_graph (λ k. object_of k a ≡ object_of g a)
+    (same_value (field_of (object_of g b) i) (register_of g t c)) _ g
+    (put_object g i (register_of g t v) b a l (λ same. n (e ∙ ap Ref same))) refl)
 
 -- and the fields of another place
 other_field : (o : Object) (i j : ℕ) (v : Value) → (i ≡ j → ⊥)
     → field_of (set_field o i v) j ≡ field_of o j
 other_field o i j v n = get_or-set_other o.fields i j v Nil (λ e. n (sym e))
 
-pub put_field : (g : Graph) (t s i v : ℕ) (a : Name) (j : ℕ) → (i ≡ j → ⊥)
-    → field_of (object_of (step g t (commands.Put s i v)).0 a) j ≡ field_of (object_of g a) j
+abbrev pub field_at : Graph → Name → ℕ → Value
+field_at g a i = field_of (object_of g a) i
+
+-- a store in a field leaves those of other names and of other places
+pub put_apart : (g : Graph) (i : ℕ) (w : Value) (b a : Name) (j : ℕ)
+    → i < length (object_of g b).fields
+    → (b ≡ a → i ≡ j → ⊥) → field_at (with_field g b i w) a j ≡ field_at g a j
+put_apart g i w b a j l n = elim (cases_Bool (same_name b a)) [
+  | inl same ↦
+      ap (λ o. field_of o j) (object_with_field g b i w (has_field g b i l) a)
+      ∙ ap (λ k. field_of (cond k (set_field (object_of g b) i w) (object_of g a)) j) same
+      ∙ other_field (object_of g b) i j w (n (one_name b a same))
+      ∙ ap (λ k. field_of (object_of g k) j) (one_name b a same)
+  | inr other ↦
+      ap (λ o. field_of o j) (object_with_field g b i w (has_field g b i l) a)
+      ∙ ap (λ k. field_of (cond k (set_field (object_of g b) i w) (object_of g a)) j) other
+]
+
+abbrev LeavesField : ℕ → Graph → ℕ → Command → Name → ℕ → Type 0
+LeavesField i g t command a j =
+    (i ≡ j → ⊥) → field_at (step g t command).0 a j ≡ field_at g a j
+
+put_field : (g : Graph) (t s i v : ℕ) (a : Name) (j : ℕ)
+    → LeavesField i g t (commands.Put s i v) a j
 put_field g t s i v a j n =
-    field_keeps (λ k. field_of (object_of k a) j ≡ field_of (object_of g a) j) g i
-    (register_of g t s) _ refl (λ b e l.
-    ap (λ o. field_of o j) (object_with_field g b i (register_of g t v) (has_field g b i l) a)
-    ∙ elim (cases_Bool (same_name b a)) [
-      | inl same ↦ ap (λ k. field_of
-          (cond k (set_field (object_of g b) i (register_of g t v)) (object_of g a)) j) same
-          ∙ other_field (object_of g b) i j (register_of g t v) n
-          ∙ ap (λ k. field_of (object_of g k) j) (one_name b a same)
-      | inr other ↦ ap (λ k. field_of
-          (cond k (set_field (object_of g b) i (register_of g t v)) (object_of g a)) j) other
-    ])
+    field_keeps (λ k. field_at k a j ≡ field_at g a j) g i (register_of g t s) _ refl
+    (λ b e l. put_apart g i (register_of g t v) b a j l (λ _. n))
+
+swap_field : (g : Graph) (t s i v : ℕ) (a : Name) (j : ℕ)
+    → LeavesField i g t (commands.Swap s i v) a j
+swap_field g t s i v a j n =
+    field_keeps (λ k. field_at k a j ≡ field_at g a j) g i (register_of g t s) _ refl
+    (λ b e l. ap (λ (o : Object). field_of o j)
+    (register_object (with_field g b i (register_of g t v)) t v (field_at g b i) a)
+    ∙ put_apart g i (register_of g t v) b a j l (λ _. n))
+
+cas_field : (g : Graph) (t s i c v : ℕ) (a : Name) (j : ℕ)
+    → LeavesField i g t (commands.Cas s i c v) a j
+cas_field g t s i c v a j n =
+    field_keeps (λ k. field_at k a j ≡ field_at g a j) g i (register_of g t s) _ refl
+    (λ b e l. either_graph (λ k. field_at k a j ≡ field_at g a j)
+    (same_value (field_at g b i) (register_of g t c)) _ g
+    (put_apart g i (register_of g t v) b a j l (λ _. n)) refl)
 
 -- the same of each command that stores in a field
 abbrev first_of : Option (ℕ × ℕ) → ℕ
@@ -304,30 +396,22 @@ pub stored_other : (g : Graph) (t : ℕ) (command : Command) (s i : ℕ) (a : Na
     → (register_of g t s ≡ Ref a → ⊥) → object_of (step g t command).0 a ≡ object_of g a
 stored_other g t (commands.Put q j v) s i a e n =
     put_other g t q j v a (λ r. n (ap (register_of g t) (sym (ap first_of e)) ∙ r))
-stored_other g t (commands.New d f) s i a e n = absurd cc
-stored_other g t (commands.Arr d f) s i a e n = absurd cc
-stored_other g t (commands.Set d v) s i a e n = absurd cc
-stored_other g t (commands.Nil d) s i a e n = absurd cc
-stored_other g t (commands.Mov d q) s i a e n = absurd cc
-stored_other g t (commands.Get d q j) s i a e n = absurd cc
-stored_other g t (commands.Len q) s i a e n = absurd cc
-stored_other g t (commands.Same q r) s i a e n = absurd cc
-stored_other g t (commands.Say q) s i a e n = absurd cc
+stored_other g t (commands.Swap q j v) s i a e n =
+    swap_other g t q j v a (λ r. n (ap (register_of g t) (sym (ap first_of e)) ∙ r))
+stored_other g t (commands.Cas q j c v) s i a e n =
+    cas_other g t q j c v a (λ r. n (ap (register_of g t) (sym (ap first_of e)) ∙ r))
+stored_other g t _ s i a e n = absurd cc
 
 pub stored_field : (g : Graph) (t : ℕ) (command : Command) (s i : ℕ) (a : Name) (j : ℕ)
     → stored_at command ≡ Some (s, i)
     → (i ≡ j → ⊥) → field_of (object_of (step g t command).0 a) j ≡ field_of (object_of g a) j
 stored_field g t (commands.Put q k v) s i a j e n =
     put_field g t q k v a j (λ r. n (sym (ap second_of e) ∙ r))
-stored_field g t (commands.New d f) s i a j e n = absurd cc
-stored_field g t (commands.Arr d f) s i a j e n = absurd cc
-stored_field g t (commands.Set d v) s i a j e n = absurd cc
-stored_field g t (commands.Nil d) s i a j e n = absurd cc
-stored_field g t (commands.Mov d q) s i a j e n = absurd cc
-stored_field g t (commands.Get d q k) s i a j e n = absurd cc
-stored_field g t (commands.Len q) s i a j e n = absurd cc
-stored_field g t (commands.Same q r) s i a j e n = absurd cc
-stored_field g t (commands.Say q) s i a j e n = absurd cc
+stored_field g t (commands.Swap q k v) s i a j e n =
+    swap_field g t q k v a j (λ r. n (sym (ap second_of e) ∙ r))
+stored_field g t (commands.Cas q k c v) s i a j e n =
+    cas_field g t q k c v a j (λ r. n (sym (ap second_of e) ∙ r))
+stored_field g t _ s i a j e n = absurd cc
 
 -- how many objects a thread made
 pub step_counts : (g : Graph) (t : ℕ) (command : Command) (u : ℕ)
@@ -351,3 +435,6 @@ step_made g t (commands.Put s i v) e there = absurd cc
 step_made g t (commands.Len s) e there = absurd cc
 step_made g t (commands.Same a b) e there = absurd cc
 step_made g t (commands.Say s) e there = absurd cc
+step_made g t (commands.Swap s i v) e there = absurd cc
+step_made g t (commands.Cas s i a v) e there = absurd cc
+step_made g t (commands.Idle u) e there = absurd cc

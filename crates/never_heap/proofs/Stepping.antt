@@ -8,8 +8,9 @@ use Rattle.block_store.specs.declared.Value.TheVariants.{Nil, Int, Ref}
 use Rattle.never_heap.specs.declared.Command.{Command}
 use Rattle.never_heap.specs.declared.Command.TheVariants as commands
 use Rattle.never_heap.specs.declared.Reply.{Reply}
+use Rattle.never_heap.specs.declared.Reply.TheVariants as replies
 use Rattle.never_heap.specs.Graphs.{Graph, Object, no_object, nils, mutator_at, count_of, register_of, object_of, has_name, field_of, with_register, with_field, with_object, next_name}
-use Rattle.never_heap.specs.Steps.{step, made, makes_object, at_field, at_object}
+use Rattle.never_heap.specs.Steps.{step, made, swapped, makes_object, at_field, at_object, same_value}
 use Rattle.never_heap.proofs.GraphMoves.{at_zero, at_serial, objects_with}
 use Rattle.never_heap.proofs.FieldStores.{threads_with_field, count_with_field, count_with_object}
 
@@ -46,13 +47,15 @@ pub data Stored (g : Graph) (t : ℕ) : Value → Type 0 where
   field : (s i : ℕ) (a : Name) → register_of g t s ≡ Ref a → i < length (object_of g a).fields
       → Stored g t (field_of (object_of g a) i)
 
--- what a step makes of a graph: nothing new, a store in a register, a store in a field, or a new
--- object in a register
+-- what a step makes of a graph: nothing new, a store in a register, a store in a field, both at
+-- once, or a new object in a register
 pub data Change (g : Graph) (t : ℕ) (new : Bool) : Graph → Type 0 where
   none : Change g t new g
   store : (d : ℕ) (v : Value) → Stored g t v → Change g t new (with_register g t d v)
   put : (s i v : ℕ) (a : Name) → register_of g t s ≡ Ref a → i < length (object_of g a).fields
       → Change g t new (with_field g a i (register_of g t v))
+  swap : (s i v : ℕ) (a : Name) → register_of g t s ≡ Ref a → i < length (object_of g a).fields
+      → Change g t new (swapped g t a i v)
   make : (d : ℕ) (o : Object) (n : ℕ) → o.fields ≡ nils n → new ≡ true
       → Change g t new (with_register (with_object g t o) t d (Ref (next_name g t)))
 
@@ -77,6 +80,12 @@ at_object_changes g t new Nil act h = none
 at_object_changes g t new (Int n) act h = none
 at_object_changes g t new (Ref a) act h = subst (λ k. Change g t new k) (sym (h a)) none
 
+-- a change where a test is so, and none where it is not
+put_or_none : (g : Graph) (t : ℕ) (new k : Bool) (h : Graph) → Change g t new h
+    → Change g t new (cond {A = Graph × Reply} k (h, replies.Yes) (g, replies.No)).0
+put_or_none g t new true h c = c
+put_or_none g t new false h c = none
+
 -- each step is one of these
 pub change_of : (g : Graph) (t : ℕ) (command : Command)
     → Change g t (makes_object command) (step g t command).0
@@ -92,6 +101,13 @@ change_of g t (commands.Put s i v) =
 change_of g t (commands.Len s) = at_object_changes g t false (register_of g t s) _ (λ a. refl)
 change_of g t (commands.Same a b) = none
 change_of g t (commands.Say s) = none
+change_of g t (commands.Swap s i v) =
+    at_field_changes g t false i (register_of g t s) _ (λ a e l. swap s i v a e l)
+change_of g t (commands.Cas s i b v) =
+    at_field_changes g t false i (register_of g t s) _ (λ a e l.
+    put_or_none g t false (same_value (field_of (object_of g a) i) (register_of g t b))
+    (with_field g a i (register_of g t v)) (put s i v a e l))
+change_of g t (commands.Idle u) = none
 
 with_register_threads : (g : Graph) (t d : ℕ) (v : Value)
     → length (with_register g t d v).mutators ≡ length g.mutators
@@ -101,13 +117,21 @@ pub with_object_threads : (g : Graph) (t : ℕ) (o : Object)
     → length (with_object g t o).mutators ≡ length g.mutators
 with_object_threads g t o = length-set g.mutators t _
 
+-- a store in a field that there is leaves the threads
+pub threads_put : (g : Graph) (a : Name) (i : ℕ) (v : Value) → i < length (object_of g a).fields
+    → length (with_field g a i v).mutators ≡ length g.mutators
+threads_put g a i v l = threads_with_field g a i v (has_field g a i l)
+
 -- the threads stay
 pub threads_of_change : (g : Graph) (t : ℕ) (new : Bool) (h : Graph) → Change g t new h
     → length h.mutators ≡ length g.mutators
 threads_of_change g t new _ none = refl
 threads_of_change g t new _ (store d v s) = with_register_threads g t d v
 threads_of_change g t new _ (put s i v a e l) =
-    threads_with_field g a i (register_of g t v) (has_field g a i l)
+    threads_put g a i (register_of g t v) l
+threads_of_change g t new _ (swap s i v a e l) =
+    with_register_threads (with_field g a i (register_of g t v)) t v (field_of (object_of g a) i)
+    ∙ threads_put g a i (register_of g t v) l
 threads_of_change g t new _ (make d o n e y) =
     with_register_threads (with_object g t o) t d (Ref (next_name g t))
     ∙ with_object_threads g t o
@@ -115,6 +139,14 @@ threads_of_change g t new _ (make d o n e y) =
 count_with_register : (g : Graph) (t d u : ℕ) (v : Value) → t < length g.mutators
     → count_of (with_register g t d v) u ≡ count_of g u
 count_with_register g t d u v there = ap length (objects_with g t u _ there refl)
+
+-- a swap makes none
+swapped_count : (g : Graph) (t u i v : ℕ) (a : Name) → t < length g.mutators
+    → i < length (object_of g a).fields → count_of (swapped g t a i v) u ≡ count_of g u
+swapped_count g t u i v a there l =
+    count_with_register (with_field g a i (register_of g t v)) t v u (field_of (object_of g a) i)
+    (omega (arith, threads_put g a i (register_of g t v) l))
+    ∙ count_with_field g a i (register_of g t v) (has_field g a i l) u
 
 -- a thread that makes an object has one more
 pub made_count : (g : Graph) (t d : ℕ) (o : Object) → t < length g.mutators
@@ -132,6 +164,8 @@ count_of_change g t new _ there none = omega arith
 count_of_change g t new _ there (store d v s) = omega (arith, count_with_register g t d t v there)
 count_of_change g t new _ there (put s i v a e l) =
     omega (arith, count_with_field g a i (register_of g t v) (has_field g a i l) t)
+count_of_change g t new _ there (swap s i v a e l) =
+    omega (arith, swapped_count g t t i v a there l)
 count_of_change g t new _ there (make d o n e y) = omega (arith, made_count g t d o there)
 
 -- another thread makes none, nor does a command that makes no object
@@ -141,6 +175,7 @@ count_stays g t u new _ there other none = refl
 count_stays g t u new _ there other (store d v s) = count_with_register g t d u v there
 count_stays g t u new _ there other (put s i v a e l) =
     count_with_field g a i (register_of g t v) (has_field g a i l) u
+count_stays g t u new _ there other (swap s i v a e l) = swapped_count g t u i v a there l
 count_stays g t u new _ there other (make d o n e y) =
     count_with_register (with_object g t o) t d u (Ref (next_name g t))
     (omega (arith, with_object_threads g t o))

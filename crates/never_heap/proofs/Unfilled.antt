@@ -2,7 +2,7 @@
 use Rattle.std.proofs.Common.{◌+◌, ◌≡◌, ◌≤◌, false, List, [], ◌∷◌, ◌++◌, sym, refl, subst, arith, append_assoc}
 use Rattle.block_store.specs.declared.Config.{Config}
 use Rattle.never_heap.specs.declared.Reply.{Reply}
-use Rattle.never_heap.specs.declared.Reply.TheVariants.{New, Full, Stored, Val, Len, Yes, No, Null, Kind, Range}
+use Rattle.never_heap.specs.declared.Reply.TheVariants.{New, Full, Stored, Val, Len, Yes, No, Null, Kind, Range, Idle}
 use Rattle.never_heap.specs.Histories.{HistoryItem, Started, Did, is_full, starts_in, Legal}
 use Rattle.never_heap.specs.Cycles.{graph_at}
 use Rattle.never_heap.specs.LiveBlocks.{live_blocks}
@@ -31,6 +31,7 @@ not_full c past k No s few l = refl
 not_full c past k Null s few l = refl
 not_full c past k Kind s few l = refl
 not_full c past k Range s few l = refl
+not_full c past k Idle s few l = refl
 
 none_from : (c : Config) (past h : List HistoryItem) → 1 ≤ starts_in past
     → StartsSmall c (past ++ h) → LicensedFrom c past h → NoFulls h

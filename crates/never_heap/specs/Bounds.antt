@@ -1,11 +1,12 @@
 -- The ranges of a command.
-use Rattle.std.specs.Prelude.{◌<◌, ◌≤◌, ◌^◌}
+use Rattle.std.specs.Prelude.{◌≡◌, ◌<◌, ◌≤◌, ◌^◌}
 use Rattle.block_store.specs.declared.Config.{Config}
+use Rattle.block_store.specs.declared.Width.TheVariants.{Eight}
 use Rattle.block_store.specs.declared.TheConstants.{REGISTERS}
 use Rattle.object_lists.specs.Records.{record_blocks}
 use Rattle.array_trees.specs.Trees.{array_blocks}
 use Rattle.never_heap.specs.declared.Command.{Command}
-use Rattle.never_heap.specs.declared.Command.TheVariants.{New, Arr, Set, Nil, Mov, Get, Put, Len, Same, Say}
+use Rattle.never_heap.specs.declared.Command.TheVariants.{New, Arr, Set, Nil, Mov, Get, Put, Len, Same, Say, Swap, Cas, Idle}
 
 -- Registers are those of a thread, numbers and indexes are below 2^62, and an object is at most
 -- 65,535 long and takes no more blocks than the configuration allows.
@@ -22,6 +23,11 @@ IsCommandInBounds c (Put s i v) = (s < REGISTERS) × (i < 2 ^ 62) × (v < REGIST
 IsCommandInBounds c (Len s) = s < REGISTERS
 IsCommandInBounds c (Same a b) = (a < REGISTERS) × (b < REGISTERS)
 IsCommandInBounds c (Say s) = s < REGISTERS
+IsCommandInBounds c (Swap s i v) =
+    (s < REGISTERS) × (i < 2 ^ 62) × (v < REGISTERS) × (c.width ≡ Eight)
+IsCommandInBounds c (Cas s i a v) =
+    (s < REGISTERS) × (i < 2 ^ 62) × (a < REGISTERS) × (v < REGISTERS) × (c.width ≡ Eight)
+IsCommandInBounds c (Idle u) = (u ≤ 131070) × (c.width ≡ Eight)
 
 -- the same, but for the blocks that an object takes
 abbrev pub IsCommandInRange : Command → Type 0
@@ -35,3 +41,7 @@ IsCommandInRange (Put s i v) = (s < REGISTERS) × (i < 2 ^ 62) × (v < REGISTERS
 IsCommandInRange (Len s) = s < REGISTERS
 IsCommandInRange (Same a b) = (a < REGISTERS) × (b < REGISTERS)
 IsCommandInRange (Say s) = s < REGISTERS
+IsCommandInRange (Swap s i v) = (s < REGISTERS) × (i < 2 ^ 62) × (v < REGISTERS)
+IsCommandInRange (Cas s i a v) =
+    (s < REGISTERS) × (i < 2 ^ 62) × (a < REGISTERS) × (v < REGISTERS)
+IsCommandInRange (Idle u) = u ≤ 131070

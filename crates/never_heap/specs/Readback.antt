@@ -1,34 +1,51 @@
 -- What a field holds, told by the history: what was last stored there.
-use Rattle.std.specs.Prelude.{ℕ, ◌≡◌, ◌⊎◌, List, [], ◌∷◌, ◌++◌, map}
+use Rattle.std.specs.Prelude.{ℕ, Bool, true, false, Option, Some, None, ◌≡◌, ◌⊎◌, List, [], ◌∷◌, ◌++◌, map}
 use Rattle.block_store.specs.declared.Config.{Config}
 use Rattle.block_store.specs.declared.Name.{Name}
 use Rattle.block_store.specs.declared.Value.{Value}
 use Rattle.block_store.specs.declared.Value.TheVariants.{Nil, Ref}
 use Rattle.never_heap.specs.declared.Command.{Command}
-use Rattle.never_heap.specs.declared.Command.TheVariants.{Put}
+use Rattle.never_heap.specs.declared.Command.TheVariants.{Put, Swap, Cas}
 use Rattle.never_heap.specs.declared.Entry.{Entry}
-use Rattle.never_heap.specs.declared.Reply.TheVariants.{Stored}
+use Rattle.never_heap.specs.declared.Reply.{Reply}
+use Rattle.never_heap.specs.declared.Reply.TheVariants.{Stored, Val, Yes}
 use Rattle.never_heap.specs.Graphs.{Graph, start_graph, register_of}
 use Rattle.never_heap.specs.Histories.{HistoryItem, Did, replay, replay_from, part}
 
--- On the graph g, the entry is a put that stores v in field i of the object a: its register s
--- refers to a, its register w holds v, and it is answered stored.
+-- the register of the object, the field, and the register of the value, of a command that may store
+-- in a field
+abbrev pub put_by : Command → Option (ℕ × (ℕ × ℕ))
+put_by (Put s i v) = Some (s, (i, v))
+put_by (Swap s i v) = Some (s, (i, v))
+put_by (Cas s i a v) = Some (s, (i, v))
+put_by _ = None
+
+-- whether such a command was answered that it stored: a put by ok, a swap by the field's old value,
+-- a cas by yes
+abbrev pub tells_stored : Reply → Bool
+tells_stored Stored = true
+tells_stored (Val v) = true
+tells_stored Yes = true
+tells_stored _ = false
+
+-- On the graph g, the entry is a put, a swap or a cas that stores v in field i of the object a: its
+-- register s refers to a, its register w holds v, and it is answered that it stored.
 pub record StoresIn (g : Graph) (put : Entry) (a : Name) (i : ℕ) (v : Value) : Type 0 where
   pub s : ℕ
   pub w : ℕ
-  pub command : put.command ≡ Put s i w
+  pub command : put_by put.command ≡ Some (s, (i, w))
   pub object : register_of g put.thread s ≡ Ref a
   pub value : register_of g put.thread w ≡ v
-  pub stored : put.reply ≡ Stored
+  pub stored : tells_stored put.reply ≡ true
 
--- of these items, from the graph g on, none is a put that stores in field i of a
+-- of these items, from the graph g on, none stores in field i of a
 abbrev pub NoneStores : Graph → List HistoryItem → Name → ℕ → Type 0
 NoneStores g items a i =
     (before after : List HistoryItem) (e : Entry) (v : Value)
     → items ≡ before ++ Did e ∷ after → ¬ (StoresIn (replay_from g before) e a i v)
 
--- The last put to field i of a in this history stored v there: the history is what was before the
--- put, its entry, and items of which none is a put that stores there.
+-- The last store in field i of a in this history stored v there: the history is what was before it,
+-- its entry, and items of which none stores there.
 pub record IsLastPut
     (c : Config) (h : List HistoryItem) (a : Name) (i : ℕ) (v : Value)
     : Type 0 where

@@ -30,6 +30,9 @@ blocks_of w (commands.Put s i v) = 0
 blocks_of w (commands.Len s) = 0
 blocks_of w (commands.Same a b) = 0
 blocks_of w (commands.Say s) = 0
+blocks_of w (commands.Swap s i v) = 0
+blocks_of w (commands.Cas s i a v) = 0
+blocks_of w (commands.Idle u) = 0
 
 -- whether a command makes an object
 abbrev pub makes_object : Command → Bool
@@ -45,11 +48,14 @@ stores_in (commands.Set d v) q = d == q
 stores_in (commands.Nil d) q = d == q
 stores_in (commands.Mov d s) q = d == q
 stores_in (commands.Get d s i) q = d == q
+stores_in (commands.Swap s i v) q = v == q
 stores_in _ q = false
 
 -- the register of whose object a command, where it is not refused, stores in a field, and the field
 abbrev pub stored_at : Command → Option (ℕ × ℕ)
 stored_at (commands.Put s i v) = Some (s, i)
+stored_at (commands.Swap s i v) = Some (s, i)
+stored_at (commands.Cas s i a v) = Some (s, i)
 stored_at _ = None
 
 -- a new object in register d
@@ -79,6 +85,11 @@ same_value (Int m) (Int n) = m == n
 same_value (Ref a) (Ref b) = same_name a b
 same_value _ _ = false
 
+-- Field i of the object of a name and register v of a thread exchange their values.
+abbrev pub swapped : Graph → ℕ → Name → ℕ → ℕ → Graph
+swapped g t name i v =
+    with_register (with_field g name i (register_of g t v)) t v (field_of (object_of g name) i)
+
 -- the graph after a command of thread t, and the reply
 abbrev pub step : Graph → ℕ → Command → Graph × Reply
 step g t (commands.New d f) = made g t d (nil_object Record f)
@@ -97,3 +108,12 @@ step g t (commands.Len s) =
 step g t (commands.Same a b) =
     (g, if same_value (register_of g t a) (register_of g t b) then replies.Yes else replies.No)
 step g t (commands.Say s) = (g, replies.Val (register_of g t s))
+step g t (commands.Swap s i v) =
+    at_field g (register_of g t s) i (λ name.
+    (swapped g t name i v, replies.Val (field_of (object_of g name) i)))
+step g t (commands.Cas s i a v) =
+    at_field g (register_of g t s) i (λ name.
+    if same_value (field_of (object_of g name) i) (register_of g t a)
+    then (with_field g name i (register_of g t v), replies.Yes)
+    else (g, replies.No))
+step g t (commands.Idle u) = (g, replies.Idle)

@@ -202,6 +202,47 @@ impl Graph {
         }
     }
 
+    #[tactic(auto, using(crate::proofs::Stepping::threads_put))]
+    fn swap(&mut self, thread: u32, s: u8, i: u64, v: u8) -> Reply
+        requires thread { thread < length self.old.graph.mutators }
+        requires registers { (s < REGISTERS) × (v < REGISTERS) }
+        ensures reply { result ≡ (step self.old.graph thread (Command.Swap s i v)).1 }
+        ensures graph { self.new ≡
+            with_graph self.old (step self.old.graph thread (Command.Swap s i v)).0 }
+    {
+        let value = self.register(thread, v);
+        match self.find(thread, s, i) {
+            Ok((name, old)) => {
+                self.set_field(name, i as usize, value);
+                self.store(thread, v, old);
+                Reply::Val(old)
+            }
+            Err(refusal) => refusal,
+        }
+    }
+
+    fn cas(&mut self, thread: u32, s: u8, i: u64, a: u8, v: u8) -> Reply
+        requires thread { thread < length self.old.graph.mutators }
+        requires registers { (s < REGISTERS) × (a < REGISTERS) × (v < REGISTERS) }
+        ensures reply { result ≡ (step self.old.graph thread (Command.Cas s i a v)).1 }
+        ensures graph { self.new ≡
+            with_graph self.old (step self.old.graph thread (Command.Cas s i a v)).0 }
+    {
+        let expected = self.register(thread, a);
+        let value = self.register(thread, v);
+        match self.find(thread, s, i) {
+            Ok((name, old)) => {
+                if old == expected {
+                    self.set_field(name, i as usize, value);
+                    Reply::Yes
+                } else {
+                    Reply::No
+                }
+            }
+            Err(refusal) => refusal,
+        }
+    }
+
     fn len(&self, thread: u32, s: u8) -> Reply
         requires thread { thread < length self.now.graph.mutators }
         requires register { s < REGISTERS }
@@ -253,6 +294,9 @@ impl Graph {
             Command::Len { s } => self.len(thread, s),
             Command::Same { a, b } => self.same(thread, a, b),
             Command::Say { s } => Reply::Val(self.register(thread, s)),
+            Command::Swap { s, i, v } => self.swap(thread, s, i, v),
+            Command::Cas { s, i, a, v } => self.cas(thread, s, i, a, v),
+            Command::Idle { .. } => Reply::Idle,
         })
     }
 }

@@ -3,6 +3,7 @@
 
 ghost use Rattle.std.specs.Prelude.{◌≡◌, ◌<◌, ◌≤◌, ◌↔◌, IsTrue, ℕ, List, [], ◌∷◌, ◌++◌, length, slice_index_or};
 ghost use Rattle.never_heap.specs.Bounds.{IsCommandInBounds};
+ghost use Rattle.never_heap.specs.RightWork.{units_told};
 ghost use Rattle.never_heap.specs.Steps.{length_made, blocks_of};
 ghost use Rattle.block_store.specs.declared.Config.{Config};
 ghost use Rattle.never_heap.specs.declared.Entry.{Entry};
@@ -40,6 +41,9 @@ use std::sync::Wait;
 /// Numbers and indexes are below this.
 pub const NUMBERS: u64 = 1 << 62;
 
+/// An `Idle` makes at most this many units.
+pub const MOST_UNITS: u64 = 131_070;
+
 /// A record or array is at most this long.
 pub const MOST_FIELDS: u32 = 65_535;
 
@@ -66,11 +70,19 @@ pub enum Command {
     Same { a: u8, b: u8 },
     /// Shows register `s`.
     Say { s: u8 },
+    /// Field `i` of the object in register `s` and register `v` exchange their values.
+    Swap { s: u8, i: u64, v: u8 },
+    /// Where field `i` of the object in register `s` and register `a` hold the same, the field
+    /// becomes what register `v` holds.
+    Cas { s: u8, i: u64, a: u8, v: u8 },
+    /// Makes this many units of marking or sweeping, at most 131,070.
+    Idle { units: u64 },
 }
 
 impl Command {
     /// Whether registers are below `REGISTERS`, numbers and indexes below 2^62, and an object that
-    /// is made is at most 65,535 long and takes no more blocks than one object may.
+    /// is made is at most 65,535 long and takes no more blocks than one object may. `Swap`, `Cas`
+    /// and `Idle` are commands of version 2 alone, whose blocks are wide.
     pub fn in_bounds(&self, c: &Config) -> bool
         ensures { IsTrue result ↔ IsCommandInBounds c.now self.now }
     {
@@ -92,6 +104,17 @@ impl Command {
             Command::Put { s, i, v } => is_register(s) && i < NUMBERS && is_register(v),
             Command::Len { s } | Command::Say { s } => is_register(s),
             Command::Same { a, b } => is_register(a) && is_register(b),
+            Command::Swap { s, i, v } => {
+                is_register(s) && i < NUMBERS && is_register(v) && is_wide(c.width)
+            }
+            Command::Cas { s, i, a, v } => {
+                is_register(s)
+                    && i < NUMBERS
+                    && is_register(a)
+                    && is_register(v)
+                    && is_wide(c.width)
+            }
+            Command::Idle { units } => units <= MOST_UNITS && is_wide(c.width),
         }
     }
 
@@ -107,6 +130,16 @@ impl Command {
             _ => 0,
         }
     }
+
+    /// How many units the command is told to make; 0 for one that is no `Idle`.
+    pub fn told(&self) -> u64
+        ensures { result ≡ units_told self.now }
+    {
+        match *self {
+            Command::Idle { units } => units,
+            _ => 0,
+        }
+    }
 }
 
 /// Whether a thread has a register of this number.
@@ -114,6 +147,13 @@ fn is_register(r: u8) -> bool
     ensures { IsTrue result ↔ (r < REGISTERS) }
 {
     u32::from(r) < REGISTERS
+}
+
+/// Whether blocks of this width are those of version 2.
+fn is_wide(width: Width) -> bool
+    ensures { IsTrue result ↔ (width ≡ Width.Eight) }
+{
+    matches!(width, Width::Eight)
 }
 
 /// What a command answers.
@@ -139,6 +179,8 @@ pub enum Reply {
     Kind,
     /// The object has no such field.
     Range,
+    /// The units that were asked for are made.
+    Idle,
 }
 
 /// A command that was answered.

@@ -133,6 +133,8 @@ fn is_right_item(c: &Config, rate: u64, happened: Happened) -> bool
 {
     match happened {
         Happened::Started => true,
-        Happened::Did(entry) => entry.work == rate * u64::from(entry.command.blocks(c.width)),
+        Happened::Did(entry) => {
+            entry.work == rate * u64::from(entry.command.blocks(c.width)) + entry.command.told()
+        }
     }
 }

@@ -1,5 +1,5 @@
 -- Which lines are good or bad, by what the follower looks at.
-use Rattle.std.proofs.Common.{◌≡◌, ◌≢◌, ℕ, zero, suc, ◌-◌, ◌*◌, ◌^◌, ◌<◌, ◌≤◌, inl, inr, Bool, true, false, max, cond, List, [], ◌∷◌, ◌++◌, length, drop, get_or, Some, None, sym, refl, ap, ◌∙◌, subst, arith}
+use Rattle.std.proofs.Common.{◌+◌, ◌≡◌, ◌≢◌, ℕ, zero, suc, ◌-◌, ◌*◌, ◌^◌, ◌<◌, ◌≤◌, inl, inr, Bool, true, false, max, cond, List, [], ◌∷◌, ◌++◌, length, drop, get_or, Some, None, sym, refl, ap, ◌∙◌, subst, arith}
 use Rattle.std.proofs.lemmas.Nat.{mul-le}
 use Rattle.std.specs.List.{AllByRecursion}
 use Rattle.block_store.specs.declared.Config.{Config}
@@ -16,7 +16,7 @@ use Rattle.never_heap.specs.Graphs.{WideGraph}
 use Rattle.never_heap.specs.Histories.{HistoryItem, Started, Did, is_full, after, replay, starts_in}
 use Rattle.never_heap.specs.Licensed.{IsLicensedReply}
 use Rattle.never_heap.specs.LiveBlocks.{live_blocks}
-use Rattle.never_heap.specs.RightWork.{units_owed}
+use Rattle.never_heap.specs.RightWork.{units_told, units_owed}
 use Rattle.never_heap.specs.Steps.{step, blocks_of, makes_object}
 use Rattle.never_heap.proofs.Answering.{step_not_full}
 use Rattle.trace_text.specs.Jobs.{Job, IsJobInBounds}
@@ -65,6 +65,14 @@ blocks_few c (commands.Put s i v) b = omega arith
 blocks_few c (commands.Len s) b = omega arith
 blocks_few c (commands.Same x y) b = omega arith
 blocks_few c (commands.Say s) b = omega arith
+blocks_few c (commands.Swap s i v) b = omega arith
+blocks_few c (commands.Cas s i x v) b = omega arith
+blocks_few c (commands.Idle u) b = omega arith
+
+pub told_few : (c : Config) (command : Command) → IsCommandInBounds c command
+    → units_told command ≤ 131070
+told_few c (commands.Idle u) b = b.0
+told_few c _ b = omega arith
 
 product_few : (a b m n : ℕ) → a ≤ m → b ≤ n → a * b ≤ m * n
 product_few a b m n p q = mul-le a b m n p q
@@ -74,7 +82,7 @@ pub work_small : (c : Config) (rate : ℕ) (command : Command) → IsCommandInBo
 work_small c rate command b object low =
     let few = blocks_few c command b in
     let most = product_few rate (blocks_of c.width command) 131070 1024 low (omega arith) in
-    omega arith
+    omega (arith, told_few c command b)
 
 -- ---- the state and the items
 
@@ -155,6 +163,7 @@ not_full_licensed c past replies.No f = tt
 not_full_licensed c past replies.Null f = tt
 not_full_licensed c past replies.Kind f = tt
 not_full_licensed c past replies.Range f = tt
+not_full_licensed c past replies.Idle f = tt
 
 module _ (c : Config) (rate : ℕ) (traces : List (List Command)) (past : List HistoryItem)
     (line : List ℕ)
@@ -314,8 +323,9 @@ module _ (job : Job) (rate : ℕ) (past : List HistoryItem) (f : Follower) (line
         (text ∙ ap entry_text (sym full_entry)))
 
 -- the work of an entry, over a configuration that is the job's
-pub work_is : (k c : Config) (rate n blocks : ℕ) (command : Command) → k ≡ c → n ≡ blocks
-    → blocks ≡ blocks_of k.width command
-    → rate * n ≡ units_owed c.width rate command
-work_is k c rate n blocks command same is counted =
-    ap (λ (x : ℕ). rate * x) (is ∙ counted ∙ ap (λ (y : Config). blocks_of y.width command) same)
+pub work_is : (k c : Config) (rate n blocks told : ℕ) (command : Command) → k ≡ c → n ≡ blocks
+    → blocks ≡ blocks_of k.width command → told ≡ units_told command
+    → rate * n + told ≡ units_owed c.width rate command
+work_is k c rate n blocks told command same is counted tells =
+    ap (λ (x : ℕ). rate * x + told) (is ∙ counted ∙ ap (λ (y : Config). blocks_of y.width command) same)
+    ∙ ap (λ (x : ℕ). rate * blocks_of c.width command + x) tells

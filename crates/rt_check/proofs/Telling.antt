@@ -111,6 +111,9 @@ maker_answers g t (commands.Put s i v) m = absurd (no m)
 maker_answers g t (commands.Len s) m = absurd (no m)
 maker_answers g t (commands.Same a b) m = absurd (no m)
 maker_answers g t (commands.Say s) m = absurd (no m)
+maker_answers g t (commands.Swap s i v) m = absurd (no m)
+maker_answers g t (commands.Cas s i a v) m = absurd (no m)
+maker_answers g t (commands.Idle u) m = absurd (no m)
 
 -- the cycle that a full names after these items
 abbrev pub full_cycle : List HistoryItem → ℕ
@@ -137,6 +140,7 @@ full_is c past replies.No f l = absurd (no f)
 full_is c past replies.Null f l = absurd (no f)
 full_is c past replies.Kind f l = absurd (no f)
 full_is c past replies.Range f l = absurd (no f)
+full_is c past replies.Idle f l = absurd (no f)
 
 pub same_entry : (e f : Entry) → e.thread ≡ f.thread → e.command ≡ f.command → e.reply ≡ f.reply
     → e.work ≡ f.work → e ≡ f

@@ -4,7 +4,7 @@ ghost use Rattle.std.specs.Prelude.{◌≡◌, ◌+◌, ◌-◌, ◌^◌, ◌<�
 ghost use Rattle.never_heap.specs.Histories.{HistoryItem};
 ghost use Rattle.never_heap.specs.Bounds.{IsCommandInRange};
 ghost use Rattle.never_heap.specs.Graphs.{count_of};
-ghost use Rattle.never_heap.specs.RightWork.{units_owed};
+ghost use Rattle.never_heap.specs.RightWork.{units_told, units_owed};
 ghost use Rattle.never_heap.specs.Steps.{length_made};
 ghost use Rattle.never_heap.specs.declared.Reply.TheVariants.{Full};
 ghost use Rattle.trace_text.specs.Jobs.{IsJobInBounds};
@@ -238,6 +238,7 @@ impl Follower {
     fn full_entry(&self, job: &Job, rate: u64, thread: u32, command: Command) -> Entry
         requires rate { rate ≤ 131070 }
         requires length { length_made command ≤ 65535 }
+        requires told { units_told command ≤ 131070 }
         ensures thread { result.thread ≡ thread }
         ensures command { result.command ≡ command }
         ensures work { result.work ≡ units_owed job.now.config.width rate command }
@@ -247,7 +248,7 @@ impl Follower {
             thread,
             command,
             reply: Reply::Full(self.full_cycle()),
-            work: rate * u64::from(command.blocks(job.config.width)),
+            work: rate * u64::from(command.blocks(job.config.width)) + command.told(),
         }
     }
 

@@ -5,10 +5,10 @@ use Rattle.std.specs.List.{AllByRecursion}
 use Rattle.block_store.specs.declared.Config.{Config}
 use Rattle.block_store.specs.Counts.{total}
 use Rattle.never_heap.specs.declared.Command.{Command}
-use Rattle.never_heap.specs.declared.Command.TheVariants.{New, Arr, Set, Nil, Mov, Get, Put, Len, Same, Say}
+use Rattle.never_heap.specs.declared.Command.TheVariants.{New, Arr, Set, Nil, Mov, Get, Put, Len, Same, Say, Swap, Cas, Idle}
 use Rattle.never_heap.specs.Bounds.{IsCommandInBounds}
 use Rattle.never_heap.specs.Jobs.{IsTraceInBounds}
-use Rattle.lone_bound.specs.Prices.{allocation_bound, other_bound}
+use Rattle.lone_bound.specs.Prices.{allocation_bound, idle_bound, other_bound}
 use Rattle.heap_system.specs.Alone.{command_bound}
 use Rattle.heap_system.specs.Machines.{IsJob}
 use Rattle.heap_system.specs.Serials.{trace_bound, job_bound}
@@ -30,6 +30,12 @@ module _ (c : Config) (rate : ℕ) (threads : c.threads ≤ 16) (object : c.obje
   other : other_bound c.object ≤ most
   other = omega (arith, object)
 
+  idle : (u : ℕ) → u ≤ 131070 → idle_bound c.threads u ≤ most
+  idle u few =
+      let passes : (u + 1) * (8 * c.threads + 64) ≤ 131071 * 192 =
+      mul-le (u + 1) (8 * c.threads + 64) 131071 192 (omega (arith, few)) (omega (arith, threads)) in
+      omega (arith, passes)
+
   command : (k : Command) → IsCommandInBounds c k → command_bound c rate k ≤ most
   command (New d f) b = allocation _ b.2
   command (Arr d e) b = allocation _ b.2
@@ -41,6 +47,9 @@ module _ (c : Config) (rate : ℕ) (threads : c.threads ≤ 16) (object : c.obje
   command (Len s) b = other
   command (Same a b) h = other
   command (Say s) b = other
+  command (Swap s i v) b = other
+  command (Cas s i a v) b = other
+  command (Idle u) b = idle u b.0
 
   commands : (ks : List Command) → AllByRecursion (IsCommandInBounds c) ks
       → trace_bound c rate ks ≤ length ks * most

@@ -44,7 +44,7 @@ next_stays c t r all =
     let none = no_event_at c r.state t all in
     (λ i. record {
       state = still c r.state t none i;
-      order = r.order ++ cond (none i) (items_by c t (command_of (local_at c r.state t)) (local_at c r.state t).balance.paid r.order (next_effect c r.state t)) [];
+      order = r.order ++ cond (none i) (items_by c t (command_of (local_at c r.state t)) (local_at c r.state t).spent r.order (next_effect c r.state t)) [];
       names = cond (none i) (renamed t (replay c r.order) (heap_in c r.state) (next_effect c r.state t).naming r.names) r.names;
     }) ∙ ap (λ order. record r { order = order }) (append-nil r.order)
 

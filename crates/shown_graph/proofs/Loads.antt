@@ -1,5 +1,5 @@
 -- What a thread has loaded reads as the graph says.
-use Rattle.std.proofs.Common.{◌≡◌, ℕ, ◌<◌, ◌≤◌, Some, IfSome, length, sym, ap, ◌∙◌, subst}
+use Rattle.std.proofs.Common.{◌≡◌, ℕ, ◌<◌, ◌≤◌, Some, IfSome, eqb, length, sym, ap, ◌∙◌, subst}
 use Rattle.block_store.specs.declared.Width.{Width}
 use Rattle.block_store.specs.declared.Name.{Name}
 use Rattle.block_store.specs.declared.Shape.{Shape}
@@ -7,14 +7,16 @@ use Rattle.block_store.specs.declared.Value.TheVariants.{Ref}
 use Rattle.block_store.specs.Owners.{owner_of}
 use Rattle.block_store.specs.Payloads.{payload_of, target}
 use Rattle.block_store.proofs.PayloadWords.{target-reference}
-use Rattle.never_heap.specs.Graphs.{Graph, object_of, register_of}
+use Rattle.never_heap.specs.Graphs.{Graph, object_of, field_of, register_of}
+use Rattle.never_heap.specs.Steps.{same_value}
 use Rattle.shown_graph.specs.Layouts.{kind_shape}
 use Rattle.shown_graph.specs.Words.{value_word}
 use Rattle.shown_graph.specs.Shown.{IsValueOf, heads}
 use Rattle.shown_graph.specs.Read.{value_payload}
-use Rattle.shown_graph.specs.Events.{ObjectLoad, ValueLoad, GraphState, pending_registers, ObjectIs, ValueIs, Follows}
+use Rattle.shown_graph.specs.Events.{ObjectLoad, ValueLoad, GraphState, object_at, expected_at, pending_registers, HasExpected, IsAtField, ObjectIs, ValueIs, Follows}
 use Rattle.shown_graph.proofs.ObjectLayouts.{object_layout}
-use Rattle.shown_graph.proofs.Reading.{value_read, owner_read}
+use Rattle.shown_graph.proofs.Reading.{value_read, owner_read, words_tell}
+use Rattle.shown_graph.proofs.Serving.{expected_is, at_field, field_word}
 
 module _ (W : Width) (n m : ℕ) (K : Name → Type 0) (at : Name → ℕ → ℕ) (s : GraphState)
     (k : Follows W n m K at s) (t : ℕ) (there : t < n) where
@@ -24,6 +26,22 @@ module _ (W : Width) (n m : ℕ) (K : Name → Type 0) (at : Name → ℕ → �
       ∙ value_read W n m K s.graph at s.words (pending_registers s.loads) k.shows
       (register_of s.graph t v.origin) few
       (k.shows.closed.registers t v.origin there is.origin)
+
+  -- the word of a field and the one with which it is compared are one exactly where the values are
+  -- the same
+  pub compared : (a : Name) (i j : ℕ) → IsAtField W s t a i j → HasExpected s t
+      → eqb (s.words.payload (object_at s t).block j) (expected_at s t).word
+      ≡ same_value (field_of (object_of s.graph a) i)
+      (register_of s.graph t (expected_at s t).origin)
+  compared a i j q has =
+      let v = expected_is W n m K at s k t there has in
+      let kept = (at_field W n m K at s k t a i j there q).0 in
+      ap (λ x. eqb x (expected_at s t).word) (field_word W n m K at s k t a i j there q)
+      ∙ ap (λ y. eqb (value_word (heads at) (field_of (object_of s.graph a) i)) y) v.word
+      ∙ words_tell W n m K s.graph at s.words (pending_registers s.loads) k.shows
+      (field_of (object_of s.graph a) i) (register_of s.graph t (expected_at s t).origin)
+      (k.shows.closed.fields a i kept)
+      (k.shows.closed.registers t (expected_at s t).origin there v.origin)
 
   pub name_shown : (v : ValueLoad) (a : Name) → ValueIs s.graph at t v
       → register_of s.graph t v.origin ≡ Ref a

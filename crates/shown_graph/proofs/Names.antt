@@ -1,5 +1,5 @@
 -- Names, kept values, and their words.
-use Rattle.std.proofs.Common.{◌≡◌, ℕ, ◌<◌, ◌≤◌, inl, inr, true, false, eqb, refl, sym, ap, ◌∙◌, subst, arith}
+use Rattle.std.proofs.Common.{◌≡◌, ℕ, ◌<◌, ◌≤◌, inl, inr, true, false, eqb, refl, sym, ap, ◌∙◌, subst, arith, eq-eqb}
 use Rattle.std.proofs.lemmas.Bool.{cases_Bool, eqb-true, and_parts}
 use Rattle.block_store.specs.declared.Width.{Width}
 use Rattle.block_store.specs.declared.Name.{Name}
@@ -8,6 +8,7 @@ use Rattle.block_store.specs.declared.Value.TheVariants.{Nil, Int, Ref}
 use Rattle.block_store.proofs.OwnerWords.{one_owner}
 use Rattle.never_heap.specs.Graphs.{Graph, Object, same_name, has_name, count_of, next_name}
 use Rattle.never_heap.proofs.GraphMoves.{name_of_thread, same_from}
+use Rattle.never_heap.specs.Steps.{same_value}
 use Rattle.shown_graph.specs.Layouts.{object_blocks}
 use Rattle.shown_graph.specs.Words.{BlockWords, value_word}
 use Rattle.shown_graph.specs.Shown.{IsValueOf, Written, Numbered}
@@ -72,3 +73,15 @@ apart W K object at w numbered written a b o p ka kb ol pl e =
     (omega (arith, numbered.serials b kb)) (omega (arith, numbered.ordinals b kb))
     (sym (written.blocks a o ka ol).owned ∙ ap w.owner e ∙ (written.blocks b p kb pl).owned) in
     (same_from a b one.0 one.1, one.2)
+
+-- a value is the same as itself, and two values that are the same are one
+pub same_as_itself : (v : Value) → same_value v v ≡ true
+same_as_itself Nil = refl
+same_as_itself (Int n) = eq-eqb n n refl
+same_as_itself (Ref a) = same_self a
+
+pub values_one : (u v : Value) → same_value u v ≡ true → u ≡ v
+values_one Nil Nil h = refl
+values_one (Int m) (Int n) h = ap Int (eqb-true m n h)
+values_one (Ref a) (Ref b) h = ap Ref (same_is a b h)
+values_one _ _ h = absurd (true≢false (sym h))

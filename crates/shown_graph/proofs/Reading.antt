@@ -1,6 +1,7 @@
 -- What is read from the words: a value, a length, the name of a block's object, the block at the
 -- end of a way.
-use Rattle.std.proofs.Common.{◌≡◌, ℕ, Bool, false, zero, suc, ◌+◌, ◌<◌, ◌≤◌, Some, length, refl, sym, ap, ◌∙◌, subst, arith}
+use Rattle.std.proofs.Common.{◌≡◌, ℕ, Bool, true, false, zero, suc, ◌+◌, ◌<◌, ◌≤◌, inl, inr, Some, eqb, length, refl, sym, ap, ◌∙◌, subst, arith, eq-eqb, ne_eqb}
+use Rattle.std.proofs.lemmas.Bool.{cases_eq, cases_Bool}
 use Rattle.block_store.specs.Registers.{register_block, register_slot}
 use Rattle.block_store.specs.declared.TheConstants.{REGISTERS}
 use Rattle.block_store.specs.declared.Width.{Width}
@@ -16,6 +17,7 @@ use Rattle.block_store.proofs.OwnerWords.{owner-code}
 use Rattle.block_store.proofs.PayloadWords.{payload-code, one_reference, one_number, number-reference, number_positive, reference_positive}
 use Rattle.block_store.proofs.ShapeWords.{shape-code}
 use Rattle.never_heap.specs.Graphs.{Graph, ObjectKind, Record, Array, object_of, field_of, register_of}
+use Rattle.never_heap.specs.Steps.{same_value}
 use Rattle.object_lists.specs.Parts.{Link}
 use Rattle.object_lists.specs.Layouts.{IsWay}
 use Rattle.shown_graph.specs.Layouts.{kind_shape, object_blocks, object_part, object_slot}
@@ -23,7 +25,7 @@ use Rattle.shown_graph.specs.Words.{BlockWords, value_word, part_word, kind_word
 use Rattle.shown_graph.specs.Shown.{IsValueOf, heads, Shows}
 use Rattle.shown_graph.specs.Read.{value_payload}
 use Rattle.shown_graph.proofs.ObjectLayouts.{object_layout, few_fields}
-use Rattle.shown_graph.proofs.Names.{apart, same_is}
+use Rattle.shown_graph.proofs.Names.{apart, same_is, same_as_itself, values_one}
 
 module _ (W : Width) (n m : ℕ) (K : Name → Type 0) (g : Graph) (at : Name → ℕ → ℕ)
     (w : BlockWords) (pending : ℕ → ℕ → Bool) (shows : Shows W n m K g at w pending) where
@@ -151,6 +153,18 @@ module _ (W : Width) (n m : ℕ) (K : Name → Type 0) (g : Graph) (at : Name �
       ap values.Ref (same_is a b
       (apart W K (object_of g) at w shows.numbered shows.written a b 0 0 kv ku
       (first_block a kv) (first_block b ku) (one_reference (at a 0) (at b 0) e)).0)
+
+  -- their words are one exactly where they are the same
+  pub words_tell : (v u : Value) → IsValueOf K v → IsValueOf K u
+      → eqb (value_word (heads at) v) (value_word (heads at) u) ≡ same_value v u
+  words_tell v u kv ku = elim (cases_eq (value_word (heads at) v) (value_word (heads at) u)) [
+    | inl e ↦ eq-eqb _ _ e
+        ∙ sym (subst (λ y. same_value v y ≡ true) (one_value v u kv ku e) (same_as_itself v))
+    | inr ne ↦ elim (cases_Bool (same_value v u)) [
+      | inl is ↦ absurd (ne (ap (value_word (heads at)) (values_one v u is)))
+      | inr is ↦ ne_eqb _ _ ne ∙ sym is
+    ]
+  ]
 
   -- blocks of kept objects are apart
   pub blocks_apart : (a b : Name) (o p : ℕ) → K a → K b → o < object_blocks W (object_of g a)

@@ -22,8 +22,8 @@ use Rattle.shown_graph.specs.Words.{value_word, part_word, with_payload}
 use Rattle.shown_graph.specs.Shown.{IsValueOf, heads, Shows, every_name}
 use Rattle.array_trees.specs.Openings.{opening_blocks}
 use Rattle.shown_graph.specs.Openings.{opening_at}
-use Rattle.shown_graph.specs.Events.{ObjectLoad, ValueLoad, Loading, unloaded, value_in, with_load, is_pending, pending_registers, IsPrompt, GraphState, Event, object_at, value_at, register_word_in, apply, HasObject, HasValue, IsAtField, IsAtLink, IsConstant, Guard, run, Guarded, ObjectIs, ValueIs, LoadIs, Follows, opening_state}
-use Rattle.shown_graph.specs.Events.Event.{ReadObject, ReadValue, ReadShape, ReadLink, ReadField, StorePending, StoreValue, StoreConstant, StoreField, Finish}
+use Rattle.shown_graph.specs.Events.{ObjectLoad, ValueLoad, Loading, unloaded, late, value_in, with_load, is_pending, pending_registers, IsPrompt, GraphState, Event, object_at, value_at, expected_at, register_word_in, apply, HasObject, HasValue, HasExpected, IsAtField, IsAtLink, IsConstant, Guard, run, Guarded, ObjectIs, ValueIs, LoadIs, Follows, opening_state}
+use Rattle.shown_graph.specs.Events.Event.{ReadObject, ReadValue, ReadExpected, ReadShape, ReadLink, ReadField, StorePending, StoreValue, StoreConstant, StoreField, ExchangeField, Finish}
 use Rattle.shown_graph.proofs.ObjectLayouts.{object_layout}
 use Rattle.shown_graph.proofs.Names.{same_is}
 use Rattle.shown_graph.proofs.Opening.{opening_shows}
@@ -65,15 +65,13 @@ was_prompt ls t l prompt u q e = elim (cases_eq t u) [
 ]
 
 -- or where the value that it had loaded stays
-same_pending : (ls : ℕ → Loading) (t : ℕ) (o : Option ObjectLoad) (u q : ℕ)
-    → pending_registers (with_load ls t (record { object = o; value = (ls t).value })) u q ≡ false
-    → pending_registers ls u q ≡ false
-same_pending ls t o u q e = elim (cases_eq t u) [
+same_pending : (ls : ℕ → Loading) (t : ℕ) (l : Loading) → l.value ≡ (ls t).value → (u q : ℕ)
+    → pending_registers (with_load ls t l) u q ≡ false → pending_registers ls u q ≡ false
+same_pending ls t l is u q e = elim (cases_eq t u) [
   | inl same ↦ ap (λ x. pending_registers ls x q) (sym same)
-      ∙ sym (ap (λ (x : Loading). is_pending x.value q)
-      (load_here ls t u (record { object = o; value = (ls t).value }) same)) ∙ e
-  | inr other ↦ ap (λ (x : Loading). is_pending x.value q)
-      (sym (load_other ls t u (record { object = o; value = (ls t).value }) other)) ∙ e
+      ∙ ap (λ v. is_pending v q) (sym is)
+      ∙ sym (ap (λ (x : Loading). is_pending x.value q) (load_here ls t u l same)) ∙ e
+  | inr other ↦ ap (λ (x : Loading). is_pending x.value q) (sym (load_other ls t u l other)) ∙ e
 ]
 
 pub some_map : {A : Type 0} (P Q : A → Type 0) (o : Option A) → ((x : A) → P x → Q x) → IfSome o P
@@ -104,13 +102,15 @@ load_stays W g h at t l same sizes k = record {
         (sizes i.name).0 ∙ ap (kind_shape (object_of g i.name).kind)
         (sizes i.name).1)) i.shape;
   }) k.object;
-  value = some_map (λ v. ValueIs g at t v) (λ v. ValueIs h at t v) l.value
-      (λ v i. record {
-        origin = i.origin;
-        word = i.word
-            ∙ ap (value_word (heads at)) (sym (same v.origin));
-      }) k.value;
+  expected = some_map (λ v. ValueIs g at t v) (λ v. ValueIs h at t v) l.expected moved k.expected;
+  value = some_map (λ v. ValueIs g at t v) (λ v. ValueIs h at t v) l.value moved k.value;
 }
+  where
+    moved : (v : ValueLoad) → ValueIs g at t v → ValueIs h at t v
+    moved v i = record {
+      origin = i.origin;
+      word = i.word ∙ ap (value_word (heads at)) (sym (same v.origin));
+    }
 
 -- a word that refers to a block is of a reference
 pub refers_to : (head : Name → ℕ) (v : Value) (word : ℕ) → word ≡ value_word head v
@@ -145,6 +145,10 @@ module _ (W : Width) (n m : ℕ) (K : Name → Type 0) (at : Name → ℕ → �
 
   pub value_is : (t : ℕ) → t < n → HasValue s t → ValueIs s.graph at t (value_at s t)
   value_is t tn has = subst (λ o. IfSome o (λ l. ValueIs s.graph at t l)) has (k.loads t tn).value
+
+  pub expected_is : (t : ℕ) → t < n → HasExpected s t → ValueIs s.graph at t (expected_at s t)
+  expected_is t tn has = subst (λ o. IfSome o (λ l. ValueIs s.graph at t l)) has
+      (k.loads t tn).expected
 
   pub kept_object : (t : ℕ) (tn : t < n) (l : ObjectLoad) (i : ObjectIs W s.graph at t l) → K i.name
   kept_object t tn l i = subst (λ v. IsValueOf K v) i.refers
@@ -181,7 +185,7 @@ module _ (W : Width) (n m : ℕ) (K : Name → Type 0) (at : Name → ℕ → �
   }
 
   nothing : (g : Graph) (t : ℕ) → LoadIs W g at t unloaded
-  nothing g t = record { object = tt; value = tt }
+  nothing g t = record { object = tt; expected = tt; value = tt }
 
   reads_object : (t r : ℕ) → t < n → r < REGISTERS → IsPrompt (s.loads t)
       → target (register_word_in W s.words t r) ≢ 0
@@ -193,7 +197,8 @@ module _ (W : Width) (n m : ℕ) (K : Name → Type 0) (at : Name → ℕ → �
       (prompt_register (s.loads t).value r prompt) in
       let to = refers_to (heads at) (register_of s.graph t r)
       (register_word_in W s.words t r) word some in
-      loads t _ (λ u q e. same_pending s.loads t _ u q e) (record {
+      loads t _ (λ u q e. same_pending s.loads t _ refl u q e) (record {
+        expected = (k.loads t tn).expected;
         value = (k.loads t tn).value;
         object = record {
           source = rl;
@@ -201,8 +206,7 @@ module _ (W : Width) (n m : ℕ) (K : Name → Type 0) (at : Name → ℕ → �
           refers = to.1;
           ordinal = (object_layout W (object_of s.graph to.0)).first;
           block = to.2;
-          shape =
-              tt;
+          shape = tt;
         };
       })
 
@@ -210,12 +214,26 @@ module _ (W : Width) (n m : ℕ) (K : Name → Type 0) (at : Name → ℕ → �
       → Follows W n m K at (apply W s (ReadValue t r))
   reads_value t r tn rl prompt = loads t _ (λ u q e. was_prompt s.loads t _ prompt u q e) (record {
     object = (k.loads t tn).object;
+    expected = (k.loads t tn).expected;
     value = record {
       origin = rl;
       word = register_read W n m K s.graph at s.words (pending_registers s.loads) k.shows t r tn rl
           (prompt_register (s.loads t).value r prompt);
     };
   })
+
+  reads_expected : (t r : ℕ) → t < n → r < REGISTERS → IsPrompt (s.loads t)
+      → Follows W n m K at (apply W s (ReadExpected t r))
+  reads_expected t r tn rl prompt =
+      loads t _ (λ u q e. same_pending s.loads t _ refl u q e) (record {
+        object = (k.loads t tn).object;
+        value = (k.loads t tn).value;
+        expected = record {
+          origin = rl;
+          word = register_read W n m K s.graph at s.words (pending_registers s.loads) k.shows t r tn
+              rl (prompt_register (s.loads t).value r prompt);
+        };
+      })
 
   reads_shape : (t : ℕ) (f : Shape) → t < n → HasObject s t
       → shape_of (s.words.shape (object_at s t).block) ≡ Some f
@@ -227,7 +245,8 @@ module _ (W : Width) (n m : ℕ) (K : Name → Type 0) (at : Name → ℕ → �
       let one : Some f ≡ Some (kind_shape (object_of s.graph i.name).kind
       (length (object_of s.graph i.name).fields)) =
       sym read ∙ ap (λ x. shape_of (s.words.shape x)) i.block ∙ is in
-      loads t _ (λ u q e. same_pending s.loads t _ u q e) (record {
+      loads t _ (λ u q e. same_pending s.loads t _ refl u q e) (record {
+        expected = (k.loads t tn).expected;
         value = (k.loads t tn).value;
         object = record {
           source = i.source;
@@ -246,7 +265,8 @@ module _ (W : Width) (n m : ℕ) (K : Name → Type 0) (at : Name → ℕ → �
       let link = part_is t (object_at s t) i q.shape j (Link p) q.read q.link in
       let word = link_read W n m K s.graph at s.words (pending_registers s.loads) k.shows i.name
       (object_at s t).ordinal j p (kept_object t tn (object_at s t) i) link in
-      loads t _ (λ u q e. same_pending s.loads t _ u q e) (record {
+      loads t _ (λ u q e. same_pending s.loads t _ refl u q e) (record {
+        expected = (k.loads t tn).expected;
         value = (k.loads t tn).value;
         object = record {
           source = i.source;
@@ -311,47 +331,50 @@ module _ (W : Width) (n m : ℕ) (K : Name → Type 0) (at : Name → ℕ → �
       × (object_part W (object_of s.graph b) (object_at s t).ordinal j ≡ Field i)) one
       (kept_object t tn (object_at s t) o, o.block, o.ordinal, field)
 
+  -- the word of the field at which the thread is
+  pub field_word : (t : ℕ) (a : Name) (i j : ℕ) → t < n → IsAtField W s t a i j
+      → s.words.payload (object_at s t).block j
+      ≡ value_word (heads at) (field_of (object_of s.graph a) i)
+  field_word t a i j tn q =
+      let (ka, block, low, field) = at_field t a i j tn q in
+      let place = (object_layout W (object_of s.graph a)).slots (object_at s t).ordinal j i field in
+      ap (λ x. s.words.payload x j) block
+      ∙ (k.shows.written.blocks a (object_at s t).ordinal ka low).words j place.2
+      ∙ ap (part_word (heads at) (at a) (field_of (object_of s.graph a))) field
+
+  -- a register takes a kept value, whose word is stored later
+  takes_late : (t d word : ℕ) (v : Value) → t < n → d < REGISTERS → IsPrompt (s.loads t)
+      → IsValueOf K v → word ≡ value_word (heads at) v
+      → Follows W n m K at (record {
+        graph = with_register s.graph t d v;
+        words = s.words;
+        loads = with_load s.loads t (late d word);
+      })
+  takes_late t d word v tn dl prompt kept e = record {
+    shows = register_pending W n m K s.graph at s.words (pending_registers s.loads) k.shows
+        (pending_registers (with_load s.loads t (late d word))) t d tn dl v kept
+        (ap (λ (x : Loading). is_pending x.value d) (load_here s.loads t t (late d word) refl)
+        ∙ eq-eqb d d refl) (λ u q e. was_prompt s.loads t (late d word) prompt u q e);
+    loads = λ u un. each_load (λ u l. LoadIs W (with_register s.graph t d v) at u l) s.loads t
+        (late d word) u
+        (record {
+          object = tt;
+          expected = tt;
+          value = record {
+            origin = dl;
+            word = e ∙ ap (value_word (heads at))
+                (register_new W n m K s.graph at s.words (pending_registers s.loads) k.shows
+                (pending_registers s.loads) t d tn dl v kept);
+          };
+        })
+        (λ ne. other_load t d v tn dl kept u un ne);
+  }
+
   reads_field : (t d : ℕ) (a : Name) (i j : ℕ) → t < n → d < REGISTERS → IsPrompt (s.loads t)
       → IsAtField W s t a i j → Follows W n m K at (apply W s (ReadField t d a i j))
   reads_field t d a i j tn dl prompt q =
-      let (ka, block, low, field) = at_field t a i j tn q in
-      let v = field_of (object_of s.graph a) i in
-      let kept : IsValueOf K (field_of (object_of s.graph a) i) = k.shows.closed.fields a i ka in
-      let place = (object_layout W (object_of s.graph a)).slots (object_at s t).ordinal j i field in
-      let word : s.words.payload (object_at s t).block j
-      ≡ value_word (heads at) (field_of (object_of s.graph a) i) =
-      ap (λ x. s.words.payload x j) block
-      ∙ (k.shows.written.blocks a (object_at s t).ordinal ka low).words j place.2
-      ∙ ap (part_word (heads at) (at a) (field_of (object_of s.graph a))) field in
-      let l : Loading = record {
-        object = None;
-        value = Some (record {
-          origin = d;
-          word = s.words.payload (object_at s t).block j;
-          pending = true;
-        });
-      } in
-      record {
-        shows = register_pending W n m K s.graph at s.words (pending_registers s.loads) k.shows
-            (pending_registers (with_load s.loads t l)) t d tn dl (field_of (object_of s.graph a) i)
-            kept
-            (ap (λ (x : Loading). is_pending x.value d) (load_here s.loads t t l refl)
-            ∙ eq-eqb d d refl) (λ u q e. was_prompt s.loads t l prompt u q e);
-        loads = λ u un. each_load
-            (λ u l. LoadIs W (with_register s.graph t d
-            (field_of (object_of s.graph a) i)) at u l) s.loads t l u
-            (record {
-              object = tt;
-              value = record {
-                origin = dl;
-                word = word
-                    ∙ ap (value_word (heads at))
-                    (register_new W n m K s.graph at s.words (pending_registers s.loads) k.shows
-                    (pending_registers s.loads) t d tn dl (field_of (object_of s.graph a) i) kept);
-              };
-            })
-            (λ ne. other_load t d (field_of (object_of s.graph a) i) tn dl kept u un ne);
-      }
+      takes_late t d (s.words.payload (object_at s t).block j) (field_of (object_of s.graph a) i)
+      tn dl prompt (k.shows.closed.fields a i (at_field t a i j tn q).0) (field_word t a i j tn q)
 
   stores_pending : (t : ℕ) → t < n → HasValue s t → Follows W n m K at (apply W s (StorePending t))
   stores_pending t tn has =
@@ -374,9 +397,18 @@ module _ (W : Width) (n m : ℕ) (K : Name → Type 0) (at : Name → ℕ → �
             (nothing s.graph t) (λ _. k.loads u un);
       }
 
-  stores_field : (t : ℕ) (a : Name) (i j : ℕ) → t < n → IsPrompt (s.loads t) → HasValue s t
-      → IsAtField W s t a i j → Follows W n m K at (apply W s (StoreField t a i j))
-  stores_field t a i j tn prompt has q =
+  -- the state after the loaded value was stored in a field
+  abbrev with_put : ℕ → Name → ℕ → ℕ → GraphState
+  with_put t a i j = record {
+    graph = with_field s.graph a i (register_of s.graph t (value_at s t).origin);
+    words = with_payload s.words (object_at s t).block j (value_at s t).word;
+    loads = s.loads;
+  }
+
+  -- That leaves all that is loaded.
+  puts_field : (t : ℕ) (a : Name) (i j : ℕ) → t < n → HasValue s t
+      → IsAtField W s t a i j → Follows W n m K at (with_put t a i j)
+  puts_field t a i j tn has q =
       let (ka, block, low, field) = at_field t a i j tn q in
       let v = value_is t tn has in
       let x = register_of s.graph t (value_at s t).origin in
@@ -385,10 +417,8 @@ module _ (W : Width) (n m : ℕ) (K : Name → Type 0) (at : Name → ℕ → �
       let place = (object_layout W (object_of s.graph a)).slots (object_at s t).ordinal j i field in
       let slot : (object_at s t).block ≡ at a (object_slot W (object_of s.graph a) i).0 =
       block ∙ ap (at a) place.3 in
-      let h = with_field s.graph a i (register_of s.graph t (value_at s t).origin) in
       record {
-        shows = more_pending W n m K _ at _ (pending_registers s.loads)
-            (subst (λ b. Shows W n m K
+        shows = subst (λ b. Shows W n m K
             (with_field s.graph a i (register_of s.graph t (value_at s t).origin)) at
             (with_payload s.words b j (value_at s t).word) (pending_registers s.loads)) (sym slot)
             (subst (λ y. Shows W n m K
@@ -400,14 +430,8 @@ module _ (W : Width) (n m : ℕ) (K : Name → Type 0) (at : Name → ℕ → �
             (with_payload s.words (at a (object_slot W (object_of s.graph a) i).0)
             (object_slot W (object_of s.graph a) i).1 y) (pending_registers s.loads)) (sym v.word)
             (field_store W n m K s.graph at s.words (pending_registers s.loads) k.shows a i
-            (register_of s.graph t (value_at s t).origin) ka place.0 kept))))
-            (pending_registers (with_load s.loads t unloaded))
-            (λ u q un ql e. was_prompt s.loads t unloaded prompt u q e);
-        loads = λ u un. each_load
-            (λ u l. LoadIs W (with_field s.graph a i
-            (register_of s.graph t (value_at s t).origin)) at u l) s.loads t unloaded u
-            (nothing _ t)
-            (λ _. load_stays W s.graph
+            (register_of s.graph t (value_at s t).origin) ka place.0 kept)));
+        loads = λ u un. load_stays W s.graph
             (with_field s.graph a i (register_of s.graph t (value_at s t).origin)) at u
             (s.loads u)
             (λ r. sym (register_kept W n m K s.graph at s.words (pending_registers s.loads) k.shows
@@ -416,7 +440,7 @@ module _ (W : Width) (n m : ℕ) (K : Name → Type 0) (at : Name → ℕ → �
             (λ b. same_size a i (register_of s.graph t (value_at s t).origin) b
             (changed_object W n m K s.graph at s.words (pending_registers s.loads) k.shows a i
             (register_of s.graph t (value_at s t).origin) ka place.0 kept b))
-            (k.loads u un));
+            (k.loads u un);
       }
     where
       same_size : (a : Name) (i : ℕ) (v : Value) (b : Name)
@@ -445,12 +469,29 @@ module _ (W : Width) (n m : ℕ) (K : Name → Type 0) (at : Name → ℕ → �
             (ap (λ (x : Object). x.kind) f, ap (λ (x : Object). length x.fields) f)
       ]
 
+-- a store in a field is over with that, or its register has what was there
+module _ (W : Width) (n m : ℕ) (K : Name → Type 0) (at : Name → ℕ → ℕ) (s : GraphState)
+    (k : Follows W n m K at s) (t : ℕ) (a : Name) (i j : ℕ) (tn : t < n)
+    (prompt : IsPrompt (s.loads t)) (has : HasValue s t) (q : IsAtField W s t a i j) where
+  stores_field : Follows W n m K at (apply W s (StoreField t a i j))
+  stores_field = finishes W n m K at (with_put W n m K at s k t a i j)
+      (puts_field W n m K at s k t a i j tn has q) t tn prompt
+
+  exchanges_field : Follows W n m K at (apply W s (ExchangeField t a i j))
+  exchanges_field = takes_late W n m K at (with_put W n m K at s k t a i j)
+      (puts_field W n m K at s k t a i j tn has q) t (value_at s t).origin
+      (s.words.payload (object_at s t).block j) (field_of (object_of s.graph a) i) tn
+      (value_is W n m K at s k t tn has).origin prompt
+      (k.shows.closed.fields a i (at_field W n m K at s k t a i j tn q).0)
+      (field_word W n m K at s k t a i j tn q)
+
 -- every event that may come keeps it
 module _ (W : Width) (n m : ℕ) (K : Name → Type 0) (at : Name → ℕ → ℕ) where
   pub step_follows : (s : GraphState) (e : Event) → Guard W n s e → Follows W n m K at s
       → Follows W n m K at (apply W s e)
   step_follows s (ReadObject t r) q k = reads_object W n m K at s k t r q.0 q.1 q.2 q.3
   step_follows s (ReadValue t r) q k = reads_value W n m K at s k t r q.0 q.1 q.2
+  step_follows s (ReadExpected t r) q k = reads_expected W n m K at s k t r q.0 q.1 q.2
   step_follows s (ReadShape t f) q k = reads_shape W n m K at s k t f q.0 q.1 q.2
   step_follows s (ReadLink t j p) q k = reads_link W n m K at s k t j p q.0 q.1
   step_follows s (ReadField t d a i j) q k = reads_field W n m K at s k t d a i j q.0 q.1 q.2 q.3
@@ -464,6 +505,8 @@ module _ (W : Width) (n m : ℕ) (K : Name → Type 0) (at : Name → ℕ → �
       stores_register W n m K at s k t d (value_word (λ a. 0) v) v q.0 q.1 q.2
       (constant_kept K v q.3) (constant_word (heads at) v q.3)
   step_follows s (StoreField t a i j) q k = stores_field W n m K at s k t a i j q.0 q.1 q.2 q.3
+  step_follows s (ExchangeField t a i j) q k =
+      exchanges_field W n m K at s k t a i j q.0 q.1 q.2 q.3
   step_follows s (Finish t) q k = finishes W n m K at s k t q.0 q.1
 
   pub run_follows : (es : List Event) (s : GraphState) → Guarded W n s es → Follows W n m K at s
@@ -475,4 +518,4 @@ pub opening_follows : (c : Config) → IsInBounds c
     → Follows c.width c.threads (opening_blocks c) (every_name (start_graph c))
     (opening_at c.width c.threads) (opening_state c)
 opening_follows c inside =
-    record { shows = opening_shows c inside; loads = λ t tn. record { object = tt; value = tt } }
+    record { shows = opening_shows c inside; loads = λ t tn. record { object = tt; expected = tt; value = tt } }

@@ -16,6 +16,7 @@ use Rattle.object_lists.specs.Parts.{Link, Field}
 use Rattle.shown_graph.specs.Layouts.{object_blocks, kind_shape, shape_part}
 use Rattle.shown_graph.specs.Words.{BlockWords, value_word, with_payload, with_register_word}
 use Rattle.shown_graph.specs.Shown.{heads, Shows}
+use Rattle.never_heap.specs.Steps.{swapped}
 use Rattle.shown_graph.specs.Openings.{opening_words}
 
 -- the block at which a thread has come in the object that its register source refers to, and the
@@ -33,13 +34,23 @@ pub record ValueLoad : Type 0 where
   pub word : ℕ
   pub pending : Bool
 
--- what a thread has loaded for its command
+-- what a thread has loaded for its command: an object, a value with which one of its fields is to be
+-- compared, and a value to be stored
 pub record Loading : Type 0 where
   pub object : Option ObjectLoad
+  pub expected : Option ValueLoad
   pub value : Option ValueLoad
 
 abbrev pub unloaded : Loading
-unloaded = record { object = None; value = None }
+unloaded = record { object = None; expected = None; value = None }
+
+-- a value that register d has already, whose word is still to be stored
+abbrev pub late : ℕ → ℕ → Loading
+late d word = record {
+  object = None;
+  expected = None;
+  value = Some (record { origin = d; word = word; pending = true });
+}
 
 abbrev pub object_in : Option ObjectLoad → ObjectLoad
 object_in None = record { source = 0; block = 0; ordinal = 0; shape = None }
@@ -75,6 +86,7 @@ pub record GraphState : Type 0 where
 pub data Event : Type 0 where
   ReadObject : (t r : ℕ) → Event  -- register r, for the object to which it refers
   ReadValue : (t r : ℕ) → Event  -- register r, for its value
+  ReadExpected : (t r : ℕ) → Event  -- register r, for the value with which a field is compared
   ReadShape : (t : ℕ) (f : Shape) → Event  -- the object's shape
   ReadLink : (t j p : ℕ) → Event  -- payload j, which links to ordinal p
   -- payload j, which is field i of a; register d of the graph has it from now on
@@ -84,6 +96,9 @@ pub data Event : Type 0 where
   StoreConstant : (t d : ℕ) (v : Value) → Event  -- nil or a number is stored in register d
   -- the loaded value is stored at payload j, which is field i of a
   StoreField : (t : ℕ) (a : Name) (i j : ℕ) → Event
+  -- the loaded value is stored at payload j, which is field i of a; the register that it is of has
+  -- what was there from now on
+  ExchangeField : (t : ℕ) (a : Name) (i j : ℕ) → Event
   Finish : (t : ℕ) → Event  -- the command is over
 
 abbrev pub object_at : GraphState → ℕ → ObjectLoad
@@ -92,6 +107,9 @@ object_at s t = object_in (s.loads t).object
 abbrev pub value_at : GraphState → ℕ → ValueLoad
 value_at s t = value_in (s.loads t).value
 
+abbrev pub expected_at : GraphState → ℕ → ValueLoad
+expected_at s t = value_in (s.loads t).expected
+
 abbrev pub register_word_in : Width → BlockWords → ℕ → ℕ → ℕ
 register_word_in W w t r = w.payload (register_block W t r) (register_slot W r)
 
@@ -99,14 +117,18 @@ register_word_in W w t r = w.payload (register_block W t r) (register_slot W r)
 abbrev pub load_object : GraphState → ℕ → ObjectLoad → GraphState
 load_object s t o =
     record s {
-      loads = with_load s.loads t (record { object = Some o; value = (s.loads t).value });
+      loads = with_load s.loads t (record (s.loads t) { object = Some o });
     }
 
 abbrev pub load_value : GraphState → ℕ → ValueLoad → GraphState
 load_value s t v =
     record s {
-      loads = with_load s.loads t (record { object = (s.loads t).object; value = Some v });
+      loads = with_load s.loads t (record (s.loads t) { value = Some v });
     }
+
+abbrev pub load_expected : GraphState → ℕ → ValueLoad → GraphState
+load_expected s t v =
+    record s { loads = with_load s.loads t (record (s.loads t) { expected = Some v }) }
 
 -- the state after thread t's store, with which its command is over
 abbrev pub stored : GraphState → ℕ → Graph → BlockWords → GraphState
@@ -123,17 +145,18 @@ apply W s (ReadObject t r) =
     })
 apply W s (ReadValue t r) =
     load_value s t (record { origin = r; word = register_word_in W s.words t r; pending = false })
+apply W s (ReadExpected t r) =
+    load_expected s t
+    (record { origin = r; word = register_word_in W s.words t r; pending = false })
 apply W s (ReadShape t f) = load_object s t (record (object_at s t) { shape = Some f })
 apply W s (ReadLink t j p) =
     let block = target (s.words.payload (object_at s t).block j) in
     load_object s t (record (object_at s t) { block = block; ordinal = p })
 apply W s (ReadField t d a i j) =
-    let word = s.words.payload (object_at s t).block j in
-    let value : ValueLoad = record { origin = d; word = word; pending = true } in
     record {
       graph = with_register s.graph t d (field_of (object_of s.graph a) i);
       words = s.words;
-      loads = with_load s.loads t (record { object = None; value = Some value });
+      loads = with_load s.loads t (late d (s.words.payload (object_at s t).block j));
     }
 apply W s (StorePending t) =
     let v = value_at s t in
@@ -149,6 +172,14 @@ apply W s (StoreField t a i j) =
     let v = value_at s t in
     stored s t (with_field s.graph a i (register_of s.graph t v.origin))
     (with_payload s.words (object_at s t).block j v.word)
+apply W s (ExchangeField t a i j) =
+    let v = value_at s t in
+    let block = (object_at s t).block in
+    record {
+      graph = swapped s.graph t a i v.origin;
+      words = with_payload s.words block j v.word;
+      loads = with_load s.loads t (late v.origin (s.words.payload block j));
+    }
 apply W s (Finish t) = stored s t s.graph s.words
 
 abbrev pub HasObject : GraphState → ℕ → Type 0
@@ -156,6 +187,9 @@ HasObject s t = (s.loads t).object ≡ Some (object_at s t)
 
 abbrev pub HasValue : GraphState → ℕ → Type 0
 HasValue s t = (s.loads t).value ≡ Some (value_at s t)
+
+abbrev pub HasExpected : GraphState → ℕ → Type 0
+HasExpected s t = (s.loads t).expected ≡ Some (expected_at s t)
 
 -- the shape was read, and says of payload j that it is field i of the object of a
 pub record IsAtField (W : Width) (s : GraphState) (t : ℕ) (a : Name) (i j : ℕ) : Type 0 where
@@ -184,6 +218,7 @@ Guard W n s (ReadObject t r) =
     (t < n) × (r < REGISTERS) × IsPrompt (s.loads t)
     × (target (register_word_in W s.words t r) ≢ 0)
 Guard W n s (ReadValue t r) = (t < n) × (r < REGISTERS) × IsPrompt (s.loads t)
+Guard W n s (ReadExpected t r) = (t < n) × (r < REGISTERS) × IsPrompt (s.loads t)
 Guard W n s (ReadShape t f) =
     (t < n) × HasObject s t × (shape_of (s.words.shape (object_at s t).block) ≡ Some f)
 Guard W n s (ReadLink t j p) = (t < n) × IsAtLink W s t j p
@@ -194,6 +229,8 @@ Guard W n s (StoreValue t d) = (t < n) × (d < REGISTERS) × IsPrompt (s.loads t
 Guard W n s (StoreConstant t d v) =
     (t < n) × (d < REGISTERS) × IsPrompt (s.loads t) × IsConstant v
 Guard W n s (StoreField t a i j) =
+    (t < n) × IsPrompt (s.loads t) × HasValue s t × IsAtField W s t a i j
+Guard W n s (ExchangeField t a i j) =
     (t < n) × IsPrompt (s.loads t) × HasValue s t × IsAtField W s t a i j
 Guard W n s (Finish t) = (t < n) × IsPrompt (s.loads t)
 
@@ -225,6 +262,7 @@ pub record ValueIs (g : Graph) (at : Name → ℕ → ℕ) (t : ℕ) (v : ValueL
 
 pub record LoadIs (W : Width) (g : Graph) (at : Name → ℕ → ℕ) (t : ℕ) (l : Loading) : Type 0 where
   pub object : IfSome l.object (λ o. ObjectIs W g at t o)
+  pub expected : IfSome l.expected (λ v. ValueIs g at t v)
   pub value : IfSome l.value (λ v. ValueIs g at t v)
 
 -- The words show the graph, and what the threads have loaded is of it.

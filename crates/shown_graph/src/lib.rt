@@ -3,7 +3,7 @@
 //! function that does nothing.
 #![tactic(auto)]
 
-ghost use Rattle.std.specs.Prelude.{◌≡◌, ℕ, ◌+◌, ◌<◌, ◌≤◌, Bool, true, false, Some, List, length};
+ghost use Rattle.std.specs.Prelude.{◌≡◌, ◌==◌, ℕ, ◌+◌, ◌<◌, ◌≤◌, Bool, true, false, Some, List, length};
 ghost use Rattle.block_store.specs.declared.Config.{Config};
 ghost use Rattle.block_store.specs.declared.Name.{Name};
 ghost use Rattle.block_store.specs.declared.Shape.{Shape};
@@ -21,13 +21,14 @@ ghost use Rattle.block_store.specs.Widths.{payloads};
 ghost use Rattle.object_lists.specs.Layouts.{IsLayout, IsWay};
 ghost use Rattle.array_trees.specs.Openings.{opening_blocks};
 ghost use Rattle.never_heap.specs.Graphs.{Graph, ObjectKind, Record, start_graph, object_of, field_of, register_of, has_name, with_register, with_field, with_object, next_name};
+ghost use Rattle.never_heap.specs.Steps.{same_value};
 ghost use Rattle.shown_graph.specs.Layouts.{kind_shape, layout_blocks, layout_part, layout_slot, object_part, object_slot};
 ghost use Rattle.shown_graph.specs.Words.{Agrees, BlockWords, with_payload, with_register_word};
 ghost use Rattle.shown_graph.specs.Shown.{heads, BlockShows, Closed, Shows, every_name, named, none_pending};
 ghost use Rattle.shown_graph.specs.Made.{new_object, with_blocks, and_name, IsMade, IsWritten};
 ghost use Rattle.shown_graph.specs.Snapshots.{Snapshot, IsShown, IsRegister, IsKeptValue, word_of, IsBlockOf, IsMadeIn, referred_new, CatchesUp, FallsBehind};
 ghost use Rattle.shown_graph.specs.Openings.{opening_at, opening_words};
-ghost use Rattle.shown_graph.specs.Events.{ObjectLoad, ValueLoad, GraphState, Event, run, Guarded, ObjectIs, ValueIs, Follows, opening_state};
+ghost use Rattle.shown_graph.specs.Events.{ObjectLoad, ValueLoad, GraphState, Event, object_at, expected_at, HasExpected, IsAtField, run, Guarded, ObjectIs, ValueIs, Follows, opening_state};
 ghost use Rattle.shown_graph.specs.Example.{small_config, wide_config, some_events, with_record};
 ghost use Rattle.shown_graph.specs.Read.{value_payload};
 
@@ -156,12 +157,19 @@ pub fn shown_words_are_read()
 {}
 
 /// What a thread has loaded reads as the graph says: the value of its register, the name to which
-/// that refers, and the kind and length of an object whose shape was read.
+/// that refers, and the kind and length of an object whose shape was read. The word of a field is
+/// the one with which it is to be compared exactly where the values are the same.
 pub fn loads_are_read()
     ensures value { (W : Width) (n m t : ℕ) (kept : Name → Bool) (at : Name → ℕ → ℕ)
         (s : GraphState) (v : ValueLoad) → Follows W n m (named kept) at s → t < n → m ≤ 65535
         → ValueIs s.graph at t v
         → payload_of v.word ≡ Some (value_payload (heads at) (register_of s.graph t v.origin)) }
+    ensures compared { (W : Width) (n m t : ℕ) (kept : Name → Bool) (at : Name → ℕ → ℕ)
+        (s : GraphState) (a : Name) (i j : ℕ) → Follows W n m (named kept) at s → t < n
+        → IsAtField W s t a i j → HasExpected s t
+        → (s.words.payload (object_at s t).block j == (expected_at s t).word)
+        ≡ same_value (field_of (object_of s.graph a) i)
+        (register_of s.graph t (expected_at s t).origin) }
     ensures name { (W : Width) (n m t : ℕ) (kept : Name → Bool) (at : Name → ℕ → ℕ) (s : GraphState)
         (v : ValueLoad) (a : Name) → Follows W n m (named kept) at s → t < n
         → ValueIs s.graph at t v → register_of s.graph t v.origin ≡ Ref a

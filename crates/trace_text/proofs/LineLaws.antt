@@ -7,6 +7,8 @@ use Rattle.std.proofs.lemmas.Bool.{eq-eqb, ne_eqb}
 use Rattle.std.proofs.lemmas.Bool.Decides.{nat_tests}
 use Rattle.block_store.specs.declared.Config.{Config}
 use Rattle.block_store.specs.declared.TheConstants.{REGISTERS}
+use Rattle.block_store.specs.declared.Width.{Width}
+use Rattle.block_store.specs.declared.Width.TheVariants.{Four, Eight}
 use Rattle.object_lists.specs.Records.{record_blocks}
 use Rattle.array_trees.specs.Trees.{array_blocks}
 use Rattle.never_heap.specs.declared.Command.{Command}
@@ -20,11 +22,11 @@ use Rattle.trace_text.specs.declared.reading.lines.Place.{Place}
 use Rattle.trace_text.specs.declared.reading.words.Word.{Word}
 use Rattle.trace_text.specs.declared.reading.words.Word.TheVariants as words
 use Rattle.trace_text.specs.Spellings.{command_line}
-use Rattle.trace_text.specs.Words.{word_at, is_command, operands}
-use Rattle.trace_text.specs.Said.{◌>>=◌, HasRegisters, is_oversized, register_at, length_at, fitted, count_is, numbers_at, on_none, on_one, on_two, on_three, told_at, operands_at, in_turn, line_at}
+use Rattle.trace_text.specs.Words.{word_at, word_in, has_word, is_wide, is_command, operands}
+use Rattle.trace_text.specs.Said.{◌>>=◌, HasRegisters, IsOfWidth, is_oversized, register_at, length_at, fitted, count_is, numbers_at, on_none, on_one, on_two, on_three, on_four, told_at, operands_at, in_turn, line_at}
 use Rattle.trace_text.specs.Refusals.{Before, first_of, is_number, value_of, any_operand, is_high_register, is_too_large, is_out_of_turn, word_fault, later_fault}
 use Rattle.trace_text.proofs.Sizes.{in_ranges, not_oversized}
-use Rattle.trace_text.proofs.WordLaws.{word_text, word_sound, word_complete, count_map, count_length, values_are, AreWritten, numbers_complete, numbers_sound}
+use Rattle.trace_text.proofs.WordLaws.{word_text, word_known, word_sound, word_complete, count_map, count_length, values_are, AreWritten, numbers_complete, numbers_sound}
 
 -- the reason of an answer
 abbrev pub reason : {A : Type 0} → Result A Why → Option Why
@@ -64,6 +66,15 @@ at_three P (a ∷ b ∷ []) h go = absurd cc
 at_three P (a ∷ b ∷ d ∷ []) h go = go a b d
 at_three P (a ∷ b ∷ d ∷ e ∷ ns) h go = absurd cc
 
+at_four : (P : List ℕ → Type 0) (ns : List ℕ) → count_is 4 ns ≡ true
+    → ((a b d e : ℕ) → P (a ∷ b ∷ d ∷ e ∷ [])) → P ns
+at_four P [] h go = absurd cc
+at_four P (a ∷ []) h go = absurd cc
+at_four P (a ∷ b ∷ []) h go = absurd cc
+at_four P (a ∷ b ∷ d ∷ []) h go = absurd cc
+at_four P (a ∷ b ∷ d ∷ e ∷ []) h go = go a b d e
+at_four P (a ∷ b ∷ d ∷ e ∷ g ∷ ns) h go = absurd cc
+
 from_none : (P : List ℕ → Type 0) (ns : List ℕ) (f : Result Line Why) (l : Line)
     → on_none ns f ≡ Ok l → (f ≡ Ok l → P []) → P ns
 from_none P [] f l e go = go e
@@ -89,6 +100,15 @@ from_three P (a ∷ []) f l e go = absurd cc
 from_three P (a ∷ b ∷ []) f l e go = absurd cc
 from_three P (a ∷ b ∷ d ∷ []) f l e go = go a b d e
 from_three P (a ∷ b ∷ d ∷ g ∷ ns) f l e go = absurd cc
+
+from_four : (P : List ℕ → Type 0) (ns : List ℕ) (f : ℕ → ℕ → ℕ → ℕ → Result Line Why) (l : Line)
+    → on_four ns f ≡ Ok l → ((a b d e : ℕ) → f a b d e ≡ Ok l → P (a ∷ b ∷ d ∷ e ∷ [])) → P ns
+from_four P [] f l e go = absurd cc
+from_four P (a ∷ []) f l e go = absurd cc
+from_four P (a ∷ b ∷ []) f l e go = absurd cc
+from_four P (a ∷ b ∷ d ∷ []) f l e go = absurd cc
+from_four P (a ∷ b ∷ d ∷ g ∷ []) f l e go = go a b d g e
+from_four P (a ∷ b ∷ d ∷ g ∷ h ∷ ns) f l e go = absurd cc
 
 -- ---- the tests of a word's numbers
 
@@ -125,6 +145,16 @@ two_tests : (r s : Bool) (n m : ℕ) (told : ℕ → ℕ → Result Line Why) (o
 two_tests true s n m told o e = refl
 two_tests false true n m told o e = refl
 two_tests false false n m told o e = e
+
+three_tests : (r s q : Bool) (n m k : ℕ) (told : ℕ → ℕ → ℕ → Result Line Why) (o : Option Why)
+    → reason (told n m k) ≡ o
+    → reason (cond r (Err whys.Register) (Ok n) >>= λ a.
+    cond s (Err whys.Register) (Ok m) >>= λ b. cond q (Err whys.Register) (Ok k) >>= λ d.
+    told a b d) ≡ cond (r || (s || (q || false))) (Some whys.Register) o
+three_tests true s q n m k told o e = refl
+three_tests false true q n m k told o e = refl
+three_tests false false true n m k told o e = refl
+three_tests false false false n m k told o e = e
 
 -- a length that has more than 32 bits is too long
 length_test : (z x : Bool) (n : ℕ) (told : ℕ → Result Line Why) → (z ≡ true → x ≡ true)
@@ -195,6 +225,17 @@ told_agree c t k words.Same ns h =
 told_agree c t k words.Say ns h =
     at_one (Agrees c t k words.Say) ns h
     (λ s. one_test (leb REGISTERS s) s _ _ (sized _ _ (Told (commands.Say s)) refl))
+told_agree c t k words.Swap ns h =
+    at_three (Agrees c t k words.Swap) ns h
+    (λ s i v. two_tests (leb REGISTERS s) (leb REGISTERS v) s v _ _
+    (sized _ _ (Told (commands.Swap s i v)) (or_turn (leb (2 ^ 62) i) (leb 131072 k))))
+told_agree c t k words.Cas ns h =
+    at_four (Agrees c t k words.Cas) ns h
+    (λ s i a v. three_tests (leb REGISTERS s) (leb REGISTERS a) (leb REGISTERS v) s a v _ _
+    (sized _ _ (Told (commands.Cas s i a v)) (or_turn (leb (2 ^ 62) i) (leb 131072 k))))
+told_agree c t k words.Idle ns h =
+    at_one (Agrees c t k words.Idle) ns h
+    (λ u. sized _ _ (Told (commands.Idle u)) (or_turn (ltb 131070 u) (leb 131072 k)))
 
 first_test : (x : Bool) (why : Why) (r : Result Line Why) (o : Option Why) → reason r ≡ o
     → reason (cond x (Err why) r) ≡ cond x (Some why) o
@@ -231,7 +272,7 @@ pub line_agrees : (c : Config) (t k : ℕ) (ps : List (List ℕ))
     → later_fault c (prior t k) ps ≡ reason (line_at (place c t k) ps)
 unfolding later_fault line_at
 line_agrees c t k [] = refl
-line_agrees c t k (first ∷ ps) = sym (named_agree c t k (word_at first) ps)
+line_agrees c t k (first ∷ ps) = sym (named_agree c t k (word_in c.width first) ps)
 
 -- ---- what is said is what is written so
 
@@ -298,25 +339,29 @@ end_turn t m r = grind (arith, nat_tests)
 -- a command that is told stands on its line, and is in its ranges
 says_told : (c : Config) (t k : ℕ) (w : Word) (command : Command) (ns : List ℕ) (l : Line)
     → HasRegisters command → word_text w ∷ map decimal ns ≡ command_line command
-    → is_command w ≡ true → fitted (place c t k) command ≡ Ok l → Says c t k w l ns
-says_told c t k w command ns l h text is e =
+    → is_command w ≡ true → IsOfWidth c.width command → fitted (place c t k) command ≡ Ok l → Says c t k w l ns
+says_told c t k w command ns l h text is o e =
     let p = sizes_fit (is_oversized c command) (leb 131072 k) (Told command) l e in
     says c t k w (Told command) l ns p.2 record {
       text = text;
-      fits = (in_ranges c command h p.0, few k p.1);
+      fits = (in_ranges c command h o p.0, few k p.1);
       command = λ not'. let no : true ≡ false = sym is ∙ not' in absurd cc;
     }
 
-told_sound : (c : Config) (t k : ℕ) (w : Word) (ns : List ℕ) (l : Line)
+wide : (width : Width) → is_wide width ≡ true → width ≡ Eight
+wide Four e = absurd cc
+wide Eight e = refl
+
+told_sound : (c : Config) (t k : ℕ) (w : Word) (ns : List ℕ) (l : Line) → has_word c.width w ≡ true
     → told_at (place c t k) w ns ≡ Ok l → Says c t k w l ns
 unfolding told_at
-told_sound c t k words.Thread ns l e =
+told_sound c t k words.Thread ns l known e =
     from_one (Says c t k words.Thread l) ns _ l e (λ n f.
     let p = in_order (not (eqb n t) || eqb t c.threads) (Thread n) l f in
     let turn = thread_turn n t c.threads p.0 in
     says c t k words.Thread (Thread n) l
     (n ∷ []) p.1 record { text = refl; fits = turn; command = λ _. inl (ap Thread turn.0) })
-told_sound c t k words.End ns l e =
+told_sound c t k words.End ns l known e =
     from_none (Says c t k words.End l) ns _ l e (λ f.
     let p = in_order (not (eqb t c.threads)) End l f in
     says c t k words.End End l [] p.1 record {
@@ -324,52 +369,68 @@ told_sound c t k words.End ns l e =
       fits = end_turn t c.threads p.0;
       command = λ _. inr refl;
     })
-told_sound c t k words.New ns l e =
+told_sound c t k words.New ns l known e =
     from_two (Says c t k words.New l) ns _ l e (λ d n f.
     let p = from_low d _ l f in
-    says_told c t k words.New (commands.New d n) (d ∷ n ∷ []) l p.0 refl refl
+    says_told c t k words.New (commands.New d n) (d ∷ n ∷ []) l p.0 refl refl tt
     (from_length n _ l p.1))
-told_sound c t k words.Arr ns l e =
+told_sound c t k words.Arr ns l known e =
     from_two (Says c t k words.Arr l) ns _ l e (λ d n f.
     let p = from_low d _ l f in
-    says_told c t k words.Arr (commands.Arr d n) (d ∷ n ∷ []) l p.0 refl refl
+    says_told c t k words.Arr (commands.Arr d n) (d ∷ n ∷ []) l p.0 refl refl tt
     (from_length n _ l p.1))
-told_sound c t k words.Set ns l e =
+told_sound c t k words.Set ns l known e =
     from_two (Says c t k words.Set l) ns _ l e (λ d v f.
     let p = from_low d _ l f in
-    says_told c t k words.Set (commands.Set d v) (d ∷ v ∷ []) l p.0 refl refl p.1)
-told_sound c t k words.Nil ns l e =
+    says_told c t k words.Set (commands.Set d v) (d ∷ v ∷ []) l p.0 refl refl tt p.1)
+told_sound c t k words.Nil ns l known e =
     from_one (Says c t k words.Nil l) ns _ l e (λ s f.
     let p = from_low s _ l f in
-    says_told c t k words.Nil (commands.Nil s) (s ∷ []) l p.0 refl refl p.1)
-told_sound c t k words.Mov ns l e =
+    says_told c t k words.Nil (commands.Nil s) (s ∷ []) l p.0 refl refl tt p.1)
+told_sound c t k words.Mov ns l known e =
     from_two (Says c t k words.Mov l) ns _ l e (λ a b f.
     let p = from_low a _ l f in
     let q = from_low b _ l p.1 in
-    says_told c t k words.Mov (commands.Mov a b) (a ∷ b ∷ []) l (p.0, q.0) refl refl q.1)
-told_sound c t k words.Get ns l e =
+    says_told c t k words.Mov (commands.Mov a b) (a ∷ b ∷ []) l (p.0, q.0) refl refl tt q.1)
+told_sound c t k words.Get ns l known e =
     from_three (Says c t k words.Get l) ns _ l e (λ d s i f.
     let p = from_low d _ l f in
     let q = from_low s _ l p.1 in
-    says_told c t k words.Get (commands.Get d s i) (d ∷ s ∷ i ∷ []) l (p.0, q.0) refl refl q.1)
-told_sound c t k words.Put ns l e =
+    says_told c t k words.Get (commands.Get d s i) (d ∷ s ∷ i ∷ []) l (p.0, q.0) refl refl tt q.1)
+told_sound c t k words.Put ns l known e =
     from_three (Says c t k words.Put l) ns _ l e (λ s i v f.
     let p = from_low s _ l f in
     let q = from_low v _ l p.1 in
-    says_told c t k words.Put (commands.Put s i v) (s ∷ i ∷ v ∷ []) l (p.0, q.0) refl refl q.1)
-told_sound c t k words.Len ns l e =
+    says_told c t k words.Put (commands.Put s i v) (s ∷ i ∷ v ∷ []) l (p.0, q.0) refl refl tt q.1)
+told_sound c t k words.Len ns l known e =
     from_one (Says c t k words.Len l) ns _ l e (λ s f.
     let p = from_low s _ l f in
-    says_told c t k words.Len (commands.Len s) (s ∷ []) l p.0 refl refl p.1)
-told_sound c t k words.Same ns l e =
+    says_told c t k words.Len (commands.Len s) (s ∷ []) l p.0 refl refl tt p.1)
+told_sound c t k words.Same ns l known e =
     from_two (Says c t k words.Same l) ns _ l e (λ a b f.
     let p = from_low a _ l f in
     let q = from_low b _ l p.1 in
-    says_told c t k words.Same (commands.Same a b) (a ∷ b ∷ []) l (p.0, q.0) refl refl q.1)
-told_sound c t k words.Say ns l e =
+    says_told c t k words.Same (commands.Same a b) (a ∷ b ∷ []) l (p.0, q.0) refl refl tt q.1)
+told_sound c t k words.Say ns l known e =
     from_one (Says c t k words.Say l) ns _ l e (λ s f.
     let p = from_low s _ l f in
-    says_told c t k words.Say (commands.Say s) (s ∷ []) l p.0 refl refl p.1)
+    says_told c t k words.Say (commands.Say s) (s ∷ []) l p.0 refl refl tt p.1)
+told_sound c t k words.Swap ns l known e =
+    from_three (Says c t k words.Swap l) ns _ l e (λ s i v f.
+    let p = from_low s _ l f in
+    let q = from_low v _ l p.1 in
+    says_told c t k words.Swap (commands.Swap s i v) (s ∷ i ∷ v ∷ []) l (p.0, q.0) refl refl
+    (wide c.width known) q.1)
+told_sound c t k words.Cas ns l known e =
+    from_four (Says c t k words.Cas l) ns _ l e (λ s i a v f.
+    let p = from_low s _ l f in
+    let q = from_low a _ l p.1 in
+    let r = from_low v _ l q.1 in
+    says_told c t k words.Cas (commands.Cas s i a v) (s ∷ i ∷ a ∷ v ∷ []) l (p.0, q.0, r.0) refl
+    refl (wide c.width known) r.1)
+told_sound c t k words.Idle ns l known e =
+    from_one (Says c t k words.Idle l) ns _ l e (λ u f.
+    says_told c t k words.Idle (commands.Idle u) (u ∷ []) l tt refl refl (wide c.width known) f)
 
 -- the same for what follows from two steps
 pub bind_ok : {A B P : Type 0} (r : Result A Why) (f : A → Result B Why) (y : B)
@@ -397,13 +458,13 @@ no_command true t e z = let is : eqb t 0 ≡ true = eq-eqb t 0 z in absurd cc
 no_command false t e z = refl
 
 turn_sound : (c : Config) (t k : ℕ) (w : Word) (first : List ℕ) (ps : List (List ℕ)) (l : Line)
-    → first ≡ word_text w → in_turn (place c t k) w ps ≡ Ok l → SaysLine c t k (first ∷ ps) l
+    → first ≡ word_text w → has_word c.width w ≡ true → in_turn (place c t k) w ps ≡ Ok l → SaysLine c t k (first ∷ ps) l
 unfolding operands_at
-turn_sound c t k w first ps l named e =
+turn_sound c t k w first ps l named known e =
     let told = not_refused (is_command w && eqb t 0)
     (numbers_at (length (operands w)) ps >>= told_at (place c t k) w) l e in
     bind_ok (numbers_at (length (operands w)) ps) (told_at (place c t k) w) l told.1 (λ ns are says.
-    let s = told_sound c t k w ns l says in
+    let s = told_sound c t k w ns l known says in
     record {
       text = ap (λ (p : List ℕ). p ∷ ps) named
           ∙ ap (λ (qs : List (List ℕ)). word_text w ∷ qs)
@@ -417,9 +478,9 @@ pub line_sound : (c : Config) (t k : ℕ) (ps : List (List ℕ)) (l : Line)
 unfolding line_at
 line_sound c t k [] l e = absurd cc
 line_sound c t k (first ∷ ps) l e =
-    bind_ok (ok_or (word_at first) whys.Word) (λ w. in_turn (place c t k) w ps) l e (λ w is told.
-    turn_sound c t k w first ps l
-    (word_sound first w (from_option (word_at first) whys.Word w is)) told)
+    bind_ok (ok_or (word_in c.width first) whys.Word) (λ w. in_turn (place c t k) w ps) l e (λ w is told.
+    let named = word_known c.width (word_at first) w (from_option (word_in c.width first) whys.Word w is) in
+    turn_sound c t k w first ps l (word_sound first w named.0) named.1 told)
 
 -- ---- what is written is read again
 
@@ -436,6 +497,9 @@ line_word (Told (commands.Put s i v)) = words.Put
 line_word (Told (commands.Len s)) = words.Len
 line_word (Told (commands.Same a b)) = words.Same
 line_word (Told (commands.Say s)) = words.Say
+line_word (Told (commands.Swap s i v)) = words.Swap
+line_word (Told (commands.Cas s i a v)) = words.Cas
+line_word (Told (commands.Idle u)) = words.Idle
 
 abbrev line_numbers : Line → List ℕ
 line_numbers (Thread t) = t ∷ []
@@ -450,6 +514,9 @@ line_numbers (Told (commands.Put s i v)) = s ∷ i ∷ v ∷ []
 line_numbers (Told (commands.Len s)) = s ∷ []
 line_numbers (Told (commands.Same a b)) = a ∷ b ∷ []
 line_numbers (Told (commands.Say s)) = s ∷ []
+line_numbers (Told (commands.Swap s i v)) = s ∷ i ∷ v ∷ []
+line_numbers (Told (commands.Cas s i a v)) = s ∷ i ∷ a ∷ v ∷ []
+line_numbers (Told (commands.Idle u)) = u ∷ []
 
 -- how a line is written
 record IsWritten (l : Line) : Type 0 where
@@ -469,6 +536,9 @@ written (Told (commands.Put s i v)) = record { text = refl; count = refl }
 written (Told (commands.Len s)) = record { text = refl; count = refl }
 written (Told (commands.Same a b)) = record { text = refl; count = refl }
 written (Told (commands.Say s)) = record { text = refl; count = refl }
+written (Told (commands.Swap s i v)) = record { text = refl; count = refl }
+written (Told (commands.Cas s i a v)) = record { text = refl; count = refl }
+written (Told (commands.Idle u)) = record { text = refl; count = refl }
 
 small : (c : Config) (t k : ℕ) (l : Line) → t < 10 ^ 19 → Fits c t k l → AreWritten (line_numbers l)
 small c t k (Thread n) le f = (omega (arith, f.0), tt)
@@ -485,6 +555,11 @@ small c t k (Told (commands.Put s i v)) le f =
 small c t k (Told (commands.Len s)) le f = (omega (arith, f.0), tt)
 small c t k (Told (commands.Same a b)) le f = (omega (arith, f.0.0), (omega (arith, f.0.1), tt))
 small c t k (Told (commands.Say s)) le f = (omega (arith, f.0), tt)
+small c t k (Told (commands.Swap s i v)) le f =
+    (omega (arith, f.0.0), (omega (arith, f.0.1), (omega (arith, f.0.2), tt)))
+small c t k (Told (commands.Cas s i a v)) le f =
+    (omega (arith, f.0.0), (omega (arith, f.0.1), (omega (arith, f.0.2), (omega (arith, f.0.3), tt))))
+small c t k (Told (commands.Idle u)) le f = (omega (arith, f.0.0), tt)
 
 passes : (b : Bool) (why : Why) (n : ℕ) (told : ℕ → Result Line Why) (r : Result Line Why)
     → b ≡ false → told n ≡ r → (cond b (Err why) (Ok n) >>= told) ≡ r
@@ -536,6 +611,11 @@ told_complete c t k (Told (commands.Same a b)) f =
     has_low a _ _ f.0.0 (has_low b _ _ f.0.1 (fitting c t k (commands.Same a b) f))
 told_complete c t k (Told (commands.Say s)) f =
     has_low s _ _ f.0 (fitting c t k (commands.Say s) f)
+told_complete c t k (Told (commands.Swap s i v)) f =
+    has_low s _ _ f.0.0 (has_low v _ _ f.0.2 (fitting c t k (commands.Swap s i v) f))
+told_complete c t k (Told (commands.Cas s i a v)) f =
+    has_low s _ _ f.0.0 (has_low a _ _ f.0.2 (has_low v _ _ f.0.3 (fitting c t k (commands.Cas s i a v) f)))
+told_complete c t k (Told (commands.Idle u)) f = fitting c t k (commands.Idle u) f
 
 abbrev pub is_told : Line → Bool
 is_told (Thread t) = false
@@ -555,6 +635,16 @@ told_word (Told (commands.Put s i v)) = refl
 told_word (Told (commands.Len s)) = refl
 told_word (Told (commands.Same a b)) = refl
 told_word (Told (commands.Say s)) = refl
+told_word (Told (commands.Swap s i v)) = refl
+told_word (Told (commands.Cas s i a v)) = refl
+told_word (Told (commands.Idle u)) = refl
+
+-- and is a word of the job
+word_there : (c : Config) (t k : ℕ) (l : Line) → Fits c t k l → has_word c.width (line_word l) ≡ true
+word_there c t k (Told (commands.Swap s i v)) f = ap is_wide f.0.3
+word_there c t k (Told (commands.Cas s i a v)) f = ap is_wide f.0.4
+word_there c t k (Told (commands.Idle u)) f = ap is_wide f.0.1
+word_there c t k _ f = refl
 
 pub line_complete : (c : Config) (t k : ℕ) (l : Line) → t < 10 ^ 19 → Fits c t k l
     → (is_told l && eqb t 0) ≡ false → line_at (place c t k) (line_text l) ≡ Ok l
@@ -566,6 +656,7 @@ line_complete c t k l le f turn =
     rw (
       w.text,
       word_complete (line_word l),
+      word_there c t k l f,
       behind,
       numbers_complete (length (operands (line_word l))) (line_numbers l) w.count
           (small c t k l le f),

@@ -52,6 +52,9 @@ command_named (commands.Put s i v) = refl
 command_named (commands.Len s) = refl
 command_named (commands.Same a b) = refl
 command_named (commands.Say s) = refl
+command_named (commands.Swap s i v) = refl
+command_named (commands.Cas s i a v) = refl
+command_named (commands.Idle u) = refl
 
 -- commands on equal lines are equal
 same_command : (c : Config) (x y : Command) → IsCommandInBounds c x → IsCommandInBounds c y

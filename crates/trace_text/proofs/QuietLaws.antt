@@ -53,6 +53,9 @@ after_command t k (commands.Put s i v) = refl
 after_command t k (commands.Len s) = refl
 after_command t k (commands.Same a b) = refl
 after_command t k (commands.Say s) = refl
+after_command t k (commands.Swap s i v) = refl
+after_command t k (commands.Cas s i a v) = refl
+after_command t k (commands.Idle u) = refl
 
 -- nothing is wrong with lines behind t threads and k commands of the last, and they lead on to
 -- other counts

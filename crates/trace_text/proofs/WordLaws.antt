@@ -5,12 +5,13 @@ use Rattle.std.specs.Option.{ok_or, unwrap_or}
 use Rattle.std.proofs.lemmas.Option.{same_Some}
 use Rattle.std.proofs.lemmas.Bool.{cases_Bool, cases_eq, eq-eqb, ne_eqb}
 use Rattle.std.proofs.lemmas.Slice.Eq.{bytes_eq-Decides}
+use Rattle.block_store.specs.declared.Width.{Width}
 use Rattle.trace_text.specs.declared.trace_faults.Why.{Why}
 use Rattle.trace_text.specs.declared.trace_faults.Why.TheVariants as whys
 use Rattle.trace_text.specs.declared.reading.words.Word.{Word}
 use Rattle.trace_text.specs.declared.reading.words.Word.TheVariants as words
 use Rattle.trace_text.specs.Reading.{number_at}
-use Rattle.trace_text.specs.Words.{word_at}
+use Rattle.trace_text.specs.Words.{word_at, has_word, if_known}
 use Rattle.trace_text.specs.Said.{◌>>=◌, count_is, values_at, numbers_at}
 use Rattle.trace_text.specs.Refusals.{is_number, value_of}
 use Rattle.trace_text.proofs.NumberLaws.{number_sound, number_complete}
@@ -30,6 +31,9 @@ word_text words.Put = codes "put"
 word_text words.Len = codes "len"
 word_text words.Same = codes "same"
 word_text words.Say = codes "say"
+word_text words.Swap = codes "swap"
+word_text words.Cas = codes "cas"
+word_text words.Idle = codes "idle"
 
 -- one more text is tried
 tried : (token text : List ℕ) (w v : Word) (more : Option Word) → word_text w ≡ text
@@ -54,8 +58,11 @@ word_sound token v e =
     (tried token (codes "len") words.Len v _ refl
     (tried token (codes "same") words.Same v _ refl
     (tried token (codes "say") words.Say v _ refl
+    (tried token (codes "swap") words.Swap v _ refl
+    (tried token (codes "cas") words.Cas v _ refl
+    (tried token (codes "idle") words.Idle v _ refl
     (tried token (codes "thread") words.Thread v _ refl
-    (tried token (codes "end") words.End v None refl (λ none. absurd cc))))))))))))
+    (tried token (codes "end") words.End v None refl (λ none. absurd cc)))))))))))))))
     e
 
 pub word_complete : (v : Word) → word_at (word_text v) ≡ Some v
@@ -71,6 +78,19 @@ word_complete words.Put = refl
 word_complete words.Len = refl
 word_complete words.Same = refl
 word_complete words.Say = refl
+word_complete words.Swap = refl
+word_complete words.Cas = refl
+word_complete words.Idle = refl
+
+-- a word of a job is a word, and the job has it
+pub word_known : (width : Width) (o : Option Word) (v : Word) → if_known width o ≡ Some v → (o ≡ Some v) × (has_word width v ≡ true)
+word_known width None v e = absurd cc
+word_known width (Some w) v e = elim (cases_Bool (has_word width w)) [
+  | inl yes' ↦
+      let is : Some w ≡ Some v = subst (λ b. cond b (Some w) None ≡ Some v) yes' e in
+      (is, ap (has_word width) (sym (same_Some w v is)) ∙ yes')
+  | inr no' ↦ absurd (let none : ◌≡◌ {A = Option Word} None (Some v) = subst (λ b. cond b (Some w) None ≡ Some v) no' e in cc)
+]
 
 -- ---- how many
 

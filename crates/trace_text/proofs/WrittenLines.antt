@@ -11,7 +11,7 @@ use Rattle.block_store.specs.declared.Width.{Width}
 use Rattle.block_store.specs.declared.Width.TheVariants.{Four, Eight}
 use Rattle.block_store.specs.Configs.{IsInBounds}
 use Rattle.never_heap.specs.declared.Command.{Command}
-use Rattle.never_heap.specs.declared.Command.TheVariants.{New, Arr, Set, Nil, Mov, Get, Put, Len, Same, Say}
+use Rattle.never_heap.specs.declared.Command.TheVariants.{New, Arr, Set, Nil, Mov, Get, Put, Len, Same, Say, Swap, Cas, Idle}
 use Rattle.never_heap.specs.Bounds.{IsCommandInBounds}
 use Rattle.never_heap.specs.Jobs.{IsTraceInBounds}
 use Rattle.trace_text.specs.Lines.{lines_of, tokens_of, onto_first}
@@ -186,6 +186,9 @@ number v lt = number_token v (omega arith)
 size : (f : ℕ) → f ≤ 65535 → is_token (decimal f) ≡ true
 size f le = number_token f (omega arith)
 
+units : (u : ℕ) → u ≤ 131070 → is_token (decimal u) ≡ true
+units u le = number_token u (omega arith)
+
 a_line : (c : Config) (x : Command) → IsCommandInBounds c x → IsLine (command_line x)
 a_line c (New d f) b = rw (register d b.0, size f b.1) refl
 a_line c (Arr d e) b = rw (register d b.0, size e b.1) refl
@@ -197,6 +200,9 @@ a_line c (Put s i v) b = rw (register s b.0, number i b.1, register v b.2) refl
 a_line c (Len s) b = rw (register s b) refl
 a_line c (Same a z) b = rw (register a b.0, register z b.1) refl
 a_line c (Say s) b = rw (register s b) refl
+a_line c (Swap s i v) b = rw (register s b.0, number i b.1, register v b.2) refl
+a_line c (Cas s i a v) b = rw (register s b.0, number i b.1, register a b.2, register v b.3) refl
+a_line c (Idle u) b = rw (units u b.0) refl
 
 commands_lines : (c : Config) (trace : List Command) → AllByRecursion (IsCommandInBounds c) trace
     → AllByRecursion IsLine (map command_line trace)

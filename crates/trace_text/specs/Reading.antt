@@ -68,3 +68,10 @@ three_tokens_of [] = None
 three_tokens_of (a ∷ tokens) = do
   p ← two_tokens_of tokens
   Some (a, p.0, p.1)
+
+-- the tokens, where there are four
+unfoldable pub four_tokens_of : List (List ℕ) → Option (List ℕ × List ℕ × List ℕ × List ℕ)
+four_tokens_of [] = None
+four_tokens_of (a ∷ tokens) = do
+  p ← three_tokens_of tokens
+  Some (a, p.0, p.1, p.2)

@@ -13,7 +13,7 @@ use Rattle.trace_text.specs.declared.reading.words.Word.{Word}
 use Rattle.trace_text.specs.declared.reading.words.Word.TheVariants.{Thread, End}
 use Rattle.trace_text.specs.Reading.{number_at, tokenized}
 use Rattle.trace_text.specs.Headers.{Labels, labels_at}
-use Rattle.trace_text.specs.Words.{word_at, is_command, operands, Operand, OfThread, OfRegister, OfFields, OfElements, OfNumber}
+use Rattle.trace_text.specs.Words.{word_at, word_in, is_command, operands, Operand, OfThread, OfRegister, OfFields, OfElements, OfNumber, OfUnits}
 
 -- the reason of the first test that holds
 abbrev pub first_of : List (Bool × Why) → Option Why
@@ -122,6 +122,7 @@ is_too_large c OfRegister n = false
 is_too_large c OfFields n = nat_lt 65535 n || nat_lt c.object (record_blocks c.width n)
 is_too_large c OfElements n = nat_lt 65535 n || nat_lt c.object (array_blocks c.width n)
 is_too_large c OfNumber n = nat_le (2 ^ 62) n
+is_too_large c OfUnits n = nat_lt 131070 n
 
 -- a thread that is not the next, or is one too many, and an end before the last thread
 abbrev pub is_out_of_turn : Config → Before → Word → List ℕ → Bool
@@ -152,7 +153,7 @@ word_fault c b (Some word) tokens =
 unfoldable pub later_fault : Config → Before → List (List ℕ) → Option Why
 later_fault c b [] = if b.ended then Some whys.End else Some whys.Word
 later_fault c b (first ∷ tokens) =
-    if b.ended then Some whys.End else word_fault c b (word_at first) tokens
+    if b.ended then Some whys.End else word_fault c b (word_in c.width first) tokens
 
 -- what is wrong with the first of the lines that are left; where none is left, one of them should
 -- have been the end

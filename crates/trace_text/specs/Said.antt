@@ -2,6 +2,8 @@
 use Rattle.std.specs.Prelude.{ℕ, zero, suc, ◌≡◌, ◌==◌, ◌<◌, ◌^◌, nat_le, nat_lt, Bool, true, false, not, ◌&&◌, ◌||◌, List, [], ◌∷◌, length, Result, Ok, Err, if◌then◌else◌}
 use Rattle.std.specs.Option.{ok_or}
 use Rattle.block_store.specs.declared.Config.{Config}
+use Rattle.block_store.specs.declared.Width.{Width}
+use Rattle.block_store.specs.declared.Width.TheVariants.{Eight}
 use Rattle.block_store.specs.declared.TheConstants.{REGISTERS}
 use Rattle.object_lists.specs.Records.{record_blocks}
 use Rattle.array_trees.specs.Trees.{array_blocks}
@@ -16,7 +18,7 @@ use Rattle.trace_text.specs.declared.reading.words.Word.{Word}
 use Rattle.trace_text.specs.declared.reading.words.Word.TheVariants as words
 use Rattle.trace_text.specs.Reading.{number_at}
 use Rattle.trace_text.specs.Headers.{labels_at}
-use Rattle.trace_text.specs.Words.{word_at, is_command, operands}
+use Rattle.trace_text.specs.Words.{word_in, is_command, operands}
 
 infixl 10 ◌>>=◌
 -- what is read in two steps
@@ -64,6 +66,16 @@ HasRegisters (commands.Put s i v) = (s < REGISTERS) × (v < REGISTERS)
 HasRegisters (commands.Len s) = s < REGISTERS
 HasRegisters (commands.Same a b) = (a < REGISTERS) × (b < REGISTERS)
 HasRegisters (commands.Say s) = s < REGISTERS
+HasRegisters (commands.Swap s i v) = (s < REGISTERS) × (v < REGISTERS)
+HasRegisters (commands.Cas s i a v) = (s < REGISTERS) × (a < REGISTERS) × (v < REGISTERS)
+HasRegisters (commands.Idle u) = Unit {0}
+
+-- and it is one of the commands of its version
+abbrev pub IsOfWidth : Width → Command → Type 0
+IsOfWidth width (commands.Swap s i v) = width ≡ Eight
+IsOfWidth width (commands.Cas s i a v) = width ≡ Eight
+IsOfWidth width (commands.Idle u) = width ≡ Eight
+IsOfWidth width command = Unit {0}
 
 -- a command has an object that is too long or has too many blocks, or a number that is too large
 abbrev pub is_oversized : Config → Command → Bool
@@ -74,6 +86,9 @@ is_oversized c (commands.Arr d e) =
 is_oversized c (commands.Set d v) = nat_le (2 ^ 62) v
 is_oversized c (commands.Get d s i) = nat_le (2 ^ 62) i
 is_oversized c (commands.Put s i v) = nat_le (2 ^ 62) i
+is_oversized c (commands.Swap s i v) = nat_le (2 ^ 62) i
+is_oversized c (commands.Cas s i a v) = nat_le (2 ^ 62) i
+is_oversized c (commands.Idle u) = nat_lt 131070 u
 is_oversized c command = false
 
 -- the number of a register
@@ -89,7 +104,7 @@ abbrev pub fitted : Place → Command → Result Line Why
 fitted p command =
     if is_oversized p.config command || p.full then Err whys.Size else Ok (Told command)
 
--- behind no number, one, two or three
+-- behind no number, one, two, three or four
 abbrev pub on_none : List ℕ → Result Line Why → Result Line Why
 on_none [] line = line
 on_none (n ∷ ns) line = Err whys.Count
@@ -105,6 +120,10 @@ on_two ns line = Err whys.Count
 abbrev pub on_three : List ℕ → (ℕ → ℕ → ℕ → Result Line Why) → Result Line Why
 on_three (a ∷ b ∷ d ∷ []) line = line a b d
 on_three ns line = Err whys.Count
+
+abbrev pub on_four : List ℕ → (ℕ → ℕ → ℕ → ℕ → Result Line Why) → Result Line Why
+on_four (a ∷ b ∷ d ∷ e ∷ []) line = line a b d e
+on_four ns line = Err whys.Count
 
 -- what a word and the numbers behind it say
 unfoldable pub told_at : Place → Word → List ℕ → Result Line Why
@@ -136,6 +155,14 @@ told_at p words.Same ns =
     on_two ns (λ a b. register_at a >>= λ a. register_at b >>= λ b. fitted p (commands.Same a b))
 told_at p words.Say ns =
     on_one ns (λ s. register_at s >>= λ s. fitted p (commands.Say s))
+told_at p words.Swap ns =
+    on_three ns (λ s i v.
+    register_at s >>= λ s. register_at v >>= λ v. fitted p (commands.Swap s i v))
+told_at p words.Cas ns =
+    on_four ns (λ s i a v.
+    register_at s >>= λ s. register_at a >>= λ a. register_at v >>= λ v. fitted p
+    (commands.Cas s i a v))
+told_at p words.Idle ns = on_one ns (λ u. fitted p (commands.Idle u))
 
 -- what a word and the tokens behind it say
 unfoldable pub operands_at : Place → Word → List (List ℕ) → Result Line Why
@@ -150,7 +177,7 @@ in_turn p word tokens =
 unfoldable pub line_at : Place → List (List ℕ) → Result Line Why
 line_at p [] = Err whys.Word
 line_at p (first ∷ others) = do
-  word ← ok_or (word_at first) whys.Word
+  word ← ok_or (word_in p.config.width first) whys.Word
   in_turn p word others
 
 -- a number from least to most

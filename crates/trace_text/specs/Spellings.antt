@@ -5,7 +5,7 @@ use Rattle.block_store.specs.declared.Config.{Config}
 use Rattle.block_store.specs.declared.Width.{Width}
 use Rattle.block_store.specs.declared.Width.TheVariants.{Four, Eight}
 use Rattle.never_heap.specs.declared.Command.{Command}
-use Rattle.never_heap.specs.declared.Command.TheVariants.{New, Arr, Set, Nil, Mov, Get, Put, Len, Same, Say}
+use Rattle.never_heap.specs.declared.Command.TheVariants.{New, Arr, Set, Nil, Mov, Get, Put, Len, Same, Say, Swap, Cas, Idle}
 
 -- the version of a job whose blocks have this width
 abbrev pub version : Width → List ℕ
@@ -30,6 +30,9 @@ command_line (Put s i v) = codes "put" ∷ decimal s ∷ decimal i ∷ decimal v
 command_line (Len s) = codes "len" ∷ decimal s ∷ []
 command_line (Same a b) = codes "same" ∷ decimal a ∷ decimal b ∷ []
 command_line (Say s) = codes "say" ∷ decimal s ∷ []
+command_line (Swap s i v) = codes "swap" ∷ decimal s ∷ decimal i ∷ decimal v ∷ []
+command_line (Cas s i a v) = codes "cas" ∷ decimal s ∷ decimal i ∷ decimal a ∷ decimal v ∷ []
+command_line (Idle u) = codes "idle" ∷ decimal u ∷ []
 
 -- a thread's line, and a line for each of its commands
 abbrev pub trace_lines : ℕ → List Command → List (List (List ℕ))

@@ -6,7 +6,7 @@ use Rattle.block_store.specs.declared.Value.{Value}
 use Rattle.block_store.specs.declared.Value.TheVariants as values
 use Rattle.never_heap.specs.declared.Entry.{Entry}
 use Rattle.never_heap.specs.declared.Reply.{Reply}
-use Rattle.never_heap.specs.declared.Reply.TheVariants.{New, Full, Stored, Val, Len, Yes, No, Null, Kind, Range}
+use Rattle.never_heap.specs.declared.Reply.TheVariants.{New, Full, Stored, Val, Len, Yes, No, Null, Kind, Range, Idle}
 use Rattle.never_heap.specs.Histories.{HistoryItem, parts, starts_in, work_in}
 use Rattle.trace_text.specs.Lines.{ended, space}
 
@@ -31,6 +31,7 @@ reply_text No work = codes "no"
 reply_text Null work = codes "null"
 reply_text Kind work = codes "kind"
 reply_text Range work = codes "range"
+reply_text Idle work = codes "idle" ++ codes " work " ++ decimal work
 
 -- an entry: the thread, a space, the reply
 abbrev pub entry_text : Entry → List ℕ

@@ -160,13 +160,19 @@ fn fill_command(line: &mut LineBuffer, command: &Command)
         Command::Len { s } => prepend_one(line, b"len", u64::from(s)),
         Command::Same { a, b } => prepend_two(line, b"same", a, u64::from(b)),
         Command::Say { s } => prepend_one(line, b"say", u64::from(s)),
+        Command::Swap { s, i, v } => prepend_three(line, b"swap", s, i, u64::from(v)),
+        Command::Cas { s, i, a, v } => {
+            prepend_operand(line, u64::from(v));
+            prepend_three(line, b"cas", s, i, u64::from(a));
+        }
+        Command::Idle { units } => prepend_one(line, b"idle", units),
     }
 }
 
 /// Puts a word and three operands in front.
 fn prepend_three(line: &mut LineBuffer, word: &[u8], first: u8, second: u64, third: u64)
     requires word { length word.now ≤ 6 }
-    requires room { length line.old ≤ 1 }
+    requires room { length line.old ≤ 22 }
     ensures { line.new ≡ word.now ++ space ∷ decimal first ++ space ∷ decimal second
         ++ space ∷ decimal third ++ line.old }
 {
@@ -177,7 +183,7 @@ fn prepend_three(line: &mut LineBuffer, word: &[u8], first: u8, second: u64, thi
 /// Puts a word and two operands in front.
 fn prepend_two(line: &mut LineBuffer, word: &[u8], first: u8, second: u64)
     requires word { length word.now ≤ 6 }
-    requires room { length line.old ≤ 22 }
+    requires room { length line.old ≤ 43 }
     ensures { line.new ≡ word.now ++ space ∷ decimal first ++ space ∷ decimal second ++ line.old }
 {
     prepend_operand(line, second);
@@ -187,7 +193,7 @@ fn prepend_two(line: &mut LineBuffer, word: &[u8], first: u8, second: u64)
 /// Puts a word and its one operand in front.
 fn prepend_one(line: &mut LineBuffer, word: &[u8], operand: u64)
     requires word { length word.now ≤ 6 }
-    requires room { length line.old ≤ 43 }
+    requires room { length line.old ≤ 64 }
     ensures { line.new ≡ word.now ++ space ∷ decimal operand ++ line.old }
 {
     prepend_operand(line, operand);
@@ -196,7 +202,7 @@ fn prepend_one(line: &mut LineBuffer, word: &[u8], operand: u64)
 
 /// Puts a space and an operand in front.
 fn prepend_operand(line: &mut LineBuffer, operand: u64)
-    requires room { length line.old ≤ 43 }
+    requires room { length line.old ≤ 64 }
     ensures text { line.new ≡ space ∷ decimal operand ++ line.old }
     ensures length { length line.new ≤ 21 + length line.old }
 {

@@ -128,6 +128,10 @@ fn prepend_reply(line: &mut LineBuffer, reply: Reply, work: u64)
         Reply::Null => line.prepend(b"null"),
         Reply::Kind => line.prepend(b"kind"),
         Reply::Range => line.prepend(b"range"),
+        Reply::Idle => {
+            prepend_work(line, work);
+            line.prepend(b"idle");
+        }
     }
 }
 

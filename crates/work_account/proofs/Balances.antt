@@ -3,7 +3,7 @@ use Rattle.std.proofs.Common.{◌≡◌, ℕ, zero, suc, ◌+◌, ◌-◌, ◌*�
 use Rattle.std.proofs.lemmas.Bool.{cases_eq, cases_lt, le-ltb}
 use Rattle.std.proofs.lemmas.Nat.{div-add-mod', le-div}
 use Rattle.block_store.specs.Counts.{total}
-use Rattle.work_account.specs.Accounts.{Balance, opened, entered, with_unit, published, refused, IsSound, units_in, given_in}
+use Rattle.work_account.specs.Accounts.{Balance, opened, entered, with_unit, with_idle, published, refused, IsSound, units_in, given_in}
 
 pub opened_sound : (rate object : ℕ) → IsSound rate object opened
 opened_sound rate object = record { covered = omega arith; within = omega arith }
@@ -19,6 +19,10 @@ entered_sound rate object c a s = elim (cases_lt a.cycle c) [
 pub unit_sound : (rate object : ℕ) (a : Balance) → a.paid < rate * object
     → IsSound rate object a → IsSound rate object (with_unit a)
 unit_sound rate object a l s = record { covered = omega (arith, s.covered); within = omega arith }
+
+pub idle_sound : (rate object : ℕ) (a : Balance) → IsSound rate object a
+    → IsSound rate object (with_idle a)
+idle_sound rate object a s = record { covered = omega (arith, s.covered); within = s.within }
 
 pub published_sound : (rate object k : ℕ) (a : Balance) → a.paid ≡ rate * k
     → IsSound rate object a → IsSound rate object (published k a)

@@ -24,6 +24,10 @@ entered c a =
 abbrev pub with_unit : Balance → Balance
 with_unit a = record a { paid = a.paid + 1; units = a.units + 1 }
 
+-- a unit for which nothing is given
+abbrev pub with_idle : Balance → Balance
+with_idle a = record a { units = a.units + 1 }
+
 -- k blocks that are paid were given
 abbrev pub published : ℕ → Balance → Balance
 published k a = record a { paid = 0; given = a.given + k }

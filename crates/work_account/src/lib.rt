@@ -7,7 +7,7 @@ mod tests;
 
 ghost use Rattle.std.specs.Prelude.{ℕ, ◌+◌, ◌*◌, ◌/◌, ◌<◌, ◌≤◌, ◌≡◌, ◌^◌};
 ghost use Rattle.block_store.specs.Counts.{total};
-ghost use Rattle.work_account.specs.Accounts.{AccountState, Balance, IsSound, opened, entered, with_unit, published, refused, units_in, given_in};
+ghost use Rattle.work_account.specs.Accounts.{AccountState, Balance, IsSound, opened, entered, with_unit, with_idle, published, refused, units_in, given_in};
 
 use std::marker::Model;
 
@@ -115,6 +115,15 @@ impl Account {
         self.units += 1;
     }
 
+    /// A unit was made for which nothing is given. What is paid stays.
+    pub fn idle(&mut self)
+        requires { self.old.balance.units < 2 ^ 50 }
+        ensures value { self.new ≡ record self.old { balance = with_idle self.old.balance } }
+        ensures sound { IsSound self.new.rate self.new.object self.new.balance }
+    {
+        self.units += 1;
+    }
+
     /// An object of `k` blocks, whose price was paid, was published.
     pub fn publish(&mut self, k: u32)
         requires { self.old.balance.paid ≡ self.old.rate * k }
@@ -143,6 +152,8 @@ pub fn accounts_stay_sound()
         → IsSound rate object a → IsSound rate object (entered c a) }
     ensures united { (rate object : ℕ) (a : Balance) → a.paid < rate * object
         → IsSound rate object a → IsSound rate object (with_unit a) }
+    ensures idled { (rate object : ℕ) (a : Balance)
+        → IsSound rate object a → IsSound rate object (with_idle a) }
     ensures published { (rate object k : ℕ) (a : Balance) → a.paid ≡ rate * k
         → IsSound rate object a → IsSound rate object (published k a) }
     ensures refused { (rate object : ℕ) (a : Balance)

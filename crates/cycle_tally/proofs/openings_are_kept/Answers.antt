@@ -7,5 +7,5 @@ pub returns-clause-kept : goal.returns-clause-kept
 returns-clause-kept g c rate black s some o = opening_kept c rate black some s o
 
 pub returns-clause-heap : goal.returns-clause-heap
-returns-clause-heap g c colour asked within room few =
-    opens c colour asked (opening_live c within) room few
+returns-clause-heap g c colour asked told within room few owes =
+    opens c colour asked told (opening_live c within) room few owes

@@ -222,5 +222,5 @@ build_lone c b s at alone event knows =
       goes = step.0;
       out = builds_out n (build_reply n);
       knows = knows_on c (heap_left c s (Build b)) s.thread (pass_left c s (Build b)) s.due (paid_left c s (Build b)) n n n.row refl (known_out c s b at alone (heap_left c s (Build b)) n.row step.1);
-      moves = step.2 (lone_of c s.heap s.thread (s.due - s.balance.paid) (Build b)) (lone_of c (heap_left c s (Build b)) s.thread (s.due - paid_left c s (Build b)) (part_left c s (Build b))) (stands_on c n n n.row refl);
+      moves = step.2 (lone_of c s.heap s.thread (s.due - s.spent) (Build b)) (lone_of c (heap_left c s (Build b)) s.thread (s.due - paid_left c s (Build b)) (part_left c s (Build b))) (stands_on c n n n.row refl);
     }

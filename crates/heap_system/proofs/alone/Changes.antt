@@ -86,7 +86,7 @@ module _ (c : Config) (traces : List (List Command)) (job : IsJob c traces) (rat
   abbrev lone_at : Command → Run → Lone
   lone_at k r =
       lone_of c (heap_in c r.state) t
-      (Runs.due c traces job rate planned t tl [] k - (local_at c r.state t).balance.paid)
+      (Runs.due c traces job rate planned t tl [] k - (local_at c r.state t).spent)
       (local_at c r.state t).part
 
   abbrev IsFresh : Command → Run → Type 0
@@ -112,7 +112,7 @@ module _ (c : Config) (traces : List (List Command)) (job : IsJob c traces) (rat
     -- what is so of the thread after its event is so of the run
     fresh_later : Fresh (spot_of c moved.part)
         (lone_of c (Runs.after c traces job rate planned t tl old k left_some command r lone) t
-        (Runs.due c traces job rate planned t tl old k - moved.balance.paid) moved.part)
+        (Runs.due c traces job rate planned t tl old k - moved.spent) moved.part)
         → IsFresh k (next c t r)
     fresh_later fresh =
         subst (λ x. IsFresh k x)
@@ -120,7 +120,7 @@ module _ (c : Config) (traces : List (List Command)) (job : IsJob c traces) (rat
         (Runs.going c traces job rate planned t tl old k left_some command r lone)))
         (Runs.carry c traces job rate planned t tl old k left_some command r lone
         (λ h z. Fresh (spot_of c z.part)
-        (lone_of c h t (Runs.due c traces job rate planned t tl old k - z.balance.paid) z.part)) fresh)
+        (lone_of c h t (Runs.due c traces job rate planned t tl old k - z.spent) z.part)) fresh)
 
     changes_fresh : turns_phase l.part ≡ true → IsFresh k (next c t r)
     changes_fresh is =
@@ -148,9 +148,9 @@ module _ (c : Config) (traces : List (List Command)) (job : IsJob c traces) (rat
         (Runs.moves c traces job rate planned t tl old k left_some command r lone on) fresh) [
           | inl more ↦ inr (fresh_later more.0)
           | inr unit ↦ inl (is_unit_here (unit_made (effect c l.part w).reply (effect c l.part w).unit
-              (Runs.due c traces job rate planned t tl old k) l.balance.paid
+              (Runs.due c traces job rate planned t tl old k) l.spent
               (subst (λ x. suc (Runs.due c traces job rate planned t tl old k - x)
-              ≡ Runs.due c traces job rate planned t tl old k - l.balance.paid)
+              ≡ Runs.due c traces job rate planned t tl old k - l.spent)
               (Runs.paid_is c traces job rate planned t tl old k left_some command r lone) unit)))
         ]
 

@@ -28,10 +28,10 @@ empty : (w : ℕ) → IsOpen w → is_empty w ≡ true
 empty w free = rw (free.opened, eq-eqb (inside_of w) 0 free.nobody) refl
 
 module _ (c : Config) (s : Seen c) where
-  owing : s.balance.paid < s.due → 0 < s.due - s.balance.paid
+  owing : s.spent < s.due → 0 < s.due - s.spent
   owing more = omega arith
 
-  close_looks : (p : Pass) → p ≡ s.pass → (s.balance.paid < s.due) × IsDry c s.heap s.pass × IsOfPass s.heap s.pass
+  close_looks : (p : Pass) → p ≡ s.pass → (s.spent < s.due) × IsDry c s.heap s.pass × IsOfPass s.heap s.pass
       → IsOpen (s.heap Phase) → LoneStep c s (TurnOver (gates.CloseLook p))
   close_looks p own known free =
       let pass : is_of_pass p (s.heap Phase) ≡ true =
@@ -46,7 +46,7 @@ module _ (c : Config) (s : Seen c) where
       }
 
   -- the gate is closed
-  closes : (p : Pass) → p ≡ s.pass → (s.balance.paid < s.due) × IsDry c s.heap s.pass × IsOfPass s.heap s.pass
+  closes : (p : Pass) → p ≡ s.pass → (s.spent < s.due) × IsDry c s.heap s.pass × IsOfPass s.heap s.pass
       → IsOpen (s.heap Phase) → LoneStep c s (TurnOver (gates.Close p (s.heap Phase)))
   closes p own known free =
       let won : eqb (s.heap Phase) (s.heap Phase) ≡ true = eq-eqb (s.heap Phase) (s.heap Phase) refl in
@@ -71,7 +71,7 @@ module _ (c : Config) (s : Seen c) where
             }
       ]
 
-  checks : (p : Pass) (u : ℕ) → p.threads ≡ c.threads → u < c.threads → s.balance.paid < s.due → NoGrey c s.heap
+  checks : (p : Pass) (u : ℕ) → p.threads ≡ c.threads → u < c.threads → s.spent < s.due → NoGrey c s.heap
       → LoneStep c s (TurnOver (gates.CheckList p u))
   checks p u many low more dry =
       let none : eqb (s.heap (GreyList u)) 0 ≡ true = eq-eqb (s.heap (GreyList u)) 0 (dry u low) in
@@ -94,7 +94,7 @@ module _ (c : Config) (s : Seen c) where
             }
       ]
 
-  shades : (p : Pass) (u hand : ℕ) → p.threads ≡ c.threads → u < c.threads → s.balance.paid < s.due
+  shades : (p : Pass) (u hand : ℕ) → p.threads ≡ c.threads → u < c.threads → s.spent < s.due
       → LoneStep c s (TurnOver (gates.ShadeRoot p u hand))
   shades p u hand many low more =
       elim (cases_Bool (ltb (u + 1) p.threads)) [
@@ -116,7 +116,7 @@ module _ (c : Config) (s : Seen c) where
             }
       ]
 
-  flips : (p : Pass) → s.balance.paid < s.due → s.heap Cursor ≡ 1 → LoneStep c s (TurnOver (gates.Flip p))
+  flips : (p : Pass) → s.spent < s.due → s.heap Cursor ≡ 1 → LoneStep c s (TurnOver (gates.Flip p))
   flips p more first =
       let phase : is_sweep (open_word p.cycle true) ≡ true = (open_parts p.cycle true).1 in
       let some_left : not (ltb c.blocks (s.heap Cursor)) ≡ true =
@@ -125,10 +125,10 @@ module _ (c : Config) (s : Seen c) where
         goes = refl;
         out = refl;
         knows = tt;
-        moves = (owing more, same_lone _ Spot.Look (s.due - s.balance.paid) true true refl refl phase (rw phase some_left));
+        moves = (owing more, same_lone _ Spot.Look (s.due - s.spent) true true refl refl phase (rw phase some_left));
       }
 
-  starts : (p : Pass) → s.balance.paid < s.due → 0 < s.heap (GreyList s.thread) → LoneStep c s (TurnOver (gates.Start p))
+  starts : (p : Pass) → s.spent < s.due → 0 < s.heap (GreyList s.thread) → LoneStep c s (TurnOver (gates.Start p))
   starts p more hand =
       let phase : is_sweep (open_word (p.cycle + 1) false) ≡ false = (open_parts (p.cycle + 1) false).1 in
       let own : 0 < grey_heads c s.heap s.thread 0 =
@@ -139,7 +139,7 @@ module _ (c : Config) (s : Seen c) where
         goes = refl;
         out = refl;
         knows = tt;
-        moves = (owing more, same_lone _ Spot.Look (s.due - s.balance.paid) false true refl refl phase (rw phase found));
+        moves = (owing more, same_lone _ Spot.Look (s.due - s.spent) false true refl refl phase (rw phase found));
       }
 
 pub turn_lone : (c : Config) (g : GateRow) → LoneLaw c (TurnOver g)

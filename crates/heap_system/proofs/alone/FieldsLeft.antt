@@ -23,18 +23,21 @@ use Rattle.grey_steps.specs.declared.rows.GreyRow.TheVariants as greys
 use Rattle.grey_steps.specs.Ends.{block_stored}
 use Rattle.grey_steps.specs.Rows as marking
 use Rattle.barrier_steps.specs.declared.rows.FieldRow.{FieldRow}
-use Rattle.barrier_steps.specs.declared.rows.FieldRow.TheVariants.{StoreNumber, StoreNil, LoadMoved, StoreMoved, LoadObject, LoadShape, LoadValue, LoadLink, LoadField, LoadOwner, StorePending, StoreField, Shade, LoadFirst, LoadSecond, LoadSaid, LoadSaidOwner, Answered}
+use Rattle.barrier_steps.specs.declared.rows.FieldRow.TheVariants.{StoreNumber, StoreNil, LoadMoved, StoreMoved, LoadObject, LoadShape, LoadValue, LoadLink, LoadField, LoadOwner, StorePending, StoreField, Shade, LoadFirst, LoadSecond, LoadSaid, LoadSaidOwner, Answered, LoadExpected, ExchangeField, CompareField, IdleLook}
 use Rattle.barrier_steps.specs.declared.rows.FieldStore.{FieldStore}
-use Rattle.barrier_steps.specs.declared.rows.FieldStore.TheVariants.{Moved, Pending, InField}
+use Rattle.barrier_steps.specs.declared.rows.FieldStore.TheVariants.{Moved, Pending, InField, Exchanged, Compared}
 use Rattle.barrier_steps.specs.declared.rows.Way.{Way}
 use Rattle.barrier_steps.specs.Fits.{RowFits}
 use Rattle.barrier_steps.specs.Operands.{field_index}
 use Rattle.barrier_steps.specs.Rows.{first_row, row_got, field_reply, shape_in, payload_in, on_way, at_block, after_object, after_shape, after_field, after_said, object_in, before_store, in_barrier, store_row, stored_word, shaded_for, way_from, way_on}
 use Rattle.barrier_steps.specs.Walks.{links_to, shape_length}
 
--- from the block of the field on: `put` shades and stores, `get` loads, names, shades and stores
+-- from the block of the field on: `put` and `cas` shade and store, `get` loads, names, shades and
+-- stores, and `swap` shades, exchanges, names, shades and stores
 abbrev pub errand_left : Command → ℕ
 errand_left (commands.Put s i v) = 4
+errand_left (commands.Cas s i a v) = 4
+errand_left (commands.Swap s i v) = 9
 errand_left _ = 6
 
 -- in a barrier, with the store behind it
@@ -43,6 +46,11 @@ barrier_left (greys.TakeOwn y) = 4
 barrier_left (greys.ShadeStored y hand) = 3
 barrier_left _ = 2
 
+-- and behind that store
+abbrev pub after_left : FieldStore → ℕ
+after_left (Exchanged way word) = 5
+after_left _ = 0
+
 -- How many events command k has left at most at a row. A way has at most seven links more than the
 -- largest object has blocks.
 abbrev pub field_left : Config → Command → FieldRow → ℕ
@@ -50,8 +58,9 @@ field_left c k StoreNumber = 1
 field_left c k StoreNil = 1
 field_left c k LoadMoved = 5
 field_left c k (StoreMoved word) = 1
-field_left c k LoadObject = c.object + 15
-field_left c k (LoadShape x) = c.object + 14
+field_left c k LoadObject = c.object + 19
+field_left c k (LoadShape x) = c.object + 18
+field_left c k (LoadExpected way) = links_to (extent c) way.shape (field_index k) + errand_left k + 2
 field_left c k (LoadValue way) = links_to (extent c) way.shape (field_index k) + errand_left k + 1
 field_left c k (LoadLink way word) =
     links_to (extent c) way.shape (field_index k) - way.level + errand_left k
@@ -59,7 +68,10 @@ field_left c k (LoadField way) = 6
 field_left c k (LoadOwner word) = 5
 field_left c k (StorePending word value) = 1
 field_left c k (StoreField way word) = 1
-field_left c k (Shade r store) = barrier_left r
+field_left c k (ExchangeField way word) = 6
+field_left c k (CompareField way word) = 1
+field_left c k IdleLook = 1
+field_left c k (Shade r store) = barrier_left r + after_left store
 field_left c k LoadFirst = 2
 field_left c k (LoadSecond word) = 1
 field_left c k LoadSaid = 2
@@ -76,12 +88,14 @@ module _ (c : Config) (p : Pass) where
   abbrev L : Command → FieldRow → ℕ
   L k r = field_left c k r
 
-  store_left : (k : Command) (s : FieldStore) → L k (store_row s) ≡ 1
+  store_left : (k : Command) (s : FieldStore) → L k (store_row s) ≡ 1 + after_left s
   store_left k (Moved word) = refl
   store_left k (Pending word value) = refl
   store_left k (InField way word) = refl
+  store_left k (Exchanged way word) = refl
+  store_left k (Compared way word) = refl
 
-  before_left : (k : Command) (s : FieldStore) → L k (before_store p s) ≤ 4
+  before_left : (k : Command) (s : FieldStore) → L k (before_store p s) ≤ 4 + after_left s
   before_left k s = elim (cases_Bool (eqb (shaded_for p (stored_word s)) 0)) [
     | inl q ↦ (let one = store_left k s in rw q (omega arith))
     | inr q ↦ rw q (omega arith)
@@ -89,6 +103,8 @@ module _ (c : Config) (p : Pass) where
 
   block_left : (k : Command) (way : Way) (word : ℕ) → L k (at_block p k way word) ≤ errand_left k
   block_left (commands.Put s i v) way word = before_left (commands.Put s i v) (InField way word)
+  block_left (commands.Swap s i v) way word = before_left (commands.Swap s i v) (Exchanged way word)
+  block_left (commands.Cas s i a v) way word = before_left (commands.Cas s i a v) (Compared way word)
   block_left _ way word = omega arith
 
   -- at any point of a way
@@ -98,17 +114,25 @@ module _ (c : Config) (p : Pass) where
     | inr q ↦ (let b = block_left k way word in rw q (omega arith))
   ]
 
-  object_left : (k : Command) (v : Payload) → L k (after_object v) ≤ c.object + 14
+  object_left : (k : Command) (v : Payload) → L k (after_object v) ≤ c.object + 18
   object_left k payloads.Nil = omega arith
   object_left k (payloads.Int v) = omega arith
   object_left k (payloads.Block x) = omega arith
 
-  shape_left : (k : Command) (x : ℕ) (f : Shape) → (field_index k < shape_length f → links_to (extent c) f (field_index k) ≤ c.object + 7) → L k (after_shape (extent c) p k x f) ≤ c.object + 13
+  shape_left : (k : Command) (x : ℕ) (f : Shape) → (field_index k < shape_length f → links_to (extent c) f (field_index k) ≤ c.object + 7) → L k (after_shape (extent c) p k x f) ≤ c.object + 17
   shape_left (commands.Get d s i) x f low = elim (cases_Bool (ltb i (shape_length f))) [
     | inl q ↦ (let l = low (ltb-true i (shape_length f) q) in let w = way_left (commands.Get d s i) (way_from f x) 0 in rw q (omega arith))
     | inr q ↦ rw q (omega arith)
   ]
   shape_left (commands.Put s i v) x f low = elim (cases_Bool (ltb i (shape_length f))) [
+    | inl q ↦ (let l = low (ltb-true i (shape_length f) q) in rw q (omega arith))
+    | inr q ↦ rw q (omega arith)
+  ]
+  shape_left (commands.Swap s i v) x f low = elim (cases_Bool (ltb i (shape_length f))) [
+    | inl q ↦ (let l = low (ltb-true i (shape_length f) q) in rw q (omega arith))
+    | inr q ↦ rw q (omega arith)
+  ]
+  shape_left (commands.Cas s i a v) x f low = elim (cases_Bool (ltb i (shape_length f))) [
     | inl q ↦ (let l = low (ltb-true i (shape_length f) q) in rw q (omega arith))
     | inr q ↦ rw q (omega arith)
   ]
@@ -125,13 +149,13 @@ module _ (c : Config) (p : Pass) where
   said_next k w (payloads.Block x) = omega arith
 
   -- a barrier comes to its store
-  stored_next : (k : Command) (y hand : ℕ) (s : FieldStore) → L k (in_barrier (marking.after_stored y hand) s) ≤ 2
+  stored_next : (k : Command) (y hand : ℕ) (s : FieldStore) → L k (in_barrier (marking.after_stored y hand) s) ≤ 2 + after_left s
   stored_next k y hand s = elim (cases_Bool (eqb hand 0)) [
     | inl q ↦ (let one = store_left k s in rw q (omega arith))
     | inr q ↦ rw q (omega arith)
   ]
 
-  barrier_next : (k : Command) (r : GreyRow) (s : FieldStore) (n w : ℕ) → block_stored r ≢ 0 → L k (in_barrier (marking.row_got n p.threads p.cycle r w) s) < barrier_left r
+  barrier_next : (k : Command) (r : GreyRow) (s : FieldStore) (n w : ℕ) → block_stored r ≢ 0 → L k (in_barrier (marking.row_got n p.threads p.cycle r w) s) < barrier_left r + after_left s
   barrier_next k (greys.TakeOwn y) s n w some = omega arith
   barrier_next k (greys.ShadeStored y hand) s n w some = omega (arith, stored_next k y (marking.shaded_hand p.cycle y hand w) s)
   barrier_next k (greys.PutOwn y hand) s n w some = omega (arith, store_left k s)
@@ -157,10 +181,14 @@ module _ (c : Config) (p : Pass) where
   field_falls k (LoadSecond word) w fits going low = omega arith
   field_falls k LoadSaid w fits going low = omega (arith, said_next k w (payload_in w))
   field_falls k (LoadSaidOwner word) w fits going low = omega arith
+  field_falls k (LoadExpected way) w fits going low = omega arith
+  field_falls k (ExchangeField way word) w fits going low = omega (arith, field_next k w (payload_in w))
+  field_falls k (CompareField way word) w fits going low = omega arith
+  field_falls k IdleLook w fits going low = omega arith
   field_falls k (Answered reply) w fits going low = absurd (let z : Some reply ≡ None = going in cc)
 
 -- at its first row a command has few
-pub fields_low : (c : Config) (k : Command) → field_left c k (first_row k) ≤ c.object + 15
+pub fields_low : (c : Config) (k : Command) → field_left c k (first_row k) ≤ c.object + 19
 fields_low c (commands.New d f) = omega arith
 fields_low c (commands.Arr d f) = omega arith
 fields_low c (commands.Set d v) = omega arith
@@ -171,6 +199,9 @@ fields_low c (commands.Put s i v) = omega arith
 fields_low c (commands.Len s) = omega arith
 fields_low c (commands.Same a b) = omega arith
 fields_low c (commands.Say s) = omega arith
+fields_low c (commands.Swap s i v) = omega arith
+fields_low c (commands.Cas s i a v) = omega arith
+fields_low c (commands.Idle u) = omega arith
 
 -- the block of a field of a record is one of the record's
 record_way : (w : Width) (n i : ℕ) → i < n → (record_slot w i).0 < record_blocks w n

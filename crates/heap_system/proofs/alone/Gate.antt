@@ -65,46 +65,46 @@ module _ (c : Config) (s : Seen c) (sweep : is_sweep (s.heap Phase + 1) ≡ is_s
   ready_same = ap (λ b. cond b (not (ltb c.blocks (s.heap Cursor)))
       (some (grey_heads c s.heap s.thread) 0 c.threads)) sweep
 
-enter_here : (c : Config) (s : Seen c) → s.balance.paid ≤ s.due → is_outside (s.gatings s.thread).stand ≡ true
+enter_here : (c : Config) (s : Seen c) → s.spent ≤ s.due → is_outside (s.gatings s.thread).stand ≡ true
     → LoneStep c s (Enter (gates.Enter (s.heap Phase)))
 enter_here c s pays out =
     let won : eqb (s.heap Phase) (s.heap Phase) ≡ true = eq-eqb (s.heap Phase) (s.heap Phase) refl in
     let phase = (entered_phase c.threads (s.heap Phase) s.gatings s.gate (omega (arith, s.bounds.threads))).1 in
     let same = ready_same c s phase in
     let all_lists : c.threads - 0 ≡ c.threads = omega arith in
-    elim (cases_lt s.balance.paid s.due) [
+    elim (cases_lt s.spent s.due) [
       | inl more ↦
-          let due : ltb 0 (s.due - s.balance.paid) ≡ true = lt-ltb 0 (s.due - s.balance.paid) (omega arith) in
-          let owing : eqb (s.due - s.balance.paid) 0 ≡ false = ne_eqb (s.due - s.balance.paid) 0 (λ e. omega arith) in
+          let due : ltb 0 (s.due - s.spent) ≡ true = lt-ltb 0 (s.due - s.spent) (omega arith) in
+          let owing : eqb (s.due - s.spent) 0 ≡ false = ne_eqb (s.due - s.spent) 0 (λ e. omega arith) in
           elim (cases_Bool (is_sweep (s.heap Phase))) [
             | inl sweeps ↦ record {
               goes = rw won refl;
               out = rw (won, due, sweeps) refl;
               knows = rw (won, due, sweeps) tt;
-              moves = rw (won, due, owing, sweeps) (same_lone _ Spot.ReadCursor (s.due - s.balance.paid) true _ refl refl (phase ∙ sweeps) (same ∙ rw sweeps refl));
+              moves = rw (won, due, owing, sweeps) (same_lone _ Spot.ReadCursor (s.due - s.spent) true _ refl refl (phase ∙ sweeps) (same ∙ rw sweeps refl));
             }
             | inr marks ↦ record {
               goes = rw won refl;
               out = rw (won, due, marks) refl;
               knows = rw (won, due, marks) (λ v low. absurd (omega arith));
-              moves = rw (won, due, owing, marks) (same_lone _ (Spot.Take 0) (s.due - s.balance.paid) false _ refl refl (phase ∙ marks) (ap (some (grey_heads c s.heap s.thread) 0) all_lists));
+              moves = rw (won, due, owing, marks) (same_lone _ (Spot.Take 0) (s.due - s.spent) false _ refl refl (phase ∙ marks) (ap (some (grey_heads c s.heap s.thread) 0) all_lists));
             }
           ]
       | inr all ↦
-          let due : ltb 0 (s.due - s.balance.paid) ≡ false = le-ltb 0 (s.due - s.balance.paid) (omega arith) in
-          let owing : eqb (s.due - s.balance.paid) 0 ≡ true = eq-eqb (s.due - s.balance.paid) 0 (omega arith) in
+          let due : ltb 0 (s.due - s.spent) ≡ false = le-ltb 0 (s.due - s.spent) (omega arith) in
+          let owing : eqb (s.due - s.spent) 0 ≡ true = eq-eqb (s.due - s.spent) 0 (omega arith) in
           elim (cases_Bool (makes_object s.command)) [
             | inl makes ↦ record {
               goes = rw won refl;
               out = rw (won, due, makes) refl;
               knows = rw (won, due, makes) tt;
-              moves = rw (won, due, owing, makes) (same_lone _ Spot.Count (s.due - s.balance.paid) _ _ refl refl phase same);
+              moves = rw (won, due, owing, makes) (same_lone _ Spot.Count (s.due - s.spent) _ _ refl refl phase same);
             }
             | inr serves ↦ record {
               goes = rw won refl;
               out = rw (won, due, serves) refl;
               knows = rw (won, due, serves) tt;
-              moves = rw (won, due, owing, serves) (same_lone _ _ (s.due - s.balance.paid) _ _ refl refl phase same);
+              moves = rw (won, due, owing, serves) (same_lone _ _ (s.due - s.spent) _ _ refl refl phase same);
             }
           ]
     ]

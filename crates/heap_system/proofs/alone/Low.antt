@@ -15,14 +15,14 @@ use Rattle.object_lists.specs.Records.{record_blocks}
 use Rattle.never_heap.specs.declared.Command.{Command}
 use Rattle.never_heap.specs.declared.Command.TheVariants as commands
 use Rattle.never_heap.specs.declared.Entry.{Entry}
-use Rattle.never_heap.specs.Graphs.{Graph, Object, Record, Array, nil_object, no_object, start_graph, start_mutator, object_of, same_name, register_of, with_object, set_field, next_name, no_mutator}
+use Rattle.never_heap.specs.Graphs.{Graph, Object, Record, Array, nil_object, no_object, start_graph, start_mutator, object_of, same_name, register_of, field_of, with_field, with_object, set_field, next_name, no_mutator}
 use Rattle.never_heap.specs.Histories.{HistoryItem, Started, Did, is_full, after, part, replay, replay_from}
 use Rattle.never_heap.specs.Steps.{step, made, makes_object, blocks_of}
 use Rattle.never_heap.specs.declared.Reply.{Reply}
 use Rattle.never_heap.specs.Bounds.{IsCommandInBounds}
 use Rattle.never_heap.proofs.GraphMoves.{object_with_register}
 use Rattle.never_heap.proofs.FieldStores.{object_with_field, object_with_object}
-use Rattle.never_heap.proofs.Stepping.{Change, none, store, put, make, change_of, has_field, with_object_threads}
+use Rattle.never_heap.proofs.Stepping.{Change, none, store, put, swap, make, change_of, has_field, threads_put, with_object_threads}
 use Rattle.never_heap.proofs.Staying.{change_past}
 use Rattle.heap_system.specs.Locals.{LocalState, command_of, entries_of}
 use Rattle.heap_system.specs.Machines.{Run, local_at}
@@ -60,6 +60,9 @@ module _ (c : Config) (g : Graph) (low : RecordsAreLow c g) (t : ℕ) where
   stays new _ there not_new (put s i v x e l) a =
       subst (IsLow c) (sym (object_with_field g x i (register_of g t v) (has_field g x i l) a))
       (cond_low c (same_name x a) (set_field (object_of g x) i (register_of g t v)) (object_of g a) (set_low c i (register_of g t v) (object_of g x) (low x)) (low a))
+  stays new _ there not_new (swap s i v x e l) a =
+      subst (IsLow c) (sym (object_with_register (with_field g x i (register_of g t v)) t v (field_of (object_of g x) i) a (omega (arith, there, threads_put g x i (register_of g t v) l)) ∙ object_with_field g x i (register_of g t v) (has_field g x i l) a))
+      (cond_low c (same_name x a) (set_field (object_of g x) i (register_of g t v)) (object_of g a) (set_low c i (register_of g t v) (object_of g x) (low x)) (low a))
   stays new _ there not_new (make d o n e y) a = absurd (let z : true ≡ false = sym y ∙ not_new in cc)
 
   -- a new object
@@ -79,6 +82,9 @@ module _ (c : Config) (g : Graph) (low : RecordsAreLow c g) (t : ℕ) where
   there_low (commands.Len s) there few = stays _ _ there refl (change_of g t (commands.Len s))
   there_low (commands.Same x y) there few = stays _ _ there refl (change_of g t (commands.Same x y))
   there_low (commands.Say s) there few = stays _ _ there refl (change_of g t (commands.Say s))
+  there_low (commands.Swap s i v) there few = stays _ _ there refl (change_of g t (commands.Swap s i v))
+  there_low (commands.Cas s i x v) there few = stays _ _ there refl (change_of g t (commands.Cas s i x v))
+  there_low (commands.Idle u) there few = stays _ _ there refl (change_of g t (commands.Idle u))
 
   step_low : (k : Command) → blocks_of c.width k ≤ c.object → RecordsAreLow c (step g t k).0
   step_low k few = elim (cases_lt t (length g.mutators)) [
@@ -151,7 +157,7 @@ module _ (c : Config) (traces : List (List Command)) (bounds : IsInBounds c) (pl
       let here : blocks_of c.width (command_of l) ≤ c.object = blocks_low c (command_of l) (bounds_at c l.trace (length l.log) trace) in
       subst (AllByRecursion (AsksFew c)) (sym k.told) (all_append (AsksFew c) l.log (entries_waiting (replay c r.order) l)
       (log_asks_few c l.log (subst (AllByRecursion (IsCommandInBounds c)) (sym k.said) (all_take (IsCommandInBounds c) (length l.log) l.trace trace)))
-      (waiting_asks_few c l.thread (command_of l) l.balance.paid (waiting (replay c r.order) l.part) here))
+      (waiting_asks_few c l.thread (command_of l) l.spent (waiting (replay c r.order) l.part) here))
 
   order_asks_few : CommandsAskFew c r.order
   order_asks_few = parts_ask_few c r.order (λ t. elim (cases_lt t c.threads) [

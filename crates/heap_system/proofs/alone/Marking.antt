@@ -42,7 +42,7 @@ after_each P width x j hand more last = elim (cases_Bool (ltb (j + 1) width)) [
   | inr e ↦ rw e (last (ltb-false (j + 1) width e))
 ]
 
-module _ (c : Config) (s : Seen c) (low : s.balance.paid < s.due) where
+module _ (c : Config) (s : Seen c) (low : s.spent < s.due) where
   abbrev Heads : Heap → ℕ → ℕ
   Heads h = grey_heads c h s.thread
 
@@ -95,7 +95,7 @@ module _ (c : Config) (s : Seen c) (low : s.balance.paid < s.due) where
             inr (inl (
               more,
               same_lone _ (Spot.Take (u + 1))
-                  (s.due - s.balance.paid) _ _ refl refl refl (some_left z),
+                  (s.due - s.spent) _ _ refl refl refl (some_left z),
             )),
           );
         }
@@ -137,12 +137,12 @@ module _ (c : Config) (s : Seen c) (low : s.balance.paid < s.due) where
         ])
 
   -- after payload j was dealt with, on any heap
-  deals : (p : Pass) (x j hand : ℕ) (l : Lone) (h : Heap) → l.owed ≡ s.due - s.balance.paid
+  deals : (p : Pass) (x j hand : ℕ) (l : Lone) (h : Heap) → l.owed ≡ s.due - s.spent
       → j < payloads c.width
       → Dealt (terms_of c s.command) l
-      (lone_of c h s.thread (s.due - s.balance.paid) (To p (after_word (payloads c.width) x j hand))) j
+      (lone_of c h s.thread (s.due - s.spent) (To p (after_word (payloads c.width) x j hand))) j
   deals p x j hand l h same jl =
-      after_each (λ r. Dealt (terms_of c s.command) l (lone_of c h s.thread (s.due - s.balance.paid) (To p r)) j)
+      after_each (λ r. Dealt (terms_of c s.command) l (lone_of c h s.thread (s.due - s.spent) (To p r)) j)
       (payloads c.width) x j hand (λ more. inr (more, (refl, sym same)))
       (λ last. (let e : j + 1 ≡ payloads c.width = omega arith in inl (e, (refl, sym same))))
 
@@ -157,11 +157,11 @@ module _ (c : Config) (s : Seen c) (low : s.balance.paid < s.due) where
   scans : (p : Pass) (x j hand : ℕ) → j < payloads c.width
       → LoneStep c s (At p (greys.ScanWord x j hand))
   scans p x j hand jl =
-      let here = lone_of c s.heap s.thread (s.due - s.balance.paid) (At p (greys.ScanWord x j hand)) in
+      let here = lone_of c s.heap s.thread (s.due - s.spent) (At p (greys.ScanWord x j hand)) in
       elim (cases_eq (target (s.heap (PayloadOf x j))) 0) [
         | inl e ↦
             let none = eq-eqb (target (s.heap (PayloadOf x j))) 0 e in
-            let in_pass = stays_in p s.heap s.balance.paid x j hand in
+            let in_pass = stays_in p s.heap s.spent x j hand in
             record {
               goes = refl;
               out = rw none in_pass.0;
@@ -183,20 +183,20 @@ module _ (c : Config) (s : Seen c) (low : s.balance.paid < s.due) where
   shades p x j y hand jl =
       let w = s.heap (ColourOf y) in
       let later = heap_left c s (At p (greys.Shade x j y hand)) in
-      let in_pass = stays_in p later s.balance.paid x j (shaded_hand p.cycle y hand w) in
+      let in_pass = stays_in p later s.spent x j (shaded_hand p.cycle y hand w) in
       record {
         goes = refl;
         out = in_pass.0;
         knows = in_pass.1;
         moves = deals p x j (shaded_hand p.cycle y hand w)
-            (lone_of c s.heap s.thread (s.due - s.balance.paid) (At p (greys.Shade x j y hand)))
+            (lone_of c s.heap s.thread (s.due - s.spent) (At p (greys.Shade x j y hand)))
             later refl jl;
       }
 
   -- the unit is paid
   blackens : (p : Pass) (x hand : ℕ) → LoneStep c s (At p (greys.Blacken x hand))
   blackens p x hand =
-      let less : suc (s.due - (s.balance.paid + 1)) ≡ s.due - s.balance.paid = omega arith in
+      let less : suc (s.due - (s.spent + 1)) ≡ s.due - s.spent = omega arith in
       elim (cases_Bool (eqb hand 0)) [
         | inl e ↦ record {
           goes = refl;

@@ -14,15 +14,17 @@ use Rattle.never_heap.specs.declared.Command.{Command}
 use Rattle.never_heap.specs.declared.Command.TheVariants as commands
 use Rattle.never_heap.specs.declared.Entry.{Entry}
 use Rattle.never_heap.specs.declared.Reply.{Reply}
-use Rattle.never_heap.specs.RightWork.{units_owed}
+use Rattle.never_heap.specs.RightWork.{units_told, units_owed}
 use Rattle.never_heap.specs.Steps.{makes_object, blocks_of}
 use Rattle.never_heap.proofs.Answering.{others_have_none}
 use Rattle.heap_machine.specs.Gating.{is_outside, is_inside, is_closing}
 use Rattle.heap_machine.specs.Operations.{place_of}
 use Rattle.heap_machine.proofs.Gatings.{stand_out}
 use Rattle.lone_bound.specs.Moves.{Terms, Moves}
-use Rattle.lone_bound.specs.Prices.{left, at_look, allocation_bound, other_bound}
-use Rattle.lone_bound.proofs.Prices.{lower, within}
+use Rattle.lone_bound.specs.Prices.{left, at_look, allocation_bound, idle_bound, other_bound}
+use Rattle.lone_bound.proofs.Prices.{lower, within, one_event}
+use Rattle.barrier_steps.specs.Operands.{is_idle}
+use Rattle.barrier_steps.specs.Rows.{first_row}
 use Rattle.heap_system.specs.declared.local.Part.{Part}
 use Rattle.heap_system.specs.declared.local.Part.TheVariants.{Rest, Leave}
 use Rattle.heap_system.specs.declared.Turn.TheVariants as turns
@@ -30,6 +32,7 @@ use Rattle.heap_system.specs.Alone.{IsQuiet, HasCommand, EndsWithin, command_bou
 use Rattle.heap_system.specs.Locals.{LocalState, command_of, owed, effect, is_rest, is_done, entry_of, entries_of, waits, part_want, part_got, errand_of}
 use Rattle.heap_system.specs.Machines.{Run, IsJob, local_at, local_in, heap_in, next, answer, word_read}
 use Rattle.heap_system.specs.Pictures.{gating, gates_in}
+use Rattle.heap_system.proofs.Paying.{makers_untold}
 use Rattle.heap_system.proofs.Kept.{Kept}
 use Rattle.heap_system.proofs.LawsOf.{laws_of}
 use Rattle.heap_system.proofs.Reached.{rest_is}
@@ -37,7 +40,7 @@ use Rattle.heap_system.proofs.Seeing.{IsSettled, Seen}
 use Rattle.heap_system.proofs.Starting.{one_rate}
 use Rattle.heap_system.proofs.Turning.{seen, at_part, event, event_kept, word_is, local_new, heap_new, paid_new, new_local, new_heap, new_run, next_is}
 use Rattle.heap_system.proofs.Waiting.{part_waits}
-use Rattle.heap_system.proofs.alone.FieldsLeft.{fields_low}
+use Rattle.heap_system.proofs.alone.FieldsLeft.{field_left, fields_low}
 use Rattle.heap_system.proofs.alone.Heads.{open_here}
 use Rattle.heap_system.proofs.alone.Laws.{lone_law}
 use Rattle.heap_system.proofs.alone.Low.{order_records}
@@ -80,7 +83,7 @@ module _ (c : Config) (traces : List (List Command)) (job : IsJob c traces) (rat
   due = units_owed c.width rate k
 
   abbrev price : Heap → LocalState → ℕ
-  price h l = left e (unit c) (lone_of c h t (due - l.balance.paid) l.part)
+  price h l = left e (unit c) (lone_of c h t (due - l.spent) l.part)
 
   -- the log has the entry once the thread goes out
   abbrev pub LogAt : List Entry → Part → Type 0
@@ -101,7 +104,7 @@ module _ (c : Config) (traces : List (List Command)) (job : IsJob c traces) (rat
 
   -- what a lone thread has and knows, on this heap
   pub record Own (h : Heap) (l : LocalState) : Type 0 where
-    pub knows : LoneKnows c h t l.pass due l.balance.paid l.part
+    pub knows : LoneKnows c h t l.pass due l.spent l.part
     pub log : LogAt l.log l.part
 
   pub record LoneRun (r : Run) : Type 0 where
@@ -175,7 +178,7 @@ module _ (c : Config) (traces : List (List Command)) (job : IsJob c traces) (rat
         lone_law c l.part on s
         (at_part c traces (laws_of c) job.bounds.config job.plan r lone.kept t tl) alone
         (event c traces (laws_of c) job.bounds.config job.plan r lone.kept t tl going)
-        (subst (λ d. LoneKnows c h t l.pass d l.balance.paid l.part) (sym (due_is on)) lone.own.knows)
+        (subst (λ d. LoneKnows c h t l.pass d l.spent l.part) (sym (due_is on)) lone.own.knows)
 
     abbrev pub later : Run
     later = new_run c traces (laws_of c) job.bounds.config job.plan r lone.kept t tl
@@ -191,7 +194,7 @@ module _ (c : Config) (traces : List (List Command)) (job : IsJob c traces) (rat
         local_new c traces (laws_of c) job.bounds.config job.plan r lone.kept t tl going t
         ∙ ap (λ b. cond b moved l) (eq-eqb t t refl)
 
-    pub paid_is : moved.balance.paid ≡ paid_left c s l.part
+    pub paid_is : moved.spent ≡ paid_left c s l.part
     paid_is = paid_new c traces (laws_of c) job.bounds.config job.plan r lone.kept t tl
 
     -- what holds of the thread after its event holds of the run
@@ -227,26 +230,26 @@ module _ (c : Config) (traces : List (List Command)) (job : IsJob c traces) (rat
         knows = subst (λ x. LoneKnows c after t moved.pass due x moved.part) (sym paid_is)
             (subst (λ d. LoneKnows c after t moved.pass d (paid_left c s l.part) moved.part)
             (due_is on) (step on).knows);
-        log = log_after l.log l.balance.paid (command_of l) (effect c l.part (h (place_of (part_want c l.part)))).reply
+        log = log_after l.log l.spent (command_of l) (effect c l.part (h (place_of (part_want c l.part)))).reply
             moved.part (step on).out (lone.own.log.0 on) (here on);
       }
 
-      pub moves : Moves e (spot_of c l.part) (lone_of c h t (due - l.balance.paid) l.part)
-          (lone_of c after t (due - moved.balance.paid) moved.part)
+      pub moves : Moves e (spot_of c l.part) (lone_of c h t (due - l.spent) l.part)
+          (lone_of c after t (due - moved.spent) moved.part)
       moves =
-          subst (λ x. Moves e (spot_of c l.part) (lone_of c h t (due - l.balance.paid) l.part)
+          subst (λ x. Moves e (spot_of c l.part) (lone_of c h t (due - l.spent) l.part)
           (lone_of c after t (due - x) moved.part)) (sym paid_is)
-          (subst (λ d. Moves e (spot_of c l.part) (lone_of c h t (d - l.balance.paid) l.part)
+          (subst (λ d. Moves e (spot_of c l.part) (lone_of c h t (d - l.spent) l.part)
           (lone_of c after t (d - paid_left c s l.part) moved.part)) (due_is on)
           (subst (λ x. Moves (terms_of c x) (spot_of c l.part)
-          (lone_of c h t (owed l - l.balance.paid) l.part)
+          (lone_of c h t (owed l - l.spent) l.part)
           (lone_of c after t (owed l - paid_left c s l.part) moved.part)) (here on) (step on).moves))
 
       less : price after moved < price h l
       less =
           let low = wide c.width in
           lower e (unit c) low.0 (let up = low.1 in omega arith) (spot_of c l.part)
-          (lone_of c h t (due - l.balance.paid) l.part) (lone_of c after t (due - moved.balance.paid) moved.part) moves
+          (lone_of c h t (due - l.spent) l.part) (lone_of c after t (due - moved.spent) moved.part) moves
 
       pub one_turn : (answer c t r.state ≡ turns.Went) × LoneRun (next c t r)
           × (price (heap_in c (next c t r).state) (local_at c (next c t r).state t) < price h l)
@@ -266,7 +269,7 @@ module _ (c : Config) (traces : List (List Command)) (job : IsJob c traces) (rat
 
       silent : moved.log ≡ l.log
       silent =
-          ap (λ p. l.log ++ entries_of t (command_of l) l.balance.paid
+          ap (λ p. l.log ++ entries_of t (command_of l) l.spent
           (effect c p (h (place_of (part_want c p)))).reply) (out_is l.part out)
           ∙ append-nil l.log
 
@@ -315,7 +318,7 @@ module _ (c : Config) (traces : List (List Command)) (job : IsJob c traces) (rat
         → is_out (local_at c r.state t).part ≡ true → EndsIn r most
     at_out most r lone low out =
         let one : rest r ≡ 1 =
-        out_one e (unit c) c (heap_in c r.state) t (due - (local_at c r.state t).balance.paid)
+        out_one e (unit c) c (heap_in c r.state) t (due - (local_at c r.state t).spent)
         (local_at c r.state t).part out in
         let last = last_turn left_some command r lone out in
         (1, omega arith, none_before r last.0, last.1)
@@ -351,6 +354,15 @@ serves_in : (e : Terms) (u b : ℕ) (sweep ready : Bool) → e.allocates ≡ fal
     → at_look e u 0 sweep ready ≤ other_bound b
 serves_in e u b sweep ready none few = rw none (omega arith)
 
+-- an idle has one event, and only that is told of units
+idles : (c : Config) (k : Command) → is_idle k ≡ true → field_left c k (first_row k) ≡ 1
+idles c (commands.Idle u) e = refl
+idles c _ e = absurd cc
+
+untold : (k : Command) → is_idle k ≡ false → units_told k ≡ 0
+untold (commands.Idle u) e = absurd cc
+untold _ e = refl
+
 priced : (c : Config) (rate : ℕ) (k : Command) (owing : ℕ) (sweep ready : Bool)
     → owing ≡ units_owed c.width rate k
     → at_look (terms_of c k) (unit c) owing sweep ready ≤ command_bound c rate k
@@ -361,17 +373,29 @@ priced c rate k owing sweep ready is = elim (cases_Bool (makes_object k)) [
       rw makes refl in
       subst (λ n. at_look (terms_of c k) (unit c) owing sweep ready ≤ n) (sym bound)
       (subst (λ d. at_look (terms_of c k) (unit c) d sweep ready
-      ≤ allocation_bound c.threads (blocks_of c.width k) rate) (sym is)
+      ≤ allocation_bound c.threads (blocks_of c.width k) rate)
+      (let z : owing ≡ rate * blocks_of c.width k = omega (arith, is, makers_untold k makes) in sym z)
       (within (terms_of c k) rate sweep ready low.0 low.1 makes))
   | inr serves ↦
-      let bound : command_bound c rate k ≡ other_bound c.object = rw serves refl in
-      let none : units_owed c.width rate k ≡ rate * 0 =
+      let price : rate * blocks_of c.width k ≡ rate * 0 =
       ap (λ n. rate * n) (others_have_none c.width k serves) in
-      let few = fields_low c k in
-      subst (λ n. at_look (terms_of c k) (unit c) owing sweep ready ≤ n) (sym bound)
-      (subst (λ d. at_look (terms_of c k) (unit c) d sweep ready ≤ other_bound c.object)
-      (let z : owing ≡ 0 = omega (arith, is, none) in sym z)
-      (serves_in (terms_of c k) (unit c) c.object sweep ready serves (omega arith)))
+      elim (cases_Bool (is_idle k)) [
+        | inl idle ↦
+            let low = wide c.width in
+            let bound : command_bound c rate k ≡ idle_bound c.threads (units_told k) =
+            rw (serves, idle) refl in
+            subst (λ n. at_look (terms_of c k) (unit c) owing sweep ready ≤ n) (sym bound)
+            (subst (λ d. at_look (terms_of c k) (unit c) d sweep ready ≤ idle_bound c.threads (units_told k))
+            (let z : owing ≡ units_told k = omega (arith, is, price) in sym z)
+            (one_event (terms_of c k) (units_told k) sweep ready low.0 low.1 serves (idles c k idle)))
+        | inr other ↦
+            let bound : command_bound c rate k ≡ other_bound c.object = rw (serves, other) refl in
+            let few = fields_low c k in
+            subst (λ n. at_look (terms_of c k) (unit c) owing sweep ready ≤ n) (sym bound)
+            (subst (λ d. at_look (terms_of c k) (unit c) d sweep ready ≤ other_bound c.object)
+            (let z : owing ≡ 0 = omega (arith, is, price, untold k other) in sym z)
+            (serves_in (terms_of c k) (unit c) c.object sweep ready serves (omega arith)))
+      ]
 ]
 
 -- at rest with a command left, where nobody is inside and the gate is open
@@ -390,7 +414,7 @@ module _ (c : Config) (traces : List (List Command)) (job : IsJob c traces) (rat
     others = λ u ul ne. all_out c traces r kept quiet u ul;
     own = record {
       knows = subst (λ p. LoneKnows c (heap_in c r.state) t first.pass
-          (units_owed c.width rate (command_of first)) first.balance.paid p) (sym at_rest) tt;
+          (units_owed c.width rate (command_of first)) first.spent p) (sym at_rest) tt;
       log = subst (λ p. LogAt c traces job rate planned t tl first.log (command_of first)
           first.log p) (sym at_rest)
           (λ on. refl, λ out. absurd (let z : false ≡ true = out in cc));
@@ -408,22 +432,22 @@ module _ (c : Config) (traces : List (List Command)) (job : IsJob c traces) (rat
       ap (λ x. get_or x (length first.log) (commands.Nil 0)) (sym (kept.locals t tl).trace)
 
   -- nothing is paid
-  none_paid : first.balance.paid ≡ 0
+  none_paid : first.spent ≡ 0
   none_paid =
-      let settled : IsSettled (owed first) first.balance.paid Rest =
-      subst (λ p. IsSettled (owed first) first.balance.paid p) at_rest (kept.locals t tl).settled in
+      let settled : IsSettled (owed first) first.spent Rest =
+      subst (λ p. IsSettled (owed first) first.spent p) at_rest (kept.locals t tl).settled in
       settled
 
   first_price : left (terms_of c (command_of first)) (unit c)
-      (lone_of c (heap_in c r.state) t (units_owed c.width rate (command_of first) - first.balance.paid)
+      (lone_of c (heap_in c r.state) t (units_owed c.width rate (command_of first) - first.spent)
       first.part) ≤ command_bound c rate (command_of first)
   first_price =
       let none = none_paid in
       subst (λ p. left (terms_of c (command_of first)) (unit c)
-      (lone_of c (heap_in c r.state) t (units_owed c.width rate (command_of first) - first.balance.paid) p)
+      (lone_of c (heap_in c r.state) t (units_owed c.width rate (command_of first) - first.spent) p)
       ≤ command_bound c rate (command_of first)) (sym at_rest)
       (priced c rate (command_of first)
-      (units_owed c.width rate (command_of first) - first.balance.paid) _ _ (omega arith))
+      (units_owed c.width rate (command_of first) - first.spent) _ _ (omega arith))
 
   pub lone_ends : EndsWithin c t r (command_bound c rate (command_of (local_in c r t)))
   lone_ends =

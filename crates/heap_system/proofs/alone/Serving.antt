@@ -96,5 +96,5 @@ serve_lone c f s at alone event knows =
       goes = refl;
       out = serves_out n (field_reply n.row);
       knows = serves_on c (heap_left c s (Serve f)) s.thread (pass_left c s (Serve f)) s.due (paid_left c s (Serve f)) n (field_reply n.row);
-      moves = serves_less c (terms_of c s.command) (field_left c f.command f.row) (lone_of c s.heap s.thread (s.due - s.balance.paid) (Serve f)) (heap_left c s (Serve f)) s.thread (s.due - paid_left c s (Serve f)) n (field_reply n.row) (less c s f at alone);
+      moves = serves_less c (terms_of c s.command) (field_left c f.command f.row) (lone_of c s.heap s.thread (s.due - s.spent) (Serve f)) (heap_left c s (Serve f)) s.thread (s.due - paid_left c s (Serve f)) n (field_reply n.row) (less c s f at alone);
     }

@@ -209,7 +209,7 @@ pass_left c s p = pass_got (effect c p (word_at c s p)).entered s.thread c.threa
 
 abbrev pub paid_left : (c : Config) → Seen c → Part → ℕ
 paid_left c s p =
-    paid_got (effect c p (word_at c s p)).reply (effect c p (word_at c s p)).unit s.balance.paid
+    paid_got (effect c p (word_at c s p)).reply (effect c p (word_at c s p)).unit s.spent
 
 abbrev pub part_left : (c : Config) → Seen c → Part → Part
 part_left c s p = part_got c s.thread (errand c s) s.pass p (word_at c s p)
@@ -222,10 +222,10 @@ pub record LoneStep (c : Config) (s : Seen c) (p : Part) : Type 0 where
   pub knows : LoneKnows c (heap_left c s p) s.thread (pass_left c s p) s.due (paid_left c s p)
       (part_left c s p)
   pub moves : Moves (terms_of c s.command) (spot_of c p)
-      (lone_of c s.heap s.thread (s.due - s.balance.paid) p)
+      (lone_of c s.heap s.thread (s.due - s.spent) p)
       (lone_of c (heap_left c s p) s.thread (s.due - paid_left c s p) (part_left c s p))
 
 -- what is to be proved of a part
 abbrev pub LoneLaw : Config → Part → Type 0
 LoneLaw c p = (s : Seen c) → AtPart c s p → Alone c s → PartEvent c s p
-    → LoneKnows c s.heap s.thread s.pass s.due s.balance.paid p → LoneStep c s p
+    → LoneKnows c s.heap s.thread s.pass s.due s.spent p → LoneStep c s p

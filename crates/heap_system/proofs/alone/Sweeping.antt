@@ -31,15 +31,15 @@ module _ (c : Config) (s : Seen c) (p : SweepState) where
   To r = if_over (sweep_over r) (sweep_nothing r) (At r)
 
   abbrev here : SweepRow → Lone
-  here r = lone_of c s.heap s.thread (s.due - s.balance.paid) (At r)
+  here r = lone_of c s.heap s.thread (s.due - s.spent) (At r)
 
   -- behind a block that was passed, where so many were freed
-  passes_on : (h : Heap) (l : Lone) (x high passed hand freed : ℕ) (some : Bool) → l.owed ≡ s.due - s.balance.paid → s.balance.paid < s.due → some ≡ ltb 0 freed → x < high
+  passes_on : (h : Heap) (l : Lone) (x high passed hand freed : ℕ) (some : Bool) → l.owed ≡ s.due - s.spent → s.spent < s.due → some ≡ ltb 0 freed → x < high
       → (is_out (To (next_block x high passed hand freed)) ≡ false)
-      × LoneKnows c h s.thread s.pass s.due (s.balance.paid + 1) (To (next_block x high passed hand freed))
-      × Passed l (lone_of c h s.thread (s.due - (s.balance.paid + 1)) (To (next_block x high passed hand freed))) (high - x) some
+      × LoneKnows c h s.thread s.pass s.due (s.spent + 1) (To (next_block x high passed hand freed))
+      × Passed l (lone_of c h s.thread (s.due - (s.spent + 1)) (To (next_block x high passed hand freed))) (high - x) some
   passes_on h l x high passed hand freed some owed owes is low =
-      let less : suc (s.due - (s.balance.paid + 1)) ≡ l.owed = omega arith in
+      let less : suc (s.due - (s.spent + 1)) ≡ l.owed = omega arith in
       elim (cases_lt (x + 1) high) [
         | inl more ↦
             let left : high - x ≡ suc (high - (x + 1)) = omega arith in
@@ -54,7 +54,7 @@ module _ (c : Config) (s : Seen c) (p : SweepState) where
         ]
       ]
 
-  reads_cursor : p.blocks ≡ c.blocks → is_sweep (s.heap Phase) ≡ true → s.pass.sweep ≡ true → s.due - s.balance.paid ≡ p.owed → 1 ≤ p.owed → LoneStep c s (At sweeps.ReadCursor)
+  reads_cursor : p.blocks ≡ c.blocks → is_sweep (s.heap Phase) ≡ true → s.pass.sweep ≡ true → s.due - s.spent ≡ p.owed → 1 ≤ p.owed → LoneStep c s (At sweeps.ReadCursor)
   reads_cursor blocks phase pass owed some = elim (cases_Bool (ltb p.blocks (s.heap Cursor))) [
     | inl behind ↦
         let none : ltb c.blocks (s.heap Cursor) ≡ true = ap (λ m. ltb m (s.heap Cursor)) (sym blocks) ∙ behind in
@@ -83,7 +83,7 @@ module _ (c : Config) (s : Seen c) (p : SweepState) where
       let won = eq-eqb (s.heap Cursor) x (sym known) in
       record { goes = rw won refl; out = rw won refl; knows = rw won tt; moves = rw won (refl, refl) }
 
-  passes : (x high passed hand freed : ℕ) → s.balance.paid < s.due → x < high → LoneStep c s (At (sweeps.PassBlock x high passed hand freed))
+  passes : (x high passed hand freed : ℕ) → s.spent < s.due → x < high → LoneStep c s (At (sweeps.PassBlock x high passed hand freed))
   passes x high passed hand freed owes low = elim (cases_Bool (eqb (s.heap (ColourOf x)) (white_word p.cycle))) [
     | inl white ↦ elim (cases_eq freed 0) [
       | inl none ↦ record {
@@ -104,7 +104,7 @@ module _ (c : Config) (s : Seen c) (p : SweepState) where
         record { goes = refl; out = rw dark next.0; knows = rw dark next.1; moves = rw dark (inr (inr next.2)) }
   ]
 
-  frees : (x high passed hand freed : ℕ) → s.balance.paid < s.due → x < high → LoneStep c s (At (sweeps.FreeBlock x high passed hand freed))
+  frees : (x high passed hand freed : ℕ) → s.spent < s.due → x < high → LoneStep c s (At (sweeps.FreeBlock x high passed hand freed))
   frees x high passed hand freed owes low =
       let row : SweepRow = sweeps.FreeBlock x high passed hand freed in
       let next = passes_on (heap_left c s (At row)) (here row) x high passed x (freed + 1) true refl owes (sym (lt-ltb 0 (freed + 1) (omega arith))) low in
@@ -124,12 +124,12 @@ at_row c t cycle m owed (sweeps.ClaimRange x high) s is alone event known =
     claims c s (record { thread = t; cycle = cycle; blocks = m; owed = owed; row = sweeps.ClaimRange x high }) x high known
 at_row c t cycle m owed (sweeps.PassBlock x high passed hand freed) s is alone event known =
     passes c s (record { thread = t; cycle = cycle; blocks = m; owed = owed; row = sweeps.PassBlock x high passed hand freed }) x high passed hand freed
-    (still_owes c.blocks owed s.due s.balance.paid x high passed is.fits.0.row.0 is.settled) is.fits.0.row.0.left
+    (still_owes c.blocks owed s.due s.spent x high passed is.fits.0.row.0 is.settled) is.fits.0.row.0.left
 at_row c t cycle m owed (sweeps.TakeFree x high passed) s is alone event known =
     record { goes = refl; out = refl; knows = tt; moves = (refl, refl) }
 at_row c t cycle m owed (sweeps.FreeBlock x high passed hand freed) s is alone event known =
     frees c s (record { thread = t; cycle = cycle; blocks = m; owed = owed; row = sweeps.FreeBlock x high passed hand freed }) x high passed hand freed
-    (still_owes c.blocks owed s.due s.balance.paid x high passed is.fits.0.row.0 is.settled) is.fits.0.row.0.left
+    (still_owes c.blocks owed s.due s.spent x high passed is.fits.0.row.0 is.settled) is.fits.0.row.0.left
 at_row c t cycle m owed (sweeps.PutFree hand passed freed) s is alone event known =
     record { goes = refl; out = refl; knows = tt; moves = (refl, refl) }
 at_row c t cycle m owed (sweeps.Credit passed freed) s is alone event known =

@@ -428,11 +428,11 @@ module _ (c : Config) (s : Seen c) (b : BuildState) (at : AtPart c s (Build b)) 
   -- with its reply the command is over
   answered : (r : Reply) (v : Verdict) (m : Naming) → build_over later.row ≡ true
       → IsKept c (picture (graph_decided s.graph s.thread s.command v)
-      (s.order ++ (items_told s.graph s.thread s.command s.balance.paid v ++ starts_by m)) new
+      (s.order ++ (items_told s.graph s.thread s.command s.spent v ++ starts_by m)) new
       (renamed s.thread s.graph s.heap m s.names) (changed s.tasks s.thread no_task))
       → (renamed s.thread s.graph s.heap m s.names).shaded ≡ s.names.shaded
-      → told_by s.graph s.thread s.command s.balance.paid v
-      ≡ entry_of s.thread s.command s.balance.paid r ∷ []
+      → told_by s.graph s.thread s.command s.spent v
+      ≡ entry_of s.thread s.command s.spent r ∷ []
       → made_got (Some r) s.made ≡ count_of (graph_decided s.graph s.thread s.command v) s.thread
       → Event (Some r) v m
   answered r v m over kept shaded told counts = record {
@@ -465,9 +465,9 @@ module _ (c : Config) (s : Seen c) (b : BuildState) (at : AtPart c s (Build b)) 
       let r = replies.Full (full_cycle b.cycle) in
       answered r (RefusedWith r) Same over
       (subst (λ k. IsKept c k) (λ i. picture s.graph
-      (s.order ++ Did (entry_of (at.part.thread i) (at.part.command i) s.balance.paid r) ∷ []) new s.names
+      (s.order ++ Did (entry_of (at.part.thread i) (at.part.command i) s.spent r) ∷ []) new s.names
       (tasks_with None 0 refl i))
-      (full c s.graph s.order s.heap s.names s.tasks s.holds b pictured s.bounds s.balance.paid few))
+      (full c s.graph s.order s.heap s.names s.tasks s.holds b pictured s.bounds s.spent few))
       refl refl s.count
 
   -- the object is published
@@ -478,11 +478,11 @@ module _ (c : Config) (s : Seen c) (b : BuildState) (at : AtPart c s (Build b)) 
       omega (arith, s.kept.follows.shows.sized.threads, s.low) in
       answered (step s.graph s.thread s.command).1 AsStep (Made (built_at b)) over
       (subst (λ k. IsKept c k) (λ i. picture (step s.graph (at.part.thread i) (at.part.command i)).0
-      (s.order ++ Did (entry_of (at.part.thread i) (at.part.command i) s.balance.paid
+      (s.order ++ Did (entry_of (at.part.thread i) (at.part.command i) s.spent
       (step s.graph (at.part.thread i) (at.part.command i)).1) ∷ []) new
       (names_made s.names (next_name s.graph (at.part.thread i)) (built_at b))
       (tasks_with None 0 refl i))
-      (published c s.graph s.order s.heap s.names s.tasks s.holds b pictured s.bounds s.balance.paid
+      (published c s.graph s.order s.heap s.names s.tasks s.holds b pictured s.bounds s.spent
       publishing))
       refl refl
       (ap (λ r. made_got (Some r) s.made) (reply_made s.graph s.thread s.command at.part.makes)

@@ -67,8 +67,8 @@ pub record Entered (c : Config) (s : Seen c) (q : Pass) (p : Part) : Type 0 wher
   pub comes : Comes c s q p
   pub knows : (h : Heap) → Knows c h s.names q p
 
-module _ (c : Config) (s : Seen c) (q : Pass) (own : q.thread ≡ s.thread) (is : IsPassAt c q) (low : s.done < s.all) (pays : s.balance.paid ≤ s.due) where
-  sweeps : q.sweep ≡ true → s.balance.paid < s.due → Entered c s q (Sweep (sweeping q.thread q.cycle c.blocks (s.due - s.balance.paid)))
+module _ (c : Config) (s : Seen c) (q : Pass) (own : q.thread ≡ s.thread) (is : IsPassAt c q) (low : s.done < s.all) (pays : s.spent ≤ s.due) where
+  sweeps : q.sweep ≡ true → s.spent < s.due → Entered c s q (Sweep (sweeping q.thread q.cycle c.blocks (s.due - s.spent)))
   sweeps sweep more = record {
     gates = refl;
     comes = record {
@@ -76,7 +76,7 @@ module _ (c : Config) (s : Seen c) (q : Pass) (own : q.thread ≡ s.thread) (is 
       holds = refl;
       waits = refl;
       part = record { thread = own; own = own; cycle = refl; sweep = sweep; going = refl };
-      fits = (sweeping_ranges.first_fits c q.thread q.cycle (s.due - s.balance.paid) (omega (arith, own, s.low)) s.bounds.blocks (omega (arith, more)), low, is);
+      fits = (sweeping_ranges.first_fits c q.thread q.cycle (s.due - s.spent) (omega (arith, own, s.low)) s.bounds.blocks (omega (arith, more)), low, is);
       roomy = tt;
       low = omega (arith, pays);
       settled = omega (arith, pays);
@@ -84,7 +84,7 @@ module _ (c : Config) (s : Seen c) (q : Pass) (own : q.thread ≡ s.thread) (is 
     knows = λ h. tt;
   }
 
-  marks : q.sweep ≡ false → s.balance.paid < s.due → Entered c s q (Mark (scanning q))
+  marks : q.sweep ≡ false → s.spent < s.due → Entered c s q (Mark (scanning q))
   marks mark more = record {
     gates = refl;
     comes = record {
@@ -100,7 +100,7 @@ module _ (c : Config) (s : Seen c) (q : Pass) (own : q.thread ≡ s.thread) (is 
     knows = λ h. tt;
   }
 
-  builds : makes_object s.command ≡ true → s.balance.paid ≡ s.due → Entered c s q (Build (building c.width q.thread q.threads q.cycle (s.made + 1) s.command s.space))
+  builds : makes_object s.command ≡ true → s.spent ≡ s.due → Entered c s q (Build (building c.width q.thread q.threads q.cycle (s.made + 1) s.command s.space))
   builds makes all =
       let small : blocks_of c.width s.command ≤ c.object = blocks_low c s.command s.inside in
       let thread = is_thread c s.plan s.bounds.threads s.thread s.low in
@@ -124,7 +124,7 @@ module _ (c : Config) (s : Seen c) (q : Pass) (own : q.thread ≡ s.thread) (is 
         knows = λ h. tt;
       }
 
-  serves : makes_object s.command ≡ false → s.balance.paid ≡ s.due → Entered c s q (Serve (at_first_row q s.command))
+  serves : makes_object s.command ≡ false → s.spent ≡ s.due → Entered c s q (Serve (at_first_row q s.command))
   serves none all =
       let first = first_undecided s.command none in
       let due = none_due s.graph q.thread s.command (first_row s.command) first in
@@ -143,26 +143,26 @@ module _ (c : Config) (s : Seen c) (q : Pass) (own : q.thread ≡ s.thread) (is 
         knows = λ h. tt;
       }
 
-  owing : (b : Bool) → q.sweep ≡ b → s.balance.paid < s.due → Entered c s q (cond b (Sweep (sweeping q.thread q.cycle c.blocks (s.due - s.balance.paid))) (Mark (scanning q)))
+  owing : (b : Bool) → q.sweep ≡ b → s.spent < s.due → Entered c s q (cond b (Sweep (sweeping q.thread q.cycle c.blocks (s.due - s.spent))) (Mark (scanning q)))
   owing true e more = sweeps e more
   owing false e more = marks e more
 
-  paid : (b : Bool) → makes_object s.command ≡ b → s.balance.paid ≡ s.due → Entered c s q (cond b (Build (building c.width q.thread q.threads q.cycle (s.made + 1) s.command s.space)) (Serve (at_first_row q s.command)))
+  paid : (b : Bool) → makes_object s.command ≡ b → s.spent ≡ s.due → Entered c s q (cond b (Build (building c.width q.thread q.threads q.cycle (s.made + 1) s.command s.space)) (Serve (at_first_row q s.command)))
   paid true e all = builds e all
   paid false e all = serves e all
 
-  either : (b : Bool) → ltb 0 (s.due - s.balance.paid) ≡ b → Entered c s q (cond b (cond q.sweep (Sweep (sweeping q.thread q.cycle c.blocks (s.due - s.balance.paid))) (Mark (scanning q))) (cond (makes_object s.command) (Build (building c.width q.thread q.threads q.cycle (s.made + 1) s.command s.space)) (Serve (at_first_row q s.command))))
-  either true e = (let some : 0 < s.due - s.balance.paid = ltb-true 0 (s.due - s.balance.paid) e in owing q.sweep refl (omega (arith, some)))
-  either false e = paid (makes_object s.command) refl (elim (cases_lt 0 (s.due - s.balance.paid)) [
-    | inl some ↦ absurd (let z : true ≡ false = sym (lt-ltb 0 (s.due - s.balance.paid) some) ∙ e in cc)
+  either : (b : Bool) → ltb 0 (s.due - s.spent) ≡ b → Entered c s q (cond b (cond q.sweep (Sweep (sweeping q.thread q.cycle c.blocks (s.due - s.spent))) (Mark (scanning q))) (cond (makes_object s.command) (Build (building c.width q.thread q.threads q.cycle (s.made + 1) s.command s.space)) (Serve (at_first_row q s.command))))
+  either true e = (let some : 0 < s.due - s.spent = ltb-true 0 (s.due - s.spent) e in owing q.sweep refl (omega (arith, some)))
+  either false e = paid (makes_object s.command) refl (elim (cases_lt 0 (s.due - s.spent)) [
+    | inl some ↦ absurd (let z : true ≡ false = sym (lt-ltb 0 (s.due - s.spent) some) ∙ e in cc)
     | inr none ↦ omega (arith, none, pays)
   ])
 
   -- what a thread does in a pass that begins
   pub entered : Entered c s q (first_part c q (errand c s))
-  entered = either (ltb 0 (s.due - s.balance.paid)) refl
+  entered = either (ltb 0 (s.due - s.spent)) refl
 
-module _ (c : Config) (s : Seen c) (out : (s.gatings s.thread).stand ≡ Outside) (at : s.tasks s.thread ≡ no_task) (empty : s.holds s.thread ≡ holds_nothing) (low : s.done < s.all) (pays : s.balance.paid ≤ s.due) where
+module _ (c : Config) (s : Seen c) (out : (s.gatings s.thread).stand ≡ Outside) (at : s.tasks s.thread ≡ no_task) (empty : s.holds s.thread ≡ holds_nothing) (low : s.done < s.all) (pays : s.spent ≤ s.due) where
   -- on its way in still
   stays_out : (p : GateRow) → IsEntering p → GateFits p → is_going_in p ≡ true → GateOf c.threads (s.heap Phase) (changed s.gatings s.thread (gating c s.pass (Enter p)))
   stays_out p going fits in_ = gate_stays c.threads (s.heap Phase) s.gatings s.gate s.thread s.low (gating c s.pass (Enter p)) (sym out) (λ e. absurd cc)
@@ -202,7 +202,7 @@ module _ (c : Config) (s : Seen c) (out : (s.gatings s.thread).stand ≡ Outside
 event_at : (c : Config) (s : Seen c) (g : GateRow) → AtPart c s (Enter g) → PartEvent c s (Enter g)
 event_at c s g at = by g at.part (ap (λ (x : Gating). x.stand) at.gating) at.task at.holds at.fits (omega (arith, at.pays))
   where
-    by : (g : GateRow) → IsEntering g → (s.gatings s.thread).stand ≡ Outside → s.tasks s.thread ≡ no_task → s.holds s.thread ≡ holds_nothing → PartFits c s.done s.all s.pass (Enter g) → s.balance.paid ≤ s.due → PartEvent c s (Enter g)
+    by : (g : GateRow) → IsEntering g → (s.gatings s.thread).stand ≡ Outside → s.tasks s.thread ≡ no_task → s.holds s.thread ≡ holds_nothing → PartFits c s.done s.all s.pass (Enter g) → s.spent ≤ s.due → PartEvent c s (Enter g)
     by gates.Look kept out task empty fits pays = looks c s out task empty fits.2 pays
     by (gates.Enter seen) kept out task empty fits pays = enters c s out task empty fits.2 pays seen fits.0
     by _ kept out task empty fits pays = absurd kept

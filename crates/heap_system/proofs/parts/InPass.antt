@@ -52,8 +52,8 @@ pub record PassEvent (c : Config) (s : Seen c) (new : Heap) (unit : Bool) (next 
   pub fits : PartFits c s.done s.all s.pass next
   pub roomy : IsRoomy s.space next
   pub undecided : waiting s.graph next ≡ None
-  pub low : paid_got None unit s.balance.paid + unit_to_come c next ≤ s.due
-  pub settled : IsSettled s.due (paid_got None unit s.balance.paid) next
+  pub low : paid_got None unit s.spent + unit_to_come c next ≤ s.due
+  pub settled : IsSettled s.due (paid_got None unit s.spent) next
 
 pub paid_more : (unit : Bool) (paid : ℕ) → paid_got None unit paid ≡ paid + bit unit
 paid_more true paid = refl
@@ -73,20 +73,20 @@ module _ (c : Config) (s : Seen c) (p : Part) (at : AtPart c s p)
       )
 
   leads_on : (new : Heap) (unit : Bool) (next : Part) → PassEvent c s new unit next
-      → lead c new + (s.balance.paid + unpassed (s.holds s.thread))
-      ≤ lead c s.heap + (0 + paid_got None unit s.balance.paid + unpassed (holding c next))
+      → lead c new + (s.spent + unpassed (s.holds s.thread))
+      ≤ lead c s.heap + (0 + paid_got None unit s.spent + unpassed (holding c next))
   leads_on new unit next e = subst
       (λ w. (cycle_of w - 1) * c.blocks + cond (is_sweep w) (new Cursor - 1) 0
-      + (s.balance.paid + unpassed (s.holds s.thread))
-      ≤ lead c s.heap + (0 + paid_got None unit s.balance.paid + unpassed (holding c next)))
+      + (s.spent + unpassed (s.holds s.thread))
+      ≤ lead c s.heap + (0 + paid_got None unit s.spent + unpassed (holding c next)))
       (sym e.phase) (by (is_sweep (s.heap Phase)))
     where
       by : (b : Bool) → (cycle_of (s.heap Phase) - 1) * c.blocks + cond b (new Cursor - 1) 0
-          + (s.balance.paid + unpassed (s.holds s.thread))
+          + (s.spent + unpassed (s.holds s.thread))
           ≤ (cycle_of (s.heap Phase) - 1) * c.blocks + cond b (s.heap Cursor - 1) 0
-          + (0 + paid_got None unit s.balance.paid + unpassed (holding c next))
-      by true = omega (arith, e.passed, e.rises, (s.held Cursor refl).0, paid_more unit s.balance.paid)
-      by false = omega (arith, e.passed, e.rises, paid_more unit s.balance.paid)
+          + (0 + paid_got None unit s.spent + unpassed (holding c next))
+      by true = omega (arith, e.passed, e.rises, (s.held Cursor refl).0, paid_more unit s.spent)
+      by false = omega (arith, e.passed, e.rises, paid_more unit s.spent)
 
   pub pass_kept : (new : Heap) (step : Step) (unit : Bool) (next : Part)
       → PassEvent c s new unit next → EventKept c s new (of_pass step unit) None next
@@ -117,7 +117,7 @@ module _ (c : Config) (s : Seen c) (p : Part) (at : AtPart c s p)
         fits = e.fits;
         roomy = e.roomy;
         over = λ r z. absurd cc;
-        told = sym (ap (λ o. entries_of s.thread s.command (paid_got None unit s.balance.paid) o)
+        told = sym (ap (λ o. entries_of s.thread s.command (paid_got None unit s.spent) o)
             e.undecided);
         low = e.low;
         settled = e.settled;

@@ -175,8 +175,8 @@ module _ (c : Config) (s : Seen c) (m : GreyState) (at : AtPart c s (Mark m)) wh
         ap (λ (w : Holding). w.high) at.holds ∙ none.1,
       )
 
-  pays : paid_got None (is_blackening m.row) s.balance.paid + bit (not (grey_unit next.row)) ≤ s.due
-  pays = units_paid (grey_unit m.row) (grey_unit next.row) (is_blackening m.row) s.balance.paid s.due
+  pays : paid_got None (is_blackening m.row) s.spent + bit (not (grey_unit next.row)) ≤ s.due
+  pays = units_paid (grey_unit m.row) (grey_unit next.row) (is_blackening m.row) s.spent s.due
       at.pays (unit_after (extent c) m read) (unit_once m)
 
   -- the part goes on

@@ -1,5 +1,5 @@
 -- A thread in a command that allocates nothing.
-use Rattle.std.proofs.Common.{◌≡◌, ℕ, ◌+◌, ◌*◌, ◌-◌, ◌<◌, ◌≤◌, Bool, true, false, cond, eqb, Option, Some, None, is_some, List, [], ◌∷◌, ◌++◌, append-nil, length, refl, sym, ap, ◌∙◌, subst, arith, inl, inr, ne_eqb}
+use Rattle.std.proofs.Common.{◌⊎◌, ◌≡◌, ℕ, ◌+◌, ◌*◌, ◌-◌, ◌<◌, ◌≤◌, Bool, true, false, cond, eqb, Option, Some, None, is_some, List, [], ◌∷◌, ◌++◌, append-nil, length, refl, sym, ap, ◌∙◌, subst, arith, inl, inr, ne_eqb}
 use Rattle.std.proofs.lemmas.Bool.{cases_Bool}
 use Rattle.block_store.specs.declared.Config.{Config}
 use Rattle.block_store.specs.Colours.{is_grey, black_word}
@@ -32,6 +32,8 @@ use Rattle.barrier_steps.specs.declared.rows.FieldStore.TheVariants as stores
 use Rattle.barrier_steps.specs.Decided.{field_task, graph_on, order_on}
 use Rattle.barrier_steps.specs.Deciding.{is_deciding}
 use Rattle.barrier_steps.specs.Fits.{FieldFits, FieldReads}
+use Rattle.never_heap.specs.RightWork.{units_told}
+use Rattle.heap_system.proofs.Looking.{Looks, looks}
 use Rattle.barrier_steps.specs.Operands.{to_register, from_register}
 use Rattle.barrier_steps.specs.Projection.{row_loading, loading_of}
 use Rattle.barrier_steps.specs.Replies.{due_at, reply_due, IsKnown, KnownAt}
@@ -100,7 +102,7 @@ decided_graph : (g : Graph) (t : ℕ) (k : Command) (b : Bool) → cond b (step 
 decided_graph g t k true = refl
 decided_graph g t k false = refl
 
-decided_order : (g : Graph) (order : List HistoryItem) (t : ℕ) (k : Command) (paid : ℕ) (b : Bool) → paid ≡ 0 → cond b (order ++ Did (entry_of t k 0 (step g t k).1) ∷ []) order ≡ order ++ (items_told g t k paid (if_decides b) ++ [])
+decided_order : (g : Graph) (order : List HistoryItem) (t : ℕ) (k : Command) (paid : ℕ) (b : Bool) → paid ≡ units_told k → cond b (order ++ Did (entry_of t k (units_told k) (step g t k).1) ∷ []) order ≡ order ++ (items_told g t k paid (if_decides b) ++ [])
 decided_order g order t k paid true none = ap (λ x. order ++ Did (entry_of t k x (step g t k).1) ∷ []) (sym none)
 decided_order g order t k paid false none = sym (append-nil order)
 
@@ -118,8 +120,11 @@ no_work : (t : ℕ) (k : Command) (paid : ℕ) (o : Option Reply) → paid ≡ 0
 no_work t k paid None z = refl
 no_work t k paid (Some r) z = omega (arith, z)
 
-exact_at : (b : Bool) (paid due : ℕ) → paid ≡ 0 → due ≡ 0 → IsDecided (if_decides b) → paid ≡ due
-exact_at b paid due p d is = omega (arith, p, d)
+-- nor is any of an entry that is added and logged at once
+both_works : (g : Graph) (t : ℕ) (k : Command) (paid : ℕ) (b : Bool) (o : Option Reply) (r : Reply) → b ≡ true → o ≡ Some r → works (told_by g t k paid (if_decides b)) ≡ works (entries_of t k paid o)
+both_works g t k paid true (Some y) r decides replies = refl
+both_works g t k paid true None r decides replies = absurd cc
+both_works g t k paid false o r decides replies = absurd cc
 
 -- a command that makes no object leaves how many there are
 counts_on : (g : Graph) (t : ℕ) (k : Command) (b : Bool) → t < length g.mutators → makes_object k ≡ false → count_of (graph_decided g t k (if_decides b)) t ≡ count_of g t
@@ -129,10 +134,6 @@ counts_on g t k false there none = refl
 made_on : (o : Option Reply) (made : ℕ) → ((n : _) → o ≡ Some (replies.New n) → ⊥) → made_got o made ≡ made
 made_on (Some (replies.New name)) made never = absurd (never name refl)
 made_on _ made never = refl
-
-paid_on : (o : Option Reply) (paid : ℕ) → paid ≡ 0 → paid_got o false paid ≡ 0
-paid_on None paid z = z
-paid_on (Some r) paid z = refl
 
 turns_in : (o : Option Reply) → turn_of (step_of o) ≡ turns.Went
 turns_in None = refl
@@ -181,11 +182,16 @@ module _ (c : Config) (s : Seen c) (f : FieldState) (at : AtPart c s (Serve f)) 
   due_is : (reply_due (graph_on s.graph f w) next ≡ cond decides (Some (step s.graph f.pass.thread f.command).1) (reply_due s.graph f)) × IsKnown (graph_on s.graph f w) next
   due_is = due_on c s.graph s.order s.heap s.names s.tasks f fits task_is s.kept at.part.known
 
-  none_due_yet : s.due ≡ 0
-  none_due_yet = s.free at.part.serves
+  -- all that it is told to make is made
+  told_made : s.spent ≡ units_told s.command
+  told_made = at.settled ∙ s.free at.part.serves
 
-  unpaid : s.balance.paid ≡ 0
-  unpaid = let low : s.balance.paid + 0 ≤ s.due = at.pays in omega (arith, low, none_due_yet)
+  -- and it is told of none, or looks
+  told_or_looks : (s.spent ≡ 0) ⊎ Looks (extent c) f.pass f.command f.row w
+  told_or_looks = elim (looks (extent c) f.pass f.command f.row w fits.belongs at.part.going) [
+    | inl none ↦ inl (told_made ∙ ap units_told (sym at.part.command) ∙ none)
+    | inr look ↦ inr look
+  ]
 
   graph_is : graph_on s.graph f w ≡ graph_decided s.graph s.thread s.command verdict
   graph_is =
@@ -193,23 +199,23 @@ module _ (c : Config) (s : Seen c) (f : FieldState) (at : AtPart c s (Serve f)) 
       ∙ ap (λ k. cond decides (step s.graph s.thread k).0 s.graph) at.part.command
       ∙ decided_graph s.graph s.thread s.command decides
 
-  order_is : order_on s.graph s.order f w ≡ s.order ++ (items_told s.graph s.thread s.command s.balance.paid verdict ++ [])
+  order_is : order_on s.graph s.order f w ≡ s.order ++ (items_told s.graph s.thread s.command s.spent verdict ++ [])
   order_is =
-      ap (λ t. cond decides (s.order ++ Did (entry_of t f.command 0 (step s.graph t f.command).1) ∷ []) s.order) at.part.thread
-      ∙ ap (λ k. cond decides (s.order ++ Did (entry_of s.thread k 0 (step s.graph s.thread k).1) ∷ []) s.order) at.part.command
-      ∙ decided_order s.graph s.order s.thread s.command s.balance.paid decides unpaid
+      ap (λ t. cond decides (s.order ++ Did (entry_of t f.command (units_told f.command) (step s.graph t f.command).1) ∷ []) s.order) at.part.thread
+      ∙ ap (λ k. cond decides (s.order ++ Did (entry_of s.thread k (units_told k) (step s.graph s.thread k).1) ∷ []) s.order) at.part.command
+      ∙ decided_order s.graph s.order s.thread s.command s.spent decides told_made
 
   known_is : IsKnown (graph_decided s.graph s.thread s.command verdict) next
   known_is = subst (λ (g : Graph). IsKnown g next) graph_is due_is.1
 
-  told_is : entries_of s.thread s.command s.balance.paid (reply_due s.graph f) ++ told_by s.graph s.thread s.command s.balance.paid verdict
-      ≡ entries_of s.thread s.command s.balance.paid (reply_due (graph_decided s.graph s.thread s.command verdict) next)
+  told_is : entries_of s.thread s.command s.spent (reply_due s.graph f) ++ told_by s.graph s.thread s.command s.spent verdict
+      ≡ entries_of s.thread s.command s.spent (reply_due (graph_decided s.graph s.thread s.command verdict) next)
   told_is =
-      tell s.graph s.thread s.command s.balance.paid (reply_due s.graph f) decides (λ e. (none_due s.graph f.pass.thread f.command f.row (undecided f.command f.row w e)).0)
-      ∙ ap (λ k. entries_of s.thread s.command s.balance.paid (cond decides (Some (step s.graph s.thread k).1) (reply_due s.graph f))) (sym at.part.command)
-      ∙ ap (λ t. entries_of s.thread s.command s.balance.paid (cond decides (Some (step s.graph t f.command).1) (reply_due s.graph f))) (sym at.part.thread)
-      ∙ ap (entries_of s.thread s.command s.balance.paid) (sym due_is.0)
-      ∙ ap (λ g. entries_of s.thread s.command s.balance.paid (reply_due g next)) graph_is
+      tell s.graph s.thread s.command s.spent (reply_due s.graph f) decides (λ e. (none_due s.graph f.pass.thread f.command f.row (undecided f.command f.row w e)).0)
+      ∙ ap (λ k. entries_of s.thread s.command s.spent (cond decides (Some (step s.graph s.thread k).1) (reply_due s.graph f))) (sym at.part.command)
+      ∙ ap (λ t. entries_of s.thread s.command s.spent (cond decides (Some (step s.graph t f.command).1) (reply_due s.graph f))) (sym at.part.thread)
+      ∙ ap (entries_of s.thread s.command s.spent) (sym due_is.0)
+      ∙ ap (λ g. entries_of s.thread s.command s.spent (reply_due g next)) graph_is
 
   phase_is : new Phase ≡ s.heap Phase
   phase_is = field_phase c s.heap f
@@ -230,10 +236,10 @@ module _ (c : Config) (s : Seen c) (f : FieldState) (at : AtPart c s (Serve f)) 
   next_fits = field_fits c f w fits reads
 
   names_are : (p : Part) → field_task (extent c) next ≡ task c p
-      → IsKept c (picture (graph_decided s.graph s.thread s.command verdict) (s.order ++ (items_told s.graph s.thread s.command s.balance.paid verdict ++ [])) new s.names (changed s.tasks s.thread (task c p)))
+      → IsKept c (picture (graph_decided s.graph s.thread s.command verdict) (s.order ++ (items_told s.graph s.thread s.command s.spent verdict ++ [])) new s.names (changed s.tasks s.thread (task c p)))
   names_are p same = subst (λ (x : KeptState). IsKept c x)
       (λ i. picture (graph_is i) (order_is i) new s.names (changed s.tasks (at.part.thread i) (same i)))
-      (keeps_names c s.graph s.order s.heap s.names s.tasks f fits at.part.going passes.1 passes.0 task_is s.kept)
+      (keeps_names c s.graph s.order s.heap s.names s.tasks f fits s.held at.part.going passes.1 passes.0 task_is s.kept)
 
   rules_are : (p : Part) → field_holding (extent c) next ≡ holding c p → PhaseKept (extent c) new (changed s.holds s.thread (holding c p))
   rules_are p same = subst (λ (hs : ℕ → Holding). PhaseKept (extent c) new hs) (λ i. changed s.holds (at.part.thread i) (same i))
@@ -249,14 +255,14 @@ module _ (c : Config) (s : Seen c) (f : FieldState) (at : AtPart c s (Serve f)) 
 
   -- what is the same whether the command goes on or is over
   module _ (p : Part) (o : Option Reply) (is : field_reply next.row ≡ o) where
-    counted_is : works (told_by s.graph s.thread s.command s.balance.paid verdict) ≡ works (entries_of s.thread s.command s.balance.paid o)
-    counted_is = no_works s.graph s.thread s.command s.balance.paid decides unpaid ∙ sym (no_work s.thread s.command s.balance.paid o unpaid)
+    counted_is : works (told_by s.graph s.thread s.command s.spent verdict) ≡ works (entries_of s.thread s.command s.spent o)
+    counted_is = elim told_or_looks [
+      | inl none ↦ no_works s.graph s.thread s.command s.spent decides none ∙ sym (no_work s.thread s.command s.spent o none)
+      | inr look ↦ both_works s.graph s.thread s.command s.spent decides o look.reply look.decides (sym is ∙ look.replied)
+    ]
 
     counts_is : made_got o s.made ≡ count_of (graph_decided s.graph s.thread s.command verdict) s.thread
     counts_is = made_on o s.made (λ n e. makes_none c f.pass f.command f.row w at.part.going n (is ∙ e)) ∙ s.count ∙ sym (counts_on s.graph s.thread s.command decides there at.part.serves)
-
-    paid_is : paid_got o false s.balance.paid ≡ 0
-    paid_is = paid_on o s.balance.paid unpaid
 
   abbrev effect_at : Option Reply → Effect
   effect_at o = record (plain (field_step (extent c) f w)) { reply = o; verdict = verdict }
@@ -273,16 +279,16 @@ module _ (c : Config) (s : Seen c) (f : FieldState) (at : AtPart c s (Serve f)) 
     behind = omega (arith, stage_is, s.behind);
     leads =
         let after : unpassed (holding c (Serve next)) ≡ 0 = ap (λ (x : SweepHolding). x.high - x.low) (field_claims c next) in
-        omega (arith, lead_is, none_claimed, after, unpaid);
+        omega (arith, lead_is, none_claimed, after);
     part = record { serves = at.part.serves; passes = at.part.passes; thread = at.part.thread; command = at.part.command; known = known_is; going = is };
     knows = tt;
     fits = (next_fits, at.fits.1);
     roomy = tt;
     over = λ r e. absurd cc;
     told = told_is;
-    low = omega (arith, unpaid);
-    settled = omega (arith, unpaid, none_due_yet);
-    exact = exact_at decides s.balance.paid s.due unpaid none_due_yet;
+    low = omega (arith, at.settled);
+    settled = at.settled;
+    exact = λ is. at.settled;
     counted = counted_is (Serve next) None is;
     counts = counts_is (Serve next) None is;
   }
@@ -297,16 +303,16 @@ module _ (c : Config) (s : Seen c) (f : FieldState) (at : AtPart c s (Serve f)) 
     unshaded = λ sweep opened. s.unshaded (sym (ap is_sweep phase_is) ∙ sweep) (sym (ap is_closed phase_is) ∙ opened);
     forward = record { stages = omega (arith, stage_is); cursor = λ e sweep. omega (arith, cursor_is) };
     behind = omega (arith, stage_is, s.behind);
-    leads = omega (arith, lead_is, none_claimed, unpaid);
+    leads = omega (arith, lead_is, none_claimed);
     part = tt;
     knows = tt;
     fits = tt;
     roomy = tt;
     over = λ y e. refl;
-    told = told_is ∙ ap (entries_of s.thread s.command s.balance.paid) (row_waits (graph_decided s.graph s.thread s.command verdict) f.pass.thread f.command next.row r is);
+    told = told_is ∙ ap (entries_of s.thread s.command s.spent) (row_waits (graph_decided s.graph s.thread s.command verdict) f.pass.thread f.command next.row r is);
     low = omega arith;
     settled = refl;
-    exact = exact_at decides s.balance.paid s.due unpaid none_due_yet;
+    exact = λ is. at.settled;
     counted = counted_is Leave (Some r) is;
     counts = counts_is Leave (Some r) is;
   }

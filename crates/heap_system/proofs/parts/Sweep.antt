@@ -172,10 +172,10 @@ module _ (c : Config) (s : Seen c) (p : SweepState) (at : AtPart c s (Sweep p)) 
   )
 
   -- what was paid is what was passed
-  settled : paid_got None unit s.balance.paid + p.owed ≡ s.due + sweep_passed next.row
-  settled = omega (arith, at.settled, paid_more unit s.balance.paid, passed_bits p read)
+  settled : paid_got None unit s.spent + p.owed ≡ s.due + sweep_passed next.row
+  settled = omega (arith, at.settled, paid_more unit s.spent, passed_bits p read)
 
-  pays : paid_got None unit s.balance.paid + (p.owed - sweep_passed next.row) ≤ s.due
+  pays : paid_got None unit s.spent + (p.owed - sweep_passed next.row) ≤ s.due
   pays = omega (arith, settled, (passed_few c next next_fits).1)
 
   goes_on : sweep_over next.row ≡ false → PassEvent c s new unit (Sweep next)

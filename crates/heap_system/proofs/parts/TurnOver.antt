@@ -517,9 +517,9 @@ module _ (c : Config) (s : Seen c) (g : GateRow) (at : AtPart c s (TurnOver g)) 
             (gate_fits c g word at.fits.0 holds_word) (gate_at c g word at.fits.0 at.fits.1);
         roomy = roomy_after c s.pass s.space over row;
         over = λ r e. absurd cc;
-        told = sym (ap (entries_of s.thread s.command s.balance.paid) (none_waiting c s.pass s over row));
+        told = sym (ap (entries_of s.thread s.command s.spent) (none_waiting c s.pass s over row));
         low = omega (arith, at.pays, none_to_come c s.pass over row);
-        settled = settled_after c s.pass s.due s.balance.paid over row;
+        settled = settled_after c s.pass s.due s.spent over row;
         exact = λ e. absurd e;
         counted = refl;
         counts = s.count;

@@ -9,6 +9,7 @@ use Rattle.block_store.specs.Heaps.{Heap, put_at}
 use Rattle.block_store.specs.Places.{FreeCount, ColourOf}
 use Rattle.block_store.specs.Widths.{payloads}
 use Rattle.block_store.proofs.Functions.{changed_else}
+use Rattle.never_heap.specs.RightWork.{units_told}
 use Rattle.never_heap.specs.declared.Entry.{Entry}
 use Rattle.never_heap.specs.declared.Reply.{Reply}
 use Rattle.never_heap.specs.declared.Reply.TheVariants as replies
@@ -29,14 +30,16 @@ use Rattle.build_steps.specs.Standing.{left_of, begun_of}
 use Rattle.build_steps.proofs.Shapes.{made_blocks, reply_made}
 use Rattle.work_account.specs.Accounts.{published, refused}
 use Rattle.cycle_tally.specs.Events as events
-use Rattle.cycle_tally.specs.Tallies.{Spending, Tally}
+use Rattle.cycle_tally.specs.Tallies.{Spending, Tally, made_of}
 use Rattle.heap_system.specs.declared.local.Part.TheVariants.{Build, Leave}
-use Rattle.heap_system.specs.Locals.{Open, AsStep, Refused, plain, if_decides, if_replied, entry_of}
+use Rattle.heap_system.specs.Locals.{Open, AsStep, Refused, plain, if_decides, if_replied, entry_of, idle_part, paid_got}
+use Rattle.heap_system.proofs.Balances.{no_idle}
+use Rattle.heap_system.proofs.Paying.{makers_untold}
 use Rattle.heap_system.specs.Naming.{Same, Made}
 use Rattle.heap_system.proofs.PartLaws.{AtPart}
 use Rattle.heap_system.proofs.Seeing.{Seen}
 use Rattle.heap_system.proofs.parts.Build.{row_no_reply}
-use Rattle.heap_system.proofs.Tallying.{IsSpending, Counted, TallyEvent, TallyLaw, reserved_for}
+use Rattle.heap_system.proofs.Tallying.{IsSpending, Counted, TallyEvent, TallyLaw, reserved_for, Asking, asking, IsNext}
 use Rattle.heap_system.proofs.tallies.Moves.{SameWords, same_words, spends_here, spends_twice, others_twice, paid_by, told_none, stays, moves}
 
 -- a builder claims nothing
@@ -90,7 +93,7 @@ full_is z some = elim (cases_Bool (eqb z 1)) [
   ]
 ]
 
-module _ (c : Config) (rate : ℕ) (s : Seen c) (b : BuildState) (at : AtPart c s (Build b)) (before : Tally) (k : Counted c rate s (Build b) before) (next : ℕ) (few : next ≤ c.object) where
+module _ (c : Config) (rate : ℕ) (s : Seen c) (b : BuildState) (at : AtPart c s (Build b)) (before : Tally) (k : Counted c rate s (Build b) before) (next : Asking) (few : IsNext c next) where
   abbrev asked : ℕ
   asked = blocks_of c.width s.command
 
@@ -110,15 +113,25 @@ module _ (c : Config) (rate : ℕ) (s : Seen c) (b : BuildState) (at : AtPart c 
   cycle = at.part.cycle ∙ ap (λ (x : Gating). x.cycle) (sym at.gating) ∙ (s.gate.passes s.thread s.low (ap (λ (x : Gating). is_outside x.stand) at.gating)).0 ∙ sym k.of.cycle
 
   -- all is paid
-  paid_all : (before.threads s.thread).balance.paid ≡ rate * (before.threads s.thread).asked
-  paid_all = paid_by c rate s (Build b) before k ∙ at.settled ∙ k.due ∙ ap (λ n. rate * n) (sym k.own.asked)
+  untold : units_told s.command ≡ 0
+  untold = makers_untold s.command at.part.makes
+
+  idled_none : (before.threads s.thread).idled ≡ 0
+  idled_none = k.own.idled ∙ no_idle (units_told s.command) s.spent untold
+
+  paid_all : events.IsAllPaid rate (before.threads s.thread)
+  paid_all =
+      let price : rate * (before.threads s.thread).asked ≡ rate * blocks_of c.width s.command = ap (λ n. rate * n) k.own.asked in
+      record { paid = omega (arith, price, paid_by c rate s (Build b) before k, idled_none, at.settled, k.due, untold); untold = k.own.told ∙ untold }
 
   -- a part that goes on, and has so much reserved
-  spends : (later : BuildState) → later.command ≡ b.command → (x : Bool) → is_building later.row ≡ x → (w : Spending) → w.inside ≡ true → w.balance ≡ s.balance → w.asked ≡ asked → w.low ≡ 0 → w.high ≡ 0 → w.reserved ≡ cond x asked 0 → IsSpending c (Build later) s.balance asked w
-  spends later same x builds w inside paid asks_ low high reserved = record {
+  spends : (later : BuildState) → later.command ≡ b.command → (x : Bool) → is_building later.row ≡ x → (w : Spending) → w.inside ≡ true → w.balance ≡ s.balance → w.asked ≡ asked → w.told ≡ units_told s.command → w.idled ≡ idle_part (units_told s.command) s.spent → w.low ≡ 0 → w.high ≡ 0 → w.reserved ≡ cond x asked 0 → IsSpending c (Build later) s.balance (asking c s.command s.spent) w
+  spends later same x builds w inside paid asks_ tells idles low high reserved = record {
     inside = inside;
     account = paid;
     asked = asks_;
+    told = tells;
+    idled = idles;
     low = low ∙ sym (no_claim later.blocks later.held later.row).0;
     high = high ∙ sym (no_claim later.blocks later.held later.row).1;
     reserved = reserved ∙ ap (λ n. cond x n 0) (sym asks ∙ ap (blocks_of c.width) (sym same)) ∙ ap (λ y. cond y (blocks_of c.width later.command) 0) (sym builds) ∙ sym (row_reserved c.width later (ap makes_object same ∙ at.fits.0.makes) later.row);
@@ -134,7 +147,7 @@ module _ (c : Config) (rate : ℕ) (s : Seen c) (b : BuildState) (at : AtPart c 
   -- nothing of it counts
   quiet : (new : Heap) → SameWords s.heap new → (step : Step) (later : BuildState) → later.command ≡ b.command → (x : Bool) → (before.threads s.thread).reserved ≡ cond x asked 0 → IsOn later.row x → Goes new step later
   quiet new same step later own x reserved on = goes new step later on.0 (stays c rate s (Build b) before k new (record (plain step) { reply = None; verdict = Open; naming = Same }) (Build later) next same refl refl refl
-      (spends later own x on.1 (before.threads s.thread) k.own.inside k.own.account k.own.asked low high reserved))
+      (spends later own x on.1 (before.threads s.thread) k.own.inside k.own.account k.own.asked k.own.told k.own.idled low high reserved))
 
   -- the reservation, won or lost
   reserving : (seen : ℕ) (won : Bool) → eqb (s.heap FreeCount) seen ≡ won → b.blocks ≤ seen → (before.threads s.thread).reserved ≡ 0 → (step : Step) → Goes (cond won (put_at s.heap FreeCount (seen - b.blocks)) s.heap) step (record b { row = cond won (rows.TakeFree 0) rows.ReadCount })
@@ -146,15 +159,15 @@ module _ (c : Config) (rate : ℕ) (s : Seen c) (b : BuildState) (at : AtPart c 
       goes _ step later refl (moves c rate s (Build b) before k (events.Reserve s.thread ∷ []) ((s.low, k.own.inside, none, paid_all, omega (arith, k.own.asked, size, enough, seen_is, k.of.free)), tt)
       (put_at s.heap FreeCount (seen - b.blocks)) (record (plain step) { reply = None; verdict = Open; naming = Same }) (Build later) next
       (record { cycle = k.of.cycle; sweep = k.of.sweep; cursor = k.of.cursor; free = omega (arith, k.own.asked, size, seen_is, k.of.free); colour = k.of.colour; order = told_none c rate s (Build b) before k (record (plain step) { reply = None; verdict = Open; naming = Same }) refl refl })
-      (spends_here (IsSpending c (Build later) s.balance asked) before.threads s.thread new (spends later refl true refl new k.own.inside k.own.account k.own.asked low high k.own.asked))
+      (spends_here (IsSpending c (Build later) s.balance (asking c s.command s.spent)) before.threads s.thread new (spends later refl true refl new k.own.inside k.own.account k.own.asked k.own.told k.own.idled low high k.own.asked))
       (λ u other. changed_else before.threads s.thread u new other) (λ x. refl) (λ x. refl) refl)
   reserving seen false is enough none step = quiet s.heap (same_words s.heap) step (record b { row = rows.ReadCount }) refl false none (refl, refl)
 
   abbrev entry : Reply → Entry
-  entry r = entry_of s.thread s.command s.balance.paid r
+  entry r = entry_of s.thread s.command s.spent r
 
   decides : (r : Reply) → events.Decides c s.thread (before.threads s.thread) (entry r)
-  decides r = record { thread = refl; blocks = sym k.own.asked; work = sym (paid_by c rate s (Build b) before k) }
+  decides r = record { thread = refl; blocks = sym k.own.asked; told = sym k.own.told; work = sym (paid_by c rate s (Build b) before k) }
 
   -- too few blocks are free
   refuses : s.heap FreeCount < b.blocks → (before.threads s.thread).reserved ≡ 0 → (step : Step) → TallyEvent c rate s s.heap (record (plain step) { reply = Some (replies.Full (full_cycle b.cycle)); verdict = Refused (replies.Full (full_cycle b.cycle)); naming = Same }) Leave next before
@@ -162,13 +175,13 @@ module _ (c : Config) (rate : ℕ) (s : Seen c) (b : BuildState) (at : AtPart c 
       let w : Spending = before.threads s.thread in
       let r : Reply = replies.Full (full_cycle b.cycle) in
       let new : Spending = record w { balance = refused w.balance } in
-      moves c rate s (Build b) before k (events.Refuse s.thread (entry r) ∷ events.Next s.thread next ∷ []) (
+      moves c rate s (Build b) before k (events.Refuse s.thread (entry r) ∷ events.Next s.thread next.blocks next.told ∷ []) (
         (s.low, k.own.inside, omega (arith, low, high), decides r, none, paid_all, omega (arith, k.own.asked, size, less, k.of.free), ap replies.Full (full_is b.cycle (omega (arith, cycle, k.kept.some)) ∙ ap (λ z. max 1 (z - 1)) cycle)),
-        ((s.low, spends_here (λ v. v.high ≤ v.low) before.threads s.thread new (omega (arith, low, high)), spends_here (λ v. v.reserved ≡ 0) before.threads s.thread new none, spends_here (λ v. v.balance.paid ≡ 0) before.threads s.thread new refl, few), tt),
+        ((s.low, spends_here (λ v. v.high ≤ v.low) before.threads s.thread new (omega (arith, low, high)), spends_here (λ v. v.reserved ≡ 0) before.threads s.thread new none, spends_here (λ v. made_of v ≡ 0) before.threads s.thread new (omega (arith, idled_none)), few.blocks, few.apart, few.few), tt),
       )
       s.heap (record (plain step) { reply = Some r; verdict = Refused r; naming = Same }) Leave next
       (record { cycle = k.of.cycle; sweep = k.of.sweep; cursor = k.of.cursor; free = k.of.free; colour = k.of.colour; order = ap (λ o. o ++ Did (entry r) ∷ []) k.of.order })
-      (spends_twice (IsSpending c Leave (refused s.balance) next) before.threads s.thread new (λ v. record v { asked = next }) (record { inside = k.own.inside; account = ap refused k.own.account; asked = refl; low = low; high = high; reserved = none }))
+      (spends_twice (IsSpending c Leave (refused s.balance) next) before.threads s.thread new (λ v. record v { asked = next.blocks; told = next.told }) (record { inside = k.own.inside; account = ap refused k.own.account; asked = refl; told = refl; idled = idled_none ∙ sym few.none; low = low; high = high; reserved = none }))
       (λ u other. others_twice before.threads s.thread new _ u other) (λ x. refl) (λ x. refl) refl
 
   -- the object is published
@@ -179,13 +192,13 @@ module _ (c : Config) (rate : ℕ) (s : Seen c) (b : BuildState) (at : AtPart c 
       let makes : makes_object s.command ≡ true = at.part.makes in
       let made : r ≡ replies.New (next_name s.graph s.thread) = reply_made s.graph s.thread s.command makes in
       let later : Spending = record w { reserved = 0; balance = published w.asked w.balance } in
-      moves c rate s (Build b) before k (events.Publish s.thread (entry r) ∷ events.Next s.thread next ∷ []) (
+      moves c rate s (Build b) before k (events.Publish s.thread (entry r) ∷ events.Next s.thread next.blocks next.told ∷ []) (
         (s.low, k.own.inside, omega (arith, low, high), decides r, all ∙ sym k.own.asked, paid_all, ap (λ x. blocks_if_new x asked) made ∙ sym k.own.asked, ap is_full made),
-        ((s.low, spends_here (λ v. v.high ≤ v.low) before.threads s.thread later (omega (arith, low, high)), spends_here (λ v. v.reserved ≡ 0) before.threads s.thread later refl, spends_here (λ v. v.balance.paid ≡ 0) before.threads s.thread later refl, few), tt),
+        ((s.low, spends_here (λ v. v.high ≤ v.low) before.threads s.thread later (omega (arith, low, high)), spends_here (λ v. v.reserved ≡ 0) before.threads s.thread later refl, spends_here (λ v. made_of v ≡ 0) before.threads s.thread later (omega (arith, idled_none)), few.blocks, few.apart, few.few), tt),
       )
       new (record (plain step_is) { reply = Some (replies.New name); verdict = AsStep; naming = Made (built_at b) }) Leave next
       (record { cycle = k.of.cycle ∙ sym same.cycle; sweep = k.of.sweep ∙ sym same.sweep; cursor = k.of.cursor ∙ sym same.cursor; free = k.of.free ∙ sym same.free; colour = λ x. k.of.colour x ∙ sym (same.colour x); order = ap (λ o. o ++ Did (entry r) ∷ []) k.of.order })
-      (spends_twice (IsSpending c Leave (published asked s.balance) next) before.threads s.thread later (λ v. record v { asked = next }) (record { inside = k.own.inside; account = λ i. published (k.own.asked i) (k.own.account i); asked = refl; low = low; high = high; reserved = refl }))
+      (spends_twice (IsSpending c Leave (published asked s.balance) next) before.threads s.thread later (λ v. record v { asked = next.blocks; told = next.told }) (record { inside = k.own.inside; account = λ i. published (k.own.asked i) (k.own.account i); asked = refl; told = refl; idled = idled_none ∙ sym few.none; low = low; high = high; reserved = refl }))
       (λ u other. others_twice before.threads s.thread later _ u other) (λ x. refl) (λ x. refl) refl
 
   -- a block becomes black
@@ -193,7 +206,7 @@ module _ (c : Config) (rate : ℕ) (s : Seen c) (b : BuildState) (at : AtPart c 
   blackens x step later own all on = goes _ step later on.0 (moves c rate s (Build b) before k (events.Paint x (black_word b.cycle) ∷ []) ((λ mark black. ap black_word cycle), tt)
       (put_at s.heap (ColourOf x) (black_word b.cycle)) (record (plain step) { reply = None; verdict = Open; naming = Same }) (Build later) next
       (record { cycle = k.of.cycle; sweep = k.of.sweep; cursor = k.of.cursor; free = k.of.free; colour = λ y. (λ i. cond (eqb x y) (black_word b.cycle) (k.of.colour y i)); order = told_none c rate s (Build b) before k (record (plain step) { reply = None; verdict = Open; naming = Same }) refl refl })
-      (spends later own true on.1 (before.threads s.thread) k.own.inside k.own.account k.own.asked low high all) (λ u other. refl) (λ x. refl) (λ x. refl) refl)
+      (spends later own true on.1 (before.threads s.thread) k.own.inside k.own.account k.own.asked k.own.told k.own.idled low high all) (λ u other. refl) (λ x. refl) (λ x. refl) refl)
 
   -- the free count was read
   counting : (less : Bool) → ltb (s.heap FreeCount) b.blocks ≡ less → (before.threads s.thread).reserved ≡ 0 → (later : BuildState) → later ≡ record b { row = cond less rows.Refused (rows.Reserve (s.heap FreeCount)) } → (step : Step)

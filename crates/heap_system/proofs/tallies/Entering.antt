@@ -8,6 +8,7 @@ use Rattle.block_store.specs.Phases.{phase_of, is_closed, is_sweep, cycle_of}
 use Rattle.block_store.specs.Places.{Phase, extent}
 use Rattle.block_store.proofs.Functions.{changed_else}
 use Rattle.block_store.proofs.PhaseWords.{phase-more}
+use Rattle.never_heap.specs.RightWork.{units_told}
 use Rattle.never_heap.specs.declared.Command.{Command}
 use Rattle.never_heap.specs.declared.Command.TheVariants as commands
 use Rattle.never_heap.specs.Steps.{blocks_of, makes_object}
@@ -30,7 +31,7 @@ use Rattle.heap_system.specs.Locals.{Errand, plain, first_part, pass_by, effect,
 use Rattle.heap_system.proofs.Passing.{phase_is}
 use Rattle.heap_system.proofs.PartLaws.{word_at}
 use Rattle.heap_system.proofs.Seeing.{Seen, IsEntering, errand}
-use Rattle.heap_system.proofs.Tallying.{IsSpending, Counted, TallyEvent, TallyLaw}
+use Rattle.heap_system.proofs.Tallying.{IsSpending, Counted, TallyEvent, TallyLaw, Asking, asking, IsNext}
 use Rattle.heap_system.proofs.tallies.Moves.{spends_on, same_words, spends_here, told_none, stays, moves}
 
 -- a command begins with nothing claimed
@@ -45,16 +46,19 @@ first_claims c q (commands.Put s i v) = (refl, refl)
 first_claims c q (commands.Len s) = (refl, refl)
 first_claims c q (commands.Same a b) = (refl, refl)
 first_claims c q (commands.Say s) = (refl, refl)
+first_claims c q (commands.Swap s i v) = (refl, refl)
+first_claims c q (commands.Cas s i a v) = (refl, refl)
+first_claims c q (commands.Idle u) = (refl, refl)
 
 -- a pass begins inside, with nothing claimed or reserved
-module _ (c : Config) (q : Pass) (e : Errand) (b : Balance) (asked : ℕ) (w : Spending) (inside : w.inside ≡ true) (pays : w.balance ≡ b) (asks : w.asked ≡ asked) (low : w.low ≡ 0) (high : w.high ≡ 0) (reserved : w.reserved ≡ 0) where
+module _ (c : Config) (q : Pass) (e : Errand) (b : Balance) (asked : Asking) (w : Spending) (inside : w.inside ≡ true) (pays : w.balance ≡ b) (asks : w.asked ≡ asked.blocks) (tells : w.told ≡ asked.told) (idles : w.idled ≡ asked.idled) (low : w.low ≡ 0) (high : w.high ≡ 0) (reserved : w.reserved ≡ 0) where
   owing : (y : Bool) → IsSpending c (cond y (Sweep (sweeping q.thread q.cycle c.blocks e.due)) (Mark (scanning q))) b asked w
-  owing true = record { inside = inside; account = pays; asked = asks; low = low; high = high; reserved = reserved }
-  owing false = record { inside = inside; account = pays; asked = asks; low = low; high = high; reserved = reserved }
+  owing true = record { inside = inside; account = pays; asked = asks; told = tells; idled = idles; low = low; high = high; reserved = reserved }
+  owing false = record { inside = inside; account = pays; asked = asks; told = tells; idled = idles; low = low; high = high; reserved = reserved }
 
   paying : (y : Bool) → IsSpending c (cond y (Build (building c.width q.thread q.threads q.cycle e.serial e.command e.space)) (Serve (at_first_row q e.command))) b asked w
-  paying true = record { inside = inside; account = pays; asked = asks; low = low; high = high; reserved = reserved }
-  paying false = record { inside = inside; account = pays; asked = asks; low = low ∙ sym (first_claims c q e.command).0; high = high ∙ sym (first_claims c q e.command).1; reserved = reserved }
+  paying true = record { inside = inside; account = pays; asked = asks; told = tells; idled = idles; low = low; high = high; reserved = reserved }
+  paying false = record { inside = inside; account = pays; asked = asks; told = tells; idled = idles; low = low ∙ sym (first_claims c q e.command).0; high = high ∙ sym (first_claims c q e.command).1; reserved = reserved }
 
   either : (y : Bool) → IsSpending c (cond y (cond q.sweep (Sweep (sweeping q.thread q.cycle c.blocks e.due)) (Mark (scanning q))) (cond (makes_object e.command) (Build (building c.width q.thread q.threads q.cycle e.serial e.command e.space)) (Serve (at_first_row q e.command)))) b asked w
   either true = owing q.sweep
@@ -63,9 +67,9 @@ module _ (c : Config) (q : Pass) (e : Errand) (b : Balance) (asked : ℕ) (w : S
   begins : IsSpending c (first_part c q e) b asked w
   begins = either (ltb 0 e.due)
 
-module _ (c : Config) (rate : ℕ) (s : Seen c) (p : Part) (before : Tally) (k : Counted c rate s p before) (next : ℕ) (own : IsSpending c Rest s.balance (blocks_of c.width s.command) (before.threads s.thread)) where
-  stands : (g : GateRow) → is_going_in g ≡ true → IsSpending c (Enter g) s.balance (blocks_of c.width s.command) (before.threads s.thread)
-  stands g in_ = spends_on c Rest (Enter g) s.balance (blocks_of c.width s.command) (before.threads s.thread) refl refl refl refl own
+module _ (c : Config) (rate : ℕ) (s : Seen c) (p : Part) (before : Tally) (k : Counted c rate s p before) (next : Asking) (own : IsSpending c Rest s.balance (asking c s.command s.spent) (before.threads s.thread)) where
+  stands : (g : GateRow) → is_going_in g ≡ true → IsSpending c (Enter g) s.balance (asking c s.command s.spent) (before.threads s.thread)
+  stands g in_ = spends_on c Rest (Enter g) s.balance (asking c s.command s.spent) (before.threads s.thread) refl refl refl refl own
 
   -- a look at the gate
   looks : TallyEvent c rate s s.heap (effect c (Enter gates.Look) (s.heap Phase)) (part_got c s.thread (errand c s) s.pass (Enter gates.Look) (s.heap Phase)) next before
@@ -84,8 +88,8 @@ module _ (c : Config) (rate : ℕ) (s : Seen c) (p : Part) (before : Tally) (k :
       let same_cycle : before.cycle ≡ cycle_of seen = k.of.cycle ∙ ap cycle_of same in
       moves c rate s p before k (events.Enter s.thread ∷ []) (s.low, tt) (put_at s.heap Phase (seen + 1)) (record (plain steps.Over) { entered = Some (phase_of seen) }) (first_part c (pass_by s.thread c.threads (phase_of seen)) (errand c s)) next
       (record { cycle = k.of.cycle ∙ sym cycle; sweep = k.of.sweep ∙ sym sweep; cursor = k.of.cursor; free = k.of.free; colour = k.of.colour; order = told_none c rate s p before k (record (plain steps.Over) { entered = Some (phase_of seen) }) refl refl })
-      (spends_here (IsSpending c (first_part c (pass_by s.thread c.threads (phase_of seen)) (errand c s)) (entered (cycle_of seen) s.balance) (blocks_of c.width s.command)) before.threads s.thread (record w { inside = true; balance = entered before.cycle w.balance })
-      (begins c (pass_by s.thread c.threads (phase_of seen)) (errand c s) (entered (cycle_of seen) s.balance) (blocks_of c.width s.command) (record w { inside = true; balance = entered before.cycle w.balance }) refl (λ i. entered (same_cycle i) (own.account i)) own.asked own.low own.high own.reserved))
+      (spends_here (IsSpending c (first_part c (pass_by s.thread c.threads (phase_of seen)) (errand c s)) (entered (cycle_of seen) s.balance) (asking c s.command s.spent)) before.threads s.thread (record w { inside = true; balance = entered before.cycle w.balance })
+      (begins c (pass_by s.thread c.threads (phase_of seen)) (errand c s) (entered (cycle_of seen) s.balance) (asking c s.command s.spent) (record w { inside = true; balance = entered before.cycle w.balance }) refl (λ i. entered (same_cycle i) (own.account i)) own.asked own.told own.idled own.low own.high own.reserved))
       (λ u other. changed_else before.threads s.thread u _ other) (λ x. refl) (λ x. refl) refl
 
   enters : (seen : ℕ) → TallyEvent c rate s (cond (eqb (s.heap Phase) seen) (put_at s.heap Phase (seen + 1)) s.heap) (effect c (Enter (gates.Enter seen)) (s.heap Phase)) (part_got c s.thread (errand c s) s.pass (Enter (gates.Enter seen)) (s.heap Phase)) next before
@@ -97,11 +101,11 @@ module _ (c : Config) (rate : ℕ) (s : Seen c) (p : Part) (before : Tally) (k :
 pub rest_tallied : (c : Config) → TallyLaw c Rest
 rest_tallied c rate s at next few before k = looks c rate s Rest before k next k.own
 
-entering : (c : Config) (rate : ℕ) (s : Seen c) (next : ℕ) (before : Tally) (g : GateRow) → IsEntering g → Counted c rate s (Enter g) before → IsSpending c Rest s.balance (blocks_of c.width s.command) (before.threads s.thread)
+entering : (c : Config) (rate : ℕ) (s : Seen c) (next : Asking) (before : Tally) (g : GateRow) → IsEntering g → Counted c rate s (Enter g) before → IsSpending c Rest s.balance (asking c s.command s.spent) (before.threads s.thread)
     → TallyEvent c rate s (heap_after s.heap (part_want c (Enter g))) (effect c (Enter g) (word_at c s (Enter g))) (part_got c s.thread (errand c s) s.pass (Enter g) (word_at c s (Enter g))) next before
 entering c rate s next before gates.Look kept k own = looks c rate s (Enter gates.Look) before k next own
 entering c rate s next before (gates.Enter seen) kept k own = enters c rate s (Enter (gates.Enter seen)) before k next own seen
 entering c rate s next before _ kept k own = absurd kept
 
 pub enter_tallied : (c : Config) (g : GateRow) → TallyLaw c (Enter g)
-enter_tallied c g rate s at next few before k = entering c rate s next before g at.part k (spends_on c (Enter g) Rest s.balance (blocks_of c.width s.command) (before.threads s.thread) refl refl refl refl k.own)
+enter_tallied c g rate s at next few before k = entering c rate s next before g at.part k (spends_on c (Enter g) Rest s.balance (asking c s.command s.spent) (before.threads s.thread) refl refl refl refl k.own)

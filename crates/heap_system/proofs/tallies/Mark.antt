@@ -11,6 +11,7 @@ use Rattle.block_store.specs.Places.{Phase, ColourOf, extent}
 use Rattle.block_store.specs.Widths.{payloads}
 use Rattle.block_store.proofs.ColourWords.{black-white, not_grey_black}
 use Rattle.block_store.proofs.Functions.{changed_else}
+use Rattle.never_heap.specs.RightWork.{units_told}
 use Rattle.never_heap.specs.Steps.{blocks_of}
 use Rattle.heap_machine.specs.Holdings.{grey_held}
 use Rattle.heap_machine.specs.Operations.{CompareExchange, place_of, heap_after}
@@ -22,25 +23,26 @@ use Rattle.grey_steps.specs.Ends.{is_blackening, is_shading}
 use Rattle.grey_steps.specs.Fits.{RowFits}
 use Rattle.grey_steps.specs.Rows.{GreyState, row_want, grey_unit, grey_want, grey_got, grey_over, grey_step, grey_nothing, grey_holding, holding_at}
 use Rattle.grey_steps.proofs.Ends.{unit_grey}
-use Rattle.work_account.specs.Accounts.{Balance, with_unit}
+use Rattle.work_account.specs.Accounts.{Balance}
 use Rattle.cycle_tally.specs.Events as events
-use Rattle.cycle_tally.specs.Tallies.{Spending, Tally}
+use Rattle.cycle_tally.specs.Tallies.{Spending, Tally, made_of, due_of, with_made}
 use Rattle.heap_system.specs.declared.local.Part.{Part}
 use Rattle.heap_system.specs.declared.local.Part.TheVariants.{Mark, Again, Idle}
-use Rattle.heap_system.specs.Locals.{Effect, Open, balance_got}
+use Rattle.heap_system.specs.Locals.{Effect, Open, idle_part, paid_got, balance_made, balance_got}
+use Rattle.heap_system.proofs.Balances.{idle_more}
 use Rattle.heap_system.specs.Machines.{starts_by}
 use Rattle.heap_system.specs.Units.{turns_black}
 use Rattle.heap_system.proofs.PartLaws.{AtPart}
 use Rattle.heap_system.proofs.Seeing.{Seen}
-use Rattle.heap_system.proofs.Tallying.{asked_got, IsSpending, Counted, TallyEvent, TallyLaw, more_if}
+use Rattle.heap_system.proofs.Tallying.{asked_got, IsSpending, Counted, TallyEvent, TallyLaw, more_if, Asking, asking, IsNext}
 use Rattle.heap_system.proofs.parts.InPass.{of_pass, pass_is, grey_or_black}
 use Rattle.heap_system.proofs.parts.Mark.{no_claim}
 use Rattle.heap_system.proofs.tallies.Moves.{SameWords, same_words, spends_here, paid_by, told_none, no_more, same_past, stays, moves}
 
-module _ (c : Config) (rate : ℕ) (s : Seen c) (p : Part) (before : Tally) (k : Counted c rate s p before) (next : ℕ) where
+module _ (c : Config) (rate : ℕ) (s : Seen c) (p : Part) (before : Tally) (k : Counted c rate s p before) (next : Asking) where
   -- a block of the phase's white becomes grey
   pub shades : (y hand z : ℕ) → z ≡ cycle_of (s.heap Phase) → (e : Effect) → e.verdict ≡ Open → starts_by e.naming ≡ [] → e.unit ≡ false → (q : Part)
-      → IsSpending c q (balance_got e (blocks_of c.width s.command) s.balance) (asked_got e.reply (blocks_of c.width s.command) next) (before.threads s.thread)
+      → IsSpending c q (balance_got e (units_told s.command) (blocks_of c.width s.command) s.balance) (asked_got e.reply (asking c s.command (paid_got e.reply e.unit s.spent)) next) (before.threads s.thread)
       → TallyEvent c rate s (heap_after s.heap (CompareExchange (ColourOf y) (white_word z) (grey_word hand))) e q next before
   shades y hand z same e undecided still none q own = elim (cases_Bool (eqb (s.heap (ColourOf y)) (white_word z))) [
     | inl is ↦ rw is (moves c rate s p before k (events.Paint y (grey_word hand) ∷ [])
@@ -51,15 +53,15 @@ module _ (c : Config) (rate : ℕ) (s : Seen c) (p : Part) (before : Tally) (k :
     | inr not ↦ rw not (stays c rate s p before k s.heap e q next (same_words s.heap) undecided still none own)
   ]
 
-module _ (c : Config) (rate : ℕ) (s : Seen c) (m : GreyState) (at : AtPart c s (Mark m)) (before : Tally) (k : Counted c rate s (Mark m) before) (next : ℕ) where
+module _ (c : Config) (rate : ℕ) (s : Seen c) (m : GreyState) (at : AtPart c s (Mark m)) (before : Tally) (k : Counted c rate s (Mark m) before) (next : Asking) where
   abbrev read : ℕ
   read = s.heap (place_of (grey_want m))
 
   -- the part after it claims nothing either
-  comes : (n : GreyState) (over none : Bool) (b : Balance) (w : Spending) → w.inside ≡ true → w.balance ≡ b → w.asked ≡ blocks_of c.width s.command → w.low ≡ 0 → w.high ≡ 0 → w.reserved ≡ 0 → IsSpending c (cond over (cond none Idle Again) (Mark n)) b (blocks_of c.width s.command) w
-  comes n true true b w inside pays asked low high reserved = record { inside = inside; account = pays; asked = asked; low = low; high = high; reserved = reserved }
-  comes n true false b w inside pays asked low high reserved = record { inside = inside; account = pays; asked = asked; low = low; high = high; reserved = reserved }
-  comes n false none b w inside pays asked low high reserved = record { inside = inside; account = pays; asked = asked; low = low ∙ sym (no_claim (payloads c.width) n.row).0; high = high ∙ sym (no_claim (payloads c.width) n.row).1; reserved = reserved }
+  comes : (n : GreyState) (over none : Bool) (b : Balance) (made : ℕ) (w : Spending) → w.inside ≡ true → w.balance ≡ b → w.asked ≡ blocks_of c.width s.command → w.told ≡ units_told s.command → w.idled ≡ idle_part (units_told s.command) made → w.low ≡ 0 → w.high ≡ 0 → w.reserved ≡ 0 → IsSpending c (cond over (cond none Idle Again) (Mark n)) b (asking c s.command made) w
+  comes n true true b made w inside pays asked told idled low high reserved = record { inside = inside; account = pays; asked = asked; told = told; idled = idled; low = low; high = high; reserved = reserved }
+  comes n true false b made w inside pays asked told idled low high reserved = record { inside = inside; account = pays; asked = asked; told = told; idled = idled; low = low; high = high; reserved = reserved }
+  comes n false none b made w inside pays asked told idled low high reserved = record { inside = inside; account = pays; asked = asked; told = told; idled = idled; low = low ∙ sym (no_claim (payloads c.width) n.row).0; high = high ∙ sym (no_claim (payloads c.width) n.row).1; reserved = reserved }
 
   low : (before.threads s.thread).low ≡ 0
   low = k.own.low ∙ (no_claim (payloads c.width) m.row).0
@@ -83,9 +85,9 @@ module _ (c : Config) (rate : ℕ) (s : Seen c) (m : GreyState) (at : AtPart c s
   grey : (x : ℕ) → is_blackening m.row ≡ true → (holding_at (extent c) m).scan ≡ Some x → is_grey (s.heap (ColourOf x)) ≡ true
   grey x is scan = (unit_grey c s.heap (λ u. grey_held (s.holds u)) m x at.fits.0 s.rules.grey held is scan).0
 
-  module _ (step : Step) (q : Part) (spends : (b : Balance) (w : Spending) → w.inside ≡ true → w.balance ≡ b → w.asked ≡ blocks_of c.width s.command → w.low ≡ 0 → w.high ≡ 0 → w.reserved ≡ 0 → IsSpending c q b (blocks_of c.width s.command) w) where
-    here : IsSpending c q s.balance (blocks_of c.width s.command) (before.threads s.thread)
-    here = spends s.balance (before.threads s.thread) k.own.inside k.own.account k.own.asked low high k.own.reserved
+  module _ (step : Step) (q : Part) (spends : (b : Balance) (made : ℕ) (w : Spending) → w.inside ≡ true → w.balance ≡ b → w.asked ≡ blocks_of c.width s.command → w.told ≡ units_told s.command → w.idled ≡ idle_part (units_told s.command) made → w.low ≡ 0 → w.high ≡ 0 → w.reserved ≡ 0 → IsSpending c q b (asking c s.command made) w) where
+    here : IsSpending c q s.balance (asking c s.command s.spent) (before.threads s.thread)
+    here = spends s.balance s.spent (before.threads s.thread) k.own.inside k.own.account k.own.asked k.own.told k.own.idled low high k.own.reserved
 
     -- it is scanned once more, and none is passed
     scanned : (x : ℕ) → is_grey (s.heap (ColourOf x)) ≡ true → (y : ℕ) → changed before.scanned x (before.scanned x + 1) y ≡ more_if (turns_black (cycle_of (s.heap Phase)) (ColourOf y) (s.heap (ColourOf y)) (put_at s.heap (ColourOf x) (black_word m.pass.cycle) (ColourOf y))) (before.scanned y)
@@ -102,23 +104,23 @@ module _ (c : Config) (rate : ℕ) (s : Seen c) (m : GreyState) (at : AtPart c s
     no_pass x y = (let still : is_sweep (s.heap Phase) ≡ false = sym k.of.sweep ∙ mark in rw still refl)
 
     -- it becomes black
-    scans : (x : ℕ) → (1 ≤ x) × (x ≤ c.blocks) → is_grey (s.heap (ColourOf x)) ≡ true → s.balance.paid + 1 ≤ s.due → TallyEvent c rate s (put_at s.heap (ColourOf x) (black_word m.pass.cycle)) (of_pass step true) q next before
+    scans : (x : ℕ) → (1 ≤ x) × (x ≤ c.blocks) → is_grey (s.heap (ColourOf x)) ≡ true → s.spent + 1 ≤ s.due → TallyEvent c rate s (put_at s.heap (ColourOf x) (black_word m.pass.cycle)) (of_pass step true) q next before
     scans x inside grey pays =
         let w : Spending = before.threads s.thread in
-        let new : Spending = record w { balance = with_unit w.balance } in
-        let less : w.balance.paid < rate * w.asked = (let e : rate * w.asked ≡ rate * blocks_of c.width s.command = ap (λ n. rate * n) k.own.asked in omega (arith, e, k.due, pays, paid_by c rate s (Mark m) before k)) in
+        let new : Spending = with_made w in
+        let less : made_of w < due_of rate w = (let e : rate * w.asked ≡ rate * blocks_of c.width s.command = ap (λ n. rate * n) k.own.asked in omega (arith, e, k.own.told, k.due, pays, paid_by c rate s (Mark m) before k)) in
         let not_black : before.colour x ≡ black_word before.cycle → ⊥ = (λ e. let z : true ≡ false = sym grey ∙ ap is_grey (sym (k.of.colour x) ∙ e) ∙ not_grey_black before.cycle in cc) in
         moves c rate s (Mark m) before k (events.Scan s.thread x ∷ []) ((s.low, k.own.inside, mark, inside.0, inside.1, not_black, less, omega (arith, low, high)), tt)
         (put_at s.heap (ColourOf x) (black_word m.pass.cycle)) (of_pass step true) q next
         (record { cycle = k.of.cycle; sweep = k.of.sweep; cursor = k.of.cursor; free = k.of.free; colour = λ y. (λ i. cond (eqb x y) (black_word (black i)) (k.of.colour y i)); order = told_none c rate s (Mark m) before k (of_pass step true) refl refl })
-        (spends_here (IsSpending c q (with_unit s.balance) (blocks_of c.width s.command)) before.threads s.thread new
-        (spends (with_unit s.balance) new k.own.inside (ap with_unit k.own.account) k.own.asked low high k.own.reserved))
+        (spends_here (IsSpending c q (balance_made (units_told s.command) s.balance) (asking c s.command (s.spent + 1))) before.threads s.thread new
+        (spends (balance_made (units_told s.command) s.balance) (s.spent + 1) new k.own.inside (λ i. balance_made (k.own.told i) (k.own.account i)) k.own.asked k.own.told (idle_more (units_told s.command) s.spent w.told w.idled k.own.told k.own.idled) low high k.own.reserved))
         (λ u other. changed_else before.threads s.thread u new other) (scanned x grey) (no_pass x) refl
 
     quiet : (new : Heap) → SameWords s.heap new → TallyEvent c rate s new (of_pass step false) q next before
     quiet new same = stays c rate s (Mark m) before k new (of_pass step false) q next same refl refl refl here
 
-    by : (r : GreyRow) → RowFits c r → is_shading r ≡ false → grey_over r ≡ false → s.balance.paid + bit (not (grey_unit r)) ≤ s.due → ((x : ℕ) → is_blackening r ≡ true → (grey_holding (payloads c.width) r).scan ≡ Some x → is_grey (s.heap (ColourOf x)) ≡ true)
+    by : (r : GreyRow) → RowFits c r → is_shading r ≡ false → grey_over r ≡ false → s.spent + bit (not (grey_unit r)) ≤ s.due → ((x : ℕ) → is_blackening r ≡ true → (grey_holding (payloads c.width) r).scan ≡ Some x → is_grey (s.heap (ColourOf x)) ≡ true)
         → TallyEvent c rate s (heap_after s.heap (row_want m.pass.thread m.pass.threads m.pass.cycle r)) (of_pass step (is_blackening r)) q next before
     by (marks.Take u) fits scan going pays grey = quiet _ (record { cycle = refl; sweep = refl; cursor = refl; free = refl; colour = λ x. refl })
     by (marks.Pop a) fits scan going pays grey = quiet _ (same_words s.heap)

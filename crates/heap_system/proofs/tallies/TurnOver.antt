@@ -9,6 +9,7 @@ use Rattle.block_store.specs.Heaps.{Heap, put_at}
 use Rattle.block_store.specs.Phases.{bit, is_sweep, cycle_of}
 use Rattle.block_store.specs.Places.{Phase, Cursor, FreeCount, ColourOf}
 use Rattle.block_store.proofs.Functions.{total_none}
+use Rattle.never_heap.specs.RightWork.{units_told}
 use Rattle.never_heap.specs.Cycles.{graph_at}
 use Rattle.never_heap.specs.Given.{given}
 use Rattle.never_heap.specs.Histories.{Started}
@@ -37,7 +38,7 @@ use Rattle.heap_system.specs.Locals.{plain, is_last, if_turned, turn_naming}
 use Rattle.heap_system.specs.Naming.{Naming, Same, Lost, Begun, Shaded}
 use Rattle.heap_system.proofs.PartLaws.{AtPart}
 use Rattle.heap_system.proofs.Seeing.{Seen}
-use Rattle.heap_system.proofs.Tallying.{IsSpending, Counted, TallyEvent, TallyLaw}
+use Rattle.heap_system.proofs.Tallying.{IsSpending, Counted, TallyEvent, TallyLaw, Asking, asking, IsNext}
 use Rattle.heap_system.proofs.parts.Closing.{stands, in_phase, shut, alone, turning, behind_last, no_white, own_cycle, all_shaded}
 use Rattle.heap_system.proofs.tallies.Moves.{SameWords, same_words, phase_words, told_none, stays, moves}
 
@@ -67,11 +68,11 @@ exchanged_words h old v = by (eqb (h Phase) old)
     by true cycle sweep = phase_words h v cycle sweep
     by false cycle sweep = same_words h
 
-module _ (c : Config) (rate : ℕ) (s : Seen c) (g : GateRow) (at : AtPart c s (TurnOver g)) (before : Tally) (k : Counted c rate s (TurnOver g) before) (next : ℕ) where
+module _ (c : Config) (rate : ℕ) (s : Seen c) (g : GateRow) (at : AtPart c s (TurnOver g)) (before : Tally) (k : Counted c rate s (TurnOver g) before) (next : Asking) where
   -- it is outside, with nothing claimed or reserved, before and after
-  out : (over : Bool) (r : GateRow) → IsSpending c (if_turned over r) s.balance (blocks_of c.width s.command) (before.threads s.thread)
-  out true r = record { inside = k.own.inside ∙ never_inside g; account = k.own.account; asked = k.own.asked; low = k.own.low ∙ (no_claim g).0; high = k.own.high ∙ (no_claim g).1; reserved = k.own.reserved }
-  out false r = record { inside = k.own.inside ∙ never_inside g ∙ sym (never_inside r); account = k.own.account; asked = k.own.asked; low = k.own.low ∙ (no_claim g).0 ∙ sym (no_claim r).0; high = k.own.high ∙ (no_claim g).1 ∙ sym (no_claim r).1; reserved = k.own.reserved }
+  out : (over : Bool) (r : GateRow) → IsSpending c (if_turned over r) s.balance (asking c s.command s.spent) (before.threads s.thread)
+  out true r = record { inside = k.own.inside ∙ never_inside g; account = k.own.account; asked = k.own.asked; told = k.own.told; idled = k.own.idled; low = k.own.low ∙ (no_claim g).0; high = k.own.high ∙ (no_claim g).1; reserved = k.own.reserved }
+  out false r = record { inside = k.own.inside ∙ never_inside g ∙ sym (never_inside r); account = k.own.account; asked = k.own.asked; told = k.own.told; idled = k.own.idled; low = k.own.low ∙ (no_claim g).0 ∙ sym (no_claim r).0; high = k.own.high ∙ (no_claim g).1 ∙ sym (no_claim r).1; reserved = k.own.reserved }
 
   module _ (step : Step) (over : Bool) (r : GateRow) where
     abbrev Goes : Heap → Naming → Type 0
@@ -127,7 +128,7 @@ module _ (c : Config) (rate : ℕ) (s : Seen c) (p : Pass) (at : AtPart c s (Tur
       subst (λ z. c.blocks ≤ before.free + live_blocks c.width (graph_at c before.order z) + given c.width before.order z) (sym k.of.cycle)
       (subst (λ o. c.blocks ≤ before.free + live_blocks c.width (graph_at c o (cycle_of (s.heap Phase))) + given c.width o (cycle_of (s.heap Phase))) (sym k.of.order) few)
 
-by : (c : Config) (rate : ℕ) (s : Seen c) (g : GateRow) (at : AtPart c s (TurnOver g)) (before : Tally) (k : Counted c rate s (TurnOver g) before) (next : ℕ) → (step : Step) (over : Bool) (r : GateRow) → Goes c rate s g at before k next step over r (heap_after s.heap (gate_want c.width g)) (turn_naming g)
+by : (c : Config) (rate : ℕ) (s : Seen c) (g : GateRow) (at : AtPart c s (TurnOver g)) (before : Tally) (k : Counted c rate s (TurnOver g) before) (next : Asking) → (step : Step) (over : Bool) (r : GateRow) → Goes c rate s g at before k next step over r (heap_after s.heap (gate_want c.width g)) (turn_naming g)
 by c rate s (gates.CloseLook p) at before k next step over r = quiet c rate s (gates.CloseLook p) at before k next step over r s.heap (same_words s.heap)
 by c rate s (gates.Close p seen) at before k next step over r = quiet c rate s (gates.Close p seen) at before k next step over r _ (exchanged_words s.heap seen _
     (turning_cycle c.width c.threads s.heap s.gatings s.gate s.thread s.low (gates.Close p seen) refl at.fits.0 (stands c s (gates.Close p seen) at) (λ q e. absurd cc))

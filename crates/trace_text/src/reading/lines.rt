@@ -2,14 +2,17 @@
 
 ghost use Rattle.std.specs.Prelude.{◌≡◌, ◌<◌, ◌∷◌, [], IfOk};
 ghost use Rattle.std.specs.Option.{option_copied};
+ghost use Rattle.block_store.specs.declared.Width.TheVariants as Width;
 ghost use Rattle.trace_text.specs.Lines.{tokens_of};
 ghost use Rattle.trace_text.specs.Reading.{tokens_left};
-ghost use Rattle.trace_text.specs.Said.{Tells, HasRegisters, spelled, numbers_at, register_at, length_at, fitted, operands_at, line_at};
+ghost use Rattle.trace_text.specs.Said.{Tells, HasRegisters, IsOfWidth, spelled, numbers_at, register_at, length_at, fitted, operands_at, line_at};
 ghost use Rattle.trace_text.specs.declared.reading.words.Word.TheVariants as words;
 
 use crate::reading::numbers::number_of;
-use crate::reading::tokens::{first_token, no_more, one_token, three_tokens, two_tokens};
-use crate::reading::words::{Word, word_of};
+use crate::reading::tokens::{
+    first_token, four_tokens, no_more, one_token, three_tokens, two_tokens,
+};
+use crate::reading::words::{Word, word_in};
 use crate::trace_faults::Why;
 use block_store::{Config, REGISTERS};
 use never_heap::Command;
@@ -43,7 +46,7 @@ pub fn line_of(place: &Place, line: &[u8]) -> Result<Line, Why>
     ensures { result ≡ line_at place.now (tokens_of line.now) }
 {
     let (first, operands) = first_token(line);
-    let word = word_of(first).ok_or(Why::Word)?;
+    let word = word_in(place.config.width, first).ok_or(Why::Word)?;
     if word.is_command() && place.threads == 0 {
         return Err(Why::Order);
     }
@@ -60,6 +63,9 @@ pub fn line_of(place: &Place, line: &[u8]) -> Result<Line, Why>
         Word::Len => len_of(place, operands),
         Word::Same => same_of(place, operands),
         Word::Say => say_of(place, operands),
+        Word::Swap => swap_of(place, operands),
+        Word::Cas => cas_of(place, operands),
+        Word::Idle => idle_of(place, operands),
     }
 }
 
@@ -193,10 +199,46 @@ fn say_of(place: &Place, operands: Option<&[u8]>) -> Result<Line, Why>
     told(place, Command::Say { s })
 }
 
+#[tactic(auto, unfolding(crate::specs::Said::operands_at, crate::specs::Said::told_at))]
+fn swap_of(place: &Place, operands: Option<&[u8]>) -> Result<Line, Why>
+    requires { place.now.config.width ≡ Width.Eight }
+    ensures { result ≡
+        operands_at place.now words.Swap (tokens_left (option_copied operands.entry)) }
+{
+    let (s, i, v) = three_numbers(operands)?;
+    let s = register(s)?;
+    let v = register(v)?;
+    told(place, Command::Swap { s, i, v })
+}
+
+#[tactic(auto, unfolding(crate::specs::Said::operands_at, crate::specs::Said::told_at))]
+fn cas_of(place: &Place, operands: Option<&[u8]>) -> Result<Line, Why>
+    requires { place.now.config.width ≡ Width.Eight }
+    ensures { result ≡
+        operands_at place.now words.Cas (tokens_left (option_copied operands.entry)) }
+{
+    let (s, i, a, v) = four_numbers(operands)?;
+    let s = register(s)?;
+    let a = register(a)?;
+    let v = register(v)?;
+    told(place, Command::Cas { s, i, a, v })
+}
+
+#[tactic(auto, unfolding(crate::specs::Said::operands_at, crate::specs::Said::told_at))]
+fn idle_of(place: &Place, operands: Option<&[u8]>) -> Result<Line, Why>
+    requires { place.now.config.width ≡ Width.Eight }
+    ensures { result ≡
+        operands_at place.now words.Idle (tokens_left (option_copied operands.entry)) }
+{
+    let units = one_number(operands)?;
+    told(place, Command::Idle { units })
+}
+
 /// The command, where its sizes are in their ranges and the thread may have one more.
 #[tactic(auto, using(crate::proofs::Sizes::told_is))]
 fn told(place: &Place, command: Command) -> Result<Line, Why>
-    requires { HasRegisters command }
+    requires registers { HasRegisters command }
+    requires version { IsOfWidth place.now.config.width command }
     ensures { result ≡ fitted place.now command }
 {
     let fits = command.in_bounds(&place.config);
@@ -261,6 +303,21 @@ fn three_numbers(tokens: Option<&[u8]>) -> Result<(u64, u64, u64), Why>
 {
     let (first, second, third) = three_tokens(tokens).ok_or(Why::Count)?;
     Ok((spelled(first)?, spelled(second)?, spelled(third)?))
+}
+
+/// The numbers that the four tokens spell.
+#[tactic(auto, using(crate::proofs::Numbers::four_is))]
+fn four_numbers(tokens: Option<&[u8]>) -> Result<(u64, u64, u64, u64), Why>
+    ensures { Tells (λ n. n.0 ∷ n.1 ∷ n.2 ∷ n.3 ∷ []) result
+        (numbers_at 4 (tokens_left (option_copied tokens.entry))) }
+{
+    let (first, second, third, fourth) = four_tokens(tokens).ok_or(Why::Count)?;
+    Ok((
+        spelled(first)?,
+        spelled(second)?,
+        spelled(third)?,
+        spelled(fourth)?,
+    ))
 }
 
 /// The number that a token spells.

@@ -3,7 +3,7 @@
 ghost use Rattle.std.specs.Prelude.{◌≡◌, ◌+◌, drop, ◌==◌, ◌<◌, ◌∷◌, length, position, IfSome};
 ghost use Rattle.std.specs.Option.{option_copied};
 ghost use Rattle.trace_text.specs.Lines.{lines_of, tokens_of};
-ghost use Rattle.trace_text.specs.Reading.{Gives, parted, tokenized, tokens_left, no_more_of, one_token_of, two_tokens_of, three_tokens_of};
+ghost use Rattle.trace_text.specs.Reading.{Gives, parted, tokenized, tokens_left, no_more_of, one_token_of, two_tokens_of, three_tokens_of, four_tokens_of};
 
 use memchr::memchr;
 
@@ -81,4 +81,15 @@ pub fn three_tokens(tokens: Option<&[u8]>) -> Option<(&[u8], &[u8], &[u8])>
     let (first, others) = first_token(tokens?);
     let (second, third) = two_tokens(others)?;
     Some((first, second, third))
+}
+
+/// The four tokens.
+#[tactic(auto, unfolding(crate::specs::Reading::four_tokens_of))]
+pub fn four_tokens(tokens: Option<&[u8]>) -> Option<(&[u8], &[u8], &[u8], &[u8])>
+    ensures { Gives (λ x. (x.0.now, x.1.now, x.2.now, x.3.now)) result
+        (four_tokens_of (tokens_left (option_copied tokens.entry))) }
+{
+    let (first, others) = first_token(tokens?);
+    let (second, third, fourth) = three_tokens(others)?;
+    Some((first, second, third, fourth))
 }

@@ -23,6 +23,9 @@ returns-clause-owed _ c r is t tl = paid_low c is.traces r (run_kept c is.traces
 pub returns-clause-entries : goal.returns-clause-entries
 returns-clause-entries _ c r is t tl rate planned = entries_right c is.traces r (run_kept c is.traces (laws_of c) is.job is.turns r is.by_turns) t tl rate planned
 
+pub returns-clause-account : goal.returns-clause-account
+returns-clause-account _ c r is t tl = ((run_kept c is.traces (laws_of c) is.job is.turns r is.by_turns).locals t tl).fits.account
+
 pub returns-clause-rest : goal.returns-clause-rest
 returns-clause-rest _ c r is t tl e = rest_settled c is.traces r (run_kept c is.traces (laws_of c) is.job is.turns r is.by_turns) t tl e
 

@@ -1,0 +1,44 @@
+-- A command that is told of units stands at its look, which decides it and has its reply.
+use Rattle.std.proofs.Common.{◌⊎◌, ◌≡◌, ℕ, true, Some, None, refl, inl, inr}
+use Rattle.block_store.specs.Places.{Extent}
+use Rattle.never_heap.specs.declared.Command.{Command}
+use Rattle.never_heap.specs.declared.Command.TheVariants.{Idle}
+use Rattle.never_heap.specs.declared.Reply.{Reply}
+use Rattle.never_heap.specs.declared.Reply.TheVariants as replies
+use Rattle.never_heap.specs.RightWork.{units_told}
+use Rattle.heap_machine.specs.declared.pass.Pass.{Pass}
+use Rattle.barrier_steps.specs.declared.rows.FieldRow.{FieldRow}
+use Rattle.barrier_steps.specs.declared.rows.FieldRow.TheVariants as rows
+use Rattle.barrier_steps.specs.declared.rows.FieldStore.TheVariants as stores
+use Rattle.barrier_steps.specs.Deciding.{is_deciding}
+use Rattle.barrier_steps.specs.Fits.{is_row_of}
+use Rattle.barrier_steps.specs.Rows.{field_reply, field_decided, row_got}
+
+pub record Looks (e : Extent) (p : Pass) (k : Command) (r : FieldRow) (w : ℕ) : Type 0 where
+  pub decides : is_deciding k r w ≡ true
+  pub reply : Reply
+  pub replied : field_reply (row_got e p k r w) ≡ Some reply
+
+pub looks : (e : Extent) (p : Pass) (k : Command) (r : FieldRow) (w : ℕ) → is_row_of k r ≡ true
+    → field_reply r ≡ None → (units_told k ≡ 0) ⊎ Looks e p k r w
+looks e p (Idle u) rows.IdleLook w own going = inr (record { decides = refl; reply = replies.Idle; replied = refl })
+looks e p (Idle u) (rows.Answered reply) w own going = absurd cc
+looks e p (Idle u) (rows.Shade r (stores.Moved word)) w own going = absurd cc
+looks e p (Idle u) (rows.Shade r (stores.Pending word value)) w own going = absurd cc
+looks e p (Idle u) (rows.Shade r (stores.InField way word)) w own going = absurd cc
+looks e p (Idle u) (rows.Shade r (stores.Exchanged way word)) w own going = absurd cc
+looks e p (Idle u) (rows.Shade r (stores.Compared way word)) w own going = absurd cc
+looks e p (Idle u) _ w own going = absurd cc
+looks e p _ r w own going = inl refl
+
+-- once decided it has its reply
+pub decided_untold : (k : Command) (r : FieldRow) → is_row_of k r ≡ true → field_decided r ≡ true
+    → field_reply r ≡ None → units_told k ≡ 0
+decided_untold (Idle u) (rows.Answered reply) own decided going = absurd cc
+decided_untold (Idle u) (rows.Shade r (stores.Moved word)) own decided going = absurd cc
+decided_untold (Idle u) (rows.Shade r (stores.Pending word value)) own decided going = absurd cc
+decided_untold (Idle u) (rows.Shade r (stores.InField way word)) own decided going = absurd cc
+decided_untold (Idle u) (rows.Shade r (stores.Exchanged way word)) own decided going = absurd cc
+decided_untold (Idle u) (rows.Shade r (stores.Compared way word)) own decided going = absurd cc
+decided_untold (Idle u) _ own decided going = absurd cc
+decided_untold _ r own decided going = refl
