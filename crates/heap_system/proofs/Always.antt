@@ -101,6 +101,7 @@ module _ (c : Config) (traces : List (List Command)) (job : IsJob c traces) (s :
   local_start t tl = record {
     config = refl;
     thread = refl;
+    fresh = refl;
     trace = refl;
     fits = record {
       bounds = job.bounds.config;
@@ -108,6 +109,7 @@ module _ (c : Config) (traces : List (List Command)) (job : IsJob c traces) (s :
       rate = start.planned;
       thread = tl;
       trace = each_at c traces job t tl;
+      life = omega (arith, (each_at c traces job t tl).few);
       log = omega arith;
       part = tt;
       paid = omega arith;

@@ -26,6 +26,7 @@ use Rattle.heap_system.proofs.Seeing.{stage, stage_of, PartKept, Knows, IsSettle
 pub record LocalKept (c : Config) (given : List Command) (g : Graph) (order : List HistoryItem) (h : Heap) (ns : Names) (t : ℕ) (l : LocalState) : Type 0 where
   pub config : l.config ≡ c
   pub thread : l.thread ≡ t
+  pub fresh : l.before ≡ 0
   pub trace : l.trace ≡ given
   pub fits : IsLocal l
   pub stands : PartKept c g t l.pass (command_of l) l.part

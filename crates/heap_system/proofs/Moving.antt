@@ -46,6 +46,7 @@ local_stays c given g later order longer h new ns names u l laws kept same count
     record {
       config = kept.config;
       thread = kept.thread;
+      fresh = kept.fresh;
       trace = kept.trace;
       fits = kept.fits;
       stands = s.0;
@@ -64,6 +65,7 @@ moved_on l t c w = record {
   config = l.config;
   rate = l.rate;
   thread = t;
+  before = l.before;
   trace = l.trace;
   log = l.log ++ entries_of t (command_of l) l.spent (effect c l.part w).reply;
   balance = balance_got (effect c l.part w) (units_told (command_of l)) (blocks_of c.width (command_of l)) l.balance;
@@ -98,7 +100,7 @@ module _ (c : Config) (given : List Command) (g : Graph) (order longer : List Hi
   Event o = Moved c g order longer new names t l v unit q p o
 
   abbrev after_part : List Entry → Balance → ℕ → ℕ → Part → LocalState
-  after_part log balance spent made x = record { config = l.config; rate = l.rate; thread = t; trace = l.trace; log = log; balance = balance; spent = spent; made = made; space = l.space; pass = q; part = x }
+  after_part log balance spent made x = record { config = l.config; rate = l.rate; thread = t; before = l.before; trace = l.trace; log = log; balance = balance; spent = spent; made = made; space = l.space; pass = q; part = x }
 
   abbrev told : ℕ
   told = units_told (command_of l)
@@ -113,8 +115,8 @@ module _ (c : Config) (given : List Command) (g : Graph) (order longer : List Hi
   sound_then : IsSound l.rate l.config.object (balance_in i l.balance)
   sound_then = sound_in l.rate l.config.object i l.balance kept.fits.sound
 
-  units_then : (balance_in i l.balance).units ≤ works l.log + l.spent
-  units_then = units_in i (works l.log + l.spent) l.balance kept.fits.units
+  units_then : (balance_in i l.balance).units ≤ l.before * most_work l.config l.rate + works l.log + l.spent
+  units_then = units_in i (l.before * most_work l.config l.rate + works l.log + l.spent) l.balance kept.fits.units
 
   abbrev Later : LocalState → Type 0
   Later x = LocalKept c given (graph_decided g t (command_of l) v) longer new names t x
@@ -139,6 +141,7 @@ module _ (c : Config) (given : List Command) (g : Graph) (order longer : List Hi
   none_moves event = record {
     config = kept.config;
     thread = refl;
+    fresh = kept.fresh;
     trace = kept.trace;
     fits = record {
       bounds = kept.fits.bounds;
@@ -146,13 +149,14 @@ module _ (c : Config) (given : List Command) (g : Graph) (order longer : List Hi
       rate = kept.fits.rate;
       thread = subst (λ x. x < l.config.threads) kept.thread kept.fits.thread;
       trace = kept.fits.trace;
+      life = kept.fits.life;
       log = kept.fits.log;
       part = subst (λ x. PartFits x (length l.log) (length l.trace) q p) (sym kept.config) event.fits;
       paid = subst (λ x. paid_got None unit l.spent + unit_to_come x p ≤ owed l) (sym kept.config) event.low;
       settled = is_paid (owed l) (paid_got None unit l.spent) p event.settled;
       sound = sound_on l.rate l.config.object unit told (blocks_of c.width (command_of l)) l.spent (balance_in i l.balance) (paid_in i l.balance ∙ kept.fits.account) price_few (low_enough _ _ _ _ event.low due_is) sound_then;
       account = paid_then None;
-      units = units_on unit told (blocks_of c.width (command_of l)) (works l.log) l.spent (balance_in i l.balance) units_then;
+      units = units_on unit told (blocks_of c.width (command_of l)) (l.before * most_work l.config l.rate + works l.log) l.spent (balance_in i l.balance) units_then;
       worked = kept.fits.worked;
       made = kept.fits.made;
       space = kept.fits.space;
@@ -189,6 +193,7 @@ module _ (c : Config) (given : List Command) (g : Graph) (order longer : List Hi
         record {
           config = kept.config;
           thread = refl;
+          fresh = kept.fresh;
           trace = kept.trace;
           fits = record {
             bounds = kept.fits.bounds;
@@ -196,6 +201,7 @@ module _ (c : Config) (given : List Command) (g : Graph) (order longer : List Hi
             rate = kept.fits.rate;
             thread = subst (λ x. x < l.config.threads) kept.thread kept.fits.thread;
             trace = kept.fits.trace;
+            life = kept.fits.life;
             log = omega (arith, longer_by);
             part = tt;
             paid = omega arith;

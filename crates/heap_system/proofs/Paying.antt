@@ -1,5 +1,5 @@
 -- What a thread owes and has paid, and the ranges of the parts that it comes to.
-use Rattle.std.proofs.Common.{◌≡◌, ℕ, zero, suc, ◌+◌, ◌-◌, ◌*◌, ◌<◌, ◌≤◌, ◌^◌, Bool, true, false, not, ◌&&◌, ◌||◌, cond, ltb, eqb, ltb-true, refl, sym, ap, ◌∙◌, subst, arith, List, [], ◌∷◌, ◌++◌, length, length-append, get_or, take, Some, is_some, inl, inr, mul_comm, ◌⊎◌, ne_eqb}
+use Rattle.std.proofs.Common.{◌≡◌, ℕ, zero, suc, ◌+◌, ◌-◌, ◌*◌, ◌<◌, ◌≤◌, ◌^◌, Bool, true, false, not, ◌&&◌, ◌||◌, cond, ltb, eqb, ltb-true, refl, sym, ap, ◌∙◌, subst, arith, List, [], ◌∷◌, ◌++◌, length, length-append, get_or, set, take, Some, is_some, inl, inr, mul_comm, ◌⊎◌, ne_eqb}
 use Rattle.std.proofs.lemmas.Bool.{cases_Bool, cases_eq, cases_lt, lt-ltb}
 use Rattle.std.proofs.lemmas.List.{get_or_past}
 use Rattle.std.proofs.Math.Nat.{mul-le-mul_right}
@@ -22,7 +22,7 @@ use Rattle.std.specs.List.{AllByRecursion}
 use Rattle.std.proofs.lemmas.List.Elements.{All-from_recursion}
 use Rattle.never_heap.specs.Bounds.{IsCommandInBounds}
 use Rattle.never_heap.specs.Jobs.{IsTraceInBounds}
-use Rattle.never_heap.specs.RightWork.{units_told}
+use Rattle.never_heap.specs.RightWork.{units_told, units_owed}
 use Rattle.cycle_tally.specs.Kept.{most_work}
 use Rattle.never_heap.specs.Steps.{blocks_of, makes_object}
 use Rattle.never_heap.proofs.Ranges as ranges
@@ -53,14 +53,14 @@ use Rattle.heap_system.specs.declared.local.Local.TheInside.{Inside}
 use Rattle.heap_system.specs.declared.local.Part.{Part}
 use Rattle.heap_system.specs.declared.local.Part.TheVariants.{Rest, Enter, Serve, Mark, Sweep, Build, TurnOver, Leave}
 use Rattle.heap_system.specs.Machines.{IsJob}
-use Rattle.heap_system.specs.Locals.{LocalState, IsLocal, PartFits, PartReads, IsRoomy, IsPaid, HasRoom, errand_of, command_of, owed, pass_by, is_last, unit_to_come, works, entry_of, made_got, balance_paid}
+use Rattle.heap_system.specs.Locals.{LocalState, IsLocal, PartFits, PartReads, IsRoomy, IsPaid, HasRoom, errand_of, command_of, owed, pass_by, is_last, is_rest, unit_to_come, works, entry_of, made_got, balance_paid, paid_part, begun}
 use Rattle.work_account.proofs.Balances.{entered_sound}
 use Rattle.cycle_tally.proofs.Sums.{paid_entered}
-use Rattle.heap_system.proofs.Balances.{units_entered, paid_after, paid_over, all_paid, units_over, sound_over}
+use Rattle.heap_system.proofs.Balances.{none_spent, units_entered, paid_after, paid_over, all_paid, units_over, sound_over}
 
 -- what is seen of a thread
 abbrev pub view_of : Inside → LocalState
-view_of l = record { config = l.config; rate = l.rate; thread = l.thread; trace = l.trace.items; log = l.log.items; balance = l.account.balance; spent = l.spent; made = l.made; space = l.space; pass = l.pass; part = l.part }
+view_of l = record { config = l.config; rate = l.rate; thread = l.thread; before = l.before; trace = l.trace.items; log = l.log.items; balance = l.account.balance; spent = l.spent; made = l.made; space = l.space; pass = l.pass; part = l.part }
 
 -- an object takes no more blocks than one object may
 pub blocks_low : (c : Config) (k : Command) → IsCommandInBounds c k → blocks_of c.width k ≤ c.object
@@ -162,7 +162,7 @@ module _ (l : LocalState) (k : IsLocal l) (low : length l.log < length l.trace) 
   thread = subst (λ t. IsThread l.config t) (sym mine) (thread_is l k)
 
   serial : l.made + 1 ≤ 131072
-  serial = omega (arith, k.made, low, k.trace.few)
+  serial = omega (arith, k.made, low, k.life)
 
   build_fits : makes_object (command_of l) ≡ true → PartFits l.config (length l.log) (length l.trace) p (Build (building l.config.width p.thread p.threads p.cycle (l.made + 1) (command_of l) l.space))
   build_fits makes = subst (λ n. PartFits l.config (length l.log) (length l.trace) p (Build (building l.config.width p.thread n p.cycle (l.made + 1) (command_of l) l.space))) (sym same) (
@@ -190,7 +190,7 @@ room_there p g space capacity held e h = subst (λ x. HasRoom x space held capac
 
 -- a thread in another pass and part
 pub begins : (l : LocalState) (p : Pass) (part : Part) → IsLocal l → PartFits l.config (length l.log) (length l.trace) p part → l.spent + unit_to_come l.config part ≤ owed l → IsPaid (owed l) l.spent part → IsRoomy l.space part → IsLocal (record l { pass = p; part = part })
-begins l p part k fits pays all roomy = record { bounds = k.bounds; plan = k.plan; rate = k.rate; thread = k.thread; trace = k.trace; log = k.log; part = fits; paid = pays; settled = all; sound = k.sound; account = k.account; units = k.units; worked = k.worked; made = k.made; space = k.space; roomy = roomy }
+begins l p part k fits pays all roomy = record { bounds = k.bounds; plan = k.plan; rate = k.rate; thread = k.thread; trace = k.trace; life = k.life; log = k.log; part = fits; paid = pays; settled = all; sound = k.sound; account = k.account; units = k.units; worked = k.worked; made = k.made; space = k.space; roomy = roomy }
 
 -- a thread at rest that enters a cycle
 pub entered_local : (i : Inside) (z : ℕ) (a : AccountState) → IsLocal (view_of i) → i.part ≡ Rest → a ≡ record i.account { balance = entered z i.account.balance } → IsLocal (record (view_of i) { balance = a.balance })
@@ -202,13 +202,14 @@ entered_local i z a k rest is =
       rate = k.rate;
       thread = k.thread;
       trace = k.trace;
+      life = k.life;
       log = k.log;
       part = k.part;
       paid = k.paid;
       settled = k.settled;
       sound = entered_sound i.rate i.config.object z i.account.balance k.sound;
       account = same ∙ k.account;
-      units = units_entered z (works i.log.items + i.spent) i.account.balance k.units;
+      units = units_entered z (i.before * most_work i.config i.rate + works i.log.items + i.spent) i.account.balance k.units;
       worked = k.worked;
       made = k.made;
       space = k.space;
@@ -332,6 +333,7 @@ answered_local l reply k low all = record {
   rate = k.rate;
   thread = k.thread;
   trace = k.trace;
+  life = k.life;
   log = omega (arith, longer);
   part = tt;
   paid = omega arith;
@@ -370,3 +372,55 @@ pub worked_low : (l : LocalState) → IsLocal l → works l.log ≤ 2 ^ 45
 worked_low l k =
     let a : length l.log * most_work l.config l.rate ≤ 131072 * most_work l.config l.rate = mul-le-mul_right (most_work l.config l.rate) (omega (arith, k.log, k.trace.few)) in
     omega (arith, k.worked, units_low l k)
+
+-- the units of the commands before are few too
+pub before_low : (l : LocalState) → IsLocal l → l.before * most_work l.config l.rate ≤ 2 ^ 45
+before_low l k =
+    let a : l.before * most_work l.config l.rate ≤ 131072 * most_work l.config l.rate = mul-le-mul_right (most_work l.config l.rate) (omega (arith, k.life)) in
+    omega (arith, units_low l k)
+
+-- a thread that has done its trace, with one command more in place of this
+pub begun_local : (l : LocalState) (k : Command) → IsLocal l → is_rest l.part ≡ true → l.spent ≡ 0 → IsCommandInBounds l.config k → l.before + length l.log < 131072 → IsLocal (begun k l)
+begun_local l k is rest none fits left =
+    let at : l.part ≡ Rest = rest_part l.part rest in
+    let long : length l.log * most_work l.config l.rate + l.before * most_work l.config l.rate ≡ (l.before + length l.log) * most_work l.config l.rate = omega (arith, mul_add l.before (length l.log) (most_work l.config l.rate)) in
+    record {
+      bounds = is.bounds;
+      plan = is.plan;
+      rate = is.rate;
+      thread = is.thread;
+      trace = record { few = omega arith; commands = (fits, tt) };
+      life = omega (arith, left);
+      log = omega arith;
+      part = subst (λ p. PartFits l.config 0 1 l.pass p) (sym at) tt;
+      paid = subst (λ p. l.spent + unit_to_come l.config p ≤ units_owed l.config.width l.rate k) (sym at) (omega (arith, none));
+      settled = subst (λ p. IsPaid (units_owed l.config.width l.rate k) l.spent p) (sym at) tt;
+      sound = is.sound;
+      account = is.account ∙ ap (paid_part (units_told (command_of l))) none ∙ none_spent (units_told (command_of l)) ∙ sym (none_spent (units_told k)) ∙ ap (paid_part (units_told k)) (sym none);
+      units = omega (arith, is.units, is.worked, long, none);
+      worked = omega arith;
+      made = omega (arith, is.made);
+      space = is.space;
+      roomy = is.roomy;
+    }
+  where
+    rest_part : (p : Part) → is_rest p ≡ true → p ≡ Rest
+    rest_part Rest e = refl
+    rest_part _ e = absurd cc
+
+    mul_add : (a b m : ℕ) → (a + b) * m ≡ a * m + b * m
+    mul_add a b m = omega arith
+
+one_set : (xs : List Command) (k : Command) → length xs ≡ 1 → set xs 0 k ≡ k ∷ []
+one_set [] k e = absurd (omega arith)
+one_set (x ∷ []) k e = refl
+one_set (x ∷ y ∷ zs) k e = absurd (omega arith)
+
+pub begun_with : (l : LocalState) (k : Command) (before : ℕ) (log : List Entry) → IsLocal (begun k l) → length l.trace ≡ 1 → before ≡ l.before + length l.log → log ≡ [] → IsLocal (record l { before = before; trace = set l.trace 0 k; log = log })
+begun_with l k before log is one more none =
+    subst (λ n. IsLocal (record l { before = n; trace = set l.trace 0 k; log = log })) (sym more)
+    (subst (λ x. IsLocal (record l { before = l.before + length l.log; trace = set l.trace 0 k; log = x })) (sym none)
+    (subst (λ x. IsLocal (record l { before = l.before + length l.log; trace = x; log = [] })) (sym (one_set l.trace k one)) is))
+
+pub begun_long : (xs : List Command) (k : Command) (n : ℕ) → length xs ≡ 1 → length xs ≤ n → length (set xs 0 k) ≤ n
+begun_long xs k n one low = let e : length (set xs 0 k) ≡ 1 = ap length (one_set xs k one) in omega arith

@@ -126,7 +126,7 @@ module _ (c : Config) (traces : List (List Command)) (laws : (p : Part) → Part
     low = tl;
     inside = inside;
     count = (kept.locals t tl).made;
-    few = (kept.locals t tl).fits.made;
+    few = omega (arith, (kept.locals t tl).fits.made, (kept.locals t tl).fresh);
     many = (kept.locals t tl).fits.trace.few;
     room = room_of;
     free = free_of;

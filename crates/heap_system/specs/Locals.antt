@@ -62,11 +62,13 @@ use Rattle.heap_system.specs.declared.Turn.TheVariants as turns
 -- stands. The rate is the number of units that an allocation owes for each of its blocks; the
 -- balance has those paid for the command in hand, and those of the cycle that it entered last; and
 -- so many units were made for the command in hand, be they paid or made for an idle. It has made so
--- many objects, and has room to hold so many blocks. The pass is the one of its last entry.
+-- many objects, and has room to hold so many blocks. The pass is the one of its last entry. So many
+-- commands were done before those of the trace, and are in no log any more.
 pub record LocalState : Type 0 where
   pub config : Config
   pub rate : ℕ
   pub thread : ℕ
+  pub before : ℕ
   pub trace : List Command
   pub log : List Entry
   pub balance : Balance
@@ -439,6 +441,7 @@ local_got l w =
       config = l.config;
       rate = l.rate;
       thread = l.thread;
+      before = l.before;
       trace = l.trace;
       log = l.log ++ entries_of l.thread (command_of l) l.spent e.reply;
       balance = balance_got e (units_told (command_of l)) (blocks_of l.config.width (command_of l))
@@ -449,6 +452,11 @@ local_got l w =
       pass = pass_got e.entered l.thread l.config.threads l.pass;
       part = part_got l.config l.thread (errand_of l) l.pass l.part w;
     }
+
+-- A thread at rest that has done its trace, with this command in its place: what is in the log is
+-- let go, and counted.
+abbrev pub begun : Command → LocalState → LocalState
+begun k l = record l { before = l.before + length l.log; trace = k ∷ []; log = [] }
 
 -- a pass of a thread of the heap
 abbrev pub IsPassAt : Config → Pass → Type 0
@@ -494,23 +502,25 @@ HasRoom (Build b) space held capacity = Unit {0}
 HasRoom _ space held capacity = (held ≡ []) × (capacity ≡ space)
 
 -- A thread of a configuration that has a rate. No command has made more units than it owes, and the
--- balance is sound; its units are in the log or paid. At most one object is made for each entry,
--- and there is room for the blocks of the largest.
+-- balance is sound; its units are in the log, or paid, or were those of the commands before. At most
+-- one object is made for each command, and there is room for the blocks of the largest. A thread has
+-- at most 131,072 commands, those before its trace counted.
 pub record IsLocal (l : LocalState) : Type 0 where
   pub bounds : IsInBounds l.config
   pub plan : IsAdmitted l.config
   pub rate : IsRate l.config l.rate
   pub thread : l.thread < l.config.threads
   pub trace : IsTraceInBounds l.config l.trace
+  pub life : l.before + length l.trace ≤ 131072
   pub log : length l.log ≤ length l.trace
   pub part : PartFits l.config (length l.log) (length l.trace) l.pass l.part
   pub paid : l.spent + unit_to_come l.config l.part ≤ owed l
   pub settled : IsPaid (owed l) l.spent l.part
   pub sound : IsSound l.rate l.config.object l.balance
   pub account : l.balance.paid ≡ paid_part (units_told (command_of l)) l.spent
-  pub units : l.balance.units ≤ works l.log + l.spent
+  pub units : l.balance.units ≤ l.before * most_work l.config l.rate + works l.log + l.spent
   pub worked : works l.log ≤ length l.log * most_work l.config l.rate
-  pub made : l.made ≤ length l.log
+  pub made : l.made ≤ l.before + length l.log
   pub space : l.config.object ≤ l.space
   pub roomy : IsRoomy l.space l.part
 
@@ -555,6 +565,7 @@ at_start c rate space t trace = record {
   config = c;
   rate = rate;
   thread = t;
+  before = 0;
   trace = trace;
   log = [];
   balance = accounts.opened;

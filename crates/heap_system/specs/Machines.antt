@@ -30,6 +30,7 @@ no_local c = record {
   config = c;
   rate = 0;
   thread = c.threads;
+  before = 0;
   trace = [];
   log = [];
   balance = accounts.opened;

@@ -13,11 +13,12 @@ ghost use Rattle.heap_machine.specs.Gates.{gate_want, gate_got, gate_step, GateA
 ghost use Rattle.heap_machine.specs.Operations.{op_at, op_place, place_of};
 ghost use Rattle.heap_machine.specs.Readings.{CanHold};
 ghost use Rattle.heap_machine.specs.Passes.{IsPass};
+ghost use Rattle.never_heap.specs.Bounds.{IsCommandInBounds};
 ghost use Rattle.never_heap.specs.Jobs.{IsTraceInBounds};
 ghost use Rattle.heap_machine.specs.declared.gate.GateRow.{GateRow};
 ghost use Rattle.grey_steps.specs.Rows.{scanning};
 ghost use Rattle.sweep_steps.specs.Rows.{sweeping};
-ghost use Rattle.heap_system.specs.Locals.{LocalReads, HasGot, is_done, is_rest, is_build, is_at_gate, is_in_command, is_marking, is_sweeping, is_on_way_out, part_want, part_step, local_got, at_start, turn_of, is_last, pass_by, first_part, errand_of, command_of, op_wanted, owed, made_got, works, entry_of, balance_paid, paid_got, commands_decided};
+ghost use Rattle.heap_system.specs.Locals.{LocalReads, HasGot, is_done, is_rest, is_build, is_at_gate, is_in_command, is_marking, is_sweeping, is_on_way_out, part_want, part_step, local_got, at_start, turn_of, is_last, pass_by, first_part, errand_of, command_of, op_wanted, owed, made_got, works, entry_of, balance_paid, paid_got, commands_decided, begun};
 
 use crate::Turn;
 use barrier_steps::FieldPass;
@@ -91,6 +92,8 @@ pub struct Local {
     // The units that an allocation owes for each of its blocks.
     rate: u64,
     thread: u32,
+    // How many commands were done before those of the trace.
+    before: u64,
     trace: Vec<Command>,
     log: Vec<Entry>,
     // What is paid for the command in hand, and the units and blocks of the cycle entered last.
@@ -120,6 +123,7 @@ impl Model for Local {
       config = l.config;
       rate = l.rate;
       thread = l.thread;
+      before = l.before;
       trace = l.trace.items;
       log = l.log.items;
       balance = l.account.balance;
@@ -134,6 +138,7 @@ impl Model for Local {
       config = l.config;
       rate = l.rate;
       thread = l.thread;
+      before = l.before;
       trace = l.trace.items;
       log = l.log.items;
       balance = l.account.balance;
@@ -337,6 +342,7 @@ impl Local {
             config: *c,
             rate,
             thread,
+            before: 0,
             trace,
             log,
             account: Account::new(rate, c.object),
@@ -388,6 +394,27 @@ impl Local {
         ensures { result ≡ is_done self.now }
     {
         self.at_rest() && self.log.len() == self.trace.len()
+    }
+
+    /// How many commands the thread has done, also those that are in its log no more.
+    pub fn commands_done(&self) -> u64
+        ensures { result ≡ self.now.before + length self.now.log }
+    {
+        self.before + self.log.len() as u64
+    }
+
+    /// Has one command more in place of its one command, which is done. The entry of that is let go.
+    pub fn begin(&mut self, command: Command)
+        requires one { length self.old.trace ≡ 1 }
+        requires rest { is_rest self.old.part ≡ true }
+        requires settled { self.old.spent ≡ 0 }
+        requires bounds { IsCommandInBounds self.old.config command }
+        requires left { self.old.before + length self.old.log < 131072 }
+        ensures { self.new ≡ begun command self.old }
+    {
+        self.before += self.log.len() as u64;
+        self.log.clear();
+        self.trace[0] = command;
     }
 
     // The sum of the works of the log.

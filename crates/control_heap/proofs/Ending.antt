@@ -1,0 +1,270 @@
+-- A command is served within its bound, and what the heap stands for then.
+use Rattle.std.proofs.Common.{◌≡◌, ℕ, zero, suc, ◌+◌, ◌*◌, ◌^◌, ◌<◌, ◌≤◌, Bool, true, false, cond, ◌&&◌, eqb, eqb-true, subst, List, [], ◌∷◌, ◌++◌, length, length-append, append-nil, get_or, refl, sym, ap, ◌∙◌, arith, inl, inr}
+use Rattle.std.proofs.lemmas.Bool.{cases_lt, and_parts}
+use Rattle.std.proofs.lemmas.List.{append_cancel_left}
+use Rattle.std.proofs.Math.Nat.{mul-le-mul_right}
+use Rattle.block_store.specs.declared.Config.{Config}
+use Rattle.block_store.specs.Configs.{IsInBounds}
+use Rattle.rate_plan.specs.Rates.{IsRate}
+use Rattle.rate_plan.proofs.Plans.{found}
+use Rattle.never_heap.specs.declared.Command.{Command}
+use Rattle.never_heap.specs.declared.Entry.{Entry}
+use Rattle.never_heap.specs.declared.Reply.{Reply}
+use Rattle.never_heap.specs.Bounds.{IsCommandInBounds}
+use Rattle.never_heap.specs.Histories.{part, replay}
+use Rattle.never_heap.specs.RightWork.{units_told}
+use Rattle.never_heap.specs.Steps.{makes_object, blocks_of}
+use Rattle.never_heap.proofs.Growing.{part_append}
+use Rattle.barrier_steps.specs.Operands.{is_idle}
+use Rattle.lone_bound.specs.Prices.{allocation_bound, idle_bound, other_bound}
+use Rattle.heap_system.specs.declared.local.Part.TheVariants.{Rest}
+use Rattle.heap_system.specs.declared.Turn.{Turn}
+use Rattle.heap_system.specs.declared.Turn.TheVariants.{Went, Done}
+use Rattle.heap_system.specs.Alone.{IsQuiet, HasCommand, EndsWithin, after_alone, command_bound}
+use Rattle.heap_system.specs.Locals.{LocalState, begun, command_of, entries_of, is_done, is_rest, owed, turn_of}
+use Rattle.heap_system.specs.Machines.{Run, IsAfterTurns, local_in, next_effect}
+use Rattle.heap_system.specs.Pictures.{waiting}
+use Rattle.heap_system.proofs.Kept.{Kept}
+use Rattle.heap_system.proofs.Paying.{blocks_low, told_low, rate_low}
+use Rattle.heap_system.proofs.Reached.{rest_is}
+use Rattle.heap_system.proofs.Seeing.{IsSettled}
+use Rattle.heap_system.proofs.Starting.{one_rate}
+use Rattle.heap_system.proofs.alone.Runs.{lone_ends}
+use Rattle.control_heap.specs.Controls.{Control, Stands, Answers, Machine, Served, GoesOn, asked, given_to, moved_times, entries_in}
+use Rattle.control_heap.specs.Growth.{run_grown, given}
+use Rattle.control_heap.proofs.Behind.{behind_done, command_same, given_behind, history_of}
+use Rattle.control_heap.proofs.Carried.{Carries, IsSafe, carried, events_grown, kept_of, low, safe}
+use Rattle.control_heap.proofs.Growing.{local_grown}
+use Rattle.control_heap.proofs.Items.{Added, added_alone}
+
+-- the bound of a command of a heap of one thread
+pub bound_low : (c : Config) (rate : ℕ) (k : Command) → IsInBounds c → rate ≤ 131070 → c.threads ≡ 1 → IsCommandInBounds c k → command_bound c rate k ≤ 2 ^ 40
+bound_low c rate k bounds few single fits = by (makes_object k) (is_idle k)
+  where
+    made : allocation_bound c.threads (blocks_of c.width k) rate ≤ 2 ^ 40
+    made =
+        let price : rate * blocks_of c.width k ≤ 131070 * blocks_of c.width k = mul-le-mul_right (blocks_of c.width k) few in
+        let blocks : blocks_of c.width k ≤ c.object = blocks_low c k fits in
+        subst (λ n. allocation_bound n (blocks_of c.width k) rate ≤ 2 ^ 40) (sym single) (omega (arith, price, blocks, bounds.object))
+
+    idle : idle_bound c.threads (units_told k) ≤ 2 ^ 40
+    idle = subst (λ n. idle_bound n (units_told k) ≤ 2 ^ 40) (sym single) (omega (arith, told_low c k fits))
+
+    other : other_bound c.object ≤ 2 ^ 40
+    other = omega (arith, bounds.object)
+
+    by : (a b : Bool) → cond a (allocation_bound c.threads (blocks_of c.width k) rate) (cond b (idle_bound c.threads (units_told k)) (other_bound c.object)) ≤ 2 ^ 40
+    by true b = made
+    by false true = idle
+    by false false = other
+
+not_done : (b : Bool) (x : Turn) → cond b Done x ≡ Went → b ≡ false
+not_done true x e = absurd cc
+not_done false x e = refl
+
+moved_trace : (n : ℕ) (m : Machine) → (moved_times n m).thread.trace ≡ m.thread.trace
+moved_trace zero m = refl
+moved_trace (suc n) m = moved_trace n m
+
+moved_before : (n : ℕ) (m : Machine) → (moved_times n m).thread.before ≡ m.thread.before
+moved_before zero m = refl
+moved_before (suc n) m = moved_before n m
+
+-- a thread at rest has its part of the order in its log
+told_at_rest : (c : Config) (single : c.threads ≡ 1) (r : Run) (is : IsAfterTurns c r) → is_rest (local_in c r 0).part ≡ true → part 0 r.order ≡ (local_in c r 0).log
+told_at_rest c single r is rest =
+    let l = local_in c r 0 in
+    ((kept_of c single r is).locals 0 (low c single)).told
+    ∙ ap (λ p. l.log ++ entries_of l.thread (command_of l) l.spent (waiting (replay c r.order) p)) (rest_is l.part rest)
+    ∙ append-nil l.log
+
+module _ (h : Control) (r : Run) (st : Stands h r) where
+  abbrev c : Config
+  c = h.config
+
+  abbrev own : LocalState
+  own = local_in h.config r 0
+
+  kept : Kept h.config st.run.after.traces r
+  kept = kept_of h.config st.single r st.run.after
+
+  at_rest : is_rest own.part ≡ true
+  at_rest = (and_parts (is_rest own.part) (eqb (length own.log) (length own.trace)) st.done).0
+
+  pub rests : is_rest h.thread.part ≡ true
+  rests = sym (ap (λ (l : LocalState). is_rest l.part) st.thread) ∙ at_rest
+
+  pub long : length own.trace ≡ length own.log
+  long = sym (eqb-true (length own.log) (length own.trace) (and_parts (is_rest own.part) (eqb (length own.log) (length own.trace)) st.done).1)
+
+  pub unspent : h.thread.spent ≡ 0
+  unspent =
+      let settled : IsSettled (owed own) own.spent Rest = subst (λ p. IsSettled (owed own) own.spent p) (rest_is own.part at_rest) (kept.locals 0 (low h.config st.single)).settled in
+      sym (ap (λ (l : LocalState). l.spent) st.thread) ∙ settled
+
+  pub config_is : h.thread.config ≡ h.config
+  config_is = sym (ap (λ (l : LocalState). l.config) st.thread) ∙ (kept.locals 0 (low h.config st.single)).config
+
+  module _ (k : Command) (fits : IsCommandInBounds h.config k) (left : asked h < 131072) where
+    abbrev first : Machine
+    first = given_to h k
+
+    abbrev grown : Run
+    grown = run_grown 0 k r
+
+    begins : Carries h.config own.trace own.log first grown
+    begins = record {
+      run = events_grown h.config st.single r st.run k fits (let e : length own.trace ≡ length (get_or st.run.after.traces 0 []) = ap length (kept.locals 0 (low h.config st.single)).trace in let l = long in let n = st.count in omega (arith, e, l, n, left));
+      words = st.words;
+      thread = local_grown 0 k h.config (low h.config st.single) r.state 0
+          ∙ ap (λ n. cond (eqb n 0) (given k own) own) (kept.locals 0 (low h.config st.single)).thread
+          ∙ given_behind own h.thread k st.thread;
+    }
+
+    quiet : IsQuiet h.config grown
+    quiet = record { nobody = st.quiet.nobody; opened = st.quiet.opened }
+
+    has : HasCommand (local_in h.config grown 0)
+    has = subst (λ l. HasCommand l) (sym begins.thread) (record {
+      rest = rests;
+      left = (let a : length (own.log ++ []) ≡ length own.log + 0 = length-append own.log [] in let b : length (own.trace ++ k ∷ []) ≡ length own.trace + 1 = length-append own.trace (k ∷ []) in let l = long in omega (arith, a, b, l));
+    })
+
+    abbrev rate : ℕ
+    rate = (found h.config st.run.after.job.plan).0
+
+    planned : IsRate h.config rate
+    planned = (found h.config st.run.after.job.plan).1
+
+    pub ends : EndsWithin h.config 0 grown (command_bound h.config rate (command_of (local_in h.config grown 0)))
+    ends = lone_ends h.config begins.run.after.traces begins.run.after.job rate planned 0 (low h.config st.single) grown (kept_of h.config st.single grown begins.run.after) quiet has
+
+    abbrev pub turns : ℕ
+    turns = ends.turns
+
+    command_is : command_of (local_in h.config grown 0) ≡ k
+    command_is = ap command_of begins.thread ∙ command_same own.trace own.log long (begun k h.thread)
+
+    pub turns_few : (p : ℕ) → IsRate h.config p → turns ≤ command_bound h.config p k
+    turns_few p is = subst (λ q. turns ≤ command_bound h.config q k) (one_rate h.config rate p planned is) (subst (λ x. turns ≤ command_bound h.config rate x) command_is ends.few)
+
+    goes : (n : ℕ) → n ≤ turns → GoesOn n first
+    goes zero le i il = absurd (omega (arith, il))
+    goes (suc n) le i il = elim (cases_lt i n) [
+      | inl lower ↦ goes n (omega (arith, le)) i lower
+      | inr high ↦
+          let e : i ≡ n = omega (arith, il, high) in
+          let at : Carries h.config own.trace own.log (moved_times n first) (after_alone h.config 0 grown n) = carried h.config st.single own.trace own.log long first grown begins n (goes n (omega (arith, le))) in
+          let going : is_done (local_in h.config (after_alone h.config 0 grown n) 0) ≡ false = not_done _ (turn_of (next_effect h.config (after_alone h.config 0 grown n).state 0).step) (ends.went n (omega (arith, le))) in
+          subst (λ j. is_done (moved_times j first).thread ≡ false) (sym e) (sym (behind_done own.trace own.log long (moved_times n first).thread) ∙ sym (ap is_done at.thread) ∙ going)
+    ]
+
+    abbrev pub last : Machine
+    last = moved_times turns first
+
+    abbrev pub later : Run
+    later = after_alone h.config 0 grown turns
+
+    arrives : Carries h.config own.trace own.log last later
+    arrives = carried h.config st.single own.trace own.log long first grown begins turns (goes turns (omega arith))
+
+    pub log_is : last.thread.log ≡ ends.entry ∷ []
+    log_is = append_cancel_left own.log last.thread.log (ends.entry ∷ [])
+        (sym (ap (λ (l : LocalState). l.log) arrives.thread) ∙ ends.log ∙ ap (λ (l : LocalState). l.log ++ ends.entry ∷ []) begins.thread ∙ ap (λ x. x ++ ends.entry ∷ []) (append-nil own.log))
+
+    trace_is : last.thread.trace ≡ k ∷ []
+    trace_is = moved_trace turns first
+
+    rest_then : is_rest last.thread.part ≡ true
+    rest_then = sym (ap (λ (l : LocalState). is_rest l.part) arrives.thread) ∙ ends.rest
+
+    pub over : is_done last.thread ≡ true
+    over = λ i. rest_then i && eqb (length (log_is i)) (length (trace_is i))
+
+    -- no more events than these go on
+    pub no_more : (n : ℕ) → GoesOn n first → n ≤ turns
+    no_more n going = elim (cases_lt turns n) [
+      | inl more ↦ (let z : false ≡ true = sym (going turns more) ∙ over in cc)
+      | inr fine ↦ fine
+    ]
+
+    pub never_long : (n : ℕ) → GoesOn n first → n ≤ 2 ^ 40
+    never_long n going = omega (arith, no_more n going, turns_few rate planned, bound_low h.config rate k st.run.after.job.bounds.config (rate_low h.config rate st.run.after.job.bounds.config st.run.after.job.plan planned) st.single fits)
+
+    pub stays_safe : (n : ℕ) → GoesOn n first → IsSafe (moved_times n first).thread.config (moved_times n first).words (moved_times n first).thread
+    stays_safe n going = safe h.config st.single own.trace own.log long (moved_times n first) (after_alone h.config 0 grown n) (carried h.config st.single own.trace own.log long first grown begins n going)
+
+    then_log : (local_in h.config later 0).log ≡ own.log ++ ends.entry ∷ []
+    then_log = ap (λ (l : LocalState). l.log) arrives.thread ∙ ap (λ x. own.log ++ x) log_is
+
+    -- the heap that has served it
+    abbrev pub served : Control
+    served = record { config = h.config; words = last.words; thread = last.thread }
+
+    pub one_more : asked served ≡ asked h + 1
+    one_more = (let a : length last.thread.log ≡ 1 = ap length log_is in let b = moved_before turns first in omega (arith, a, b))
+
+    pub stands_then : Stands served later
+    stands_then = record {
+      single = st.single;
+      run = arrives.run;
+      words = arrives.words;
+      thread = history_of (local_in h.config later 0) last.thread own.trace own.log arrives.thread;
+      count = (let a : length (local_in h.config later 0).log ≡ length own.log + 1 = ap length then_log ∙ length-append own.log (ends.entry ∷ []) in let b = one_more in let n = st.count in omega (arith, a, b, n));
+      done = ap is_done arrives.thread ∙ behind_done own.trace own.log long last.thread ∙ over;
+      quiet = ends.quiet;
+      one = ap length trace_is;
+    }
+
+    items_added : Added grown later
+    items_added = added_alone h.config turns grown
+
+    -- the entries that it adds
+    entries_are : entries_in items_added.items ≡ ends.entry ∷ []
+    entries_are = sym items_added.own ∙ append_cancel_left own.log (part 0 items_added.items) (ends.entry ∷ [])
+        (ap (λ x. x ++ part 0 items_added.items) (sym (told_at_rest h.config st.single r st.run.after at_rest))
+        ∙ sym (part_append 0 r.order items_added.items) ∙ ap (part 0) (sym items_added.order)
+        ∙ told_at_rest h.config st.single later arrives.run.after ends.rest ∙ then_log)
+
+    pub answers_then : (a : Reply) → a ≡ ends.entry.reply → Answers h.config k a r later
+    answers_then a is = record {
+      turns = turns;
+      few = turns_few;
+      went = ends.went;
+      after = refl;
+      items = items_added.items;
+      order = items_added.order;
+      entry = ends.entry;
+      entries = entries_are;
+      command = ends.command ∙ command_is;
+      reply = sym is;
+    }
+
+    -- whoever has served it
+    module _ (z : Machine) (is : Served first z) where
+      events_are : is.events ≡ turns
+      events_are = elim (cases_lt is.events turns) [
+        | inl fewer ↦ (let e : false ≡ true = sym (goes turns (omega arith) is.events fewer) ∙ sym (ap (λ (m : Machine). is_done m.thread) is.after) ∙ is.done in cc)
+        | inr more ↦ (let n = no_more is.events is.going in omega (arith, n, more))
+      ]
+
+      pub machine_is : z ≡ last
+      machine_is = is.after ∙ ap (λ n. moved_times n first) events_are
+
+      pub served_is : record { config = h.config; words = z.words; thread = z.thread } ≡ served
+      served_is = λ i. record { config = h.config; words = (machine_is i).words; thread = (machine_is i).thread }
+
+      pub reply_is : (d : Entry) (a : Reply) → a ≡ (get_or z.thread.log 0 d).reply → a ≡ ends.entry.reply
+      reply_is d a e = e ∙ ap (λ (m : Machine). (get_or m.thread.log 0 d).reply) machine_is ∙ ap (λ (x : List Entry). (get_or x 0 d).reply) log_is
+
+      pub has_answered : (d : Entry) (a : Reply) → a ≡ (get_or z.thread.log 0 d).reply → (new : Control) → new ≡ record { config = h.config; words = z.words; thread = z.thread } → (q : Run) × Stands new q × Answers h.config k a r q
+      has_answered d a e new same = (later, subst (λ x. Stands x later) (sym (same ∙ served_is)) stands_then, answers_then a (reply_is d a e))
+
+      pub stands_after : Stands (record { config = h.config; words = z.words; thread = z.thread }) later
+      stands_after = subst (λ x. Stands x later) (sym served_is) stands_then
+
+      pub more_asked : asked (record { config = h.config; words = z.words; thread = z.thread }) ≡ asked h + 1
+      more_asked = ap asked served_is ∙ one_more
+
+      pub logged : length z.thread.log ≡ 1
+      logged = ap (λ (m : Machine). length m.thread.log) machine_is ∙ ap length log_is

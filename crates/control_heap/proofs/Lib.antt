@@ -1,0 +1,9 @@
+pub mod Behind
+pub mod Carried
+pub mod Ending
+pub mod Growing
+pub mod Histories
+pub mod Items
+pub mod Opened
+pub mod Opening
+pub mod Serving

@@ -1,0 +1,133 @@
+-- A heap of one thread that is asked one command at a time: the runs for which it stands, and how it
+-- answers a command.
+use Rattle.std.specs.Prelude.{ℕ, zero, suc, ◌+◌, ◌<◌, ◌≤◌, ◌≡◌, ◌++◌, true, false, List, [], ◌∷◌, length, map, slice_index}
+use Rattle.block_store.specs.declared.Config.{Config}
+use Rattle.rate_plan.specs.Rates.{IsRate}
+use Rattle.never_heap.specs.declared.Command.{Command}
+use Rattle.never_heap.specs.declared.Entry.{Entry}
+use Rattle.never_heap.specs.declared.Reply.{Reply}
+use Rattle.never_heap.specs.Bounds.{IsCommandInBounds}
+use Rattle.never_heap.specs.Histories.{HistoryItem, Started, Did}
+use Rattle.heap_machine.specs.Operations.{op_place, words_after}
+use Rattle.heap_system.specs.declared.Turn.TheVariants.{Went}
+use Rattle.heap_system.specs.Alone.{IsQuiet, after_alone, command_bound}
+use Rattle.heap_system.specs.Locals.{LocalState, begun, is_done, local_got, op_wanted}
+use Rattle.heap_system.specs.Machines.{Run, IsAfterTurns, answer, local_in, opened}
+use Rattle.control_heap.specs.Growth.{AllGo, run_grown}
+
+-- the configuration, the words, and the thread, which keeps its last command and its entry alone
+pub record Control : Type 0 where
+  pub config : Config
+  pub words : List ℕ
+  pub thread : LocalState
+
+-- the commands that it was asked so far
+abbrev pub asked : Control → ℕ
+asked h = h.thread.before + length h.thread.log
+
+-- a thread with another trace and log, and none before them
+abbrev pub with_history : List Command → List Entry → LocalState → LocalState
+with_history trace log l = record l { before = 0; trace = trace; log = log }
+
+-- a run of some job by turns that were all events
+pub record IsByEvents (c : Config) (r : Run) : Type 0 where
+  pub after : IsAfterTurns c r
+  pub events : AllGo c (opened c after.by_turns.first) after.turns
+
+-- The heap stands for a run of a job of one thread: its words are those of the run, and its thread
+-- is that of the run but for the trace and the log, of which it keeps nothing but how many there
+-- are. The thread has done what it was asked, nobody is inside, and the gate is open.
+pub record Stands (h : Control) (r : Run) : Type 0 where
+  pub single : h.config.threads ≡ 1
+  pub run : IsByEvents h.config r
+  pub words : r.state.words ≡ h.words
+  pub thread : local_in h.config r 0
+      ≡ with_history (local_in h.config r 0).trace (local_in h.config r 0).log h.thread
+  pub count : length (local_in h.config r 0).log ≡ asked h
+  pub done : is_done (local_in h.config r 0) ≡ true
+  pub quiet : IsQuiet h.config r
+  pub one : length h.thread.trace ≡ 1
+
+-- all entries of a history
+abbrev pub entries_in : List HistoryItem → List Entry
+entries_in [] = []
+entries_in (Started ∷ h) = entries_in h
+entries_in (Did e ∷ h) = e ∷ entries_in h
+
+-- Run z is run r with command k behind the trace, and this reply to it: the thread had at most so
+-- many turns more as are the bound of a lone thread, of which none waited. The order of z is that
+-- of r with items behind it: starts, and the entry of k with the reply, and no other.
+pub record Answers (c : Config) (k : Command) (a : Reply) (r z : Run) : Type 0 where
+  pub turns : ℕ
+  pub few : (rate : ℕ) → IsRate c rate → turns ≤ command_bound c rate k
+  pub went : (i : ℕ) → i < turns → answer c 0 (after_alone c 0 (run_grown 0 k r) i).state ≡ Went
+  pub after : z ≡ after_alone c 0 (run_grown 0 k r) turns
+  pub items : List HistoryItem
+  pub order : z.order ≡ r.order ++ items
+  pub entry : Entry
+  pub entries : entries_in items ≡ entry ∷ []
+  pub command : entry.command ≡ k
+  pub reply : entry.reply ≡ a
+
+-- after a command the heap stands for such a run, whichever run it stood for
+abbrev pub HasAnswered : Control → Command → Reply → Control → Type 0
+HasAnswered old k reply new = (r : Run) → Stands old r → (z : Run) × Stands new z × Answers old.config k reply r z
+
+-- a heap was asked these commands one after the other, was answered so, and is then z
+abbrev pub AllAnswered : Control → List Command → List Reply → Control → Type 0
+AllAnswered h [] [] z = h ≡ z
+AllAnswered h (k ∷ ks) (a ∷ ys) z =
+    (n : Control) × (n.config ≡ h.config) × HasAnswered h k a n × AllAnswered n ks ys z
+AllAnswered h _ _ z = ⊥
+
+-- run q is r with these commands asked and answered so: one history with r's in front
+pub record HasHistory (z : Control) (ks : List Command) (ys : List Reply) (r : Run) : Type 0 where
+  pub run : Run
+  pub stands : Stands z run
+  pub items : List HistoryItem
+  pub order : run.order ≡ r.order ++ items
+  pub commands : map (λ (e : Entry). e.command) (entries_in items) ≡ ks
+  pub replies : map (λ (e : Entry). e.reply) (entries_in items) ≡ ys
+
+-- ---- within a command
+
+-- the words and the thread
+pub record Machine : Type 0 where
+  pub words : List ℕ
+  pub thread : LocalState
+
+-- after its next event
+abbrev pub moved : Machine → Machine
+moved m = record {
+  words = words_after (op_wanted m.thread) m.words;
+  thread = local_got m.thread (slice_index m.words (op_place (op_wanted m.thread)));
+}
+
+-- after so many
+abbrev pub moved_times : ℕ → Machine → Machine
+moved_times zero m = m
+moved_times (suc n) m = moved (moved_times n m)
+
+abbrev pub GoesOn : ℕ → Machine → Type 0
+GoesOn n m = (i : ℕ) → i < n → is_done (moved_times i m).thread ≡ false
+
+-- as many events as it takes
+pub record Served (m z : Machine) : Type 0 where
+  pub events : ℕ
+  pub going : GoesOn events m
+  pub after : z ≡ moved_times events m
+  pub done : is_done z.thread ≡ true
+
+-- a heap that was given a command
+abbrev pub given_to : Control → Command → Machine
+given_to h k = record { words = h.words; thread = begun k h.thread }
+
+-- a heap that has a command in hand
+pub record HasBegun (m : Machine) : Type 0 where
+  pub heap : Control
+  pub command : Command
+  pub run : Run
+  pub stood : Stands heap run
+  pub bounds : IsCommandInBounds heap.config command
+  pub left : asked heap < 131072
+  pub same : m ≡ given_to heap command
