@@ -6,7 +6,7 @@ use Rattle.never_heap.specs.declared.Command.TheVariants as commands
 use Rattle.never_heap.specs.declared.Entry.{Entry}
 use Rattle.never_heap.specs.RightWork.{units_told, units_owed}
 use Rattle.never_heap.specs.Steps.{blocks_of}
-use Rattle.heap_system.specs.Locals.{LocalState, command_of, entries_of, balance_got, effect, part_got, local_got, is_done, is_rest, begun}
+use Rattle.heap_system.specs.Locals.{LocalState, command_of, entries_of, balance_got, made_got, effect, part_got, local_got, is_done, is_rest, begun}
 use Rattle.control_heap.specs.Controls.{with_history}
 use Rattle.control_heap.specs.Growth.{given}
 
@@ -36,6 +36,7 @@ module _ (ks : List Command) (es : List Entry) (long : length ks ≡ length es) 
         trace = ks ++ l.trace;
         log = es ++ (l.log ++ entries_of l.thread m l.spent e.reply);
         balance = balance_got e (units_told m) (blocks_of l.config.width m) l.balance;
+        made = made_got m e.reply l.made;
         part = part_got l.config l.thread (record {
           command = m;
           due = units_owed l.config.width l.rate m - l.spent;

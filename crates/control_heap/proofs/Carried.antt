@@ -21,7 +21,7 @@ use Rattle.control_heap.specs.Controls.{IsByEvents, Machine, moved, moved_times,
 use Rattle.control_heap.specs.Growth.{run_grown}
 use Rattle.control_heap.proofs.Behind.{behind, behind_got, behind_done}
 use Rattle.control_heap.proofs.Growing.{go_more, go_grown}
-use Rattle.control_heap.proofs.Opening.{job_grown, run_extended}
+use Rattle.control_heap.proofs.Opening.{HasRoomFor, job_grown, run_extended}
 
 -- the words and the thread are those of a run, but for what is in front of its trace and log
 pub record Carries (c : Config) (ks : List Command) (es : List Entry) (m : Machine) (r : Run) : Type 0 where
@@ -63,7 +63,7 @@ module _ (c : Config) (single : c.threads ≡ 1) where
   }
 
   -- and one command more
-  pub events_grown : (r : Run) (is : IsByEvents c r) (k : Command) → IsCommandInBounds c k → length (get_or is.after.traces 0 []) < 131072 → IsByEvents c (run_grown 0 k r)
+  pub events_grown : (r : Run) (is : IsByEvents c r) (k : Command) → IsCommandInBounds c k → HasRoomFor c 0 k (get_or is.after.traces 0 []) → IsByEvents c (run_grown 0 k r)
   events_grown r is k fits room =
       let a = is.after in
       record {

@@ -1,7 +1,8 @@
 -- A command is served within its bound, and what the heap stands for then.
-use Rattle.std.proofs.Common.{◌≡◌, ℕ, zero, suc, ◌+◌, ◌*◌, ◌^◌, ◌<◌, ◌≤◌, Bool, true, false, cond, ◌&&◌, eqb, eqb-true, subst, List, [], ◌∷◌, ◌++◌, length, length-append, append-nil, get_or, refl, sym, ap, ◌∙◌, arith, inl, inr}
+use Rattle.std.proofs.Common.{◌≡◌, ℕ, zero, suc, ◌+◌, ◌*◌, ◌^◌, ◌≤◌, Bool, true, false, cond, ◌&&◌, eqb, eqb-true, subst, List, [], ◌∷◌, ◌++◌, length, length-append, append-nil, get_or, map, take, refl, sym, ap, ◌∙◌, arith, inl, inr}
 use Rattle.std.proofs.lemmas.Bool.{cases_lt, and_parts}
 use Rattle.std.proofs.lemmas.List.{append_cancel_left}
+use Rattle.std.proofs.Math.Seq.{take-length}
 use Rattle.std.proofs.Math.Nat.{mul-le-mul_right}
 use Rattle.block_store.specs.declared.Config.{Config}
 use Rattle.block_store.specs.Configs.{IsInBounds}
@@ -12,7 +13,11 @@ use Rattle.never_heap.specs.declared.Entry.{Entry}
 use Rattle.never_heap.specs.declared.Reply.{Reply}
 use Rattle.never_heap.specs.Bounds.{IsCommandInBounds}
 use Rattle.never_heap.specs.Histories.{part, replay}
-use Rattle.never_heap.specs.RightWork.{units_told}
+use Rattle.never_heap.specs.RightWork.{units_told, units_owed}
+use Rattle.heap_system.specs.Lives.{sum_after, objects_of, most_units, most_objects}
+use Rattle.heap_system.specs.Units.{IsRight}
+use Rattle.heap_system.proofs.Told.{entries_right}
+use Rattle.control_heap.proofs.Opening.{HasRoomFor, sum_more, sum_last, owed_works}
 use Rattle.never_heap.specs.Steps.{makes_object, blocks_of}
 use Rattle.never_heap.proofs.Growing.{part_append}
 use Rattle.barrier_steps.specs.Operands.{is_idle}
@@ -21,18 +26,18 @@ use Rattle.heap_system.specs.declared.local.Part.TheVariants.{Rest}
 use Rattle.heap_system.specs.declared.Turn.{Turn}
 use Rattle.heap_system.specs.declared.Turn.TheVariants.{Went, Done}
 use Rattle.heap_system.specs.Alone.{IsQuiet, HasCommand, EndsWithin, after_alone, command_bound}
-use Rattle.heap_system.specs.Locals.{LocalState, begun, command_of, entries_of, is_done, is_rest, owed, turn_of}
+use Rattle.heap_system.specs.Locals.{LocalState, begun, command_of, entries_of, is_done, is_rest, owed, turn_of, works, IsLocal}
 use Rattle.heap_system.specs.Machines.{Run, IsAfterTurns, local_in, next_effect}
 use Rattle.heap_system.specs.Pictures.{waiting}
 use Rattle.heap_system.proofs.Kept.{Kept}
-use Rattle.heap_system.proofs.Paying.{blocks_low, told_low, rate_low}
+use Rattle.heap_system.proofs.Paying.{works_append, blocks_low, told_low, rate_low}
 use Rattle.heap_system.proofs.Reached.{rest_is}
 use Rattle.heap_system.proofs.Seeing.{IsSettled}
 use Rattle.heap_system.proofs.Starting.{one_rate}
 use Rattle.heap_system.proofs.alone.Runs.{lone_ends}
-use Rattle.control_heap.specs.Controls.{Control, Stands, Answers, Machine, Served, GoesOn, asked, given_to, moved_times, entries_in}
+use Rattle.control_heap.specs.Controls.{Control, Stands, Answers, Machine, Served, GoesOn, asked, HasLeft, given_to, moved_times, entries_in}
 use Rattle.control_heap.specs.Growth.{run_grown, given}
-use Rattle.control_heap.proofs.Behind.{behind_done, command_same, given_behind, history_of}
+use Rattle.control_heap.proofs.Behind.{behind, behind_done, command_same, given_behind, history_of}
 use Rattle.control_heap.proofs.Carried.{Carries, IsSafe, carried, events_grown, kept_of, low, safe}
 use Rattle.control_heap.proofs.Growing.{local_grown}
 use Rattle.control_heap.proofs.Items.{Added, added_alone}
@@ -102,24 +107,50 @@ module _ (h : Control) (r : Run) (st : Stands h r) where
       let settled : IsSettled (owed own) own.spent Rest = subst (λ p. IsSettled (owed own) own.spent p) (rest_is own.part at_rest) (kept.locals 0 (low h.config st.single)).settled in
       sym (ap (λ (l : LocalState). l.spent) st.thread) ∙ settled
 
+  -- what its commands owe was made
+  owed_is : (p : ℕ) → IsRate h.config p → sum_after (units_owed h.config.width p) 0 own.trace ≡ works own.log
+  owed_is p is =
+      let right : IsRight h.config.width p own.log = subst (λ es. IsRight h.config.width p es) (told_at_rest h.config st.single r st.run.after at_rest) (entries_right h.config st.run.after.traces r kept 0 (low h.config st.single) p is) in
+      let all : map (λ (e : Entry). e.command) own.log ≡ own.trace = (kept.locals 0 (low h.config st.single)).said ∙ ap (λ n. take n own.trace) (sym long) ∙ take-length own.trace in
+      sym (ap (sum_after (units_owed h.config.width p) 0) all) ∙ owed_works h.config.width p own.log right
+
   pub config_is : h.thread.config ≡ h.config
   config_is = sym (ap (λ (l : LocalState). l.config) st.thread) ∙ (kept.locals 0 (low h.config st.single)).config
 
-  module _ (k : Command) (fits : IsCommandInBounds h.config k) (left : asked h < 131072) where
+  module _ (k : Command) (fits : IsCommandInBounds h.config k) (left : HasLeft h k) where
     abbrev first : Machine
     first = given_to h k
 
     abbrev grown : Run
     grown = run_grown 0 k r
 
+    room_here : HasRoomFor h.config 0 k own.trace
+    room_here = record {
+      few = (let l = long in omega (arith, l, st.count, left.0));
+      units = λ p is. omega (arith, owed_is p is, st.units, left.2 p is);
+      objects = omega (arith, st.objects, left.1);
+    }
+
     begins : Carries h.config own.trace own.log first grown
     begins = record {
-      run = events_grown h.config st.single r st.run k fits (let e : length own.trace ≡ length (get_or st.run.after.traces 0 []) = ap length (kept.locals 0 (low h.config st.single)).trace in let l = long in let n = st.count in omega (arith, e, l, n, left));
+      run = events_grown h.config st.single r st.run k fits (subst (λ x. HasRoomFor h.config 0 k x) (kept.locals 0 (low h.config st.single)).trace room_here);
       words = st.words;
       thread = local_grown 0 k h.config (low h.config st.single) r.state 0
           ∙ ap (λ n. cond (eqb n 0) (given k own) own) (kept.locals 0 (low h.config st.single)).thread
           ∙ given_behind own h.thread k st.thread;
     }
+
+    grown_fits : IsLocal (behind own.trace own.log first.thread)
+    grown_fits = subst (λ l. IsLocal l) begins.thread ((kept_of h.config st.single grown begins.run.after).locals 0 (low h.config st.single)).fits
+
+    as_long : length (own.log ++ []) ≡ length own.trace
+    as_long = ap length (append-nil own.log) ∙ sym long
+
+    pub begin_units : h.thread.before + works h.thread.log + units_owed h.thread.config.width h.thread.rate k ≤ most_units
+    begin_units = omega (arith, grown_fits.life, sum_last (units_owed h.thread.config.width h.thread.rate) own.trace k (length (own.log ++ [])) as_long, ap works (append-nil own.log), st.units)
+
+    pub begin_objects : h.thread.made + objects_of k ≤ most_objects
+    begin_objects = omega (arith, grown_fits.made, sum_last objects_of own.trace k (length (own.log ++ [])) as_long)
 
     quiet : IsQuiet h.config grown
     quiet = record { nobody = st.quiet.nobody; opened = st.quiet.opened }
@@ -199,10 +230,10 @@ module _ (h : Control) (r : Run) (st : Stands h r) where
 
     -- the heap that has served it
     abbrev pub served : Control
-    served = record { config = h.config; words = last.words; thread = last.thread }
+    served = record { config = h.config; words = last.words; thread = last.thread; count = h.count + 1; objects = h.objects + objects_of k }
 
     pub one_more : asked served ≡ asked h + 1
-    one_more = (let a : length last.thread.log ≡ 1 = ap length log_is in let b = moved_before turns first in omega (arith, a, b))
+    one_more = refl
 
     pub stands_then : Stands served later
     stands_then = record {
@@ -210,7 +241,9 @@ module _ (h : Control) (r : Run) (st : Stands h r) where
       run = arrives.run;
       words = arrives.words;
       thread = history_of (local_in h.config later 0) last.thread own.trace own.log arrives.thread;
-      count = (let a : length (local_in h.config later 0).log ≡ length own.log + 1 = ap length then_log ∙ length-append own.log (ends.entry ∷ []) in let b = one_more in let n = st.count in omega (arith, a, b, n));
+      count = (let a : length (local_in h.config later 0).log ≡ length own.log + 1 = ap length then_log ∙ length-append own.log (ends.entry ∷ []) in let n = st.count in omega (arith, a, n));
+      units = (let a : works (local_in h.config later 0).log ≡ works own.log + (ends.entry.work + 0) = ap works then_log ∙ works_append own.log (ends.entry ∷ []) in let b : works last.thread.log ≡ ends.entry.work + 0 = ap works log_is in omega (arith, a, b, moved_before turns first, st.units));
+      objects = ap (sum_after objects_of 0) (ap (λ (l : LocalState). l.trace) arrives.thread ∙ ap (λ x. own.trace ++ x) trace_is) ∙ sum_more objects_of own.trace k ∙ ap (λ n. n + objects_of k) st.objects;
       done = ap is_done arrives.thread ∙ behind_done own.trace own.log long last.thread ∙ over;
       quiet = ends.quiet;
       one = ap length trace_is;
@@ -251,19 +284,19 @@ module _ (h : Control) (r : Run) (st : Stands h r) where
       pub machine_is : z ≡ last
       machine_is = is.after ∙ ap (λ n. moved_times n first) events_are
 
-      pub served_is : record { config = h.config; words = z.words; thread = z.thread } ≡ served
-      served_is = λ i. record { config = h.config; words = (machine_is i).words; thread = (machine_is i).thread }
+      pub served_is : record { config = h.config; words = z.words; thread = z.thread; count = h.count + 1; objects = h.objects + objects_of k } ≡ served
+      served_is = λ i. record { config = h.config; words = (machine_is i).words; thread = (machine_is i).thread; count = h.count + 1; objects = h.objects + objects_of k }
 
       pub reply_is : (d : Entry) (a : Reply) → a ≡ (get_or z.thread.log 0 d).reply → a ≡ ends.entry.reply
       reply_is d a e = e ∙ ap (λ (m : Machine). (get_or m.thread.log 0 d).reply) machine_is ∙ ap (λ (x : List Entry). (get_or x 0 d).reply) log_is
 
-      pub has_answered : (d : Entry) (a : Reply) → a ≡ (get_or z.thread.log 0 d).reply → (new : Control) → new ≡ record { config = h.config; words = z.words; thread = z.thread } → (q : Run) × Stands new q × Answers h.config k a r q
+      pub has_answered : (d : Entry) (a : Reply) → a ≡ (get_or z.thread.log 0 d).reply → (new : Control) → new ≡ record { config = h.config; words = z.words; thread = z.thread; count = h.count + 1; objects = h.objects + objects_of k } → (q : Run) × Stands new q × Answers h.config k a r q
       has_answered d a e new same = (later, subst (λ x. Stands x later) (sym (same ∙ served_is)) stands_then, answers_then a (reply_is d a e))
 
-      pub stands_after : Stands (record { config = h.config; words = z.words; thread = z.thread }) later
+      pub stands_after : Stands (record { config = h.config; words = z.words; thread = z.thread; count = h.count + 1; objects = h.objects + objects_of k }) later
       stands_after = subst (λ x. Stands x later) (sym served_is) stands_then
 
-      pub more_asked : asked (record { config = h.config; words = z.words; thread = z.thread }) ≡ asked h + 1
+      pub more_asked : asked (record { config = h.config; words = z.words; thread = z.thread; count = h.count + 1; objects = h.objects + objects_of k }) ≡ asked h + 1
       more_asked = ap asked served_is ∙ one_more
 
       pub logged : length z.thread.log ≡ 1

@@ -13,7 +13,7 @@ use Rattle.never_heap.specs.Steps.{blocks_of}
 use Rattle.heap_machine.specs.Operations.{op_at, op_place, words_after}
 use Rattle.heap_system.specs.declared.local.Part.{Part}
 use Rattle.heap_system.specs.declared.local.Part.TheVariants.{Rest, Enter, Serve, Mark, Sweep, Build, Again, Idle, TurnOver, Leave}
-use Rattle.heap_system.specs.Locals.{LocalState, Effect, IsLocal, PartFits, command_of, entries_of, balance_got, effect, part_want, part_got, local_got, is_done, is_rest}
+use Rattle.heap_system.specs.Locals.{LocalState, Effect, IsLocal, PartFits, command_of, entries_of, balance_got, made_got, effect, part_want, part_got, local_got, is_done, is_rest}
 use Rattle.heap_system.specs.Machines.{State, Run, IsJob, local_at, no_local, heap_in, word_read, next_effect, event_done, has_event, items_by, next, after_turns}
 use Rattle.heap_system.specs.Naming.{renamed}
 use Rattle.heap_system.proofs.Kept.{Kept}
@@ -54,6 +54,7 @@ module _ (t : ℕ) (k : Command) where
         trace = l.trace ++ k ∷ [];
         log = l.log ++ entries_of l.thread m l.spent e.reply;
         balance = balance_got e (units_told m) (blocks_of l.config.width m) l.balance;
+        made = made_got m e.reply l.made;
         part = part_got l.config l.thread (record {
           command = m;
           due = units_owed l.config.width l.rate m - l.spent;

@@ -10,18 +10,18 @@ use Rattle.block_store.proofs.PhaseWords.{inside-code, closed-code}
 use Rattle.rate_plan.specs.Rates.{IsRate, IsAdmitted}
 use Rattle.never_heap.specs.declared.Command.{Command}
 use Rattle.never_heap.specs.Histories.{Started}
-use Rattle.heap_system.specs.Locals.{LocalState, at_start}
+use Rattle.heap_system.specs.Locals.{LocalState, at_start, works}
 use Rattle.heap_system.specs.Machines.{State, Run, IsJob, IsOpening, opened}
 use Rattle.heap_system.specs.Openings.{opening_heap}
 use Rattle.control_heap.specs.Controls.{Stands, with_history}
 
 pub stands_first : (c : Config) → IsInBounds c → IsAdmitted c → c.threads ≡ 1 → (ws : List ℕ) → length ws ≡ words_count (extent c) → ((p : Place) → in_range (extent c) p ≡ true → heap_of (extent c) ws p ≡ opening_heap c p)
     → (l : LocalState) (k : Command) → IsRate c l.rate → c.object ≤ l.space → l ≡ at_start c l.rate l.space 0 (k ∷ [])
-    → (r : Run) × Stands (record { config = c; words = ws; thread = l }) r × (r.order ≡ Started ∷ [])
+    → (r : Run) × Stands (record { config = c; words = ws; thread = l; count = 0; objects = 0 }) r × (r.order ≡ Started ∷ [])
 stands_first c bounds plan single ws count words l k rate roomy is =
     let s : State = record { words = ws; locals = at_start c l.rate l.space 0 [] ∷ [] } in
     let job : IsJob c ([] ∷ []) = record {
-      bounds = record { config = bounds; threads = sym single; each = (record { few = omega arith; commands = tt }, tt) };
+      bounds = record { config = bounds; threads = sym single; each = (record { asked = record { few = omega arith; commands = tt }; units = λ p is. omega arith; objects = omega arith }, tt) };
       plan = plan;
     } in
     let start : IsOpening c ([] ∷ []) s = record {
@@ -40,7 +40,9 @@ stands_first c bounds plan single ws count words l k rate roomy is =
         run = record { after = record { traces = [] ∷ []; job = job; turns = []; by_turns = record { first = s; opening = start; turns = refl } }; events = tt };
         words = refl;
         thread = sym (ap (with_history [] []) is);
-        count = sym (ap (λ (x : LocalState). x.before + length x.log) is);
+        count = refl;
+        units = sym (ap (λ (x : LocalState). x.before + works x.log) is);
+        objects = refl;
         done = refl;
         quiet = record {
           nobody = ap inside_of (words Phase refl) ∙ inside-code p (omega arith);

@@ -1,5 +1,5 @@
 -- What the code meets that serves a command.
-use Rattle.std.proofs.Common.{◌≡◌, ℕ, suc, ◌+◌, ◌^◌, ◌<◌, ◌≤◌, false, subst, get_or, List, refl, sym, ap, ◌∙◌, arith, inl, inr}
+use Rattle.std.proofs.Common.{◌≡◌, ℕ, suc, ◌+◌, ◌^◌, ◌≤◌, false, subst, get_or, List, refl, sym, ap, ◌∙◌, arith, inl, inr}
 use Rattle.std.proofs.lemmas.Bool.{cases_lt}
 use Rattle.never_heap.specs.declared.Command.{Command}
 use Rattle.never_heap.specs.declared.Entry.{Entry}
@@ -8,7 +8,8 @@ use Rattle.never_heap.specs.Bounds.{IsCommandInBounds}
 use Rattle.heap_machine.specs.Operations.{op_place, words_after}
 use Rattle.heap_machine.specs.declared.op.Op.{Op}
 use Rattle.heap_system.specs.Locals.{LocalState, is_done, local_got, op_wanted}
-use Rattle.control_heap.specs.Controls.{Control, Machine, Served, HasAnswered, HasBegun, GoesOn, asked, moved, moved_times, given_to}
+use Rattle.heap_system.specs.Lives.{objects_of}
+use Rattle.control_heap.specs.Controls.{HasLeft, Control, Machine, Served, HasAnswered, HasBegun, GoesOn, moved, moved_times, given_to}
 use Rattle.control_heap.proofs.Carried.{IsSafe}
 use Rattle.control_heap.proofs.Ending.{has_answered, never_long, stays_safe}
 
@@ -39,7 +40,7 @@ moves_on m n x at op wants w reads ws acts l gets =
 
 -- the reply is the one of each run for which the heap stood
 pub all_answered : (h now : Control) → h ≡ now → (k : Command) (z : Machine) → Served (given_to h k) z → (d : Entry) (a : Reply) → a ≡ (get_or z.thread.log 0 d).reply
-    → IsCommandInBounds now.config k → asked now < 131072 → HasAnswered now k a (record { config = h.config; words = z.words; thread = z.thread })
+    → IsCommandInBounds now.config k → HasLeft now k → HasAnswered now k a (record { config = h.config; words = z.words; thread = z.thread; count = h.count + 1; objects = h.objects + objects_of k })
 all_answered h now same k z is d a e =
-    subst (λ (x : Control). IsCommandInBounds x.config k → asked x < 131072 → HasAnswered x k a (record { config = h.config; words = z.words; thread = z.thread })) same
-    (λ fits left r st. has_answered h r st k fits left z is d a e (record { config = h.config; words = z.words; thread = z.thread }) refl)
+    subst (λ (x : Control). IsCommandInBounds x.config k → HasLeft x k → HasAnswered x k a (record { config = h.config; words = z.words; thread = z.thread; count = h.count + 1; objects = h.objects + objects_of k })) same
+    (λ fits left r st. has_answered h r st k fits left z is d a e (record { config = h.config; words = z.words; thread = z.thread; count = h.count + 1; objects = h.objects + objects_of k }) refl)

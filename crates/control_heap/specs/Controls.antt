@@ -11,19 +11,35 @@ use Rattle.never_heap.specs.Histories.{HistoryItem, Started, Did}
 use Rattle.heap_machine.specs.Operations.{op_place, words_after}
 use Rattle.heap_system.specs.declared.Turn.TheVariants.{Went}
 use Rattle.heap_system.specs.Alone.{IsQuiet, after_alone, command_bound}
-use Rattle.heap_system.specs.Locals.{LocalState, begun, is_done, local_got, op_wanted}
+use Rattle.never_heap.specs.RightWork.{units_owed}
+use Rattle.heap_system.specs.Lives.{sum_after, objects_of, most_commands, most_objects, most_units}
+use Rattle.heap_system.specs.Locals.{LocalState, begun, is_done, local_got, op_wanted, works}
 use Rattle.heap_system.specs.Machines.{Run, IsAfterTurns, answer, local_in, opened}
 use Rattle.control_heap.specs.Growth.{AllGo, run_grown}
 
--- the configuration, the words, and the thread, which keeps its last command and its entry alone
+-- The configuration, the words, and the thread, which keeps its last command and its entry alone; how
+-- many commands it was asked, and how many of them make an object.
 pub record Control : Type 0 where
   pub config : Config
   pub words : List ℕ
   pub thread : LocalState
+  pub count : ℕ
+  pub objects : ℕ
 
 -- the commands that it was asked so far
 abbrev pub asked : Control → ℕ
-asked h = h.thread.before + length h.thread.log
+asked h = h.count
+
+-- the units that were made for them
+abbrev pub units : Control → ℕ
+units h = h.thread.before + works h.thread.log
+
+-- It may be asked one command more: not too many were asked, of those that make an object there were
+-- fewer than a life has, and its units fit.
+abbrev pub HasLeft : Control → Command → Type 0
+HasLeft h k = (asked h < most_commands) × (h.objects + objects_of k ≤ most_objects)
+    × ((rate : ℕ) → IsRate h.config rate
+        → units h + units_owed h.config.width rate k ≤ most_units)
 
 -- a thread with another trace and log, and none before them
 abbrev pub with_history : List Command → List Entry → LocalState → LocalState
@@ -44,6 +60,8 @@ pub record Stands (h : Control) (r : Run) : Type 0 where
   pub thread : local_in h.config r 0
       ≡ with_history (local_in h.config r 0).trace (local_in h.config r 0).log h.thread
   pub count : length (local_in h.config r 0).log ≡ asked h
+  pub units : works (local_in h.config r 0).log ≡ units h
+  pub objects : sum_after objects_of 0 (local_in h.config r 0).trace ≡ h.objects
   pub done : is_done (local_in h.config r 0) ≡ true
   pub quiet : IsQuiet h.config r
   pub one : length h.thread.trace ≡ 1
@@ -129,5 +147,5 @@ pub record HasBegun (m : Machine) : Type 0 where
   pub run : Run
   pub stood : Stands heap run
   pub bounds : IsCommandInBounds heap.config command
-  pub left : asked heap < 131072
+  pub left : HasLeft heap command
   pub same : m ≡ given_to heap command

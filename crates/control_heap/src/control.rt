@@ -8,9 +8,10 @@ ghost use Rattle.never_heap.specs.declared.Reply.{Reply};
 ghost use Rattle.never_heap.specs.Bounds.{IsCommandInBounds};
 ghost use Rattle.never_heap.specs.Histories.{Started, Legal};
 ghost use Rattle.never_heap.specs.RightWork.{RightWork};
+ghost use Rattle.heap_system.specs.Lives.{objects_of};
 ghost use Rattle.heap_system.specs.Locals.{LocalState};
 ghost use Rattle.heap_system.specs.Machines.{Run};
-ghost use Rattle.control_heap.specs.Controls.{Control, Stands, HasAnswered, AllAnswered, HasHistory, Served, HasBegun, asked};
+ghost use Rattle.control_heap.specs.Controls.{Control, HasLeft, Stands, HasAnswered, AllAnswered, HasHistory, Served, HasBegun, asked};
 
 use block_store::{Config, OutOfMemory};
 use heap_machine::Words;
@@ -25,6 +26,10 @@ pub struct ControlHeap {
     config: Config,
     words: Words,
     thread: Local,
+    // How many commands it was asked.
+    count: u64,
+    // How many of them make an object.
+    objects: u64,
 }
 
 impl Model for ControlHeap {
@@ -33,10 +38,20 @@ impl Model for ControlHeap {
 
     ghost Value = { Control };
 
-    ghost view = { λ h. record { config = h.config; words = h.words; thread = h.thread } };
+    ghost view = { λ h. record { config = h.config; words = h.words; thread = h.thread; count = h.count; objects = h.objects } };
 
     ghost invariant = { λ h. (r : Run)
-        × Stands (record { config = h.config; words = h.words; thread = h.thread }) r };
+        × Stands (record { config = h.config; words = h.words; thread = h.thread; count = h.count; objects = h.objects }) r };
+}
+
+// Whether a command makes an object, as a number.
+fn objects_of(command: Command) -> u64
+    ensures { result ≡ objects_of command }
+{
+    match command {
+        Command::New { .. } | Command::Arr { .. } => 1,
+        _ => 0,
+    }
 }
 
 // Makes the thread's events until it has done the command that it has in hand.
@@ -77,6 +92,8 @@ impl ControlHeap {
             config: c,
             words,
             thread,
+            count: 0,
+            objects: 0,
         })
     }
 
@@ -91,20 +108,22 @@ impl ControlHeap {
     pub fn asked(&self) -> u64
         ensures { result ≡ asked self.now }
     {
-        self.thread.commands_done()
+        self.count
     }
 
-    /// Does a command, and answers its reply. The command is in bounds, and fewer than 131,072 were
-    /// asked before it.
+    /// Does a command, and answers its reply. The command is in bounds, and its units and its object
+    /// fit into the life of the heap's thread.
     pub fn request(&mut self, command: Command) -> Reply
         requires bounds { IsCommandInBounds self.old.config command }
-        requires left { asked self.old < 131072 }
+        requires left { HasLeft self.old command }
         ensures config { self.new.config ≡ self.old.config }
         ensures one_more { asked self.new ≡ asked self.old + 1 }
         ensures answered { HasAnswered self.old command result self.new }
     {
         self.thread.begin(command);
         serve(&mut self.words, &mut self.thread);
+        self.count += 1;
+        self.objects += objects_of(command);
         self.thread.log()[0].reply
     }
 }

@@ -4,7 +4,7 @@
 //! that does nothing.
 #![tactic(auto)]
 
-ghost use Rattle.std.specs.Prelude.{ℕ, Bool, List, ◌<◌, ◌≤◌, ◌+◌, ◌≡◌, ◌*◌, ◌^◌, length};
+ghost use Rattle.std.specs.Prelude.{ℕ, Bool, List, ◌<◌, ◌≤◌, ◌+◌, ◌≡◌, ◌*◌, ◌^◌, ◌-◌};
 ghost use Rattle.block_store.specs.declared.Config.{Config};
 ghost use Rattle.block_store.specs.declared.Name.{Name};
 ghost use Rattle.block_store.specs.declared.Width.{Width};
@@ -14,13 +14,13 @@ ghost use Rattle.array_trees.specs.Openings.{opening_blocks};
 ghost use Rattle.rate_plan.specs.Rates.{KeepsUp};
 ghost use Rattle.never_heap.specs.Cycles.{graph_at};
 ghost use Rattle.never_heap.specs.Given.{given};
-ghost use Rattle.never_heap.specs.Histories.{HistoryItem, Legal, part, starts_in};
+ghost use Rattle.never_heap.specs.Histories.{HistoryItem, Legal, starts_in, work_in};
 ghost use Rattle.never_heap.specs.Licensed.{StartsSmall, NoFulls};
 ghost use Rattle.never_heap.specs.LiveBlocks.{live_blocks};
 ghost use Rattle.kept_names.specs.States.{KeptState};
 ghost use Rattle.kept_names.specs.Kept.{IsKept};
 ghost use Rattle.kept_names.specs.Events as kept_events;
-ghost use Rattle.cycle_tally.specs.Tallies.{Tally, units};
+ghost use Rattle.cycle_tally.specs.Tallies.{Tally, units, made_now};
 ghost use Rattle.cycle_tally.specs.Events.{Event, apply, Guard, run, Guarded};
 ghost use Rattle.cycle_tally.specs.Kept.{IsTold, TallyKept};
 ghost use Rattle.cycle_tally.specs.Openings.{Opened, opening_tally};
@@ -85,12 +85,11 @@ pub fn few_blocks_are_in_use()
         + given c.width s.order s.cycle }
 {}
 
-/// While no thread has decided more commands than a trace has at most, the units of all cycles and
-/// the number of the cycle stay below 2^50.
+/// While the works of what was decided and what was made for the commands in hand are below 2^50, so
+/// are the units of all cycles and the number of the cycle, however many commands there were.
 pub fn counts_stay_small()
     ensures { (c : Config) (rate : ℕ) (s : Tally) → Bound c rate s
-        → 0 < c.blocks → c.threads ≤ 16 → rate ≤ 131070 → c.object ≤ 1024
-        → ((t : ℕ) → t < c.threads → length (part t s.order) ≤ 131072)
+        → 0 < c.blocks → work_in s.order + made_now c.threads s < 2 ^ 50 - 1
         → (units c.blocks s < 2 ^ 50) × (s.cycle < 2 ^ 50) }
 {}
 

@@ -108,8 +108,8 @@ module _ (c : Config) (traces : List (List Command)) (job : IsJob c traces) (s :
       plan = job.plan;
       rate = start.planned;
       thread = tl;
-      trace = each_at c traces job t tl;
-      life = omega (arith, (each_at c traces job t tl).few);
+      trace = (each_at c traces job t tl).asked;
+      life = omega (arith, (each_at c traces job t tl).units start.rate start.planned);
       log = omega arith;
       part = tt;
       paid = omega arith;
@@ -117,8 +117,7 @@ module _ (c : Config) (traces : List (List Command)) (job : IsJob c traces) (s :
       sound = opened_sound start.rate c.object;
       account = sym (none_spent (units_told (get_or (get_or traces t []) 0 (commands.Nil 0))));
       units = omega arith;
-      worked = omega arith;
-      made = omega arith;
+      made = omega (arith, (each_at c traces job t tl).objects);
       space = start.roomy t tl;
       roomy = tt;
     };

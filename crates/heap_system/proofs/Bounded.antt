@@ -1,5 +1,5 @@
 -- What every run is within: the bound of the tally that counts it.
-use Rattle.std.proofs.Common.{◌≡◌, ℕ, ◌+◌, ◌-◌, ◌*◌, ◌^◌, ◌<◌, ◌≤◌, eq-eqb, ne_eqb, Option, Some, None, List, [], ◌∷◌, length, length-append, refl, sym, ap, ◌∙◌, subst, arith, inl, inr}
+use Rattle.std.proofs.Common.{◌≡◌, ℕ, ◌+◌, ◌-◌, ◌*◌, ◌^◌, ◌<◌, ◌≤◌, eq-eqb, ne_eqb, suc, List, [], ◌∷◌, length, get_or, map, refl, sym, ap, ◌∙◌, subst, arith, inl, inr}
 use Rattle.std.proofs.lemmas.Bool.{cases_eq, and_parts}
 use Rattle.block_store.specs.declared.Config.{Config}
 use Rattle.block_store.specs.Colours.{black_word}
@@ -7,13 +7,11 @@ use Rattle.block_store.specs.Counts.{changed, total}
 use Rattle.block_store.proofs.Functions.{total_changed, total_none, total_same}
 use Rattle.rate_plan.specs.Rates.{IsRate}
 use Rattle.never_heap.specs.declared.Command.{Command}
-use Rattle.never_heap.specs.declared.Reply.{Reply}
 use Rattle.never_heap.specs.Given.{given}
-use Rattle.never_heap.specs.Histories.{HistoryItem, Started, Did, replay, part, starts_in, work_in}
+use Rattle.never_heap.specs.Histories.{HistoryItem, Started, Did, part, starts_in, work_in}
 use Rattle.never_heap.specs.Licensed.{Licensed, StartsSmall, NoFulls}
 use Rattle.never_heap.specs.RightWork.{RightWork}
 use Rattle.never_heap.proofs.Unfilled.{none_full}
-use Rattle.work_account.specs.Accounts.{Balance}
 use Rattle.cycle_tally.specs.Bounds.{Bound}
 use Rattle.cycle_tally.specs.Entries.{InThreads}
 use Rattle.cycle_tally.specs.Kept.{most_given}
@@ -22,19 +20,18 @@ use Rattle.cycle_tally.proofs.Laws.{bound_of}
 use Rattle.cycle_tally.proofs.Listing.{total_plus}
 use Rattle.cycle_tally.proofs.Smalls.{counts_small}
 use Rattle.heap_system.specs.declared.local.Part.{Part}
-use Rattle.heap_system.specs.declared.local.Part.TheVariants.{Serve}
 use Rattle.heap_system.specs.Costs.{units_so_far}
-use Rattle.heap_system.specs.Locals.{LocalState, command_of, entries_of, works, PartFits}
-use Rattle.heap_system.specs.Machines.{Run, IsJob, IsRunOf, local_at, local_in}
-use Rattle.heap_system.specs.Pictures.{waiting}
-use Rattle.heap_system.specs.Systems.{AllDone}
+use Rattle.heap_system.specs.Locals.{LocalState, works}
+use Rattle.heap_system.specs.Machines.{Run, IsJob, IsRunOf, local_at, local_in, no_local}
+use Rattle.heap_system.specs.Systems.{AllDone, units_of}
 use Rattle.heap_system.proofs.Always.{run_kept}
 use Rattle.heap_system.proofs.Kept.{Kept}
 use Rattle.heap_system.proofs.PartLaws.{PartLaws}
-use Rattle.heap_system.proofs.Paying.{rate_low}
+use Rattle.heap_system.proofs.Paying.{worked_low, paid_low}
 use Rattle.heap_system.proofs.Tallied.{RunTallied, run_tallied, spent_is}
 use Rattle.heap_system.proofs.Tallying.{TallyLaw}
 use Rattle.heap_system.proofs.Told.{rest_settled}
+use Rattle.heap_system.proofs.Turning.{total_most}
 
 -- the work of an order is that of its parts
 work_of : (n : ℕ) (h : List HistoryItem) → InThreads n h → work_in h ≡ total n (λ t. works (part t h))
@@ -52,21 +49,10 @@ work_of n (Did e ∷ h) in_ =
       | inr ne ↦ rw (ne_eqb e.thread t ne) refl
     ]
 
--- an order has no more entries of a thread than its trace has commands
-module _ (c : Config) (traces : List (List Command)) (r : Run) (kept : Kept c traces r) (t : ℕ) (tl : t < c.threads) where
-  abbrev me : LocalState
-  me = local_at c r.state t
-
-  one_waits : (o : Option Reply) → length (entries_of me.thread (command_of me) me.spent o) ≤ 1
-  one_waits None = omega arith
-  one_waits (Some y) = omega arith
-
-  with_waiting : (p : Part) → PartFits me.config (length me.log) (length me.trace) me.pass p → length me.log + length (entries_of me.thread (command_of me) me.spent (waiting (replay c r.order) p)) ≤ length me.trace
-  with_waiting (Serve f) fits = omega (arith, fits.1, one_waits (waiting (replay c r.order) (Serve f)))
-  with_waiting _ fits = omega (arith, (kept.locals t tl).fits.log)
-
-  pub part_few : length (part t r.order) ≤ 131072
-  part_few = (let own = kept.locals t tl in omega (arith, ap length own.told, length-append me.log (entries_of me.thread (command_of me) me.spent (waiting (replay c r.order) me.part)), with_waiting me.part own.fits.part, own.fits.trace.few))
+-- the works of all logs are few, where those of each are
+units_few : (m : ℕ) (d : LocalState) (ls : List LocalState) → ((i : ℕ) → i < length ls → works (get_or ls i d).log ≤ m) → units_of (map (λ (l : LocalState). l.log) ls) ≤ length ls * m
+units_few m d [] each = omega arith
+units_few m d (l ∷ ls) each = omega (arith, each 0 (omega arith), units_few m d ls (λ i low. each (suc i) (omega arith)))
 
 module _ (c : Config) (traces : List (List Command)) (laws : (p : Part) → PartLaws c p) (tally_laws : (p : Part) → TallyLaw c p) (job : IsJob c traces) (ts : List ℕ) (r : Run) (is : IsRunOf c traces ts r) (rate : ℕ) (planned : IsRate c rate) where
   kept : Kept c traces r
@@ -110,8 +96,9 @@ module _ (c : Config) (traces : List (List Command)) (laws : (p : Part) → Part
 
   pub small : (units_so_far c r < 2 ^ 50) × (starts_in r.order < 2 ^ 50)
   small =
-      let both = counts_small c rate counts.tally bound job.bounds.config.some_block job.bounds.config.threads (rate_low c rate job.bounds.config job.plan planned) job.bounds.config.object
-      (λ t tl. subst (λ h. length (part t h) ≤ 131072) (sym order) (part_few c traces r kept t tl)) in
+      let works_few = units_few (2 ^ 45) (no_local c) r.state.locals (λ t low. (let w = worked_low (local_at c r.state t) (kept.locals t (omega (arith, low, kept.threads))).fits in omega (arith, w))) in
+      let paid_few = total_most c.threads (λ t. (local_in c r t).spent) 134346750 (λ t tl. paid_low (local_at c r.state t) (kept.locals t tl).fits) in
+      let both = counts_small c rate counts.tally bound job.bounds.config.some_block (omega (arith, ap work_in order, paid, works_few, paid_few, kept.counted, kept.threads, job.bounds.config.threads)) in
       (omega (arith, both.0, so_far), omega (arith, both.1, cycles))
 
   -- where no command is in hand they are the work of the order

@@ -25,7 +25,6 @@ use Rattle.sweep_steps.specs.Rows.{row_want, sweep_want, sweep_holding}
 use Rattle.sweep_steps.specs.declared.rows.SweepRow.{SweepRow}
 use Rattle.sweep_steps.specs.declared.rows.SweepRow.TheVariants as sweeps
 use Rattle.build_steps.specs.Ends.{is_publishing}
-use Rattle.work_account.specs.Accounts.{Balance}
 use Rattle.cycle_tally.specs.Bounds.{Bound, IsSwept}
 use Rattle.cycle_tally.specs.Tallies.{Spending, Tally, units_now, made_now}
 use Rattle.cycle_tally.specs.Tallies as tallying

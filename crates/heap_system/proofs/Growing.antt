@@ -11,6 +11,7 @@ use Rattle.never_heap.specs.declared.Reply.{Reply}
 use Rattle.never_heap.specs.declared.Reply.TheVariants as replies
 use Rattle.never_heap.specs.Graphs.{Graph, register_of, count_of}
 use Rattle.never_heap.specs.Histories.{HistoryItem, replay, part, work_in}
+use Rattle.block_store.specs.Phases.{bit}
 use Rattle.never_heap.specs.RightWork.{units_owed}
 use Rattle.never_heap.specs.Steps.{step, makes_object}
 use Rattle.never_heap.proofs.Growing.{part_append, work_append}
@@ -111,6 +112,6 @@ right_more w rate [] g t k work (Refused r) is all = (all tt, tt)
 right_more w rate (x ∷ es) g t k work v is all = (is.0, right_more w rate es g t k work v is.1 all)
 
 -- at most one object is made for a reply
-pub made_more : (r : Reply) (made : ℕ) → made_got (Some r) made ≤ made + 1
-made_more (replies.New name) made = omega arith
-made_more _ made = omega arith
+pub made_more : (k : Command) (r : Reply) (made : ℕ) → made_got k (Some r) made ≤ made + bit (makes_object k)
+made_more k (replies.New name) made = omega arith
+made_more k _ made = omega arith

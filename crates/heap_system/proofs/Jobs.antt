@@ -10,6 +10,7 @@ use Rattle.never_heap.specs.declared.Command.{Command}
 use Rattle.never_heap.specs.Bounds.{IsCommandInBounds}
 use Rattle.never_heap.specs.Jobs.{IsTraceInBounds}
 use Rattle.heap_system.specs.Machines.{IsJob}
+use Rattle.heap_system.proofs.Lived.{job_of_text}
 
 -- two threads with a small shared array
 abbrev pub config : Width → Config
@@ -25,14 +26,11 @@ admitted Four = record { opens = omega arith; room = omega arith }
 admitted Eight = record { opens = omega arith; room = omega arith }
 
 pub both : (w : Width) (xs ys : List Command) → IsTraceInBounds (config w) xs → IsTraceInBounds (config w) ys → IsJob (config w) (xs ∷ ys ∷ [])
-both w xs ys px py = record {
-  bounds = record {
+both w xs ys px py = job_of_text (config w) (xs ∷ ys ∷ []) (record {
     config = record { some_thread = omega arith; threads = omega arith; some_block = omega arith; blocks = omega arith; live = omega arith; some_object = omega arith; object = omega arith; shared = omega arith };
     threads = refl;
     each = (px, (py, tt));
-  };
-  plan = admitted w;
-}
+  }) (admitted w)
 
 pub both_of : (w : Width) (c : Config) (xs ys : List Command) → c ≡ config w → IsTraceInBounds c xs → IsTraceInBounds c ys → IsJob c (xs ∷ ys ∷ [])
 both_of w c xs ys is px py = subst (λ x. IsJob x (xs ∷ ys ∷ [])) (sym is) (both w xs ys (subst (λ x. IsTraceInBounds x xs) is px) (subst (λ x. IsTraceInBounds x ys) is py))
@@ -47,14 +45,11 @@ small_admitted Four = record { opens = omega arith; room = omega arith }
 small_admitted Eight = record { opens = omega arith; room = omega arith }
 
 lone_here : (w : Width) (xs : List Command) → IsTraceInBounds (small w) xs → IsJob (small w) (xs ∷ [])
-lone_here w xs px = record {
-  bounds = record {
+lone_here w xs px = job_of_text (small w) (xs ∷ []) (record {
     config = record { some_thread = omega arith; threads = omega arith; some_block = omega arith; blocks = omega arith; live = omega arith; some_object = omega arith; object = omega arith; shared = omega arith };
     threads = refl;
     each = (px, tt);
-  };
-  plan = small_admitted w;
-}
+  }) (small_admitted w)
 
 pub lone : (w : Width) (c : Config) (xs : List Command) → c ≡ small w → IsTraceInBounds c xs → IsJob c (xs ∷ [])
 lone w c xs is px = subst (λ x. IsJob x (xs ∷ [])) (sym is) (lone_here w xs (subst (λ x. IsTraceInBounds x xs) is px))
@@ -67,7 +62,4 @@ pub long_in_bounds : IsInBounds long
 long_in_bounds = record { some_thread = omega arith; threads = omega arith; some_block = omega arith; blocks = omega arith; live = omega arith; some_object = omega arith; object = omega arith; shared = omega arith }
 
 pub alone : (xs : List Command) → IsAdmitted long → IsTraceInBounds long xs → IsJob long (xs ∷ [])
-alone xs plan px = record {
-  bounds = record { config = long_in_bounds; threads = refl; each = (px, tt) };
-  plan = plan;
-}
+alone xs plan px = job_of_text (long) (xs ∷ []) (record { config = long_in_bounds; threads = refl; each = (px, tt) }) (plan)

@@ -1,6 +1,7 @@
 pub mod Opened
 pub mod Steady
 pub mod Paying
+pub mod Lived
 pub mod Seeing
 pub mod PartLaws
 pub mod Balances

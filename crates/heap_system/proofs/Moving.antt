@@ -10,7 +10,7 @@ use Rattle.never_heap.specs.declared.Reply.{Reply}
 use Rattle.never_heap.specs.Graphs.{Graph, register_of, count_of}
 use Rattle.never_heap.specs.Histories.{HistoryItem, part}
 use Rattle.never_heap.specs.RightWork.{units_told, units_owed}
-use Rattle.cycle_tally.specs.Kept.{most_work}
+use Rattle.heap_system.specs.Lives.{sum_after, objects_of, most_units, most_objects}
 use Rattle.never_heap.specs.Steps.{blocks_of}
 use Rattle.work_account.specs.Accounts.{Balance, IsSound}
 use Rattle.heap_machine.specs.Gating.{is_closing}
@@ -25,7 +25,7 @@ use Rattle.heap_system.proofs.Balances.{paid_in, got_paid, paid_over, units_in, 
 use Rattle.heap_system.proofs.Growing.{said_more, right_more, made_more}
 use Rattle.heap_system.proofs.Kept.{LocalKept}
 use Rattle.heap_system.proofs.PartLaws.{PartLaws}
-use Rattle.heap_system.proofs.Paying.{works_append, owed_low, price_low, price_paid}
+use Rattle.heap_system.proofs.Paying.{works_append, price_low, price_paid, owed_next, objects_next}
 use Rattle.heap_system.proofs.Seeing.{stage, stage_of, PartKept, Knows, IsSettled, Forward, graph_decided, told_by, IsDecided}
 
 -- plain arithmetic
@@ -70,7 +70,7 @@ moved_on l t c w = record {
   log = l.log ++ entries_of t (command_of l) l.spent (effect c l.part w).reply;
   balance = balance_got (effect c l.part w) (units_told (command_of l)) (blocks_of c.width (command_of l)) l.balance;
   spent = paid_got (effect c l.part w).reply (effect c l.part w).unit l.spent;
-  made = made_got (effect c l.part w).reply l.made;
+  made = made_got (command_of l) (effect c l.part w).reply l.made;
   space = l.space;
   pass = pass_got (effect c l.part w).entered t c.threads l.pass;
   part = part_got c t (errand_of l) l.pass l.part w;
@@ -91,7 +91,7 @@ pub record Moved (c : Config) (g : Graph) (order longer : List HistoryItem) (new
   pub settled : IsSettled (owed l) (paid_got o unit l.spent) p
   pub exact : IsDecided v → l.spent ≡ owed l
   pub whole : (r : Reply) → o ≡ Some r → l.spent ≡ owed l
-  pub counts : made_got o l.made ≡ count_of (graph_decided g t (command_of l) v) t
+  pub counts : made_got (command_of l) o l.made ≡ count_of (graph_decided g t (command_of l) v) t
   pub some : (r : Reply) → o ≡ Some r → length l.log < length l.trace
 
 -- the thread itself
@@ -115,8 +115,8 @@ module _ (c : Config) (given : List Command) (g : Graph) (order longer : List Hi
   sound_then : IsSound l.rate l.config.object (balance_in i l.balance)
   sound_then = sound_in l.rate l.config.object i l.balance kept.fits.sound
 
-  units_then : (balance_in i l.balance).units ≤ l.before * most_work l.config l.rate + works l.log + l.spent
-  units_then = units_in i (l.before * most_work l.config l.rate + works l.log + l.spent) l.balance kept.fits.units
+  units_then : (balance_in i l.balance).units ≤ l.before + works l.log + l.spent
+  units_then = units_in i (l.before + works l.log + l.spent) l.balance kept.fits.units
 
   abbrev Later : LocalState → Type 0
   Later x = LocalKept c given (graph_decided g t (command_of l) v) longer new names t x
@@ -156,8 +156,7 @@ module _ (c : Config) (given : List Command) (g : Graph) (order longer : List Hi
       settled = is_paid (owed l) (paid_got None unit l.spent) p event.settled;
       sound = sound_on l.rate l.config.object unit told (blocks_of c.width (command_of l)) l.spent (balance_in i l.balance) (paid_in i l.balance ∙ kept.fits.account) price_few (low_enough _ _ _ _ event.low due_is) sound_then;
       account = paid_then None;
-      units = units_on unit told (blocks_of c.width (command_of l)) (l.before * most_work l.config l.rate + works l.log) l.spent (balance_in i l.balance) units_then;
-      worked = kept.fits.worked;
+      units = units_on unit told (blocks_of c.width (command_of l)) (l.before + works l.log) l.spent (balance_in i l.balance) units_then;
       made = kept.fits.made;
       space = kept.fits.space;
       roomy = event.roomy;
@@ -179,15 +178,11 @@ module _ (c : Config) (given : List Command) (g : Graph) (order longer : List Hi
     more_worked : works (l.log ++ entry_of t (command_of l) l.spent r ∷ []) ≡ works l.log + (l.spent + 0)
     more_worked = works_append l.log (entry_of t (command_of l) l.spent r ∷ [])
 
-    worked_so : works (l.log ++ entry_of t (command_of l) l.spent r ∷ []) ≤ length (l.log ++ entry_of t (command_of l) l.spent r ∷ []) * most_work l.config l.rate
-    worked_so =
-        subst (λ n. works (l.log ++ entry_of t (command_of l) l.spent r ∷ []) ≤ n * most_work l.config l.rate) (sym longer_by) (work_grows _ _ _ _ _ more_worked kept.fits.worked (omega (arith, kept.fits.paid, owed_low l kept.fits)))
-
     -- what it has paid is the price of its command
     price_is : Event (Some r) → (balance_in i l.balance).paid ≡ l.rate * blocks_of c.width (command_of l)
     price_is event = paid_in i l.balance ∙ price_paid l kept.fits (event.whole r refl) ∙ ap (λ (x : Config). l.rate * blocks_of x.width (command_of l)) kept.config
 
-    some_moves : length l.log < length l.trace → Event (Some r) → Later (after_part (l.log ++ entry_of t (command_of l) l.spent r ∷ []) (balance_then (Some r)) 0 (made_got (Some r) l.made) Leave)
+    some_moves : length l.log < length l.trace → Event (Some r) → Later (after_part (l.log ++ entry_of t (command_of l) l.spent r ∷ []) (balance_then (Some r)) 0 (made_got (command_of l) (Some r) l.made) Leave)
     some_moves low event =
         let over : p ≡ Leave = event.over r refl in
         record {
@@ -201,7 +196,7 @@ module _ (c : Config) (given : List Command) (g : Graph) (order longer : List Hi
             rate = kept.fits.rate;
             thread = subst (λ x. x < l.config.threads) kept.thread kept.fits.thread;
             trace = kept.fits.trace;
-            life = kept.fits.life;
+            life = subst (λ n. l.before + works (l.log ++ entry_of t (command_of l) l.spent r ∷ []) + sum_after (units_owed l.config.width l.rate) n l.trace ≤ most_units) (sym longer_by) (omega (arith, more_worked, kept.fits.life, owed_next l, kept.fits.paid));
             log = omega (arith, longer_by);
             part = tt;
             paid = omega arith;
@@ -209,8 +204,7 @@ module _ (c : Config) (given : List Command) (g : Graph) (order longer : List Hi
             sound = sound_over l.rate l.config.object r unit told (blocks_of c.width (command_of l)) (balance_in i l.balance) (price_is event) sound_then;
             account = paid_over r unit told _ (blocks_of c.width (command_of l)) (balance_in i l.balance);
             units = omega (arith, more_worked, units_over r unit told (blocks_of c.width (command_of l)) (balance_in i l.balance), units_then);
-            worked = worked_so;
-            made = omega (arith, longer_by, kept.fits.made, made_more r l.made);
+            made = subst (λ n. made_got (command_of l) (Some r) l.made + sum_after objects_of n l.trace ≤ most_objects) (sym longer_by) (omega (arith, made_more (command_of l) r l.made, kept.fits.made, objects_next l));
             space = kept.fits.space;
             roomy = tt;
           };
@@ -225,6 +219,6 @@ module _ (c : Config) (given : List Command) (g : Graph) (order longer : List Hi
           said = said_more l.log l.trace (entry_of t (command_of l) l.spent r) (command_of l) refl refl low kept.said;
         }
 
-  pub local_moves : (o : Option Reply) → Event o → Later (after_part (l.log ++ entries_of t (command_of l) l.spent o) (balance_then o) (paid_got o unit l.spent) (made_got o l.made) p)
+  pub local_moves : (o : Option Reply) → Event o → Later (after_part (l.log ++ entries_of t (command_of l) l.spent o) (balance_then o) (paid_got o unit l.spent) (made_got (command_of l) o l.made) p)
   local_moves None event = subst (λ x. Later (after_part x (balance_then None) (paid_got None unit l.spent) l.made p)) (sym (append-nil l.log)) (none_moves event)
-  local_moves (Some r) event = subst (λ x. Later (after_part (l.log ++ entry_of t (command_of l) l.spent r ∷ []) (balance_then (Some r)) 0 (made_got (Some r) l.made) x)) (sym (event.over r refl)) (some_moves r (event.some r refl) event)
+  local_moves (Some r) event = subst (λ x. Later (after_part (l.log ++ entry_of t (command_of l) l.spent r ∷ []) (balance_then (Some r)) 0 (made_got (command_of l) (Some r) l.made) x)) (sym (event.over r refl)) (some_moves r (event.some r refl) event)

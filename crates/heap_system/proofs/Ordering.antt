@@ -1,6 +1,5 @@
 -- The order that a system keeps: which items an event adds, and that there is room for them.
-use Rattle.std.proofs.Common.{◌≡◌, ℕ, zero, suc, ◌+◌, ◌-◌, ◌*◌, ◌/◌, ◌^◌, ◌<◌, ◌≤◌, Bool, true, false, cond, eqb, ltb, lt-ltb, le-ltb, eq-eqb, ne_eqb, Option, IfSome, Some, None, List, [], ◌∷◌, ◌++◌, length, get_or, take, length-append, map, refl, sym, ap, ◌∙◌, subst, arith, inl, inr}
-use Rattle.std.specs.List.{AllByRecursion}
+use Rattle.std.proofs.Common.{◌≡◌, ℕ, zero, suc, ◌+◌, ◌-◌, ◌*◌, ◌/◌, ◌<◌, ◌≤◌, Bool, true, false, cond, eqb, ltb, lt-ltb, le-ltb, eq-eqb, ne_eqb, Option, IfSome, Some, None, List, [], ◌∷◌, ◌++◌, length, get_or, take, length-append, map, refl, sym, ap, ◌∙◌, subst, arith, inl, inr}
 use Rattle.std.specs.Vec.{vec_capacity}
 use Rattle.std.proofs.Math.Nat.{le-div_iff_mul-le}
 use Rattle.std.proofs.lemmas.Bool.{cases_Bool, cases_eq}
@@ -15,7 +14,6 @@ use Rattle.never_heap.specs.declared.Item.{Item}
 use Rattle.never_heap.specs.declared.Item.TheVariants as items
 use Rattle.never_heap.specs.Graphs.{Graph}
 use Rattle.never_heap.specs.Histories.{HistoryItem, Started, Did, replay, part, starts_in}
-use Rattle.never_heap.specs.Jobs.{IsTraceInBounds}
 use Rattle.never_heap.specs.Orders.{item_of, IsHistoryOf}
 use Rattle.never_heap.proofs.Growing.{starts_append}
 use Rattle.barrier_steps.specs.Rows.{field_decided}
@@ -361,14 +359,6 @@ commands_low f [] zero = omega arith
 commands_low f [] (suc n) = omega arith
 commands_low f (x ∷ xs) zero = omega arith
 commands_low f (x ∷ xs) (suc n) = omega (arith, commands_low f xs n)
-
--- those of a job are few
-each_few : (c : Config) (traces : List (List Command)) → AllByRecursion (IsTraceInBounds c) traces → commands_in traces ≤ length traces * 131072
-each_few c [] all = omega arith
-each_few c (trace ∷ traces) all = omega (arith, all.0.few, each_few c traces all.1)
-
-pub job_few : (c : Config) (traces : List (List Command)) → IsJob c traces → commands_in traces ≤ 2 ^ 32
-job_few c traces job = omega (arith, each_few c traces job.bounds.each, job.bounds.threads, job.bounds.config.threads)
 
 -- the order of an opening
 pub opening_in_order : (c : Config) (s : State) (traces : List (List Command)) → IsJob c traces → IsOpening c traces s → (turns : ℕ) (o : KeptOrder) → ordered_of o ≡ opening_order turns → commands_in traces + 2 + turns / c.blocks ≤ vec_capacity o.items → IsInOrder c s (Some o)

@@ -21,7 +21,6 @@ use Rattle.never_heap.specs.declared.Reply.TheVariants as replies
 use Rattle.std.specs.List.{AllByRecursion}
 use Rattle.std.proofs.lemmas.List.Elements.{All-from_recursion}
 use Rattle.never_heap.specs.Bounds.{IsCommandInBounds}
-use Rattle.never_heap.specs.Jobs.{IsTraceInBounds}
 use Rattle.never_heap.specs.RightWork.{units_told, units_owed}
 use Rattle.cycle_tally.specs.Kept.{most_work}
 use Rattle.never_heap.specs.Steps.{blocks_of, makes_object}
@@ -53,10 +52,11 @@ use Rattle.heap_system.specs.declared.local.Local.TheInside.{Inside}
 use Rattle.heap_system.specs.declared.local.Part.{Part}
 use Rattle.heap_system.specs.declared.local.Part.TheVariants.{Rest, Enter, Serve, Mark, Sweep, Build, TurnOver, Leave}
 use Rattle.heap_system.specs.Machines.{IsJob}
+use Rattle.heap_system.specs.Lives.{IsLife, sum_after, objects_of, most_units, most_objects}
 use Rattle.heap_system.specs.Locals.{LocalState, IsLocal, PartFits, PartReads, IsRoomy, IsPaid, HasRoom, errand_of, command_of, owed, pass_by, is_last, is_rest, unit_to_come, works, entry_of, made_got, balance_paid, paid_part, begun}
 use Rattle.work_account.proofs.Balances.{entered_sound}
 use Rattle.cycle_tally.proofs.Sums.{paid_entered}
-use Rattle.heap_system.proofs.Balances.{none_spent, units_entered, paid_after, paid_over, all_paid, units_over, sound_over}
+use Rattle.heap_system.proofs.Balances.{none_spent, units_entered, paid_over, all_paid, units_over, sound_over}
 
 -- what is seen of a thread
 abbrev pub view_of : Inside → LocalState
@@ -95,9 +95,21 @@ makers_untold (commands.New d f) y = refl
 makers_untold (commands.Arr d e) y = refl
 makers_untold _ y = refl
 
+-- a sum over what is to come is the next command's, and what is to come behind it
+pub sum_next : (f : Command → ℕ) (ks : List Command) (n : ℕ) → f (commands.Nil 0) ≡ 0 → sum_after f n ks ≡ f (get_or ks n (commands.Nil 0)) + sum_after f (suc n) ks
+sum_next f [] n none = omega (arith, none)
+sum_next f (k ∷ ks) zero none = refl
+sum_next f (k ∷ ks) (suc n) none = sum_next f ks n none
+
+pub owed_next : (l : LocalState) → sum_after (units_owed l.config.width l.rate) (length l.log) l.trace ≡ owed l + sum_after (units_owed l.config.width l.rate) (suc (length l.log)) l.trace
+owed_next l = sum_next (units_owed l.config.width l.rate) l.trace (length l.log) (omega arith)
+
+pub objects_next : (l : LocalState) → sum_after objects_of (length l.log) l.trace ≡ objects_of (command_of l) + sum_after objects_of (suc (length l.log)) l.trace
+objects_next l = sum_next objects_of l.trace (length l.log) refl
+
 -- the trace of a thread of a job
-pub each_at : (c : Config) (traces : List (List Command)) → IsJob c traces → (t : ℕ) → t < c.threads → IsTraceInBounds c (get_or traces t [])
-each_at c traces job t tl = All-from_recursion (IsTraceInBounds c) traces job.bounds.each t [] (omega (arith, job.bounds.threads))
+pub each_at : (c : Config) (traces : List (List Command)) → IsJob c traces → (t : ℕ) → t < c.threads → IsLife c (get_or traces t [])
+each_at c traces job t tl = All-from_recursion (IsLife c) traces job.bounds.each t [] (omega (arith, job.bounds.threads))
 
 -- the command at any place of a trace is in bounds, and so is what stands for none
 pub bounds_at : (c : Config) (ks : List Command) (i : ℕ) → AllByRecursion (IsCommandInBounds c) ks → IsCommandInBounds c (get_or ks i (commands.Nil 0))
@@ -155,18 +167,24 @@ command_fits l k = bounds_at l.config l.trace (length l.log) k.trace.commands
 pub command_small : (l : LocalState) → IsLocal l → blocks_of l.config.width (command_of l) ≤ l.config.object
 command_small l k = blocks_low l.config (command_of l) (command_fits l k)
 
+-- the serial of the object that it would make
+pub serial_low : (l : LocalState) → IsLocal l → (k : Command) → k ≡ command_of l → makes_object k ≡ true → l.made + 1 ≤ 131072
+serial_low l is k same makes =
+    let one : bit (makes_object (command_of l)) ≡ 1 = ap bit (ap makes_object (sym same) ∙ makes) in
+    omega (arith, is.made, objects_next l, one)
+
 -- the part with which a thread begins what it went in for fits, and pays
 module _ (l : LocalState) (k : IsLocal l) (low : length l.log < length l.trace) (p : Pass)
     (mine : p.thread ≡ l.thread) (same : p.threads ≡ l.config.threads) (pass : IsPass p) where
   thread : IsThread l.config p.thread
   thread = subst (λ t. IsThread l.config t) (sym mine) (thread_is l k)
 
-  serial : l.made + 1 ≤ 131072
-  serial = omega (arith, k.made, low, k.life)
+  serial : makes_object (command_of l) ≡ true → l.made + 1 ≤ 131072
+  serial makes = serial_low l k (command_of l) refl makes
 
   build_fits : makes_object (command_of l) ≡ true → PartFits l.config (length l.log) (length l.trace) p (Build (building l.config.width p.thread p.threads p.cycle (l.made + 1) (command_of l) l.space))
   build_fits makes = subst (λ n. PartFits l.config (length l.log) (length l.trace) p (Build (building l.config.width p.thread n p.cycle (l.made + 1) (command_of l) l.space))) (sym same) (
-    building_ranges.first_fits l.config p.thread p.cycle (l.made + 1) (command_of l) l.space thread.thread thread.few k.bounds.blocks thread.registers serial (ranges.in_range l.config (command_of l) (command_fits l k)) makes
+    building_ranges.first_fits l.config p.thread p.cycle (l.made + 1) (command_of l) l.space thread.thread thread.few k.bounds.blocks thread.registers (serial makes) (ranges.in_range l.config (command_of l) (command_fits l k)) makes
         (omega (arith, command_small l k, k.bounds.object)) (omega (arith, command_small l k, k.space)),
     low,
   )
@@ -190,7 +208,7 @@ room_there p g space capacity held e h = subst (λ x. HasRoom x space held capac
 
 -- a thread in another pass and part
 pub begins : (l : LocalState) (p : Pass) (part : Part) → IsLocal l → PartFits l.config (length l.log) (length l.trace) p part → l.spent + unit_to_come l.config part ≤ owed l → IsPaid (owed l) l.spent part → IsRoomy l.space part → IsLocal (record l { pass = p; part = part })
-begins l p part k fits pays all roomy = record { bounds = k.bounds; plan = k.plan; rate = k.rate; thread = k.thread; trace = k.trace; life = k.life; log = k.log; part = fits; paid = pays; settled = all; sound = k.sound; account = k.account; units = k.units; worked = k.worked; made = k.made; space = k.space; roomy = roomy }
+begins l p part k fits pays all roomy = record { bounds = k.bounds; plan = k.plan; rate = k.rate; thread = k.thread; trace = k.trace; life = k.life; log = k.log; part = fits; paid = pays; settled = all; sound = k.sound; account = k.account; units = k.units; made = k.made; space = k.space; roomy = roomy }
 
 -- a thread at rest that enters a cycle
 pub entered_local : (i : Inside) (z : ℕ) (a : AccountState) → IsLocal (view_of i) → i.part ≡ Rest → a ≡ record i.account { balance = entered z i.account.balance } → IsLocal (record (view_of i) { balance = a.balance })
@@ -209,8 +227,7 @@ entered_local i z a k rest is =
       settled = k.settled;
       sound = entered_sound i.rate i.config.object z i.account.balance k.sound;
       account = same ∙ k.account;
-      units = units_entered z (i.before * most_work i.config i.rate + works i.log.items + i.spent) i.account.balance k.units;
-      worked = k.worked;
+      units = units_entered z (i.before + works i.log.items + i.spent) i.account.balance k.units;
       made = k.made;
       space = k.space;
       roomy = k.roomy;
@@ -308,13 +325,11 @@ works_suc (x ∷ xs) (suc i) d low = omega (arith, works_suc xs i d (omega arith
 pub works_at : (xs : List Entry) (i : ℕ) (d : Entry) → i < length xs → works (take (i + 1) xs) ≡ works (take i xs) + (get_or xs i d).work
 works_at xs i d low = let e : i + 1 ≡ suc i = omega arith in ap (λ n. works (take n xs)) e ∙ works_suc xs i d low
 
--- at most one object is made for each reply
-made_low : (r : Reply) (n : ℕ) → made_got (Some r) n ≤ n + 1
-made_low (replies.New a) n = omega arith
-made_low _ n = omega arith
+-- at most one object is made for each reply, and none but for a command that makes one
+pub made_low : (k : Command) (r : Reply) (n : ℕ) → made_got k (Some r) n ≤ n + bit (makes_object k)
+made_low k (replies.New a) n = omega arith
+made_low k _ n = omega arith
 
-grows : (new old more most n : ℕ) → new ≡ old + (more + 0) → old ≤ n * most → more ≤ most → new ≤ suc n * most
-grows new old more most n e a b = omega arith
 
 -- a thread with its command in the log
 abbrev pub answered : LocalState → Reply → LocalState
@@ -322,7 +337,7 @@ answered l reply = record l {
   log = l.log ++ entry_of l.thread (command_of l) l.spent reply ∷ [];
   balance = balance_paid (Some reply) false (units_told (command_of l)) (blocks_of l.config.width (command_of l)) l.balance;
   spent = 0;
-  made = made_got (Some reply) l.made;
+  made = made_got (command_of l) (Some reply) l.made;
   part = Leave;
 }
 
@@ -333,7 +348,7 @@ answered_local l reply k low all = record {
   rate = k.rate;
   thread = k.thread;
   trace = k.trace;
-  life = k.life;
+  life = subst (λ n. l.before + works (l.log ++ entry_of l.thread (command_of l) l.spent reply ∷ []) + sum_after (units_owed l.config.width l.rate) n l.trace ≤ most_units) (sym longer) (omega (arith, more, k.life, owed_next l, all));
   log = omega (arith, longer);
   part = tt;
   paid = omega arith;
@@ -341,8 +356,7 @@ answered_local l reply k low all = record {
   sound = sound_over l.rate l.config.object reply false (units_told (command_of l)) (blocks_of l.config.width (command_of l)) l.balance (price_paid l k all) k.sound;
   account = paid_over reply false (units_told (command_of l)) _ (blocks_of l.config.width (command_of l)) l.balance;
   units = omega (arith, more, k.units, units_over reply false (units_told (command_of l)) (blocks_of l.config.width (command_of l)) l.balance);
-  worked = subst (λ n. works (l.log ++ entry_of l.thread (command_of l) l.spent reply ∷ []) ≤ n * most_work l.config l.rate) (sym longer) (grows _ _ _ _ _ more k.worked (omega (arith, k.paid, owed_low l k)));
-  made = omega (arith, longer, made_low reply l.made, k.made);
+  made = subst (λ n. made_got (command_of l) (Some reply) l.made + sum_after objects_of n l.trace ≤ most_objects) (sym longer) (omega (arith, made_low (command_of l) reply l.made, k.made, objects_next l));
   space = k.space;
   roomy = tt;
 }
@@ -354,11 +368,11 @@ answered_local l reply k low all = record {
     more = works_append l.log (entry_of l.thread (command_of l) l.spent reply ∷ [])
 
 pub answered_with : (l : LocalState) (reply : Reply) (log : List Entry) (k : Command) (b : Balance) (made : ℕ) → IsLocal l → length l.log < length l.trace → l.spent ≡ owed l → log ≡ l.log ++ entry_of l.thread k l.spent reply ∷ [] → k ≡ command_of l
-    → b ≡ balance_paid (Some reply) false (units_told k) (blocks_of l.config.width k) l.balance → made ≡ made_got (Some reply) l.made → IsLocal (record l { log = log; balance = b; spent = 0; made = made; part = Leave })
+    → b ≡ balance_paid (Some reply) false (units_told k) (blocks_of l.config.width k) l.balance → made ≡ made_got k (Some reply) l.made → IsLocal (record l { log = log; balance = b; spent = 0; made = made; part = Leave })
 answered_with l reply log k b made inside low all is e pays more =
-    subst (λ x. IsLocal (record l { log = log; balance = b; spent = 0; made = x; part = Leave })) (sym more)
-    (subst (λ x. IsLocal (record l { log = log; balance = x; spent = 0; made = made_got (Some reply) l.made; part = Leave })) (sym (pays ∙ ap (λ y. balance_paid (Some reply) false (units_told y) (blocks_of l.config.width y) l.balance) e))
-    (subst (λ x. IsLocal (record l { log = x; balance = balance_paid (Some reply) false (units_told (command_of l)) (blocks_of l.config.width (command_of l)) l.balance; spent = 0; made = made_got (Some reply) l.made; part = Leave }))
+    subst (λ x. IsLocal (record l { log = log; balance = b; spent = 0; made = x; part = Leave })) (sym (more ∙ ap (λ y. made_got y (Some reply) l.made) e))
+    (subst (λ x. IsLocal (record l { log = log; balance = x; spent = 0; made = made_got (command_of l) (Some reply) l.made; part = Leave })) (sym (pays ∙ ap (λ y. balance_paid (Some reply) false (units_told y) (blocks_of l.config.width y) l.balance) e))
+    (subst (λ x. IsLocal (record l { log = x; balance = balance_paid (Some reply) false (units_told (command_of l)) (blocks_of l.config.width (command_of l)) l.balance; spent = 0; made = made_got (command_of l) (Some reply) l.made; part = Leave }))
     (sym (is ∙ ap (λ y. l.log ++ entry_of l.thread y l.spent reply ∷ []) e)) (answered_local l reply inside low all)))
 
 -- the units owed fit
@@ -368,38 +382,28 @@ product_low l n k e = let due : l.rate * n ≡ l.rate * blocks_of l.config.width
 pub paid_low : (l : LocalState) → IsLocal l → l.spent ≤ 134346750
 paid_low l k = omega (arith, k.paid, owed_low l k, units_low l k)
 
-pub worked_low : (l : LocalState) → IsLocal l → works l.log ≤ 2 ^ 45
-worked_low l k =
-    let a : length l.log * most_work l.config l.rate ≤ 131072 * most_work l.config l.rate = mul-le-mul_right (most_work l.config l.rate) (omega (arith, k.log, k.trace.few)) in
-    omega (arith, k.worked, units_low l k)
-
--- the units of the commands before are few too
-pub before_low : (l : LocalState) → IsLocal l → l.before * most_work l.config l.rate ≤ 2 ^ 45
-before_low l k =
-    let a : l.before * most_work l.config l.rate ≤ 131072 * most_work l.config l.rate = mul-le-mul_right (most_work l.config l.rate) (omega (arith, k.life)) in
-    omega (arith, units_low l k)
+pub worked_low : (l : LocalState) → IsLocal l → l.before + works l.log ≤ 2 ^ 45
+worked_low l k = omega (arith, k.life)
 
 -- a thread that has done its trace, with one command more in place of this
-pub begun_local : (l : LocalState) (k : Command) → IsLocal l → is_rest l.part ≡ true → l.spent ≡ 0 → IsCommandInBounds l.config k → l.before + length l.log < 131072 → IsLocal (begun k l)
-begun_local l k is rest none fits left =
+pub begun_local : (l : LocalState) (k : Command) → IsLocal l → is_rest l.part ≡ true → l.spent ≡ 0 → IsCommandInBounds l.config k → l.before + works l.log + units_owed l.config.width l.rate k ≤ most_units → l.made + objects_of k ≤ most_objects → IsLocal (begun k l)
+begun_local l k is rest none fits units objects =
     let at : l.part ≡ Rest = rest_part l.part rest in
-    let long : length l.log * most_work l.config l.rate + l.before * most_work l.config l.rate ≡ (l.before + length l.log) * most_work l.config l.rate = omega (arith, mul_add l.before (length l.log) (most_work l.config l.rate)) in
     record {
       bounds = is.bounds;
       plan = is.plan;
       rate = is.rate;
       thread = is.thread;
       trace = record { few = omega arith; commands = (fits, tt) };
-      life = omega (arith, left);
+      life = omega (arith, units);
       log = omega arith;
       part = subst (λ p. PartFits l.config 0 1 l.pass p) (sym at) tt;
       paid = subst (λ p. l.spent + unit_to_come l.config p ≤ units_owed l.config.width l.rate k) (sym at) (omega (arith, none));
       settled = subst (λ p. IsPaid (units_owed l.config.width l.rate k) l.spent p) (sym at) tt;
       sound = is.sound;
       account = is.account ∙ ap (paid_part (units_told (command_of l))) none ∙ none_spent (units_told (command_of l)) ∙ sym (none_spent (units_told k)) ∙ ap (paid_part (units_told k)) (sym none);
-      units = omega (arith, is.units, is.worked, long, none);
-      worked = omega arith;
-      made = omega (arith, is.made);
+      units = omega (arith, is.units, none);
+      made = omega (arith, objects);
       space = is.space;
       roomy = is.roomy;
     }
@@ -408,19 +412,16 @@ begun_local l k is rest none fits left =
     rest_part Rest e = refl
     rest_part _ e = absurd cc
 
-    mul_add : (a b m : ℕ) → (a + b) * m ≡ a * m + b * m
-    mul_add a b m = omega arith
-
 one_set : (xs : List Command) (k : Command) → length xs ≡ 1 → set xs 0 k ≡ k ∷ []
 one_set [] k e = absurd (omega arith)
 one_set (x ∷ []) k e = refl
 one_set (x ∷ y ∷ zs) k e = absurd (omega arith)
 
-pub begun_with : (l : LocalState) (k : Command) (before : ℕ) (log : List Entry) → IsLocal (begun k l) → length l.trace ≡ 1 → before ≡ l.before + length l.log → log ≡ [] → IsLocal (record l { before = before; trace = set l.trace 0 k; log = log })
+pub begun_with : (l : LocalState) (k : Command) (before : ℕ) (log : List Entry) → IsLocal (begun k l) → length l.trace ≡ 1 → before ≡ l.before + works l.log → log ≡ [] → IsLocal (record l { before = before; trace = set l.trace 0 k; log = log })
 begun_with l k before log is one more none =
     subst (λ n. IsLocal (record l { before = n; trace = set l.trace 0 k; log = log })) (sym more)
-    (subst (λ x. IsLocal (record l { before = l.before + length l.log; trace = set l.trace 0 k; log = x })) (sym none)
-    (subst (λ x. IsLocal (record l { before = l.before + length l.log; trace = x; log = [] })) (sym (one_set l.trace k one)) is))
+    (subst (λ x. IsLocal (record l { before = l.before + works l.log; trace = set l.trace 0 k; log = x })) (sym none)
+    (subst (λ x. IsLocal (record l { before = l.before + works l.log; trace = x; log = [] })) (sym (one_set l.trace k one)) is))
 
 pub begun_long : (xs : List Command) (k : Command) (n : ℕ) → length xs ≡ 1 → length xs ≤ n → length (set xs 0 k) ≤ n
 begun_long xs k n one low = let e : length (set xs 0 k) ≡ 1 = ap length (one_set xs k one) in omega arith

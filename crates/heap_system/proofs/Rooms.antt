@@ -181,7 +181,7 @@ local_room l w = λ i.
       log = l.log ++ entries_of l.thread (command_of l) l.spent e.reply;
       balance = balance_got e (units_told (command_of l)) (blocks_of l.config.width (command_of l)) l.balance;
       spent = paid_got e.reply e.unit l.spent;
-      made = made_got e.reply l.made;
+      made = made_got (command_of l) e.reply l.made;
       pass = pass_got e.entered l.thread l.config.threads l.pass;
       part = got_room l.config l.thread (errand_of l) l.pass l.part w i;
     }

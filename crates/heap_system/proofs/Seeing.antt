@@ -187,8 +187,7 @@ pub record Seen (c : Config) : Type 0 where
   pub low : thread < c.threads
   pub inside : IsCommandInBounds c command
   pub count : made ≡ count_of graph thread
-  pub few : made ≤ done
-  pub many : all ≤ 131072
+  pub few : made + bit (makes_object command) ≤ 131072
   pub room : c.object ≤ space
   pub free : makes_object command ≡ false → due ≡ units_told command
   pub account : balance.paid ≡ paid_part (units_told command) spent
@@ -252,4 +251,4 @@ pub record EventKept (c : Config) (s : Seen c) (new : Heap) (e : Effect) (before
   pub settled : IsSettled s.due (paid_got e.reply e.unit s.spent) p
   pub exact : IsDecided e.verdict → s.spent ≡ s.due
   pub counted : works (told_by s.graph s.thread s.command s.spent e.verdict) ≡ works (entries_of s.thread s.command s.spent e.reply)
-  pub counts : made_got e.reply s.made ≡ count_of (graph_decided s.graph s.thread s.command e.verdict) s.thread
+  pub counts : made_got s.command e.reply s.made ≡ count_of (graph_decided s.graph s.thread s.command e.verdict) s.thread

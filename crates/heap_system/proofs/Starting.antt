@@ -7,7 +7,7 @@ use Rattle.block_store.specs.declared.Config.{Config}
 use Rattle.rate_plan.specs.Rates.{IsRate, IsAdmitted}
 use Rattle.rate_plan.proofs.Plans.{found}
 use Rattle.never_heap.specs.declared.Command.{Command}
-use Rattle.never_heap.specs.Jobs.{IsTraceInBounds}
+use Rattle.heap_system.specs.Lives.{IsLife}
 use Rattle.heap_system.specs.Locals.{LocalState, works, at_start}
 use Rattle.heap_system.specs.Machines.{State, no_local, IsJob, IsOpening, starts_from, opened, IsRunOf}
 use Rattle.heap_system.specs.Systems.{traces_of, units_of, IsReached}
@@ -117,8 +117,8 @@ module _ {V : Type 0} (f : V → List Command) (c : Config) (all ys rest zs : Li
       let m : length (map f all) ≡ length all = length-map all f in
       omega (arith, number, job.bounds.threads)
 
-  pub trace_fits : IsTraceInBounds c (f x)
-  trace_fits = subst (λ k. IsTraceInBounds c k) (ap (λ i. get_or (map f all) i []) number ∙ sym (ap (λ k. get_or (map f k) (length ys) []) whole_is) ∙ at_middle f ys zs x) (each_at c (map f all) job n number_low)
+  pub trace_fits : IsLife c (f x)
+  trace_fits = subst (λ k. IsLife c k) (ap (λ i. get_or (map f all) i []) number ∙ sym (ap (λ k. get_or (map f k) (length ys) []) whole_is) ∙ at_middle f ys zs x) (each_at c (map f all) job n number_low)
 
   pub splits_on : (ys ++ x ∷ []) ++ zs ≡ all
   splits_on = append_assoc ys (x ∷ []) zs ∙ whole_is

@@ -36,12 +36,12 @@ use Rattle.heap_system.specs.Machines.{Run, no_local, local_at, word_read, next_
 use Rattle.heap_system.specs.Naming.{renamed}
 use Rattle.heap_system.specs.Pictures.{gating, stand_of, holding, gates_in, holdings_in, tasks_in, kept_state}
 use Rattle.heap_system.specs.Systems.{logs_of, units_of}
-use Rattle.heap_system.proofs.Balances.{got_paid, replied_paid}
+use Rattle.heap_system.proofs.Balances.{replied_paid}
 use Rattle.heap_system.proofs.Growing.{order_after, items_are, part_grows, part_stays, work_grows, registers_stay, counts_stay, units_grow}
 use Rattle.heap_system.proofs.Kept.{LocalKept, progress, Kept}
 use Rattle.heap_system.proofs.Moving.{moved_on, local_moves, local_stays}
 use Rattle.heap_system.proofs.PartLaws.{AtPart, PartEvent, PartLaws}
-use Rattle.heap_system.proofs.Paying.{bounds_at, works_append, worked_low, paid_low}
+use Rattle.heap_system.proofs.Paying.{bounds_at, works_append, worked_low, paid_low, objects_next}
 use Rattle.heap_system.proofs.Wanted.{place_at}
 use Rattle.heap_system.proofs.Seeing.{lead, Seen, graph_decided}
 
@@ -57,7 +57,7 @@ cond_of f true x y = refl
 cond_of f false x y = refl
 
 -- a sum of n parts that are small
-total_most : (n : ℕ) (f : ℕ → ℕ) (m : ℕ) → ((u : ℕ) → u < n → f u ≤ m) → total n f ≤ n * m
+pub total_most : (n : ℕ) (f : ℕ → ℕ) (m : ℕ) → ((u : ℕ) → u < n → f u ≤ m) → total n f ≤ n * m
 total_most zero f m each = omega arith
 total_most (suc n) f m each = omega (arith, total_most n f m (λ u ul. each u (omega arith)), each n (omega arith))
 
@@ -126,8 +126,7 @@ module _ (c : Config) (traces : List (List Command)) (laws : (p : Part) → Part
     low = tl;
     inside = inside;
     count = (kept.locals t tl).made;
-    few = omega (arith, (kept.locals t tl).fits.made, (kept.locals t tl).fresh);
-    many = (kept.locals t tl).fits.trace.few;
+    few = omega (arith, (kept.locals t tl).fits.made, objects_next (local_at c r.state t));
     room = room_of;
     free = free_of;
     account = (kept.locals t tl).fits.account;

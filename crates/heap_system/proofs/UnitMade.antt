@@ -11,7 +11,6 @@ use Rattle.sweep_steps.specs.Ends.{row_passes}
 use Rattle.sweep_steps.specs.Fits.{SweepFits}
 use Rattle.sweep_steps.specs.Rows.{SweepState, sweep_got, sweep_passed, sweep_over, sweep_nothing, sweep_step}
 use Rattle.sweep_steps.proofs.Passing.{passed_bits, passed_few}
-use Rattle.cycle_tally.specs.Kept.{most_work}
 use Rattle.work_account.specs.Accounts.{AccountState}
 use Rattle.heap_system.specs.declared.local.Local.TheInside.{Inside}
 use Rattle.heap_system.specs.declared.local.Part.{Part}
@@ -20,7 +19,7 @@ use Rattle.never_heap.specs.RightWork.{units_told}
 use Rattle.never_heap.specs.Steps.{blocks_of}
 use Rattle.heap_system.specs.Locals.{IsLocal, PartFits, IsRoomy, IsPaid, IsPassAt, HasRoom, balance_paid, paid_got, command_of, owed, unit_to_come, works, is_last, local_got}
 use Rattle.heap_system.proofs.Balances.{paid_after, part_low, units_on, sound_made}
-use Rattle.heap_system.proofs.Paying.{view_of, price_low, paid_low, worked_low, before_low, passed_more, swept_last}
+use Rattle.heap_system.proofs.Paying.{view_of, price_low, paid_low, worked_low, passed_more, swept_last}
 use Rattle.heap_system.proofs.parts.InPass.{paid_more}
 
 -- a Mark pass makes one unit at most
@@ -61,7 +60,7 @@ sweep_owes s n w before now unit got was is new few paid due low =
 module _ (i : Inside) (k : IsLocal (view_of i)) (rate : i.account.rate ≡ i.rate)
     (object : i.account.object ≡ i.config.object) where
   pub units_few : i.account.balance.units < 2 ^ 50
-  units_few = omega (arith, k.units, before_low (view_of i) k, worked_low (view_of i) k, paid_low (view_of i) k)
+  units_few = omega (arith, k.units, worked_low (view_of i) k, paid_low (view_of i) k)
 
   pub spent_few : i.spent < 2 ^ 50
   spent_few = omega (arith, paid_low (view_of i) k)
@@ -119,8 +118,7 @@ module _ (i : Inside) (k : IsLocal (view_of i)) (rate : i.account.rate ≡ i.rat
               (blocks_of i.config.width (command_of (view_of i))) i.spent i.account.balance
               k.account (price_low (view_of i) k) (omega (arith, more, pays)) k.sound;
           account = paid_after None unit (units_told (command_of (view_of i))) 0 i.spent i.account.balance k.account;
-          units = units_on unit (units_told (command_of (view_of i))) 0 (i.before * most_work i.config i.rate + works i.log.items) i.spent i.account.balance k.units;
-          worked = k.worked;
+          units = units_on unit (units_told (command_of (view_of i))) 0 (i.before + works i.log.items) i.spent i.account.balance k.units;
           made = k.made;
           space = k.space;
           roomy = roomy;

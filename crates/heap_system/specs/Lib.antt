@@ -1,5 +1,6 @@
 pub mod Naming
 pub mod Openings
+pub mod Lives
 pub mod Locals
 pub mod Machines
 pub mod Rooms

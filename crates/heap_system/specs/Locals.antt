@@ -1,6 +1,6 @@
 -- One thread's state, and its events as a table of rows: what each row wants, and what it becomes
 -- on the word that it read.
-use Rattle.std.specs.Prelude.{ℕ, ◌+◌, ◌-◌, ◌*◌, ◌==◌, ◌&&◌, ◌++◌, ◌<◌, ◌≤◌, ◌≡◌, nat_lt, if◌then◌else◌, Bool, true, false, Option, Some, None, List, [], ◌∷◌, length, slice_index_or, not, is_some}
+use Rattle.std.specs.Prelude.{ℕ, ◌+◌, ◌-◌, ◌==◌, ◌&&◌, ◌++◌, ◌<◌, ◌≤◌, ◌≡◌, nat_lt, if◌then◌else◌, Bool, true, false, Option, Some, None, List, [], ◌∷◌, length, slice_index_or, not, is_some}
 use Rattle.block_store.specs.declared.Config.{Config}
 use Rattle.block_store.specs.declared.PhaseWord.{PhaseWord}
 use Rattle.block_store.specs.Configs.{IsInBounds}
@@ -12,9 +12,7 @@ use Rattle.never_heap.specs.declared.Command.TheVariants as commands
 use Rattle.never_heap.specs.declared.Entry.{Entry}
 use Rattle.never_heap.specs.declared.Reply.{Reply}
 use Rattle.never_heap.specs.declared.Reply.TheVariants as replies
-use Rattle.never_heap.specs.Jobs.{IsTraceInBounds}
 use Rattle.never_heap.specs.RightWork.{units_told, units_owed}
-use Rattle.cycle_tally.specs.Kept.{most_work}
 use Rattle.never_heap.specs.Steps.{makes_object, blocks_of}
 use Rattle.work_account.specs.Accounts.{Balance, IsSound, entered, with_unit, with_idle, published, refused}
 use Rattle.work_account.specs.Accounts as accounts
@@ -52,6 +50,7 @@ use Rattle.build_steps.specs.declared.rows.BuildRow.TheVariants as builds
 use Rattle.shown_graph.specs.Events.{Loading, unloaded}
 use Rattle.kept_names.specs.Building.{Build as Builder}
 use Rattle.kept_names.specs.Pictures.{Task}
+use Rattle.heap_system.specs.Lives.{AreCommands, sum_after, objects_of, most_units, most_objects}
 use Rattle.heap_system.specs.Naming.{Naming, Same, Lost, Begun, Shaded, Made}
 use Rattle.heap_system.specs.declared.local.Part.{Part}
 use Rattle.heap_system.specs.declared.local.Part.TheVariants.{Rest, Enter, Serve, Mark, Sweep, Build, Again, Idle, TurnOver, Leave}
@@ -63,7 +62,7 @@ use Rattle.heap_system.specs.declared.Turn.TheVariants as turns
 -- balance has those paid for the command in hand, and those of the cycle that it entered last; and
 -- so many units were made for the command in hand, be they paid or made for an idle. It has made so
 -- many objects, and has room to hold so many blocks. The pass is the one of its last entry. So many
--- commands were done before those of the trace, and are in no log any more.
+-- units were made for the commands before those of the trace, which are in no log any more.
 pub record LocalState : Type 0 where
   pub config : Config
   pub rate : ℕ
@@ -374,10 +373,10 @@ idle_part told spent = if told == 0 then 0 else spent
 abbrev pub balance_got : Effect → ℕ → ℕ → Balance → Balance
 balance_got e told k b = balance_paid e.reply e.unit told k (balance_in e.entered b)
 
--- and the objects made
-abbrev pub made_got : Option Reply → ℕ → ℕ
-made_got (Some (replies.New name)) made = made + 1
-made_got _ made = made
+-- and the objects made, after a reply to this command
+abbrev pub made_got : Command → Option Reply → ℕ → ℕ
+made_got k (Some (replies.New name)) made = made + bit (makes_object k)
+made_got k _ made = made
 
 -- what a turn answers
 abbrev pub turn_of : Step → Turn
@@ -447,16 +446,21 @@ local_got l w =
       balance = balance_got e (units_told (command_of l)) (blocks_of l.config.width (command_of l))
           l.balance;
       spent = paid_got e.reply e.unit l.spent;
-      made = made_got e.reply l.made;
+      made = made_got (command_of l) e.reply l.made;
       space = l.space;
       pass = pass_got e.entered l.thread l.config.threads l.pass;
       part = part_got l.config l.thread (errand_of l) l.pass l.part w;
     }
 
+-- the sum of the works
+abbrev pub works : List Entry → ℕ
+works [] = 0
+works (e ∷ es) = e.work + works es
+
 -- A thread at rest that has done its trace, with this command in its place: what is in the log is
 -- let go, and counted.
 abbrev pub begun : Command → LocalState → LocalState
-begun k l = record l { before = l.before + length l.log; trace = k ∷ []; log = [] }
+begun k l = record l { before = l.before + works l.log; trace = k ∷ []; log = [] }
 
 -- a pass of a thread of the heap
 abbrev pub IsPassAt : Config → Pass → Type 0
@@ -480,11 +484,6 @@ PartFits c done all q Leave = Unit {0}
 abbrev pub unit_to_come : Config → Part → ℕ
 unit_to_come c p = (view c p).to_come
 
--- the sum of the works
-abbrev pub works : List Entry → ℕ
-works [] = 0
-works (e ∷ es) = e.work + works es
-
 -- where a thread does its command, all that this owes is made
 abbrev pub IsPaid : ℕ → ℕ → Part → Type 0
 IsPaid due paid (Serve f) = paid ≡ due
@@ -502,25 +501,25 @@ HasRoom (Build b) space held capacity = Unit {0}
 HasRoom _ space held capacity = (held ≡ []) × (capacity ≡ space)
 
 -- A thread of a configuration that has a rate. No command has made more units than it owes, and the
--- balance is sound; its units are in the log, or paid, or were those of the commands before. At most
--- one object is made for each command, and there is room for the blocks of the largest. A thread has
--- at most 131,072 commands, those before its trace counted.
+-- balance is sound; its units are in the log, or paid, or were those of the commands before. There
+-- is room for the blocks of the largest object. The units made before, those of the log and those
+-- that the commands to come owe are few, and so are the objects made and those that may be asked for.
 pub record IsLocal (l : LocalState) : Type 0 where
   pub bounds : IsInBounds l.config
   pub plan : IsAdmitted l.config
   pub rate : IsRate l.config l.rate
   pub thread : l.thread < l.config.threads
-  pub trace : IsTraceInBounds l.config l.trace
-  pub life : l.before + length l.trace ≤ 131072
+  pub trace : AreCommands l.config l.trace
+  pub life : l.before + works l.log
+      + sum_after (units_owed l.config.width l.rate) (length l.log) l.trace ≤ most_units
   pub log : length l.log ≤ length l.trace
   pub part : PartFits l.config (length l.log) (length l.trace) l.pass l.part
   pub paid : l.spent + unit_to_come l.config l.part ≤ owed l
   pub settled : IsPaid (owed l) l.spent l.part
   pub sound : IsSound l.rate l.config.object l.balance
   pub account : l.balance.paid ≡ paid_part (units_told (command_of l)) l.spent
-  pub units : l.balance.units ≤ l.before * most_work l.config l.rate + works l.log + l.spent
-  pub worked : works l.log ≤ length l.log * most_work l.config l.rate
-  pub made : l.made ≤ l.before + length l.log
+  pub units : l.balance.units ≤ l.before + works l.log + l.spent
+  pub made : l.made + sum_after objects_of (length l.log) l.trace ≤ most_objects
   pub space : l.config.object ≤ l.space
   pub roomy : IsRoomy l.space l.part
 

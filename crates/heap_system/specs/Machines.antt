@@ -8,7 +8,7 @@ use Rattle.block_store.specs.Places.{Place, extent, in_range, words_count}
 use Rattle.rate_plan.specs.Rates.{IsRate, IsAdmitted}
 use Rattle.never_heap.specs.declared.Command.{Command}
 use Rattle.never_heap.specs.Histories.{HistoryItem, Started, Did, replay}
-use Rattle.never_heap.specs.Jobs.{IsJobInBounds}
+use Rattle.heap_system.specs.Lives.{AreLives}
 use Rattle.never_heap.specs.Steps.{step}
 use Rattle.heap_machine.specs.Operations.{op_at, op_place, words_after}
 use Rattle.kept_names.specs.Pictures.{Names}
@@ -141,9 +141,9 @@ pub record IsOpening (c : Config) (traces : List (List Command)) (s : State) : T
   pub roomy : (t : ℕ) → t < c.threads → c.object ≤ space t
   pub locals : s.locals ≡ starts_from c rate space 0 traces
 
--- a job in bounds whose configuration has a rate
+-- a life for each thread, in bounds, of a configuration that has a rate
 pub record IsJob (c : Config) (traces : List (List Command)) : Type 0 where
-  pub bounds : IsJobInBounds c traces
+  pub bounds : AreLives c traces
   pub plan : IsAdmitted c
 
 -- the order begins with the start of cycle 1

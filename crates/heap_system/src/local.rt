@@ -5,7 +5,7 @@ ghost use Rattle.block_store.specs.Configs.{IsInBounds};
 ghost use Rattle.block_store.specs.Phases.{bit};
 ghost use Rattle.block_store.specs.Places.{extent, words_count};
 ghost use Rattle.rate_plan.specs.Rates.{IsRate, IsAdmitted};
-ghost use Rattle.never_heap.specs.RightWork.{units_told};
+ghost use Rattle.never_heap.specs.RightWork.{units_told, units_owed};
 ghost use Rattle.never_heap.specs.Steps.{makes_object, blocks_of};
 ghost use Rattle.work_account.specs.Accounts.{entered};
 ghost use Rattle.heap_machine.specs.Memories.{ReadsOnly, ActsOnce};
@@ -14,7 +14,7 @@ ghost use Rattle.heap_machine.specs.Operations.{op_at, op_place, place_of};
 ghost use Rattle.heap_machine.specs.Readings.{CanHold};
 ghost use Rattle.heap_machine.specs.Passes.{IsPass};
 ghost use Rattle.never_heap.specs.Bounds.{IsCommandInBounds};
-ghost use Rattle.never_heap.specs.Jobs.{IsTraceInBounds};
+ghost use Rattle.heap_system.specs.Lives.{IsLife, objects_of, most_units, most_objects};
 ghost use Rattle.heap_machine.specs.declared.gate.GateRow.{GateRow};
 ghost use Rattle.grey_steps.specs.Rows.{scanning};
 ghost use Rattle.sweep_steps.specs.Rows.{sweeping};
@@ -92,7 +92,7 @@ pub struct Local {
     // The units that an allocation owes for each of its blocks.
     rate: u64,
     thread: u32,
-    // How many commands were done before those of the trace.
+    // The units that were made for the commands before those of the trace.
     before: u64,
     trace: Vec<Command>,
     log: Vec<Entry>,
@@ -281,20 +281,29 @@ fn turns_over<M: Memory>(
     gate.got(places, word)
 }
 
-// How many objects are made after this reply.
-fn made_after(made: u32, reply: Reply) -> u32
+// How many objects are made after this reply to this command.
+fn made_after(made: u32, command: Command, reply: Reply) -> u32
     requires { made < 2 ^ 31 }
-    ensures { result ≡ made_got (Some reply) made }
+    ensures { result ≡ made_got command (Some reply) made }
 {
+    let makes = makes_object(command);
     match reply {
-        Reply::New(_) => made + 1,
+        Reply::New(_) => one_more(made, makes),
         _ => made,
     }
 }
 
+// One more object, where it is so.
+fn one_more(made: u32, makes: bool) -> u32
+    requires { made < 2 ^ 31 }
+    ensures { result ≡ made + bit makes }
+{
+    if makes { made + 1 } else { made }
+}
+
 // One more than the commands in the log, where the one in hand is decided.
 fn if_decided(logged: usize, decided: bool) -> usize
-    requires { logged < 2 ^ 32 }
+    requires { logged ≤ 2 ^ 60 }
     ensures { result ≡ logged + bit decided }
 {
     if decided { logged + 1 } else { logged }
@@ -315,7 +324,7 @@ fn sum_of_works(entries: &[Entry]) -> u64
 impl Local {
     /// A thread at rest before its first command, with room for all entries of its log and for the
     /// blocks of the largest object. The configuration has a rate, the thread is one of it, and the
-    /// trace has at most 131,072 commands, which are in bounds.
+    /// trace is one life.
     ///
     /// # Errors
     ///
@@ -329,7 +338,7 @@ impl Local {
         requires bounds { IsInBounds c.now }
         requires plan { IsAdmitted c.now }
         requires thread { thread < c.now.threads }
-        requires trace { IsTraceInBounds c.now trace.items }
+        requires trace { IsLife c.now trace.items }
         ensures { IfOk result (λ l. IsRate c.now l.rate × (c.now.object ≤ l.space)
             × (l ≡ at_start c.now l.rate l.space thread trace.items)) }
     {
@@ -396,11 +405,12 @@ impl Local {
         self.at_rest() && self.log.len() == self.trace.len()
     }
 
-    /// How many commands the thread has done, also those that are in its log no more.
-    pub fn commands_done(&self) -> u64
-        ensures { result ≡ self.now.before + length self.now.log }
+    /// How many units were made for the commands that are done, also for those that are in the log
+    /// no more.
+    pub fn units_done(&self) -> u64
+        ensures { result ≡ self.now.before + works self.now.log }
     {
-        self.before + self.log.len() as u64
+        self.before + self.work()
     }
 
     /// Has one command more in place of its one command, which is done. The entry of that is let go.
@@ -409,10 +419,12 @@ impl Local {
         requires rest { is_rest self.old.part ≡ true }
         requires settled { self.old.spent ≡ 0 }
         requires bounds { IsCommandInBounds self.old.config command }
-        requires left { self.old.before + length self.old.log < 131072 }
+        requires units { self.old.before + works self.old.log
+            + units_owed self.old.config.width self.old.rate command ≤ most_units }
+        requires objects { self.old.made + objects_of command ≤ most_objects }
         ensures { self.new ≡ begun command self.old }
     {
-        self.before += self.log.len() as u64;
+        self.before = self.units_done();
         self.log.clear();
         self.trace[0] = command;
     }
@@ -759,7 +771,7 @@ impl Local {
               balance = balance_paid (Some reply) false (units_told (command_of self.old))
                   (blocks_of self.old.config.width (command_of self.old)) self.old.balance;
               spent = 0;
-              made = made_got (Some reply) self.old.made;
+              made = made_got (command_of self.old) (Some reply) self.old.made;
             } }
     {
         let Part::Build(pass) = mem::replace(&mut self.part, Part::Rest) else {
@@ -782,7 +794,7 @@ impl Local {
               balance = balance_paid (Some reply) false (units_told (command_of self.old))
                   (blocks_of self.old.config.width (command_of self.old)) self.old.balance;
               spent = 0;
-              made = made_got (Some reply) self.old.made;
+              made = made_got (command_of self.old) (Some reply) self.old.made;
             } }
     {
         let command = self.trace[self.log.len()];
@@ -800,7 +812,7 @@ impl Local {
             command.blocks(self.config.width),
         );
         self.spent = 0;
-        self.made = made_after(self.made, reply);
+        self.made = made_after(self.made, command, reply);
         self.part = Part::Leave;
     }
 }

@@ -1,6 +1,6 @@
 //! All threads with the words that they share, and what a finished run shows.
 
-ghost use Rattle.std.specs.Prelude.{◌≡◌, ◌<◌, ◌≤◌, ℕ, List, [], length, map, slice_index, slice_index_or, Some, None, IfOk, IfErr, IfSome, IfNone, true, false};
+ghost use Rattle.std.specs.Prelude.{◌≡◌, ◌<◌, ◌≤◌, ◌^◌, ℕ, List, [], length, map, slice_index, slice_index_or, Some, None, IfOk, IfErr, IfSome, IfNone, true, false};
 ghost use Rattle.std.specs.Option.{option_copied};
 ghost use Rattle.block_store.specs.declared.Config.{Config};
 ghost use Rattle.block_store.specs.Configs.{IsInBounds};
@@ -12,7 +12,7 @@ ghost use Rattle.heap_machine.specs.Readings.{CanHold};
 ghost use Rattle.heap_system.specs.Locals.{LocalState, is_done};
 ghost use Rattle.heap_system.specs.Machines.{turned, answer, heap_in, local_at, IsJob, IsOpening};
 ghost use Rattle.heap_system.specs.Ordering.{ordered_of, IsInOrder};
-ghost use Rattle.heap_system.specs.Systems.{Whole, Finish, after_event, ordered_after, opening_order, items_kept, traces_of, logs_of, units_of, AllDone, IsReached, IsReachedInOrder, IsFinished, IsFinishedInOrder, IsLeastUndone};
+ghost use Rattle.heap_system.specs.Systems.{Whole, Finish, after_event, ordered_after, opening_order, commands_in, items_kept, traces_of, logs_of, units_of, AllDone, IsReached, IsReachedInOrder, IsFinished, IsFinishedInOrder, IsLeastUndone};
 
 use crate::Turn;
 use crate::local::Local;
@@ -212,6 +212,7 @@ impl System {
         turns: u64,
     ) -> Result<System, OutOfMemory>
         requires job { IsJob c (map (λ v. v.items) traces.items) }
+        requires few { commands_in (map (λ v. v.items) traces.items) ≤ 2 ^ 32 }
         requires turns { turns ≤ 1000000000 }
         ensures config { IfOk result (λ s. s.config ≡ c) }
         ensures traces { IfOk result (λ s. traces_of s.state ≡ map (λ v. v.items) traces.items) }

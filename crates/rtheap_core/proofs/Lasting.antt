@@ -7,10 +7,9 @@ use Rattle.block_store.specs.Counts.{total}
 use Rattle.never_heap.specs.declared.Command.{Command}
 use Rattle.never_heap.specs.declared.Command.TheVariants.{New, Arr, Set, Nil, Mov, Get, Put, Len, Same, Say, Swap, Cas, Idle}
 use Rattle.never_heap.specs.Bounds.{IsCommandInBounds}
-use Rattle.never_heap.specs.Jobs.{IsTraceInBounds}
+use Rattle.never_heap.specs.Jobs.{IsTraceInBounds, IsJobInBounds}
 use Rattle.lone_bound.specs.Prices.{allocation_bound, idle_bound, other_bound}
 use Rattle.heap_system.specs.Alone.{command_bound}
-use Rattle.heap_system.specs.Machines.{IsJob}
 use Rattle.heap_system.specs.Serials.{trace_bound, job_bound}
 
 module _ (c : Config) (rate : ℕ) (threads : c.threads ≤ 16) (object : c.object ≤ 1024)
@@ -72,12 +71,12 @@ module _ (c : Config) (rate : ℕ) (threads : c.threads ≤ 16) (object : c.obje
   sum zero f each = omega arith
   sum (suc n) f each = omega (arith, sum n f each, each n)
 
-pub job_low : (c : Config) (traces : List (List Command)) (rate : ℕ) → IsJob c traces
+pub job_low : (c : Config) (traces : List (List Command)) (rate : ℕ) → IsJobInBounds c traces
     → rate ≤ 2 * c.blocks → job_bound c rate traces ≤ 2 ^ 64 - 1
 job_low c traces rate job small =
-    let b = job.bounds.config in
+    let b = job.config in
     let low : rate ≤ 131070 = omega (arith, small, b.blocks) in
     let all : job_bound c rate traces ≤ c.threads * (131072 * most c rate b.threads b.object low) =
     sum c rate b.threads b.object low c.threads (λ t. trace_bound c rate (get_or traces t []))
-    (at c rate b.threads b.object low traces job.bounds.each) in
+    (at c rate b.threads b.object low traces job.each) in
     omega (arith, all, b.threads)

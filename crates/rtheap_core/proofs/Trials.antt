@@ -9,6 +9,7 @@ use Rattle.heap_system.specs.Systems.{Whole, AllDone}
 use Rattle.schedules.specs.declared.Schedule.TheVariants.{Serial}
 use Rattle.schedules.specs.Replays.{IsReplayed, system_after}
 use Rattle.schedules.specs.Schedules.{turns_of}
+use Rattle.never_heap.specs.Jobs.{IsJobInBounds}
 use Rattle.rtheap_core.proofs.Lasting.{job_low}
 use Rattle.rtheap_core.proofs.Replays.{RunsLaw, StopLaw, IsAfter, is_after, first_turns, sooner, opens_none, all_of_run}
 
@@ -34,7 +35,7 @@ pub record IsTried (c : Config) (traces : List (List Command)) (q : Whole) : Typ
   pub done : AllDone q.config q.state
 
 module _ (laws : TrialLaws) (c : Config) (traces : List (List Command)) (q : Whole)
-    (job : IsJob c traces) (a : IsAfter c traces Serial many q) where
+    (job : IsJob c traces) (text : IsJobInBounds c traces) (a : IsAfter c traces Serial many q) where
   rate : ℕ
   rate = a.is.opening.rate
 
@@ -47,7 +48,7 @@ module _ (laws : TrialLaws) (c : Config) (traces : List (List Command)) (q : Who
 
   few_are : few ≤ many
   unfolding few
-  few_are = job_low c traces rate job (laws.small c rate job.plan planned)
+  few_are = job_low c traces rate text (laws.small c rate job.plan planned)
 
   done_soon : AllDone c (first_turns a few).state
   unfolding few
@@ -71,8 +72,8 @@ module _ (laws : TrialLaws) (c : Config) (traces : List (List Command)) (q : Who
 -- by the system that it began with
 pub trial_of : TrialLaws → (w q : Whole) (c : Config) (traces : List (List Command))
     → w.config ≡ c → IsOpening c traces w.state → w.ordered ≡ None
-    → q ≡ system_after w (turns_of Serial w.config w.state many) → IsJob c traces
+    → q ≡ system_after w (turns_of Serial w.config w.state many) → IsJob c traces → IsJobInBounds c traces
     → IsTried c traces q
-trial_of laws w q c traces config opening none same job =
-    tried laws c traces q job
+trial_of laws w q c traces config opening none same job text =
+    tried laws c traces q job text
     (is_after laws.runs w q c traces Serial many config opening (opens_none w.ordered none) same)

@@ -15,6 +15,7 @@ use Rattle.schedules.specs.declared.Schedule.TheVariants.{Serial}
 use Rattle.schedules.specs.Replays.{IsReplayed}
 use Rattle.trace_text.specs.declared.trace_faults.Why.{Why}
 use Rattle.trace_text.specs.Faults.{Rose}
+use Rattle.heap_system.proofs.Lived.{job_of_text}
 use Rattle.trace_text.specs.Jobs.{Job, IsJob, IsInput, input_limit}
 use Rattle.trace_text.specs.Refusals.{IsFirstBadLine}
 use Rattle.rtheap_core.specs.declared.exit.RunEnd.{RunEnd}
@@ -280,7 +281,7 @@ module _ (laws : Laws) (c : Call) (done : IsCarriedOut c) where
       → IsDueFor 0 (λ bytes. IsInput bytes job × IsAdmitted job.config) c
   fine task reads asked job n = due_for 0 _
       (λ bytes e p. when_fine laws task bytes c.exit.due (verdict_of task reads asked bytes e)
-      job p.0 p.1 (n (record { bounds = p.0.is_job.in_bounds; plan = p.1 })))
+      job p.0 p.1 (n (job_of_text _ _ p.0.is_job.in_bounds p.1)))
 
   run_or_plan : AsksFor c.words Run ⊎ AsksFor c.words Plan → (job : Job)
       → IsDueFor 0 (λ bytes. IsInput bytes job × IsAdmitted job.config) c

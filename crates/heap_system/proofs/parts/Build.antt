@@ -40,7 +40,7 @@ use Rattle.block_store.specs.declared.Width.{Width}
 use Rattle.block_store.specs.Colours.{is_free, is_grey, black_word, link}
 use Rattle.block_store.specs.Counts.{changed}
 use Rattle.block_store.specs.Heaps.{Heap}
-use Rattle.block_store.specs.Phases.{is_closed, is_sweep, cycle_of}
+use Rattle.block_store.specs.Phases.{bit, is_closed, is_sweep, cycle_of}
 use Rattle.block_store.specs.Places.{Phase, Cursor, FreeCount, ColourOf, extent}
 use Rattle.block_store.proofs.ColourWords.{free_is, not_grey_black, not_grey_free}
 use Rattle.never_heap.specs.declared.Command.{Command}
@@ -433,7 +433,7 @@ module _ (c : Config) (s : Seen c) (b : BuildState) (at : AtPart c s (Build b)) 
       → (renamed s.thread s.graph s.heap m s.names).shaded ≡ s.names.shaded
       → told_by s.graph s.thread s.command s.spent v
       ≡ entry_of s.thread s.command s.spent r ∷ []
-      → made_got (Some r) s.made ≡ count_of (graph_decided s.graph s.thread s.command v) s.thread
+      → made_got s.command (Some r) s.made ≡ count_of (graph_decided s.graph s.thread s.command v) s.thread
       → Event (Some r) v m
   answered r v m over kept shaded told counts = record {
     gate = gate_kept;
@@ -485,7 +485,8 @@ module _ (c : Config) (s : Seen c) (b : BuildState) (at : AtPart c s (Build b)) 
       (published c s.graph s.order s.heap s.names s.tasks s.holds b pictured s.bounds s.spent
       publishing))
       refl refl
-      (ap (λ r. made_got (Some r) s.made) (reply_made s.graph s.thread s.command at.part.makes)
+      (ap (λ r. made_got s.command (Some r) s.made) (reply_made s.graph s.thread s.command at.part.makes)
+      ∙ ap (λ b. s.made + bit b) at.part.makes
       ∙ ap (λ n. n + 1) s.count
       ∙ sym (made_one s.graph s.thread s.command there at.part.makes))
 

@@ -5,7 +5,7 @@ use Rattle.block_store.specs.declared.Config.{Config}
 use Rattle.block_store.specs.declared.PhaseWord.{PhaseWord}
 use Rattle.block_store.specs.Counts.{changed}
 use Rattle.block_store.specs.Heaps.{Heap, put_at}
-use Rattle.block_store.specs.Phases.{phase_of, inside_of, is_closed, is_sweep, cycle_of}
+use Rattle.block_store.specs.Phases.{bit, phase_of, inside_of, is_closed, is_sweep, cycle_of}
 use Rattle.block_store.specs.Places.{Phase, extent}
 use Rattle.block_store.proofs.PhaseWords.{phase-more}
 use Rattle.never_heap.specs.declared.Command.{Command}
@@ -113,7 +113,7 @@ module _ (c : Config) (s : Seen c) (q : Pass) (own : q.thread ≡ s.thread) (is 
           part = record { thread = own; threads = is.1; cycle = refl; serial = ap (λ n. n + 1) s.count; command = refl; makes = makes; going = refl };
           fits = (subst (λ n. PartFits c s.done s.all q (Build (building c.width q.thread n q.cycle (s.made + 1) s.command s.space))) (sym is.1)
               (subst (λ t. PartFits c s.done s.all q (Build (building c.width t c.threads q.cycle (s.made + 1) s.command s.space))) (sym own) (
-                building_ranges.first_fits c s.thread q.cycle (s.made + 1) s.command s.space s.low s.bounds.threads s.bounds.blocks thread.registers (omega (arith, s.few, low, s.many))
+                building_ranges.first_fits c s.thread q.cycle (s.made + 1) s.command s.space s.low s.bounds.threads s.bounds.blocks thread.registers (let one : bit (makes_object s.command) ≡ 1 = ap bit makes in omega (arith, s.few, one))
                     (ranges.in_range c s.command s.inside) makes (omega (arith, small, s.bounds.object)) (omega (arith, small, s.room)),
                 low,
               )));

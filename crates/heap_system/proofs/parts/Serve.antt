@@ -1,5 +1,5 @@
 -- A thread in a command that allocates nothing.
-use Rattle.std.proofs.Common.{◌⊎◌, ◌≡◌, ℕ, ◌+◌, ◌*◌, ◌-◌, ◌<◌, ◌≤◌, Bool, true, false, cond, eqb, Option, Some, None, is_some, List, [], ◌∷◌, ◌++◌, append-nil, length, refl, sym, ap, ◌∙◌, subst, arith, inl, inr, ne_eqb}
+use Rattle.std.proofs.Common.{◌⊎◌, ◌≡◌, ℕ, ◌+◌, ◌*◌, ◌-◌, ◌<◌, Bool, true, false, cond, eqb, Option, Some, None, is_some, List, [], ◌∷◌, ◌++◌, append-nil, length, refl, sym, ap, ◌∙◌, subst, arith, inl, inr, ne_eqb}
 use Rattle.std.proofs.lemmas.Bool.{cases_Bool}
 use Rattle.block_store.specs.declared.Config.{Config}
 use Rattle.block_store.specs.Colours.{is_grey, black_word}
@@ -53,7 +53,7 @@ use Rattle.heap_system.specs.Pictures.{gating, holding}
 use Rattle.heap_system.specs.Units.{blackens, turns_black}
 use Rattle.heap_system.proofs.Passing.{inside_open}
 use Rattle.heap_system.proofs.PartLaws.{AtPart, PartLaws}
-use Rattle.heap_system.proofs.Seeing.{stage, stage_of, lead, Seen, EventKept, graph_decided, told_by, items_told, IsDecided}
+use Rattle.heap_system.proofs.Seeing.{stage, stage_of, lead, Seen, EventKept, graph_decided, told_by, items_told}
 
 -- the other threads' rows say the same of a graph in which their registers are the same
 row_stays : (g new : Graph) (u : ℕ) (k : Command) (r : FieldRow) → ((q : ℕ) → register_of new u q ≡ register_of g u q) → (KnownAt g u k r → KnownAt new u k r) × (due_at new u k r ≡ due_at g u k r)
@@ -131,9 +131,9 @@ counts_on : (g : Graph) (t : ℕ) (k : Command) (b : Bool) → t < length g.muta
 counts_on g t k true there none = count_stays g t t (makes_object k) (step g t k).0 there (λ _. none) (change_of g t k)
 counts_on g t k false there none = refl
 
-made_on : (o : Option Reply) (made : ℕ) → ((n : _) → o ≡ Some (replies.New n) → ⊥) → made_got o made ≡ made
-made_on (Some (replies.New name)) made never = absurd (never name refl)
-made_on _ made never = refl
+made_on : (k : Command) (o : Option Reply) (made : ℕ) → ((n : _) → o ≡ Some (replies.New n) → ⊥) → made_got k o made ≡ made
+made_on k (Some (replies.New name)) made never = absurd (never name refl)
+made_on k _ made never = refl
 
 turns_in : (o : Option Reply) → turn_of (step_of o) ≡ turns.Went
 turns_in None = refl
@@ -261,8 +261,8 @@ module _ (c : Config) (s : Seen c) (f : FieldState) (at : AtPart c s (Serve f)) 
       | inr look ↦ both_works s.graph s.thread s.command s.spent decides o look.reply look.decides (sym is ∙ look.replied)
     ]
 
-    counts_is : made_got o s.made ≡ count_of (graph_decided s.graph s.thread s.command verdict) s.thread
-    counts_is = made_on o s.made (λ n e. makes_none c f.pass f.command f.row w at.part.going n (is ∙ e)) ∙ s.count ∙ sym (counts_on s.graph s.thread s.command decides there at.part.serves)
+    counts_is : made_got s.command o s.made ≡ count_of (graph_decided s.graph s.thread s.command verdict) s.thread
+    counts_is = made_on s.command o s.made (λ n e. makes_none c f.pass f.command f.row w at.part.going n (is ∙ e)) ∙ s.count ∙ sym (counts_on s.graph s.thread s.command decides there at.part.serves)
 
   abbrev effect_at : Option Reply → Effect
   effect_at o = record (plain (field_step (extent c) f w)) { reply = o; verdict = verdict }

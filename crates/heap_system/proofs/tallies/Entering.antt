@@ -8,10 +8,9 @@ use Rattle.block_store.specs.Phases.{phase_of, is_closed, is_sweep, cycle_of}
 use Rattle.block_store.specs.Places.{Phase, extent}
 use Rattle.block_store.proofs.Functions.{changed_else}
 use Rattle.block_store.proofs.PhaseWords.{phase-more}
-use Rattle.never_heap.specs.RightWork.{units_told}
 use Rattle.never_heap.specs.declared.Command.{Command}
 use Rattle.never_heap.specs.declared.Command.TheVariants as commands
-use Rattle.never_heap.specs.Steps.{blocks_of, makes_object}
+use Rattle.never_heap.specs.Steps.{makes_object}
 use Rattle.heap_machine.specs.Operations.{heap_after}
 use Rattle.heap_machine.specs.declared.Step.TheVariants as steps
 use Rattle.heap_machine.specs.declared.gate.GateRow.{GateRow}
@@ -31,7 +30,7 @@ use Rattle.heap_system.specs.Locals.{Errand, plain, first_part, pass_by, effect,
 use Rattle.heap_system.proofs.Passing.{phase_is}
 use Rattle.heap_system.proofs.PartLaws.{word_at}
 use Rattle.heap_system.proofs.Seeing.{Seen, IsEntering, errand}
-use Rattle.heap_system.proofs.Tallying.{IsSpending, Counted, TallyEvent, TallyLaw, Asking, asking, IsNext}
+use Rattle.heap_system.proofs.Tallying.{IsSpending, Counted, TallyEvent, TallyLaw, Asking, asking}
 use Rattle.heap_system.proofs.tallies.Moves.{spends_on, same_words, spends_here, told_none, stays, moves}
 
 -- a command begins with nothing claimed

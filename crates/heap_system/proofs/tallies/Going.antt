@@ -7,8 +7,6 @@ use Rattle.block_store.specs.Phases.{inside_of, is_sweep, cycle_of}
 use Rattle.block_store.specs.Places.{Phase}
 use Rattle.block_store.proofs.Functions.{changed_else}
 use Rattle.block_store.proofs.PhaseWords.{phase-less}
-use Rattle.never_heap.specs.RightWork.{units_told}
-use Rattle.never_heap.specs.Steps.{blocks_of}
 use Rattle.heap_machine.specs.Gating.{Gating, Inside}
 use Rattle.heap_machine.specs.declared.Step.TheVariants as steps
 use Rattle.heap_machine.specs.declared.gate.GateRow.TheVariants as gates
@@ -19,7 +17,7 @@ use Rattle.heap_system.specs.declared.local.Part.{Part}
 use Rattle.heap_system.specs.declared.local.Part.TheVariants.{Rest, Enter, Again, Idle, TurnOver, Leave}
 use Rattle.heap_system.specs.Locals.{plain}
 use Rattle.heap_system.proofs.Seeing.{Seen}
-use Rattle.heap_system.proofs.Tallying.{IsSpending, Counted, TallyEvent, TallyLaw, Asking, asking, IsNext}
+use Rattle.heap_system.proofs.Tallying.{IsSpending, Counted, TallyEvent, TallyLaw, Asking, asking}
 use Rattle.heap_system.proofs.tallies.Moves.{spends_on, spends_here, told_none, moves}
 
 -- from a part that is inside with nothing claimed or reserved to Rest, or to one that stands as that

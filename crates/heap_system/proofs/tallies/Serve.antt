@@ -1,10 +1,9 @@
 -- A thread in a command that allocates nothing: the tally has the blocks that its barrier shades, the
 -- answer and the next command.
-use Rattle.std.proofs.Common.{◌⊎◌, ◌≡◌, ℕ, ◌+◌, ◌≤◌, Bool, true, false, eqb, Option, None, Some, is_some, [], ◌∷◌, ◌++◌, refl, sym, ap, ◌∙◌, subst, arith, inl, inr}
+use Rattle.std.proofs.Common.{◌⊎◌, ◌≡◌, ℕ, ◌≤◌, Bool, true, false, eqb, Option, None, Some, is_some, [], ◌∷◌, ◌++◌, refl, sym, ap, ◌∙◌, subst, arith, inl, inr}
 use Rattle.std.proofs.lemmas.Bool.{cases_Bool}
 use Rattle.block_store.specs.declared.Config.{Config}
 use Rattle.block_store.specs.Colours.{black_word}
-use Rattle.block_store.specs.Counts.{changed}
 use Rattle.block_store.specs.Heaps.{Heap}
 use Rattle.block_store.specs.Phases.{cycle_of}
 use Rattle.block_store.specs.Places.{Phase, PayloadOf, extent}
@@ -38,7 +37,7 @@ use Rattle.cycle_tally.specs.Events as events
 use Rattle.cycle_tally.specs.Tallies.{Spending, Tally, made_of}
 use Rattle.work_account.specs.Accounts.{Balance}
 use Rattle.heap_system.specs.declared.local.Part.TheVariants.{Serve, Leave}
-use Rattle.heap_system.specs.Locals.{paid_got, Open, AsStep, plain, if_decides, if_replied, entry_of, balance_paid}
+use Rattle.heap_system.specs.Locals.{Open, AsStep, plain, if_decides, if_replied, entry_of, balance_paid}
 use Rattle.heap_system.proofs.Balances.{nothing_paid, all_made, no_idle}
 use Rattle.heap_system.proofs.Looking.{looks}
 use Rattle.heap_system.proofs.PartLaws.{AtPart}

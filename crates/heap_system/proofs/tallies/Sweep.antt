@@ -32,7 +32,7 @@ use Rattle.heap_system.specs.declared.local.Part.{Part}
 use Rattle.heap_system.specs.declared.local.Part.TheVariants.{Sweep, Again, Idle}
 use Rattle.heap_system.proofs.PartLaws.{AtPart}
 use Rattle.heap_system.proofs.Seeing.{Seen}
-use Rattle.heap_system.proofs.Tallying.{IsSpending, IsTallyOf, Counted, TallyEvent, TallyLaw, more_if, Asking, asking, IsNext}
+use Rattle.heap_system.proofs.Tallying.{IsSpending, IsTallyOf, Counted, TallyEvent, TallyLaw, more_if, Asking, asking}
 use Rattle.heap_system.specs.Units.{turns_black}
 use Rattle.heap_system.proofs.parts.InPass.{of_pass, pass_is, grey_or_black}
 use Rattle.heap_system.proofs.parts.Sweep.{freed_word}

@@ -1,4 +1,7 @@
-use Rattle.std.proofs.Common.{◌≡◌}
+use Rattle.std.proofs.Common.{◌≡◌, sym, subst}
+use Rattle.heap_system.specs.Machines.{IsJob}
+use Rattle.heap_system.proofs.Lived.{job_of_text}
+use Rattle.trace_text.specs.Jobs.{Job}
 use Rattle.atom_board.proofs.Orders.{in_order_each}
 use Rattle.rtheap_core.specs.declared.exit.RunEnd.TheVariants.{Ran}
 use Rattle.rtheap_core.specs.Ends.{HasHistory, job_of}
@@ -27,3 +30,7 @@ returns-clause-job g c = (shows g c).0
 
 pub returns-clause-ran : goal.returns-clause-ran
 returns-clause-ran g c = (shows g c).1
+
+pub new-requires : goal.new-requires
+new-requires g c =
+    subst (λ (j : Job). IsJob j.config j.traces) (sym c.job.view_is) (job_of_text _ _ c.requires.bounds c.requires.admitted)

@@ -1,10 +1,10 @@
-use Rattle.std.proofs.Common.{false, Some, ◌++◌, ◌∷◌, [], ◌≡◌, ap, sym, ◌∙◌, arith, subst, length, get_or, ◌<◌}
+use Rattle.std.proofs.Common.{false, Some, ◌≡◌, ap, sym, ◌∙◌, arith, subst, length, get_or, ◌<◌}
 use Rattle.std.specs.Vec.{vec_capacity}
 use Rattle.std.proofs.lemmas.List.{get_or_default}
 use Rattle.never_heap.specs.declared.Command.TheVariants as commands
 use Rattle.work_account.specs.Accounts.{AccountState}
 use Rattle.never_heap.specs.RightWork.{units_told}
-use Rattle.heap_system.specs.Locals.{LocalState, owed, balance_paid, entry_of}
+use Rattle.heap_system.specs.Locals.{LocalState, owed, balance_paid}
 use Rattle.heap_system.proofs.Paying.{view_of, room_at_rest, answered_with}
 use Rattle.heap_system.proofs.local.Local.answer.Goals as goal
 

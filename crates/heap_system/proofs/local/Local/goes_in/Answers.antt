@@ -4,7 +4,7 @@ use Rattle.std.proofs.lemmas.List.{get_or_default}
 use Rattle.never_heap.specs.declared.Command.TheVariants as commands
 use Rattle.work_account.specs.Accounts.{AccountState}
 use Rattle.heap_system.specs.Locals.{LocalState, pass_by}
-use Rattle.heap_system.proofs.Paying.{view_of, room_at_rest, entered_local, begins_build}
+use Rattle.heap_system.proofs.Paying.{view_of, room_at_rest, entered_local, begins_build, serial_low}
 use Rattle.heap_system.proofs.local.Local.goes_in.Goals as goal
 
 pub invariant_of-self-then-makes_object-2 : goal.invariant_of-self-then-makes_object-2
@@ -24,3 +24,12 @@ invariant_of-self-then-makes_object-2 c =
       k.3,
       tt,
     )
+
+pub new-requires-then-makes_object-clause-serial : goal.new-requires-then-makes_object-clause-serial
+new-requires-then-makes_object-clause-serial c =
+    let low : length c.self.inside.log.items < length c.self.inside.trace.items = subst (λ (l : LocalState). length l.log < length l.trace) (sym c.self.view_is) c.requires.command in
+    let long : c.len.result ≡ length c.self.inside.log.items = c.len.ensures ∙ omega (arith, c.self.inside.log.ok.0) in
+    let few = serial_low (view_of c.self.inside) c.self.invariant.0 c.index.result.now
+        (c.index.ensures ∙ ap (λ n. get_or c.self.inside.trace.items n c.index.result.now) long ∙ get_or_default c.self.inside.trace.items (length c.self.inside.log.items) c.index.result.now (commands.Nil 0) low)
+        (sym c.makes_object.ensures ∙ c.if-makes_object.true) in
+    (omega arith, omega (arith, few))

@@ -2,7 +2,7 @@ use Rattle.std.proofs.Common.{◌≡◌, ◌≤◌, List, map, sym, ap, subst, a
 use Rattle.never_heap.specs.declared.Command.{Command}
 use Rattle.heap_system.specs.Machines.{IsOpening}
 use Rattle.heap_system.specs.Systems.{Whole, commands_in}
-use Rattle.heap_system.proofs.Ordering.{job_few, opening_in_order}
+use Rattle.heap_system.proofs.Ordering.{opening_in_order}
 use Rattle.heap_system.proofs.system.System.new_ordered.Goals as goal
 
 -- the trace of a vector
@@ -10,7 +10,7 @@ abbrev items_of : Vec Command Global → List Command
 items_of v = v.items
 
 pub room_for-requires-clause-commands : goal.room_for-requires-clause-commands
-room_for-requires-clause-commands c = subst (λ xs. commands_in (map items_of xs) ≤ 4294967296) (sym c.deref.ensures.value) (job_few c.args.c (map items_of c.args.traces.items) c.requires.job)
+room_for-requires-clause-commands c = subst (λ xs. commands_in (map items_of xs) ≤ 4294967296) (sym c.deref.ensures.value) c.requires.few
 
 pub invariant_of-result : goal.invariant_of-result
 invariant_of-result c =
