@@ -9,7 +9,9 @@ pub mod Heads
 pub mod Gate
 pub mod Changing
 pub mod Marking
+pub mod Keeping
 pub mod Laws
 pub mod Runs
+pub mod Near
 pub mod Changes
 pub mod Serials

@@ -1,8 +1,11 @@
 //! How many turns a command takes where one thread alone has them, for the proofs above: each law
 //! is the contract of a function that does nothing.
 
-ghost use Rattle.std.specs.Prelude.{ℕ, ◌<◌, ◌≡◌, true};
+ghost use Rattle.std.specs.Prelude.{ℕ, ◌*◌, ◌<◌, ◌≤◌, ◌≡◌, true};
 ghost use Rattle.block_store.specs.declared.Config.{Config};
+ghost use Rattle.block_store.specs.Widths.{payloads};
+ghost use Rattle.lone_bound.specs.Near.{near_bound, between};
+ghost use Rattle.never_heap.specs.Steps.{makes_object, blocks_of};
 ghost use Rattle.rate_plan.specs.Rates.{IsRate};
 ghost use Rattle.heap_system.specs.Alone.{IsQuiet, HasCommand, EndsWithin, command_bound, ChangesPhase, UnitBetween};
 ghost use Rattle.heap_system.specs.Locals.{command_of, is_rest};
@@ -17,6 +20,19 @@ pub fn a_lone_thread_ends_its_command()
     ensures { (c : Config) (r : Run) (t rate : ℕ) → IsAfterTurns c r → IsRate c rate
         → IsQuiet c r → t < c.threads → HasCommand (local_in c r t)
         → EndsWithin c t r (command_bound c rate (command_of (local_in c r t))) }
+{}
+
+/// So an allocation is done in a number of turns that is near the most that one takes: where a sweep
+/// of the heap pays for the changes of a cycle by so much a unit (charge), it is a unit's turns and
+/// the charge for each unit, those of one cycle, and those that write the blocks.
+pub fn a_lone_allocation_ends_near_its_bound()
+    ensures { (c : Config) (r : Run) (t rate charge : ℕ) → IsAfterTurns c r → IsRate c rate
+        → between c.threads ≤ charge * c.blocks
+        → IsQuiet c r → t < c.threads → HasCommand (local_in c r t)
+        → makes_object (command_of (local_in c r t)) ≡ true
+        → EndsWithin c t r (near_bound c.threads (payloads c.width) charge
+        (rate * blocks_of c.width (command_of (local_in c r t)))
+        (blocks_of c.width (command_of (local_in c r t)))) }
 {}
 
 /// Between two changes of the phase that a lone thread makes there is a unit: it does not turn the

@@ -29,7 +29,7 @@ rest_lone c s is alone event known =
     }
 
 -- a word that counts one less has the same phase and cycle
-less_inside : (c : Config) (s : Seen c) → (s.gatings s.thread).stand ≡ Inside
+pub less_inside : (c : Config) (s : Seen c) → (s.gatings s.thread).stand ≡ Inside
     → (cycle_of (s.heap Phase - 1) ≡ cycle_of (s.heap Phase))
     × (is_sweep (s.heap Phase - 1) ≡ is_sweep (s.heap Phase))
 less_inside c s inside =

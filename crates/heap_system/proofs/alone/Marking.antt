@@ -21,7 +21,7 @@ use Rattle.heap_system.proofs.alone.Heads.{some_none, some_first, some_next, som
 use Rattle.heap_system.proofs.alone.Standing.{terms_of, some, grey_heads, lone_of, NoGrey, LoneStep, LoneLaw, LoneKnows, is_out, heap_left}
 
 -- where a list is 0 that is taken, the heap is as it was
-taken : (h : Heap) (a b : ℕ) → h (GreyList a) ≡ 0 → put_at h (GreyList a) 0 (GreyList b) ≡ h (GreyList b)
+pub taken : (h : Heap) (a b : ℕ) → h (GreyList a) ≡ 0 → put_at h (GreyList a) 0 (GreyList b) ≡ h (GreyList b)
 taken h a b none = elim (cases_eq a b) [
   | inl e ↦ rw (eq-eqb a b e) (sym (ap (λ x. h (GreyList x)) (sym e) ∙ none))
   | inr ne ↦ rw (ne_eqb a b ne) refl

@@ -50,7 +50,7 @@ use Rattle.heap_system.proofs.alone.Standing.{terms_of, spot_of, lone_of, LoneKn
 abbrev unit : Config → ℕ
 unit c = 8 * c.threads + 64
 
-wide : (w : Width) → (2 ≤ payloads w) × (payloads w ≤ 8)
+pub wide : (w : Width) → (2 ≤ payloads w) × (payloads w ≤ 8)
 wide Four = (omega arith, omega arith)
 wide Eight = (omega arith, omega arith)
 
@@ -69,7 +69,7 @@ rest_stays : (p : Part) → is_rest p ≡ true → is_out p ≡ false
 rest_stays Rest is = refl
 rest_stays p is = absurd (let z : false ≡ true = is in cc)
 
-out_is : (p : Part) → is_out p ≡ true → p ≡ Leave
+pub out_is : (p : Part) → is_out p ≡ true → p ≡ Leave
 out_is Leave is = refl
 out_is p is = absurd (let z : false ≡ true = is in cc)
 
@@ -295,7 +295,7 @@ module _ (c : Config) (traces : List (List Command)) (job : IsJob c traces) (rat
   module _ (left_some : length old < length (get_or traces t []))
       (command : get_or (get_or traces t []) (length old) (commands.Nil 0) ≡ k) where
     -- the end after so many turns of r
-    abbrev EndsIn : Run → ℕ → Type 0
+    abbrev pub EndsIn : Run → ℕ → Type 0
     EndsIn r most =
         (n : ℕ) × (n ≤ most)
         × ((j : ℕ) → j < n → answer c t (after_alone c t r j).state ≡ turns.Went)
@@ -304,13 +304,13 @@ module _ (c : Config) (traces : List (List Command)) (job : IsJob c traces) (rat
     abbrev rest : Run → ℕ
     rest r = price (heap_in c r.state) (local_at c r.state t)
 
-    went_first : (r : Run) (n : ℕ) → answer c t r.state ≡ turns.Went
+    pub went_first : (r : Run) (n : ℕ) → answer c t r.state ≡ turns.Went
         → ((j : ℕ) → j < n → answer c t (after_alone c t (next c t r) j).state ≡ turns.Went)
         → (j : ℕ) → j < suc n → answer c t (after_alone c t r j).state ≡ turns.Went
     went_first r n one more zero low = one
     went_first r n one more (suc j) low = more j (omega arith)
 
-    none_before : (r : Run) → answer c t r.state ≡ turns.Went
+    pub none_before : (r : Run) → answer c t r.state ≡ turns.Went
         → (j : ℕ) → j < 1 → answer c t (after_alone c t r j).state ≡ turns.Went
     none_before r one = went_first r 0 one (λ j low. absurd (omega arith))
 
@@ -432,7 +432,7 @@ module _ (c : Config) (traces : List (List Command)) (job : IsJob c traces) (rat
       ap (λ x. get_or x (length first.log) (commands.Nil 0)) (sym (kept.locals t tl).trace)
 
   -- nothing is paid
-  none_paid : first.spent ≡ 0
+  pub none_paid : first.spent ≡ 0
   none_paid =
       let settled : IsSettled (owed first) first.spent Rest =
       subst (λ p. IsSettled (owed first) first.spent p) at_rest (kept.locals t tl).settled in

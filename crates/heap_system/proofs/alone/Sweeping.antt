@@ -111,7 +111,7 @@ module _ (c : Config) (s : Seen c) (p : SweepState) where
       record { goes = refl; out = next.0; knows = next.1; moves = next.2 }
 
 -- what is owed still
-still_owes : (m owed due paid x high passed : ℕ) → IsLeft m owed x high passed → paid + owed ≡ due + passed → paid < due
+pub still_owes : (m owed due paid x high passed : ℕ) → IsLeft m owed x high passed → paid + owed ≡ due + passed → paid < due
 still_owes m owed due paid x high passed left settled = omega (arith, left.left, left.due, settled)
 
 -- by the rows

@@ -1,0 +1,194 @@
+-- A lone thread comes to the end of its allocation within the near bound.
+use Rattle.std.proofs.Common.{◌≡◌, ℕ, zero, suc, ◌-◌, ◌*◌, ◌≤◌, ◌<◌, true, false, List, [], length, get_or, refl, sym, subst, arith, inl, inr}
+use Rattle.std.proofs.lemmas.Bool.{cases_Bool}
+use Rattle.block_store.specs.declared.Config.{Config}
+use Rattle.block_store.specs.Heaps.{Heap}
+use Rattle.block_store.specs.Widths.{payloads}
+use Rattle.rate_plan.specs.Rates.{IsRate}
+use Rattle.never_heap.specs.declared.Command.{Command}
+use Rattle.never_heap.specs.declared.Command.TheVariants as commands
+use Rattle.never_heap.specs.declared.Entry.{Entry}
+use Rattle.never_heap.specs.RightWork.{units_owed}
+use Rattle.never_heap.specs.Steps.{makes_object, blocks_of}
+use Rattle.lone_bound.specs.Near.{Keeps, near_left, near_bound, between}
+use Rattle.lone_bound.proofs.Near.{lower, near}
+use Rattle.heap_system.specs.declared.local.Part.{Part}
+use Rattle.heap_system.specs.declared.local.Part.TheVariants.{Rest, Leave}
+use Rattle.heap_system.specs.Alone.{IsQuiet, HasCommand, EndsWithin}
+use Rattle.heap_system.specs.Locals.{LocalState, command_of, owed, is_done}
+use Rattle.heap_system.specs.Machines.{Run, IsJob, local_at, local_in, heap_in, next}
+use Rattle.heap_system.proofs.Kept.{Kept}
+use Rattle.heap_system.proofs.LawsOf.{laws_of}
+use Rattle.heap_system.proofs.Paying.{makers_untold}
+use Rattle.heap_system.proofs.Turning.{at_part, event, next_is}
+use Rattle.heap_system.proofs.alone.Keeping.{scene_of, far_of, far_few, keep_law}
+use Rattle.heap_system.proofs.alone.Runs
+use Rattle.heap_system.proofs.alone.Runs.{wide}
+use Rattle.heap_system.proofs.alone.Standing.{terms_of, spot_of, LoneKnows, is_out, paid_left, grey_heads}
+
+module _ (c : Config) (traces : List (List Command)) (job : IsJob c traces) (rate : ℕ)
+    (planned : IsRate c rate) (t : ℕ) (tl : t < c.threads) (old : List Entry) (k : Command)
+    (charge : ℕ) (pays_all : between c.threads ≤ charge * c.blocks) where
+  abbrev due : ℕ
+  due = units_owed c.width rate k
+
+  abbrev price : Heap → LocalState → ℕ
+  price h l = near_left (terms_of c k) charge (scene_of c h t (due - l.spent) l.part)
+
+  abbrev Lonely : Run → Type 0
+  Lonely r = Runs.LoneRun c traces job rate planned t tl old k r
+
+  out_one : (h : Heap) (o : ℕ) (p : Part) → is_out p ≡ true
+      → near_left (terms_of c k) charge (scene_of c h t o p) ≡ 1
+  out_one h o Leave out = refl
+  out_one h o p out = absurd (let z : false ≡ true = out in cc)
+
+  module _ (left_some : length old < length (get_or traces t []))
+      (command : get_or (get_or traces t []) (length old) (commands.Nil 0) ≡ k)
+      (r : Run) (lone : Lonely r) (on : is_out (local_at c r.state t).part ≡ false) where
+    abbrev l : LocalState
+    l = local_at c r.state t
+
+    abbrev h : Heap
+    h = heap_in c r.state
+
+    abbrev after : Heap
+    after = Runs.after c traces job rate planned t tl old k left_some command r lone
+
+    abbrev moved : LocalState
+    moved = Runs.moved c traces job rate planned t tl old k left_some command r lone
+
+    abbrev going : is_done l ≡ false
+    going = Runs.going c traces job rate planned t tl old k left_some command r lone
+
+    due_is : owed l ≡ due
+    due_is = Runs.due_is c traces job rate planned t tl old k left_some command r lone on
+
+    keeps : Keeps c.blocks (spot_of c l.part) (scene_of c h t (due - l.spent) l.part)
+        (scene_of c after t (due - moved.spent) moved.part)
+    keeps =
+        subst (λ x. Keeps c.blocks (spot_of c l.part) (scene_of c h t (due - l.spent) l.part)
+        (scene_of c after t (due - x) moved.part))
+        (sym (Runs.paid_is c traces job rate planned t tl old k left_some command r lone))
+        (subst (λ d. Keeps c.blocks (spot_of c l.part) (scene_of c h t (d - l.spent) l.part)
+        (scene_of c after t
+        (d - paid_left c (Runs.s c traces job rate planned t tl old k left_some command r lone) l.part)
+        moved.part)) due_is
+        (keep_law c l.part on
+        (Runs.s c traces job rate planned t tl old k left_some command r lone)
+        (at_part c traces (laws_of c) job.bounds.config job.plan r lone.kept t tl)
+        (Runs.alone c traces job rate planned t tl old k left_some command r lone)
+        (event c traces (laws_of c) job.bounds.config job.plan r lone.kept t tl going)
+        (subst (λ d. LoneKnows c h t l.pass d l.spent l.part) (sym due_is) lone.own.knows)))
+
+    less : price after moved < price h l
+    less =
+        let low = wide c.width in
+        lower (terms_of c k) c.blocks charge low.0 pays_all (spot_of c l.part)
+        (scene_of c h t (due - l.spent) l.part)
+        (scene_of c after t (due - moved.spent) moved.part)
+        (Runs.moves c traces job rate planned t tl old k left_some command r lone on) keeps
+        (far_few c.threads (grey_heads c after t))
+
+    near_turn : price (heap_in c (next c t r).state) (local_at c (next c t r).state t) < price h l
+    near_turn =
+        subst (λ (x : Run). price (heap_in c x.state) (local_at c x.state t) < price h l)
+        (sym (next_is c traces (laws_of c) job.bounds.config job.plan r lone.kept t tl going))
+        (Runs.carry c traces job rate planned t tl old k left_some command r lone
+        (λ y z. price y z < price h l) less)
+
+  module _ (left_some : length old < length (get_or traces t []))
+      (command : get_or (get_or traces t []) (length old) (commands.Nil 0) ≡ k) where
+    abbrev EndsIn : Run → ℕ → Type 0
+    EndsIn r most = Runs.EndsIn c traces job rate planned t tl old k left_some command r most
+
+    abbrev rest : Run → ℕ
+    rest r = price (heap_in c r.state) (local_at c r.state t)
+
+    at_out : (most : ℕ) (r : Run) → Lonely r → rest r ≤ most
+        → is_out (local_at c r.state t).part ≡ true → EndsIn r most
+    at_out most r lone low out =
+        let one : rest r ≡ 1 =
+        out_one (heap_in c r.state) (due - (local_at c r.state t).spent)
+        (local_at c r.state t).part out in
+        let last = Runs.last_turn c traces job rate planned t tl old k left_some command r lone out in (
+          1,
+          omega arith,
+          Runs.none_before c traces job rate planned t tl old k left_some command r last.0,
+          last.1,
+        )
+
+    pub ends : (most : ℕ) (r : Run) → Lonely r → rest r ≤ most → EndsIn r most
+    ends zero r lone low = elim (cases_Bool (is_out (local_at c r.state t).part)) [
+      | inl out ↦ at_out zero r lone low out
+      | inr on ↦ absurd (let less = near_turn left_some command r lone on in omega arith)
+    ]
+    ends (suc most) r lone low = elim (cases_Bool (is_out (local_at c r.state t).part)) [
+      | inl out ↦ at_out (suc most) r lone low out
+      | inr on ↦
+          let one = Runs.one_turn c traces job rate planned t tl old k left_some command r lone on in
+          let less = near_turn left_some command r lone on in
+          let on_from = ends most (next c t r) one.1 (omega arith) in
+          let few = on_from.1 in (
+            suc on_from.0,
+            omega arith,
+            Runs.went_first c traces job rate planned t tl old k left_some command r on_from.0 one.0
+                on_from.2,
+            on_from.3,
+          )
+    ]
+
+-- at rest with an allocation left, where nobody is inside and the gate is open
+module _ (c : Config) (traces : List (List Command)) (job : IsJob c traces) (rate charge : ℕ)
+    (planned : IsRate c rate) (pays_all : between c.threads ≤ charge * c.blocks) (t : ℕ)
+    (tl : t < c.threads) (r : Run) (kept : Kept c traces r) (quiet : IsQuiet c r)
+    (has : HasCommand (local_in c r t))
+    (makes : makes_object (command_of (local_in c r t)) ≡ true) where
+  abbrev first : LocalState
+  first = local_at c r.state t
+
+  abbrev bound : ℕ
+  bound = near_bound c.threads (payloads c.width) charge
+      (rate * blocks_of c.width (command_of first)) (blocks_of c.width (command_of first))
+
+  at_rest : first.part ≡ Rest
+  at_rest = Runs.at_rest c traces job rate planned t tl r kept quiet has
+
+  priced : (o : ℕ) → o ≡ rate * blocks_of c.width (command_of first)
+      → near_left (terms_of c (command_of first)) charge (scene_of c (heap_in c r.state) t o Rest)
+      ≤ bound
+  priced o same =
+      subst (λ d. near_left (terms_of c (command_of first)) charge
+      (scene_of c (heap_in c r.state) t d Rest) ≤ bound) (sym same)
+      (near (terms_of c (command_of first)) charge
+      (rate * blocks_of c.width (command_of first)) _ (far_of c (heap_in c r.state) t) _ makes
+      (far_few c.threads (grey_heads c (heap_in c r.state) t)))
+
+  first_price : near_left (terms_of c (command_of first)) charge
+      (scene_of c (heap_in c r.state) t
+      (units_owed c.width rate (command_of first) - first.spent) first.part) ≤ bound
+  first_price =
+      let none = Runs.none_paid c traces job rate planned t tl r kept quiet has in
+      subst (λ p. near_left (terms_of c (command_of first)) charge
+      (scene_of c (heap_in c r.state) t
+      (units_owed c.width rate (command_of first) - first.spent) p) ≤ bound) (sym at_rest)
+      (priced (units_owed c.width rate (command_of first) - first.spent)
+      (omega (arith, none, makers_untold (command_of first) makes)))
+
+  pub near_ends : EndsWithin c t r bound
+  near_ends =
+      let ended =
+      ends c traces job rate planned t tl first.log (command_of first) charge pays_all
+      (Runs.some_left c traces job rate planned t tl r kept quiet has)
+      (Runs.command_is c traces job rate planned t tl r kept quiet has)
+      bound r (Runs.begins c traces job rate planned t tl r kept quiet has) first_price in
+      record {
+        turns = ended.0;
+        few = ended.1;
+        went = ended.2;
+        rest = ended.3.rest;
+        entry = ended.3.entry;
+        log = ended.3.log;
+        command = ended.3.command;
+        quiet = ended.3.quiet;
+      }
