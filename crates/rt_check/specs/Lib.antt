@@ -2,3 +2,4 @@ pub mod Good
 pub mod Inputs
 pub mod Answers
 pub mod Standing
+pub mod Moves

@@ -5,11 +5,13 @@ mod follower;
 mod input;
 mod laws;
 mod lines;
+mod moves;
 mod refusal;
 #[cfg(test)]
 mod tests;
 mod top;
 
 pub use laws::{answers_are_one, good_orders_are_runs};
+pub use moves::Move;
 pub use refusal::Refusal;
 pub use top::{CheckExit, check};
