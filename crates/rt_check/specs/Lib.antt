@@ -3,3 +3,5 @@ pub mod Inputs
 pub mod Answers
 pub mod Standing
 pub mod Moves
+pub mod Taken
+pub mod Taking

@@ -7,6 +7,7 @@ mod laws;
 mod lines;
 mod moves;
 mod refusal;
+mod taken;
 #[cfg(test)]
 mod tests;
 mod top;
@@ -14,4 +15,5 @@ mod top;
 pub use laws::{answers_are_one, good_orders_are_runs};
 pub use moves::Move;
 pub use refusal::Refusal;
+pub use taken::moves_of;
 pub use top::{CheckExit, check};
