@@ -4,3 +4,4 @@ pub mod OrderLaws
 pub mod BlockLaws
 pub mod TextLaws
 pub mod OneOrder
+pub mod JobLaws

@@ -4,6 +4,7 @@
 mod blocks;
 mod counts;
 mod laws;
+mod orders;
 mod texts;
 
 pub use blocks::least_blocks;
