@@ -1,5 +1,5 @@
 -- Orders of the commands of a job: each command is in its ranges, and there are not too many.
-use Rattle.std.proofs.Common.{ℕ, zero, suc, ◌+◌, ◌*◌, ◌^◌, ◌≡◌, ◌≢◌, ◌<◌, ◌≤◌, ◌==◌, inl, inr, Bool, true, false, cond, ltb, List, [], ◌∷◌, ◌++◌, length, take, drop, get_or, map, ap, sym, ◌∙◌, refl, subst, arith, eq-eqb, ne_eqb, append_assoc, append-nil, length-append, length-take, add-one, suc-mul}
+use Rattle.std.proofs.Common.{ℕ, zero, suc, ◌+◌, ◌*◌, ◌^◌, ◌≡◌, ◌≢◌, ◌<◌, ◌≤◌, inl, inr, Bool, true, false, cond, ltb, List, [], ◌∷◌, ◌++◌, length, take, drop, get_or, ap, sym, ◌∙◌, refl, subst, arith, eq-eqb, ne_eqb, append_assoc, append-nil, length-append, length-take, add-one, suc-mul}
 use Rattle.std.specs.List.{All, AllByRecursion}
 use Rattle.std.proofs.lemmas.Bool.{cases_eq, cases_lt, lt-ltb, le-ltb}
 use Rattle.std.proofs.lemmas.List.{map-append, take-append-drop, get_or_past}
@@ -191,8 +191,7 @@ own_place (m ∷ ms) (suc k) d l =
       | inl same ↦
           let here : commands_of n.thread (m ∷ ms) ≡ m.command ∷ commands_of n.thread ms =
           ap (λ (b : Bool). cond b (m.command ∷ commands_of n.thread ms) (commands_of n.thread ms))
-          (eq-eqb m.thread n.thread same) in
-          (
+          (eq-eqb m.thread n.thread same) in (
             suc place.0,
             (let low = place.1 in omega (arith, ap length here)),
             ap (λ (cs : List Command). get_or cs (suc place.0) (New 0 0)) here ∙ place.2,
@@ -200,8 +199,7 @@ own_place (m ∷ ms) (suc k) d l =
       | inr other ↦
           let here : commands_of n.thread (m ∷ ms) ≡ commands_of n.thread ms =
           ap (λ (b : Bool). cond b (m.command ∷ commands_of n.thread ms) (commands_of n.thread ms))
-          (ne_eqb m.thread n.thread other) in
-          (
+          (ne_eqb m.thread n.thread other) in (
             place.0,
             (let low = place.1 in omega (arith, ap length here)),
             ap (λ (cs : List Command). get_or cs place.0 (New 0 0)) here ∙ place.2,
@@ -233,7 +231,7 @@ total_more (suc n) m ms =
       | inl same ↦
           let own : length (commands_of n (m ∷ ms)) ≡ length (commands_of n ms) + 1 =
           ap (λ (b : Bool). length (cond b (m.command ∷ commands_of n ms) (commands_of n ms)))
-          (eq-eqb m.thread n same) in
+          (eq-eqb m.thread n same) ∙ sym (add-one (length (commands_of n ms))) in
           let a : one_if (ltb m.thread n) ≡ 0 =
           ap one_if (le-ltb m.thread n (omega arith)) in
           let b : one_if (ltb m.thread (suc n)) ≡ 1 =

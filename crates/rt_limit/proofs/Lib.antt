@@ -5,3 +5,4 @@ pub mod BlockLaws
 pub mod TextLaws
 pub mod OneOrder
 pub mod JobLaws
+pub mod AnswerLaws

@@ -1,8 +1,6 @@
-use Rattle.std.proofs.Common.{ℕ, List, ◌<◌, ◌++◌, length, ap, sym, ◌∙◌, arith}
-use Rattle.never_heap.specs.declared.Command.{Command}
-use Rattle.rt_check.specs.declared.moves.Move.{Move}
+use Rattle.std.proofs.Common.{ℕ, ◌<◌, ◌++◌, length, ap, sym, ◌∙◌, arith}
 use Rattle.trace_text.specs.Jobs.{Job}
-use Rattle.rt_limit.specs.Moments.{by_threads, moves_of}
+use Rattle.rt_limit.specs.Moments.{moves_of}
 use Rattle.rt_limit.proofs.JobLaws.{by_threads_more}
 use Rattle.rt_limit.proofs.orders.thread_by_thread.Goals as goal
 
