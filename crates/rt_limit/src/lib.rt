@@ -5,6 +5,8 @@ mod blocks;
 mod counts;
 mod laws;
 mod orders;
+#[cfg(test)]
+mod tests;
 mod texts;
 mod top;
 
