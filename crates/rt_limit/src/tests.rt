@@ -23,9 +23,13 @@ use trace_text::{INPUT_LIMIT, Job, MemSink, MemSource};
 /// Heaps of one thread and of two, and one of wide blocks. The fourth opens with more blocks than
 /// may be live, and the last has no rate.
 const ONE: &str = "rtheap 1 threads 1 blocks 64 live 20 object 8 shared 0";
+
 const TWO: &str = "rtheap 1 threads 2 blocks 64 live 20 object 2 shared 4";
+
 const WIDE: &str = "rtheap 2 threads 1 blocks 64 live 20 object 4 shared 0";
+
 const LOW: &str = "rtheap 1 threads 1 blocks 64 live 5 object 2 shared 0";
+
 const HIGH: &str = "rtheap 1 threads 1 blocks 64 live 64 object 2 shared 0";
 
 /// The jobs below, by letter: the header, and what stands behind it with a slash for each line
@@ -41,10 +45,7 @@ fn job_of(letter: &str) -> (&str, &str) {
             ONE,
             "/thread 0/new 1 4/nil 1/new 1 1/new 2 1/nil 2/arr 2 17/nil 2/nil 1/new 3 1/end/",
         ),
-        "D" => (
-            TWO,
-            "/thread 0/new 1 1/nil 1/thread 1/new 1 1/nil 1/end/",
-        ),
+        "D" => (TWO, "/thread 0/new 1 1/nil 1/thread 1/new 1 1/nil 1/end/"),
         "E" => (
             ONE,
             "/thread 0/new 1 1/new 2 1/put 1 0 2/put 2 0 1/nil 2/nil 1/new 3 0/end/",
@@ -139,7 +140,11 @@ fn numbers(alloc: Global, number: Option<u64>) -> Result<Vec<u64>, AllocError> {
 fn spelled(alloc: Global, answer: &(u8, Vec<u8>)) -> Result<String, AllocError> {
     let mut text = format!(in alloc; "{} ", answer.0)?;
     for byte in &answer.1 {
-        text.push(if *byte == b'\n' { '/' } else { char::from(*byte) })?;
+        text.push(if *byte == b'\n' {
+            '/'
+        } else {
+            char::from(*byte)
+        })?;
     }
     Ok(text)
 }

@@ -33,8 +33,8 @@ plain_most-requires-clause-few c =
 
 pub figures_of-requires-clause-moves : goal.figures_of-requires-clause-moves
 figures_of-requires-clause-moves c =
-    ranges c.args.job.now c.job-2.inside.config c.deref-2.result.now
-    (ap (λ (j : Job). j.config) (sym c.job-2.view_is))
+    ranges c.args.job.now c.job.inside.config c.deref-2.result.now
+    (ap (λ (j : Job). j.config) (sym c.job.view_is))
     (moves_in_range c.args.job.now c.deref-2.result.now c.requires
     (are c.args.job.now _ c.deref-2.result.now (c.deref-2.ensures.value ∙ c.in_ok-moves.ensures)
     (all_by_threads c.args.job.now.traces)))
