@@ -18,4 +18,4 @@ in_range c (Same a b) h = h
 in_range c (Say s) h = h
 in_range c (Swap s i v) h = (h.0, h.1, h.2)
 in_range c (Cas s i a v) h = (h.0, h.1, h.2, h.3)
-in_range c (Idle u) h = h.0
+in_range c (Idle u) h = tt

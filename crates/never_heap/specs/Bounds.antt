@@ -29,7 +29,8 @@ IsCommandInBounds c (Cas s i a v) =
     (s < REGISTERS) × (i < 2 ^ 62) × (a < REGISTERS) × (v < REGISTERS) × (c.width ≡ Eight)
 IsCommandInBounds c (Idle u) = (u ≤ 131070) × (c.width ≡ Eight)
 
--- the same, but for the blocks that an object takes
+-- the same, but for the blocks that an object takes, the units that an idle is told of, and the
+-- width
 abbrev pub IsCommandInRange : Command → Type 0
 IsCommandInRange (New d f) = (d < REGISTERS) × (f ≤ 65535)
 IsCommandInRange (Arr d e) = (d < REGISTERS) × (e ≤ 65535)
@@ -44,4 +45,4 @@ IsCommandInRange (Say s) = s < REGISTERS
 IsCommandInRange (Swap s i v) = (s < REGISTERS) × (i < 2 ^ 62) × (v < REGISTERS)
 IsCommandInRange (Cas s i a v) =
     (s < REGISTERS) × (i < 2 ^ 62) × (a < REGISTERS) × (v < REGISTERS)
-IsCommandInRange (Idle u) = u ≤ 131070
+IsCommandInRange (Idle u) = Unit {0}
