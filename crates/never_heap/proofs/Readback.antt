@@ -192,13 +192,14 @@ field_put_there g a i w there =
     ∙ ap (λ b. cond b (set_field (object_of g a) i w) (object_of g a)) (same_itself a))
     ∙ get_or-set_same (object_of g a).fields i w Nil there
 
--- A command that is answered that it stored has found its field, which holds what its register held.
+-- A command that has stored, by its answer, found its field, which holds what its register held.
 record Stores (g : Graph) (t : ℕ) (command : Command) (a : Name) (i w : ℕ) : Type 0 where
   there : i < length (object_of g a).fields
   now : field_at (step g t command).0 a i ≡ register_of g t w
 
 module _ (g : Graph) (t s i w : ℕ) (a : Name) (e : register_of g t s ≡ Ref a) where
-  put_does : (p : Stored) → stored_by (commands.Put s i w) (step g t (commands.Put s i w)).1 ≡ Some p
+  put_does : (p : Stored)
+      → stored_by (commands.Put s i w) (step g t (commands.Put s i w)).1 ≡ Some p
       → Stores g t (commands.Put s i w) a i w
   put_does p told =
       let act : Name → Graph × Reply =
@@ -212,7 +213,8 @@ module _ (g : Graph) (t s i w : ℕ) (a : Name) (e : register_of g t s ≡ Ref a
             ∙ field_put_there g a i (register_of g t w) there;
       }
 
-  swap_does : (p : Stored) → stored_by (commands.Swap s i w) (step g t (commands.Swap s i w)).1 ≡ Some p
+  swap_does : (p : Stored)
+      → stored_by (commands.Swap s i w) (step g t (commands.Swap s i w)).1 ≡ Some p
       → Stores g t (commands.Swap s i w) a i w
   swap_does p told =
       let act : Name → Graph × Reply =
@@ -352,8 +354,8 @@ since_store : (g : Graph) (store : Entry) (since : List HistoryItem) (a : Name) 
 since_store g store since a i v s legal none =
     none_stored (after g (Did store)) since a i legal.1 none ∙ store_stands g store a i v s legal.0
 
-last_store_from : (c : Config) (h before since : List HistoryItem) (store : Entry) (a : Name) (i : ℕ)
-    (v : Value) → h ≡ before ++ Did store ∷ since → StoresIn (replay c before) store a i v
+last_store_from : (c : Config) (h before since : List HistoryItem) (store : Entry) (a : Name)
+    (i : ℕ) (v : Value) → h ≡ before ++ Did store ∷ since → StoresIn (replay c before) store a i v
     → NoneStores (replay c (before ++ Did store ∷ [])) since a i → LegalFrom (start_graph c) h
     → field_at (replay c h) a i ≡ v
 last_store_from c h before since store a i v is s none legal =
@@ -546,10 +548,12 @@ value_of_field g (Int n) i act v e = absurd cc
 value_of_field g (Ref a) i act v e = elim (cases_Bool (ltb i (length (object_of g a).fields))) [
   | inl y ↦
       let both : replies.Val v ≡ replies.Val (field_at g a i) =
-      e ∙ ap (λ b. (cond {A = Graph × Reply} b (act a, replies.Val (field_at g a i)) (g, replies.Range)).1) y in
+      e ∙ ap (λ b. (cond {A = Graph × Reply} b
+      (act a, replies.Val (field_at g a i)) (g, replies.Range)).1) y in
       let same : v ≡ field_at g a i = cc in (a, (refl, same))
   | inr n ↦ absurd (let both : replies.Val v ≡ replies.Range =
-      e ∙ ap (λ b. (cond {A = Graph × Reply} b (act a, replies.Val (field_at g a i)) (g, replies.Range)).1) n in cc)
+      e ∙ ap (λ b. (cond {A = Graph × Reply} b
+      (act a, replies.Val (field_at g a i)) (g, replies.Range)).1) n in cc)
 ]
 
 pub get_told : (c : Config) (before since : List HistoryItem) (get : Entry) (d s i : ℕ)

@@ -81,9 +81,9 @@ pub enum Command {
 
 impl Command {
     /// Whether registers are below `REGISTERS`, numbers and indexes below 2^62, an object that is
-    /// made is at most 65,535 long and takes no more blocks than one object may, and an `Idle` makes
-    /// at most `MOST_UNITS`. `Swap`, `Cas` and `Idle` are commands of version 2 alone, whose blocks
-    /// are wide.
+    /// made is at most 65,535 long and takes no more blocks than one object may, and an `Idle`
+    /// makes at most `MOST_UNITS`. `Swap`, `Cas` and `Idle` are commands of version 2 alone, whose
+    /// blocks are wide.
     pub fn in_bounds(&self, c: &Config) -> bool
         ensures { IsTrue result ↔ IsCommandInBounds c.now self.now }
     {

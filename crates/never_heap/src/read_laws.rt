@@ -23,8 +23,8 @@ pub fn fields_hold_what_was_last_stored()
 {}
 
 /// In a legal history a `get` of a field that there is answers what was last stored there before
-/// it, and each value that a `get` answers is that of such a field. So what was stored is read back,
-/// by its own thread and by any other, until another command stores there.
+/// it, and each value that a `get` answers is that of such a field. So what was stored is read
+/// back, by its own thread and by any other, until another command stores there.
 pub fn gets_read_what_was_last_stored()
     ensures get { (c : Config) (before since : List HistoryItem) (get : Entry) (d s i : ℕ)
         (a : Name) (v : Value)
