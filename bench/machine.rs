@@ -35,6 +35,9 @@ enum Command {
     Len { s: u8 },
     Same { a: u8, b: u8 },
     Say { s: u8 },
+    Swap { s: u8, v: u8, i: u64 },
+    Cas { s: u8, a: u8, v: u8, i: u64 },
+    Idle { units: u64 },
 }
 
 /// A name is a thread and a serial.
@@ -52,6 +55,7 @@ enum Reply {
     Null,
     Kind,
     Range,
+    Idle,
 }
 
 #[derive(Clone, Copy)]
@@ -139,6 +143,11 @@ impl Command {
             Command::Arr { elements, .. } => blocks_of_array(width, elements as usize),
             _ => 0,
         }
+    }
+
+    /// The units that it is told to make, beside those of its blocks.
+    fn told(&self) -> u64 {
+        if let Command::Idle { units } = *self { units } else { 0 }
     }
 }
 
@@ -363,6 +372,7 @@ enum Row {
     LoadOperand,
     LoadOther,
     LoadShape,
+    LoadExpected,
     LoadValue,
     Walk,
     LoadField,
@@ -371,6 +381,7 @@ enum Row {
     ShadeTarget,
     ShadePut,
     Store,
+    IdleLook,
 }
 
 #[derive(Clone, Copy, PartialEq)]
@@ -398,6 +409,10 @@ struct Mutator {
     way: Way,
     loaded: u64,
     second: u64,
+    // Of a `cas`: the place of the register with which it compares, and then its word.
+    expected: u64,
+    // Of a `swap`: whether its exchange was made.
+    taken: bool,
     place: usize,
     paid: u64,
     owed: u64,
@@ -430,6 +445,8 @@ impl Mutator {
             way: Way { links: 0, last: 0, power: 0, index: 0 },
             loaded: 0,
             second: 0,
+            expected: 0,
+            taken: false,
             place: 0,
             paid: 0,
             owed: 0,
@@ -454,11 +471,12 @@ impl Mutator {
     fn first_row(&mut self, heap: &Heap<impl Word>, phase: u64) -> Row {
         (self.cycle, self.sweep) = (phase / CYCLE, phase & SWEEP != 0);
         (self.hand, self.nothing, self.freed) = (0, false, 0);
+        if self.paid < self.owed {
+            return if self.sweep { Row::ReadCursor } else { Row::Take { u: 0 } };
+        }
         match self.command() {
-            Command::New { .. } | Command::Arr { .. } if self.paid < self.owed => {
-                if self.sweep { Row::ReadCursor } else { Row::Take { u: 0 } }
-            }
             Command::New { .. } | Command::Arr { .. } => Row::ReadCount,
+            Command::Idle { .. } => Row::IdleLook,
             Command::Set { d, value } => self.store_in(heap, d, 2 * value + 1),
             Command::Nil { d } => self.store_in(heap, d, 0),
             Command::Mov { s, .. } | Command::Get { s, .. } | Command::Put { s, .. } => {
@@ -466,6 +484,10 @@ impl Mutator {
                 Row::LoadOperand
             }
             Command::Len { s } | Command::Say { s } => {
+                self.place = self.register(heap, s);
+                Row::LoadOperand
+            }
+            Command::Swap { s, .. } | Command::Cas { s, .. } => {
                 self.place = self.register(heap, s);
                 Row::LoadOperand
             }
@@ -488,7 +510,7 @@ impl Mutator {
 
     fn answer(&mut self, reply: Reply) -> Row {
         self.log.push(Entry { reply, work: self.paid });
-        (self.paid, self.replied) = (0, true);
+        (self.paid, self.taken, self.replied) = (0, false, true);
         Row::Leave
     }
 
@@ -530,7 +552,7 @@ impl Mutator {
                 return Turn::Done;
             }
             self.blocks = self.command().blocks(heap.config.width);
-            self.owed = heap.rate * self.blocks as u64;
+            self.owed = heap.rate * self.blocks as u64 + self.command().told();
             self.row = Row::Look;
             self.turns_before = self.turns;
         }
@@ -540,7 +562,7 @@ impl Mutator {
         if turn == Turn::Waited {
             self.waits += 1;
         }
-        if row == Row::Rest {
+        if row == Row::Rest && !matches!(self.log.last(), Some(Entry { reply: Reply::Idle, .. })) {
             if self.most_turns.len() <= self.blocks {
                 self.most_turns.resize(self.blocks + 1, 0);
             }
@@ -873,6 +895,10 @@ impl Mutator {
                 self.answer(if same { Reply::Yes } else { Reply::No })
             }
             LoadShape => self.shape(heap, order),
+            LoadExpected => {
+                self.expected = heap.load(self.expected as usize);
+                LoadValue
+            }
             LoadValue => {
                 self.loaded = heap.load(self.second as usize);
                 self.to_slot(heap)
@@ -918,6 +944,11 @@ impl Mutator {
                 heap.exchange(config.grey_list(self.thread), self.hand as u64);
                 Store
             }
+            IdleLook => {
+                heap.load(0);
+                self.decide(order);
+                self.answer(Reply::Idle)
+            }
             _ => self.store(heap, order),
         }
     }
@@ -947,7 +978,8 @@ impl Mutator {
         let shape = heap.load(heap.config.colour(self.block) + 2);
         let (i, value) = match self.command() {
             Command::Get { i, .. } => (i, None),
-            Command::Put { i, v, .. } => (i, Some(v)),
+            Command::Put { i, v, .. } | Command::Swap { i, v, .. } => (i, Some(v)),
+            Command::Cas { i, v, .. } => (i, Some(v)),
             _ => {
                 self.decide(order);
                 return self.answer(Reply::Len(shape / 2));
@@ -961,7 +993,9 @@ impl Mutator {
         match value {
             Some(v) => {
                 self.second = self.register(heap, v) as u64;
-                Row::LoadValue
+                let Command::Cas { a, .. } = self.command() else { return Row::LoadValue };
+                self.expected = self.register(heap, a) as u64;
+                Row::LoadExpected
             }
             None => self.to_slot(heap),
         }
@@ -980,10 +1014,23 @@ impl Mutator {
     }
 
     fn store(&mut self, heap: &Heap<impl Word>, order: &mut impl FnMut(Item)) -> Row {
-        heap.exchange(self.place, self.loaded);
+        if let Command::Cas { .. } = self.command() {
+            let word = heap.compare_exchange(self.place, self.expected, self.loaded);
+            self.decide(order);
+            return self.answer(if word == self.expected { Reply::Yes } else { Reply::No });
+        }
+        let before = heap.exchange(self.place, self.loaded);
         let reply = match self.command() {
-            Command::Get { .. } if self.loaded != 0 && self.loaded & 1 == 0 => owned(self.second),
-            Command::Get { .. } => plain(self.loaded),
+            Command::Swap { v, .. } if !self.taken => {
+                self.decide(order);
+                (self.taken, self.loaded) = (true, before);
+                self.place = self.register(heap, v);
+                return if before != 0 && before & 1 == 0 { Row::LoadOwner } else { Row::Store };
+            }
+            Command::Get { .. } | Command::Swap { .. } => {
+                let refers = self.loaded != 0 && self.loaded & 1 == 0;
+                if refers { owned(self.second) } else { plain(self.loaded) }
+            }
             _ => {
                 self.decide(order);
                 Reply::Stored
@@ -1078,6 +1125,15 @@ fn read_command(line: &[u8]) -> Command {
             let (s, i) = (next() as u8, next());
             Command::Put { s, i, v: next() as u8 }
         }
+        b"swap" => {
+            let (s, i) = (next() as u8, next());
+            Command::Swap { s, i, v: next() as u8 }
+        }
+        b"cas" => {
+            let (s, i, a) = (next() as u8, next(), next() as u8);
+            Command::Cas { s, i, a, v: next() as u8 }
+        }
+        b"idle" => Command::Idle { units: next() },
         b"len" => Command::Len { s: next() as u8 },
         b"same" => Command::Same { a: next() as u8, b: next() as u8 },
         _ => Command::Say { s: next() as u8 },
@@ -1153,8 +1209,9 @@ impl Printer {
             Reply::Null => self.text(" null"),
             Reply::Kind => self.text(" kind"),
             Reply::Range => self.text(" range"),
+            Reply::Idle => self.text(" idle"),
         }
-        if let Reply::New(..) | Reply::Full(_) = entry.reply {
+        if let Reply::New(..) | Reply::Full(_) | Reply::Idle = entry.reply {
             self.counted(" work ", entry.work);
         }
         self.end_line();
@@ -1373,6 +1430,9 @@ fn line_of(command: &Command) -> String {
         Command::Len { s } => format!("len {s}"),
         Command::Same { a, b } => format!("same {a} {b}"),
         Command::Say { s } => format!("say {s}"),
+        Command::Swap { s, v, i } => format!("swap {s} {i} {v}"),
+        Command::Cas { s, a, v, i } => format!("cas {s} {i} {a} {v}"),
+        Command::Idle { units } => format!("idle {units}"),
     }
 }
 
