@@ -34,7 +34,7 @@ use Rattle.barrier_steps.specs.declared.rows.Way.{Way}
 use Rattle.barrier_steps.specs.Operands.{to_register, from_register, other_register, field_index, number_set, is_put, looks_at_object, expected_register, is_swap, is_cas, is_idle, takes_field, stores_in_field}
 use Rattle.barrier_steps.specs.Walks.{shape_length, links_to, link_at, field_at, ordinal_at}
 use Rattle.barrier_steps.specs.Rows as rows
-use Rattle.barrier_steps.specs.Rows.{payload_in, shape_or_empty, shape_in, store_row, before_store, in_barrier, row_want, row_got, after_object, after_shape, after_field, after_said, at_block, on_way, way_from, way_on, way_with}
+use Rattle.barrier_steps.specs.Rows.{payload_in, shape_or_empty, shape_in, store_row, before_store, in_barrier, row_want, row_got, after_object, after_shape, after_field, after_said, at_block, on_way, way_from, way_on, way_with, reads_beside_graph}
 use Rattle.barrier_steps.specs.Fits.{IsWalk, IsThere, FitsAt, ReadsAt}
 use Rattle.barrier_steps.specs.Deciding.{refers, length_decides}
 use Rattle.barrier_steps.proofs.Named.{to_low, from_low, other_low, expected_low, number_low}
@@ -54,44 +54,44 @@ marking_words h t n cycle (greys.ShadeStored y a) = shaded_words h y (white_word
 marking_words h t n cycle _ = refl
 
 -- the words are those that the row's operation leaves
-pub words_moved : (c : Config) (h : Heap) (s : GraphState) (a : Name) (p : Pass) (k : Command) (row : FieldRow) (w : ℕ) → s.words ≡ block_words h → s.loads p.thread ≡ row_loading (extent c) k row → w ≡ h (place_of (row_want (extent c) p k row))
+pub words_moved : (c : Config) (h : Heap) (s : GraphState) (a : Name) (p : Pass) (k : Command) (row : FieldRow) (w : ℕ) → IsAt (extent c) s h p k row w
     → (after_event (extent c) s (row_event (extent c) a p.thread k row w)).words ≡ block_words (heap_after h (row_want (extent c) p k row))
-words_moved c h s a p k StoreNumber w is l reads = ap (λ x. with_payload x (register_block c.width p.thread (to_register k)) (register_slot c.width (to_register k)) (value_word (λ b. 0) (values.Int (number_set k)))) is
-words_moved c h s a p k StoreNil w is l reads = ap (λ x. with_payload x (register_block c.width p.thread (to_register k)) (register_slot c.width (to_register k)) 0) is
-words_moved c h s a p k LoadMoved w is l reads = is
-words_moved c h s a p k (StoreMoved word) w is l reads =
-    ap (λ x. with_payload x (register_block c.width p.thread (to_register k)) (register_slot c.width (to_register k)) (value_at s p.thread).word) is ∙ ap (λ x. with_payload (block_words h) (register_block c.width p.thread (to_register k)) (register_slot c.width (to_register k)) (value_in x.value).word) l
-words_moved c h s a p k LoadObject w is l reads = elim (cases_Bool (refers (payload_in w))) [ inl e ↦ rw e is | inr e ↦ rw e is ]
-words_moved c h s a p k (LoadShape x) w is l reads = elim (cases_Bool (length_decides k (shape_length (shape_in w)))) [ inl e ↦ rw e is | inr e ↦ rw e is ]
-words_moved c h s a p k (LoadValue way) w is l reads = is
-words_moved c h s a p k (LoadLink way word) w is l reads = is
-words_moved c h s a p k (LoadField way) w is l reads = is
-words_moved c h s a p k (LoadOwner word) w is l reads = is
-words_moved c h s a p k (StorePending word value) w is l reads =
-    ap (λ x. with_payload x (register_block c.width p.thread (value_at s p.thread).origin) (register_slot c.width (value_at s p.thread).origin) (value_at s p.thread).word) is
-    ∙ ap (λ x. with_payload (block_words h) (register_block c.width p.thread (value_in x.value).origin) (register_slot c.width (value_in x.value).origin) (value_in x.value).word) l
-words_moved c h s a p k (StoreField way word) w is l reads =
-    ap (λ x. with_payload x (object_at s p.thread).block (field_at (extent c) way.shape (field_index k)) (value_at s p.thread).word) is
-    ∙ ap (λ x. with_payload (block_words h) (object_in x.object).block (field_at (extent c) way.shape (field_index k)) (value_in x.value).word) l
-words_moved c h s a p k (LoadExpected way) w is l reads = is
-words_moved c h s a p k (ExchangeField way word) w is l reads =
-    ap (λ x. with_payload x (object_at s p.thread).block (field_at (extent c) way.shape (field_index k)) (value_at s p.thread).word) is
-    ∙ ap (λ x. with_payload (block_words h) (object_in x.object).block (field_at (extent c) way.shape (field_index k)) (value_in x.value).word) l
-words_moved c h s a p k (CompareField way word) w is l reads = elim (cases_Bool (eqb w way.expected)) [
+words_moved c h s a p k StoreNumber w at = ap (λ x. with_payload x (register_block c.width p.thread (to_register k)) (register_slot c.width (to_register k)) (value_word (λ b. 0) (values.Int (number_set k)))) at.words
+words_moved c h s a p k StoreNil w at = ap (λ x. with_payload x (register_block c.width p.thread (to_register k)) (register_slot c.width (to_register k)) 0) at.words
+words_moved c h s a p k LoadMoved w at = at.words
+words_moved c h s a p k (StoreMoved word) w at =
+    ap (λ x. with_payload x (register_block c.width p.thread (to_register k)) (register_slot c.width (to_register k)) (value_at s p.thread).word) at.words ∙ ap (λ x. with_payload (block_words h) (register_block c.width p.thread (to_register k)) (register_slot c.width (to_register k)) (value_in x.value).word) at.loads
+words_moved c h s a p k LoadObject w at = elim (cases_Bool (refers (payload_in w))) [ inl e ↦ rw e at.words | inr e ↦ rw e at.words ]
+words_moved c h s a p k (LoadShape x) w at = elim (cases_Bool (length_decides k (shape_length (shape_in w)))) [ inl e ↦ rw e at.words | inr e ↦ rw e at.words ]
+words_moved c h s a p k (LoadValue way) w at = at.words
+words_moved c h s a p k (LoadLink way word) w at = at.words
+words_moved c h s a p k (LoadField way) w at = at.words
+words_moved c h s a p k (LoadOwner word) w at = at.words
+words_moved c h s a p k (StorePending word value) w at =
+    ap (λ x. with_payload x (register_block c.width p.thread (value_at s p.thread).origin) (register_slot c.width (value_at s p.thread).origin) (value_at s p.thread).word) at.words
+    ∙ ap (λ x. with_payload (block_words h) (register_block c.width p.thread (value_in x.value).origin) (register_slot c.width (value_in x.value).origin) (value_in x.value).word) at.loads
+words_moved c h s a p k (StoreField way word) w at =
+    ap (λ x. with_payload x (object_at s p.thread).block (field_at (extent c) way.shape (field_index k)) (value_at s p.thread).word) at.words
+    ∙ ap (λ x. with_payload (block_words h) (object_in x.object).block (field_at (extent c) way.shape (field_index k)) (value_in x.value).word) at.loads
+words_moved c h s a p k (LoadExpected way) w at = at.words
+words_moved c h s a p k (ExchangeField way word) w at =
+    ap (λ x. with_payload x (object_at s p.thread).block (field_at (extent c) way.shape (field_index k)) (value_at s p.thread).word) at.words
+    ∙ ap (λ x. with_payload (block_words h) (object_in x.object).block (field_at (extent c) way.shape (field_index k)) (value_in x.value).word) at.loads
+words_moved c h s a p k (CompareField way word) w at = elim (cases_Bool (eqb w way.expected)) [
   | inl won ↦ rw won
-      (ap (λ x. with_payload x (object_at s p.thread).block (field_at (extent c) way.shape (field_index k)) (value_at s p.thread).word) is
-      ∙ ap (λ x. with_payload (block_words h) (object_in x.object).block (field_at (extent c) way.shape (field_index k)) (value_in x.value).word) l
-      ∙ ap (λ b. block_words (cond b (put_at h (PayloadOf way.block (field_at (extent c) way.shape (field_index k))) word) h)) (sym (sym (ap (λ x. eqb x way.expected) reads) ∙ won)))
+      (ap (λ x. with_payload x (object_at s p.thread).block (field_at (extent c) way.shape (field_index k)) (value_at s p.thread).word) at.words
+      ∙ ap (λ x. with_payload (block_words h) (object_in x.object).block (field_at (extent c) way.shape (field_index k)) (value_in x.value).word) at.loads
+      ∙ ap (λ b. block_words (cond b (put_at h (PayloadOf way.block (field_at (extent c) way.shape (field_index k))) word) h)) (sym (sym (ap (λ x. eqb x way.expected) at.reads) ∙ won)))
   | inr lost ↦ rw lost
-      (is ∙ ap (λ b. block_words (cond b (put_at h (PayloadOf way.block (field_at (extent c) way.shape (field_index k))) word) h)) (sym (sym (ap (λ x. eqb x way.expected) reads) ∙ lost)))
+      (at.words ∙ ap (λ b. block_words (cond b (put_at h (PayloadOf way.block (field_at (extent c) way.shape (field_index k))) word) h)) (sym (sym (ap (λ x. eqb x way.expected) at.reads) ∙ lost)))
 ]
-words_moved c h s a p k IdleLook w is l reads = is
-words_moved c h s a p k (Shade r store) w is l reads = is ∙ sym (marking_words h p.thread p.threads p.cycle r)
-words_moved c h s a p k LoadFirst w is l reads = is
-words_moved c h s a p k (LoadSecond word) w is l reads = is
-words_moved c h s a p k LoadSaid w is l reads = elim (cases_Bool (refers (payload_in w))) [ inl e ↦ rw e is | inr e ↦ rw e is ]
-words_moved c h s a p k (LoadSaidOwner word) w is l reads = is
-words_moved c h s a p k (Answered reply) w is l reads = is
+words_moved c h s a p k IdleLook w at = at.words
+words_moved c h s a p k (Shade r store) w at = at.words ∙ sym (marking_words h p.thread p.threads p.cycle r)
+words_moved c h s a p k LoadFirst w at = at.words
+words_moved c h s a p k (LoadSecond word) w at = at.words
+words_moved c h s a p k LoadSaid w at = elim (cases_Bool (refers (payload_in w))) [ inl e ↦ rw e at.words | inr e ↦ rw e at.words ]
+words_moved c h s a p k (LoadSaidOwner word) w at = at.words
+words_moved c h s a p k (Answered reply) w at = at.words
 
 -- the parts of a load, one by one
 abbrev triple : Option ObjectLoad → Option ValueLoad → Option ValueLoad → Loading
@@ -220,7 +220,7 @@ swap_register (commands.Swap s i v) is = refl
 swap_register _ is = absurd cc
 
 -- what the thread has loaded is what its next row has loaded
-pub loads_moved : (c : Config) (h : Heap) (s : GraphState) (a : Name) (p : Pass) (k : Command) (row : FieldRow) (w : ℕ) → FitsAt c p k row → ReadsAt c p k row w → IsAt (extent c) s h p k row w
+pub loads_moved : (c : Config) (h : Heap) (s : GraphState) (a : Name) (p : Pass) (k : Command) (row : FieldRow) (w : ℕ) → FitsAt c p k row → (reads_beside_graph row ≡ false → ReadsAt c p k row w) → IsAt (extent c) s h p k row w
     → (u : ℕ) → (after_event (extent c) s (row_event (extent c) a p.thread k row w)).loads u ≡ with_load s.loads p.thread (row_loading (extent c) k (row_got (extent c) p k row w)) u
 loads_moved c h s a p k StoreNumber w fits reads at u = refl
 loads_moved c h s a p k StoreNil w fits reads at u = refl
@@ -228,7 +228,7 @@ loads_moved c h s a p k LoadMoved w fits reads at u =
     value_moved c s p.thread (from_register k) w u None None (row_loading (extent c) k (before_store p (Moved w))) (ap (λ x. x.object) at.loads) (ap (λ x. x.expected) at.loads) (payload_read s h _ _ w at.words at.reads) (before_loading c p k (Moved w))
 loads_moved c h s a p k (StoreMoved word) w fits reads at u = refl
 loads_moved c h s a p k LoadObject w fits reads at u =
-    payload_cases w reads.0.0
+    payload_cases w (reads refl).0.0
     (λ q. (after_event (extent c) s (cond (refers q) (Some (events.ReadObject p.thread (from_register k))) None)).loads u ≡ with_load s.loads p.thread (row_loading (extent c) k (after_object q)) u)
     (unmoved s.loads p.thread unloaded u at.loads) (λ v low. unmoved s.loads p.thread unloaded u at.loads)
     (λ x is some. object_moved c s p.thread (from_register k) x u at.loads (ap target (payload_read s h _ _ w at.words at.reads) ∙ sym is))
@@ -272,7 +272,7 @@ loads_moved c h s a p k LoadFirst w fits reads at u =
     value_moved c s p.thread (from_register k) w u None None (row_loading (extent c) k (LoadSecond w)) (ap (λ x. x.object) at.loads) (ap (λ x. x.expected) at.loads) (payload_read s h _ _ w at.words at.reads) refl
 loads_moved c h s a p k (LoadSecond word) w fits reads at u = refl
 loads_moved c h s a p k LoadSaid w fits reads at u =
-    payload_cases w reads.0.0
+    payload_cases w (reads refl).0.0
     (λ q. (after_event (extent c) s (cond (refers q) (Some (events.ReadValue p.thread (from_register k))) None)).loads u ≡ with_load s.loads p.thread (row_loading (extent c) k (after_said w q)) u)
     (unmoved s.loads p.thread unloaded u at.loads) (λ v low. unmoved s.loads p.thread unloaded u at.loads)
     (λ x is some. value_moved c s p.thread (from_register k) w u None None (row_loading (extent c) k (LoadSaidOwner w)) (ap (λ y. y.object) at.loads) (ap (λ y. y.expected) at.loads) (payload_read s h _ _ w at.words at.reads) refl)
@@ -327,7 +327,7 @@ prompt : (s : GraphState) (t : ℕ) (l : Loading) → s.loads t ≡ l → IsProm
 prompt s t l e h = ap (λ x. (value_in x.value).pending) e ∙ h
 
 -- the event of a row may come
-pub row_guarded : (c : Config) (h : Heap) (s : GraphState) (a : Name) (p : Pass) (k : Command) (row : FieldRow) (w : ℕ) → FitsAt c p k row → ReadsAt c p k row w → IsAt (extent c) s h p k row w → InHandAt s a p.thread k row
+pub row_guarded : (c : Config) (h : Heap) (s : GraphState) (a : Name) (p : Pass) (k : Command) (row : FieldRow) (w : ℕ) → FitsAt c p k row → (reads_beside_graph row ≡ false → ReadsAt c p k row w) → IsAt (extent c) s h p k row w → InHandAt s a p.thread k row
     → IfSome (row_event (extent c) a p.thread k row w) (Guard c.width c.threads s)
 row_guarded c h s a p k StoreNumber w fits reads at hand = (fits.thread.thread, to_low k fits.command, prompt s p.thread unloaded at.loads refl, number_low k fits.command)
 row_guarded c h s a p k StoreNil w fits reads at hand = (fits.thread.thread, to_low k fits.command, prompt s p.thread unloaded at.loads refl, tt)
@@ -336,12 +336,12 @@ row_guarded c h s a p k (StoreMoved word) w fits reads at hand =
     (fits.thread.thread, to_low k fits.command, prompt s p.thread (row_loading (extent c) k (StoreMoved word)) at.loads refl, has_value s p.thread (value_in (value_load (from_register k) word)) (ap (λ l. l.value) at.loads))
 row_guarded c h s a p k LoadObject w fits reads at hand =
     let word : register_word_in c.width s.words p.thread (from_register k) ≡ w = payload_read s h _ _ w at.words at.reads in
-    payload_cases w reads.0.0 (λ q. IfSome (cond (refers q) (Some (events.ReadObject p.thread (from_register k))) None) (Guard c.width c.threads s)) tt (λ v low. tt)
+    payload_cases w (reads refl).0.0 (λ q. IfSome (cond (refers q) (Some (events.ReadObject p.thread (from_register k))) None) (Guard c.width c.threads s)) tt (λ v low. tt)
     (λ x is some. (fits.thread.thread, from_low k fits.command, prompt s p.thread unloaded at.loads refl, subst (λ y. target y ≢ 0) (sym word) (reference x w is some)))
 row_guarded c h s a p k (LoadShape x) w fits reads at hand =
     let load : object_at s p.thread ≡ object_in (object_load (from_register k) x) = ap (λ l. object_in l.object) at.loads in
     let word : s.words.shape (object_at s p.thread).block ≡ w = ap (λ o. s.words.shape o.block) load ∙ ap (λ b. b.shape x) at.words ∙ sym at.reads in
-    let shape : shape_of (s.words.shape (object_at s p.thread).block) ≡ Some (shape_in w) = ap shape_of word ∙ shape_read w reads.0 in
+    let shape : shape_of (s.words.shape (object_at s p.thread).block) ≡ Some (shape_in w) = ap shape_of word ∙ shape_read w (reads refl).0 in
     elim (cases_Bool (length_decides k (shape_length (shape_in w)))) [
       | inl is ↦ rw is (fits.thread.thread, prompt s p.thread (row_loading (extent c) k (LoadShape x)) at.loads refl)
       | inr is ↦ rw is (fits.thread.thread, has_object s p.thread (object_in (object_load (from_register k) x)) (ap (λ l. l.object) at.loads), shape)
@@ -379,7 +379,7 @@ row_guarded c h s a p k (Shade r store) w fits reads at hand = tt
 row_guarded c h s a p k LoadFirst w fits reads at hand = (fits.thread.thread, from_low k fits.command, prompt s p.thread unloaded at.loads refl)
 row_guarded c h s a p k (LoadSecond word) w fits reads at hand = (fits.thread.thread, prompt s p.thread (row_loading (extent c) k (LoadSecond word)) at.loads refl)
 row_guarded c h s a p k LoadSaid w fits reads at hand =
-    payload_cases w reads.0.0 (λ q. IfSome (cond (refers q) (Some (events.ReadValue p.thread (from_register k))) None) (Guard c.width c.threads s)) tt (λ v low. tt)
+    payload_cases w (reads refl).0.0 (λ q. IfSome (cond (refers q) (Some (events.ReadValue p.thread (from_register k))) None) (Guard c.width c.threads s)) tt (λ v low. tt)
     (λ x is some. (fits.thread.thread, from_low k fits.command, prompt s p.thread unloaded at.loads refl))
 row_guarded c h s a p k (LoadSaidOwner word) w fits reads at hand = (fits.thread.thread, prompt s p.thread (row_loading (extent c) k (LoadSaidOwner word)) at.loads refl)
 row_guarded c h s a p k IdleLook w fits reads at hand = (fits.thread.thread, prompt s p.thread unloaded at.loads refl)

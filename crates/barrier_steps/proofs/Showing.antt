@@ -34,7 +34,7 @@ use Rattle.barrier_steps.specs.declared.rows.FieldRow.TheVariants.{StoreNumber, 
 use Rattle.barrier_steps.specs.declared.rows.FieldStore.TheVariants.{Pending}
 use Rattle.barrier_steps.specs.Walks.{shape_length, links_to, link_at, field_at, ordinal_at}
 use Rattle.barrier_steps.specs.Operands.{to_register, from_register, other_register, field_index, expected_register, is_swap, is_cas, is_idle, takes_field, stores_in_field}
-use Rattle.barrier_steps.specs.Rows.{register_place, row_want, shades, field_reply}
+use Rattle.barrier_steps.specs.Rows.{register_place, row_want, shades, field_reply, reads_beside_graph}
 use Rattle.barrier_steps.specs.Fits.{IsWalk, IsThere, FitsAt, ReadsAt}
 use Rattle.barrier_steps.specs.Replies.{IsWordOf, ShapeShown, FieldFound, ShownAt, RefersTo, Promises, OwnerShown, NameShown, ShowsAt, due_at, KnownAt}
 use Rattle.barrier_steps.specs.Projection.{walk_load, object_on, object_load, value_load, pending_load, IsAt}
@@ -277,7 +277,7 @@ module _ (c : Config) (m : ℕ) (K : Name → Type 0) (at : Name → ℕ → ℕ
   other_held p k row w fits reads is = register_held p.thread (other_register k) w fits.thread.thread (other_low k fits.command) (register_at p.thread (other_register k) w is reads)
 
   -- the words that a row reads are among those that it may read
-  pub row_reads : (p : Pass) (k : Command) (row : FieldRow) (w : ℕ) → FitsAt c p k row → IsAt (extent c) s h p k row w → IsHeld c h → field_reply row ≡ None → ReadsAt c p k row w
+  pub row_reads : (p : Pass) (k : Command) (row : FieldRow) (w : ℕ) → FitsAt c p k row → IsAt (extent c) s h p k row w → (reads_beside_graph row ≡ true → IsHeld c h) → field_reply row ≡ None → ReadsAt c p k row w
   row_reads p k StoreNumber w fits is held goes = (to_held p k StoreNumber w fits is.reads is.words, tt)
   row_reads p k StoreNil w fits is held goes = (to_held p k StoreNil w fits is.reads is.words, tt)
   row_reads p k LoadMoved w fits is held goes = (from_held p k LoadMoved w fits is.reads is.words, tt)
@@ -316,9 +316,9 @@ module _ (c : Config) (m : ℕ) (K : Name → Type 0) (at : Name → ℕ → ℕ
             (field_word p.thread (from_register k) (field_index k) way object fits.row.0 fits.thread.thread (from_low k fits.command) w fits.row.1 (payload_read s h _ _ w is.words is.reads)),
         tt,
       )
-  row_reads p k IdleLook w fits is held goes = (subst (CanHold (extent c) Phase) (sym is.reads) (held Phase refl), tt)
+  row_reads p k IdleLook w fits is held goes = (subst (CanHold (extent c) Phase) (sym is.reads) (held refl Phase refl), tt)
   row_reads p k (Shade r store) w fits is held goes =
-      (subst (CanHold (extent c) (place_of (row_want (extent c) p k (Shade r store)))) (sym is.reads) (held (place_of (row_want (extent c) p k (Shade r store))) (place_at c p k (Shade r store) fits)), tt)
+      (subst (CanHold (extent c) (place_of (row_want (extent c) p k (Shade r store)))) (sym is.reads) (held refl (place_of (row_want (extent c) p k (Shade r store))) (place_at c p k (Shade r store) fits)), tt)
   row_reads p k LoadFirst w fits is held goes = (from_held p k LoadFirst w fits is.reads is.words, tt)
   row_reads p k (LoadSecond word) w fits is held goes = (other_held p k (LoadSecond word) w fits is.reads is.words, tt)
   row_reads p k LoadSaid w fits is held goes = (from_held p k LoadSaid w fits is.reads is.words, tt)

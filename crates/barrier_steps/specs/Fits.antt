@@ -113,8 +113,8 @@ RowFits c p k (LoadOwner word) = IsLoaded c word × (target word ≢ 0)
 RowFits c p k (StorePending word value) = IsLoaded c word
 RowFits c p k (StoreField way word) = IsWalk c (field_index k) way × IsThere c (field_index k) way
     × IsLoaded c word
-RowFits c p k (ExchangeField way word) = IsWalk c (field_index k) way × IsThere c (field_index k) way
-    × IsLoaded c word
+RowFits c p k (ExchangeField way word) = IsWalk c (field_index k) way
+    × IsThere c (field_index k) way × IsLoaded c word
 RowFits c p k (CompareField way word) = IsWalk c (field_index k) way × IsThere c (field_index k) way
     × IsLoaded c word
 RowFits c p k (Shade r store) = IsBarrier c p r (stored_word store) × StoreFits c k store

@@ -116,7 +116,7 @@ due_at g t k (LoadSaidOwner word) = Some (Val (register_of g t (from_register k)
 due_at g t k (Answered reply) = Some reply
 due_at g t k _ = None
 
--- the value that `get` has still to store is the one that its register has in the graph
+-- the value that `get` or `swap` has still to store is the one that its register has in the graph
 abbrev pub KnownAt : Graph → ℕ → Command → FieldRow → Type 0
 KnownAt g t k (StorePending word value) = value ≡ register_of g t (to_register k)
 KnownAt g t k (Shade r (Pending word value)) = value ≡ register_of g t (to_register k)

@@ -249,6 +249,12 @@ abbrev pub shades : FieldRow → Bool
 shades (Shade r store) = true
 shades _ = false
 
+-- whether it reads a word that shows nothing of the graph: one of the barrier, or the phase
+abbrev pub reads_beside_graph : FieldRow → Bool
+reads_beside_graph (Shade r store) = true
+reads_beside_graph IdleLook = true
+reads_beside_graph _ = false
+
 -- the word that a row stores of those that it has loaded; 0, which is nil, where it stores none
 abbrev pub word_stored : FieldRow → ℕ
 word_stored (StoreMoved word) = word

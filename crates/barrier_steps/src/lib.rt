@@ -2,6 +2,8 @@
 //! registers and fields, and the replies.
 #![tactic(auto)]
 
+#[cfg(test)]
+mod exchange_tests;
 mod laws;
 mod operands;
 mod pass;
