@@ -16,7 +16,7 @@ use Rattle.work_account.proofs.Balances.{entered_sound}
 use Rattle.cycle_tally.specs.Tallies.{Spending, Tally, claims, given_now, made_of}
 use Rattle.cycle_tally.specs.Events.{Enter, Leave, SetCursor, Flip, Start, Clear, Next, with_thread, apply, Guard}
 use Rattle.cycle_tally.specs.Entries.{entries_in}
-use Rattle.cycle_tally.specs.Kept.{IsTold, most_work, SpendingKept, live_before, TallyKept}
+use Rattle.cycle_tally.specs.Kept.{most_work, SpendingKept, live_before, TallyKept}
 use Rattle.cycle_tally.proofs.Sums.{total_least, total_nought, paid_entered, cycle_entered, units_entered, given_entered, units_later, given_later, no_claims}
 use Rattle.cycle_tally.proofs.Going.{goes, stays}
 use Rattle.cycle_tally.proofs.Counting.{one_less, entries_started, in_threads_more, bool_no, scanned_one, few_units, all_given_now, given_then}
