@@ -1,6 +1,6 @@
 //! The heap of one thread, and a command from its asking to its reply.
 
-ghost use Rattle.std.specs.Prelude.{◌≡◌, ◌≤◌, ◌<◌, ◌+◌, ◌-◌, ◌∷◌, [], ℕ, List, IsTrue, IfOk, IfErr, OnOk, OnErr};
+ghost use Rattle.std.specs.Prelude.{◌≡◌, ◌+◌, ◌-◌, ◌∷◌, ◌↔◌, [], IsTrue, IfOk, IfErr, OnOk, OnErr};
 ghost use Rattle.block_store.specs.Configs.{IsInBounds};
 ghost use Rattle.rate_plan.specs.Rates.{IsRate, IsAdmitted};
 ghost use Rattle.never_heap.specs.declared.Command.{Command};
@@ -161,7 +161,10 @@ impl ControlHeap {
         match plan(&c) {
             Err(PlanFault::LiveTooSmall) => Err(OpenFault::LiveTooSmall),
             Err(PlanFault::NoRate) => Err(OpenFault::NoRate),
-            Ok(_) => opened(alloc, c).map_err(|_| OpenFault::NoMemory),
+            Ok(_) => match opened(alloc, c) {
+                Ok(heap) => Ok(heap),
+                Err(_) => Err(OpenFault::NoMemory),
+            },
         }
     }
 
