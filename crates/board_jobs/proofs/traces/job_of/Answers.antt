@@ -5,7 +5,7 @@ use Rattle.std.proofs.lemmas.List.Elements.{recursion_from_All}
 use Rattle.never_heap.specs.declared.Command.{Command}
 use Rattle.never_heap.specs.Jobs.{IsTraceInBounds}
 use Rattle.heap_system.proofs.Lived.{job_of_text}
-use Rattle.board_jobs.proofs.rounds.job.Goals as goal
+use Rattle.board_jobs.proofs.traces.job_of.Goals as goal
 
 abbrev items_of : Vec Command Global → List Command
 items_of v = v.items
@@ -15,7 +15,7 @@ mapped f P [] all = tt
 mapped f P (x ∷ xs) all = (all.0, mapped f P xs all.1)
 
 pub returns : goal.returns
-returns c = job_of_text c.args.c.now (map items_of c.loop-thread.traces.items)
+returns g c = job_of_text c.args.c.now (map items_of c.loop-thread.traces.items)
   (record {
     config = c.if-not-in_bounds.ensures.0 refl;
     threads = length-map c.loop-thread.traces.items items_of ∙ omega (arith, c.loop-thread.invariant.0);
