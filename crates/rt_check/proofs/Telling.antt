@@ -31,7 +31,7 @@ use Rattle.rt_check.specs.Standing.{Begins}
 
 -- ---- the first token
 
-digits_token : (ds r : List ℕ) → AllDigits 10 ds → tokens_of (ds ++ 32 ∷ r) ≡ ds ∷ tokens_of r
+pub digits_token : (ds r : List ℕ) → AllDigits 10 ds → tokens_of (ds ++ 32 ∷ r) ≡ ds ∷ tokens_of r
 digits_token [] r all = refl
 digits_token (d ∷ ds) r all =
     let range = digit_from_value d all.0 in
@@ -99,7 +99,7 @@ no e = cc
 differ : (m n : ℕ) → m ≡ n → m < n → ⊥
 differ m n e l = omega arith
 
-maker_answers : (g : Graph) (t : ℕ) (command : Command) → makes_object command ≡ true
+pub maker_answers : (g : Graph) (t : ℕ) (command : Command) → makes_object command ≡ true
     → (step g t command).1 ≡ replies.New (next_name g t)
 maker_answers g t (commands.New d f) m = refl
 maker_answers g t (commands.Arr d e) m = refl

@@ -5,11 +5,15 @@ mod follower;
 mod input;
 mod laws;
 mod lines;
+mod moves;
 mod refusal;
+mod taken;
 #[cfg(test)]
 mod tests;
 mod top;
 
 pub use laws::{answers_are_one, good_orders_are_runs};
+pub use moves::Move;
 pub use refusal::Refusal;
+pub use taken::moves_of;
 pub use top::{CheckExit, check};

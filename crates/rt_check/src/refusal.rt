@@ -7,6 +7,7 @@ ghost use Rattle.rt_check.specs.Answers.{answer_text, refusal_of, refusal_of_pla
 
 use block_store::OutOfMemory;
 use rate_plan::PlanFault;
+use std::alloc::AllocFailed;
 use trace_text::{LineBuffer, TraceFault, Why};
 
 /// Why an order was not accepted, each with a status and a line of its own.
@@ -113,6 +114,14 @@ impl From<OutOfMemory> for Refusal {
     ghost from_gives = { λ _ refusal. refusal ≡ refusals.OutOfMemory };
 
     fn from(_error: OutOfMemory) -> Refusal {
+        Refusal::OutOfMemory
+    }
+}
+
+impl<T: Drop> From<AllocFailed<T>> for Refusal {
+    ghost from_gives = { λ _ refusal. refusal ≡ refusals.OutOfMemory };
+
+    fn from(_error: AllocFailed<T>) -> Refusal {
         Refusal::OutOfMemory
     }
 }

@@ -48,7 +48,7 @@ use Rattle.sweep_steps.specs.Ends.{unpassed}
 use Rattle.heap_system.specs.declared.local.Part.{Part}
 use Rattle.heap_system.specs.declared.local.Part.TheVariants.{Serve, Leave}
 use Rattle.heap_system.specs.declared.Turn.TheVariants as turns
-use Rattle.heap_system.specs.Locals.{Verdict, Effect, plain, task, paid_got, made_got, if_replied, if_decides, turn_of, entry_of, entries_of, works}
+use Rattle.heap_system.specs.Locals.{Verdict, Effect, plain, task, spent_got, made_got, if_replied, if_decides, turn_of, entry_of, entries_of, works}
 use Rattle.heap_system.specs.Pictures.{gating, holding}
 use Rattle.heap_system.specs.Units.{blackens, turns_black}
 use Rattle.heap_system.proofs.Passing.{inside_open}
@@ -139,7 +139,7 @@ turns_in : (o : Option Reply) → turn_of (step_of o) ≡ turns.Went
 turns_in None = refl
 turns_in (Some r) = refl
 
-replied_sum : (t : ℕ) (k : Command) (paid : ℕ) (o : Option Reply) → works (entries_of t k paid o) + paid_got o false paid ≡ paid + 0
+replied_sum : (t : ℕ) (k : Command) (paid : ℕ) (o : Option Reply) → works (entries_of t k paid o) + spent_got o false paid ≡ paid + 0
 replied_sum t k paid None = omega arith
 replied_sum t k paid (Some r) = omega arith
 

@@ -4,5 +4,5 @@ use Rattle.never_heap.proofs.tests.answered.Given as goal
 
 abbrev pub invariant-loop-command : goal.invariant-loop-command
 invariant-loop-command g l =
-    (length l.graph.graph.mutators ≡ g.config.now.threads)
+    (length l.graph.graph.mutators ≡ l.fn.config.threads)
     × (count_of l.graph.graph 0 ≤ l.command-index)

@@ -1,0 +1,6 @@
+pub mod LiveGrows
+pub mod CountLaws
+pub mod OrderLaws
+pub mod BlockLaws
+pub mod TextLaws
+pub mod OneOrder

@@ -1,0 +1,11 @@
+//! Which heap a job needs: how many blocks are live at most, and how many blocks a rate costs.
+#![tactic(auto)]
+
+mod blocks;
+mod counts;
+mod laws;
+mod texts;
+
+pub use blocks::least_blocks;
+pub use counts::Figures;
+pub use laws::{enough_is_never_full, live_grows};
