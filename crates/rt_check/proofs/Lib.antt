@@ -7,5 +7,6 @@ pub mod Passing
 pub mod TakenLaws
 pub mod Following
 pub mod Leading
+pub mod OneTaken
 pub mod OneAnswer
 pub mod Causes

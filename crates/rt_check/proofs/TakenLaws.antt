@@ -33,7 +33,7 @@ use Rattle.rt_check.proofs.Telling.{begins_one, begins_as, maker_answers, steppe
 
 -- ---- the totals
 
-totals_begin : (cycles units : ℕ) → Begins (totals_text cycles units) None
+pub totals_begin : (cycles units : ℕ) → Begins (totals_text cycles units) None
 unfolding number_at digits_on
 totals_begin cycles units = (
   codes "end",
@@ -81,7 +81,7 @@ tells_these line cycles units third fifth tells =
 
 -- ---- items
 
-no_one_full : (r : Reply) (c : ℕ) → r ≡ replies.Full c → is_full r ≡ false → ⊥
+pub no_one_full : (r : Reply) (c : ℕ) → r ≡ replies.Full c → is_full r ≡ false → ⊥
 no_one_full r c e f = both_ways (is_full r) f (ap is_full e)
 
 pub start_taken : (c : Config) (traces : List (List Command)) (past : List HistoryItem)

@@ -96,7 +96,7 @@ no : false ≡ true → ⊥
 no e = cc
 
 -- codes of letters that differ
-differ : (m n : ℕ) → m ≡ n → m < n → ⊥
+pub differ : (m n : ℕ) → m ≡ n → m < n → ⊥
 differ m n e l = omega arith
 
 pub maker_answers : (g : Graph) (t : ℕ) (command : Command) → makes_object command ≡ true
@@ -171,7 +171,7 @@ module _ (c : Config) (rate : ℕ) (traces : List (List Command)) (past : List H
       ((e ≡ filled t command) × (makes_object command ≡ true) × Allows c past)
 
   module _ (few : length traces ≤ 16) (line : List ℕ) where
-    entry_tells : (e : Entry) → IsGood c rate traces past line (Did e) → Begins line (Some e.thread)
+    pub entry_tells : (e : Entry) → IsGood c rate traces past line (Did e) → Begins line (Some e.thread)
     entry_tells e good =
         let low = thread_low traces past e.thread e.command good.may_come.next.0
         good.may_come.next.1 in

@@ -46,7 +46,8 @@ impl Refusal {
         }
     }
 
-    fn prepend_reason(self, line: &mut LineBuffer)
+    /// Puts what it says in front of the end of a line.
+    pub fn prepend_reason(self, line: &mut LineBuffer)
         requires { length line.old ≤ 1 }
         ensures text { line.new ≡ refusal_text self ++ line.old }
         ensures length { length line.new ≤ 60 }

@@ -1,5 +1,5 @@
 -- Which numbers of blocks have a rate.
-use Rattle.std.proofs.Common.{ℕ, ◌+◌, ◌≡◌, ◌<◌, ◌≤◌, ◌↔◌, inl, inr, Bool, true, false, refl, arith, subst, sym}
+use Rattle.std.proofs.Common.{ℕ, ◌+◌, ◌≡◌, ◌<◌, ◌≤◌, ◌↔◌, inl, inr, Bool, true, false, arith, subst}
 use Rattle.std.proofs.lemmas.Bool.{both_ways, cases_lt}
 use Rattle.block_store.specs.declared.Config.{Config}
 use Rattle.block_store.specs.Configs.{IsInBounds}

@@ -1,5 +1,5 @@
 -- Counts along an order of commands.
-use Rattle.std.proofs.Common.{ℕ, ◌+◌, ◌/◌, ◌≡◌, ◌<◌, ◌≤◌, ◌⊎◌, inl, inr, max, List, [], ◌∷◌, ◌++◌, ap, sym, ◌∙◌, refl, subst, arith, append_assoc, append-nil}
+use Rattle.std.proofs.Common.{ℕ, ◌+◌, ◌/◌, ◌≡◌, ◌≤◌, inl, inr, max, List, [], ◌∷◌, ◌++◌, ap, sym, ◌∙◌, refl, subst, arith, append_assoc, append-nil}
 use Rattle.std.proofs.lemmas.Bool.{cases_lt}
 use Rattle.std.proofs.lemmas.List.Sums.{sum_by_push, sum_by-cons}
 use Rattle.block_store.specs.declared.Width.{Width}
@@ -9,7 +9,6 @@ use Rattle.never_heap.specs.Steps.{blocks_of}
 use Rattle.rt_check.specs.declared.moves.Move.{Move}
 use Rattle.rt_limit.specs.declared.counts.Counter.{Counter}
 use Rattle.rt_limit.specs.Counting.{Knows}
-use Rattle.rt_limit.specs.Figures.{AreFigures}
 use Rattle.rt_limit.specs.Moments.{graph_after, graph_behind, blocks_made, most_live, IsMoment}
 use Rattle.rt_limit.proofs.LiveGrows.{grows}
 

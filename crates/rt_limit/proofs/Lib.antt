@@ -4,3 +4,5 @@ pub mod OrderLaws
 pub mod BlockLaws
 pub mod TextLaws
 pub mod OneOrder
+pub mod JobLaws
+pub mod AnswerLaws

@@ -1,5 +1,5 @@
 -- Reachable blocks grow at allocations alone, and by at most the blocks that are made.
-use Rattle.std.proofs.Common.{ℕ, zero, suc, ◌+◌, ◌≡◌, ◌<◌, ◌≤◌, Bool, true, false, cond, eqb, leb, ltb, List, [], ◌∷◌, ◌++◌, length, get_or, ap, sym, ◌∙◌, refl, subst, arith, inl, inr, eq-eqb, ne_eqb}
+use Rattle.std.proofs.Common.{ℕ, zero, suc, ◌+◌, ◌≡◌, ◌<◌, ◌≤◌, Bool, true, false, cond, eqb, leb, ltb, List, [], ◌∷◌, length, ap, sym, ◌∙◌, refl, subst, arith, inl, inr, eq-eqb, ne_eqb}
 use Rattle.std.specs.List.{sum_by, All}
 use Rattle.std.proofs.lemmas.Bool.{cases_eq, cases_lt, cases_Bool, both_ways, le-leb, lt-ltb, le-ltb}
 use Rattle.std.proofs.lemmas.List.{length-replicate}
@@ -10,7 +10,7 @@ use Rattle.block_store.specs.declared.Width.{Width}
 use Rattle.block_store.specs.Registers.{registers_end}
 use Rattle.never_heap.specs.declared.Command.{Command}
 use Rattle.never_heap.specs.declared.Command.TheVariants as commands
-use Rattle.never_heap.specs.Graphs.{Graph, Object, ObjectKind, Record, Array, nil_object, object_of, has_name, same_name, count_of, shared_name, with_register, with_object, next_name}
+use Rattle.never_heap.specs.Graphs.{Graph, Object, ObjectKind, Record, Array, nil_object, object_of, has_name, count_of, shared_name, with_object, next_name}
 use Rattle.never_heap.specs.LiveBlocks.{blocks_of_kind, object_blocks, live_of, live_blocks}
 use Rattle.never_heap.specs.Reach.{names, names_below, thread_names, reachable}
 use Rattle.never_heap.specs.Steps.{step, blocks_of, made, makes_object}

@@ -1,14 +1,14 @@
 -- A job of one thread has one order of commands, and where no more is live at any moment of it than
 -- may be, no run of the job has a full.
-use Rattle.std.proofs.Common.{ℕ, zero, suc, ◌+◌, ◌≡◌, ◌<◌, ◌≤◌, ◌==◌, Bool, true, false, cond, List, [], ◌∷◌, ◌++◌, length, drop, get_or, map, ap, sym, ◌∙◌, refl, subst, arith, append_assoc, append-nil, length-append, eq-eqb}
+use Rattle.std.proofs.Common.{ℕ, ◌+◌, ◌≡◌, ◌<◌, ◌≤◌, Bool, false, cond, List, [], ◌∷◌, ◌++◌, length, drop, get_or, ap, sym, ◌∙◌, refl, subst, arith, append_assoc, append-nil, length-append, eq-eqb}
 use Rattle.std.proofs.lemmas.List.{map-append}
 use Rattle.std.proofs.Math.Seq.{drop-append_seam}
 use Rattle.block_store.specs.declared.Config.{Config}
 use Rattle.never_heap.specs.declared.Command.{Command}
 use Rattle.never_heap.specs.declared.Entry.{Entry}
 use Rattle.never_heap.specs.Coming.{MayCome, IsNoFull}
-use Rattle.never_heap.specs.Graphs.{Graph, start_graph}
-use Rattle.never_heap.specs.Histories.{HistoryItem, Started, Did, is_full, after, replay, part}
+use Rattle.never_heap.specs.Graphs.{start_graph}
+use Rattle.never_heap.specs.Histories.{HistoryItem, Started, Did, is_full, replay, part}
 use Rattle.never_heap.specs.Licensed.{NoFulls}
 use Rattle.never_heap.specs.LiveBlocks.{live_blocks}
 use Rattle.never_heap.specs.Runs.{IsRun}

@@ -1,5 +1,5 @@
 -- What holds along an order of a job's commands.
-use Rattle.std.proofs.Common.{ℕ, suc, ◌+◌, ◌*◌, ◌^◌, ◌≡◌, ◌≢◌, ◌<◌, ◌≤◌, ◌==◌, inl, inr, Bool, true, false, cond, List, [], ◌∷◌, ◌++◌, length, take, drop, get_or, ap, sym, ◌∙◌, refl, subst, arith, eq-eqb, ne_eqb, length-append, add-one}
+use Rattle.std.proofs.Common.{ℕ, suc, ◌+◌, ◌*◌, ◌^◌, ◌≡◌, ◌<◌, ◌≤◌, ◌==◌, inl, inr, Bool, true, false, cond, List, [], ◌∷◌, ◌++◌, length, take, drop, get_or, ap, sym, ◌∙◌, refl, subst, arith, eq-eqb, length-append, add-one}
 use Rattle.std.specs.List.{All, sum_by}
 use Rattle.std.proofs.lemmas.Bool.{cases_eq, cases_lt}
 use Rattle.std.proofs.lemmas.List.{take-append-drop}
@@ -24,7 +24,7 @@ use Rattle.rt_check.specs.declared.moves.Move.{Move}
 use Rattle.rt_check.specs.Moves.{commands_of}
 use Rattle.rt_limit.specs.declared.counts.Counter.{Counter}
 use Rattle.rt_limit.specs.Counting.{Knows, HasRoom, IsMoveInRange}
-use Rattle.rt_limit.specs.Moments.{graph_after, graph_behind, blocks_made}
+use Rattle.rt_limit.specs.Moments.{graph_after, graph_behind}
 use Rattle.rt_limit.proofs.CountLaws.{behind_more}
 
 -- ---- the commands of a thread

@@ -3,3 +3,4 @@ pub mod Figures
 pub mod Counting
 pub mod Blocks
 pub mod Texts
+pub mod Answers

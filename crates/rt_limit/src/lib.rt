@@ -4,8 +4,11 @@
 mod blocks;
 mod counts;
 mod laws;
+mod orders;
 mod texts;
+mod top;
 
 pub use blocks::least_blocks;
 pub use counts::Figures;
 pub use laws::{enough_is_never_full, live_grows};
+pub use top::{LimitExit, limit};
