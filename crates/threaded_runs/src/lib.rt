@@ -1,12 +1,12 @@
-//! A run of a job, with a call of its own for each thread.
+//! Running a job on threads: a call of its own for each of its threads, on shared atomic words.
+#![tactic(auto)]
 
 ghost use Rattle.std.specs.Prelude.{◌≡◌, IfOk, true};
 ghost use Rattle.rate_plan.specs.Rates.{IsAdmitted};
 ghost use Rattle.trace_text.specs.Jobs.{IsJobInBounds};
 ghost use Rattle.heap_system.specs.Locals.{is_done};
 ghost use Rattle.atom_board.specs.Mutators.{AreInOrder, AllAreDone, IsLater};
-ghost use Rattle.rtheap_core.specs.declared.exit.RunEnd.TheVariants as ends;
-ghost use Rattle.rtheap_core.specs.Ends.{HasHistory, job_of};
+ghost use Rattle.threaded_runs.specs.Ends.{HasHistory, job_of};
 
 use atom_board::{AtomBoard, Closed, Mutator};
 use block_store::OutOfMemory;
@@ -33,8 +33,8 @@ pub fn run_job<R: Threads + Wait + Sync, Q: Pace>(
 ) -> Result<Closed, OutOfMemory>
     requires bounds { IsJobInBounds job }
     requires admitted { IsAdmitted job.config }
-    ensures job { IfOk result (λ f. job_of (ends.Ran f) ≡ job) }
-    ensures ran { IfOk result (λ f. HasHistory (ends.Ran f)) }
+    ensures job { IfOk result (λ f. job_of f ≡ job) }
+    ensures ran { IfOk result HasHistory }
 {
     fulls_are_licensed();
     cycles_give_few_blocks();

@@ -1,5 +1,6 @@
 -- What an ended run shows.
 use Rattle.std.proofs.Common.{ℕ, zero, suc, ◌+◌, ◌-◌, ◌*◌, ◌≡◌, ◌≤◌, List, [], ◌∷◌, map, length, get_or, refl, sym, ap, ◌∙◌, subst, arith, zero-add}
+use Rattle.atom_board.specs.Mutators.{ClosedState}
 use Rattle.block_store.specs.declared.Config.{Config}
 use Rattle.never_heap.specs.declared.Command.{Command}
 use Rattle.never_heap.specs.declared.Entry.{Entry}
@@ -13,8 +14,7 @@ use Rattle.trace_text.specs.Jobs.{Job}
 use Rattle.heap_system.specs.Machines.{Run, IsAfterTurns}
 use Rattle.heap_system.specs.Costs.{units_so_far}
 use Rattle.heap_system.specs.Systems.{AllDone, IsFinished}
-use Rattle.rtheap_core.specs.declared.exit.RunEnd.{RunEnd}
-use Rattle.rtheap_core.specs.Ends.{HasHistory, run_of, commands_of, job_of}
+use Rattle.threaded_runs.specs.Ends.{HasHistory, commands_of, job_of}
 
 -- where the commands of each part are the trace of its thread, those of all parts are all traces
 traces_from : (h : List HistoryItem) (t n : ℕ) (traces : List (List Command)) → length traces ≡ n
@@ -46,11 +46,11 @@ traces_shown c traces logs cycles f =
     (f.traces_whole u))
 
 -- the job that was run is the one that is shown
-job_shown : (c : Config) (traces : List (List Command)) (f : RunEnd) → (run_of f).config ≡ c
-    → IsFinished c traces (run_of f).logs (run_of f).cycles → (job : Job)
+job_shown : (c : Config) (traces : List (List Command)) (f : ClosedState) → f.config ≡ c
+    → IsFinished c traces f.logs f.cycles → (job : Job)
     → job ≡ record { config = c; traces = traces } → job_of f ≡ job
 job_shown c traces f same ended job is =
-    let shown = traces_shown c traces (run_of f).logs (run_of f).cycles ended in
+    let shown = traces_shown c traces f.logs f.cycles ended in
     (λ i. record { config = same i; traces = shown i }) ∙ sym is
 
 -- what holds of each run after some turns
@@ -94,52 +94,52 @@ module _ (laws : TurnLaws) where
     right_work = e.right_work e.by_turns.opening.rate e.by_turns.opening.planned;
   }
 
-  pub has_history : (f : RunEnd) → IsFinished (run_of f).config (map commands_of (run_of f).logs) (run_of f).logs (run_of f).cycles
+  pub has_history : (f : ClosedState) → IsFinished f.config (map commands_of f.logs) f.logs f.cycles
       → HasHistory f
   has_history f e =
-      let traces = map commands_of (run_of f).logs in
-      let after = by_turns_of (run_of f).config traces (run_of f).logs (run_of f).cycles e in
-      let units = laws.done (run_of f).config e.run after e.done in
+      let traces = map commands_of f.logs in
+      let after = by_turns_of f.config traces f.logs f.cycles e in
+      let units = laws.done f.config e.run after e.done in
       record {
         rate = e.by_turns.opening.rate;
         is_rate = e.by_turns.opening.planned;
         history = e.run.order;
-        is_run = order_is_run (run_of f).config traces (run_of f).logs (run_of f).cycles e;
+        is_run = order_is_run f.config traces f.logs f.cycles e;
         turned = e;
         same = refl;
         parts_logged = sym e.parts_logged;
         starts_counted = sym e.starts;
         work_counted = e.works;
-        none_full = laws.never (run_of f).config e.run after;
-        few_given = laws.few (run_of f).config e.run e.by_turns.opening.rate after
+        none_full = laws.never f.config e.run after;
+        few_given = laws.few f.config e.run e.by_turns.opening.rate after
             e.by_turns.opening.planned;
-        least_units = least_shown _ _ _ _ _ _ (laws.least (run_of f).config e.run after) units e.starts
+        least_units = least_shown _ _ _ _ _ _ (laws.least f.config e.run after) units e.starts
             e.works;
-        most_units = most_shown _ _ _ _ _ _ (laws.most (run_of f).config e.run after) units e.starts
+        most_units = most_shown _ _ _ _ _ _ (laws.most f.config e.run after) units e.starts
             e.works;
       }
 
   -- its history is the order of the turns
-  pub history_is : (f : RunEnd)
-      → (e : IsFinished (run_of f).config (map commands_of (run_of f).logs) (run_of f).logs
-      (run_of f).cycles)
+  pub history_is : (f : ClosedState)
+      → (e : IsFinished f.config (map commands_of f.logs) f.logs
+      f.cycles)
       → (has_history f e).history ≡ e.run.order
   unfolding has_history
   history_is f e = refl
 
   -- both, where the job is known by its parts
-  pub run_shows : (c k : Config) (ts traces : List (List Command)) (f : RunEnd) (job : Job)
-      → (run_of f).config ≡ k → k ≡ c → ts ≡ traces → IsFinished k ts (run_of f).logs (run_of f).cycles
+  pub run_shows : (c k : Config) (ts traces : List (List Command)) (f : ClosedState) (job : Job)
+      → f.config ≡ k → k ≡ c → ts ≡ traces → IsFinished k ts f.logs f.cycles
       → record { config = c; traces = traces } ≡ job
       → (job_of f ≡ job) × HasHistory f
   run_shows c k ts traces f job same config whole ended is =
-      let made : IsFinished c traces (run_of f).logs (run_of f).cycles =
-      subst (λ xs. IsFinished c xs (run_of f).logs (run_of f).cycles) whole
-      (subst (λ q. IsFinished q ts (run_of f).logs (run_of f).cycles) config ended) in
-      let shown = traces_shown k ts (run_of f).logs (run_of f).cycles ended in
-      let by_logs : IsFinished k (map commands_of (run_of f).logs) (run_of f).logs (run_of f).cycles =
-      subst (λ xs. IsFinished k xs (run_of f).logs (run_of f).cycles) (sym shown) ended in (
+      let made : IsFinished c traces f.logs f.cycles =
+      subst (λ xs. IsFinished c xs f.logs f.cycles) whole
+      (subst (λ q. IsFinished q ts f.logs f.cycles) config ended) in
+      let shown = traces_shown k ts f.logs f.cycles ended in
+      let by_logs : IsFinished k (map commands_of f.logs) f.logs f.cycles =
+      subst (λ xs. IsFinished k xs f.logs f.cycles) (sym shown) ended in (
         job_shown c traces f (same ∙ config) made job (sym is),
-        has_history f (subst (λ q. IsFinished q (map commands_of (run_of f).logs) (run_of f).logs (run_of f).cycles)
+        has_history f (subst (λ q. IsFinished q (map commands_of f.logs) f.logs f.cycles)
             (sym same) by_logs),
       )

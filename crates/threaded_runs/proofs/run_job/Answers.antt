@@ -3,18 +3,17 @@ use Rattle.heap_system.specs.Machines.{IsJob}
 use Rattle.heap_system.proofs.Lived.{job_of_text}
 use Rattle.trace_text.specs.Jobs.{Job}
 use Rattle.atom_board.proofs.Orders.{in_order_each}
-use Rattle.rtheap_core.specs.declared.exit.RunEnd.TheVariants.{Ran}
-use Rattle.rtheap_core.specs.Ends.{HasHistory, job_of}
-use Rattle.rtheap_core.proofs.Shown.{run_shows}
-use Rattle.rtheap_core.proofs.run.run_job.Given.{Over}
-use Rattle.rtheap_core.proofs.run.run_job.Goals as goal
+use Rattle.threaded_runs.specs.Ends.{HasHistory, job_of}
+use Rattle.threaded_runs.proofs.Shown.{run_shows}
+use Rattle.threaded_runs.proofs.run_job.Given.{Over}
+use Rattle.threaded_runs.proofs.run_job.Goals as goal
 
 pub close-requires-clause-mutators : goal.close-requires-clause-mutators
 close-requires-clause-mutators g c =
     in_order_each c.in_ok-board.board c.in_ok-done.done.items c.in_ok-done.ensures.mutators
 
 shows : (g : Over) (c : goal.After-close g)
-    → (job_of (Ran c.close.result) ≡ c.args.job) × HasHistory (Ran c.close.result)
+    → (job_of c.close.result ≡ c.args.job) × HasHistory c.close.result
 shows g c = run_shows (record {
   licensed = c.fulls_are_licensed.ensures.licensed;
   never = c.fulls_are_licensed.ensures.never;
@@ -22,7 +21,7 @@ shows g c = run_shows (record {
   least = c.cycles_cost_few_units.ensures.least;
   most = c.cycles_cost_few_units.ensures.most;
   done = c.cycles_cost_few_units.ensures.done;
-}) _ _ _ _ (Ran c.close.result) _ c.close.ensures.config c.in_ok-board.ensures.board.0 c.in_ok-board.ensures.board.1
+}) _ _ _ _ c.close.result _ c.close.ensures.config c.in_ok-board.ensures.board.0 c.in_ok-board.ensures.board.1
     c.close.ensures.finished c.job.view_is
 
 pub returns-clause-job : goal.returns-clause-job
