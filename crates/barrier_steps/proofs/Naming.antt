@@ -66,7 +66,8 @@ module _ (e : Extent) (a : Name) (t : ℕ) (k : Command) where
   own_event LoadObject w = chosen (λ x. t ≡ event_thread x) (refers (payload_in w)) _ _ refl tt
   own_event (LoadShape x) w = chosen (λ x. t ≡ event_thread x)
       (length_decides k (shape_length (shape_in w))) _ _ refl refl
-  own_event (CompareField way word) w = chosen (λ x. t ≡ event_thread x) (eqb w way.expected) _ _ refl refl
+  own_event (CompareField way word) w =
+      chosen (λ x. t ≡ event_thread x) (eqb w way.expected) _ _ refl refl
   own_event LoadSaid w = chosen (λ x. t ≡ event_thread x) (refers (payload_in w)) _ _ refl tt
   own_event StoreNumber w = refl
   own_event StoreNil w = refl
@@ -363,9 +364,9 @@ pub keeps_names : (c : Config) (g : Graph) (order : List HistoryItem) (h : Heap)
     (field_got (extent c) f (h (place_of (field_want (extent c) f)))))))
 keeps_names c g order h names tasks f fits going sweep cycle is kept = elim
     (cases_Bool (shades f.row)) [
-  | inl part ↦ barrier_names c g order h names tasks f part fits sweep cycle is kept
-  | inr plain ↦ plain_names c g order h names tasks f fits is kept plain going
-]
+      | inl part ↦ barrier_names c g order h names tasks f part fits sweep cycle is kept
+      | inr plain ↦ plain_names c g order h names tasks f fits is kept plain going
+    ]
 
 -- what is loaded is of a kept name, and its block is not Free
 value_solid : (c : Config) (s : KeptState) → IsKept c s → (t : ℕ) (v : ValueLoad) → t < c.threads
@@ -387,7 +388,11 @@ loaded_solid c g order h names tasks f fits is k = go f.row (ap (λ (x : Task). 
         → NotFree (λ x. h (ColourOf x)) (target (word_stored row))
     go (StoreMoved word) e = value_solid c (picture g order h names tasks) k f.pass.thread _ fits.thread.thread (ap (λ (l : Loading). l.value) e)
     go (StorePending word value) e = value_solid c (picture g order h names tasks) k f.pass.thread _ fits.thread.thread (ap (λ (l : Loading). l.value) e)
-    go (ExchangeField way word) e = value_solid c (picture g order h names tasks) k f.pass.thread _ fits.thread.thread (ap (λ (l : Loading). l.value) e)
-    go (CompareField way word) e = value_solid c (picture g order h names tasks) k f.pass.thread _ fits.thread.thread (ap (λ (l : Loading). l.value) e)
+    go (ExchangeField way word) e =
+        value_solid c (picture g order h names tasks) k f.pass.thread _ fits.thread.thread
+        (ap (λ (l : Loading). l.value) e)
+    go (CompareField way word) e =
+        value_solid c (picture g order h names tasks) k f.pass.thread _ fits.thread.thread
+        (ap (λ (l : Loading). l.value) e)
     go (StoreField way word) e = value_solid c (picture g order h names tasks) k f.pass.thread _ fits.thread.thread (ap (λ (l : Loading). l.value) e)
     go _ e = λ some. absurd (some target-nil)

@@ -14,9 +14,9 @@ use Rattle.never_heap.specs.Steps.{step, same_value}
 use Rattle.shown_graph.specs.Layouts.{kind_shape}
 use Rattle.shown_graph.specs.Read.{value_payload}
 use Rattle.barrier_steps.specs.declared.rows.FieldRow.{FieldRow}
-use Rattle.barrier_steps.specs.declared.rows.FieldRow.TheVariants.{LoadObject, LoadShape, LoadField, LoadOwner, StorePending, StoreField, Shade, LoadSecond, LoadSaid, LoadSaidOwner, Answered, LoadExpected, ExchangeField, CompareField, IdleLook}
+use Rattle.barrier_steps.specs.declared.rows.FieldRow.TheVariants.{LoadObject, LoadShape, LoadField, LoadOwner, StorePending, StoreField, Shade, LoadSecond, LoadSaid, LoadSaidOwner, Answered, ExchangeField, CompareField}
 use Rattle.barrier_steps.specs.declared.rows.FieldStore.TheVariants.{Pending}
-use Rattle.barrier_steps.specs.Operands.{to_register, from_register, other_register, field_index, expected_register, is_swap, is_cas, is_idle, takes_field, stores_in_field}
+use Rattle.barrier_steps.specs.Operands.{to_register, from_register, other_register, field_index, expected_register}
 use Rattle.barrier_steps.specs.Rows.{FieldState}
 
 -- what the step of command k of thread t answers on a graph

@@ -32,7 +32,7 @@ use Rattle.grey_steps.specs.declared.rows.GreyRow.{GreyRow}
 use Rattle.grey_steps.specs.declared.rows.GreyRow.TheVariants.{TakeOwn}
 use Rattle.grey_steps.specs.Rows as marking
 use Rattle.grey_steps.specs.Rows.{grey_over, grey_holding}
-use Rattle.barrier_steps.specs.Operands.{to_register, from_register, other_register, field_index, number_set, expected_register, is_swap, is_cas, is_idle, takes_field, stores_in_field}
+use Rattle.barrier_steps.specs.Operands.{to_register, from_register, other_register, field_index, number_set, expected_register}
 use Rattle.barrier_steps.specs.Walks.{shape_length, links_to, link_at, field_at}
 
 -- a thread in a command: its pass, the command, and its row

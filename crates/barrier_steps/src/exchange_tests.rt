@@ -90,7 +90,10 @@ fn swap_shades_both_ways(rt: HostRuntime) {
     assert_eq!(rt; swap.want(&places), Op::exchange(places.grey_list(0), 8));
     assert_eq!(rt; swap.got(&places, 0), Step::Went);
     assert!(rt; !swap.decided());
-    assert_eq!(rt; swap.want(&places), Op::exchange(places.payload(9, 1), TO_8));
+    assert_eq!(rt;
+        swap.want(&places),
+        Op::exchange(places.payload(9, 1), TO_8)
+    );
     assert_eq!(rt; swap.got(&places, TO_7), Step::Went);
     assert!(rt; swap.decided());
     assert_eq!(rt; swap.want(&places), Op::load(places.owner(7)));
@@ -105,7 +108,10 @@ fn swap_shades_both_ways(rt: HostRuntime) {
     assert_eq!(rt; swap.want(&places), Op::exchange(places.grey_list(0), 7));
     assert_eq!(rt; swap.got(&places, 0), Step::Went);
     assert_eq!(rt; swap.reply(), None);
-    assert_eq!(rt; swap.want(&places), Op::exchange(places.payload(2, 3), TO_7));
+    assert_eq!(rt;
+        swap.want(&places),
+        Op::exchange(places.payload(2, 3), TO_7)
+    );
     assert_eq!(rt; swap.got(&places, TO_8), Step::Over);
     let shared = Name {
         thread: 1,
@@ -123,18 +129,30 @@ fn swap_shades_nothing(rt: HostRuntime) {
     assert_eq!(rt; sweep.got(&places, TO_9), Step::Went);
     assert_eq!(rt; sweep.got(&places, ONE), Step::Went);
     assert_eq!(rt; sweep.got(&places, TO_8), Step::Went);
-    assert_eq!(rt; sweep.want(&places), Op::exchange(places.payload(9, 1), TO_8));
+    assert_eq!(rt;
+        sweep.want(&places),
+        Op::exchange(places.payload(9, 1), TO_8)
+    );
     assert_eq!(rt; sweep.got(&places, TO_7), Step::Went);
     assert_eq!(rt; sweep.got(&places, SHARED), Step::Went);
-    assert_eq!(rt; sweep.want(&places), Op::exchange(places.payload(2, 3), TO_7));
+    assert_eq!(rt;
+        sweep.want(&places),
+        Op::exchange(places.payload(2, 3), TO_7)
+    );
     let mut number = FieldPass::new(0, 1, MARK, SWAP);
     assert_eq!(rt; number.got(&places, TO_9), Step::Went);
     assert_eq!(rt; number.got(&places, ONE), Step::Went);
     assert_eq!(rt; number.got(&places, NIL), Step::Went);
-    assert_eq!(rt; number.want(&places), Op::exchange(places.payload(9, 1), NIL));
+    assert_eq!(rt;
+        number.want(&places),
+        Op::exchange(places.payload(9, 1), NIL)
+    );
     assert_eq!(rt; number.got(&places, THREE), Step::Went);
     assert!(rt; number.decided());
-    assert_eq!(rt; number.want(&places), Op::exchange(places.payload(2, 3), THREE));
+    assert_eq!(rt;
+        number.want(&places),
+        Op::exchange(places.payload(2, 3), THREE)
+    );
     assert_eq!(rt; number.got(&places, NIL), Step::Over);
     assert_eq!(rt; number.reply(), Some(Reply::Val(Value::Int(3))));
 }
