@@ -1,10 +1,10 @@
-"""A second look by other means, so that no definition is missed: each word of what is kept is looked
-up as if nothing were bound. What it stands for has to be kept, unless a binder of that name stands
-in the same definition."""
+"""A second look by other means, so that no definition is missed: each word of what is kept is
+looked up as if nothing were bound. What it stands for has to be kept, unless a binder of that name
+stands in the same definition."""
 import re
 
 from files import NUMBER, PLAIN, TOP, antt_file, fail, split_at
-from reading import BUILT_IN, Reader, cites_of, resolve_in
+from reading import BUILT_IN, Reader, cites_of
 
 
 def bound_in(kind, words):
@@ -40,17 +40,13 @@ def is_label(words, k):
 
 def stands_for(reader, word):
     """What a word stands for where nothing is bound: a definition, 'kit', or None."""
-    head, *fields = word.split(".") if re.match(r"[^\W\d«]", word) else [word]
-    if head in reader.file.modules and fields:
-        got = resolve_in(reader.file.modules[head], fields[0])
-    else:
-        got = reader.look(head)
+    got = reader.look_from(word) if re.match(r"[^\W\d«]", word) else reader.look(word)
     return got and got[0]
 
 
 def named_by(it, part, is_read):
     """The definitions that a part names, by this look."""
-    reader = Reader(getattr(it, "scope", it.file), it, {}, getattr(it, "generics", None))
+    reader = Reader(getattr(it, "scope", it.file), it, getattr(it, "generics", None))
     left_out = {id(word) for word in cites_of(it, part).take(is_read)[1]}
     found, bound = set(), {"result", "self", "Self", *it.fields, *getattr(it, "names", ())}
     for each in [None, part]:
@@ -97,8 +93,8 @@ def audit(belief):
 
 
 def test(beliefs):
-    """That this look would see each definition that was missed, and that each line of specs/ belongs
-    to a definition that is understood."""
+    """That this look would see each definition that was missed, and that each line of specs/ is
+    one of a definition that is understood."""
     for belief in beliefs:
         missed = set(belief.kept) - audit(belief)
         if missed:

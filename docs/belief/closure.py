@@ -26,10 +26,11 @@ class Belief:
     def choice(self, it):
         """What is read of a definition of which not all is, or None."""
         for name in (it.name, f"{it.file.path.stem}.{it.name}"):
-            if name in self.chosen and it.form in ("record", "function"):
+            choice = self.chosen.get(name)
+            if choice and it.form == ("function" if choice[0][0] == "-" else "record"):
                 if self.met.setdefault(name, it) is not it:
                     fail(f"{name} is {it.file.path} and {self.met[name].file.path}")
-                return self.chosen[name]
+                return choice
         return [] if is_data(it) else None
 
     def keep(self, it, part):
@@ -78,9 +79,7 @@ class Belief:
         self.kit |= cites.kit
         for kind, field in cites.members:
             self.members.setdefault(kind, set()).add(field)
-        for other, promised in cites.definitions.items():
-            if self.choice(other) and not promised and other.form == "record":
-                fail(f"{other.name} is a premise in {it.name}: it can't be read in part")
+        for other in cites.definitions:
             self.keep_whole(other)
 
     def cites(self, it, part):
@@ -131,6 +130,24 @@ class Belief:
         for name in self.chosen:
             if name not in self.met:
                 fail(f"{name} is cited nowhere")
+        for it in self.premises():
+            if it.form == "record" and self.choice(it):
+                fail(f"{it.name} is a premise: it can't be read in part")
+
+    def premises(self):
+        """What is cited where it is no promise, and what that cites."""
+        found, queue = set(), []
+        for it, parts in self.kept.items():
+            for part in parts:
+                queue += [other for other, promised in self.cites(it, part).definitions.items()
+                          if not promised]
+        while queue:
+            it = queue.pop()
+            if it not in found:
+                found.add(it)
+                for part in self.kept[it]:
+                    queue += self.cites(it, part).definitions
+        return found
 
 
 def is_case_of(it, part, left_out):
@@ -157,7 +174,7 @@ def is_data_type(it, words):
     last = [word for word in split_at(words, "→")[-1] if word != "("]
     if last[0] in DATA:
         return True
-    got = Reader(it.file, it, {}).look(last[0])
+    got = Reader(it.file, it).look(last[0])
     if not got or got[0] == "kit":
         return False
     if got[0].form == "function":

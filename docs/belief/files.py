@@ -1,6 +1,7 @@
 """The definitions of specs/ and the items of src/, by their lines."""
 import re
 import sys
+from copy import copy
 from functools import lru_cache
 from pathlib import Path
 
@@ -349,19 +350,23 @@ def rust_item(crate, form, name, file, start):
     return it
 
 
-def model_of(it, file, start):
-    """A type that clauses see by another: its `ghost Value` is what it stands for."""
-    it.form, it.file = "model", file
+def impl_from(file, start):
+    """The names that an impl sees, with those of its own `ghost use` lines, and its last line."""
     end = file.block_from(start)
-    scope = Rust.__new__(Rust)
-    scope.__dict__.update(file.__dict__)
+    scope = copy(file)
     scope.names = dict(file.names)
     for line in file.text[start:end]:
         if line.strip().startswith("ghost use"):
             scope.bring(line)
+    return scope, end
+
+
+def model_of(it, file, start):
+    """A type that clauses see by another: its `ghost Value` is what it stands for."""
+    it.form, it.file = "model", file
+    it.scope, end = impl_from(file, start)
     value = next(n for n in range(start, end) if "ghost Value =" in file.text[n])
     it.parts[None] = {start, value}
-    it.scope = scope
     it.words[None] = [("term", words_of(file.text[value].split("=", 1)[1].strip("{} ;")))]
     it.value = it.words[None][0][1][0]
 
@@ -417,8 +422,8 @@ def trait_words(it, text):
     for name, kind in re.findall(r"ghost (\w+): \{([^}]*)\}", text):
         it.fields[name] = words_of(kind)
     said = [("term", ["Self", *kind]) for kind in it.fields.values()]
-    for params, clauses in re.findall(r"fn \w+(?:<[^>]*>)?\(([^)]*)\)[^;]*?((?:ensures|requires)[^;]*);",
-                                      text):
+    method = r"fn \w+(?:<[^>]*>)?\(([^)]*)\)[^;]*?((?:ensures|requires)[^;]*);"
+    for params, clauses in re.findall(method, text):
         names = ["self", "result", *re.findall(r"(\w+):", params)]
         for clause in clauses_in(clauses):
             said.append(("clause of a trait", (names, words_of(clause[1]))))

@@ -2,8 +2,8 @@
 import re
 from functools import lru_cache
 
-from files import (NUMBER, PLAIN, TOP, Antt, Definition, Rust, antt_file, fail, pieces_of_operator,
-                   rust_definition, rust_items, split_at, words_of)
+from files import (NUMBER, PLAIN, TOP, Antt, Definition, Rust, antt_file, fail, impl_from,
+                   pieces_of_operator, rust_definition, rust_items, split_at, words_of)
 
 # words of the language itself
 BUILT_IN = set("→ × ⊥ ¬ Unit tt absurd Type record let in as : = λ do ← _ where | {0}".split())
@@ -24,7 +24,10 @@ def resolve_in(path, name):
     if not home.with_suffix(".antt").exists():
         return antt_file(home.parent.with_suffix(".antt")).definitions[home.name], name
     file = antt_file(home.with_suffix(".antt"))
-    return resolve_own(file, name) or resolve_in(*file.names[name])
+    got = resolve_own(file, name)
+    if not got and name not in file.names:
+        fail(f"{file.path}: no {name}")
+    return got or resolve_in(*file.names[name])
 
 
 def resolve_own(file, name):
@@ -105,11 +108,10 @@ class Frame:
 class Reader:
     """Goes through the words of a term, and keeps which names are bound where."""
 
-    def __init__(self, file, own, names, generics=None):
+    def __init__(self, file, own, generics=None):
         self.file, self.own, self.generics = file, own, generics or {}
         self.cites = Cites()
         self.frames = [Frame("top")]
-        self.frames[0].names.update(names)
         self.where = ""
 
     # names
@@ -135,6 +137,13 @@ class Reader:
             return resolve_rust(self.file, name)
         return None
 
+    def look_from(self, word):
+        """The same for a name that may stand behind that of a module."""
+        head, _, rest = word.partition(".")
+        if rest and head in self.file.modules:
+            return resolve_in(self.file.modules[head], rest.split(".")[0])
+        return self.look(head)
+
     def cite(self, got, promised=True):
         if got[0] == "kit":
             self.cites.kit.add(got[1])
@@ -149,17 +158,17 @@ class Reader:
 
     def type_head(self, words):
         """The definition at the head of a type, if there is one."""
-        words = list(words)
-        while words and words[0] == "(":
-            words = words[1:]
-        if not words or not PLAIN.match(words[0]) or "→" in words or "×" in words:
+        words = [word for word in words if word != "("]
+        if not words or not re.match(r"[^\W\d«]", words[0]) or "→" in words or "×" in words:
             return None
-        return self.as_type(None if self.bound(words[0]) else self.look(words[0]))
+        return self.as_type(None if self.bound(words[0]) else self.look_from(words[0]))
 
     def as_type(self, got):
-        if not got or got[0] == "kit" or got[0].form not in ("record", "type", "model"):
+        if not got or got[0] == "kit":
             return None
-        return value_of_model(got[0])
+        if got[0].form == "function":
+            return meaning_of(got[0])
+        return value_of_model(got[0]) if got[0].form in ("record", "type", "model") else None
 
     def fields_of(self, kind, fields):
         """Goes along fields from a value of this type, or of an unknown one."""
@@ -178,20 +187,21 @@ class Reader:
             return None
         it = got[0]
         last = split_at(it.words[None][0][1], "→")[-1]
-        return Reader(it.file, it, {}).type_head(last)
+        return Reader(it.file, it).type_head(last)
 
     # binders
 
-    def bind(self, name, kind=None, frame=None):
+    def bind(self, name, kind=None):
         if name != "_":
-            (frame or self.frames[-1]).names[name.strip("«»")] = (kind, False)
+            self.frames[-1].names[name.strip("«»")] = (kind, False)
 
     def binder_at(self, words, k):
         """Of a bracket at k that binds names: the names, and where the colon is."""
         j = k + 1
         while j < len(words) and PLAIN.match(words[j].strip("«»")):
             j += 1
-        return (words[k + 1:j], j) if j > k + 1 and j < len(words) and words[j] == ":" else (None, k)
+        is_binder = k + 1 < j < len(words) and words[j] == ":"
+        return (words[k + 1:j], j) if is_binder else (None, k)
 
     def closing(self, words, k):
         depth = 0
@@ -395,7 +405,8 @@ class Reader:
     def implementation(self, word):
         kind, trait = re.match(r"⟦<(\w+).* as (\w+)>⟧", word).groups()
         got = self.look(kind)
-        self.cite(resolve_rust(self.file, trait) or rust_of(got[0], trait) or self.unknown(word))
+        self.cite(resolve_rust(self.file, trait) or resolve_rust(got[0].file, trait)
+                  or self.unknown(word))
         self.cite((implementation(got[0], trait), None))
 
     # patterns
@@ -431,7 +442,7 @@ class Reader:
             return
         self.cite(maker)
         types = maker[0].makers.get(maker[1], []) if maker[0] != "kit" else []
-        inside = Reader(maker[0].file, maker[0], {}) if types else None
+        inside = Reader(maker[0].file, maker[0]) if types else None
         self.pattern(words[1:], [inside.argument(t) for t in types])
 
     def argument(self, words):
@@ -501,18 +512,23 @@ def value_of_model(it):
     """What clauses see in place of a type."""
     if it.form != "model":
         return it
-    got = Reader(it.scope, it, {}).look(it.value)
+    got = Reader(it.scope, it).look(it.value)
     return got[0] if got and got[0] != "kit" else None
 
 
 @lru_cache(maxsize=None)
+def meaning_of(it):
+    """The type that a function of one clause names, as an abbreviation of it."""
+    cases = [part for part in it.parts if part]
+    if len(cases) != 1 or [*split_at(it.words[None][0][1], "→")[-1]] != ["Type", "0"]:
+        return None
+    return Reader(it.file, it).type_head(split_at(it.words[cases[0]][0][1], "=")[1])
+
+
+@lru_cache(maxsize=None)
 def kind_of_field(it, field):
-    reader = Reader(it.file, it, {})
+    reader = Reader(it.file, it)
     return reader.argument(it.fields[field])
-
-
-def rust_of(it, trait):
-    return resolve_rust(it.file, trait)
 
 
 @lru_cache(maxsize=None)
@@ -524,15 +540,10 @@ def implementation(kind, trait):
     if len(found) != 1:
         fail(f"{crate}: {len(found)} impls of {trait} for {kind.name}")
     file, start = found[0]
-    end = file.block_from(start)
+    scope, end = impl_from(file, start)
     it = Definition(file, f"{trait} for {kind.name}", "impl")
     ghosts = [n for n in range(start, end) if re.match(r"\s*ghost \w+ =", file.text[n])]
-    it.scope = Rust.__new__(Rust)
-    it.scope.__dict__.update(file.__dict__)
-    it.scope.names = dict(file.names)
-    for line in file.text[start:end]:
-        if line.strip().startswith("ghost use"):
-            it.scope.bring(line)
+    it.scope = scope
     it.parts[None] = {start, *ghosts}
     it.words[None] = [("term", words_of(file.text[n].split("=", 1)[1].strip("{} ;")))
                       for n in ghosts]
@@ -542,7 +553,7 @@ def implementation(kind, trait):
 @lru_cache(maxsize=None)
 def cites_of(it, part):
     """What a part of a definition cites."""
-    reader = Reader(getattr(it, "scope", it.file), it, {}, getattr(it, "generics", None))
+    reader = Reader(getattr(it, "scope", it.file), it, getattr(it, "generics", None))
     reader.where = f"{it.file.crate}/{it.file.short()}, {it.name}"
     if it.form == "trait":
         reader.bind("Self")
