@@ -80,6 +80,15 @@ def is_plain_mark(word):
             or word[0] in '".⟦' or bool(NUMBER.match(word)))
 
 
+def fields_named_by(it, part):
+    """The other fields of its record that a field names."""
+    named = set()
+    for kind, words in it.words[part]:
+        own = set(it.fields) - bound_in(kind, words)
+        named |= {word.split(".")[0] for word in words} & own
+    return named
+
+
 def audit(belief):
     """Fails where something is named and not kept; returns what is named."""
     named = set(belief.starts)
@@ -89,6 +98,10 @@ def audit(belief):
                 if other not in belief.kept:
                     fail(f"{it.name} names {other.name}, which is not listed")
                 named.add(other)
+            if it.form == "record":
+                missed = fields_named_by(it, part) - set(parts) if part else ()
+                if missed:
+                    fail(f"{it.name} names {', '.join(missed)}, which are not listed")
     return named
 
 
