@@ -63,7 +63,7 @@ moment_now w g ms n e = record {
   live = e;
 }
 
-max_moment : (w : Width) (g : Graph) (ms : List Move) (a b : ℕ)
+pub max_moment : (w : Width) (g : Graph) (ms : List Move) (a b : ℕ)
     → IsMoment w g ms a → IsMoment w g ms b → IsMoment w g ms (max a b)
 max_moment w g ms a b p q = elim (cases_lt a b) [
   | inl low ↦ subst (IsMoment w g ms) (let e : b ≡ max a b = omega arith in e) q

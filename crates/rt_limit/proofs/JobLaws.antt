@@ -175,7 +175,7 @@ module _ (c : Config) (traces : List (List Command)) where
 -- ---- ranges, and how many there are
 
 -- a command stands among those of its thread
-own_place : (ms : List Move) (k : ℕ) (d : Move) → k < length ms
+pub own_place : (ms : List Move) (k : ℕ) (d : Move) → k < length ms
     → (j : ℕ) × (j < length (commands_of (get_or ms k d).thread ms))
     × (get_or (commands_of (get_or ms k d).thread ms) j (New 0 0) ≡ (get_or ms k d).command)
 own_place [] k d l = absurd (omega arith)

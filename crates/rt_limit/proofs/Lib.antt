@@ -6,3 +6,4 @@ pub mod TextLaws
 pub mod OneOrder
 pub mod JobLaws
 pub mod AnswerLaws
+pub mod OneThread

@@ -20,7 +20,7 @@ use Rattle.rt_check.proofs.Telling.{thread_low}
 use Rattle.rt_limit.specs.Moments.{graph_behind, most_live, moves_of}
 use Rattle.rt_limit.proofs.CountLaws.{behind_more, moment_most}
 
-abbrev move_of : ℕ → Command → Move
+abbrev pub move_of : ℕ → Command → Move
 move_of t c = record { thread = t; command = c }
 
 moves_append : (t : ℕ) (xs ys : List Command) → moves_of t (xs ++ ys) ≡ moves_of t xs ++ moves_of t ys
