@@ -1,10 +1,11 @@
 //! A library for `bench/refuse` that stands in front of the C library's allocations and starts of
 //! threads (LD_PRELOAD), and refuses one of them: the allocation whose number, counted from 1,
 //! stands in REFUSE_ALLOCATION, or the start whose number stands in REFUSE_THREAD. Where that one
-//! comes, descriptor 9 gets a line.
+//! comes, descriptor 9 gets the line `refused`, and the line `again` where the next allocation is
+//! of no more bytes: a vector that can't double asks for just what it needs.
 
 use std::ffi::{c_char, c_int, c_void};
-use std::sync::atomic::{AtomicU64, Ordering};
+use std::sync::atomic::{AtomicU64, AtomicUsize, Ordering};
 
 const NO_MEMORY: c_int = 12;
 const TRY_AGAIN: c_int = 11;
@@ -17,6 +18,7 @@ extern "C" {
     fn getenv(name: *const c_char) -> *const c_char;
     fn write(fd: c_int, bytes: *const u8, count: usize) -> isize;
     fn dlsym(handle: *mut c_void, name: *const c_char) -> *mut c_void;
+    fn __errno_location() -> *mut c_int;
 }
 
 /// The library behind this one.
@@ -24,6 +26,9 @@ const NEXT: *mut c_void = -1isize as *mut c_void;
 
 static ALLOCATIONS: AtomicU64 = AtomicU64::new(0);
 static THREADS: AtomicU64 = AtomicU64::new(0);
+
+/// How many bytes the allocation asked for that was refused last.
+static REFUSED: AtomicUsize = AtomicUsize::new(0);
 
 /// The number that the environment gives this name, or 0.
 fn number(name: &'static [u8]) -> u64 {
@@ -38,24 +43,35 @@ fn number(name: &'static [u8]) -> u64 {
     value
 }
 
+fn tell(line: &[u8]) {
+    unsafe { write(9, line.as_ptr(), line.len()) };
+}
+
 /// Counts a call, and says whether it is the one to be refused.
 fn is_refused(count: &AtomicU64, name: &'static [u8]) -> bool {
     let at = count.fetch_add(1, Ordering::SeqCst) + 1;
-    if at != number(name) {
-        return false;
+    if at == number(name) {
+        tell(b"refused\n");
     }
-    let line = b"refused\n";
-    unsafe { write(9, line.as_ptr(), line.len()) };
-    true
+    at == number(name)
 }
 
-fn no_memory() -> bool {
-    is_refused(&ALLOCATIONS, b"REFUSE_ALLOCATION\0")
+/// Whether an allocation is the one to be refused; then `errno` says so, as the C library has it.
+fn no_memory(size: usize) -> bool {
+    if is_refused(&ALLOCATIONS, b"REFUSE_ALLOCATION\0") {
+        REFUSED.store(size, Ordering::SeqCst);
+        unsafe { *__errno_location() = NO_MEMORY };
+        return true;
+    }
+    if size <= REFUSED.swap(0, Ordering::SeqCst) {
+        tell(b"again\n");
+    }
+    false
 }
 
 #[no_mangle]
 pub unsafe extern "C" fn malloc(size: usize) -> *mut c_void {
-    if no_memory() {
+    if no_memory(size) {
         return std::ptr::null_mut();
     }
     __libc_malloc(size)
@@ -63,7 +79,7 @@ pub unsafe extern "C" fn malloc(size: usize) -> *mut c_void {
 
 #[no_mangle]
 pub unsafe extern "C" fn calloc(count: usize, size: usize) -> *mut c_void {
-    if no_memory() {
+    if no_memory(count.saturating_mul(size)) {
         return std::ptr::null_mut();
     }
     __libc_calloc(count, size)
@@ -71,7 +87,7 @@ pub unsafe extern "C" fn calloc(count: usize, size: usize) -> *mut c_void {
 
 #[no_mangle]
 pub unsafe extern "C" fn realloc(old: *mut c_void, size: usize) -> *mut c_void {
-    if no_memory() {
+    if no_memory(size) {
         return std::ptr::null_mut();
     }
     __libc_realloc(old, size)
@@ -79,7 +95,7 @@ pub unsafe extern "C" fn realloc(old: *mut c_void, size: usize) -> *mut c_void {
 
 #[no_mangle]
 pub unsafe extern "C" fn aligned_alloc(align: usize, size: usize) -> *mut c_void {
-    if no_memory() {
+    if no_memory(size) {
         return std::ptr::null_mut();
     }
     __libc_memalign(align, size)
