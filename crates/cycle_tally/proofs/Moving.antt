@@ -141,9 +141,9 @@ module _ (c : Config) (rate : ℕ) (black : ℕ → ℕ) (some : 0 < rate) (s : 
     free = omega arith;
   })
 
-  pub idle_claims : (x t : ℕ) → t < c.threads → (s.threads t).inside ≡ false
+  pub outside_claims : (x t : ℕ) → t < c.threads → (s.threads t).inside ≡ false
       → claims x (s.threads t) ≡ 0
-  idle_claims x t tl out = elim (cases_lt (s.threads t).low (s.threads t).high) [
+  outside_claims x t tl out = elim (cases_lt (s.threads t).low (s.threads t).high) [
     | inl l ↦ absurd (bool_no _ out ((k.each t tl).claimed l).1)
     | inr g ↦ no_claims x (s.threads t) g
   ]
@@ -155,7 +155,7 @@ module _ (c : Config) (rate : ℕ) (black : ℕ → ℕ) (some : 0 < rate) (s : 
   passed_all sw above out x pos low =
       let none : total c.threads (λ t. claims x (s.threads t)) ≡ 0 =
       total_none c.threads (λ t. claims x (s.threads t))
-      (λ t tl. idle_claims x t tl (out t tl)) in
+      (λ t tl. outside_claims x t tl (out t tl)) in
       let one : bit (s.sweep && ltb x s.cursor) ≡ 1 = ap (λ b. bit (b && ltb x s.cursor)) sw
       ∙ ap bit (lt-ltb x s.cursor (omega arith)) in
       omega (arith, k.passes x pos)
@@ -199,7 +199,7 @@ module _ (c : Config) (rate : ℕ) (black : ℕ → ℕ) (some : 0 < rate) (s : 
         scans = λ x. omega arith;
         passes = λ x pos. (let z : total c.threads (λ t. claims x (s.threads t)) ≡ 0 =
             total_none c.threads (λ t. claims x (s.threads t))
-            (λ t tl. idle_claims x t tl (g.2 t tl)) in omega arith);
+            (λ t tl. outside_claims x t tl (g.2 t tl)) in omega arith);
         counted = (let z : total c.threads (λ t. units_in (s.cycle + 1) (s.threads t).balance) ≡ 0 =
             total_none c.threads (λ t. units_in (s.cycle + 1) (s.threads t).balance)
             (λ t tl. units_later s.cycle (s.threads t).balance (k.each t tl).entered) in

@@ -18,7 +18,7 @@ ghost use Rattle.heap_system.specs.Lives.{IsLife, objects_of, most_units, most_o
 ghost use Rattle.heap_machine.specs.declared.gate.GateRow.{GateRow};
 ghost use Rattle.grey_steps.specs.Rows.{scanning};
 ghost use Rattle.sweep_steps.specs.Rows.{sweeping};
-ghost use Rattle.heap_system.specs.Locals.{LocalReads, HasGot, is_done, is_rest, is_build, is_at_gate, is_in_command, is_marking, is_sweeping, is_on_way_out, part_want, part_step, local_got, at_start, turn_of, is_last, pass_by, first_part, errand_of, command_of, op_wanted, owed, made_got, works, entry_of, balance_paid, paid_got, commands_decided, begun};
+ghost use Rattle.heap_system.specs.Locals.{LocalReads, HasGot, is_done, is_rest, is_build, is_at_gate, is_in_command, is_marking, is_sweeping, is_on_way_out, part_want, part_step, local_got, at_start, turn_of, is_last, pass_by, first_part, errand_of, command_of, op_wanted, owed, made_got, works, entry_of, balance_on, balance_over, spent_got, commands_decided, begun};
 
 use crate::Turn;
 use barrier_steps::FieldPass;
@@ -98,7 +98,8 @@ pub struct Local {
     log: Vec<Entry>,
     // What is paid for the command in hand, and the units and blocks of the cycle entered last.
     account: Account,
-    // The units made for the command in hand; those of an idle are not paid.
+    // The units made for the command in hand. Those of an idle are not paid, and so no part of the
+    // account; those of any other command are.
     spent: u64,
     // The objects made so far.
     made: u32,
@@ -178,7 +179,7 @@ fn count(account: &mut Account, told: u64, unit: bool)
         → account.old.balance.paid < account.old.rate * account.old.object }
     requires few { account.old.balance.units < 2 ^ 50 }
     ensures { account.new
-        ≡ record account.old { balance = balance_paid None unit told 0 account.old.balance } }
+        ≡ record account.old { balance = balance_on unit told account.old.balance } }
 {
     if unit {
         if told == 0 {
@@ -192,7 +193,7 @@ fn count(account: &mut Account, told: u64, unit: bool)
 // The units made for the command in hand, after such an event.
 fn spend(spent: u64, unit: bool) -> u64
     requires { spent < 2 ^ 50 }
-    ensures { result ≡ paid_got None unit spent }
+    ensures { result ≡ spent_got None unit spent }
 {
     if unit { spent + 1 } else { spent }
 }
@@ -205,14 +206,11 @@ fn is_new(now: bool, before: bool) -> bool
 }
 
 // The reply to a command of so many blocks, whose price was paid.
-fn settle(account: &mut Account, reply: Reply, told: u64, blocks: u32)
+fn settle(account: &mut Account, reply: Reply, blocks: u32)
     requires { account.old.balance.paid ≡ account.old.rate * blocks }
     ensures { account.new
-        ≡ record account.old {
-          balance = balance_paid (Some reply) false told blocks account.old.balance;
-        } }
+        ≡ record account.old { balance = balance_over reply blocks account.old.balance } }
 {
-    let _told = told;
     match reply {
         Reply::New(_) => account.publish(blocks),
         _ => account.refuse(blocks),
@@ -324,7 +322,8 @@ fn sum_of_works(entries: &[Entry]) -> u64
 impl Local {
     /// A thread at rest before its first command, with room for all entries of its log and for the
     /// blocks of the largest object. The configuration has a rate, the thread is one of it, and the
-    /// trace is one life.
+    /// trace is one life: its commands are in bounds, owe at most 2^45 units, and at most 131,072 of
+    /// them make an object.
     ///
     /// # Errors
     ///
@@ -391,6 +390,13 @@ impl Local {
         self.account.paid()
     }
 
+    /// How many units were made for the command in hand: those that were paid, or those of an idle.
+    pub fn spent(&self) -> u64
+        ensures { result ≡ self.now.spent }
+    {
+        self.spent
+    }
+
     /// Whether the thread is at rest: before its first event of a command, and after its last.
     pub fn at_rest(&self) -> bool
         ensures { result ≡ is_rest self.now.part }
@@ -408,9 +414,20 @@ impl Local {
     /// How many units were made for the commands that are done, also for those that are in the log
     /// no more.
     pub fn units_done(&self) -> u64
-        ensures { result ≡ self.now.before + works self.now.log }
+        ensures sum { result ≡ self.now.before + works self.now.log }
+        ensures few { result ≤ most_units }
     {
         self.before + self.work()
+    }
+
+    /// How many units a command owes that is in bounds: the rate for each block of an allocation, and
+    /// what an idle is told of.
+    pub fn owes(&self, command: &Command) -> u64
+        requires { IsCommandInBounds self.now.config command.now }
+        ensures price { result ≡ units_owed self.now.config.width self.now.rate command.now }
+        ensures few { result ≤ most_units }
+    {
+        self.rate * u64::from(command.blocks(self.config.width)) + command.told()
     }
 
     /// Has one command more in place of its one command, which is done. The entry of that is let go.
@@ -755,7 +772,8 @@ impl Local {
         requires there { length self.now.log < length self.now.trace }
         ensures { result ≡ owed self.now - self.now.spent }
     {
-        self.rate * u64::from(command.blocks(self.config.width)) + command.told() - self.spent
+        let spent = self.spent;
+        self.owes(command) - spent
     }
 
     // The command in hand, which made an object or was refused, is done.
@@ -768,7 +786,7 @@ impl Local {
               part = Part.Leave;
               log = self.old.log ++ entry_of
                   self.old.thread (command_of self.old) self.old.spent reply ∷ [];
-              balance = balance_paid (Some reply) false (units_told (command_of self.old))
+              balance = balance_over reply
                   (blocks_of self.old.config.width (command_of self.old)) self.old.balance;
               spent = 0;
               made = made_got (command_of self.old) (Some reply) self.old.made;
@@ -791,7 +809,7 @@ impl Local {
               part = Part.Leave;
               log = self.old.log ++ entry_of
                   self.old.thread (command_of self.old) self.old.spent reply ∷ [];
-              balance = balance_paid (Some reply) false (units_told (command_of self.old))
+              balance = balance_over reply
                   (blocks_of self.old.config.width (command_of self.old)) self.old.balance;
               spent = 0;
               made = made_got (command_of self.old) (Some reply) self.old.made;
@@ -804,13 +822,8 @@ impl Local {
             reply,
             work: self.spent,
         });
-        let told = command.told();
-        settle(
-            &mut self.account,
-            reply,
-            told,
-            command.blocks(self.config.width),
-        );
+        let blocks = command.blocks(self.config.width);
+        settle(&mut self.account, reply, blocks);
         self.spent = 0;
         self.made = made_after(self.made, command, reply);
         self.part = Part::Leave;

@@ -131,6 +131,19 @@ step_leaves_field g t (commands.Swap s j w) a i apart = swap_leaves g t s j w a 
 step_leaves_field g t (commands.Cas s j c w) a i apart = cas_leaves g t s j w a i c apart
 step_leaves_field g t (commands.Idle u) a i apart = refl
 
+-- no command with these replies has stored
+no_store_out_of_range : (command : Command) → stored_by command replies.Range ≡ None
+no_store_out_of_range (commands.Put s i v) = refl
+no_store_out_of_range (commands.Swap s i v) = refl
+no_store_out_of_range (commands.Cas s i a v) = refl
+no_store_out_of_range _ = refl
+
+full_stores_nothing : (command : Command) (c : ℕ) → stored_by command (replies.Full c) ≡ None
+full_stores_nothing (commands.Put s i v) c = refl
+full_stores_nothing (commands.Swap s i v) c = refl
+full_stores_nothing (commands.Cas s i a v) c = refl
+full_stores_nothing _ c = refl
+
 abbrev Stored : Type 0
 Stored = ℕ × (ℕ × ℕ)
 
@@ -154,19 +167,6 @@ stored_operands (commands.Swap s i v) _ p e = absurd cc
 stored_operands (commands.Cas s i a v) replies.Yes p e = ap parts_of e
 stored_operands (commands.Cas s i a v) _ p e = absurd cc
 stored_operands _ r p e = absurd cc
-
--- no command with these replies has stored
-no_store_out_of_range : (command : Command) → stored_by command replies.Range ≡ None
-no_store_out_of_range (commands.Put s i v) = refl
-no_store_out_of_range (commands.Swap s i v) = refl
-no_store_out_of_range (commands.Cas s i a v) = refl
-no_store_out_of_range _ = refl
-
-full_stores_nothing : (command : Command) (c : ℕ) → stored_by command (replies.Full c) ≡ None
-full_stores_nothing (commands.Put s i v) c = refl
-full_stores_nothing (commands.Swap s i v) c = refl
-full_stores_nothing (commands.Cas s i a v) c = refl
-full_stores_nothing _ c = refl
 
 -- and a field in which it is answered that something was stored is there
 field_is_there : (g : Graph) (command : Command) (v : Value) (a : Name) (i : ℕ)

@@ -13,7 +13,7 @@ use Rattle.rt_check.proofs.OneAnswer.{one_answer}
 
 -- ---- a source that was read
 
-left_behind : (bytes front rest : List ℕ) → bytes ≡ front ++ rest → drop (length front) bytes ≡ rest
+pub left_behind : (bytes front rest : List ℕ) → bytes ≡ front ++ rest → drop (length front) bytes ≡ rest
 left_behind bytes front rest e = ap (drop (length front)) e ∙ drop-append_seam front rest
 
 pub too_long : (old new : Option (List ℕ)) (front : List ℕ) → length front ≡ 67108865
@@ -26,7 +26,7 @@ too_long (Some bytes) new front long h =
       h.2 ∙ ap Some (sym (left_behind bytes front h.0 h.1) ∙ ap (λ (n : ℕ). drop n bytes) long),
     )
 
-took_front : (old new : Option (List ℕ)) (front : List ℕ) (most : ℕ) → length front ≤ most
+pub took_front : (old new : Option (List ℕ)) (front : List ℕ) (most : ℕ) → length front ≤ most
     → HasRead old front new → TookAtMost most old new
 took_front None new front most few h = tt
 took_front (Some bytes) new front most few h =
