@@ -322,8 +322,8 @@ fn sum_of_works(entries: &[Entry]) -> u64
 impl Local {
     /// A thread at rest before its first command, with room for all entries of its log and for the
     /// blocks of the largest object. The configuration has a rate, the thread is one of it, and the
-    /// trace is one life: its commands are in bounds, owe at most 2^45 units, and at most 131,072 of
-    /// them make an object.
+    /// trace is one life: its commands are in bounds, owe at most 2^45 units, and at most 131,072
+    /// of them make an object.
     ///
     /// # Errors
     ///
@@ -420,8 +420,8 @@ impl Local {
         self.before + self.work()
     }
 
-    /// How many units a command owes that is in bounds: the rate for each block of an allocation, and
-    /// what an idle is told of.
+    /// How many units a command owes that is in bounds: the rate for each block of an allocation,
+    /// and what an idle is told of.
     pub fn owes(&self, command: &Command) -> u64
         requires { IsCommandInBounds self.now.config command.now }
         ensures price { result ≡ units_owed self.now.config.width self.now.rate command.now }
@@ -430,7 +430,8 @@ impl Local {
         self.rate * u64::from(command.blocks(self.config.width)) + command.told()
     }
 
-    /// Has one command more in place of its one command, which is done. The entry of that is let go.
+    /// Has one command more in place of its one command, which is done. The entry of that is let
+    /// go.
     pub fn begin(&mut self, command: Command)
         requires one { length self.old.trace ≡ 1 }
         requires rest { is_rest self.old.part ≡ true }
