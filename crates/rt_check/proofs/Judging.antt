@@ -1,5 +1,6 @@
 -- Which lines are good or bad, by what the follower looks at.
-use Rattle.std.proofs.Common.{◌+◌, ◌≡◌, ◌≢◌, ℕ, zero, suc, ◌-◌, ◌*◌, ◌^◌, ◌<◌, ◌≤◌, inl, inr, Bool, true, false, max, cond, List, [], ◌∷◌, ◌++◌, length, drop, get_or, Some, None, sym, refl, ap, ◌∙◌, subst, arith}
+use Rattle.std.proofs.Common.{◌+◌, ◌≡◌, ◌≢◌, ℕ, zero, suc, ◌-◌, ◌*◌, ◌^◌, ◌<◌, ◌≤◌, ◌↔◌, inl, inr, Bool, true, false, max, cond, List, [], ◌∷◌, ◌++◌, length, drop, get_or, Some, None, sym, refl, ap, ◌∙◌, subst, arith}
+use Rattle.std.proofs.lemmas.Bool.{both_ways, cases_lt}
 use Rattle.std.proofs.lemmas.Nat.{mul-le}
 use Rattle.std.specs.List.{AllByRecursion}
 use Rattle.block_store.specs.declared.Config.{Config}
@@ -37,7 +38,7 @@ all_at P [] (suc n) x rest all e = cc
 all_at P (y ∷ xs) zero x rest all e = subst P (let f : y ≡ x = cc in f) all.0
 all_at P (y ∷ xs) (suc n) x rest all e = all_at P xs n x rest all.1 e
 
-all_or : {X : Type 0} (P : X → Type 0) (xs : List X) (d : X) (n : ℕ) → AllByRecursion P xs → P d
+pub all_or : {X : Type 0} (P : X → Type 0) (xs : List X) (d : X) (n : ℕ) → AllByRecursion P xs → P d
     → P (get_or xs n d)
 all_or P [] d n all none = none
 all_or P (x ∷ xs) d zero all none = all.0
@@ -100,6 +101,13 @@ module _ (c : Config) (traces : List (List Command)) (past : List HistoryItem) (
 
   pub left_is : (t : ℕ) → rest_of traces f.done.items t ≡ left_of traces past t
   left_is t = ap (λ (n : ℕ). drop n (get_or traces t [])) (s.done t)
+
+-- no cycle was started
+pub none_begun : (begun : Bool) (n : ℕ) → (begun ≡ true ↔ (1 ≤ n)) → begun ≡ false → n ≡ 0
+none_begun begun n tells not_yet = elim (cases_lt 0 n) [
+  | inl some ↦ absurd (both_ways begun not_yet (tells.1 some))
+  | inr none ↦ omega arith
+]
 
 -- ---- the start of a cycle and the totals
 
@@ -283,31 +291,36 @@ module _ (job : Job) (rate : ℕ) (past : List HistoryItem) (f : Follower) (line
           (Did (record e { reply = r }))) reply)) counted.done counted.live counted.work,
     )
 
-    step_entry : entry_here f e ≡ stepped job.config rate job.traces past t command
+    pub step_entry : entry_here f e ≡ stepped job.config rate job.traces past t command
     step_entry = same_entry (entry_here f e)
         (stepped job.config rate job.traces past t command) thread told
         (λ i. (step (s.graph i) (thread i) (told i)).1) work
+
+    pub step_taken_as : (f' : Follower) → line ≡ entry_text (entry_here f e)
+        → Counted f f' (graph_here f e) e
+        → IsGood job.config rate job.traces past line (Did (entry_here f e))
+        × Stands job.config (past ++ Did (entry_here f e) ∷ []) f'
+    step_taken_as f' text counted = (
+      subst (λ (y : Entry). IsGood job.config rate job.traces past line (Did y))
+          (sym step_entry)
+          (stepped_good job.config rate job.traces past line t command next.0 left
+          (some_past job.config job.traces past f s begun)
+          (text ∙ ap entry_text step_entry)),
+      stands_entry job.config past f f' s (entry_here f e) some (omega (arith, thread, here))
+          (omega (arith, work, work_low)) (ap (λ (g : WideGraph). g.width) counted.graph_is)
+          (ap (λ (g : WideGraph). g.graph) counted.graph_is
+          ∙ sym (ap (λ (k : Bool). cond k f.graph.graph
+          (step f.graph.graph e.thread e.command).0)
+          (step_not_full f.graph.graph e.thread e.command)))
+          counted.done counted.live counted.work,
+    )
 
     pub step_taken : (f' : Follower) → line ≡ entry_text (entry_here f e)
         → Counted f f' (graph_here f e) e
         → (i : HistoryItem) × IsGood job.config rate job.traces past line i
         × Stands job.config (past ++ i ∷ []) f'
-    step_taken f' text counted =
-        let x : Entry = entry_here f e in (
-          Did x,
-          subst (λ (y : Entry). IsGood job.config rate job.traces past line (Did y))
-              (sym step_entry)
-              (stepped_good job.config rate job.traces past line t command next.0 left
-              (some_past job.config job.traces past f s begun)
-              (text ∙ ap entry_text step_entry)),
-          stands_entry job.config past f f' s x some (omega (arith, thread, here))
-              (omega (arith, work, work_low)) (ap (λ (g : WideGraph). g.width) counted.graph_is)
-              (ap (λ (g : WideGraph). g.graph) counted.graph_is
-              ∙ sym (ap (λ (k : Bool). cond k f.graph.graph
-              (step f.graph.graph e.thread e.command).0)
-              (step_not_full f.graph.graph e.thread e.command)))
-              counted.done counted.live counted.work,
-        )
+    step_taken f' text counted = let taken = step_taken_as f' text counted in
+        (Did (entry_here f e), taken.0, taken.1)
 
     pub none_taken : Begins line (Some t)
         → (IsFullHere job.config f e.command → line ≡ entry_text e → ⊥)
@@ -327,5 +340,6 @@ pub work_is : (k c : Config) (rate n blocks told : ℕ) (command : Command) → 
     → blocks ≡ blocks_of k.width command → told ≡ units_told command
     → rate * n + told ≡ units_owed c.width rate command
 work_is k c rate n blocks told command same is counted tells =
-    ap (λ (x : ℕ). rate * x + told) (is ∙ counted ∙ ap (λ (y : Config). blocks_of y.width command) same)
+    ap (λ (x : ℕ). rate * x + told)
+    (is ∙ counted ∙ ap (λ (y : Config). blocks_of y.width command) same)
     ∙ ap (λ (x : ℕ). rate * blocks_of c.width command + x) tells

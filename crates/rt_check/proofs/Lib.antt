@@ -3,6 +3,10 @@ pub mod Telling
 pub mod Followed
 pub mod Judging
 pub mod Parting
+pub mod Passing
+pub mod TakenLaws
 pub mod Following
+pub mod Leading
+pub mod OneTaken
 pub mod OneAnswer
 pub mod Causes

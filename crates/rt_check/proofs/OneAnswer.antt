@@ -108,7 +108,7 @@ module _ (bytes : List ℕ) (job : Job) (few : length job.traces ≤ 16) where
 
 -- ---- of any bytes
 
-long_or_short : (bytes : List ℕ) → IsTooLong bytes → IsShort bytes → ⊥
+pub long_or_short : (bytes : List ℕ) → IsTooLong bytes → IsShort bytes → ⊥
 long_or_short bytes (inl l) s = let h = s.whole in omega arith
 long_or_short bytes (inr l) s = let h = s.job in omega arith
 

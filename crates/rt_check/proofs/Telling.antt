@@ -31,7 +31,7 @@ use Rattle.rt_check.specs.Standing.{Begins}
 
 -- ---- the first token
 
-digits_token : (ds r : List ℕ) → AllDigits 10 ds → tokens_of (ds ++ 32 ∷ r) ≡ ds ∷ tokens_of r
+pub digits_token : (ds r : List ℕ) → AllDigits 10 ds → tokens_of (ds ++ 32 ∷ r) ≡ ds ∷ tokens_of r
 digits_token [] r all = refl
 digits_token (d ∷ ds) r all =
     let range = digit_from_value d all.0 in
@@ -96,10 +96,10 @@ no : false ≡ true → ⊥
 no e = cc
 
 -- codes of letters that differ
-differ : (m n : ℕ) → m ≡ n → m < n → ⊥
+pub differ : (m n : ℕ) → m ≡ n → m < n → ⊥
 differ m n e l = omega arith
 
-maker_answers : (g : Graph) (t : ℕ) (command : Command) → makes_object command ≡ true
+pub maker_answers : (g : Graph) (t : ℕ) (command : Command) → makes_object command ≡ true
     → (step g t command).1 ≡ replies.New (next_name g t)
 maker_answers g t (commands.New d f) m = refl
 maker_answers g t (commands.Arr d e) m = refl
@@ -171,7 +171,7 @@ module _ (c : Config) (rate : ℕ) (traces : List (List Command)) (past : List H
       ((e ≡ filled t command) × (makes_object command ≡ true) × Allows c past)
 
   module _ (few : length traces ≤ 16) (line : List ℕ) where
-    entry_tells : (e : Entry) → IsGood c rate traces past line (Did e) → Begins line (Some e.thread)
+    pub entry_tells : (e : Entry) → IsGood c rate traces past line (Did e) → Begins line (Some e.thread)
     entry_tells e good =
         let low = thread_low traces past e.thread e.command good.may_come.next.0
         good.may_come.next.1 in

@@ -1,14 +1,15 @@
 -- What is known of a history when its items were followed, one after the other.
-use Rattle.std.specs.Prelude.{ℕ, true, max, ◌+◌, ◌-◌, ◌*◌, ◌^◌, ◌<◌, ◌≤◌, ◌≡◌, ◌≢◌, List, [], ◌∷◌, ◌++◌, length, drop, slice_index_or, slice_set, Option}
+use Rattle.std.specs.Prelude.{ℕ, Bool, true, false, max, ◌+◌, ◌-◌, ◌*◌, ◌^◌, ◌<◌, ◌≤◌, ◌≡◌, ◌≢◌, List, [], ◌∷◌, ◌++◌, length, drop, slice_index_or, slice_set, Option}
 use Rattle.block_store.specs.declared.Config.{Config}
 use Rattle.never_heap.specs.declared.Command.{Command}
 use Rattle.never_heap.specs.Cycles.{graph_at}
 use Rattle.never_heap.specs.declared.Entry.{Entry}
 use Rattle.never_heap.specs.Graphs.{WideGraph, with_graph, count_of}
-use Rattle.never_heap.specs.Histories.{HistoryItem, part, replay, starts_in, work_in}
+use Rattle.never_heap.specs.Histories.{HistoryItem, Started, part, replay, starts_in, work_in}
 use Rattle.never_heap.specs.LiveBlocks.{live_blocks}
 use Rattle.never_heap.specs.Steps.{step, makes_object}
 use Rattle.trace_text.specs.Lines.{tokens_of}
+use Rattle.trace_text.specs.Orders.{item_text}
 use Rattle.trace_text.specs.Reading.{number_at}
 use Rattle.rt_check.specs.declared.follower.Follower.{Follower}
 use Rattle.rt_check.specs.declared.follower.Verdict.{Verdict}
@@ -38,6 +39,13 @@ Says c rate traces past line Good f =
     (i : HistoryItem) × IsGood c rate traces past line i × Stands c (past ++ i ∷ []) f
 Says c rate traces past line Last f = IsLast traces past line
 Says c rate traces past line Bad f = IsBad c rate traces past line
+
+-- whether a line is the start of the next cycle, and where the follower then stands
+abbrev pub StartsHere :
+    Config → List HistoryItem → List ℕ → Bool → Follower → Type 0
+StartsHere c past line true f =
+    (line ≡ item_text (starts_in past) Started) × Stands c (past ++ Started ∷ []) f
+StartsHere c past line false f = line ≡ item_text (starts_in past) Started → ⊥
 
 -- some items were followed, fewer than the bytes of an input
 abbrev pub HasFollowed : Config → Follower → Type 0

@@ -10,7 +10,8 @@ ghost use Rattle.never_heap.specs.declared.Reply.TheVariants.{Full};
 ghost use Rattle.trace_text.specs.Jobs.{IsJobInBounds};
 ghost use Rattle.trace_text.specs.Lines.{ended};
 ghost use Rattle.trace_text.specs.Texts.{entry_text};
-ghost use Rattle.rt_check.specs.Standing.{Stands, Says, HasFollowed, HasNext, Begins, CanCount};
+ghost use Rattle.block_store.specs.declared.Config.{Config};
+ghost use Rattle.rt_check.specs.Standing.{Stands, Says, StartsHere, HasFollowed, HasNext, Begins, CanCount};
 ghost use Rattle.rt_check.specs.Standing.{Counted, IsFullHere, entry_here, graph_here, rest_of};
 
 use block_store::{Config, OutOfMemory};
@@ -89,20 +90,43 @@ impl Follower {
         ensures { (rate : ℕ) (past : List HistoryItem) → Stands job.now.config past self.old
             → IfOk result (λ v. Says job.now.config rate job.now.traces past line.now v self.new) }
     {
-        fill_start(buffer, self.live.len() as u64 + 1);
-        if is_line(buffer, line) {
-            self.live.push(self.graph.count_live()?)?;
+        if self.take_start(line, buffer)? {
             return Ok(Verdict::Good);
         }
         fill_totals(buffer, self.live.len() as u64, self.work);
-        if is_line(buffer, line) && !self.live.is_empty() && self.is_done(job) {
+        if is_line(buffer, line) && self.has_begun() && self.is_done(job) {
             return Ok(Verdict::Last);
         }
         Ok(Verdict::Bad)
     }
 
+    // Whether a line is the start of the next cycle; then it is followed.
+    pub(crate) fn take_start(
+        &mut self,
+        line: &[u8],
+        buffer: &mut LineBuffer,
+    ) -> Result<bool, OutOfMemory>
+        ensures taken { (c : Config) (past : List HistoryItem) → Stands c past self.old
+            → IfOk result (λ b. StartsHere c past line.now b self.new) }
+        ensures left { IfOk result (λ b. b ≡ false → self.new ≡ self.old) }
+    {
+        fill_start(buffer, self.live.len() as u64 + 1);
+        if !is_line(buffer, line) {
+            return Ok(false);
+        }
+        self.live.push(self.graph.count_live()?)?;
+        Ok(true)
+    }
+
+    // Whether a cycle was started.
+    pub(crate) fn has_begun(&self) -> bool
+        ensures { result ≡ true ↔ (1 ≤ length self.now.live.items) }
+    {
+        !self.live.is_empty()
+    }
+
     // Whether no command is left.
-    fn is_done(&self, job: &Job) -> bool
+    pub(crate) fn is_done(&self, job: &Job) -> bool
         requires job { IsJobInBounds job.now }
         requires rows { length self.now.done.items ≡ job.now.config.threads }
         ensures { result ≡ true ↔ ((t : ℕ) → rest_of job.now.traces self.now.done.items t ≡ []) }
@@ -116,7 +140,7 @@ impl Follower {
     }
 
     // The next command of a thread, where it has one left.
-    fn command(&self, job: &Job, thread: u64) -> Option<Command>
+    pub(crate) fn command(&self, job: &Job, thread: u64) -> Option<Command>
         requires job { IsJobInBounds job.now }
         requires rows { length self.now.done.items ≡ job.now.config.threads }
         ensures { MatchOption result (rest_of job.now.traces self.now.done.items thread ≡ [])
@@ -145,7 +169,7 @@ impl Follower {
         ensures { (past : List HistoryItem) → Stands job.now.config past self.old
             → IfOk result (λ v. Says job.now.config rate job.now.traces past line.now v self.new) }
     {
-        if self.live.is_empty() {
+        if !self.has_begun() {
             return Ok(Verdict::Bad);
         }
         let Some(command) = self.command(job, thread) else {
@@ -209,7 +233,7 @@ impl Follower {
     }
 
     // Whether a line is this entry with the reply of the heap; then the entry is counted.
-    fn takes_step(
+    pub(crate) fn takes_step(
         &mut self,
         entry: &Entry,
         line: &[u8],
@@ -235,7 +259,7 @@ impl Follower {
     }
 
     // The entry of a command that is answered full, with the work that it owes.
-    fn full_entry(&self, job: &Job, rate: u64, thread: u32, command: Command) -> Entry
+    pub(crate) fn full_entry(&self, job: &Job, rate: u64, thread: u32, command: Command) -> Entry
         requires rate { rate ≤ 131070 }
         requires length { length_made command ≤ 65535 }
         requires told { units_told command ≤ 131070 }
@@ -288,7 +312,7 @@ fn is_entry(entry: &Entry, line: &[u8], buffer: &mut LineBuffer) -> bool
 }
 
 // Whether a line is the one in the buffer, which has a line feed.
-fn is_line(buffer: &LineBuffer, line: &[u8]) -> bool
+pub(crate) fn is_line(buffer: &LineBuffer, line: &[u8]) -> bool
     ensures { (text : List ℕ) → buffer.now ≡ ended text
         → (result ≡ true ↔ (line.now ≡ text)) }
 {

@@ -6,7 +6,7 @@ ghost use Rattle.rt_check.specs.Inputs.{job_part, order_part};
 use trace_text::first_line;
 
 /// The bytes of the job, up to and with the first line that is `end`, and those of the order.
-pub(crate) fn parted(input: &[u8]) -> (&[u8], &[u8])
+pub fn parted(input: &[u8]) -> (&[u8], &[u8])
     ensures job { result.0.now ≡ job_part input.now }
     ensures order { result.1.now ≡ order_part input.now }
 {

@@ -9,6 +9,8 @@ ghost use Rattle.trace_text.specs.Orders.{order_lines};
 ghost use Rattle.rt_check.specs.declared.refusal.Refusal.{Refusal};
 ghost use Rattle.rt_check.specs.Answers.{IsAnswerTo};
 ghost use Rattle.rt_check.specs.Good.{IsGood, AreGood, FirstBad};
+ghost use Rattle.rt_check.specs.Taken.{IsTaken, AreTaken, FirstLeft};
+ghost use Rattle.trace_text.specs.Jobs.{Job, IsJobInBounds};
 
 /// The lines that are good to the end are those of a run in order. With at most 16 threads, as a
 /// job has, a line is good as one item at most, lines are good to the end or one of them is the
@@ -32,4 +34,15 @@ pub fn good_orders_are_runs()
 pub fn answers_are_one()
     ensures { (bytes : List ℕ) (a b : Option Refusal)
         → IsAnswerTo bytes a → IsAnswerTo bytes b → a ≡ b }
+{}
+
+/// Of a job in its ranges a line is taken as one item at most, and lines are not both taken to the
+/// end and left.
+pub fn lines_are_taken_once()
+    ensures one { (job : Job) (past : List HistoryItem) (line : List ℕ) (i j : HistoryItem)
+        → IsJobInBounds job → IsTaken job.config job.traces past line i
+        → IsTaken job.config job.traces past line j → i ≡ j }
+    ensures apart { (job : Job) (lines : List (List ℕ)) (h : List HistoryItem) (n : ℕ)
+        → IsJobInBounds job → AreTaken job.config job.traces [] lines h
+        → FirstLeft job.config job.traces [] lines n → ⊥ }
 {}

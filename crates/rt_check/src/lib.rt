@@ -5,11 +5,16 @@ mod follower;
 mod input;
 mod laws;
 mod lines;
+mod moves;
 mod refusal;
+mod taken;
 #[cfg(test)]
 mod tests;
 mod top;
 
-pub use laws::{answers_are_one, good_orders_are_runs};
+pub use input::parted;
+pub use laws::{answers_are_one, good_orders_are_runs, lines_are_taken_once};
+pub use moves::Move;
 pub use refusal::Refusal;
-pub use top::{CheckExit, check};
+pub use taken::moves_of;
+pub use top::{CHECK_LIMIT, CheckExit, check};

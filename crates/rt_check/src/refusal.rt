@@ -7,6 +7,7 @@ ghost use Rattle.rt_check.specs.Answers.{answer_text, refusal_of, refusal_of_pla
 
 use block_store::OutOfMemory;
 use rate_plan::PlanFault;
+use std::alloc::AllocFailed;
 use trace_text::{LineBuffer, TraceFault, Why};
 
 /// Why an order was not accepted, each with a status and a line of its own.
@@ -45,7 +46,8 @@ impl Refusal {
         }
     }
 
-    fn prepend_reason(self, line: &mut LineBuffer)
+    /// Puts what it says in front of the end of a line.
+    pub fn prepend_reason(self, line: &mut LineBuffer)
         requires { length line.old ≤ 1 }
         ensures text { line.new ≡ refusal_text self ++ line.old }
         ensures length { length line.new ≤ 60 }
@@ -113,6 +115,14 @@ impl From<OutOfMemory> for Refusal {
     ghost from_gives = { λ _ refusal. refusal ≡ refusals.OutOfMemory };
 
     fn from(_error: OutOfMemory) -> Refusal {
+        Refusal::OutOfMemory
+    }
+}
+
+impl<T: Drop> From<AllocFailed<T>> for Refusal {
+    ghost from_gives = { λ _ refusal. refusal ≡ refusals.OutOfMemory };
+
+    fn from(_error: AllocFailed<T>) -> Refusal {
         Refusal::OutOfMemory
     }
 }

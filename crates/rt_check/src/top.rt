@@ -15,7 +15,7 @@ use std::alloc::Global;
 use trace_text::{INPUT_LIMIT, Sink, Source, input_of, job_of, put_line};
 
 /// The most bytes that an input may have.
-const CHECK_LIMIT: usize = 67_108_864;
+pub const CHECK_LIMIT: usize = 67_108_864;
 
 /// How a check ended.
 #[derive(Clone, Copy, Debug, PartialEq, Eq)]

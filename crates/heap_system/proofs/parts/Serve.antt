@@ -239,7 +239,7 @@ module _ (c : Config) (s : Seen c) (f : FieldState) (at : AtPart c s (Serve f)) 
       → IsKept c (picture (graph_decided s.graph s.thread s.command verdict) (s.order ++ (items_told s.graph s.thread s.command s.spent verdict ++ [])) new s.names (changed s.tasks s.thread (task c p)))
   names_are p same = subst (λ (x : KeptState). IsKept c x)
       (λ i. picture (graph_is i) (order_is i) new s.names (changed s.tasks (at.part.thread i) (same i)))
-      (keeps_names c s.graph s.order s.heap s.names s.tasks f fits s.held at.part.going passes.1 passes.0 task_is s.kept)
+      (keeps_names c s.graph s.order s.heap s.names s.tasks f fits at.part.going passes.1 passes.0 task_is s.kept)
 
   rules_are : (p : Part) → field_holding (extent c) next ≡ holding c p → PhaseKept (extent c) new (changed s.holds s.thread (holding c p))
   rules_are p same = subst (λ (hs : ℕ → Holding). PhaseKept (extent c) new hs) (λ i. changed s.holds (at.part.thread i) (same i))

@@ -1,16 +1,16 @@
 use Rattle.std.proofs.Common.{◌≤◌, ◌∙◌, length, sym, arith}
-use Rattle.std.proofs.lemmas.Bool.Decides.{nat_tests}
-use Rattle.rt_check.proofs.Judging.{no_past, left_is, none_left_bad, first_bad}
+use Rattle.rt_check.proofs.Judging.{no_past, left_is, none_begun, none_left_bad, first_bad}
 use Rattle.rt_check.proofs.follower.Follower.entry.Goals as goal
 
-pub returns-then-is_empty : goal.returns-then-is_empty
-returns-then-is_empty c past s =
+pub returns-then-not-has_begun : goal.returns-then-not-has_begun
+returns-then-not-has_begun c past s =
     let few : length c.args.job.now.traces ≤ 16 =
     (let l = c.requires.job.threads in let b = c.requires.job.config in omega arith) in
     first_bad c.args.job.now.config c.args.rate c.args.job.now.traces past c.args.line.now
     c.args.thread few c.requires.number
     (no_past c.args.job.now.config c.args.job.now.traces past c.args.self.now s
-    (let a = c.is_empty.ensures in let b = c.if-is_empty.true in grind (arith, nat_tests)))
+    (none_begun c.has_begun.result (length c.args.self.now.live.items) c.has_begun.ensures
+    c.if-not-has_begun.true))
 
 pub returns-in_default : goal.returns-in_default
 returns-in_default c past s =

@@ -1,0 +1,6 @@
+pub mod Moments
+pub mod Figures
+pub mod Counting
+pub mod Blocks
+pub mod Texts
+pub mod Answers

@@ -1,0 +1,14 @@
+//! Which heap a job needs: how many blocks are live at most, and how many blocks a rate costs.
+#![tactic(auto)]
+
+mod blocks;
+mod counts;
+mod laws;
+mod orders;
+mod texts;
+mod top;
+
+pub use blocks::least_blocks;
+pub use counts::Figures;
+pub use laws::{enough_is_never_full, live_grows, most_live_is_the_greatest};
+pub use top::{LimitExit, limit};
