@@ -1,6 +1,6 @@
-//! Two threads that meet: neither gets on unless the other runs beside it. Two and four threads that
-//! allocate over many cycles. And two threads that count together, or hand numbers on, by one shared
-//! element.
+//! Two threads that meet: neither gets on unless the other runs beside it. Two and four threads
+//! that allocate over many cycles. And two threads that count together, or hand numbers on, by one
+//! shared element.
 
 ghost use Rattle.std.specs.Prelude.{◌≡◌, true, map, IfOk};
 ghost use Rattle.heap_system.specs.Locals.{is_done};
@@ -157,8 +157,8 @@ fn two_threads_count_by_cas(rt: HostRuntime) -> Result<(), OutOfMemory> {
     Ok(())
 }
 
-// Marks the number that an exchange took out of the element, and counts those that took nil. Whether
-// the number is one that was put there, and was not taken before.
+// Marks the number that an exchange took out of the element, and counts those that took nil.
+// Whether the number is one that was put there, and was not taken before.
 fn is_taken_once(seen: &mut [bool], nils: &mut u32, reply: Option<Reply>) -> bool {
     match reply {
         Some(Reply::Val(Value::Nil)) => {

@@ -26,9 +26,9 @@ pub const SHARING: Config = Config {
 // Each thread tries to make of each number the next one: of nil 1, of 1 2, and so on. The number
 // before and the next one stand in registers 1 and 2 in turn, and register 3 is nil. At last it
 // loads what the element has become.
-struct Counting {}
+struct Counts {}
 
-impl Told for Counting {
+impl Told for Counts {
     fn command(&self, thread: u32, number: u32) -> Command {
         let _thread = thread;
         let turn = number / 2;
@@ -54,9 +54,9 @@ impl Told for Counting {
 
 // Each thread puts numbers of its own into the element, thread 0 the even ones, and takes what was
 // there. At last it loads what the element has become.
-struct Swapping {}
+struct Swaps {}
 
-impl Told for Swapping {
+impl Told for Swaps {
     fn command(&self, thread: u32, number: u32) -> Command {
         let turn = number / 2;
         if turn >= TRIES {
@@ -72,8 +72,8 @@ impl Told for Swapping {
     }
 }
 
-/// Two threads that count: entries 1, 3 and so on of each log are the tries to count one on, and the
-/// last entry shows the number that the element has become.
+/// Two threads that count: entries 1, 3 and so on of each log are the tries to count one on, and
+/// the last entry shows the number that the element has become.
 ///
 /// # Errors
 ///
@@ -81,11 +81,11 @@ impl Told for Swapping {
 pub fn counting(alloc: Global) -> Result<Option<Vec<Vec<Command>>>, OutOfMemory>
     ensures { IfOk result (λ o. IfSome o (λ v. IsJob SHARING (map (λ w. w.items) v.items))) }
 {
-    job_of(alloc, &SHARING, &Counting {}, 2 * TRIES + 1)
+    job_of(alloc, &SHARING, &Counts {}, 2 * TRIES + 1)
 }
 
-/// Two threads that hand on the numbers below `2 * TRIES`: entries 1, 3 and so on of each log are the
-/// exchanges, and the last entry shows the number that is left.
+/// Two threads that hand on the numbers below `2 * TRIES`: entries 1, 3 and so on of each log are
+/// the exchanges, and the last entry shows the number that is left.
 ///
 /// # Errors
 ///
@@ -93,5 +93,5 @@ pub fn counting(alloc: Global) -> Result<Option<Vec<Vec<Command>>>, OutOfMemory>
 pub fn swapping(alloc: Global) -> Result<Option<Vec<Vec<Command>>>, OutOfMemory>
     ensures { IfOk result (λ o. IfSome o (λ v. IsJob SHARING (map (λ w. w.items) v.items))) }
 {
-    job_of(alloc, &SHARING, &Swapping {}, 2 * TRIES + 1)
+    job_of(alloc, &SHARING, &Swaps {}, 2 * TRIES + 1)
 }

@@ -37,8 +37,8 @@ fn trace<T: Told>(
     Ok(Some(trace))
 }
 
-/// So many commands for each thread, where the configuration has a rate, and it and all commands are
-/// in their ranges.
+/// So many commands for each thread, where the configuration has a rate, and it and all commands
+/// are in their ranges.
 ///
 /// # Errors
 ///

@@ -1,5 +1,5 @@
--- A heap of one thread that is asked one command at a time: the runs for which it stands, and how it
--- answers a command.
+-- A heap of one thread that is asked one command at a time: the runs for which it stands, and how
+-- it answers a command.
 use Rattle.std.specs.Prelude.{ℕ, zero, suc, ◌+◌, ◌*◌, ◌<◌, ◌≤◌, ◌≡◌, ◌++◌, true, false, List, [], ◌∷◌, length, map, slice_index}
 use Rattle.block_store.specs.declared.Config.{Config}
 use Rattle.block_store.specs.Configs.{IsInBounds}
@@ -44,8 +44,8 @@ asked h = h.count
 abbrev pub units : Control → ℕ
 units h = h.thread.before + works h.thread.log
 
--- It may be asked one command more: not too many were asked, of those that make an object there were
--- fewer than a life has, and its units fit.
+-- It may be asked one command more: not too many were asked, of those that make an object there
+-- were fewer than a life has, and its units fit.
 abbrev pub HasLeft : Control → Command → Type 0
 HasLeft h k = (asked h < most_commands) × (h.objects + objects_of k ≤ most_objects)
     × ((rate : ℕ) → IsRate h.config rate
@@ -85,12 +85,13 @@ entries_in (Did e ∷ h) = e ∷ entries_in h
 -- the near bound of an allocation, at this rate and with this charge for the changes of a cycle
 abbrev pub allocation_near : Config → ℕ → ℕ → Command → ℕ
 allocation_near c rate charge k =
-    near_bound c.threads (payloads c.width) charge (rate * blocks_of c.width k) (blocks_of c.width k)
+    near_bound c.threads (payloads c.width) charge (rate * blocks_of c.width k)
+    (blocks_of c.width k)
 
 -- Run z is run r with command k behind the trace, and this reply to it. The thread had at most so
--- many turns more as are the bound of a lone thread, and, for an allocation, the near bound, at each
--- charge that pays; none of them waited. The order of z is that of r with items behind it: starts,
--- and the entry of k with the reply, and no other.
+-- many turns more as are the bound of a lone thread, and, for an allocation, the near bound, at
+-- each charge that pays; none of them waited. The order of z is that of r with items behind it:
+-- starts, and the entry of k with the reply, and no other.
 pub record Answers (c : Config) (k : Command) (a : Reply) (r z : Run) : Type 0 where
   pub turns : ℕ
   pub few : (rate : ℕ) → IsRate c rate → turns ≤ command_bound c rate k

@@ -137,8 +137,8 @@ fn opened(alloc: Global, c: Config) -> Result<ControlHeap, OutOfMemory>
 }
 
 impl ControlHeap {
-    /// The opening heap of a configuration. It stands for a run in which nothing was asked yet. What
-    /// it does from then on takes no memory.
+    /// The opening heap of a configuration. It stands for a run in which nothing was asked yet.
+    /// What it does from then on takes no memory.
     ///
     /// # Errors
     ///
@@ -230,8 +230,8 @@ impl ControlHeap {
     ///
     /// # Errors
     ///
-    /// `OutOfBounds` exactly where the command is not in bounds, and `NoLifeLeft` exactly where it is
-    /// and its life has no room for it. Then nothing has changed.
+    /// `OutOfBounds` exactly where the command is not in bounds, and `NoLifeLeft` exactly where it
+    /// is and its life has no room for it. Then nothing has changed.
     pub fn ask(&mut self, command: Command) -> Result<Reply, Refused>
         ensures config { self.new.config ≡ self.old.config }
         ensures can { OnOk result

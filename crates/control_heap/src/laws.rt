@@ -13,9 +13,9 @@ ghost use Rattle.control_heap.specs.Controls.{Control, Stands, AllAnswered, HasH
 
 /// Of each run for which a heap stands: its order is a legal history of the heap that never frees
 /// (`legal`), in which each entry has the work that its command owes (`right`), and those works are
-/// the units that the heap has counted (`units`). Each `full` is licensed (`licensed`), so that where
-/// each cycle began with at most as many live blocks as the limit, no command was answered full
-/// (`never`).
+/// the units that the heap has counted (`units`). Each `full` is licensed (`licensed`), so that
+/// where each cycle began with at most as many live blocks as the limit, no command was answered
+/// full (`never`).
 pub fn histories_are_right()
     ensures legal { (h : Control) (r : Run) → Stands h r → Legal h.config r.order }
     ensures right { (h : Control) (r : Run) → Stands h r → (rate : ℕ) → IsRate h.config rate

@@ -510,7 +510,8 @@ HasRoom _ space held capacity = (held ≡ []) × (capacity ≡ space)
 -- A thread of a configuration that has a rate. No command has made more units than it owes, and the
 -- balance is sound; its units are in the log, or paid, or were those of the commands before. There
 -- is room for the blocks of the largest object. The units made before, those of the log and those
--- that the commands to come owe are few, and so are the objects made and those that may be asked for.
+-- that the commands to come owe are few, and so are the objects made and those that may be asked
+-- for.
 pub record IsLocal (l : LocalState) : Type 0 where
   pub bounds : IsInBounds l.config
   pub plan : IsAdmitted l.config

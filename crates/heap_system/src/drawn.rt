@@ -276,7 +276,7 @@ fn job_ends_in_time(alloc: Global, width: Width, key: u64) -> Result<bool, OutOf
     let Some((mut system, rate)) = drawn_system(alloc, &config, &mut draws)? else {
         return Ok(false);
     };
-    let turns = draws.next_word() % 400;
+    let turns = draws.next_word() % 200;
     go_on(&mut system, &mut draws, turns * config.threads);
     settle(&mut system);
     Ok(all_end_in_time(&mut system, rate))

@@ -57,13 +57,13 @@ pub fn opening_shows_the_start()
 {}
 
 /// The words show, of the replay of the order, each object that the rules keep, where they say that
-/// it stands, and no two of its blocks are one; and they keep each one that the graph reaches. There
-/// is one exception: between the event that takes a field's value and the store in the register, so
-/// between the load and the store of a `get`, and between the exchange and the store of a `swap`,
-/// that register's word is still that of the value that it had before. What a thread has loaded is
-/// of that graph. No block that the graph reaches is Free, or held by a thread that builds; nor is
-/// one to which a thread has loaded a reference, also where this is the only one: to an object, to a
-/// value that it will store, or to one with which a `cas` compares.
+/// it stands, and no two of its blocks are one; and they keep each one that the graph reaches.
+/// There is one exception: between the event that takes a field's value and the store in the
+/// register, so between the load and the store of a `get`, and between the exchange and the store
+/// of a `swap`, that register's word is still that of the value that it had before. What a thread
+/// has loaded is of that graph. No block that the graph reaches is Free, or held by a thread that
+/// builds; nor is one to which a thread has loaded a reference, also where this is the only one: to
+/// an object, to a value that it will store, or to one with which a `cas` compares.
 pub fn words_show_the_order()
     ensures words { (c : Config) (r : Run) → IsAfterTurns c r
         → Shows c.width c.threads c.blocks (λ a. r.names.kept a ≡ true) (replay c r.order)
@@ -151,18 +151,18 @@ pub fn logs_are_parts()
 
 /// The works of a thread's entries, and the units that it has made for the command in hand, are its
 /// turns that are units: those at which it makes a grey block black, and those at which it passes a
-/// block of the sweep (`made`, `units`). The work of each entry is the units that the thread made for
-/// this command, which are those made while the log had the entries before it and no more (`each`);
-/// and so are those made for the command in hand (`hand`). It has made no more for any command than
-/// it owes, which is the rate times the blocks of an allocation, and what an idle is told of
-/// (`owed`); and each entry has exactly that (`entries`).
+/// block of the sweep (`made`, `units`). The work of each entry is the units that the thread made
+/// for this command, which are those made while the log had the entries before it and no more
+/// (`each`); and so are those made for the command in hand (`hand`). It has made no more for any
+/// command than it owes, which is the rate times the blocks of an allocation, and what an idle is
+/// told of (`owed`); and each entry has exactly that (`entries`).
 ///
-/// What its account has paid are these units where the command in hand is no idle, and none where it
-/// is one (`paid`). An allocation builds its object, or is refused, only where the account has paid
-/// the price of all its blocks (`builds`), and any other command is done only where exactly so many
-/// units were made for it as it is told of (`serves`): those of an idle, and for the others none. At
-/// rest, and on the way out once its command is over, nothing is made and nothing paid (`rest`,
-/// `settled`).
+/// What its account has paid are these units where the command in hand is no idle, and none where
+/// it is one (`paid`). An allocation builds its object, or is refused, only where the account has
+/// paid the price of all its blocks (`builds`), and any other command is done only where exactly so
+/// many units were made for it as it is told of (`serves`): those of an idle, and for the others
+/// none. At rest, and on the way out once its command is over, nothing is made and nothing paid
+/// (`rest`, `settled`).
 pub fn works_are_units()
     ensures made { (c : Config) (r : Run) → (is : IsAfterTurns c r) → (t : ℕ) → t < c.threads
         → works (part t r.order) + (local_in c r t).spent

@@ -4,6 +4,7 @@
 mod accounts;
 mod bound;
 mod collector;
+mod counting;
 mod cycles;
 #[cfg(test)]
 mod drawn;

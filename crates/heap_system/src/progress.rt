@@ -35,11 +35,11 @@ pub fn a_lone_thread_ends_its_command()
         → is_idle k ≡ false → command_bound c rate k ≡ c.object + 64 }
 {}
 
-/// So an allocation is done in a number of turns that is near the most that one takes: where a sweep
-/// of the heap pays for the changes of a cycle by so much a unit (charge), it is a unit's turns and
-/// the charge for each unit, those of one cycle, and those that write the blocks (`near`). On any
-/// heap that has a rate a charge of 33 pays, and then it is within the bound of an allocation that
-/// `a_lone_thread_ends_its_command` states, which so follows (`stated`).
+/// So an allocation is done in a number of turns that is near the most that one takes: where a
+/// sweep of the heap pays for the changes of a cycle by so much a unit (charge), it is a unit's
+/// turns and the charge for each unit, those of one cycle, and those that write the blocks
+/// (`near`). On any heap that has a rate a charge of 33 pays, and then it is within the bound of an
+/// allocation that `a_lone_thread_ends_its_command` states, which so follows (`stated`).
 pub fn a_lone_allocation_ends_near_its_bound()
     ensures near { (c : Config) (r : Run) (t rate charge : ℕ) → IsAfterTurns c r → IsRate c rate
         → between c.threads ≤ charge * c.blocks

@@ -3,7 +3,7 @@ use Rattle.never_heap.specs.declared.Entry.{Entry}
 use Rattle.never_heap.specs.declared.Command.TheVariants as commands
 use Rattle.never_heap.specs.declared.Reply.TheVariants as replies
 use Rattle.heap_system.proofs.Paying.{works_take, works_at}
-use Rattle.heap_system.proofs.local.sum_of_works.Goals as goal
+use Rattle.heap_system.proofs.counting.sum_of_works.Goals as goal
 
 -- what stands for no entry
 abbrev none : Entry
