@@ -1,5 +1,7 @@
 -- What was read of the lines of a script.
 use Rattle.std.specs.Prelude.{ℕ, ◌≡◌, Option, Some, None, List, ◌++◌, length}
+use Rattle.call_exits.specs.declared.refusal.Refusal.{Refusal}
+use Rattle.call_exits.specs.declared.refusal.Refusal.TheVariants as refusals
 use Rattle.rt_tags.specs.declared.line.Header.{Header}
 use Rattle.rt_tags.specs.declared.line.Line.{Line}
 use Rattle.rt_tags.specs.declared.line.Line.TheVariants as lines
@@ -9,6 +11,11 @@ use Rattle.tag_table.specs.declared.operation.Operation.{Operation}
 use Rattle.scripts.specs.Scripts.{Among, place_after, told, told_next, bad_line}
 use Rattle.rt_tags.specs.Lines.{Tokens, tag_language}
 use Rattle.rt_tags.specs.Said.{said}
+
+-- the refusal of a call for a fault of reading
+abbrev pub refusal_of : Fault → Refusal
+refusal_of (BadLine n) = refusals.BadLine n
+refusal_of OutOfMemory = refusals.OutOfMemory
 
 -- a reader refuses for a line, or because memory ran out
 abbrev pub Blames : (ℕ → Type 0) → Fault → Type 0

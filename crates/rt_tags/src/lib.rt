@@ -7,13 +7,21 @@ ghost use Rattle.scripts.specs.Scripts.{Start, bad_line};
 ghost use Rattle.rt_tags.specs.declared.line.Header.{Header};
 ghost use Rattle.rt_tags.specs.Lines.{Tokens, tag_language, IsTagScript};
 
+mod exit;
 mod line;
+mod planning;
+mod printing;
+mod reading;
+mod running;
 mod script;
 #[cfg(test)]
 mod tests;
+mod top;
 
+pub use exit::TagExit;
 pub use line::Header;
 pub use script::{Fault, script_of};
+pub use top::tags;
 
 /// Lines are a script of tags, or one of them is the first that cannot stand at its place, and never
 /// both; and they are one script at most.

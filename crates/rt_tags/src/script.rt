@@ -7,6 +7,7 @@ ghost use Rattle.rt_tags.specs.Lines.{tag_language, IsTagScript};
 ghost use Rattle.rt_tags.specs.Parts.{Blames, HasTold, IsTurned, IsTurn};
 
 use crate::line::{Header, Line, header_of, line_of};
+use call_exits::Refusal;
 use tag_table::Operation;
 use std::alloc::{AllocFailed, Global};
 use trace_text::first_line;
@@ -27,6 +28,19 @@ impl<T: Drop> From<AllocFailed<T>> for Fault {
 
     fn from(_error: AllocFailed<T>) -> Fault {
         Fault::OutOfMemory
+    }
+}
+
+impl From<Fault> for Refusal {
+    ghost use Rattle.rt_tags.specs.Parts.{refusal_of};
+
+    ghost from_gives = { λ fault refusal. refusal ≡ refusal_of fault };
+
+    fn from(fault: Fault) -> Refusal {
+        match fault {
+            Fault::BadLine(line) => Refusal::BadLine { line },
+            Fault::OutOfMemory => Refusal::OutOfMemory,
+        }
     }
 }
 
