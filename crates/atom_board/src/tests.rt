@@ -127,7 +127,10 @@ fn counted(first: &[Entry], second: &[Entry]) -> Option<u64> {
     for turn in 0..TRIES {
         let yes = Some(Reply::Yes);
         let no = Some(Reply::No);
-        let both = (reply_of(first, 2 * turn + 1), reply_of(second, 2 * turn + 1));
+        let both = (
+            reply_of(first, 2 * turn + 1),
+            reply_of(second, 2 * turn + 1),
+        );
         if both != (yes, no) && both != (no, yes) {
             return None;
         }
@@ -191,11 +194,7 @@ fn only_left(seen: &[bool]) -> Option<u64> {
 
 // The number that no exchange of two logs took out of the element, where each other was taken once,
 // and nil was.
-fn handed_on(
-    alloc: Global,
-    first: &[Entry],
-    second: &[Entry],
-) -> Result<Option<u64>, OutOfMemory> {
+fn handed_on(alloc: Global, first: &[Entry], second: &[Entry]) -> Result<Option<u64>, OutOfMemory> {
     let mut seen = Vec::new(alloc);
     for _number in 0..2 * TRIES {
         seen.push(false)?;

@@ -49,7 +49,7 @@ units h = h.thread.before + works h.thread.log
 abbrev pub HasLeft : Control → Command → Type 0
 HasLeft h k = (asked h < most_commands) × (h.objects + objects_of k ≤ most_objects)
     × ((rate : ℕ) → IsRate h.config rate
-        → units h + units_owed h.config.width rate k ≤ most_units)
+    → units h + units_owed h.config.width rate k ≤ most_units)
 
 -- a thread with another trace and log, and none before them
 abbrev pub with_history : List Command → List Entry → LocalState → LocalState

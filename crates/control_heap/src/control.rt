@@ -25,6 +25,7 @@ const MOST_COMMANDS: u64 = 1 << 60;
 
 // How many units all commands of a life may owe, and how many of them may make an object.
 const MOST_UNITS: u64 = 1 << 45;
+
 const MOST_OBJECTS: u64 = 131_072;
 
 /// Why no heap of a configuration is opened.

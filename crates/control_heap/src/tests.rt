@@ -176,7 +176,13 @@ fn each_refusal_of_a_configuration_has_its_cause(rt: HostRuntime) {
     let c = small(Width::Four);
     for (config, fault) in [
         (Config { threads: 0, ..c }, OpenFault::OutOfBounds),
-        (Config { blocks: 65_536, ..c }, OpenFault::OutOfBounds),
+        (
+            Config {
+                blocks: 65_536,
+                ..c
+            },
+            OpenFault::OutOfBounds,
+        ),
         (Config { object: 0, ..c }, OpenFault::OutOfBounds),
         (Config { threads: 2, ..c }, OpenFault::NotOneThread),
         (Config { live: 5, ..c }, OpenFault::LiveTooSmall),

@@ -24,8 +24,14 @@ end
         value: 5,
         quality: (1 << 62) - 1,
     };
-    assert_eq!(rt; scripts[0].as_slice(), [Operation::Read { place: 0 }, write].as_slice());
-    assert_eq!(rt; scripts[1].as_slice(), [Operation::Clear { place: 1 }].as_slice());
+    assert_eq!(rt;
+        scripts[0].as_slice(),
+        [Operation::Read { place: 0 }, write].as_slice()
+    );
+    assert_eq!(rt;
+        scripts[1].as_slice(),
+        [Operation::Clear { place: 1 }].as_slice()
+    );
     Ok(())
 }
 

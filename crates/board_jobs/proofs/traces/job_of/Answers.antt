@@ -16,9 +16,9 @@ mapped f P (x ∷ xs) all = (all.0, mapped f P xs all.1)
 
 pub returns : goal.returns
 returns g c = job_of_text c.args.c.now (map items_of c.loop-thread.traces.items)
-  (record {
-    config = c.if-not-in_bounds.ensures.0 refl;
-    threads = length-map c.loop-thread.traces.items items_of ∙ omega (arith, c.loop-thread.invariant.0);
-    each = mapped items_of (IsTraceInBounds c.args.c.now) c.loop-thread.traces.items (recursion_from_All (λ v. IsTraceInBounds c.args.c.now v.items) c.loop-thread.traces.items c.loop-thread.invariant.1);
-  })
-  c.in-Ok.ensures.0
+    (record {
+      config = c.if-not-in_bounds.ensures.0 refl;
+      threads = length-map c.loop-thread.traces.items items_of ∙ omega (arith, c.loop-thread.invariant.0);
+      each = mapped items_of (IsTraceInBounds c.args.c.now) c.loop-thread.traces.items (recursion_from_All (λ v. IsTraceInBounds c.args.c.now v.items) c.loop-thread.traces.items c.loop-thread.invariant.1);
+    })
+    c.in-Ok.ensures.0
