@@ -5,10 +5,13 @@
 //!     machine serial                  the turns of each thread in turn, on plain words
 //!     machine replay robin|serial|KEY TURNS      a schedule, printed in order
 //!     machine make KEY LINES | machine trial KEY LINES
+//!     machine draw KEY THREADS LINES  a job of version 2 with all of its commands
 //!     machine measure [serial]        as run or serial, but prints turns, units and waits, and the
-//!                                     most turns of a command by the blocks that it asks for
+//!                                     most turns of a command by the blocks that it asks for, and
+//!                                     of an idle by its units
 
 use std::cell::Cell;
+use std::collections::BTreeMap;
 use std::hint;
 use std::io::{self, Read, Write};
 use std::process::ExitCode;
@@ -35,6 +38,9 @@ enum Command {
     Len { s: u8 },
     Same { a: u8, b: u8 },
     Say { s: u8 },
+    Swap { s: u8, v: u8, i: u64 },
+    Cas { s: u8, a: u8, v: u8, i: u64 },
+    Idle { units: u64 },
 }
 
 /// A name is a thread and a serial.
@@ -52,6 +58,7 @@ enum Reply {
     Null,
     Kind,
     Range,
+    Idle,
 }
 
 #[derive(Clone, Copy)]
@@ -140,6 +147,18 @@ impl Command {
             _ => 0,
         }
     }
+
+    // The units that it is told to make.
+    fn told(&self) -> u64 {
+        match *self {
+            Command::Idle { units } => units,
+            _ => 0,
+        }
+    }
+}
+
+fn is_reference(word: u64) -> bool {
+    word != 0 && word & 1 == 0
 }
 
 /// The word of a Live colour: black in cycle c has the parity of c.
@@ -363,6 +382,7 @@ enum Row {
     LoadOperand,
     LoadOther,
     LoadShape,
+    LoadExpected,
     LoadValue,
     Walk,
     LoadField,
@@ -371,6 +391,9 @@ enum Row {
     ShadeTarget,
     ShadePut,
     Store,
+    ExchangeField,
+    CompareField,
+    IdleLook,
 }
 
 #[derive(Clone, Copy, PartialEq)]
@@ -398,7 +421,10 @@ struct Mutator {
     way: Way,
     loaded: u64,
     second: u64,
+    expected: u64,
     place: usize,
+    // The row behind the barrier.
+    behind: Row,
     paid: u64,
     owed: u64,
     serial: u32,
@@ -407,8 +433,9 @@ struct Mutator {
     // Of the command in hand: the blocks that it asks for, and the turns before it.
     blocks: usize,
     turns_before: u64,
-    // The most turns of a command that asks for so many blocks.
+    // The most turns of a command that asks for so many blocks, and of an idle of so many units.
     most_turns: Vec<u64>,
+    most_idle: BTreeMap<u64, u64>,
 }
 
 impl Mutator {
@@ -430,7 +457,9 @@ impl Mutator {
             way: Way { links: 0, last: 0, power: 0, index: 0 },
             loaded: 0,
             second: 0,
+            expected: 0,
             place: 0,
+            behind: Row::Store,
             paid: 0,
             owed: 0,
             serial: 0,
@@ -439,6 +468,7 @@ impl Mutator {
             blocks: 0,
             turns_before: 0,
             most_turns: Vec::new(),
+            most_idle: BTreeMap::new(),
         }
     }
 
@@ -454,26 +484,21 @@ impl Mutator {
     fn first_row(&mut self, heap: &Heap<impl Word>, phase: u64) -> Row {
         (self.cycle, self.sweep) = (phase / CYCLE, phase & SWEEP != 0);
         (self.hand, self.nothing, self.freed) = (0, false, 0);
-        match self.command() {
-            Command::New { .. } | Command::Arr { .. } if self.paid < self.owed => {
-                if self.sweep { Row::ReadCursor } else { Row::Take { u: 0 } }
-            }
-            Command::New { .. } | Command::Arr { .. } => Row::ReadCount,
-            Command::Set { d, value } => self.store_in(heap, d, 2 * value + 1),
-            Command::Nil { d } => self.store_in(heap, d, 0),
-            Command::Mov { s, .. } | Command::Get { s, .. } | Command::Put { s, .. } => {
-                self.place = self.register(heap, s);
-                Row::LoadOperand
-            }
-            Command::Len { s } | Command::Say { s } => {
-                self.place = self.register(heap, s);
-                Row::LoadOperand
-            }
-            Command::Same { a, .. } => {
-                self.place = self.register(heap, a);
-                Row::LoadOperand
-            }
+        if self.paid < self.owed {
+            return if self.sweep { Row::ReadCursor } else { Row::Take { u: 0 } };
         }
+        let first = match self.command() {
+            Command::New { .. } | Command::Arr { .. } => return Row::ReadCount,
+            Command::Set { d, value } => return self.store_in(heap, d, 2 * value + 1),
+            Command::Nil { d } => return self.store_in(heap, d, 0),
+            Command::Idle { .. } => return Row::IdleLook,
+            Command::Mov { s, .. } | Command::Len { s } | Command::Say { s } => s,
+            Command::Get { s, .. } | Command::Put { s, .. } => s,
+            Command::Swap { s, .. } | Command::Cas { s, .. } => s,
+            Command::Same { a, .. } => a,
+        };
+        self.place = self.register(heap, first);
+        Row::LoadOperand
     }
 
     fn register(&self, heap: &Heap<impl Word>, r: u8) -> usize {
@@ -498,7 +523,7 @@ impl Mutator {
 
     // A command needs the object to which a register refers.
     fn object(&mut self, word: u64, order: &mut impl FnMut(Item)) -> Option<Row> {
-        if word != 0 && word & 1 == 0 {
+        if is_reference(word) {
             self.block = (word / 2) as usize;
             return None;
         }
@@ -507,8 +532,12 @@ impl Mutator {
     }
 
     // The barrier goes before a store of a reference in Mark.
-    fn barrier(&self, word: u64) -> Row {
-        if !self.sweep && word != 0 && word & 1 == 0 { Row::ShadeTake } else { Row::Store }
+    fn barrier(&mut self, word: u64, store: Row) -> Row {
+        if self.sweep || !is_reference(word) {
+            return store;
+        }
+        self.behind = store;
+        Row::ShadeTake
     }
 
     // What is done when a thread has left.
@@ -530,7 +559,7 @@ impl Mutator {
                 return Turn::Done;
             }
             self.blocks = self.command().blocks(heap.config.width);
-            self.owed = heap.rate * self.blocks as u64;
+            self.owed = heap.rate * self.blocks as u64 + self.command().told();
             self.row = Row::Look;
             self.turns_before = self.turns;
         }
@@ -541,13 +570,22 @@ impl Mutator {
             self.waits += 1;
         }
         if row == Row::Rest {
+            self.measure_turns(self.turns - self.turns_before);
+        }
+        turn
+    }
+
+    // Of the command that was just ended.
+    fn measure_turns(&mut self, turns: u64) {
+        let most = if self.blocks == 0 && self.owed > 0 {
+            self.most_idle.entry(self.owed).or_default()
+        } else {
             if self.most_turns.len() <= self.blocks {
                 self.most_turns.resize(self.blocks + 1, 0);
             }
-            let most = &mut self.most_turns[self.blocks];
-            *most = (*most).max(self.turns - self.turns_before);
-        }
-        turn
+            &mut self.most_turns[self.blocks]
+        };
+        *most = turns.max(*most);
     }
 
     fn event(&mut self, heap: &Heap<impl Word>, order: &mut impl FnMut(Item)) -> (Row, Turn) {
@@ -661,7 +699,7 @@ impl Mutator {
             }
             Scan { j } => {
                 let word = heap.load(config.payload(self.block, j));
-                if word != 0 && word & 1 == 0 {
+                if is_reference(word) {
                     Shade { j, y: (word / 2) as usize }
                 } else {
                     after(j)
@@ -873,6 +911,10 @@ impl Mutator {
                 self.answer(if same { Reply::Yes } else { Reply::No })
             }
             LoadShape => self.shape(heap, order),
+            LoadExpected => {
+                self.expected = heap.load(self.place);
+                LoadValue
+            }
             LoadValue => {
                 self.loaded = heap.load(self.second as usize);
                 self.to_slot(heap)
@@ -890,20 +932,27 @@ impl Mutator {
             }
             LoadField => {
                 self.loaded = heap.load(self.place);
+                self.take_field(heap, order)
+            }
+            ExchangeField => {
+                self.loaded = heap.exchange(self.place, self.loaded);
+                self.take_field(heap, order)
+            }
+            CompareField => {
+                let word = heap.compare_exchange(self.place, self.expected, self.loaded);
                 self.decide(order);
-                let Command::Get { d, .. } = self.command() else { unreachable!() };
-                self.place = self.register(heap, d);
-                if self.loaded != 0 && self.loaded & 1 == 0 {
-                    LoadOwner
-                } else {
-                    Store
-                }
+                self.answer(if word == self.expected { Reply::Yes } else { Reply::No })
+            }
+            IdleLook => {
+                heap.load(0);
+                self.decide(order);
+                self.answer(Reply::Idle)
             }
             LoadOwner => {
                 self.second = heap.load(config.colour((self.loaded / 2) as usize) + 1);
                 match self.command() {
                     Command::Say { .. } => self.answer(owned(self.second)),
-                    _ => self.barrier(self.loaded),
+                    _ => self.barrier(self.loaded, Store),
                 }
             }
             ShadeTake => {
@@ -912,11 +961,11 @@ impl Mutator {
             }
             ShadeTarget => {
                 self.shade(heap, (self.loaded / 2) as usize);
-                if self.hand != 0 { ShadePut } else { Store }
+                if self.hand != 0 { ShadePut } else { self.behind }
             }
             ShadePut => {
                 heap.exchange(config.grey_list(self.thread), self.hand as u64);
-                Store
+                self.behind
             }
             _ => self.store(heap, order),
         }
@@ -928,7 +977,7 @@ impl Mutator {
         match self.command() {
             Command::Mov { d, .. } => {
                 (self.place, self.loaded) = (self.register(heap, d), word);
-                self.barrier(word)
+                self.barrier(word, Row::Store)
             }
             Command::Same { a: _, b } => {
                 (self.place, self.loaded) = (self.register(heap, b), word);
@@ -937,7 +986,7 @@ impl Mutator {
             Command::Say { .. } => {
                 self.decide(order);
                 self.loaded = word;
-                if word != 0 && word & 1 == 0 { Row::LoadOwner } else { self.answer(plain(word)) }
+                if is_reference(word) { Row::LoadOwner } else { self.answer(plain(word)) }
             }
             _ => self.object(word, order).unwrap_or(Row::LoadShape),
         }
@@ -945,25 +994,28 @@ impl Mutator {
 
     fn shape(&mut self, heap: &Heap<impl Word>, order: &mut impl FnMut(Item)) -> Row {
         let shape = heap.load(heap.config.colour(self.block) + 2);
-        let (i, value) = match self.command() {
-            Command::Get { i, .. } => (i, None),
-            Command::Put { i, v, .. } => (i, Some(v)),
-            _ => {
-                self.decide(order);
-                return self.answer(Reply::Len(shape / 2));
-            }
+        let (Command::Get { i, .. } | Command::Put { i, .. } | Command::Swap { i, .. }
+        | Command::Cas { i, .. }) = self.command()
+        else {
+            self.decide(order);
+            return self.answer(Reply::Len(shape / 2));
         };
         if i >= shape / 2 {
             self.decide(order);
             return self.answer(Reply::Range);
         }
         self.way = way_to(heap.config.width as u64, shape, i);
-        match value {
-            Some(v) => {
+        match self.command() {
+            Command::Put { v, .. } | Command::Swap { v, .. } => {
                 self.second = self.register(heap, v) as u64;
                 Row::LoadValue
             }
-            None => self.to_slot(heap),
+            Command::Cas { a, v, .. } => {
+                self.place = self.register(heap, a);
+                self.second = self.register(heap, v) as u64;
+                Row::LoadExpected
+            }
+            _ => self.to_slot(heap),
         }
     }
 
@@ -975,15 +1027,29 @@ impl Mutator {
         self.place = heap.config.payload(self.block, self.way.last as usize);
         match self.command() {
             Command::Get { .. } => Row::LoadField,
-            _ => self.barrier(self.loaded),
+            Command::Swap { .. } => self.barrier(self.loaded, Row::ExchangeField),
+            Command::Cas { .. } => self.barrier(self.loaded, Row::CompareField),
+            _ => self.barrier(self.loaded, Row::Store),
         }
+    }
+
+    // After the field's value was loaded, which goes to a register.
+    fn take_field(&mut self, heap: &Heap<impl Word>, order: &mut impl FnMut(Item)) -> Row {
+        self.decide(order);
+        let (Command::Get { d: to, .. } | Command::Swap { v: to, .. }) = self.command() else {
+            unreachable!()
+        };
+        self.place = self.register(heap, to);
+        if is_reference(self.loaded) { Row::LoadOwner } else { Row::Store }
     }
 
     fn store(&mut self, heap: &Heap<impl Word>, order: &mut impl FnMut(Item)) -> Row {
         heap.exchange(self.place, self.loaded);
         let reply = match self.command() {
-            Command::Get { .. } if self.loaded != 0 && self.loaded & 1 == 0 => owned(self.second),
-            Command::Get { .. } => plain(self.loaded),
+            Command::Get { .. } | Command::Swap { .. } if is_reference(self.loaded) => {
+                owned(self.second)
+            }
+            Command::Get { .. } | Command::Swap { .. } => plain(self.loaded),
             _ => {
                 self.decide(order);
                 Reply::Stored
@@ -1080,6 +1146,15 @@ fn read_command(line: &[u8]) -> Command {
         }
         b"len" => Command::Len { s: next() as u8 },
         b"same" => Command::Same { a: next() as u8, b: next() as u8 },
+        b"swap" => {
+            let (s, i) = (next() as u8, next());
+            Command::Swap { s, i, v: next() as u8 }
+        }
+        b"cas" => {
+            let (s, i) = (next() as u8, next());
+            Command::Cas { s, i, a: next() as u8, v: next() as u8 }
+        }
+        b"idle" => Command::Idle { units: next() },
         _ => Command::Say { s: next() as u8 },
     }
 }
@@ -1094,17 +1169,40 @@ fn generated(key: u64, lines: u64) -> Job {
 
 fn drawn(draws: &mut Draws) -> Command {
     let (w, x, y, z) = (draws.next(), draws.next(), draws.next(), draws.next());
-    let (d, s, k) = ((1 + x % 15) as u8, (y % 16) as u8, z % 8);
-    match w % 10 {
+    command_of(w % 10, (1 + x % 15) as u8, (y % 16) as u8, z)
+}
+
+/// A job of version 2 with all of its commands, of which half are on the shared array.
+fn generated_wide(key: u64, threads: usize, lines: u64) -> Job {
+    let mut draws = Draws::new(key);
+    let config = Config { width: 8, threads, blocks: 4096, live: 2000, object: 16, shared: 8 };
+    let traces =
+        (0..threads).map(|_| (0..lines).map(|_| drawn_wide(&mut draws)).collect()).collect();
+    Job { config, traces }
+}
+
+fn drawn_wide(draws: &mut Draws) -> Command {
+    let (w, x, y, z) = (draws.next(), draws.next(), draws.next(), draws.next());
+    let s = if y % 2 == 0 { 0 } else { (y / 2 % 16) as u8 };
+    command_of(w % 16, (1 + x % 15) as u8, s, z)
+}
+
+fn command_of(kind: u32, d: u8, s: u8, z: u32) -> Command {
+    let (k, i) = (z % 8, u64::from(z % 8));
+    match kind {
         0 | 1 => Command::New { d, fields: k },
         2 => Command::Arr { d, elements: 4 * k },
         3 => Command::Set { d, value: u64::from(z) },
         4 => Command::Nil { d },
         5 => Command::Mov { d, s },
-        6 => Command::Get { d, s, i: u64::from(k) },
-        7 => Command::Put { s, i: u64::from(k), v: d },
+        6 => Command::Get { d, s, i },
+        7 => Command::Put { s, i, v: d },
         8 => Command::Len { s },
-        _ => Command::Same { a: d, b: s },
+        9 => Command::Same { a: d, b: s },
+        10 => Command::Say { s },
+        11 | 12 => Command::Swap { s, i, v: d },
+        13 | 14 => Command::Cas { s, i, a: (z / 8 % 16) as u8, v: d },
+        _ => Command::Idle { units: u64::from(z % 64) },
     }
 }
 
@@ -1153,8 +1251,9 @@ impl Printer {
             Reply::Null => self.text(" null"),
             Reply::Kind => self.text(" kind"),
             Reply::Range => self.text(" range"),
+            Reply::Idle => self.text(" idle"),
         }
-        if let Reply::New(..) | Reply::Full(_) = entry.reply {
+        if let Reply::New(..) | Reply::Full(_) | Reply::Idle = entry.reply {
             self.counted(" work ", entry.work);
         }
         self.end_line();
@@ -1276,15 +1375,23 @@ fn print_by_threads((cycles, mutators): (u64, Vec<Mutator>)) {
 
 fn measure(rate: u64, (cycles, mutators): (u64, Vec<Mutator>)) {
     let mut most_turns: Vec<u64> = Vec::new();
+    let mut most_idle: BTreeMap<u64, u64> = BTreeMap::new();
     for m in &mutators {
         println!("thread {} turns {} waits {}", m.thread, m.turns, m.waits);
         most_turns.resize(most_turns.len().max(m.most_turns.len()), 0);
         for (blocks, &turns) in m.most_turns.iter().enumerate() {
             most_turns[blocks] = most_turns[blocks].max(turns);
         }
+        for (&units, &turns) in &m.most_idle {
+            let most = most_idle.entry(units).or_default();
+            *most = turns.max(*most);
+        }
     }
     for (blocks, turns) in most_turns.iter().enumerate().filter(|&(_, &turns)| turns > 0) {
         println!("blocks {blocks} most turns {turns}");
+    }
+    for (units, turns) in &most_idle {
+        println!("idle {units} most turns {turns}");
     }
     let work: u64 = mutators.iter().flat_map(|m| &m.log).map(|e| e.work).sum();
     println!("cycles {cycles} units {work} rate {rate}");
@@ -1373,6 +1480,9 @@ fn line_of(command: &Command) -> String {
         Command::Len { s } => format!("len {s}"),
         Command::Same { a, b } => format!("same {a} {b}"),
         Command::Say { s } => format!("say {s}"),
+        Command::Swap { s, i, v } => format!("swap {s} {i} {v}"),
+        Command::Cas { s, i, a, v } => format!("cas {s} {i} {a} {v}"),
+        Command::Idle { units } => format!("idle {units}"),
     }
 }
 
@@ -1393,6 +1503,11 @@ fn main() -> ExitCode {
         ["replay", schedule, turns] => return replay(read_job(), schedule, turns.parse().unwrap()),
         ["make", key, lines] => print_job(&generated(key.parse().unwrap(), lines.parse().unwrap())),
         ["trial", key, lines] => trial(generated(key.parse().unwrap(), lines.parse().unwrap())),
+        ["draw", key, threads, lines] => print_job(&generated_wide(
+            key.parse().unwrap(),
+            threads.parse().unwrap(),
+            lines.parse().unwrap(),
+        )),
         _ => {
             println!("rtheap: usage");
             return ExitCode::from(2);

@@ -159,7 +159,8 @@ fn gathered(
 
 impl AtomBoard {
     /// The board of a configuration that has a rate, with a trace for each thread, and a mutator
-    /// for each thread, in order. A trace has at most 131,072 commands, which are in bounds.
+    /// for each thread, in order. A trace is one life: its commands are in bounds, owe at most 2^45
+    /// units, and at most 131,072 of them make an object.
     ///
     /// # Errors
     ///

@@ -68,9 +68,9 @@ impl Mutator {
     // for the one in hand.
     #[inline(always)]
     pub(crate) fn progress(&self) -> (usize, u64)
-        ensures { result ≡ (length self.now.local.log, self.now.local.balance.paid) }
+        ensures { result ≡ (length self.now.local.log, self.now.local.spent) }
     {
-        (self.local.log().len(), self.local.paid())
+        (self.local.log().len(), self.local.spent())
     }
 
     /// The entries of the commands that are done, oldest first.

@@ -19,7 +19,7 @@ use Rattle.grey_steps.specs.declared.rows.GreyRow.{GreyRow}
 use Rattle.barrier_steps.specs.declared.rows.FieldStore.{FieldStore}
 use Rattle.barrier_steps.specs.declared.rows.FieldStore.TheVariants.{Moved, Pending, InField, Exchanged, Compared}
 use Rattle.barrier_steps.specs.declared.rows.Way.{Way}
-use Rattle.barrier_steps.specs.Operands.{field_index, expected_register, is_swap, is_cas, is_idle, takes_field, stores_in_field}
+use Rattle.barrier_steps.specs.Operands.{field_index}
 use Rattle.barrier_steps.specs.Walks.{shape_length, links_to}
 use Rattle.barrier_steps.specs.Rows.{payload_in, shape_in, object_in, store_row, before_store, first_row, row_got, field_reply, field_decided, after_object, after_shape, after_field, after_said, at_block, on_way, way_from, way_on, in_barrier}
 use Rattle.barrier_steps.specs.Deciding.{refers, length_decides, is_deciding}
@@ -36,8 +36,10 @@ moved_undecided p word = before_is (λ row. field_decided row ≡ false) p (Move
 
 block_undecided : (p : Pass) (k : Command) (way : Way) (word : ℕ) → field_decided (at_block p k way word) ≡ false
 block_undecided p (commands.Put s i v) way word = before_is (λ row. field_decided row ≡ false) p (InField way word) (λ _. refl) (λ _. refl)
-block_undecided p (commands.Swap s i v) way word = before_is (λ row. field_decided row ≡ false) p (Exchanged way word) (λ _. refl) (λ _. refl)
-block_undecided p (commands.Cas s i a v) way word = before_is (λ row. field_decided row ≡ false) p (Compared way word) (λ _. refl) (λ _. refl)
+block_undecided p (commands.Swap s i v) way word =
+    before_is (λ row. field_decided row ≡ false) p (Exchanged way word) (λ _. refl) (λ _. refl)
+block_undecided p (commands.Cas s i a v) way word =
+    before_is (λ row. field_decided row ≡ false) p (Compared way word) (λ _. refl) (λ _. refl)
 block_undecided p _ way word = refl
 
 -- the barrier decides nothing
@@ -45,8 +47,10 @@ barrier_decides : (r q : GreyRow) (store : FieldStore) → field_decided (in_bar
 barrier_decides r q (Moved word) = barrier_is (λ row. field_decided row ≡ false) r (Moved word) (λ _. refl) (λ _. refl)
 barrier_decides r q (Pending word value) = barrier_is (λ row. field_decided row ≡ true) r (Pending word value) (λ _. refl) (λ _. refl)
 barrier_decides r q (InField way word) = barrier_is (λ row. field_decided row ≡ false) r (InField way word) (λ _. refl) (λ _. refl)
-barrier_decides r q (Exchanged way word) = barrier_is (λ row. field_decided row ≡ false) r (Exchanged way word) (λ _. refl) (λ _. refl)
-barrier_decides r q (Compared way word) = barrier_is (λ row. field_decided row ≡ false) r (Compared way word) (λ _. refl) (λ _. refl)
+barrier_decides r q (Exchanged way word) =
+    barrier_is (λ row. field_decided row ≡ false) r (Exchanged way word) (λ _. refl) (λ _. refl)
+barrier_decides r q (Compared way word) =
+    barrier_is (λ row. field_decided row ≡ false) r (Compared way word) (λ _. refl) (λ _. refl)
 
 way_undecided : (c : Config) (p : Pass) (k : Command) (way : Way) (word : ℕ) → field_decided (on_way (extent c) p k way word) ≡ false
 way_undecided c p k way word = elim (cases_Bool (ltb way.level (links_to (extent c) way.shape (field_index k)))) [

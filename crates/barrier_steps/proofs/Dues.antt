@@ -13,9 +13,9 @@ use Rattle.shown_graph.specs.Shown.{heads}
 use Rattle.shown_graph.specs.Events.{GraphState, Follows}
 use Rattle.heap_machine.specs.declared.pass.Pass.{Pass}
 use Rattle.barrier_steps.specs.declared.rows.FieldRow.{FieldRow}
-use Rattle.barrier_steps.specs.declared.rows.FieldRow.TheVariants.{LoadOwner, StorePending, Shade, LoadSaidOwner, Answered, LoadExpected, ExchangeField, CompareField, IdleLook}
+use Rattle.barrier_steps.specs.declared.rows.FieldRow.TheVariants.{LoadOwner, StorePending, Shade, LoadSaidOwner, Answered}
 use Rattle.barrier_steps.specs.declared.rows.FieldStore.TheVariants.{Pending}
-use Rattle.barrier_steps.specs.Operands.{to_register, expected_register, is_swap, is_cas, is_idle, takes_field, stores_in_field}
+use Rattle.barrier_steps.specs.Operands.{to_register}
 use Rattle.barrier_steps.specs.Rows.{object_in, row_got, field_decided}
 use Rattle.barrier_steps.specs.Fits.{FitsAt}
 use Rattle.barrier_steps.specs.Deciding.{is_deciding}
@@ -85,7 +85,11 @@ module _ (c : Config) (m : ℕ) (K : Name → Type 0) (at : Name → ℕ → ℕ
     | inr u ↦ elim (cases_Bool (is_deciding k row w)) [
       | inl n ↦
           let shown = row_shown c m K at few low s follows h p k row w fits is in
-          let out = promised_due (heads at) (after_event (extent c) s (row_event (extent c) a p.thread k row w)).graph p.thread k (row_got (extent c) p k row w) (answer s.graph p.thread k) (promised c (heads at) s.graph p.thread p k row w fits.belongs n shown) (row_has c (heads at) s a p k row w follows.shows.sized fits shown is.loads hand n) in
+          let out = promised_due (heads at)
+          (after_event (extent c) s (row_event (extent c) a p.thread k row w)).graph p.thread k
+          (row_got (extent c) p k row w) (answer s.graph p.thread k)
+          (promised c (heads at) s.graph p.thread p k row w fits.belongs n shown)
+          (row_has c (heads at) s a p k row w follows.shows.sized fits shown is.loads hand n) in
           (out.0 ∙ ap (λ b. cond b (Some (answer s.graph p.thread k)) (due_at s.graph p.thread k row)) (sym n), out.1)
       | inr n ↦
           let still : (field_decided row || is_deciding k row w) ≡ false = rw (u, n) refl in

@@ -30,9 +30,9 @@ use Rattle.grey_steps.proofs.Ranges as ranges
 use Rattle.barrier_steps.specs.declared.rows.FieldStore.{FieldStore}
 use Rattle.barrier_steps.specs.declared.rows.FieldStore.TheVariants.{Moved, Pending, InField, Exchanged, Compared}
 use Rattle.barrier_steps.specs.declared.rows.Way.{Way}
-use Rattle.barrier_steps.specs.Operands.{to_register, from_register, other_register, field_index, number_set, is_put, is_get, goes_to_field, looks_at_object, expected_register, is_swap, is_cas, is_idle, takes_field, stores_in_field}
+use Rattle.barrier_steps.specs.Operands.{to_register, from_register, other_register, field_index, number_set, is_get, goes_to_field, looks_at_object, expected_register, is_swap, is_cas, takes_field, stores_in_field}
 use Rattle.barrier_steps.specs.Walks.{shape_length, links_to}
-use Rattle.barrier_steps.specs.Rows.{FieldState, register_place, payload_in, shape_in, object_in, stored_word, store_row, shaded_for, before_store, first_row, at_first_row, row_want, row_got, field_want, field_got, after_object, after_shape, after_field, after_said, on_way, at_block, way_from, way_on, way_with}
+use Rattle.barrier_steps.specs.Rows.{FieldState, register_place, payload_in, shape_in, object_in, stored_word, store_row, shaded_for, before_store, first_row, at_first_row, row_want, row_got, field_want, field_got, after_object, after_shape, after_field, after_said, on_way, at_block, way_from, way_on}
 use Rattle.barrier_steps.specs.Fits.{IsThread, IsLoaded, IsWalk, IsThere, IsBarrier, is_store_of, StoreFits, is_row_of, RowFits, FitsAt, FieldFits, ReadsAt, FieldReads}
 use Rattle.barrier_steps.proofs.Named.{to_low, from_low, other_low, expected_low, number_low}
 use Rattle.barrier_steps.proofs.Walking.{link_low, field_low}
@@ -73,14 +73,17 @@ place_at c p k (StoreMoved word) f = register_in c p.thread (to_register k) f.th
 place_at c p k LoadObject f = register_in c p.thread (from_register k) f.thread (from_low k f.command)
 place_at c p k (LoadShape x) f = block_in c x f.row
 place_at c p k (LoadValue way) f = register_in c p.thread (other_register k) f.thread (other_low k f.command)
-place_at c p k (LoadExpected way) f = register_in c p.thread (expected_register k) f.thread (expected_low k f.command)
+place_at c p k (LoadExpected way) f =
+    register_in c p.thread (expected_register k) f.thread (expected_low k f.command)
 place_at c p k (LoadLink way word) f = payload_in_range c way.block _ f.row.0.block (link_low c way.shape (field_index k) way.level)
 place_at c p k (LoadField way) f = payload_in_range c way.block _ f.row.0.block (field_low c way.shape (field_index k))
 place_at c p k (LoadOwner word) f = block_in c (target word) (target_block c word f.row.0 f.row.1)
 place_at c p k (StorePending word value) f = register_in c p.thread (to_register k) f.thread (to_low k f.command)
 place_at c p k (StoreField way word) f = payload_in_range c way.block _ f.row.0.block (field_low c way.shape (field_index k))
-place_at c p k (ExchangeField way word) f = payload_in_range c way.block _ f.row.0.block (field_low c way.shape (field_index k))
-place_at c p k (CompareField way word) f = payload_in_range c way.block _ f.row.0.block (field_low c way.shape (field_index k))
+place_at c p k (ExchangeField way word) f =
+    payload_in_range c way.block _ f.row.0.block (field_low c way.shape (field_index k))
+place_at c p k (CompareField way word) f =
+    payload_in_range c way.block _ f.row.0.block (field_low c way.shape (field_index k))
 place_at c p k (Shade r store) f = ranges.place_fits c (record { pass = p; row = r }) f.row.0.fits
 place_at c p k LoadFirst f = register_in c p.thread (from_register k) f.thread (from_low k f.command)
 place_at c p k (LoadSecond word) f = register_in c p.thread (other_register k) f.thread (other_low k f.command)
@@ -151,8 +154,10 @@ before_belongs p k store is = before_is (λ row. is_row_of k row ≡ true) p sto
 block_belongs : (p : Pass) (k : Command) (way : Way) (word : ℕ) → goes_to_field k ≡ true → is_row_of k (at_block p k way word) ≡ true
 block_belongs p (commands.Get d s i) way word is = refl
 block_belongs p (commands.Put s i v) way word is = before_belongs p (commands.Put s i v) (InField way word) refl
-block_belongs p (commands.Swap s i v) way word is = before_belongs p (commands.Swap s i v) (Exchanged way word) refl
-block_belongs p (commands.Cas s i a v) way word is = before_belongs p (commands.Cas s i a v) (Compared way word) refl
+block_belongs p (commands.Swap s i v) way word is =
+    before_belongs p (commands.Swap s i v) (Exchanged way word) refl
+block_belongs p (commands.Cas s i a v) way word is =
+    before_belongs p (commands.Cas s i a v) (Compared way word) refl
 block_belongs p _ way word is = absurd cc
 
 way_belongs : (c : Config) (p : Pass) (k : Command) (way : Way) (word : ℕ) → goes_to_field k ≡ true → is_row_of k (on_way (extent c) p k way word) ≡ true
@@ -179,8 +184,12 @@ swap_takes _ is = absurd cc
 shape_belongs : (c : Config) (p : Pass) (k : Command) (x : ℕ) (f : Shape) → looks_at_object k ≡ true → is_row_of k (after_shape (extent c) p k x f) ≡ true
 shape_belongs c p (commands.Get d s i) x f is = either (λ row. is_row_of (commands.Get d s i) row ≡ true) (ltb i (shape_length f)) _ _ (way_belongs c p (commands.Get d s i) (way_from f x) 0 refl) refl
 shape_belongs c p (commands.Put s i v) x f is = either (λ row. is_row_of (commands.Put s i v) row ≡ true) (ltb i (shape_length f)) _ _ refl refl
-shape_belongs c p (commands.Swap s i v) x f is = either (λ row. is_row_of (commands.Swap s i v) row ≡ true) (ltb i (shape_length f)) _ _ refl refl
-shape_belongs c p (commands.Cas s i a v) x f is = either (λ row. is_row_of (commands.Cas s i a v) row ≡ true) (ltb i (shape_length f)) _ _ refl refl
+shape_belongs c p (commands.Swap s i v) x f is =
+    either (λ row. is_row_of (commands.Swap s i v) row ≡ true) (ltb i (shape_length f)) _ _ refl
+    refl
+shape_belongs c p (commands.Cas s i a v) x f is =
+    either (λ row. is_row_of (commands.Cas s i a v) row ≡ true) (ltb i (shape_length f)) _ _ refl
+    refl
 shape_belongs c p (commands.Len s) x f is = refl
 shape_belongs c p _ x f is = absurd cc
 
@@ -189,7 +198,8 @@ object_belongs k payloads.Nil is = refl
 object_belongs k (payloads.Int v) is = refl
 object_belongs k (payloads.Block x) is = is
 
-field_belongs : (k : Command) (w : ℕ) (p : Payload) → takes_field k ≡ true → is_row_of k (after_field w p) ≡ true
+field_belongs : (k : Command) (w : ℕ) (p : Payload) → takes_field k ≡ true
+    → is_row_of k (after_field w p) ≡ true
 field_belongs k w payloads.Nil is = is
 field_belongs k w (payloads.Int v) is = is
 field_belongs k w (payloads.Block x) is = is
@@ -270,8 +280,10 @@ before_fits c p k store own fits = before_is (λ row. RowFits c p k row) p store
 
 block_fits : (c : Config) (p : Pass) (k : Command) (way : Way) (word : ℕ) → IsOwn c p → IsWalk c (field_index k) way → IsThere c (field_index k) way → IsLoaded c word → RowFits c p k (at_block p k way word)
 block_fits c p (commands.Put s i v) way word own is there fits = before_fits c p (commands.Put s i v) (InField way word) own (is, there, fits)
-block_fits c p (commands.Swap s i v) way word own is there fits = before_fits c p (commands.Swap s i v) (Exchanged way word) own (is, there, fits)
-block_fits c p (commands.Cas s i a v) way word own is there fits = before_fits c p (commands.Cas s i a v) (Compared way word) own (is, there, fits)
+block_fits c p (commands.Swap s i v) way word own is there fits =
+    before_fits c p (commands.Swap s i v) (Exchanged way word) own (is, there, fits)
+block_fits c p (commands.Cas s i a v) way word own is there fits =
+    before_fits c p (commands.Cas s i a v) (Compared way word) own (is, there, fits)
 block_fits c p _ way word own is there fits = (is, there)
 
 -- a row that shades a block is one of a barrier
@@ -341,7 +353,8 @@ row_fits c p k LoadObject w own h r =
     (λ x is some. let high : target w ≤ c.blocks = r.0.1 in (some, omega (arith, is, high)))
 row_fits c p k (LoadShape x) w own h r = shape_row_fits c p k x (shape_in w) own h (shape_fits w r.0)
 row_fits c p k (LoadValue way) w own h r = way_fits c p k way w own h.0 (loaded c w r.0)
-row_fits c p k (LoadExpected way) w own h r = (record { shape = h.0.shape; index = h.0.index; level = h.0.level; block = h.0.block }, h.1)
+row_fits c p k (LoadExpected way) w own h r =
+    (record { shape = h.0.shape; index = h.0.index; level = h.0.level; block = h.0.block }, h.1)
 row_fits c p k (LoadLink way word) w own h r =
     let is = h.0 in
     let next : IsWalk c (field_index k) (way_on way (target w)) = record {
@@ -361,7 +374,8 @@ row_fits c p k (LoadOwner word) w own h r = before_fits c p k (Pending word (obj
 row_fits c p k (StorePending word value) w own h r = tt
 row_fits c p k (StoreField way word) w own h r = tt
 row_fits c p k (ExchangeField way word) w own h r =
-    payload_cases w r.0.0 (λ q. RowFits c p k (after_field w q)) (loaded c w r.0) (λ v low. loaded c w r.0)
+    payload_cases w r.0.0 (λ q. RowFits c p k (after_field w q)) (loaded c w r.0)
+    (λ v low. loaded c w r.0)
     (λ x is some. (loaded c w r.0, reference x w is some))
 row_fits c p k (CompareField way word) w own h r = tt
 row_fits c p k (Shade r store) w own h reads = barrier_fits c p k r store w h.0 h.1 reads

@@ -44,7 +44,7 @@ use Rattle.barrier_steps.specs.declared.rows.FieldStore.{FieldStore}
 use Rattle.barrier_steps.specs.declared.rows.FieldStore.TheVariants.{Moved, Pending, InField, Exchanged, Compared}
 use Rattle.barrier_steps.specs.declared.rows.Way.{Way}
 use Rattle.barrier_steps.specs.Fits.{IsBarrier, FitsAt, FieldFits, ReadsAt, FieldReads}
-use Rattle.barrier_steps.specs.Operands.{field_index, number_set, expected_register, is_swap, is_cas, is_idle, takes_field, stores_in_field}
+use Rattle.barrier_steps.specs.Operands.{field_index, number_set}
 use Rattle.barrier_steps.specs.Rows.{FieldState, payload_or_nil, payload_in, shape_in, object_in, at_first_row, stored_word, store_row, shaded_for, before_store, at_block, on_way, way_from, way_on, after_object, after_shape, after_field, after_said, row_want, row_got, word_stored, field_want, field_got, field_reply, held_before_store, row_holding, field_holding}
 use Rattle.barrier_steps.specs.Walks.{shape_length, links_to}
 use Rattle.barrier_steps.proofs.FieldRows.{barrier_shades, stores_held}
@@ -231,7 +231,8 @@ module _ (c : Config) (h : Heap) (hs : ℕ → Holding) (p : Pass) (k : Command)
       → (is_sweep (h Phase) ≡ false → CanRefer (cycle_of (h Phase)) h (target w))
       → row_holding m p (next row) ≡ holds_nothing → After (put_at h (PayloadOf x j) w) (next row)
   exchanges row x j w y is can goes =
-      subst (λ (v : Holding). PhaseKept (extent c) (put_at h (PayloadOf x j) w) (changed hs p.thread v))
+      subst (λ (v : Holding). PhaseKept (extent c) (put_at h (PayloadOf x j) w)
+      (changed hs p.thread v))
       (sym goes) (stores x j w y is can)
 
   -- a comparison, which stores where the field has the expected word

@@ -18,7 +18,7 @@ use Rattle.grey_steps.specs.Ends.{is_shading}
 use Rattle.grey_steps.specs.Rows.{grey_holding}
 use Rattle.grey_steps.specs.Rows as marking
 use Rattle.barrier_steps.specs.declared.rows.FieldRow.{FieldRow}
-use Rattle.barrier_steps.specs.declared.rows.FieldRow.TheVariants.{Shade, LoadExpected, ExchangeField, CompareField, IdleLook}
+use Rattle.barrier_steps.specs.declared.rows.FieldRow.TheVariants.{Shade, CompareField}
 use Rattle.barrier_steps.specs.Fits.{FitsAt, FieldFits}
 use Rattle.barrier_steps.specs.Rows.{FieldState, shades, row_want, field_want, row_holding, field_holding}
 use Rattle.barrier_steps.proofs.FieldRows.{barrier_shades}
@@ -64,7 +64,8 @@ module _ (c : Config) (h : Heap) where
   row_cursor : (p : Pass) (k : Command) (row : FieldRow)
       → heap_after h (row_want (extent c) p k row) Cursor ≡ h Cursor
   row_cursor p k (Shade r store) = marking_cursor h p.thread p.threads p.cycle r
-  row_cursor p k (CompareField way word) = compare_leaves h way.block _ way.expected word Cursor refl
+  row_cursor p k (CompareField way word) =
+      compare_leaves h way.block _ way.expected word Cursor refl
   row_cursor p k _ = refl
 
   -- but by the barrier no colour changes

@@ -3,7 +3,7 @@ use Rattle.std.proofs.Common.{◌<◌, ◌^◌, arith}
 use Rattle.never_heap.specs.declared.Command.{Command}
 use Rattle.never_heap.specs.declared.Command.TheVariants as commands
 use Rattle.never_heap.specs.Bounds.{IsCommandInRange}
-use Rattle.barrier_steps.specs.Operands.{to_register, from_register, other_register, number_set, expected_register, is_swap, is_cas, is_idle, takes_field, stores_in_field}
+use Rattle.barrier_steps.specs.Operands.{to_register, from_register, other_register, number_set, expected_register}
 
 pub to_low : (k : Command) → IsCommandInRange k → to_register k < 16
 to_low (commands.Set d v) h = h.0

@@ -1,6 +1,6 @@
 -- Each event of a command is one that keeps what the graph reaches, or changes nothing that those see.
 use Rattle.std.proofs.Common.{◌≡◌, ℕ, ◌<◌, ◌≤◌, Bool, true, false, cond, Option, None, Some, IfSome, List, [], ◌∷◌, ◌++◌, refl, arith, sym, ap, ◌∙◌, subst, inl, inr, eqb}
-use Rattle.std.proofs.lemmas.Bool.{cases_Bool}
+use Rattle.std.proofs.lemmas.Bool.{both_ways, cases_Bool}
 use Rattle.block_store.specs.declared.Config.{Config}
 use Rattle.block_store.specs.declared.Name.{Name}
 use Rattle.block_store.specs.Colours.{is_free}
@@ -42,7 +42,7 @@ use Rattle.barrier_steps.specs.Deciding.{refers, length_decides, is_deciding}
 use Rattle.barrier_steps.specs.Fits.{FitsAt, FieldFits, FieldReads}
 use Rattle.barrier_steps.specs.Projection.{store_loading, row_loading, row_event, after_event, event_of, IsAtRow, InHandAt, IsInHand}
 use Rattle.barrier_steps.specs.Replies.{answer, graph_after, ShownAt, Shown, reply_due, IsKnown}
-use Rattle.barrier_steps.specs.Rows.{FieldState, payload_in, shape_in, stored_word, shades, word_stored, row_want, row_got, field_want, field_got, field_reply}
+use Rattle.barrier_steps.specs.Rows.{FieldState, payload_in, shape_in, stored_word, shades, reads_beside_graph, word_stored, row_want, row_got, field_want, field_got, field_reply}
 use Rattle.barrier_steps.specs.Walks.{shape_length}
 use Rattle.barrier_steps.proofs.Dues.{row_due}
 use Rattle.barrier_steps.proofs.FieldRows.{barrier_shades}
@@ -66,7 +66,8 @@ module _ (e : Extent) (a : Name) (t : ℕ) (k : Command) where
   own_event LoadObject w = chosen (λ x. t ≡ event_thread x) (refers (payload_in w)) _ _ refl tt
   own_event (LoadShape x) w = chosen (λ x. t ≡ event_thread x)
       (length_decides k (shape_length (shape_in w))) _ _ refl refl
-  own_event (CompareField way word) w = chosen (λ x. t ≡ event_thread x) (eqb w way.expected) _ _ refl refl
+  own_event (CompareField way word) w =
+      chosen (λ x. t ≡ event_thread x) (eqb w way.expected) _ _ refl refl
   own_event LoadSaid w = chosen (λ x. t ≡ event_thread x) (refers (payload_in w)) _ _ refl tt
   own_event StoreNumber w = refl
   own_event StoreNil w = refl
@@ -203,7 +204,7 @@ module _ (c : Config) (g : Graph) (order : List HistoryItem) (h : Heap) (names :
 
   pub reads_on : IsHeld c h → field_reply f.row ≡ None → FieldReads c f w
   reads_on held going = row_reads c c.blocks (Kept now) names.at fits.blocks whole now.seen
-      k.follows h f.pass f.command f.row w fits at_row held going
+      k.follows h f.pass f.command f.row w fits at_row (λ _. held) going
 
   decided : is_deciding f.command f.row w ≡ true → MayDecide c now (entry_on g f)
   decided d = (
@@ -218,10 +219,11 @@ module _ (c : Config) (g : Graph) (order : List HistoryItem) (h : Heap) (names :
       ∙ ap (λ b. cond b g (graph_after g t f.command)) (sym (step_not_full g t f.command))
 
   -- rows that are no part of a barrier
-  module _ (plain : shades f.row ≡ false) (held : IsHeld c h) (going : field_reply f.row ≡ None) where
-    reads : FieldReads c f w
-    reads = row_reads c c.blocks (Kept now) names.at fits.blocks whole now.seen k.follows h f.pass
-        f.command f.row w fits at_row held going
+  module _ (plain : shades f.row ≡ false) (going : field_reply f.row ≡ None) where
+    reads : reads_beside_graph f.row ≡ false → FieldReads c f w
+    reads within = row_reads c c.blocks (Kept now) names.at fits.blocks whole now.seen k.follows h
+        f.pass f.command f.row w fits at_row
+        (λ beside. absurd (both_ways (reads_beside_graph f.row) within beside)) going
 
     goes : IsKept c (record now {
       seen = after_event (extent c) now.seen event;
@@ -257,7 +259,7 @@ module _ (c : Config) (g : Graph) (order : List HistoryItem) (h : Heap) (names :
     is_picture = λ i. record now {
       seen = record {
         graph = graph_is i;
-        words = words_moved c h now.seen hand.0 f.pass f.command f.row w refl at_row.loads refl i;
+        words = words_moved c h now.seen hand.0 f.pass f.command f.row w at_row i;
         loads = loads_is i;
       };
       order = order_on g order f w;
@@ -351,7 +353,7 @@ module _ (c : Config) (g : Graph) (order : List HistoryItem) (h : Heap) (names :
       go p k _ part fits sweep cycle is kept = absurd cc
 
 pub keeps_names : (c : Config) (g : Graph) (order : List HistoryItem) (h : Heap) (names : Names)
-    (tasks : ℕ → Task) (f : FieldState) → FieldFits c f → IsHeld c h → field_reply f.row ≡ None
+    (tasks : ℕ → Task) (f : FieldState) → FieldFits c f → field_reply f.row ≡ None
     → is_sweep (h Phase) ≡ f.pass.sweep → cycle_of (h Phase) ≡ f.pass.cycle
     → tasks f.pass.thread ≡ field_task (extent c) f
     → IsKept c (picture g order h names tasks)
@@ -360,10 +362,11 @@ pub keeps_names : (c : Config) (g : Graph) (order : List HistoryItem) (h : Heap)
     (heap_after h (field_want (extent c) f)) names
     (changed tasks f.pass.thread (field_task (extent c)
     (field_got (extent c) f (h (place_of (field_want (extent c) f)))))))
-keeps_names c g order h names tasks f fits held going sweep cycle is kept = elim (cases_Bool (shades f.row)) [
-  | inl part ↦ barrier_names c g order h names tasks f part fits sweep cycle is kept
-  | inr plain ↦ plain_names c g order h names tasks f fits is kept plain held going
-]
+keeps_names c g order h names tasks f fits going sweep cycle is kept = elim
+    (cases_Bool (shades f.row)) [
+      | inl part ↦ barrier_names c g order h names tasks f part fits sweep cycle is kept
+      | inr plain ↦ plain_names c g order h names tasks f fits is kept plain going
+    ]
 
 -- what is loaded is of a kept name, and its block is not Free
 value_solid : (c : Config) (s : KeptState) → IsKept c s → (t : ℕ) (v : ValueLoad) → t < c.threads
@@ -385,7 +388,11 @@ loaded_solid c g order h names tasks f fits is k = go f.row (ap (λ (x : Task). 
         → NotFree (λ x. h (ColourOf x)) (target (word_stored row))
     go (StoreMoved word) e = value_solid c (picture g order h names tasks) k f.pass.thread _ fits.thread.thread (ap (λ (l : Loading). l.value) e)
     go (StorePending word value) e = value_solid c (picture g order h names tasks) k f.pass.thread _ fits.thread.thread (ap (λ (l : Loading). l.value) e)
-    go (ExchangeField way word) e = value_solid c (picture g order h names tasks) k f.pass.thread _ fits.thread.thread (ap (λ (l : Loading). l.value) e)
-    go (CompareField way word) e = value_solid c (picture g order h names tasks) k f.pass.thread _ fits.thread.thread (ap (λ (l : Loading). l.value) e)
+    go (ExchangeField way word) e =
+        value_solid c (picture g order h names tasks) k f.pass.thread _ fits.thread.thread
+        (ap (λ (l : Loading). l.value) e)
+    go (CompareField way word) e =
+        value_solid c (picture g order h names tasks) k f.pass.thread _ fits.thread.thread
+        (ap (λ (l : Loading). l.value) e)
     go (StoreField way word) e = value_solid c (picture g order h names tasks) k f.pass.thread _ fits.thread.thread (ap (λ (l : Loading). l.value) e)
     go _ e = λ some. absurd (some target-nil)

@@ -1,5 +1,5 @@
 -- A row is its event: the words and what the thread has loaded are those after it, and it may come where it does.
-use Rattle.std.proofs.Common.{◌≡◌, ◌≢◌, ℕ, ◌+◌, ◌<◌, true, cond, Option, None, Some, IfSome, IsSome, refl, sym, ap, ◌∙◌, subst, inl, inr, ltb, eqb, eq-eqb, ltb-true}
+use Rattle.std.proofs.Common.{false, ◌≡◌, ◌≢◌, ℕ, ◌+◌, ◌<◌, true, cond, Option, None, Some, IfSome, IsSome, refl, sym, ap, ◌∙◌, subst, inl, inr, ltb, eqb, eq-eqb, ltb-true}
 use Rattle.std.proofs.lemmas.Bool.{cases_Bool, cases_eq, ne_eqb}
 use Rattle.block_store.specs.declared.Config.{Config}
 use Rattle.block_store.specs.declared.Name.{Name}
@@ -11,7 +11,7 @@ use Rattle.block_store.specs.Heaps.{Heap, put_at}
 use Rattle.block_store.specs.Payloads.{target}
 use Rattle.block_store.specs.Colours.{white_word, grey_word}
 use Rattle.block_store.specs.Places.{extent, ColourOf, PayloadOf}
-use Rattle.heap_machine.specs.Operations.{CompareExchange, place_of, heap_after}
+use Rattle.heap_machine.specs.Operations.{CompareExchange, heap_after}
 use Rattle.block_store.specs.Shapes.{shape_of}
 use Rattle.never_heap.specs.declared.Command.{Command}
 use Rattle.never_heap.specs.declared.Command.TheVariants as commands
@@ -31,10 +31,10 @@ use Rattle.barrier_steps.specs.declared.rows.FieldRow.TheVariants.{StoreNumber, 
 use Rattle.barrier_steps.specs.declared.rows.FieldStore.{FieldStore}
 use Rattle.barrier_steps.specs.declared.rows.FieldStore.TheVariants.{Moved, Pending, InField, Exchanged, Compared}
 use Rattle.barrier_steps.specs.declared.rows.Way.{Way}
-use Rattle.barrier_steps.specs.Operands.{to_register, from_register, other_register, field_index, number_set, is_put, looks_at_object, expected_register, is_swap, is_cas, is_idle, takes_field, stores_in_field}
+use Rattle.barrier_steps.specs.Operands.{to_register, from_register, other_register, field_index, number_set, looks_at_object, expected_register, is_swap, is_cas, stores_in_field}
 use Rattle.barrier_steps.specs.Walks.{shape_length, links_to, link_at, field_at, ordinal_at}
 use Rattle.barrier_steps.specs.Rows as rows
-use Rattle.barrier_steps.specs.Rows.{payload_in, shape_or_empty, shape_in, store_row, before_store, in_barrier, row_want, row_got, after_object, after_shape, after_field, after_said, at_block, on_way, way_from, way_on, way_with}
+use Rattle.barrier_steps.specs.Rows.{payload_in, shape_or_empty, shape_in, store_row, before_store, in_barrier, row_want, row_got, after_object, after_shape, after_field, after_said, at_block, on_way, way_from, way_on, way_with, reads_beside_graph}
 use Rattle.barrier_steps.specs.Fits.{IsWalk, IsThere, FitsAt, ReadsAt}
 use Rattle.barrier_steps.specs.Deciding.{refers, length_decides}
 use Rattle.barrier_steps.proofs.Named.{to_low, from_low, other_low, expected_low, number_low}
@@ -54,44 +54,71 @@ marking_words h t n cycle (greys.ShadeStored y a) = shaded_words h y (white_word
 marking_words h t n cycle _ = refl
 
 -- the words are those that the row's operation leaves
-pub words_moved : (c : Config) (h : Heap) (s : GraphState) (a : Name) (p : Pass) (k : Command) (row : FieldRow) (w : ℕ) → s.words ≡ block_words h → s.loads p.thread ≡ row_loading (extent c) k row → w ≡ h (place_of (row_want (extent c) p k row))
+pub words_moved : (c : Config) (h : Heap) (s : GraphState) (a : Name) (p : Pass) (k : Command)
+    (row : FieldRow) (w : ℕ) → IsAt (extent c) s h p k row w
     → (after_event (extent c) s (row_event (extent c) a p.thread k row w)).words ≡ block_words (heap_after h (row_want (extent c) p k row))
-words_moved c h s a p k StoreNumber w is l reads = ap (λ x. with_payload x (register_block c.width p.thread (to_register k)) (register_slot c.width (to_register k)) (value_word (λ b. 0) (values.Int (number_set k)))) is
-words_moved c h s a p k StoreNil w is l reads = ap (λ x. with_payload x (register_block c.width p.thread (to_register k)) (register_slot c.width (to_register k)) 0) is
-words_moved c h s a p k LoadMoved w is l reads = is
-words_moved c h s a p k (StoreMoved word) w is l reads =
-    ap (λ x. with_payload x (register_block c.width p.thread (to_register k)) (register_slot c.width (to_register k)) (value_at s p.thread).word) is ∙ ap (λ x. with_payload (block_words h) (register_block c.width p.thread (to_register k)) (register_slot c.width (to_register k)) (value_in x.value).word) l
-words_moved c h s a p k LoadObject w is l reads = elim (cases_Bool (refers (payload_in w))) [ inl e ↦ rw e is | inr e ↦ rw e is ]
-words_moved c h s a p k (LoadShape x) w is l reads = elim (cases_Bool (length_decides k (shape_length (shape_in w)))) [ inl e ↦ rw e is | inr e ↦ rw e is ]
-words_moved c h s a p k (LoadValue way) w is l reads = is
-words_moved c h s a p k (LoadLink way word) w is l reads = is
-words_moved c h s a p k (LoadField way) w is l reads = is
-words_moved c h s a p k (LoadOwner word) w is l reads = is
-words_moved c h s a p k (StorePending word value) w is l reads =
-    ap (λ x. with_payload x (register_block c.width p.thread (value_at s p.thread).origin) (register_slot c.width (value_at s p.thread).origin) (value_at s p.thread).word) is
-    ∙ ap (λ x. with_payload (block_words h) (register_block c.width p.thread (value_in x.value).origin) (register_slot c.width (value_in x.value).origin) (value_in x.value).word) l
-words_moved c h s a p k (StoreField way word) w is l reads =
-    ap (λ x. with_payload x (object_at s p.thread).block (field_at (extent c) way.shape (field_index k)) (value_at s p.thread).word) is
-    ∙ ap (λ x. with_payload (block_words h) (object_in x.object).block (field_at (extent c) way.shape (field_index k)) (value_in x.value).word) l
-words_moved c h s a p k (LoadExpected way) w is l reads = is
-words_moved c h s a p k (ExchangeField way word) w is l reads =
-    ap (λ x. with_payload x (object_at s p.thread).block (field_at (extent c) way.shape (field_index k)) (value_at s p.thread).word) is
-    ∙ ap (λ x. with_payload (block_words h) (object_in x.object).block (field_at (extent c) way.shape (field_index k)) (value_in x.value).word) l
-words_moved c h s a p k (CompareField way word) w is l reads = elim (cases_Bool (eqb w way.expected)) [
+words_moved c h s a p k StoreNumber w at =
+    ap (λ x. with_payload x (register_block c.width p.thread (to_register k))
+    (register_slot c.width (to_register k)) (value_word (λ b. 0) (values.Int (number_set k))))
+    at.words
+words_moved c h s a p k StoreNil w at =
+    ap (λ x. with_payload x (register_block c.width p.thread (to_register k))
+    (register_slot c.width (to_register k)) 0) at.words
+words_moved c h s a p k LoadMoved w at = at.words
+words_moved c h s a p k (StoreMoved word) w at =
+    ap (λ x. with_payload x (register_block c.width p.thread (to_register k))
+    (register_slot c.width (to_register k)) (value_at s p.thread).word) at.words
+    ∙ ap (λ x. with_payload (block_words h) (register_block c.width p.thread (to_register k))
+    (register_slot c.width (to_register k)) (value_in x.value).word) at.loads
+words_moved c h s a p k LoadObject w at =
+    elim (cases_Bool (refers (payload_in w))) [ inl e ↦ rw e at.words | inr e ↦ rw e at.words ]
+words_moved c h s a p k (LoadShape x) w at =
+    elim (cases_Bool (length_decides k (shape_length (shape_in w))))
+    [ inl e ↦ rw e at.words | inr e ↦ rw e at.words ]
+words_moved c h s a p k (LoadValue way) w at = at.words
+words_moved c h s a p k (LoadLink way word) w at = at.words
+words_moved c h s a p k (LoadField way) w at = at.words
+words_moved c h s a p k (LoadOwner word) w at = at.words
+words_moved c h s a p k (StorePending word value) w at =
+    ap (λ x. with_payload x (register_block c.width p.thread (value_at s p.thread).origin)
+    (register_slot c.width (value_at s p.thread).origin) (value_at s p.thread).word) at.words
+    ∙ ap (λ x. with_payload (block_words h)
+    (register_block c.width p.thread (value_in x.value).origin)
+    (register_slot c.width (value_in x.value).origin) (value_in x.value).word) at.loads
+words_moved c h s a p k (StoreField way word) w at =
+    ap (λ x. with_payload x (object_at s p.thread).block
+    (field_at (extent c) way.shape (field_index k)) (value_at s p.thread).word) at.words
+    ∙ ap (λ x. with_payload (block_words h) (object_in x.object).block
+    (field_at (extent c) way.shape (field_index k)) (value_in x.value).word) at.loads
+words_moved c h s a p k (LoadExpected way) w at = at.words
+words_moved c h s a p k (ExchangeField way word) w at =
+    ap (λ x. with_payload x (object_at s p.thread).block
+    (field_at (extent c) way.shape (field_index k)) (value_at s p.thread).word) at.words
+    ∙ ap (λ x. with_payload (block_words h) (object_in x.object).block
+    (field_at (extent c) way.shape (field_index k)) (value_in x.value).word) at.loads
+words_moved c h s a p k (CompareField way word) w at = elim (cases_Bool (eqb w way.expected)) [
   | inl won ↦ rw won
-      (ap (λ x. with_payload x (object_at s p.thread).block (field_at (extent c) way.shape (field_index k)) (value_at s p.thread).word) is
-      ∙ ap (λ x. with_payload (block_words h) (object_in x.object).block (field_at (extent c) way.shape (field_index k)) (value_in x.value).word) l
-      ∙ ap (λ b. block_words (cond b (put_at h (PayloadOf way.block (field_at (extent c) way.shape (field_index k))) word) h)) (sym (sym (ap (λ x. eqb x way.expected) reads) ∙ won)))
+      (ap (λ x. with_payload x (object_at s p.thread).block
+      (field_at (extent c) way.shape (field_index k)) (value_at s p.thread).word) at.words
+      ∙ ap (λ x. with_payload (block_words h) (object_in x.object).block
+      (field_at (extent c) way.shape (field_index k)) (value_in x.value).word) at.loads
+      ∙ ap (λ b. block_words
+      (cond b (put_at h (PayloadOf way.block (field_at (extent c) way.shape (field_index k))) word)
+      h)) (sym (sym (ap (λ x. eqb x way.expected) at.reads) ∙ won)))
   | inr lost ↦ rw lost
-      (is ∙ ap (λ b. block_words (cond b (put_at h (PayloadOf way.block (field_at (extent c) way.shape (field_index k))) word) h)) (sym (sym (ap (λ x. eqb x way.expected) reads) ∙ lost)))
+      (at.words ∙ ap (λ b. block_words
+      (cond b (put_at h (PayloadOf way.block (field_at (extent c) way.shape (field_index k))) word)
+      h)) (sym (sym (ap (λ x. eqb x way.expected) at.reads) ∙ lost)))
 ]
-words_moved c h s a p k IdleLook w is l reads = is
-words_moved c h s a p k (Shade r store) w is l reads = is ∙ sym (marking_words h p.thread p.threads p.cycle r)
-words_moved c h s a p k LoadFirst w is l reads = is
-words_moved c h s a p k (LoadSecond word) w is l reads = is
-words_moved c h s a p k LoadSaid w is l reads = elim (cases_Bool (refers (payload_in w))) [ inl e ↦ rw e is | inr e ↦ rw e is ]
-words_moved c h s a p k (LoadSaidOwner word) w is l reads = is
-words_moved c h s a p k (Answered reply) w is l reads = is
+words_moved c h s a p k IdleLook w at = at.words
+words_moved c h s a p k (Shade r store) w at = at.words
+    ∙ sym (marking_words h p.thread p.threads p.cycle r)
+words_moved c h s a p k LoadFirst w at = at.words
+words_moved c h s a p k (LoadSecond word) w at = at.words
+words_moved c h s a p k LoadSaid w at =
+    elim (cases_Bool (refers (payload_in w))) [ inl e ↦ rw e at.words | inr e ↦ rw e at.words ]
+words_moved c h s a p k (LoadSaidOwner word) w at = at.words
+words_moved c h s a p k (Answered reply) w at = at.words
 
 -- the parts of a load, one by one
 abbrev triple : Option ObjectLoad → Option ValueLoad → Option ValueLoad → Loading
@@ -100,7 +127,8 @@ triple o x v = record { object = o; expected = x; value = v }
 abbrev pair : Option ObjectLoad → Option ValueLoad → Loading
 pair o v = triple o None v
 
-load_is : (o p : Option ObjectLoad) (x y v u : Option ValueLoad) → o ≡ p → x ≡ y → v ≡ u → triple o x v ≡ triple p y u
+load_is : (o p : Option ObjectLoad) (x y v u : Option ValueLoad) → o ≡ p → x ≡ y → v ≡ u
+    → triple o x v ≡ triple p y u
 load_is o p x y v u e f g = ap (λ z. triple z x v) e ∙ ap (λ z. triple p z v) f ∙ ap (triple p y) g
 
 -- no load changes where the row has the same
@@ -124,13 +152,19 @@ before_loading c p k store = before_is (λ row. row_loading (extent c) k row ≡
 pub barrier_loading : (c : Config) (k : Command) (r : GreyRow) (store : FieldStore) → row_loading (extent c) k (in_barrier r store) ≡ store_loading (extent c) k store
 barrier_loading c k r store = barrier_is (λ row. row_loading (extent c) k row ≡ store_loading (extent c) k store) r store (λ _. stored_loading c k store) (λ _. refl)
 
-block_loading : (c : Config) (p : Pass) (k : Command) (way : Way) (word : ℕ) → row_loading (extent c) k (at_block p k way word) ≡ triple (object_on (extent c) k way) (expected_load k way.expected) (carried_load k word)
+block_loading : (c : Config) (p : Pass) (k : Command) (way : Way) (word : ℕ)
+    → row_loading (extent c) k (at_block p k way word)
+    ≡ triple (object_on (extent c) k way) (expected_load k way.expected) (carried_load k word)
 block_loading c p (commands.Put s i v) way word = before_loading c p (commands.Put s i v) (InField way word)
-block_loading c p (commands.Swap s i v) way word = before_loading c p (commands.Swap s i v) (Exchanged way word)
-block_loading c p (commands.Cas s i a v) way word = before_loading c p (commands.Cas s i a v) (Compared way word)
+block_loading c p (commands.Swap s i v) way word =
+    before_loading c p (commands.Swap s i v) (Exchanged way word)
+block_loading c p (commands.Cas s i a v) way word =
+    before_loading c p (commands.Cas s i a v) (Compared way word)
 block_loading c p _ way word = refl
 
-way_loading : (c : Config) (p : Pass) (k : Command) (way : Way) (word : ℕ) → row_loading (extent c) k (on_way (extent c) p k way word) ≡ triple (object_on (extent c) k way) (expected_load k way.expected) (carried_load k word)
+way_loading : (c : Config) (p : Pass) (k : Command) (way : Way) (word : ℕ)
+    → row_loading (extent c) k (on_way (extent c) p k way word)
+    ≡ triple (object_on (extent c) k way) (expected_load k way.expected) (carried_load k word)
 way_loading c p k way word = elim (cases_Bool (ltb way.level (links_to (extent c) way.shape (field_index k)))) [
   | inl is ↦ rw is refl
   | inr is ↦ rw is (block_loading c p k way word)
@@ -146,20 +180,34 @@ pub payload_read : (s : GraphState) (h : Heap) (x j w : ℕ) → s.words ≡ blo
 payload_read s h x j w is reads = ap (λ b. b.payload x j) is ∙ sym reads
 
 -- a value that is read beside an object
-value_moved : (c : Config) (s : GraphState) (t r w u : ℕ) (o : Option ObjectLoad) (x : Option ValueLoad) (l : Loading) → (s.loads t).object ≡ o → (s.loads t).expected ≡ x → register_word_in c.width s.words t r ≡ w → l ≡ triple o x (value_load r w)
+value_moved : (c : Config) (s : GraphState) (t r w u : ℕ) (o : Option ObjectLoad)
+    (x : Option ValueLoad) (l : Loading) → (s.loads t).object ≡ o → (s.loads t).expected ≡ x
+    → register_word_in c.width s.words t r ≡ w → l ≡ triple o x (value_load r w)
     → (apply c.width s (events.ReadValue t r)).loads u ≡ with_load s.loads t l u
 value_moved c s t r w u o x l object expected word is =
-    ap (λ y. with_load s.loads t y u) (load_is (s.loads t).object o (s.loads t).expected x (value_load r (register_word_in c.width s.words t r)) (value_load r w) object expected (ap (value_load r) word) ∙ sym is)
+    ap (λ y. with_load s.loads t y u)
+    (load_is (s.loads t).object o (s.loads t).expected x
+    (value_load r (register_word_in c.width s.words t r)) (value_load r w) object expected
+    (ap (value_load r) word) ∙ sym is)
 
-expected_moved : (c : Config) (s : GraphState) (t r w u : ℕ) (o : Option ObjectLoad) (l : Loading) → (s.loads t).object ≡ o → (s.loads t).value ≡ None → register_word_in c.width s.words t r ≡ w → l ≡ triple o (value_load r w) None
+expected_moved : (c : Config) (s : GraphState) (t r w u : ℕ) (o : Option ObjectLoad) (l : Loading)
+    → (s.loads t).object ≡ o → (s.loads t).value ≡ None → register_word_in c.width s.words t r ≡ w
+    → l ≡ triple o (value_load r w) None
     → (apply c.width s (events.ReadExpected t r)).loads u ≡ with_load s.loads t l u
 expected_moved c s t r w u o l object value word is =
-    ap (λ y. with_load s.loads t y u) (load_is (s.loads t).object o (value_load r (register_word_in c.width s.words t r)) (value_load r w) (s.loads t).value None object (ap (value_load r) word) value ∙ sym is)
+    ap (λ y. with_load s.loads t y u)
+    (load_is (s.loads t).object o (value_load r (register_word_in c.width s.words t r))
+    (value_load r w) (s.loads t).value None object (ap (value_load r) word) value ∙ sym is)
 
-object_moved : (c : Config) (s : GraphState) (t r x u : ℕ) → s.loads t ≡ unloaded → target (register_word_in c.width s.words t r) ≡ x
-    → (apply c.width s (events.ReadObject t r)).loads u ≡ with_load s.loads t (pair (object_load r x) None) u
+object_moved : (c : Config) (s : GraphState) (t r x u : ℕ) → s.loads t ≡ unloaded
+    → target (register_word_in c.width s.words t r) ≡ x
+    → (apply c.width s (events.ReadObject t r)).loads u
+    ≡ with_load s.loads t (pair (object_load r x) None) u
 object_moved c s t r x u none block =
-    ap (λ y. with_load s.loads t y u) (load_is (object_load r (target (register_word_in c.width s.words t r))) (object_load r x) (s.loads t).expected None (s.loads t).value None (ap (object_load r) block) (ap (λ y. y.expected) none) (ap (λ y. y.value) none))
+    ap (λ y. with_load s.loads t y u)
+    (load_is (object_load r (target (register_word_in c.width s.words t r))) (object_load r x)
+    (s.loads t).expected None (s.loads t).value None (ap (object_load r) block)
+    (ap (λ y. y.expected) none) (ap (λ y. y.value) none))
 
 shape_moved : (c : Config) (s : GraphState) (t r x u i : ℕ) (f : Shape) (l : Loading) → s.loads t ≡ pair (object_load r x) None → i < shape_length f
     → l ≡ pair (walk_load (extent c) r i (way_from f x)) None → (apply c.width s (events.ReadShape t f)).loads u ≡ with_load s.loads t l u
@@ -167,7 +215,9 @@ shape_moved c s t r x u i f l loads within is =
     let start : ordinal_at (extent c) f i 0 ≡ 0 = (way_is c f i within).starts in
     let object : Some (record (object_at s t) { shape = Some f }) ≡ walk_load (extent c) r i (way_from f x) =
     ap (λ y. Some (record (object_in y.object) { shape = Some f })) loads ∙ ap (λ o. Some (record { source = r; block = x; ordinal = o; shape = Some f })) (sym start) in
-    ap (λ y. with_load s.loads t y u) (load_is _ (walk_load (extent c) r i (way_from f x)) (s.loads t).expected None (s.loads t).value None object (ap (λ y. y.expected) loads) (ap (λ y. y.value) loads) ∙ sym is)
+    ap (λ y. with_load s.loads t y u)
+    (load_is _ (walk_load (extent c) r i (way_from f x)) (s.loads t).expected None (s.loads t).value
+    None object (ap (λ y. y.expected) loads) (ap (λ y. y.value) loads) ∙ sym is)
 
 shape_case : (c : Config) (p : Pass) (s : GraphState) (t x u : ℕ) (k : Command) (f : Shape) → looks_at_object k ≡ true → s.loads t ≡ pair (object_load (from_register k) x) None
     → (after_event (extent c) s (cond (length_decides k (shape_length f)) (Some (events.Finish t)) (Some (events.ReadShape t f)))).loads u ≡ with_load s.loads t (row_loading (extent c) k (after_shape (extent c) p k x f)) u
@@ -179,19 +229,29 @@ shape_case c p s t x u (commands.Put r i v) f looks loads = elim (cases_Bool (lt
   | inl is ↦ rw is (shape_moved c s t r x u i f (row_loading (extent c) (commands.Put r i v) (LoadValue (way_from f x))) loads (ltb-true i (shape_length f) is) refl)
   | inr is ↦ rw is refl
 ]
-shape_case c p s t x u (commands.Swap r i v) f looks loads = elim (cases_Bool (ltb i (shape_length f))) [
-  | inl is ↦ rw is (shape_moved c s t r x u i f (row_loading (extent c) (commands.Swap r i v) (LoadValue (way_from f x))) loads (ltb-true i (shape_length f) is) refl)
-  | inr is ↦ rw is refl
-]
-shape_case c p s t x u (commands.Cas r i q v) f looks loads = elim (cases_Bool (ltb i (shape_length f))) [
-  | inl is ↦ rw is (shape_moved c s t r x u i f (row_loading (extent c) (commands.Cas r i q v) (LoadExpected (way_from f x))) loads (ltb-true i (shape_length f) is) refl)
-  | inr is ↦ rw is refl
-]
+shape_case c p s t x u (commands.Swap r i v) f looks loads =
+    elim (cases_Bool (ltb i (shape_length f))) [
+      | inl is ↦ rw is
+          (shape_moved c s t r x u i f
+          (row_loading (extent c) (commands.Swap r i v) (LoadValue (way_from f x))) loads
+          (ltb-true i (shape_length f) is) refl)
+      | inr is ↦ rw is refl
+    ]
+shape_case c p s t x u (commands.Cas r i q v) f looks loads =
+    elim (cases_Bool (ltb i (shape_length f))) [
+      | inl is ↦ rw is
+          (shape_moved c s t r x u i f
+          (row_loading (extent c) (commands.Cas r i q v) (LoadExpected (way_from f x))) loads
+          (ltb-true i (shape_length f) is) refl)
+      | inr is ↦ rw is refl
+    ]
 shape_case c p s t x u (commands.Len r) f looks loads = refl
 shape_case c p s t x u _ f looks loads = absurd cc
 
 -- after a link the thread is at the next block of the way
-link_moved : (c : Config) (p : Pass) (s : GraphState) (t w u : ℕ) (k : Command) (way : Way) (word : ℕ) → s.loads t ≡ triple (object_on (extent c) k way) (expected_load k way.expected) (carried_load k word)
+link_moved : (c : Config) (p : Pass) (s : GraphState) (t w u : ℕ) (k : Command) (way : Way)
+    (word : ℕ) → s.loads t
+    ≡ triple (object_on (extent c) k way) (expected_load k way.expected) (carried_load k word)
     → s.words.payload (object_at s t).block (link_at (extent c) way.shape (field_index k) way.level) ≡ w
     → (apply c.width s (events.ReadLink t (link_at (extent c) way.shape (field_index k) way.level) (ordinal_at (extent c) way.shape (field_index k) (way.level + 1)))).loads u
     ≡ with_load s.loads t (row_loading (extent c) k (on_way (extent c) p k (way_on way (target w)) word)) u
@@ -200,17 +260,23 @@ link_moved c p s t w u k way word loads read =
     let object : Some (record (object_at s t) { block = target (s.words.payload (object_at s t).block (link_at (extent c) way.shape (field_index k) way.level)); ordinal = next }) ≡ object_on (extent c) k (way_on way (target w)) =
     ap (λ x. Some (record (object_at s t) { block = target x; ordinal = next })) read
     ∙ ap (λ y. Some (record (object_in y.object) { block = target w; ordinal = next })) loads in
-    ap (λ y. with_load s.loads t y u) (load_is _ (object_on (extent c) k (way_on way (target w))) (s.loads t).expected (expected_load k way.expected) (s.loads t).value (carried_load k word) object (ap (λ y. y.expected) loads) (ap (λ y. y.value) loads) ∙ sym (way_loading c p k (way_on way (target w)) word))
+    ap (λ y. with_load s.loads t y u)
+    (load_is _ (object_on (extent c) k (way_on way (target w))) (s.loads t).expected
+    (expected_load k way.expected) (s.loads t).value (carried_load k word) object
+    (ap (λ y. y.expected) loads) (ap (λ y. y.value) loads)
+    ∙ sym (way_loading c p k (way_on way (target w)) word))
 
 -- what a command that stores in a field has loaded is its value, and what `cas` has loaded is the
 -- one with which it compares
-stores_carries : (k : Command) (w : ℕ) → stores_in_field k ≡ true → carried_load k w ≡ value_load (other_register k) w
+stores_carries : (k : Command) (w : ℕ) → stores_in_field k ≡ true
+    → carried_load k w ≡ value_load (other_register k) w
 stores_carries (commands.Put s i v) w is = refl
 stores_carries (commands.Swap s i v) w is = refl
 stores_carries (commands.Cas s i a v) w is = refl
 stores_carries _ w is = absurd cc
 
-pub cas_expects : (k : Command) (w : ℕ) → is_cas k ≡ true → expected_load k w ≡ value_load (expected_register k) w
+pub cas_expects : (k : Command) (w : ℕ) → is_cas k ≡ true
+    → expected_load k w ≡ value_load (expected_register k) w
 cas_expects (commands.Cas s i a v) w is = refl
 cas_expects _ w is = absurd cc
 
@@ -220,24 +286,37 @@ swap_register (commands.Swap s i v) is = refl
 swap_register _ is = absurd cc
 
 -- what the thread has loaded is what its next row has loaded
-pub loads_moved : (c : Config) (h : Heap) (s : GraphState) (a : Name) (p : Pass) (k : Command) (row : FieldRow) (w : ℕ) → FitsAt c p k row → ReadsAt c p k row w → IsAt (extent c) s h p k row w
+pub loads_moved : (c : Config) (h : Heap) (s : GraphState) (a : Name) (p : Pass) (k : Command)
+    (row : FieldRow) (w : ℕ) → FitsAt c p k row
+    → (reads_beside_graph row ≡ false → ReadsAt c p k row w) → IsAt (extent c) s h p k row w
     → (u : ℕ) → (after_event (extent c) s (row_event (extent c) a p.thread k row w)).loads u ≡ with_load s.loads p.thread (row_loading (extent c) k (row_got (extent c) p k row w)) u
 loads_moved c h s a p k StoreNumber w fits reads at u = refl
 loads_moved c h s a p k StoreNil w fits reads at u = refl
 loads_moved c h s a p k LoadMoved w fits reads at u =
-    value_moved c s p.thread (from_register k) w u None None (row_loading (extent c) k (before_store p (Moved w))) (ap (λ x. x.object) at.loads) (ap (λ x. x.expected) at.loads) (payload_read s h _ _ w at.words at.reads) (before_loading c p k (Moved w))
+    value_moved c s p.thread (from_register k) w u None None
+    (row_loading (extent c) k (before_store p (Moved w))) (ap (λ x. x.object) at.loads)
+    (ap (λ x. x.expected) at.loads) (payload_read s h _ _ w at.words at.reads)
+    (before_loading c p k (Moved w))
 loads_moved c h s a p k (StoreMoved word) w fits reads at u = refl
 loads_moved c h s a p k LoadObject w fits reads at u =
-    payload_cases w reads.0.0
+    payload_cases w (reads refl).0.0
     (λ q. (after_event (extent c) s (cond (refers q) (Some (events.ReadObject p.thread (from_register k))) None)).loads u ≡ with_load s.loads p.thread (row_loading (extent c) k (after_object q)) u)
     (unmoved s.loads p.thread unloaded u at.loads) (λ v low. unmoved s.loads p.thread unloaded u at.loads)
-    (λ x is some. object_moved c s p.thread (from_register k) x u at.loads (ap target (payload_read s h _ _ w at.words at.reads) ∙ sym is))
+    (λ x is some. object_moved c s p.thread (from_register k) x u at.loads
+    (ap target (payload_read s h _ _ w at.words at.reads) ∙ sym is))
 loads_moved c h s a p k (LoadShape x) w fits reads at u = shape_case c p s p.thread x u k (shape_in w) fits.belongs at.loads
 loads_moved c h s a p k (LoadValue way) w fits reads at u =
-    value_moved c s p.thread (other_register k) w u (object_on (extent c) k way) (expected_load k way.expected) (row_loading (extent c) k (on_way (extent c) p k way w)) (ap (λ x. x.object) at.loads) (ap (λ x. x.expected) at.loads) (payload_read s h _ _ w at.words at.reads)
-    (way_loading c p k way w ∙ ap (triple (object_on (extent c) k way) (expected_load k way.expected)) (stores_carries k w fits.belongs))
+    value_moved c s p.thread (other_register k) w u (object_on (extent c) k way)
+    (expected_load k way.expected) (row_loading (extent c) k (on_way (extent c) p k way w))
+    (ap (λ x. x.object) at.loads) (ap (λ x. x.expected) at.loads)
+    (payload_read s h _ _ w at.words at.reads)
+    (way_loading c p k way w
+    ∙ ap (triple (object_on (extent c) k way) (expected_load k way.expected))
+    (stores_carries k w fits.belongs))
 loads_moved c h s a p k (LoadExpected way) w fits reads at u =
-    expected_moved c s p.thread (expected_register k) w u (object_on (extent c) k way) (row_loading (extent c) k (LoadValue (way_with way w))) (ap (λ x. x.object) at.loads) (ap (λ x. x.value) at.loads) (payload_read s h _ _ w at.words at.reads)
+    expected_moved c s p.thread (expected_register k) w u (object_on (extent c) k way)
+    (row_loading (extent c) k (LoadValue (way_with way w))) (ap (λ x. x.object) at.loads)
+    (ap (λ x. x.value) at.loads) (payload_read s h _ _ w at.words at.reads)
     (ap (λ x. triple (object_on (extent c) k way) x None) (cas_expects k w fits.belongs))
 loads_moved c h s a p k (LoadLink way word) w fits reads at u =
     let block : (object_at s p.thread).block ≡ way.block = ap (λ y. (object_in y.object).block) at.loads in
@@ -255,27 +334,39 @@ loads_moved c h s a p k (LoadOwner word) w fits reads at u =
 loads_moved c h s a p k (StorePending word value) w fits reads at u = refl
 loads_moved c h s a p k (StoreField way word) w fits reads at u = refl
 loads_moved c h s a p k (ExchangeField way word) w fits reads at u =
-    let block : (object_at s p.thread).block ≡ way.block = ap (λ y. (object_in y.object).block) at.loads in
-    let origin : (value_at s p.thread).origin ≡ to_register k = ap (λ y. (value_in y.value).origin) at.loads ∙ swap_register k fits.belongs in
-    let read : s.words.payload (object_at s p.thread).block (field_at (extent c) way.shape (field_index k)) ≡ w =
-    ap (λ x. s.words.payload x (field_at (extent c) way.shape (field_index k))) block ∙ payload_read s h _ _ w at.words at.reads in
-    ap (λ l. with_load s.loads p.thread l u) (ap (λ x. pair None (pending_load x (s.words.payload (object_at s p.thread).block (field_at (extent c) way.shape (field_index k))))) origin
-    ∙ ap (λ x. pair None (pending_load (to_register k) x)) read ∙ sym (field_loading c k w (payload_in w)))
-loads_moved c h s a p k (CompareField way word) w fits reads at u = elim (cases_Bool (eqb w way.expected)) [
-  | inl won ↦ rw won refl
-  | inr lost ↦ rw lost refl
-]
+    let block : (object_at s p.thread).block ≡ way.block =
+    ap (λ y. (object_in y.object).block) at.loads in
+    let origin : (value_at s p.thread).origin ≡ to_register k =
+    ap (λ y. (value_in y.value).origin) at.loads ∙ swap_register k fits.belongs in
+    let read : s.words.payload (object_at s p.thread).block
+    (field_at (extent c) way.shape (field_index k)) ≡ w =
+    ap (λ x. s.words.payload x (field_at (extent c) way.shape (field_index k))) block
+    ∙ payload_read s h _ _ w at.words at.reads in
+    ap (λ l. with_load s.loads p.thread l u)
+    (ap (λ x. pair None (pending_load x (s.words.payload (object_at s p.thread).block
+    (field_at (extent c) way.shape (field_index k))))) origin
+    ∙ ap (λ x. pair None (pending_load (to_register k) x)) read
+    ∙ sym (field_loading c k w (payload_in w)))
+loads_moved c h s a p k (CompareField way word) w fits reads at u =
+    elim (cases_Bool (eqb w way.expected)) [
+      | inl won ↦ rw won refl
+      | inr lost ↦ rw lost refl
+    ]
 loads_moved c h s a p k (Shade r store) w fits reads at u =
     let next : FieldRow = row_got (extent c) p k (Shade r store) w in
     unmoved s.loads p.thread (row_loading (extent c) k next) u (at.loads ∙ sym (barrier_loading c k _ store))
 loads_moved c h s a p k LoadFirst w fits reads at u =
-    value_moved c s p.thread (from_register k) w u None None (row_loading (extent c) k (LoadSecond w)) (ap (λ x. x.object) at.loads) (ap (λ x. x.expected) at.loads) (payload_read s h _ _ w at.words at.reads) refl
+    value_moved c s p.thread (from_register k) w u None None
+    (row_loading (extent c) k (LoadSecond w)) (ap (λ x. x.object) at.loads)
+    (ap (λ x. x.expected) at.loads) (payload_read s h _ _ w at.words at.reads) refl
 loads_moved c h s a p k (LoadSecond word) w fits reads at u = refl
 loads_moved c h s a p k LoadSaid w fits reads at u =
-    payload_cases w reads.0.0
+    payload_cases w (reads refl).0.0
     (λ q. (after_event (extent c) s (cond (refers q) (Some (events.ReadValue p.thread (from_register k))) None)).loads u ≡ with_load s.loads p.thread (row_loading (extent c) k (after_said w q)) u)
     (unmoved s.loads p.thread unloaded u at.loads) (λ v low. unmoved s.loads p.thread unloaded u at.loads)
-    (λ x is some. value_moved c s p.thread (from_register k) w u None None (row_loading (extent c) k (LoadSaidOwner w)) (ap (λ y. y.object) at.loads) (ap (λ y. y.expected) at.loads) (payload_read s h _ _ w at.words at.reads) refl)
+    (λ x is some. value_moved c s p.thread (from_register k) w u None None
+    (row_loading (extent c) k (LoadSaidOwner w)) (ap (λ y. y.object) at.loads)
+    (ap (λ y. y.expected) at.loads) (payload_read s h _ _ w at.words at.reads) refl)
 loads_moved c h s a p k (LoadSaidOwner word) w fits reads at u = refl
 loads_moved c h s a p k IdleLook w fits reads at u = refl
 loads_moved c h s a p k (Answered reply) w fits reads at u = unmoved s.loads p.thread unloaded u at.loads
@@ -327,7 +418,10 @@ prompt : (s : GraphState) (t : ℕ) (l : Loading) → s.loads t ≡ l → IsProm
 prompt s t l e h = ap (λ x. (value_in x.value).pending) e ∙ h
 
 -- the event of a row may come
-pub row_guarded : (c : Config) (h : Heap) (s : GraphState) (a : Name) (p : Pass) (k : Command) (row : FieldRow) (w : ℕ) → FitsAt c p k row → ReadsAt c p k row w → IsAt (extent c) s h p k row w → InHandAt s a p.thread k row
+pub row_guarded : (c : Config) (h : Heap) (s : GraphState) (a : Name) (p : Pass) (k : Command)
+    (row : FieldRow) (w : ℕ) → FitsAt c p k row
+    → (reads_beside_graph row ≡ false → ReadsAt c p k row w) → IsAt (extent c) s h p k row w
+    → InHandAt s a p.thread k row
     → IfSome (row_event (extent c) a p.thread k row w) (Guard c.width c.threads s)
 row_guarded c h s a p k StoreNumber w fits reads at hand = (fits.thread.thread, to_low k fits.command, prompt s p.thread unloaded at.loads refl, number_low k fits.command)
 row_guarded c h s a p k StoreNil w fits reads at hand = (fits.thread.thread, to_low k fits.command, prompt s p.thread unloaded at.loads refl, tt)
@@ -336,18 +430,25 @@ row_guarded c h s a p k (StoreMoved word) w fits reads at hand =
     (fits.thread.thread, to_low k fits.command, prompt s p.thread (row_loading (extent c) k (StoreMoved word)) at.loads refl, has_value s p.thread (value_in (value_load (from_register k) word)) (ap (λ l. l.value) at.loads))
 row_guarded c h s a p k LoadObject w fits reads at hand =
     let word : register_word_in c.width s.words p.thread (from_register k) ≡ w = payload_read s h _ _ w at.words at.reads in
-    payload_cases w reads.0.0 (λ q. IfSome (cond (refers q) (Some (events.ReadObject p.thread (from_register k))) None) (Guard c.width c.threads s)) tt (λ v low. tt)
+    payload_cases w (reads refl).0.0
+    (λ q. IfSome (cond (refers q) (Some (events.ReadObject p.thread (from_register k))) None)
+    (Guard c.width c.threads s)) tt (λ v low. tt)
     (λ x is some. (fits.thread.thread, from_low k fits.command, prompt s p.thread unloaded at.loads refl, subst (λ y. target y ≢ 0) (sym word) (reference x w is some)))
 row_guarded c h s a p k (LoadShape x) w fits reads at hand =
     let load : object_at s p.thread ≡ object_in (object_load (from_register k) x) = ap (λ l. object_in l.object) at.loads in
     let word : s.words.shape (object_at s p.thread).block ≡ w = ap (λ o. s.words.shape o.block) load ∙ ap (λ b. b.shape x) at.words ∙ sym at.reads in
-    let shape : shape_of (s.words.shape (object_at s p.thread).block) ≡ Some (shape_in w) = ap shape_of word ∙ shape_read w reads.0 in
+    let shape : shape_of (s.words.shape (object_at s p.thread).block) ≡ Some (shape_in w) =
+    ap shape_of word ∙ shape_read w (reads refl).0 in
     elim (cases_Bool (length_decides k (shape_length (shape_in w)))) [
       | inl is ↦ rw is (fits.thread.thread, prompt s p.thread (row_loading (extent c) k (LoadShape x)) at.loads refl)
       | inr is ↦ rw is (fits.thread.thread, has_object s p.thread (object_in (object_load (from_register k) x)) (ap (λ l. l.object) at.loads), shape)
     ]
 row_guarded c h s a p k (LoadValue way) w fits reads at hand = (fits.thread.thread, other_low k fits.command, prompt s p.thread (row_loading (extent c) k (LoadValue way)) at.loads refl)
-row_guarded c h s a p k (LoadExpected way) w fits reads at hand = (fits.thread.thread, expected_low k fits.command, prompt s p.thread (row_loading (extent c) k (LoadExpected way)) at.loads refl)
+row_guarded c h s a p k (LoadExpected way) w fits reads at hand = (
+  fits.thread.thread,
+  expected_low k fits.command,
+  prompt s p.thread (row_loading (extent c) k (LoadExpected way)) at.loads refl,
+)
 row_guarded c h s a p k (LoadLink way word) w fits reads at hand = (fits.thread.thread, at_link c s p.thread (from_register k) (field_index k) way (ap (λ l. l.object) at.loads) fits.row.0 fits.row.1)
 row_guarded c h s a p k (LoadField way) w fits reads at hand =
     (fits.thread.thread, to_low k fits.command, prompt s p.thread (row_loading (extent c) k (LoadField way)) at.loads refl, at_field c s p.thread (from_register k) (field_index k) way a (ap (λ l. l.object) at.loads) fits.row.0 fits.row.1 hand)
@@ -364,23 +465,33 @@ row_guarded c h s a p k (ExchangeField way word) w fits reads at hand = (
   fits.thread.thread,
   prompt s p.thread (row_loading (extent c) k (ExchangeField way word)) at.loads refl,
   has_value s p.thread (value_in (value_load (other_register k) word)) (ap (λ l. l.value) at.loads),
-  at_field c s p.thread (from_register k) (field_index k) way a (ap (λ l. l.object) at.loads) fits.row.0 fits.row.1 hand,
+  at_field c s p.thread (from_register k) (field_index k) way a (ap (λ l. l.object) at.loads)
+      fits.row.0 fits.row.1 hand,
 )
-row_guarded c h s a p k (CompareField way word) w fits reads at hand = elim (cases_Bool (eqb w way.expected)) [
-  | inl won ↦ rw won (
-    fits.thread.thread,
-    prompt s p.thread (row_loading (extent c) k (CompareField way word)) at.loads refl,
-    has_value s p.thread (value_in (value_load (other_register k) word)) (ap (λ l. l.value) at.loads),
-    at_field c s p.thread (from_register k) (field_index k) way a (ap (λ l. l.object) at.loads) fits.row.0 fits.row.1 hand,
-  )
-  | inr lost ↦ rw lost (fits.thread.thread, prompt s p.thread (row_loading (extent c) k (CompareField way word)) at.loads refl)
-]
+row_guarded c h s a p k (CompareField way word) w fits reads at hand =
+    elim (cases_Bool (eqb w way.expected)) [
+      | inl won ↦ rw won (
+        fits.thread.thread,
+        prompt s p.thread (row_loading (extent c) k (CompareField way word)) at.loads refl,
+        has_value s p.thread (value_in (value_load (other_register k) word))
+            (ap (λ l. l.value) at.loads),
+        at_field c s p.thread (from_register k) (field_index k) way a (ap (λ l. l.object) at.loads)
+            fits.row.0 fits.row.1 hand,
+      )
+      | inr lost ↦ rw lost (
+        fits.thread.thread,
+        prompt s p.thread (row_loading (extent c) k (CompareField way word)) at.loads refl,
+      )
+    ]
 row_guarded c h s a p k (Shade r store) w fits reads at hand = tt
 row_guarded c h s a p k LoadFirst w fits reads at hand = (fits.thread.thread, from_low k fits.command, prompt s p.thread unloaded at.loads refl)
 row_guarded c h s a p k (LoadSecond word) w fits reads at hand = (fits.thread.thread, prompt s p.thread (row_loading (extent c) k (LoadSecond word)) at.loads refl)
 row_guarded c h s a p k LoadSaid w fits reads at hand =
-    payload_cases w reads.0.0 (λ q. IfSome (cond (refers q) (Some (events.ReadValue p.thread (from_register k))) None) (Guard c.width c.threads s)) tt (λ v low. tt)
+    payload_cases w (reads refl).0.0
+    (λ q. IfSome (cond (refers q) (Some (events.ReadValue p.thread (from_register k))) None)
+    (Guard c.width c.threads s)) tt (λ v low. tt)
     (λ x is some. (fits.thread.thread, from_low k fits.command, prompt s p.thread unloaded at.loads refl))
 row_guarded c h s a p k (LoadSaidOwner word) w fits reads at hand = (fits.thread.thread, prompt s p.thread (row_loading (extent c) k (LoadSaidOwner word)) at.loads refl)
-row_guarded c h s a p k IdleLook w fits reads at hand = (fits.thread.thread, prompt s p.thread unloaded at.loads refl)
+row_guarded c h s a p k IdleLook w fits reads at hand =
+    (fits.thread.thread, prompt s p.thread unloaded at.loads refl)
 row_guarded c h s a p k (Answered reply) w fits reads at hand = tt

@@ -21,9 +21,9 @@ use Rattle.shown_graph.specs.Layouts.{kind_shape}
 use Rattle.shown_graph.specs.Read.{value_payload}
 use Rattle.heap_machine.specs.declared.pass.Pass.{Pass}
 use Rattle.barrier_steps.specs.declared.rows.FieldRow.{FieldRow}
-use Rattle.barrier_steps.specs.declared.rows.FieldRow.TheVariants.{StoreNumber, StoreNil, StoreMoved, LoadObject, LoadShape, LoadField, LoadOwner, StorePending, StoreField, Shade, LoadSecond, LoadSaid, LoadSaidOwner, Answered, LoadExpected, ExchangeField, CompareField, IdleLook}
+use Rattle.barrier_steps.specs.declared.rows.FieldRow.TheVariants.{StoreNumber, StoreNil, StoreMoved, LoadObject, LoadShape, LoadField, LoadOwner, StorePending, StoreField, Shade, LoadSecond, LoadSaid, LoadSaidOwner, Answered, ExchangeField, CompareField, IdleLook}
 use Rattle.barrier_steps.specs.declared.rows.FieldStore.TheVariants.{Pending}
-use Rattle.barrier_steps.specs.Operands.{from_register, other_register, field_index, is_set, is_nil, is_mov, is_get, is_put, looks_at_object, is_same, is_say, expected_register, is_swap, is_cas, is_idle, takes_field, stores_in_field}
+use Rattle.barrier_steps.specs.Operands.{from_register, other_register, field_index, is_set, is_nil, is_mov, is_get, is_put, looks_at_object, is_same, is_say, expected_register, is_swap, is_cas, is_idle}
 use Rattle.barrier_steps.specs.Walks.{shape_length}
 use Rattle.barrier_steps.specs.Rows.{payload_or_nil, payload_in, shape_or_empty, shape_in, object_or_nil, object_in, row_got, field_reply, after_object, after_shape, after_field, after_said}
 use Rattle.barrier_steps.specs.Fits.{is_row_of}
@@ -72,9 +72,11 @@ object_promised head g t w (commands.Get d s i) is h n =
 object_promised head g t w (commands.Put s i v) is h n =
     refused head w (register_of g t s) _ h n (λ e. null_field g (register_of g t s) i _ e) (λ k e. kind_field g (register_of g t s) i _ k e)
 object_promised head g t w (commands.Swap s i v) is h n =
-    refused head w (register_of g t s) _ h n (λ e. null_field g (register_of g t s) i _ e) (λ k e. kind_field g (register_of g t s) i _ k e)
+    refused head w (register_of g t s) _ h n (λ e. null_field g (register_of g t s) i _ e)
+    (λ k e. kind_field g (register_of g t s) i _ k e)
 object_promised head g t w (commands.Cas s i a v) is h n =
-    refused head w (register_of g t s) _ h n (λ e. null_field g (register_of g t s) i _ e) (λ k e. kind_field g (register_of g t s) i _ k e)
+    refused head w (register_of g t s) _ h n (λ e. null_field g (register_of g t s) i _ e)
+    (λ k e. kind_field g (register_of g t s) i _ k e)
 object_promised head g t w (commands.Len s) is h n =
     refused head w (register_of g t s) _ h n (λ e. null_object g (register_of g t s) _ e) (λ k e. kind_object g (register_of g t s) _ k e)
 object_promised head g t w _ is h n = absurd cc
@@ -102,12 +104,18 @@ shape_promised c p head g t x w (commands.Put s i v) is h n =
     subst (λ row. Promises head row (answer g t (commands.Put s i v))) (sym (range_row i (shape_length (shape_in w)) _ n)) (out_field g (register_of g t s) h.name i _ h.refers range)
 shape_promised c p head g t x w (commands.Swap s i v) is h n =
     let long = shown_length g t s w h in
-    let range : ltb i (length (object_of g h.name).fields) ≡ false = ap (ltb i) (sym long) ∙ is_false (ltb i (shape_length (shape_in w))) n in
-    subst (λ row. Promises head row (answer g t (commands.Swap s i v))) (sym (range_row i (shape_length (shape_in w)) _ n)) (out_field g (register_of g t s) h.name i _ h.refers range)
+    let range : ltb i (length (object_of g h.name).fields) ≡ false = ap (ltb i) (sym long)
+    ∙ is_false (ltb i (shape_length (shape_in w))) n in
+    subst (λ row. Promises head row (answer g t (commands.Swap s i v)))
+    (sym (range_row i (shape_length (shape_in w)) _ n))
+    (out_field g (register_of g t s) h.name i _ h.refers range)
 shape_promised c p head g t x w (commands.Cas s i a v) is h n =
     let long = shown_length g t s w h in
-    let range : ltb i (length (object_of g h.name).fields) ≡ false = ap (ltb i) (sym long) ∙ is_false (ltb i (shape_length (shape_in w))) n in
-    subst (λ row. Promises head row (answer g t (commands.Cas s i a v))) (sym (range_row i (shape_length (shape_in w)) _ n)) (out_field g (register_of g t s) h.name i _ h.refers range)
+    let range : ltb i (length (object_of g h.name).fields) ≡ false = ap (ltb i) (sym long)
+    ∙ is_false (ltb i (shape_length (shape_in w))) n in
+    subst (λ row. Promises head row (answer g t (commands.Cas s i a v)))
+    (sym (range_row i (shape_length (shape_in w)) _ n))
+    (out_field g (register_of g t s) h.name i _ h.refers range)
 shape_promised c p head g t x w (commands.Len s) is h n =
     ap replies.Len (shown_length g t s w h) ∙ sym (in_object g (register_of g t s) h.name _ h.refers)
 shape_promised c p head g t x w _ is h n = absurd cc
@@ -184,23 +192,31 @@ pub get_answers : (g : Graph) (t : ℕ) (k : Command) (a : Name) → is_get k �
 get_answers g t (commands.Get d s i) a is refers within = in_field g (register_of g t s) a i _ refers within
 get_answers g t _ a is refers within = absurd cc
 
-pub swap_answers : (g : Graph) (t : ℕ) (k : Command) (a : Name) → is_swap k ≡ true → register_of g t (from_register k) ≡ values.Ref a → field_index k < length (object_of g a).fields → answer g t k ≡ replies.Val (field_of (object_of g a) (field_index k))
-swap_answers g t (commands.Swap s i v) a is refers within = in_field g (register_of g t s) a i _ refers within
+pub swap_answers : (g : Graph) (t : ℕ) (k : Command) (a : Name) → is_swap k ≡ true
+    → register_of g t (from_register k) ≡ values.Ref a
+    → field_index k < length (object_of g a).fields
+    → answer g t k ≡ replies.Val (field_of (object_of g a) (field_index k))
+swap_answers g t (commands.Swap s i v) a is refers within =
+    in_field g (register_of g t s) a i _ refers within
 swap_answers g t _ a is refers within = absurd cc
 
 -- what a comparison answers
-won_or_lost : (g h : Graph) (b : Bool) → (cond {A = Graph × Reply} b (h, replies.Yes) (g, replies.No)).1 ≡ cond b replies.Yes replies.No
+won_or_lost : (g h : Graph) (b : Bool)
+    → (cond {A = Graph × Reply} b (h, replies.Yes) (g, replies.No)).1
+    ≡ cond b replies.Yes replies.No
 won_or_lost g h true = refl
 won_or_lost g h false = refl
 
 cas_answers : (g : Graph) (t : ℕ) (k : Command) (b : Bool) → is_cas k ≡ true
     → (found : FieldFound g t (from_register k) (field_index k))
-    → b ≡ same_value (field_of (object_of g found.name) (field_index k)) (register_of g t (expected_register k))
+    → b ≡ same_value (field_of (object_of g found.name) (field_index k))
+    (register_of g t (expected_register k))
     → cond b replies.Yes replies.No ≡ answer g t k
 cas_answers g t (commands.Cas s i a v) b is found e =
     ap (λ x. cond x replies.Yes replies.No) e
     ∙ sym (in_field g (register_of g t s) found.name i _ found.refers found.within
-    ∙ won_or_lost g (with_field g found.name i (register_of g t v)) (same_value (field_of (object_of g found.name) i) (register_of g t a)))
+    ∙ won_or_lost g (with_field g found.name i (register_of g t v))
+    (same_value (field_of (object_of g found.name) i) (register_of g t a)))
 cas_answers g t _ b is found e = absurd cc
 
 idle_answers : (g : Graph) (t : ℕ) (k : Command) → is_idle k ≡ true → replies.Idle ≡ answer g t k
@@ -226,8 +242,11 @@ promised c head g t p k (LoadField way) w is n h =
     subst (Promises head (after_field w (payload_in w))) (sym (get_answers g t k h.0.name is h.0.refers h.0.within)) (field_value head w (field_of (object_of g h.0.name) (field_index k)) h.1)
 promised c head g t p k (StoreField way word) w is n h = put_stored g t k is h
 promised c head g t p k (ExchangeField way word) w is n h =
-    subst (Promises head (after_field w (payload_in w))) (sym (swap_answers g t k h.0.name is h.0.refers h.0.within)) (field_value head w (field_of (object_of g h.0.name) (field_index k)) h.1)
-promised c head g t p k (CompareField way word) w is n h = cas_answers g t k (eqb w way.expected) is h.0 h.1
+    subst (Promises head (after_field w (payload_in w)))
+    (sym (swap_answers g t k h.0.name is h.0.refers h.0.within))
+    (field_value head w (field_of (object_of g h.0.name) (field_index k)) h.1)
+promised c head g t p k (CompareField way word) w is n h =
+    cas_answers g t k (eqb w way.expected) is h.0 h.1
 promised c head g t p k IdleLook w is n h = idle_answers g t k is
 promised c head g t p k (LoadSecond word) w is n h = same_answers head g t word w k is h
 promised c head g t p k LoadSaid w is n h = subst (Promises head (after_said w (payload_in w))) (say_answers g t k is) (said_value head w (register_of g t (from_register k)) h)

@@ -33,8 +33,8 @@ use Rattle.barrier_steps.specs.declared.rows.FieldRow.{FieldRow}
 use Rattle.barrier_steps.specs.declared.rows.FieldRow.TheVariants.{StoreNumber, StoreNil, LoadMoved, StoreMoved, LoadObject, LoadShape, LoadValue, LoadLink, LoadField, LoadOwner, StorePending, StoreField, Shade, LoadFirst, LoadSecond, LoadSaid, LoadSaidOwner, Answered, LoadExpected, ExchangeField, CompareField, IdleLook}
 use Rattle.barrier_steps.specs.declared.rows.FieldStore.TheVariants.{Pending}
 use Rattle.barrier_steps.specs.Walks.{shape_length, links_to, link_at, field_at, ordinal_at}
-use Rattle.barrier_steps.specs.Operands.{to_register, from_register, other_register, field_index, expected_register, is_swap, is_cas, is_idle, takes_field, stores_in_field}
-use Rattle.barrier_steps.specs.Rows.{register_place, row_want, shades, field_reply}
+use Rattle.barrier_steps.specs.Operands.{to_register, from_register, other_register, field_index, expected_register}
+use Rattle.barrier_steps.specs.Rows.{register_place, row_want, field_reply, reads_beside_graph}
 use Rattle.barrier_steps.specs.Fits.{IsWalk, IsThere, FitsAt, ReadsAt}
 use Rattle.barrier_steps.specs.Replies.{IsWordOf, ShapeShown, FieldFound, ShownAt, RefersTo, Promises, OwnerShown, NameShown, ShowsAt, due_at, KnownAt}
 use Rattle.barrier_steps.specs.Projection.{walk_load, object_on, object_load, value_load, pending_load, IsAt}
@@ -84,8 +84,11 @@ module _ (c : Config) (m : ℕ) (K : Name → Type 0) (at : Name → ℕ → ℕ
   value_is : (t : ℕ) (l : Loading) (v : ValueLoad) → t < c.threads → s.loads t ≡ l → l.value ≡ Some v → ValueIs s.graph at t v
   value_is t l v tn e there = subst (λ x. IfSome x (λ y. ValueIs s.graph at t y)) (ap (λ x. x.value) e ∙ there) (follows.loads t tn).value
 
-  expected_is : (t : ℕ) (l : Loading) (v : ValueLoad) → t < c.threads → s.loads t ≡ l → l.expected ≡ Some v → ValueIs s.graph at t v
-  expected_is t l v tn e there = subst (λ x. IfSome x (λ y. ValueIs s.graph at t y)) (ap (λ x. x.expected) e ∙ there) (follows.loads t tn).expected
+  expected_is : (t : ℕ) (l : Loading) (v : ValueLoad) → t < c.threads → s.loads t ≡ l
+      → l.expected ≡ Some v → ValueIs s.graph at t v
+  expected_is t l v tn e there =
+      subst (λ x. IfSome x (λ y. ValueIs s.graph at t y)) (ap (λ x. x.expected) e ∙ there)
+      (follows.loads t tn).expected
 
   is_kept : (t r : ℕ) (a : Name) → t < c.threads → r < REGISTERS → register_of s.graph t r ≡ values.Ref a → K a
   is_kept t r a tn rl e = subst (IsValueOf K) e (follows.shows.closed.registers t r tn rl)
@@ -231,22 +234,36 @@ module _ (c : Config) (m : ℕ) (K : Name → Type 0) (at : Name → ℕ → ℕ
       found_field p.thread (from_register k) (field_index k) way (way_object p.thread k way _ fits.thread.thread is.loads refl) fits.row.0 fits.thread.thread (from_low k fits.command)
   row_shown p k (ExchangeField way word) w fits is =
       let object = way_object p.thread k way _ fits.thread.thread is.loads refl in (
-        found_field p.thread (from_register k) (field_index k) way object fits.row.0 fits.thread.thread (from_low k fits.command),
-        read_word (field_of (object_of s.graph object.name) (field_index k)) w (field_kept p.thread (from_register k) (field_index k) way object fits.row.0 fits.thread.thread (from_low k fits.command))
-            (field_word p.thread (from_register k) (field_index k) way object fits.row.0 fits.thread.thread (from_low k fits.command) w fits.row.1 (payload_read s h _ _ w is.words is.reads)),
+        found_field p.thread (from_register k) (field_index k) way object fits.row.0
+            fits.thread.thread (from_low k fits.command),
+        read_word (field_of (object_of s.graph object.name) (field_index k)) w
+            (field_kept p.thread (from_register k) (field_index k) way object fits.row.0
+            fits.thread.thread (from_low k fits.command))
+            (field_word p.thread (from_register k) (field_index k) way object fits.row.0
+            fits.thread.thread (from_low k fits.command) w fits.row.1
+            (payload_read s h _ _ w is.words is.reads)),
       )
   row_shown p k (CompareField way word) w fits is =
       let object = way_object p.thread k way _ fits.thread.thread is.loads refl in
-      let expected = expected_is p.thread _ (value_in (value_load (expected_register k) way.expected)) fits.thread.thread is.loads (cas_expects k way.expected fits.belongs) in
+      let expected =
+      expected_is p.thread _ (value_in (value_load (expected_register k) way.expected))
+      fits.thread.thread is.loads (cas_expects k way.expected fits.belongs) in
       let v = field_of (object_of s.graph object.name) (field_index k) in
       let u = register_of s.graph p.thread (expected_register k) in
-      let field : value_word (heads at) (field_of (object_of s.graph object.name) (field_index k)) ≡ w =
-      field_word p.thread (from_register k) (field_index k) way object fits.row.0 fits.thread.thread (from_low k fits.command) w fits.row.1 (payload_read s h _ _ w is.words is.reads) in (
-        found_field p.thread (from_register k) (field_index k) way object fits.row.0 fits.thread.thread (from_low k fits.command),
-        ap (λ x. eqb x way.expected) (sym field) ∙ ap (λ y. eqb (value_word (heads at) v) y) expected.word
-            ∙ words_tell c.width c.threads m K s.graph at s.words (pending_registers s.loads) follows.shows v u
-            (field_kept p.thread (from_register k) (field_index k) way object fits.row.0 fits.thread.thread (from_low k fits.command))
-            (follows.shows.closed.registers p.thread (expected_register k) fits.thread.thread (expected_low k fits.command)),
+      let field : value_word (heads at) (field_of (object_of s.graph object.name) (field_index k))
+      ≡ w =
+      field_word p.thread (from_register k) (field_index k) way object fits.row.0 fits.thread.thread
+      (from_low k fits.command) w fits.row.1 (payload_read s h _ _ w is.words is.reads) in (
+        found_field p.thread (from_register k) (field_index k) way object fits.row.0
+            fits.thread.thread (from_low k fits.command),
+        ap (λ x. eqb x way.expected) (sym field)
+            ∙ ap (λ y. eqb (value_word (heads at) v) y) expected.word
+            ∙ words_tell c.width c.threads m K s.graph at s.words (pending_registers s.loads)
+            follows.shows v u
+            (field_kept p.thread (from_register k) (field_index k) way object fits.row.0
+            fits.thread.thread (from_low k fits.command))
+            (follows.shows.closed.registers p.thread (expected_register k) fits.thread.thread
+            (expected_low k fits.command)),
       )
   row_shown p k IdleLook w fits is = tt
   row_shown p k (Shade r store) w fits is = tt
@@ -277,7 +294,9 @@ module _ (c : Config) (m : ℕ) (K : Name → Type 0) (at : Name → ℕ → ℕ
   other_held p k row w fits reads is = register_held p.thread (other_register k) w fits.thread.thread (other_low k fits.command) (register_at p.thread (other_register k) w is reads)
 
   -- the words that a row reads are among those that it may read
-  pub row_reads : (p : Pass) (k : Command) (row : FieldRow) (w : ℕ) → FitsAt c p k row → IsAt (extent c) s h p k row w → IsHeld c h → field_reply row ≡ None → ReadsAt c p k row w
+  pub row_reads : (p : Pass) (k : Command) (row : FieldRow) (w : ℕ) → FitsAt c p k row
+      → IsAt (extent c) s h p k row w → (reads_beside_graph row ≡ true → IsHeld c h)
+      → field_reply row ≡ None → ReadsAt c p k row w
   row_reads p k StoreNumber w fits is held goes = (to_held p k StoreNumber w fits is.reads is.words, tt)
   row_reads p k StoreNil w fits is held goes = (to_held p k StoreNil w fits is.reads is.words, tt)
   row_reads p k LoadMoved w fits is held goes = (from_held p k LoadMoved w fits is.reads is.words, tt)
@@ -285,8 +304,12 @@ module _ (c : Config) (m : ℕ) (K : Name → Type 0) (at : Name → ℕ → ℕ
   row_reads p k LoadObject w fits is held goes = (from_held p k LoadObject w fits is.reads is.words, tt)
   row_reads p k (LoadShape x) w fits is held goes = (ap is_some (row_shown p k (LoadShape x) w fits is).shape, tt)
   row_reads p k (LoadValue way) w fits is held goes = (other_held p k (LoadValue way) w fits is.reads is.words, tt)
-  row_reads p k (LoadExpected way) w fits is held goes =
-      (register_held p.thread (expected_register k) w fits.thread.thread (expected_low k fits.command) (register_at p.thread (expected_register k) w is.words is.reads), tt)
+  row_reads p k (LoadExpected way) w fits is held goes = (
+    register_held p.thread (expected_register k) w fits.thread.thread
+        (expected_low k fits.command)
+        (register_at p.thread (expected_register k) w is.words is.reads),
+    tt,
+  )
   row_reads p k (LoadLink way word) w fits is held goes =
       link_held p.thread (from_register k) (field_index k) way (way_object p.thread k way _ fits.thread.thread is.loads refl) fits.row.0 fits.thread.thread (from_low k fits.command) w fits.row.1 (payload_read s h _ _ w is.words is.reads)
   row_reads p k (LoadField way) w fits is held goes =
@@ -306,19 +329,28 @@ module _ (c : Config) (m : ℕ) (K : Name → Type 0) (at : Name → ℕ → ℕ
       )
   row_reads p k (ExchangeField way word) w fits is held goes =
       let object = way_object p.thread k way _ fits.thread.thread is.loads refl in (
-        value_held (field_of (object_of s.graph object.name) (field_index k)) w (field_kept p.thread (from_register k) (field_index k) way object fits.row.0 fits.thread.thread (from_low k fits.command))
-            (field_word p.thread (from_register k) (field_index k) way object fits.row.0 fits.thread.thread (from_low k fits.command) w fits.row.1 (payload_read s h _ _ w is.words is.reads)),
+        value_held (field_of (object_of s.graph object.name) (field_index k)) w
+            (field_kept p.thread (from_register k) (field_index k) way object fits.row.0
+            fits.thread.thread (from_low k fits.command))
+            (field_word p.thread (from_register k) (field_index k) way object fits.row.0
+            fits.thread.thread (from_low k fits.command) w fits.row.1
+            (payload_read s h _ _ w is.words is.reads)),
         tt,
       )
   row_reads p k (CompareField way word) w fits is held goes =
       let object = way_object p.thread k way _ fits.thread.thread is.loads refl in (
-        value_held (field_of (object_of s.graph object.name) (field_index k)) w (field_kept p.thread (from_register k) (field_index k) way object fits.row.0 fits.thread.thread (from_low k fits.command))
-            (field_word p.thread (from_register k) (field_index k) way object fits.row.0 fits.thread.thread (from_low k fits.command) w fits.row.1 (payload_read s h _ _ w is.words is.reads)),
+        value_held (field_of (object_of s.graph object.name) (field_index k)) w
+            (field_kept p.thread (from_register k) (field_index k) way object fits.row.0
+            fits.thread.thread (from_low k fits.command))
+            (field_word p.thread (from_register k) (field_index k) way object fits.row.0
+            fits.thread.thread (from_low k fits.command) w fits.row.1
+            (payload_read s h _ _ w is.words is.reads)),
         tt,
       )
-  row_reads p k IdleLook w fits is held goes = (subst (CanHold (extent c) Phase) (sym is.reads) (held Phase refl), tt)
+  row_reads p k IdleLook w fits is held goes =
+      (subst (CanHold (extent c) Phase) (sym is.reads) (held refl Phase refl), tt)
   row_reads p k (Shade r store) w fits is held goes =
-      (subst (CanHold (extent c) (place_of (row_want (extent c) p k (Shade r store)))) (sym is.reads) (held (place_of (row_want (extent c) p k (Shade r store))) (place_at c p k (Shade r store) fits)), tt)
+      (subst (CanHold (extent c) (place_of (row_want (extent c) p k (Shade r store)))) (sym is.reads) (held refl (place_of (row_want (extent c) p k (Shade r store))) (place_at c p k (Shade r store) fits)), tt)
   row_reads p k LoadFirst w fits is held goes = (from_held p k LoadFirst w fits is.reads is.words, tt)
   row_reads p k (LoadSecond word) w fits is held goes = (other_held p k (LoadSecond word) w fits is.reads is.words, tt)
   row_reads p k LoadSaid w fits is held goes = (from_held p k LoadSaid w fits is.reads is.words, tt)

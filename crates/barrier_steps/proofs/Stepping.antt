@@ -16,7 +16,7 @@ use Rattle.shown_graph.specs.Events as events
 use Rattle.shown_graph.specs.Events.{GraphState, value_in, value_at}
 use Rattle.barrier_steps.specs.declared.rows.FieldRow.{FieldRow}
 use Rattle.barrier_steps.specs.declared.rows.FieldRow.TheVariants.{StoreNumber, StoreNil, LoadMoved, StoreMoved, LoadObject, LoadShape, LoadValue, LoadLink, LoadField, LoadOwner, StorePending, StoreField, Shade, LoadFirst, LoadSecond, LoadSaid, LoadSaidOwner, Answered, LoadExpected, ExchangeField, CompareField, IdleLook}
-use Rattle.barrier_steps.specs.Operands.{to_register, from_register, other_register, field_index, number_set, is_set, is_nil, is_mov, is_get, is_put, looks_at_object, is_same, is_say, expected_register, is_swap, is_cas, is_idle, takes_field, stores_in_field}
+use Rattle.barrier_steps.specs.Operands.{to_register, from_register, other_register, field_index, number_set, is_set, is_nil, is_mov, is_get, is_put, looks_at_object, is_same, is_say, expected_register, is_swap, is_cas, is_idle}
 use Rattle.barrier_steps.specs.Walks.{shape_length, field_at}
 use Rattle.barrier_steps.specs.Rows.{payload_or_nil, payload_in, shape_in}
 use Rattle.barrier_steps.specs.Fits.{is_row_of}
@@ -68,8 +68,10 @@ refused_object head g w (values.Ref a) act h n = absurd (let e : false ≡ true 
 object_step : (head : Name → ℕ) (g : Graph) (t w : ℕ) (k : Command) → looks_at_object k ≡ true → IsWordOf head (register_of g t (from_register k)) w → not (refers (payload_in w)) ≡ true → g ≡ graph_after g t k
 object_step head g t w (commands.Get d r i) is h n = refused_field head g w (register_of g t r) i _ h n
 object_step head g t w (commands.Put r i v) is h n = refused_field head g w (register_of g t r) i _ h n
-object_step head g t w (commands.Swap r i v) is h n = refused_field head g w (register_of g t r) i _ h n
-object_step head g t w (commands.Cas r i a v) is h n = refused_field head g w (register_of g t r) i _ h n
+object_step head g t w (commands.Swap r i v) is h n =
+    refused_field head g w (register_of g t r) i _ h n
+object_step head g t w (commands.Cas r i a v) is h n =
+    refused_field head g w (register_of g t r) i _ h n
 object_step head g t w (commands.Len r) is h n = refused_object head g w (register_of g t r) _ h n
 object_step head g t w _ is h n = absurd cc
 
@@ -90,10 +92,12 @@ shape_step g t w (commands.Put r i v) is h n =
     let range : ltb i (length (object_of g h.name).fields) ≡ false = ap (ltb i) (sym (shown_length g t r w h)) ∙ is_false (ltb i (shape_length (shape_in w))) n in
     out_field g (register_of g t r) h.name i _ h.refers range
 shape_step g t w (commands.Swap r i v) is h n =
-    let range : ltb i (length (object_of g h.name).fields) ≡ false = ap (ltb i) (sym (shown_length g t r w h)) ∙ is_false (ltb i (shape_length (shape_in w))) n in
+    let range : ltb i (length (object_of g h.name).fields) ≡ false =
+    ap (ltb i) (sym (shown_length g t r w h)) ∙ is_false (ltb i (shape_length (shape_in w))) n in
     out_field g (register_of g t r) h.name i _ h.refers range
 shape_step g t w (commands.Cas r i a v) is h n =
-    let range : ltb i (length (object_of g h.name).fields) ≡ false = ap (ltb i) (sym (shown_length g t r w h)) ∙ is_false (ltb i (shape_length (shape_in w))) n in
+    let range : ltb i (length (object_of g h.name).fields) ≡ false =
+    ap (ltb i) (sym (shown_length g t r w h)) ∙ is_false (ltb i (shape_length (shape_in w))) n in
     out_field g (register_of g t r) h.name i _ h.refers range
 shape_step g t w (commands.Len r) is h n = in_object g (register_of g t r) h.name _ h.refers
 shape_step g t w _ is h n = absurd cc
@@ -125,28 +129,38 @@ put_step : (g : Graph) (t : ℕ) (k : Command) (a : Name) → is_put k ≡ true 
 put_step g t (commands.Put r i v) a is hand within = in_field g (register_of g t r) a i _ hand within
 put_step g t _ a is hand within = absurd cc
 
-swap_step : (g : Graph) (t : ℕ) (k : Command) (a : Name) → is_swap k ≡ true → register_of g t (from_register k) ≡ values.Ref a → field_index k < length (object_of g a).fields
+swap_step : (g : Graph) (t : ℕ) (k : Command) (a : Name) → is_swap k ≡ true
+    → register_of g t (from_register k) ≡ values.Ref a
+    → field_index k < length (object_of g a).fields
     → swapped g t a (field_index k) (other_register k) ≡ graph_after g t k
-swap_step g t (commands.Swap r i v) a is hand within = in_field g (register_of g t r) a i _ hand within
+swap_step g t (commands.Swap r i v) a is hand within =
+    in_field g (register_of g t r) a i _ hand within
 swap_step g t _ a is hand within = absurd cc
 
 -- a comparison by what it says
 compared : (c : Config) (s : GraphState) (b : Bool) (t : ℕ) (a : Name) (i j : ℕ)
-    → (after_event (extent c) s (cond b (Some (events.StoreField t a i j)) (Some (events.Finish t)))).graph
+    → (after_event (extent c) s
+    (cond b (Some (events.StoreField t a i j)) (Some (events.Finish t)))).graph
     ≡ cond b (with_field s.graph a i (register_of s.graph t (value_at s t).origin)) s.graph
 compared c s true t a i j = refl
 compared c s false t a i j = refl
 
-won_or_lost : (g h : Graph) (b : Bool) → cond b h g ≡ (cond {A = Graph × Reply} b (h, replies.Yes) (g, replies.No)).0
+won_or_lost : (g h : Graph) (b : Bool)
+    → cond b h g ≡ (cond {A = Graph × Reply} b (h, replies.Yes) (g, replies.No)).0
 won_or_lost g h true = refl
 won_or_lost g h false = refl
 
-cas_step : (g : Graph) (t : ℕ) (k : Command) (a : Name) (b : Bool) → is_cas k ≡ true → register_of g t (from_register k) ≡ values.Ref a → field_index k < length (object_of g a).fields
-    → b ≡ same_value (field_of (object_of g a) (field_index k)) (register_of g t (expected_register k))
-    → cond b (with_field g a (field_index k) (register_of g t (other_register k))) g ≡ graph_after g t k
+cas_step : (g : Graph) (t : ℕ) (k : Command) (a : Name) (b : Bool) → is_cas k ≡ true
+    → register_of g t (from_register k) ≡ values.Ref a
+    → field_index k < length (object_of g a).fields
+    → b ≡ same_value (field_of (object_of g a) (field_index k))
+    (register_of g t (expected_register k))
+    → cond b (with_field g a (field_index k) (register_of g t (other_register k))) g
+    ≡ graph_after g t k
 cas_step g t (commands.Cas r i q v) a b is hand within e =
     won_or_lost g (with_field g a i (register_of g t v)) b
-    ∙ ap (λ x. (cond {A = Graph × Reply} x (with_field g a i (register_of g t v), replies.Yes) (g, replies.No)).0) e
+    ∙ ap (λ x. (cond {A = Graph × Reply} x (with_field g a i (register_of g t v), replies.Yes)
+    (g, replies.No)).0) e
     ∙ in_field g (register_of g t r) a i _ hand within
 cas_step g t _ a b is hand within e = absurd cc
 
@@ -179,15 +193,24 @@ graph_steps c head s a t k (StoreField way word) w is n h loads hand =
     ap (λ l. with_field s.graph a (field_index k) (register_of s.graph t (value_in l.value).origin)) loads
     ∙ put_step s.graph t k a is hand (subst (λ b. field_index k < length (object_of s.graph b).fields) one h.within)
 graph_steps c head s a t k (ExchangeField way word) w is n h loads hand =
-    let one : h.0.name ≡ a = one_name (register_of s.graph t (from_register k)) h.0.name a h.0.refers hand in
+    let one : h.0.name ≡ a =
+    one_name (register_of s.graph t (from_register k)) h.0.name a h.0.refers hand in
     ap (λ l. swapped s.graph t a (field_index k) (value_in l.value).origin) loads
-    ∙ swap_step s.graph t k a is hand (subst (λ b. field_index k < length (object_of s.graph b).fields) one h.0.within)
+    ∙ swap_step s.graph t k a is hand
+    (subst (λ b. field_index k < length (object_of s.graph b).fields) one h.0.within)
 graph_steps c head s a t k (CompareField way word) w is n h loads hand =
-    let one : h.0.name ≡ a = one_name (register_of s.graph t (from_register k)) h.0.name a h.0.refers hand in
-    compared c s (eqb w way.expected) t a (field_index k) (field_at (extent c) way.shape (field_index k))
-    ∙ ap (λ l. cond (eqb w way.expected) (with_field s.graph a (field_index k) (register_of s.graph t (value_in l.value).origin)) s.graph) loads
-    ∙ cas_step s.graph t k a (eqb w way.expected) is hand (subst (λ b. field_index k < length (object_of s.graph b).fields) one h.0.within)
-    (subst (λ b. eqb w way.expected ≡ same_value (field_of (object_of s.graph b) (field_index k)) (register_of s.graph t (expected_register k))) one h.1)
+    let one : h.0.name ≡ a =
+    one_name (register_of s.graph t (from_register k)) h.0.name a h.0.refers hand in
+    compared c s (eqb w way.expected) t a (field_index k)
+    (field_at (extent c) way.shape (field_index k))
+    ∙ ap (λ l. cond (eqb w way.expected)
+    (with_field s.graph a (field_index k) (register_of s.graph t (value_in l.value).origin))
+    s.graph) loads
+    ∙ cas_step s.graph t k a (eqb w way.expected) is hand
+    (subst (λ b. field_index k < length (object_of s.graph b).fields) one h.0.within)
+    (subst (λ b. eqb w way.expected
+    ≡ same_value (field_of (object_of s.graph b) (field_index k))
+    (register_of s.graph t (expected_register k))) one h.1)
 graph_steps c head s a t k IdleLook w is n h loads hand = idle_step s.graph t k is
 graph_steps c head s a t k (LoadSecond word) w is n h loads hand = same_step s.graph t k is
 graph_steps c head s a t k LoadSaid w is n h loads hand = chosen_value c s (refers (payload_in w)) t (from_register k) ∙ say_step s.graph t k is

@@ -6,7 +6,7 @@ use Rattle.grey_steps.specs.declared.rows.GreyRow.{GreyRow}
 use Rattle.grey_steps.specs.declared.rows.GreyRow.TheVariants.{TakeOwn}
 use Rattle.grey_steps.specs.Rows.{grey_over}
 use Rattle.barrier_steps.specs.declared.rows.FieldRow.{FieldRow}
-use Rattle.barrier_steps.specs.declared.rows.FieldRow.TheVariants.{Shade, LoadExpected, ExchangeField, CompareField, IdleLook}
+use Rattle.barrier_steps.specs.declared.rows.FieldRow.TheVariants.{Shade}
 use Rattle.barrier_steps.specs.declared.rows.FieldStore.{FieldStore}
 use Rattle.barrier_steps.specs.Rows.{stored_word, store_row, shaded_for, before_store, in_barrier}
 

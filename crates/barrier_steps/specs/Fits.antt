@@ -18,7 +18,7 @@ use Rattle.barrier_steps.specs.declared.rows.FieldRow.TheVariants.{StoreNumber, 
 use Rattle.barrier_steps.specs.declared.rows.Way.{Way}
 use Rattle.barrier_steps.specs.declared.rows.FieldStore.{FieldStore}
 use Rattle.barrier_steps.specs.declared.rows.FieldStore.TheVariants.{Moved, Pending, InField, Exchanged, Compared}
-use Rattle.barrier_steps.specs.Operands.{field_index, is_set, is_nil, is_mov, is_get, is_put, goes_to_field, looks_at_object, is_same, is_say, expected_register, is_swap, is_cas, is_idle, takes_field, stores_in_field}
+use Rattle.barrier_steps.specs.Operands.{field_index, is_set, is_nil, is_mov, is_get, is_put, goes_to_field, looks_at_object, is_same, is_say, is_swap, is_cas, is_idle, takes_field, stores_in_field}
 use Rattle.barrier_steps.specs.Walks.{shape_length, links_to}
 use Rattle.barrier_steps.specs.Rows.{FieldState, stored_word, row_want}
 
@@ -113,8 +113,8 @@ RowFits c p k (LoadOwner word) = IsLoaded c word × (target word ≢ 0)
 RowFits c p k (StorePending word value) = IsLoaded c word
 RowFits c p k (StoreField way word) = IsWalk c (field_index k) way × IsThere c (field_index k) way
     × IsLoaded c word
-RowFits c p k (ExchangeField way word) = IsWalk c (field_index k) way × IsThere c (field_index k) way
-    × IsLoaded c word
+RowFits c p k (ExchangeField way word) = IsWalk c (field_index k) way
+    × IsThere c (field_index k) way × IsLoaded c word
 RowFits c p k (CompareField way word) = IsWalk c (field_index k) way × IsThere c (field_index k) way
     × IsLoaded c word
 RowFits c p k (Shade r store) = IsBarrier c p r (stored_word store) × StoreFits c k store

@@ -17,7 +17,7 @@ use Rattle.barrier_steps.specs.declared.rows.FieldRow.TheVariants.{StoreNumber, 
 use Rattle.barrier_steps.specs.declared.rows.Way.{Way}
 use Rattle.barrier_steps.specs.declared.rows.FieldStore.{FieldStore}
 use Rattle.barrier_steps.specs.declared.rows.FieldStore.TheVariants.{Moved, Pending, InField, Exchanged, Compared}
-use Rattle.barrier_steps.specs.Operands.{to_register, from_register, other_register, field_index, number_set, expected_register, is_swap, is_cas, is_idle, takes_field, stores_in_field}
+use Rattle.barrier_steps.specs.Operands.{to_register, from_register, other_register, field_index, number_set, expected_register}
 use Rattle.barrier_steps.specs.Walks.{shape_length, link_at, field_at, ordinal_at}
 use Rattle.barrier_steps.specs.Rows.{FieldState, payload_in, shape_in, row_want}
 use Rattle.barrier_steps.specs.Deciding.{refers, length_decides}

@@ -14,9 +14,9 @@ use Rattle.never_heap.specs.Steps.{step, same_value}
 use Rattle.shown_graph.specs.Layouts.{kind_shape}
 use Rattle.shown_graph.specs.Read.{value_payload}
 use Rattle.barrier_steps.specs.declared.rows.FieldRow.{FieldRow}
-use Rattle.barrier_steps.specs.declared.rows.FieldRow.TheVariants.{LoadObject, LoadShape, LoadField, LoadOwner, StorePending, StoreField, Shade, LoadSecond, LoadSaid, LoadSaidOwner, Answered, LoadExpected, ExchangeField, CompareField, IdleLook}
+use Rattle.barrier_steps.specs.declared.rows.FieldRow.TheVariants.{LoadObject, LoadShape, LoadField, LoadOwner, StorePending, StoreField, Shade, LoadSecond, LoadSaid, LoadSaidOwner, Answered, ExchangeField, CompareField}
 use Rattle.barrier_steps.specs.declared.rows.FieldStore.TheVariants.{Pending}
-use Rattle.barrier_steps.specs.Operands.{to_register, from_register, other_register, field_index, expected_register, is_swap, is_cas, is_idle, takes_field, stores_in_field}
+use Rattle.barrier_steps.specs.Operands.{to_register, from_register, other_register, field_index, expected_register}
 use Rattle.barrier_steps.specs.Rows.{FieldState}
 
 -- what the step of command k of thread t answers on a graph
@@ -116,7 +116,7 @@ due_at g t k (LoadSaidOwner word) = Some (Val (register_of g t (from_register k)
 due_at g t k (Answered reply) = Some reply
 due_at g t k _ = None
 
--- the value that `get` has still to store is the one that its register has in the graph
+-- the value that `get` or `swap` has still to store is the one that its register has in the graph
 abbrev pub KnownAt : Graph → ℕ → Command → FieldRow → Type 0
 KnownAt g t k (StorePending word value) = value ≡ register_of g t (to_register k)
 KnownAt g t k (Shade r (Pending word value)) = value ≡ register_of g t (to_register k)

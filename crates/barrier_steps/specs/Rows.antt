@@ -32,7 +32,7 @@ use Rattle.grey_steps.specs.declared.rows.GreyRow.{GreyRow}
 use Rattle.grey_steps.specs.declared.rows.GreyRow.TheVariants.{TakeOwn}
 use Rattle.grey_steps.specs.Rows as marking
 use Rattle.grey_steps.specs.Rows.{grey_over, grey_holding}
-use Rattle.barrier_steps.specs.Operands.{to_register, from_register, other_register, field_index, number_set, expected_register, is_swap, is_cas, is_idle, takes_field, stores_in_field}
+use Rattle.barrier_steps.specs.Operands.{to_register, from_register, other_register, field_index, number_set, expected_register}
 use Rattle.barrier_steps.specs.Walks.{shape_length, links_to, link_at, field_at}
 
 -- a thread in a command: its pass, the command, and its row
@@ -248,6 +248,12 @@ field_got e s w = record {
 abbrev pub shades : FieldRow → Bool
 shades (Shade r store) = true
 shades _ = false
+
+-- whether it reads a word that shows nothing of the graph: one of the barrier, or the phase
+abbrev pub reads_beside_graph : FieldRow → Bool
+reads_beside_graph (Shade r store) = true
+reads_beside_graph IdleLook = true
+reads_beside_graph _ = false
 
 -- the word that a row stores of those that it has loaded; 0, which is nil, where it stores none
 abbrev pub word_stored : FieldRow → ℕ

@@ -22,7 +22,7 @@ ghost use Rattle.heap_machine.specs.Readings.{StoresHeld, IsHeld};
 ghost use Rattle.heap_machine.specs.declared.pass.Pass.{Pass};
 ghost use Rattle.barrier_steps.specs.declared.rows.FieldRow.{FieldRow};
 ghost use Rattle.barrier_steps.specs.Walks.{shape_length, links_to, link_at, field_at, ordinal_at};
-ghost use Rattle.barrier_steps.specs.Rows.{FieldState, shades, first_row, at_first_row, field_want, field_got, field_reply, field_decided};
+ghost use Rattle.barrier_steps.specs.Rows.{FieldState, reads_beside_graph, first_row, at_first_row, field_want, field_got, field_reply, field_decided};
 ghost use Rattle.barrier_steps.specs.Fits.{IsThread, FieldFits, FieldReads, is_row_of};
 ghost use Rattle.barrier_steps.specs.Deciding.{is_deciding};
 ghost use Rattle.barrier_steps.specs.Replies.{answer, graph_after, Shown, Promises, NameShown, ShowsRegister, reply_due, IsKnown};
@@ -84,8 +84,7 @@ pub fn rows_answer_as_steps()
 /// deciding event and else stays, and the event may come where it does.
 pub fn rows_are_events()
     ensures words { (c : Config) (h : Heap) (s : GraphState) (a : Name) (f : FieldState) (w : ℕ)
-        → s.words ≡ block_words h → s.loads f.pass.thread ≡ loading_of (extent c) f
-        → w ≡ h (place_of (field_want (extent c) f))
+        → IsAtRow (extent c) s h f w
         → (after_event (extent c) s (event_of (extent c) a f w)).words
         ≡ block_words (heap_after h (field_want (extent c) f)) }
     ensures loads { (c : Config) (h : Heap) (s : GraphState) (a : Name) (f : FieldState) (w : ℕ)
@@ -109,13 +108,15 @@ pub fn rows_are_events()
 
 /// Where the words show the graph and the thread has loaded what its row names, the row reads words
 /// that its places can hold, and these are what the graph says, the name of a reply's object among
-/// them. From the deciding event on the reply that is due is the step's answer.
+/// them: all but those of the write barrier and the look of `idle`, which the graph does not show.
+/// From the deciding event on the reply that is due is the step's answer.
 pub fn rows_read_the_graph()
     ensures reads { (c : Config) (m : ℕ) (kept : Name → Bool) (at : Name → ℕ
         → ℕ) (s : GraphState) (h : Heap)
         (f : FieldState) (w : ℕ) → c.blocks ≤ 65535 → m ≤ c.blocks
         → Follows c.width c.threads m (named kept) at s → FieldFits c f → IsAtRow (extent c) s h f w
-        → IsHeld c h → field_reply f.row ≡ None → FieldReads c f w }
+        → (reads_beside_graph f.row ≡ true → IsHeld c h) → field_reply f.row ≡ None
+        → FieldReads c f w }
     ensures shown { (c : Config) (m : ℕ) (kept : Name → Bool) (at : Name → ℕ
         → ℕ) (s : GraphState) (h : Heap)
         (f : FieldState) (w : ℕ) → c.blocks ≤ 65535 → m ≤ c.blocks

@@ -1,7 +1,9 @@
 //! The commands that allocate nothing, one atomic operation at a time: loads and stores of
-//! registers and fields, and the replies.
+//! registers and fields, exchanges and comparisons of fields, and the replies.
 #![tactic(auto)]
 
+#[cfg(test)]
+mod exchange_tests;
 mod laws;
 mod operands;
 mod pass;

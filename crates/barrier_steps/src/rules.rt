@@ -55,8 +55,8 @@ pub fn rows_keep_the_heap()
 /// event reads what it may read, where each word is one that its place can hold.
 pub fn rows_keep_the_names()
     ensures kept { (c : Config) (g : Graph) (order : List HistoryItem) (h : Heap) (names : Names)
-        (tasks : ℕ → Task) (f : FieldState) → FieldFits c f → IsHeld c h
-        → field_reply f.row ≡ None → is_sweep (h Phase) ≡ f.pass.sweep → cycle_of (h Phase) ≡ f.pass.cycle
+        (tasks : ℕ → Task) (f : FieldState) → FieldFits c f → field_reply f.row ≡ None
+        → is_sweep (h Phase) ≡ f.pass.sweep → cycle_of (h Phase) ≡ f.pass.cycle
         → tasks f.pass.thread ≡ field_task (extent c) f
         → IsKept c (picture g order h names tasks)
         → IsKept c (picture (graph_on g f (h (place_of (field_want (extent c) f))))

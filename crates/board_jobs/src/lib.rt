@@ -2,8 +2,11 @@
 //! logs of these jobs must be in any order of the threads.
 #![tactic(auto)]
 
+mod exchanges;
 mod meeting;
 mod rounds;
+mod traces;
 
+pub use exchanges::{SHARING, TRIES, counting, swapping};
 pub use meeting::{MEETING, Meeting, have_said, two_says};
 pub use rounds::{RATE, TWO, are_right, job};

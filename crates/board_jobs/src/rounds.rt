@@ -3,15 +3,14 @@
 
 ghost use Rattle.std.specs.Prelude.{◌≡◌, ◌≤◌, ◌<◌, ℕ, IsTrue, false, [], length, slice_index_or, map, IfOk, IfSome};
 ghost use Rattle.never_heap.specs.Histories.{is_full, is_refusal};
-ghost use Rattle.never_heap.specs.Jobs.{IsTraceInBounds};
 ghost use Rattle.never_heap.specs.RightWork.{units_told};
 ghost use Rattle.never_heap.specs.Steps.{length_made};
 ghost use Rattle.heap_system.specs.Machines.{IsJob};
 ghost use Rattle.board_jobs.specs.Served.{IsServed, AreServed};
 
+use crate::traces::{Told, job_of};
 use block_store::{Config, Name, OutOfMemory, Value, Width};
 use never_heap::{Command, Entry, Logs, Reply};
-use rate_plan::plan;
 use std::alloc::Global;
 
 // The commands of a round.
@@ -77,19 +76,12 @@ fn answer(thread: u32, number: u32) -> Reply
     }
 }
 
-// The rounds of a thread, where each command is in its ranges.
-fn trace(alloc: Global, c: &Config, thread: u32) -> Result<Option<Vec<Command>>, OutOfMemory>
-    ensures { IfOk result (λ o. IfSome o (λ v. IsTraceInBounds c.now v.items)) }
-{
-    let mut trace = Vec::new(alloc);
-    for number in 0..ROUNDS {
-        let command = command(thread, number);
-        if !command.in_bounds(c) {
-            return Ok(None);
-        }
-        trace.push(command)?;
+struct Rounds {}
+
+impl Told for Rounds {
+    fn command(&self, thread: u32, number: u32) -> Command {
+        command(thread, number)
     }
-    Ok(Some(trace))
 }
 
 /// The rounds of each thread, where the configuration has a rate, and it and all commands are in
@@ -101,20 +93,7 @@ fn trace(alloc: Global, c: &Config, thread: u32) -> Result<Option<Vec<Command>>,
 pub fn job(alloc: Global, c: &Config) -> Result<Option<Vec<Vec<Command>>>, OutOfMemory>
     ensures { IfOk result (λ o. IfSome o (λ v. IsJob c.now (map (λ w. w.items) v.items))) }
 {
-    if !c.in_bounds() {
-        return Ok(None);
-    }
-    let Ok(_rate) = plan(c) else {
-        return Ok(None);
-    };
-    let mut traces = Vec::new(alloc);
-    for thread in 0..c.threads {
-        let Some(trace) = trace(alloc, c, thread)? else {
-            return Ok(None);
-        };
-        traces.push(trace)?;
-    }
-    Ok(Some(traces))
+    job_of(alloc, c, &Rounds {}, ROUNDS)
 }
 
 /// Whether each thread has done all its rounds, and each entry is what it must be, in any order of

@@ -21,6 +21,7 @@ use Rattle.control_heap.proofs.Opening.{HasRoomFor, sum_more, sum_last, owed_wor
 use Rattle.never_heap.specs.Steps.{makes_object, blocks_of}
 use Rattle.never_heap.proofs.Growing.{part_append}
 use Rattle.barrier_steps.specs.Operands.{is_idle}
+use Rattle.lone_bound.specs.Near.{between}
 use Rattle.lone_bound.specs.Prices.{allocation_bound, idle_bound, other_bound}
 use Rattle.heap_system.specs.declared.local.Part.TheVariants.{Rest}
 use Rattle.heap_system.specs.declared.Turn.{Turn}
@@ -34,8 +35,9 @@ use Rattle.heap_system.proofs.Paying.{works_append, blocks_low, told_low, rate_l
 use Rattle.heap_system.proofs.Reached.{rest_is}
 use Rattle.heap_system.proofs.Seeing.{IsSettled}
 use Rattle.heap_system.proofs.Starting.{one_rate}
+use Rattle.heap_system.proofs.alone.Near.{near_ends}
 use Rattle.heap_system.proofs.alone.Runs.{lone_ends}
-use Rattle.control_heap.specs.Controls.{Control, Stands, Answers, Machine, Served, GoesOn, asked, HasLeft, given_to, moved_times, entries_in}
+use Rattle.control_heap.specs.Controls.{Control, Stands, Answers, allocation_near, Machine, Served, GoesOn, asked, HasLeft, given_to, moved_times, entries_in}
 use Rattle.control_heap.specs.Growth.{run_grown, given}
 use Rattle.control_heap.proofs.Behind.{behind, behind_done, command_same, given_behind, history_of}
 use Rattle.control_heap.proofs.Carried.{Carries, IsSafe, carried, events_grown, kept_of, low, safe}
@@ -114,6 +116,12 @@ module _ (h : Control) (r : Run) (st : Stands h r) where
       let all : map (λ (e : Entry). e.command) own.log ≡ own.trace = (kept.locals 0 (low h.config st.single)).said ∙ ap (λ n. take n own.trace) (sym long) ∙ take-length own.trace in
       sym (ap (sum_after (units_owed h.config.width p) 0) all) ∙ owed_works h.config.width p own.log right
 
+  -- the thread has the configuration's rate
+  pub rate_is : IsRate h.config h.thread.rate
+  rate_is =
+      let same : own.rate ≡ h.thread.rate = ap (λ (l : LocalState). l.rate) st.thread in
+      subst (λ n. IsRate h.config n) same (subst (λ x. IsRate x own.rate) (kept.locals 0 (low h.config st.single)).config (kept.locals 0 (low h.config st.single)).fits.rate)
+
   pub config_is : h.thread.config ≡ h.config
   config_is = sym (ap (λ (l : LocalState). l.config) st.thread) ∙ (kept.locals 0 (low h.config st.single)).config
 
@@ -190,6 +198,21 @@ module _ (h : Control) (r : Run) (st : Stands h r) where
           subst (λ j. is_done (moved_times j first).thread ≡ false) (sym e) (sym (behind_done own.trace own.log long (moved_times n first).thread) ∙ sym (ap is_done at.thread) ∙ going)
     ]
 
+    -- where the run ends the command so does the machine
+    module _ (b : ℕ) (e : EndsWithin h.config 0 grown b) (going : GoesOn e.turns first) where
+      comes : Carries h.config own.trace own.log (moved_times e.turns first) (after_alone h.config 0 grown e.turns)
+      comes = carried h.config st.single own.trace own.log long first grown begins e.turns going
+
+      log_at : (moved_times e.turns first).thread.log ≡ e.entry ∷ []
+      log_at = append_cancel_left own.log (moved_times e.turns first).thread.log (e.entry ∷ [])
+          (sym (ap (λ (l : LocalState). l.log) comes.thread) ∙ e.log ∙ ap (λ (l : LocalState). l.log ++ e.entry ∷ []) begins.thread ∙ ap (λ x. x ++ e.entry ∷ []) (append-nil own.log))
+
+      rest_at : is_rest (moved_times e.turns first).thread.part ≡ true
+      rest_at = sym (ap (λ (l : LocalState). is_rest l.part) comes.thread) ∙ e.rest
+
+      done_at : is_done (moved_times e.turns first).thread ≡ true
+      done_at = λ i. rest_at i && eqb (length (log_at i)) (length (moved_trace e.turns first i))
+
     abbrev pub last : Machine
     last = moved_times turns first
 
@@ -200,17 +223,23 @@ module _ (h : Control) (r : Run) (st : Stands h r) where
     arrives = carried h.config st.single own.trace own.log long first grown begins turns (goes turns (omega arith))
 
     pub log_is : last.thread.log ≡ ends.entry ∷ []
-    log_is = append_cancel_left own.log last.thread.log (ends.entry ∷ [])
-        (sym (ap (λ (l : LocalState). l.log) arrives.thread) ∙ ends.log ∙ ap (λ (l : LocalState). l.log ++ ends.entry ∷ []) begins.thread ∙ ap (λ x. x ++ ends.entry ∷ []) (append-nil own.log))
+    log_is = log_at (command_bound h.config rate (command_of (local_in h.config grown 0))) ends (goes turns (omega arith))
 
     trace_is : last.thread.trace ≡ k ∷ []
     trace_is = moved_trace turns first
 
-    rest_then : is_rest last.thread.part ≡ true
-    rest_then = sym (ap (λ (l : LocalState). is_rest l.part) arrives.thread) ∙ ends.rest
-
     pub over : is_done last.thread ≡ true
-    over = λ i. rest_then i && eqb (length (log_is i)) (length (trace_is i))
+    over = done_at (command_bound h.config rate (command_of (local_in h.config grown 0))) ends (goes turns (omega arith))
+
+    -- an end in fewer turns would be an end before the last
+    pub turns_near : (p charge : ℕ) → IsRate h.config p → between h.config.threads ≤ charge * h.config.blocks → makes_object k ≡ true → turns ≤ allocation_near h.config p charge k
+    turns_near p charge is pays makes =
+        let near = near_ends h.config begins.run.after.traces begins.run.after.job p charge is pays 0 (low h.config st.single) grown (kept_of h.config st.single grown begins.run.after) quiet has (ap makes_object command_is ∙ makes) in
+        let few : near.turns ≤ allocation_near h.config p charge k = subst (λ x. near.turns ≤ allocation_near h.config p charge x) command_is near.few in
+        elim (cases_lt near.turns turns) [
+          | inl fewer ↦ (let z : false ≡ true = sym (goes turns (omega arith) near.turns fewer) ∙ done_at (allocation_near h.config p charge (command_of (local_in h.config grown 0))) near (goes near.turns (omega arith)) in cc)
+          | inr more ↦ omega (arith, few, more)
+        ]
 
     -- no more events than these go on
     pub no_more : (n : ℕ) → GoesOn n first → n ≤ turns
@@ -263,6 +292,7 @@ module _ (h : Control) (r : Run) (st : Stands h r) where
     answers_then a is = record {
       turns = turns;
       few = turns_few;
+      near = turns_near;
       went = ends.went;
       after = refl;
       items = items_added.items;

@@ -4,6 +4,7 @@ pub mod Ending
 pub mod Growing
 pub mod Histories
 pub mod Items
+pub mod Left
 pub mod Opened
 pub mod Opening
 pub mod Serving

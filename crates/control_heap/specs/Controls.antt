@@ -1,30 +1,40 @@
--- A heap of one thread that is asked one command at a time: the runs for which it stands, and how it
--- answers a command.
-use Rattle.std.specs.Prelude.{ℕ, zero, suc, ◌+◌, ◌<◌, ◌≤◌, ◌≡◌, ◌++◌, true, false, List, [], ◌∷◌, length, map, slice_index}
+-- A heap of one thread that is asked one command at a time: the runs for which it stands, and how
+-- it answers a command.
+use Rattle.std.specs.Prelude.{ℕ, zero, suc, ◌+◌, ◌*◌, ◌<◌, ◌≤◌, ◌≡◌, ◌++◌, true, false, List, [], ◌∷◌, length, map, slice_index}
 use Rattle.block_store.specs.declared.Config.{Config}
-use Rattle.rate_plan.specs.Rates.{IsRate}
+use Rattle.block_store.specs.Configs.{IsInBounds}
+use Rattle.block_store.specs.Widths.{payloads}
+use Rattle.rate_plan.specs.Rates.{IsRate, IsAdmitted}
 use Rattle.never_heap.specs.declared.Command.{Command}
 use Rattle.never_heap.specs.declared.Entry.{Entry}
 use Rattle.never_heap.specs.declared.Reply.{Reply}
 use Rattle.never_heap.specs.Bounds.{IsCommandInBounds}
 use Rattle.never_heap.specs.Histories.{HistoryItem, Started, Did}
+use Rattle.never_heap.specs.RightWork.{units_owed}
+use Rattle.never_heap.specs.Steps.{makes_object, blocks_of}
+use Rattle.lone_bound.specs.Near.{near_bound, between}
 use Rattle.heap_machine.specs.Operations.{op_place, words_after}
 use Rattle.heap_system.specs.declared.Turn.TheVariants.{Went}
 use Rattle.heap_system.specs.Alone.{IsQuiet, after_alone, command_bound}
-use Rattle.never_heap.specs.RightWork.{units_owed}
 use Rattle.heap_system.specs.Lives.{sum_after, objects_of, most_commands, most_objects, most_units}
 use Rattle.heap_system.specs.Locals.{LocalState, begun, is_done, local_got, op_wanted, works}
 use Rattle.heap_system.specs.Machines.{Run, IsAfterTurns, answer, local_in, opened}
 use Rattle.control_heap.specs.Growth.{AllGo, run_grown}
 
--- The configuration, the words, and the thread, which keeps its last command and its entry alone; how
--- many commands it was asked, and how many of them make an object.
+-- The configuration, the words, and the thread, which keeps its last command and its entry alone;
+-- how many commands it was asked, and how many of them make an object.
 pub record Control : Type 0 where
   pub config : Config
   pub words : List ℕ
   pub thread : LocalState
   pub count : ℕ
   pub objects : ℕ
+
+-- a heap of this configuration can be opened, but for memory
+pub record CanOpen (c : Config) : Type 0 where
+  pub bounds : IsInBounds c
+  pub plan : IsAdmitted c
+  pub single : c.threads ≡ 1
 
 -- the commands that it was asked so far
 abbrev pub asked : Control → ℕ
@@ -34,12 +44,12 @@ asked h = h.count
 abbrev pub units : Control → ℕ
 units h = h.thread.before + works h.thread.log
 
--- It may be asked one command more: not too many were asked, of those that make an object there were
--- fewer than a life has, and its units fit.
+-- It may be asked one command more: not too many were asked, of those that make an object there
+-- were fewer than a life has, and its units fit.
 abbrev pub HasLeft : Control → Command → Type 0
 HasLeft h k = (asked h < most_commands) × (h.objects + objects_of k ≤ most_objects)
     × ((rate : ℕ) → IsRate h.config rate
-        → units h + units_owed h.config.width rate k ≤ most_units)
+    → units h + units_owed h.config.width rate k ≤ most_units)
 
 -- a thread with another trace and log, and none before them
 abbrev pub with_history : List Command → List Entry → LocalState → LocalState
@@ -72,12 +82,21 @@ entries_in [] = []
 entries_in (Started ∷ h) = entries_in h
 entries_in (Did e ∷ h) = e ∷ entries_in h
 
--- Run z is run r with command k behind the trace, and this reply to it: the thread had at most so
--- many turns more as are the bound of a lone thread, of which none waited. The order of z is that
--- of r with items behind it: starts, and the entry of k with the reply, and no other.
+-- the near bound of an allocation, at this rate and with this charge for the changes of a cycle
+abbrev pub allocation_near : Config → ℕ → ℕ → Command → ℕ
+allocation_near c rate charge k =
+    near_bound c.threads (payloads c.width) charge (rate * blocks_of c.width k)
+    (blocks_of c.width k)
+
+-- Run z is run r with command k behind the trace, and this reply to it. The thread had at most so
+-- many turns more as are the bound of a lone thread, and, for an allocation, the near bound, at
+-- each charge that pays; none of them waited. The order of z is that of r with items behind it:
+-- starts, and the entry of k with the reply, and no other.
 pub record Answers (c : Config) (k : Command) (a : Reply) (r z : Run) : Type 0 where
   pub turns : ℕ
   pub few : (rate : ℕ) → IsRate c rate → turns ≤ command_bound c rate k
+  pub near : (rate charge : ℕ) → IsRate c rate → between c.threads ≤ charge * c.blocks
+      → makes_object k ≡ true → turns ≤ allocation_near c rate charge k
   pub went : (i : ℕ) → i < turns → answer c 0 (after_alone c 0 (run_grown 0 k r) i).state ≡ Went
   pub after : z ≡ after_alone c 0 (run_grown 0 k r) turns
   pub items : List HistoryItem
@@ -89,7 +108,8 @@ pub record Answers (c : Config) (k : Command) (a : Reply) (r z : Run) : Type 0 w
 
 -- after a command the heap stands for such a run, whichever run it stood for
 abbrev pub HasAnswered : Control → Command → Reply → Control → Type 0
-HasAnswered old k reply new = (r : Run) → Stands old r → (z : Run) × Stands new z × Answers old.config k reply r z
+HasAnswered old k reply new =
+    (r : Run) → Stands old r → (z : Run) × Stands new z × Answers old.config k reply r z
 
 -- a heap was asked these commands one after the other, was answered so, and is then z
 abbrev pub AllAnswered : Control → List Command → List Reply → Control → Type 0

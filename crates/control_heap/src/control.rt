@@ -1,26 +1,64 @@
 //! The heap of one thread, and a command from its asking to its reply.
 
-ghost use Rattle.std.specs.Prelude.{◌≡◌, ◌<◌, ◌+◌, ◌∷◌, [], ℕ, List, IfOk};
+ghost use Rattle.std.specs.Prelude.{◌≡◌, ◌+◌, ◌-◌, ◌∷◌, ◌↔◌, [], IsTrue, IfOk, IfErr, OnOk, OnErr};
 ghost use Rattle.block_store.specs.Configs.{IsInBounds};
 ghost use Rattle.rate_plan.specs.Rates.{IsRate, IsAdmitted};
 ghost use Rattle.never_heap.specs.declared.Command.{Command};
 ghost use Rattle.never_heap.specs.declared.Reply.{Reply};
 ghost use Rattle.never_heap.specs.Bounds.{IsCommandInBounds};
-ghost use Rattle.never_heap.specs.Histories.{Started, Legal};
-ghost use Rattle.never_heap.specs.RightWork.{RightWork};
-ghost use Rattle.heap_system.specs.Lives.{objects_of};
-ghost use Rattle.heap_system.specs.Locals.{LocalState};
+ghost use Rattle.never_heap.specs.Histories.{Started};
+ghost use Rattle.heap_system.specs.Lives.{objects_of, most_units, most_objects};
 ghost use Rattle.heap_system.specs.Machines.{Run};
-ghost use Rattle.control_heap.specs.Controls.{Control, HasLeft, Stands, HasAnswered, AllAnswered, HasHistory, Served, HasBegun, asked};
+ghost use Rattle.control_heap.specs.Controls.{Control, CanOpen, HasLeft, Stands, HasAnswered, Served, HasBegun, asked, units};
+ghost use Rattle.control_heap.specs.Refusals.{IsOpenFault, IsRefused};
 
 use block_store::{Config, OutOfMemory};
 use heap_machine::Words;
 use heap_system::{Local, opening};
 use never_heap::{Command, Reply};
+use rate_plan::{PlanFault, plan};
 use std::alloc::Global;
 use std::marker::Model;
 
+// How many commands can be counted.
+const MOST_COMMANDS: u64 = 1 << 60;
+
+// How many units all commands of a life may owe, and how many of them may make an object.
+const MOST_UNITS: u64 = 1 << 45;
+
+const MOST_OBJECTS: u64 = 131_072;
+
+/// Why no heap of a configuration is opened.
+#[derive(Clone, Copy, Debug, PartialEq, Eq)]
+pub enum OpenFault {
+    /// A number of the configuration is out of its range. This is looked at first.
+    OutOfBounds,
+    /// The configuration has more threads than one.
+    NotOneThread,
+    /// The registers and the shared array take more blocks than the live limit.
+    LiveTooSmall,
+    /// The live limit leaves too little of the heap: no number of units a block is enough.
+    NoRate,
+    /// There is no room for the words of the heap, or for the blocks that are held while an object
+    /// is built.
+    NoMemory,
+}
+
+/// Why a command is not asked.
+#[derive(Clone, Copy, Debug, PartialEq, Eq)]
+pub enum Refused {
+    /// A register, number, index, length or number of units of the command is out of its range on
+    /// this heap, or the command is none of its version. This is looked at first.
+    OutOfBounds,
+    /// The life of the heap has no room for the command: for its units, for its object, or for one
+    /// command more.
+    NoLifeLeft,
+}
+
 /// A heap of one thread between two commands.
+///
+/// It lives for 2^45 units and 131,072 commands that make an object, be they answered new or full,
+/// and for 2^60 commands in all.
 #[derive(Drop)]
 pub struct ControlHeap {
     config: Config,
@@ -38,10 +76,21 @@ impl Model for ControlHeap {
 
     ghost Value = { Control };
 
-    ghost view = { λ h. record { config = h.config; words = h.words; thread = h.thread; count = h.count; objects = h.objects } };
+    ghost view = { λ h. record {
+      config = h.config;
+      words = h.words;
+      thread = h.thread;
+      count = h.count;
+      objects = h.objects;
+    } };
 
-    ghost invariant = { λ h. (r : Run)
-        × Stands (record { config = h.config; words = h.words; thread = h.thread; count = h.count; objects = h.objects }) r };
+    ghost invariant = { λ h. (r : Run) × Stands (record {
+      config = h.config;
+      words = h.words;
+      thread = h.thread;
+      count = h.count;
+      objects = h.objects;
+    }) r };
 }
 
 // Whether a command makes an object, as a number.
@@ -69,32 +118,55 @@ fn serve(words: &mut Words, thread: &mut Local)
     unreachable!();
 }
 
+// The opening heap of a configuration of one thread that has a rate.
+fn opened(alloc: Global, c: Config) -> Result<ControlHeap, OutOfMemory>
+    requires { CanOpen c }
+    ensures config { IfOk result (λ h. h.config ≡ c) }
+    ensures fresh { IfOk result (λ h. (asked h ≡ 0) × (units h ≡ 0) × (h.objects ≡ 0)) }
+    ensures stands { IfOk result (λ h. (r : Run) × Stands h r × (r.order ≡ Started ∷ [])) }
+{
+    let words = opening(alloc, &c)?;
+    let first = vec![in alloc; Command::Nil { d: 0 }]?;
+    let thread = Local::new(alloc, &c, 0, first)?;
+    Ok(ControlHeap {
+        config: c,
+        words,
+        thread,
+        count: 0,
+        objects: 0,
+    })
+}
+
 impl ControlHeap {
-    /// The opening heap of a configuration of one thread that has a rate. What it does from then on
-    /// takes no memory.
+    /// The opening heap of a configuration. It stands for a run in which nothing was asked yet.
+    /// What it does from then on takes no memory.
     ///
     /// # Errors
     ///
-    /// `OutOfMemory` where there is no room for the words, or for the blocks that the thread holds
-    /// while it builds an object.
-    pub fn open(alloc: Global, c: Config) -> Result<ControlHeap, OutOfMemory>
-        requires bounds { IsInBounds c }
-        requires plan { IsAdmitted c }
-        requires single { c.threads ≡ 1 }
+    /// The first of these that is so: `OutOfBounds` where a number of the configuration is out of
+    /// its range; `NotOneThread` where it has more threads than one; `LiveTooSmall` and `NoRate` as
+    /// of `rate_plan::plan`; and `NoMemory` where memory was refused.
+    pub fn open(alloc: Global, c: Config) -> Result<ControlHeap, OpenFault>
+        ensures can { OnOk result (CanOpen c) }
         ensures config { IfOk result (λ h. h.config ≡ c) }
-        ensures fresh { IfOk result (λ h. asked h ≡ 0) }
+        ensures fresh { IfOk result (λ h. (asked h ≡ 0) × (units h ≡ 0) × (h.objects ≡ 0)) }
         ensures stands { IfOk result (λ h. (r : Run) × Stands h r × (r.order ≡ Started ∷ [])) }
+        ensures refused { IfErr result (IsOpenFault c) }
     {
-        let words = opening(alloc, &c)?;
-        let first = vec![in alloc; Command::Nil { d: 0 }]?;
-        let thread = Local::new(alloc, &c, 0, first)?;
-        Ok(ControlHeap {
-            config: c,
-            words,
-            thread,
-            count: 0,
-            objects: 0,
-        })
+        if !c.in_bounds() {
+            return Err(OpenFault::OutOfBounds);
+        }
+        if c.threads != 1 {
+            return Err(OpenFault::NotOneThread);
+        }
+        match plan(&c) {
+            Err(PlanFault::LiveTooSmall) => Err(OpenFault::LiveTooSmall),
+            Err(PlanFault::NoRate) => Err(OpenFault::NoRate),
+            Ok(_) => match opened(alloc, c) {
+                Ok(heap) => Ok(heap),
+                Err(_) => Err(OpenFault::NoMemory),
+            },
+        }
     }
 
     /// The configuration.
@@ -111,13 +183,41 @@ impl ControlHeap {
         self.count
     }
 
-    /// Does a command, and answers its reply. The command is in bounds, and its units and its object
-    /// fit into the life of the heap's thread.
+    /// How many units its commands may still owe.
+    pub fn units_left(&self) -> u64
+        ensures { result ≡ most_units - units self.now }
+    {
+        MOST_UNITS - self.thread.units_done()
+    }
+
+    /// How many commands that make an object it may still be asked.
+    pub fn objects_left(&self) -> u64
+        ensures { result ≡ most_objects - self.now.objects }
+    {
+        MOST_OBJECTS.saturating_sub(self.objects)
+    }
+
+    /// Whether its life has room for one command more, which is in bounds: for the units that it
+    /// owes, for the object that it makes, and for the command.
+    pub fn has_left(&self, command: &Command) -> bool
+        requires { IsCommandInBounds self.now.config command.now }
+        ensures { IsTrue result ↔ HasLeft self.now command.now }
+    {
+        let few = self.count < MOST_COMMANDS;
+        let objects = self.objects.saturating_add(objects_of(*command)) <= MOST_OBJECTS;
+        let units = self.thread.units_done() + self.thread.owes(command) <= MOST_UNITS;
+        few && objects && units
+    }
+
+    /// Does a command, and answers its reply. The command is in bounds, and its life has room for
+    /// it. Whichever run the heap stood for, it now stands for that run with this command and this
+    /// reply behind it.
     pub fn request(&mut self, command: Command) -> Reply
         requires bounds { IsCommandInBounds self.old.config command }
         requires left { HasLeft self.old command }
         ensures config { self.new.config ≡ self.old.config }
         ensures one_more { asked self.new ≡ asked self.old + 1 }
+        ensures objects { self.new.objects ≡ self.old.objects + objects_of command }
         ensures answered { HasAnswered self.old command result self.new }
     {
         self.thread.begin(command);
@@ -126,18 +226,29 @@ impl ControlHeap {
         self.objects += objects_of(command);
         self.thread.log()[0].reply
     }
+
+    /// Does a command as `request` does, of which nothing is known before.
+    ///
+    /// # Errors
+    ///
+    /// `OutOfBounds` exactly where the command is not in bounds, and `NoLifeLeft` exactly where it
+    /// is and its life has no room for it. Then nothing has changed.
+    pub fn ask(&mut self, command: Command) -> Result<Reply, Refused>
+        ensures config { self.new.config ≡ self.old.config }
+        ensures can { OnOk result
+            (IsCommandInBounds self.old.config command × HasLeft self.old command) }
+        ensures one_more { OnOk result (asked self.new ≡ asked self.old + 1) }
+        ensures objects { OnOk result (self.new.objects ≡ self.old.objects + objects_of command) }
+        ensures answered { IfOk result (λ reply. HasAnswered self.old command reply self.new) }
+        ensures refused { IfErr result (IsRefused self.old command) }
+        ensures unchanged { OnErr result (self.new ≡ self.old) }
+    {
+        if !command.in_bounds(&self.config) {
+            return Err(Refused::OutOfBounds);
+        }
+        if !self.has_left(&command) {
+            return Err(Refused::NoLifeLeft);
+        }
+        Ok(self.request(command))
+    }
 }
-
-/// The order of each run for which a heap stands is legal, and has the right work.
-pub fn histories_are_right()
-    ensures legal { (h : Control) (r : Run) → Stands h r → Legal h.config r.order }
-    ensures right { (h : Control) (r : Run) → Stands h r → (rate : ℕ) → IsRate h.config rate
-        → RightWork h.config.width rate r.order }
-{}
-
-/// Whatever run a heap stands for, the requests that it answers one after the other have one
-/// history behind that of the run, which has their commands and replies in their order.
-pub fn requests_have_one_history()
-    ensures { (h z : Control) (ks : List Command) (a : List Reply) (r : Run)
-        → Stands h r → AllAnswered h ks a z → HasHistory z ks a r }
-{}

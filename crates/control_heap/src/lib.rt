@@ -2,7 +2,9 @@
 #![tactic(auto)]
 
 mod control;
+mod laws;
 #[cfg(test)]
 mod tests;
 
-pub use control::{ControlHeap, histories_are_right, requests_have_one_history};
+pub use control::{ControlHeap, OpenFault, Refused};
+pub use laws::{histories_are_right, requests_have_one_history};

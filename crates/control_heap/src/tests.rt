@@ -1,43 +1,196 @@
-//! A heap that is asked one command at a time answers as one that has them all before.
+//! Drawn requests against the heap that never frees, the end of a life, and each refusal.
 
-ghost use Rattle.std.specs.Prelude.{◌≡◌};
-ghost use Rattle.block_store.specs.declared.Width.TheVariants.{Four};
+ghost use Rattle.std.specs.Prelude.{◌≡◌, ◌<◌, ◌≤◌, ◌+◌, length, OnOk};
+ghost use Rattle.never_heap.specs.Graphs.{count_of};
 
-use crate::ControlHeap;
-use block_store::{Config, Name, OutOfMemory, Width};
-use never_heap::Command::New;
-use never_heap::Reply;
+use crate::{ControlHeap, OpenFault, Refused};
+use block_store::{Config, Name, OutOfMemory, Value, Width};
+use never_heap::{Command, Graph, Reply};
+use rand_core::utils::NextWord;
+use rand_pcg::Lcg64Xsh32;
+use std::alloc::Global;
+
+// How many commands are drawn for each width.
+const REQUESTS: u32 = 10_000;
+
+// How many registers a drawn command may name.
+const REGISTERS: u32 = 12;
 
 // One thread on 64 blocks.
-fn small() -> Config
-    ensures { result
-        ≡ record { width = Four; threads = 1; blocks = 64; live = 32; object = 4; shared = 1 } }
-{
+fn small(width: Width) -> Config {
     Config {
-        width: Width::Four,
+        width,
         threads: 1,
         blocks: 64,
-        live: 32,
-        object: 4,
-        shared: 1,
+        live: 20,
+        object: 2,
+        shared: 0,
     }
 }
 
-#[test]
-fn objects_are_made_and_let_go(rt: HostRuntime) -> Result<(), OutOfMemory> {
-    let c = small();
-    let Ok(_) = rate_plan::plan(&c) else {
-        return Ok(());
-    };
-    let mut heap = ControlHeap::open(rt.alloc(), c)?;
-    for serial in 1..=10_000_u32 {
-        let command = New { d: 1, fields: 1 };
-        if !command.in_bounds(heap.config()) || heap.asked() >= 131_072 {
-            return Ok(());
-        }
-        let reply = heap.request(command);
-        assert_eq!(rt; reply, Reply::New(Name { thread: 0, serial }));
+// One thread on a heap that is nearly too small for its live limit.
+fn narrow(width: Width) -> Config {
+    Config {
+        width,
+        threads: 1,
+        blocks: 48,
+        live: 24,
+        object: 3,
+        shared: 5,
     }
-    assert_eq!(rt; heap.asked(), 10_000);
+}
+
+fn register(draws: &mut Lcg64Xsh32) -> u8 {
+    (draws.next_word() % REGISTERS) as u8
+}
+
+// Any command, also one that is not in bounds; about a quarter of them make an object.
+fn drawn_command(draws: &mut Lcg64Xsh32) -> Command {
+    let kind = draws.next_word() % 21;
+    let d = register(draws);
+    let s = register(draws);
+    let v = register(draws);
+    let units = u64::from(draws.next_word() % 60);
+    let i = u64::from(draws.next_word() % 6);
+    let length = draws.next_word() % 20;
+    match kind {
+        0..=4 => Command::New { d, fields: length },
+        5 => Command::Arr {
+            d,
+            elements: length,
+        },
+        6 => Command::Set { d, value: i },
+        7 => Command::Nil { d },
+        8 => Command::Mov { d, s },
+        9 | 10 => Command::Get { d, s, i },
+        11 | 12 => Command::Put { s, i, v },
+        13 => Command::Len { s },
+        14 => Command::Same { a: d, b: s },
+        15 => Command::Say { s },
+        16 | 17 => Command::Swap { s, i, v },
+        18 | 19 => Command::Cas { s, i, a: d, v },
+        _ => Command::Idle { units },
+    }
+}
+
+// Asks a command. Whether it is answered as the heap that never frees answers it, or is an
+// allocation that is answered full, which changes nothing there; or it is refused, and is out of
+// bounds.
+fn agrees_on(
+    heap: &mut ControlHeap,
+    graph: &mut Graph,
+    command: Command,
+) -> Result<bool, OutOfMemory>
+    requires thread { length graph.old.graph.mutators ≡ 1 }
+    requires count { count_of graph.old.graph 0 < 131072 }
+    ensures thread { OnOk result (length graph.new.graph.mutators ≡ 1) }
+    ensures count { OnOk result (count_of graph.new.graph 0 ≤ count_of graph.old.graph 0 + 1) }
+{
+    match heap.ask(command) {
+        Ok(Reply::Full(_)) => Ok(matches!(command, Command::New { .. } | Command::Arr { .. })),
+        Ok(reply) => Ok(graph.apply(0, &command)? == reply),
+        Err(refused) => Ok(refused == Refused::OutOfBounds && !command.in_bounds(heap.config())),
+    }
+}
+
+// Whether all drawn commands are answered so.
+fn agrees(alloc: Global, width: Width, key: u64) -> Result<bool, OutOfMemory> {
+    let c = narrow(width);
+    if !c.in_bounds() || c.threads != 1 {
+        return Ok(false);
+    }
+    let Ok(mut heap) = ControlHeap::open(alloc, c) else {
+        return Ok(false);
+    };
+    let mut graph = Graph::start(alloc, &c)?;
+    let mut draws = Lcg64Xsh32::new(key, 1);
+    for _turn in 0..REQUESTS {
+        if !agrees_on(&mut heap, &mut graph, drawn_command(&mut draws))? {
+            return Ok(false);
+        }
+    }
+    Ok(true)
+}
+
+#[test]
+fn each_reply_is_that_of_the_heap_that_never_frees(rt: HostRuntime) -> Result<(), OutOfMemory> {
+    for width in [Width::Four, Width::Eight] {
+        for key in 0..4 {
+            assert!(rt; agrees(rt.alloc(), width, key)?, "requests {key}");
+        }
+    }
     Ok(())
+}
+
+// The registers and the shared array take six blocks, and a block is paid for with 7 units.
+#[test]
+fn a_life_ends_with_its_objects(rt: HostRuntime) {
+    let mut heap = ControlHeap::open(rt.alloc(), small(Width::Four)).expect(&rt, "it opens");
+    let record = Command::New { d: 1, fields: 1 };
+    for serial in 1..=131_072_u32 {
+        let new = Reply::New(Name { thread: 0, serial });
+        assert_eq!(rt; heap.ask(record), Ok(new), "object {serial}");
+    }
+    assert_eq!(rt; (heap.asked(), heap.objects_left()), (131_072, 0));
+    assert_eq!(rt; heap.units_left(), (1 << 45) - 7 * 131_072);
+    assert_eq!(rt; heap.ask(record), Err(Refused::NoLifeLeft));
+    let array = Command::Arr { d: 1, elements: 1 };
+    assert_eq!(rt; heap.ask(array), Err(Refused::NoLifeLeft));
+    let last = Value::Ref(Name {
+        thread: 0,
+        serial: 131_072,
+    });
+    assert_eq!(rt; heap.ask(Command::Say { s: 1 }), Ok(Reply::Val(last)));
+    assert_eq!(rt; heap.asked(), 131_073);
+}
+
+#[test]
+fn an_idle_counts_its_units(rt: HostRuntime) {
+    let mut heap = ControlHeap::open(rt.alloc(), small(Width::Eight)).expect(&rt, "it opens");
+    for units in [0, 10, 131_070] {
+        assert_eq!(rt; heap.ask(Command::Idle { units }), Ok(Reply::Idle));
+    }
+    assert_eq!(rt; heap.units_left(), (1 << 45) - 131_080);
+    assert_eq!(rt; (heap.asked(), heap.objects_left()), (3, 131_072));
+}
+
+#[test]
+fn a_command_out_of_bounds_changes_nothing(rt: HostRuntime) {
+    let mut heap = ControlHeap::open(rt.alloc(), small(Width::Four)).expect(&rt, "it opens");
+    for command in [
+        Command::Say { s: 16 },
+        Command::Set {
+            d: 1,
+            value: 1 << 62,
+        },
+        Command::New { d: 1, fields: 7 },
+        Command::Idle { units: 1 },
+    ] {
+        assert_eq!(rt; heap.ask(command), Err(Refused::OutOfBounds));
+    }
+    assert_eq!(rt; (heap.asked(), heap.units_left()), (0, 1 << 45));
+}
+
+#[test]
+fn each_refusal_of_a_configuration_has_its_cause(rt: HostRuntime) {
+    let c = small(Width::Four);
+    for (config, fault) in [
+        (Config { threads: 0, ..c }, OpenFault::OutOfBounds),
+        (
+            Config {
+                blocks: 65_536,
+                ..c
+            },
+            OpenFault::OutOfBounds,
+        ),
+        (Config { object: 0, ..c }, OpenFault::OutOfBounds),
+        (Config { threads: 2, ..c }, OpenFault::NotOneThread),
+        (Config { live: 5, ..c }, OpenFault::LiveTooSmall),
+        (Config { live: 59, ..c }, OpenFault::NoRate),
+    ] {
+        assert_eq!(rt; ControlHeap::open(rt.alloc(), config).err(), Some(fault));
+    }
+    for live in [6, 58] {
+        assert!(rt; ControlHeap::open(rt.alloc(), Config { live, ..c }).is_ok());
+    }
 }

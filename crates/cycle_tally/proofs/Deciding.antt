@@ -5,17 +5,16 @@ use Rattle.std.proofs.lemmas.Nat.{le-div}
 use Rattle.block_store.specs.declared.Config.{Config}
 use Rattle.rate_plan.specs.Rates.{KeepsUp, ceiling}
 use Rattle.never_heap.specs.declared.Entry.{Entry}
-use Rattle.never_heap.specs.Histories.{Did}
 use Rattle.never_heap.specs.Given.{given}
 use Rattle.never_heap.specs.Licensed.{IsLicensedReply}
 use Rattle.never_heap.specs.Taken.{taken_by}
 use Rattle.never_heap.specs.Steps.{blocks_of}
 use Rattle.block_store.specs.Counts.{changed, total}
 use Rattle.work_account.specs.Accounts.{published, refused, given_in}
-use Rattle.block_store.proofs.Functions.{changed_both, changed_self, total_changed}
+use Rattle.block_store.proofs.Functions.{changed_both, total_changed}
 use Rattle.work_account.proofs.Balances.{published_sound, refused_sound}
 use Rattle.cycle_tally.specs.Tallies.{Spending, Tally, given_now, reserved_now}
-use Rattle.cycle_tally.specs.Events.{Credit, Reserve, Publish, Refuse, Answer, ordered, apply, Guard}
+use Rattle.cycle_tally.specs.Events.{Credit, Reserve, Publish, Refuse, Answer, apply, Guard}
 use Rattle.cycle_tally.specs.Kept.{most_given, live_before, TallyKept}
 use Rattle.cycle_tally.proofs.Sums.{total_below, given_more_in}
 use Rattle.cycle_tally.proofs.Going.{goes, stays, decided}

@@ -42,11 +42,15 @@ example_runs Eight =
 pub example_cycle : (w : Width) → (example_end w).cycle ≡ 2
 example_cycle w = refl
 
-pub example_units : (w : Width) → units 10 (example_end w) ≡ 21
+pub example_units : (w : Width) → units 10 (example_end w) ≡ 23
 example_units w = refl
 
+pub example_paid : (w : Width) → ((example_end w).threads 0).balance
+    ≡ record { paid = 1; cycle = 2; units = 3; given = 0 }
+example_paid w = refl
+
 pub example_legal : (w : Width) → Legal (small w) (example_end w).order
-example_legal w = (inl refl, (inl refl, (tt, tt)))
+example_legal w = (inl refl, (inl refl, (tt, (inl refl, tt))))
 
 pub example_starts : (w : Width) → StartsSmall (small w) (example_end w).order
 unfolding live_blocks reachable tree

@@ -16,7 +16,7 @@ use Rattle.work_account.proofs.Balances.{entered_sound}
 use Rattle.cycle_tally.specs.Tallies.{Spending, Tally, claims, given_now, made_of}
 use Rattle.cycle_tally.specs.Events.{Enter, Leave, SetCursor, Flip, Start, Clear, Next, with_thread, apply, Guard}
 use Rattle.cycle_tally.specs.Entries.{entries_in}
-use Rattle.cycle_tally.specs.Kept.{IsTold, most_work, SpendingKept, live_before, TallyKept}
+use Rattle.cycle_tally.specs.Kept.{most_work, SpendingKept, live_before, TallyKept}
 use Rattle.cycle_tally.proofs.Sums.{total_least, total_nought, paid_entered, cycle_entered, units_entered, given_entered, units_later, given_later, no_claims}
 use Rattle.cycle_tally.proofs.Going.{goes, stays}
 use Rattle.cycle_tally.proofs.Counting.{one_less, entries_started, in_threads_more, bool_no, scanned_one, few_units, all_given_now, given_then}
@@ -141,9 +141,9 @@ module _ (c : Config) (rate : ℕ) (black : ℕ → ℕ) (some : 0 < rate) (s : 
     free = omega arith;
   })
 
-  pub idle_claims : (x t : ℕ) → t < c.threads → (s.threads t).inside ≡ false
+  pub outside_claims : (x t : ℕ) → t < c.threads → (s.threads t).inside ≡ false
       → claims x (s.threads t) ≡ 0
-  idle_claims x t tl out = elim (cases_lt (s.threads t).low (s.threads t).high) [
+  outside_claims x t tl out = elim (cases_lt (s.threads t).low (s.threads t).high) [
     | inl l ↦ absurd (bool_no _ out ((k.each t tl).claimed l).1)
     | inr g ↦ no_claims x (s.threads t) g
   ]
@@ -155,7 +155,7 @@ module _ (c : Config) (rate : ℕ) (black : ℕ → ℕ) (some : 0 < rate) (s : 
   passed_all sw above out x pos low =
       let none : total c.threads (λ t. claims x (s.threads t)) ≡ 0 =
       total_none c.threads (λ t. claims x (s.threads t))
-      (λ t tl. idle_claims x t tl (out t tl)) in
+      (λ t tl. outside_claims x t tl (out t tl)) in
       let one : bit (s.sweep && ltb x s.cursor) ≡ 1 = ap (λ b. bit (b && ltb x s.cursor)) sw
       ∙ ap bit (lt-ltb x s.cursor (omega arith)) in
       omega (arith, k.passes x pos)
@@ -199,7 +199,7 @@ module _ (c : Config) (rate : ℕ) (black : ℕ → ℕ) (some : 0 < rate) (s : 
         scans = λ x. omega arith;
         passes = λ x pos. (let z : total c.threads (λ t. claims x (s.threads t)) ≡ 0 =
             total_none c.threads (λ t. claims x (s.threads t))
-            (λ t tl. idle_claims x t tl (g.2 t tl)) in omega arith);
+            (λ t tl. outside_claims x t tl (g.2 t tl)) in omega arith);
         counted = (let z : total c.threads (λ t. units_in (s.cycle + 1) (s.threads t).balance) ≡ 0 =
             total_none c.threads (λ t. units_in (s.cycle + 1) (s.threads t).balance)
             (λ t tl. units_later s.cycle (s.threads t).balance (k.each t tl).entered) in

@@ -1,5 +1,5 @@
 -- How large the counts of a run get.
-use Rattle.std.proofs.Common.{◌≡◌, ℕ, ◌+◌, ◌-◌, ◌*◌, ◌^◌, ◌≤◌, ◌<◌, arith}
+use Rattle.std.proofs.Common.{ℕ, ◌+◌, ◌-◌, ◌*◌, ◌^◌, ◌≤◌, ◌<◌, arith}
 use Rattle.std.proofs.lemmas.Nat.{mul-le}
 use Rattle.block_store.specs.declared.Config.{Config}
 use Rattle.never_heap.specs.Histories.{work_in}

@@ -6,6 +6,7 @@ use Rattle.block_store.specs.Configs.{IsInBounds}
 use Rattle.never_heap.specs.declared.Entry.{Entry}
 use Rattle.never_heap.specs.declared.Reply.{Reply}
 use Rattle.never_heap.specs.declared.Reply.TheVariants.{Full}
+use Rattle.never_heap.specs.declared.TheConstants.{MOST_UNITS}
 use Rattle.never_heap.specs.Cycles.{graph_at}
 use Rattle.never_heap.specs.Given.{given}
 use Rattle.never_heap.specs.Histories.{HistoryItem, is_full}
@@ -187,7 +188,7 @@ module _ (c : Config) (rate : ℕ) (black : ℕ → ℕ) where
   may s (Next t k u) =
       let w = s.threads t in
       ltb t c.threads && (leb w.high w.low && (eqb w.reserved 0 && (eqb (made_of w) 0
-      && (leb k c.object && ((eqb u 0 || eqb k 0) && leb u 131070)))))
+      && (leb k c.object && ((eqb u 0 || eqb k 0) && leb u MOST_UNITS)))))
 
   painted : (s : Tally) (x w : ℕ) → (s.sweep || eqb w (black s.cycle)) ≡ true
       → s.sweep ≡ false → s.colour x ≡ black s.cycle → w ≡ black s.cycle
@@ -217,17 +218,19 @@ module _ (c : Config) (rate : ℕ) (black : ℕ → ℕ) where
       (both _ _ (all_paid_is (s.threads t)) (leb-true _ _)))) h)
   may_is s (Publish t e) h = flat8 (both _ _ (ltb-true _ _)
       (both _ _ (yes_is _) (both _ _ (leb-true _ _)
-      (both _ _ (decides_is t (s.threads t) e) (both _ _ (eqb-true _ _) (both _ _ (all_paid_is (s.threads t))
-      (both _ _ (eqb-true _ _) (no_is _))))))) h)
+      (both _ _ (decides_is t (s.threads t) e) (both _ _ (eqb-true _ _)
+      (both _ _ (all_paid_is (s.threads t)) (both _ _ (eqb-true _ _) (no_is _))))))) h)
   may_is s (Refuse t e) h = flat8 (both _ _ (ltb-true _ _)
       (both _ _ (yes_is _) (both _ _ (leb-true _ _)
-      (both _ _ (decides_is t (s.threads t) e) (both _ _ (eqb-true _ _) (both _ _ (all_paid_is (s.threads t))
+      (both _ _ (decides_is t (s.threads t) e) (both _ _ (eqb-true _ _)
+      (both _ _ (all_paid_is (s.threads t))
       (both _ _ (ltb-true _ _) (full_is (max 1 (s.cycle - 1)) e.reply))))))) h)
   may_is s (Answer t e) h = flat5 (both _ _ (ltb-true _ _) (both _ _ (decides_is t (s.threads t) e)
       (both _ _ (eqb-true _ _) (both _ _ (no_is _) (eqb-true _ _)))) h)
   may_is s (Next t k u) h = flat7 (both _ _ (ltb-true _ _)
       (both _ _ (leb-true _ _) (both _ _ (eqb-true _ _)
-      (both _ _ (eqb-true _ _) (both _ _ (leb-true _ _) (both _ _ (one_nought u k) (leb-true _ _)))))) h)
+      (both _ _ (eqb-true _ _) (both _ _ (leb-true _ _)
+      (both _ _ (one_nought u k) (leb-true _ _)))))) h)
 
   -- all of a list may come, one after another
   abbrev pub all_may : Tally → List Event → Bool

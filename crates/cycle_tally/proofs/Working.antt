@@ -6,12 +6,11 @@ use Rattle.std.proofs.lemmas.Bool.Decides.{nat_tests}
 use Rattle.block_store.specs.declared.Config.{Config}
 use Rattle.block_store.specs.Phases.{bit}
 use Rattle.block_store.specs.Counts.{total}
-use Rattle.work_account.specs.Accounts.{Balance, with_unit, IsSound, units_in}
+use Rattle.work_account.specs.Accounts.{units_in}
 use Rattle.block_store.proofs.Functions.{total_part, bit_le, bit_one}
-use Rattle.work_account.proofs.Balances.{unit_sound}
 use Rattle.cycle_tally.specs.Tallies.{Spending, Tally, claims, made_of, due_of, with_made}
 use Rattle.cycle_tally.specs.Events.{Paint, Scan, Claim, Pass, apply, Guard}
-use Rattle.cycle_tally.specs.Kept.{IsTold, SpendingKept, TallyKept}
+use Rattle.cycle_tally.specs.Kept.{SpendingKept, TallyKept}
 use Rattle.cycle_tally.proofs.Sums.{rises, made_more, made_cycle, made_units, made_given, made_told, made_sound, made_within, full_is_full, no_claims, claims_within, claims_below, claims_above}
 use Rattle.cycle_tally.proofs.Going.{goes, stays}
 

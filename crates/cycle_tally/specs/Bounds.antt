@@ -11,7 +11,7 @@ use Rattle.cycle_tally.specs.Events.{IsEmpty}
 use Rattle.cycle_tally.specs.Entries.{entries_in, InThreads}
 use Rattle.cycle_tally.specs.Kept.{most_given, most_work}
 
--- no thread asks for a block, or is told of a unit
+-- no thread asks for a block or is told of a unit, so that none is made for what is not decided yet
 abbrev pub AsksNothing : Config → Tally → Type 0
 AsksNothing c s =
     (t : ℕ) → t < c.threads → ((s.threads t).asked ≡ 0) × ((s.threads t).told ≡ 0)
@@ -30,7 +30,8 @@ pub record Bound (c : Config) (rate : ℕ) (s : Tally) : Type 0 where
   pub passed_once : (x : ℕ) → 0 < x → s.passed x ≤ 1
   pub all_passed : IsSwept c s → (x : ℕ) → 0 < x → x ≤ c.blocks → s.passed x ≡ 1
   pub gave : (z : ℕ) → z ≤ s.cycle → given c.width s.order z ≤ most_given c rate
-  -- the units of all cycles are the works of what was decided, and what was made for the rest
+  -- the units of all cycles are the works of what was decided, and what was made for the rest; no
+  -- command has more than the price of the largest object, or an idle the most that it may
   pub cycles : starts_in s.order ≡ s.cycle
   pub few : (s.cycle - 1) * c.blocks ≤ units c.blocks s
   pub many : units c.blocks s ≤ 2 * c.blocks * s.cycle

@@ -3,6 +3,7 @@ use Rattle.std.specs.Prelude.{ℕ, ◌+◌, ◌-◌, ◌*◌, ◌<◌, ◌≤◌
 use Rattle.block_store.specs.declared.Config.{Config}
 use Rattle.never_heap.specs.declared.Entry.{Entry}
 use Rattle.never_heap.specs.declared.Reply.TheVariants.{Full}
+use Rattle.never_heap.specs.declared.TheConstants.{MOST_UNITS}
 use Rattle.never_heap.specs.Histories.{HistoryItem, Started, Did, is_full}
 use Rattle.never_heap.specs.Cycles.{graph_at}
 use Rattle.never_heap.specs.Given.{given}
@@ -10,7 +11,7 @@ use Rattle.never_heap.specs.LiveBlocks.{live_blocks}
 use Rattle.never_heap.specs.Taken.{taken_by}
 use Rattle.never_heap.specs.RightWork.{units_told}
 use Rattle.never_heap.specs.Steps.{blocks_of}
-use Rattle.work_account.specs.Accounts.{Balance, entered, with_unit, published, refused}
+use Rattle.work_account.specs.Accounts.{Balance, entered, published, refused}
 use Rattle.cycle_tally.specs.Tallies.{Spending, Tally, units_now, made_of, due_of, with_made}
 use Rattle.block_store.specs.Counts.{changed}
 
@@ -156,7 +157,7 @@ module _ (c : Config) (rate : ℕ) (black : ℕ → ℕ) where
   Guard s (Next t k u) =
       let w = s.threads t in
       (t < c.threads) × NoClaim w × (w.reserved ≡ 0) × (made_of w ≡ 0) × (k ≤ c.object)
-      × ((u ≡ 0) ⊎ (k ≡ 0)) × (u ≤ 131070)
+      × ((u ≡ 0) ⊎ (k ≡ 0)) × (u ≤ MOST_UNITS)
 
   abbrev pub run : Tally → List Event → Tally
   run s [] = s

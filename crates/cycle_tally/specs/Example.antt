@@ -1,6 +1,6 @@
 -- One thread that pays for a record of one block by a whole cycle: all blocks are scanned, the
 -- phase is turned over, all are passed in two claims, the record is published, and the next cycle
--- starts.
+-- starts. In that it idles for two units, and then pays for another record.
 use Rattle.std.specs.Prelude.{ℕ, zero, suc, ◌+◌, ◌*◌, List, [], ◌∷◌, ◌++◌}
 use Rattle.block_store.specs.declared.Config.{Config}
 use Rattle.block_store.specs.declared.Width.{Width}
@@ -52,10 +52,18 @@ sweep_events =
     ∷ Claim 0 2 ∷ Pass 0 ∷ Pass 0 ∷ Clear 0
     ∷ Paint 10 0 ∷ Credit 1 ∷ Reserve 0 ∷ Publish 0 made_entry ∷ Leave 0 ∷ []
 
--- the record is dropped, and the cycle after that begins with a unit
+abbrev pub idle_entry : Entry
+idle_entry =
+    record { thread = 0; command = commands.Idle 2; reply = replies.Idle; work = 2 }
+
+-- the record is dropped, and the cycle after that begins with the two units of an idle, and one
+-- that is paid
 abbrev pub next_events : List Event
 next_events =
-    Next 0 0 0 ∷ Answer 0 dropped_entry ∷ Start ∷ Next 0 1 0 ∷ Enter 0 ∷ Scan 0 1 ∷ []
+    Next 0 0 0 ∷ Answer 0 dropped_entry ∷ Start
+    ∷ Next 0 0 2 ∷ Enter 0 ∷ Scan 0 1 ∷ Leave 0 ∷ Enter 0 ∷ Scan 0 2 ∷ Leave 0
+    ∷ Enter 0 ∷ Answer 0 idle_entry ∷ Leave 0
+    ∷ Next 0 1 0 ∷ Enter 0 ∷ Scan 0 3 ∷ []
 
 abbrev pub some_events : List Event
 some_events = mark_events ++ (sweep_events ++ next_events)

@@ -2,6 +2,7 @@
 use Rattle.std.specs.Prelude.{ℕ, ◌+◌, ◌-◌, ◌*◌, ◌/◌, ◌<◌, ◌≤◌, ◌≡◌, ◌≢◌, ◌⊎◌, ◌==◌, ◌&&◌, ◌||◌, nat_lt, max, true}
 use Rattle.block_store.specs.declared.Config.{Config}
 use Rattle.block_store.specs.Phases.{bit}
+use Rattle.never_heap.specs.declared.TheConstants.{MOST_UNITS}
 use Rattle.never_heap.specs.Histories.{starts_in, work_in}
 use Rattle.never_heap.specs.Cycles.{graph_at}
 use Rattle.never_heap.specs.Given.{given}
@@ -17,16 +18,16 @@ use Rattle.cycle_tally.specs.Tallies.{Spending, Tally, claims, units_now, given_
 abbrev pub most_given : Config → ℕ → ℕ
 most_given c rate = (2 * c.blocks) / rate + c.threads * c.object
 
--- what a command owes: it has blocks or is told of units, and not both. No unit was made outside the
--- account but for an idle
+-- what a command owes: it has blocks or is told of units, and not both, and of no more units than
+-- an idle may have. No unit was made outside the account but for an idle
 pub record IsTold (asked told idled : ℕ) : Type 0 where
   pub apart : (told ≡ 0) ⊎ (asked ≡ 0)
   pub none : told ≡ 0 → idled ≡ 0
-  pub few : told ≤ 131070
+  pub few : told ≤ MOST_UNITS
 
 -- the most units that are made for one command
 abbrev pub most_work : Config → ℕ → ℕ
-most_work c rate = rate * c.object + 131070
+most_work c rate = rate * c.object + MOST_UNITS
 
 -- A thread in this cycle. What it has claimed it can still pay, and what it has reserved is paid.
 pub record SpendingKept (c : Config) (rate cycle : ℕ) (w : Spending) : Type 0 where

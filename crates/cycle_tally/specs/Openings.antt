@@ -10,7 +10,7 @@ use Rattle.cycle_tally.specs.Tallies.{Spending, Tally}
 use Rattle.cycle_tally.specs.Kept.{IsTold}
 
 -- a thread before its first command, which asks for at most one object
-pub record IsIdle (c : Config) (w : Spending) : Type 0 where
+pub record IsNew (c : Config) (w : Spending) : Type 0 where
   pub inside : w.inside ≡ false
   pub balance : w.balance ≡ opened
   pub asked : w.asked ≤ c.object
@@ -24,7 +24,7 @@ pub record Opened (c : Config) (s : Tally) : Type 0 where
   pub sweep : s.sweep ≡ false
   pub cursor : s.cursor ≡ c.blocks + 1
   pub order : s.order ≡ Started ∷ []
-  pub threads : (t : ℕ) → t < c.threads → IsIdle c (s.threads t)
+  pub threads : (t : ℕ) → t < c.threads → IsNew c (s.threads t)
   pub scanned : (x : ℕ) → s.scanned x ≡ 0
   pub passed : (x : ℕ) → s.passed x ≡ 0
   pub past : s.past ≡ 0

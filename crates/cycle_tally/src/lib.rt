@@ -40,7 +40,9 @@ pub fn events_are_kept()
 {}
 
 /// An opening is kept, and the opening heap of each configuration in bounds that has room for it
-/// is one, whatever its colours are.
+/// is one, whatever its colours are. A thread's first command asks for no more blocks than the
+/// largest object has or is told of no more units than an idle may be, and not both: so does each
+/// command in bounds, and where there is none both are 0.
 pub fn openings_are_kept()
     ensures kept { (c : Config) (rate : ℕ) (black : ℕ → ℕ) (s : Tally)
         → 0 < rate → Opened c s → TallyKept c rate black s }
@@ -85,8 +87,8 @@ pub fn few_blocks_are_in_use()
         + given c.width s.order s.cycle }
 {}
 
-/// While the works of what was decided and what was made for the commands in hand are below 2^50, so
-/// are the units of all cycles and the number of the cycle, however many commands there were.
+/// While the works of what was decided and what was made for the commands in hand are below 2^50,
+/// so are the units of all cycles and the number of the cycle, however many commands there were.
 pub fn counts_stay_small()
     ensures { (c : Config) (rate : ℕ) (s : Tally) → Bound c rate s
         → 0 < c.blocks → work_in s.order + made_now c.threads s < 2 ^ 50 - 1
@@ -94,7 +96,8 @@ pub fn counts_stay_small()
 {}
 
 /// The conditions of these laws are met in blocks of either width: over a whole cycle of one
-/// thread, which pays for a record by it, and the first unit of the next.
+/// thread, which pays for a record by it, and the first units of the next, of which an idle made
+/// two and the third alone is paid.
 pub fn the_example_runs()
     ensures bounds { (w : Width) → IsInBounds (small w) }
     ensures room { (w : Width) → opening_blocks (small w) ≤ (small w).blocks }
@@ -104,7 +107,9 @@ pub fn the_example_runs()
     ensures legal { (w : Width) → Legal (small w) (example_end w).order }
     ensures starts { (w : Width) → StartsSmall (small w) (example_end w).order }
     ensures cycle { (w : Width) → (example_end w).cycle ≡ 2 }
-    ensures units { (w : Width) → units (small w).blocks (example_end w) ≡ 21 }
+    ensures units { (w : Width) → units (small w).blocks (example_end w) ≡ 23 }
+    ensures paid { (w : Width) → ((example_end w).threads 0).balance
+        ≡ record { paid = 1; cycle = 2; units = 3; given = 0 } }
 {}
 
 /// A full can come: of one thread that keeps what it is given, the fifth allocation is refused in

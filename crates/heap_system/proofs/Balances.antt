@@ -10,7 +10,7 @@ use Rattle.work_account.proofs.Balances.{entered_sound, unit_sound, idle_sound, 
 use Rattle.cycle_tally.proofs.Sums.{paid_entered}
 use Rattle.heap_system.specs.declared.local.Part.{Part}
 use Rattle.heap_system.specs.declared.local.Part.TheVariants.{Serve, Build}
-use Rattle.heap_system.specs.Locals.{balance_in, balance_made, balance_paid, paid_got, paid_part, idle_part, effect, IsPaid}
+use Rattle.heap_system.specs.Locals.{balance_in, balance_made, balance_on, balance_over, balance_paid, spent_got, paid_part, idle_part, effect, IsAllMade}
 use Rattle.heap_system.proofs.Seeing.{IsSettled}
 
 -- what is paid after it
@@ -28,17 +28,16 @@ none_spent told = elim (cases_eq told 0) [
 ]
 
 pub paid_after : (o : Option Reply) (unit : Bool) (told k spent : ℕ) (b : Balance) → b.paid ≡ paid_part told spent
-    → (balance_paid o unit told k b).paid ≡ paid_part told (paid_got o unit spent)
+    → (balance_paid o unit told k b).paid ≡ paid_part told (spent_got o unit spent)
 paid_after None true told k spent b is = made_paid told spent b is
 paid_after None false told k spent b is = is
 paid_after (Some (replies.New a)) unit told k spent b is = sym (none_spent told)
 paid_after (Some _) unit told k spent b is = sym (none_spent told)
 
 -- behind a reply nothing is paid, whatever the next command is
-pub paid_over : (r : Reply) (unit : Bool) (told next k : ℕ) (b : Balance)
-    → (balance_paid (Some r) unit told k b).paid ≡ paid_part next 0
-paid_over (replies.New a) unit told next k b = sym (none_spent next)
-paid_over _ unit told next k b = sym (none_spent next)
+pub paid_over : (r : Reply) (next k : ℕ) (b : Balance) → (balance_over r k b).paid ≡ paid_part next 0
+paid_over (replies.New a) next k b = sym (none_spent next)
+paid_over _ next k b = sym (none_spent next)
 
 -- a command with blocks has paid all that was made for it
 pub all_paid : (told spent paid : ℕ) → paid ≡ paid_part told spent → told ≡ 0 → paid ≡ spent
@@ -86,7 +85,7 @@ paid_in None b = refl
 paid_in (Some p) b = paid_entered p.cycle b
 
 pub got_paid : (i : Option PhaseWord) (o : Option Reply) (unit : Bool) (told k spent : ℕ) (b : Balance) → b.paid ≡ paid_part told spent
-    → (balance_paid o unit told k (balance_in i b)).paid ≡ paid_part told (paid_got o unit spent)
+    → (balance_paid o unit told k (balance_in i b)).paid ≡ paid_part told (spent_got o unit spent)
 got_paid i o unit told k spent b is = paid_after o unit told k spent (balance_in i b) (paid_in i b ∙ is)
 
 -- its units are among these, or paid
@@ -119,15 +118,14 @@ made_given told b = elim (cases_eq told 0) [
   | inr ne ↦ rw (ne_eqb told 0 ne) refl
 ]
 
-pub units_on : (unit : Bool) (told k n spent : ℕ) (b : Balance) → b.units ≤ n + spent
-    → (balance_paid None unit told k b).units ≤ n + paid_got None unit spent
-units_on true told k n spent b few = omega (arith, made_units told b)
-units_on false told k n spent b few = few
+pub units_on : (unit : Bool) (told n spent : ℕ) (b : Balance) → b.units ≤ n + spent
+    → (balance_on unit told b).units ≤ n + spent_got None unit spent
+units_on true told n spent b few = omega (arith, made_units told b)
+units_on false told n spent b few = few
 
-pub units_over : (r : Reply) (unit : Bool) (told k : ℕ) (b : Balance)
-    → (balance_paid (Some r) unit told k b).units ≡ b.units
-units_over (replies.New a) unit told k b = refl
-units_over _ unit told k b = refl
+pub units_over : (r : Reply) (k : ℕ) (b : Balance) → (balance_over r k b).units ≡ b.units
+units_over (replies.New a) k b = refl
+units_over _ k b = refl
 
 -- and it stays sound
 pub sound_in : (rate object : ℕ) (i : Option PhaseWord) (b : Balance) → IsSound rate object b
@@ -138,45 +136,35 @@ sound_in rate object (Some p) b s = entered_sound rate object p.cycle b s
 -- of a command of k blocks, or told of so many units, that owes more than was made
 pub sound_on : (rate object : ℕ) (unit : Bool) (told k spent : ℕ) (b : Balance)
     → b.paid ≡ paid_part told spent → rate * k ≤ rate * object
-    → paid_got None unit spent ≤ rate * k + told → IsSound rate object b
-    → IsSound rate object (balance_paid None unit told k b)
+    → spent_got None unit spent ≤ rate * k + told → IsSound rate object b
+    → IsSound rate object (balance_on unit told b)
 sound_on rate object true told k spent b is few low s = elim (cases_eq told 0) [
   | inl e ↦ rw (eq-eqb told 0 e) (unit_sound rate object b (omega (arith, all_paid told spent b.paid is e)) s)
   | inr ne ↦ rw (ne_eqb told 0 ne) (idle_sound rate object b s)
 ]
 sound_on rate object false told k spent b is few low s = s
 
--- the same, for what a unit changes of a balance
-pub sound_made : (rate object : ℕ) (unit : Bool) (told k spent : ℕ) (b : Balance)
-    → b.paid ≡ paid_part told spent → rate * k ≤ rate * object
-    → paid_got None unit spent ≤ rate * k + told → IsSound rate object b
-    → IsSound rate object (balance_paid None unit told 0 b)
-sound_made rate object true told k spent b is few low s = sound_on rate object true told k spent b is few low s
-sound_made rate object false told k spent b is few low s = s
+pub sound_over : (rate object : ℕ) (r : Reply) (k : ℕ) (b : Balance) → b.paid ≡ rate * k
+    → IsSound rate object b → IsSound rate object (balance_over r k b)
+sound_over rate object (replies.New a) k b all s = published_sound rate object k b all s
+sound_over rate object _ k b all s = refused_sound rate object b s
 
-pub sound_over : (rate object : ℕ) (r : Reply) (unit : Bool) (told k : ℕ) (b : Balance)
-    → b.paid ≡ rate * k → IsSound rate object b
-    → IsSound rate object (balance_paid (Some r) unit told k b)
-sound_over rate object (replies.New a) unit told k b all s = published_sound rate object k b all s
-sound_over rate object _ unit told k b all s = refused_sound rate object b s
-
--- where a thread does its command it has paid all
-pub is_paid : (due paid : ℕ) (p : Part) → IsSettled due paid p → IsPaid due paid p
-is_paid due paid (Serve f) all = all
-is_paid due paid (Build b) all = all
-is_paid due paid _ all = tt
+-- where a thread does its command it has made all
+pub is_made : (due spent : ℕ) (p : Part) → IsSettled due spent p → IsAllMade due spent p
+is_made due spent (Serve f) all = all
+is_made due spent (Build b) all = all
+is_made due spent _ all = tt
 
 -- and so it has at its reply
-pub replied_paid : (c : Config) (due paid : ℕ) (p : Part) (w : ℕ) (r : Reply) → IsPaid due paid p
-    → (effect c p w).reply ≡ Some r → paid ≡ due
-replied_paid c due paid (Serve f) w r all e = all
-replied_paid c due paid (Build b) w r all e = all
-replied_paid c due paid _ w r all e = absurd cc
+pub replied_made : (c : Config) (due spent : ℕ) (p : Part) (w : ℕ) (r : Reply)
+    → IsAllMade due spent p → (effect c p w).reply ≡ Some r → spent ≡ due
+replied_made c due spent (Serve f) w r all e = all
+replied_made c due spent (Build b) w r all e = all
+replied_made c due spent _ w r all e = absurd cc
 
 -- a reply to a command that gives and pays nothing
-pub nothing_paid : (r : Reply) (unit : Bool) (told k : ℕ) (b : Balance) → k ≡ 0 → b.paid ≡ 0
-    → balance_paid (Some r) unit told k b ≡ b
-nothing_paid (replies.New a) unit told k b none zero =
+pub nothing_paid : (r : Reply) (k : ℕ) (b : Balance) → k ≡ 0 → b.paid ≡ 0 → balance_over r k b ≡ b
+nothing_paid (replies.New a) k b none zero =
     let same : b.given + k ≡ b.given = omega arith in
     λ i. record b { paid = sym zero i; given = same i }
-nothing_paid _ unit told k b none zero = λ i. record b { paid = sym zero i }
+nothing_paid _ k b none zero = λ i. record b { paid = sym zero i }

@@ -104,7 +104,7 @@ module _ (c : Config) (traces : List (List Command)) (laws : (p : Part) → Part
   -- where no command is in hand they are the work of the order
   pub all_done : AllDone c r.state → units_so_far c r ≡ work_in r.order
   all_done done =
-      let none : total c.threads (λ t. (local_in c r t).spent) ≡ 0 = total_none c.threads _ (λ t tl. rest_settled c traces r kept t tl (and_parts _ _ (done t tl)).0) in
+      let none : total c.threads (λ t. (local_in c r t).spent) ≡ 0 = total_none c.threads _ (λ t tl. (rest_settled c traces r kept t tl (and_parts _ _ (done t tl)).0).0) in
       omega (arith, none)
 
   pub in_threads : InThreads c.threads r.order

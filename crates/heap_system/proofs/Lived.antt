@@ -1,5 +1,5 @@
 -- A trace of a text is a life: it has few commands.
-use Rattle.std.proofs.Common.{◌^◌, ℕ, ◌*◌, ◌≤◌, Bool, true, false, List, [], ◌∷◌, length, arith}
+use Rattle.std.proofs.Common.{◌^◌, ◌≡◌, ℕ, ◌+◌, ◌*◌, ◌≤◌, ap, Bool, true, false, List, [], ◌∷◌, length, arith}
 use Rattle.std.proofs.lemmas.Nat.{mul-le}
 use Rattle.std.specs.List.{AllByRecursion}
 use Rattle.block_store.specs.declared.Config.{Config}
@@ -9,17 +9,24 @@ use Rattle.rate_plan.specs.Rates.{IsAdmitted}
 use Rattle.never_heap.specs.declared.Command.{Command}
 use Rattle.never_heap.specs.Bounds.{IsCommandInBounds}
 use Rattle.never_heap.specs.Jobs.{IsTraceInBounds, IsJobInBounds}
-use Rattle.never_heap.specs.RightWork.{units_owed}
+use Rattle.never_heap.specs.RightWork.{units_told, units_owed}
 use Rattle.never_heap.specs.Steps.{makes_object, blocks_of}
 use Rattle.heap_system.specs.Lives.{sum_after, objects_of, IsLife}
+use Rattle.heap_system.specs.Locals.{LocalState, IsLocal}
 use Rattle.heap_system.specs.Machines.{IsJob}
 use Rattle.heap_system.specs.Systems.{commands_in}
 use Rattle.heap_system.proofs.Paying.{blocks_low, told_low, rate_low}
 
-one_owes : (c : Config) (rate : ℕ) (k : Command) → rate ≤ 131070 → c.object ≤ 1024 → IsCommandInBounds c k → units_owed c.width rate k ≤ 134346750
+pub one_owes : (c : Config) (rate : ℕ) (k : Command) → rate ≤ 131070 → c.object ≤ 1024 → IsCommandInBounds c k → units_owed c.width rate k ≤ 134346750
 one_owes c rate k low object is =
     let price : rate * blocks_of c.width k ≤ 131070 * 1024 = mul-le rate (blocks_of c.width k) 131070 1024 low (omega (arith, blocks_low c k is, object)) in
     omega (arith, price, told_low c k is)
+
+-- what a thread's command owes
+pub owes_low : (l : LocalState) → IsLocal l → (k : Command) → IsCommandInBounds l.config k → (n told : ℕ) → n ≡ blocks_of l.config.width k → told ≡ units_told k → l.rate * n + told ≤ 134346750
+owes_low l is k fits n told blocks units =
+    let price : l.rate * n ≡ l.rate * blocks_of l.config.width k = ap (λ x. l.rate * x) blocks in
+    omega (arith, price, units, one_owes l.config l.rate k (rate_low l.config l.rate is.bounds is.plan is.rate) is.bounds.object fits)
 
 all_owe : (c : Config) (rate : ℕ) (ks : List Command) → rate ≤ 131070 → c.object ≤ 1024 → AllByRecursion (IsCommandInBounds c) ks → sum_after (units_owed c.width rate) 0 ks ≤ length ks * 134346750
 all_owe c rate [] low object all = omega arith

@@ -1,6 +1,6 @@
 -- What a thread has loaded is of kept objects, which register is pending in which command, and that
 -- the shaded roots are grey.
-use Rattle.std.proofs.Common.{◌≡◌, ◌≢◌, ℕ, ◌<◌, ◌⊎◌, inl, inr, true, false, eqb-true, List, length, Some, refl, sym, ap, ◌∙◌, subst}
+use Rattle.std.proofs.Common.{◌≡◌, ◌≢◌, ℕ, ◌<◌, ◌⊎◌, inl, inr, true, false, eqb-true, List, length, Option, Some, IfSome, refl, sym, ap, ◌∙◌, subst}
 use Rattle.block_store.specs.declared.Config.{Config}
 use Rattle.block_store.specs.Colours.{is_free, is_grey, black_word}
 use Rattle.block_store.specs.Payloads.{target}
@@ -8,18 +8,18 @@ use Rattle.block_store.specs.Places.{Extent, extent}
 use Rattle.block_store.specs.Widths.{payloads}
 use Rattle.never_heap.specs.declared.Command.{Command}
 use Rattle.never_heap.specs.declared.Command.TheVariants as commands
+use Rattle.never_heap.specs.Graphs.{register_of}
 use Rattle.never_heap.specs.Histories.{replay}
-use Rattle.shown_graph.specs.Events.{ObjectLoad, ValueLoad, ObjectIs, is_pending, value_in}
+use Rattle.shown_graph.specs.Events.{ObjectLoad, ValueLoad, ObjectIs, ValueIs, is_pending}
 use Rattle.shown_graph.specs.Shown.{IsValueOf}
 use Rattle.kept_names.specs.Building.{Build, NotHeld}
 use Rattle.kept_names.specs.Colouring.{IfRefers, IsBlockOf, IsShadedRoot}
-use Rattle.kept_names.specs.Events.{loaded_word}
 use Rattle.kept_names.specs.Kept.{IsKept}
 use Rattle.kept_names.specs.States.{KeptState, sizes, Kept as KeptNames}
 use Rattle.kept_names.specs.Reached.{IsReachedBlock}
 use Rattle.kept_names.proofs.Holding.{some_is}
 use Rattle.kept_names.proofs.Showing.{reached_black, dark_refers}
-use Rattle.kept_names.proofs.Standing.{kept_not_held, loaded_kept}
+use Rattle.kept_names.proofs.Standing.{kept_not_held, value_refers}
 use Rattle.barrier_steps.specs.Fits.{is_row_of}
 use Rattle.barrier_steps.specs.Operands.{to_register, takes_field}
 use Rattle.barrier_steps.specs.Projection.{row_loading, carried_load}
@@ -27,10 +27,9 @@ use Rattle.barrier_steps.specs.Rows.{FieldState, field_decided}
 use Rattle.barrier_steps.specs.declared.rows.FieldRow.{FieldRow}
 use Rattle.barrier_steps.specs.declared.rows.FieldRow.TheVariants as fields
 use Rattle.barrier_steps.specs.declared.rows.FieldStore.TheVariants as stores
-use Rattle.barrier_steps.proofs.Projecting.{has_value}
 use Rattle.heap_system.specs.declared.local.Part.{Part}
 use Rattle.heap_system.specs.declared.local.Part.TheVariants.{Serve}
-use Rattle.heap_system.specs.Loaded.{IsLoadedBlock, IsTaking}
+use Rattle.heap_system.specs.Loaded.{IsLoadedBlock, IsOfValue, IsTaking}
 use Rattle.heap_system.specs.Locals.{PartFits, task, command_of}
 use Rattle.heap_system.specs.Machines.{Run, local_at}
 use Rattle.heap_system.proofs.Kept.{Kept}
@@ -41,10 +40,11 @@ module _ (c : Config) (s : KeptState) (k : IsKept c s) where
   IsOfKept x = IsBlockOf (KeptNames s) (sizes c s) s.at x
 
   -- the block to which a loaded value refers
-  value_block : (t : ℕ) → t < c.threads → (v : ValueLoad) → (s.seen.loads t).value ≡ Some v → target v.word ≢ 0 → IsOfKept (target v.word)
-  value_block t tl v is some =
-      let word : loaded_word s t ≡ v.word = ap (λ o. (value_in o).word) is in
-      subst (λ y. IsOfKept (target y)) word (loaded_kept c s k t tl (has_value s.seen t v is) (λ none. some (sym (ap target word) ∙ none)))
+  value_block : (t : ℕ) → t < c.threads → (o : Option ValueLoad) → IfSome o (λ v. ValueIs s.seen.graph s.at t v) → (x : ℕ) → IsOfValue o x → IsOfKept x
+  value_block t tl o all x of =
+      let v : ValueIs s.seen.graph s.at t of.load = some_is (λ l. ValueIs s.seen.graph s.at t l) o of.load of.there all in
+      let kept = value_refers c s k (register_of s.seen.graph t of.load.origin) (k.follows.shows.closed.registers t of.load.origin tl v.origin) in
+      subst IsOfKept (sym of.is) (subst (λ y. IfRefers IsOfKept y) (sym v.word) kept of.refers)
 
   -- and the one of a loaded object
   object_block : (t : ℕ) → t < c.threads → (o : ObjectLoad) → (s.seen.loads t).object ≡ Some o → IsOfKept o.block
@@ -59,8 +59,9 @@ module _ (c : Config) (s : KeptState) (k : IsKept c s) where
       }
 
   loaded_block : (t : ℕ) → t < c.threads → (x : ℕ) → IsLoadedBlock (s.seen.loads t) x → IsOfKept x
-  loaded_block t tl x (inl v) = subst IsOfKept (sym v.is) (value_block t tl v.load v.loaded v.refers)
-  loaded_block t tl x (inr o) = subst IsOfKept (sym o.is) (object_block t tl o.load o.loaded)
+  loaded_block t tl x (inl o) = subst IsOfKept (sym o.is) (object_block t tl o.load o.there)
+  loaded_block t tl x (inr (inl v)) = value_block t tl (s.seen.loads t).expected (k.follows.loads t tl).expected x v
+  loaded_block t tl x (inr (inr v)) = value_block t tl (s.seen.loads t).value (k.follows.loads t tl).value x v
 
   -- neither is Free, or held
   pub loaded_safe : (t x : ℕ) → t < c.threads → IsLoadedBlock (s.seen.loads t) x

@@ -7,7 +7,7 @@ use Rattle.never_heap.specs.declared.Command.{Command}
 use Rattle.never_heap.specs.declared.Entry.{Entry}
 use Rattle.never_heap.specs.declared.Reply.{Reply}
 use Rattle.never_heap.specs.Histories.{part}
-use Rattle.heap_system.specs.Locals.{LocalState, command_of, is_done, effect, makes_unit, paid_got, entries_of}
+use Rattle.heap_system.specs.Locals.{LocalState, command_of, is_done, effect, makes_unit, spent_got, entries_of}
 use Rattle.heap_system.specs.Machines.{Run, IsJob, IsRunOf, local_at, word_read, has_event, next, after_turns, opened}
 use Rattle.heap_system.specs.Units.{is_unit, is_unit_for, units_made_for, AreMadeFor}
 use Rattle.heap_system.proofs.Kept.{Kept}
@@ -64,7 +64,7 @@ work_over (x ∷ es) e (suc k) = work_over es e k
 
 work_got : (es : List Entry) (t : ℕ) (m : Command) (paid : ℕ) (o : Option Reply) (u : Bool)
     → ((r : Reply) → o ≡ Some r → u ≡ false) → (k : ℕ)
-    → work_for (es ++ entries_of t m paid o) (paid_got o u paid) k
+    → work_for (es ++ entries_of t m paid o) (spent_got o u paid) k
     ≡ work_for es paid k + bit (u && eqb (length es) k)
 work_got es t m paid None u none k =
     ap (λ xs. work_for xs (cond u (paid + 1) paid) k) (append-nil es) ∙ work_on es paid k u

@@ -7,7 +7,7 @@ use Rattle.never_heap.specs.declared.Command.{Command}
 use Rattle.never_heap.specs.Histories.{part, replay}
 use Rattle.heap_system.specs.declared.local.Part.{Part}
 use Rattle.heap_system.specs.declared.local.Part.TheVariants.{Sweep}
-use Rattle.heap_system.specs.Locals.{LocalState, command_of, is_done, effect, part_want, makes_unit, paid_got, works}
+use Rattle.heap_system.specs.Locals.{LocalState, command_of, is_done, effect, part_want, makes_unit, spent_got, works}
 use Rattle.heap_system.specs.Machines.{Run, IsJob, IsRunOf, local_at, word_read, next_effect, items_by, event_done, has_event, next, after_turns, opened, heap_in}
 use Rattle.heap_system.specs.Naming.{renamed}
 use Rattle.heap_system.specs.Units.{passes, is_unit, turn_blackens, turn_passes, units_made, blacks_made, passes_made, blackens}
@@ -63,7 +63,7 @@ module _ (c : Config) (traces : List (List Command)) (job : IsJob c traces) (r :
       let e = effect c l.part word in
       let parts : works (part u after.order) ≡ works (part u r.order) + works (told_by (replay c r.order) u (command_of l) l.spent e.verdict) =
       ap works (part_grows c r.order u (command_of l) l.spent e.verdict e.naming) ∙ works_append (part u r.order) (told_by (replay c r.order) u (command_of l) l.spent e.verdict) in
-      let paid : (local_at c after.state u).spent ≡ paid_got e.reply e.unit l.spent =
+      let paid : (local_at c after.state u).spent ≡ spent_got e.reply e.unit l.spent =
       ap (λ (x : LocalState). x.spent) (local_new c traces (laws_of c) job.bounds.config job.plan r kept u ul going u ∙ cond_yes _ _ _ (eq-eqb u u refl)) ∙ paid_new c traces (laws_of c) job.bounds.config job.plan r kept u ul in
       omega (arith, parts, paid, (event c traces (laws_of c) job.bounds.config job.plan r kept u ul going).counted, (laws_of c l.part).units u (command_of l) l.spent word)
 

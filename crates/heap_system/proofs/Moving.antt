@@ -18,10 +18,10 @@ use Rattle.heap_machine.specs.declared.pass.Pass.{Pass}
 use Rattle.kept_names.specs.Pictures.{Names}
 use Rattle.heap_system.specs.declared.local.Part.{Part}
 use Rattle.heap_system.specs.declared.local.Part.TheVariants.{Leave}
-use Rattle.heap_system.specs.Locals.{LocalState, command_of, owed, errand_of, effect, part_got, pass_got, balance_in, balance_paid, balance_got, paid_got, paid_part, made_got, Verdict, entry_of, entries_of, works, unit_to_come, PartFits, IsRoomy}
+use Rattle.heap_system.specs.Locals.{LocalState, command_of, owed, errand_of, effect, part_got, pass_got, balance_in, balance_paid, balance_got, spent_got, paid_part, made_got, Verdict, entry_of, entries_of, works, unit_to_come, PartFits, IsRoomy}
 use Rattle.heap_system.specs.Pictures.{stand_of, waiting}
 use Rattle.heap_system.specs.Units.{IsRight}
-use Rattle.heap_system.proofs.Balances.{paid_in, got_paid, paid_over, units_in, units_on, units_over, sound_in, sound_on, sound_over, is_paid}
+use Rattle.heap_system.proofs.Balances.{paid_in, got_paid, paid_over, units_in, units_on, units_over, sound_in, sound_on, sound_over, is_made}
 use Rattle.heap_system.proofs.Growing.{said_more, right_more, made_more}
 use Rattle.heap_system.proofs.Kept.{LocalKept}
 use Rattle.heap_system.proofs.PartLaws.{PartLaws}
@@ -69,7 +69,7 @@ moved_on l t c w = record {
   trace = l.trace;
   log = l.log ++ entries_of t (command_of l) l.spent (effect c l.part w).reply;
   balance = balance_got (effect c l.part w) (units_told (command_of l)) (blocks_of c.width (command_of l)) l.balance;
-  spent = paid_got (effect c l.part w).reply (effect c l.part w).unit l.spent;
+  spent = spent_got (effect c l.part w).reply (effect c l.part w).unit l.spent;
   made = made_got (command_of l) (effect c l.part w).reply l.made;
   space = l.space;
   pass = pass_got (effect c l.part w).entered t c.threads l.pass;
@@ -86,9 +86,9 @@ pub record Moved (c : Config) (g : Graph) (order longer : List HistoryItem) (new
   pub behind : stage q.cycle q.sweep ≤ stage_of new
   pub over : (r : Reply) → o ≡ Some r → p ≡ Leave
   pub told : entries_of t (command_of l) l.spent (waiting g l.part) ++ told_by g t (command_of l) l.spent v
-      ≡ entries_of t (command_of l) l.spent o ++ entries_of t (command_of l) (paid_got o unit l.spent) (waiting (graph_decided g t (command_of l) v) p)
-  pub low : paid_got o unit l.spent + unit_to_come c p ≤ owed l
-  pub settled : IsSettled (owed l) (paid_got o unit l.spent) p
+      ≡ entries_of t (command_of l) l.spent o ++ entries_of t (command_of l) (spent_got o unit l.spent) (waiting (graph_decided g t (command_of l) v) p)
+  pub low : spent_got o unit l.spent + unit_to_come c p ≤ owed l
+  pub settled : IsSettled (owed l) (spent_got o unit l.spent) p
   pub exact : IsDecided v → l.spent ≡ owed l
   pub whole : (r : Reply) → o ≡ Some r → l.spent ≡ owed l
   pub counts : made_got (command_of l) o l.made ≡ count_of (graph_decided g t (command_of l) v) t
@@ -109,7 +109,7 @@ module _ (c : Config) (given : List Command) (g : Graph) (order longer : List Hi
   abbrev balance_then : Option Reply → Balance
   balance_then o = balance_paid o unit told (blocks_of c.width (command_of l)) (balance_in i l.balance)
 
-  paid_then : (o : Option Reply) → (balance_then o).paid ≡ paid_part told (paid_got o unit l.spent)
+  paid_then : (o : Option Reply) → (balance_then o).paid ≡ paid_part told (spent_got o unit l.spent)
   paid_then o = got_paid i o unit told (blocks_of c.width (command_of l)) l.spent l.balance kept.fits.account
 
   sound_then : IsSound l.rate l.config.object (balance_in i l.balance)
@@ -121,7 +121,7 @@ module _ (c : Config) (given : List Command) (g : Graph) (order longer : List Hi
   abbrev Later : LocalState → Type 0
   Later x = LocalKept c given (graph_decided g t (command_of l) v) longer new names t x
 
-  told_so : (o : Option Reply) → Event o → part t longer ≡ l.log ++ (entries_of t (command_of l) l.spent o ++ entries_of t (command_of l) (paid_got o unit l.spent) (waiting (graph_decided g t (command_of l) v) p))
+  told_so : (o : Option Reply) → Event o → part t longer ≡ l.log ++ (entries_of t (command_of l) l.spent o ++ entries_of t (command_of l) (spent_got o unit l.spent) (waiting (graph_decided g t (command_of l) v) p))
   told_so o event =
       event.more ∙ ap (λ x. x ++ told_by g t (command_of l) l.spent v) (kept.told ∙ ap (λ x. l.log ++ entries_of x (command_of l) l.spent (waiting g l.part)) kept.thread)
       ∙ append_assoc l.log _ _ ∙ ap (λ x. l.log ++ x) event.told
@@ -137,7 +137,7 @@ module _ (c : Config) (given : List Command) (g : Graph) (order longer : List Hi
   due_is : owed l ≡ l.rate * blocks_of c.width (command_of l) + units_told (command_of l)
   due_is = ap (λ (x : Config). l.rate * blocks_of x.width (command_of l) + units_told (command_of l)) kept.config
 
-  none_moves : Event None → Later (after_part l.log (balance_then None) (paid_got None unit l.spent) l.made p)
+  none_moves : Event None → Later (after_part l.log (balance_then None) (spent_got None unit l.spent) l.made p)
   none_moves event = record {
     config = kept.config;
     thread = refl;
@@ -152,11 +152,11 @@ module _ (c : Config) (given : List Command) (g : Graph) (order longer : List Hi
       life = kept.fits.life;
       log = kept.fits.log;
       part = subst (λ x. PartFits x (length l.log) (length l.trace) q p) (sym kept.config) event.fits;
-      paid = subst (λ x. paid_got None unit l.spent + unit_to_come x p ≤ owed l) (sym kept.config) event.low;
-      settled = is_paid (owed l) (paid_got None unit l.spent) p event.settled;
+      paid = subst (λ x. spent_got None unit l.spent + unit_to_come x p ≤ owed l) (sym kept.config) event.low;
+      settled = is_made (owed l) (spent_got None unit l.spent) p event.settled;
       sound = sound_on l.rate l.config.object unit told (blocks_of c.width (command_of l)) l.spent (balance_in i l.balance) (paid_in i l.balance ∙ kept.fits.account) price_few (low_enough _ _ _ _ event.low due_is) sound_then;
       account = paid_then None;
-      units = units_on unit told (blocks_of c.width (command_of l)) (l.before + works l.log) l.spent (balance_in i l.balance) units_then;
+      units = units_on unit told (l.before + works l.log) l.spent (balance_in i l.balance) units_then;
       made = kept.fits.made;
       space = kept.fits.space;
       roomy = event.roomy;
@@ -201,9 +201,9 @@ module _ (c : Config) (given : List Command) (g : Graph) (order longer : List Hi
             part = tt;
             paid = omega arith;
             settled = tt;
-            sound = sound_over l.rate l.config.object r unit told (blocks_of c.width (command_of l)) (balance_in i l.balance) (price_is event) sound_then;
-            account = paid_over r unit told _ (blocks_of c.width (command_of l)) (balance_in i l.balance);
-            units = omega (arith, more_worked, units_over r unit told (blocks_of c.width (command_of l)) (balance_in i l.balance), units_then);
+            sound = sound_over l.rate l.config.object r (blocks_of c.width (command_of l)) (balance_in i l.balance) (price_is event) sound_then;
+            account = paid_over r _ (blocks_of c.width (command_of l)) (balance_in i l.balance);
+            units = omega (arith, more_worked, units_over r (blocks_of c.width (command_of l)) (balance_in i l.balance), units_then);
             made = subst (λ n. made_got (command_of l) (Some r) l.made + sum_after objects_of n l.trace ≤ most_objects) (sym longer_by) (omega (arith, made_more (command_of l) r l.made, kept.fits.made, objects_next l));
             space = kept.fits.space;
             roomy = tt;
@@ -219,6 +219,6 @@ module _ (c : Config) (given : List Command) (g : Graph) (order longer : List Hi
           said = said_more l.log l.trace (entry_of t (command_of l) l.spent r) (command_of l) refl refl low kept.said;
         }
 
-  pub local_moves : (o : Option Reply) → Event o → Later (after_part (l.log ++ entries_of t (command_of l) l.spent o) (balance_then o) (paid_got o unit l.spent) (made_got (command_of l) o l.made) p)
-  local_moves None event = subst (λ x. Later (after_part x (balance_then None) (paid_got None unit l.spent) l.made p)) (sym (append-nil l.log)) (none_moves event)
+  pub local_moves : (o : Option Reply) → Event o → Later (after_part (l.log ++ entries_of t (command_of l) l.spent o) (balance_then o) (spent_got o unit l.spent) (made_got (command_of l) o l.made) p)
+  local_moves None event = subst (λ x. Later (after_part x (balance_then None) (spent_got None unit l.spent) l.made p)) (sym (append-nil l.log)) (none_moves event)
   local_moves (Some r) event = subst (λ x. Later (after_part (l.log ++ entry_of t (command_of l) l.spent r ∷ []) (balance_then (Some r)) 0 (made_got (command_of l) (Some r) l.made) x)) (sym (event.over r refl)) (some_moves r (event.some r refl) event)

@@ -16,7 +16,7 @@ use Rattle.kept_names.specs.Pictures.{Names, no_task}
 use Rattle.heap_system.specs.declared.local.Part.{Part}
 use Rattle.heap_system.specs.declared.local.Part.TheVariants.{Rest}
 use Rattle.heap_system.specs.declared.Turn.TheVariants as turns
-use Rattle.heap_system.specs.Locals.{view, task, effect, part_want, part_got, paid_got, entries_of, works, unit_to_come, PartFits, PartReads, IsRoomy, turn_of, waits}
+use Rattle.heap_system.specs.Locals.{view, task, effect, part_want, part_got, spent_got, entries_of, works, unit_to_come, PartFits, PartReads, IsRoomy, turn_of, waits}
 use Rattle.heap_system.specs.Naming.{Same}
 use Rattle.heap_system.specs.Pictures.{gating, stand_of, holding, waiting}
 use Rattle.heap_system.specs.Units.{blackens, passes}
@@ -64,4 +64,4 @@ pub record PartLaws (c : Config) (p : Part) : Type 0 where
   pub turn : (w : ℕ) → turn_of (effect c p w).step ≡ cond (waits p w) turns.Waited turns.Went
   -- a unit is the event that makes a grey block black or passes a block, and is in the log or paid
   pub black : (s : Seen c) → AtPart c s p → blackens s.heap (part_want c p) ≡ ((effect c p (word_at c s p)).unit && not (passes c p (word_at c s p)))
-  pub units : (t : ℕ) (k : Command) (paid w : ℕ) → works (entries_of t k paid (effect c p w).reply) + paid_got (effect c p w).reply (effect c p w).unit paid ≡ paid + bit (effect c p w).unit
+  pub units : (t : ℕ) (k : Command) (paid w : ℕ) → works (entries_of t k paid (effect c p w).reply) + spent_got (effect c p w).reply (effect c p w).unit paid ≡ paid + bit (effect c p w).unit

@@ -53,7 +53,7 @@ use Rattle.heap_system.specs.declared.local.Part.{Part}
 use Rattle.heap_system.specs.declared.local.Part.TheVariants.{Rest, Enter, Serve, Mark, Sweep, Build, TurnOver, Leave}
 use Rattle.heap_system.specs.Machines.{IsJob}
 use Rattle.heap_system.specs.Lives.{IsLife, sum_after, objects_of, most_units, most_objects}
-use Rattle.heap_system.specs.Locals.{LocalState, IsLocal, PartFits, PartReads, IsRoomy, IsPaid, HasRoom, errand_of, command_of, owed, pass_by, is_last, is_rest, unit_to_come, works, entry_of, made_got, balance_paid, paid_part, begun}
+use Rattle.heap_system.specs.Locals.{LocalState, IsLocal, PartFits, PartReads, IsRoomy, IsAllMade, HasRoom, errand_of, command_of, owed, pass_by, is_last, is_rest, unit_to_come, works, entry_of, made_got, balance_over, paid_part, begun}
 use Rattle.work_account.proofs.Balances.{entered_sound}
 use Rattle.cycle_tally.proofs.Sums.{paid_entered}
 use Rattle.heap_system.proofs.Balances.{none_spent, units_entered, paid_over, all_paid, units_over, sound_over}
@@ -207,7 +207,7 @@ pub room_there : (p : Part) (g : GateRow) (space capacity : ℕ) (held : List �
 room_there p g space capacity held e h = subst (λ x. HasRoom x space held capacity) e h
 
 -- a thread in another pass and part
-pub begins : (l : LocalState) (p : Pass) (part : Part) → IsLocal l → PartFits l.config (length l.log) (length l.trace) p part → l.spent + unit_to_come l.config part ≤ owed l → IsPaid (owed l) l.spent part → IsRoomy l.space part → IsLocal (record l { pass = p; part = part })
+pub begins : (l : LocalState) (p : Pass) (part : Part) → IsLocal l → PartFits l.config (length l.log) (length l.trace) p part → l.spent + unit_to_come l.config part ≤ owed l → IsAllMade (owed l) l.spent part → IsRoomy l.space part → IsLocal (record l { pass = p; part = part })
 begins l p part k fits pays all roomy = record { bounds = k.bounds; plan = k.plan; rate = k.rate; thread = k.thread; trace = k.trace; life = k.life; log = k.log; part = fits; paid = pays; settled = all; sound = k.sound; account = k.account; units = k.units; made = k.made; space = k.space; roomy = roomy }
 
 -- a thread at rest that enters a cycle
@@ -330,12 +330,11 @@ pub made_low : (k : Command) (r : Reply) (n : ℕ) → made_got k (Some r) n ≤
 made_low k (replies.New a) n = omega arith
 made_low k _ n = omega arith
 
-
 -- a thread with its command in the log
 abbrev pub answered : LocalState → Reply → LocalState
 answered l reply = record l {
   log = l.log ++ entry_of l.thread (command_of l) l.spent reply ∷ [];
-  balance = balance_paid (Some reply) false (units_told (command_of l)) (blocks_of l.config.width (command_of l)) l.balance;
+  balance = balance_over reply (blocks_of l.config.width (command_of l)) l.balance;
   spent = 0;
   made = made_got (command_of l) (Some reply) l.made;
   part = Leave;
@@ -353,9 +352,9 @@ answered_local l reply k low all = record {
   part = tt;
   paid = omega arith;
   settled = tt;
-  sound = sound_over l.rate l.config.object reply false (units_told (command_of l)) (blocks_of l.config.width (command_of l)) l.balance (price_paid l k all) k.sound;
-  account = paid_over reply false (units_told (command_of l)) _ (blocks_of l.config.width (command_of l)) l.balance;
-  units = omega (arith, more, k.units, units_over reply false (units_told (command_of l)) (blocks_of l.config.width (command_of l)) l.balance);
+  sound = sound_over l.rate l.config.object reply (blocks_of l.config.width (command_of l)) l.balance (price_paid l k all) k.sound;
+  account = paid_over reply _ (blocks_of l.config.width (command_of l)) l.balance;
+  units = omega (arith, more, k.units, units_over reply (blocks_of l.config.width (command_of l)) l.balance);
   made = subst (λ n. made_got (command_of l) (Some reply) l.made + sum_after objects_of n l.trace ≤ most_objects) (sym longer) (omega (arith, made_low (command_of l) reply l.made, k.made, objects_next l));
   space = k.space;
   roomy = tt;
@@ -368,16 +367,12 @@ answered_local l reply k low all = record {
     more = works_append l.log (entry_of l.thread (command_of l) l.spent reply ∷ [])
 
 pub answered_with : (l : LocalState) (reply : Reply) (log : List Entry) (k : Command) (b : Balance) (made : ℕ) → IsLocal l → length l.log < length l.trace → l.spent ≡ owed l → log ≡ l.log ++ entry_of l.thread k l.spent reply ∷ [] → k ≡ command_of l
-    → b ≡ balance_paid (Some reply) false (units_told k) (blocks_of l.config.width k) l.balance → made ≡ made_got k (Some reply) l.made → IsLocal (record l { log = log; balance = b; spent = 0; made = made; part = Leave })
+    → b ≡ balance_over reply (blocks_of l.config.width k) l.balance → made ≡ made_got k (Some reply) l.made → IsLocal (record l { log = log; balance = b; spent = 0; made = made; part = Leave })
 answered_with l reply log k b made inside low all is e pays more =
     subst (λ x. IsLocal (record l { log = log; balance = b; spent = 0; made = x; part = Leave })) (sym (more ∙ ap (λ y. made_got y (Some reply) l.made) e))
-    (subst (λ x. IsLocal (record l { log = log; balance = x; spent = 0; made = made_got (command_of l) (Some reply) l.made; part = Leave })) (sym (pays ∙ ap (λ y. balance_paid (Some reply) false (units_told y) (blocks_of l.config.width y) l.balance) e))
-    (subst (λ x. IsLocal (record l { log = x; balance = balance_paid (Some reply) false (units_told (command_of l)) (blocks_of l.config.width (command_of l)) l.balance; spent = 0; made = made_got (command_of l) (Some reply) l.made; part = Leave }))
+    (subst (λ x. IsLocal (record l { log = log; balance = x; spent = 0; made = made_got (command_of l) (Some reply) l.made; part = Leave })) (sym (pays ∙ ap (λ y. balance_over reply (blocks_of l.config.width y) l.balance) e))
+    (subst (λ x. IsLocal (record l { log = x; balance = balance_over reply (blocks_of l.config.width (command_of l)) l.balance; spent = 0; made = made_got (command_of l) (Some reply) l.made; part = Leave }))
     (sym (is ∙ ap (λ y. l.log ++ entry_of l.thread y l.spent reply ∷ []) e)) (answered_local l reply inside low all)))
-
--- the units owed fit
-pub product_low : (l : LocalState) (n : ℕ) → IsLocal l → n ≡ blocks_of l.config.width (command_of l) → l.rate * n ≤ 134215680
-product_low l n k e = let due : l.rate * n ≡ l.rate * blocks_of l.config.width (command_of l) = ap (λ x. l.rate * x) e in omega (arith, price_low l k, units_low l k)
 
 pub paid_low : (l : LocalState) → IsLocal l → l.spent ≤ 134346750
 paid_low l k = omega (arith, k.paid, owed_low l k, units_low l k)
@@ -399,7 +394,7 @@ begun_local l k is rest none fits units objects =
       log = omega arith;
       part = subst (λ p. PartFits l.config 0 1 l.pass p) (sym at) tt;
       paid = subst (λ p. l.spent + unit_to_come l.config p ≤ units_owed l.config.width l.rate k) (sym at) (omega (arith, none));
-      settled = subst (λ p. IsPaid (units_owed l.config.width l.rate k) l.spent p) (sym at) tt;
+      settled = subst (λ p. IsAllMade (units_owed l.config.width l.rate k) l.spent p) (sym at) tt;
       sound = is.sound;
       account = is.account ∙ ap (paid_part (units_told (command_of l))) none ∙ none_spent (units_told (command_of l)) ∙ sym (none_spent (units_told k)) ∙ ap (paid_part (units_told k)) (sym none);
       units = omega (arith, is.units, none);

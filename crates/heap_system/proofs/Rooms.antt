@@ -27,7 +27,7 @@ use Rattle.heap_system.specs.declared.local.Part.{Part}
 use Rattle.heap_system.specs.declared.local.Part.TheVariants.{Rest, Enter, Serve, Mark, Sweep, Build, Again, Idle, TurnOver, Leave}
 use Rattle.build_steps.specs.declared.rows.BuildRow.{BuildRow}
 use Rattle.never_heap.specs.RightWork.{units_told}
-use Rattle.heap_system.specs.Locals.{LocalState, Effect, Errand, View, command_of, errand_of, entries_of, paid_got, balance_got, made_got, pass_got, effect, view, first_part, if_entered, if_over, if_replied, is_last, part_got, local_got, is_done, is_rest, pass_by, at_start}
+use Rattle.heap_system.specs.Locals.{LocalState, Effect, Errand, View, command_of, errand_of, entries_of, spent_got, balance_got, made_got, pass_got, effect, view, first_part, if_entered, if_over, if_replied, is_last, part_got, local_got, is_done, is_rest, pass_by, at_start}
 use Rattle.heap_system.specs.Machines.{State, Run, local_at, no_local, heap_in, word_read, next_effect, event_done, has_event, turned, items_by, decided, names_after, next, after_turns, starts_from, opened, IsOpening, IsRunOf}
 use Rattle.heap_system.specs.Naming.{renamed, opening_names}
 use Rattle.heap_system.specs.Systems.{logs_of}
@@ -180,7 +180,7 @@ local_room l w = λ i.
     record (without_room (local_got l w)) {
       log = l.log ++ entries_of l.thread (command_of l) l.spent e.reply;
       balance = balance_got e (units_told (command_of l)) (blocks_of l.config.width (command_of l)) l.balance;
-      spent = paid_got e.reply e.unit l.spent;
+      spent = spent_got e.reply e.unit l.spent;
       made = made_got (command_of l) e.reply l.made;
       pass = pass_got e.entered l.thread l.config.threads l.pass;
       part = got_room l.config l.thread (errand_of l) l.pass l.part w i;

@@ -37,7 +37,7 @@ use Rattle.work_account.specs.Accounts.{Balance}
 use Rattle.kept_names.specs.Pictures.{Names, Task, no_task, picture}
 use Rattle.heap_system.specs.declared.local.Part.{Part}
 use Rattle.heap_system.specs.declared.local.Part.TheVariants.{Rest, Enter, Serve, Mark, Sweep, Build, Idle, TurnOver, Leave}
-use Rattle.heap_system.specs.Locals.{paid_part, Errand, Effect, Verdict, Open, AsStep, Refused, task, pass_got, paid_got, made_got, entry_of, entries_of, works, unit_to_come, PartFits, IsRoomy}
+use Rattle.heap_system.specs.Locals.{paid_part, Errand, Effect, Verdict, Open, AsStep, Refused, task, pass_got, spent_got, made_got, entry_of, entries_of, works, unit_to_come, PartFits, IsRoomy}
 use Rattle.heap_system.specs.Machines.{starts_by}
 use Rattle.heap_system.specs.Naming.{renamed}
 use Rattle.heap_system.specs.Pictures.{gating, holding, waiting}
@@ -239,16 +239,16 @@ pub record EventKept (c : Config) (s : Seen c) (new : Heap) (e : Effect) (before
   pub unshaded : is_sweep (new Phase) ≡ true → is_closed (new Phase) ≡ false → (t : ℕ) → t < c.threads → (renamed s.thread s.graph s.heap e.naming s.names).shaded t ≡ false
   pub forward : Forward s.heap new
   pub behind : stage (pass_got e.entered s.thread c.threads s.pass).cycle (pass_got e.entered s.thread c.threads s.pass).sweep ≤ stage_of new
-  pub leads : lead c new + (s.spent + unpassed (s.holds s.thread)) ≤ lead c s.heap + (works (entries_of s.thread s.command s.spent e.reply) + paid_got e.reply e.unit s.spent + unpassed (holding c p))
+  pub leads : lead c new + (s.spent + unpassed (s.holds s.thread)) ≤ lead c s.heap + (works (entries_of s.thread s.command s.spent e.reply) + spent_got e.reply e.unit s.spent + unpassed (holding c p))
   pub part : PartKept c (graph_decided s.graph s.thread s.command e.verdict) s.thread (pass_got e.entered s.thread c.threads s.pass) s.command p
   pub knows : Knows c new (renamed s.thread s.graph s.heap e.naming s.names) (pass_got e.entered s.thread c.threads s.pass) p
   pub fits : PartFits c s.done s.all (pass_got e.entered s.thread c.threads s.pass) p
   pub roomy : IsRoomy s.space p
   pub over : (r : Reply) → e.reply ≡ Some r → p ≡ Leave
   pub told : entries_of s.thread s.command s.spent before ++ told_by s.graph s.thread s.command s.spent e.verdict
-      ≡ entries_of s.thread s.command s.spent e.reply ++ entries_of s.thread s.command (paid_got e.reply e.unit s.spent) (waiting (graph_decided s.graph s.thread s.command e.verdict) p)
-  pub low : paid_got e.reply e.unit s.spent + unit_to_come c p ≤ s.due
-  pub settled : IsSettled s.due (paid_got e.reply e.unit s.spent) p
+      ≡ entries_of s.thread s.command s.spent e.reply ++ entries_of s.thread s.command (spent_got e.reply e.unit s.spent) (waiting (graph_decided s.graph s.thread s.command e.verdict) p)
+  pub low : spent_got e.reply e.unit s.spent + unit_to_come c p ≤ s.due
+  pub settled : IsSettled s.due (spent_got e.reply e.unit s.spent) p
   pub exact : IsDecided e.verdict → s.spent ≡ s.due
   pub counted : works (told_by s.graph s.thread s.command s.spent e.verdict) ≡ works (entries_of s.thread s.command s.spent e.reply)
   pub counts : made_got s.command e.reply s.made ≡ count_of (graph_decided s.graph s.thread s.command e.verdict) s.thread

@@ -13,7 +13,7 @@ use Rattle.never_heap.specs.Steps.{blocks_of}
 use Rattle.never_heap.proofs.Growing.{part_append}
 use Rattle.work_account.specs.Accounts.{Balance}
 use Rattle.heap_machine.specs.Gating.{is_inside}
-use Rattle.heap_system.specs.Locals.{LocalState, Effect, Verdict, command_of, is_done, effect, makes_unit, paid_got, balance_in, balance_got, entries_of}
+use Rattle.heap_system.specs.Locals.{LocalState, Effect, Verdict, command_of, is_done, effect, makes_unit, spent_got, balance_in, balance_got, entries_of}
 use Rattle.heap_system.specs.Machines.{Run, IsJob, IsRunOf, local_at, word_read, heap_in, has_event, entries_by, starts_by, next, after_turns, opened}
 use Rattle.heap_system.specs.Naming.{Naming}
 use Rattle.heap_system.specs.Pictures.{stand_of, waiting}
@@ -150,7 +150,7 @@ module _ (c : Config) (traces : List (List Command)) (job : IsJob c traces) (rat
         let reply = entries_of u (command_of me) me.spent e.reply in
         let graph = new_graph c traces (laws_of c) job.bounds.config job.plan r kept u ul in
         let pass = new_pass c traces (laws_of c) job.bounds.config job.plan r kept u ul in
-        let paid = paid_got e.reply e.unit me.spent in
+        let paid = spent_got e.reply e.unit me.spent in
         let behind = entries_of u (command_of me) paid (waiting graph part) in
         let both : blocks_given c.width (before ++ told) ≡ blocks_given c.width (reply ++ behind) = ap (blocks_given c.width) did.told in
         omega (

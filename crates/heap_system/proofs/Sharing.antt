@@ -109,7 +109,7 @@ units_grow (Some (replies.New a)) unit told k b none =
     let no : bit unit ≡ 0 = ap bit (none (replies.New a) refl) in omega (arith, no)
 units_grow (Some r) unit told k b none =
     let no : bit unit ≡ 0 = ap bit (none r refl) in
-    let same : (balance_paid (Some r) unit told k b).units ≡ b.units = units_over r unit told k b in
+    let same : (balance_paid (Some r) unit told k b).units ≡ b.units = units_over r k b in
     omega (arith, no, same)
 
 pub given_grows : (w : Width) (o : Option Reply) (unit : Bool) (told t work : ℕ) (k : Command) (b : Balance)

@@ -25,7 +25,7 @@ use Rattle.work_account.specs.Accounts.{Balance}
 use Rattle.cycle_tally.proofs.Laws as tallies
 use Rattle.cycle_tally.proofs.Openings.{opens}
 use Rattle.heap_system.specs.declared.local.Part.{Part}
-use Rattle.heap_system.specs.Locals.{LocalState, command_of, owed, is_done, paid_part, paid_got, entries_of}
+use Rattle.heap_system.specs.Locals.{LocalState, command_of, owed, is_done, paid_part, spent_got, entries_of}
 use Rattle.heap_system.specs.Machines.{State, Run, local_at, event_done, has_event, next_effect, items_by, heap_in, next, after_turns, IsOpening, IsJob, IsRunOf, opened}
 use Rattle.heap_system.specs.Naming.{renamed}
 use Rattle.heap_system.specs.Openings.{opening_phase}
@@ -59,8 +59,8 @@ spent_is c l w own account =
 
 -- the command after an event: the one in hand, or with a reply the next
 asks_on : (c : Config) (trace : List Command) (log : List _) (t : ℕ) (k : Command) (paid : ℕ) (unit : Bool) (o : Option Reply) → k ≡ get_or trace (length log) (commands.Nil 0)
-    → asked_got o (asking c k (paid_got o unit paid)) (asking c (get_or trace (length (log ++ entries_of t k paid o)) (commands.Nil 0)) 0) ≡ asking c (get_or trace (length (log ++ entries_of t k paid o)) (commands.Nil 0)) (paid_got o unit paid)
-asks_on c trace log t k paid unit None is = ap (λ x. asking c x (paid_got None unit paid)) (is ∙ ap (λ xs. get_or trace (length xs) (commands.Nil 0)) (sym (append-nil log)))
+    → asked_got o (asking c k (spent_got o unit paid)) (asking c (get_or trace (length (log ++ entries_of t k paid o)) (commands.Nil 0)) 0) ≡ asking c (get_or trace (length (log ++ entries_of t k paid o)) (commands.Nil 0)) (spent_got o unit paid)
+asks_on c trace log t k paid unit None is = ap (λ x. asking c x (spent_got None unit paid)) (is ∙ ap (λ xs. get_or trace (length xs) (commands.Nil 0)) (sym (append-nil log)))
 asks_on c trace log t k paid unit (Some r) is = refl
 
 module _ (c : Config) (traces : List (List Command)) (job : IsJob c traces) (rate : ℕ) (planned : IsRate c rate) where

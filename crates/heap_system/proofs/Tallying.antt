@@ -20,7 +20,7 @@ use Rattle.work_account.specs.Accounts.{Balance}
 use Rattle.cycle_tally.specs.Kept.{TallyKept}
 use Rattle.cycle_tally.specs.Tallies.{Spending, Tally, units_now}
 use Rattle.heap_system.specs.declared.local.Part.{Part}
-use Rattle.heap_system.specs.Locals.{Effect, view, effect, idle_part, paid_got, balance_got, part_want, part_got}
+use Rattle.heap_system.specs.Locals.{Effect, view, effect, idle_part, spent_got, balance_got, part_want, part_got}
 use Rattle.heap_system.specs.Machines.{starts_by}
 use Rattle.heap_system.specs.Naming.{Naming, Begun}
 use Rattle.heap_system.specs.Pictures.{stand_of, holding}
@@ -114,7 +114,7 @@ pub record TallyEvent (c : Config) (rate : ℕ) (s : Seen c) (new : Heap) (e : E
   pub tally : Tally
   pub kept : TallyKept c rate black_word tally
   pub of : IsTallyOf new (s.order ++ (items_told s.graph s.thread s.command s.spent e.verdict ++ starts_by e.naming)) tally
-  pub own : IsSpending c p (balance_got e (units_told s.command) (blocks_of c.width s.command) s.balance) (asked_got e.reply (asking c s.command (paid_got e.reply e.unit s.spent)) next) (tally.threads s.thread)
+  pub own : IsSpending c p (balance_got e (units_told s.command) (blocks_of c.width s.command) s.balance) (asked_got e.reply (asking c s.command (spent_got e.reply e.unit s.spent)) next) (tally.threads s.thread)
   pub others : (u : ℕ) → (s.thread ≡ u → ⊥) → tally.threads u ≡ before.threads u
   pub scanned : (x : ℕ) → tally.scanned x ≡ in_cycle e.naming (more_if (scans_at s.heap new e x) (before.scanned x))
   pub passed : (x : ℕ) → tally.passed x ≡ in_cycle e.naming (more_if (passes_at s.heap e (before.threads s.thread) x) (before.passed x))

@@ -1,7 +1,10 @@
 -- The laws, from what every run keeps.
-use Rattle.std.proofs.Common.{◌≤◌, ◌≡◌, ℕ, ◌<◌, ◌*◌, true, false, List, ◌++◌, ◌∷◌, [], append-nil, ap, ◌∙◌, subst, sym, arith, length, ◌+◌}
+use Rattle.std.proofs.Common.{◌≤◌, ◌≡◌, ℕ, ◌<◌, ◌*◌, true, false, cond, inl, inr, ne_eqb, List, ◌++◌, ◌∷◌, [], append-nil, ap, ◌∙◌, subst, sym, arith, length, ◌+◌}
+use Rattle.std.proofs.lemmas.Bool.{cases_eq}
+use Rattle.block_store.specs.declared.Width.{Width}
 use Rattle.block_store.specs.declared.Config.{Config}
 use Rattle.never_heap.specs.declared.Command.{Command}
+use Rattle.never_heap.specs.declared.Command.TheVariants as commands
 use Rattle.never_heap.specs.declared.Reply.{Reply}
 use Rattle.never_heap.specs.Histories.{replay, part}
 use Rattle.never_heap.specs.Steps.{blocks_of}
@@ -14,9 +17,12 @@ use Rattle.build_steps.specs.Rows.{BuildState}
 use Rattle.kept_names.specs.Pictures.{no_task}
 use Rattle.heap_system.specs.declared.local.Part.{Part}
 use Rattle.heap_system.specs.declared.local.Part.TheVariants.{Rest, Serve, Build, Leave}
-use Rattle.never_heap.specs.RightWork.{units_told}
+use Rattle.never_heap.specs.RightWork.{units_told, units_owed}
+use Rattle.barrier_steps.specs.Operands.{is_idle}
+use Rattle.heap_system.proofs.Balances.{none_spent, all_paid}
+use Rattle.heap_system.proofs.Paying.{price_paid}
 use Rattle.heap_system.proofs.Looking.{decided_untold}
-use Rattle.heap_system.specs.Locals.{PartFits, task, is_rest, command_of, owed, entry_of, entries_of}
+use Rattle.heap_system.specs.Locals.{PartFits, task, is_rest, command_of, owed, paid_part, entry_of, entries_of}
 use Rattle.heap_system.specs.Machines.{Run, local_at}
 use Rattle.heap_system.specs.Units.{IsRight}
 use Rattle.heap_system.specs.Pictures.{holding, waiting}
@@ -24,6 +30,15 @@ use Rattle.heap_system.proofs.Kept.{Kept}
 use Rattle.heap_system.proofs.Reached.{rest_is}
 use Rattle.heap_system.proofs.Seeing.{PartKept, RowKept, BuildKept, IsSettled}
 use Rattle.heap_system.proofs.Starting.{one_rate}
+
+-- what is paid for a command of which so many units are made: all of them, but for an idle
+paid_but_idle : (w : Width) (rate : ℕ) (k : Command) (spent paid : ℕ) → paid ≡ paid_part (units_told k) spent
+    → spent ≤ units_owed w rate k → paid ≡ cond (is_idle k) 0 spent
+paid_but_idle w rate (commands.Idle u) spent paid is low = elim (cases_eq u 0) [
+  | inl e ↦ (let all : paid ≡ spent = all_paid u spent paid is e in omega (arith, low))
+  | inr ne ↦ is ∙ ap (λ x. cond x spent 0) (ne_eqb u 0 ne)
+]
+paid_but_idle w rate _ spent paid is low = is
 
 module _ (c : Config) (traces : List (List Command)) (r : Run) (k : Kept c traces r) (t : ℕ) (tl : t < c.threads) where
   -- what is kept of a thread that stands at p
@@ -67,19 +82,47 @@ module _ (c : Config) (traces : List (List Command)) (r : Run) (k : Kept c trace
   pub paid_low : (local_at c r.state t).spent ≤ owed (local_at c r.state t)
   paid_low = omega (arith, (k.locals t tl).fits.paid)
 
-  pub rest_settled : is_rest (local_at c r.state t).part ≡ true → (local_at c r.state t).spent ≡ 0
-  rest_settled e = settled_at Rest (rest_is (local_at c r.state t).part e)
+  -- where nothing is made nothing is paid
+  abbrev Settled : Type 0
+  Settled = ((local_at c r.state t).spent ≡ 0) × ((local_at c r.state t).balance.paid ≡ 0)
 
-  pub leave_settled : (local_at c r.state t).part ≡ Leave → (local_at c r.state t).spent ≡ 0
-  leave_settled is = settled_at Leave is
+  none_paid : (local_at c r.state t).spent ≡ 0 → Settled
+  none_paid none = (none, (k.locals t tl).fits.account ∙ ap (paid_part (units_told (command_of (local_at c r.state t)))) none ∙ none_spent (units_told (command_of (local_at c r.state t))))
 
-  pub build_settled : (b : BuildState) → (local_at c r.state t).part ≡ Build b → (0 < blocks_of c.width (command_of (local_at c r.state t))) × ((local_at c r.state t).spent ≡ owed (local_at c r.state t))
-  build_settled b is =
-      let row : BuildKept c (replay c r.order) t (local_at c r.state t).pass (command_of (local_at c r.state t)) b = kept_at (Build b) is in
-      (makers_have_blocks c.width (command_of (local_at c r.state t)) row.makes, settled_at (Build b) is)
+  pub rest_settled : is_rest (local_at c r.state t).part ≡ true → Settled
+  rest_settled e = none_paid (settled_at Rest (rest_is (local_at c r.state t).part e))
+
+  pub leave_settled : (local_at c r.state t).part ≡ Leave → Settled
+  leave_settled is = none_paid (settled_at Leave is)
+
+  -- what is made is paid, but for an idle
+  pub paid_made : (local_at c r.state t).balance.paid ≡ cond (is_idle (command_of (local_at c r.state t))) 0 (local_at c r.state t).spent
+  paid_made = paid_but_idle (local_at c r.state t).config.width (local_at c r.state t).rate (command_of (local_at c r.state t)) (local_at c r.state t).spent (local_at c r.state t).balance.paid (k.locals t tl).fits.account paid_low
 
   pub rate_is : IsRate c (local_at c r.state t).rate
   rate_is = subst (λ x. IsRate x (local_at c r.state t).rate) (k.locals t tl).config (k.locals t tl).fits.rate
+
+  pub build_settled : (b : BuildState) → (local_at c r.state t).part ≡ Build b → (rate : ℕ) → IsRate c rate
+      → (0 < blocks_of c.width (command_of (local_at c r.state t)))
+      × ((local_at c r.state t).balance.paid ≡ rate * blocks_of c.width (command_of (local_at c r.state t)))
+      × ((local_at c r.state t).spent ≡ owed (local_at c r.state t))
+  build_settled b is rate planned =
+      let row : BuildKept c (replay c r.order) t (local_at c r.state t).pass (command_of (local_at c r.state t)) b = kept_at (Build b) is in
+      let all : (local_at c r.state t).spent ≡ owed (local_at c r.state t) = settled_at (Build b) is in (
+        makers_have_blocks c.width (command_of (local_at c r.state t)) row.makes,
+        price_paid (local_at c r.state t) (k.locals t tl).fits all ∙ (λ i. one_rate c (local_at c r.state t).rate rate rate_is planned i * blocks_of ((k.locals t tl).config i).width (command_of (local_at c r.state t))),
+        all,
+      )
+
+  -- a command that makes no object is done where it has made what it is told of
+  pub serve_settled : (f : FieldState) → (local_at c r.state t).part ≡ Serve f
+      → (blocks_of c.width (command_of (local_at c r.state t)) ≡ 0)
+      × ((local_at c r.state t).spent ≡ units_told (command_of (local_at c r.state t)))
+  serve_settled f is =
+      let row : RowKept (replay c r.order) t (local_at c r.state t).pass (command_of (local_at c r.state t)) f = kept_at (Serve f) is in
+      let all : (local_at c r.state t).spent ≡ owed (local_at c r.state t) = settled_at (Serve f) is in
+      let none : (local_at c r.state t).rate * blocks_of (local_at c r.state t).config.width (command_of (local_at c r.state t)) ≡ (local_at c r.state t).rate * 0 = ap (λ n. (local_at c r.state t).rate * n) (others_have_none (local_at c r.state t).config.width (command_of (local_at c r.state t)) row.serves) in
+      (others_have_none c.width (command_of (local_at c r.state t)) row.serves, all ∙ omega (arith, none))
 
   pub entries_right : (rate : ℕ) → IsRate c rate → IsRight c.width rate (part t r.order)
   entries_right rate is = subst (λ n. IsRight c.width n (part t r.order)) (one_rate c (local_at c r.state t).rate rate rate_is is) (k.locals t tl).right

@@ -31,12 +31,12 @@ use Rattle.kept_names.specs.Pictures.{Names, picture}
 use Rattle.heap_system.specs.declared.local.Part.{Part}
 use Rattle.heap_system.specs.declared.local.Part.TheVariants.{Rest}
 use Rattle.sweep_steps.specs.Ends.{unpassed}
-use Rattle.heap_system.specs.Locals.{LocalState, Effect, command_of, owed, errand_of, effect, is_rest, is_done, part_want, part_got, pass_got, paid_got, local_got, entries_of, works, task, unit_to_come, PartFits, PartReads, IsRoomy}
+use Rattle.heap_system.specs.Locals.{LocalState, Effect, command_of, owed, errand_of, effect, is_rest, is_done, part_want, part_got, pass_got, spent_got, local_got, entries_of, works, task, unit_to_come, PartFits, PartReads, IsRoomy}
 use Rattle.heap_system.specs.Machines.{Run, no_local, local_at, word_read, next_effect, event_done, has_event, items_by, heap_in, next}
 use Rattle.heap_system.specs.Naming.{renamed}
 use Rattle.heap_system.specs.Pictures.{gating, stand_of, holding, gates_in, holdings_in, tasks_in, kept_state}
 use Rattle.heap_system.specs.Systems.{logs_of, units_of}
-use Rattle.heap_system.proofs.Balances.{replied_paid}
+use Rattle.heap_system.proofs.Balances.{replied_made}
 use Rattle.heap_system.proofs.Growing.{order_after, items_are, part_grows, part_stays, work_grows, registers_stay, counts_stay, units_grow}
 use Rattle.heap_system.proofs.Kept.{LocalKept, progress, Kept}
 use Rattle.heap_system.proofs.Moving.{moved_on, local_moves, local_stays}
@@ -208,7 +208,7 @@ module _ (c : Config) (traces : List (List Command)) (laws : (p : Part) → Part
   abbrev pub new_run : Run
   new_run = record { state = event_done c t r.state; order = new_order; names = new_names }
 
-  pub paid_new : new_local.spent ≡ paid_got effect_here.reply effect_here.unit (local_at c r.state t).spent
+  pub paid_new : new_local.spent ≡ spent_got effect_here.reply effect_here.unit (local_at c r.state t).spent
   paid_new = refl
 
   module _ (going : is_done (local_at c r.state t) ≡ false) where
@@ -231,7 +231,7 @@ module _ (c : Config) (traces : List (List Command)) (laws : (p : Part) → Part
       low = event.low;
       settled = event.settled;
       exact = event.exact;
-      whole = λ x e. replied_paid c _ _ (local_at c r.state t).part word_here x (kept.locals t tl).fits.settled e;
+      whole = λ x e. replied_made c _ _ (local_at c r.state t).part word_here x (kept.locals t tl).fits.settled e;
       counts = event.counts;
       some = λ x e. (laws (local_at c r.state t).part).low _ _ _ _ x (fits_at t tl) e;
     })

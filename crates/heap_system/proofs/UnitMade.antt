@@ -17,8 +17,8 @@ use Rattle.heap_system.specs.declared.local.Part.{Part}
 use Rattle.heap_system.specs.declared.local.Part.TheVariants.{Sweep, Again, Idle}
 use Rattle.never_heap.specs.RightWork.{units_told}
 use Rattle.never_heap.specs.Steps.{blocks_of}
-use Rattle.heap_system.specs.Locals.{IsLocal, PartFits, IsRoomy, IsPaid, IsPassAt, HasRoom, balance_paid, paid_got, command_of, owed, unit_to_come, works, is_last, local_got}
-use Rattle.heap_system.proofs.Balances.{paid_after, part_low, units_on, sound_made}
+use Rattle.heap_system.specs.Locals.{IsLocal, PartFits, IsRoomy, IsAllMade, IsPassAt, HasRoom, balance_on, spent_got, command_of, owed, unit_to_come, works, is_last, local_got}
+use Rattle.heap_system.proofs.Balances.{paid_after, part_low, units_on, sound_on}
 use Rattle.heap_system.proofs.Paying.{view_of, price_low, paid_low, worked_low, passed_more, swept_last}
 use Rattle.heap_system.proofs.parts.InPass.{paid_more}
 
@@ -77,9 +77,9 @@ module _ (i : Inside) (k : IsLocal (view_of i)) (rate : i.account.rate ≡ i.rat
       omega (arith, price, one, low, same, untold, paid, price_low (view_of i) k)
 
   module _ (n : AccountState) (unit : Bool) (told spent : ℕ)
-      (counts : n ≡ record i.account { balance = balance_paid None unit told 0 i.account.balance })
+      (counts : n ≡ record i.account { balance = balance_on unit told i.account.balance })
       (same : told ≡ units_told (command_of (view_of i)))
-      (makes : spent ≡ paid_got None unit i.spent) where
+      (makes : spent ≡ spent_got None unit i.spent) where
     pub ties : (n.rate ≡ i.rate) × (n.object ≡ i.config.object)
     ties = (
       ap (λ (a : AccountState). a.rate) counts ∙ rate,
@@ -90,16 +90,16 @@ module _ (i : Inside) (k : IsLocal (view_of i)) (rate : i.account.rate ≡ i.rat
     pub counted_local : (part : Part)
         → PartFits i.config (length i.log.items) (length i.trace.items) i.pass part
         → i.spent + bit unit + unit_to_come i.config part ≤ owed (view_of i)
-        → IsPaid (owed (view_of i)) spent part → IsRoomy i.space part
+        → IsAllMade (owed (view_of i)) spent part → IsRoomy i.space part
         → IsLocal (record (view_of i) { balance = n.balance; spent = spent; part = part })
     counted_local part fits pays all roomy =
-        let is : n.balance ≡ balance_paid None unit (units_told (command_of (view_of i))) 0 i.account.balance =
+        let is : n.balance ≡ balance_on unit (units_told (command_of (view_of i))) i.account.balance =
         ap (λ (a : AccountState). a.balance) counts
-        ∙ ap (λ x. balance_paid None unit x 0 i.account.balance) same in
-        let more : paid_got None unit i.spent ≡ i.spent + bit unit = paid_more unit i.spent in
+        ∙ ap (λ x. balance_on unit x i.account.balance) same in
+        let more : spent_got None unit i.spent ≡ i.spent + bit unit = paid_more unit i.spent in
         subst (λ b. IsLocal (record (view_of i) { balance = b; spent = spent; part = part })) (sym is)
-        (subst (λ x. IsPaid (owed (view_of i)) x part → IsLocal (record (view_of i) {
-          balance = balance_paid None unit (units_told (command_of (view_of i))) 0 i.account.balance;
+        (subst (λ x. IsAllMade (owed (view_of i)) x part → IsLocal (record (view_of i) {
+          balance = balance_on unit (units_told (command_of (view_of i))) i.account.balance;
           spent = x;
           part = part;
         })) (sym makes)
@@ -114,11 +114,11 @@ module _ (i : Inside) (k : IsLocal (view_of i)) (rate : i.account.rate ≡ i.rat
           part = fits;
           paid = omega (arith, more, pays);
           settled = settled;
-          sound = sound_made i.rate i.config.object unit (units_told (command_of (view_of i)))
+          sound = sound_on i.rate i.config.object unit (units_told (command_of (view_of i)))
               (blocks_of i.config.width (command_of (view_of i))) i.spent i.account.balance
               k.account (price_low (view_of i) k) (omega (arith, more, pays)) k.sound;
           account = paid_after None unit (units_told (command_of (view_of i))) 0 i.spent i.account.balance k.account;
-          units = units_on unit (units_told (command_of (view_of i))) 0 (i.before + works i.log.items) i.spent i.account.balance k.units;
+          units = units_on unit (units_told (command_of (view_of i))) (i.before + works i.log.items) i.spent i.account.balance k.units;
           made = k.made;
           space = k.space;
           roomy = roomy;
@@ -170,8 +170,8 @@ room_over part none space capacity held is room =
 pub swept_got : (i : Inside) (s n : SweepState) (w : ℕ) (a : AccountState) (told spent before now : ℕ) (step : Step)
     → i.part ≡ Sweep s → n ≡ sweep_got s w → is_last step ≡ false → step ≡ sweep_step s w
     → before ≡ sweep_passed s.row → now ≡ sweep_passed n.row
-    → a ≡ record i.account { balance = balance_paid None (ltb before now) told 0 i.account.balance }
-    → told ≡ units_told (command_of (view_of i)) → spent ≡ paid_got None (ltb before now) i.spent
+    → a ≡ record i.account { balance = balance_on (ltb before now) told i.account.balance }
+    → told ≡ units_told (command_of (view_of i)) → spent ≡ spent_got None (ltb before now) i.spent
     → record (view_of i) { balance = a.balance; spent = spent; part = Sweep n } ≡ local_got (view_of i) w
 swept_got i s n w a told spent before now step at got on stepped was is counts same makes =
     let unit : ltb before now ≡ is_some (row_passes s.cycle s.row w) =
@@ -181,8 +181,8 @@ swept_got i s n w a told spent before now step at got on stepped was is counts s
     (λ j. record (view_of i) { balance = (counts j).balance; spent = makes j; part = Sweep (got j) })
     ∙ (λ j. record (view_of i) {
       log = sym (append-nil i.log.items) j;
-      balance = balance_paid None (unit j) (same j) 0 i.account.balance;
-      spent = paid_got None (unit j) i.spent;
+      balance = balance_on (unit j) (same j) i.account.balance;
+      spent = spent_got None (unit j) i.spent;
       part = cond (sym goes j) (cond (sweep_nothing (sweep_got s w).row) Idle Again)
           (Sweep (sweep_got s w));
     })

@@ -58,9 +58,9 @@ use Rattle.heap_system.specs.declared.Turn.{Turn}
 use Rattle.heap_system.specs.declared.Turn.TheVariants as turns
 
 -- A thread of a heap: its commands, the entries of those that are done, and the row at which it
--- stands. The rate is the number of units that an allocation owes for each of its blocks; the
--- balance has those paid for the command in hand, and those of the cycle that it entered last; and
--- so many units were made for the command in hand, be they paid or made for an idle. It has made so
+-- stands. The rate is the number of units that an allocation owes for each of its blocks. So many
+-- units were made for the command in hand (spent); the balance has those of them that are paid,
+-- which those of an idle are not, and the units of the cycle that it entered last. It has made so
 -- many objects, and has room to hold so many blocks. The pass is the one of its last entry. So many
 -- units were made for the commands before those of the trace, which are in no log any more.
 pub record LocalState : Type 0 where
@@ -343,12 +343,13 @@ makes_unit c p w = (effect c p w).unit
 
 -- the units made for the command in hand after an event: where it brings a reply the next command
 -- has none
-abbrev pub paid_got : Option Reply → Bool → ℕ → ℕ
-paid_got None unit paid = if unit then paid + 1 else paid
-paid_got (Some r) unit paid = 0
+abbrev pub spent_got : Option Reply → Bool → ℕ → ℕ
+spent_got None unit spent = if unit then spent + 1 else spent
+spent_got (Some r) unit spent = 0
 
--- The balance after an event. A thread that went in enters the cycle of the word; a unit is paid;
--- and where a command of k blocks has its reply these were given, or the command is over without.
+-- The balance after an event. A thread that went in enters the cycle of the word; a unit is paid,
+-- unless it is made for an idle; and where a command of k blocks has its reply these were given, or
+-- the command is over without.
 abbrev pub balance_in : Option PhaseWord → Balance → Balance
 balance_in None b = b
 balance_in (Some p) b = entered p.cycle b
@@ -357,10 +358,16 @@ balance_in (Some p) b = entered p.cycle b
 abbrev pub balance_made : ℕ → Balance → Balance
 balance_made told b = if told == 0 then with_unit b else with_idle b
 
+abbrev pub balance_on : Bool → ℕ → Balance → Balance
+balance_on unit told b = if unit then balance_made told b else b
+
+abbrev pub balance_over : Reply → ℕ → Balance → Balance
+balance_over (replies.New name) k b = published k b
+balance_over _ k b = refused b
+
 abbrev pub balance_paid : Option Reply → Bool → ℕ → ℕ → Balance → Balance
-balance_paid None unit told k b = if unit then balance_made told b else b
-balance_paid (Some (replies.New name)) unit told k b = published k b
-balance_paid (Some _) unit told k b = refused b
+balance_paid None unit told k b = balance_on unit told b
+balance_paid (Some reply) unit told k b = balance_over reply k b
 
 -- of so many units made for a command that is told of so many, those that are paid, and those of an
 -- idle
@@ -445,7 +452,7 @@ local_got l w =
       log = l.log ++ entries_of l.thread (command_of l) l.spent e.reply;
       balance = balance_got e (units_told (command_of l)) (blocks_of l.config.width (command_of l))
           l.balance;
-      spent = paid_got e.reply e.unit l.spent;
+      spent = spent_got e.reply e.unit l.spent;
       made = made_got (command_of l) e.reply l.made;
       space = l.space;
       pass = pass_got e.entered l.thread l.config.threads l.pass;
@@ -485,10 +492,10 @@ abbrev pub unit_to_come : Config → Part → ℕ
 unit_to_come c p = (view c p).to_come
 
 -- where a thread does its command, all that this owes is made
-abbrev pub IsPaid : ℕ → ℕ → Part → Type 0
-IsPaid due paid (Serve f) = paid ≡ due
-IsPaid due paid (Build b) = paid ≡ due
-IsPaid due paid _ = Unit {0}
+abbrev pub IsAllMade : ℕ → ℕ → Part → Type 0
+IsAllMade due spent (Serve f) = spent ≡ due
+IsAllMade due spent (Build b) = spent ≡ due
+IsAllMade due spent _ = Unit {0}
 
 -- a builder has the thread's room, which it gives back
 abbrev pub IsRoomy : ℕ → Part → Type 0
@@ -503,7 +510,8 @@ HasRoom _ space held capacity = (held ≡ []) × (capacity ≡ space)
 -- A thread of a configuration that has a rate. No command has made more units than it owes, and the
 -- balance is sound; its units are in the log, or paid, or were those of the commands before. There
 -- is room for the blocks of the largest object. The units made before, those of the log and those
--- that the commands to come owe are few, and so are the objects made and those that may be asked for.
+-- that the commands to come owe are few, and so are the objects made and those that may be asked
+-- for.
 pub record IsLocal (l : LocalState) : Type 0 where
   pub bounds : IsInBounds l.config
   pub plan : IsAdmitted l.config
@@ -515,7 +523,7 @@ pub record IsLocal (l : LocalState) : Type 0 where
   pub log : length l.log ≤ length l.trace
   pub part : PartFits l.config (length l.log) (length l.trace) l.pass l.part
   pub paid : l.spent + unit_to_come l.config l.part ≤ owed l
-  pub settled : IsPaid (owed l) l.spent l.part
+  pub settled : IsAllMade (owed l) l.spent l.part
   pub sound : IsSound l.rate l.config.object l.balance
   pub account : l.balance.paid ≡ paid_part (units_told (command_of l)) l.spent
   pub units : l.balance.units ≤ l.before + works l.log + l.spent

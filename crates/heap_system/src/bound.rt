@@ -34,7 +34,7 @@ pub fn cycles_give_few_blocks()
 
 /// Over C cycles that have begun, on m blocks, the units are at least (C - 1) m, as each cycle that
 /// has ended passed each block, and at most 2 m C, as no cycle marks or passes a block twice. The
-/// units are the works of the commands that were decided with what is paid for those in hand: all
+/// units are the works of the commands that were decided with what is made for those in hand: all
 /// of them are turns that made a grey block black or passed a block, and where all threads are done
 /// they are the works of the order. Each entry has the work that its command owes. The units and
 /// the number of the cycle stay below 2^50.

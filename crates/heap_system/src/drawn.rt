@@ -1,6 +1,6 @@
 //! Drawn jobs of one to sixteen threads, run to a drawn state. Then, when nobody is inside, each
 //! thread does what is left of its trace while it alone has turns, and each command takes no more
-//! turns than is proved.
+//! turns than is proved: an allocation, an idle, and any other.
 
 ghost use Rattle.std.specs.Prelude.{◌≡◌, ◌<◌, ◌≤◌, None, IfOk, IfSome};
 ghost use Rattle.block_store.specs.Configs.{IsInBounds};
@@ -16,7 +16,7 @@ use rate_plan::plan;
 use std::alloc::Global;
 
 // How many commands a thread has at most.
-const COMMANDS: u32 = 30;
+const COMMANDS: u32 = 39;
 
 // How many turns are enough to come to rest, or to end a command.
 const ENOUGH: u32 = 100_000;
@@ -40,11 +40,14 @@ fn drawn_config(draws: &mut Lcg64Xsh32, width: Width) -> Config {
     }
 }
 
-// A command of one of the ten kinds, with drawn registers, and a drawn index or length.
+// A command of one of the thirteen kinds, with drawn registers, and a drawn index, length or number
+// of units.
 fn drawn_command(draws: &mut Lcg64Xsh32, kind: u32) -> Command {
-    let d = (1 + draws.next_word() % 15) as u8;
-    let s = (draws.next_word() % 16) as u8;
+    let d = (1 + draws.next_word() % 5) as u8;
+    let s = (draws.next_word() % 6) as u8;
+    let a = (draws.next_word() % 6) as u8;
     let index = draws.next_word() % 8;
+    let units = draws.next_word() % 300;
     match kind {
         0 => Command::New { d, fields: index },
         1 => Command::Arr { d, elements: index },
@@ -63,11 +66,26 @@ fn drawn_command(draws: &mut Lcg64Xsh32, kind: u32) -> Command {
         },
         7 => Command::Len { s },
         8 => Command::Same { a: d, b: s },
-        _ => Command::Say { s },
+        9 => Command::Say { s },
+        10 => Command::Swap {
+            s,
+            i: u64::from(index),
+            v: d,
+        },
+        11 => Command::Cas {
+            s,
+            i: u64::from(index),
+            a,
+            v: d,
+        },
+        _ => Command::Idle {
+            units: u64::from(units),
+        },
     }
 }
 
-// Commands of all kinds in turn: those that are in bounds.
+// Commands of all kinds in turn: those that are in bounds, which blocks of width four let no swap,
+// cas or idle be.
 fn drawn_trace(
     alloc: Global,
     c: &Config,
@@ -77,7 +95,7 @@ fn drawn_trace(
 {
     let mut trace = Vec::new(alloc);
     for place in 0..COMMANDS {
-        let command = drawn_command(draws, place % 10);
+        let command = drawn_command(draws, place % 13);
         if command.in_bounds(c) && trace.len() < 131_072 {
             trace.push(command)?;
         }
@@ -184,21 +202,29 @@ fn allocation_bound(threads: u64, blocks: u64, rate: u64) -> u64
     (rate * blocks + 1) * (8 * threads + 64) + 16 * blocks + 8 * threads + 64
 }
 
-// Whether a command took no more turns than it may for a thread alone. The objects of the jobs are
-// small, and the rates low.
+// And an idle.
+fn idle_bound(threads: u64, units: u64) -> u64
+    requires threads { threads ≤ 16 }
+    requires units { units ≤ 1000 }
+{
+    (units + 1) * (8 * threads + 64)
+}
+
+// Whether a command took no more turns than it may for a thread alone. The objects and the idles of
+// the jobs are small, and the rates low.
 fn is_in_time(c: &Config, rate: u64, command: &Command, turns: u32) -> bool {
-    if !command.in_bounds(c) {
+    if !command.in_bounds(c) || c.threads > 16 || rate > 1000 {
         return false;
     }
     let turns = u64::from(turns);
     let threads = u64::from(c.threads);
-    let blocks = u64::from(command.blocks(c.width));
-    if blocks == 0 {
-        turns <= u64::from(c.object) + 64
-    } else if threads <= 16 && blocks <= 3 && rate <= 1000 {
-        turns <= allocation_bound(threads, blocks, rate)
-    } else {
-        false
+    match *command {
+        Command::New { .. } | Command::Arr { .. } => {
+            let blocks = u64::from(command.blocks(c.width));
+            blocks <= 3 && turns <= allocation_bound(threads, blocks, rate)
+        }
+        Command::Idle { units } => units <= 1000 && turns <= idle_bound(threads, units),
+        _ => turns <= u64::from(c.object) + 64,
     }
 }
 
@@ -250,7 +276,7 @@ fn job_ends_in_time(alloc: Global, width: Width, key: u64) -> Result<bool, OutOf
     let Some((mut system, rate)) = drawn_system(alloc, &config, &mut draws)? else {
         return Ok(false);
     };
-    let turns = draws.next_word() % 400;
+    let turns = draws.next_word() % 200;
     go_on(&mut system, &mut draws, turns * config.threads);
     settle(&mut system);
     Ok(all_end_in_time(&mut system, rate))

@@ -1,7 +1,7 @@
 //! What holds after every list of turns, for the proofs above: each law is the contract of a
 //! function that does nothing.
 
-ghost use Rattle.std.specs.Prelude.{◌+◌, ◌^◌, ◌≡◌, ◌<◌, ◌≤◌, ◌++◌, ◌∷◌, [], ℕ, List, length, Some, true, false, if◌then◌else◌};
+ghost use Rattle.std.specs.Prelude.{◌+◌, ◌*◌, ◌^◌, ◌≡◌, ◌<◌, ◌≤◌, ◌++◌, ◌∷◌, [], ℕ, List, length, Some, true, false, if◌then◌else◌};
 ghost use Rattle.block_store.specs.declared.Config.{Config};
 ghost use Rattle.block_store.specs.declared.Name.{Name};
 ghost use Rattle.block_store.specs.declared.TheConstants.{REGISTERS};
@@ -31,13 +31,14 @@ ghost use Rattle.heap_machine.specs.Holdings.{holds_nothing};
 ghost use Rattle.heap_machine.specs.Operations.{place_of, op_at, SumFits};
 ghost use Rattle.heap_machine.specs.PhaseKept.{PhaseKept};
 ghost use Rattle.heap_machine.specs.Readings.{IsHeld};
+ghost use Rattle.barrier_steps.specs.Operands.{is_idle};
 ghost use Rattle.barrier_steps.specs.Rows.{FieldState, field_decided};
 ghost use Rattle.build_steps.specs.Rows.{BuildState};
 ghost use Rattle.heap_system.specs.declared.local.Part.{Part};
 ghost use Rattle.heap_system.specs.declared.local.Part.TheVariants.{Serve, Build, Leave};
 ghost use Rattle.heap_system.specs.declared.Turn.TheVariants as Turn;
 ghost use Rattle.heap_system.specs.Loaded.{IsLoadedBlock, IsTaking};
-ghost use Rattle.heap_system.specs.Locals.{task, is_done, waits, is_rest, command_of, owed, paid_part, entry_of, works, part_want, part_step, turn_of, LocalReads};
+ghost use Rattle.heap_system.specs.Locals.{task, is_done, waits, is_rest, command_of, owed, entry_of, works, part_want, part_step, turn_of, LocalReads};
 ghost use Rattle.heap_system.specs.Machines.{State, answer, turned, Run, opened, IsAfterTurns, local_in, local_at, heap_in, word_read};
 ghost use Rattle.heap_system.specs.Openings.{opening_heap};
 ghost use Rattle.heap_system.specs.Pictures.{stand_of, holding, gates_in, holdings_in, tasks_in, kept_state, entries_waiting};
@@ -57,10 +58,12 @@ pub fn opening_shows_the_start()
 
 /// The words show, of the replay of the order, each object that the rules keep, where they say that
 /// it stands, and no two of its blocks are one; and they keep each one that the graph reaches.
-/// Between the load of the field and the store of a `get`, and between the exchange and the store of
-/// a `swap`, and nowhere else, its register's word is still that of the value that it had before. What a thread has loaded is of that graph. No block
-/// that the graph reaches is Free, or held by a thread that builds; nor is one to which a thread
-/// has loaded a reference, also where this is the only one.
+/// There is one exception: between the event that takes a field's value and the store in the
+/// register, so between the load and the store of a `get`, and between the exchange and the store
+/// of a `swap`, that register's word is still that of the value that it had before. What a thread
+/// has loaded is of that graph. No block that the graph reaches is Free, or held by a thread that
+/// builds; nor is one to which a thread has loaded a reference, also where this is the only one: to
+/// an object, to a value that it will store, or to one with which a `cas` compares.
 pub fn words_show_the_order()
     ensures words { (c : Config) (r : Run) → IsAfterTurns c r
         → Shows c.width c.threads c.blocks (λ a. r.names.kept a ≡ true) (replay c r.order)
@@ -148,11 +151,18 @@ pub fn logs_are_parts()
 
 /// The works of a thread's entries, and the units that it has made for the command in hand, are its
 /// turns that are units: those at which it makes a grey block black, and those at which it passes a
-/// block of the sweep. The work of each entry is the units that the thread made for this command,
-/// which are those made while the log had the entries before it and no more; and so is what is paid
-/// for the command in hand. It has made no more for any command than it owes, which is the rate
-/// times the blocks, and none at rest or once its command is over and it goes out. Each entry has
-/// exactly what its command owes, and an allocation builds where it has made all.
+/// block of the sweep (`made`, `units`). The work of each entry is the units that the thread made
+/// for this command, which are those made while the log had the entries before it and no more
+/// (`each`); and so are those made for the command in hand (`hand`). It has made no more for any
+/// command than it owes, which is the rate times the blocks of an allocation, and what an idle is
+/// told of (`owed`); and each entry has exactly that (`entries`).
+///
+/// What its account has paid are these units where the command in hand is no idle, and none where
+/// it is one (`paid`). An allocation builds its object, or is refused, only where the account has
+/// paid the price of all its blocks (`builds`), and any other command is done only where exactly so
+/// many units were made for it as it is told of (`serves`): those of an idle, and for the others
+/// none. At rest, and on the way out once its command is over, nothing is made and nothing paid
+/// (`rest`, `settled`).
 pub fn works_are_units()
     ensures made { (c : Config) (r : Run) → (is : IsAfterTurns c r) → (t : ℕ) → t < c.threads
         → works (part t r.order) + (local_in c r t).spent
@@ -170,17 +180,26 @@ pub fn works_are_units()
         → (local_in c r t).spent ≤ owed (local_in c r t) }
     ensures entries { (c : Config) (r : Run) → IsAfterTurns c r → (t : ℕ) → t < c.threads
         → (rate : ℕ) → IsRate c rate → IsRight c.width rate (part t r.order) }
-    ensures account { (c : Config) (r : Run) → IsAfterTurns c r → (t : ℕ) → t < c.threads
+    ensures paid { (c : Config) (r : Run) → (is : IsAfterTurns c r) → (t : ℕ) → t < c.threads
         → (local_in c r t).balance.paid
-        ≡ paid_part (units_told (command_of (local_in c r t))) (local_in c r t).spent }
-    ensures rest { (c : Config) (r : Run) → IsAfterTurns c r → (t : ℕ) → t < c.threads
-        → is_rest (local_in c r t).part ≡ true → (local_in c r t).spent ≡ 0 }
-    ensures settled { (c : Config) (r : Run) → IsAfterTurns c r → (t : ℕ) → t < c.threads
-        → (local_in c r t).part ≡ Leave → (local_in c r t).spent ≡ 0 }
-    ensures paid { (c : Config) (r : Run) → IsAfterTurns c r → (t : ℕ) → t < c.threads
-        → (b : BuildState) → (local_in c r t).part ≡ Build b
+        ≡ (if is_idle (command_of (local_in c r t)) then 0 else
+        units_made_for c t (length (local_in c r t).log) (opened c is.by_turns.first) is.turns) }
+    ensures builds { (c : Config) (r : Run) → IsAfterTurns c r → (t : ℕ) → t < c.threads
+        → (b : BuildState) → (local_in c r t).part ≡ Build b → (rate : ℕ) → IsRate c rate
         → (0 < blocks_of c.width (command_of (local_in c r t)))
+        × ((local_in c r t).balance.paid ≡ rate * blocks_of c.width (command_of (local_in c r t)))
         × ((local_in c r t).spent ≡ owed (local_in c r t)) }
+    ensures serves { (c : Config) (r : Run) → (is : IsAfterTurns c r) → (t : ℕ) → t < c.threads
+        → (f : FieldState) → (local_in c r t).part ≡ Serve f
+        → (blocks_of c.width (command_of (local_in c r t)) ≡ 0)
+        × (units_made_for c t (length (local_in c r t).log) (opened c is.by_turns.first) is.turns
+        ≡ units_told (command_of (local_in c r t))) }
+    ensures rest { (c : Config) (r : Run) → IsAfterTurns c r → (t : ℕ) → t < c.threads
+        → is_rest (local_in c r t).part ≡ true
+        → ((local_in c r t).spent ≡ 0) × ((local_in c r t).balance.paid ≡ 0) }
+    ensures settled { (c : Config) (r : Run) → IsAfterTurns c r → (t : ℕ) → t < c.threads
+        → (local_in c r t).part ≡ Leave
+        → ((local_in c r t).spent ≡ 0) × ((local_in c r t).balance.paid ≡ 0) }
     ensures rate { (c : Config) (r : Run) → IsAfterTurns c r → (t : ℕ) → t < c.threads
         → IsRate c (local_in c r t).rate }
 {}

@@ -4,6 +4,7 @@
 mod accounts;
 mod bound;
 mod collector;
+mod counting;
 mod cycles;
 #[cfg(test)]
 mod drawn;
@@ -43,7 +44,10 @@ pub use laws::{
 };
 pub use local::Local;
 pub use orders::turns_add_their_items;
-pub use progress::{a_lone_thread_ends_its_command, units_part_the_changes_of_a_lone_thread};
+pub use progress::{
+    a_lone_allocation_ends_near_its_bound, a_lone_thread_ends_its_command,
+    units_part_the_changes_of_a_lone_thread,
+};
 pub use replays::jobs_have_one_order;
 pub use serial::{a_single_thread_ends_its_job, serial_turns_end};
 pub use start::opening;

@@ -1,8 +1,7 @@
 //! One thread's whole state, one event at a time.
 
-ghost use Rattle.std.specs.Prelude.{◌≡◌, ◌≤◌, ◌<◌, ◌+◌, ◌^◌, ◌-◌, ◌*◌, ◌++◌, ◌∷◌, ◌&&◌, not, [], true, false, None, Some, if◌then◌else◌, length, IfOk};
+ghost use Rattle.std.specs.Prelude.{◌≡◌, ◌≤◌, ◌<◌, ◌+◌, ◌^◌, ◌-◌, ◌++◌, ◌∷◌, [], true, false, Some, if◌then◌else◌, length, IfOk};
 ghost use Rattle.block_store.specs.Configs.{IsInBounds};
-ghost use Rattle.block_store.specs.Phases.{bit};
 ghost use Rattle.block_store.specs.Places.{extent, words_count};
 ghost use Rattle.rate_plan.specs.Rates.{IsRate, IsAdmitted};
 ghost use Rattle.never_heap.specs.RightWork.{units_told, units_owed};
@@ -18,9 +17,12 @@ ghost use Rattle.heap_system.specs.Lives.{IsLife, objects_of, most_units, most_o
 ghost use Rattle.heap_machine.specs.declared.gate.GateRow.{GateRow};
 ghost use Rattle.grey_steps.specs.Rows.{scanning};
 ghost use Rattle.sweep_steps.specs.Rows.{sweeping};
-ghost use Rattle.heap_system.specs.Locals.{LocalReads, HasGot, is_done, is_rest, is_build, is_at_gate, is_in_command, is_marking, is_sweeping, is_on_way_out, part_want, part_step, local_got, at_start, turn_of, is_last, pass_by, first_part, errand_of, command_of, op_wanted, owed, made_got, works, entry_of, balance_paid, paid_got, commands_decided, begun};
+ghost use Rattle.heap_system.specs.Locals.{LocalReads, HasGot, is_done, is_rest, is_build, is_at_gate, is_in_command, is_marking, is_sweeping, is_on_way_out, part_want, part_step, local_got, at_start, turn_of, is_last, pass_by, first_part, errand_of, command_of, op_wanted, owed, made_got, works, entry_of, balance_over, commands_decided, begun};
 
 use crate::Turn;
+use crate::counting::{
+    count, if_decided, is_new, made_after, makes_object, settle, spend, sum_of_works,
+};
 use barrier_steps::FieldPass;
 use block_store::{Config, OutOfMemory, PhaseWord, Places};
 use build_steps::BuildPass;
@@ -98,7 +100,8 @@ pub struct Local {
     log: Vec<Entry>,
     // What is paid for the command in hand, and the units and blocks of the cycle entered last.
     account: Account,
-    // The units made for the command in hand; those of an idle are not paid.
+    // The units made for the command in hand. Those of an idle are not paid, and so no part of the
+    // account; those of any other command are.
     spent: u64,
     // The objects made so far.
     made: u32,
@@ -172,60 +175,6 @@ fn is_last(step: Step) -> bool
     }
 }
 
-// An event by which a unit is made, or not, for a command that is told of so many.
-fn count(account: &mut Account, told: u64, unit: bool)
-    requires owed { unit ≡ true → told ≡ 0
-        → account.old.balance.paid < account.old.rate * account.old.object }
-    requires few { account.old.balance.units < 2 ^ 50 }
-    ensures { account.new
-        ≡ record account.old { balance = balance_paid None unit told 0 account.old.balance } }
-{
-    if unit {
-        if told == 0 {
-            account.unit();
-        } else {
-            account.idle();
-        }
-    }
-}
-
-// The units made for the command in hand, after such an event.
-fn spend(spent: u64, unit: bool) -> u64
-    requires { spent < 2 ^ 50 }
-    ensures { result ≡ paid_got None unit spent }
-{
-    if unit { spent + 1 } else { spent }
-}
-
-// Whether what is so now was not so before.
-fn is_new(now: bool, before: bool) -> bool
-    ensures { result ≡ (now && not before) }
-{
-    now && !before
-}
-
-// The reply to a command of so many blocks, whose price was paid.
-fn settle(account: &mut Account, reply: Reply, told: u64, blocks: u32)
-    requires { account.old.balance.paid ≡ account.old.rate * blocks }
-    ensures { account.new
-        ≡ record account.old {
-          balance = balance_paid (Some reply) false told blocks account.old.balance;
-        } }
-{
-    let _told = told;
-    match reply {
-        Reply::New(_) => account.publish(blocks),
-        _ => account.refuse(blocks),
-    }
-}
-
-// Whether the command makes an object.
-fn makes_object(command: Command) -> bool
-    ensures { result ≡ makes_object command }
-{
-    matches!(command, Command::New { .. } | Command::Arr { .. })
-}
-
 // A pass that pays: a sweep or marking, by the phase.
 fn first_units(pass: Pass, blocks: u32, due: u64) -> Part
     requires pass { IsPass pass }
@@ -281,50 +230,11 @@ fn turns_over<M: Memory>(
     gate.got(places, word)
 }
 
-// How many objects are made after this reply to this command.
-fn made_after(made: u32, command: Command, reply: Reply) -> u32
-    requires { made < 2 ^ 31 }
-    ensures { result ≡ made_got command (Some reply) made }
-{
-    let makes = makes_object(command);
-    match reply {
-        Reply::New(_) => one_more(made, makes),
-        _ => made,
-    }
-}
-
-// One more object, where it is so.
-fn one_more(made: u32, makes: bool) -> u32
-    requires { made < 2 ^ 31 }
-    ensures { result ≡ made + bit makes }
-{
-    if makes { made + 1 } else { made }
-}
-
-// One more than the commands in the log, where the one in hand is decided.
-fn if_decided(logged: usize, decided: bool) -> usize
-    requires { logged ≤ 2 ^ 60 }
-    ensures { result ≡ logged + bit decided }
-{
-    if decided { logged + 1 } else { logged }
-}
-
-// The sum of the works of the entries.
-fn sum_of_works(entries: &[Entry]) -> u64
-    requires { works entries.now ≤ 2 ^ 60 }
-    ensures { result ≡ works entries.now }
-{
-    let mut sum = 0;
-    for entry in entries {
-        sum += entry.work;
-    }
-    sum
-}
-
 impl Local {
     /// A thread at rest before its first command, with room for all entries of its log and for the
     /// blocks of the largest object. The configuration has a rate, the thread is one of it, and the
-    /// trace is one life.
+    /// trace is one life: its commands are in bounds, owe at most 2^45 units, and at most 131,072
+    /// of them make an object.
     ///
     /// # Errors
     ///
@@ -391,6 +301,13 @@ impl Local {
         self.account.paid()
     }
 
+    /// How many units were made for the command in hand: those that were paid, or those of an idle.
+    pub fn spent(&self) -> u64
+        ensures { result ≡ self.now.spent }
+    {
+        self.spent
+    }
+
     /// Whether the thread is at rest: before its first event of a command, and after its last.
     pub fn at_rest(&self) -> bool
         ensures { result ≡ is_rest self.now.part }
@@ -408,12 +325,24 @@ impl Local {
     /// How many units were made for the commands that are done, also for those that are in the log
     /// no more.
     pub fn units_done(&self) -> u64
-        ensures { result ≡ self.now.before + works self.now.log }
+        ensures sum { result ≡ self.now.before + works self.now.log }
+        ensures few { result ≤ most_units }
     {
         self.before + self.work()
     }
 
-    /// Has one command more in place of its one command, which is done. The entry of that is let go.
+    /// How many units a command owes that is in bounds: the rate for each block of an allocation,
+    /// and what an idle is told of.
+    pub fn owes(&self, command: &Command) -> u64
+        requires { IsCommandInBounds self.now.config command.now }
+        ensures price { result ≡ units_owed self.now.config.width self.now.rate command.now }
+        ensures few { result ≤ most_units }
+    {
+        self.rate * u64::from(command.blocks(self.config.width)) + command.told()
+    }
+
+    /// Has one command more in place of its one command, which is done. The entry of that is let
+    /// go.
     pub fn begin(&mut self, command: Command)
         requires one { length self.old.trace ≡ 1 }
         requires rest { is_rest self.old.part ≡ true }
@@ -755,7 +684,8 @@ impl Local {
         requires there { length self.now.log < length self.now.trace }
         ensures { result ≡ owed self.now - self.now.spent }
     {
-        self.rate * u64::from(command.blocks(self.config.width)) + command.told() - self.spent
+        let spent = self.spent;
+        self.owes(command) - spent
     }
 
     // The command in hand, which made an object or was refused, is done.
@@ -768,7 +698,7 @@ impl Local {
               part = Part.Leave;
               log = self.old.log ++ entry_of
                   self.old.thread (command_of self.old) self.old.spent reply ∷ [];
-              balance = balance_paid (Some reply) false (units_told (command_of self.old))
+              balance = balance_over reply
                   (blocks_of self.old.config.width (command_of self.old)) self.old.balance;
               spent = 0;
               made = made_got (command_of self.old) (Some reply) self.old.made;
@@ -791,7 +721,7 @@ impl Local {
               part = Part.Leave;
               log = self.old.log ++ entry_of
                   self.old.thread (command_of self.old) self.old.spent reply ∷ [];
-              balance = balance_paid (Some reply) false (units_told (command_of self.old))
+              balance = balance_over reply
                   (blocks_of self.old.config.width (command_of self.old)) self.old.balance;
               spent = 0;
               made = made_got (command_of self.old) (Some reply) self.old.made;
@@ -804,13 +734,8 @@ impl Local {
             reply,
             work: self.spent,
         });
-        let told = command.told();
-        settle(
-            &mut self.account,
-            reply,
-            told,
-            command.blocks(self.config.width),
-        );
+        let blocks = command.blocks(self.config.width);
+        settle(&mut self.account, reply, blocks);
         self.spent = 0;
         self.made = made_after(self.made, command, reply);
         self.part = Part::Leave;

@@ -140,6 +140,76 @@ fn every_command_is_answered(rt: HostRuntime) -> Result<(), OutOfMemory> {
     Ok(())
 }
 
+// An exchange, a compare that is lost and one that is won, and idles.
+const WIDE_KINDS: [Command; 11] = [
+    New { d: 1, fields: 2 },
+    Set { d: 2, value: 5 },
+    Swap { s: 1, i: 0, v: 2 },
+    Cas {
+        s: 1,
+        i: 0,
+        a: 2,
+        v: 1,
+    },
+    Set { d: 3, value: 5 },
+    Cas {
+        s: 1,
+        i: 0,
+        a: 3,
+        v: 1,
+    },
+    Swap { s: 1, i: 0, v: 2 },
+    Same { a: 1, b: 2 },
+    Swap { s: 3, i: 0, v: 1 },
+    Idle { units: 10 },
+    Idle { units: 0 },
+];
+
+// What these are answered, and the works.
+fn wide_replies() -> [(Reply, u64); 11] {
+    [
+        (made(1), 7),
+        (Reply::Stored, 0),
+        (Reply::Val(Value::Nil), 0),
+        (Reply::No, 0),
+        (Reply::Stored, 0),
+        (Reply::Yes, 0),
+        (shown(0, 1), 0),
+        (Reply::Yes, 0),
+        (Reply::Kind, 0),
+        (Reply::Idle, 10),
+        (Reply::Idle, 0),
+    ]
+}
+
+#[test]
+fn each_command_of_wide_blocks_is_answered(rt: HostRuntime) -> Result<(), OutOfMemory> {
+    let Some((logs, _)) = run(rt.alloc(), Width::Eight, &[(1, &WIDE_KINDS)])? else {
+        assert!(rt; false, "not finished");
+        return Ok(());
+    };
+    for (entry, (reply, work)) in entries(&logs).iter().zip(&wide_replies()) {
+        assert_eq!(rt; (entry.reply, entry.work), (*reply, *work));
+    }
+    assert_eq!(rt; entries(&logs).len(), 11);
+    assert_eq!(rt; (logs.cycles(), logs.units()), (1, 17));
+    Ok(())
+}
+
+// The first cycle has 4 units of marking and 64 of sweeping.
+#[test]
+fn an_idle_starts_a_cycle_where_it_owes_more(rt: HostRuntime) -> Result<(), OutOfMemory> {
+    for (units, cycles) in [(68, 1), (69, 2)] {
+        let Some((logs, _)) = run(rt.alloc(), Width::Eight, &[(1, &[Idle { units }])])? else {
+            assert!(rt; false, "not finished");
+            return Ok(());
+        };
+        assert!(rt; says(&logs, 0, Reply::Idle, units), "{units} units");
+        assert_eq!(rt; (logs.cycles(), logs.units()), (cycles, units));
+    }
+    Ok(())
+}
+
 // The first allocation scans the six blocks of the opening heap, turns the phase over, passes one
 // block and builds. The second passes seven blocks in one pass, and builds.
 #[test]

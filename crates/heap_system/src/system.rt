@@ -170,8 +170,9 @@ fn ordered_event(
 
 impl System {
     /// The system of a configuration that has a rate, with a trace for each thread: the opening
-    /// words, and each thread at rest. A trace has at most 131,072 commands, which are in bounds.
-    /// What the threads do from then on takes no memory.
+    /// words, and each thread at rest. A trace is one life: its commands are in bounds, owe at most
+    /// 2^45 units, and at most 131,072 of them make an object. What the threads do from then on
+    /// takes no memory.
     ///
     /// # Errors
     ///
@@ -200,7 +201,7 @@ impl System {
 
     /// A system as `new` makes it that also keeps the order of what its threads do. As many events
     /// can be made as `turns` says, at most 1,000,000,000. The room is for all commands of the
-    /// traces and for `2 + turns / blocks` starts.
+    /// traces, at most 2^32, and for `2 + turns / blocks` starts.
     ///
     /// # Errors
     ///

@@ -24,18 +24,19 @@ use Rattle.never_heap.specs.declared.Entry.{Entry}
 use Rattle.never_heap.specs.declared.Command.TheVariants as commands
 use Rattle.never_heap.specs.declared.Reply.TheVariants as replies
 use Rattle.never_heap.specs.Histories.{Did, IsAnswered, after}
-use Rattle.shown_graph.specs.Events.{ObjectLoad, ValueLoad, Loading, IsAtField, IsPrompt, object_at, register_word_in, unloaded}
+use Rattle.shown_graph.specs.Events.{ObjectLoad, ValueLoad, Loading, HasObject, IsAtField, IsPrompt, object_at, register_word_in, unloaded}
 use Rattle.kept_names.specs.Building.{Build, build_in, build_blocks, IsHeldOnce}
 use Rattle.kept_names.specs.Colouring.{IfRefers, IsTricolour, NotRoot}
 use Rattle.block_store.specs.Counts.{changed}
 use Rattle.kept_names.specs.States.{KeptState}
-use Rattle.kept_names.specs.Events.{KeptEvent, Guard, apply, run, Guarded, IsAlone, IsWriting, build_at, held_at}
+use Rattle.kept_names.specs.Events.{KeptEvent, Guard, apply, run, Guarded, IsAlone, IsWriting, build_at, held_at, loaded_word}
 use Rattle.kept_names.specs.Events.KeptEvent.{Decide, ReadWord, ShadeRead, Blacken, Flip, Free, Reserve, Collect, WriteOwner, WriteShape, WritePayload, WriteColour, Publish, ShadeRoot}
 use Rattle.shown_graph.specs.Events.Event.{StoreConstant}
-use Rattle.shown_graph.specs.Layouts.{layout_blocks}
+use Rattle.shown_graph.specs.Layouts.{layout_blocks, shape_part}
+use Rattle.object_lists.specs.Parts.{Field}
 use Rattle.never_heap.specs.Graphs.{count_of}
 use Rattle.kept_names.specs.Openings.{OpeningColours}
-use Rattle.kept_names.specs.Example.{array_block, unpaid, one_thread, first_colours, mark_events, build_events, start_events, command_events, some_events, array_name, record_name, example_start, example_end}
+use Rattle.kept_names.specs.Example.{array_block, unpaid, one_thread, first_colours, mark_events, build_events, put_events, start_events, nil_swap_events, read_events, cas_events, swap_events, last_events, command_events, some_events, array_name, record_name, example_start, example_end}
 use Rattle.kept_names.proofs.Colours.{changed_else}
 use Rattle.kept_names.proofs.Deciding.{decided, mapped, ◌&◌, is_bool, below, equal, unequal, if_equal, is_none, each_below, at_most, if_true, three, four, five}
 
@@ -332,9 +333,13 @@ building Eight =
 abbrev built : Width → KeptState
 built W = run (one_thread W) (marked W) (build_events W)
 
+-- the record refers to itself
+abbrev stored : Width → KeptState
+stored W = run (one_thread W) (built W) (put_events W)
+
 -- the root is shaded
 abbrev shaded : Width → KeptState
-shaded W = apply (one_thread W) (built W) (ShadeRoot 0 0)
+shaded W = apply (one_thread W) (stored W) (ShadeRoot 0 0)
 
 abbrev built_marks : Width → List (ℕ × ℕ)
 built_marks Four = (1, grey_word 0) ∷ (6, black_word 1) ∷ (7, black_word 1) ∷ (6, free_word 0) ∷
@@ -383,70 +388,223 @@ starting_on W s mark alone none =
     )
     ▸ tt
 
-starting : (W : Width) → Guarded (one_thread W) (built W) start_events
-starting Four = starting_on Four (built Four) refl (alone Four (shaded Four) refl refl refl)
+starting : (W : Width) → Guarded (one_thread W) (stored W) start_events
+starting Four = starting_on Four (stored Four) refl (alone Four (shaded Four) refl refl refl)
     (none_white Four)
-starting Eight = starting_on Eight (built Eight) refl (alone Eight (shaded Eight) refl refl refl)
+starting Eight = starting_on Eight (stored Eight) refl (alone Eight (shaded Eight) refl refl refl)
     (none_white Eight)
 
--- the state after the first k of the commands' events
-abbrev commanded : Width → KeptState → ℕ → KeptState
-commanded W s k = run (one_thread W) s (take k (command_events W))
+-- the state after the first k of these events
+abbrev state_at : Width → KeptState → List KeptEvent → ℕ → KeptState
+state_at W s es k = run (one_thread W) s (take k es)
 
-abbrev got : Entry
-got = unpaid (commands.Get 2 0 0) (replies.Val Nil)
+-- register 0 refers to an object, whose shape is the record's, and whose payload 1 is its field 0
+abbrev IsFound : Width → KeptState → Type 0
+IsFound W s = target (register_word_in W s.seen.words 0 0) ≢ 0
 
-abbrev null : Entry
-null = unpaid (commands.Len 3) replies.Null
+abbrev HasShape : Width → KeptState → Type 0
+HasShape W s = shape_of (s.seen.words.shape (object_at s.seen 0).block)
+    ≡ Some (shapes.List (payloads W))
 
--- what the commands read, at either width
-module _ (W : Width) (s : KeptState) (mark : s.sweep ≡ false)
-    (prompt : IsPrompt (s.seen.loads 0))
-    (refers : target (register_word_in W s.seen.words 0 0) ≢ 0)
-    (white : s.colour (target (register_word_in W s.seen.words 0 0)) ≡ white_word s.cycle)
-    (still : target (register_word_in W (commanded W s 3).seen.words 0 0) ≢ 0)
-    (shape : shape_of ((commanded W s 4).seen.words.shape
-    (object_at (commanded W s 4).seen 0).block) ≡ Some (shapes.List (payloads W)))
-    (field : IsAtField W (commanded W s 5).seen 0 record_name 0 1)
-    (gets : IsAnswered (commanded W s 5).seen.graph (Did got))
-    (into : (commanded W s 6).seen.graph ≡ after (commanded W s 5).seen.graph (Did got))
-    (none : IsAnswered (commanded W s 7).seen.graph (Did null))
-    (same : after (commanded W s 7).seen.graph (Did null) ≡ (commanded W s 7).seen.graph) where
-  commanding_on : Guarded (one_thread W) s (command_events W)
-  commanding_on =
-      ((omega arith, omega arith, prompt), refl)
-      ▸ (mark, omega arith, refl, refers, white)
-      ▸ ((omega arith, omega arith, refl, refl), (omega arith, refl, inl refl), refl, refl)
-      ▸ ((omega arith, omega arith, refl, still), refl)
+abbrev IsAtFirst : Width → KeptState → Type 0
+IsAtFirst W s = IsAtField W s.seen 0 record_name 0 1
+
+-- the loaded value refers to a white block
+abbrev IsLoadedWhite : KeptState → Type 0
+IsLoadedWhite s = (target (loaded_word s 0) ≢ 0)
+    × (s.colour (target (loaded_word s 0)) ≡ white_word s.cycle)
+
+-- the entry is that of the step from s, which leads to z
+abbrev IsStep : KeptState → KeptState → Entry → Type 0
+IsStep s z entry = IsAnswered s.seen.graph (Did entry)
+    × (z.seen.graph ≡ after s.seen.graph (Did entry))
+
+module _ (W : Width) (s : KeptState) (prompt : IsPrompt (s.seen.loads 0)) where
+  -- what `put 0 0 0` reads, at either width
+  putting_on : IsFound W s → HasShape W (state_at W s (put_events W) 1)
+      → IsAtFirst W (state_at W s (put_events W) 3)
+      → IsStep (state_at W s (put_events W) 3) (state_at W s (put_events W) 4)
+      (unpaid (commands.Put 0 0 0) replies.Stored)
+      → Guarded (one_thread W) s (put_events W)
+  putting_on found shape field step =
+      ((omega arith, omega arith, prompt, found), refl)
       ▸ ((omega arith, refl, shape), refl)
-      ▸ ((omega arith, omega arith, refl, field), (omega arith, refl, gets), refl, into)
-      ▸ ((omega arith, refl, refl), refl)
-      ▸ ((omega arith, refl, none), same)
-      ▸ ((omega arith, refl, inr (refl, refl)), refl)
+      ▸ ((omega arith, omega arith, prompt), refl)
+      ▸ ((omega arith, refl, refl, field), (omega arith, refl, step.0), refl, step.1)
       ▸ tt
 
-abbrev started : Width → KeptState
-started W = run (one_thread W) (built W) start_events
+  -- what `swap 0 0 1` reads; it shades the white block to which the field referred
+  nil_swapping_on : s.sweep ≡ false → IsFound W s
+      → HasShape W (state_at W s (nil_swap_events W) 1)
+      → IsAtFirst W (state_at W s (nil_swap_events W) 3)
+      → IsStep (state_at W s (nil_swap_events W) 3) (state_at W s (nil_swap_events W) 4)
+      (unpaid (commands.Swap 0 0 1) (replies.Val (Ref record_name)))
+      → IsLoadedWhite (state_at W s (nil_swap_events W) 4)
+      → Guarded (one_thread W) s (nil_swap_events W)
+  nil_swapping_on mark found shape field step white =
+      ((omega arith, omega arith, prompt, found), refl)
+      ▸ ((omega arith, refl, shape), refl)
+      ▸ ((omega arith, omega arith, prompt), refl)
+      ▸ ((omega arith, refl, refl, field), (omega arith, refl, step.0), refl, step.1)
+      ▸ (mark, omega arith, refl, white.0, white.1)
+      ▸ ((omega arith, refl, refl), refl)
+      ▸ tt
 
-commanding : (W : Width) → Guarded (one_thread W) (started W) (command_events W)
+  -- what `get 2 0 0` reads
+  reading_on : IsFound W (state_at W s (read_events W) 2)
+      → HasShape W (state_at W s (read_events W) 3)
+      → IsAtFirst W (state_at W s (read_events W) 4)
+      → IsStep (state_at W s (read_events W) 4) (state_at W s (read_events W) 5)
+      (unpaid (commands.Get 2 0 0) (replies.Val Nil))
+      → Guarded (one_thread W) s (read_events W)
+  reading_on found shape field step =
+      ((omega arith, omega arith, prompt), refl)
+      ▸ ((omega arith, omega arith, refl, refl), (omega arith, refl, inl refl), refl, refl)
+      ▸ ((omega arith, omega arith, refl, found), refl)
+      ▸ ((omega arith, refl, shape), refl)
+      ▸ ((omega arith, omega arith, refl, field), (omega arith, refl, step.0), refl, step.1)
+      ▸ ((omega arith, refl, refl), refl)
+      ▸ tt
+
+  -- what `cas 0 0 2 1` reads
+  comparing_on : IsFound W s → HasShape W (state_at W s (cas_events W) 1)
+      → IsAtFirst W (state_at W s (cas_events W) 4)
+      → IsStep (state_at W s (cas_events W) 4) (state_at W s (cas_events W) 5)
+      (unpaid (commands.Cas 0 0 2 1) replies.Yes)
+      → Guarded (one_thread W) s (cas_events W)
+  comparing_on found shape field step =
+      ((omega arith, omega arith, prompt, found), refl)
+      ▸ ((omega arith, refl, shape), refl)
+      ▸ ((omega arith, omega arith, prompt), refl)
+      ▸ ((omega arith, omega arith, prompt), refl)
+      ▸ ((omega arith, refl, refl, field), (omega arith, refl, step.0), refl, step.1)
+      ▸ tt
+
+  -- what `swap 0 0 3` reads
+  swapping_on : IsFound W s → HasShape W (state_at W s (swap_events W) 1)
+      → IsAtFirst W (state_at W s (swap_events W) 3)
+      → IsStep (state_at W s (swap_events W) 3) (state_at W s (swap_events W) 4)
+      (unpaid (commands.Swap 0 0 3) (replies.Val (Ref record_name)))
+      → Guarded (one_thread W) s (swap_events W)
+  swapping_on found shape field step =
+      ((omega arith, omega arith, prompt, found), refl)
+      ▸ ((omega arith, refl, shape), refl)
+      ▸ ((omega arith, omega arith, prompt), refl)
+      ▸ ((omega arith, refl, refl, field), (omega arith, refl, step.0), refl, step.1)
+      ▸ ((omega arith, refl, refl), refl)
+      ▸ tt
+
+  -- what the last commands read
+  ending_on : IsStep s s (unpaid (commands.Len 4) replies.Null)
+      → Guarded (one_thread W) s last_events
+  ending_on none =
+      ((omega arith, prompt, none.0), sym none.1)
+      ▸ ((omega arith, prompt, inr (refl, refl)), refl)
+      ▸ ((omega arith, prompt), (omega arith, prompt, inl refl), refl, refl)
+      ▸ tt
+
+at_first : (W : Width) (s : KeptState) → HasObject s.seen 0
+    → register_of s.seen.graph 0 (object_at s.seen 0).source ≡ Ref record_name
+    → (object_at s.seen 0).shape ≡ Some (shapes.List (payloads W))
+    → shape_part W (shapes.List (payloads W)) (object_at s.seen 0).ordinal 1 ≡ Field 0
+    → IsAtFirst W s
+at_first W s object refers read field = record {
+  object = object;
+  refers = refers;
+  shape = shapes.List (payloads W);
+  read = read;
+  field = field;
+}
+
+putting : (W : Width) → Guarded (one_thread W) (built W) (put_events W)
 unfolding target reference_word number_word owner_word kind grey_word free_word black_word
     white_word tree tree_depth record_word shape_of
-commanding Four = commanding_on Four (started Four) refl refl (λ e. omega arith) refl
-    (λ e. omega arith) refl
-    (record { object = refl; refers = refl; shape = shapes.List 4; read = refl; field = refl })
-    (inl refl) refl (inl refl) refl
-commanding Eight = commanding_on Eight (started Eight) refl refl (λ e. omega arith) refl
-    (λ e. omega arith) refl
-    (record { object = refl; refers = refl; shape = shapes.List 8; read = refl; field = refl })
-    (inl refl) refl (inl refl) refl
+putting Four = putting_on Four (built Four) refl (λ e. omega arith) refl
+    (at_first Four (state_at Four (built Four) (put_events Four) 3)
+    refl refl refl refl) (inl refl, refl)
+putting Eight = putting_on Eight (built Eight) refl (λ e. omega arith) refl
+    (at_first Eight (state_at Eight (built Eight) (put_events Eight) 3)
+    refl refl refl refl) (inl refl, refl)
+
+-- the states behind each of the commands
+abbrev started : Width → KeptState
+started W = run (one_thread W) (stored W) start_events
+
+abbrev nil_swapped : Width → KeptState
+nil_swapped W = run (one_thread W) (started W) (nil_swap_events W)
+
+abbrev were_read : Width → KeptState
+were_read W = run (one_thread W) (nil_swapped W) (read_events W)
+
+abbrev compared : Width → KeptState
+compared W = run (one_thread W) (were_read W) (cas_events W)
+
+abbrev exchanged : Width → KeptState
+exchanged W = run (one_thread W) (compared W) (swap_events W)
+
+nil_swapping : (W : Width) → Guarded (one_thread W) (started W) (nil_swap_events W)
+unfolding target reference_word number_word owner_word kind grey_word free_word black_word
+    white_word tree tree_depth record_word shape_of
+nil_swapping Four = nil_swapping_on Four (started Four) refl refl (λ e. omega arith) refl
+    (at_first Four (state_at Four (started Four) (nil_swap_events Four) 3)
+    refl refl refl refl) (inl refl, refl) ((λ e. omega arith), refl)
+nil_swapping Eight = nil_swapping_on Eight (started Eight) refl refl (λ e. omega arith) refl
+    (at_first Eight (state_at Eight (started Eight) (nil_swap_events Eight) 3)
+    refl refl refl refl) (inl refl, refl) ((λ e. omega arith), refl)
+
+reading : (W : Width) → Guarded (one_thread W) (nil_swapped W) (read_events W)
+unfolding target reference_word number_word owner_word kind grey_word free_word black_word
+    white_word tree tree_depth record_word shape_of
+reading Four = reading_on Four (nil_swapped Four) refl (λ e. omega arith) refl
+    (at_first Four (state_at Four (nil_swapped Four) (read_events Four) 4)
+    refl refl refl refl) (inl refl, refl)
+reading Eight = reading_on Eight (nil_swapped Eight) refl (λ e. omega arith) refl
+    (at_first Eight (state_at Eight (nil_swapped Eight) (read_events Eight) 4)
+    refl refl refl refl) (inl refl, refl)
+
+comparing : (W : Width) → Guarded (one_thread W) (were_read W) (cas_events W)
+unfolding target reference_word number_word owner_word kind grey_word free_word black_word
+    white_word tree tree_depth record_word shape_of
+comparing Four = comparing_on Four (were_read Four) refl (λ e. omega arith) refl
+    (at_first Four (state_at Four (were_read Four) (cas_events Four) 4)
+    refl refl refl refl) (inl refl, refl)
+comparing Eight = comparing_on Eight (were_read Eight) refl (λ e. omega arith) refl
+    (at_first Eight (state_at Eight (were_read Eight) (cas_events Eight) 4)
+    refl refl refl refl) (inl refl, refl)
+
+swapping : (W : Width) → Guarded (one_thread W) (compared W) (swap_events W)
+unfolding target reference_word number_word owner_word kind grey_word free_word black_word
+    white_word tree tree_depth record_word shape_of
+swapping Four = swapping_on Four (compared Four) refl (λ e. omega arith) refl
+    (at_first Four (state_at Four (compared Four) (swap_events Four) 3)
+    refl refl refl refl) (inl refl, refl)
+swapping Eight = swapping_on Eight (compared Eight) refl (λ e. omega arith) refl
+    (at_first Eight (state_at Eight (compared Eight) (swap_events Eight) 3)
+    refl refl refl refl) (inl refl, refl)
+
+ending : (W : Width) → Guarded (one_thread W) (exchanged W) last_events
+ending Four = ending_on Four (exchanged Four) refl (inl refl, refl)
+ending Eight = ending_on Eight (exchanged Eight) refl (inl refl, refl)
+
+commanding : (W : Width) → Guarded (one_thread W) (started W) (command_events W)
+commanding W =
+    let c = one_thread W in
+    guarded_on c (started W) (nil_swap_events W)
+    (read_events W ++ (cas_events W ++ (swap_events W ++ last_events))) (nil_swapping W)
+    (guarded_on c (nil_swapped W) (read_events W) (cas_events W ++ (swap_events W ++ last_events))
+    (reading W)
+    (guarded_on c (were_read W) (cas_events W) (swap_events W ++ last_events) (comparing W)
+    (guarded_on c (compared W) (swap_events W) last_events (swapping W) (ending W))))
 
 pub example_runs : (W : Width) → Guarded (one_thread W) (example_start W) (some_events W)
-example_runs W = guarded_on (one_thread W) (example_start W) (mark_events W)
-    (build_events W ++ (start_events ++ command_events W)) (marking W)
-    (guarded_on (one_thread W) (marked W) (build_events W) (start_events ++ command_events W)
+example_runs W =
+    let c = one_thread W in
+    guarded_on c (example_start W) (mark_events W)
+    (build_events W ++ (put_events W ++ (start_events ++ command_events W))) (marking W)
+    (guarded_on c (marked W) (build_events W) (put_events W ++ (start_events ++ command_events W))
     (building W)
-    (guarded_on (one_thread W) (built W) start_events (command_events W) (starting W)
-    (commanding W)))
+    (guarded_on c (built W) (put_events W) (start_events ++ command_events W) (putting W)
+    (guarded_on c (stored W) start_events (command_events W) (starting W) (commanding W))))
 
 pub example_cycle : (W : Width) → (example_end W).cycle ≡ 2
 example_cycle Four = refl

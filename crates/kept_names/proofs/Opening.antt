@@ -109,7 +109,10 @@ module _ (c : Config) (inside : IsInBounds c) (room : opening_blocks c ≤ c.blo
       some = omega arith;
       since = λ a h. inl h;
     };
-    follows = record { shows = shown_start; loads = λ t tn. record { object = tt; expected = tt; value = tt } };
+    follows = record {
+      shows = shown_start;
+      loads = λ t tn. record { object = tt; expected = tt; value = tt };
+    };
     older = λ t r tn rl pending. absurd (differ false pending refl);
     known = λ a h. h;
     named = reached_name;

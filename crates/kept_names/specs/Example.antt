@@ -1,11 +1,11 @@
 -- One thread and an array of one element, over a whole cycle: `nil 0` leaves the array unreached,
 -- the register array is marked, the array's block is freed, a record of two blocks is built in it
--- and in another, and the next cycle starts; then come a few commands more.
+-- and in another and refers to itself, and the next cycle starts; then come a few commands more.
 use Rattle.std.specs.Prelude.{ℕ, ◌+◌, ◌==◌, nat_le, if◌then◌else◌, List, [], ◌∷◌, ◌++◌}
 use Rattle.block_store.specs.declared.Config.{Config}
 use Rattle.block_store.specs.declared.Name.{Name}
 use Rattle.block_store.specs.declared.Shape.TheVariants as shapes
-use Rattle.block_store.specs.declared.Value.TheVariants.{Nil}
+use Rattle.block_store.specs.declared.Value.TheVariants.{Nil, Ref}
 use Rattle.block_store.specs.declared.Width.{Width}
 use Rattle.block_store.specs.declared.Width.TheVariants.{Four, Eight}
 use Rattle.block_store.specs.Colours.{free_word, grey_word, white_word}
@@ -17,7 +17,7 @@ use Rattle.never_heap.specs.declared.Entry.{Entry}
 use Rattle.never_heap.specs.declared.Reply.{Reply}
 use Rattle.never_heap.specs.declared.Reply.TheVariants as replies
 use Rattle.never_heap.specs.Graphs.{Record}
-use Rattle.shown_graph.specs.Events.Event.{ReadObject, ReadValue, ReadShape, ReadField, StorePending, StoreValue, StoreConstant}
+use Rattle.shown_graph.specs.Events.Event.{ReadObject, ReadValue, ReadExpected, ReadShape, ReadField, StorePending, StoreValue, StoreConstant, StoreField, ExchangeField, Finish}
 use Rattle.kept_names.specs.Events.{KeptEvent, run}
 use Rattle.kept_names.specs.Openings.{opening_kept}
 use Rattle.kept_names.specs.States.{KeptState}
@@ -88,20 +88,66 @@ array_name = record { thread = 1; serial = 0 }
 abbrev pub record_name : Name
 record_name = record { thread = 0; serial = 1 }
 
--- `mov 1 0` shades the record, `get 2 0 0` reads its first field, and two commands are refused
+-- a command comes to the record to which register 0 refers
+abbrev pub finding : Width → List KeptEvent
+finding W = Serve (ReadObject 0 0) ∷ Serve (ReadShape 0 (shapes.List (payloads W))) ∷ []
+
+-- `put 0 0 0`: the record's first field refers to the record
+abbrev pub put_events : Width → List KeptEvent
+put_events W = finding W
+    ++ (Serve (ReadValue 0 0)
+    ∷ Decide (StoreField 0 record_name 0 1) (unpaid (commands.Put 0 0 0) replies.Stored) ∷ [])
+
+-- `swap 0 0 1` with nil shades the record, of which it has the reference
+abbrev pub nil_swap_events : Width → List KeptEvent
+nil_swap_events W = finding W
+    ++ (Serve (ReadValue 0 1)
+    ∷ Decide (ExchangeField 0 record_name 0 1)
+    (unpaid (commands.Swap 0 0 1) (replies.Val (Ref record_name)))
+    ∷ ShadeLoaded 0 0 ∷ Serve (StorePending 0) ∷ [])
+
+-- `mov 3 1`, and `get 2 0 0` reads the nil
+abbrev pub read_events : Width → List KeptEvent
+read_events W =
+    Serve (ReadValue 0 1)
+    ∷ Decide (StoreValue 0 3) (unpaid (commands.Mov 3 1) replies.Stored)
+    ∷ finding W
+    ++ (Decide (ReadField 0 2 record_name 0 1) (unpaid (commands.Get 2 0 0) (replies.Val Nil))
+    ∷ Serve (StorePending 0) ∷ [])
+
+-- `cas 0 0 2 1` finds nil, and stores a reference to the record
+abbrev pub cas_events : Width → List KeptEvent
+cas_events W = finding W
+    ++ (Serve (ReadExpected 0 2) ∷ Serve (ReadValue 0 1)
+    ∷ Decide (StoreField 0 record_name 0 1) (unpaid (commands.Cas 0 0 2 1) replies.Yes) ∷ [])
+
+-- `swap 0 0 3` exchanges two references
+abbrev pub swap_events : Width → List KeptEvent
+swap_events W = finding W
+    ++ (Serve (ReadValue 0 3)
+    ∷ Decide (ExchangeField 0 record_name 0 1)
+    (unpaid (commands.Swap 0 0 3) (replies.Val (Ref record_name)))
+    ∷ Serve (StorePending 0) ∷ [])
+
+-- `idle 2`, with its two units
+abbrev pub idle_entry : Entry
+idle_entry =
+    record { thread = 0; command = commands.Idle 2; reply = replies.Idle; work = 2 }
+
+-- two commands are refused
+abbrev pub last_events : List KeptEvent
+last_events =
+    Answer (unpaid (commands.Len 4) replies.Null)
+    ∷ Answer (unpaid (commands.New 2 1) (replies.Full 1))
+    ∷ Decide (Finish 0) idle_entry ∷ []
+
 abbrev pub command_events : Width → List KeptEvent
 command_events W =
-    Serve (ReadValue 0 0) ∷ ShadeLoaded 0 0
-    ∷ Decide (StoreValue 0 1) (unpaid (commands.Mov 1 0) replies.Stored)
-    ∷ Serve (ReadObject 0 0) ∷ Serve (ReadShape 0 (shapes.List (payloads W)))
-    ∷ Decide (ReadField 0 2 record_name 0 1) (unpaid (commands.Get 2 0 0) (replies.Val Nil))
-    ∷ Serve (StorePending 0)
-    ∷ Answer (unpaid (commands.Len 3) replies.Null)
-    ∷ Answer (unpaid (commands.New 2 1) (replies.Full 1)) ∷ []
+    nil_swap_events W ++ (read_events W ++ (cas_events W ++ (swap_events W ++ last_events)))
 
 abbrev pub some_events : Width → List KeptEvent
-some_events W =
-    mark_events W ++ (build_events W ++ (start_events ++ command_events W))
+some_events W = mark_events W
+    ++ (build_events W ++ (put_events W ++ (start_events ++ command_events W)))
 
 abbrev pub example_start : Width → KeptState
 example_start W = opening_kept (one_thread W) (first_colours W)

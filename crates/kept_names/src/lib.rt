@@ -110,7 +110,9 @@ pub fn marked_blocks_were_reached_or_made()
 {}
 
 /// The conditions of these laws are met in blocks of either width: over a cycle of one thread that
-/// gives up an array and builds a record in its block, the words go on showing what is reached.
+/// gives up an array and builds a record in its block, the words go on showing what is reached. In
+/// the next cycle it exchanges nil and then a reference for the one in the record's field, which
+/// shades what it took, compares the field, and idles.
 pub fn the_example_runs()
     ensures bounds { (W : Width) → IsInBounds (one_thread W) }
     ensures room { (W : Width) → opening_blocks (one_thread W) ≤ (one_thread W).blocks }

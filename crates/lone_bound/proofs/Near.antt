@@ -265,7 +265,8 @@ module _ (e : Terms) (m charge : ℕ) (wide : 2 ≤ e.payloads)
         (let c = ap (λ v. charge * v) k.0 in let o = one_more s.lone.owed k.1 in omega arith))
     | inr p ↦
         stays s z Spot.LeaveNone _ p.2
-        (rw p.1 (let c : charge * s.room ≡ charge * 0 = ap (λ v. charge * v) (k.2 p.0) in omega arith))
+        (rw p.1 (let c : charge * s.room ≡ charge * 0 = ap (λ v. charge * v) (k.2 p.0) in
+        omega arith))
   ]
   lower (Spot.Claim q) s z h k few =
       goes s z (Spot.Pass q false) _ h

@@ -3,7 +3,7 @@ use Rattle.std.proofs.Common.{ℕ, zero, suc, ◌+◌, ◌-◌, ◌*◌, ◌≤�
 use Rattle.std.proofs.lemmas.Bool.{cases_Bool}
 use Rattle.std.proofs.Math.Nat.{mul-suc, suc-mul, mul-le-mul_right}
 use Rattle.lone_bound.specs.Moves.{Spot, Lone, Terms, at, begun, Goes, Stays, Pays, Dealt, Passed, Writes, Moves}
-use Rattle.lone_bound.specs.Prices.{left, left_at, at_look, base, unit_cost, allocation_bound}
+use Rattle.lone_bound.specs.Prices.{left, left_at, at_look, base, unit_cost, allocation_bound, idle_bound}
 
 add-suc : (a b : ℕ) → a + suc b ≡ suc (a + b)
 add-suc a b = omega arith
@@ -306,7 +306,7 @@ within e rate sweep ready wide low makes =
 
 pub one_event : (e : Terms) (r : ℕ) (sweep ready : Bool)
     → 2 ≤ e.payloads → e.payloads ≤ 8 → e.allocates ≡ false → e.most ≡ 1
-    → at_look e (8 * e.threads + 64) r sweep ready ≤ (r + 1) * (8 * e.threads + 64)
+    → at_look e (8 * e.threads + 64) r sweep ready ≤ idle_bound e.threads r
 one_event e r sweep ready wide low none one =
     let unit = 8 * e.threads + 64 in
     let a : at_look e unit r sweep ready ≤ base e unit r =

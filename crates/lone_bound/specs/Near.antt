@@ -106,7 +106,8 @@ module _ (e : Terms) (charge : ℕ) where
   near_at (Check u) r sweep room far = paid r + (e.threads - u) + 4
   near_at SetCursor r sweep room far = paid r + 4
   near_at Flip r sweep room far = paid r + 3
-  near_at (ShadeRoot u) r sweep room far = paid r + (e.threads - u) + 2 * e.threads + 11 + spread e.threads
+  near_at (ShadeRoot u) r sweep room far =
+      paid r + (e.threads - u) + 2 * e.threads + 11 + spread e.threads
   near_at PutRoots r sweep room far = paid r + 2 * e.threads + 11 + spread e.threads
   near_at Start r sweep room far = paid r + 2 * e.threads + 10 + spread e.threads
   near_at (Take u) r sweep room far =

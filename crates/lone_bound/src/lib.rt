@@ -4,7 +4,7 @@
 
 ghost use Rattle.std.specs.Prelude.{ℕ, Bool, true, false, suc, ◌+◌, ◌*◌, ◌<◌, ◌≤◌, ◌≡◌, ◌⊎◌};
 ghost use Rattle.lone_bound.specs.Moves.{Look, Lone, Terms, Moves, Fresh, changes_phase};
-ghost use Rattle.lone_bound.specs.Prices.{left, at_look, unit_cost, inside_cost, allocation_bound, other_bound};
+ghost use Rattle.lone_bound.specs.Prices.{left, at_look, unit_cost, inside_cost, allocation_bound, idle_bound, other_bound};
 ghost use Rattle.lone_bound.specs.Near.{Scene, NearMoves, near_left, near_at, near_unit, near_bound, between, spread};
 
 /// Each move lowers what is left of the command, on blocks of two payload words or more and at any
@@ -16,7 +16,8 @@ pub fn moves_lower()
 
 /// What is left at the look is within the bounds, on blocks of two to eight payload words: of an
 /// allocation that owes its units, by the bound (`allocation`) and exactly (`exact`); of a command
-/// that allocates nothing (`other`); and of one that owes units and has one event (`one_event`).
+/// that allocates nothing (`other`); and of an `idle`, which owes units and has one event
+/// (`one_event`).
 pub fn bounds_hold()
     ensures allocation { (e : Terms) (rate : ℕ) (sweep ready : Bool)
         → 2 ≤ e.payloads → e.payloads ≤ 8 → e.allocates ≡ true
@@ -31,7 +32,7 @@ pub fn bounds_hold()
         → at_look e unit 0 sweep ready ≤ other_bound b }
     ensures one_event { (e : Terms) (r : ℕ) (sweep ready : Bool)
         → 2 ≤ e.payloads → e.payloads ≤ 8 → e.allocates ≡ false → e.most ≡ 1
-        → at_look e (8 * e.threads + 64) r sweep ready ≤ (r + 1) * (8 * e.threads + 64) }
+        → at_look e (8 * e.threads + 64) r sweep ready ≤ idle_bound e.threads r }
 {}
 
 /// At most one change of phase comes between two units: a change leads to a state before a unit
@@ -46,8 +47,8 @@ pub fn one_change()
 {}
 
 /// Each move lowers what is left, where units and changes of phase are counted apart: on blocks of
-/// two payload words or more, in a heap of so many blocks that a sweep of it pays for the changes of
-/// a cycle.
+/// two payload words or more, in a heap of so many blocks that a sweep of it pays for the changes
+/// of a cycle.
 pub fn near_moves_lower()
     ensures { (e : Terms) (m charge : ℕ) → 2 ≤ e.payloads
         → between e.threads ≤ charge * m → (s z : Scene) → NearMoves e m s z
@@ -55,9 +56,9 @@ pub fn near_moves_lower()
 {}
 
 /// What is left at the look is within the near bound: of an allocation (`allocation`), and of any
-/// command (`any`). The stated bound follows from it, since on at most 16 threads, blocks of at most
-/// eight payload words, and a heap of at least as many blocks as threads, 33 turns a unit pay for the
-/// cycles (`stated`).
+/// command (`any`). The stated bound follows from it, since on at most 16 threads, blocks of at
+/// most eight payload words, and a heap of at least as many blocks as threads, 33 turns a unit pay
+/// for the cycles (`stated`).
 pub fn near_holds()
     ensures allocation { (e : Terms) (charge r room far : ℕ) (sweep : Bool) → e.allocates ≡ true
         → far ≤ spread e.threads → near_at e charge Look r sweep room far

@@ -1,4 +1,5 @@
 -- A command in the bounds of a configuration is in range.
+use Rattle.std.proofs.Common.{arith}
 use Rattle.block_store.specs.declared.Config.{Config}
 use Rattle.never_heap.specs.declared.Command.{Command}
 use Rattle.never_heap.specs.declared.Command.TheVariants.{New, Arr, Set, Nil, Mov, Get, Put, Len, Same, Say, Swap, Cas, Idle}
@@ -18,4 +19,4 @@ in_range c (Same a b) h = h
 in_range c (Say s) h = h
 in_range c (Swap s i v) h = (h.0, h.1, h.2)
 in_range c (Cas s i a v) h = (h.0, h.1, h.2, h.3)
-in_range c (Idle u) h = h.0
+in_range c (Idle u) h = omega (arith, h.0)

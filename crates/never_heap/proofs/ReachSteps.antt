@@ -95,7 +95,8 @@ module _ (g : Graph) (t : ℕ) (new : Bool) (there : t < length g.mutators) (P :
   registers_after _ (swap s i v b h l) fresh u r a e =
       let w : Value = register_of g t v in
       let old : Value = field_of (object_of g b) i in
-      elim (register_cases (with_field g b i w) t v u r old (omega (arith, threads_put g b i w l))) [
+      elim (register_cases (with_field g b i w) t v u r old
+      (omega (arith, threads_put g b i w l))) [
         | inl now ↦ fields b a i (registers t s b h) (sym now ∙ e)
         | inr before ↦ registers u r a (sym (before ∙ ap (λ rs. get_or rs r Nil)
             (registers_with_field g b i w (has_field g b i l) u)) ∙ e)

@@ -15,7 +15,7 @@ use Rattle.never_heap.specs.Graphs.{Graph, Object, start_graph, register_of, obj
 use Rattle.never_heap.specs.Histories.{HistoryItem, Started, Did, is_full, after, replay, replay_from, IsAnswered, Legal, LegalFrom}
 use Rattle.never_heap.specs.Reach.{refers}
 use Rattle.never_heap.specs.Steps.{step, made, swapped, at_field, makes_object, same_value}
-use Rattle.never_heap.specs.Readback.{put_by, tells_stored, StoresIn, NoneStores, IsLastPut, IsLastStored}
+use Rattle.never_heap.specs.Readback.{stored_by, StoresIn, NoneStores, IsLastStore, IsLastStored}
 use Rattle.never_heap.proofs.FieldStores.{object_with_field, object_with_object}
 use Rattle.never_heap.proofs.Growing.{replay_more, legal_front}
 use Rattle.never_heap.proofs.Naming.{one_name, same_itself, refers-ref, ref-refers}
@@ -59,8 +59,8 @@ at_field_there g v a i act e l =
 -- a command that stores in field i of a, on this graph
 abbrev PutsIn : Graph → ℕ → Command → Name → ℕ → Type 0
 PutsIn g t command a i =
-    (s w : ℕ) → put_by command ≡ Some (s, (i, w)) → register_of g t s ≡ Ref a
-    → tells_stored (step g t command).1 ≡ true → ⊥
+    (s w : ℕ) → stored_by command (step g t command).1 ≡ Some (s, (i, w))
+    → register_of g t s ≡ Ref a → ⊥
 
 -- what a cas does with a field that there is
 abbrev chosen : Graph → ℕ → Name → ℕ → ℕ → ℕ → Bool → Graph × Reply
@@ -72,10 +72,10 @@ module _ (g : Graph) (t s j w : ℕ) (a : Name) (i : ℕ) where
   put_leaves apart =
       field_keeps (λ k. field_at k a i ≡ field_at g a i) g j (register_of g t s) _ refl
       (λ b r l. put_apart g j (register_of g t w) b a i l (λ same e.
-      apart s w (ap (λ k. Some (s, (k, w))) e) (r ∙ ap Ref same)
-      (ap (λ (p : Graph × Reply). tells_stored p.1)
+      apart s w (ap (λ (p : Graph × Reply). stored_by (commands.Put s j w) p.1)
       (at_field_there g (register_of g t s) b j
-      (λ name. (with_field g name j (register_of g t w), replies.Stored)) r l))))
+      (λ name. (with_field g name j (register_of g t w), replies.Stored)) r l)
+      ∙ ap (λ k. Some (s, (k, w))) e) (r ∙ ap Ref same)))
 
   swap_leaves : PutsIn g t (commands.Swap s j w) a i
       → field_at (step g t (commands.Swap s j w)).0 a i ≡ field_at g a i
@@ -84,10 +84,10 @@ module _ (g : Graph) (t s j w : ℕ) (a : Name) (i : ℕ) where
       (λ b r l. ap (λ (o : Object). field_of o i)
       (register_object (with_field g b j (register_of g t w)) t w (field_at g b j) a)
       ∙ put_apart g j (register_of g t w) b a i l (λ same e.
-      apart s w (ap (λ k. Some (s, (k, w))) e) (r ∙ ap Ref same)
-      (ap (λ (p : Graph × Reply). tells_stored p.1)
+      apart s w (ap (λ (p : Graph × Reply). stored_by (commands.Swap s j w) p.1)
       (at_field_there g (register_of g t s) b j
-      (λ name. (swapped g t name j w, replies.Val (field_at g name j))) r l))))
+      (λ name. (swapped g t name j w, replies.Val (field_at g name j))) r l)
+      ∙ ap (λ k. Some (s, (k, w))) e) (r ∙ ap Ref same)))
 
   -- a cas by what its test says
   chosen_leaves : (c : ℕ) (b : Name) (k : Bool) → j < length (object_of g b).fields
@@ -101,11 +101,11 @@ module _ (g : Graph) (t s j w : ℕ) (a : Name) (i : ℕ) where
   cas_leaves c apart =
       field_keeps (λ k. field_at k a i ≡ field_at g a i) g j (register_of g t s) _ refl
       (λ b r l. chosen_leaves c b (same_value (field_at g b j) (register_of g t c)) l
-      (λ won same e. apart s w (ap (λ k. Some (s, (k, w))) e) (r ∙ ap Ref same)
-      (ap (λ (p : Graph × Reply). tells_stored p.1)
+      (λ won same e. apart s w (ap (λ (p : Graph × Reply). stored_by (commands.Cas s j c w) p.1)
       (at_field_there g (register_of g t s) b j (λ name. chosen g t name j c w
       (same_value (field_at g name j) (register_of g t c))) r l
-      ∙ ap (chosen g t b j c w) won))))
+      ∙ ap (chosen g t b j c w) won)
+      ∙ ap (λ k. Some (s, (k, w))) e) (r ∙ ap Ref same)))
 
 -- a command that does not store in a field leaves it
 step_leaves_field : (g : Graph) (t : ℕ) (command : Command) (a : Name) (i : ℕ)
@@ -131,16 +131,56 @@ step_leaves_field g t (commands.Swap s j w) a i apart = swap_leaves g t s j w a 
 step_leaves_field g t (commands.Cas s j c w) a i apart = cas_leaves g t s j w a i c apart
 step_leaves_field g t (commands.Idle u) a i apart = refl
 
--- and a field at which it is answered that something was stored is there
-field_is_there : (g : Graph) (v : Value) (a : Name) (i : ℕ) (act : Name → Graph × Reply)
-    → v ≡ Ref a → tells_stored (at_field g v i act).1 ≡ true
+-- no command with these replies has stored
+no_store_out_of_range : (command : Command) → stored_by command replies.Range ≡ None
+no_store_out_of_range (commands.Put s i v) = refl
+no_store_out_of_range (commands.Swap s i v) = refl
+no_store_out_of_range (commands.Cas s i a v) = refl
+no_store_out_of_range _ = refl
+
+full_stores_nothing : (command : Command) (c : ℕ) → stored_by command (replies.Full c) ≡ None
+full_stores_nothing (commands.Put s i v) c = refl
+full_stores_nothing (commands.Swap s i v) c = refl
+full_stores_nothing (commands.Cas s i a v) c = refl
+full_stores_nothing _ c = refl
+
+abbrev Stored : Type 0
+Stored = ℕ × (ℕ × ℕ)
+
+abbrev parts_of : Option Stored → Stored
+parts_of None = (0, (0, 0))
+parts_of (Some p) = p
+
+-- the operands of a command that may store in a field
+abbrev operands : Command → Stored
+operands (commands.Put s i v) = (s, (i, v))
+operands (commands.Swap s i v) = (s, (i, v))
+operands (commands.Cas s i a v) = (s, (i, v))
+operands _ = (0, (0, 0))
+
+stored_operands : (command : Command) (r : Reply) (p : Stored)
+    → stored_by command r ≡ Some p → operands command ≡ p
+stored_operands (commands.Put s i v) replies.Stored p e = ap parts_of e
+stored_operands (commands.Put s i v) _ p e = absurd cc
+stored_operands (commands.Swap s i v) (replies.Val old) p e = ap parts_of e
+stored_operands (commands.Swap s i v) _ p e = absurd cc
+stored_operands (commands.Cas s i a v) replies.Yes p e = ap parts_of e
+stored_operands (commands.Cas s i a v) _ p e = absurd cc
+stored_operands _ r p e = absurd cc
+
+-- and a field in which it is answered that something was stored is there
+field_is_there : (g : Graph) (command : Command) (v : Value) (a : Name) (i : ℕ)
+    (act : Name → Graph × Reply) (p : Stored)
+    → v ≡ Ref a → stored_by command (at_field g v i act).1 ≡ Some p
     → i < length (object_of g a).fields
-field_is_there g v a i act e told =
+field_is_there g command v a i act p e told =
     elim (cases_Bool (ltb i (length (object_of g a).fields))) [
       | inl y ↦ ltb-true i (length (object_of g a).fields) y
-      | inr n ↦ absurd (let both : true ≡ false = sym told ∙ ap (λ (p : Graph × Reply). tells_stored p.1)
+      | inr n ↦ absurd (let both : Some p ≡ None = sym told
+          ∙ ap (λ (q : Graph × Reply). stored_by command q.1)
           (ap (λ w. at_field g w i act) e
-          ∙ ap (λ b. cond b (act a) (g, replies.Range)) n) in cc)
+          ∙ ap (λ b. cond b (act a) (g, replies.Range)) n)
+          ∙ no_store_out_of_range command in cc)
     ]
 
 -- what stands in a field in which it was just stored
@@ -152,19 +192,20 @@ field_put_there g a i w there =
     ∙ ap (λ b. cond b (set_field (object_of g a) i w) (object_of g a)) (same_itself a))
     ∙ get_or-set_same (object_of g a).fields i w Nil there
 
--- A command that is answered that it stored has found its field, which holds what its register held.
+-- A command that has stored, by its answer, found its field, which holds what its register held.
 record Stores (g : Graph) (t : ℕ) (command : Command) (a : Name) (i w : ℕ) : Type 0 where
   there : i < length (object_of g a).fields
   now : field_at (step g t command).0 a i ≡ register_of g t w
 
 module _ (g : Graph) (t s i w : ℕ) (a : Name) (e : register_of g t s ≡ Ref a) where
-  put_does : tells_stored (step g t (commands.Put s i w)).1 ≡ true
+  put_does : (p : Stored)
+      → stored_by (commands.Put s i w) (step g t (commands.Put s i w)).1 ≡ Some p
       → Stores g t (commands.Put s i w) a i w
-  put_does told =
+  put_does p told =
       let act : Name → Graph × Reply =
       λ name. (with_field g name i (register_of g t w), replies.Stored) in
       let there : i < length (object_of g a).fields =
-      field_is_there g (register_of g t s) a i act e told in
+      field_is_there g (commands.Put s i w) (register_of g t s) a i act p e told in
       record {
         there = there;
         now = ap (λ (p : Graph × Reply). field_at p.0 a i)
@@ -172,13 +213,14 @@ module _ (g : Graph) (t s i w : ℕ) (a : Name) (e : register_of g t s ≡ Ref a
             ∙ field_put_there g a i (register_of g t w) there;
       }
 
-  swap_does : tells_stored (step g t (commands.Swap s i w)).1 ≡ true
+  swap_does : (p : Stored)
+      → stored_by (commands.Swap s i w) (step g t (commands.Swap s i w)).1 ≡ Some p
       → Stores g t (commands.Swap s i w) a i w
-  swap_does told =
+  swap_does p told =
       let act : Name → Graph × Reply =
       λ name. (swapped g t name i w, replies.Val (field_at g name i)) in
       let there : i < length (object_of g a).fields =
-      field_is_there g (register_of g t s) a i act e told in
+      field_is_there g (commands.Swap s i w) (register_of g t s) a i act p e told in
       record {
         there = there;
         now = ap (λ (p : Graph × Reply). field_at p.0 a i)
@@ -188,49 +230,43 @@ module _ (g : Graph) (t s i w : ℕ) (a : Name) (e : register_of g t s ≡ Ref a
             ∙ field_put_there g a i (register_of g t w) there;
       }
 
-  chosen_does : (c : ℕ) (k : Bool) → i < length (object_of g a).fields
-      → tells_stored (chosen g t a i c w k).1 ≡ true
+  chosen_does : (c : ℕ) (k : Bool) (p : Stored) → i < length (object_of g a).fields
+      → stored_by (commands.Cas s i c w) (chosen g t a i c w k).1 ≡ Some p
       → field_at (chosen g t a i c w k).0 a i ≡ register_of g t w
-  chosen_does c true there told = field_put_there g a i (register_of g t w) there
-  chosen_does c false there told = absurd cc
+  chosen_does c true p there told = field_put_there g a i (register_of g t w) there
+  chosen_does c false p there told = absurd cc
 
-  cas_does : (c : ℕ) → tells_stored (step g t (commands.Cas s i c w)).1 ≡ true
+  cas_does : (c : ℕ) (p : Stored)
+      → stored_by (commands.Cas s i c w) (step g t (commands.Cas s i c w)).1 ≡ Some p
       → Stores g t (commands.Cas s i c w) a i w
-  cas_does c told =
+  cas_does c p told =
       let act : Name → Graph × Reply =
       λ name. chosen g t name i c w (same_value (field_at g name i) (register_of g t c)) in
       let there : i < length (object_of g a).fields =
-      field_is_there g (register_of g t s) a i act e told in
+      field_is_there g (commands.Cas s i c w) (register_of g t s) a i act p e told in
       let same : step g t (commands.Cas s i c w) ≡ act a =
       at_field_there g (register_of g t s) a i act e there in
       record {
         there = there;
         now = ap (λ (p : Graph × Reply). field_at p.0 a i) same
-            ∙ chosen_does c (same_value (field_at g a i) (register_of g t c)) there
-            (ap (λ (p : Graph × Reply). tells_stored p.1) (sym same) ∙ told);
+            ∙ chosen_does c (same_value (field_at g a i) (register_of g t c)) p there
+            (ap (λ (q : Graph × Reply). stored_by (commands.Cas s i c w) q.1) (sym same) ∙ told);
       }
-
-abbrev Put3 : Type 0
-Put3 = ℕ × (ℕ × ℕ)
-
-abbrev parts_of : Option Put3 → Put3
-parts_of None = (0, (0, 0))
-parts_of (Some p) = p
 
 -- the same of each command that may store
 does : (g : Graph) (t : ℕ) (command : Command) (s i w : ℕ) (a : Name)
-    → put_by command ≡ Some (s, (i, w)) → register_of g t s ≡ Ref a
-    → tells_stored (step g t command).1 ≡ true → Stores g t command a i w
-does g t (commands.Put q j u) s i w a is e told =
-    subst (λ (p : Put3). Stores g t (commands.Put q j u) a p.1.0 p.1.1) (ap parts_of is)
-    (put_does g t q j u a (ap (λ (p : Option Put3). register_of g t (parts_of p).0) is ∙ e) told)
-does g t (commands.Swap q j u) s i w a is e told =
-    subst (λ (p : Put3). Stores g t (commands.Swap q j u) a p.1.0 p.1.1) (ap parts_of is)
-    (swap_does g t q j u a (ap (λ (p : Option Put3). register_of g t (parts_of p).0) is ∙ e) told)
-does g t (commands.Cas q j c u) s i w a is e told =
-    subst (λ (p : Put3). Stores g t (commands.Cas q j c u) a p.1.0 p.1.1) (ap parts_of is)
-    (cas_does g t q j u a (ap (λ (p : Option Put3). register_of g t (parts_of p).0) is ∙ e) c told)
-does g t _ s i w a is e told = absurd cc
+    → stored_by command (step g t command).1 ≡ Some (s, (i, w)) → operands command ≡ (s, (i, w))
+    → register_of g t s ≡ Ref a → Stores g t command a i w
+does g t (commands.Put q j u) s i w a told is e =
+    subst (λ (p : Stored). Stores g t (commands.Put q j u) a p.1.0 p.1.1) is
+    (put_does g t q j u a (ap (λ (p : Stored). register_of g t p.0) is ∙ e) _ told)
+does g t (commands.Swap q j u) s i w a told is e =
+    subst (λ (p : Stored). Stores g t (commands.Swap q j u) a p.1.0 p.1.1) is
+    (swap_does g t q j u a (ap (λ (p : Stored). register_of g t p.0) is ∙ e) _ told)
+does g t (commands.Cas q j c u) s i w a told is e =
+    subst (λ (p : Stored). Stores g t (commands.Cas q j c u) a p.1.0 p.1.1) is
+    (cas_does g t q j u a (ap (λ (p : Stored). register_of g t p.0) is ∙ e) c _ told)
+does g t _ s i w a told is e = absurd cc
 
 -- a reply that is no full comes of the step, and so does the graph
 answered : (g : Graph) (e : Entry) → IsAnswered g (Did e) → is_full e.reply ≡ false
@@ -243,41 +279,43 @@ stepped : (g : Graph) (e : Entry) → is_full e.reply ≡ false
 stepped g e unfull = ap (λ b. cond b g (step g e.thread e.command).0) unfull
 
 -- a reply that something was stored is no full
-stored_not_full : (r : Reply) → tells_stored r ≡ true → is_full r ≡ false
-stored_not_full (replies.Full c) told = absurd cc
-stored_not_full _ told = refl
+stored_not_full : (command : Command) (r : Reply) (p : Stored) → stored_by command r ≡ Some p
+    → is_full r ≡ false
+stored_not_full command (replies.Full c) p told =
+    absurd (let both : None ≡ Some p = sym (full_stores_nothing command c) ∙ told in cc)
+stored_not_full command _ p told = refl
 
 -- a command that stores in a field finds it there
 module _ (g : Graph) (e : Entry) (a : Name) (i : ℕ) (v : Value) (s : StoresIn g e a i v)
     (ok : IsAnswered g (Did e)) where
   not_full : is_full e.reply ≡ false
-  not_full = stored_not_full e.reply s.stored
+  not_full = stored_not_full e.command e.reply _ s.stored
 
   stores : Stores g e.thread e.command a i s.w
-  stores = does g e.thread e.command s.s i s.w a s.command s.object
-      (ap tells_stored (sym (answered g e ok not_full)) ∙ s.stored)
+  stores = does g e.thread e.command s.s i s.w a
+      (ap (stored_by e.command) (sym (answered g e ok not_full)) ∙ s.stored)
+      (stored_operands e.command e.reply _ s.stored) s.object
 
-  pub put_there : i < length (object_of g a).fields
-  put_there = stores.there
+  pub store_there : i < length (object_of g a).fields
+  store_there = stores.there
 
   -- which holds what was stored
-  pub put_stores : field_at (after g (Did e)) a i ≡ v
-  put_stores = ap (λ k. field_at k a i) (stepped g e not_full) ∙ stores.now ∙ s.value
+  pub store_stands : field_at (after g (Did e)) a i ≡ v
+  store_stands = ap (λ k. field_at k a i) (stepped g e not_full) ∙ stores.now ∙ s.value
 
 -- an entry that does not store in a field leaves it
-no_put : (g : Graph) (e : Entry) (a : Name) (i : ℕ) → IsAnswered g (Did e)
+no_store : (g : Graph) (e : Entry) (a : Name) (i : ℕ) → IsAnswered g (Did e)
     → ((v : Value) → StoresIn g e a i v → ⊥) → field_at (after g (Did e)) a i ≡ field_at g a i
-no_put g e a i ok none = elim (cases_Bool (is_full e.reply)) [
+no_store g e a i ok none = elim (cases_Bool (is_full e.reply)) [
   | inl y ↦ ap (λ b. field_at (cond b g (step g e.thread e.command).0) a i) y
   | inr n ↦ ap (λ k. field_at k a i) (stepped g e n)
-      ∙ step_leaves_field g e.thread e.command a i (λ s w is object told.
+      ∙ step_leaves_field g e.thread e.command a i (λ s w told object.
       none (register_of g e.thread w) (record {
         s = s;
         w = w;
-        command = is;
+        stored = ap (stored_by e.command) (answered g e ok n) ∙ told;
         object = object;
         value = refl;
-        stored = ap tells_stored (answered g e ok n) ∙ told;
       }))
 ]
 
@@ -290,7 +328,7 @@ none_stored g (Started ∷ h) a i legal none =
 none_stored g (Did x ∷ h) a i legal none =
     none_stored (after g (Did x)) h a i legal.1
     (λ b s e v is. none (Did x ∷ b) s e v (ap (λ k. Did x ∷ k) is))
-    ∙ no_put g x a i legal.0 (λ v. none [] h x v refl)
+    ∙ no_store g x a i legal.0 (λ v. none [] h x v refl)
 
 -- the legal items behind some of them
 pub legal_back : (g : Graph) (h k : List HistoryItem) → LegalFrom g (h ++ k)
@@ -308,26 +346,26 @@ replay_append : (g : Graph) (h k : List HistoryItem)
 replay_append g [] k = refl
 replay_append g (x ∷ h) k = replay_append (after g x) h k
 
--- what stands in a field after a put there and items of which none stores there
-since_put : (g : Graph) (put : Entry) (since : List HistoryItem) (a : Name) (i : ℕ) (v : Value)
-    → StoresIn g put a i v → LegalFrom g (Did put ∷ since)
-    → NoneStores (after g (Did put)) since a i
-    → field_at (replay_from g (Did put ∷ since)) a i ≡ v
-since_put g put since a i v s legal none =
-    none_stored (after g (Did put)) since a i legal.1 none ∙ put_stores g put a i v s legal.0
+-- what stands in a field after a store there, and items of which none stores there
+since_store : (g : Graph) (store : Entry) (since : List HistoryItem) (a : Name) (i : ℕ) (v : Value)
+    → StoresIn g store a i v → LegalFrom g (Did store ∷ since)
+    → NoneStores (after g (Did store)) since a i
+    → field_at (replay_from g (Did store ∷ since)) a i ≡ v
+since_store g store since a i v s legal none =
+    none_stored (after g (Did store)) since a i legal.1 none ∙ store_stands g store a i v s legal.0
 
-last_put_from : (c : Config) (h before since : List HistoryItem) (put : Entry) (a : Name) (i : ℕ)
-    (v : Value) → h ≡ before ++ Did put ∷ since → StoresIn (replay c before) put a i v
-    → NoneStores (replay c (before ++ Did put ∷ [])) since a i → LegalFrom (start_graph c) h
+last_store_from : (c : Config) (h before since : List HistoryItem) (store : Entry) (a : Name)
+    (i : ℕ) (v : Value) → h ≡ before ++ Did store ∷ since → StoresIn (replay c before) store a i v
+    → NoneStores (replay c (before ++ Did store ∷ [])) since a i → LegalFrom (start_graph c) h
     → field_at (replay c h) a i ≡ v
-last_put_from c h before since put a i v is s none legal =
+last_store_from c h before since store a i v is s none legal =
     ap (λ k. field_at (replay c k) a i) is
-    ∙ ap (λ k. field_at k a i) (replay_append (start_graph c) before (Did put ∷ since))
-    ∙ since_put (replay c before) put since a i v s
-    (legal_back (start_graph c) before (Did put ∷ since)
+    ∙ ap (λ k. field_at k a i) (replay_append (start_graph c) before (Did store ∷ since))
+    ∙ since_store (replay c before) store since a i v s
+    (legal_back (start_graph c) before (Did store ∷ since)
     (subst (LegalFrom (start_graph c)) is legal))
     (subst (λ (g : Graph). NoneStores g since a i)
-    (replay_more (start_graph c) before (Did put)) none)
+    (replay_more (start_graph c) before (Did store)) none)
 
 field_of_start : (c : Config) (a : Name) (i : ℕ) → field_at (start_graph c) a i ≡ Nil
 field_of_start c a i = elim (cases_Bool (has_name (start_graph c) a)) [
@@ -339,11 +377,11 @@ field_of_start c a i = elim (cases_Bool (has_name (start_graph c) a)) [
 last_stands : (c : Config) (h : List HistoryItem) (a : Name) (i : ℕ) (v : Value)
     → LegalFrom (start_graph c) h → IsLastStored c h a i v → field_at (replay c h) a i ≡ v
 last_stands c h a i v legal (inl p) =
-    last_put_from c h p.before p.since p.put a i v p.history p.stores p.last legal
+    last_store_from c h p.before p.since p.store a i v p.history p.stores p.last legal
 last_stands c h a i v legal (inr p) =
     none_stored (start_graph c) h a i legal p.1 ∙ field_of_start c a i ∙ sym p.0
 
--- whether an entry is a put into a field
+-- whether an entry has stored in a field
 abbrev Decided : Graph → Entry → Name → ℕ → Type 0
 Decided g e a i =
     ((v : Value) × StoresIn g e a i v) ⊎ ((v : Value) → StoresIn g e a i v → ⊥)
@@ -354,47 +392,43 @@ is_ref v a = elim (cases_Bool (refers a v)) [
   | inr n ↦ inr (λ e. let both : true ≡ false = sym (ref-refers a v e) ∙ n in cc)
 ]
 
-decide : (g : Graph) (e : Entry) (a : Name) (i : ℕ) (p : Option Put3) → put_by e.command ≡ p
-    → Decided g e a i
+decide : (g : Graph) (e : Entry) (a : Name) (i : ℕ) (p : Option Stored)
+    → stored_by e.command e.reply ≡ p → Decided g e a i
 decide g e a i None is =
-    inr (λ v p. let both : None ≡ Some (p.s, (i, p.w)) = sym is ∙ p.command in cc)
+    inr (λ v p. let both : None ≡ Some (p.s, (i, p.w)) = sym is ∙ p.stored in cc)
 decide g e a i (Some (s, (j, w))) is = elim (cases_eq j i) [
-  | inr n ↦ inr (λ v p. n (ap (λ (o : Option Put3). (parts_of o).1.0) (sym is ∙ p.command)))
+  | inr n ↦ inr (λ v p. n (ap (λ (o : Option Stored). (parts_of o).1.0) (sym is ∙ p.stored)))
   | inl same ↦ elim (is_ref (register_of g e.thread s) a) [
-    | inr n ↦ inr (λ v p. n (ap (λ (o : Option Put3). register_of g e.thread (parts_of o).0)
-        (sym is ∙ p.command) ∙ p.object))
-    | inl object ↦ elim (cases_Bool (tells_stored e.reply)) [
-      | inr n ↦ inr (λ v p. let both : true ≡ false = sym p.stored ∙ n in cc)
-      | inl stored ↦ inl (
-        register_of g e.thread w,
-        record {
-          s = s;
-          w = w;
-          command = is ∙ ap (λ k. Some (s, (k, w))) same;
-          object = object;
-          value = refl;
-          stored = stored;
-        },
-      )
-    ]
+    | inr n ↦ inr (λ v p. n (ap (λ (o : Option Stored). register_of g e.thread (parts_of o).0)
+        (sym is ∙ p.stored) ∙ p.object))
+    | inl object ↦ inl (
+      register_of g e.thread w,
+      record {
+        s = s;
+        w = w;
+        stored = is ∙ ap (λ k. Some (s, (k, w))) same;
+        object = object;
+        value = refl;
+      },
+    )
   ]
 ]
 
--- the last put into a field, from a graph on
+-- the last store in a field, from a graph on
 record LastFrom (g : Graph) (h : List HistoryItem) (a : Name) (i : ℕ) : Type 0 where
   before : List HistoryItem
-  put : Entry
+  store : Entry
   since : List HistoryItem
   v : Value
-  history : h ≡ before ++ Did put ∷ since
-  stores : StoresIn (replay_from g before) put a i v
-  last : NoneStores (after (replay_from g before) (Did put)) since a i
+  history : h ≡ before ++ Did store ∷ since
+  stores : StoresIn (replay_from g before) store a i v
+  last : NoneStores (after (replay_from g before) (Did store)) since a i
 
 last_behind : (g : Graph) (x : HistoryItem) (h : List HistoryItem) (a : Name) (i : ℕ)
     → LastFrom (after g x) h a i → LastFrom g (x ∷ h) a i
 last_behind g x h a i p = record {
   before = x ∷ p.before;
-  put = p.put;
+  store = p.store;
   since = p.since;
   v = p.v;
   history = ap (λ k. x ∷ k) p.history;
@@ -402,7 +436,7 @@ last_behind g x h a i p = record {
   last = p.last;
 }
 
--- where the first item is no such put, and of the others none is
+-- where the first item is no such store, and of the others none is
 none_more : (g : Graph) (x : HistoryItem) (h : List HistoryItem) (a : Name) (i : ℕ)
     → ((e : Entry) (v : Value) → x ≡ Did e → StoresIn g e a i v → ⊥)
     → NoneStores (after g x) h a i → NoneStores g (x ∷ h) a i
@@ -428,10 +462,10 @@ look g (Started ∷ h) a i = elim (look g h a i) [
 ]
 look g (Did x ∷ h) a i = elim (look (after g (Did x)) h a i) [
   | inl p ↦ inl (last_behind g (Did x) h a i p)
-  | inr none ↦ elim (decide g x a i (put_by x.command) refl) [
+  | inr none ↦ elim (decide g x a i (stored_by x.command x.reply) refl) [
     | inl s ↦ inl (record {
       before = [];
-      put = x;
+      store = x;
       since = h;
       v = s.0;
       history = refl;
@@ -444,24 +478,24 @@ look g (Did x ∷ h) a i = elim (look (after g (Did x)) h a i) [
   ]
 ]
 
-last_put_of : (c : Config) (h : List HistoryItem) (a : Name) (i : ℕ)
-    → (p : LastFrom (start_graph c) h a i) → IsLastPut c h a i p.v
-last_put_of c h a i p = record {
+last_store_of : (c : Config) (h : List HistoryItem) (a : Name) (i : ℕ)
+    → (p : LastFrom (start_graph c) h a i) → IsLastStore c h a i p.v
+last_store_of c h a i p = record {
   before = p.before;
-  put = p.put;
+  store = p.store;
   since = p.since;
   history = p.history;
   stores = p.stores;
   last = subst (λ (g : Graph). NoneStores g p.since a i)
-      (sym (replay_more (start_graph c) p.before (Did p.put))) p.last;
+      (sym (replay_more (start_graph c) p.before (Did p.store))) p.last;
 }
 
 field_from : (c : Config) (h : List HistoryItem) (a : Name) (i : ℕ) → LegalFrom (start_graph c) h
     → IsLastStored c h a i (field_at (replay c h) a i)
 field_from c h a i legal = elim (look (start_graph c) h a i) [
   | inl p ↦
-      let put : IsLastStored c h a i p.v = inl (last_put_of c h a i p) in
-      subst (IsLastStored c h a i) (sym (last_stands c h a i p.v legal put)) put
+      let store : IsLastStored c h a i p.v = inl (last_store_of c h a i p) in
+      subst (IsLastStored c h a i) (sym (last_stands c h a i p.v legal store)) store
   | inr none ↦ inr (none_stored (start_graph c) h a i legal none ∙ field_of_start c a i, none)
 ]
 
@@ -514,10 +548,12 @@ value_of_field g (Int n) i act v e = absurd cc
 value_of_field g (Ref a) i act v e = elim (cases_Bool (ltb i (length (object_of g a).fields))) [
   | inl y ↦
       let both : replies.Val v ≡ replies.Val (field_at g a i) =
-      e ∙ ap (λ b. (cond {A = Graph × Reply} b (act a, replies.Val (field_at g a i)) (g, replies.Range)).1) y in
+      e ∙ ap (λ b. (cond {A = Graph × Reply} b
+      (act a, replies.Val (field_at g a i)) (g, replies.Range)).1) y in
       let same : v ≡ field_at g a i = cc in (a, (refl, same))
   | inr n ↦ absurd (let both : replies.Val v ≡ replies.Range =
-      e ∙ ap (λ b. (cond {A = Graph × Reply} b (act a, replies.Val (field_at g a i)) (g, replies.Range)).1) n in cc)
+      e ∙ ap (λ b. (cond {A = Graph × Reply} b
+      (act a, replies.Val (field_at g a i)) (g, replies.Range)).1) n in cc)
 ]
 
 pub get_told : (c : Config) (before since : List HistoryItem) (get : Entry) (d s i : ℕ)
@@ -539,39 +575,39 @@ get_told c before since get d s i v legal is told =
       ),
     )
 
--- an object keeps its length, so that what is put can be got
-put_got : (c : Config) (before between since : List HistoryItem) (put get : Entry) (d s i : ℕ)
-    (a : Name) (v : Value) → LegalFrom (replay c before) (Did put ∷ (between ++ Did get ∷ since))
-    → StoresIn (replay c before) put a i v
-    → NoneStores (after (replay c before) (Did put)) between a i
+-- an object keeps its length, so that what was stored can be got
+store_got : (c : Config) (before between since : List HistoryItem) (store get : Entry) (d s i : ℕ)
+    (a : Name) (v : Value) → LegalFrom (replay c before) (Did store ∷ (between ++ Did get ∷ since))
+    → StoresIn (replay c before) store a i v
+    → NoneStores (after (replay c before) (Did store)) between a i
     → get.command ≡ commands.Get d s i
-    → register_of (replay_from (replay c before) (Did put ∷ between)) get.thread s ≡ Ref a
+    → register_of (replay_from (replay c before) (Did store ∷ between)) get.thread s ≡ Ref a
     → get.reply ≡ replies.Val v
-put_got c before between since put get d s i a v legal stores none is object =
+store_got c before between since store get d s i a v legal stores none is object =
     let g : Graph = replay c before in
-    let k : Graph = replay_from g (Did put ∷ between) in
-    let there : i < length (object_of g a).fields = put_there g put a i v stores legal.0 in
+    let k : Graph = replay_from g (Did store ∷ between) in
+    let there : i < length (object_of g a).fields = store_there g store a i v stores legal.0 in
     let size : length (object_of k a).fields ≡ length (object_of g a).fields =
-    (replay_shape g (Did put ∷ between) a (has_field g a i there)).size in
+    (replay_shape g (Did store ∷ between) a (has_field g a i there)).size in
     let now : i < length (object_of k a).fields = omega arith in
-    get_answer k get d s i is (legal_back g (Did put ∷ between) (Did get ∷ since) legal).0
+    get_answer k get d s i is (legal_back g (Did store ∷ between) (Did get ∷ since) legal).0
     ∙ reply_there k get.thread d s i a object now
-    ∙ ap replies.Val (since_put g put between a i v stores
-    (legal_front g (Did put ∷ between) (Did get ∷ since) legal) none)
+    ∙ ap replies.Val (since_store g store between a i v stores
+    (legal_front g (Did store ∷ between) (Did get ∷ since) legal) none)
 
-pub put_read_back : (c : Config) (before between since : List HistoryItem) (put get : Entry)
+pub store_read_back : (c : Config) (before between since : List HistoryItem) (store get : Entry)
     (d s i : ℕ) (a : Name) (v : Value)
-    → Legal c (before ++ Did put ∷ (between ++ Did get ∷ since))
-    → StoresIn (replay c before) put a i v
-    → NoneStores (replay c (before ++ Did put ∷ [])) between a i
+    → Legal c (before ++ Did store ∷ (between ++ Did get ∷ since))
+    → StoresIn (replay c before) store a i v
+    → NoneStores (replay c (before ++ Did store ∷ [])) between a i
     → get.command ≡ commands.Get d s i
-    → register_of (replay c (before ++ Did put ∷ between)) get.thread s ≡ Ref a
+    → register_of (replay c (before ++ Did store ∷ between)) get.thread s ≡ Ref a
     → get.reply ≡ replies.Val v
-put_read_back c before between since put get d s i a v legal stores none is object =
-    put_got c before between since put get d s i a v
-    (legal_back (start_graph c) before (Did put ∷ (between ++ Did get ∷ since))
+store_read_back c before between since store get d s i a v legal stores none is object =
+    store_got c before between since store get d s i a v
+    (legal_back (start_graph c) before (Did store ∷ (between ++ Did get ∷ since))
     (legal_from c _ legal)) stores
     (subst (λ (g : Graph). NoneStores g between a i)
-    (replay_more (start_graph c) before (Did put)) none) is
+    (replay_more (start_graph c) before (Did store)) none) is
     (subst (λ (g : Graph). register_of g get.thread s ≡ Ref a)
-    (replay_append (start_graph c) before (Did put ∷ between)) object)
+    (replay_append (start_graph c) before (Did store ∷ between)) object)

@@ -260,7 +260,7 @@ step_register g t (commands.Cas s i b v) u q n =
     (put_register g i (register_of g t v) a u q l) refl)
 step_register g t (commands.Idle k) u q n = refl
 
--- objects, but for the one in which a put stores
+-- objects, but for one in which a command may store
 pub register_object : (g : Graph) (t d : ℕ) (v : Value) (a : Name)
     → object_of (with_register g t d v) a ≡ object_of g a
 register_object g t d v a = elim (cases_lt t (length g.mutators)) [

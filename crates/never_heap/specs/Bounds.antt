@@ -8,8 +8,9 @@ use Rattle.array_trees.specs.Trees.{array_blocks}
 use Rattle.never_heap.specs.declared.Command.{Command}
 use Rattle.never_heap.specs.declared.Command.TheVariants.{New, Arr, Set, Nil, Mov, Get, Put, Len, Same, Say, Swap, Cas, Idle}
 
--- Registers are those of a thread, numbers and indexes are below 2^62, and an object is at most
--- 65,535 long and takes no more blocks than the configuration allows.
+-- Registers are those of a thread, numbers and indexes are below 2^62, an object is at most 65,535
+-- long and takes no more blocks than the configuration allows, and an idle makes at most 131,070
+-- units. Swap, cas and idle are commands of version 2, whose blocks have eight words for values.
 abbrev pub IsCommandInBounds : Config → Command → Type 0
 IsCommandInBounds c (New d f) =
     (d < REGISTERS) × (f ≤ 65535) × (record_blocks c.width f ≤ c.object)
@@ -29,7 +30,7 @@ IsCommandInBounds c (Cas s i a v) =
     (s < REGISTERS) × (i < 2 ^ 62) × (a < REGISTERS) × (v < REGISTERS) × (c.width ≡ Eight)
 IsCommandInBounds c (Idle u) = (u ≤ 131070) × (c.width ≡ Eight)
 
--- the same, but for the blocks that an object takes
+-- what of this says nothing of the configuration; of the units of an idle, that it is a number
 abbrev pub IsCommandInRange : Command → Type 0
 IsCommandInRange (New d f) = (d < REGISTERS) × (f ≤ 65535)
 IsCommandInRange (Arr d e) = (d < REGISTERS) × (e ≤ 65535)
@@ -44,4 +45,4 @@ IsCommandInRange (Say s) = s < REGISTERS
 IsCommandInRange (Swap s i v) = (s < REGISTERS) × (i < 2 ^ 62) × (v < REGISTERS)
 IsCommandInRange (Cas s i a v) =
     (s < REGISTERS) × (i < 2 ^ 62) × (a < REGISTERS) × (v < REGISTERS)
-IsCommandInRange (Idle u) = u ≤ 131070
+IsCommandInRange (Idle u) = u < 2 ^ 62

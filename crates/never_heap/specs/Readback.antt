@@ -1,5 +1,5 @@
 -- What a field holds, told by the history: what was last stored there.
-use Rattle.std.specs.Prelude.{ℕ, Bool, true, false, Option, Some, None, ◌≡◌, ◌⊎◌, List, [], ◌∷◌, ◌++◌, map}
+use Rattle.std.specs.Prelude.{ℕ, Option, Some, None, ◌≡◌, ◌⊎◌, List, [], ◌∷◌, ◌++◌, map}
 use Rattle.block_store.specs.declared.Config.{Config}
 use Rattle.block_store.specs.declared.Name.{Name}
 use Rattle.block_store.specs.declared.Value.{Value}
@@ -12,31 +12,22 @@ use Rattle.never_heap.specs.declared.Reply.TheVariants.{Stored, Val, Yes}
 use Rattle.never_heap.specs.Graphs.{Graph, start_graph, register_of}
 use Rattle.never_heap.specs.Histories.{HistoryItem, Did, replay, replay_from, part}
 
--- the register of the object, the field, and the register of the value, of a command that may store
--- in a field
-abbrev pub put_by : Command → Option (ℕ × (ℕ × ℕ))
-put_by (Put s i v) = Some (s, (i, v))
-put_by (Swap s i v) = Some (s, (i, v))
-put_by (Cas s i a v) = Some (s, (i, v))
-put_by _ = None
+-- Where a command with this reply has stored in a field: the register of the object, the field, and
+-- the register of the value. A put tells it by stored, a swap by a value, and a cas by yes.
+abbrev pub stored_by : Command → Reply → Option (ℕ × (ℕ × ℕ))
+stored_by (Put s i v) Stored = Some (s, (i, v))
+stored_by (Swap s i v) (Val old) = Some (s, (i, v))
+stored_by (Cas s i a v) Yes = Some (s, (i, v))
+stored_by _ _ = None
 
--- whether such a command was answered that it stored: a put by ok, a swap by the field's old value,
--- a cas by yes
-abbrev pub tells_stored : Reply → Bool
-tells_stored Stored = true
-tells_stored (Val v) = true
-tells_stored Yes = true
-tells_stored _ = false
-
--- On the graph g, the entry is a put, a swap or a cas that stores v in field i of the object a: its
--- register s refers to a, its register w holds v, and it is answered that it stored.
-pub record StoresIn (g : Graph) (put : Entry) (a : Name) (i : ℕ) (v : Value) : Type 0 where
+-- On the graph g, the entry is a put, a swap or a cas that has stored v in field i of the object a:
+-- its register s refers to a, and its register w holds v.
+pub record StoresIn (g : Graph) (store : Entry) (a : Name) (i : ℕ) (v : Value) : Type 0 where
   pub s : ℕ
   pub w : ℕ
-  pub command : put_by put.command ≡ Some (s, (i, w))
-  pub object : register_of g put.thread s ≡ Ref a
-  pub value : register_of g put.thread w ≡ v
-  pub stored : tells_stored put.reply ≡ true
+  pub stored : stored_by store.command store.reply ≡ Some (s, (i, w))
+  pub object : register_of g store.thread s ≡ Ref a
+  pub value : register_of g store.thread w ≡ v
 
 -- of these items, from the graph g on, none stores in field i of a
 abbrev pub NoneStores : Graph → List HistoryItem → Name → ℕ → Type 0
@@ -46,20 +37,20 @@ NoneStores g items a i =
 
 -- The last store in field i of a in this history stored v there: the history is what was before it,
 -- its entry, and items of which none stores there.
-pub record IsLastPut
+pub record IsLastStore
     (c : Config) (h : List HistoryItem) (a : Name) (i : ℕ) (v : Value)
     : Type 0 where
   pub before : List HistoryItem
-  pub put : Entry
+  pub store : Entry
   pub since : List HistoryItem
-  pub history : h ≡ before ++ Did put ∷ since
-  pub stores : StoresIn (replay c before) put a i v
-  pub last : NoneStores (replay c (before ++ Did put ∷ [])) since a i
+  pub history : h ≡ before ++ Did store ∷ since
+  pub stores : StoresIn (replay c before) store a i v
+  pub last : NoneStores (replay c (before ++ Did store ∷ [])) since a i
 
 -- v is what was last stored in field i of a; nil where nothing was
 abbrev pub IsLastStored : Config → List HistoryItem → Name → ℕ → Value → Type 0
 IsLastStored c h a i v =
-    IsLastPut c h a i v ⊎ ((v ≡ Nil) × NoneStores (start_graph c) h a i)
+    IsLastStore c h a i v ⊎ ((v ≡ Nil) × NoneStores (start_graph c) h a i)
 
 -- the commands of a thread, in the order of the history
 abbrev pub commands_in : ℕ → List HistoryItem → List Command

@@ -10,6 +10,7 @@ ghost use Rattle.block_store.specs.Registers.{registers_end};
 ghost use Rattle.array_trees.specs.Openings.{opening_blocks};
 ghost use Rattle.block_store.specs.declared.Value.TheVariants.{Ref};
 ghost use Rattle.never_heap.specs.declared.Command.{Command};
+ghost use Rattle.never_heap.specs.declared.Reply.TheVariants.{No};
 ghost use Rattle.never_heap.specs.Graphs.{Graph, SameShape, start_graph, register_of, object_of, field_of, count_of, has_name, next_name};
 ghost use Rattle.never_heap.specs.Histories.{HistoryItem, is_full, is_refusal, replay, replay_from};
 ghost use Rattle.never_heap.specs.LiveBlocks.{live_blocks, object_blocks};
@@ -41,7 +42,7 @@ pub fn opening_blocks_are_live()
 /// stores in no field, and else all but the one to which its register refers, of which it leaves
 /// the other fields. The threads stay, and so does how many objects each has made, but that a
 /// command that makes an object adds one for `t`, where there is such a thread. A command that is
-/// refused leaves the whole graph.
+/// refused, or answered no as a lost `cas` is, leaves the whole graph.
 pub fn steps_leave()
     ensures registers { (g : Graph) (t : ℕ) (command : Command) (u q : ℕ)
         → (t ≡ u → stores_in command q ≡ false)
@@ -65,6 +66,8 @@ pub fn steps_leave()
         → count_of (step g t command).0 t ≡ count_of g t + 1 }
     ensures refused { (g : Graph) (t : ℕ) (command : Command)
         → is_refusal (step g t command).1 ≡ true → (step g t command).0 ≡ g }
+    ensures lost { (g : Graph) (t : ℕ) (command : Command)
+        → (step g t command).1 ≡ No → (step g t command).0 ≡ g }
 {}
 
 /// A name stays over each step and each history, with the kind and the length of its object.

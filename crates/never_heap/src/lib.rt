@@ -80,9 +80,10 @@ pub enum Command {
 }
 
 impl Command {
-    /// Whether registers are below `REGISTERS`, numbers and indexes below 2^62, and an object that
-    /// is made is at most 65,535 long and takes no more blocks than one object may. `Swap`, `Cas`
-    /// and `Idle` are commands of version 2 alone, whose blocks are wide.
+    /// Whether registers are below `REGISTERS`, numbers and indexes below 2^62, an object that is
+    /// made is at most 65,535 long and takes no more blocks than one object may, and an `Idle`
+    /// makes at most `MOST_UNITS`. `Swap`, `Cas` and `Idle` are commands of version 2 alone, whose
+    /// blocks are wide.
     pub fn in_bounds(&self, c: &Config) -> bool
         ensures { IsTrue result ↔ IsCommandInBounds c.now self.now }
     {
@@ -165,13 +166,13 @@ pub enum Reply {
     Full(u64),
     /// What was to be stored is stored.
     Stored,
-    /// The value that was asked for.
+    /// The value that was asked for; of a `Swap`, what the field held before.
     Val(Value),
     /// The number of fields or elements.
     Len(u64),
-    /// The two registers are the same.
+    /// The two registers are the same; of a `Cas`, the field and the register are, and it stored.
     Yes,
-    /// They are not.
+    /// They are not, and nothing is stored.
     No,
     /// The register is nil.
     Null,

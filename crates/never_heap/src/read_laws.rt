@@ -13,8 +13,8 @@ ghost use Rattle.never_heap.specs.Graphs.{register_of, object_of, field_of};
 ghost use Rattle.never_heap.specs.Histories.{HistoryItem, Did, replay, Legal, HasTraces};
 ghost use Rattle.never_heap.specs.Readback.{StoresIn, NoneStores, IsLastStored, StandsIn};
 
-/// After a legal history a field holds what the last `put` there has stored, or nil where there is
-/// none, whichever thread made it; and that is one value.
+/// After a legal history a field holds what the last `put`, `swap` or `cas` that stored there has
+/// stored, or nil where there is none, whichever thread made it; and that is one value.
 pub fn fields_hold_what_was_last_stored()
     ensures field { (c : Config) (h : List HistoryItem) (a : Name) (i : ℕ) → Legal c h
         → IsLastStored c h a i (field_of (object_of (replay c h) a) i) }
@@ -23,8 +23,8 @@ pub fn fields_hold_what_was_last_stored()
 {}
 
 /// In a legal history a `get` of a field that there is answers what was last stored there before
-/// it, and each value that a `get` answers is that of such a field. So what was put is read back,
-/// by its own thread and by any other, until another `put` stores there.
+/// it, and each value that a `get` answers is that of such a field. So what was stored is read
+/// back, by its own thread and by any other, until another command stores there.
 pub fn gets_read_what_was_last_stored()
     ensures get { (c : Config) (before since : List HistoryItem) (get : Entry) (d s i : ℕ)
         (a : Name) (v : Value)
@@ -37,13 +37,13 @@ pub fn gets_read_what_was_last_stored()
         → Legal c (before ++ Did get ∷ since) → get.command ≡ Get d s i → get.reply ≡ Val v
         → (a : Name) × ((register_of (replay c before) get.thread s ≡ Ref a)
         × IsLastStored c before a i v) }
-    ensures back { (c : Config) (before between since : List HistoryItem) (put get : Entry)
+    ensures back { (c : Config) (before between since : List HistoryItem) (store get : Entry)
         (d s i : ℕ) (a : Name) (v : Value)
-        → Legal c (before ++ Did put ∷ (between ++ Did get ∷ since))
-        → StoresIn (replay c before) put a i v
-        → NoneStores (replay c (before ++ Did put ∷ [])) between a i
+        → Legal c (before ++ Did store ∷ (between ++ Did get ∷ since))
+        → StoresIn (replay c before) store a i v
+        → NoneStores (replay c (before ++ Did store ∷ [])) between a i
         → get.command ≡ Get d s i
-        → register_of (replay c (before ++ Did put ∷ between)) get.thread s ≡ Ref a
+        → register_of (replay c (before ++ Did store ∷ between)) get.thread s ≡ Ref a
         → get.reply ≡ Val v }
 {}
 

@@ -1,7 +1,8 @@
 ghost use Rattle.std.specs.Prelude.{◌≡◌, ◌<◌, ◌≤◌, ◌+◌, length, OnOk};
+ghost use Rattle.block_store.specs.Configs.{IsInBounds};
 ghost use Rattle.never_heap.specs.Graphs.{count_of};
 
-use crate::{Command, Graph, Reply};
+use crate::{Command, Graph, MOST_UNITS, NUMBERS, Reply};
 use block_store::{Config, Name, OutOfMemory, Value, Width};
 use std::alloc::Global;
 use std::process::Abort;
@@ -15,9 +16,19 @@ const CONFIG: Config = Config {
     shared: 0,
 };
 
+const WIDE: Config = Config {
+    width: Width::Eight,
+    ..CONFIG
+};
+
 const RECORD: Name = Name {
     thread: 0,
     serial: 1,
+};
+
+const OTHER: Name = Name {
+    thread: 0,
+    serial: 2,
 };
 
 const ARRAY: Name = Name {
@@ -45,17 +56,127 @@ const ANSWERED: [(Command, Reply); 16] = [
     (Command::Len { s: 0 }, Reply::Len(0)),
 ];
 
-#[test]
+const NIL: Reply = Reply::Val(Value::Nil);
+
+const TO_RECORD: Reply = Reply::Val(Value::Ref(RECORD));
+
+// Exchanges, on one graph: where there is no such field they change nothing; register 1 is the
+// object that is stored in, and field 0 of it comes to hold that object itself.
+const EXCHANGED: [(Command, Reply); 19] = [
+    (Command::New { d: 1, fields: 2 }, Reply::New(RECORD)),
+    (Command::Set { d: 2, value: 5 }, Reply::Stored),
+    (Command::Swap { s: 3, i: 9, v: 2 }, Reply::Null),
+    (Command::Swap { s: 2, i: 9, v: 1 }, Reply::Kind),
+    (Command::Swap { s: 1, i: 2, v: 2 }, Reply::Range),
+    (Command::Say { s: 2 }, Reply::Val(Value::Int(5))),
+    (Command::Swap { s: 1, i: 1, v: 2 }, NIL),
+    (Command::Say { s: 2 }, NIL),
+    (
+        Command::Swap { s: 1, i: 1, v: 2 },
+        Reply::Val(Value::Int(5)),
+    ),
+    (Command::Mov { d: 4, s: 1 }, Reply::Stored),
+    (Command::Swap { s: 1, i: 0, v: 1 }, NIL),
+    (Command::Say { s: 1 }, NIL),
+    (Command::Get { d: 1, s: 4, i: 0 }, TO_RECORD),
+    (Command::Swap { s: 1, i: 0, v: 1 }, TO_RECORD),
+    (Command::Same { a: 1, b: 4 }, Reply::Yes),
+    (Command::Swap { s: 1, i: 0, v: 2 }, TO_RECORD),
+    (Command::Say { s: 2 }, TO_RECORD),
+    (Command::Get { d: 5, s: 1, i: 0 }, Reply::Val(Value::Int(5))),
+    (Command::Get { d: 5, s: 1, i: 1 }, NIL),
+];
+
+fn cas(s: u8, i: u64, a: u8, v: u8) -> Command {
+    Command::Cas { s, i, a, v }
+}
+
+/// Compares, on one graph: of nil and nil, of numbers, of an object with itself and with another
+/// that is its like, and with what is to be stored in place of what is expected.
+fn compared() -> [(Command, Reply); 25] {
+    [
+        (Command::New { d: 1, fields: 1 }, Reply::New(RECORD)),
+        (Command::Set { d: 2, value: 0 }, Reply::Stored),
+        (cas(3, 9, 3, 2), Reply::Null),
+        (cas(2, 9, 3, 2), Reply::Kind),
+        (cas(1, 1, 3, 2), Reply::Range),
+        (cas(1, 0, 2, 3), Reply::No),
+        (cas(1, 0, 3, 2), Reply::Yes),
+        (Command::Say { s: 3 }, NIL),
+        (Command::Say { s: 2 }, Reply::Val(Value::Int(0))),
+        (Command::Set { d: 4, value: 1 }, Reply::Stored),
+        (cas(1, 0, 4, 2), Reply::No),
+        (cas(1, 0, 3, 4), Reply::No),
+        (Command::Get { d: 5, s: 1, i: 0 }, Reply::Val(Value::Int(0))),
+        (Command::Set { d: 5, value: 0 }, Reply::Stored),
+        (cas(1, 0, 5, 4), Reply::Yes),
+        (Command::Get { d: 6, s: 1, i: 0 }, Reply::Val(Value::Int(1))),
+        (cas(1, 0, 4, 1), Reply::Yes),
+        (Command::New { d: 7, fields: 1 }, Reply::New(OTHER)),
+        (Command::Put { s: 7, i: 0, v: 1 }, Reply::Stored),
+        (cas(1, 0, 7, 2), Reply::No),
+        (Command::Get { d: 8, s: 1, i: 0 }, TO_RECORD),
+        (cas(1, 0, 1, 3), Reply::Yes),
+        (Command::Get { d: 9, s: 1, i: 0 }, NIL),
+        (Command::Idle { units: 7 }, Reply::Idle),
+        (Command::Get { d: 9, s: 7, i: 0 }, TO_RECORD),
+    ]
+}
+
+/// A graph after commands of thread 0, of which each was answered with the reply beside it.
 #[tactic(auto, using(crate::proofs::Stepping::step_threads, crate::proofs::Stepping::step_count))]
-fn commands_are_answered(rt: HostRuntime) -> Result<(), OutOfMemory> {
-    let mut graph = Graph::start(rt.alloc(), &CONFIG)?;
-    for (command, reply) in ANSWERED {
-        assert!(rt; command.in_bounds(&CONFIG));
-        assert_eq!(rt; graph.apply(0, &command)?, reply);
+fn answered(
+    rt: &impl Abort,
+    alloc: Global,
+    config: &Config,
+    table: &[(Command, Reply)],
+) -> Result<Graph, OutOfMemory>
+    requires config { IsInBounds config.now }
+    requires few { length table.now ≤ 1000 }
+{
+    let mut graph = Graph::start(alloc, config)?;
+    for (command, reply) in table {
+        assert!(rt; command.in_bounds(config));
+        assert_eq!(rt; graph.apply(0, command)?, *reply, "{command:?}");
     }
+    Ok(graph)
+}
+
+#[test]
+fn commands_are_answered(rt: HostRuntime) -> Result<(), OutOfMemory> {
+    let graph = answered(&rt, rt.alloc(), &CONFIG, &ANSWERED)?;
     assert_eq!(rt; graph.reach_blocks()?, 7);
     assert_eq!(rt; graph.count_live()?, 7);
     Ok(())
+}
+
+#[test]
+fn fields_are_exchanged_and_compared(rt: HostRuntime) -> Result<(), OutOfMemory> {
+    let exchanged = answered(&rt, rt.alloc(), &WIDE, &EXCHANGED)?;
+    assert_eq!(rt; exchanged.count_live()?, 5);
+    let compared = answered(&rt, rt.alloc(), &WIDE, &compared())?;
+    assert_eq!(rt; compared.count_live()?, 6);
+    Ok(())
+}
+
+#[test]
+fn three_commands_are_of_version_2(rt: HostRuntime) {
+    for (command, told) in [
+        (
+            Command::Swap {
+                s: 15,
+                i: NUMBERS - 1,
+                v: 15,
+            },
+            0,
+        ),
+        (cas(15, NUMBERS - 1, 15, 15), 0),
+        (Command::Idle { units: MOST_UNITS }, 131_070),
+    ] {
+        assert!(rt; command.in_bounds(&WIDE) && !command.in_bounds(&CONFIG));
+        assert_eq!(rt; command.told(), told);
+        assert_eq!(rt; command.blocks(Width::Eight), 0);
+    }
 }
 
 // A ring of two records with a long array beside it, a chain of two behind register 3, and what
@@ -157,10 +278,7 @@ fn other_thread(
         graph.apply(1, &Command::Say { s: 1 })?,
         Reply::Val(Value::Ref(name))
     );
-    assert_eq!(rt;
-        graph.apply(0, &Command::Say { s: 1 })?,
-        Reply::Val(Value::Nil)
-    );
+    assert_eq!(rt; graph.apply(0, &Command::Say { s: 1 })?, NIL);
     assert_eq!(rt; graph.reach_blocks()?, blocks);
     Ok(())
 }
@@ -173,10 +291,6 @@ fn each_thread_has_its_own_registers(rt: HostRuntime) -> Result<(), OutOfMemory>
 
 #[test]
 fn wider_blocks_hold_more(rt: HostRuntime) {
-    let config = Config {
-        width: Width::Eight,
-        ..CONFIG
-    };
     for (command, blocks) in [
         (Command::New { d: 1, fields: 14 }, 2),
         (Command::New { d: 1, fields: 15 }, 3),
@@ -184,26 +298,36 @@ fn wider_blocks_hold_more(rt: HostRuntime) {
         (Command::Arr { d: 1, elements: 9 }, 3),
     ] {
         assert_eq!(rt; command.blocks(Width::Eight), blocks);
-        assert_eq!(rt; command.in_bounds(&config), blocks <= 2);
+        assert_eq!(rt; command.in_bounds(&WIDE), blocks <= 2);
     }
 }
 
-// Commands of two threads on the shared array and on a record to which it refers. One put is
-// refused, and one field is never stored in.
-const SHARED: [(u32, Command); 12] = [
-    (0, Command::New { d: 1, fields: 2 }),
-    (0, Command::Put { s: 0, i: 0, v: 1 }),
-    (1, Command::Get { d: 1, s: 0, i: 0 }),
-    (1, Command::Set { d: 2, value: 7 }),
-    (1, Command::Put { s: 1, i: 1, v: 2 }),
-    (0, Command::Get { d: 3, s: 1, i: 1 }),
-    (0, Command::Set { d: 2, value: 8 }),
-    (0, Command::Put { s: 1, i: 1, v: 2 }),
-    (1, Command::Get { d: 3, s: 1, i: 1 }),
-    (1, Command::Put { s: 1, i: 2, v: 1 }),
-    (1, Command::Get { d: 3, s: 1, i: 0 }),
-    (0, Command::Get { d: 1, s: 1, i: 1 }),
-];
+/// Commands of two threads on the shared array and on a record to which it refers: puts, exchanges
+/// and compares, of which some are refused or lost. One field is never stored in.
+fn shared() -> [(u32, Command); 20] {
+    [
+        (0, Command::New { d: 1, fields: 3 }),
+        (0, Command::Put { s: 0, i: 0, v: 1 }),
+        (1, Command::Get { d: 1, s: 0, i: 0 }),
+        (1, Command::Set { d: 2, value: 7 }),
+        (1, Command::Put { s: 1, i: 1, v: 2 }),
+        (0, Command::Get { d: 3, s: 1, i: 1 }),
+        (0, Command::Set { d: 2, value: 8 }),
+        (0, Command::Put { s: 1, i: 1, v: 2 }),
+        (1, Command::Get { d: 3, s: 1, i: 1 }),
+        (1, Command::Put { s: 1, i: 3, v: 1 }),
+        (1, Command::Get { d: 3, s: 1, i: 0 }),
+        (1, Command::Swap { s: 1, i: 1, v: 2 }),
+        (1, Command::Swap { s: 1, i: 3, v: 2 }),
+        (0, cas(1, 1, 3, 0)),
+        (0, Command::Get { d: 4, s: 1, i: 1 }),
+        (1, cas(1, 1, 2, 2)),
+        (1, cas(1, 2, 3, 2)),
+        (1, Command::Get { d: 4, s: 1, i: 2 }),
+        (0, Command::Swap { s: 1, i: 2, v: 1 }),
+        (1, Command::Get { d: 4, s: 1, i: 2 }),
+    ]
+}
 
 /// What was last stored in field `i` of the object that a value refers to, by a list of all that
 /// was stored: the object, the field, and the value.
@@ -223,25 +347,34 @@ fn gets_answer_what_was_last_stored(rt: HostRuntime) -> Result<(), OutOfMemory> 
     let config = Config {
         threads: 2,
         shared: 2,
-        ..CONFIG
+        ..WIDE
     };
     let mut graph = Graph::start(rt.alloc(), &config)?;
     let mut stored = Vec::new(rt.alloc());
-    for (thread, command) in SHARED {
+    for (thread, command) in shared() {
         assert!(rt; thread < 2 && command.in_bounds(&config));
         let (object, value) = match command {
-            Command::Put { s, v, .. } => (graph.register(thread, s), graph.register(thread, v)),
+            Command::Put { s, v, .. } | Command::Swap { s, v, .. } | Command::Cas { s, v, .. } => {
+                (graph.register(thread, s), graph.register(thread, v))
+            }
             Command::Get { s, .. } => (graph.register(thread, s), Value::Nil),
             _ => (Value::Nil, Value::Nil),
         };
         match (command, graph.apply(thread, &command)?) {
-            (Command::Put { i, .. }, Reply::Stored) => stored.push((object, i, value))?,
+            (Command::Put { i, .. }, Reply::Stored) | (Command::Cas { i, .. }, Reply::Yes) => {
+                stored.push((object, i, value))?
+            }
+            (Command::Swap { i, .. }, Reply::Val(old)) => {
+                assert_eq!(rt; old, last_stored(&stored, object, i));
+                stored.push((object, i, value))?;
+            }
             (Command::Get { i, .. }, Reply::Val(got)) => {
                 assert_eq!(rt; got, last_stored(&stored, object, i));
             }
             _ => (),
         }
     }
-    assert_eq!(rt; stored.len(), 3);
+    // Three puts, two exchanges, and two compares that were won.
+    assert_eq!(rt; stored.len(), 7);
     Ok(())
 }

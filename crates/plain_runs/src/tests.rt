@@ -1,4 +1,5 @@
-//! A history of six items in two cycles: each program answers of it, and of five that are wrong.
+//! A history of seven items in two cycles: each program answers of it, and of others that are
+//! wrong.
 
 ghost use Rattle.std.specs.Prelude.{◌<◌};
 
@@ -9,16 +10,18 @@ use std::alloc::Global;
 use std::process::Abort;
 use std::test::Fail;
 
-/// A heap in which more blocks than may be are live from the first cycle on: each thread has six
+/// A heap in which more blocks than may be are live from the first cycle on: the thread has four
 /// blocks of registers and of the shared array.
 const HEAP: Config = Config {
-    width: Width::Four,
+    width: Width::Eight,
     threads: 1,
     blocks: 40,
-    live: 5,
+    live: 3,
     object: 2,
     shared: 0,
 };
+
+const IDLE: Command = Command::Idle { units: 5 };
 
 fn entry(command: Command, reply: Reply, work: u64) -> Entry {
     Entry {
@@ -29,8 +32,8 @@ fn entry(command: Command, reply: Reply, work: u64) -> Entry {
     }
 }
 
-/// Two records and a full, at the rate 7.
-fn log() -> [Entry; 4] {
+/// Two records and a full, at the rate 7, and an idle of five units.
+fn log() -> [Entry; 5] {
     let new = Command::New { d: 1, fields: 2 };
     let name = Name {
         thread: 0,
@@ -39,19 +42,20 @@ fn log() -> [Entry; 4] {
     [
         entry(new, Reply::New(name), 7),
         entry(Command::Say { s: 1 }, Reply::Val(Value::Ref(name)), 0),
+        entry(IDLE, Reply::Idle, 5),
         entry(new, Reply::Full(1), 7),
         entry(new, Reply::New(Name { serial: 2, ..name }), 7),
     ]
 }
 
-fn order() -> [Item; 6] {
+fn order() -> [Item; 7] {
     let next = Item::Entry(0);
-    [Item::Start, next, next, Item::Start, next, next]
+    [Item::Start, next, next, next, Item::Start, next, next]
 }
 
 #[derive(Drop)]
 struct Alone {
-    log: [Entry; 4],
+    log: [Entry; 5],
 }
 
 impl Logs for Alone {
@@ -61,7 +65,7 @@ impl Logs for Alone {
 
     ghost cycle_count = { λ _. 2 };
 
-    ghost unit_count = { λ _. 21 };
+    ghost unit_count = { λ _. 26 };
 
     fn threads(&self) -> u32 {
         1
@@ -76,7 +80,7 @@ impl Logs for Alone {
     }
 
     fn units(&self) -> u64 {
-        21
+        26
     }
 }
 
@@ -93,7 +97,7 @@ fn judged(alloc: Global, h: &[Happened]) -> Result<[bool; 3], Fail> {
 }
 
 /// The history of the order and this log.
-fn history(alloc: Global, log: [Entry; 4]) -> Result<Vec<Happened>, Fail> {
+fn history(alloc: Global, log: [Entry; 5]) -> Result<Vec<Happened>, Fail> {
     match history_of(alloc, &order(), &Alone { log })? {
         Some(h) => Ok(h),
         None => Err(Fail::from("no history")),
@@ -108,11 +112,11 @@ fn a_right_history_is_counted(rt: HostRuntime) -> Result<(), Fail> {
     let inside = in_bounds(&HEAP, &h);
     assert!(rt; inside);
     if inside {
-        assert_eq!(rt; work(&h), 21);
+        assert_eq!(rt; work(&h), 26);
         assert_eq!(rt; given_in(&HEAP, &h, 1), 1);
         assert_eq!(rt; given_in(&HEAP, &h, 2), 1);
-        assert_eq!(rt; live_at(rt.alloc(), &HEAP, &h, 1)?, 6);
-        assert_eq!(rt; live_at(rt.alloc(), &HEAP, &h, 2)?, 7);
+        assert_eq!(rt; live_at(rt.alloc(), &HEAP, &h, 1)?, 4);
+        assert_eq!(rt; live_at(rt.alloc(), &HEAP, &h, 2)?, 5);
     }
     Ok(())
 }
@@ -125,7 +129,7 @@ fn expect(
     wrong: Entry,
     answer: [bool; 3],
 ) -> Result<(), Fail>
-    requires { place < 4 }
+    requires { place < 5 }
 {
     let mut log = log();
     log[place] = wrong;
@@ -142,10 +146,14 @@ fn a_wrong_entry_is_seen(rt: HostRuntime) -> Result<(), Fail> {
     expect(&rt, alloc, 1, said, [false, true, true])?;
     let refused = entry(Command::Say { s: 1 }, Reply::Full(1), 0);
     expect(&rt, alloc, 1, refused, [false, true, true])?;
+    let longer = entry(IDLE, Reply::Idle, 6);
+    expect(&rt, alloc, 2, longer, [true, true, false])?;
+    let stored = entry(IDLE, Reply::Stored, 5);
+    expect(&rt, alloc, 2, stored, [false, true, true])?;
     let present = entry(new, Reply::Full(2), 7);
-    expect(&rt, alloc, 2, present, [true, false, true])?;
+    expect(&rt, alloc, 3, present, [true, false, true])?;
     let unpaid = entry(new, Reply::Full(1), 0);
-    expect(&rt, alloc, 2, unpaid, [true, true, false])
+    expect(&rt, alloc, 3, unpaid, [true, true, false])
 }
 
 #[test]
@@ -159,7 +167,7 @@ fn an_order_of_other_logs_makes_none(rt: HostRuntime) -> Result<(), Fail> {
         );
     }
     let mut other = log();
-    other[3].thread = 1;
+    other[4].thread = 1;
     let run = Alone { log: other };
     assert!(rt; history_of(rt.alloc(), &order, &run)?.is_none());
     Ok(())

@@ -2,6 +2,7 @@
 use Rattle.std.proofs.Common.{◌≡◌, ◌≢◌, ℕ, ◌+◌, ◌<◌, ◌≤◌, inl, inr, ◌↔◌, List, [], ◌++◌, length, drop, Option, Some, None, sym, refl, ap, ◌∙◌, subst, append-nil, length-append, arith}
 use Rattle.std.specs.Prelude.{IfSome}
 use Rattle.std.proofs.Math.Seq.{drop-append_seam}
+use Rattle.std.proofs.lemmas.List.{drop_all}
 use Rattle.std.proofs.lemmas.Option.{same_Some}
 use Rattle.trace_text.specs.Inputs.{HasRead}
 use Rattle.trace_text.specs.Streams.{IsAtEnd, TookAtMost}
@@ -22,11 +23,7 @@ too_long (Some bytes) new front long h =
     let size : length bytes ≡ length front + length h.0 = ap length h.1 ∙ length-append front h.0 in
     let more : 67108864 < length bytes = omega arith in (
       inl more,
-      inr (
-        more,
-        h.2 ∙ ap Some (sym (left_behind bytes front h.0 h.1)
-            ∙ ap (λ (n : ℕ). drop n bytes) long),
-      ),
+      h.2 ∙ ap Some (sym (left_behind bytes front h.0 h.1) ∙ ap (λ (n : ℕ). drop n bytes) long),
     )
 
 pub took_front : (old new : Option (List ℕ)) (front : List ℕ) (most : ℕ) → length front ≤ most
@@ -36,27 +33,31 @@ took_front (Some bytes) new front most few h =
     (length front, few, h.2 ∙ ap Some (sym (left_behind bytes front h.0 h.1)))
 
 answered : (a : Option Refusal) (old new : Option (List ℕ)) (front : List ℕ)
-    → HasRead old front new → IsAtEnd old new → IsAnswerTo front a → IsAnswered a old new
-answered a None new front h e p = tt
-answered a (Some bytes) new front h e p =
+    → length front ≤ 67108864 → HasRead old front new → IsAtEnd old new → IsAnswerTo front a
+    → IsAnswered a old new
+answered a None new front few h e p = tt
+answered a (Some bytes) new front few h e p =
     let none : h.0 ≡ [] = same_Some h.0 [] (sym h.2 ∙ e) in
     let all : bytes ≡ front = h.1 ∙ ap (λ (r : List ℕ). front ++ r) none ∙ append-nil front in
-    (subst (λ (b : List ℕ). IsAnswerTo b a) (sym all) p, inl e)
+    let size : length bytes ≡ length front = ap length all in (
+      subst (λ (b : List ℕ). IsAnswerTo b a) (sym all) p,
+      e ∙ ap Some (sym (drop_all 67108865 bytes (omega arith))),
+    )
 
 module _ (old new : Option (List ℕ)) (before now : ℕ) (front : List ℕ)
     (few : length front ≤ 67108864) (h : HasRead old front new) (e : IsAtEnd old new)
     (still : now ≡ before) where
   caused : (a : Option Refusal) → IsAnswerTo front a → IsCause [] old new before now a
-  caused None p = (refl, answered None old new front h e p, still)
+  caused None p = (refl, answered None old new front few h e p, still)
   caused (Some Usage) p = absurd p.2
-  caused (Some TooLong) p = (refl, answered (Some TooLong) old new front h e p, still)
+  caused (Some TooLong) p = (refl, answered (Some TooLong) old new front few h e p, still)
   caused (Some (BadLine line why)) p =
-      (refl, answered (Some (BadLine line why)) old new front h e p, still)
-  caused (Some LiveTooSmall) p = (refl, answered (Some LiveTooSmall) old new front h e p, still)
-  caused (Some NoRate) p = (refl, answered (Some NoRate) old new front h e p, still)
+      (refl, answered (Some (BadLine line why)) old new front few h e p, still)
+  caused (Some LiveTooSmall) p = (refl, answered (Some LiveTooSmall) old new front few h e p, still)
+  caused (Some NoRate) p = (refl, answered (Some NoRate) old new front few h e p, still)
   caused (Some ReadFault) p = absurd p.2
   caused (Some OutOfMemory) p = absurd p.2
-  caused (Some (BadOrder n)) p = (refl, answered (Some (BadOrder n)) old new front h e p, still)
+  caused (Some (BadOrder n)) p = (refl, answered (Some (BadOrder n)) old new front few h e p, still)
 
   pub judged_cause : (a : Option Refusal) → IsJudged front a → IsCause [] old new before now a
   judged_cause a (inl p) = caused a p

@@ -340,5 +340,6 @@ pub work_is : (k c : Config) (rate n blocks told : ℕ) (command : Command) → 
     → blocks ≡ blocks_of k.width command → told ≡ units_told command
     → rate * n + told ≡ units_owed c.width rate command
 work_is k c rate n blocks told command same is counted tells =
-    ap (λ (x : ℕ). rate * x + told) (is ∙ counted ∙ ap (λ (y : Config). blocks_of y.width command) same)
+    ap (λ (x : ℕ). rate * x + told)
+    (is ∙ counted ∙ ap (λ (y : Config). blocks_of y.width command) same)
     ∙ ap (λ (x : ℕ). rate * blocks_of c.width command + x) tells

@@ -76,11 +76,9 @@ IsAnswerTo bytes (Some TooLong) = IsTooLong bytes
 IsAnswerTo bytes (Some (BadLine line why)) = HasBadLine bytes line why
 IsAnswerTo bytes a = (job : Job) × HasJob bytes job × IsAnswerOf bytes job a
 
--- the source was read to its end, or to the first byte too many
+-- the source was read to its end, and of more bytes than an input may have to the first too many
 abbrev pub IsReadThrough : List ℕ → Option (List ℕ) → Type 0
-IsReadThrough bytes left_now =
-    (left_now ≡ Some [])
-    ⊎ ((check_limit < length bytes) × (left_now ≡ Some (drop (check_limit + 1) bytes)))
+IsReadThrough bytes left_now = left_now ≡ Some (drop (check_limit + 1) bytes)
 
 -- the answer is that to the bytes that the source told, and they were read
 abbrev pub IsAnswered : Option Refusal → Option (List ℕ) → Option (List ℕ) → Type 0
@@ -93,7 +91,8 @@ abbrev pub IsCause :
     List (List ℕ) → Option (List ℕ) → Option (List ℕ) → ℕ → ℕ → Option Refusal → Type 0
 IsCause words left left_now before now (Some Usage) =
     (words ≢ []) × (left_now ≡ left) × (now ≡ before)
-IsCause words left left_now before now (Some ReadFault) = (words ≡ []) × Rose before now
+IsCause words left left_now before now (Some ReadFault) =
+    (words ≡ []) × TookAtMost (check_limit + 1) left left_now × Rose before now
 IsCause words left left_now before now (Some OutOfMemory) =
     (words ≡ []) × TookAtMost (check_limit + 1) left left_now × (now ≡ before)
 IsCause words left left_now before now a =

@@ -26,6 +26,13 @@ const SMALL: &str = "rtheap 1 threads 1 blocks 20 live 6 object 1 shared 0";
 /// One of blocks of eight words, with the rate 7.
 const WIDE: &str = "rtheap 2 threads 1 blocks 64 live 20 object 2 shared 0";
 
+/// One of two threads of such blocks.
+const WIDE_TWO: &str = "rtheap 2 threads 2 blocks 64 live 20 object 2 shared 4";
+
+/// What stands behind its header.
+const WIDE_TWO_BODY: &str = "/thread 0/set 1 5/swap 0 0 1/idle 3\
+    /thread 1/set 1 6/cas 0 0 2 1/swap 0 0 1/end/";
+
 /// One that opens with more blocks than may be live.
 const LOW: &str = "rtheap 1 threads 1 blocks 64 live 5 object 2 shared 0";
 
@@ -51,6 +58,17 @@ fn job_of(letter: &str) -> (&str, &str) {
         "J" => (ONE, "/thread 0/end/"),
         "K" => (LOW, "/thread 0/end/"),
         "L" => (HIGH, "/thread 0/end/"),
+        "M" => (
+            WIDE,
+            "/thread 0/new 1 2/set 2 5/swap 1 0 2/swap 1 0 2/idle 10/end/",
+        ),
+        "N" => (WIDE_TWO, WIDE_TWO_BODY),
+        "O" => (
+            WIDE,
+            "/thread 0/new 1 1/cas 1 0 2 1/cas 1 0 2 2/cas 1 0 1 2/end/",
+        ),
+        "P" => (ONE, "/thread 0/swap 1 0 2/end/"),
+        "Q" => (WIDE, "/thread 0/idle 131071/end/"),
         _ => ("", ""),
     }
 }
@@ -127,6 +145,29 @@ G|start 1/0 new 0.1 work 7/start 2/start 3/0 full 2 work 7/0 new 0.3 work 7/|9 o
 H|start 1/0 new 0.1 work 7/0 ok/start 2/start 3/0 full 2 work 7/end cycles 3 work 14/|9 order line 6
 I|start 1/0 new 0.1 work 14/end cycles 1 work 14/|0 ok
 I|start 1/0 new 0.1 work 35/end cycles 1 work 35/|9 order line 2
+M|start 1/0 new 0.1 work 7/0 ok/0 nil/0 int 5/0 idle work 10/end cycles 1 work 17/|0 ok
+M|start 1/0 new 0.1 work 7/0 ok/0 int 5/0 int 5/0 idle work 10/end cycles 1 work 17/|9 order line 4
+M|start 1/0 new 0.1 work 7/0 ok/0 ok/0 int 5/0 idle work 10/end cycles 1 work 17/|9 order line 4
+M|start 1/0 new 0.1 work 7/0 ok/0 nil/0 nil/0 idle work 10/end cycles 1 work 17/|9 order line 5
+M|start 1/0 new 0.1 work 7/0 ok/0 nil/0 int 5/0 idle work 11/end cycles 1 work 18/|9 order line 6
+M|start 1/0 new 0.1 work 7/0 ok/0 nil/0 int 5/0 idle work 0/end cycles 1 work 7/|9 order line 6
+M|start 1/0 new 0.1 work 7/0 ok/0 nil/0 int 5/0 idle/end cycles 1 work 17/|9 order line 6
+M|start 1/0 new 0.1 work 7/0 ok/0 nil/0 int 5/0 ok/end cycles 1 work 7/|9 order line 6
+M|start 1/0 new 0.1 work 7/0 ok/0 nil/0 int 5/0 idle work 10/end cycles 1 work 7/|9 order line 7
+M|start 1/0 new 0.1 work 7/0 ok/0 nil/0 int 5/end cycles 1 work 7/|9 order line 6
+N|start 1/0 ok/0 nil/0 idle work 3/1 ok/1 no/1 int 5/end cycles 1 work 3/|0 ok
+N|start 1/1 ok/1 yes/0 ok/0 int 6/start 2/1 int 5/0 idle work 3/end cycles 2 work 3/|0 ok
+N|start 1/1 ok/1 yes/0 ok/1 int 6/0 int 6/0 idle work 3/end cycles 1 work 3/|0 ok
+N|start 1/1 ok/1 yes/0 ok/1 int 6/0 int 5/0 idle work 3/end cycles 1 work 3/|9 order line 6
+N|start 1/1 ok/1 yes/0 ok/0 nil/1 int 5/0 idle work 3/end cycles 1 work 3/|9 order line 5
+N|start 1/0 ok/0 nil/1 ok/1 yes/1 int 6/0 idle work 3/end cycles 1 work 3/|9 order line 5
+O|start 1/0 new 0.1 work 7/0 yes/0 no/0 yes/end cycles 1 work 7/|0 ok
+O|start 1/0 new 0.1 work 7/0 no/0 no/0 yes/end cycles 1 work 7/|9 order line 3
+O|start 1/0 new 0.1 work 7/0 ok/0 no/0 yes/end cycles 1 work 7/|9 order line 3
+O|start 1/0 new 0.1 work 7/0 yes/0 yes/0 yes/end cycles 1 work 7/|9 order line 4
+O|start 1/0 new 0.1 work 7/0 yes/0 no/0 no/end cycles 1 work 7/|9 order line 5
+P|start 1/|3 line 3: word
+Q|start 1/|3 line 3: size
 -|rtheap 1 threads 1 blocks 64 live 20 object 2 shared 0/thread 0/end|9 order line 1
 J|start 1/end cycles 1 work 0|0 ok
 J|end/|9 order line 1
@@ -206,7 +247,7 @@ fn each_order_has_its_answer(rt: HostRuntime) -> Result<(), Fail> {
         }
         rows = rows.saturating_add(1);
     }
-    assert_eq!(rt; rows, 80);
+    assert_eq!(rt; rows, 103);
     Ok(())
 }
 

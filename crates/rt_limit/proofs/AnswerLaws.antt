@@ -1,6 +1,7 @@
 -- What was read causes the answer, and bytes have one status.
 use Rattle.std.proofs.Common.{◌≡◌, ℕ, ◌+◌, ◌<◌, ◌≤◌, inl, inr, Bool, true, false, List, [], ◌++◌, length, drop, Option, Some, None, Result, Ok, Err, sym, refl, ap, ◌∙◌, subst, append-nil, length-append, arith}
 use Rattle.std.specs.Prelude.{IfSome, IfOk, MatchResult}
+use Rattle.std.proofs.lemmas.List.{drop_all}
 use Rattle.std.proofs.lemmas.Option.{same_Some}
 use Rattle.trace_text.specs.Inputs.{HasRead}
 use Rattle.trace_text.specs.declared.trace_faults.Why.{Why}
@@ -27,31 +28,31 @@ too_long (Some bytes) new front long h =
     let size : length bytes ≡ length front + length h.0 = ap length h.1 ∙ length-append front h.0 in
     let more : 67108864 < length bytes = omega arith in (
       inl more,
-      inr (
-        more,
-        h.2 ∙ ap Some (sym (left_behind bytes front h.0 h.1)
-            ∙ ap (λ (n : ℕ). drop n bytes) long),
-      ),
+      h.2 ∙ ap Some (sym (left_behind bytes front h.0 h.1) ∙ ap (λ (n : ℕ). drop n bytes) long),
     )
 
 answered : (a : Answer) (old new : Option (List ℕ)) (front : List ℕ)
-    → HasRead old front new → IsAtEnd old new → IsAnswerTo front a → IsAnswered a old new
-answered a None new front h e p = tt
-answered a (Some bytes) new front h e p =
+    → length front ≤ 67108864 → HasRead old front new → IsAtEnd old new → IsAnswerTo front a
+    → IsAnswered a old new
+answered a None new front few h e p = tt
+answered a (Some bytes) new front few h e p =
     let none : h.0 ≡ [] = same_Some h.0 [] (sym h.2 ∙ e) in
     let all : bytes ≡ front = h.1 ∙ ap (λ (r : List ℕ). front ++ r) none ∙ append-nil front in
-    (subst (λ (b : List ℕ). IsAnswerTo b a) (sym all) p, inl e)
+    let size : length bytes ≡ length front = ap length all in (
+      subst (λ (b : List ℕ). IsAnswerTo b a) (sym all) p,
+      e ∙ ap Some (sym (drop_all 67108865 bytes (omega arith))),
+    )
 
 module _ (old new : Option (List ℕ)) (before now : ℕ) (front : List ℕ)
     (few : length front ≤ 67108864) (h : HasRead old front new) (e : IsAtEnd old new)
     (still : now ≡ before) where
   caused : (a : Answer) → IsAnswerTo front a → IsCause [] old new before now a
-  caused (Told text) p = (refl, answered (Told text) old new front h e p, still)
-  caused (Refused TooLong) p = (refl, answered (Refused TooLong) old new front h e p, still)
+  caused (Told text) p = (refl, answered (Told text) old new front few h e p, still)
+  caused (Refused TooLong) p = (refl, answered (Refused TooLong) old new front few h e p, still)
   caused (Refused (BadLine line why)) p =
-      (refl, answered (Refused (BadLine line why)) old new front h e p, still)
+      (refl, answered (Refused (BadLine line why)) old new front few h e p, still)
   caused (Refused (BadOrder n)) p =
-      (refl, answered (Refused (BadOrder n)) old new front h e p, still)
+      (refl, answered (Refused (BadOrder n)) old new front few h e p, still)
   caused (Refused Usage) p = absurd p
   caused (Refused LiveTooSmall) p = absurd p
   caused (Refused NoRate) p = absurd p

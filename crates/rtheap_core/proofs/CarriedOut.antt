@@ -269,7 +269,7 @@ module _ (words : List (List ℕ)) (source : Sides) where
   fault_rose TooLong c e = absurd cc
   fault_rose LiveTooSmall c e = absurd cc
   fault_rose NoRate c e = absurd cc
-  fault_rose ReadFault c e = c.1
+  fault_rose ReadFault c e = c.2
   fault_rose OutOfMemory c e = absurd cc
   fault_rose (TurnsUsed thread) c e = absurd cc
 

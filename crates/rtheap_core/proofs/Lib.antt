@@ -5,7 +5,6 @@ pub mod Ordered
 pub mod Replays
 pub mod Lasting
 pub mod Trials
-pub mod Shown
 pub mod CarriedOut
 pub mod Headlines
 pub mod Unfilled

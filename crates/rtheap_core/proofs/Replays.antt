@@ -22,11 +22,12 @@ use Rattle.schedules.specs.Schedules.{turns_of}
 use Rattle.trace_text.specs.Jobs.{Job}
 use Rattle.rtheap_core.specs.declared.exit.RunEnd.TheVariants.{Replayed}
 use Rattle.rtheap_core.specs.declared.trial.Totals.{Totals}
-use Rattle.rtheap_core.specs.Ends.{EndsIn, commands_of, job_of}
+use Rattle.rtheap_core.specs.Ends.{EndsIn, job_of, run_of}
 use Rattle.rtheap_core.specs.Outcomes.{HasTotals}
 use Rattle.rtheap_core.specs.Refusals.{LeavesUndone}
 use Rattle.rtheap_core.specs.Outcomes as outcomes
-use Rattle.rtheap_core.proofs.Shown.{TurnLaws, has_history, history_is, traces_shown}
+use Rattle.threaded_runs.specs.Ends.{commands_of}
+use Rattle.threaded_runs.proofs.Shown.{TurnLaws, has_history, history_is, traces_shown}
 
 after_traces : (c : Config) (r : Run) (ts : List ℕ)
     → traces_of (after_turns c r ts).state ≡ traces_of r.state
@@ -100,9 +101,9 @@ module _ (c : Config) (traces : List (List Command)) (schedule : Schedule) (turn
     pub replayed : TurnLaws → f.order ≡ Some (map item_of r.order)
         → outcomes.IsReplayShown schedule turns f
     replayed laws order =
-        let ran = has_history laws (Replayed f) by_parts.0 in
+        let ran = has_history laws (run_of (Replayed f)) by_parts.0 in
         let same : ran.history ≡ r.order =
-        history_is laws (Replayed f) by_parts.0 ∙ ap (λ (q : Run). q.order) by_parts.1 in
+        history_is laws (run_of (Replayed f)) by_parts.0 ∙ ap (λ (q : Run). q.order) by_parts.1 in
         record {
           ran = ran;
           replay = record {

@@ -1,20 +1,15 @@
 -- An ended run, and its history.
-use Rattle.std.specs.Prelude.{ℕ, ◌-◌, ◌*◌, ◌≡◌, ◌≤◌, Some, List, map}
-use Rattle.block_store.specs.declared.Config.{Config}
-use Rattle.never_heap.specs.declared.Command.{Command}
+use Rattle.std.specs.Prelude.{ℕ, ◌≡◌, Some, List, map}
+use Rattle.atom_board.specs.Mutators.{ClosedState}
 use Rattle.never_heap.specs.declared.Entry.{Entry}
-use Rattle.never_heap.specs.Given.{given}
-use Rattle.never_heap.specs.Histories.{HistoryItem, parts, starts_in, work_in}
-use Rattle.never_heap.specs.Licensed.{StartsSmall, NoFulls}
+use Rattle.never_heap.specs.Histories.{HistoryItem}
 use Rattle.never_heap.specs.Orders.{item_of}
-use Rattle.never_heap.specs.Runs.{IsRun}
-use Rattle.rate_plan.specs.Rates.{IsRate}
-use Rattle.cycle_tally.specs.Kept.{most_given}
 use Rattle.heap_system.specs.Machines as machines
-use Rattle.heap_system.specs.Systems.{Finish, AllDone, IsFinished}
+use Rattle.heap_system.specs.Systems.{Finish, AllDone}
 use Rattle.heap_system.specs.Systems as systems
 use Rattle.schedules.specs.declared.Schedule.{Schedule}
 use Rattle.schedules.specs.Replays.{IsReplayed}
+use Rattle.threaded_runs.specs.Ends as runs
 use Rattle.trace_text.specs.Jobs.{Job}
 use Rattle.trace_text.specs.Orders.{text_in_order}
 use Rattle.trace_text.specs.Texts.{text_by_threads}
@@ -23,12 +18,7 @@ use Rattle.rtheap_core.specs.declared.exit.RunEnd.TheVariants.{Replayed, Ran}
 
 -- what is left of an ended run: its configuration, the entries of each thread, and how many cycles
 -- were started
-pub record Ended : Type 0 where
-  pub config : Config
-  pub logs : List (List Entry)
-  pub cycles : ℕ
-
-abbrev pub run_of : RunEnd → Ended
+abbrev pub run_of : RunEnd → ClosedState
 run_of (Replayed f) = record { config = f.config; logs = f.logs; cycles = f.cycles }
 run_of (Ran f) = record { config = f.config; logs = f.logs; cycles = f.cycles }
 
@@ -43,37 +33,13 @@ cycles_of end = (run_of end).cycles
 abbrev pub units_of : RunEnd → ℕ
 units_of end = systems.units_of (run_of end).logs
 
--- the commands of a log
-abbrev pub commands_of : List Entry → List Command
-commands_of log = map (λ (e : Entry). e.command) log
-
--- the job that an ended run shows: its configuration, and the commands of its logs
+-- the job that it shows
 abbrev pub job_of : RunEnd → Job
-job_of end = record { config = (run_of end).config; traces = map commands_of (logs_of end) }
+job_of end = runs.job_of (run_of end)
 
--- An ended run has a history: a run of its job, at the rate of its configuration. It is the order
--- of one list of turns of the machine over that job, after which each thread is done: its starts
--- and the events that decide its entries are those of that list, and the work of each entry is the
--- number of units that the turns of its own command made. The logs, cycles and units that the run
--- shows are those of the history. Where each cycle of the history began with at most L live blocks,
--- none of its commands was answered full. In no cycle are more blocks given than its units pay for,
--- and one object of each thread. The units of C cycles on m blocks are at least (C - 1) m and at
--- most 2 m C.
-pub record HasHistory (end : RunEnd) : Type 0 where
-  pub rate : ℕ
-  pub is_rate : IsRate (job_of end).config rate
-  pub history : List HistoryItem
-  pub is_run : IsRun (job_of end).config rate (job_of end).traces history
-  pub turned : IsFinished (job_of end).config (job_of end).traces (logs_of end) (cycles_of end)
-  pub same : history ≡ turned.run.order
-  pub parts_logged : parts (job_of end).config.threads history ≡ logs_of end
-  pub starts_counted : starts_in history ≡ cycles_of end
-  pub work_counted : work_in history ≡ units_of end
-  pub none_full : StartsSmall (job_of end).config history → NoFulls history
-  pub few_given : (z : ℕ) → z ≤ starts_in history
-      → given (job_of end).config.width history z ≤ most_given (job_of end).config rate
-  pub least_units : (cycles_of end - 1) * (job_of end).config.blocks ≤ units_of end
-  pub most_units : units_of end ≤ 2 * (job_of end).config.blocks * cycles_of end
+-- it has a history, which is that of a run of its job
+abbrev pub HasHistory : RunEnd → Type 0
+HasHistory end = runs.HasHistory (run_of end)
 
 -- how the history of an ended run is written: of threads that ran beside each other by threads, and
 -- of a replay in order

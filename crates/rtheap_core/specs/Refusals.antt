@@ -107,7 +107,9 @@ IsCause words source LiveTooSmall =
 IsCause words source NoRate =
     AskForJob words
     × IsJobWith (λ job. IsRefusal job.config plans.NoRate) source × IsUnfailed source
-IsCause words source ReadFault = AskForJob words × Rose source.faults source.faults_now
+IsCause words source ReadFault =
+    AskForJob words × TookAtMost (input_limit + 1) source.bytes source.bytes_now
+    × Rose source.faults source.faults_now
 IsCause words source OutOfMemory =
     Ask words × TookAtMost (input_limit + 1) source.bytes source.bytes_now × IsUnfailed source
 IsCause words source (TurnsUsed thread) = UsesTurns words source thread × IsUnfailed source

@@ -106,7 +106,8 @@ get 12 5 0
 say 12
 ";
 
-/// The same on blocks of eight payload words: an array of two leaves and a record of three blocks.
+/// The same on blocks of eight payload words: an array of two leaves and a record of three blocks,
+/// whose fields are exchanged and compared too.
 const WIDE_RINGS: &str = "rtheap 2 threads 1 blocks 64 live 40 object 3 shared 17
 thread 0
 arr 1 16
@@ -133,6 +134,19 @@ get 7 2 21
 put 0 17 1
 say 5
 say 4
+swap 3 20 8
+cas 1 14 9 2
+idle 100
+cas 1 14 1 9
+swap 1 14 4
+cas 0 16 4 3
+swap 0 16 0
+say 0
+mov 0 3
+cas 2 7 3 6
+get 8 1 14
+get 9 2 20
+get 10 2 7
 ";
 
 /// A job of rings, of allocations of which none is kept, and of looks at what the rings still hold.

@@ -11,7 +11,6 @@ mod reading;
 mod refusal;
 mod replay;
 mod replaying;
-mod run;
 mod running;
 #[cfg(test)]
 mod scheduled;

@@ -16,13 +16,13 @@ ghost use Rattle.rtheap_core.specs.Refusals.{IsCause};
 use crate::exit::{Exit, RunEnd};
 use crate::reading::planned_job;
 use crate::refusal::Refusal;
-use crate::run::run_job;
 use crate::telling::{WRITE_FAULT, refused};
 use atom_board::Closed;
 use never_heap::Pace;
 use std::alloc::Global;
 use std::sync::Wait;
 use std::thread::Threads;
+use threaded_runs::run_job;
 use trace_text::{Sink, Source, write_run};
 
 /// Reads a job, runs its threads beside each other, and writes the run by threads.

@@ -319,11 +319,12 @@ const REFUSED: [(&str, &str); 5] = [
 ];
 
 /// Lines behind the header of one thread that are refused, each with its line and reason.
-const REFUSED_LINES: [(&str, &str); 12] = [
+const REFUSED_LINES: [(&str, &str); 13] = [
     ("thread 1\n", "line 2: order"),
     ("new 1 1\n", "line 2: order"),
     ("thread 0\npush 1 1\n", "line 3: word"),
     ("thread 0\n\n", "line 3: word"),
+    ("thread 0\nswap 1 0 2\n", "line 3: word"),
     ("thread 0\nnew 1\n", "line 3: count"),
     ("thread 0\nnew  1 1\n", "line 3: count"),
     ("thread 0\nnew 1 x\n", "line 3: number"),
@@ -478,6 +479,51 @@ new 1 1\nnew 1 1\nnew 1 1\nnew 1 1\nnew 1 1\n",
     ] {
         let text = wide(alloc, live, commands)?;
         answers(&rt, alloc, word, text.as_str(), status, written)?;
+    }
+    Ok(())
+}
+
+/// Fields that are exchanged and compared, and idles, with what they answer.
+const EXCHANGED: (&str, &str) = (
+    "new 1 2
+set 2 5
+swap 1 0 2
+cas 1 0 2 1
+set 3 5
+cas 1 0 3 1
+swap 1 0 2
+same 1 2
+swap 3 0 1
+idle 10
+idle 0
+",
+    "0 new 0.1 work 7
+0 ok
+0 nil
+0 no
+0 ok
+0 yes
+0 ref 0.1
+0 yes
+0 kind
+0 idle work 10
+0 idle work 0
+end cycles 1 work 17
+",
+);
+
+#[test]
+fn fields_are_exchanged_and_units_are_made(rt: HostRuntime) -> Result<(), Fail> {
+    let alloc = rt.alloc();
+    let (exchanges, replies) = EXCHANGED;
+    for (commands, status, written) in [
+        (exchanges, 0, replies),
+        ("idle 68\n", 0, "0 idle work 68\nend cycles 1 work 68\n"),
+        ("idle 69\n", 0, "0 idle work 69\nend cycles 2 work 69\n"),
+        ("idle 131071\n", 3, "rtheap: line 3: size\n"),
+    ] {
+        let text = wide(alloc, 20, commands)?;
+        answers(&rt, alloc, "run", text.as_str(), status, written)?;
     }
     Ok(())
 }

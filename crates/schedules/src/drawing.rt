@@ -69,12 +69,13 @@ fn drawn_trace(
     Ok(trace)
 }
 
-// Any command; about a third of them make an object.
+// Any command; about a quarter of them make an object.
 fn drawn_command(draws: &mut Lcg64Xsh32) -> Command {
-    let kind = draws.next_word() % 16;
+    let kind = draws.next_word() % 21;
     let d = register(draws);
     let s = register(draws);
     let v = register(draws);
+    let units = u64::from(draws.next_word() % 40);
     let i = u64::from(draws.next_word() % 5);
     let length = draws.next_word() % 12;
     match kind {
@@ -90,7 +91,10 @@ fn drawn_command(draws: &mut Lcg64Xsh32) -> Command {
         11 | 12 => Command::Put { s, i, v },
         13 => Command::Len { s },
         14 => Command::Same { a: d, b: s },
-        _ => Command::Say { s },
+        15 => Command::Say { s },
+        16 | 17 => Command::Swap { s, i, v },
+        18 | 19 => Command::Cas { s, i, a: d, v },
+        _ => Command::Idle { units },
     }
 }
 

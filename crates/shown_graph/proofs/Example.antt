@@ -1,9 +1,8 @@
 -- The events of the example may come one after another, and its record is one that was made.
-use Rattle.std.proofs.Common.{zero, suc, ◌+◌, ◌*◌, ◌≡◌, ◌≢◌, ℕ, ◌<◌, Some, None, take, Option, cond, eqb, ltb, inl, inr, refl, sym, ap, ◌∙◌, ne_eqb, arith}
+use Rattle.std.proofs.Common.{zero, suc, ◌+◌, ◌*◌, ◌≡◌, ◌≢◌, ℕ, ◌<◌, Some, None, take, cond, eqb, ltb, inl, inr, refl, sym, ap, ◌∙◌, ne_eqb, arith}
 use Rattle.std.proofs.lemmas.Bool.{cases_Bool}
-use Rattle.block_store.specs.declared.Shape.{Shape}
 use Rattle.block_store.specs.declared.Shape.TheVariants as shapes
-use Rattle.block_store.specs.declared.Value.TheVariants.{Int}
+use Rattle.block_store.specs.declared.Value.TheVariants.{Int, Ref}
 use Rattle.block_store.specs.Owners.{owner_word}
 use Rattle.block_store.specs.Payloads.{target, reference_word, number_word}
 use Rattle.block_store.specs.Shapes.{shape_of, array_word}
@@ -20,33 +19,50 @@ use Rattle.shown_graph.specs.Layouts.{layout_blocks, layout_part, shape_part}
 use Rattle.shown_graph.specs.Made.{IsMade, IsWritten, link_word}
 use Rattle.shown_graph.specs.Openings.{opening_words}
 use Rattle.shown_graph.proofs.Publish.{written_shows}
-use Rattle.shown_graph.specs.Events.{GraphState, object_at, register_word_in, run, Guarded, opening_state}
-use Rattle.shown_graph.specs.Example.{small_config, wide_config, some_events, with_record}
+use Rattle.shown_graph.specs.Events.{GraphState, object_at, register_word_in, IsAtField, run, Guarded, opening_state}
+use Rattle.shown_graph.specs.Example.{small_config, wide_config, shared_array, some_events, with_record}
 
 -- what one event asks, and then the others
-both : {A B : Type 0} → A → B → A × B
-both a b = (a, b)
+infixr 5 ◌▸◌
+◌▸◌ : {A B : Type 0} → A → B → A × B
+a ▸ b = (a, b)
 
 -- the state after the first of the events
 abbrev after : Width → ℕ → GraphState
 after W k = run W (opening_state (small_config W)) (take k some_events)
 
--- register 0 of each thread refers to the array
-found : (W : Width) → (target (register_word_in W (after W 1).words 0 0) ≢ 0)
-    × (target (register_word_in W (after W 5).words 1 0) ≢ 0)
-unfolding target reference_word number_word array_word shape_of tree tree_depth
-found Four = ((λ e. omega arith), (λ e. omega arith))
-found Eight = ((λ e. omega arith), (λ e. omega arith))
+-- register 0 of the thread refers to the array
+abbrev register_at : Width → ℕ → ℕ → ℕ
+register_at W k t = target (register_word_in W (after W k).words t 0)
 
--- whose shape each reads
-abbrev shape_at : Width → ℕ → ℕ → Option Shape
-shape_at W k t = shape_of ((after W k).words.shape (object_at (after W k) t).block)
-
-shaped : (W : Width) → (shape_at W 2 0 ≡ Some (shapes.Tree 4))
-    × (shape_at W 6 1 ≡ Some (shapes.Tree 4))
+found : (W : Width) → (register_at W 1 0 ≢ 0) × (register_at W 5 1 ≢ 0) × (register_at W 9 0 ≢ 0)
+    × (register_at W 13 1 ≢ 0) × (register_at W 19 1 ≢ 0)
 unfolding target reference_word number_word array_word shape_of tree tree_depth
-shaped Four = (refl, refl)
-shaped Eight = (refl, refl)
+found Four = (
+  (λ e. omega arith),
+  (λ e. omega arith),
+  (λ e. omega arith),
+  (λ e. omega arith),
+  (λ e. omega arith),
+)
+found Eight = (
+  (λ e. omega arith),
+  (λ e. omega arith),
+  (λ e. omega arith),
+  (λ e. omega arith),
+  (λ e. omega arith),
+)
+
+-- whose shape it reads
+abbrev HasArray : Width → ℕ → ℕ → Type 0
+HasArray W k t =
+    shape_of ((after W k).words.shape (object_at (after W k) t).block) ≡ Some (shapes.Tree 4)
+
+shaped : (W : Width) → HasArray W 2 0 × HasArray W 6 1 × HasArray W 10 0 × HasArray W 14 1
+    × HasArray W 20 1
+unfolding target reference_word number_word array_word shape_of tree tree_depth
+shaped Four = (refl, refl, refl, refl, refl)
+shaped Eight = (refl, refl, refl, refl, refl)
 
 -- and its payload 2 is field 2
 at_two : (W : Width) → shape_part W (shapes.Tree 4) 0 2 ≡ Field 2
@@ -54,33 +70,61 @@ unfolding tree tree_depth
 at_two Four = refl
 at_two Eight = refl
 
+abbrev IsAtTwo : Width → ℕ → ℕ → Type 0
+IsAtTwo W k t = IsAtField W (after W k) t shared_array 2 2
+
+at_field : (W : Width) → IsAtTwo W 4 0 × IsAtTwo W 7 1 × IsAtTwo W 12 0 × IsAtTwo W 16 1
+    × IsAtTwo W 23 1
+at_field W = (
+  record { object = refl; refers = refl; shape = shapes.Tree 4; read = refl; field = at_two W },
+  record { object = refl; refers = refl; shape = shapes.Tree 4; read = refl; field = at_two W },
+  record { object = refl; refers = refl; shape = shapes.Tree 4; read = refl; field = at_two W },
+  record { object = refl; refers = refl; shape = shapes.Tree 4; read = refl; field = at_two W },
+  record { object = refl; refers = refl; shape = shapes.Tree 4; read = refl; field = at_two W },
+)
+
 pub example_runs : (W : Width) → Guarded W 2 (opening_state (small_config W)) some_events
 unfolding target reference_word number_word array_word shape_of tree tree_depth
 example_runs W =
-    both (omega arith, omega arith, refl, omega arith)
-    (both (omega arith, omega arith, refl, (found W).0)
-    (both (omega arith, refl, (shaped W).0)
-    (both (omega arith, omega arith, refl)
-    (both (
-      omega arith,
-      refl,
-      refl,
-      record { object = refl; refers = refl; shape = shapes.Tree 4; read = refl; field = at_two W },
-    )
-    (both (omega arith, omega arith, refl, (found W).1)
-    (both (omega arith, refl, (shaped W).1)
-    (both (
-      omega arith,
-      omega arith,
-      refl,
-      record { object = refl; refers = refl; shape = shapes.Tree 4; read = refl; field = at_two W },
-    )
-    (both (omega arith, refl, refl) tt))))))))
+    (omega arith, omega arith, refl, omega arith)
+    ▸ (omega arith, omega arith, refl, (found W).0)
+    ▸ (omega arith, refl, (shaped W).0)
+    ▸ (omega arith, omega arith, refl)
+    ▸ (omega arith, refl, refl, (at_field W).0)
+    ▸ (omega arith, omega arith, refl, (found W).1)
+    ▸ (omega arith, refl, (shaped W).1)
+    ▸ (omega arith, omega arith, refl, (at_field W).1)
+    ▸ (omega arith, refl, refl)
+    ▸ (omega arith, omega arith, refl, (found W).2)
+    ▸ (omega arith, refl, (shaped W).2)
+    ▸ (omega arith, omega arith, refl)
+    ▸ (omega arith, refl, refl, (at_field W).2)
+    ▸ (omega arith, omega arith, refl, (found W).3)
+    ▸ (omega arith, refl, (shaped W).3)
+    ▸ (omega arith, omega arith, refl)
+    ▸ (omega arith, refl, refl, (at_field W).3)
+    ▸ (omega arith, refl, refl)
+    ▸ (omega arith, refl, refl)
+    ▸ (omega arith, omega arith, refl, (found W).4)
+    ▸ (omega arith, refl, (shaped W).4)
+    ▸ (omega arith, omega arith, refl)
+    ▸ (omega arith, omega arith, refl)
+    ▸ (omega arith, refl, refl, (at_field W).4)
+    ▸ (omega arith, refl)
+    ▸ tt
 
 pub example_reads : (W : Width)
     → register_of (run W (opening_state (small_config W)) some_events).graph 1 2 ≡ Int 7
 example_reads Four = refl
 example_reads Eight = refl
+
+-- thread 0 has what the field held, and thread 1 a reference to the array in its place
+pub example_swaps : (W : Width)
+    → (register_of (run W (opening_state (small_config W)) some_events).graph 0 0 ≡ Int 7)
+    × (register_of (run W (opening_state (small_config W)) some_events).graph 1 0
+    ≡ Ref shared_array)
+example_swaps Four = (refl, refl)
+example_swaps Eight = (refl, refl)
 
 -- no payload of a record but the first is a link
 no_link : (k f o j : ℕ) → link_in (list_part k f o (suc j)) ≡ None

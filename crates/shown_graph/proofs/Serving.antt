@@ -1,6 +1,6 @@
 -- Each event of a command that allocates nothing keeps that the words show the graph, and that
 -- what was loaded is of it.
-use Rattle.std.proofs.Common.{◌≡◌, ◌≢◌, ℕ, ◌<◌, inl, inr, true, false, cond, Option, Some, None, IfSome, List, [], ◌∷◌, length, refl, sym, ap, ◌∙◌, subst, eq-eqb, ne_eqb}
+use Rattle.std.proofs.Common.{◌≡◌, ◌≢◌, ℕ, ◌<◌, inl, inr, false, cond, Option, Some, None, IfSome, List, [], ◌∷◌, length, refl, sym, ap, ◌∙◌, subst, eq-eqb, ne_eqb}
 use Rattle.std.proofs.lemmas.Bool.{cases_eq, cases_Bool}
 use Rattle.std.proofs.lemmas.List.{length-set}
 use Rattle.block_store.specs.Registers.{register_block, register_slot}
@@ -517,5 +517,7 @@ module _ (W : Width) (n m : ℕ) (K : Name → Type 0) (at : Name → ℕ → �
 pub opening_follows : (c : Config) → IsInBounds c
     → Follows c.width c.threads (opening_blocks c) (every_name (start_graph c))
     (opening_at c.width c.threads) (opening_state c)
-opening_follows c inside =
-    record { shows = opening_shows c inside; loads = λ t tn. record { object = tt; expected = tt; value = tt } }
+opening_follows c inside = record {
+  shows = opening_shows c inside;
+  loads = λ t tn. record { object = tt; expected = tt; value = tt };
+}

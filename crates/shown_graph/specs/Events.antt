@@ -34,8 +34,8 @@ pub record ValueLoad : Type 0 where
   pub word : ℕ
   pub pending : Bool
 
--- what a thread has loaded for its command: an object, a value with which one of its fields is to be
--- compared, and a value to be stored
+-- what a thread has loaded for its command: an object, a value with which one of its fields is to
+-- be compared, and a value to be stored
 pub record Loading : Type 0 where
   pub object : Option ObjectLoad
   pub expected : Option ValueLoad

@@ -1,5 +1,6 @@
 -- Two threads share an array of four elements: `set 1 7` and `put 0 2 1` of thread 0, and
--- `get 2 0 2` of thread 1, event by event.
+-- `get 2 0 2` of thread 1, event by event. Then each makes `swap 0 2 0`, thread 1 before thread 0
+-- has stored what the field held; and `cas 0 2 0 2` of thread 1, and an `idle` of thread 0.
 use Rattle.std.specs.Prelude.{◌==◌, ◌&&◌, cond, List, [], ◌∷◌}
 use Rattle.block_store.specs.declared.Config.{Config}
 use Rattle.block_store.specs.declared.Name.{Name}
@@ -13,7 +14,7 @@ use Rattle.block_store.specs.Payloads.{reference_word}
 use Rattle.block_store.specs.Shapes.{record_word}
 use Rattle.shown_graph.specs.Words.{BlockWords}
 use Rattle.shown_graph.specs.Events.{Event}
-use Rattle.shown_graph.specs.Events.Event.{ReadObject, ReadValue, ReadShape, ReadField, StorePending, StoreConstant, StoreField}
+use Rattle.shown_graph.specs.Events.Event.{ReadObject, ReadValue, ReadExpected, ReadShape, ReadField, StorePending, StoreConstant, StoreField, ExchangeField, Finish}
 
 abbrev pub small_config : Width → Config
 small_config W = record {
@@ -43,6 +44,14 @@ some_events =
     StoreConstant 0 1 (Int 7)
     ∷ ReadObject 0 0 ∷ ReadShape 0 (shapes.Tree 4) ∷ ReadValue 0 1 ∷ StoreField 0 shared_array 2 2
     ∷ ReadObject 1 0 ∷ ReadShape 1 (shapes.Tree 4) ∷ ReadField 1 2 shared_array 2 2 ∷ StorePending 1
+    ∷ ReadObject 0 0 ∷ ReadShape 0 (shapes.Tree 4) ∷ ReadValue 0 0
+    ∷ ExchangeField 0 shared_array 2 2
+    ∷ ReadObject 1 0 ∷ ReadShape 1 (shapes.Tree 4) ∷ ReadValue 1 0
+    ∷ ExchangeField 1 shared_array 2 2
+    ∷ StorePending 0 ∷ StorePending 1
+    ∷ ReadObject 1 0 ∷ ReadShape 1 (shapes.Tree 4) ∷ ReadExpected 1 0 ∷ ReadValue 1 2
+    ∷ StoreField 1 shared_array 2 2
+    ∷ Finish 0
     ∷ []
 
 -- A record of two blocks that thread 0 has written in blocks 12 and 13, at the opening: it has as

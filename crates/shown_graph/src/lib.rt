@@ -29,7 +29,7 @@ ghost use Rattle.shown_graph.specs.Made.{new_object, with_blocks, and_name, IsMa
 ghost use Rattle.shown_graph.specs.Snapshots.{Snapshot, IsShown, IsRegister, IsKeptValue, word_of, IsBlockOf, IsMadeIn, referred_new, CatchesUp, FallsBehind};
 ghost use Rattle.shown_graph.specs.Openings.{opening_at, opening_words};
 ghost use Rattle.shown_graph.specs.Events.{ObjectLoad, ValueLoad, GraphState, Event, object_at, expected_at, HasExpected, IsAtField, run, Guarded, ObjectIs, ValueIs, Follows, opening_state};
-ghost use Rattle.shown_graph.specs.Example.{small_config, wide_config, some_events, with_record};
+ghost use Rattle.shown_graph.specs.Example.{small_config, wide_config, shared_array, some_events, with_record};
 ghost use Rattle.shown_graph.specs.Read.{value_payload};
 
 /// Objects of each kind and length have a layout in blocks of either width.
@@ -193,11 +193,17 @@ pub fn commands_are_shown()
 {}
 
 /// The conditions of these laws are met by a small heap of either width: by an array that two
-/// threads share, a store in it, a load of what was stored, and a record of two blocks.
+/// threads share, a store in it, a load of what was stored, two exchanges of that field, of which
+/// the later one comes before the earlier one has stored what the field held, and a record of two
+/// blocks.
 pub fn the_example_runs()
     ensures events { (W : Width) → Guarded W 2 (opening_state (small_config W)) some_events }
     ensures result { (W : Width)
         → register_of (run W (opening_state (small_config W)) some_events).graph 1 2 ≡ Int 7 }
+    ensures exchanged { (W : Width)
+        → (register_of (run W (opening_state (small_config W)) some_events).graph 0 0 ≡ Int 7)
+        × (register_of (run W (opening_state (small_config W)) some_events).graph 1 0
+        ≡ Ref shared_array) }
     ensures made { (W : Width) → IsMade W 2 13 (start_graph (small_config W))
         (with_record W (opening_words (small_config W))) 0 Record (payloads W) (λ o. 12 + o) }
 {}

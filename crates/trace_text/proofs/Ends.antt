@@ -83,7 +83,7 @@ ended_few (Some bytes) new input short read = (
 ends_by : (r : Result Job TraceFault) (input : List ℕ) (old new : Option (List ℕ))
     → Answers r input → IsAtEnd old new → TookAtMost (input_limit + 1) old new → StopsAt r old new
 ends_by (Ok job) input old new is ended few = ended
-ends_by (Err ReadFault) input old new is ended few = tt
+ends_by (Err ReadFault) input old new is ended few = few
 ends_by (Err TooLong) input old new is ended few = absurd is
 ends_by (Err (BadLine line why)) input old new is ended few = ended
 ends_by (Err OutOfMemory) input old new is ended few = few

@@ -72,7 +72,7 @@ took_on (Some bytes) mid new front room most few h t =
 pub few_on : (fault : TraceFault) (old mid new : Option (List ℕ)) (front : List ℕ) (room most : ℕ)
     → length front + room ≤ most → HasRead old front mid → TookFew fault room mid new
     → TookFew fault most old new
-few_on ReadFault old mid new front room most few h t = tt
+few_on ReadFault old mid new front room most few h t = took_on old mid new front room most few h t
 few_on TooLong old mid new front room most few h t = tt
 few_on (BadLine line why) old mid new front room most few h t = tt
 few_on OutOfMemory old mid new front room most few h t = took_on old mid new front room most few h t

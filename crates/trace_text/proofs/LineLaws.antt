@@ -339,7 +339,8 @@ end_turn t m r = grind (arith, nat_tests)
 -- a command that is told stands on its line, and is in its ranges
 says_told : (c : Config) (t k : ℕ) (w : Word) (command : Command) (ns : List ℕ) (l : Line)
     → HasRegisters command → word_text w ∷ map decimal ns ≡ command_line command
-    → is_command w ≡ true → IsOfWidth c.width command → fitted (place c t k) command ≡ Ok l → Says c t k w l ns
+    → is_command w ≡ true → IsOfWidth c.width command → fitted (place c t k) command ≡ Ok l
+    → Says c t k w l ns
 says_told c t k w command ns l h text is o e =
     let p = sizes_fit (is_oversized c command) (leb 131072 k) (Told command) l e in
     says c t k w (Told command) l ns p.2 record {
@@ -458,7 +459,8 @@ no_command true t e z = let is : eqb t 0 ≡ true = eq-eqb t 0 z in absurd cc
 no_command false t e z = refl
 
 turn_sound : (c : Config) (t k : ℕ) (w : Word) (first : List ℕ) (ps : List (List ℕ)) (l : Line)
-    → first ≡ word_text w → has_word c.width w ≡ true → in_turn (place c t k) w ps ≡ Ok l → SaysLine c t k (first ∷ ps) l
+    → first ≡ word_text w → has_word c.width w ≡ true → in_turn (place c t k) w ps ≡ Ok l
+    → SaysLine c t k (first ∷ ps) l
 unfolding operands_at
 turn_sound c t k w first ps l named known e =
     let told = not_refused (is_command w && eqb t 0)
@@ -478,8 +480,10 @@ pub line_sound : (c : Config) (t k : ℕ) (ps : List (List ℕ)) (l : Line)
 unfolding line_at
 line_sound c t k [] l e = absurd cc
 line_sound c t k (first ∷ ps) l e =
-    bind_ok (ok_or (word_in c.width first) whys.Word) (λ w. in_turn (place c t k) w ps) l e (λ w is told.
-    let named = word_known c.width (word_at first) w (from_option (word_in c.width first) whys.Word w is) in
+    bind_ok (ok_or (word_in c.width first) whys.Word) (λ w. in_turn (place c t k) w ps) l e
+    (λ w is told.
+    let named = word_known c.width (word_at first) w
+    (from_option (word_in c.width first) whys.Word w is) in
     turn_sound c t k w first ps l (word_sound first w named.0) named.1 told)
 
 -- ---- what is written is read again
@@ -557,8 +561,10 @@ small c t k (Told (commands.Same a b)) le f = (omega (arith, f.0.0), (omega (ari
 small c t k (Told (commands.Say s)) le f = (omega (arith, f.0), tt)
 small c t k (Told (commands.Swap s i v)) le f =
     (omega (arith, f.0.0), (omega (arith, f.0.1), (omega (arith, f.0.2), tt)))
-small c t k (Told (commands.Cas s i a v)) le f =
-    (omega (arith, f.0.0), (omega (arith, f.0.1), (omega (arith, f.0.2), (omega (arith, f.0.3), tt))))
+small c t k (Told (commands.Cas s i a v)) le f = (
+  omega (arith, f.0.0),
+  (omega (arith, f.0.1), (omega (arith, f.0.2), (omega (arith, f.0.3), tt))),
+)
 small c t k (Told (commands.Idle u)) le f = (omega (arith, f.0.0), tt)
 
 passes : (b : Bool) (why : Why) (n : ℕ) (told : ℕ → Result Line Why) (r : Result Line Why)
@@ -614,7 +620,8 @@ told_complete c t k (Told (commands.Say s)) f =
 told_complete c t k (Told (commands.Swap s i v)) f =
     has_low s _ _ f.0.0 (has_low v _ _ f.0.2 (fitting c t k (commands.Swap s i v) f))
 told_complete c t k (Told (commands.Cas s i a v)) f =
-    has_low s _ _ f.0.0 (has_low a _ _ f.0.2 (has_low v _ _ f.0.3 (fitting c t k (commands.Cas s i a v) f)))
+    has_low s _ _ f.0.0 (has_low a _ _ f.0.2 (has_low v _ _ f.0.3
+    (fitting c t k (commands.Cas s i a v) f)))
 told_complete c t k (Told (commands.Idle u)) f = fitting c t k (commands.Idle u) f
 
 abbrev pub is_told : Line → Bool
@@ -640,7 +647,8 @@ told_word (Told (commands.Cas s i a v)) = refl
 told_word (Told (commands.Idle u)) = refl
 
 -- and is a word of the job
-word_there : (c : Config) (t k : ℕ) (l : Line) → Fits c t k l → has_word c.width (line_word l) ≡ true
+word_there : (c : Config) (t k : ℕ) (l : Line) → Fits c t k l
+    → has_word c.width (line_word l) ≡ true
 word_there c t k (Told (commands.Swap s i v)) f = ap is_wide f.0.3
 word_there c t k (Told (commands.Cas s i a v)) f = ap is_wide f.0.4
 word_there c t k (Told (commands.Idle u)) f = ap is_wide f.0.1

@@ -79,7 +79,8 @@ tested false true P i from to = refl
 tested false false P i from to = let no : false ≡ true = i.1 (from refl) in absurd cc
 
 -- what the test of a command's ranges says of its sizes
-pub told_is : (p : Place) (command : Command) (fits : Bool) → HasRegisters command → IsOfWidth p.config.width command
+pub told_is : (p : Place) (command : Command) (fits : Bool) → HasRegisters command
+    → IsOfWidth p.config.width command
     → IsTrue fits ↔ IsCommandInBounds p.config command
     → fitted p command ≡ cond (not fits || p.full) (Err whys.Size) (Ok (Told command))
 told_is p command fits h o is =

@@ -83,13 +83,15 @@ word_complete words.Cas = refl
 word_complete words.Idle = refl
 
 -- a word of a job is a word, and the job has it
-pub word_known : (width : Width) (o : Option Word) (v : Word) → if_known width o ≡ Some v → (o ≡ Some v) × (has_word width v ≡ true)
+pub word_known : (width : Width) (o : Option Word) (v : Word) → if_known width o ≡ Some v
+    → (o ≡ Some v) × (has_word width v ≡ true)
 word_known width None v e = absurd cc
 word_known width (Some w) v e = elim (cases_Bool (has_word width w)) [
   | inl yes' ↦
       let is : Some w ≡ Some v = subst (λ b. cond b (Some w) None ≡ Some v) yes' e in
       (is, ap (has_word width) (sym (same_Some w v is)) ∙ yes')
-  | inr no' ↦ absurd (let none : ◌≡◌ {A = Option Word} None (Some v) = subst (λ b. cond b (Some w) None ≡ Some v) no' e in cc)
+  | inr no' ↦ absurd (let none : ◌≡◌ {A = Option Word} None (Some v) =
+      subst (λ b. cond b (Some w) None ≡ Some v) no' e in cc)
 ]
 
 -- ---- how many

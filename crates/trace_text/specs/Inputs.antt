@@ -41,9 +41,9 @@ abbrev pub IsRefused : Result Job TraceFault → TraceFault → Type 0
 IsRefused (Ok job) due = ⊥
 IsRefused (Err fault) due = (fault ≡ due) ⊎ IsOfNoByte fault
 
--- where memory ran out, at most so many bytes were taken
+-- where the source failed or memory ran out, at most so many bytes were taken, the first ones
 abbrev pub TookFew : TraceFault → ℕ → Option (List ℕ) → Option (List ℕ) → Type 0
-TookFew ReadFault most old new = Unit {0}
+TookFew ReadFault most old new = TookAtMost most old new
 TookFew TooLong most old new = Unit {0}
 TookFew (BadLine line why) most old new = Unit {0}
 TookFew OutOfMemory most old new = TookAtMost most old new
@@ -52,7 +52,7 @@ TookFew OutOfMemory most old new = TookAtMost most old new
 -- many at the furthest
 abbrev pub StopsAt : Result Job TraceFault → Option (List ℕ) → Option (List ℕ) → Type 0
 StopsAt (Ok job) old new = IsAtEnd old new
-StopsAt (Err ReadFault) old new = Unit {0}
+StopsAt (Err ReadFault) old new = TookAtMost (input_limit + 1) old new
 StopsAt (Err TooLong) old new = IfSome old (λ bytes. new ≡ Some (drop (input_limit + 1) bytes))
 StopsAt (Err (BadLine line why)) old new = IsAtEnd old new
 StopsAt (Err OutOfMemory) old new = TookAtMost (input_limit + 1) old new

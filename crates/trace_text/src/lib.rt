@@ -25,8 +25,8 @@ pub use mem_source::MemSource;
 pub use order_writer::{orders_tell_histories, write_order};
 pub use printing::{fill_entry, fill_start, fill_totals, lines_are_short, write_run};
 pub use reading::{
-    INPUT_LIMIT, first_line, first_token, input_of, inputs_are_told_apart, job_of, jobs_are_one,
-    number_of, read_trace,
+    INPUT_LIMIT, behind, first_line, first_token, input_of, inputs_are_told_apart, job_of,
+    jobs_are_one, labelled, no_more, number_of, one_token, read_trace, three_tokens, two_tokens,
 };
 pub use sinks::{Sink, WRITE_FAULT, put_line};
 pub use sources::Source;

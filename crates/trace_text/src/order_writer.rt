@@ -150,6 +150,7 @@ mod tests {
             Item::Entry(1),
             Item::Entry(0),
             Item::Entry(1),
+            Item::Entry(0),
         ];
         write_order(&replies(), &order, sink)
     }
@@ -169,6 +170,7 @@ start 2
 1 kind
 0 len 17
 1 range
+0 idle work 10
 ";
 
     #[test]
@@ -177,7 +179,7 @@ start 2
         assert_eq!(rt; written(&mut sink), Ok(()));
         assert!(rt; sink.bytes().starts_with(LINES));
         let totals = sink.bytes().get(LINES.len()..).ok_or("no totals")?;
-        assert_eq!(rt; totals, b"end cycles 2 work 43\n".as_slice());
+        assert_eq!(rt; totals, b"end cycles 2 work 53\n".as_slice());
         Ok(())
     }
 
@@ -192,7 +194,7 @@ start 2
 
     #[test]
     fn the_totals_may_fail_too(rt: HostRuntime) -> Result<(), Fail> {
-        let mut sink = sink_failing_at(rt.alloc(), &[14])?;
+        let mut sink = sink_failing_at(rt.alloc(), &[15])?;
         assert_eq!(rt; written(&mut sink), Err(Failed));
         assert_eq!(rt; sink.bytes(), LINES);
         Ok(())

@@ -189,12 +189,13 @@ mod tests {
 0 int 5
 0 ref 1.120
 0 len 17
+0 idle work 10
 1 yes
 1 no
 1 null
 1 kind
 1 range
-end cycles 2 work 43
+end cycles 2 work 53
 ";
         assert_eq!(rt; sink.bytes(), text.as_slice());
         Ok(())

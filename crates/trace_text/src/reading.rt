@@ -22,9 +22,12 @@ mod whole;
 mod words;
 
 use crate::jobs::Job;
+pub use crate::reading::header::{behind, labelled};
 pub use crate::reading::input::{INPUT_LIMIT, input_of};
 pub use crate::reading::numbers::number_of;
-pub use crate::reading::tokens::{first_line, first_token};
+pub use crate::reading::tokens::{
+    first_line, first_token, no_more, one_token, three_tokens, two_tokens,
+};
 pub use crate::reading::whole::job_of;
 use crate::sources::Source;
 use crate::trace_faults::TraceFault;

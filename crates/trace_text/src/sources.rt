@@ -2,7 +2,7 @@
 
 ghost use Rattle.std.specs.Prelude.{◌≡◌, ◌<◌, ◌≤◌, ℕ, List, [], length, Option, IfOk, OnOk, OnErr, IfSome};
 ghost use Rattle.trace_text.specs.Faults.{Rose};
-ghost use Rattle.trace_text.specs.Streams.{GivesFirst, StillTells};
+ghost use Rattle.trace_text.specs.Streams.{GivesFirst, TookAtMost};
 
 use crate::Failed;
 
@@ -15,14 +15,14 @@ pub trait Source {
     ghost faults: { Self → ℕ };
 
     /// Reads into the front of a piece, and says how many bytes. For a piece that is not empty, 0
-    /// is the end of the input.
+    /// is the end of the input. At `Failed` some bytes may have been taken, no more than fit.
     fn take(&mut self, piece: &mut [u8]) -> Result<usize, Failed>
         ensures within { IfOk result (λ k. k ≤ length piece.old) }
         ensures given { IfOk result (λ k. IfSome (left self.old) (λ bytes.
             GivesFirst k piece.new bytes (left self.new))) }
         ensures end { IfOk result (λ k. k ≡ 0 → 0 < length piece.old
             → IfSome (left self.old) (λ bytes. bytes ≡ [])) }
-        ensures told { OnErr result (StillTells (left self.old) (left self.new)) }
+        ensures few { OnErr result (TookAtMost (length piece.old) (left self.old) (left self.new)) }
         ensures rose { OnErr result (Rose (faults self.old) (faults self.new)) }
         ensures still { OnOk result (faults self.new ≡ faults self.old) };
 }

@@ -9,7 +9,7 @@ use std::test::Fail;
 /// What two threads answered, one reply of each kind, in two cycles.
 #[derive(Drop)]
 pub struct Pair {
-    first: [Entry; 7],
+    first: [Entry; 8],
     second: [Entry; 5],
 }
 
@@ -20,7 +20,7 @@ impl Logs for Pair {
 
     ghost cycle_count = { λ _. 2 };
 
-    ghost unit_count = { λ _. 43 };
+    ghost unit_count = { λ _. 53 };
 
     fn threads(&self) -> u32 {
         2
@@ -35,7 +35,7 @@ impl Logs for Pair {
     }
 
     fn units(&self) -> u64 {
-        43
+        53
     }
 }
 
@@ -62,6 +62,7 @@ pub fn replies() -> Pair {
             entry(0, Reply::Val(Value::Int(5)), 0),
             entry(0, Reply::Val(Value::Ref(name(1, 120))), 0),
             entry(0, Reply::Len(17), 0),
+            entry(0, Reply::Idle, 10),
         ],
         second: [
             entry(1, Reply::Yes, 0),

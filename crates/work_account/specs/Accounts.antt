@@ -2,7 +2,7 @@
 use Rattle.std.specs.Prelude.{ℕ, ◌+◌, ◌*◌, ◌≤◌, ◌==◌, nat_lt, if◌then◌else◌}
 
 pub record Balance : Type 0 where
-  pub paid : ℕ  -- the units made for the command in hand
+  pub paid : ℕ  -- the units made for the allocation in hand
   pub cycle : ℕ  -- the cycle that the thread entered last
   pub units : ℕ  -- the units that it made in that cycle
   pub given : ℕ  -- the blocks that it was given in that cycle
@@ -24,7 +24,7 @@ entered c a =
 abbrev pub with_unit : Balance → Balance
 with_unit a = record a { paid = a.paid + 1; units = a.units + 1 }
 
--- a unit for which nothing is given
+-- a unit for which nothing is given: what is paid stays
 abbrev pub with_idle : Balance → Balance
 with_idle a = record a { units = a.units + 1 }
 

@@ -11,9 +11,9 @@ ghost use Rattle.work_account.specs.Accounts.{AccountState, Balance, IsSound, op
 
 use std::marker::Model;
 
-/// What a thread has paid for the command in hand, and its units and the blocks that it was given
-/// in the cycle that it entered last. After each call, given blocks at the rate and what is paid
-/// are together at most the units and the price of one largest object.
+/// What a thread has paid for the allocation in hand, and its units and the blocks that it was
+/// given in the cycle that it entered last. After each call, given blocks at the rate and what is
+/// paid are together at most the units and the price of one largest object.
 #[derive(Drop)]
 pub struct Account {
     rate: u64,
@@ -63,7 +63,7 @@ impl Account {
         }
     }
 
-    /// The units made for the command in hand.
+    /// The units made for the allocation in hand: none in any other command.
     pub fn paid(&self) -> u64
         ensures { result ≡ self.now.balance.paid }
     {
@@ -104,7 +104,8 @@ impl Account {
         }
     }
 
-    /// A unit was made. No more is made for a command than the price of the largest object.
+    /// A unit was made for an allocation. No more is made for one than the price of the largest
+    /// object.
     pub fn unit(&mut self)
         requires owed { self.old.balance.paid < self.old.rate * self.old.object }
         requires few { self.old.balance.units < 2 ^ 50 }
@@ -115,13 +116,13 @@ impl Account {
         self.units += 1;
     }
 
-    /// A unit was made for which nothing is given. What is paid stays.
+    /// A unit was made for which nothing is given. It counts in the cycle, and what is paid stays.
     pub fn idle(&mut self)
         requires { self.old.balance.units < 2 ^ 50 }
         ensures value { self.new ≡ record self.old { balance = with_idle self.old.balance } }
         ensures sound { IsSound self.new.rate self.new.object self.new.balance }
     {
-        self.units += 1;
+        self.units += 1; // nothing is paid
     }
 
     /// An object of `k` blocks, whose price was paid, was published.

@@ -25,8 +25,13 @@ fn two_cycles(rt: HostRuntime) {
     a.unit();
     a.refuse(2);
     assert_eq!(rt; readings(&a), (0, 2, 3, 0));
+    a.idle();
+    a.idle();
+    assert_eq!(rt; readings(&a), (0, 2, 5, 0));
     a.unit();
+    a.idle();
     a.unit();
+    assert_eq!(rt; readings(&a), (2, 2, 8, 0));
     a.publish(1);
-    assert_eq!(rt; readings(&a), (0, 2, 5, 1));
+    assert_eq!(rt; readings(&a), (0, 2, 8, 1));
 }

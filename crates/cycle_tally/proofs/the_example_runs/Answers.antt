@@ -1,4 +1,4 @@
-use Rattle.cycle_tally.proofs.Example.{bounds, room, keeps_up, example_runs, example_legal, example_starts, example_cycle, example_units}
+use Rattle.cycle_tally.proofs.Example.{bounds, room, keeps_up, example_runs, example_legal, example_starts, example_cycle, example_units, example_paid}
 use Rattle.cycle_tally.proofs.the_example_runs.Goals as goal
 
 pub returns : goal.returns
@@ -11,4 +11,5 @@ returns g = record {
   starts = example_starts;
   cycle = example_cycle;
   units = example_units;
+  paid = example_paid;
 }

@@ -17,7 +17,7 @@ use Rattle.lone_bound.proofs.Fresh as lone_fresh
 use Rattle.heap_system.specs.declared.local.Part.{Part}
 use Rattle.heap_system.specs.declared.local.Part.TheVariants.{TurnOver, Leave}
 use Rattle.heap_system.specs.Alone.{IsQuiet, HasCommand, after_alone, ChangesPhase, UnitBetween}
-use Rattle.heap_system.specs.Locals.{LocalState, command_of, is_rest, is_done, effect, makes_unit, paid_got, part_want}
+use Rattle.heap_system.specs.Locals.{LocalState, command_of, is_rest, is_done, effect, makes_unit, spent_got, part_want}
 use Rattle.heap_system.specs.Machines.{Run, IsJob, local_at, heap_in, next, has_event, word_read}
 use Rattle.heap_system.specs.Rounds.{turns_phase, flips_or_starts}
 use Rattle.heap_system.specs.Units.{is_unit}
@@ -65,7 +65,7 @@ turning_stays p is = refl
 
 -- what is owed falls by a unit alone
 unit_made : (o : Option Reply) (unit : Bool) (due paid : ℕ)
-    → suc (due - paid_got o unit paid) ≡ due - paid → unit ≡ true
+    → suc (due - spent_got o unit paid) ≡ due - paid → unit ≡ true
 unit_made o true due paid less = refl
 unit_made None false due paid less = absurd (omega arith)
 unit_made (Some r) false due paid less = absurd (omega arith)

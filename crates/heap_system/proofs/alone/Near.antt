@@ -1,25 +1,31 @@
 -- A lone thread comes to the end of its allocation within the near bound.
-use Rattle.std.proofs.Common.{◌≡◌, ℕ, zero, suc, ◌-◌, ◌*◌, ◌≤◌, ◌<◌, true, false, List, [], length, get_or, refl, sym, subst, arith, inl, inr}
+use Rattle.std.proofs.Common.{◌≡◌, ℕ, zero, suc, ◌-◌, ◌*◌, ◌≤◌, ◌<◌, true, false, cond, List, [], length, get_or, refl, sym, ap, subst, arith, inl, inr}
 use Rattle.std.proofs.lemmas.Bool.{cases_Bool}
 use Rattle.block_store.specs.declared.Config.{Config}
+use Rattle.block_store.specs.declared.Width.{Width}
+use Rattle.block_store.specs.declared.Width.TheVariants.{Four, Eight}
+use Rattle.block_store.specs.Configs.{IsInBounds}
 use Rattle.block_store.specs.Heaps.{Heap}
+use Rattle.block_store.specs.Registers.{registers_end}
 use Rattle.block_store.specs.Widths.{payloads}
-use Rattle.rate_plan.specs.Rates.{IsRate}
+use Rattle.rate_plan.specs.Rates.{IsRate, IsAdmitted}
 use Rattle.never_heap.specs.declared.Command.{Command}
 use Rattle.never_heap.specs.declared.Command.TheVariants as commands
 use Rattle.never_heap.specs.declared.Entry.{Entry}
-use Rattle.never_heap.specs.RightWork.{units_owed}
+use Rattle.never_heap.specs.RightWork.{units_owed, units_told}
 use Rattle.never_heap.specs.Steps.{makes_object, blocks_of}
+use Rattle.barrier_steps.specs.Operands.{is_idle}
 use Rattle.lone_bound.specs.Near.{Keeps, near_left, near_bound, between}
-use Rattle.lone_bound.proofs.Near.{lower, near}
+use Rattle.lone_bound.specs.Prices.{allocation_bound, idle_bound, other_bound}
+use Rattle.lone_bound.proofs.Near.{lower, near, near_within, pays_at_most}
 use Rattle.heap_system.specs.declared.local.Part.{Part}
 use Rattle.heap_system.specs.declared.local.Part.TheVariants.{Rest, Leave}
-use Rattle.heap_system.specs.Alone.{IsQuiet, HasCommand, EndsWithin}
+use Rattle.heap_system.specs.Alone.{IsQuiet, HasCommand, EndsWithin, command_bound}
 use Rattle.heap_system.specs.Locals.{LocalState, command_of, owed, is_done}
 use Rattle.heap_system.specs.Machines.{Run, IsJob, local_at, local_in, heap_in, next}
 use Rattle.heap_system.proofs.Kept.{Kept}
 use Rattle.heap_system.proofs.LawsOf.{laws_of}
-use Rattle.heap_system.proofs.Paying.{makers_untold}
+use Rattle.heap_system.proofs.Paying.{makers_untold, opening_room}
 use Rattle.heap_system.proofs.Turning.{at_part, event, next_is}
 use Rattle.heap_system.proofs.alone.Keeping.{scene_of, far_of, far_few, keep_law}
 use Rattle.heap_system.proofs.alone.Runs
@@ -192,3 +198,39 @@ module _ (c : Config) (traces : List (List Command)) (job : IsJob c traces) (rat
         command = ended.3.command;
         quiet = ended.3.quiet;
       }
+
+-- a heap that has a rate has more blocks than threads
+threads_low : (w : Width) (n m : ℕ) → registers_end w n ≤ m → n ≤ m
+threads_low Four n m low = omega arith
+threads_low Eight n m low = omega arith
+
+-- where a unit pays 33 turns for the changes of the cycles, the near bound is within the stated one
+pub stated : (c : Config) (k : Command) (rate : ℕ) → IsInBounds c → IsAdmitted c → makes_object k ≡ true
+    → (between c.threads ≤ 33 * c.blocks)
+    × (near_bound c.threads (payloads c.width) 33 (rate * blocks_of c.width k) (blocks_of c.width k)
+    ≤ command_bound c rate k)
+stated c k rate bounds plan makes =
+    let allocates : command_bound c rate k ≡ allocation_bound c.threads (blocks_of c.width k) rate =
+    ap (λ b. cond b (allocation_bound c.threads (blocks_of c.width k) rate)
+    (cond (is_idle k) (idle_bound c.threads (units_told k)) (other_bound c.object))) makes in (
+      pays_at_most c.threads c.blocks bounds.threads
+          (threads_low c.width c.threads c.blocks (opening_room c plan)) bounds.some_block,
+      subst (λ n. near_bound c.threads (payloads c.width) 33 (rate * blocks_of c.width k)
+          (blocks_of c.width k) ≤ n) (sym allocates)
+          (near_within c.threads (payloads c.width) 33 rate (blocks_of c.width k) bounds.threads
+          (wide c.width).1 (omega arith)),
+    )
+
+-- what ends within a bound ends within a greater one
+pub within : (c : Config) (t : ℕ) (r : Run) (few many : ℕ) → EndsWithin c t r few → few ≤ many
+    → EndsWithin c t r many
+within c t r few many ended low = record {
+  turns = ended.turns;
+  few = omega (arith, ended.few);
+  went = ended.went;
+  rest = ended.rest;
+  entry = ended.entry;
+  log = ended.log;
+  command = ended.command;
+  quiet = ended.quiet;
+}

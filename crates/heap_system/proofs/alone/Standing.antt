@@ -27,7 +27,7 @@ use Rattle.build_steps.specs.declared.rows.BuildRow.TheVariants as builds
 use Rattle.lone_bound.specs.Moves.{Spot, Lone, Terms, Moves}
 use Rattle.heap_system.specs.declared.local.Part.{Part}
 use Rattle.heap_system.specs.declared.local.Part.TheVariants.{Rest, Enter, Serve, Mark, Sweep, Build, Again, Idle, TurnOver, Leave}
-use Rattle.heap_system.specs.Locals.{effect, part_want, part_got, pass_got, paid_got, waits}
+use Rattle.heap_system.specs.Locals.{effect, part_want, part_got, pass_got, spent_got, waits}
 use Rattle.heap_system.proofs.PartLaws.{AtPart, PartEvent, word_at}
 use Rattle.heap_system.proofs.Seeing.{Seen, errand}
 use Rattle.heap_system.proofs.alone.FieldsLeft.{field_left}
@@ -209,7 +209,7 @@ pass_left c s p = pass_got (effect c p (word_at c s p)).entered s.thread c.threa
 
 abbrev pub paid_left : (c : Config) → Seen c → Part → ℕ
 paid_left c s p =
-    paid_got (effect c p (word_at c s p)).reply (effect c p (word_at c s p)).unit s.spent
+    spent_got (effect c p (word_at c s p)).reply (effect c p (word_at c s p)).unit s.spent
 
 abbrev pub part_left : (c : Config) → Seen c → Part → Part
 part_left c s p = part_got c s.thread (errand c s) s.pass p (word_at c s p)

@@ -120,7 +120,7 @@ use Rattle.heap_system.specs.Locals.{
   entry_of,
   if_replied,
   made_got,
-  paid_got,
+  spent_got,
   plain,
   turn_of,
   works,
@@ -246,7 +246,7 @@ row_turn b Refused w = refl
 
 -- what is paid goes into the entry
 units_are : (t : ℕ) (k : Command) (paid : ℕ) (o : Option Reply)
-    → works (entries_of t k paid o) + paid_got o false paid ≡ paid + 0
+    → works (entries_of t k paid o) + spent_got o false paid ≡ paid + 0
 units_are t k paid None = omega arith
 units_are t k paid (Some r) = omega arith
 

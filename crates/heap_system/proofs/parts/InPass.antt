@@ -17,7 +17,7 @@ use Rattle.kept_names.specs.Kept.{IsKept}
 use Rattle.kept_names.specs.Pictures.{picture}
 use Rattle.sweep_steps.specs.Ends.{unpassed}
 use Rattle.heap_system.specs.declared.local.Part.{Part}
-use Rattle.heap_system.specs.Locals.{Effect, plain, task, entries_of, paid_got, unit_to_come, PartFits, IsRoomy}
+use Rattle.heap_system.specs.Locals.{Effect, plain, task, entries_of, spent_got, unit_to_come, PartFits, IsRoomy}
 use Rattle.heap_system.specs.Pictures.{gating, stand_of, holding, waiting}
 use Rattle.heap_system.proofs.PartLaws.{AtPart}
 use Rattle.heap_system.proofs.Seeing.{stage_of, PartKept, Knows, IsSettled, lead, Seen, EventKept}
@@ -52,10 +52,10 @@ pub record PassEvent (c : Config) (s : Seen c) (new : Heap) (unit : Bool) (next 
   pub fits : PartFits c s.done s.all s.pass next
   pub roomy : IsRoomy s.space next
   pub undecided : waiting s.graph next ≡ None
-  pub low : paid_got None unit s.spent + unit_to_come c next ≤ s.due
-  pub settled : IsSettled s.due (paid_got None unit s.spent) next
+  pub low : spent_got None unit s.spent + unit_to_come c next ≤ s.due
+  pub settled : IsSettled s.due (spent_got None unit s.spent) next
 
-pub paid_more : (unit : Bool) (paid : ℕ) → paid_got None unit paid ≡ paid + bit unit
+pub paid_more : (unit : Bool) (paid : ℕ) → spent_got None unit paid ≡ paid + bit unit
 paid_more true paid = refl
 paid_more false paid = omega arith
 
@@ -74,17 +74,17 @@ module _ (c : Config) (s : Seen c) (p : Part) (at : AtPart c s p)
 
   leads_on : (new : Heap) (unit : Bool) (next : Part) → PassEvent c s new unit next
       → lead c new + (s.spent + unpassed (s.holds s.thread))
-      ≤ lead c s.heap + (0 + paid_got None unit s.spent + unpassed (holding c next))
+      ≤ lead c s.heap + (0 + spent_got None unit s.spent + unpassed (holding c next))
   leads_on new unit next e = subst
       (λ w. (cycle_of w - 1) * c.blocks + cond (is_sweep w) (new Cursor - 1) 0
       + (s.spent + unpassed (s.holds s.thread))
-      ≤ lead c s.heap + (0 + paid_got None unit s.spent + unpassed (holding c next)))
+      ≤ lead c s.heap + (0 + spent_got None unit s.spent + unpassed (holding c next)))
       (sym e.phase) (by (is_sweep (s.heap Phase)))
     where
       by : (b : Bool) → (cycle_of (s.heap Phase) - 1) * c.blocks + cond b (new Cursor - 1) 0
           + (s.spent + unpassed (s.holds s.thread))
           ≤ (cycle_of (s.heap Phase) - 1) * c.blocks + cond b (s.heap Cursor - 1) 0
-          + (0 + paid_got None unit s.spent + unpassed (holding c next))
+          + (0 + spent_got None unit s.spent + unpassed (holding c next))
       by true = omega (arith, e.passed, e.rises, (s.held Cursor refl).0, paid_more unit s.spent)
       by false = omega (arith, e.passed, e.rises, paid_more unit s.spent)
 
@@ -117,7 +117,7 @@ module _ (c : Config) (s : Seen c) (p : Part) (at : AtPart c s p)
         fits = e.fits;
         roomy = e.roomy;
         over = λ r z. absurd cc;
-        told = sym (ap (λ o. entries_of s.thread s.command (paid_got None unit s.spent) o)
+        told = sym (ap (λ o. entries_of s.thread s.command (spent_got None unit s.spent) o)
             e.undecided);
         low = e.low;
         settled = e.settled;
@@ -127,5 +127,5 @@ module _ (c : Config) (s : Seen c) (p : Part) (at : AtPart c s p)
       }
 
 -- what was paid before an event and at it
-pub units_are : (paid : ℕ) (unit : Bool) → 0 + paid_got None unit paid ≡ paid + bit unit
+pub units_are : (paid : ℕ) (unit : Bool) → 0 + spent_got None unit paid ≡ paid + bit unit
 units_are paid unit = omega (arith, paid_more unit paid)

@@ -27,7 +27,7 @@ use Rattle.grey_steps.proofs.Ranges.{next_fits, place_fits, sum_fits, keeps_word
 use Rattle.grey_steps.proofs.Reuses.{keeps_phase, leaves_phase}
 use Rattle.heap_system.specs.declared.Turn.TheVariants as turns
 use Rattle.heap_system.specs.declared.local.Part.TheVariants.{Mark, Again, Idle}
-use Rattle.heap_system.specs.Locals.{turn_of, task, paid_got}
+use Rattle.heap_system.specs.Locals.{turn_of, task, spent_got}
 use Rattle.heap_system.specs.Units.{blackens}
 use Rattle.heap_system.proofs.Passing.{inside_open}
 use Rattle.heap_system.proofs.PartLaws.{AtPart, PartLaws}
@@ -101,7 +101,7 @@ row_blackens m h t n c _ same grey = refl
 
 -- the unit of a Mark pass is paid once
 units_paid : (a b u : Bool) (paid due : ℕ) → paid + bit (not a) ≤ due → b ≡ (a || u)
-    → (a ≡ true → u ≡ false) → paid_got None u paid + bit (not b) ≤ due
+    → (a ≡ true → u ≡ false) → spent_got None u paid + bit (not b) ≤ due
 units_paid true b true paid due l e once = absurd (let z : true ≡ false = once refl in cc)
 units_paid true true false paid due l e once = omega (arith, l)
 units_paid true false false paid due l e once = absurd cc
@@ -175,7 +175,7 @@ module _ (c : Config) (s : Seen c) (m : GreyState) (at : AtPart c s (Mark m)) wh
         ap (λ (w : Holding). w.high) at.holds ∙ none.1,
       )
 
-  pays : paid_got None (is_blackening m.row) s.spent + bit (not (grey_unit next.row)) ≤ s.due
+  pays : spent_got None (is_blackening m.row) s.spent + bit (not (grey_unit next.row)) ≤ s.due
   pays = units_paid (grey_unit m.row) (grey_unit next.row) (is_blackening m.row) s.spent s.due
       at.pays (unit_after (extent c) m read) (unit_once m)
 

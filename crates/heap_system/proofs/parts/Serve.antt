@@ -48,7 +48,7 @@ use Rattle.sweep_steps.specs.Ends.{unpassed}
 use Rattle.heap_system.specs.declared.local.Part.{Part}
 use Rattle.heap_system.specs.declared.local.Part.TheVariants.{Serve, Leave}
 use Rattle.heap_system.specs.declared.Turn.TheVariants as turns
-use Rattle.heap_system.specs.Locals.{Verdict, Effect, plain, task, paid_got, made_got, if_replied, if_decides, turn_of, entry_of, entries_of, works}
+use Rattle.heap_system.specs.Locals.{Verdict, Effect, plain, task, spent_got, made_got, if_replied, if_decides, turn_of, entry_of, entries_of, works}
 use Rattle.heap_system.specs.Pictures.{gating, holding}
 use Rattle.heap_system.specs.Units.{blackens, turns_black}
 use Rattle.heap_system.proofs.Passing.{inside_open}
@@ -139,7 +139,7 @@ turns_in : (o : Option Reply) → turn_of (step_of o) ≡ turns.Went
 turns_in None = refl
 turns_in (Some r) = refl
 
-replied_sum : (t : ℕ) (k : Command) (paid : ℕ) (o : Option Reply) → works (entries_of t k paid o) + paid_got o false paid ≡ paid + 0
+replied_sum : (t : ℕ) (k : Command) (paid : ℕ) (o : Option Reply) → works (entries_of t k paid o) + spent_got o false paid ≡ paid + 0
 replied_sum t k paid None = omega arith
 replied_sum t k paid (Some r) = omega arith
 
@@ -239,7 +239,7 @@ module _ (c : Config) (s : Seen c) (f : FieldState) (at : AtPart c s (Serve f)) 
       → IsKept c (picture (graph_decided s.graph s.thread s.command verdict) (s.order ++ (items_told s.graph s.thread s.command s.spent verdict ++ [])) new s.names (changed s.tasks s.thread (task c p)))
   names_are p same = subst (λ (x : KeptState). IsKept c x)
       (λ i. picture (graph_is i) (order_is i) new s.names (changed s.tasks (at.part.thread i) (same i)))
-      (keeps_names c s.graph s.order s.heap s.names s.tasks f fits s.held at.part.going passes.1 passes.0 task_is s.kept)
+      (keeps_names c s.graph s.order s.heap s.names s.tasks f fits at.part.going passes.1 passes.0 task_is s.kept)
 
   rules_are : (p : Part) → field_holding (extent c) next ≡ holding c p → PhaseKept (extent c) new (changed s.holds s.thread (holding c p))
   rules_are p same = subst (λ (hs : ℕ → Holding). PhaseKept (extent c) new hs) (λ i. changed s.holds (at.part.thread i) (same i))

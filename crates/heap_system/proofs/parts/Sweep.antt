@@ -28,7 +28,7 @@ use Rattle.sweep_steps.proofs.Pictures.{keeps_names}
 use Rattle.sweep_steps.proofs.Ranges.{fits_next, place_fits, sum_fits}
 use Rattle.heap_system.specs.declared.Turn.TheVariants as turns
 use Rattle.heap_system.specs.declared.local.Part.TheVariants.{Sweep, Again, Idle}
-use Rattle.heap_system.specs.Locals.{turn_of, sweep_waits, task, paid_got}
+use Rattle.heap_system.specs.Locals.{turn_of, sweep_waits, task, spent_got}
 use Rattle.heap_system.specs.Units.{blackens}
 use Rattle.heap_system.proofs.Passing.{inside_open}
 use Rattle.heap_system.proofs.PartLaws.{AtPart, PartLaws}
@@ -172,10 +172,10 @@ module _ (c : Config) (s : Seen c) (p : SweepState) (at : AtPart c s (Sweep p)) 
   )
 
   -- what was paid is what was passed
-  settled : paid_got None unit s.spent + p.owed ≡ s.due + sweep_passed next.row
+  settled : spent_got None unit s.spent + p.owed ≡ s.due + sweep_passed next.row
   settled = omega (arith, at.settled, paid_more unit s.spent, passed_bits p read)
 
-  pays : paid_got None unit s.spent + (p.owed - sweep_passed next.row) ≤ s.due
+  pays : spent_got None unit s.spent + (p.owed - sweep_passed next.row) ≤ s.due
   pays = omega (arith, settled, (passed_few c next next_fits).1)
 
   goes_on : sweep_over next.row ≡ false → PassEvent c s new unit (Sweep next)

@@ -28,7 +28,7 @@ use Rattle.cycle_tally.specs.Events as events
 use Rattle.cycle_tally.specs.Tallies.{Spending, Tally, made_of, due_of, with_made}
 use Rattle.heap_system.specs.declared.local.Part.{Part}
 use Rattle.heap_system.specs.declared.local.Part.TheVariants.{Mark, Again, Idle}
-use Rattle.heap_system.specs.Locals.{Effect, Open, idle_part, paid_got, balance_made, balance_got}
+use Rattle.heap_system.specs.Locals.{Effect, Open, idle_part, spent_got, balance_made, balance_got}
 use Rattle.heap_system.proofs.Balances.{idle_more}
 use Rattle.heap_system.specs.Machines.{starts_by}
 use Rattle.heap_system.specs.Units.{turns_black}
@@ -42,7 +42,7 @@ use Rattle.heap_system.proofs.tallies.Moves.{SameWords, same_words, spends_here,
 module _ (c : Config) (rate : ℕ) (s : Seen c) (p : Part) (before : Tally) (k : Counted c rate s p before) (next : Asking) where
   -- a block of the phase's white becomes grey
   pub shades : (y hand z : ℕ) → z ≡ cycle_of (s.heap Phase) → (e : Effect) → e.verdict ≡ Open → starts_by e.naming ≡ [] → e.unit ≡ false → (q : Part)
-      → IsSpending c q (balance_got e (units_told s.command) (blocks_of c.width s.command) s.balance) (asked_got e.reply (asking c s.command (paid_got e.reply e.unit s.spent)) next) (before.threads s.thread)
+      → IsSpending c q (balance_got e (units_told s.command) (blocks_of c.width s.command) s.balance) (asked_got e.reply (asking c s.command (spent_got e.reply e.unit s.spent)) next) (before.threads s.thread)
       → TallyEvent c rate s (heap_after s.heap (CompareExchange (ColourOf y) (white_word z) (grey_word hand))) e q next before
   shades y hand z same e undecided still none q own = elim (cases_Bool (eqb (s.heap (ColourOf y)) (white_word z))) [
     | inl is ↦ rw is (moves c rate s p before k (events.Paint y (grey_word hand) ∷ [])

@@ -16,7 +16,7 @@ use Rattle.cycle_tally.specs.Events.{Event, run, Guarded}
 use Rattle.cycle_tally.specs.Tallies.{Spending, Tally, units_now, made_of}
 use Rattle.cycle_tally.proofs.Laws.{run_kept}
 use Rattle.heap_system.specs.declared.local.Part.{Part}
-use Rattle.heap_system.specs.Locals.{Effect, Open, view, paid_part, paid_got, balance_got}
+use Rattle.heap_system.specs.Locals.{Effect, Open, view, paid_part, spent_got, balance_got}
 use Rattle.heap_system.specs.Machines.{starts_by}
 use Rattle.heap_system.specs.Naming.{Naming, Begun}
 use Rattle.heap_system.specs.Pictures.{stand_of, holding}
@@ -80,7 +80,7 @@ module _ (c : Config) (rate : ℕ) (s : Seen c) (p : Part) (before : Tally) (k :
 
   -- nothing that the tally counts changes
   pub stays : (new : Heap) (e : Effect) (q : Part) (next : Asking) → SameWords s.heap new → e.verdict ≡ Open → starts_by e.naming ≡ [] → e.unit ≡ false
-      → IsSpending c q (balance_got e (units_told s.command) (blocks_of c.width s.command) s.balance) (asked_got e.reply (asking c s.command (paid_got e.reply e.unit s.spent)) next) (before.threads s.thread)
+      → IsSpending c q (balance_got e (units_told s.command) (blocks_of c.width s.command) s.balance) (asked_got e.reply (asking c s.command (spent_got e.reply e.unit s.spent)) next) (before.threads s.thread)
       → TallyEvent c rate s new e q next before
   stays new e q next same undecided still none own = record {
     tally = before;
@@ -103,7 +103,7 @@ module _ (c : Config) (rate : ℕ) (s : Seen c) (p : Part) (before : Tally) (k :
   -- the tally moves by these events, which leave the other threads
   pub moves : (es : List Event) → Guarded c rate black_word before es → (new : Heap) (e : Effect) (q : Part) (next : Asking)
       → IsTallyOf new (s.order ++ (items_told s.graph s.thread s.command s.spent e.verdict ++ starts_by e.naming)) (run c rate black_word before es)
-      → IsSpending c q (balance_got e (units_told s.command) (blocks_of c.width s.command) s.balance) (asked_got e.reply (asking c s.command (paid_got e.reply e.unit s.spent)) next) ((run c rate black_word before es).threads s.thread)
+      → IsSpending c q (balance_got e (units_told s.command) (blocks_of c.width s.command) s.balance) (asked_got e.reply (asking c s.command (spent_got e.reply e.unit s.spent)) next) ((run c rate black_word before es).threads s.thread)
       → ((u : ℕ) → (s.thread ≡ u → ⊥) → (run c rate black_word before es).threads u ≡ before.threads u)
       → ((x : ℕ) → (run c rate black_word before es).scanned x ≡ in_cycle e.naming (more_if (scans_at s.heap new e x) (before.scanned x)))
       → ((x : ℕ) → (run c rate black_word before es).passed x ≡ in_cycle e.naming (more_if (passes_at s.heap e (before.threads s.thread) x) (before.passed x)))

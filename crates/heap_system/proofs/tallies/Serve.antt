@@ -136,7 +136,7 @@ module _ (c : Config) (rate : ℕ) (s : Seen c) (f : FieldState) (at : AtPart c 
     paid_over r = balance_paid (Some r) false (units_told s.command) (blocks_of c.width s.command) s.balance
 
     over : (r : Reply) (w : Spending) → w.inside ≡ true → w.balance ≡ s.balance → w.low ≡ 0 → w.high ≡ 0 → w.reserved ≡ 0 → w.idled ≡ 0 → IsSpending c Leave (paid_over r) next (record w { asked = next.blocks; told = next.told })
-    over r w inside account low high reserved idled = record { inside = inside; account = account ∙ sym (nothing_paid r false (units_told s.command) (blocks_of c.width s.command) s.balance asks_none pays_none); asked = refl; told = refl; idled = idled ∙ sym few.none; low = low; high = high; reserved = reserved }
+    over r w inside account low high reserved idled = record { inside = inside; account = account ∙ sym (nothing_paid r (blocks_of c.width s.command) s.balance asks_none pays_none); asked = refl; told = refl; idled = idled ∙ sym few.none; low = low; high = high; reserved = reserved }
 
     abbrev Same : Heap → Type 0
     Same new = SameWords s.heap new

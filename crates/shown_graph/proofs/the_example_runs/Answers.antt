@@ -1,5 +1,10 @@
-use Rattle.shown_graph.proofs.Example.{example_runs, example_reads, example_made}
+use Rattle.shown_graph.proofs.Example.{example_runs, example_reads, example_swaps, example_made}
 use Rattle.shown_graph.proofs.the_example_runs.Goals as goal
 
 pub returns : goal.returns
-returns c = record { events = example_runs; result = example_reads; made = example_made }
+returns c = record {
+  events = example_runs;
+  result = example_reads;
+  exchanged = example_swaps;
+  made = example_made;
+}

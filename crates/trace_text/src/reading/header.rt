@@ -70,7 +70,7 @@ fn width_of(version: &[u8]) -> Option<Width>
 
 /// The token behind a label that the tokens begin with, and the tokens behind it.
 #[tactic(auto, unfolding(crate::specs::Headers::labelled_at))]
-fn labelled<'a>(tokens: Option<&'a [u8]>, label: &[u8]) -> Option<(&'a [u8], Option<&'a [u8]>)>
+pub fn labelled<'a>(tokens: Option<&'a [u8]>, label: &[u8]) -> Option<(&'a [u8], Option<&'a [u8]>)>
     ensures { Gives (λ x. (x.0.now, tokens_left (option_copied x.1))) result
         (labelled_at label.now (tokens_left (option_copied tokens.entry))) }
 {
@@ -80,7 +80,7 @@ fn labelled<'a>(tokens: Option<&'a [u8]>, label: &[u8]) -> Option<(&'a [u8], Opt
 
 /// The tokens behind a word that the tokens begin with.
 #[tactic(auto, unfolding(crate::specs::Headers::behind_at))]
-fn behind<'a>(tokens: Option<&'a [u8]>, word: &[u8]) -> Option<Option<&'a [u8]>>
+pub fn behind<'a>(tokens: Option<&'a [u8]>, word: &[u8]) -> Option<Option<&'a [u8]>>
     ensures { Gives (λ x. tokens_left (option_copied x)) result
         (behind_at word.now (tokens_left (option_copied tokens.entry))) }
 {

@@ -4,17 +4,21 @@ ghost use Rattle.std.specs.Prelude.{◌≤◌};
 
 use crate::{Job, MemSource, TraceFault, read_trace};
 use std::alloc::{AllocError, Global};
+use std::process::Abort;
 use std::test::Fail;
 
-/// A heap for one thread, one for two, and the largest of each number.
+/// A heap for one thread, one for two, the largest of each number, and one of wide blocks.
 const ONE: &str = "rtheap 1 threads 1 blocks 64 live 20 object 2 shared 0";
 
 const TWO: &str = "rtheap 1 threads 2 blocks 64 live 20 object 2 shared 4";
 
 const LARGEST: &str = "rtheap 1 threads 16 blocks 65535 live 65535 object 1024 shared 1024";
 
-/// In each row the header (A for one thread, B for two, C for the largest, and - for none), what
-/// stands behind it with a slash for each line feed, and the line and reason of the refusal.
+const WIDE: &str = "rtheap 2 threads 1 blocks 64 live 20 object 2 shared 0";
+
+/// In each row the header (A for one thread, B for two, C for the largest, W for wide blocks, and -
+/// for none), what stands behind it with a slash for each line feed, and the line and reason of the
+/// refusal.
 const REFUSED: &str = "-||1 header
 -|/|1 header
 -|/thread 0/end/|1 header
@@ -253,11 +257,74 @@ C|/thread 0/new 1 3073/|3 size
 C|/thread 0/new 1 65536/|3 size
 C|/thread 0/arr 1 3073/|3 size
 C|/thread 0/arr 1 65536/|3 size
+A|/thread 0/swap 1 0 2/end/|3 word
+A|/thread 0/cas 1 0 2 3/end/|3 word
+A|/thread 0/idle 1/end/|3 word
+A|/swap 1 0 2/end/|2 word
+A|/thread 0/swap/end/|3 word
+A|/thread 0/cas 16 x/end/|3 word
+A|/thread 0/idle 131071/end/|3 word
+A|/thread 0/end/swap 1 0 2/|4 end
+C|/thread 0/idle 0/|3 word
 A|/thread 0/new 1 x/foo/end/|3 number
 A|/thread 0/nil 1/nil 16/new 1/end/|4 register
 A|/thread 1/foo/|2 order
 B|/thread 0/set 1 1/thread 1/set 1 1/set 1 x/end/|6 number
 A|/thread 0/say 0/say 0/push/end/nil/|5 word";
+
+/// The same of `swap`, `cas` and `idle` in version 2.
+const REFUSED_WIDE: &str = "W|/swap 1 1 1/end/|2 order
+W|/cas 1 1 1 1/end/|2 order
+W|/idle 1/end/|2 order
+W|/idle/end/|2 order
+W|/idle x/end/|2 order
+W|/cas 16 1 1 1/end/|2 order
+W|/idle 131071/end/|2 order
+W|/thread 0/Swap 1 1 1/end/|3 word
+W|/thread 0/swaps 1 1 1/end/|3 word
+W|/thread 0/ca 1 1 1 1/end/|3 word
+W|/thread 0/idles 1/end/|3 word
+W|/thread 0/swap/end/|3 count
+W|/thread 0/swap 1 1/end/|3 count
+W|/thread 0/swap 1 1 1 1/end/|3 count
+W|/thread 0/swap 1  1 1/end/|3 count
+W|/thread 0/swap 16 x/end/|3 count
+W|/thread 0/cas/end/|3 count
+W|/thread 0/cas 1 1 1/end/|3 count
+W|/thread 0/cas 1 1 1 1 1/end/|3 count
+W|/thread 0/cas 1 1 1 1 /end/|3 count
+W|/thread 0/cas 16 x 1/end/|3 count
+W|/thread 0/idle/end/|3 count
+W|/thread 0/idle 1 1/end/|3 count
+W|/thread 0/idle 131071 x/end/|3 count
+W|/thread 0/swap x 1 1/end/|3 number
+W|/thread 0/swap 1 x 1/end/|3 number
+W|/thread 0/swap 1 1 x/end/|3 number
+W|/thread 0/swap 16 1 01/end/|3 number
+W|/thread 0/cas x 1 1 1/end/|3 number
+W|/thread 0/cas 1 x 1 1/end/|3 number
+W|/thread 0/cas 1 1 x 1/end/|3 number
+W|/thread 0/cas 1 1 1 x/end/|3 number
+W|/thread 0/cas 16 4611686018427387904 1 /end/|3 number
+W|/thread 0/idle x/end/|3 number
+W|/thread 0/idle 00/end/|3 number
+W|/thread 0/idle -1/end/|3 number
+W|/thread 0/idle 10000000000000000000/end/|3 number
+W|/thread 0/swap 16 1 1/end/|3 register
+W|/thread 0/swap 1 1 16/end/|3 register
+W|/thread 0/swap 1 4611686018427387904 16/end/|3 register
+W|/thread 0/cas 16 1 1 1/end/|3 register
+W|/thread 0/cas 1 1 16 1/end/|3 register
+W|/thread 0/cas 1 1 1 16/end/|3 register
+W|/thread 0/cas 1 1 272 1/end/|3 register
+W|/thread 0/cas 1 4611686018427387904 1 16/end/|3 register
+W|/thread 0/swap 1 4611686018427387904 1/end/|3 size
+W|/thread 0/swap 1 9999999999999999999 1/end/|3 size
+W|/thread 0/cas 1 4611686018427387904 1 1/end/|3 size
+W|/thread 0/idle 131071/end/|3 size
+W|/thread 0/idle 9999999999999999999/end/|3 size
+W|/thread 0/idle 131070/idle 131071/end/|4 size
+W|/thread 0/swap 15 4611686018427387903 15/cas 15 16 15 15/idle 0/idle 16 0/end/|6 count";
 
 /// The bytes of a row's header and body.
 fn bytes_of(alloc: Global, header: &str, body: &str) -> Result<Vec<u8>, AllocError> {
@@ -265,6 +332,7 @@ fn bytes_of(alloc: Global, header: &str, body: &str) -> Result<Vec<u8>, AllocErr
         "A" => ONE,
         "B" => TWO,
         "C" => LARGEST,
+        "W" => WIDE,
         _ => "",
     };
     let mut bytes = Vec::from_slice(alloc, header.as_bytes())?;
@@ -292,23 +360,35 @@ fn answer_in_pieces(alloc: Global, bytes: &[u8], most: usize) -> Result<String, 
     answer_of(alloc, read_trace(alloc, &mut source))
 }
 
-#[test]
-fn each_row_is_refused_in_pieces_of_any_length(rt: HostRuntime) -> Result<(), Fail> {
+/// That each row of a table is refused as it says, in pieces of any length; answers how many rows
+/// there are.
+fn expect_refusals(rt: &impl Abort, alloc: Global, table: &str) -> Result<u64, Fail> {
     let mut rows = 0u64;
-    for row in REFUSED.split('\n') {
+    for row in table.split('\n') {
         let Some((header, rest)) = row.split_once('|') else {
             panic!(rt; "a row without a header: {row}");
         };
         let Some((body, answer)) = rest.split_once('|') else {
             panic!(rt; "a row without an answer: {row}");
         };
-        let bytes = bytes_of(rt.alloc(), header, body)?;
+        let bytes = bytes_of(alloc, header, body)?;
         for most in [1, 2, 3, 7, 1000] {
-            let found = answer_in_pieces(rt.alloc(), &bytes, most)?;
+            let found = answer_in_pieces(alloc, &bytes, most)?;
             assert_eq!(rt; found.as_str(), answer, "at {row}");
         }
         rows = rows.saturating_add(1);
     }
-    assert_eq!(rt; rows, 243);
+    Ok(rows)
+}
+
+#[test]
+fn each_row_is_refused_in_pieces_of_any_length(rt: HostRuntime) -> Result<(), Fail> {
+    assert_eq!(rt; expect_refusals(&rt, rt.alloc(), REFUSED)?, 252);
+    Ok(())
+}
+
+#[test]
+fn each_row_of_version_2_is_refused(rt: HostRuntime) -> Result<(), Fail> {
+    assert_eq!(rt; expect_refusals(&rt, rt.alloc(), REFUSED_WIDE)?, 52);
     Ok(())
 }

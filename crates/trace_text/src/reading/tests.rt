@@ -100,8 +100,53 @@ fn expect_fault(
     Ok(())
 }
 
+/// That this text, in pieces, is read as a job of this configuration and these traces, and is what
+/// is written of that job.
+fn expect_round_trip(
+    rt: &impl Abort,
+    alloc: Global,
+    text: &[u8],
+    config: &Config,
+    traces: &[&[Command]],
+) -> Result<(), Fail> {
+    let job = read(alloc, text, 7, &[])??;
+    expect_job(rt, &job, config, traces);
+    let mut sink = MemSink::new(alloc, 1000, Vec::new(alloc))
+        .ok()
+        .ok_or("memory")?;
+    assert_eq!(rt; write_job(&job, &mut sink), Ok(()));
+    assert_eq!(rt; sink.bytes(), text);
+    Ok(())
+}
+
+/// The commands of both versions, for two threads.
+const FIRST: [Command; 5] = [
+    Command::New { d: 1, fields: 6 },
+    Command::Arr { d: 15, elements: 4 },
+    Command::Set {
+        d: 1,
+        value: 4_611_686_018_427_387_903,
+    },
+    Command::Nil { d: 1 },
+    Command::Mov { d: 1, s: 2 },
+];
+
+const SECOND: [Command; 5] = [
+    Command::Get { d: 1, s: 2, i: 3 },
+    Command::Put { s: 1, i: 2, v: 3 },
+    Command::Len { s: 1 },
+    Command::Same { a: 1, b: 2 },
+    Command::Say { s: 0 },
+];
+
+const PAIR: Config = Config {
+    threads: 2,
+    shared: 4,
+    ..SMALL
+};
+
 #[test]
-fn all_commands_of_two_threads_are_read(rt: HostRuntime) -> Result<(), Fail> {
+fn ten_commands_of_version_1_are_read_and_written(rt: HostRuntime) -> Result<(), Fail> {
     let text = b"rtheap 1 threads 2 blocks 64 live 20 object 2 shared 4
 thread 0
 new 1 6
@@ -117,31 +162,56 @@ same 1 2
 say 0
 end
 ";
-    let first = [
-        Command::New { d: 1, fields: 6 },
-        Command::Arr { d: 15, elements: 4 },
-        Command::Set {
-            d: 1,
-            value: 4_611_686_018_427_387_903,
+    expect_round_trip(&rt, rt.alloc(), text, &PAIR, &[&FIRST, &SECOND])
+}
+
+#[test]
+fn thirteen_commands_of_version_2_are_read_and_written(rt: HostRuntime) -> Result<(), Fail> {
+    let text = b"rtheap 2 threads 3 blocks 64 live 20 object 2 shared 4
+thread 0
+new 1 6
+arr 15 4
+set 1 4611686018427387903
+nil 1
+mov 1 2
+thread 1
+get 1 2 3
+put 1 2 3
+len 1
+same 1 2
+say 0
+thread 2
+new 1 14
+arr 2 8
+swap 15 4611686018427387903 2
+cas 1 0 2 3
+idle 131070
+idle 0
+end
+";
+    let third = [
+        Command::New { d: 1, fields: 14 },
+        Command::Arr { d: 2, elements: 8 },
+        Command::Swap {
+            s: 15,
+            i: 4_611_686_018_427_387_903,
+            v: 2,
         },
-        Command::Nil { d: 1 },
-        Command::Mov { d: 1, s: 2 },
-    ];
-    let second = [
-        Command::Get { d: 1, s: 2, i: 3 },
-        Command::Put { s: 1, i: 2, v: 3 },
-        Command::Len { s: 1 },
-        Command::Same { a: 1, b: 2 },
-        Command::Say { s: 0 },
+        Command::Cas {
+            s: 1,
+            i: 0,
+            a: 2,
+            v: 3,
+        },
+        Command::Idle { units: 131_070 },
+        Command::Idle { units: 0 },
     ];
     let config = Config {
-        threads: 2,
-        shared: 4,
-        ..SMALL
+        width: Width::Eight,
+        threads: 3,
+        ..PAIR
     };
-    let job = read(rt.alloc(), text, 7, &[])??;
-    expect_job(&rt, &job, &config, &[&first, &second]);
-    Ok(())
+    expect_round_trip(&rt, rt.alloc(), text, &config, &[&FIRST, &SECOND, &third])
 }
 
 #[test]
@@ -182,32 +252,6 @@ fn a_thread_has_so_many_commands(rt: HostRuntime) -> Result<(), Fail> {
         why: Why::Size,
     };
     expect_fault(&rt, rt.alloc(), &text, line)
-}
-
-#[test]
-fn a_job_of_wide_blocks_is_read_and_written(rt: HostRuntime) -> Result<(), Fail> {
-    let text = b"rtheap 2 threads 1 blocks 64 live 20 object 2 shared 0
-thread 0
-new 1 14
-arr 2 8
-end
-";
-    let trace = [
-        Command::New { d: 1, fields: 14 },
-        Command::Arr { d: 2, elements: 8 },
-    ];
-    let config = Config {
-        width: Width::Eight,
-        ..SMALL
-    };
-    let job = read(rt.alloc(), text, 10, &[])??;
-    expect_job(&rt, &job, &config, &[&trace]);
-    let mut sink = MemSink::new(rt.alloc(), 1000, Vec::new(rt.alloc()))
-        .ok()
-        .ok_or("memory")?;
-    assert_eq!(rt; write_job(&job, &mut sink), Ok(()));
-    assert_eq!(rt; sink.bytes(), text.as_slice());
-    Ok(())
 }
 
 #[test]

@@ -1,9 +1,34 @@
+use Rattle.std.proofs.Common.{cond, ap, ◌∙◌, inl, inr}
+use Rattle.std.proofs.lemmas.Bool.{cases_Bool}
+use Rattle.never_heap.specs.RightWork.{units_told}
+use Rattle.never_heap.specs.Steps.{blocks_of, makes_object}
+use Rattle.barrier_steps.specs.Operands.{is_idle}
+use Rattle.lone_bound.specs.Prices.{allocation_bound, idle_bound, other_bound}
+use Rattle.heap_system.specs.Locals.{command_of}
+use Rattle.heap_system.specs.Machines.{local_in}
 use Rattle.heap_system.proofs.Always.{run_kept}
 use Rattle.heap_system.proofs.LawsOf.{laws_of}
+use Rattle.heap_system.proofs.alone.Near.{near_ends, stated, within}
 use Rattle.heap_system.proofs.alone.Runs.{lone_ends}
 use Rattle.heap_system.proofs.progress.a_lone_thread_ends_its_command.Goals as goal
 
-pub returns : goal.returns
-returns _ c r t rate is planned quiet low has =
-    lone_ends c is.traces is.job rate planned t low r
-    (run_kept c is.traces (laws_of c) is.job is.turns r is.by_turns) quiet has
+pub returns-clause-command : goal.returns-clause-command
+returns-clause-command _ c r t rate is planned quiet low has =
+    let kept = run_kept c is.traces (laws_of c) is.job is.turns r is.by_turns in
+    elim (cases_Bool (makes_object (command_of (local_in c r t)))) [
+      | inl makes ↦
+          let s = stated c (command_of (local_in c r t)) rate is.job.bounds.config is.job.plan makes in
+          within c t r _ _ (near_ends c is.traces is.job rate 33 planned s.0 t low r kept quiet has makes) s.1
+      | inr other ↦ lone_ends c is.traces is.job rate planned t low r kept quiet has
+    ]
+
+pub returns-clause-allocation : goal.returns-clause-allocation
+returns-clause-allocation _ c k rate makes =
+    ap (λ b. cond b (allocation_bound c.threads (blocks_of c.width k) rate)
+    (cond (is_idle k) (idle_bound c.threads (units_told k)) (other_bound c.object))) makes
+
+pub returns-clause-other : goal.returns-clause-other
+returns-clause-other _ c k rate none quick =
+    ap (λ b. cond b (allocation_bound c.threads (blocks_of c.width k) rate)
+    (cond (is_idle k) (idle_bound c.threads (units_told k)) (other_bound c.object))) none
+    ∙ ap (λ b. cond b (idle_bound c.threads (units_told k)) (other_bound c.object)) quick

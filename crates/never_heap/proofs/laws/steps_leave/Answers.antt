@@ -1,6 +1,6 @@
 use Rattle.never_heap.proofs.Stepping.{step_threads}
 use Rattle.never_heap.proofs.Staying.{step_register, step_object, stored_other, stored_field, step_counts, step_made}
-use Rattle.never_heap.proofs.Refusing.{step_refused}
+use Rattle.never_heap.proofs.Refusing.{step_refused, step_lost}
 use Rattle.never_heap.proofs.laws.steps_leave.Goals as goal
 
 pub returns-clause-registers : goal.returns-clause-registers
@@ -26,3 +26,6 @@ returns-clause-made c = step_made
 
 pub returns-clause-refused : goal.returns-clause-refused
 returns-clause-refused c = step_refused
+
+pub returns-clause-lost : goal.returns-clause-lost
+returns-clause-lost c = step_lost

@@ -1,10 +1,9 @@
-use Rattle.std.proofs.Common.{false, Some, ◌≡◌, ap, sym, ◌∙◌, arith, subst, length, get_or, ◌<◌}
+use Rattle.std.proofs.Common.{◌≡◌, ap, sym, ◌∙◌, arith, subst, length, get_or, ◌<◌}
 use Rattle.std.specs.Vec.{vec_capacity}
 use Rattle.std.proofs.lemmas.List.{get_or_default}
 use Rattle.never_heap.specs.declared.Command.TheVariants as commands
 use Rattle.work_account.specs.Accounts.{AccountState}
-use Rattle.never_heap.specs.RightWork.{units_told}
-use Rattle.heap_system.specs.Locals.{LocalState, owed, balance_paid}
+use Rattle.heap_system.specs.Locals.{LocalState, owed, balance_over}
 use Rattle.heap_system.proofs.Paying.{view_of, room_at_rest, answered_with}
 use Rattle.heap_system.proofs.local.Local.answer.Goals as goal
 
@@ -14,7 +13,7 @@ invariant_of-self c =
     let long : c.len.result ≡ length c.self.inside.log.items = c.len.ensures ∙ omega (arith, c.self.inside.log.ok.0) in
     let is = c.index.ensures ∙ ap (λ n. get_or c.self.inside.trace.items n c.index.result.now) long ∙ get_or_default c.self.inside.trace.items (length c.self.inside.log.items) c.index.result.now (commands.Nil 0) low in (
       answered_with (view_of c.self.inside) c.args.reply c.push_reserved.new.self.items c.index.result.now c.settle.new.account.balance c.made_after-self-inside.result c.self.invariant.0 low (subst (λ (l : LocalState). l.spent ≡ owed l) (sym c.self.view_is) c.requires.paid) c.push_reserved.ensures.items is
-          (ap (λ (a : AccountState). a.balance) c.settle.ensures ∙ ap (λ n. balance_paid (Some c.args.reply) false n c.blocks-2.result c.self.inside.account.balance) c.told-told.ensures ∙ ap (λ n. balance_paid (Some c.args.reply) false (units_told c.index.result.now) n c.self.inside.account.balance) c.blocks-2.ensures) c.made_after-self-inside.ensures,
+          (ap (λ (a : AccountState). a.balance) c.settle.ensures ∙ ap (λ n. balance_over c.args.reply n c.self.inside.account.balance) c.blocks-blocks.ensures) c.made_after-self-inside.ensures,
       ap (λ (a : AccountState). a.rate) c.settle.ensures ∙ c.self.invariant.1,
       ap (λ (a : AccountState). a.object) c.settle.ensures ∙ c.self.invariant.2,
       omega (arith, c.push_reserved.ensures.capacity, c.self.invariant.3),

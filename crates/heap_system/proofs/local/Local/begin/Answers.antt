@@ -11,7 +11,7 @@ invariant_of-self c =
     let l : LocalState = view_of c.self.inside in
     let is : l ≡ c.args.self.now = c.self.view_is in
     let one : length l.trace ≡ 1 = subst (λ (x : LocalState). length x.trace ≡ 1) (sym is) c.requires.one in
-    let long : c.units_done-self-inside.result ≡ l.before + works l.log = c.units_done-self-inside.ensures ∙ ap (λ (x : LocalState). x.before + works x.log) (sym is) in (
+    let long : c.units_done-self-inside.result ≡ l.before + works l.log = c.units_done-self-inside.ensures.sum ∙ ap (λ (x : LocalState). x.before + works x.log) (sym is) in (
       begun_with l c.args.command _ _
           (begun_local l c.args.command c.self.invariant.0 (subst (λ (x : LocalState). is_rest x.part ≡ true) (sym is) c.requires.rest) (subst (λ (x : LocalState). x.spent ≡ 0) (sym is) c.requires.settled)
           (subst (λ (x : LocalState). IsCommandInBounds x.config c.args.command) (sym is) c.requires.bounds) (subst (λ (x : LocalState). x.before + works x.log + units_owed x.config.width x.rate c.args.command ≤ most_units) (sym is) c.requires.units) (subst (λ (x : LocalState). x.made + objects_of c.args.command ≤ most_objects) (sym is) c.requires.objects))

@@ -1,0 +1,27 @@
+-- Why no heap is opened, and why a command is not asked.
+use Rattle.std.specs.Prelude.{◌≡◌, ◌≢◌}
+use Rattle.block_store.specs.declared.Config.{Config}
+use Rattle.block_store.specs.Configs.{IsInBounds}
+use Rattle.rate_plan.specs.Rates.{IsRefusal}
+use Rattle.rate_plan.specs.declared.PlanFault.TheVariants as plans
+use Rattle.never_heap.specs.declared.Command.{Command}
+use Rattle.never_heap.specs.Bounds.{IsCommandInBounds}
+use Rattle.control_heap.specs.declared.control.OpenFault.{OpenFault}
+use Rattle.control_heap.specs.declared.control.OpenFault.TheVariants.{OutOfBounds, NotOneThread, LiveTooSmall, NoRate, NoMemory}
+use Rattle.control_heap.specs.declared.control.Refused.{Refused}
+use Rattle.control_heap.specs.declared.control.Refused.TheVariants as refusals
+use Rattle.control_heap.specs.Controls.{Control, CanOpen, HasLeft}
+
+-- when each fault comes: one at most fits a configuration, and none but the last where it can be
+-- opened
+abbrev pub IsOpenFault : Config → OpenFault → Type 0
+IsOpenFault c OutOfBounds = ¬ IsInBounds c
+IsOpenFault c NotOneThread = IsInBounds c × (c.threads ≢ 1)
+IsOpenFault c LiveTooSmall = IsInBounds c × (c.threads ≡ 1) × IsRefusal c plans.LiveTooSmall
+IsOpenFault c NoRate = IsInBounds c × (c.threads ≡ 1) × IsRefusal c plans.NoRate
+IsOpenFault c NoMemory = CanOpen c
+
+-- and each refusal of a command
+abbrev pub IsRefused : Control → Command → Refused → Type 0
+IsRefused h k refusals.OutOfBounds = ¬ IsCommandInBounds h.config k
+IsRefused h k refusals.NoLifeLeft = IsCommandInBounds h.config k × ¬ HasLeft h k

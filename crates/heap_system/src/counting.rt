@@ -1,0 +1,101 @@
+//! What an event makes of the numbers that a thread keeps: its account, the units made for the command
+//! in hand, the objects made, and the commands that are decided.
+
+ghost use Rattle.std.specs.Prelude.{◌≡◌, ◌≤◌, ◌<◌, ◌+◌, ◌^◌, ◌*◌, ◌&&◌, not, true, None, Some};
+ghost use Rattle.block_store.specs.Phases.{bit};
+ghost use Rattle.never_heap.specs.Steps.{makes_object};
+ghost use Rattle.heap_system.specs.Locals.{works, balance_on, balance_over, spent_got, made_got};
+
+use never_heap::{Command, Entry, Reply};
+use work_account::Account;
+
+/// An event by which a unit is made, or not, for a command that is told of so many.
+pub fn count(account: &mut Account, told: u64, unit: bool)
+    requires owed { unit ≡ true → told ≡ 0
+        → account.old.balance.paid < account.old.rate * account.old.object }
+    requires few { account.old.balance.units < 2 ^ 50 }
+    ensures { account.new
+        ≡ record account.old { balance = balance_on unit told account.old.balance } }
+{
+    if unit {
+        if told == 0 {
+            account.unit();
+        } else {
+            account.idle();
+        }
+    }
+}
+
+/// The units made for the command in hand, after such an event.
+pub fn spend(spent: u64, unit: bool) -> u64
+    requires { spent < 2 ^ 50 }
+    ensures { result ≡ spent_got None unit spent }
+{
+    if unit { spent + 1 } else { spent }
+}
+
+/// Whether what is so now was not so before.
+pub fn is_new(now: bool, before: bool) -> bool
+    ensures { result ≡ (now && not before) }
+{
+    now && !before
+}
+
+/// The reply to a command of so many blocks, whose price was paid.
+pub fn settle(account: &mut Account, reply: Reply, blocks: u32)
+    requires { account.old.balance.paid ≡ account.old.rate * blocks }
+    ensures { account.new
+        ≡ record account.old { balance = balance_over reply blocks account.old.balance } }
+{
+    match reply {
+        Reply::New(_) => account.publish(blocks),
+        _ => account.refuse(blocks),
+    }
+}
+
+/// Whether the command makes an object.
+pub fn makes_object(command: Command) -> bool
+    ensures { result ≡ makes_object command }
+{
+    matches!(command, Command::New { .. } | Command::Arr { .. })
+}
+
+/// How many objects are made after this reply to this command.
+pub fn made_after(made: u32, command: Command, reply: Reply) -> u32
+    requires { made < 2 ^ 31 }
+    ensures { result ≡ made_got command (Some reply) made }
+{
+    let makes = makes_object(command);
+    match reply {
+        Reply::New(_) => one_more(made, makes),
+        _ => made,
+    }
+}
+
+// One more object, where it is so.
+fn one_more(made: u32, makes: bool) -> u32
+    requires { made < 2 ^ 31 }
+    ensures { result ≡ made + bit makes }
+{
+    if makes { made + 1 } else { made }
+}
+
+/// One more than the commands in the log, where the one in hand is decided.
+pub fn if_decided(logged: usize, decided: bool) -> usize
+    requires { logged ≤ 2 ^ 60 }
+    ensures { result ≡ logged + bit decided }
+{
+    if decided { logged + 1 } else { logged }
+}
+
+/// The sum of the works of the entries.
+pub fn sum_of_works(entries: &[Entry]) -> u64
+    requires { works entries.now ≤ 2 ^ 60 }
+    ensures { result ≡ works entries.now }
+{
+    let mut sum = 0;
+    for entry in entries {
+        sum += entry.work;
+    }
+    sum
+}

@@ -1,0 +1,144 @@
+//! Calls over sources and sinks in memory, and the job that they are given.
+
+use never_heap::NoPace;
+use rtheap_core::{Exit, rtheap};
+use std::alloc::{AllocError, Global};
+use std::sync::Wait;
+use std::test::Fail;
+use std::thread::Threads;
+use trace_text::{MemSink, MemSource};
+
+/// A job with commands of every kind, on a heap whose rate is 7.
+pub const JOB: &[u8] = b"rtheap 1 threads 1 blocks 64 live 20 object 2 shared 0
+thread 0
+new 1 2
+set 2 5
+put 1 1 2
+get 3 1 1
+get 3 1 2
+say 3
+get 3 4 0
+get 3 2 0
+len 1
+len 4
+same 1 1
+same 1 2
+put 4 0 2
+say 1
+say 0
+len 0
+end
+";
+
+/// What a run of it writes.
+pub const ANSWERS: &[u8] = b"0 new 0.1 work 7
+0 ok
+0 ok
+0 int 5
+0 range
+0 int 5
+0 null
+0 kind
+0 len 2
+0 null
+0 yes
+0 no
+0 null
+0 ref 0.1
+0 ref 1.0
+0 len 0
+end cycles 1 work 7
+";
+
+/// What a replay of it writes.
+pub const IN_ORDER: &[u8] = b"start 1
+0 new 0.1 work 7
+0 ok
+0 ok
+0 int 5
+0 range
+0 int 5
+0 null
+0 kind
+0 len 2
+0 null
+0 yes
+0 no
+0 null
+0 ref 0.1
+0 ref 1.0
+0 len 0
+end cycles 1 work 7
+";
+
+/// The job of the key 7 with three commands for each thread.
+pub const MADE: &[u8] = b"rtheap 1 threads 4 blocks 4096 live 2000 object 16 shared 64
+thread 0
+new 2 7
+put 7 7 7
+new 12 3
+thread 1
+get 4 7 3
+nil 13
+nil 2
+thread 2
+set 14 2825084510
+same 11 12
+get 11 11 6
+thread 3
+new 10 6
+len 1
+set 5 1428539317
+end
+";
+
+/// What a call is given: its words, its input and in which pieces it comes, which calls of the
+/// source and the sink fail, and how much room the sink has.
+#[derive(Clone, Copy)]
+pub struct Call<'a> {
+    pub words: &'a [&'a str],
+    pub input: &'a [u8],
+    pub most: usize,
+    pub read_fails: &'a [u64],
+    pub write_fails: &'a [u64],
+    pub room: usize,
+}
+
+impl<'a> Call<'a> {
+    /// A call that nothing hinders.
+    pub fn of(words: &'a [&'a str], input: &'a [u8]) -> Call<'a> {
+        Call {
+            words,
+            input,
+            most: 100_000,
+            read_fails: &[],
+            write_fails: &[],
+            room: 1 << 20,
+        }
+    }
+}
+
+fn texts(alloc: Global, words: &[&str]) -> Result<Vec<String>, AllocError> {
+    let mut all = Vec::new(alloc);
+    for word in words {
+        all.push(String::from_str(alloc, word)?)?;
+    }
+    Ok(all)
+}
+
+/// Makes a call, and gives its exit and what it wrote.
+pub fn made<R: Threads + Wait + Sync>(
+    rt: &R,
+    alloc: Global,
+    call: &Call<'_>,
+) -> Result<(Exit, MemSink), Fail> {
+    let words = texts(alloc, call.words)?;
+    let bytes = Vec::from_slice(alloc, call.input)?;
+    let most = call.most.max(1);
+    let mut source = MemSource::new(bytes, most, Vec::from_slice(alloc, call.read_fails)?);
+    let mut sink = MemSink::new(alloc, call.room, Vec::from_slice(alloc, call.write_fails)?)
+        .ok()
+        .ok_or("memory")?;
+    let exit = rtheap(rt, alloc, &words, &mut source, &mut sink, &NoPace);
+    Ok((exit, sink))
+}

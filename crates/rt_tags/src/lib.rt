@@ -1,0 +1,37 @@
+//! A table of process tags on the heap: scripts of operations, run on threads, and their answers.
+#![tactic(auto)]
+
+ghost use Rattle.std.specs.Prelude.{◌≡◌, ◌⊎◌, ℕ, Some, List};
+ghost use Rattle.tag_table.specs.declared.operation.Operation.{Operation};
+ghost use Rattle.scripts.specs.Scripts.{Start, bad_line};
+ghost use Rattle.rt_tags.specs.declared.line.Header.{Header};
+ghost use Rattle.rt_tags.specs.Lines.{Tokens, tag_language, IsTagScript};
+
+mod exit;
+mod line;
+mod planning;
+mod printing;
+mod reading;
+mod running;
+mod script;
+#[cfg(test)]
+mod tests;
+mod top;
+
+pub use exit::TagExit;
+pub use line::Header;
+pub use script::{Fault, script_of};
+pub use top::tags;
+
+/// Lines are a script of tags, or one of them is the first that cannot stand at its place, and never
+/// both; and they are one script at most.
+pub fn lines_are_told_apart()
+    ensures either { (lines : List Tokens)
+        → ((h : Header) × (scripts : List (List Operation)) × IsTagScript lines h scripts)
+        ⊎ ((n : ℕ) × (bad_line tag_language Start 1 lines ≡ Some n)) }
+    ensures apart { (lines : List Tokens) (h : Header) (scripts : List (List Operation)) (n : ℕ)
+        → IsTagScript lines h scripts → bad_line tag_language Start 1 lines ≡ Some n → ⊥ }
+    ensures one { (lines : List Tokens) (h k : Header) (scripts others : List (List Operation))
+        → IsTagScript lines h scripts → IsTagScript lines k others
+        → (h ≡ k) × (scripts ≡ others) }
+{}

@@ -1,0 +1,145 @@
+-- What an ended run shows.
+use Rattle.std.proofs.Common.{ℕ, zero, suc, ◌+◌, ◌-◌, ◌*◌, ◌≡◌, ◌≤◌, List, [], ◌∷◌, map, length, get_or, refl, sym, ap, ◌∙◌, subst, arith, zero-add}
+use Rattle.atom_board.specs.Mutators.{ClosedState}
+use Rattle.block_store.specs.declared.Config.{Config}
+use Rattle.never_heap.specs.declared.Command.{Command}
+use Rattle.never_heap.specs.declared.Entry.{Entry}
+use Rattle.never_heap.specs.Given.{given}
+use Rattle.never_heap.specs.Histories.{HistoryItem, part, parts_from, starts_in, work_in}
+use Rattle.never_heap.specs.Licensed.{Licensed, StartsSmall, NoFulls}
+use Rattle.never_heap.specs.Runs.{IsRun}
+use Rattle.rate_plan.specs.Rates.{IsRate}
+use Rattle.cycle_tally.specs.Kept.{most_given}
+use Rattle.trace_text.specs.Jobs.{Job}
+use Rattle.heap_system.specs.Machines.{Run, IsAfterTurns}
+use Rattle.heap_system.specs.Costs.{units_so_far}
+use Rattle.heap_system.specs.Systems.{AllDone, IsFinished}
+use Rattle.threaded_runs.specs.Ends.{HasHistory, commands_of, job_of}
+
+-- where the commands of each part are the trace of its thread, those of all parts are all traces
+traces_from : (h : List HistoryItem) (t n : ℕ) (traces : List (List Command)) → length traces ≡ n
+    → ((u : ℕ) → commands_of (part (t + u) h) ≡ get_or traces u [])
+    → map commands_of (parts_from t n h) ≡ traces
+traces_from h t zero [] e each = refl
+traces_from h t zero (x ∷ xs) e each = absurd cc
+traces_from h t (suc n) [] e each = absurd cc
+traces_from h t (suc n) (x ∷ xs) e each =
+    let first : commands_of (part t h) ≡ x =
+    subst (λ k. commands_of (part k h) ≡ x) (zero_more t) (each 0) in
+    let rest : map commands_of (parts_from (t + 1) n h) ≡ xs =
+    traces_from h (t + 1) n xs (omega (arith, e))
+    (λ u. subst (λ k. commands_of (part k h) ≡ get_or xs u []) (one_more t u) (each (suc u))) in
+    λ i. first i ∷ rest i
+  where
+    zero_more : (t : ℕ) → t + 0 ≡ t
+    zero_more t = omega arith
+
+    one_more : (t u : ℕ) → t + suc u ≡ (t + 1) + u
+    one_more t u = omega arith
+
+pub traces_shown : (c : Config) (traces : List (List Command)) (logs : List (List Entry)) (cycles : ℕ)
+    → IsFinished c traces logs cycles → map commands_of logs ≡ traces
+traces_shown c traces logs cycles f =
+    ap (map commands_of) f.parts_logged
+    ∙ traces_from f.run.order 0 c.threads traces f.job.bounds.threads
+    (λ u. subst (λ k. commands_of (part k f.run.order) ≡ get_or traces u []) (sym (zero-add u))
+    (f.traces_whole u))
+
+-- the job that was run is the one that is shown
+job_shown : (c : Config) (traces : List (List Command)) (f : ClosedState) → f.config ≡ c
+    → IsFinished c traces f.logs f.cycles → (job : Job)
+    → job ≡ record { config = c; traces = traces } → job_of f ≡ job
+job_shown c traces f same ended job is =
+    let shown = traces_shown c traces f.logs f.cycles ended in
+    (λ i. record { config = same i; traces = shown i }) ∙ sym is
+
+-- what holds of each run after some turns
+pub record TurnLaws : Type 0 where
+  pub licensed : (c : Config) (r : Run) → IsAfterTurns c r → Licensed c r.order
+  pub never : (c : Config) (r : Run) → IsAfterTurns c r → StartsSmall c r.order → NoFulls r.order
+  pub few : (c : Config) (r : Run) (rate : ℕ) → IsAfterTurns c r → IsRate c rate
+      → (z : ℕ) → z ≤ starts_in r.order → given c.width r.order z ≤ most_given c rate
+  pub least : (c : Config) (r : Run) → IsAfterTurns c r
+      → (starts_in r.order - 1) * c.blocks ≤ units_so_far c r
+  pub most : (c : Config) (r : Run) → IsAfterTurns c r
+      → units_so_far c r ≤ 2 * c.blocks * starts_in r.order
+  pub done : (c : Config) (r : Run) → IsAfterTurns c r → AllDone c r.state
+      → units_so_far c r ≡ work_in r.order
+
+-- the units and cycles of the order are those that are shown
+least_shown : (blocks units cycles work starts shown : ℕ) → (starts - 1) * blocks ≤ units
+    → units ≡ work → cycles ≡ starts → work ≡ shown → (cycles - 1) * blocks ≤ shown
+least_shown blocks units cycles work starts shown l u s w =
+    rw s (subst (λ k. (starts - 1) * blocks ≤ k) (u ∙ w) l)
+
+most_shown : (blocks units cycles work starts shown : ℕ) → units ≤ 2 * blocks * starts
+    → units ≡ work → cycles ≡ starts → work ≡ shown → shown ≤ 2 * blocks * cycles
+most_shown blocks units cycles work starts shown m u s w =
+    rw s (subst (λ k. k ≤ 2 * blocks * starts) (u ∙ w) m)
+
+-- the order of the turns is the history, of which this holds after all turns
+module _ (laws : TurnLaws) where
+  by_turns_of : (c : Config) (traces : List (List Command)) (logs : List (List Entry)) (cycles : ℕ)
+      → (e : IsFinished c traces logs cycles) → IsAfterTurns c e.run
+  by_turns_of c traces logs cycles e =
+      record { traces = traces; job = e.job; turns = e.turns; by_turns = e.by_turns }
+
+  order_is_run : (c : Config) (traces : List (List Command)) (logs : List (List Entry)) (cycles : ℕ)
+      → (e : IsFinished c traces logs cycles)
+      → IsRun c e.by_turns.opening.rate traces e.run.order
+  order_is_run c traces logs cycles e = record {
+    legal = e.legal;
+    traces_whole = e.traces_whole;
+    licensed = laws.licensed c e.run (by_turns_of c traces logs cycles e);
+    right_work = e.right_work e.by_turns.opening.rate e.by_turns.opening.planned;
+  }
+
+  pub has_history : (f : ClosedState) → IsFinished f.config (map commands_of f.logs) f.logs f.cycles
+      → HasHistory f
+  has_history f e =
+      let traces = map commands_of f.logs in
+      let after = by_turns_of f.config traces f.logs f.cycles e in
+      let units = laws.done f.config e.run after e.done in
+      record {
+        rate = e.by_turns.opening.rate;
+        is_rate = e.by_turns.opening.planned;
+        history = e.run.order;
+        is_run = order_is_run f.config traces f.logs f.cycles e;
+        turned = e;
+        same = refl;
+        parts_logged = sym e.parts_logged;
+        starts_counted = sym e.starts;
+        work_counted = e.works;
+        none_full = laws.never f.config e.run after;
+        few_given = laws.few f.config e.run e.by_turns.opening.rate after
+            e.by_turns.opening.planned;
+        least_units = least_shown _ _ _ _ _ _ (laws.least f.config e.run after) units e.starts
+            e.works;
+        most_units = most_shown _ _ _ _ _ _ (laws.most f.config e.run after) units e.starts
+            e.works;
+      }
+
+  -- its history is the order of the turns
+  pub history_is : (f : ClosedState)
+      → (e : IsFinished f.config (map commands_of f.logs) f.logs
+      f.cycles)
+      → (has_history f e).history ≡ e.run.order
+  unfolding has_history
+  history_is f e = refl
+
+  -- both, where the job is known by its parts
+  pub run_shows : (c k : Config) (ts traces : List (List Command)) (f : ClosedState) (job : Job)
+      → f.config ≡ k → k ≡ c → ts ≡ traces → IsFinished k ts f.logs f.cycles
+      → record { config = c; traces = traces } ≡ job
+      → (job_of f ≡ job) × HasHistory f
+  run_shows c k ts traces f job same config whole ended is =
+      let made : IsFinished c traces f.logs f.cycles =
+      subst (λ xs. IsFinished c xs f.logs f.cycles) whole
+      (subst (λ q. IsFinished q ts f.logs f.cycles) config ended) in
+      let shown = traces_shown k ts f.logs f.cycles ended in
+      let by_logs : IsFinished k (map commands_of f.logs) f.logs f.cycles =
+      subst (λ xs. IsFinished k xs f.logs f.cycles) (sym shown) ended in (
+        job_shown c traces f (same ∙ config) made job (sym is),
+        has_history f (subst (λ q. IsFinished q (map commands_of f.logs) f.logs f.cycles)
+            (sym same) by_logs),
+      )
