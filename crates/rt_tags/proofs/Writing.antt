@@ -17,37 +17,37 @@ pub written_none : (held : Option (List ℕ)) (told : List (List Tag)) → IsWri
 written_none held told = record { done = []; appended = appends_none held; rest = refl }
 
 module _ (a b : Option (List ℕ)) (told : List (List Tag)) (t : ℕ) (so_far : IsWrittenTo a b told t)
-    where
-  pub written_all : length told ≤ t → Appends a b (lines_from 0 told)
-  written_all past =
-      subst (λ (text : List ℕ). Appends a b text)
-      (sym (append-nil so_far.done)
-      ∙ ap (λ (l : List (List Tag)). so_far.done ++ lines_from t l) (sym (drop_all t told past))
-      ∙ so_far.rest) so_far.appended
+  where
+    pub written_all : length told ≤ t → Appends a b (lines_from 0 told)
+    written_all past =
+        subst (λ (text : List ℕ). Appends a b text)
+        (sym (append-nil so_far.done)
+        ∙ ap (λ (l : List (List Tag)). so_far.done ++ lines_from t l) (sym (drop_all t told past))
+        ∙ so_far.rest) so_far.appended
 
-  module _ (c : Option (List ℕ)) (tags : List Tag) (low : t < length told)
-      (is : tags ≡ get_or told t tags) where
-    abbrev lines : List ℕ
-    lines = flat_map (answer_line t) tags
+    module _ (c : Option (List ℕ)) (tags : List Tag) (low : t < length told)
+        (is : tags ≡ get_or told t tags) where
+      abbrev lines : List ℕ
+      lines = flat_map (answer_line t) tags
 
-    abbrev others : List ℕ
-    others = lines_from (t + 1) (drop (t + 1) told)
+      abbrev others : List ℕ
+      others = lines_from (t + 1) (drop (t + 1) told)
 
-    next : so_far.done ++ (lines ++ others) ≡ lines_from 0 told
-    next =
-        ap (λ (x : List Tag). so_far.done ++ (flat_map (answer_line t) x ++ others)) is
-        ∙ sym (at_drop_more (λ (l : List (List Tag)). so_far.done ++ lines_from t l) told t tags low)
-        ∙ so_far.rest
+      next : so_far.done ++ (lines ++ others) ≡ lines_from 0 told
+      next =
+          ap (λ (x : List Tag). so_far.done ++ (flat_map (answer_line t) x ++ others)) is
+          ∙ sym (at_drop_more (λ (l : List (List Tag)). so_far.done ++ lines_from t l) told t tags low)
+          ∙ so_far.rest
 
-    pub written_more : Appends b c lines → IsWrittenTo a c told (t + 1)
-    written_more put = record {
-      done = so_far.done ++ lines;
-      appended = appends_in_turn a b c so_far.done lines so_far.appended put;
-      rest = append_assoc so_far.done lines others ∙ next;
-    }
+      pub written_more : Appends b c lines → IsWrittenTo a c told (t + 1)
+      written_more put = record {
+        done = so_far.done ++ lines;
+        appended = appends_in_turn a b c so_far.done lines so_far.appended put;
+        rest = append_assoc so_far.done lines others ∙ next;
+      }
 
-    pub written_front : AppendsPrefix b c lines → AppendsPrefix a c (lines_from 0 told)
-    written_front put =
-        subst (λ (text : List ℕ). AppendsPrefix a c text) next
-        (front_in_turn a b c so_far.done (lines ++ others) so_far.appended
-        (front_longer b c lines others put))
+      pub written_front : AppendsPrefix b c lines → AppendsPrefix a c (lines_from 0 told)
+      written_front put =
+          subst (λ (text : List ℕ). AppendsPrefix a c text) next
+          (front_in_turn a b c so_far.done (lines ++ others) so_far.appended
+          (front_longer b c lines others put))

@@ -10,10 +10,7 @@ use trace_text::{Failed, LineBuffer, Sink};
 
 /// Writes the answers of all threads, those of thread 0 first, each as a line by one `put`. At the
 /// first `put` that fails it stops, and a prefix of the lines is written.
-pub fn write_answers<K: Sink>(
-    told: &[Vec<Option<(u64, u64)>>],
-    sink: &mut K,
-) -> Result<(), Failed>
+pub fn write_answers<K: Sink>(told: &[Vec<Option<(u64, u64)>>], sink: &mut K) -> Result<(), Failed>
     ensures written { OnOk result (Appends (K.held sink.old) (K.held sink.new)
         (lines_from 0 (map (λ v. v.items) told.now))) }
     ensures prefix { OnErr result (AppendsPrefix (K.held sink.old) (K.held sink.new)

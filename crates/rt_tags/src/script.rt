@@ -8,8 +8,8 @@ ghost use Rattle.rt_tags.specs.Parts.{Blames, HasTold, IsTurned, IsTurn};
 
 use crate::line::{Header, Line, header_of, line_of};
 use call_exits::Refusal;
-use tag_table::Operation;
 use std::alloc::{AllocFailed, Global};
+use tag_table::Operation;
 use trace_text::first_line;
 
 /// Why an input is no script.
