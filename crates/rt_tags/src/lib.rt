@@ -7,6 +7,8 @@ ghost use Rattle.scripts.specs.Scripts.{Start, bad_line};
 ghost use Rattle.rt_tags.specs.declared.line.Header.{Header};
 ghost use Rattle.rt_tags.specs.Lines.{Tokens, tag_language, IsTagScript};
 
+#[cfg(test)]
+mod calls;
 mod exit;
 mod line;
 mod planning;
@@ -14,6 +16,8 @@ mod printing;
 mod reading;
 mod running;
 mod script;
+#[cfg(test)]
+mod testing;
 #[cfg(test)]
 mod tests;
 mod top;

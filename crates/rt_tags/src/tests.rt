@@ -24,12 +24,15 @@ end
         value: 5,
         quality: (1 << 62) - 1,
     };
+    let [first, second] = scripts.as_slice() else {
+        return Err("not two threads".into());
+    };
     assert_eq!(rt;
-        scripts[0].as_slice(),
+        first.as_slice(),
         [Operation::Read { place: 0 }, write].as_slice()
     );
     assert_eq!(rt;
-        scripts[1].as_slice(),
+        second.as_slice(),
         [Operation::Clear { place: 1 }].as_slice()
     );
     Ok(())

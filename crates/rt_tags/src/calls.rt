@@ -1,0 +1,131 @@
+//! Whole calls: the lines that they write, their statuses, and threads beside each other.
+
+use crate::testing::{Call, FirstTwo, made};
+use never_heap::NoPace;
+use std::alloc::Global;
+use std::collections::HashSet;
+use std::process::Abort;
+use std::sync::Wait;
+use std::test::Fail;
+use std::thread::Threads;
+
+/// One thread's operations on two places, and their lines.
+const OPERATIONS: &str = "thread 0
+read 0
+write 0 5 1
+write 0 6 2
+read 0
+clear 0
+read 0
+end
+";
+
+const LINES: &str = "0 none\n0 none\n0 5 1\n0 6 2\n0 6 2\n0 none\n";
+
+/// Whether a call ends with these statuses and lines.
+fn ends<R: Threads + Wait + Sync + Abort>(
+    rt: &R,
+    alloc: Global,
+    call: &Call<'_>,
+    statuses: (u8, u8),
+    lines: &str,
+) -> Result<(), Fail> {
+    let (exit, sink) = made(rt, alloc, call, &NoPace)?;
+    assert_eq!(rt; (exit.status, exit.due), statuses);
+    assert_eq!(rt; exit.run.is_some(), exit.due == 0);
+    assert_eq!(rt; sink.bytes(), lines.as_bytes());
+    Ok(())
+}
+
+#[test]
+fn a_table_is_kept_where_its_heap_has_a_rate(rt: HostRuntime) -> Result<(), Fail> {
+    let alloc = rt.alloc();
+    let rows = [
+        (64, (0, 0), LINES),
+        (11, (0, 0), LINES),
+        (10, (4, 4), "rt_tags: no rate\n"),
+    ];
+    for (blocks, statuses, lines) in rows {
+        let input = format!(in alloc; "tags 1 threads 1 tags 2 blocks {blocks}\n{OPERATIONS}")?;
+        ends(&rt, alloc, &Call::of(&input), statuses, lines)?;
+    }
+    Ok(())
+}
+
+#[test]
+fn each_refusal_has_its_status_and_line(rt: HostRuntime) -> Result<(), Fail> {
+    let alloc = rt.alloc();
+    let input = format!(in alloc; "tags 1 threads 1 tags 2 blocks 64\n{OPERATIONS}")?;
+    let bad = "tags 1 threads 1 tags 2 blocks 64\nthread 0\nread 2\nend\n";
+    ends(&rt, alloc, &Call::of(bad), (3, 3), "rt_tags: line 3\n")?;
+    let with_words = Call {
+        words: &["run"],
+        ..Call::of(&input)
+    };
+    ends(&rt, alloc, &with_words, (2, 2), "rt_tags: usage\n")?;
+    let unread = Call {
+        read_fails: &[1],
+        ..Call::of(&input)
+    };
+    ends(&rt, alloc, &unread, (5, 5), "rt_tags: read fault\n")?;
+    let unwritten = Call {
+        write_fails: &[3],
+        ..Call::of(&input)
+    };
+    ends(&rt, alloc, &unwritten, (6, 0), "0 none\n0 none\n0 5 1\n")
+}
+
+#[test]
+fn threads_run_beside_each_other(rt: HostRuntime) -> Result<(), Fail> {
+    let input = "tags 1 threads 2 tags 1 blocks 64
+thread 0
+read 0
+read 0
+thread 1
+read 0
+read 0
+end
+";
+    let pace = FirstTwo::new();
+    let (exit, sink) = made(&rt, rt.alloc(), &Call::of(input), &pace)?;
+    assert_eq!(rt; (exit.status, exit.due), (0, 0));
+    assert_eq!(rt;
+        sink.bytes(),
+        b"0 none\n0 none\n1 none\n1 none\n".as_slice()
+    );
+    assert!(rt; pace.meeting.took_place());
+    Ok(())
+}
+
+/// How often each of four threads writes a pair that nobody else writes.
+const WRITES: u64 = 4000;
+
+#[test]
+fn no_pair_is_shown_twice(rt: HostRuntime) -> Result<(), Fail> {
+    let alloc = rt.alloc();
+    let mut input = String::from_str(alloc, "tags 1 threads 4 tags 100 blocks 2048\n")?;
+    for t in 0..4u64 {
+        input.push_str(format!(in alloc; "thread {t}\n")?.as_str())?;
+        for j in 0..WRITES {
+            input.push_str(format!(in alloc; "write {} {j} {t}\n", j % 100)?.as_str())?;
+        }
+    }
+    input.push_str("end\n")?;
+    let (exit, sink) = made(&rt, alloc, &Call::of(&input), &NoPace)?;
+    assert_eq!(rt; (exit.status, exit.due), (0, 0));
+    let text = std::str::from_utf8(sink.bytes()).ok().ok_or("no text")?;
+    let mut shown = HashSet::new(alloc);
+    let mut lines = 0u64;
+    for line in text.lines() {
+        lines = lines.saturating_add(1);
+        let Some((_thread, pair)) = line.split_once(' ') else {
+            return Err("a line of one word".into());
+        };
+        if pair != "none" {
+            let fresh = shown.insert(String::from_str(alloc, pair)?)?;
+            assert!(rt; fresh, "{line}");
+        }
+    }
+    assert_eq!(rt; lines, 4 * WRITES);
+    Ok(())
+}
