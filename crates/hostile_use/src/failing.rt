@@ -43,10 +43,10 @@ fn front(text: &[u8], lines: u64, room: usize) -> &[u8] {
 }
 
 fn lines_of(text: &[u8]) -> u64 {
-    let mut count = 0;
+    let mut count: u64 = 0;
     for byte in text {
         if *byte == b'\n' {
-            count += 1;
+            count = count.saturating_add(1);
         }
     }
     count

@@ -1,6 +1,8 @@
 //! Two threads, of which the first is held after any number of its turns while the other goes on.
 
-ghost use Rattle.std.specs.Prelude.{◌≡◌, IfOk, IfSome};
+ghost use Rattle.std.specs.Prelude.{◌≡◌};
+ghost use Rattle.rate_plan.specs.Rates.{IsAdmitted};
+ghost use Rattle.trace_text.specs.Jobs.{IsJobInBounds};
 
 use block_store::{Config, OutOfMemory, Width};
 use heap_system::System;
@@ -51,30 +53,26 @@ impl Model for Held {
         × IfSome h.system.ordered (λ o. h.left ≤ o.left) };
 }
 
-impl Held {
-    /// The opening of a job of two threads.
-    fn opening(alloc: Global, job: Job) -> Result<Option<Held>, OutOfMemory> {
-        if job.config.threads != 2 || plan(&job.config).is_err() {
-            return Ok(None);
-        }
-        let system = System::new_ordered(alloc, job.config, job.traces, TURNS)?;
-        Ok(Some(Held {
-            system,
-            left: TURNS,
-        }))
-    }
+/// The opening of a job of two threads.
+fn opened(alloc: Global, job: Job) -> Result<Held, OutOfMemory>
+    requires bounds { IsJobInBounds job }
+    requires admitted { IsAdmitted job.config }
+    requires two { job.config.threads ≡ 2 }
+{
+    let system = System::new_ordered(alloc, job.config, job.traces, TURNS)?;
+    Ok(Held {
+        system,
+        left: TURNS,
+    })
+}
 
+impl Held {
     /// One turn of the first or the second thread.
     fn turn(&mut self, second: bool) {
         if self.left > 0 {
             self.system.turn(u32::from(second));
             self.left -= 1;
         }
-    }
-
-    /// Whether both threads are done.
-    fn is_done(&self) -> bool {
-        self.system.local(0).done() && self.system.local(1).done()
     }
 }
 
@@ -83,11 +81,16 @@ impl Held {
 fn history_at(alloc: Global, held: u32) -> Result<Option<Vec<Happened>>, Fail> {
     let bytes = Vec::from_slice(alloc, JOB)?;
     let mut source = MemSource::new(bytes, 1000, Vec::new(alloc));
-    let job = read_trace(alloc, &mut source).map_err(|_| "no job")?;
-    let opening = Held::opening(alloc, job).map_err(|_| "memory")?;
-    let Some(mut threads) = opening else {
+    let Ok(job) = read_trace(alloc, &mut source) else {
         return Ok(None);
     };
+    if job.config.threads != 2 {
+        return Ok(None);
+    }
+    let Ok(_rate) = plan(&job.config) else {
+        return Ok(None);
+    };
+    let mut threads = opened(alloc, job).map_err(|_| "memory")?;
     for _turn in 0..held {
         threads.turn(false);
     }
