@@ -6,6 +6,7 @@ use Rattle.rate_plan.specs.Rates.{IsAdmitted}
 use Rattle.never_heap.specs.declared.Command.{Command}
 use Rattle.never_heap.specs.Jobs.{IsTraceInBounds}
 use Rattle.heap_system.specs.Machines.{IsJob}
+use Rattle.heap_system.proofs.Lived.{job_of_text}
 use Rattle.heap_system.proofs.schedules.three_threads.Goals as goal
 
 abbrev config : Config
@@ -16,14 +17,14 @@ unfolding tree
 admitted = record { opens = omega arith; room = omega arith }
 
 all_three : (xs ys zs : List Command) → IsTraceInBounds config xs → IsTraceInBounds config ys → IsTraceInBounds config zs → IsJob config (xs ∷ ys ∷ zs ∷ [])
-all_three xs ys zs px py pz = record {
-  bounds = record {
-    config = record { some_thread = omega arith; threads = omega arith; some_block = omega arith; blocks = omega arith; live = omega arith; some_object = omega arith; object = omega arith; shared = omega arith };
-    threads = refl;
-    each = (px, (py, (pz, tt)));
-  };
-  plan = admitted;
-}
+all_three xs ys zs px py pz =
+    job_of_text config (xs ∷ ys ∷ zs ∷ [])
+    (record {
+      config = record { some_thread = omega arith; threads = omega arith; some_block = omega arith; blocks = omega arith; live = omega arith; some_object = omega arith; object = omega arith; shared = omega arith };
+      threads = refl;
+      each = (px, (py, (pz, tt)));
+    })
+    admitted
 
 pub new-requires : goal.new-requires
 new-requires c =
