@@ -27,10 +27,10 @@ admitted Eight = record { opens = omega arith; room = omega arith }
 
 pub both : (w : Width) (xs ys : List Command) → IsTraceInBounds (config w) xs → IsTraceInBounds (config w) ys → IsJob (config w) (xs ∷ ys ∷ [])
 both w xs ys px py = job_of_text (config w) (xs ∷ ys ∷ []) (record {
-    config = record { some_thread = omega arith; threads = omega arith; some_block = omega arith; blocks = omega arith; live = omega arith; some_object = omega arith; object = omega arith; shared = omega arith };
-    threads = refl;
-    each = (px, (py, tt));
-  }) (admitted w)
+  config = record { some_thread = omega arith; threads = omega arith; some_block = omega arith; blocks = omega arith; live = omega arith; some_object = omega arith; object = omega arith; shared = omega arith };
+  threads = refl;
+  each = (px, (py, tt));
+}) (admitted w)
 
 pub both_of : (w : Width) (c : Config) (xs ys : List Command) → c ≡ config w → IsTraceInBounds c xs → IsTraceInBounds c ys → IsJob c (xs ∷ ys ∷ [])
 both_of w c xs ys is px py = subst (λ x. IsJob x (xs ∷ ys ∷ [])) (sym is) (both w xs ys (subst (λ x. IsTraceInBounds x xs) is px) (subst (λ x. IsTraceInBounds x ys) is py))
@@ -46,10 +46,10 @@ small_admitted Eight = record { opens = omega arith; room = omega arith }
 
 lone_here : (w : Width) (xs : List Command) → IsTraceInBounds (small w) xs → IsJob (small w) (xs ∷ [])
 lone_here w xs px = job_of_text (small w) (xs ∷ []) (record {
-    config = record { some_thread = omega arith; threads = omega arith; some_block = omega arith; blocks = omega arith; live = omega arith; some_object = omega arith; object = omega arith; shared = omega arith };
-    threads = refl;
-    each = (px, tt);
-  }) (small_admitted w)
+  config = record { some_thread = omega arith; threads = omega arith; some_block = omega arith; blocks = omega arith; live = omega arith; some_object = omega arith; object = omega arith; shared = omega arith };
+  threads = refl;
+  each = (px, tt);
+}) (small_admitted w)
 
 pub lone : (w : Width) (c : Config) (xs : List Command) → c ≡ small w → IsTraceInBounds c xs → IsJob c (xs ∷ [])
 lone w c xs is px = subst (λ x. IsJob x (xs ∷ [])) (sym is) (lone_here w xs (subst (λ x. IsTraceInBounds x xs) is px))

@@ -330,7 +330,6 @@ pub made_low : (k : Command) (r : Reply) (n : ℕ) → made_got k (Some r) n ≤
 made_low k (replies.New a) n = omega arith
 made_low k _ n = omega arith
 
-
 -- a thread with its command in the log
 abbrev pub answered : LocalState → Reply → LocalState
 answered l reply = record l {

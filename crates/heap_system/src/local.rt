@@ -20,7 +20,9 @@ ghost use Rattle.sweep_steps.specs.Rows.{sweeping};
 ghost use Rattle.heap_system.specs.Locals.{LocalReads, HasGot, is_done, is_rest, is_build, is_at_gate, is_in_command, is_marking, is_sweeping, is_on_way_out, part_want, part_step, local_got, at_start, turn_of, is_last, pass_by, first_part, errand_of, command_of, op_wanted, owed, made_got, works, entry_of, balance_over, commands_decided, begun};
 
 use crate::Turn;
-use crate::counting::{count, if_decided, is_new, made_after, makes_object, settle, spend, sum_of_works};
+use crate::counting::{
+    count, if_decided, is_new, made_after, makes_object, settle, spend, sum_of_works,
+};
 use barrier_steps::FieldPass;
 use block_store::{Config, OutOfMemory, PhaseWord, Places};
 use build_steps::BuildPass;

@@ -30,6 +30,6 @@ new-requires-then-makes_object-clause-serial c =
     let low : length c.self.inside.log.items < length c.self.inside.trace.items = subst (λ (l : LocalState). length l.log < length l.trace) (sym c.self.view_is) c.requires.command in
     let long : c.len.result ≡ length c.self.inside.log.items = c.len.ensures ∙ omega (arith, c.self.inside.log.ok.0) in
     let few = serial_low (view_of c.self.inside) c.self.invariant.0 c.index.result.now
-        (c.index.ensures ∙ ap (λ n. get_or c.self.inside.trace.items n c.index.result.now) long ∙ get_or_default c.self.inside.trace.items (length c.self.inside.log.items) c.index.result.now (commands.Nil 0) low)
-        (sym c.makes_object.ensures ∙ c.if-makes_object.true) in
+    (c.index.ensures ∙ ap (λ n. get_or c.self.inside.trace.items n c.index.result.now) long ∙ get_or_default c.self.inside.trace.items (length c.self.inside.log.items) c.index.result.now (commands.Nil 0) low)
+    (sym c.makes_object.ensures ∙ c.if-makes_object.true) in
     (omega arith, omega (arith, few))
