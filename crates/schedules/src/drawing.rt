@@ -69,9 +69,9 @@ fn drawn_trace(
     Ok(trace)
 }
 
-// Any command; about a quarter of them make an object.
+// Any command; about three in eight of them make an object.
 fn drawn_command(draws: &mut Lcg64Xsh32) -> Command {
-    let kind = draws.next_word() % 21;
+    let kind = draws.next_word() % 24;
     let d = register(draws);
     let s = register(draws);
     let v = register(draws);
@@ -79,21 +79,21 @@ fn drawn_command(draws: &mut Lcg64Xsh32) -> Command {
     let i = u64::from(draws.next_word() % 5);
     let length = draws.next_word() % 12;
     match kind {
-        0..=4 => Command::New { d, fields: length },
-        5 => Command::Arr {
+        0..=7 => Command::New { d, fields: length },
+        8 => Command::Arr {
             d,
             elements: length,
         },
-        6 => Command::Set { d, value: i },
-        7 => Command::Nil { d },
-        8 => Command::Mov { d, s },
-        9 | 10 => Command::Get { d, s, i },
-        11 | 12 => Command::Put { s, i, v },
-        13 => Command::Len { s },
-        14 => Command::Same { a: d, b: s },
-        15 => Command::Say { s },
-        16 | 17 => Command::Swap { s, i, v },
-        18 | 19 => Command::Cas { s, i, a: d, v },
+        9 => Command::Set { d, value: i },
+        10 => Command::Nil { d },
+        11 => Command::Mov { d, s },
+        12 | 13 => Command::Get { d, s, i },
+        14 | 15 => Command::Put { s, i, v },
+        16 => Command::Len { s },
+        17 => Command::Same { a: d, b: s },
+        18 => Command::Say { s },
+        19 | 20 => Command::Swap { s, i, v },
+        21 | 22 => Command::Cas { s, i, a: d, v },
         _ => Command::Idle { units },
     }
 }

@@ -3,9 +3,10 @@
 //! of records that grows beyond the live limit.
 
 ghost use Rattle.std.specs.Prelude.{◌<◌, map};
-ghost use Rattle.heap_system.specs.Machines.{IsJob};
+ghost use Rattle.never_heap.specs.Jobs.{IsJobInBounds};
 ghost use Rattle.plain_runs.specs.Happenings.{history};
 ghost use Rattle.plain_runs.specs.Ranges.{IsHistoryInBounds};
+ghost use Rattle.rate_plan.specs.Rates.{IsAdmitted};
 
 use crate::drawing::{chain_traces, drawn_heap, drawn_traces};
 use crate::{Schedule, replay};
@@ -31,7 +32,8 @@ fn run_of(
     traces: Vec<Vec<Command>>,
     schedule: Schedule,
 ) -> Result<Option<Vec<Happened>>, OutOfMemory>
-    requires { IsJob c (map (λ v. v.items) traces.items) }
+    requires job { IsJobInBounds c (map (λ v. v.items) traces.items) }
+    requires plan { IsAdmitted c }
 {
     let mut system = System::new_ordered(alloc, c, traces, TURNS)?;
     replay(&mut system, schedule, TURNS);

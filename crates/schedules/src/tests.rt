@@ -2,9 +2,10 @@
 //! in 4 and 7 turns, and the other reads the element twice, in 7 turns each, where nobody is in the
 //! way at the gate.
 
-ghost use Rattle.std.specs.Prelude.{IfOk, map};
+ghost use Rattle.std.specs.Prelude.{◌^◌, ◌≤◌, IfOk, map};
 ghost use Rattle.block_store.specs.declared.Width.TheVariants as Width;
 ghost use Rattle.heap_system.specs.Machines.{IsJob};
+ghost use Rattle.heap_system.specs.Systems.{commands_in};
 
 use crate::{Schedule, replay};
 use block_store::{Config, OutOfMemory, Value, Width};
@@ -22,9 +23,10 @@ const TWO: Config = Config {
 };
 
 fn writer_and_reader(alloc: Global) -> Result<Vec<Vec<Command>>, OutOfMemory>
-    ensures { IfOk result (λ v. IsJob
+    ensures job { IfOk result (λ v. IsJob
         (record { width = Width.Four; threads = 2; blocks = 64; live = 20; object = 2; shared = 4 })
         (map (λ trace. trace.items) v.items)) }
+    ensures few { IfOk result (λ v. commands_in (map (λ trace. trace.items) v.items) ≤ 2 ^ 32) }
 {
     let set = Command::Set { d: 1, value: 7 };
     let put = Command::Put { s: 0, i: 2, v: 1 };
