@@ -97,21 +97,24 @@ end
     Ok(())
 }
 
-/// How often each of four threads writes a pair that nobody else writes.
-const WRITES: u64 = 4000;
-
-#[test]
-fn no_pair_is_shown_twice(rt: HostRuntime) -> Result<(), Fail> {
-    let alloc = rt.alloc();
-    let mut input = String::from_str(alloc, "tags 1 threads 4 tags 100 blocks 2048\n")?;
-    for t in 0..4u64 {
+/// Whether writes by threads beside each other, each of a pair that nobody else writes, show no
+/// pair twice.
+fn shows_none_twice<R: Threads + Wait + Sync + Abort>(
+    rt: &R,
+    alloc: Global,
+    (threads, tags, blocks): (u64, u64, u64),
+    writes: u64,
+) -> Result<(), Fail> {
+    let mut input = format!(in alloc; "tags 1 threads {threads} tags {tags} blocks {blocks}\n")?;
+    for t in 0..threads {
         input.push_str(format!(in alloc; "thread {t}\n")?.as_str())?;
-        for j in 0..WRITES {
-            input.push_str(format!(in alloc; "write {} {j} {t}\n", j % 100)?.as_str())?;
+        for j in 0..writes {
+            let place = j.checked_rem(tags).unwrap_or(0);
+            input.push_str(format!(in alloc; "write {place} {j} {t}\n")?.as_str())?;
         }
     }
     input.push_str("end\n")?;
-    let (exit, sink) = made(&rt, alloc, &Call::of(&input), &NoPace)?;
+    let (exit, sink) = made(rt, alloc, &Call::of(&input), &NoPace)?;
     assert_eq!(rt; (exit.status, exit.due), (0, 0));
     let text = std::str::from_utf8(sink.bytes()).ok().ok_or("no text")?;
     let mut shown = HashSet::new(alloc);
@@ -126,6 +129,24 @@ fn no_pair_is_shown_twice(rt: HostRuntime) -> Result<(), Fail> {
             assert!(rt; fresh, "{line}");
         }
     }
-    assert_eq!(rt; lines, 4 * WRITES);
+    assert_eq!(rt; lines, threads.saturating_mul(writes));
     Ok(())
+}
+
+#[test]
+fn no_pair_is_shown_twice(rt: HostRuntime) -> Result<(), Fail> {
+    shows_none_twice(&rt, rt.alloc(), (4, 100, 2048), 4000)
+}
+
+// 16 threads, one place: 66 live blocks, and 34 more for the rate.
+#[test]
+fn sixteen_threads_do_with_the_least_blocks(rt: HostRuntime) -> Result<(), Fail> {
+    let alloc = rt.alloc();
+    let mut idle = String::from_str(alloc, "tags 1 threads 16 tags 1 blocks 99\n")?;
+    for t in 0..16u64 {
+        idle.push_str(format!(in alloc; "thread {t}\n")?.as_str())?;
+    }
+    idle.push_str("end\n")?;
+    ends(&rt, alloc, &Call::of(&idle), (4, 4), "rt_tags: no rate\n")?;
+    shows_none_twice(&rt, alloc, (16, 1, 100), 200)
 }

@@ -9,6 +9,8 @@ ghost use Rattle.rt_tags.specs.Lines.{Tokens, tag_language, IsTagScript};
 
 #[cfg(test)]
 mod calls;
+#[cfg(test)]
+mod drawn;
 mod exit;
 mod line;
 mod planning;
