@@ -1,0 +1,136 @@
+//! Times the requests of a heap that is asked, kind by kind, and a loop of 1 kHz. `bench/asked` runs
+//! it, with how many requests of a kind and how many ticks.
+#![tactic(auto)]
+
+use block_store::{Config, Width};
+use control_heap::ControlHeap;
+use never_heap::Command;
+use std::env;
+use std::process::ExitCode;
+use std::rt::Env;
+use std::time::{Duration, Instant};
+use trace_text::number_of;
+
+/// Version 2, at rate 7 or so with 1,024 of 4,096 blocks live.
+const HEAP: Config = Config {
+    width: Width::Eight,
+    threads: 1,
+    blocks: 4096,
+    live: 1024,
+    object: 32,
+    shared: 40,
+};
+
+/// How many records are live while requests are timed.
+const LIVE: u64 = 500;
+
+fn main(rt: HostRuntime) -> ExitCode {
+    match run(&rt) {
+        Some(()) => ExitCode::SUCCESS,
+        None => ExitCode::FAILURE,
+    }
+}
+
+/// Prints a line for each kind of request, and one for the loop.
+fn run(rt: &HostRuntime) -> Option<()> {
+    let rounds = word(rt, 1)?;
+    let ticks = word(rt, 2)?;
+    let mut heap = ControlHeap::open(rt.alloc(), HEAP).ok()?;
+    fill(&mut heap)?;
+    for (kind, command) in [
+        ("new", Command::New { d: 1, fields: 2 }),
+        ("get", Command::Get { d: 3, s: 2, i: 0 }),
+        ("put", Command::Put { s: 1, i: 1, v: 2 }),
+        ("swap", Command::Swap { s: 1, i: 1, v: 2 }),
+        ("set", Command::Set { d: 4, value: 7 }),
+        ("idle 10", Command::Idle { units: 10 }),
+    ] {
+        let mut times = times_of(rt, &mut heap, command, rounds)?;
+        tell(rt, kind, &mut times)?;
+    }
+    let mut late = lateness(rt, ticks)?;
+    tell(rt, "tick", &mut late)
+}
+
+/// The number in a word of the program.
+fn word(rt: &HostRuntime, place: usize) -> Option<u64> {
+    let word = env::args(rt).ok()?.nth(place)?;
+    number_of(word.as_bytes())
+}
+
+/// Makes a list of records, to which register 2 refers.
+fn fill(heap: &mut ControlHeap) -> Option<()> {
+    for _ in 0..LIVE {
+        for command in [
+            Command::New { d: 1, fields: 2 },
+            Command::Put { s: 1, i: 0, v: 2 },
+            Command::Mov { d: 2, s: 1 },
+        ] {
+            heap.ask(command).ok()?;
+        }
+    }
+    Some(())
+}
+
+/// How many nanoseconds each of some requests took.
+fn times_of(
+    rt: &HostRuntime,
+    heap: &mut ControlHeap,
+    command: Command,
+    rounds: u64,
+) -> Option<Vec<u64>> {
+    let mut times = Vec::new(rt.alloc());
+    for _ in 0..rounds {
+        let start = Instant::now(rt).ok()?;
+        heap.ask(command).ok()?;
+        times.push(nanoseconds(start.elapsed(rt).ok()?)).ok()?;
+    }
+    Some(times)
+}
+
+fn nanoseconds(time: Duration) -> u64 {
+    u64::try_from(time.as_nanos()).unwrap_or(u64::MAX)
+}
+
+/// How late the work of each tick of a millisecond was done. A tick keeps a value in a record, and
+/// each fifth one makes the record anew, in a heap of its own.
+fn lateness(rt: &HostRuntime, ticks: u64) -> Option<Vec<u64>> {
+    let mut heap = ControlHeap::open(rt.alloc(), HEAP).ok()?;
+    fill(&mut heap)?;
+    let mut late = Vec::new(rt.alloc());
+    let start = Instant::now(rt).ok()?;
+    for tick in 1..=ticks {
+        let due = tick.saturating_mul(1_000_000);
+        await_time(rt, &start, due)?;
+        if tick % 5 == 1 {
+            heap.ask(Command::New { d: 1, fields: 2 }).ok()?;
+        }
+        for i in 0..20 {
+            heap.ask(Command::Set { d: 4, value: i }).ok()?;
+            heap.ask(Command::Put { s: 1, i: 1, v: 4 }).ok()?;
+        }
+        late.push(nanoseconds(start.elapsed(rt).ok()?).saturating_sub(due))
+            .ok()?;
+    }
+    Some(late)
+}
+
+/// Waits at the clock until so many nanoseconds are over.
+fn await_time(rt: &HostRuntime, start: &Instant, due: u64) -> Option<()> {
+    for _ in 0..u64::MAX {
+        if nanoseconds(start.elapsed(rt).ok()?) >= due {
+            return Some(());
+        }
+    }
+    None
+}
+
+/// Prints the median of times, what 999 of 1,000 are within, and the longest.
+fn tell(rt: &HostRuntime, kind: &str, times: &mut Vec<u64>) -> Option<()> {
+    times.sort_unstable();
+    let count = times.len();
+    let median = times.get(count / 2)?;
+    let most = times.get(count - count / 1000 - 1)?;
+    let longest = times.last()?;
+    println!(rt; "{kind}: median {median} ns, 99.9 per cent {most} ns, longest {longest} ns").ok()
+}

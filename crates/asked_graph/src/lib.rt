@@ -1,0 +1,60 @@
+//! A heap that is asked one command at a time, seen as the object graph that it shows.
+#![tactic(auto)]
+
+ghost use Rattle.std.specs.Prelude.{◌≡◌, ◌≤◌, IfOk, IfErr, OnErr};
+ghost use Rattle.block_store.specs.declared.Config.{Config};
+ghost use Rattle.never_heap.specs.Graphs.{Graph, start_graph};
+ghost use Rattle.control_heap.specs.Controls.{CanOpen};
+ghost use Rattle.control_heap.specs.Refusals.{IsOpenFault, IsRefused};
+ghost use Rattle.asked_graph.specs.Shown.{Shows, IsSmall, Follows, AllFollow, AllAreSmall};
+
+use block_store::Config;
+use control_heap::{ControlHeap, OpenFault, Refused, histories_are_right};
+use never_heap::{Command, Reply};
+use std::alloc::Global;
+
+/// The opening heap of a configuration. It shows the opening graph, where this is small.
+///
+/// # Errors
+///
+/// As of `ControlHeap::open`.
+pub fn open(alloc: Global, c: Config) -> Result<ControlHeap, OpenFault>
+    ensures config { IfOk result (λ h. h.config ≡ c) }
+    ensures shown { IsSmall c (start_graph c) → IfOk result (λ h. Shows h (start_graph c)) }
+    ensures refused { IfErr result (IsOpenFault c) }
+{
+    ControlHeap::open(alloc, c)
+}
+
+/// Does a command. Where the heap showed a graph, and the command leaves a small one, the reply is
+/// that of the heap that never frees, and the heap shows what the command makes of the graph.
+///
+/// # Errors
+///
+/// As of `ControlHeap::ask`.
+pub fn ask(heap: &mut ControlHeap, command: Command) -> Result<Reply, Refused>
+    ensures config { heap.new.config ≡ heap.old.config }
+    ensures shown { IfOk result (λ reply. Follows heap.old command reply heap.new) }
+    ensures refused { IfErr result (IsRefused heap.old command) }
+    ensures unchanged { OnErr result (heap.new ≡ heap.old) }
+{
+    histories_are_right();
+    heap.ask(command)
+}
+
+/// Does commands one after the other, and answers the reply of the last, or `Stored` where there is
+/// none. It stops at the first that is refused.
+///
+/// # Errors
+///
+/// As of `ControlHeap::ask`, for that command.
+pub fn ask_all(heap: &mut ControlHeap, commands: &[Command]) -> Result<Reply, Refused>
+    ensures config { heap.new.config ≡ heap.old.config }
+    ensures shown { IfOk result (λ reply. AllFollow heap.old commands.now reply heap.new) }
+{
+    let mut reply = Reply::Stored;
+    for command in commands {
+        reply = ask(heap, *command)?;
+    }
+    Ok(reply)
+}

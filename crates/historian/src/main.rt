@@ -1,0 +1,103 @@
+//! Reads a number a line, keeps the last 40 as records on a garbage-collected heap, and tells behind
+//! each line the least, the greatest and the mean of them, and how many are outside of limits. The
+//! first line has the limits.
+#![tactic(auto)]
+
+ghost use Rattle.std.specs.Prelude.{None};
+
+use historian_core::{Limits, Readings, Stop, reading_of, report, start};
+use std::alloc::Global;
+use std::io::{BufRead, BufReader, Read, Result as IoResult};
+use std::process::ExitCode;
+use trace_text::{StdSink, WRITE_FAULT, two_tokens};
+
+/// The statuses of a line that is no reading, of a fault of standard input, of want of memory, and
+/// of a heap that has no life left.
+const BAD_LINE: u8 = 3;
+
+const READ_FAULT: u8 = 5;
+
+const NO_MEMORY: u8 = 7;
+
+const NO_LIFE: u8 = 9;
+
+/// Readings that stand one a line.
+#[derive(Drop)]
+struct Lines<R: Drop> {
+    reader: BufReader<R>,
+    line: String,
+    /// Why no line comes any more; 0 at the end.
+    status: u8,
+}
+
+impl<R: Read + Drop> Lines<R> {
+    fn new(alloc: Global, reader: R) -> IoResult<Lines<R>> {
+        Ok(Lines {
+            reader: BufReader::new(alloc, reader)?,
+            line: String::new(alloc),
+            status: 0,
+        })
+    }
+
+    /// The next line, without its line feed.
+    fn next_line(&mut self) -> Option<&[u8]> {
+        self.line.clear();
+        match self.reader.read_line(&mut self.line) {
+            Ok(0) => None,
+            Ok(_) => Some(without_feed(self.line.as_bytes())),
+            Err(_) => {
+                self.status = READ_FAULT;
+                None
+            }
+        }
+    }
+
+    /// The limits in the next line.
+    fn limits(&mut self) -> Option<Limits> {
+        let (low, high) = two_tokens(self.next_line())?;
+        Some(Limits {
+            low: reading_of(low)?,
+            high: reading_of(high)?,
+        })
+    }
+}
+
+impl<R: Read + Drop> Readings for Lines<R> {
+    ghost left = { λ _. None };
+
+    fn next(&mut self) -> Option<u32> {
+        let reading = reading_of(self.next_line()?);
+        if reading.is_none() {
+            self.status = BAD_LINE;
+        }
+        reading
+    }
+}
+
+fn without_feed(line: &[u8]) -> &[u8] {
+    match line {
+        [front @ .., b'\n'] => front,
+        _ => line,
+    }
+}
+
+fn main(rt: HostRuntime) -> ExitCode {
+    ExitCode::from(run(&rt).unwrap_or(NO_MEMORY))
+}
+
+/// Tells of the readings in standard input, and says with which status the program ends.
+fn run(rt: &HostRuntime) -> IoResult<u8> {
+    let mut lines = Lines::new(rt.alloc(), rt.stdin())?;
+    let Some(limits) = lines.limits() else {
+        return Ok(BAD_LINE);
+    };
+    let Ok(mut heap) = start(rt.alloc()) else {
+        return Ok(NO_MEMORY);
+    };
+    let mut sink = StdSink::new(rt.stdout());
+    match report(&mut heap, &limits, &mut lines, &mut sink) {
+        Ok(_) => Ok(lines.status),
+        Err(Stop::Refused(_)) => Ok(NO_LIFE),
+        Err(Stop::Unwritten) => Ok(WRITE_FAULT),
+    }
+}

@@ -1,0 +1,5 @@
+pub mod Small
+pub mod Moves
+pub mod Rings
+pub mod Takes
+pub mod Reported

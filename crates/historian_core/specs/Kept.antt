@@ -1,0 +1,74 @@
+-- A heap that keeps readings.
+use Rattle.std.specs.Prelude.{ℕ, zero, suc, ◌+◌, ◌%◌, ◌<◌, ◌≤◌, ◌≡◌, ◌^◌, List, [], ◌∷◌, length, map, slice_index_or}
+use Rattle.std.specs.List.{AllByRecursion}
+use Rattle.block_store.specs.declared.Config.{Config}
+use Rattle.block_store.specs.declared.Name.{Name}
+use Rattle.block_store.specs.declared.Value.{Value}
+use Rattle.block_store.specs.declared.Value.TheVariants.{Nil, Int, Ref}
+use Rattle.block_store.specs.declared.Width.TheVariants.{Eight}
+use Rattle.never_heap.specs.Graphs.{Graph, Object, Record, Array, nils, shared_name}
+use Rattle.control_heap.specs.Controls.{Control}
+use Rattle.asked_graph.specs.Shown.{Shows}
+use Rattle.historian_core.specs.declared.Limits.{Limits}
+use Rattle.historian_core.specs.Windows.{mark}
+
+abbrev pub heap_config : Config
+heap_config =
+    record { width = Eight; threads = 1; blocks = 256; live = 64; object = 1; shared = 40 }
+
+-- the record of a reading: it, and its mark
+abbrev pub record_of : Limits → ℕ → Object
+record_of l v = record { kind = Record; fields = Int v ∷ Int (mark l v) ∷ [] }
+
+abbrev pub field_number : Limits → List ℕ → ℕ → ℕ → ℕ
+field_number l xs i zero = slice_index_or xs i 0
+field_number l xs i (suc f) = mark l (slice_index_or xs i 0)
+
+-- the name of the record of reading i
+abbrev pub name_at : ℕ → Name
+name_at i = record { thread = 0; serial = i + 1 }
+
+-- numbers and nil
+abbrev pub IsPlain : Value → Type 0
+IsPlain Nil = Unit {0}
+IsPlain (Int n) = Unit {0}
+IsPlain (Ref a) = ⊥
+
+-- these, and references to records
+abbrev pub IsHeld : Value → Type 0
+IsHeld Nil = Unit {0}
+IsHeld (Int n) = Unit {0}
+IsHeld (Ref a) = (a.thread ≡ 0) × (1 ≤ a.serial)
+
+-- a graph with this in registers 1 to 4, with these records, and this in the shared array
+abbrev pub kept_graph : Value → Value → Value → Value → List Object → List Value → Graph
+kept_graph a b c d os fs = record {
+  shared = record { kind = Array; fields = fs };
+  mutators = record {
+    registers = Ref (shared_name 1) ∷ a ∷ b ∷ c ∷ d ∷ nils 11;
+    objects = os;
+  } ∷ [];
+}
+
+-- the shared array has the records of the last 40 of n readings, that of reading i at i modulo 40
+pub record IsRing (n : ℕ) (fs : List Value) : Type 0 where
+  pub long : length fs ≡ 40
+  pub held : (i : ℕ) → IsHeld (slice_index_or fs i Nil)
+  pub slots : (i : ℕ) → i < n → n ≤ i + 40 → slice_index_or fs (i % 40) Nil ≡ Ref (name_at i)
+
+-- A heap that was given these readings: it shows a graph with a record for each, of which the last
+-- 40 stand in the shared array.
+pub record Keeps (h : Control) (l : Limits) (xs : List ℕ) : Type 0 where
+  pub config : h.config ≡ heap_config
+  pub a : Value
+  pub b : Value
+  pub c : Value
+  pub d : Value
+  pub fields : List Value
+  pub a_held : IsHeld a
+  pub b_plain : IsPlain b
+  pub c_held : IsHeld c
+  pub d_plain : IsPlain d
+  pub ring : IsRing (length xs) fields
+  pub low : AllByRecursion (λ (x : ℕ). x < 2 ^ 32) xs
+  pub shows : Shows h (kept_graph a b c d (map (record_of l) xs) fields)
