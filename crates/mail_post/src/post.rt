@@ -11,26 +11,11 @@ ghost use Rattle.mail_post.specs.Rows.{rows_of, took};
 use crate::rows::{Row, make_room, put_in};
 use crate::rule::{End, Line, Roles, Sends, Takes};
 use crate::views::Letter;
-use std::alloc::{AllocError, AllocFailed, Global};
+use block_store::OutOfMemory;
+use std::alloc::Global;
 use std::marker::Model;
 use std::sync::Wait;
 use std::thread;
-
-/// Memory ran out.
-#[derive(Clone, Copy, Debug, PartialEq, Eq)]
-pub struct OutOfMemory;
-
-impl From<AllocError> for OutOfMemory {
-    fn from(_fault: AllocError) -> OutOfMemory {
-        OutOfMemory
-    }
-}
-
-impl<T: Drop> From<AllocFailed<T>> for OutOfMemory {
-    fn from(_error: AllocFailed<T>) -> OutOfMemory {
-        OutOfMemory
-    }
-}
 
 /// A queue between a few senders and one taker.
 #[derive(Drop)]

@@ -3,7 +3,7 @@
 ghost use Rattle.std.specs.Prelude.{◌≡◌, ◌<◌, ◌+◌, ◌∷◌, ◌++◌, [], ℕ, length, slice_index_or, OnOk};
 ghost use Rattle.mail_post.specs.Rows.{no_row, rows_of, took};
 
-use crate::post::OutOfMemory;
+use block_store::OutOfMemory;
 use std::marker::Model;
 
 /// The numbers that were taken of one sender.
