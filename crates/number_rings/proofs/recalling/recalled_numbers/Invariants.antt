@@ -1,0 +1,12 @@
+-- The numbers so far, and those that the rest of the log tells, are all numbers.
+use Rattle.std.proofs.Common.{◌≡◌, ◌++◌, length}
+use Rattle.number_rings.specs.Rings.{numbers_told, recalled}
+use Rattle.number_rings.proofs.Tracing.{replies}
+use Rattle.number_rings.proofs.recalling.recalled_numbers.Given as goal
+
+abbrev pub invariant-loop-rest : goal.invariant-loop-rest
+invariant-loop-rest l =
+    l.numbers.items ++ numbers_told (replies l.rest) ≡ recalled l.kept (replies l.log)
+
+abbrev pub decreases-loop-rest : goal.decreases-loop-rest
+decreases-loop-rest l = length l.rest

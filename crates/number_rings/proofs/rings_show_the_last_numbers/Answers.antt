@@ -1,0 +1,5 @@
+use Rattle.number_rings.proofs.Showing.{rings_show}
+use Rattle.number_rings.proofs.rings_show_the_last_numbers.Goals as goal
+
+pub returns : goal.returns
+returns c = rings_show
