@@ -1,0 +1,12 @@
+pub mod Places
+pub mod Gets
+pub mod Rows
+pub mod Bound
+pub mod Numbering
+pub mod Chunks
+pub mod Keeping
+pub mod Makes
+pub mod Tracing
+pub mod Finding
+pub mod Jobs
+pub mod Answering
