@@ -1,0 +1,89 @@
+use Rattle.std.proofs.Common.{◌≡◌, ◌∙◌, List, length, map, ap, sym, subst, arith}
+use Rattle.std.specs.List.{AllByRecursion}
+use Rattle.std.proofs.lemmas.List.{length-map}
+use Rattle.rt_handles.proofs.Ranges.{are_named, few_threads}
+use Rattle.std.proofs.lemmas.Result.{err_from_is_err_and}
+use Rattle.never_heap.specs.declared.Command.{Command}
+use Rattle.operations.specs.Linearizations.{traces_of}
+use Rattle.handle_table.specs.declared.operation.Operation.{Operation}
+use Rattle.handle_table.specs.Handles.{AreNamed, rows_of, command_at, all_deeds}
+use Rattle.threaded_runs.specs.Ends.{job_of}
+use Rattle.call_exits.specs.Sides.{sides}
+use Rattle.rt_handles.specs.Answers.{outcomes_in}
+use Rattle.rt_handles.proofs.Answered.{has_outcomes, job_fits, job_is, told_as}
+use Rattle.rt_handles.proofs.Apart.{without_memory}
+use Rattle.rt_handles.proofs.running.kept.Goals as goal
+
+pub returns-in_err-traces-clause-refused : goal.returns-in_err-traces-clause-refused
+returns-in_err-traces-clause-refused g c =
+    let p = err_from_is_err_and c.from_residual-in_err-traces.result
+    c.from_residual-in_err-traces.ensures.1 in
+    rw (p.1, p.2) (without_memory
+    (sides g.S.Source.left g.S.Source.faults c.args.source.now c.read_script.new.source)
+    c.in_ok-header.header (map (λ ops. ops.items) c.in_ok-header.scripts.items)
+    c.in_ok-header.ensures.read c.in_ok-header.ensures.still)
+
+pub returns-in_err-run-clause-refused : goal.returns-in_err-run-clause-refused
+returns-in_err-run-clause-refused g c =
+    let p = err_from_is_err_and c.from_residual-in_err-run.result
+    c.from_residual-in_err-run.ensures.1 in
+    rw (p.1, p.2) (without_memory
+    (sides g.S.Source.left g.S.Source.faults c.args.source.now c.read_script.new.source)
+    c.in_ok-header.header (map (λ ops. ops.items) c.in_ok-header.scripts.items)
+    c.in_ok-header.ensures.read c.in_ok-header.ensures.still)
+
+pub returns-in_err-told-clause-refused : goal.returns-in_err-told-clause-refused
+returns-in_err-told-clause-refused g c =
+    let p = err_from_is_err_and c.from_residual-in_err-told.result
+    c.from_residual-in_err-told.ensures.1 in
+    rw (p.1, p.2) (without_memory
+    (sides g.S.Source.left g.S.Source.faults c.args.source.now c.read_script.new.source)
+    c.in_ok-header.header (map (λ ops. ops.items) c.in_ok-header.scripts.items)
+    c.in_ok-header.ensures.read c.in_ok-header.ensures.still)
+
+pub run_job-requires-clause-bounds : goal.run_job-requires-clause-bounds
+run_job-requires-clause-bounds g c κs within =
+    let read = c.in_ok-header.ensures.read in
+    job_fits read.lines c.in_ok-header.header
+    (map (λ ops. ops.items) c.in_ok-header.scripts.items) read.script c.in_ok-config.config
+    (map (λ v. v.items) c.in_ok-traces.traces.items) c.in_ok-config.ensures.0
+    (c.in_ok-traces.ensures
+    ∙ ap (λ xs. traces_of rows_of command_at (all_deeds 0 (map (λ ops. ops.items) xs))) c.deref.ensures.value)
+
+pub returns-clause-kept : goal.returns-clause-kept
+returns-clause-kept g c =
+    let read = c.in_ok-header.ensures.read in
+    let scripts : List (List Operation) = map (λ ops. ops.items) c.in_ok-header.scripts.items in
+    let traces : List (List Command) = map (λ v. v.items) c.in_ok-traces.traces.items in
+    let own : traces ≡ traces_of rows_of command_at (all_deeds 0 scripts) =
+    c.in_ok-traces.ensures
+    ∙ ap (λ xs. traces_of rows_of command_at (all_deeds 0 (map (λ ops. ops.items) xs))) c.deref.ensures.value in
+    let told_is = c.in_ok-told.ensures in
+    told_as (sides g.S.Source.left g.S.Source.faults c.args.source.now c.read_script.new.source)
+    c.in_ok-run.run' (outcomes_in 0 scripts c.in_ok-run.run'.logs)
+    (map (λ v. v.items) c.in_ok-told.told.items)
+    (told_is ∙ ap (λ xs. outcomes_in 0 (map (λ ops. ops.items) xs) c.in_ok-run.run'.logs)
+    c.deref-2.ensures.value)
+    (has_outcomes
+    (sides g.S.Source.left g.S.Source.faults c.args.source.now c.read_script.new.source)
+    c.in_ok-header.header scripts c.in_ok-run.run' read c.in_ok-config.ensures.2
+    (job_is c.in_ok-header.header scripts (job_of c.in_ok-run.run') c.in_ok-config.config traces
+    c.in_ok-run.ensures.job c.in_ok-config.ensures.0 own) c.in_ok-run.ensures.ran)
+
+pub traces-requires-clause-named : goal.traces-requires-clause-named
+traces-requires-clause-named g c =
+    let read = c.in_ok-header.ensures.read in
+    subst (λ xs. AllByRecursion AreNamed (map (λ ops. ops.items) xs)) (sym c.deref.ensures.value)
+    (are_named read.lines c.in_ok-header.header (map (λ ops. ops.items) c.in_ok-header.scripts.items)
+    read.script)
+
+pub traces-requires-clause-few : goal.traces-requires-clause-few
+traces-requires-clause-few g c =
+    let read = c.in_ok-header.ensures.read in
+    omega (
+      arith,
+      few_threads read.lines c.in_ok-header.header
+          (map (λ ops. ops.items) c.in_ok-header.scripts.items) read.script,
+      length-map c.in_ok-header.scripts.items (λ ops. ops.items),
+      ap length c.deref.ensures.value,
+    )
