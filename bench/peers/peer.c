@@ -1,10 +1,10 @@
-/* A peer in C: does a job of version 1, and trusts it. Built with -DBUMP it allocates from a room that
-   is taken before the threads run, and frees nothing: the floor. Else its heap is that of Boehm's
-   collector, which stops the threads, or marks step by step where it is built with -DSTEPS.
+/* A peer in C: does a job of version 1, and trusts it. Built with -DBUMP it allocates from a room
+   that is taken before the threads run, and frees nothing: the floor. Else its heap is that of
+   Boehm's collector, which stops the threads, or marks step by step if it is built with -DSTEPS.
 
        peer run < JOB                   prints what `rtheap run` prints, but for works and totals
-       peer time TAIL WARM TURNS < JOB  does the job, then each thread's last TAIL commands again and
-                                        again: WARM times, and TURNS times more that are timed */
+       peer time TAIL WARM TURNS < JOB  does the job, then the last TAIL commands of each thread again
+                                        and again: WARM times, and TURNS times more that are timed */
 #define GC_THREADS
 #ifndef BUMP
 #include <gc.h>
