@@ -1,0 +1,62 @@
+//! A histogram by powers of two.
+
+ghost use Rattle.std.specs.Prelude.{◌≡◌, ◌<◌, ◌*◌, ◌^◌};
+ghost use Rattle.time_counts.specs.Counts.{between};
+
+use crate::counting::count_below;
+use std::fmt;
+
+/// How many classes there are: all times below 2^63 but 0 are in one of them.
+pub const CLASSES: u32 = 63;
+
+/// The most marks of a row.
+const MARKS: u64 = 60;
+
+/// How many times are at least a number and below its double, and how many are so in the fullest
+/// row. As text it is a row of marks in proportion, at least one where there are times.
+#[derive(Clone, Copy, Debug)]
+pub struct Bar {
+    pub least: u64,
+    pub count: usize,
+    pub most: usize,
+}
+
+/// The bar of a power of two, or of any other number below 2^63.
+pub fn bar_of(times: &[u64], least: u64, most: usize) -> Bar
+    ensures least { result.least ≡ least }
+    ensures count { least < 2 ^ 63 → result.count ≡ between least (2 * least) times.now }
+    ensures most { result.most ≡ most }
+{
+    let bound = least.saturating_mul(2);
+    let count = count_below(times, bound).saturating_sub(count_below(times, least));
+    Bar { least, count, most }
+}
+
+/// How many times the fullest bar has.
+pub fn fullest(times: &[u64]) -> usize {
+    let mut most = 0;
+    for class in 0..CLASSES {
+        most = most.max(bar_of(times, power(class), 0).count);
+    }
+    most
+}
+
+/// This power of two; 0 past 2^63.
+pub fn power(class: u32) -> u64 {
+    1u64.checked_shl(class).unwrap_or(0)
+}
+
+impl fmt::Display for Bar {
+    fn fmt<W: fmt::Write>(&self, f: &mut fmt::Formatter<W>) -> fmt::Result {
+        let (least, count) = (self.least, self.count);
+        write!(f, "{least:>16} ns {count:>10} ")?;
+        for _mark in 0..marks(count as u64, self.most as u64) {
+            f.write_str("#")?;
+        }
+        f.write_str("\n")
+    }
+}
+
+fn marks(count: u64, most: u64) -> u64 {
+    count.saturating_mul(MARKS).div_ceil(most.max(1)).min(MARKS)
+}

@@ -1,0 +1,8 @@
+//! Counts of times: percentiles, and how many lie between powers of two.
+#![tactic(auto)]
+
+mod bars;
+mod counting;
+
+pub use bars::{Bar, CLASSES, bar_of, fullest, power};
+pub use counting::{Times, count_below};

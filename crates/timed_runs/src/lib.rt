@@ -1,0 +1,19 @@
+//! How long each command of a run takes: a pace that reads the clock before each command, and what
+//! is told of the times behind the run.
+#![tactic(auto)]
+
+mod bounds;
+mod counted;
+mod kinds;
+mod samples;
+mod stamps;
+mod telling;
+#[cfg(test)]
+mod tests;
+mod top;
+
+pub use bounds::turns_alone;
+pub use counted::Counted;
+pub use kinds::Kind;
+pub use stamps::Stamps;
+pub use top::{TimedExit, timed};

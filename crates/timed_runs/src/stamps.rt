@@ -1,0 +1,77 @@
+//! The times at which commands began.
+
+use block_store::OutOfMemory;
+use never_heap::Pace;
+use std::alloc::Global;
+use std::sync::Wait;
+use std::sync::atomic::{AtomicU64, Ordering};
+use std::time::Clock;
+
+/// The most threads of a job, and the most commands of a thread.
+const THREADS: usize = 16;
+
+const COMMANDS: usize = 131_072;
+
+/// A pace that reads the clock before each command, and stores what it read in a word of that
+/// command's own. All words are there before the run, so it takes no memory, no lock, and one
+/// atomic operation a command. A word that is 0 was not written.
+#[derive(Drop)]
+pub struct Stamps<'a, C> {
+    clock: &'a C,
+    words: Vec<AtomicU64>,
+}
+
+impl<'a, C: Clock + Sync> Stamps<'a, C> {
+    pub fn new(alloc: Global, clock: &'a C) -> Result<Stamps<'a, C>, OutOfMemory> {
+        let mut words = Vec::with_capacity(alloc, THREADS * COMMANDS)?;
+        for _word in 0..THREADS * COMMANDS {
+            words.push(AtomicU64::new(0))?;
+        }
+        Ok(Stamps { clock, words })
+    }
+
+    /// How many nanoseconds lie between the beginning of this command of a thread, from 0, and that
+    /// of the next, where both were told.
+    pub fn elapsed(&self, thread: u32, command: usize) -> Option<u64> {
+        let from = self.stamp(thread, command)?;
+        let to = self.stamp(thread, command.saturating_add(1))?;
+        Some(to.saturating_sub(from))
+    }
+
+    fn stamp(&self, thread: u32, command: usize) -> Option<u64> {
+        let word = self.words.get(place(thread, command as u64)?)?;
+        let stamp = word.load(Ordering::SeqCst);
+        if stamp == 0 { None } else { Some(stamp) }
+    }
+}
+
+impl<'a, C: Clock + Sync> Pace for Stamps<'a, C> {
+    fn before<R: Wait>(&self, _rt: &R, thread: u32, command: u64) {
+        let Some(place) = place(thread, command) else {
+            return;
+        };
+        if let Some(word) = self.words.get(place) {
+            word.store(nanoseconds(self.clock), Ordering::SeqCst);
+        }
+    }
+}
+
+/// Where the word of a command stands.
+fn place(thread: u32, command: u64) -> Option<usize> {
+    if thread < THREADS as u32 && command < COMMANDS as u64 {
+        Some(thread as usize * COMMANDS + command as usize)
+    } else {
+        None
+    }
+}
+
+/// What the clock reads; 0 where it cannot be read.
+pub fn nanoseconds<C: Clock>(clock: &C) -> u64 {
+    match clock.monotonic() {
+        Ok(time) => {
+            let seconds = time.as_secs().saturating_mul(1_000_000_000);
+            seconds.saturating_add(u64::from(time.subsec_nanos()))
+        }
+        Err(_) => 0,
+    }
+}
