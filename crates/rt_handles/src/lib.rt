@@ -10,6 +10,8 @@ ghost use Rattle.rt_handles.specs.Lines.{Tokens, handle_language, IsHandleScript
 mod before;
 #[cfg(test)]
 mod calls;
+#[cfg(test)]
+mod drawn;
 mod exit;
 mod line;
 mod planning;

@@ -1,0 +1,48 @@
+use Rattle.std.proofs.Common.{◌∙◌, length, map, ap, sym, subst, arith}
+use Rattle.std.specs.List.{AllByRecursion}
+use Rattle.std.proofs.lemmas.List.{length-map}
+use Rattle.heap_system.proofs.Lived.{job_of_text, text_few}
+use Rattle.operations.specs.Linearizations.{traces_of}
+use Rattle.handle_table.specs.Handles.{AreNamed, rows_of, command_at, all_deeds}
+use Rattle.rt_handles.proofs.Answered.{job_fits}
+use Rattle.rt_handles.proofs.Ranges.{are_named, few_threads}
+use Rattle.rt_handles.proofs.drawn.opening_of.Goals as goal
+
+pub new_ordered-requires-clause-job : goal.new_ordered-requires-clause-job
+new_ordered-requires-clause-job c =
+    let read = c.in_ok-header.ensures.read in
+    job_of_text c.in_ok-config.config (map (λ v. v.items) c.in_ok-traces.traces.items)
+    (job_fits read.lines c.in_ok-header.header
+    (map (λ ops. ops.items) c.in_ok-header.scripts.items) read.script c.in_ok-config.config
+    (map (λ v. v.items) c.in_ok-traces.traces.items) c.in_ok-config.ensures.0
+    (c.in_ok-traces.ensures
+    ∙ ap (λ xs. traces_of rows_of command_at (all_deeds 0 (map (λ ops. ops.items) xs))) c.deref.ensures.value))
+    c.in_ok-config.ensures.1
+
+pub new_ordered-requires-clause-few : goal.new_ordered-requires-clause-few
+new_ordered-requires-clause-few c =
+    let read = c.in_ok-header.ensures.read in
+    text_few c.in_ok-config.config (map (λ v. v.items) c.in_ok-traces.traces.items)
+    (job_fits read.lines c.in_ok-header.header
+    (map (λ ops. ops.items) c.in_ok-header.scripts.items) read.script c.in_ok-config.config
+    (map (λ v. v.items) c.in_ok-traces.traces.items) c.in_ok-config.ensures.0
+    (c.in_ok-traces.ensures
+    ∙ ap (λ xs. traces_of rows_of command_at (all_deeds 0 (map (λ ops. ops.items) xs))) c.deref.ensures.value))
+
+pub traces-requires-clause-named : goal.traces-requires-clause-named
+traces-requires-clause-named c =
+    let read = c.in_ok-header.ensures.read in
+    subst (λ xs. AllByRecursion AreNamed (map (λ ops. ops.items) xs)) (sym c.deref.ensures.value)
+    (are_named read.lines c.in_ok-header.header (map (λ ops. ops.items) c.in_ok-header.scripts.items)
+    read.script)
+
+pub traces-requires-clause-few : goal.traces-requires-clause-few
+traces-requires-clause-few c =
+    let read = c.in_ok-header.ensures.read in
+    omega (
+      arith,
+      few_threads read.lines c.in_ok-header.header
+          (map (λ ops. ops.items) c.in_ok-header.scripts.items) read.script,
+      length-map c.in_ok-header.scripts.items (λ ops. ops.items),
+      ap length c.deref.ensures.value,
+    )
