@@ -216,7 +216,8 @@ pub fn report<R: Readings, K: Sink>(
 
 /// The reading that a line spells: a number below 2^32.
 pub fn reading_of(line: &[u8]) -> Option<u32>
-    ensures { IfSome result (λ n. number_at line.now ≡ Some n) }
+    ensures reading { IfSome result (λ n. number_at line.now ≡ Some n) }
+    ensures none { IsNone result → (n : ℕ) → number_at line.now ≡ Some n → 2 ^ 32 ≤ n }
 {
     match number_of(line) {
         Some(number) if number < 1 << 32 => Some(number as u32),
