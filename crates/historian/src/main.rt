@@ -7,12 +7,15 @@ ghost use Rattle.std.specs.Prelude.{None};
 
 use historian_core::{Limits, Readings, Stop, reading_of, report, start};
 use std::alloc::Global;
-use std::io::{BufRead, BufReader, Read, Result as IoResult};
+use std::env;
+use std::io::{BufRead, BufReader, ErrorKind, Read, Result as IoResult};
 use std::process::ExitCode;
-use trace_text::{StdSink, WRITE_FAULT, two_tokens};
+use trace_text::{StdSink, WRITE_FAULT, put_line, two_tokens};
 
-/// The statuses of a line that is no reading, of a fault of standard input, of want of memory, and
-/// of a heap that has no life left.
+/// The statuses of words, of a line that is no reading, of a fault of standard input, of want of
+/// memory, and of a heap that has no life left.
+const USAGE: u8 = 2;
+
 const BAD_LINE: u8 = 3;
 
 const READ_FAULT: u8 = 5;
@@ -45,8 +48,12 @@ impl<R: Read + Drop> Lines<R> {
         match self.reader.read_line(&mut self.line) {
             Ok(0) => None,
             Ok(_) => Some(without_feed(self.line.as_bytes())),
-            Err(_) => {
-                self.status = READ_FAULT;
+            Err(e) => {
+                self.status = match e.kind() {
+                    ErrorKind::InvalidData => BAD_LINE,
+                    ErrorKind::OutOfMemory => NO_MEMORY,
+                    _ => READ_FAULT,
+                };
                 None
             }
         }
@@ -85,11 +92,25 @@ fn main(rt: HostRuntime) -> ExitCode {
     ExitCode::from(run(&rt).unwrap_or(NO_MEMORY))
 }
 
+/// Whether there are words behind the program's name; one that is no text is a word too.
+fn has_words(rt: &HostRuntime) -> IoResult<bool> {
+    match env::args(rt) {
+        Ok(args) => Ok(args.skip(1).next().is_some()),
+        Err(e) if e.kind() == ErrorKind::OutOfMemory => Err(e),
+        Err(_) => Ok(true),
+    }
+}
+
 /// Tells of the readings in standard input, and says with which status the program ends.
 fn run(rt: &HostRuntime) -> IoResult<u8> {
+    if has_words(rt)? {
+        let mut sink = StdSink::new(rt.stdout());
+        return Ok(put_line(b"historian: usage\n", USAGE, &mut sink));
+    }
     let mut lines = Lines::new(rt.alloc(), rt.stdin())?;
     let Some(limits) = lines.limits() else {
-        return Ok(BAD_LINE);
+        let is_read = lines.status == 0;
+        return Ok(if is_read { BAD_LINE } else { lines.status });
     };
     let Ok(mut heap) = start(rt.alloc()) else {
         return Ok(NO_MEMORY);
