@@ -1,5 +1,5 @@
 -- What a state shows that some list of turns reaches and in which all threads are done.
-use Rattle.std.proofs.Common.{◌≡◌, ℕ, ◌+◌, ◌<◌, true, eqb, eqb-true, List, [], ◌++◌, length, get_or, map, take, append-nil, refl, sym, ap, ◌∙◌, subst, arith, inl, inr}
+use Rattle.std.proofs.Common.{◌≡◌, ℕ, ◌+◌, ◌<◌, true, eqb, eqb-true, [], ◌++◌, length, get_or, map, take, append-nil, refl, sym, ap, ◌∙◌, subst, arith, inl, inr}
 use Rattle.std.proofs.lemmas.Bool.{cases_lt, and_parts}
 use Rattle.std.proofs.lemmas.List.{get_or_past, length-map}
 use Rattle.std.proofs.Math.Seq.{take-length}
@@ -7,13 +7,12 @@ use Rattle.block_store.specs.declared.Config.{Config}
 use Rattle.block_store.specs.Phases.{cycle_of}
 use Rattle.block_store.specs.Places.{Phase}
 use Rattle.rate_plan.specs.Rates.{IsRate}
-use Rattle.never_heap.specs.declared.Command.{Command}
 use Rattle.never_heap.specs.declared.Entry.{Entry}
 use Rattle.never_heap.specs.Histories.{replay, part, parts_from}
 use Rattle.never_heap.specs.Runs.{IsRun}
 use Rattle.heap_system.specs.declared.local.Part.TheVariants.{Rest}
-use Rattle.heap_system.specs.Locals.{LocalState, works, command_of, owed, entries_of, is_rest, is_done}
-use Rattle.heap_system.specs.Machines.{State, no_local, local_at, heap_in, Run, opened}
+use Rattle.heap_system.specs.Locals.{LocalState, works, command_of, owed, entries_of, is_rest}
+use Rattle.heap_system.specs.Machines.{State, no_local, local_at, heap_in, opened}
 use Rattle.heap_system.specs.Pictures.{waiting}
 use Rattle.heap_system.specs.Systems.{traces_of, logs_of, AllDone, IsReached, IsFinished}
 use Rattle.heap_system.specs.Units.{units_made, AreMadeFor}
