@@ -1,6 +1,6 @@
 //! Threads that meet: none gets on unless all others run beside it.
 
-ghost use Rattle.std.specs.Prelude.{◌≡◌, ◌<◌, ℕ, IsTrue, [], length, slice_index_or, map, IfOk};
+ghost use Rattle.std.specs.Prelude.{◌≡◌, ◌<◌, ◌≤◌, ℕ, IsTrue, [], length, slice_index_or, map, IfOk};
 ghost use Rattle.heap_system.specs.Machines.{IsJob};
 ghost use Rattle.board_jobs.specs.Served.{HasSaid, shared_array};
 
