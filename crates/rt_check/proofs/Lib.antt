@@ -1,5 +1,6 @@
 pub mod Goodness
 pub mod Telling
+mod Settling
 pub mod Followed
 pub mod Judging
 pub mod Parting
