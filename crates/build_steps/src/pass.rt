@@ -17,8 +17,8 @@ ghost use Rattle.build_steps.specs.Fits.{BuildFits, BuildReads, IsOrdinal};
 use crate::BuildRow;
 use crate::objects::{link_at, made_register, made_shape};
 use block_store::{
-    Colour, Name, WideOwner, Payload, Places, Width, black, colour_word, wide_word, payload_word,
-    read_colour,
+    Colour, Name, Payload, Places, WideOwner, Width, black, colour_word, payload_word, read_colour,
+    wide_word,
 };
 use heap_machine::{Memory, Op, Step};
 use never_heap::{Command, Reply};
@@ -185,8 +185,8 @@ fn after_colour(ordinal: u32) -> BuildRow
 impl BuildPass {
     /// The part that builds the object of the command, for the thread of this number, one of
     /// `threads`, 1 to 16, which is inside in this cycle, 1 to 2^54 − 2. The object's name has this
-    /// serial, at least 1 and below 2^43. The command makes an object of at most 1,024 blocks of this width.
-    /// `room` is empty and has capacity for them.
+    /// serial, at least 1 and below 2^43. The command makes an object of at most 1,024 blocks of
+    /// this width. `room` is empty and has capacity for them.
     pub fn new(
         width: Width,
         thread: u32,
