@@ -1,7 +1,7 @@
 //! The caller, which takes while the threads speak.
 
-ghost use Rattle.std.specs.Prelude.{◌≡◌, List, ℕ, Some, length, map, IfOk};
-ghost use Rattle.mail_post.specs.Ends.{fresh_taker};
+ghost use Rattle.std.specs.Prelude.{◌≡◌, List, ℕ, Some, None, length, map, IfOk};
+ghost use Rattle.mail_post.specs.Ends.{OfPost, AreAll, all_sent, whole_of};
 ghost use Rattle.mail_runs.specs.Speakers.{mutator_of, sender_of, AreSpeakers, IsFirst, IsReceived};
 ghost use Rattle.mail_runs.specs.Begun.{AreBegun};
 
@@ -32,6 +32,26 @@ fn take_all<R: Wait>(rt: &R, post: &Post, who: &mut Taker) -> Result<(), OutOfMe
         }
     }
     unreachable!()
+}
+
+/// Gathers the senders, and takes what is left of what they sent.
+fn take_rest<R: Wait>(
+    rt: &R,
+    post: &Post,
+    who: &mut Taker,
+    senders: Vec<Sender>,
+) -> Result<(), OutOfMemory>
+    requires post { (who.old.post ≡ post.now.id) × OfPost post.now.id senders.items }
+    requires all { AreAll (length who.old.taken) senders.items }
+    requires first { who.old.sent ≡ None }
+    ensures post { who.new.post ≡ who.old.post }
+    ensures sent { who.new.sent
+        ≡ Some (all_sent (length who.old.taken) (map whole_of senders.items)) }
+    ensures taken { IfOk result (λ _. who.new.taken
+        ≡ all_sent (length who.old.taken) (map whole_of senders.items)) }
+{
+    post.gather(rt, who, senders);
+    take_all(rt, post, who)
 }
 
 /// The mutators and the senders of speakers, in order.
@@ -65,8 +85,7 @@ fn receive<R: Threads + Wait>(
     take_all(rt, &office.post, &mut taker)?;
     let speakers = finish_all(rt, alloc, begun)?;
     let (mutators, senders) = parted(alloc, speakers)?;
-    office.post.gather(rt, &mut taker, senders);
-    take_all(rt, &office.post, &mut taker)?;
+    take_rest(rt, &office.post, &mut taker, senders)?;
     Ok((mutators, taker))
 }
 

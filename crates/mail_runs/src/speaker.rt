@@ -1,6 +1,6 @@
 //! A thread that sends what it says.
 
-ghost use Rattle.std.specs.Prelude.{◌≡◌, ◌++◌};
+ghost use Rattle.std.specs.Prelude.{◌≡◌, ◌++◌, ◌∷◌, []};
 ghost use Rattle.said_numbers.specs.Said.{numbers_said};
 ghost use Rattle.mail_runs.specs.Speakers.{IsSpeaker, HasSpoken};
 
@@ -73,8 +73,18 @@ fn tell<R: Wait>(rt: &R, post: &Post, sender: &mut Sender, entries: &[Entry])
     ensures sent { sender.new.sent ≡ sender.old.sent ++ numbers_said entries.now }
 {
     for entry in entries {
-        if let Some(number) = number_said(entry) {
-            post.send(rt, sender, number);
-        }
+        tell_one(rt, post, sender, entry);
+    }
+}
+
+/// The same of one entry.
+fn tell_one<R: Wait>(rt: &R, post: &Post, sender: &mut Sender, entry: &Entry)
+    requires { sender.old.post ≡ post.now.id }
+    ensures post { sender.new.post ≡ sender.old.post }
+    ensures thread { sender.new.thread ≡ sender.old.thread }
+    ensures sent { sender.new.sent ≡ sender.old.sent ++ numbers_said (entry.now ∷ []) }
+{
+    if let Some(number) = number_said(entry) {
+        post.send(rt, sender, number);
     }
 }
