@@ -108,10 +108,10 @@ module _ (o : Office) where
       let own : f t ≡ sent_by t (map whole_of (map sender_of (r ∷ rs))) = subst (λ k. f k ≡ sent_by k (map whole_of (map sender_of (r ∷ rs)))) zero_more (tells 0 (omega arith)) in
       let mine : f t ≡ r.sender.sent = own ∙ ap (λ b. cond b r.sender.sent (sent_by t (map whole_of (map sender_of rs)))) (eq-eqb r.sender.thread t e.0.0.number) in
       let others = sent_from f (t + 1) rs e.1 (λ i low.
-          (let k : t + suc i ≡ t + 1 + i = omega arith in
-          subst (λ n. f n ≡ sent_by n (map whole_of (map sender_of rs))) k
-          (tells (suc i) (omega arith)
-          ∙ ap (λ b. cond b r.sender.sent (sent_by (t + suc i) (map whole_of (map sender_of rs)))) (ne_eqb r.sender.thread (t + suc i) (λ same. omega (arith, e.0.0.number)))))) in
+      (let k : t + suc i ≡ t + 1 + i = omega arith in
+      subst (λ n. f n ≡ sent_by n (map whole_of (map sender_of rs))) k
+      (tells (suc i) (omega arith)
+      ∙ ap (λ b. cond b r.sender.sent (sent_by (t + suc i) (map whole_of (map sender_of rs)))) (ne_eqb r.sender.thread (t + suc i) (λ same. omega (arith, e.0.0.number)))))) in
       ap (λ x. x ∷ map f (range_with_len (t + 1) (length rs))) (mine ∙ e.0.0.sent)
       ∙ ap (λ xs. said_by r.mutator ∷ xs) others
 

@@ -60,11 +60,11 @@ pub speakers_ready : (o : Office) (c : Config) (traces : List (List Command))
     → AreSpeakers o (zipped ms ss)
 speakers_ready o c traces ms ss order fresh are =
     let silent : Each (IsSilent o) 0 ms = each_by_index (IsSilent o) 0 ms (λ i d low.
-        (let same : i ≡ 0 + i = omega arith in record {
-          board = (order.each i d low).0;
-          thread = (order.each i d low).1 ∙ same;
-          log = (fresh i d low).log;
-        })) in
+    (let same : i ≡ 0 + i = omega arith in record {
+      board = (order.each i d low).0;
+      thread = (order.each i d low).1 ∙ same;
+      log = (fresh i d low).log;
+    })) in
     let own : ss ≡ map (fresh_sender o.post.id) (range_with_len 0 (length ms)) =
     are ∙ ap (fresh_senders o.post.id) (sym order.count) in
     let long : length ms ≡ length ss =

@@ -6,13 +6,15 @@ ghost use Rattle.trace_text.specs.Jobs.{IsJobInBounds};
 ghost use Rattle.said_numbers.specs.Said.{numbers_said, says_in};
 ghost use Rattle.threaded_runs.specs.Ends.{HasHistory, job_of};
 ghost use Rattle.mail_runs.specs.Rooms.{room_of};
+ghost use Rattle.mail_runs.specs.Speakers.{AreSpeakers, IsFirst};
 
 use crate::office::{Office, closed, paired};
 use crate::receiving::delivered;
+use crate::speaker::Speaker;
 use atom_board::{AtomBoard, Closed};
 use block_store::OutOfMemory;
 use heap_system::{cycles_cost_few_units, cycles_give_few_blocks, fulls_are_licensed};
-use mail_post::{Post, Taken};
+use mail_post::{Post, Taken, Taker};
 use never_heap::Pace;
 use said_numbers::says_of;
 use std::alloc::Global;
@@ -48,14 +50,27 @@ pub fn deliver<R: Threads + Wait + Sync, Q: Pace>(
     fulls_are_licensed();
     cycles_give_few_blocks();
     cycles_cost_few_units();
+    let (office, speakers, taker) = opened(alloc, job)?;
+    let (mutators, taker) = delivered(rt, alloc, &office, pace, speakers, taker)?;
+    Ok(closed(office, mutators, taker))
+}
+
+/// The board of a job and its post, with a speaker for each thread, before the first turn.
+fn opened(alloc: Global, job: Job) -> Result<(Office, Vec<Speaker>, Taker), OutOfMemory>
+    requires bounds { IsJobInBounds job }
+    requires admitted { IsAdmitted job.config }
+    requires few { job.config.threads ≤ 2 }
+    ensures board { IfOk result (λ r. (r.0.board.config ≡ job.config)
+        × (r.0.board.traces ≡ job.traces)) }
+    ensures speakers { IfOk result (λ r. AreSpeakers r.0 r.1.items) }
+    ensures taker { IfOk result (λ r. IsFirst r.0 r.2) }
+{
     let threads = job.config.threads;
     let room = room_for(&job);
     let (board, mutators) = AtomBoard::new(alloc, job.config, job.traces)?;
     let (post, senders, taker) = Post::new(alloc, threads, room)?;
-    let office = Office { board, post };
     let speakers = paired(alloc, mutators, senders)?;
-    let (mutators, taker) = delivered(rt, alloc, &office, pace, speakers, taker)?;
-    Ok(closed(office, mutators, taker))
+    Ok((Office { board, post }, speakers, taker))
 }
 
 /// The room for the letters of a job: as many as it has `say` commands, and one at least.

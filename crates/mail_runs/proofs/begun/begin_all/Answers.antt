@@ -9,10 +9,18 @@ loop-who-preserved g c =
     c.in_ok-push.ensures.items in (
       more.0,
       more.1,
-      omega (arith, c.loop-who.invariant.2, ap length c.in-Some.ensures.steps.0,
-          c.in_ok-push.ensures.len),
-      omega (arith, c.loop-who.invariant.3, ap length c.in-Some.ensures.steps.0,
-          c.in-Some.ensures.steps.1),
+      omega (
+        arith,
+        c.loop-who.invariant.2,
+        ap length c.in-Some.ensures.steps.0,
+        c.in_ok-push.ensures.len,
+      ),
+      omega (
+        arith,
+        c.loop-who.invariant.3,
+        ap length c.in-Some.ensures.steps.0,
+        c.in-Some.ensures.steps.1,
+      ),
       tt,
       tt,
     )
