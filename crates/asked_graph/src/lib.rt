@@ -1,11 +1,15 @@
 //! A heap that is asked one command at a time, seen as the object graph that it shows.
 #![tactic(auto)]
 
-ghost use Rattle.std.specs.Prelude.{◌≡◌, ◌≤◌, IfOk, IfErr, OnErr};
+ghost use Rattle.std.specs.Prelude.{◌≡◌, ◌≤◌, List, IfOk, IfErr, OnOk, OnErr};
 ghost use Rattle.block_store.specs.declared.Config.{Config};
+ghost use Rattle.never_heap.specs.declared.Command.{Command};
 ghost use Rattle.never_heap.specs.Graphs.{Graph, start_graph};
-ghost use Rattle.control_heap.specs.Controls.{CanOpen};
+ghost use Rattle.heap_system.specs.Machines.{Run};
+ghost use Rattle.control_heap.specs.declared.control.Refused.{Refused};
+ghost use Rattle.control_heap.specs.Controls.{Control, Stands, CanOpen, asked, units};
 ghost use Rattle.control_heap.specs.Refusals.{IsOpenFault, IsRefused};
+ghost use Rattle.asked_graph.specs.Asked.{HasDone, HasDoneAll, RefusesOne, HasRoomFor, HasUsed};
 ghost use Rattle.asked_graph.specs.Shown.{Shows, IsSmall, Follows, AllFollow, AllAreSmall};
 
 use block_store::Config;
@@ -13,13 +17,15 @@ use control_heap::{ControlHeap, OpenFault, Refused, histories_are_right};
 use never_heap::{Command, Reply};
 use std::alloc::Global;
 
-/// The opening heap of a configuration. It shows the opening graph, where this is small.
+/// The opening heap of a configuration. It shows the opening graph, where this is small, and
+/// nothing of its life is used.
 ///
 /// # Errors
 ///
 /// As of `ControlHeap::open`.
 pub fn open(alloc: Global, c: Config) -> Result<ControlHeap, OpenFault>
     ensures config { IfOk result (λ h. h.config ≡ c) }
+    ensures fresh { IfOk result (λ h. (asked h ≡ 0) × (units h ≡ 0) × (h.objects ≡ 0)) }
     ensures shown { IsSmall c (start_graph c) → IfOk result (λ h. Shows h (start_graph c)) }
     ensures refused { IfErr result (IsOpenFault c) }
 {
@@ -35,6 +41,7 @@ pub fn open(alloc: Global, c: Config) -> Result<ControlHeap, OpenFault>
 pub fn ask(heap: &mut ControlHeap, command: Command) -> Result<Reply, Refused>
     ensures config { heap.new.config ≡ heap.old.config }
     ensures shown { IfOk result (λ reply. Follows heap.old command reply heap.new) }
+    ensures done { OnOk result (HasDone heap.old command heap.new) }
     ensures refused { IfErr result (IsRefused heap.old command) }
     ensures unchanged { OnErr result (heap.new ≡ heap.old) }
 {
@@ -43,18 +50,33 @@ pub fn ask(heap: &mut ControlHeap, command: Command) -> Result<Reply, Refused>
 }
 
 /// Does commands one after the other, and answers the reply of the last, or `Stored` where there is
-/// none. It stops at the first that is refused.
+/// none. It stops at the first that is refused: then the heap did those before it, and no more.
 ///
 /// # Errors
 ///
-/// As of `ControlHeap::ask`, for that command.
+/// As of `ControlHeap::ask`, for that command. There is none where each command is in bounds and
+/// the life has room for all of them (`lives_add_up`).
 pub fn ask_all(heap: &mut ControlHeap, commands: &[Command]) -> Result<Reply, Refused>
     ensures config { heap.new.config ≡ heap.old.config }
     ensures shown { IfOk result (λ reply. AllFollow heap.old commands.now reply heap.new) }
+    ensures done { OnOk result (HasDoneAll heap.old commands.now heap.new) }
+    ensures refused { IfErr result (λ r. RefusesOne heap.old commands.now r heap.new) }
 {
     let mut reply = Reply::Stored;
     for command in commands {
         reply = ask(heap, *command)?;
     }
     Ok(reply)
+}
+
+/// What commands take of a life is the sum of what each takes: its units, its object, and one of
+/// the commands that can be counted (`used`). Where all of that is left, and each command is in
+/// bounds, none of them is refused (`fits`).
+pub fn lives_add_up()
+    ensures used { (h z : Control) (ks : List Command) (r : Run)
+        → Stands h r → HasDoneAll h ks z → HasUsed h ks z }
+    ensures fits { (h z : Control) (ks : List Command) (r : Run) (x : Refused)
+        → Stands h r → HasRoomFor h ks → RefusesOne h ks x z → ⊥ }
+{
+    histories_are_right();
 }

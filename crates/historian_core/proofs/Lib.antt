@@ -1,5 +1,7 @@
 pub mod Small
+pub mod Lives
 pub mod Moves
 pub mod Rings
 pub mod Takes
+pub mod TextLaws
 pub mod Reported

@@ -1,7 +1,6 @@
 -- What the commands of a historian do to the graph.
-use Rattle.std.proofs.Common.{◌≡◌, ℕ, zero, suc, ◌+◌, ◌-◌, ◌%◌, ◌^◌, ◌<◌, ◌≤◌, inl, inr, nat_lt, lt-ltb, cond, List, [], ◌∷◌, ◌++◌, length, map, slice_index_or, slice_set, ne_eqb, sym, refl, ap, ◌∙◌, subst, arith}
+use Rattle.std.proofs.Common.{◌≡◌, ℕ, zero, suc, ◌+◌, ◌-◌, ◌*◌, ◌%◌, ◌^◌, ◌<◌, ◌≤◌, nat_lt, lt-ltb, cond, List, [], ◌∷◌, ◌++◌, length, map, slice_index_or, slice_set, ne_eqb, sym, refl, ap, ◌∙◌, subst, arith}
 use Rattle.std.specs.List.{AllByRecursion}
-use Rattle.std.proofs.lemmas.Bool.{cases_Bool}
 use Rattle.std.proofs.lemmas.List.{length-map}
 use Rattle.std.proofs.Math.Seq.{get_or-append_seam, set-append_seam}
 use Rattle.block_store.specs.declared.Value.{Value}
@@ -12,13 +11,15 @@ use Rattle.never_heap.specs.declared.Reply.{Reply}
 use Rattle.never_heap.specs.declared.Reply.TheVariants as replies
 use Rattle.never_heap.specs.Graphs.{Graph, Object, Record, no_object, set_field, field_of, object_of, with_field, nils, start_graph}
 use Rattle.never_heap.specs.Steps.{step}
-use Rattle.control_heap.specs.Controls.{Control}
+use Rattle.control_heap.specs.Controls.{Control, asked, units}
 use Rattle.operations.proofs.Holding as holding
 use Rattle.asked_graph.specs.Shown.{IsSmall, AllAreSmall, AllFollow, Shows, graph_behind, last_reply}
+use Rattle.asked_graph.specs.Asked.{HasUsed}
 use Rattle.historian_core.specs.declared.Limits.{Limits}
-use Rattle.historian_core.specs.Kept.{heap_config, IsPlain, IsHeld, IsRing, Keeps, kept_graph, name_at, record_of, field_number}
-use Rattle.historian_core.specs.Windows.{is_alarm, mark}
+use Rattle.historian_core.specs.Kept.{heap_config, IsPlain, IsHeld, IsRing, Holds, Keeps, kept_graph, name_at, record_of, field_number}
+use Rattle.historian_core.specs.Windows.{mark}
 use Rattle.historian_core.proofs.Rings.{ring_start, ring_more, place_low}
+use Rattle.historian_core.proofs.Lives.{asked_commands, fetched_commands, kept_units, fetched_units, kept_objects, fetched_objects, mark_low}
 use Rattle.historian_core.proofs.Small.{IsOne, AreOnes, object_is, small}
 
 -- commands lead from a graph to another, by small graphs, and the last reply is y
@@ -177,11 +178,9 @@ length_more (x ∷ xs) v = omega (arith, length_more xs v)
 -- ---- a reading more
 
 abbrev pub kept_commands : Limits → ℕ → ℕ → List Command
-kept_commands l count v =
-    commands.New 1 2 ∷ commands.Set 2 v ∷ commands.Put 1 0 2 ∷ commands.Set 2 (mark l v)
-    ∷ commands.Put 1 1 2 ∷ commands.Put 0 (count % 40) 1 ∷ []
+kept_commands l count v = asked_commands v (mark l v) count
 
-module _ (l : Limits) (xs : List ℕ) (h : Control) (k : Keeps h l xs) (v : ℕ) where
+module _ (l : Limits) (xs : List ℕ) (h : Control) (k : Holds h l xs) (v : ℕ) where
   abbrev os : List Object
   os = map (record_of l) xs
 
@@ -245,8 +244,9 @@ module _ (l : Limits) (xs : List ℕ) (h : Control) (k : Keeps h l xs) (v : ℕ)
       (ends replies.Stored g6))))))
 
   pub keeps_more : (new : Control) (a : Reply) → v < 2 ^ 32 → new.config ≡ h.config
-      → AllFollow h (kept_commands l (length xs) v) a new → Keeps new l (xs ++ v ∷ [])
-  keeps_more new a low same follows =
+      → AllFollow h (kept_commands l (length xs) v) a new
+      → HasUsed h (kept_commands l (length xs) v) new → Holds new l (xs ++ v ∷ [])
+  keeps_more new a low same follows took =
       let by = follows (kept_graph k.a k.b k.c k.d os k.fields) k.shows
       (subst (λ q. AllAreSmall q (kept_graph k.a k.b k.c k.d os k.fields)
       (kept_commands l (length xs) v)) (sym k.config) keeps_going.small) in
@@ -266,24 +266,36 @@ module _ (l : Limits) (xs : List ℕ) (h : Control) (k : Keeps h l xs) (v : ℕ)
         shows = subst (Shows new)
             (keeps_going.left
             ∙ ap (λ o. kept_graph n (Int (mark l v)) k.c k.d o fs) (sym (map_more l xs v))) by.1;
+        objects =
+            omega (
+              arith,
+              length_more xs v,
+              k.objects,
+              kept_objects h new v (mark l v) (length xs) took,
+            );
+        units = λ rate is_rate.
+            omega (
+              arith,
+              kept_units h new v (mark l v) (length xs) k.config took rate is_rate,
+              k.units rate is_rate,
+              ap (λ i. rate * i) (length_more xs v),
+              one_more rate (length xs),
+            );
       }
-
-  abbrev pub asked_commands : ℕ → ℕ → ℕ → List Command
-  asked_commands value m count =
-      commands.New 1 2 ∷ commands.Set 2 value ∷ commands.Put 1 0 2 ∷ commands.Set 2 m
-      ∷ commands.Put 1 1 2 ∷ commands.Put 0 (count % 40) 1 ∷ []
+    where
+      one_more : (rate n : ℕ) → rate * (n + 1) ≡ rate * n + rate
+      one_more rate n = omega arith
 
   pub keeps_told : (new : Control) (a : Reply) (value m count : ℕ) → value ≡ v → m ≡ mark l v
       → length xs ≡ count → v < 2 ^ 32 → new.config ≡ h.config
-      → AllFollow h (asked_commands value m count) a new → Keeps new l (xs ++ v ∷ [])
-  keeps_told new a value m count e f s low same follows =
-      keeps_more new a low same (subst (λ ks. AllFollow h ks a new)
-      (λ t. asked_commands (e t) (f t) (sym s t)) follows)
+      → AllFollow h (asked_commands value m count) a new
+      → HasUsed h (asked_commands value m count) new → Holds new l (xs ++ v ∷ [])
+  keeps_told new a value m count e f s low same follows took =
+      keeps_more new a low same
+      (subst (λ ks. AllFollow h ks a new) (λ t. asked_commands (e t) (f t) (sym s t)) follows)
+      (subst (λ ks. HasUsed h ks new) (λ t. asked_commands (e t) (f t) (sym s t)) took)
 
   -- ---- and one that is fetched
-
-  abbrev pub fetched_commands : ℕ → ℕ → List Command
-  fetched_commands i f = commands.Get 3 0 (i % 40) ∷ commands.Get 4 3 f ∷ []
 
   field_is : (i f : ℕ) → f < 2
       → field_of (record_of l (slice_index_or xs i 0)) f ≡ Int (field_number l xs i f)
@@ -329,9 +341,9 @@ module _ (l : Limits) (xs : List ℕ) (h : Control) (k : Keeps h l xs) (v : ℕ)
         (ends (replies.Val value) (kept_graph k.a k.b c value os k.fields)))
 
     pub fetched : (new : Control) (a : Reply) → new.config ≡ h.config
-        → AllFollow h (fetched_commands i f) a new
-        → (a ≡ replies.Val (Int (field_number l xs i f))) × Keeps new l xs
-    fetched new a same follows =
+        → AllFollow h (fetched_commands i f) a new → HasUsed h (fetched_commands i f) new
+        → (a ≡ replies.Val (Int (field_number l xs i f))) × Holds new l xs
+    fetched new a same follows took =
         let by = follows (kept_graph k.a k.b k.c k.d os k.fields) k.shows
         (subst (λ q. AllAreSmall q (kept_graph k.a k.b k.c k.d os k.fields) (fetched_commands i f))
         (sym k.config) going.small) in (
@@ -350,38 +362,45 @@ module _ (l : Limits) (xs : List ℕ) (h : Control) (k : Keeps h l xs) (v : ℕ)
             ring = k.ring;
             low = k.low;
             shows = subst (Shows new) going.left by.1;
+            objects = omega (arith, k.objects, fetched_objects h new i f took);
+            units = λ rate is_rate.
+                omega (
+                  arith,
+                  fetched_units h new i f k.config took rate is_rate,
+                  k.units rate is_rate,
+                );
           },
         )
 
-  mark_low : (x : ℕ) → mark l x ≤ 1
-  mark_low x = elim (cases_Bool (is_alarm l x)) [
-    | inl y ↦ rw y (omega arith)
-    | inr y ↦ rw y (omega arith)
-  ]
-
   pub number_low : (i f : ℕ) → f < 2 → field_number l xs i f < 2 ^ 32
   number_low i zero two = all_at xs i k.low
-  number_low i (suc zero) two = omega (arith, mark_low (slice_index_or xs i 0))
+  number_low i (suc zero) two = omega (arith, mark_low l (slice_index_or xs i 0))
   number_low i (suc (suc f)) two = absurd (omega arith)
 
 -- ---- the opening heap
 
 pub keeps_none : (l : Limits) (h : Control) → h.config ≡ heap_config
-    → Shows h (start_graph heap_config) → Keeps h l []
-keeps_none l h same shows = record {
-  config = same;
-  a = Nil;
-  b = Nil;
-  c = Nil;
-  d = Nil;
-  fields = nils 40;
-  a_held = tt;
-  b_plain = tt;
-  c_held = tt;
-  d_plain = tt;
-  ring = ring_start;
-  low = tt;
-  shows = shows;
+    → Shows h (start_graph heap_config) → (asked h ≡ 0) × (units h ≡ 0) × (h.objects ≡ 0)
+    → Keeps h l []
+keeps_none l h same shows fresh = record {
+  holds = record {
+    config = same;
+    a = Nil;
+    b = Nil;
+    c = Nil;
+    d = Nil;
+    fields = nils 40;
+    a_held = tt;
+    b_plain = tt;
+    c_held = tt;
+    d_plain = tt;
+    ring = ring_start;
+    low = tt;
+    shows = shows;
+    objects = fresh.2;
+    units = λ rate is_rate. omega (arith, fresh.1);
+  };
+  few = omega (arith, fresh.0);
 }
 
 pub start_small : IsSmall heap_config (start_graph heap_config)

@@ -1,13 +1,14 @@
 -- A heap that keeps readings.
-use Rattle.std.specs.Prelude.{ℕ, zero, suc, ◌+◌, ◌%◌, ◌<◌, ◌≤◌, ◌≡◌, ◌^◌, List, [], ◌∷◌, length, map, slice_index_or}
+use Rattle.std.specs.Prelude.{ℕ, zero, suc, ◌+◌, ◌*◌, ◌%◌, ◌<◌, ◌≤◌, ◌≡◌, ◌^◌, List, [], ◌∷◌, length, map, slice_index_or}
 use Rattle.std.specs.List.{AllByRecursion}
 use Rattle.block_store.specs.declared.Config.{Config}
 use Rattle.block_store.specs.declared.Name.{Name}
 use Rattle.block_store.specs.declared.Value.{Value}
 use Rattle.block_store.specs.declared.Value.TheVariants.{Nil, Int, Ref}
 use Rattle.block_store.specs.declared.Width.TheVariants.{Eight}
+use Rattle.rate_plan.specs.Rates.{IsRate}
 use Rattle.never_heap.specs.Graphs.{Graph, Object, Record, Array, nils, shared_name}
-use Rattle.control_heap.specs.Controls.{Control}
+use Rattle.control_heap.specs.Controls.{Control, asked, units}
 use Rattle.asked_graph.specs.Shown.{Shows}
 use Rattle.historian_core.specs.declared.Limits.{Limits}
 use Rattle.historian_core.specs.Windows.{mark}
@@ -57,8 +58,8 @@ pub record IsRing (n : ℕ) (fs : List Value) : Type 0 where
   pub slots : (i : ℕ) → i < n → n ≤ i + 40 → slice_index_or fs (i % 40) Nil ≡ Ref (name_at i)
 
 -- A heap that was given these readings: it shows a graph with a record for each, of which the last
--- 40 stand in the shared array.
-pub record Keeps (h : Control) (l : Limits) (xs : List ℕ) : Type 0 where
+-- 40 stand in the shared array. Each took one object of its life, and the units of one block.
+pub record Holds (h : Control) (l : Limits) (xs : List ℕ) : Type 0 where
   pub config : h.config ≡ heap_config
   pub a : Value
   pub b : Value
@@ -72,3 +73,11 @@ pub record Keeps (h : Control) (l : Limits) (xs : List ℕ) : Type 0 where
   pub ring : IsRing (length xs) fields
   pub low : AllByRecursion (λ (x : ℕ). x < 2 ^ 32) xs
   pub shows : Shows h (kept_graph a b c d (map (record_of l) xs) fields)
+  pub objects : h.objects ≡ length xs
+  pub units : (rate : ℕ) → IsRate heap_config rate → units h ≡ rate * length xs
+
+-- The same between two readings: each took no more than 6 commands to keep it, and 4 for each of 40
+-- that were told.
+pub record Keeps (h : Control) (l : Limits) (xs : List ℕ) : Type 0 where
+  pub holds : Holds h l xs
+  pub few : asked h ≤ 166 * length xs

@@ -1,3 +1,5 @@
 pub mod Windows
 pub mod Kept
-pub mod Streams
+pub mod Texts
+pub mod Lines
+pub mod Reports

@@ -1,25 +1,31 @@
 //! The last 40 readings of a number, kept as records on a garbage-collected heap.
 #![tactic(auto)]
 
-ghost use Rattle.std.specs.Prelude.{◌≡◌, ◌≤◌, ◌<◌, ◌+◌, ◌%◌, ◌^◌, ◌∷◌, ◌++◌, ℕ, min, max, List, [], length, slice_index_or, Option, Some, IsNone, IsTrue, IfOk, IfErr, OnOk, IfSome};
+ghost use Rattle.std.specs.Prelude.{◌≡◌, ◌≤◌, ◌<◌, ◌+◌, ◌%◌, ◌^◌, ◌∷◌, ◌++◌, ℕ, min, max, List, [], length, slice_index_or, IfOk, IfErr, OnOk, OnErr};
 ghost use Rattle.block_store.specs.declared.Value.TheVariants.{Int};
 ghost use Rattle.never_heap.specs.declared.Reply.TheVariants.{Val};
+ghost use Rattle.control_heap.specs.Controls.{asked};
 ghost use Rattle.control_heap.specs.Refusals.{IsOpenFault};
-ghost use Rattle.trace_text.specs.Reading.{number_at};
-ghost use Rattle.trace_text.specs.Streams.{Appends};
-ghost use Rattle.historian_core.specs.Streams.{LeadsBy, EndsAt};
-ghost use Rattle.historian_core.specs.Kept.{Keeps, heap_config, field_number};
+ghost use Rattle.trace_text.specs.Faults.{Rose};
+ghost use Rattle.trace_text.specs.Streams.{Appends, AppendsPrefix};
+ghost use Rattle.historian_core.specs.Kept.{Holds, Keeps, heap_config, field_number};
 ghost use Rattle.historian_core.specs.Windows as windows;
 
-use asked_graph::{ask_all, open};
+mod texts;
+
+use asked_graph::{ask_all, lives_add_up, open};
 use block_store::{Config, Value, Width};
-use control_heap::{ControlHeap, OpenFault, Refused};
+use control_heap::{ControlHeap, OpenFault};
 use never_heap::{Command, Reply};
 use std::alloc::Global;
-use trace_text::{LineBuffer, Sink, number_of};
+pub use texts::{Stop, limits_of, reading_of, report};
+use trace_text::{Failed, LineBuffer, Sink};
 
 /// How many readings are kept.
 pub const KEPT: u64 = 40;
+
+/// How many readings a heap keeps in its life.
+pub const LIFE: u64 = 1 << 32;
 
 /// The heap: no more than 64 of its 256 blocks are ever live.
 const HEAP: Config = Config {
@@ -135,129 +141,64 @@ pub fn start(alloc: Global) -> Result<ControlHeap, OpenFault>
     open(alloc, HEAP)
 }
 
-/// Why nothing is told of a reading.
-#[derive(Clone, Copy, Debug, PartialEq, Eq)]
-pub enum Stop {
-    /// The heap did not do a command, since it has no life left. It is of no use any more.
-    Refused(Refused),
-    /// The line was not written.
-    Unwritten,
-}
-
 /// Keeps one reading more in a heap that has `count`, and writes the line of the last 40, by one
 /// `put`.
 ///
 /// # Errors
 ///
-/// `Refused` as of `take`, and `Unwritten` where the sink fails.
+/// `Failed` where the sink fails: then the reading is kept, and a prefix of the line written.
 pub fn tell<K: Sink>(
     heap: &mut ControlHeap,
     limits: &Limits,
     count: u64,
     reading: u32,
     sink: &mut K,
-) -> Result<(), Stop>
+) -> Result<(), Failed>
     requires kept { (xs : List ℕ) × Keeps heap.old limits.now xs × (length xs ≡ count) }
-    requires room { count < 2 ^ 60 }
+    requires room { count < LIFE }
+    ensures kept { (xs : List ℕ) → Keeps heap.old limits.now xs → length xs ≡ count
+        → Keeps heap.new limits.now (xs ++ reading ∷ []) }
     ensures written { (xs : List ℕ) → Keeps heap.old limits.now xs → length xs ≡ count
         → OnOk result (Appends (K.held sink.old) (K.held sink.new)
-        (windows.told_line limits.now (xs ++ reading ∷ []))
-        × Keeps heap.new limits.now (xs ++ reading ∷ [])) }
+        (windows.told_line limits.now (xs ++ reading ∷ []))) }
+    ensures prefix { (xs : List ℕ) → Keeps heap.old limits.now xs → length xs ≡ count
+        → OnErr result (AppendsPrefix (K.held sink.old) (K.held sink.new)
+        (windows.told_line limits.now (xs ++ reading ∷ []))) }
     ensures still { OnOk result (K.faults sink.new ≡ K.faults sink.old) }
+    ensures rose { OnErr result (Rose (K.faults sink.old) (K.faults sink.new)) }
 {
-    let figures = match take(heap, limits, count, reading) {
-        Ok(figures) => figures,
-        Err(refused) => return Err(Stop::Refused(refused)),
-    };
-    let line = figures.line();
-    match sink.put(line.bytes()) {
-        Ok(()) => Ok(()),
-        Err(_) => Err(Stop::Unwritten),
-    }
+    let line = take(heap, limits, count, reading).line();
+    sink.put(line.bytes())
 }
 
-/// Readings that come one at a time.
-pub trait Readings {
-    /// Those that are left, where it tells them.
-    ghost left: { Self → Option (List ℕ) };
-
-    /// The next one, or nothing at the end.
-    fn next(&mut self) -> Option<u32>
-        ensures some { IfSome result (λ r. LeadsBy r (left self.old) (left self.new)) }
-        ensures end { IsNone result → EndsAt (left self.old) };
-}
-
-/// Keeps all readings that come, and writes the line of the last 40 behind each. The heap keeps none
-/// yet.
-///
-/// # Errors
-///
-/// As of `tell`. Behind 2^59 readings it stops.
-pub fn report<R: Readings, K: Sink>(
-    heap: &mut ControlHeap,
-    limits: &Limits,
-    readings: &mut R,
-    sink: &mut K,
-) -> Result<bool, Stop>
-    requires { Keeps heap.old limits.now [] }
-    ensures written { IfOk result (λ ended. IsTrue ended
-        → IfSome (R.left readings.old) (λ ns.
-        Appends (K.held sink.old) (K.held sink.new) (windows.told_lines limits.now [] ns))) }
-    ensures still { OnOk result (K.faults sink.new ≡ K.faults sink.old) }
-{
-    for count in 0..1 << 59 {
-        let Some(reading) = readings.next() else {
-            return Ok(true);
-        };
-        tell(heap, limits, count, reading, sink)?;
-    }
-    Ok(false)
-}
-
-/// The reading that a line spells: a number below 2^32.
-pub fn reading_of(line: &[u8]) -> Option<u32>
-    ensures reading { IfSome result (λ n. number_at line.now ≡ Some n) }
-    ensures none { IsNone result → (n : ℕ) → number_at line.now ≡ Some n → 2 ^ 32 ≤ n }
-{
-    match number_of(line) {
-        Some(number) if number < 1 << 32 => Some(number as u32),
-        _ => None,
-    }
-}
-
-/// Keeps one reading more in a heap that has `count`, and tells the figures of the last 40.
-///
-/// # Errors
-///
-/// `NoLifeLeft`, where the heap has no life left. Then it is of no use any more.
-pub fn take(
-    heap: &mut ControlHeap,
-    limits: &Limits,
-    count: u64,
-    reading: u32,
-) -> Result<Figures, Refused>
+/// Keeps one reading more in a heap that has `count`, and tells the figures of the last 40. The life
+/// of the heap has room for it.
+pub fn take(heap: &mut ControlHeap, limits: &Limits, count: u64, reading: u32) -> Figures
     requires kept { (xs : List ℕ) × Keeps heap.old limits.now xs × (length xs ≡ count) }
-    requires room { count < 2 ^ 60 }
+    requires room { count < LIFE }
     ensures { (xs : List ℕ) → Keeps heap.old limits.now xs → length xs ≡ count
-        → IfOk result (λ f.
-        (f ≡ windows.figures_of limits.now (windows.last_ones (xs ++ reading ∷ [])))
-        × Keeps heap.new limits.now (xs ++ reading ∷ [])) }
+        → (result ≡ windows.figures_of limits.now (windows.last_ones (xs ++ reading ∷ [])))
+        × Keeps heap.new limits.now (xs ++ reading ∷ []) }
 {
-    keep(heap, limits, count, reading)?;
+    keep(heap, limits, count, reading);
     let mut figures = Figures::none();
     let kept = (count + 1).min(KEPT);
     for back in 0..kept {
-        let value = field_at(heap, count - back, 0)?;
-        let mark = field_at(heap, count - back, 1)?;
+        let value = field_at(heap, count - back, 0);
+        let mark = field_at(heap, count - back, 1);
         figures = figures.with(value, mark);
     }
-    Ok(figures)
+    figures
 }
 
 /// Keeps one reading more, as a record of it and its mark, in the place of the one 40 before.
-fn keep(heap: &mut ControlHeap, limits: &Limits, count: u64, reading: u32) -> Result<(), Refused>
-    ensures { (xs : List ℕ) → Keeps heap.old limits.now xs → length xs ≡ count
-        → OnOk result (Keeps heap.new limits.now (xs ++ reading ∷ [])) }
+fn keep(heap: &mut ControlHeap, limits: &Limits, count: u64, reading: u32)
+    requires kept { (xs : List ℕ) × Holds heap.old limits.now xs × (length xs ≡ count) }
+    requires room { count < LIFE }
+    requires few { asked heap.old < 2 ^ 40 }
+    ensures kept { (xs : List ℕ) → Holds heap.old limits.now xs → length xs ≡ count
+        → Holds heap.new limits.now (xs ++ reading ∷ []) }
+    ensures six { asked heap.new ≡ asked heap.old + 6 }
 {
     let value = u64::from(reading);
     let mark = limits.mark(reading);
@@ -273,19 +214,23 @@ fn keep(heap: &mut ControlHeap, limits: &Limits, count: u64, reading: u32) -> Re
             v: 1,
         },
     ];
-    ask_all(heap, &commands)?;
-    Ok(())
+    lives_add_up();
+    let Ok(_) = ask_all(heap, &commands) else {
+        unreachable!();
+    };
 }
 
 /// Fetches the reading number i (field 0), counted from 0, or its mark (field 1).
-fn field_at(heap: &mut ControlHeap, i: u64, field: u64) -> Result<u64, Refused>
-    requires kept { (l : Limits) × (xs : List ℕ) × Keeps heap.old l xs
-        × (i < length xs) × (length xs ≤ i + KEPT) }
+fn field_at(heap: &mut ControlHeap, i: u64, field: u64) -> u64
+    requires kept { (l : Limits) × (xs : List ℕ) × Holds heap.old l xs
+        × (i < length xs) × (length xs ≤ i + KEPT) × (length xs ≤ LIFE) }
     requires field { field < 2 }
-    ensures kept { (l : Limits) (xs : List ℕ) → Keeps heap.old l xs → i < length xs
+    requires few { asked heap.old < 2 ^ 40 }
+    ensures kept { (l : Limits) (xs : List ℕ) → Holds heap.old l xs → i < length xs
         → length xs ≤ i + KEPT
-        → IfOk result (λ n. (n ≡ field_number l xs i field) × Keeps heap.new l xs) }
-    ensures small { IfOk result (λ n. n < 2 ^ 32) }
+        → (result ≡ field_number l xs i field) × Holds heap.new l xs }
+    ensures small { result < 2 ^ 32 }
+    ensures two { asked heap.new ≡ asked heap.old + 2 }
 {
     let commands = [
         Command::Get {
@@ -299,8 +244,11 @@ fn field_at(heap: &mut ControlHeap, i: u64, field: u64) -> Result<u64, Refused>
             i: field,
         },
     ];
-    let reply = ask_all(heap, &commands)?;
-    Ok(number_in(reply))
+    lives_add_up();
+    let Ok(reply) = ask_all(heap, &commands) else {
+        unreachable!();
+    };
+    number_in(reply)
 }
 
 /// The number that a reply shows.

@@ -4,7 +4,7 @@ ghost use Rattle.std.specs.Prelude.{◌≡◌, ◌≤◌, ◌+◌, ◌*◌, map,
 ghost use Rattle.rate_plan.specs.Rates.{IsAdmitted};
 ghost use Rattle.trace_text.specs.Jobs.{IsJobInBounds};
 ghost use Rattle.said_numbers.specs.Said.{numbers_said, says_in};
-ghost use Rattle.threaded_runs.specs.Ends.{HasHistory, job_of};
+ghost use Rattle.threaded_runs.specs.Ends.{HasHistory, HasTurns, job_of};
 ghost use Rattle.mail_runs.specs.Rooms.{room_of};
 ghost use Rattle.mail_runs.specs.Speakers.{AreSpeakers, IsFirst};
 
@@ -44,6 +44,7 @@ pub fn deliver<R: Threads + Wait + Sync, Q: Pace>(
     requires few { job.config.threads ≤ 2 }
     ensures job { IfOk result (λ r. job_of r.0 ≡ job) }
     ensures ran { IfOk result (λ r. HasHistory r.0) }
+    ensures turns { IfOk result (λ r. HasTurns r.0) }
     ensures taken { IfOk result (λ r. r.1.taken ≡ map numbers_said r.0.logs) }
     ensures sent { IfOk result (λ r. r.1.sent ≡ map numbers_said r.0.logs) }
 {

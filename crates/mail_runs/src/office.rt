@@ -2,7 +2,7 @@
 
 ghost use Rattle.std.specs.Prelude.{◌≡◌, length, map, IfOk};
 ghost use Rattle.said_numbers.specs.Said.{numbers_said};
-ghost use Rattle.heap_system.specs.Systems.{IsFinished};
+ghost use Rattle.atom_board.specs.Mutators.{IsFinishedBy};
 ghost use Rattle.mail_runs.specs.Speakers.{zipped, IsReceived};
 
 use crate::speaker::Speaker;
@@ -40,8 +40,8 @@ pub(crate) fn paired(
 pub(crate) fn closed(office: Office, mutators: Vec<Mutator>, taker: Taker) -> (Closed, Taken)
     requires { IsReceived office mutators.items taker }
     ensures config { result.0.config ≡ office.board.config }
-    ensures finished { IsFinished office.board.config office.board.traces result.0.logs
-        result.0.cycles }
+    ensures counted { IsFinishedBy office.board.config office.board.traces mutators.items
+        result.0.logs result.0.cycles }
     ensures taken { result.1.taken ≡ map numbers_said result.0.logs }
     ensures sent { result.1.sent ≡ map numbers_said result.0.logs }
 {

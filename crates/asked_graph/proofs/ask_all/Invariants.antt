@@ -1,5 +1,9 @@
--- The commands that are left lead on from a graph that the heap shows.
+-- The commands that are left lead on from a graph that the heap shows, and what becomes of them
+-- becomes of all.
 use Rattle.std.proofs.Common.{◌≡◌, drop}
+use Rattle.control_heap.specs.Controls.{Control}
+use Rattle.control_heap.specs.declared.control.Refused.{Refused}
+use Rattle.asked_graph.specs.Asked.{HasDoneAll, RefusesOne}
 use Rattle.asked_graph.specs.Shown.{Leads}
 use Rattle.asked_graph.proofs.ask_all.Given as goal
 
@@ -7,4 +11,9 @@ abbrev pub invariant-loop-command : goal.invariant-loop-command
 invariant-loop-command l = record {
   config : l.heap.config ≡ l.initial.heap.config;
   leads : Leads l.initial.heap l.commands l.heap l.reply (drop l.command-index l.commands);
+  done : (z : Control) → HasDoneAll l.heap (drop l.command-index l.commands) z
+      → HasDoneAll l.initial.heap l.commands z;
+  refused : (r : Refused) (z : Control)
+      → RefusesOne l.heap (drop l.command-index l.commands) r z
+      → RefusesOne l.initial.heap l.commands r z;
 }

@@ -2,7 +2,9 @@ use Rattle.std.proofs.Common.{◌≡◌, ℕ, sym, ap, ◌∙◌, arith}
 use Rattle.block_store.specs.declared.Value.TheVariants.{Int}
 use Rattle.never_heap.specs.declared.Reply.{Reply}
 use Rattle.never_heap.specs.declared.Reply.TheVariants.{Val}
+use Rattle.asked_graph.specs.Asked.{HasUsed}
 use Rattle.historian_core.specs.Kept.{field_number}
+use Rattle.historian_core.proofs.Lives.{fetched_commands, room_fetched}
 use Rattle.historian_core.proofs.Moves.{fetched, number_low}
 use Rattle.historian_core.proofs.field_at.Goals as goal
 
@@ -14,27 +16,55 @@ shown _ = 0
 one : (a : Reply) (m n : ℕ) → a ≡ Val (Int m) → a ≡ Val (Int n) → m ≡ n
 one a m n e f = ap shown (sym e ∙ f)
 
+pub unreachable-requires : goal.unreachable-requires
+unreachable-requires c =
+    let k = c.requires.kept in
+    c.lives_add_up.ensures.fits c.args.heap.now c.ask_all.new.heap _ k.2.shows.run
+    c.in_default.field-0 k.2.shows.stands
+    (room_fetched k.0 k.1 c.args.heap.now k.2 c.requires.few c.args.i c.args.field
+    c.requires.field k.5) c.in_default.ensures.refused
+
 pub number_in-requires : goal.number_in-requires
 number_in-requires c =
-    let k = c.requires.kept in (
+    let k = c.requires.kept in
+    let used : HasUsed c.args.heap.now (fetched_commands c.args.i c.args.field)
+    c.ask_all.new.heap =
+    c.lives_add_up.ensures.used c.args.heap.now c.ask_all.new.heap _ k.2.shows.run k.2.shows.stands
+    c.in-Ok.ensures.done in (
       field_number k.0 k.1 c.args.i c.args.field,
       (fetched k.0 k.1 c.args.heap.now k.2 0 c.args.i c.args.field k.3 k.4 c.requires.field
-          c.ask_all.new.heap c.in_ok-reply.reply c.ask_all.ensures.config
-          c.in_ok-reply.ensures.shown).0,
+          c.ask_all.new.heap c.in-Ok.reply c.ask_all.ensures.config c.in-Ok.ensures.shown used).0,
     )
 
 pub returns-clause-kept : goal.returns-clause-kept
 returns-clause-kept c = λ l xs k inside recent.
+    let used : HasUsed c.args.heap.now (fetched_commands c.args.i c.args.field)
+    c.ask_all.new.heap =
+    c.lives_add_up.ensures.used c.args.heap.now c.ask_all.new.heap _ k.shows.run k.shows.stands
+    c.in-Ok.ensures.done in
     let by = fetched l xs c.args.heap.now k 0 c.args.i c.args.field inside recent c.requires.field
-    c.ask_all.new.heap c.in_ok-reply.reply c.ask_all.ensures.config
-    c.in_ok-reply.ensures.shown in
-    (one c.in_ok-reply.reply _ _ c.number_in.ensures by.0, by.1)
+    c.ask_all.new.heap c.in-Ok.reply c.ask_all.ensures.config
+    c.in-Ok.ensures.shown used in
+    (one c.in-Ok.reply _ _ c.number_in.ensures by.0, by.1)
 
 pub returns-clause-small : goal.returns-clause-small
 returns-clause-small c =
     let k = c.requires.kept in
+    let used : HasUsed c.args.heap.now (fetched_commands c.args.i c.args.field)
+    c.ask_all.new.heap =
+    c.lives_add_up.ensures.used c.args.heap.now c.ask_all.new.heap _ k.2.shows.run k.2.shows.stands
+    c.in-Ok.ensures.done in
     let by = fetched k.0 k.1 c.args.heap.now k.2 0 c.args.i c.args.field k.3 k.4 c.requires.field
-    c.ask_all.new.heap c.in_ok-reply.reply c.ask_all.ensures.config
-    c.in_ok-reply.ensures.shown in
-    let same = one c.in_ok-reply.reply _ _ c.number_in.ensures by.0 in
+    c.ask_all.new.heap c.in-Ok.reply c.ask_all.ensures.config
+    c.in-Ok.ensures.shown used in
+    let same = one c.in-Ok.reply _ _ c.number_in.ensures by.0 in
     omega (arith, same, number_low k.0 k.1 c.args.heap.now k.2 0 c.args.i c.args.field c.requires.field)
+
+pub returns-clause-two : goal.returns-clause-two
+returns-clause-two c =
+    let k = c.requires.kept in
+    let used : HasUsed c.args.heap.now (fetched_commands c.args.i c.args.field)
+    c.ask_all.new.heap =
+    c.lives_add_up.ensures.used c.args.heap.now c.ask_all.new.heap _ k.2.shows.run k.2.shows.stands
+    c.in-Ok.ensures.done in
+    used.count

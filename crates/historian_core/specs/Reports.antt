@@ -1,0 +1,100 @@
+-- How a report of a text ends, and the cause of each end but the first.
+use Rattle.std.specs.Prelude.{ℕ, ◌≡◌, ◌≤◌, ◌⊎◌, ◌++◌, List, [], ◌∷◌, length, take, drop, Option, None, Some, Result, Ok, Err}
+use Rattle.trace_text.specs.Faults.{Rose}
+use Rattle.trace_text.specs.Lines.{lines_of}
+use Rattle.trace_text.specs.Streams.{Appends}
+use Rattle.short_lines.specs.Found.{IsCut}
+use Rattle.historian_core.specs.declared.Limits.{Limits}
+use Rattle.historian_core.specs.declared.texts.Stop.{Stop}
+use Rattle.historian_core.specs.declared.texts.Stop.TheVariants.{ReadFault, WriteFault}
+use Rattle.historian_core.specs.Texts.{life, reading_at, stop_in, told_in, stop_behind, told_behind, limits_in, readings_in}
+use Rattle.historian_core.specs.Windows.{told_line, told_lines}
+
+-- The source failed: these lines were read, and what they ask is told. Of the next one some bytes
+-- may be gone.
+pub record FailsBehind (bytes : List ℕ) (left held held_now : Option (List ℕ)) : Type 0 where
+  pub lines : List (List ℕ)
+  pub rest : List ℕ
+  pub split : lines_of bytes ≡ lines ++ lines_of rest
+  pub fine : (lines ≡ []) ⊎ (stop_in lines ≡ None)
+  pub told : Appends held held_now (told_in lines)
+  pub cut : IsCut rest left
+
+-- The sink failed in the line of a reading: those of the readings before it are written, and a
+-- prefix of it.
+pub record BreaksOff (bytes : List ℕ) (held held_now : Option (List ℕ)) : Type 0 where
+  pub limits : Limits
+  pub past : List ℕ
+  pub reading : ℕ
+  pub more : List ℕ
+  pub prefix : ℕ
+  pub first : limits_in (lines_of bytes) ≡ Some limits
+  pub split : readings_in (drop 1 (lines_of bytes)) ≡ past ++ reading ∷ more
+  pub told : Appends held held_now
+      (told_lines limits [] past ++ take prefix (told_line limits (past ++ reading ∷ [])))
+
+-- What is left of a text and what the sink holds, and what was held before, by what is answered.
+-- Where the streams do not fail, each text has one answer.
+abbrev pub IsReport : List ℕ → Option (List ℕ) → Option (List ℕ) → Option (List ℕ)
+    → Result (Unit {0}) Stop → Type 0
+IsReport bytes left held held_now (Ok done) =
+    (stop_in (lines_of bytes) ≡ None) × (left ≡ Some [])
+    × Appends held held_now (told_in (lines_of bytes))
+IsReport bytes left held held_now (Err ReadFault) = FailsBehind bytes left held held_now
+IsReport bytes left held held_now (Err WriteFault) = BreaksOff bytes held held_now
+IsReport bytes left held held_now (Err stop) =
+    (stop_in (lines_of bytes) ≡ Some stop) × Appends held held_now (told_in (lines_of bytes))
+
+-- Which faults the source and the sink have counted: a fault is that of its stream, and each is
+-- told.
+abbrev pub AreCounted : ℕ → ℕ → ℕ → ℕ → Result (Unit {0}) Stop → Type 0
+AreCounted read read_now written written_now (Err ReadFault) =
+    Rose read read_now × (written_now ≡ written)
+AreCounted read read_now written written_now (Err WriteFault) =
+    (read_now ≡ read) × Rose written written_now
+AreCounted read read_now written written_now r = (read_now ≡ read) × (written_now ≡ written)
+
+-- ---- the same of the lines behind the limits
+
+-- these lines spell these readings
+abbrev pub AreReadings : List (List ℕ) → List ℕ → Type 0
+AreReadings [] [] = Unit {0}
+AreReadings (line ∷ lines) (x ∷ xs) = (reading_at line ≡ Some x) × AreReadings lines xs
+AreReadings _ _ = ⊥
+
+-- these readings were read, and this is left
+pub record IsReadTo (bytes : List ℕ) (past : List ℕ) (left : Option (List ℕ)) : Type 0 where
+  pub done : List (List ℕ)
+  pub rest : List ℕ
+  pub split : lines_of bytes ≡ done ++ lines_of rest
+  pub spelled : AreReadings done past
+  pub now : left ≡ Some rest
+
+pub record FailsAt (l : Limits) (bytes : List ℕ) (left held held_now : Option (List ℕ)) : Type 0
+  where
+    pub past : List ℕ
+    pub before : Option (List ℕ)
+    pub few : length past ≤ life
+    pub read : IsReadTo bytes past before
+    pub cut : IsCut read.rest left
+    pub told : Appends held held_now (told_lines l [] past)
+
+pub record BreaksAt (l : Limits) (bytes : List ℕ) (held held_now : Option (List ℕ)) : Type 0 where
+  pub past : List ℕ
+  pub reading : ℕ
+  pub more : List ℕ
+  pub prefix : ℕ
+  pub split : readings_in (lines_of bytes) ≡ past ++ reading ∷ more
+  pub told : Appends held held_now
+      (told_lines l [] past ++ take prefix (told_line l (past ++ reading ∷ [])))
+
+abbrev pub IsReportBehind : Limits → List ℕ → Option (List ℕ) → Option (List ℕ)
+    → Option (List ℕ) → Result (Unit {0}) Stop → Type 0
+IsReportBehind l bytes left held held_now (Ok done) =
+    (stop_behind (Some l) (lines_of bytes) ≡ None) × (left ≡ Some [])
+    × Appends held held_now (told_behind (Some l) (lines_of bytes))
+IsReportBehind l bytes left held held_now (Err ReadFault) = FailsAt l bytes left held held_now
+IsReportBehind l bytes left held held_now (Err WriteFault) = BreaksAt l bytes held held_now
+IsReportBehind l bytes left held held_now (Err stop) =
+    (stop_behind (Some l) (lines_of bytes) ≡ Some stop)
+    × Appends held held_now (told_behind (Some l) (lines_of bytes))
