@@ -1,0 +1,24 @@
+use Rattle.std.proofs.Common.{◌≡◌, refl, List, map, subst, string_bytes}
+use Rattle.call_exits.specs.Sides.{sides}
+use Rattle.rt_mail.proofs.CarriedOut.{mail_is_carried_out, refusal_is_carried_out}
+use Rattle.rt_mail.proofs.top.mail.Goals as goal
+
+pub returns-in-Ok : goal.returns-in-Ok
+returns-in-Ok g c =
+    let w = c.written.ensures in
+    let m = c.in-Ok.mailed in
+    mail_is_carried_out (map (λ w. string_bytes w) c.args.words.now)
+    (sides g.S.Source.left g.S.Source.faults c.args.source.now c.asked.new.source)
+    (sides g.K.Sink.held g.K.Sink.faults c.args.sink.now c.written.new.sink)
+    c.written.result record { any_status = rw w.due w.status; still = w.still; rose = w.rose }
+    m.first m.taken m.second (map (λ v. v.items) m.recalled.items) c.in-Ok.ensures.none
+    c.in-Ok.ensures.mail c.in-Ok.ensures.recalled w.due w.first w.taken w.second w.text
+
+pub returns-in-Err : goal.returns-in-Err
+returns-in-Err g c =
+    let r = c.refused.ensures in
+    refusal_is_carried_out (map (λ w. string_bytes w) c.args.words.now)
+    (sides g.S.Source.left g.S.Source.faults c.args.source.now c.asked.new.source)
+    (sides g.K.Sink.held g.K.Sink.faults c.args.sink.now c.refused.new.sink) _
+    record { any_status = rw c.status.ensures r.status; still = r.still; rose = r.rose }
+    c.in-Err.refusal c.status.ensures refl refl refl c.in-Err.ensures.refused r.line r.prefix
