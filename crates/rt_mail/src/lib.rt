@@ -1,5 +1,5 @@
-//! Two heaps joined by a queue: the threads of one send numbers, and what came of each is kept on the
-//! other.
+//! Two heaps joined by a queue: the threads of one send numbers, and what came of each is kept on
+//! the other.
 #![tactic(auto)]
 
 mod exit;
