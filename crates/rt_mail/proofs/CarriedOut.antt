@@ -16,32 +16,30 @@ use Rattle.rt_mail.specs.Tellings.{lines_from}
 use Rattle.rt_mail.specs.Texts.{Causes, IsFine, IsCause}
 use Rattle.rt_mail.proofs.Apart.{are_apart, fine_read}
 
-not_some : {X : Type 0} (o : Option X) → o ≡ None → IsSome o → ⊥
-not_some o e s =
-    let none : IsSome {T = X} None = subst (λ (x : Option X). IsSome x) e s in
-    cc
+module _ {X : Type 0} (o : Option X) where
+  not_some : o ≡ None → IsSome o → ⊥
+  not_some e s =
+      let none : IsSome {T = X} None = subst (λ (x : Option X). IsSome x) e s in
+      cc
 
--- it is there exactly where nothing is refused
-there : {X : Type 0} (o : Option X) (x : X) (due : ℕ) → o ≡ Some x → due ≡ 0
-    → IsSome o ↔ (due ≡ 0)
-there o x due is zero = (λ _. zero, λ _. subst (λ (p : Option X). IsSome p) (sym is) refl)
+  -- it is there exactly where nothing is refused
+  there : (x : X) (due : ℕ) → o ≡ Some x → due ≡ 0 → IsSome o ↔ (due ≡ 0)
+  there x due is zero = (λ _. zero, λ _. subst (λ (p : Option X). IsSome p) (sym is) refl)
 
-absent : {X : Type 0} (o : Option X) (r : Refusal) (due : ℕ) → o ≡ None → due ≡ status_of r
-    → IsSome o ↔ (due ≡ 0)
-absent o r due is e = (
-  λ some. absurd (not_some o is some),
-  λ zero. absurd (never_done r (sym e ∙ zero)),
-)
+  absent : (r : Refusal) (due : ℕ) → o ≡ None → due ≡ status_of r → IsSome o ↔ (due ≡ 0)
+  absent r due is e = (
+    λ some. absurd (not_some is some),
+    λ zero. absurd (never_done r (sym e ∙ zero)),
+  )
+
+  of_none : (P : X → Type 0) → o ≡ None → IfSome o P
+  of_none P is = subst (λ (x : Option X). IfSome x P) (sym is) tt
 
 -- what holds of all three that are there
 of_three : {A B C : Type 0} (P : A → B → C → Type 0) (o : Option A) (p : Option B) (q : Option C)
     (a : A) (b : B) (c : C) → o ≡ Some a → p ≡ Some b → q ≡ Some c → P a b c
     → IfSome o (λ x. IfSome p (λ y. IfSome q (λ z. P x y z)))
-of_three P o p q a b c is_a is_b is_c h =
-    rw (is_a, is_b, is_c) h
-
-of_none : {A : Type 0} (P : A → Type 0) (o : Option A) → o ≡ None → IfSome o P
-of_none P o is = subst (λ (x : Option A). IfSome x P) (sym is) tt
+of_three P o p q a b c is_a is_b is_c h = rw (is_a, is_b, is_c) h
 
 module _ (words : List (List ℕ)) (source sink : Sides) (x : MailExit)
     (told : IsToldBy sink x.status x.due) where
@@ -80,7 +78,7 @@ module _ (words : List (List ℕ)) (source sink : Sides) (x : MailExit)
     first = absent x.first r x.due no_first due;
     taken = absent x.taken r x.due no_taken due;
     second = absent x.second r x.due no_second due;
-    headline = of_none _ x.first no_first;
+    headline = of_none x.first _ no_first;
     ended = refusal_is_ended AreNone AreNone input_limit Causes IsFine (4 ∷ []) are_apart
         (codes "rt_mail") (exit_of words source sink x) told r due line prefix cause;
   }

@@ -8,7 +8,7 @@ use Rattle.call_exits.specs.Sides.{Sides}
 use Rattle.never_heap.specs.declared.Command.{Command}
 use Rattle.never_heap.specs.declared.Entry.{Entry}
 use Rattle.never_heap.specs.Histories.{HistoryItem, part, parts}
-use Rattle.number_rings.specs.Rings.{IsKeepable}
+use Rattle.number_rings.specs.Rings.{IsKeepable, last_numbers}
 use Rattle.operations.proofs.Logged.{logged}
 use Rattle.rate_plan.specs.Rates.{IsAdmitted}
 use Rattle.said_numbers.specs.Said.{numbers_said, says_in, AreNumbers}
@@ -17,7 +17,7 @@ use Rattle.said_numbers.proofs.Small.{said_numbers_small}
 use Rattle.threaded_runs.specs.Ends.{HasHistory, commands_of, job_of}
 use Rattle.trace_text.specs.Jobs.{Job, IsJob, IsJobInBounds}
 use Rattle.rt_mail.specs.Calls.{HasFirst, HasMail}
-use Rattle.rt_mail.specs.Recalled.{HasRings}
+use Rattle.rt_mail.specs.Recalled.{HasRings, recalled_in}
 use Rattle.rt_mail.specs.Says.{says_of, IsWithin}
 use Rattle.rt_mail.specs.Texts.{IsReadAs}
 use Rattle.rt_mail.proofs.Ringing.{last_recalled}
@@ -100,3 +100,20 @@ module _ (source : Sides) (first : ClosedState) (said : HasFirst source first)
     kept = kept;
     last = last_recalled taken second kept;
   }
+
+-- as many threads recalled as there were senders, two at most
+module _ (source : Sides) (first second : ClosedState) (taken last : List (List ℕ))
+    (mail : HasMail source first taken second) (is : last ≡ recalled_in taken second.logs) where
+  pub as_many_recalled : length last ≡ length taken
+  as_many_recalled = ap length (is ∙ mail.last) ∙ length-map taken last_numbers
+
+  pub few_recalled : length last ≤ 2
+  few_recalled =
+      let said = mail.said in
+      let logs : length first.logs ≤ 2 =
+      few_logs first said.read.holds.in_bounds said.within said.ran in
+      let long : length taken ≡ length (parts first.config.threads said.ran.history) =
+      ap length mail.took ∙ length-map (parts first.config.threads said.ran.history) numbers_said in
+      let same : length (parts first.config.threads said.ran.history) ≡ length first.logs =
+      ap length said.ran.parts_logged in
+      omega (arith, as_many_recalled, long, same, logs)

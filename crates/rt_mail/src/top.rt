@@ -1,6 +1,6 @@
 //! The top call.
 
-ghost use Rattle.std.specs.Prelude.{◌≡◌, ◌≢◌, ◌⊎◌, map, string_bytes, [], Some, length, IfOk, IfErr, OnOk};
+ghost use Rattle.std.specs.Prelude.{◌≡◌, ◌≢◌, ◌≤◌, ◌⊎◌, map, string_bytes, [], Some, length, IfOk, IfErr, OnOk};
 ghost use Rattle.call_exits.specs.Exits.{IsWritten};
 ghost use Rattle.call_exits.specs.Sides.{sides};
 ghost use Rattle.trace_text.specs.Faults.{Rose};
@@ -77,6 +77,8 @@ fn asked<R: Threads + Wait + Sync, S: Source, Q: Pace>(
 
 /// Writes what came.
 fn written<K: Sink>(mailed: Delivered, sink: &mut K) -> MailExit
+    requires few { length mailed.recalled.items ≤ 2 }
+    requires all { length mailed.recalled.items ≡ length mailed.taken.taken }
     ensures due { result.due ≡ 0 }
     ensures first { result.first ≡ Some mailed.first }
     ensures taken { result.taken ≡ Some mailed.taken }
