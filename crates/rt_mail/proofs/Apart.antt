@@ -1,5 +1,5 @@
 -- No text has two answers, and what a text that was read says of its source.
-use Rattle.std.proofs.Common.{◌≡◌, ℕ, ◌⊎◌, inl, inr, List, [], ◌∷◌, Result, Ok, Err, refl, sym, ◌∙◌, subst, arith}
+use Rattle.std.proofs.Common.{◌≡◌, ℕ, ◌⊎◌, inl, inr, List, [], ◌∷◌, refl, sym, ◌∙◌, subst, arith}
 use Rattle.call_exits.specs.declared.refusal.Refusal.{Refusal}
 use Rattle.call_exits.specs.declared.refusal.Refusal.TheVariants as refusals
 use Rattle.call_exits.specs.declared.refusal.Refusal.TheVariants.{BadLine, TooManyThreads, TooManySays, LiveTooSmall, NoRate}

@@ -1,5 +1,5 @@
 -- A call whose mail came, or that was refused, did what it is to do.
-use Rattle.std.proofs.Common.{◌≡◌, ◌≢◌, ℕ, ◌⊎◌, ◌↔◌, inl, inr, List, [], ◌∷◌, Option, Some, None, IfSome, IsSome, codes, refl, sym, ap, ◌∙◌, subst, arith}
+use Rattle.std.proofs.Common.{◌≡◌, ◌≢◌, ℕ, ◌↔◌, List, [], ◌∷◌, Option, Some, None, IfSome, IsSome, codes, refl, sym, ◌∙◌, subst}
 use Rattle.atom_board.specs.Mutators.{ClosedState}
 use Rattle.call_exits.specs.declared.refusal.Refusal.{Refusal}
 use Rattle.call_exits.specs.Exits.{IsWritten, IsToldBy}

@@ -1,13 +1,12 @@
 -- What the first heap says can be kept on the second, and the mail that came.
-use Rattle.std.proofs.Common.{◌≡◌, ℕ, zero, suc, ◌+◌, ◌<◌, ◌≤◌, List, [], ◌∷◌, length, slice_index_or, map, refl, sym, ap, ◌∙◌, subst, arith}
+use Rattle.std.proofs.Common.{◌≡◌, ℕ, suc, ◌<◌, ◌≤◌, List, [], ◌∷◌, length, slice_index_or, map, sym, ap, ◌∙◌, subst, arith}
 use Rattle.std.specs.List.{AllByRecursion}
 use Rattle.std.proofs.lemmas.List.{length-map}
 use Rattle.std.proofs.Math.ListN.{get_or-map}
 use Rattle.atom_board.specs.Mutators.{ClosedState}
 use Rattle.call_exits.specs.Sides.{Sides}
-use Rattle.never_heap.specs.declared.Command.{Command}
 use Rattle.never_heap.specs.declared.Entry.{Entry}
-use Rattle.never_heap.specs.Histories.{HistoryItem, part, parts}
+use Rattle.never_heap.specs.Histories.{parts}
 use Rattle.number_rings.specs.Rings.{IsKeepable, last_numbers}
 use Rattle.operations.proofs.Logged.{logged}
 use Rattle.rate_plan.specs.Rates.{IsAdmitted}
@@ -15,7 +14,7 @@ use Rattle.said_numbers.specs.Said.{numbers_said, says_in, AreNumbers}
 use Rattle.said_numbers.proofs.Few.{few_said}
 use Rattle.said_numbers.proofs.Small.{said_numbers_small}
 use Rattle.threaded_runs.specs.Ends.{HasHistory, commands_of, job_of}
-use Rattle.trace_text.specs.Jobs.{Job, IsJob, IsJobInBounds}
+use Rattle.trace_text.specs.Jobs.{Job, IsJobInBounds}
 use Rattle.rt_mail.specs.Calls.{HasFirst, HasMail}
 use Rattle.rt_mail.specs.Recalled.{HasRings, recalled_in}
 use Rattle.rt_mail.specs.Says.{says_of, IsWithin}

@@ -1,5 +1,5 @@
 -- The second job, one trace after the other, and what its threads recall, one after the other.
-use Rattle.std.proofs.Common.{◌≡◌, ℕ, zero, suc, ◌+◌, ◌*◌, ◌<◌, ◌≤◌, List, [], ◌∷◌, ◌++◌, length, drop, get_or, slice_index_or, map, append_assoc, append-nil, refl, sym, ap, ◌∙◌, subst, arith}
+use Rattle.std.proofs.Common.{◌≡◌, ℕ, suc, ◌+◌, ◌*◌, ◌<◌, ◌≤◌, List, [], ◌∷◌, ◌++◌, length, drop, get_or, slice_index_or, map, append_assoc, append-nil, refl, sym, ap, ◌∙◌, subst, arith}
 use Rattle.std.specs.Prelude.{flat_map}
 use Rattle.std.specs.List.{AllByRecursion}
 use Rattle.std.proofs.lemmas.List.{length-map, at_drop_more, drop_all}
@@ -8,12 +8,11 @@ use Rattle.atom_board.specs.Mutators.{ClosedState}
 use Rattle.block_store.specs.declared.Config.{Config}
 use Rattle.never_heap.specs.declared.Command.{Command}
 use Rattle.never_heap.specs.declared.Entry.{Entry}
-use Rattle.never_heap.specs.Histories.{HistoryItem, part, parts}
-use Rattle.never_heap.specs.Jobs.{IsJobInBounds}
+use Rattle.never_heap.specs.Histories.{HistoryItem, parts}
 use Rattle.never_heap.specs.Runs.{IsRun}
-use Rattle.operations.specs.Linearizations.{traces_of, replies_in}
+use Rattle.operations.specs.Linearizations.{traces_of}
 use Rattle.operations.proofs.Logged.{logged}
-use Rattle.number_rings.specs.Rings.{Operation, rows_of, command_at, script_of, scripts_from, ring_config, ring_traces, recalled, last_numbers, left_of, IsKeepable}
+use Rattle.number_rings.specs.Rings.{Operation, rows_of, command_at, script_of, scripts_from, ring_config, ring_traces, recalled, last_numbers, IsKeepable}
 use Rattle.number_rings.proofs.Chunks.{rows_long}
 use Rattle.number_rings.proofs.Jobs.{rings_fit, rings_admitted}
 use Rattle.number_rings.proofs.Showing.{rings_show, own_script, scripts_long}
@@ -22,7 +21,6 @@ use Rattle.threaded_runs.specs.Ends.{HasHistory, commands_of, job_of}
 use Rattle.trace_text.specs.Jobs.{Job}
 use Rattle.trace_text.specs.Jobs as jobs
 use Rattle.rt_mail.specs.Recalled.{ring_job, HasRings, replies_of, recalled_in}
-use Rattle.rt_mail.proofs.Items.{same_default}
 
 -- ---- the job
 

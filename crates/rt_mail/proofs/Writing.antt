@@ -1,11 +1,10 @@
 -- The lines, piece by piece.
-use Rattle.std.proofs.Common.{◌≡◌, ◌≢◌, ℕ, zero, suc, ◌+◌, ◌<◌, ◌≤◌, List, [], ◌∷◌, ◌++◌, length, drop, get_or, slice_index_or, Option, Result, Ok, Err, OnOk, OnErr, codes, sym, refl, ap, ◌∙◌, subst, append_assoc, append-nil, arith}
+use Rattle.std.proofs.Common.{◌≡◌, ◌≢◌, ℕ, zero, suc, ◌+◌, ◌<◌, ◌≤◌, List, [], ◌∷◌, ◌++◌, length, drop, get_or, Option, Result, Ok, Err, OnOk, OnErr, codes, sym, refl, ap, ◌∙◌, subst, append_assoc, append-nil}
 use Rattle.std.specs.List.{flat_map}
 use Rattle.std.proofs.lemmas.List.{at_drop_more, drop_all}
 use Rattle.trace_text.specs.Streams.{Appends, AppendsPrefix}
 use Rattle.trace_text.proofs.Appending.{appends_none, appends_in_turn, front_in_turn, front_longer}
 use Rattle.rt_mail.specs.Tellings.{number_text, last_text, mail_line, lines_from}
-use Rattle.rt_mail.proofs.Items.{same_default}
 
 -- what was written, and that with the lines that are left it is all lines
 pub record IsWrittenTo

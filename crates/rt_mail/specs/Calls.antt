@@ -3,7 +3,7 @@ use Rattle.std.specs.Prelude.{ℕ, ◌≡◌, ◌↔◌, List, [], ◌∷◌, ma
 use Rattle.atom_board.specs.Mutators.{ClosedState}
 use Rattle.call_exits.specs.Exits.{Exit, IsWritten, IsEnded}
 use Rattle.call_exits.specs.Refusals.{AreNone}
-use Rattle.call_exits.specs.Sides.{Sides, IsUnfailed}
+use Rattle.call_exits.specs.Sides.{Sides}
 use Rattle.mail_post.specs.Ends.{TakenState}
 use Rattle.never_heap.specs.Histories.{parts}
 use Rattle.number_rings.specs.Rings.{last_numbers}

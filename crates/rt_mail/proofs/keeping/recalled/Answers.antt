@@ -1,4 +1,4 @@
-use Rattle.std.proofs.Common.{◌≡◌, ◌≤◌, ◌<◌, refl, List, ℕ, length, map, arith}
+use Rattle.std.proofs.Common.{◌<◌, refl, length, map, arith}
 use Rattle.rt_mail.proofs.Items.{pushed_items}
 use Rattle.rt_mail.proofs.Ringing.{as_many, enough, recalled_more, recalled_done}
 use Rattle.rt_mail.proofs.keeping.recalled.Goals as goal

@@ -1,4 +1,4 @@
-use Rattle.std.proofs.Common.{◌≡◌, ◌<◌, rules, List, ℕ, length, map, subst, arith}
+use Rattle.std.proofs.Common.{◌<◌, rules, List, ℕ, length, map, subst, arith}
 use Rattle.std.proofs.lemmas.List.{length-map}
 use Rattle.trace_text.specs.Streams.{Appends, AppendsPrefix}
 use Rattle.trace_text.proofs.Appending.{at_err}

@@ -1,4 +1,4 @@
-use Rattle.std.proofs.Common.{◌≡◌, refl, List, map, subst, string_bytes, arith}
+use Rattle.std.proofs.Common.{refl, map, string_bytes, arith}
 use Rattle.std.proofs.lemmas.List.{length-map}
 use Rattle.call_exits.specs.Sides.{sides}
 use Rattle.rt_mail.proofs.CarriedOut.{mail_is_carried_out, refusal_is_carried_out}
