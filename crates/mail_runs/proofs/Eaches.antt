@@ -1,5 +1,5 @@
 -- Lists whose items are so by their numbers.
-use Rattle.std.proofs.Common.{ℕ, zero, suc, ◌+◌, ◌≡◌, ◌<◌, List, [], ◌∷◌, ◌++◌, length, map, get_or, arith, subst}
+use Rattle.std.proofs.Common.{ℕ, zero, suc, ◌+◌, ◌≡◌, ◌<◌, List, [], ◌∷◌, ◌++◌, length, get_or, arith, subst}
 use Rattle.mail_runs.specs.Speakers.{Each}
 
 module _ {A : Type 0} (P : ℕ → A → Type 0) where

@@ -1,5 +1,5 @@
 -- What the speakers of an office leave.
-use Rattle.std.proofs.Common.{ℕ, zero, suc, ◌+◌, ◌≡◌, ◌<◌, ◌≤◌, ◌==◌, Bool, true, false, cond, nat_lt, List, [], ◌∷◌, ◌++◌, length, map, get_or, arith, subst, refl, sym, ap, ◌∙◌, inl, inr, Option, Some, None, ne_eqb, eq-eqb, lt-ltb, le-ltb, zero-add}
+use Rattle.std.proofs.Common.{ℕ, zero, suc, ◌+◌, ◌≡◌, ◌<◌, ◌≤◌, ◌==◌, Bool, true, false, cond, nat_lt, List, [], ◌∷◌, length, map, get_or, arith, subst, refl, sym, ap, ◌∙◌, inl, inr, Option, Some, None, ne_eqb, eq-eqb, lt-ltb, le-ltb, zero-add}
 use Rattle.std.specs.Prelude.{count_by, if◌then◌else◌}
 use Rattle.std.specs.List.{range_with_len}
 use Rattle.std.proofs.lemmas.Bool.{cases_lt}

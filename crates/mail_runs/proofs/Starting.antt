@@ -1,12 +1,13 @@
 -- The speakers of an office before the first turn.
-use Rattle.std.proofs.Common.{ℕ, zero, suc, ◌+◌, ◌≡◌, ◌<◌, List, [], ◌∷◌, ◌++◌, length, map, get_or, arith, subst, refl, sym, ap, ◌∙◌}
+use Rattle.std.proofs.Common.{ℕ, suc, ◌+◌, ◌≡◌, List, [], ◌∷◌, ◌++◌, length, map, get_or, arith, subst, refl, sym, ap, ◌∙◌}
 use Rattle.std.specs.Prelude.{remove}
 use Rattle.std.specs.List.{range_with_len}
 use Rattle.std.proofs.lemmas.List.{append_assoc, length-map}
 use Rattle.std.proofs.lemmas.List.FromFn.{length-range_with_len}
 use Rattle.never_heap.specs.declared.Command.{Command}
 use Rattle.block_store.specs.declared.Config.{Config}
-use Rattle.atom_board.specs.Mutators.{MutatorState, AreInOrder, AreFresh}
+use Rattle.atom_board.specs.Mutators.{BoardState, MutatorState, AreInOrder, AreFresh}
+use Rattle.atomic_table.specs.Seated.{TableId}
 use Rattle.mail_post.specs.Ends.{SenderState, fresh_sender, fresh_senders}
 use Rattle.said_numbers.specs.Said.{numbers_said}
 use Rattle.mail_runs.specs.declared.office.Office.{Office}
@@ -53,6 +54,14 @@ zipped_count [] ss e = refl
 zipped_count (m ∷ ms) [] e = absurd (omega arith)
 zipped_count (m ∷ ms) (s ∷ ss) e = ap suc (zipped_count ms ss (omega arith))
 
+-- there are as many of both
+pub ready_count : (b : BoardState) (ms : List MutatorState) (ss : List SenderState) (n : ℕ)
+    (post : TableId) → AreInOrder b ms → ss ≡ fresh_senders post n → n ≡ b.config.threads
+    → length ms ≡ length ss
+ready_count b ms ss n post order are same =
+    order.count ∙ sym same ∙ sym (length-range_with_len 0 n)
+    ∙ sym (length-map (range_with_len 0 n) (fresh_sender post)) ∙ sym (ap length are)
+
 -- a new board's mutators and a new post's senders
 pub speakers_ready : (o : Office) (c : Config) (traces : List (List Command))
     (ms : List MutatorState) (ss : List SenderState) → AreInOrder o.board ms
@@ -67,10 +76,7 @@ speakers_ready o c traces ms ss order fresh are =
     })) in
     let own : ss ≡ map (fresh_sender o.post.id) (range_with_len 0 (length ms)) =
     are ∙ ap (fresh_senders o.post.id) (sym order.count) in
-    let long : length ms ≡ length ss =
-    sym (length-range_with_len 0 (length ms))
-    ∙ sym (length-map (range_with_len 0 (length ms)) (fresh_sender o.post.id))
-    ∙ sym (ap length own) in (
+    let long = ready_count o.board ms ss _ o.post.id order are refl in (
       subst (λ us. Each (IsSpeaker o) 0 (zipped ms us)) (sym own) (speakers_from o 0 ms silent),
       zipped_count ms ss long ∙ order.count,
     )

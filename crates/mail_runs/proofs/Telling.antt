@@ -1,12 +1,12 @@
 -- What a log says when it grows.
-use Rattle.std.proofs.Common.{ℕ, zero, suc, ◌+◌, ◌≡◌, ◌<◌, ◌≤◌, List, [], ◌∷◌, ◌++◌, length, drop, take, arith, refl, sym, ap, ◌∙◌, Option, Some, None, length-append, append_assoc, length-drop, ◌-◌, subst}
+use Rattle.std.proofs.Common.{ℕ, ◌≡◌, ◌≤◌, List, [], ◌∷◌, ◌++◌, length, drop, take, arith, refl, sym, ap, ◌∙◌, Option, Some, None, length-append, append_assoc, length-drop, ◌-◌, subst}
 use Rattle.std.proofs.Math.Seq.{take-length}
 use Rattle.never_heap.specs.declared.Entry.{Entry}
 use Rattle.atom_board.specs.Mutators.{IsLater}
 use Rattle.said_numbers.specs.Said.{number_said, numbers_said, with_number}
 use Rattle.mail_runs.specs.declared.office.Office.{Office}
 use Rattle.mail_runs.specs.declared.speaker.Speaker.{Speaker}
-use Rattle.mail_runs.specs.Speakers.{IsSpeaker, HasSpoken}
+use Rattle.mail_runs.specs.Speakers.{IsSpeaker}
 
 with_append : (o : Option ℕ) (vs ws : List ℕ) → with_number o vs ++ ws ≡ with_number o (vs ++ ws)
 with_append None vs ws = refl

@@ -1,4 +1,4 @@
-use Rattle.std.proofs.Common.{ap, arith, length, ◌∙◌}
+use Rattle.std.proofs.Common.{ap, arith, length}
 use Rattle.mail_runs.proofs.Giving.{begun_more}
 use Rattle.mail_runs.proofs.begun.begin_all.Goals as goal
 

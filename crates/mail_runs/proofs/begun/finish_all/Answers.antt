@@ -1,7 +1,6 @@
 use Rattle.std.proofs.Common.{ap, sym, subst, ◌∙◌, ◌++◌, ◌∷◌, [], arith, length, List, append_assoc}
 use Rattle.mail_runs.specs.Begun.{AllGive}
 use Rattle.mail_runs.specs.declared.begun.Begun.{Begun}
-use Rattle.mail_runs.specs.declared.speaker.Speaker.{Speaker}
 use Rattle.mail_runs.proofs.Giving.{gives_more}
 use Rattle.mail_runs.proofs.begun.finish_all.Goals as goal
 

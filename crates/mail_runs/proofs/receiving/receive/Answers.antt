@@ -1,10 +1,7 @@
-use Rattle.std.proofs.Common.{ap, sym, subst, ◌∙◌, ◌≡◌, length, map, List, refl}
-use Rattle.mail_post.specs.Ends.{SenderState, TakerState, OfPost, AreAll}
-use Rattle.mail_runs.specs.declared.speaker.Speaker.{Speaker}
-use Rattle.mail_runs.specs.Speakers.{Each, HasSpoken}
+use Rattle.std.proofs.Common.{ap, sym, subst, ◌∙◌, ◌≡◌, length}
+use Rattle.mail_post.specs.Ends.{TakerState, OfPost, AreAll}
 use Rattle.mail_runs.proofs.Giving.{all_spoken}
 use Rattle.mail_runs.proofs.Ending.{of_post, are_all, fresh_count, received}
-use Rattle.mail_runs.proofs.receiving.receive.Given.{Over}
 use Rattle.mail_runs.proofs.receiving.receive.Goals as goal
 
 pub take_rest-requires-clause-post : goal.take_rest-requires-clause-post

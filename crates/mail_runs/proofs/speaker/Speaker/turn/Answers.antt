@@ -1,6 +1,3 @@
-use Rattle.std.proofs.Common.{ap, ◌∙◌, ◌++◌, length, drop, List}
-use Rattle.never_heap.specs.declared.Entry.{Entry}
-use Rattle.said_numbers.specs.Said.{numbers_said}
 use Rattle.mail_runs.proofs.Telling.{speaks_on, grown}
 use Rattle.mail_runs.proofs.speaker.Speaker.turn.Goals as goal
 
