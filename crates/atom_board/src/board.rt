@@ -160,7 +160,7 @@ fn gathered(
 impl AtomBoard {
     /// The board of a configuration that has a rate, with a trace for each thread, and a mutator
     /// for each thread, in order. A trace is one life: its commands are in bounds, owe at most 2^45
-    /// units, and at most 131,072 of them make an object.
+    /// units, and fewer than 2^43 of them make an object.
     ///
     /// # Errors
     ///

@@ -63,7 +63,10 @@ fn answer(thread: u32, number: u32) -> Reply
     ensures { (is_full result ≡ false) × (is_refusal result ≡ false) }
 {
     let first = number / COMMANDS * 3;
-    let name = |serial: u32| Name { thread, serial };
+    let name = |serial: u32| Name {
+        thread,
+        serial: u64::from(serial),
+    };
     match number % COMMANDS {
         1 => Reply::New(name(first + 1)),
         4 => Reply::New(name(first + 2)),

@@ -74,7 +74,7 @@ fn one_hold<R: Wait>(rt: &R, plain: &Mutex<Plain>, thread: u32, told: u64) -> He
 
 impl LockBoard {
     /// The board of a configuration that has a rate, with a trace for each thread. A trace is one
-    /// life: its commands are in bounds, owe at most 2^45 units, and at most 131,072 of them make
+    /// life: its commands are in bounds, owe at most 2^45 units, and fewer than 2^43 of them make
     /// an object.
     ///
     /// # Errors
