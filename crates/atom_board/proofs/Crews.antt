@@ -138,6 +138,8 @@ closes b k s id v mutators logs cycles kept at knows config traces crew done are
             }
             ),
       );
+      own = e.own;
+      few = e.few;
     } in
     subst (λ n. IsFinishedBy b.config b.traces mutators logs n) (sym read)
     (subst (λ x. IsFinishedBy b.config x mutators logs (cycle_of (get_or s.words 0 0))) traces

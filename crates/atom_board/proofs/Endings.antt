@@ -1,6 +1,5 @@
 -- A seat that has all threads, each of them done, knows that the run is finished.
-use Rattle.std.proofs.Common.{◌≡◌, ℕ, zero, suc, ◌<◌, true, eqb, refl, arith, subst, sym, ap, ◌∙◌, List, [], ◌∷◌, length, get_or, map}
-use Rattle.std.proofs.lemmas.Bool.{and_parts}
+use Rattle.std.proofs.Common.{◌≡◌, ℕ, zero, suc, ◌<◌, true, refl, arith, subst, sym, ap, ◌∙◌, List, [], ◌∷◌, length, get_or, map}
 use Rattle.std.proofs.lemmas.List.{get_or_default, length-map}
 use mathlib.Core.Option.{some, some-injective, some-ne-none}
 use lib.ListN.{get_elem?}
@@ -8,22 +7,14 @@ use Rattle.atomic_table.specs.Table as table
 use Rattle.block_store.specs.declared.Config.{Config}
 use Rattle.block_store.specs.Counts.{times}
 use Rattle.block_store.specs.Phases.{cycle_of}
-use Rattle.block_store.specs.Places.{Phase}
 use Rattle.never_heap.specs.declared.Command.{Command}
 use Rattle.never_heap.specs.declared.Entry.{Entry}
-use Rattle.never_heap.specs.Histories.{HasTraces, part, parts}
-use Rattle.heap_system.specs.declared.local.Part.TheVariants.{Rest}
-use Rattle.heap_system.specs.Locals.{LocalState, works, owed, is_rest, is_done}
-use Rattle.heap_system.specs.Machines.{State, no_local, local_at, local_in, heap_in, Run, opened}
+use Rattle.heap_system.specs.Locals.{LocalState, is_done}
+use Rattle.heap_system.specs.Machines.{State, no_local, local_at, local_in}
+use Rattle.heap_system.specs.Serials.{AreOfThreads, AreFew}
 use Rattle.heap_system.specs.Systems.{Whole, traces_of, logs_of, AllDone, IsReached, IsFinished}
-use Rattle.heap_system.specs.Units.{units_made, AreMadeFor}
-use Rattle.heap_system.proofs.Always.{run_kept}
-use Rattle.heap_system.proofs.Kept.{Kept}
-use Rattle.heap_system.proofs.LawsOf.{laws_of}
-use Rattle.heap_system.proofs.MadeFor.{each_made}
-use Rattle.heap_system.proofs.Making.{run_makes}
-use Rattle.heap_system.proofs.Reached.{reached_kept, rest_is, right_work, all_done, done_run, logged_all}
-use Rattle.heap_system.proofs.Seeing.{IsSettled}
+use Rattle.heap_system.proofs.Finishing.{all_done, done_run, done_turns}
+use Rattle.heap_system.proofs.Reached.{reached_kept}
 use Rattle.atom_board.specs.declared.rules.Held.{Held}
 use Rattle.atom_board.specs.declared.rules.View.{View}
 use Rattle.atom_board.specs.Boards.{HeldFits, AllFit, BoardKept}
@@ -52,52 +43,13 @@ logs_map : (hs : List Held) → map (λ (l : LocalState). l.log) (map local_of h
 logs_map [] = refl
 logs_map (h ∷ hs) = ap (λ xs. h.local.log ∷ xs) (logs_map hs)
 
--- a reached state with all threads done is finished by the very turns that reached it
-module _ (c : Config) (s : State) (k : IsReached c s) (over : AllDone c s) where
-  there : (t : ℕ) → part t k.run.order ≡ get_or (logs_of s) t []
-  there = logged_all c s k over
-
-  kept : Kept c (traces_of s) (record { state = s; order = k.run.order; names = k.run.names })
-  kept = reached_kept c s k
-
-  made : (t : ℕ) → t < c.threads → works (get_or (logs_of s) t []) ≡ units_made c t (opened c k.by_turns.first) k.turns
-  made t tl =
-      let l : LocalState = local_at c s t in
-      let rest : l.part ≡ Rest = rest_is l.part (and_parts (is_rest l.part) (eqb (length l.log) (length l.trace)) (over t tl)).0 in
-      let settled : IsSettled (owed l) l.spent Rest = subst (λ p. IsSettled (owed l) l.spent p) rest (kept.locals t tl).settled in
-      let paid : (local_at c k.run.state t).spent ≡ 0 = ap (λ x. (local_at c x t).spent) (sym k.state) ∙ settled in
-      ap works (sym (there t)) ∙ omega (arith, paid, run_makes c (traces_of s) k.job k.turns k.run k.by_turns t tl)
-
-  each : (t : ℕ) → t < c.threads → AreMadeFor c t (get_or (logs_of s) t []) (opened c k.by_turns.first) k.turns
-  each t tl = subst (λ es. AreMadeFor c t es (opened c k.by_turns.first) k.turns) (there t)
-      (each_made c (traces_of s) k.job k.turns k.run k.by_turns t tl (run_kept c (traces_of s) (laws_of c) k.job k.turns k.run k.by_turns))
-
-  abbrev finished_over : IsFinished c (traces_of s) (logs_of s) (cycle_of (heap_in c s Phase))
-  finished_over =
-      let f : IsFinished c (traces_of s) (logs_of s) (cycle_of (heap_in c s Phase)) = all_done c s k over in
-      let same : f.run ≡ k.run = done_run c s k over in
-      record {
-        turns = k.turns;
-        run = k.run;
-        job = k.job;
-        by_turns = k.by_turns;
-        done = subst (λ x. AllDone c x) k.state over;
-        logged = ap logs_of k.state;
-        parts_logged = subst (λ (r : Run). logs_of s ≡ parts c.threads r.order) same f.parts_logged;
-        legal = kept.names.ordered.legal;
-        traces_whole = subst (λ (r : Run). HasTraces (traces_of s) r.order) same f.traces_whole;
-        starts = sym kept.names.ordered.started;
-        right_work = right_work c (traces_of s) (record { state = s; order = k.run.order; names = k.run.names }) kept;
-        made = made;
-        each = each;
-        works = kept.counted;
-      }
-
 -- the run that has finished, of these threads with their counts, in order
 pub record IsEndedBy (c : Config) (traces : List (List Command)) (hs : List Held) (logs : List (List Entry)) (cycles : ℕ) : Type 0 where
   pub finished : IsFinished c traces logs cycles
   pub local : (t : ℕ) (d : Held) → t < length hs → (get_or hs t d).local ≡ local_in c finished.run t
   pub turns : (t : ℕ) (d : Held) → t < length hs → (get_or hs t d).turns ≡ times t finished.turns
+  pub own : AreOfThreads c finished.turns
+  pub few : AreFew c traces finished.turns
 
 pub ended : (k : Whole) (s : table.State Unit View) (id : ℕ) (v : View) → BoardKept k s → get_elem? s.views id ≡ some v → length v.locals ≡ k.config.threads
     → ((t : ℕ) (d : Held) → t < length v.locals → (get_or v.locals t d).local.thread ≡ t)
@@ -117,10 +69,14 @@ ended k s id v kept at long numbered done =
     (λ i low. (let il : i < length v.locals = omega (arith, length-map v.locals local_of) in local_at_map v.locals i d il ∙ same_at i d il)) in
     let over : AllDone c st = λ t tl. ap is_done (sym (same_at t d (omega arith))) ∙ done t d (omega arith) in
     let cycles : ℕ = cycle_of (get_or s.words 0 0) in
+    let run : kept.after.run ≡ (all_done c st r over).run = sym (done_run c st r over) in
+    let turns : kept.turns ≡ (all_done c st r over).turns = sym (done_turns c st r over) in
     let whole : IsEndedBy c (traces_of st) v.locals (logs_of st) cycles = record {
-      finished = finished_over c st r over;
-      local = λ t e low. same_at t e low ∙ ap (λ x. local_at c x t) kept.after.state;
-      turns = λ t e low. (fit t e low).2 ∙ ap (λ u. times u kept.turns) (numbered t e low);
+      finished = all_done c st r over;
+      local = λ t e low. same_at t e low ∙ ap (λ x. local_at c x t) kept.after.state ∙ ap (λ q. local_in c q t) run;
+      turns = λ t e low. (fit t e low).2 ∙ ap (λ u. times u kept.turns) (numbered t e low) ∙ ap (times t) turns;
+      own = subst (AreOfThreads c) turns kept.own;
+      few = subst (AreFew c (traces_of st)) turns (subst (λ xs. AreFew c xs kept.turns) (sym kept.given) kept.few);
     } in
     subst (λ x. IsEndedBy c x v.locals (map (λ (h : Held). h.local.log) v.locals) cycles) kept.given
     (subst (λ x. IsEndedBy c (traces_of st) v.locals x cycles) (ap (map (λ (l : LocalState). l.log)) (sym all) ∙ logs_map v.locals) whole)

@@ -1,12 +1,13 @@
 -- Where there is one thread, the list of turns tells how many it has made at most.
-use Rattle.std.proofs.Common.{◌≡◌, ℕ, zero, suc, ◌<◌, ◌+◌, false, refl, arith, subst, sym, ap, ◌∙◌, List, [], ◌∷◌, get_or, map}
+use Rattle.std.proofs.Common.{◌≡◌, ℕ, zero, suc, ◌<◌, ◌≤◌, ◌+◌, false, eqb, eq-eqb, refl, arith, subst, sym, ap, ◌∙◌, List, [], ◌∷◌, ◌++◌, length, length-append, get_or, map}
 use Rattle.block_store.specs.declared.Config.{Config}
 use Rattle.block_store.specs.Counts.{times, total}
+use Rattle.block_store.specs.Phases.{bit}
 use Rattle.rate_plan.specs.Rates.{IsRate}
 use Rattle.never_heap.specs.declared.Command.{Command}
 use Rattle.heap_system.specs.Locals.{LocalState, is_done}
 use Rattle.heap_system.specs.Machines.{State, no_local, local_at, opened, after_turns}
-use Rattle.heap_system.specs.Serials.{trace_bound, job_bound}
+use Rattle.heap_system.specs.Serials.{trace_bound, job_bound, AreOfThreads, AreFew}
 use Rattle.heap_system.specs.Systems.{traces_of}
 use Rattle.heap_system.proofs.alone.Serials.{single_few}
 use Rattle.atom_board.specs.Boards.{IsStateAfter}
@@ -24,14 +25,38 @@ trace_at [] t d none = sym none
 trace_at (l ∷ ls) zero d none = refl
 trace_at (l ∷ ls) (suc t) d none = trace_at ls t d none
 
+-- so many turns has a thread had that is alone and not done: fewer than the bound
+alone_few : (c : Config) (ts : List ℕ) (s : State) (t : ℕ) (l : LocalState) → IsStateAfter c ts s → t < c.threads → l ≡ local_at c s t → c.threads ≡ 1 → (rate : ℕ) → IsRate c rate → is_done l ≡ false → times 0 ts < job_bound c rate (traces_of s)
+alone_few c ts s t l k tl is one rate planned going =
+    let first : t ≡ 0 = omega (arith, tl, one) in
+    let same : s ≡ (after_turns c (opened c k.by_turns.first) ts).state = k.state ∙ ap (λ r. r.state) k.by_turns.turns in
+    let still : is_done (local_at c (after_turns c (opened c k.by_turns.first) ts).state 0) ≡ false =
+    sym (ap (λ x. is_done (local_at c x 0)) same) ∙ sym (ap is_done (is ∙ ap (local_at c s) first)) ∙ going in
+    single_few c one (traces_of s) k.by_turns.first rate k.job k.by_turns.opening planned ts still
+
+-- one turn more of a thread
+pub own_more : (c : Config) (ts : List ℕ) (t : ℕ) → AreOfThreads c ts → t < c.threads → AreOfThreads c (ts ++ t ∷ [])
+own_more c [] t own tl = (tl, tt)
+own_more c (u ∷ ts) t own tl = (own.0, own_more c ts t own.1 tl)
+
+-- all turns are those of the one thread
+all_of_one : (c : Config) (ts : List ℕ) → c.threads ≡ 1 → AreOfThreads c ts → length ts ≡ times 0 ts
+all_of_one c [] one own = refl
+all_of_one c (u ∷ ts) one own =
+    let first : bit (eqb 0 u) ≡ 1 = ap bit (eq-eqb 0 u (omega (arith, own.0, one))) in
+    omega (arith, first, all_of_one c ts one own.1)
+
+pub few_more : (c : Config) (ts : List ℕ) (s : State) (t : ℕ) (l : LocalState) (traces : List (List Command)) → IsStateAfter c ts s → traces_of s ≡ traces → AreOfThreads c ts → t < c.threads → l ≡ local_at c s t → is_done l ≡ false → AreFew c traces (ts ++ t ∷ [])
+few_more c ts s t l traces k given own tl is going rate planned one =
+    let few : times 0 ts < job_bound c rate traces = subst (λ xs. times 0 ts < job_bound c rate xs) given (alone_few c ts s t l k tl is one rate planned going) in
+    omega (arith, few, all_of_one c ts one own, length-append ts (t ∷ []))
+
 -- a thread that is alone and not done has had fewer turns than the bound
 few_had : (c : Config) (ts : List ℕ) (s : State) (t : ℕ) (l : LocalState) → IsStateAfter c ts s → t < c.threads → l ≡ local_at c s t → l.config ≡ c → c.threads ≡ 1 → (rate : ℕ) → IsRate c rate → is_done l ≡ false → times t ts < lone_turns rate l
 few_had c ts s t l k tl is config one rate planned going =
     let first : t ≡ 0 = omega (arith, tl, one) in
     let here : l ≡ local_at c s 0 = is ∙ ap (local_at c s) first in
-    let same : s ≡ (after_turns c (opened c k.by_turns.first) ts).state = k.state ∙ ap (λ r. r.state) k.by_turns.turns in
-    let still : is_done (local_at c (after_turns c (opened c k.by_turns.first) ts).state 0) ≡ false = sym (ap (λ x. is_done (local_at c x 0)) same) ∙ sym (ap is_done here) ∙ going in
-    let few : times 0 ts < job_bound c rate (traces_of s) = single_few c one (traces_of s) k.by_turns.first rate k.job k.by_turns.opening planned ts still in
+    let few : times 0 ts < job_bound c rate (traces_of s) = alone_few c ts s t l k tl is one rate planned going in
     let trace : get_or (traces_of s) 0 [] ≡ l.trace = trace_at s.locals 0 (no_local c) refl ∙ sym (ap (λ (x : LocalState). x.trace) here) in
     let bound : job_bound c rate (traces_of s) ≡ lone_turns rate l =
     one_bound c rate (traces_of s) one ∙ ap (λ ks. job_bound c rate (ks ∷ [])) trace ∙ sym (ap (λ x. job_bound x rate (l.trace ∷ [])) config) in

@@ -68,6 +68,8 @@ opens k traces job start =
       turns = [];
       after = opened_after c traces k.state job start;
       given = refl;
+      own = tt;
+      few = λ rate planned one. omega arith;
       each = each fit;
       once = λ t tl. (let one : helds_of t (map start_held ls) ≡ 1 = ap (λ xs. helds_of t (map start_held xs)) start.locals ∙ one_within c start.rate start.space 0 t traces (omega arith) (omega (arith, job.bounds.threads)) in omega arith);
     }

@@ -104,6 +104,8 @@ ordered_counted c traces hs ys logs cycles among f = record {
       (let i = f.counted t tl in
       let j = among i.0 i.1 in
       (j.0, j.1, λ d. subst (EndsIn c f.finished.turns f.finished.run t) (j.2 d) (i.2 d)));
+  own = f.own;
+  few = f.few;
 }
 
 -- mutators in order are all, each once

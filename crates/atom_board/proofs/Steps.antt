@@ -16,11 +16,11 @@ use Rattle.heap_system.specs.Locals.{LocalState, is_done, part_step, turn_of, lo
 use Rattle.heap_system.specs.Machines.{State, Run, no_local, local_at, next, turned, after_turns, opened, IsJob, IsRunOf}
 use Rattle.heap_system.specs.Systems.{Whole, traces_of, IsReached}
 use Rattle.heap_system.proofs.Reached.{reached_kept, turned_traces, turn_facts, turn_made}
-use Rattle.atom_board.proofs.InTime.{in_time}
+use Rattle.atom_board.proofs.InTime.{in_time, own_more, few_more}
 use Rattle.atom_board.specs.Ends.{EndsAlone}
 use Rattle.atom_board.specs.declared.rules.Held.{Held}
 use Rattle.atom_board.specs.declared.rules.View.{View}
-use Rattle.atom_board.specs.Boards.{IsStateAfter, HeldFits, AllFit, helds_of, seats_of, BoardKept, held, no_view, one_view, first_in, rest_in, first_of, rest_of, joined, moves_on, written}
+use Rattle.atom_board.specs.Boards.{IsStateAfter, HeldFits, AllFit, helds_of, seats_of, BoardKept, held, no_view, one_view, first_in, rest_in, first_of, rest_of, joined, moves_on, written, found_by, table_after, MayGo, IsLonger}
 
 sum_mod : (w v : ℕ) → w + v < 2 ^ 64 → w + v ≡ (w + v) % 2 ^ 64
 sum_mod w v low = omega arith
@@ -93,9 +93,15 @@ others_fit c ls ts t l (h ∷ hs) none fit =
     let count : times h.local.thread (ts ++ t ∷ []) ≡ times h.local.thread ts = times_last h.local.thread t ts ∙ rw (ne_eqb h.local.thread t ne) (omega arith) in
     ((f.0, f.1 ∙ sym (get_or-set_other ls t h.local.thread l h.local ne), f.2 ∙ sym count), others_fit c ls ts t l hs (omega arith) fit.1)
 
--- whatever the table is, a seat with one thread makes the turn of it
-pub allowed : (k : Whole) (id n : ℕ) (l : LocalState) → is_done l ≡ false → table.Allows (BoardKept k) 0 id (one_view l n, []) (op_place (op_wanted l)) (written (op_wanted l)) (moves_on (one_view l n, []))
-allowed k id n l going s kept homes at low =
+-- a turn keeps the rule, and the list of turns is longer by the thread's number
+abbrev TurnKept : (k : Whole) (s : table.State Unit View) → BoardKept k s → ℕ → ℕ → LocalState → Type 0
+TurnKept k s kept id n l =
+    IsLonger k s kept id n l × moves_on (one_view l n, []) (found_by l s) (one_view (local_got l (found_by l s)) (n + 1), [])
+
+pub turn_keeps : (k : Whole) (s : table.State Unit View) (kept : BoardKept k s) (id n : ℕ) (l : LocalState) → MayGo s id n l → TurnKept k s kept id n l
+turn_keeps k s kept id n l may =
+    let at = may.seat in
+    let going = may.going in
     let c = k.config in
     let ls = kept.locals in
     let ts = kept.turns in
@@ -108,33 +114,38 @@ allowed k id n l going s kept homes at low =
     let w : ℕ = get_or s.words (op_place (op_wanted l)) 0 in
     let new : LocalState = local_got l w in
     let made = turn_made c st t l r tl f.1 (op_wanted l) refl w refl going (words_after (op_wanted l) s.words) new (turn_of (part_step l.config l.part w)) refl refl refl in
-    let words : set s.words (op_place (op_wanted l)) (written (op_wanted l) w) ≡ words_after (op_wanted l) s.words = sym (one_write (op_wanted l) s.words facts.sums low) in
+    let words : set s.words (op_place (op_wanted l)) (written (op_wanted l) w) ≡ words_after (op_wanted l) s.words = sym (one_write (op_wanted l) s.words facts.sums may.word) in
     let state : record { words = set s.words (op_place (op_wanted l)) (written (op_wanted l) w); locals = set ls t new } ≡ turned c t st = ap (λ ws. let x : State = record { words = ws; locals = set ls t new } in x) words ∙ made.state in
     let long : length ls ≡ c.threads = (reached_kept c st r).threads in
     let is_one : bit (eqb t t) ≡ 1 = rw (eq-eqb t t refl) refl in
     let count : n + 1 ≡ times t (ts ++ t ∷ []) = omega (arith, f.2, times_last t t ts) in
     let here : new ≡ local_at c (turned c t st) t = sym (get_or-set_same ls t new (no_local c) (omega arith)) ∙ ap (λ x. local_at c x t) state in
     let ends : EndsAlone new (n + 1) = in_time c ts (ts ++ t ∷ []) st (turned c t st) t n l new kept.after (turned_after c ts st t kept.after) tl facts.same facts.config here refl refl going f.2 count in
-    let fit : HeldFits c (set ls t new) (ts ++ t ∷ []) (held new (n + 1)) = (tl, sym (get_or-set_same ls t new new (omega arith)), count) in (
-      one_view new (n + 1),
-      table.keeps,
-      tt,
-      record {
-        locals = set ls t new;
-        turns = ts ++ t ∷ [];
-        after = subst (λ x. IsStateAfter c (ts ++ t ∷ []) x) (sym state) (turned_after c ts st t kept.after);
-        given = ap traces_of state ∙ turned_traces c t st ∙ kept.given;
-        each = λ j u e. ⊎_elim
-            (λ p. subst (λ (x : View). AllFit c (set ls t new) (ts ++ t ∷ []) x.locals) p.1 (fit, tt))
-            (λ p.
-            let both = seat_parts t s.views id j (one_view l n) u at p.1 (λ q. p.0 (sym q)) in
-            let one = kept.once t tl in
-            others_fit c ls ts t new u.locals (omega arith) (kept.each j u p.1))
-            (at_set s.views id j (one_view new (n + 1)) u e);
-        once = λ u ul. omega (arith, seats_set u s.views id (one_view l n) (one_view new (n + 1)) at, kept.once u ul);
-      },
-      (refl, (facts.reads, tt), (ends, tt)),
-    )
+    let fit : HeldFits c (set ls t new) (ts ++ t ∷ []) (held new (n + 1)) = (tl, sym (get_or-set_same ls t new new (omega arith)), count) in
+    let after : BoardKept k (table_after id n l s) =
+    record {
+      locals = set ls t new;
+      turns = ts ++ t ∷ [];
+      after = subst (λ x. IsStateAfter c (ts ++ t ∷ []) x) (sym state) (turned_after c ts st t kept.after);
+      given = ap traces_of state ∙ turned_traces c t st ∙ kept.given;
+      own = own_more c ts t kept.own tl;
+      few = few_more c ts st t l (traces_of k.state) kept.after kept.given kept.own tl facts.same going;
+      each = λ j u e. ⊎_elim
+          (λ p. subst (λ (x : View). AllFit c (set ls t new) (ts ++ t ∷ []) x.locals) p.1 (fit, tt))
+          (λ p.
+          let both = seat_parts t s.views id j (one_view l n) u at p.1 (λ q. p.0 (sym q)) in
+          let one = kept.once t tl in
+          others_fit c ls ts t new u.locals (omega arith) (kept.each j u p.1))
+          (at_set s.views id j (one_view new (n + 1)) u e);
+      once = λ u ul. omega (arith, seats_set u s.views id (one_view l n) (one_view new (n + 1)) at, kept.once u ul);
+    } in
+    (record { after = after; turns = refl }, (refl, (facts.reads, tt), (ends, tt)))
+
+-- whatever the table is, a seat with one thread makes the turn of it
+pub allowed : (k : Whole) (id n : ℕ) (l : LocalState) → is_done l ≡ false → table.Allows (BoardKept k) 0 id (one_view l n, []) (op_place (op_wanted l)) (written (op_wanted l)) (moves_on (one_view l n, []))
+allowed k id n l going s kept homes at low =
+    let made = turn_keeps k s kept id n l (record { seat = at; going = going; word = low }) in
+    (one_view (local_got l (found_by l s)) (n + 1), table.keeps, tt, made.0.after, made.1)
 
 seats_append : (t : ℕ) (views : List View) (w : View) → seats_of t (views ++ w ∷ []) ≡ seats_of t views + helds_of t w.locals
 seats_append t [] w = omega arith
@@ -167,6 +178,8 @@ splits k id v s kept at = record {
   turns = kept.turns;
   after = kept.after;
   given = kept.given;
+  own = kept.own;
+  few = kept.few;
   each = λ j u e. ⊎_elim
       (λ old. ⊎_elim
       (λ p. subst (λ (x : View). AllFit k.config kept.locals kept.turns x.locals) p.1 (rest_fit k.config kept.locals kept.turns v.locals (kept.each id v at)))
@@ -186,6 +199,8 @@ joins k id v other w s kept at ne that =
       turns = kept.turns;
       after = kept.after;
       given = kept.given;
+      own = kept.own;
+      few = kept.few;
       each = λ j u e. ⊎_elim
           (λ p. subst (λ (x : View). AllFit k.config kept.locals kept.turns x.locals) p.1 tt)
           (λ p. ⊎_elim

@@ -1,6 +1,6 @@
 -- The rule of the board: the words and the threads of all seats are the state after some list of
 -- turns.
-use Rattle.std.specs.Prelude.{ℕ, ◌+◌, ◌-◌, ◌%◌, ◌^◌, ◌<◌, ◌≡◌, ◌==◌, List, [], ◌∷◌, ◌++◌, map, slice_index_or}
+use Rattle.std.specs.Prelude.{ℕ, ◌+◌, ◌-◌, ◌%◌, ◌^◌, ◌<◌, ◌≡◌, ◌==◌, Bool, false, List, [], ◌∷◌, ◌++◌, map, slice_index, slice_index_or}
 use mathlib.Core.Option.{some}
 use prog.Atomic.{either}
 use lib.ListN.{get_elem?}
@@ -10,8 +10,10 @@ use Rattle.block_store.specs.Counts.{times}
 use Rattle.block_store.specs.Phases.{bit}
 use Rattle.heap_machine.specs.declared.op.Op.{Op}
 use Rattle.heap_machine.specs.declared.op.Op.TheVariants as ops
-use Rattle.heap_system.specs.Locals.{LocalState, LocalReads, local_got}
+use Rattle.heap_machine.specs.Operations.{op_place}
+use Rattle.heap_system.specs.Locals.{LocalState, LocalReads, is_done, local_got, op_wanted}
 use Rattle.heap_system.specs.Machines.{State, Run, IsJob, IsRunOf}
+use Rattle.heap_system.specs.Serials.{AreOfThreads, AreFew}
 use Rattle.heap_system.specs.Systems.{Whole, traces_of}
 use Rattle.atom_board.specs.declared.rules.Held.{Held}
 use Rattle.atom_board.specs.declared.rules.View.{View}
@@ -44,12 +46,15 @@ seats_of t [] = 0
 seats_of t (v ∷ vs) = helds_of t v.locals + seats_of t vs
 
 -- The words of the table, and the threads of all views, each of which stands in one view once, are
--- the state after some list of turns, of the job of the system that the table was made from.
+-- the state after some list of turns, of the job of the system that the table was made from. The
+-- turns are of its threads, and few where there is one.
 pub record BoardKept (k : Whole) (s : table.State Unit View) : Type 0 where
   pub locals : List LocalState
   pub turns : List ℕ
   pub after : IsStateAfter k.config turns (record { words = s.words; locals = locals })
   pub given : traces_of (record { words = s.words; locals = locals }) ≡ traces_of k.state
+  pub own : AreOfThreads k.config turns
+  pub few : AreFew k.config (traces_of k.state) turns
   pub each : (id : ℕ) (v : View) → get_elem? s.views id ≡ some v
       → AllFit k.config locals turns v.locals
   pub once : (t : ℕ) → t < k.config.threads → seats_of t s.views ≡ 1
@@ -120,3 +125,26 @@ written (ops.Exchange i v) w = v
 written (ops.CompareExchange i old v) w = either (w == old) v w
 written (ops.FetchAdd i v) w = (w + v) % 2 ^ 64
 written (ops.FetchSub i v) w = (w + (2 ^ 64 - v)) % 2 ^ 64
+
+-- the word that a thread's next event finds, and the table after that event of the one thread of
+-- seat id
+abbrev pub found_by : LocalState → table.State Unit View → ℕ
+found_by l s = slice_index s.words (op_place (op_wanted l))
+
+abbrev pub table_after : ℕ → ℕ → LocalState → table.State Unit View → table.State Unit View
+table_after id n l s =
+    table.stepped s (op_place (op_wanted l)) (written (op_wanted l) (found_by l s)) id []
+    (one_view (local_got l (found_by l s)) (n + 1)) table.keeps
+
+-- a seat has this one thread, which is not done and has made so many turns, and its next event
+-- finds a word
+pub record MayGo (s : table.State Unit View) (id n : ℕ) (l : LocalState) : Type 0 where
+  pub seat : get_elem? s.views id ≡ some (one_view l n)
+  pub going : is_done l ≡ false
+  pub word : found_by l s < 2 ^ 64
+
+-- the rule holds still, and its list of turns is longer by that thread's number
+pub record IsLonger (k : Whole) (s : table.State Unit View) (kept : BoardKept k s) (id n : ℕ)
+    (l : LocalState) : Type 0 where
+  pub after : BoardKept k (table_after id n l s)
+  pub turns : after.turns ≡ kept.turns ++ l.thread ∷ []

@@ -7,6 +7,7 @@ use Rattle.never_heap.specs.declared.Command.{Command}
 use Rattle.never_heap.specs.declared.Entry.{Entry}
 use Rattle.heap_system.specs.Locals.{LocalState, LocalReads, is_done, local_got, part_step, turn_of}
 use Rattle.heap_system.specs.Machines.{Run, local_in}
+use Rattle.heap_system.specs.Serials.{AreOfThreads, AreFew}
 use Rattle.heap_system.specs.Systems.{IsFinished}
 use Rattle.heap_system.specs.declared.Turn.{Turn}
 use Rattle.atom_board.specs.declared.rules.Held.{Held}
@@ -131,8 +132,11 @@ AllEndIn c ts r ms = (t : ℕ) → t < c.threads
     → (j : ℕ) × (j < length ms) × ((d : MutatorState) → EndsIn c ts r t (slice_index_or ms j d))
 
 -- The finished run is that of these mutators: its list of turns has each thread as often as the
--- thread's mutator has made turns, and leaves the thread as that mutator is.
+-- thread's mutator has made turns, and no other number, and leaves the thread as that mutator is.
+-- Where there is one thread, the turns are few.
 pub record IsFinishedBy (c : Config) (traces : List (List Command)) (ms : List MutatorState)
     (logs : List (List Entry)) (cycles : ℕ) : Type 0 where
   pub finished : IsFinished c traces logs cycles
   pub counted : AllEndIn c finished.turns finished.run ms
+  pub own : AreOfThreads c finished.turns
+  pub few : AreFew c traces finished.turns

@@ -12,6 +12,6 @@ mod tests;
 
 pub use board::AtomBoard;
 pub use closed::Closed;
-pub use laws::closed_runs_show_their_logs;
+pub use laws::{closed_runs_show_their_logs, turns_lengthen_the_list};
 pub use mutator::Mutator;
 pub use rules::{Both, Cut, Held, Law, Turned, View};

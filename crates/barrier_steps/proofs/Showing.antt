@@ -7,7 +7,7 @@ use Rattle.block_store.specs.declared.Payload.TheVariants as payloads
 use Rattle.block_store.specs.declared.Value.{Value}
 use Rattle.block_store.specs.declared.Value.TheVariants as values
 use Rattle.block_store.specs.Heaps.{Heap}
-use Rattle.block_store.specs.Owners.{owner_of}
+use Rattle.block_store.specs.WideOwners.{wide_of}
 use Rattle.block_store.specs.Payloads.{payload_of, target, reference_word}
 use Rattle.block_store.specs.Places.{extent, Phase, OwnerOf}
 use Rattle.block_store.specs.Shapes.{shape_of}
@@ -177,12 +177,12 @@ module _ (c : Config) (m : ℕ) (K : Name → Type 0) (at : Name → ℕ → ℕ
       go (values.Ref a) e = record { name = a; says = shows ∙ ap replies.Val e; block = ap target (is.word ∙ ap (value_word (heads at)) e) ∙ target-reference (at a 0) }
 
   -- and that block has an owner word
-  value_named : (t r w x : ℕ) → t < c.threads → ValueIs s.graph at t (record { origin = r; word = w; pending = false }) → target w ≢ 0 → s.words.owner (target w) ≡ x → IsSome (owner_of x)
+  value_named : (t r w x : ℕ) → t < c.threads → ValueIs s.graph at t (record { origin = r; word = w; pending = false }) → target w ≢ 0 → s.words.owner (target w) ≡ x → IsSome (wide_of x)
   value_named t r w x tn is some e =
       let to = refers_to t r w (replies.Val (register_of s.graph t r)) is some refl in
       let says : replies.Val (register_of s.graph t r) ≡ replies.Val (values.Ref to.name) = to.says in
       let refers : register_of s.graph t r ≡ values.Ref to.name = cc in
-      ap is_some (ap owner_of (sym e ∙ ap s.words.owner to.block)
+      ap is_some (ap wide_of (sym e ∙ ap s.words.owner to.block)
       ∙ owner_read c.width c.threads m K s.graph at s.words (pending_registers s.loads) follows.shows to.name 0 (is_kept t r to.name tn is.origin refers) (object_layout c.width (object_of s.graph to.name)).first)
 
   on_time : (t r w : ℕ) (b : Bool) → ValueIs s.graph at t (record { origin = r; word = w; pending = b }) → ValueIs s.graph at t (record { origin = r; word = w; pending = false })
@@ -193,7 +193,7 @@ module _ (c : Config) (m : ℕ) (K : Name → Type 0) (at : Name → ℕ → ℕ
   register_named t r word w reply tn is e shows a says goes =
       let values_one : replies.Val (register_of s.graph t r) ≡ replies.Val (values.Ref a) = sym shows ∙ says in
       let refers : register_of s.graph t r ≡ values.Ref a = cc in
-      ap owner_of (sym e) ∙ name_shown c.width c.threads m K at s follows t tn (record { origin = r; word = word; pending = false }) a is refers
+      ap wide_of (sym e) ∙ name_shown c.width c.threads m K at s follows t tn (record { origin = r; word = word; pending = false }) a is refers
 
   owner_word_read : (x w : ℕ) → s.words ≡ block_words h → w ≡ h (OwnerOf x) → s.words.owner x ≡ w
   owner_word_read x w is reads = ap (λ b. b.owner x) is ∙ sym reads

@@ -3,7 +3,7 @@ use Rattle.std.specs.Prelude.{ℕ, ◌<◌, ◌≡◌, ◌==◌, Option, Some, N
 use Rattle.block_store.specs.declared.Name.{Name}
 use Rattle.block_store.specs.declared.Value.{Value}
 use Rattle.block_store.specs.declared.Value.TheVariants.{Ref}
-use Rattle.block_store.specs.Owners.{owner_of}
+use Rattle.block_store.specs.WideOwners.{wide_of}
 use Rattle.block_store.specs.Payloads.{payload_of, target}
 use Rattle.block_store.specs.Shapes.{shape_of}
 use Rattle.never_heap.specs.declared.Command.{Command}
@@ -90,7 +90,7 @@ Promises head _ reply = ⊥
 abbrev pub OwnerShown : (Name → ℕ) → ℕ → Reply → ℕ → Type 0
 OwnerShown head word reply w =
     (a : Name) → reply ≡ Val (Ref a) → target word ≡ head a
-    → owner_of w ≡ Some (record { thread = a.thread; serial = a.serial; ordinal = 0 })
+    → wide_of w ≡ Some (record { thread = a.thread; serial = a.serial; ordinal = 0 })
 
 -- where a decided row still reads the name of the object to which its reply refers, the word w
 -- shows it

@@ -1,14 +1,14 @@
 -- The commands that allocate nothing, as rows of one event each: what each row wants, and what it
 -- becomes on the word that it read.
 use Rattle.std.specs.Prelude.{ℕ, ◌+◌, ◌==◌, nat_lt, Bool, true, false, if◌then◌else◌, Option, Some, None}
-use Rattle.block_store.specs.declared.Owner.{Owner}
+use Rattle.block_store.specs.declared.WideOwner.{WideOwner}
 use Rattle.block_store.specs.declared.Payload.{Payload}
 use Rattle.block_store.specs.declared.Payload.TheVariants as payloads
 use Rattle.block_store.specs.declared.Shape.{Shape}
 use Rattle.block_store.specs.declared.Shape.TheVariants as shapes
 use Rattle.block_store.specs.declared.Value.{Value}
 use Rattle.block_store.specs.declared.Value.TheVariants as values
-use Rattle.block_store.specs.Owners.{owner_of}
+use Rattle.block_store.specs.WideOwners.{wide_of}
 use Rattle.block_store.specs.Payloads.{payload_of, target, number_word}
 use Rattle.block_store.specs.Places.{Extent, Place, Phase, OwnerOf, ShapeOf, PayloadOf}
 use Rattle.block_store.specs.Shapes.{shape_of}
@@ -62,12 +62,12 @@ abbrev pub shape_in : ℕ → Shape
 shape_in w = shape_or_empty (shape_of w)
 
 -- the object of which an owner word says that a block is part; nil where it is the word of no owner
-abbrev pub object_or_nil : Option Owner → Value
+abbrev pub object_or_nil : Option WideOwner → Value
 object_or_nil None = values.Nil
 object_or_nil (Some o) = values.Ref (record { thread = o.thread; serial = o.serial })
 
 abbrev pub object_in : ℕ → Value
-object_in w = object_or_nil (owner_of w)
+object_in w = object_or_nil (wide_of w)
 
 -- the first row of a command. One that allocates has none here
 abbrev pub first_row : Command → FieldRow

@@ -70,7 +70,7 @@ const CAS: Command = Command::Cas {
 // It shades the block of its own register before the exchange, and that of the field before it
 // stores that in the register.
 #[test]
-#[tactic(auto, unfolding(block_store::specs::Payloads::payload_of, block_store::specs::Payloads::target, block_store::specs::Shapes::shape_of, block_store::specs::Owners::owner_of, block_store::specs::Owners::owner_parts, block_store::specs::Colours::colour_of, block_store::specs::Colours::link, block_store::specs::Colours::white_word, block_store::specs::Colours::grey_word))]
+#[tactic(auto, unfolding(block_store::specs::Payloads::payload_of, block_store::specs::Payloads::target, block_store::specs::Shapes::shape_of, block_store::specs::WideOwners::wide_of, block_store::specs::WideOwners::wide_parts, block_store::specs::Colours::colour_of, block_store::specs::Colours::link, block_store::specs::Colours::white_word, block_store::specs::Colours::grey_word))]
 fn swap_shades_both_ways(rt: HostRuntime) {
     let places = Places::new(&WIDE);
     let mut swap = FieldPass::new(0, 1, MARK, SWAP);
@@ -122,7 +122,7 @@ fn swap_shades_both_ways(rt: HostRuntime) {
 
 // Nothing is shaded in Sweep, nor for nil and numbers.
 #[test]
-#[tactic(auto, unfolding(block_store::specs::Payloads::payload_of, block_store::specs::Payloads::target, block_store::specs::Shapes::shape_of, block_store::specs::Owners::owner_of, block_store::specs::Owners::owner_parts))]
+#[tactic(auto, unfolding(block_store::specs::Payloads::payload_of, block_store::specs::Payloads::target, block_store::specs::Shapes::shape_of, block_store::specs::WideOwners::wide_of, block_store::specs::WideOwners::wide_parts))]
 fn swap_shades_nothing(rt: HostRuntime) {
     let places = Places::new(&WIDE);
     let mut sweep = FieldPass::new(0, 1, SWEEP, SWAP);

@@ -1,7 +1,7 @@
 //! The part of a thread's work that does a command that allocates nothing.
 
 ghost use Rattle.std.specs.Prelude.{◌≡◌, ◌+◌, ◌<◌, ◌≤◌, ◌==◌, false, if◌then◌else◌, IsSome};
-ghost use Rattle.block_store.specs.Owners.{owner_of};
+ghost use Rattle.block_store.specs.WideOwners.{wide_of};
 ghost use Rattle.block_store.specs.Places.{extent, index, PayloadOf};
 ghost use Rattle.block_store.specs.Payloads as words;
 ghost use Rattle.block_store.specs.Payloads.{payload_of, payload_target};
@@ -27,7 +27,7 @@ use crate::operands::{
 use crate::walks::{field_at, length_of, link_at, links_to};
 use crate::{FieldRow, FieldStore, Way};
 use block_store::{
-    Name, Payload, PhaseWord, Places, Shape, Value, Width, payload_word, read_owner, read_payload,
+    Name, Payload, PhaseWord, Places, Shape, Value, Width, payload_word, read_wide, read_payload,
     read_shape,
 };
 use grey_steps::{GreyPass, GreyRow};
@@ -82,10 +82,10 @@ fn shape_in(word: u64) -> Shape
 
 // The object of which an owner word says that a block is part.
 fn object_in(word: u64) -> Value
-    requires { IsSome (owner_of word) }
+    requires { IsSome (wide_of word) }
     ensures { result ≡ Rows.object_in word }
 {
-    let owner = read_owner(word).unwrap();
+    let owner = read_wide(word).unwrap();
     Value::Ref(Name {
         thread: owner.thread,
         serial: owner.serial,

@@ -108,7 +108,7 @@ fn put_finds_its_block_black(rt: HostRuntime) {
 
 // It is decided, and its value known, before it shades.
 #[test]
-#[tactic(auto, unfolding(block_store::specs::Payloads::payload_of, block_store::specs::Payloads::target, block_store::specs::Shapes::shape_of, block_store::specs::Owners::owner_of, block_store::specs::Owners::owner_parts, block_store::specs::Colours::colour_of, block_store::specs::Colours::link, block_store::specs::Colours::white_word, block_store::specs::Colours::grey_word))]
+#[tactic(auto, unfolding(block_store::specs::Payloads::payload_of, block_store::specs::Payloads::target, block_store::specs::Shapes::shape_of, block_store::specs::WideOwners::wide_of, block_store::specs::WideOwners::wide_parts, block_store::specs::Colours::colour_of, block_store::specs::Colours::link, block_store::specs::Colours::white_word, block_store::specs::Colours::grey_word))]
 fn get_shades_what_it_loaded(rt: HostRuntime) {
     let places = Places::new(&SMALL);
     let mut get = FieldPass::new(0, 1, MARK, Command::Get { d: 3, s: 1, i: 0 });
@@ -134,7 +134,7 @@ fn get_shades_what_it_loaded(rt: HostRuntime) {
 
 // Nothing is shaded for a number, nor in Sweep.
 #[test]
-#[tactic(auto, unfolding(block_store::specs::Payloads::payload_of, block_store::specs::Payloads::target, block_store::specs::Shapes::shape_of, block_store::specs::Owners::owner_of, block_store::specs::Owners::owner_parts))]
+#[tactic(auto, unfolding(block_store::specs::Payloads::payload_of, block_store::specs::Payloads::target, block_store::specs::Shapes::shape_of, block_store::specs::WideOwners::wide_of, block_store::specs::WideOwners::wide_parts))]
 fn stores_come_at_once(rt: HostRuntime) {
     let places = Places::new(&WIDE);
     let copy = Command::Mov { d: 2, s: 1 };

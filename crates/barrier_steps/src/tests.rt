@@ -89,7 +89,7 @@ fn put_in_a_field(rt: HostRuntime) {
 }
 
 #[test]
-#[tactic(auto, unfolding(block_store::specs::Payloads::payload_of, block_store::specs::Payloads::target, block_store::specs::Shapes::shape_of, block_store::specs::Owners::owner_of, block_store::specs::Owners::owner_parts))]
+#[tactic(auto, unfolding(block_store::specs::Payloads::payload_of, block_store::specs::Payloads::target, block_store::specs::Shapes::shape_of, block_store::specs::WideOwners::wide_of, block_store::specs::WideOwners::wide_parts))]
 fn registers_are_shown(rt: HostRuntime) {
     let places = Places::new(&SMALL);
     let mut len = FieldPass::new(0, 1, MARK, Command::Len { s: 0 });

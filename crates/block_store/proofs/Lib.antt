@@ -1,6 +1,7 @@
 pub mod Functions
 pub mod PayloadWords
 pub mod OwnerWords
+pub mod WideWords
 pub mod ShapeWords
 pub mod ColourWords
 pub mod PhaseWords

@@ -3,6 +3,7 @@ pub mod Widths
 pub mod Registers
 pub mod Payloads
 pub mod Owners
+pub mod WideOwners
 pub mod Shapes
 pub mod Colours
 pub mod Phases

@@ -1,9 +1,10 @@
 //! Laws of the words and places, for the proofs above: each is the contract of a function that does
 //! nothing.
 
-ghost use Rattle.std.specs.Prelude.{◌≢◌, ◌+◌, ◌≡◌, ◌<◌, ◌≤◌, ℕ, List, length, Some, slice_set, true};
+ghost use Rattle.std.specs.Prelude.{◌≢◌, ◌+◌, ◌≡◌, ◌<◌, ◌≤◌, ◌^◌, ℕ, List, length, Some, slice_set, true};
 ghost use Rattle.block_store.specs.Payloads.{IsPayload, payload_code, payload_of};
-ghost use Rattle.block_store.specs.Owners.{IsOwner, owner_code, owner_of};
+ghost use Rattle.block_store.specs.Owners.{IsOwner, owner_code, owner_of, owner_word};
+ghost use Rattle.block_store.specs.WideOwners.{IsWide, wide_code, wide_of, wide_word, widened};
 ghost use Rattle.block_store.specs.Shapes.{IsShape, shape_code, shape_of};
 ghost use Rattle.block_store.specs.Colours.{IsColour, colour_code, colour_of, black_word, white_word};
 ghost use Rattle.block_store.specs.Phases.{phase_code, phase_of};
@@ -15,6 +16,7 @@ ghost use Rattle.block_store.specs.declared.TheConstants.{REGISTERS};
 ghost use Rattle.block_store.specs.declared.Width.{Width};
 ghost use Rattle.block_store.specs.declared.Payload.{Payload};
 ghost use Rattle.block_store.specs.declared.Owner.{Owner};
+ghost use Rattle.block_store.specs.declared.WideOwner.{WideOwner};
 ghost use Rattle.block_store.specs.declared.Shape.{Shape};
 ghost use Rattle.block_store.specs.declared.Colour.{Colour};
 ghost use Rattle.block_store.specs.declared.PhaseWord.{PhaseWord};
@@ -38,6 +40,17 @@ pub fn words_are_written()
     ensures colour { (w : ℕ) (c : Colour) → colour_of w ≡ Some c
         → IsColour c × (colour_code c ≡ w) }
     ensures phase { (w : ℕ) → phase_code (phase_of w) ≡ w }
+{}
+
+/// The wide words of owners read back, and the word of 64 bits that reads as an owner is the word
+/// of it. They extend the words of owners: those of serials below 2^24 are the same, and what the
+/// narrow reader reads of a word, the wide one reads too.
+pub fn wide_words_extend()
+    ensures back { (o : WideOwner) → IsWide o → wide_of (wide_code o) ≡ Some o }
+    ensures written { (w : ℕ) (o : WideOwner) → w < 2 ^ 64 → wide_of w ≡ Some o
+        → IsWide o × (wide_code o ≡ w) }
+    ensures word { (t s o : ℕ) → s < 2 ^ 24 → wide_word t s o ≡ owner_word t s o }
+    ensures owner { (w : ℕ) (o : Owner) → owner_of w ≡ Some o → wide_of w ≡ Some (widened o) }
 {}
 
 /// Black and white are told apart in each cycle, and change places with the next.

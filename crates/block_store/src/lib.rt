@@ -16,12 +16,15 @@ mod words;
 
 pub use colours::{black, colour_word, phase_word, read_colour, read_phase, white};
 pub use laws::{
-    colours_turn, places_differ, registers_are_placed, words_are_written, words_read_back,
-    writes_are_of_places,
+    colours_turn, places_differ, registers_are_placed, wide_words_extend, words_are_written,
+    words_read_back, writes_are_of_places,
 };
 pub use places::Places;
 use std::alloc::{AllocError, AllocFailed};
-pub use words::{owner_word, payload_word, read_owner, read_payload, read_shape, shape_word};
+pub use words::{
+    owner_word, payload_word, read_owner, read_payload, read_shape, read_wide, shape_word,
+    wide_word,
+};
 
 /// How many registers each thread has.
 pub const REGISTERS: u32 = 16;
@@ -145,7 +148,7 @@ pub struct Name {
     /// The number of the thread, from 0.
     pub thread: u32,
     /// The number of the allocation, from 1; 0 for the shared array.
-    pub serial: u32,
+    pub serial: u64,
 }
 
 /// What a register or a field holds.
@@ -191,6 +194,18 @@ pub struct Owner {
     pub thread: u32,
     /// The serial in the object's name, 0 to 131,072.
     pub serial: u32,
+    /// The number of the block in its object, 0 to 1,023.
+    pub ordinal: u32,
+}
+
+/// Which block of which object a block is, in a heap whose threads make more objects than those of
+/// a job.
+#[derive(Clone, Copy, Debug, PartialEq, Eq)]
+pub struct WideOwner {
+    /// The thread in the object's name, 0 to 16.
+    pub thread: u32,
+    /// The serial in the object's name, below 2^43.
+    pub serial: u64,
     /// The number of the block in its object, 0 to 1,023.
     pub ordinal: u32,
 }

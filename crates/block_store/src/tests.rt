@@ -28,6 +28,17 @@ fn words_of_examples(rt: HostRuntime) {
         ordinal: 0,
     };
     assert_eq!(rt; owner_word(registers), 1_099_511_627_776);
+    let small = WideOwner {
+        thread: 1,
+        serial: 1,
+        ordinal: 2,
+    };
+    assert_eq!(rt; wide_word(small), 1_099_511_693_314);
+    let large = WideOwner {
+        serial: (1 << 43) - 1,
+        ..small
+    };
+    assert_eq!(rt; wide_word(large), 18_446_711_088_360_652_802);
 }
 
 #[test]
@@ -43,6 +54,15 @@ fn readings_of_examples(rt: HostRuntime) {
             thread: 0,
             serial: 1,
             ordinal: 0
+        })
+    );
+    assert_eq!(rt; read_owner(18_446_711_088_360_652_802), None);
+    assert_eq!(rt;
+        read_wide(18_446_711_088_360_652_802),
+        Some(WideOwner {
+            thread: 1,
+            serial: (1 << 43) - 1,
+            ordinal: 2
         })
     );
     assert_eq!(rt;

@@ -3,12 +3,14 @@
 ghost use Rattle.std.specs.Prelude.{◌≡◌, ◌≢◌, IfSome, IfNone, ℕ, Some};
 ghost use Rattle.block_store.specs.Payloads.{IsPayload, payload_code, payload_of, payload_target, target, number_word, reference_word};
 ghost use Rattle.block_store.specs.Owners.{IsOwner, owner_code, owner_of};
+ghost use Rattle.block_store.specs.WideOwners.{IsWide, wide_code, wide_of};
 ghost use Rattle.block_store.specs.Shapes.{IsShape, shape_code, shape_of};
 ghost use Rattle.block_store.specs.declared.Payload.{Payload};
 ghost use Rattle.block_store.specs.declared.Owner.{Owner};
+ghost use Rattle.block_store.specs.declared.WideOwner.{WideOwner};
 ghost use Rattle.block_store.specs.declared.Shape.{Shape};
 
-use crate::{Owner, Payload, Shape};
+use crate::{Owner, Payload, Shape, WideOwner};
 
 /// The word of a payload.
 #[tactic(auto, unfolding(crate::specs::Payloads::number_word, crate::specs::Payloads::reference_word))]
@@ -66,6 +68,39 @@ pub fn read_owner(w: u64) -> Option<Owner>
         Some(Owner {
             thread: thread as u32,
             serial: serial as u32,
+            ordinal: ordinal as u32,
+        })
+    } else {
+        None
+    }
+}
+
+/// The word of an owner whose serial is below 2^43. Where it is below 2^24, this is the word of
+/// `owner_word`.
+#[tactic(auto, unfolding(crate::specs::WideOwners::wide_word))]
+pub fn wide_word(o: WideOwner) -> u64
+    requires { IsWide o }
+    ensures { result ≡ wide_code o }
+{
+    let (high, low) = (o.serial / (1 << 24), o.serial % (1 << 24));
+    (high << 45) + ((o.thread as u64) << 40) + (low << 16) + o.ordinal as u64
+}
+
+/// The owner that a word is, of a serial below 2^43; `None` where it is no word of an owner. What
+/// `read_owner` reads is read as the same owner.
+#[tactic(auto, using(crate::proofs::WideWords::unread), unfolding(crate::specs::WideOwners::wide_of, crate::specs::WideOwners::wide_parts, crate::specs::WideOwners::wide_word))]
+pub fn read_wide(w: u64) -> Option<WideOwner>
+    ensures word { result ≡ wide_of w }
+    ensures found { IfSome result (λ o. IsWide o × (wide_code o ≡ w)) }
+    ensures none { IfNone result ((o : WideOwner) → IsWide o → wide_code o ≢ w) }
+{
+    let thread = (w >> 40) % (1 << 5);
+    let serial = (w >> 45) * (1 << 24) + (w >> 16) % (1 << 24);
+    let ordinal = w % (1 << 16);
+    if thread <= 16 && ordinal <= 1023 {
+        Some(WideOwner {
+            thread: thread as u32,
+            serial,
             ordinal: ordinal as u32,
         })
     } else {

@@ -1,6 +1,6 @@
-//! Two threads that meet: neither gets on unless the other runs beside it.
+//! Threads that meet: none gets on unless all others run beside it.
 
-ghost use Rattle.std.specs.Prelude.{◌≡◌, ◌<◌, ℕ, IsTrue, [], length, slice_index_or, map, IfOk};
+ghost use Rattle.std.specs.Prelude.{◌≡◌, ◌<◌, ◌≤◌, ℕ, IsTrue, [], length, slice_index_or, map, IfOk};
 ghost use Rattle.heap_system.specs.Machines.{IsJob};
 ghost use Rattle.board_jobs.specs.Served.{HasSaid, shared_array};
 
@@ -10,7 +10,7 @@ use std::alloc::Global;
 use std::sync::Wait;
 use std::sync::atomic::{AtomicU64, Ordering};
 
-// How often a thread looks for the flag of the other before it gives up.
+// How often a thread looks for the flags of the others before it gives up.
 const LOOKS: u32 = 50_000_000;
 
 /// The heap of two threads that meet.
@@ -70,62 +70,121 @@ fn is_shown(entry: &Entry) -> bool
     entry.reply == Reply::Val(Value::Ref(shared))
 }
 
-/// The pace of a meeting: at command 1 each of two threads raises its flag and looks for the
-/// other's, for a while.
+/// One thread of a meeting.
+#[derive(Drop)]
+struct Guest {
+    // How often it was told of its commands 0 and 1.
+    told: [AtomicU64; 2],
+    // 1 once it has come.
+    flag: AtomicU64,
+}
+
+impl Guest {
+    fn new() -> Guest {
+        Guest {
+            told: [AtomicU64::new(0), AtomicU64::new(0)],
+            flag: AtomicU64::new(0),
+        }
+    }
+
+    // Whether it was told of both commands, once each.
+    fn was_told(&self) -> bool {
+        self.told[0].load(Ordering::SeqCst) == 1 && self.told[1].load(Ordering::SeqCst) == 1
+    }
+
+    fn has_come(&self) -> bool {
+        self.flag.load(Ordering::SeqCst) == 1
+    }
+}
+
+/// The pace of a meeting: at command 1 each of its threads raises its flag and looks for those of
+/// all others, for a while.
 #[derive(Drop)]
 pub struct Meeting {
-    // How often thread 0 was told of commands 0 and 1, and then thread 1.
-    told: [AtomicU64; 4],
+    guests: [Guest; 4],
+    // How many of them are to come.
+    threads: u32,
     // How often a thread was told of anything else.
     other: AtomicU64,
-    flags: [AtomicU64; 2],
-    // How many threads saw the flag of the other.
+    // How many threads saw the flags of all.
     met: AtomicU64,
 }
 
 impl Meeting {
-    /// One at which nobody has come yet.
+    /// A meeting of two threads, to which nobody has come yet.
     pub fn new() -> Meeting {
+        Meeting::of(2)
+    }
+
+    /// One of so many threads, at most four.
+    pub fn of(threads: u32) -> Meeting
+        requires { threads ≤ 4 }
+    {
         Meeting {
-            told: [
-                AtomicU64::new(0),
-                AtomicU64::new(0),
-                AtomicU64::new(0),
-                AtomicU64::new(0),
-            ],
+            guests: [Guest::new(), Guest::new(), Guest::new(), Guest::new()],
+            threads,
             other: AtomicU64::new(0),
-            flags: [AtomicU64::new(0), AtomicU64::new(0)],
             met: AtomicU64::new(0),
         }
     }
 
-    /// Whether each of two threads was told of its commands 0 and 1, once each, nothing else was
-    /// told, and both have seen the other.
+    /// Whether each thread was told of its commands 0 and 1, once each, nothing else was told, and
+    /// all have seen all others.
     pub fn took_place(&self) -> bool {
-        for calls in &self.told {
-            if calls.load(Ordering::SeqCst) != 1 {
+        for guest in self.invited() {
+            if !guest.was_told() {
                 return false;
             }
         }
-        self.other.load(Ordering::SeqCst) == 0 && self.met.load(Ordering::SeqCst) == 2
+        self.other.load(Ordering::SeqCst) == 0
+            && self.met.load(Ordering::SeqCst) == u64::from(self.threads)
+    }
+
+    // Those that are to come.
+    fn invited(&self) -> &[Guest] {
+        match self.guests.get(..self.threads as usize) {
+            Some(guests) => guests,
+            None => &self.guests,
+        }
+    }
+
+    fn are_all_here(&self) -> bool {
+        for guest in self.invited() {
+            if !guest.has_come() {
+                return false;
+            }
+        }
+        true
+    }
+
+    // Raises the flag of a thread, and looks for those of all others.
+    fn meet(&self, guest: &Guest) {
+        guest.flag.store(1, Ordering::SeqCst);
+        for _ in 0..LOOKS {
+            if self.are_all_here() {
+                self.met.fetch_add(1, Ordering::SeqCst);
+                return;
+            }
+        }
     }
 }
 
 impl Pace for Meeting {
     fn before<R: Wait>(&self, _rt: &R, thread: u32, command: u64) {
-        if thread > 1 || command > 1 {
+        let Some(guest) = self.invited().get(thread as usize) else {
             self.other.fetch_add(1, Ordering::SeqCst);
             return;
-        }
-        self.told[2 * thread as usize + command as usize].fetch_add(1, Ordering::SeqCst);
-        if command == 0 {
-            return;
-        }
-        self.flags[thread as usize].store(1, Ordering::SeqCst);
-        for _ in 0..LOOKS {
-            if self.flags[1 - thread as usize].load(Ordering::SeqCst) == 1 {
-                self.met.fetch_add(1, Ordering::SeqCst);
-                return;
+        };
+        match command {
+            0 => {
+                guest.told[0].fetch_add(1, Ordering::SeqCst);
+            }
+            1 => {
+                guest.told[1].fetch_add(1, Ordering::SeqCst);
+                self.meet(guest);
+            }
+            _ => {
+                self.other.fetch_add(1, Ordering::SeqCst);
             }
         }
     }

@@ -1,5 +1,5 @@
 -- Each event of a thread that builds keeps the rules of kept names on the picture of the heap.
-use Rattle.std.proofs.Common.{◌≡◌, ℕ, zero, suc, ◌<◌, ◌≤◌, ◌+◌, ◌-◌, ◌&&◌, ◌||◌, true, false, Option, Some, None, refl, arith, subst, sym, ap, ◌∙◌, inl, inr, eqb, ltb, eq-eqb, ne_eqb, ltb-false, List, [], ◌∷◌, ◌++◌, length, take}
+use Rattle.std.proofs.Common.{◌≡◌, ℕ, zero, suc, ◌<◌, ◌≤◌, ◌+◌, ◌-◌, ◌&&◌, ◌||◌, true, false, Option, Some, None, refl, arith, subst, sym, ap, ◌∙◌, inl, inr, eqb, ltb, eq-eqb, ne_eqb, ltb-false, List, [], ◌∷◌, ◌++◌, length, take, ◌^◌}
 use Rattle.std.proofs.lemmas.Bool.{cases_Bool, cases_eq, cases_lt, and_parts}
 use Rattle.block_store.specs.declared.Config.{Config}
 use Rattle.block_store.specs.declared.Name.{Name}
@@ -151,10 +151,16 @@ module _ (c : Config) (inside : IsInBounds c) (g : Graph) (order : List HistoryI
   stays : (o : Option Build) → (tasks s.thread).build ≡ o → KeptAt h o
   stays o is = subst (λ k. IsKept c k) (pictured_self g order h names tasks s.thread o is) p.kept
 
-  few_names : count_of g s.thread + 1 ≤ 131072
+  few_names : count_of g s.thread + 1 < 2 ^ 43
   few_names =
       let same : count_of g s.thread + 1 ≡ s.serial = ap (λ (a : Name). a.serial) p.title in
       let few = p.fits.serial in
+      omega arith
+
+  few_threads : s.thread ≤ 16
+  few_threads =
+      let low = p.fits.thread in
+      let few = p.fits.few in
       omega arith
 
   few_blocks : layout_blocks W (made_kind s.command) (length_made s.command) ≤ 1024
@@ -182,7 +188,7 @@ module _ (c : Config) (inside : IsInBounds c) (g : Graph) (order : List HistoryI
   reserve_row v none build =
       subst (λ b. KeptAt (put_at h FreeCount v) (Some b)) (reserved_object none)
       (reserves c inside g order h names tasks s.thread low p.kept v (made_kind s.command)
-      (length_made s.command) build few_names few_blocks)
+      (length_made s.command) build few_names few_blocks few_threads)
 
   -- the first block of the hand is a Free one behind the registers
   hand_free : (a u : ℕ) → 1 ≤ a → a ≤ c.blocks → hs s.thread ≡ row_holding s.blocks s.held (Collect a u)

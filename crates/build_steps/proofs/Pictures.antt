@@ -1,6 +1,6 @@
 -- The picture of a heap after the events of a builder, over plain variables: what thread t builds,
 -- and the words, change as the event of the rules says.
-use Rattle.std.proofs.Common.{◌≡◌, ℕ, suc, ◌+◌, ◌<◌, ◌≤◌, refl, subst, sym, ap, ◌∙◌, Option, Some, None, List, [], ◌∷◌, ◌++◌}
+use Rattle.std.proofs.Common.{◌≡◌, ℕ, suc, ◌+◌, ◌<◌, ◌≤◌, refl, subst, sym, ap, ◌∙◌, Option, Some, None, List, [], ◌∷◌, ◌++◌, ◌^◌}
 use Rattle.block_store.specs.declared.Config.{Config}
 use Rattle.block_store.specs.declared.Name.{Name}
 use Rattle.block_store.specs.declared.TheConstants.{REGISTERS}
@@ -76,12 +76,12 @@ module _ (c : Config) (inside : IsInBounds c) (g : Graph) (order : List HistoryI
       (step_kept c inside now e k guard)
 
   pub reserves : (v : ℕ) (kind : ObjectKind) (size : ℕ) → (tasks t).build ≡ None
-      → count_of g t + 1 ≤ 131072 → layout_blocks c.width kind size ≤ 1024
+      → count_of g t + 1 < 2 ^ 43 → layout_blocks c.width kind size ≤ 1024 → t ≤ 16
       → IsKept c (picture g order (put_at h FreeCount v) names
       (with_task_build tasks t (Some (reserved c now t kind size))))
-  reserves v kind size none few most =
+  reserves v kind size none few most thread =
       goes g order (put_at h FreeCount v) names (Some (reserved c now t kind size))
-      (Reserve t kind size) (low, none, few, most) refl
+      (Reserve t kind size) (low, none, few, most, thread) refl
 
   -- a command is answered that changes nothing
   pub answered : (entry : Entry) → entry.thread < c.threads → (tasks entry.thread).loading ≡ unloaded

@@ -26,6 +26,7 @@ use Rattle.std.proofs.Common.{
   ◌∷◌,
   ◌++◌,
   length,
+  ◌^◌,
 }
 use Rattle.std.proofs.lemmas.Bool.{cases_Bool, cases_eq}
 use Rattle.block_store.specs.declared.Config.{Config}
@@ -70,7 +71,7 @@ use Rattle.build_steps.proofs.Parts.{some_blocks}
 
 pub first_fits : (c : Config) (t cycle serial : ℕ) (k : Command) (capacity : ℕ) → t < c.threads
     → c.threads ≤ 16 → c.blocks ≤ 65535 → registers_end c.width (t + 1) ≤ c.blocks
-    → serial ≤ 131072 → IsCommandInRange k → makes_object k ≡ true
+    → serial < 2 ^ 43 → IsCommandInRange k → makes_object k ≡ true
     → blocks_of c.width k ≤ 1024 → blocks_of c.width k ≤ capacity
     → BuildFits c (building c.width t c.threads cycle serial k capacity)
 first_fits c t cycle serial k capacity low few blocks registers last range makes most space =

@@ -29,14 +29,14 @@ use Rattle.block_store.specs.declared.TheConstants.{REGISTERS}
 use Rattle.block_store.specs.declared.Width.{Width}
 use Rattle.block_store.specs.declared.Payload.TheVariants.{Nil, Block}
 use Rattle.block_store.specs.declared.Shape.TheVariants as shapes
-use Rattle.block_store.specs.Owners.{owner_of, owner_word}
+use Rattle.block_store.specs.WideOwners.{wide_of, wide_word}
 use Rattle.block_store.specs.Payloads.{reference_word}
 use Rattle.block_store.specs.Shapes.{shape_of}
 use Rattle.block_store.specs.Widths.{payloads}
 use Rattle.block_store.specs.Registers.{register_block, register_slot}
 use Rattle.block_store.specs.Places.{extent, in_range, is_block, IsBlock, PayloadOf}
 use Rattle.block_store.proofs.ColourWords.{colour-black, link-black}
-use Rattle.block_store.proofs.OwnerWords.{owner-code}
+use Rattle.block_store.proofs.WideWords.{read_wide}
 use Rattle.block_store.proofs.PayloadWords.{payload-code, target-reference, target-nil}
 use Rattle.block_store.proofs.Registers.{register_some, register_low, slot_low}
 use Rattle.block_store.proofs.ShapeWords.{shape-code}
@@ -112,11 +112,8 @@ shape_held (New d f) range makes = ap is_some (shape-code (shapes.List f) range.
 shape_held (Arr d e) range makes = ap is_some (shape-code (shapes.Tree e) range.1)
 shape_held _ range makes = absurd (let z : false ≡ true = makes in cc)
 
-owner_held : (t serial o : ℕ) → t ≤ 16 → serial ≤ 131072 → o ≤ 1023
-    → IsSome (owner_of (owner_word t serial o))
-owner_held t serial o few last low =
-    ap is_some (owner-code (record { thread = t; serial = serial; ordinal = o })
-    (record { thread = few; serial = last; ordinal = low }))
+owner_held : (t serial o : ℕ) → t ≤ 16 → o ≤ 1023 → IsSome (wide_of (wide_word t serial o))
+owner_held t serial o few low = ap is_some (read_wide t serial o few low)
 
 module _ (c : Config) (s : BuildState) (f : BuildFits c s) where
   -- ordinal o is held
@@ -175,7 +172,7 @@ module _ (c : Config) (s : BuildState) (f : BuildFits c s) where
       let few = f.few in
       let most = f.most in
       let here = g.1 in
-      owner_held s.thread s.serial o (omega arith) f.serial (omega arith)
+      owner_held s.thread s.serial o (omega arith) (omega arith)
   row_stores (WriteShape o) g = shape_held s.command f.range f.makes
   row_stores (WritePayload o j) g =
       link_held c s.held (block_at s.held o) j (link_in (made_part c.width s.command o j))

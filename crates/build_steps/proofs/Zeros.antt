@@ -4,7 +4,7 @@ use Rattle.block_store.specs.declared.Config.{Config}
 use Rattle.block_store.specs.declared.Width.{Width}
 use Rattle.block_store.specs.declared.Payload.TheVariants as payloads
 use Rattle.block_store.specs.Colours.{colour_of}
-use Rattle.block_store.specs.Owners.{owner_of, owner_parts}
+use Rattle.block_store.specs.WideOwners.{wide_of, wide_parts}
 use Rattle.block_store.specs.Phases.{inside_of, cycle_of}
 use Rattle.block_store.specs.Shapes.{shape_of}
 use Rattle.block_store.specs.Places.{extent, PayloadOf}
@@ -38,8 +38,8 @@ colour_zero : IsSome (colour_of 0)
 unfolding colour_of
 colour_zero = refl
 
-owner_zero : IsSome (owner_of 0)
-unfolding owner_of owner_parts
+owner_zero : IsSome (wide_of 0)
+unfolding wide_of wide_parts
 owner_zero = refl
 
 shape_zero : IsSome (shape_of 0)

@@ -1,5 +1,5 @@
 -- The ranges of the numbers in a row, and the words that it may read.
-use Rattle.std.specs.Prelude.{ℕ, ◌+◌, ◌<◌, ◌≤◌, ◌≡◌, true, List, [], length}
+use Rattle.std.specs.Prelude.{ℕ, ◌+◌, ◌<◌, ◌≤◌, ◌≡◌, true, List, [], length, ◌^◌}
 use Rattle.block_store.specs.declared.Config.{Config}
 use Rattle.block_store.specs.Places.{extent, IsBlock}
 use Rattle.block_store.specs.Registers.{registers_end}
@@ -55,7 +55,7 @@ pub record BuildFits (c : Config) (s : BuildState) : Type 0 where
   pub blocks : c.blocks ≤ 65535
   pub thread : s.thread < s.threads
   pub registers : registers_end c.width (s.thread + 1) ≤ c.blocks
-  pub serial : s.serial ≤ 131072
+  pub serial : s.serial < 2 ^ 43
   pub range : IsCommandInRange s.command
   pub makes : makes_object s.command ≡ true
   pub size : s.blocks ≡ blocks_of c.width s.command

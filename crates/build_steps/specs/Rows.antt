@@ -24,7 +24,7 @@ use Rattle.std.specs.Prelude.{
 }
 use Rattle.block_store.specs.declared.Width.{Width}
 use Rattle.block_store.specs.Colours.{link, black_word}
-use Rattle.block_store.specs.Owners.{owner_word}
+use Rattle.block_store.specs.WideOwners.{wide_word}
 use Rattle.block_store.specs.Payloads.{reference_word}
 use Rattle.block_store.specs.Places.{
   Extent,
@@ -89,7 +89,7 @@ built_at s o = block_at s.held o
 
 -- the words of that block: its owner, its shape, and payload j
 abbrev pub built_owner : BuildState → ℕ → ℕ
-built_owner s o = owner_word s.thread s.serial o
+built_owner s o = wide_word s.thread s.serial o
 
 abbrev pub built_shape : BuildState → ℕ
 built_shape s = made_shape s.command

@@ -1,6 +1,6 @@
 //! Laws of the rows, for the proofs above: each is the contract of a function that does nothing.
 
-ghost use Rattle.std.specs.Prelude.{◌≡◌, ◌≢◌, ◌<◌, ◌≤◌, ◌+◌, ◌⊎◌, ◌||◌, ◌&&◌, nat_lt, ℕ, List, [], length, true, false, Some, is_some};
+ghost use Rattle.std.specs.Prelude.{◌≡◌, ◌≢◌, ◌<◌, ◌≤◌, ◌+◌, ◌⊎◌, ◌||◌, ◌&&◌, nat_lt, ℕ, List, [], length, true, false, Some, is_some, ◌^◌};
 ghost use Rattle.block_store.specs.declared.Config.{Config};
 ghost use Rattle.block_store.specs.Heaps.{Heap, put_at};
 ghost use Rattle.block_store.specs.Colours.{is_free, black_word};
@@ -36,7 +36,7 @@ ghost use Rattle.object_lists.specs.Parts.{Link, Field, Blank};
 pub fn rows_stay_in_the_heap()
     ensures first { (c : Config) (t cycle serial : ℕ) (k : Command) (capacity : ℕ)
         → t < c.threads → c.threads ≤ 16 → c.blocks ≤ 65535
-        → registers_end c.width (t + 1) ≤ c.blocks → serial ≤ 131072
+        → registers_end c.width (t + 1) ≤ c.blocks → serial < 2 ^ 43
         → IsCommandInRange k → makes_object k ≡ true
         → blocks_of c.width k ≤ 1024 → blocks_of c.width k ≤ capacity
         → BuildFits c (building c.width t c.threads cycle serial k capacity) }

@@ -17,8 +17,8 @@ ghost use Rattle.build_steps.specs.Fits.{BuildFits, BuildReads, IsOrdinal};
 use crate::BuildRow;
 use crate::objects::{link_at, made_register, made_shape};
 use block_store::{
-    Colour, Name, Owner, Payload, Places, Width, black, colour_word, owner_word, payload_word,
-    read_colour,
+    Colour, Name, Payload, Places, WideOwner, Width, black, colour_word, payload_word, read_colour,
+    wide_word,
 };
 use heap_machine::{Memory, Op, Step};
 use never_heap::{Command, Reply};
@@ -31,7 +31,7 @@ pub struct BuildPass {
     thread: u32,
     threads: u32,
     cycle: u64,
-    serial: u32,
+    serial: u64,
     command: Command,
     blocks: u32,
     // The blocks that are held, in the order of their ordinals.
@@ -185,20 +185,20 @@ fn after_colour(ordinal: u32) -> BuildRow
 impl BuildPass {
     /// The part that builds the object of the command, for the thread of this number, one of
     /// `threads`, 1 to 16, which is inside in this cycle, 1 to 2^54 − 2. The object's name has this
-    /// serial, 1 to 131,072. The command makes an object of at most 1,024 blocks of this width.
-    /// `room` is empty and has capacity for them.
+    /// serial, at least 1 and below 2^43. The command makes an object of at most 1,024 blocks of
+    /// this width. `room` is empty and has capacity for them.
     pub fn new(
         width: Width,
         thread: u32,
         threads: u32,
         cycle: u64,
-        serial: u32,
+        serial: u64,
         command: Command,
         room: Vec<u32>,
     ) -> BuildPass
         requires thread { (thread < threads) × (threads ≤ 16) }
         requires cycle { (1 ≤ cycle) × (cycle ≤ 2 ^ 54 - 2) }
-        requires serial { (1 ≤ serial) × (serial ≤ 131072) }
+        requires serial { (1 ≤ serial) × (serial < 2 ^ 43) }
         requires range { IsCommandInRange command }
         requires makes { makes_object command ≡ true }
         requires most { blocks_of width command ≤ 1024 }
@@ -324,11 +324,11 @@ impl BuildPass {
 
     // The owner word of the block of this ordinal.
     fn owner(&self, ordinal: u32) -> u64
-        requires { (self.now.thread ≤ 16) × (self.now.serial ≤ 131072) × (ordinal ≤ 1023) }
+        requires { (self.now.thread ≤ 16) × (self.now.serial < 2 ^ 43) × (ordinal ≤ 1023) }
         ensures { result ≡ built_owner self.now ordinal }
     {
         let (thread, serial) = (self.thread, self.serial);
-        owner_word(Owner {
+        wide_word(WideOwner {
             thread,
             serial,
             ordinal,

@@ -205,13 +205,14 @@ fn an_array_of_four_blocks_is_built(rt: HostRuntime) -> Result<(), OutOfMemory> 
 }
 
 // A record of eight fields in blocks of eight payloads, in cycle 3, where a black block has the
-// word 2. The thread's list is 7, 12.
+// word 2. Its serial is 2^24 + 2, and the part above 24 bits stands above the thread. The thread's
+// list is 7, 12.
 #[test]
 #[tactic(auto, unfolding(block_store::specs::Colours::colour_of, block_store::specs::Colours::link, crate::specs::Rows::list_of))]
 fn a_record_of_two_wide_blocks_is_built(rt: HostRuntime) -> Result<(), OutOfMemory> {
     let places = Places::new(&WIDE);
-    let command = Command::New { d: 0, fields: 8 };
-    let mut pass = BuildPass::new(Width::Eight, 0, 1, 3, 2, command, room(rt.alloc(), 2)?);
+    let (command, serial) = (Command::New { d: 0, fields: 8 }, 16_777_218);
+    let mut pass = BuildPass::new(Width::Eight, 0, 1, 3, serial, command, room(rt.alloc(), 2)?);
     assert_eq!(rt; pass.got(&places, 2), Step::Went);
     assert_eq!(rt; pass.got(&places, 2), Step::Went);
     assert_eq!(rt; pass.want(&places), Op::Exchange { place: 4, new: 0 });
@@ -221,13 +222,10 @@ fn a_record_of_two_wide_blocks_is_built(rt: HostRuntime) -> Result<(), OutOfMemo
     assert_eq!(rt; pass.want(&places), Op::Load { place: 126 });
     assert_eq!(rt; pass.got(&places, 0), Step::Went);
     let last = [0, 0, 0, 0, 0, 0, 0, 0];
-    assert!(rt; writes(&mut pass, &places, 126, 131_073, 16, &last, 2));
+    assert!(rt; writes(&mut pass, &places, 126, 35_184_372_219_905, 16, &last, 2));
     let first = [24, 0, 0, 0, 0, 0, 0, 0];
-    assert!(rt; writes(&mut pass, &places, 71, 131_072, 16, &first, 2));
-    let name = Name {
-        thread: 0,
-        serial: 2,
-    };
+    assert!(rt; writes(&mut pass, &places, 71, 35_184_372_219_904, 16, &first, 2));
+    let name = Name { thread: 0, serial };
     assert!(rt; publishes(&mut pass, &places, 19, 14, Reply::New(name)));
     Ok(())
 }

@@ -26,7 +26,7 @@ const MOST_COMMANDS: u64 = 1 << 60;
 // How many units all commands of a life may owe, and how many of them may make an object.
 const MOST_UNITS: u64 = 1 << 45;
 
-const MOST_OBJECTS: u64 = 131_072;
+const MOST_OBJECTS: u64 = (1 << 43) - 1;
 
 /// Why no heap of a configuration is opened.
 #[derive(Clone, Copy, Debug, PartialEq, Eq)]
@@ -57,7 +57,7 @@ pub enum Refused {
 
 /// A heap of one thread between two commands.
 ///
-/// It lives for 2^45 units and 131,072 commands that make an object, be they answered new or full,
+/// It lives for 2^45 units and 2^43 - 1 commands that make an object, be they answered new or full,
 /// and for 2^60 commands in all.
 #[derive(Drop)]
 pub struct ControlHeap {

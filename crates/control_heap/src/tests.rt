@@ -122,26 +122,43 @@ fn each_reply_is_that_of_the_heap_that_never_frees(rt: HostRuntime) -> Result<()
     Ok(())
 }
 
+// How many objects one heap makes in a test: 76 times as many as a job of a text may.
+const OBJECTS: u64 = 10_000_000;
+
 // The registers and the shared array take six blocks, and a block is paid for with 7 units.
 #[test]
-fn a_life_ends_with_its_objects(rt: HostRuntime) {
+fn a_heap_makes_ten_million_objects(rt: HostRuntime) {
     let mut heap = ControlHeap::open(rt.alloc(), small(Width::Four)).expect(&rt, "it opens");
     let record = Command::New { d: 1, fields: 1 };
-    for serial in 1..=131_072_u32 {
+    for serial in 1..=OBJECTS {
         let new = Reply::New(Name { thread: 0, serial });
         assert_eq!(rt; heap.ask(record), Ok(new), "object {serial}");
     }
-    assert_eq!(rt; (heap.asked(), heap.objects_left()), (131_072, 0));
-    assert_eq!(rt; heap.units_left(), (1 << 45) - 7 * 131_072);
-    assert_eq!(rt; heap.ask(record), Err(Refused::NoLifeLeft));
-    let array = Command::Arr { d: 1, elements: 1 };
-    assert_eq!(rt; heap.ask(array), Err(Refused::NoLifeLeft));
+    assert_eq!(rt; heap.asked(), OBJECTS);
+    assert_eq!(rt; heap.objects_left(), (1 << 43) - 1 - OBJECTS);
+    assert_eq!(rt; heap.units_left(), (1 << 45) - 7 * OBJECTS);
     let last = Value::Ref(Name {
         thread: 0,
-        serial: 131_072,
+        serial: OBJECTS,
     });
     assert_eq!(rt; heap.ask(Command::Say { s: 1 }), Ok(Reply::Val(last)));
-    assert_eq!(rt; heap.asked(), 131_073);
+    assert_eq!(rt; heap.asked(), OBJECTS + 1);
+}
+
+#[test]
+fn each_object_takes_one_of_a_life(rt: HostRuntime) {
+    let mut heap = ControlHeap::open(rt.alloc(), small(Width::Four)).expect(&rt, "it opens");
+    for made in 1..=100_u64 {
+        let (record, array) = (
+            Command::New { d: 1, fields: 1 },
+            Command::Arr { d: 1, elements: 1 },
+        );
+        let command = if made % 2 == 0 { record } else { array };
+        assert!(rt; heap.ask(command).is_ok(), "object {made}");
+        assert_eq!(rt; heap.objects_left(), (1 << 43) - 1 - made);
+        assert!(rt; heap.ask(Command::Say { s: 1 }).is_ok(), "object {made}");
+        assert_eq!(rt; heap.objects_left(), (1 << 43) - 1 - made);
+    }
 }
 
 #[test]
@@ -151,7 +168,7 @@ fn an_idle_counts_its_units(rt: HostRuntime) {
         assert_eq!(rt; heap.ask(Command::Idle { units }), Ok(Reply::Idle));
     }
     assert_eq!(rt; heap.units_left(), (1 << 45) - 131_080);
-    assert_eq!(rt; (heap.asked(), heap.objects_left()), (3, 131_072));
+    assert_eq!(rt; (heap.asked(), heap.objects_left()), (3, (1 << 43) - 1));
 }
 
 #[test]

@@ -5,7 +5,7 @@ use Rattle.block_store.specs.Places.{Extent, extent, Place, in_range, Phase, Cur
 use Rattle.block_store.specs.Heaps.{Heap}
 use Rattle.block_store.specs.Phases.{inside_of, cycle_of}
 use Rattle.block_store.specs.Colours.{colour_of, link}
-use Rattle.block_store.specs.Owners.{owner_of}
+use Rattle.block_store.specs.WideOwners.{wide_of}
 use Rattle.block_store.specs.Shapes.{shape_of}
 use Rattle.block_store.specs.Payloads.{payload_of, target}
 use Rattle.heap_machine.specs.Operations.{Operation, Load, Exchange, CompareExchange, FetchAdd, FetchSub}
@@ -23,7 +23,7 @@ CanHold e FreeCount w = w ≤ e.blocks
 CanHold e (GreyList t) w = w ≤ e.blocks
 CanHold e (FreeList t) w = w ≤ e.blocks
 CanHold e (ColourOf x) w = IsSome (colour_of w) × (link w ≤ e.blocks)
-CanHold e (OwnerOf x) w = IsSome (owner_of w)
+CanHold e (OwnerOf x) w = IsSome (wide_of w)
 CanHold e (ShapeOf x) w = IsSome (shape_of w)
 CanHold e (PayloadOf x j) w = IsSome (payload_of w) × (target w ≤ e.blocks)
 

@@ -4,7 +4,7 @@ use Rattle.std.proofs.lemmas.Bool.{cases_Bool, cases_eq, cases_lt, and_parts, an
 use Rattle.block_store.specs.declared.Config.{Config}
 use Rattle.block_store.specs.declared.Colour.{Colour}
 use Rattle.block_store.specs.declared.Colour.TheVariants as colours
-use Rattle.block_store.specs.declared.Owner.{Owner}
+use Rattle.block_store.specs.declared.WideOwner.{WideOwner}
 use Rattle.block_store.specs.declared.TheConstants.{REGISTERS}
 use Rattle.block_store.specs.declared.Width.{Width}
 use Rattle.block_store.specs.declared.Payload.TheVariants as held
@@ -15,7 +15,7 @@ use Rattle.block_store.specs.declared.Value.TheVariants as values
 use Rattle.block_store.specs.Configs.{IsInBounds}
 use Rattle.block_store.specs.Colours.{is_grey, is_free, link, grey_word, white_word, free_word, colour_of, colour_code, colour_link, IsColour}
 use Rattle.block_store.specs.Heaps.{Heap}
-use Rattle.block_store.specs.Owners.{owner_word, owner_of}
+use Rattle.block_store.specs.WideOwners.{wide_word, wide_of}
 use Rattle.block_store.specs.Payloads.{payload_of, reference_word}
 use Rattle.block_store.specs.Phases.{bit}
 use Rattle.block_store.specs.Places.{Place, Phase, Cursor, FreeCount, GreyList, FreeList, ColourOf, OwnerOf, ShapeOf, PayloadOf, extent, in_range, is_block}
@@ -24,7 +24,7 @@ use Rattle.block_store.specs.Widths.{payloads}
 use Rattle.block_store.proofs.Registers.{arrays_small, one_root, ordinal_low, root_in, root_is, root_low, root_ordinal, root_some, thread_low}
 use Rattle.block_store.specs.Shapes.{shape_of, array_word, record_word}
 use Rattle.block_store.proofs.ColourWords.{link-grey, kind-zero, not_grey_white, not_grey_free, not_free_white, not_free_grey, grey_grey, colour-code, reads}
-use Rattle.block_store.proofs.OwnerWords.{owner-code}
+use Rattle.block_store.proofs.WideWords.{read_wide}
 use Rattle.block_store.proofs.PayloadWords.{payload-code, target-reference, target-nil}
 use Rattle.block_store.proofs.ShapeWords.{shape-code}
 use Rattle.rate_plan.specs.Rates.{IsAdmitted}
@@ -76,8 +76,8 @@ white_even : white_word 1 ≡ 1
 unfolding white_word
 white_even = refl
 
-owner_zero : owner_word 0 0 0 ≡ 0
-unfolding owner_word
+owner_zero : wide_word 0 0 0 ≡ 0
+unfolding wide_word
 owner_zero = refl
 
 record_zero : record_word 0 ≡ 0
@@ -131,11 +131,11 @@ module _ (c : Config) (bounds : IsInBounds c) (plan : IsAdmitted c) where
   ]
 
   -- the owners and shapes
-  owner_held : (t o : ℕ) → t ≤ 16 → o ≤ 1023 → IsSome (owner_of (owner_word t 0 o))
-  owner_held t o tl ol = let owner : Owner = record { thread = t; serial = 0; ordinal = o } in some_is (owner_of (owner_word t 0 o)) owner (owner-code owner (record { thread = tl; serial = omega arith; ordinal = ol }))
+  owner_held : (t o : ℕ) → t ≤ 16 → o ≤ 1023 → IsSome (wide_of (wide_word t 0 o))
+  owner_held t o tl ol = let owner : WideOwner = record { thread = t; serial = 0; ordinal = o } in some_is (wide_of (wide_word t 0 o)) owner (read_wide t 0 o tl ol)
 
-  no_owner : IsSome (owner_of 0)
-  no_owner = subst (λ w. IsSome (owner_of w)) owner_zero (owner_held 0 0 (omega arith) (omega arith))
+  no_owner : IsSome (wide_of 0)
+  no_owner = subst (λ w. IsSome (wide_of w)) owner_zero (owner_held 0 0 (omega arith) (omega arith))
 
   shape_held : (e : ℕ) → e ≤ 65535 → IsSome (shape_of (array_word e))
   shape_held e el = some_is (shape_of (array_word e)) (shapes.Tree e) (shape-code (shapes.Tree e) el)

@@ -36,6 +36,7 @@ pub mod UnitMade
 pub mod Sharing
 pub mod SharesKept
 pub mod Bounded
+pub mod Finishing
 pub mod Taking
 pub mod Cycling
 pub mod alone

@@ -1,9 +1,8 @@
 -- What a thread has loaded is of kept objects, which register is pending in which command, and that
 -- the shaded roots are grey.
-use Rattle.std.proofs.Common.{◌≡◌, ◌≢◌, ℕ, ◌<◌, ◌⊎◌, inl, inr, true, false, eqb-true, List, length, Option, Some, IfSome, refl, sym, ap, ◌∙◌, subst}
+use Rattle.std.proofs.Common.{◌≡◌, ℕ, ◌<◌, ◌⊎◌, inl, inr, true, false, eqb-true, List, length, Option, Some, IfSome, refl, sym, ap, ◌∙◌, subst}
 use Rattle.block_store.specs.declared.Config.{Config}
 use Rattle.block_store.specs.Colours.{is_free, is_grey, black_word}
-use Rattle.block_store.specs.Payloads.{target}
 use Rattle.block_store.specs.Places.{Extent, extent}
 use Rattle.block_store.specs.Widths.{payloads}
 use Rattle.never_heap.specs.declared.Command.{Command}

@@ -7,15 +7,15 @@ use Rattle.never_heap.specs.declared.Command.{Command}
 use Rattle.never_heap.specs.Histories.{part, replay}
 use Rattle.heap_system.specs.declared.local.Part.{Part}
 use Rattle.heap_system.specs.declared.local.Part.TheVariants.{Sweep}
-use Rattle.heap_system.specs.Locals.{LocalState, command_of, is_done, effect, part_want, makes_unit, spent_got, works}
+use Rattle.heap_system.specs.Locals.{LocalState, Verdict, Open, AsStep, Refused, is_decided, owed, command_of, is_done, effect, part_want, makes_unit, spent_got, works}
 use Rattle.heap_system.specs.Machines.{Run, IsJob, IsRunOf, local_at, word_read, next_effect, items_by, event_done, has_event, next, after_turns, opened, heap_in}
 use Rattle.heap_system.specs.Naming.{renamed}
-use Rattle.heap_system.specs.Units.{passes, is_unit, turn_blackens, turn_passes, units_made, blacks_made, passes_made, blackens}
+use Rattle.heap_system.specs.Units.{passes, is_unit, turn_blackens, turn_passes, units_made, made_by, decides, blacks_made, passes_made, blackens}
 use Rattle.heap_system.proofs.Growing.{part_grows, part_stays}
 use Rattle.heap_system.proofs.Kept.{Kept}
 use Rattle.heap_system.proofs.LawsOf.{laws_of}
 use Rattle.heap_system.proofs.Paying.{works_append}
-use Rattle.heap_system.proofs.Seeing.{told_by}
+use Rattle.heap_system.proofs.Seeing.{told_by, IsDecided}
 use Rattle.heap_system.proofs.Turning.{seen, at_part, local_new, paid_new, word_is, word_here, new_run, next_is, event}
 use Rattle.heap_system.proofs.Always.{here, opening_kept, turn_kept}
 
@@ -30,15 +30,16 @@ split false p (inl e) = rw e refl
 split true p (inr e) = rw e refl
 split false p (inr e) = rw e refl
 
--- the works of thread t's entries, and its units for the command in hand
-abbrev pub made_by : Config → ℕ → Run → ℕ
-made_by c t r = works (part t r.order) + (local_at c r.state t).spent
-
 pub cond_no : {A : Type 0} (b : Bool) (x y : A) → b ≡ false → cond b x y ≡ y
 cond_no b x y e = rw e refl
 
 pub cond_yes : {A : Type 0} (b : Bool) (x y : A) → b ≡ true → cond b x y ≡ x
 cond_yes b x y e = rw e refl
+
+decided_is : (v : Verdict) → is_decided v ≡ true → IsDecided v
+decided_is Open is = absurd cc
+decided_is AsStep is = tt
+decided_is (Refused reply) is = tt
 
 -- a turn without an event changes nothing
 pub idle_next : (c : Config) (u : ℕ) (r : Run) → has_event c u r.state ≡ false → next c u r ≡ r
@@ -138,3 +139,17 @@ module _ (c : Config) (traces : List (List Command)) (job : IsJob c traces) wher
 
   pub run_units : (ts : List ℕ) (r : Run) (is : IsRunOf c traces ts r) (t : ℕ) → t < c.threads → units_made c t (opened c is.first) ts ≡ blacks_made c t (opened c is.first) ts + passes_made c t (opened c is.first) ts
   run_units ts r is t tl = turns_are ts (opened c is.first) (opening_kept c traces job is.first is.opening) t tl
+
+-- a turn decides a command only where all that it owes was made
+pub decided_owed : (c : Config) (traces : List (List Command)) → IsJob c traces → (r : Run) → Kept c traces r → (t : ℕ) → t < c.threads → decides c t r.state ≡ true → (local_at c r.state t).spent ≡ owed (local_at c r.state t)
+decided_owed c traces job r kept t tl decided = elim (cases_Bool (is_done (local_at c r.state t))) [
+  | inl done ↦ absurd (let none : decides c t r.state ≡ false = rw (lt-ltb t c.threads tl, done) refl in cc)
+  | inr going ↦
+      let l = local_at c r.state t in
+      let w = word_here c traces (laws_of c) job.bounds.config job.plan r kept t tl in
+      let some : has_event c t r.state ≡ true = rw (lt-ltb t c.threads tl, going) refl in
+      let is : is_decided (effect c l.part w).verdict ≡ true =
+      sym (ap (λ x. is_decided (effect c l.part x).verdict) (word_is c traces (laws_of c) job.bounds.config job.plan r kept t tl))
+      ∙ sym (ap (λ b. cond b (is_decided (next_effect c r.state t).verdict) false) some) ∙ decided in
+      (event c traces (laws_of c) job.bounds.config job.plan r kept t tl going).exact (decided_is (effect c l.part w).verdict is)
+]

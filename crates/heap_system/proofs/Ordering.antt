@@ -33,13 +33,15 @@ use Rattle.heap_system.specs.declared.orders.KeptOrder.{KeptOrder}
 use Rattle.heap_system.specs.Ordering.{ordered, ordered_of, IsOrderOf, IsOrderIn, IsInOrder}
 use Rattle.heap_system.specs.Pictures.{waiting}
 use Rattle.heap_system.specs.Systems.{Ordered, opening_order, entry_item, start_item, items_by_effect, items_added, after_event, ordered_after, commands_in, traces_of, logs_of, items_kept, AllDone, IsReached, IsReachedInOrder, IsFinishedInOrder}
+use Rattle.heap_system.specs.Units.{made_by}
 use Rattle.heap_system.proofs.Always.{here, run_kept, turn_kept}
 use Rattle.heap_system.proofs.Bounded.{in_threads, least, by_thread}
+use Rattle.heap_system.proofs.Finishing.{all_done, done_run, logged_all}
 use Rattle.heap_system.proofs.Growing.{part_grows}
 use Rattle.heap_system.proofs.Kept.{Kept}
 use Rattle.heap_system.proofs.LawsOf.{laws_of}
-use Rattle.heap_system.proofs.Making.{made_by, turn_makes}
-use Rattle.heap_system.proofs.Reached.{reached_kept, turned_reached, turned_traces, turn_facts, all_done, done_run, logged_all}
+use Rattle.heap_system.proofs.Making.{turn_makes}
+use Rattle.heap_system.proofs.Reached.{reached_kept, turned_reached, turned_traces, turn_facts}
 use Rattle.heap_system.proofs.Seeing.{told_by}
 use Rattle.heap_system.proofs.Starting.{opened_traces, opened_reached}
 use Rattle.heap_system.proofs.TalliesOf.{tallies_of}

@@ -168,7 +168,7 @@ pub command_small : (l : LocalState) → IsLocal l → blocks_of l.config.width 
 command_small l k = blocks_low l.config (command_of l) (command_fits l k)
 
 -- the serial of the object that it would make
-pub serial_low : (l : LocalState) → IsLocal l → (k : Command) → k ≡ command_of l → makes_object k ≡ true → l.made + 1 ≤ 131072
+pub serial_low : (l : LocalState) → IsLocal l → (k : Command) → k ≡ command_of l → makes_object k ≡ true → l.made + 1 < 2 ^ 43
 serial_low l is k same makes =
     let one : bit (makes_object (command_of l)) ≡ 1 = ap bit (ap makes_object (sym same) ∙ makes) in
     omega (arith, is.made, objects_next l, one)
@@ -179,7 +179,7 @@ module _ (l : LocalState) (k : IsLocal l) (low : length l.log < length l.trace) 
   thread : IsThread l.config p.thread
   thread = subst (λ t. IsThread l.config t) (sym mine) (thread_is l k)
 
-  serial : makes_object (command_of l) ≡ true → l.made + 1 ≤ 131072
+  serial : makes_object (command_of l) ≡ true → l.made + 1 < 2 ^ 43
   serial makes = serial_low l k (command_of l) refl makes
 
   build_fits : makes_object (command_of l) ≡ true → PartFits l.config (length l.log) (length l.trace) p (Build (building l.config.width p.thread p.threads p.cycle (l.made + 1) (command_of l) l.space))

@@ -187,7 +187,7 @@ pub record Seen (c : Config) : Type 0 where
   pub low : thread < c.threads
   pub inside : IsCommandInBounds c command
   pub count : made ≡ count_of graph thread
-  pub few : made + bit (makes_object command) ≤ 131072
+  pub few : made + bit (makes_object command) < 2 ^ 43
   pub room : c.object ≤ space
   pub free : makes_object command ≡ false → due ≡ units_told command
   pub account : balance.paid ≡ paid_part (units_told command) spent

@@ -1,5 +1,5 @@
 -- What a thread may be asked in its whole life.
-use Rattle.std.specs.Prelude.{ℕ, ◌+◌, ◌^◌, ◌≤◌, ◌≡◌, zero, suc, List, [], ◌∷◌, length}
+use Rattle.std.specs.Prelude.{ℕ, ◌+◌, ◌-◌, ◌^◌, ◌≤◌, ◌≡◌, zero, suc, List, [], ◌∷◌, length}
 use Rattle.std.specs.List.{AllByRecursion}
 use Rattle.block_store.specs.declared.Config.{Config}
 use Rattle.block_store.specs.Configs.{IsInBounds}
@@ -26,7 +26,7 @@ abbrev pub most_units : ℕ
 most_units = 2 ^ 45
 
 abbrev pub most_objects : ℕ
-most_objects = 131072
+most_objects = 2 ^ 43 - 1
 
 abbrev pub most_commands : ℕ
 most_commands = 2 ^ 60
@@ -36,8 +36,8 @@ pub record AreCommands (c : Config) (trace : List Command) : Type 0 where
   pub few : length trace ≤ most_commands
   pub commands : AllByRecursion (IsCommandInBounds c) trace
 
--- A life: what its commands owe at the configuration's rate is at most 2^45 units, and at most
--- 131,072 of them make an object. Of the others there may be any number.
+-- A life: what its commands owe at the configuration's rate is at most 2^45 units, and fewer than
+-- 2^43 of them make an object. Of the others there may be any number.
 pub record IsLife (c : Config) (trace : List Command) : Type 0 where
   pub asked : AreCommands c trace
   pub units : (rate : ℕ) → IsRate c rate → sum_after (units_owed c.width rate) 0 trace ≤ most_units

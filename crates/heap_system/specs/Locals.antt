@@ -269,6 +269,11 @@ pub data Verdict : Type 0 where
   AsStep : Verdict
   Refused : (reply : Reply) → Verdict
 
+abbrev pub is_decided : Verdict → Bool
+is_decided Open = false
+is_decided AsStep = true
+is_decided (Refused reply) = true
+
 abbrev pub if_decides : Bool → Verdict
 if_decides b = if b then AsStep else Open
 

@@ -5,9 +5,9 @@ use Rattle.never_heap.specs.declared.Command.{Command}
 use Rattle.never_heap.specs.declared.Entry.{Entry}
 use Rattle.never_heap.specs.declared.Item.{Item}
 use Rattle.never_heap.specs.declared.Item.TheVariants as items
-use Rattle.never_heap.specs.Histories.{Legal, HasTraces, parts, starts_in, work_in}
+use Rattle.never_heap.specs.Histories.{parts, starts_in, work_in}
 use Rattle.never_heap.specs.Orders.{item_of, IsHistoryOf}
-use Rattle.never_heap.specs.RightWork.{RightWork}
+use Rattle.never_heap.specs.Runs.{IsRun}
 use Rattle.rate_plan.specs.Rates.{IsRate}
 use Rattle.heap_system.specs.Locals.{LocalState, Effect, Verdict, Open, AsStep, Refused, is_done, works}
 use Rattle.heap_system.specs.Machines.{State, local_at, next_effect, has_event, Run, opened, IsJob, IsRunOf}
@@ -103,10 +103,9 @@ units_of [] = 0
 units_of (log ∷ logs) = works log + units_of logs
 
 -- The logs are the parts of the order of some list of turns after which all threads are done, and
--- the cycles are its starts. The order is legal, its parts are the traces, whole, and each of its
--- entries has the work that its command owes. The work of each entry of a log is the units that the
--- turns of its thread made for its command, the works of a log are all that they made, and those of
--- all logs the work of the order.
+-- the cycles are its starts. The order is a run of the traces, at the rate of the configuration.
+-- The work of each entry of a log is the units that the turns of its thread made for its command,
+-- the works of a log are all that they made, and those of all logs the work of the order.
 pub record IsFinished (c : Config) (traces : List (List Command)) (logs : List (List Entry))
     (cycles : ℕ) : Type 0 where
   pub turns : List ℕ
@@ -116,10 +115,8 @@ pub record IsFinished (c : Config) (traces : List (List Command)) (logs : List (
   pub done : AllDone c run.state
   pub logged : logs ≡ logs_of run.state
   pub parts_logged : logs ≡ parts c.threads run.order
-  pub legal : Legal c run.order
-  pub traces_whole : HasTraces traces run.order
+  pub is_run : (rate : ℕ) → IsRate c rate → IsRun c rate traces run.order
   pub starts : cycles ≡ starts_in run.order
-  pub right_work : (rate : ℕ) → IsRate c rate → RightWork c.width rate run.order
   pub made : (t : ℕ) → t < c.threads → works (slice_index_or logs t [])
       ≡ units_made c t (opened c by_turns.first) turns
   pub each : (t : ℕ) → t < c.threads

@@ -7,12 +7,13 @@ use Rattle.block_store.specs.Heaps.{Heap}
 use Rattle.block_store.specs.Phases.{bit, cycle_of}
 use Rattle.block_store.specs.Places.{Place, Phase, ColourOf}
 use Rattle.never_heap.specs.declared.Entry.{Entry}
+use Rattle.never_heap.specs.Histories.{part}
 use Rattle.never_heap.specs.RightWork.{units_owed}
 use Rattle.heap_machine.specs.Operations.{Operation, place_of, heap_after}
 use Rattle.heap_system.specs.declared.local.Part.{Part}
 use Rattle.heap_system.specs.declared.local.Part.TheVariants.{Sweep}
-use Rattle.heap_system.specs.Locals.{part_want, makes_unit}
-use Rattle.heap_system.specs.Machines.{State, local_at, heap_in, word_read, has_event, Run, next}
+use Rattle.heap_system.specs.Locals.{part_want, makes_unit, is_decided, works}
+use Rattle.heap_system.specs.Machines.{State, local_at, local_in, heap_in, word_read, next_effect, has_event, Run, next}
 
 -- whether a place is the colour of a block, and of its words before and after the first is grey and
 -- the second black in cycle c
@@ -53,6 +54,15 @@ turns_that is c t r (u ∷ us) = (if u == t then bit (is t r.state) else 0)
 
 abbrev pub units_made : Config → ℕ → Run → List ℕ → ℕ
 units_made c = turns_that (is_unit c) c
+
+-- what thread t has made: the works of its commands in the order, and its units for the command in
+-- hand
+abbrev pub made_by : Config → ℕ → Run → ℕ
+made_by c t r = works (part t r.order) + (local_in c r t).spent
+
+-- whether a turn of thread t decides its command
+abbrev pub decides : Config → ℕ → State → Bool
+decides c t s = if has_event c t s then is_decided (next_effect c s t).verdict else false
 
 -- whether it makes a unit while its log has k entries: then that is for its k-th command, counted
 -- from 0

@@ -61,8 +61,8 @@ pub fn makes_object(command: Command) -> bool
 }
 
 /// How many objects are made after this reply to this command.
-pub fn made_after(made: u32, command: Command, reply: Reply) -> u32
-    requires { made < 2 ^ 31 }
+pub fn made_after(made: u64, command: Command, reply: Reply) -> u64
+    requires { made < 2 ^ 43 }
     ensures { result ≡ made_got command (Some reply) made }
 {
     let makes = makes_object(command);
@@ -73,8 +73,8 @@ pub fn made_after(made: u32, command: Command, reply: Reply) -> u32
 }
 
 // One more object, where it is so.
-fn one_more(made: u32, makes: bool) -> u32
-    requires { made < 2 ^ 31 }
+fn one_more(made: u64, makes: bool) -> u64
+    requires { made < 2 ^ 43 }
     ensures { result ≡ made + bit makes }
 {
     if makes { made + 1 } else { made }

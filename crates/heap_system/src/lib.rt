@@ -15,6 +15,7 @@ mod lone;
 #[cfg(test)]
 mod ordered;
 mod orders;
+mod payments;
 mod progress;
 mod replays;
 #[cfg(test)]
@@ -44,6 +45,7 @@ pub use laws::{
 };
 pub use local::Local;
 pub use orders::turns_add_their_items;
+pub use payments::turns_pay;
 pub use progress::{
     a_lone_allocation_ends_near_its_bound, a_lone_thread_ends_its_command,
     units_part_the_changes_of_a_lone_thread,

@@ -104,7 +104,7 @@ pub struct Local {
     // account; those of any other command are.
     spent: u64,
     // The objects made so far.
-    made: u32,
+    made: u64,
     // For how many blocks the room has capacity.
     space: usize,
     // The room for the blocks that are held while an object is built: empty, and a build has it.
@@ -233,7 +233,7 @@ fn turns_over<M: Memory>(
 impl Local {
     /// A thread at rest before its first command, with room for all entries of its log and for the
     /// blocks of the largest object. The configuration has a rate, the thread is one of it, and the
-    /// trace is one life: its commands are in bounds, owe at most 2^45 units, and at most 131,072
+    /// trace is one life: its commands are in bounds, owe at most 2^45 units, and fewer than 2^43
     /// of them make an object.
     ///
     /// # Errors

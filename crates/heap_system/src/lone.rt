@@ -47,12 +47,12 @@ fn says(logs: &Finished, number: u32, reply: Reply, work: u64) -> bool {
 }
 
 // The reply to the allocation that makes this object.
-fn made(serial: u32) -> Reply {
+fn made(serial: u64) -> Reply {
     Reply::New(Name { thread: 0, serial })
 }
 
 // The reply that shows this object.
-fn shown(thread: u32, serial: u32) -> Reply {
+fn shown(thread: u32, serial: u64) -> Reply {
     Reply::Val(Value::Ref(Name { thread, serial }))
 }
 
@@ -233,7 +233,7 @@ fn blocks_are_given_again_and_again(rt: HostRuntime) -> Result<(), OutOfMemory> 
         };
         for number in 0..10_000_u32 {
             assert!(rt;
-                says(&logs, number, made(number + 1), 7),
+                says(&logs, number, made(u64::from(number) + 1), 7),
                 "command {number}"
             );
         }
@@ -264,7 +264,7 @@ fn no_old_value_shows_through(rt: HostRuntime) -> Result<(), OutOfMemory> {
         };
         for number in 0..80_u32 {
             assert!(rt;
-                says(&logs, 8 + 2 * number, made(3 + number), 7),
+                says(&logs, 8 + 2 * number, made(3 + u64::from(number)), 7),
                 "record {number}"
             );
             assert!(rt;
@@ -300,7 +300,10 @@ fn a_list_grows_as_long_as_it_may(rt: HostRuntime) -> Result<(), OutOfMemory> {
         return Ok(());
     };
     for round in 0..58_u32 {
-        assert!(rt; says(&logs, 3 * round, made(round + 1), 7), "round {round}");
+        assert!(rt;
+            says(&logs, 3 * round, made(u64::from(round) + 1), 7),
+            "round {round}"
+        );
         for number in [3 * round + 1, 3 * round + 2] {
             assert!(rt; says(&logs, number, Reply::Stored, 0), "round {round}");
         }

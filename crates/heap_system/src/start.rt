@@ -18,8 +18,8 @@ ghost use Rattle.heap_system.specs.Openings.{opening_colour, opening_heap};
 
 use array_trees::{blocks_of_array, child_of};
 use block_store::{
-    Colour, Config, OutOfMemory, Owner, Payload, PhaseWord, Places, REGISTERS, Shape, Width,
-    colour_word, owner_word, payload_word, phase_word, shape_word, white,
+    Colour, Config, OutOfMemory, Payload, PhaseWord, Places, REGISTERS, Shape, WideOwner, Width,
+    colour_word, payload_word, phase_word, shape_word, white, wide_word,
 };
 use heap_machine::Words;
 use std::alloc::Global;
@@ -170,13 +170,13 @@ fn owner_at(c: &Config, x: u32) -> u64
 {
     let registers = c.width.registers_end(c.threads);
     if x <= registers {
-        owner_word(Owner {
+        wide_word(WideOwner {
             thread: thread_of(c.width, x),
             serial: 0,
             ordinal: ordinal_of(c.width, x),
         })
     } else if x <= last_block(c) {
-        owner_word(Owner {
+        wide_word(WideOwner {
             thread: c.threads,
             serial: 0,
             ordinal: x - (registers + 1),

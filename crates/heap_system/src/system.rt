@@ -171,7 +171,7 @@ fn ordered_event(
 impl System {
     /// The system of a configuration that has a rate, with a trace for each thread: the opening
     /// words, and each thread at rest. A trace is one life: its commands are in bounds, owe at most
-    /// 2^45 units, and at most 131,072 of them make an object. What the threads do from then on
+    /// 2^45 units, and fewer than 2^43 of them make an object. What the threads do from then on
     /// takes no memory.
     ///
     /// # Errors

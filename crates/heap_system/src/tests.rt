@@ -303,7 +303,7 @@ fn blackened(alloc: Global, system: &mut System) -> Result<Vec<usize>, OutOfMemo
 }
 
 // The reply to an allocation that makes the object of this serial.
-fn made(thread: u32, serial: u32) -> Option<Reply> {
+fn made(thread: u32, serial: u64) -> Option<Reply> {
     Some(Reply::New(Name { thread, serial }))
 }
 

@@ -1,5 +1,5 @@
 -- What the commands of a historian take of the heap's life.
-use Rattle.std.proofs.Common.{◌≡◌, ℕ, ◌+◌, ◌*◌, ◌%◌, ◌^◌, ◌<◌, ◌≤◌, inl, inr, List, [], ◌∷◌, length, sym, ap, ◌∙◌, subst, arith}
+use Rattle.std.proofs.Common.{◌≡◌, ℕ, ◌+◌, ◌*◌, ◌-◌, ◌%◌, ◌^◌, ◌<◌, ◌≤◌, inl, inr, List, [], ◌∷◌, length, sym, ap, ◌∙◌, subst, arith}
 use Rattle.std.proofs.lemmas.Nat.{mul-le}
 use Rattle.std.specs.List.{AllByRecursion}
 use Rattle.std.proofs.lemmas.Bool.{cases_Bool}
@@ -77,8 +77,8 @@ fetched_objects h new i f took = took.objects
 low_rate : (rate : ℕ) → IsRate heap_config rate → rate ≤ 512
 low_rate rate is_rate = is_rate.least 512 (omega arith) (omega arith)
 
-few_units : (rate n : ℕ) → rate ≤ 512 → n ≤ life → rate * n ≤ 2 ^ 27
-few_units rate n low few = omega (arith, mul-le rate n 512 131072 low few)
+few_units : (rate n : ℕ) → rate ≤ 512 → n ≤ life → rate * n ≤ 2 ^ 41
+few_units rate n low few = omega (arith, mul-le rate n 512 (2 ^ 32) low few)
 
 module _ (l : Limits) (xs : List ℕ) (h : Control) (k : Holds h l xs) (few : asked h < 2 ^ 40) where
   -- the life has room for a reading more
@@ -107,7 +107,7 @@ module _ (l : Limits) (xs : List ℕ) (h : Control) (k : Holds h l xs) (few : as
     units = λ rate is_rate. units_fit rate (subst (λ c. IsRate c rate) k.config is_rate);
   }
     where
-      objects : h.objects + 1 ≤ 131072
+      objects : h.objects + 1 ≤ 2 ^ 43 - 1
       objects = omega (arith, k.objects, inside)
 
       units_fit : (rate : ℕ) → IsRate heap_config rate
@@ -138,7 +138,7 @@ module _ (l : Limits) (xs : List ℕ) (h : Control) (k : Holds h l xs) (few : as
     units = λ rate is_rate. units_fit rate (subst (λ c. IsRate c rate) k.config is_rate);
   }
     where
-      objects : h.objects + 0 ≤ 131072
+      objects : h.objects + 0 ≤ 2 ^ 43 - 1
       objects = omega (arith, k.objects, inside)
 
       units_fit : (rate : ℕ) → IsRate heap_config rate

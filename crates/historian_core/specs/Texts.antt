@@ -9,7 +9,7 @@ use Rattle.historian_core.specs.Windows.{told_lines}
 
 -- how many readings a heap keeps in its life
 abbrev pub life : ℕ
-life = 131072
+life = 2 ^ 32
 
 -- the reading that a line spells: a number below 2^32
 unfoldable pub reading_at : List ℕ → Option ℕ

@@ -27,7 +27,7 @@ use trace_text::{Failed, LineBuffer, Sink};
 pub const KEPT: u64 = 40;
 
 /// How many readings a heap keeps in its life.
-pub const LIFE: u64 = 131_072;
+pub const LIFE: u64 = 1 << 32;
 
 /// The heap: no more than 64 of its 256 blocks are ever live.
 const HEAP: Config = Config {

@@ -138,7 +138,7 @@ module _ (c : Config) (s : KeptState) (k : IsKept c s) where
   pub reserves : (t : ℕ) (kind : ObjectKind) (size : ℕ) → Guard c s (Reserve t kind size)
       → IsKept c (apply c s (Reserve t kind size))
   reserves t kind size q = rebuilt t (reserved c s t kind size) w refl
-      (begins c.width c.threads c.blocks s.cycle s.colour w (next_name g t) kind size q.3 q.2)
+      (begins c.width c.threads c.blocks s.cycle s.colour w (next_name g t) kind size q.3 q.2 q.4)
       (λ v d vn _ is. build_of c s k v d vn is)
       (λ d o is. (let z : None ≡ Some d = sym q.1 ∙ is in cc))
       (shown c s k) (λ x j some low jl. refl) k.sweeping

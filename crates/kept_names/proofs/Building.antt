@@ -1,5 +1,5 @@
 -- What a builder's own events make of its build.
-use Rattle.std.proofs.Common.{◌≡◌, ℕ, suc, ◌+◌, ◌≤◌, ◌<◌, ◌⊎◌, inl, inr, true, refl, arith, subst, sym, ap, ◌∙◌, eq-eqb, ne_eqb}
+use Rattle.std.proofs.Common.{◌≡◌, ℕ, suc, ◌+◌, ◌≤◌, ◌<◌, ◌⊎◌, inl, inr, true, refl, arith, subst, sym, ap, ◌∙◌, eq-eqb, ne_eqb, ◌^◌}
 use Rattle.std.proofs.lemmas.Bool.{cases_eq}
 use Rattle.block_store.specs.declared.Name.{Name}
 use Rattle.block_store.specs.declared.Width.{Width}
@@ -35,8 +35,8 @@ other_shape W w x v y ne = record {
 
 -- nothing is held yet
 pub begins : (W : Width) (n m cycle : ℕ) (colour : ℕ → ℕ) (w : BlockWords) (name : Name)
-    (kind : ObjectKind) (size : ℕ) → layout_blocks W kind size ≤ 1024 → name.serial ≤ 131072
-    → IsBuild W n m cycle colour w
+    (kind : ObjectKind) (size : ℕ) → layout_blocks W kind size ≤ 1024 → name.serial < 2 ^ 43
+    → name.thread ≤ 16 → IsBuild W n m cycle colour w
     (record {
       name = name;
       kind = kind;
@@ -46,7 +46,7 @@ pub begins : (W : Width) (n m cycle : ℕ) (colour : ℕ → ℕ) (w : BlockWord
       left = layout_blocks W kind size;
       step = 0;
     })
-begins W n m cycle colour w name kind size few serial = record {
+begins W n m cycle colour w name kind size few serial thread = record {
   behind = λ o ol. absurd (omega arith);
   within = λ o ol. absurd (omega arith);
   free = λ o ol lo. absurd (omega arith);
@@ -61,6 +61,7 @@ begins W n m cycle colour w name kind size few serial = record {
   few_left = omega arith;
   phase = inr (refl, refl);
   few_blocks = few;
+  thread = thread;
   serial = serial;
 }
 
@@ -89,6 +90,7 @@ module _ (W : Width) (n m cycle : ℕ) (colour : ℕ → ℕ) (w : BlockWords) (
         few_left = k.few_left;
         phase = inr early;
         few_blocks = k.few_blocks;
+        thread = k.thread;
         serial = k.serial;
       }
     where
@@ -127,6 +129,7 @@ module _ (W : Width) (n m cycle : ℕ) (colour : ℕ → ℕ) (w : BlockWords) (
       some = k.some;
       few_left = k.few_left;
       few_blocks = k.few_blocks;
+      thread = k.thread;
       serial = k.serial;
       phase = inl full;
       written = λ p lo hi. other_written u p lo hi (same (b.held p) (apart p lo hi));
@@ -178,6 +181,7 @@ module _ (W : Width) (n m cycle : ℕ) (colour : ℕ → ℕ) (w : BlockWords) (
       some = k.some;
       few_left = omega (arith, k.few_left);
       few_blocks = k.few_blocks;
+      thread = k.thread;
       serial = k.serial;
       phase = inl full;
       free = λ p pl lo. subst (λ z. is_free z ≡ true)

@@ -1,5 +1,5 @@
 -- The events of the example may come one after another, and lead to the next cycle.
-use Rattle.std.proofs.Common.{◌≡◌, ◌≢◌, ℕ, zero, suc, ◌≤◌, ◌<◌, inl, inr, Bool, true, false, ◌&&◌, ltb, refl, arith, subst, sym, ap, ◌∙◌, Option, Some, None, List, [], ◌∷◌, ◌++◌, take, ne_eqb, eqb, eqb-true, ◌+◌}
+use Rattle.std.proofs.Common.{◌≡◌, ◌≢◌, ℕ, zero, suc, ◌≤◌, ◌<◌, inl, inr, Bool, true, false, ◌&&◌, ltb, refl, arith, subst, sym, ap, ◌∙◌, Option, Some, None, List, [], ◌∷◌, ◌++◌, take, ne_eqb, eqb, eqb-true, ◌+◌, ◌^◌}
 use Rattle.std.proofs.lemmas.Bool.{cases_lt, and_parts, ltb-true, lt-leb, le-leb}
 use Rattle.block_store.specs.declared.Config.{Config}
 use Rattle.block_store.specs.declared.Value.TheVariants.{Ref}
@@ -7,7 +7,7 @@ use Rattle.block_store.specs.declared.Width.{Width}
 use Rattle.block_store.specs.declared.Width.TheVariants.{Four, Eight}
 use Rattle.block_store.specs.Colours.{kind, is_free, is_grey, free_word, grey_word, black_word, white_word}
 use Rattle.block_store.specs.Configs.{IsInBounds}
-use Rattle.block_store.specs.Owners.{owner_word}
+use Rattle.block_store.specs.WideOwners.{wide_word}
 use Rattle.block_store.specs.Payloads.{target, reference_word, number_word}
 use Rattle.block_store.specs.Registers.{root_block, registers_end}
 use Rattle.block_store.specs.Widths.{payloads}
@@ -138,7 +138,7 @@ bounds W = record {
 }
 
 opens : (W : Width) → opening_blocks (one_thread W) ≡ array_block W
-unfolding target reference_word number_word owner_word kind grey_word free_word black_word
+unfolding target reference_word number_word wide_word kind grey_word free_word black_word
     white_word tree tree_depth record_word shape_of
 opens Four = refl
 opens Eight = refl
@@ -147,7 +147,7 @@ pub room : (W : Width) → opening_blocks (one_thread W) ≤ 20
 room W = let low = (array_within W).1 in omega (arith, opens W, low)
 
 pub first_are : (W : Width) → OpeningColours (one_thread W) (first_colours W)
-unfolding target reference_word number_word owner_word kind grey_word free_word black_word
+unfolding target reference_word number_word wide_word kind grey_word free_word black_word
     white_word tree tree_depth record_word shape_of
 first_are W = record {
   roots = only_zero (λ t. is_grey (first_colours W (root_block W t)) ≡ true) (rw (one_root W) refl);
@@ -209,8 +209,8 @@ may W s (ShadeRead t a) =
 may W s (Blacken x) = is_bool s.sweep false & is_bool (is_grey (s.colour x)) true
 may W s (Free x a) = is_bool s.sweep true & equal (s.colour x) (white_word s.cycle)
 may W s (Reserve t made size) =
-    four (below t 1) (is_none (s.builds t)) (at_most (count_of s.seen.graph t + 1) 131072)
-    (at_most (layout_blocks W made size) 1024)
+    five (below t 1) (is_none (s.builds t)) (below (count_of s.seen.graph t + 1) (2 ^ 43))
+    (at_most (layout_blocks W made size) 1024) (at_most t 16)
 may W s (Collect t x) =
     three (builds s t) (below (build_at s t).collected (build_blocks W (build_at s t)))
     (three (below (registers_end W 1) x) (at_most x 20) (is_bool (is_free (s.colour x)) true))
@@ -244,7 +244,7 @@ gives_up : (W : Width) → Guard (one_thread W) (example_start W) give_up
 gives_up W = ((omega arith, omega arith, refl, tt), (omega arith, refl, inl refl), refl, refl)
 
 marking : (W : Width) → Guarded (one_thread W) (example_start W) (mark_events W)
-unfolding target reference_word number_word owner_word kind grey_word free_word black_word
+unfolding target reference_word number_word wide_word kind grey_word free_word black_word
     white_word tree tree_depth record_word shape_of
 marking Four = gives_up Four ▸ decided (marking_on Four) refl
 marking Eight = gives_up Eight ▸ decided (marking_on Eight) refl
@@ -257,7 +257,7 @@ marks Eight = (3, black_word 1) ∷ (2, black_word 1) ∷ (1, black_word 1) ∷ 
     (2, grey_word 0) ∷ []
 
 marked_far : (W : Width) (x : ℕ) → 9 ≤ x → (marked W).colour x ≡ free_word 0
-unfolding target reference_word number_word owner_word kind grey_word free_word black_word
+unfolding target reference_word number_word wide_word kind grey_word free_word black_word
     white_word tree tree_depth record_word shape_of
 marked_far Four x m = far (marks Four) (first_colours Four) 9 x refl m ∙ first_far Four x m
 marked_far Eight x m = far (marks Eight) (first_colours Eight) 9 x refl m ∙ first_far Eight x m
@@ -267,13 +267,13 @@ greys W = each_below (λ x. is_grey ((marked W).colour x) ≡ false) 9
     (λ x. is_bool (is_grey ((marked W).colour x)) false)
 
 low_grey : (W : Width) (x : ℕ) → x < 9 → is_grey ((marked W).colour x) ≡ false
-unfolding target reference_word number_word owner_word kind grey_word free_word black_word
+unfolding target reference_word number_word wide_word kind grey_word free_word black_word
     white_word tree tree_depth record_word shape_of
 low_grey Four = decided (greys Four) refl
 low_grey Eight = decided (greys Eight) refl
 
 none_grey : (W : Width) (x : ℕ) → is_grey ((marked W).colour x) ≡ false
-unfolding target reference_word number_word owner_word kind grey_word free_word black_word
+unfolding target reference_word number_word wide_word kind grey_word free_word black_word
     white_word tree tree_depth record_word shape_of
 none_grey W x = elim (cases_lt x 9) [
   | inl low ↦ low_grey W x low
@@ -297,7 +297,7 @@ solid W = each_below (λ x. (j : ℕ) → j < payloads W → IsSolid W x j) 9
     (unequal ((marked W).colour (target ((marked W).seen.words.payload x j))) (white_word 1)))))
 
 low_solid : (W : Width) (x : ℕ) → x < 9 → (j : ℕ) → j < payloads W → IsSolid W x j
-unfolding target reference_word number_word owner_word kind grey_word free_word black_word
+unfolding target reference_word number_word wide_word kind grey_word free_word black_word
     white_word tree tree_depth record_word shape_of
 low_solid Four = decided (solid Four) refl
 low_solid Eight = decided (solid Eight) refl
@@ -321,7 +321,7 @@ abbrev building_on : (W : Width)
 building_on W = may_all W (apply (one_thread W) (marked W) Flip) (rest (build_events W))
 
 building : (W : Width) → Guarded (one_thread W) (marked W) (build_events W)
-unfolding target reference_word number_word owner_word kind grey_word free_word black_word
+unfolding target reference_word number_word wide_word kind grey_word free_word black_word
     white_word tree tree_depth record_word shape_of
 building Four =
     (refl, alone Four (marked Four) refl refl refl, none_grey Four, tricolour Four)
@@ -351,7 +351,7 @@ built_marks Eight = (1, grey_word 0) ∷ (4, black_word 1) ∷ (5, black_word 1)
     (2, grey_word 0) ∷ []
 
 shaded_far : (W : Width) (x : ℕ) → 9 ≤ x → (shaded W).colour x ≡ free_word 0
-unfolding target reference_word number_word owner_word kind grey_word free_word black_word
+unfolding target reference_word number_word wide_word kind grey_word free_word black_word
     white_word tree tree_depth record_word shape_of
 shaded_far Four x m = far (built_marks Four) (first_colours Four) 9 x refl m ∙ first_far Four x m
 shaded_far Eight x m = far (built_marks Eight) (first_colours Eight) 9 x refl m
@@ -362,7 +362,7 @@ whites W = each_below (λ x. (shaded W).colour x ≢ white_word 1) 9
     (λ x. unequal ((shaded W).colour x) (white_word 1))
 
 low_white : (W : Width) (x : ℕ) → x < 9 → (shaded W).colour x ≢ white_word 1
-unfolding target reference_word number_word owner_word kind grey_word free_word black_word
+unfolding target reference_word number_word wide_word kind grey_word free_word black_word
     white_word tree tree_depth record_word shape_of
 low_white Four = decided (whites Four) refl
 low_white Eight = decided (whites Eight) refl
@@ -517,7 +517,7 @@ at_first W s object refers read field = record {
 }
 
 putting : (W : Width) → Guarded (one_thread W) (built W) (put_events W)
-unfolding target reference_word number_word owner_word kind grey_word free_word black_word
+unfolding target reference_word number_word wide_word kind grey_word free_word black_word
     white_word tree tree_depth record_word shape_of
 putting Four = putting_on Four (built Four) refl (λ e. omega arith) refl
     (at_first Four (state_at Four (built Four) (put_events Four) 3)
@@ -543,7 +543,7 @@ abbrev exchanged : Width → KeptState
 exchanged W = run (one_thread W) (compared W) (swap_events W)
 
 nil_swapping : (W : Width) → Guarded (one_thread W) (started W) (nil_swap_events W)
-unfolding target reference_word number_word owner_word kind grey_word free_word black_word
+unfolding target reference_word number_word wide_word kind grey_word free_word black_word
     white_word tree tree_depth record_word shape_of
 nil_swapping Four = nil_swapping_on Four (started Four) refl refl (λ e. omega arith) refl
     (at_first Four (state_at Four (started Four) (nil_swap_events Four) 3)
@@ -553,7 +553,7 @@ nil_swapping Eight = nil_swapping_on Eight (started Eight) refl refl (λ e. omeg
     refl refl refl refl) (inl refl, refl) ((λ e. omega arith), refl)
 
 reading : (W : Width) → Guarded (one_thread W) (nil_swapped W) (read_events W)
-unfolding target reference_word number_word owner_word kind grey_word free_word black_word
+unfolding target reference_word number_word wide_word kind grey_word free_word black_word
     white_word tree tree_depth record_word shape_of
 reading Four = reading_on Four (nil_swapped Four) refl (λ e. omega arith) refl
     (at_first Four (state_at Four (nil_swapped Four) (read_events Four) 4)
@@ -563,7 +563,7 @@ reading Eight = reading_on Eight (nil_swapped Eight) refl (λ e. omega arith) re
     refl refl refl refl) (inl refl, refl)
 
 comparing : (W : Width) → Guarded (one_thread W) (were_read W) (cas_events W)
-unfolding target reference_word number_word owner_word kind grey_word free_word black_word
+unfolding target reference_word number_word wide_word kind grey_word free_word black_word
     white_word tree tree_depth record_word shape_of
 comparing Four = comparing_on Four (were_read Four) refl (λ e. omega arith) refl
     (at_first Four (state_at Four (were_read Four) (cas_events Four) 4)
@@ -573,7 +573,7 @@ comparing Eight = comparing_on Eight (were_read Eight) refl (λ e. omega arith) 
     refl refl refl refl) (inl refl, refl)
 
 swapping : (W : Width) → Guarded (one_thread W) (compared W) (swap_events W)
-unfolding target reference_word number_word owner_word kind grey_word free_word black_word
+unfolding target reference_word number_word wide_word kind grey_word free_word black_word
     white_word tree tree_depth record_word shape_of
 swapping Four = swapping_on Four (compared Four) refl (λ e. omega arith) refl
     (at_first Four (state_at Four (compared Four) (swap_events Four) 3)

@@ -74,6 +74,7 @@ module _ (W : Width) (n m cycle : ℕ) (colour : ℕ → ℕ) (w : BlockWords) (
     few_left = k.few_left;
     phase = k.phase;
     few_blocks = k.few_blocks;
+    thread = k.thread;
     serial = k.serial;
     free = λ o ol lo. subst (λ z. is_free z ≡ true)
         (sym (changed_else colour x v (b.held o) (out o ol))) (k.free o ol lo);
@@ -92,6 +93,7 @@ module _ (W : Width) (n m cycle : ℕ) (colour : ℕ → ℕ) (w : BlockWords) (
     few_left = k.few_left;
     phase = k.phase;
     few_blocks = k.few_blocks;
+    thread = k.thread;
     serial = k.serial;
     written = λ o lo hi. (let a = same o (held_written o lo hi) in let q = k.written o lo hi in
         record {

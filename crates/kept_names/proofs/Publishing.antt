@@ -1,5 +1,5 @@
 -- The object that a thread has built gets its name, and a register refers to it.
-use Rattle.std.proofs.Common.{Bool, ◌≡◌, ℕ, ◌+◌, ◌-◌, ◌≤◌, ◌<◌, ◌⊎◌, inl, inr, true, false, cond, ◌||◌, [], ◌∷◌, ◌++◌, List, length, set, get_or, refl, arith, subst, sym, ap, ◌∙◌, Some, None, IfSome, eq-eqb, ne_eqb}
+use Rattle.std.proofs.Common.{Bool, ◌≡◌, ℕ, ◌+◌, ◌-◌, ◌≤◌, ◌<◌, ◌⊎◌, inl, inr, true, false, cond, ◌||◌, [], ◌∷◌, ◌++◌, List, length, set, get_or, refl, arith, subst, sym, ap, ◌∙◌, Some, None, IfSome, eq-eqb, ne_eqb, ◌^◌}
 use Rattle.std.proofs.lemmas.Bool.{cases_eq, cases_Bool, or_cases, or_left, or_right}
 use Rattle.block_store.specs.declared.Config.{Config}
 use Rattle.block_store.specs.declared.Name.{Name}
@@ -138,7 +138,7 @@ module _ (c : Config) (inside : IsInBounds c) (s : KeptState) (k : IsKept c s) (
   made = record {
     thread = building.0;
     few_threads = omega (arith, building.0, inside.threads);
-    serial = subst (λ (a : Name). a.serial ≤ 131072) title mine.serial;
+    serial = subst (λ (a : Name). a.serial < 2 ^ 43) title mine.serial;
     ordinals = mine.few_blocks;
     behind = λ o ol. mine.behind o (held_is o ol);
     within = λ o ol. mine.within o (held_is o ol);

@@ -7,7 +7,7 @@ use Rattle.block_store.specs.declared.Value.{Value}
 use Rattle.block_store.specs.declared.Width.{Width}
 use Rattle.block_store.specs.Colours.{is_free, is_grey, black_word}
 use Rattle.block_store.specs.Registers.{root_block}
-use Rattle.block_store.proofs.OwnerWords.{one_owner}
+use Rattle.block_store.proofs.WideWords.{one_wide}
 use Rattle.never_heap.specs.Graphs.{Graph, next_name, same_name}
 use Rattle.shown_graph.specs.Words.{BlockWords, value_word}
 use Rattle.shown_graph.specs.Shown.{IsValueOf, heads, Shows}
@@ -80,9 +80,9 @@ module _ (c : Config) (s : KeptState) (k : IsKept c s) where
           (k.painted.solid q.name q.ordinal q.kept q.low)
       either (inr h) =
           let build = build_of t b tn is in
-          let one = one_owner b.name.thread b.name.serial o q.name.thread q.name.serial q.ordinal
-          (omega (arith, build.serial)) (omega (arith, build.few_blocks, h.1))
-          (omega (arith, shown.numbered.serials q.name q.kept))
+          let one = one_wide b.name.thread b.name.serial o q.name.thread q.name.serial q.ordinal
+          build.thread (omega (arith, build.few_blocks, h.1))
+          (shown.numbered.threads q.name q.kept)
           (omega (arith, q.low, shown.numbered.ordinals q.name q.kept))
           (sym (build.written o h.0 h.1).owned ∙ ap w.owner (sym e ∙ q.is)
           ∙ (shown.written.blocks q.name q.ordinal q.kept q.low).owned) in

@@ -1,11 +1,11 @@
 -- What a thread builds: blocks that are Free, then written word by word from the last ordinal
 -- on, then black, and of no kept name. W is the width of the blocks, n the number of threads, m the
 -- last block.
-use Rattle.std.specs.Prelude.{ℕ, suc, ◌+◌, ◌<◌, ◌≤◌, ◌≡◌, ◌⊎◌, true, Option, Some, None}
+use Rattle.std.specs.Prelude.{ℕ, suc, ◌+◌, ◌<◌, ◌≤◌, ◌≡◌, ◌⊎◌, true, Option, Some, None, ◌^◌}
 use Rattle.block_store.specs.declared.Name.{Name}
 use Rattle.block_store.specs.declared.Width.{Width}
 use Rattle.block_store.specs.Colours.{is_free, black_word}
-use Rattle.block_store.specs.Owners.{owner_word}
+use Rattle.block_store.specs.WideOwners.{wide_word}
 use Rattle.block_store.specs.Registers.{registers_end}
 use Rattle.block_store.specs.Widths.{payloads}
 use Rattle.object_lists.specs.Parts.{link_in}
@@ -45,7 +45,7 @@ build_blocks W b = layout_blocks W b.kind b.size
 
 -- the words of ordinal o: its owner, its shape, and payload j
 abbrev pub build_owner : Build → ℕ → ℕ
-build_owner b o = owner_word b.name.thread b.name.serial o
+build_owner b o = wide_word b.name.thread b.name.serial o
 
 abbrev pub build_shape : Build → ℕ
 build_shape b = kind_word b.kind b.size
@@ -82,7 +82,8 @@ pub record IsBuild (W : Width) (n m cycle : ℕ) (colour : ℕ → ℕ) (w : Blo
   pub few_left : b.left ≤ build_blocks W b
   pub phase : (b.collected ≡ build_blocks W b) ⊎ ((b.left ≡ build_blocks W b) × (b.step ≡ 0))
   pub few_blocks : build_blocks W b ≤ 1024
-  pub serial : b.name.serial ≤ 131072
+  pub thread : b.name.thread ≤ 16
+  pub serial : b.name.serial < 2 ^ 43
 
 -- one of n builders has coloured block x
 pub record IsBuilt (W : Width) (n : ℕ) (builds : ℕ → Option Build) (x : ℕ) : Type 0 where

@@ -1,7 +1,7 @@
 -- The events that the rules see which need the graph, and when each may come. A guard says what
 -- the gate, the rules on grey and Free blocks, the sweep's claims and a thread's own row say at
 -- that event.
-use Rattle.std.specs.Prelude.{ℕ, suc, ◌+◌, ◌<◌, ◌≤◌, ◌≡◌, ◌≢◌, ◌==◌, ◌&&◌, Bool, true, false, Some, None, List, [], ◌∷◌, ◌++◌}
+use Rattle.std.specs.Prelude.{ℕ, suc, ◌+◌, ◌<◌, ◌≤◌, ◌≡◌, ◌≢◌, ◌==◌, ◌&&◌, Bool, true, false, Some, None, List, [], ◌∷◌, ◌++◌, ◌^◌}
 use Rattle.block_store.specs.declared.Config.{Config}
 use Rattle.block_store.specs.declared.TheConstants.{REGISTERS}
 use Rattle.block_store.specs.declared.Value.TheVariants.{Ref}
@@ -273,8 +273,8 @@ Guard c s Start =
     (s.sweep ≡ true) × IsAlone c s × ((x : ℕ) → s.colour x ≢ white_word s.cycle)
     × ((t : ℕ) → t < c.threads → s.shaded t ≡ true)
 Guard c s (Reserve t kind size) =
-    (t < c.threads) × (s.builds t ≡ None) × (count_of s.seen.graph t + 1 ≤ 131072)
-    × (layout_blocks c.width kind size ≤ 1024)
+    (t < c.threads) × (s.builds t ≡ None) × (count_of s.seen.graph t + 1 < 2 ^ 43)
+    × (layout_blocks c.width kind size ≤ 1024) × (t ≤ 16)
 Guard c s (Collect t x) =
     IsBuilding c s t × ((build_at s t).collected < build_blocks c.width (build_at s t))
     × IsFreeBlock c s x

@@ -150,7 +150,7 @@ impl Graph {
     {
         let object = Object::nils(self.alloc, kind, fields)?;
         let mutator = &mut self.mutators[thread as usize];
-        let serial = mutator.count() as u32 + 1;
+        let serial = mutator.count() as u64 + 1;
         mutator.add(object)?;
         let name = Name { thread, serial };
         mutator.set_register(d, Value::Ref(name));

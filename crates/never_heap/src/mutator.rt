@@ -73,7 +73,7 @@ impl Mutator {
     }
 
     // The object of a serial, which is at least 1.
-    pub(crate) fn object(&self, serial: u32) -> Option<&Object>
+    pub(crate) fn object(&self, serial: u64) -> Option<&Object>
         requires { 1 ≤ serial }
         ensures { option_copied result ≡ (if nat_le serial (length self.now.objects)
             then Some (object_at self.now serial) else None) }
@@ -93,7 +93,7 @@ impl Mutator {
     }
 
     // Field `i` of the object of a serial becomes this value.
-    pub(crate) fn put(&mut self, serial: u32, i: usize, value: Value)
+    pub(crate) fn put(&mut self, serial: u64, i: usize, value: Value)
         requires serial { (1 ≤ serial) × (serial ≤ length self.old.objects) }
         requires field { i < length (object_at self.old serial).fields }
         ensures registers { self.new.registers ≡ self.old.registers }

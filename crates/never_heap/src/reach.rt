@@ -13,7 +13,7 @@ use crate::marks::Marks;
 use block_store::{Name, OutOfMemory};
 
 // The names of the first objects of a thread, behind what the list has.
-fn push_names(list: &mut Vec<Name>, thread: u32, count: u32) -> Result<(), OutOfMemory>
+fn push_names(list: &mut Vec<Name>, thread: u32, count: u64) -> Result<(), OutOfMemory>
     requires { count ≤ 131072 }
     ensures names { OnOk result (list.new.items ≡ list.old.items ++ thread_names thread count) }
     ensures more { OnOk result (vec_len list.new ≡ vec_len list.old + count) }
@@ -38,7 +38,7 @@ impl Graph {
         };
         let mut list = vec![in self.alloc(); shared]?;
         for thread in 0..mutators.len() {
-            let count = mutators[thread].count() as u32;
+            let count = mutators[thread].count() as u64;
             push_names(&mut list, thread as u32, count)?;
         }
         Ok(list)

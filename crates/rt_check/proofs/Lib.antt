@@ -1,5 +1,6 @@
 pub mod Goodness
 pub mod Telling
+mod Settling
 pub mod Followed
 pub mod Judging
 pub mod Parting
@@ -10,3 +11,4 @@ pub mod Leading
 pub mod OneTaken
 pub mod OneAnswer
 pub mod Causes
+pub mod CarriedOut

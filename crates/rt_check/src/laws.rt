@@ -1,20 +1,20 @@
 //! Laws of the definitions.
 
-ghost use Rattle.std.specs.Prelude.{◌≡◌, ◌≤◌, ◌↔◌, ℕ, List, [], length, Option};
+ghost use Rattle.std.specs.Prelude.{◌≡◌, ◌≤◌, ◌↔◌, ◌⊎◌, ℕ, List, [], length, Option};
 ghost use Rattle.block_store.specs.declared.Config.{Config};
 ghost use Rattle.never_heap.specs.declared.Command.{Command};
 ghost use Rattle.never_heap.specs.Histories.{HistoryItem};
 ghost use Rattle.never_heap.specs.Runs.{IsRun};
 ghost use Rattle.trace_text.specs.Orders.{order_lines};
-ghost use Rattle.rt_check.specs.declared.refusal.Refusal.{Refusal};
+ghost use Rattle.call_exits.specs.declared.refusal.Refusal.{Refusal};
 ghost use Rattle.rt_check.specs.Answers.{IsAnswerTo};
 ghost use Rattle.rt_check.specs.Good.{IsGood, AreGood, FirstBad};
 ghost use Rattle.rt_check.specs.Taken.{IsTaken, AreTaken, FirstLeft};
 ghost use Rattle.trace_text.specs.Jobs.{Job, IsJobInBounds};
 
 /// The lines that are good to the end are those of a run in order. With at most 16 threads, as a
-/// job has, a line is good as one item at most, lines are good to the end or one of them is the
-/// first that is not, never both, and there is one such line at most.
+/// job has, a line is good as one item at most; and lines are good to the end, or one of them is
+/// the first that is not: one of the two, never both, and there is one such line at most.
 pub fn good_orders_are_runs()
     ensures runs { (c : Config) (rate : ℕ) (traces : List (List Command)) (lines : List (List ℕ))
         → AreGood c rate traces [] lines
@@ -22,6 +22,10 @@ pub fn good_orders_are_runs()
     ensures one { (c : Config) (rate : ℕ) (traces : List (List Command)) (past : List HistoryItem)
         (line : List ℕ) (i j : HistoryItem) → length traces ≤ 16
         → IsGood c rate traces past line i → IsGood c rate traces past line j → i ≡ j }
+    ensures settled { (c : Config) (rate : ℕ) (traces : List (List Command))
+        (lines : List (List ℕ)) → length traces ≤ 16
+        → AreGood c rate traces [] lines
+        ⊎ ((n : ℕ) × FirstBad c rate traces [] lines n) }
     ensures apart { (c : Config) (rate : ℕ) (traces : List (List Command)) (lines : List (List ℕ))
         (n : ℕ) → length traces ≤ 16
         → AreGood c rate traces [] lines → FirstBad c rate traces [] lines n → ⊥ }

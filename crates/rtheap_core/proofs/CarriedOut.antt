@@ -17,15 +17,14 @@ use Rattle.rtheap_core.specs.declared.refusal.Refusal.TheVariants.{Usage, BadLin
 use Rattle.rtheap_core.specs.declared.task.Task.{Task}
 use Rattle.rtheap_core.specs.declared.task.Task.TheVariants.{Run, Replay, Plan, Make, Trial}
 use Rattle.rtheap_core.specs.Calls.{Call, IsCarriedOut}
-use Rattle.rtheap_core.specs.Ends.{IsOfThreads}
-use Rattle.rtheap_core.specs.Exits.{Headline, IsReplay, IsWritten, Planned, Tried, IsDue, rate_text}
+use Rattle.rtheap_core.specs.Exits.{Headline, IsReplay, IsOfThreads, IsWritten, Planned, Tried, IsDue, rate_text}
 use Rattle.rtheap_core.specs.Generated.{generated_job}
 use Rattle.rtheap_core.specs.Outcomes.{HasRun, HasReplay, HasRate}
 use Rattle.rtheap_core.specs.Refusals.{IsCause, IsUnfailed, IsUntouched, status_of, refusal_line}
 use Rattle.rtheap_core.specs.Sides.{Sides}
 use Rattle.rtheap_core.specs.Tasks.{AsksFor, Ask, AskForRun, AskForJob, Runs}
 use Rattle.rtheap_core.proofs.Asked.{one_task}
-use Rattle.rtheap_core.proofs.Headlines.{headline_of, replay_of}
+use Rattle.rtheap_core.proofs.Headlines.{headline_of, of_threads, replay_of}
 
 -- what became of the writing
 pub record IsTold (c : Call) : Type 0 where
@@ -59,7 +58,8 @@ there o e is = subst (λ (x : Option RunEnd). IsSome x) (sym is) refl
 pub record IsOf (c : Call) : Type 0 where
   pub headline : IfSome c.exit.run (Headline c.source c.sink c.exit.status)
   pub run : IsSome c.exit.run ↔ (AskForRun c.words × (c.exit.due ≡ 0))
-  pub ran : AsksFor c.words Run → IfSome c.exit.run IsOfThreads
+  pub ran : AsksFor c.words Run
+      → IfSome c.exit.run (IsOfThreads c.source c.sink c.exit.status)
   pub replayed : (schedule : Schedule) (turns : ℕ) → AsksFor c.words (Replay schedule turns)
       → IfSome c.exit.run (IsReplay c.source c.sink c.exit.status schedule turns)
   pub planned : AsksFor c.words Plan → Planned c.source c.sink c.exit.status
@@ -110,7 +110,8 @@ run_is_carried_out c run asked has unfailed due is written t =
       headline = some_is (Headline c.source c.sink c.exit.status) c.exit.run (Ran run) is
           (headline_of c.source c.sink c.exit.status run has written);
       run = (λ _. ((Run, tt, asked), due), λ _. there c.exit.run (Ran run) is);
-      ran = λ _. some_is IsOfThreads c.exit.run (Ran run) is tt;
+      ran = λ _. some_is (IsOfThreads c.source c.sink c.exit.status) c.exit.run (Ran run) is
+          (of_threads c.source c.sink c.exit.status run has written);
       replayed = λ schedule turns a.
           no_other c.words Run (Replay schedule turns) (λ e. absurd cc) asked a;
       planned = λ a. no_other c.words Run Plan (λ e. absurd cc) asked a;
@@ -170,7 +171,7 @@ plan_is_carried_out c rate asked has unfailed due is written t =
     done_is_carried_out c Plan asked due unfailed t (λ n. absurd (n (Plan, tt, asked))) (record {
       headline = none_is (Headline c.source c.sink c.exit.status) c.exit.run is;
       run = not_run c Plan asked due is (λ r. r);
-      ran = λ a. none_is IsOfThreads c.exit.run is;
+      ran = λ a. none_is (IsOfThreads c.source c.sink c.exit.status) c.exit.run is;
       replayed = no_replay c Plan asked due is (λ r. r);
       planned = λ _. record {
         job = has.job;
@@ -192,7 +193,7 @@ make_is_carried_out c key lines asked untouched due is written t =
     done_is_carried_out c task asked due untouched.1 t (λ _. untouched) (record {
       headline = none_is (Headline c.source c.sink c.exit.status) c.exit.run is;
       run = not_run c task asked due is (λ r. r);
-      ran = λ a. none_is IsOfThreads c.exit.run is;
+      ran = λ a. none_is (IsOfThreads c.source c.sink c.exit.status) c.exit.run is;
       replayed = no_replay c task asked due is (λ r. r);
       planned = λ a. no_other c.words task Plan (λ e. absurd cc) asked a;
       made = λ k l a.
@@ -212,7 +213,7 @@ trial_is_carried_out c key lines asked untouched due is tried t =
     done_is_carried_out c task asked due untouched.1 t (λ _. untouched) (record {
       headline = none_is (Headline c.source c.sink c.exit.status) c.exit.run is;
       run = not_run c task asked due is (λ r. r);
-      ran = λ a. none_is IsOfThreads c.exit.run is;
+      ran = λ a. none_is (IsOfThreads c.source c.sink c.exit.status) c.exit.run is;
       replayed = no_replay c task asked due is (λ r. r);
       planned = λ a. no_other c.words task Plan (λ e. absurd cc) asked a;
       made = λ k l a. no_other c.words task (Make k l) (λ e. absurd cc) asked a;
@@ -298,7 +299,7 @@ refusal_is_carried_out c r due is cause unread line front t =
     record {
       headline = none_is (Headline c.source c.sink c.exit.status) c.exit.run is;
       run = (λ s. absurd (not_some c.exit.run is s), λ p. absurd (never_done r (sym due ∙ p.1)));
-      ran = λ _. none_is IsOfThreads c.exit.run is;
+      ran = λ _. none_is (IsOfThreads c.source c.sink c.exit.status) c.exit.run is;
       replayed = λ schedule turns _.
           none_is (IsReplay c.source c.sink c.exit.status schedule turns) c.exit.run is;
       planned = λ _ e. absurd (never_done r (sym due ∙ e));

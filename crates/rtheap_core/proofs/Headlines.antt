@@ -9,7 +9,7 @@ use Rattle.schedules.specs.declared.Schedule.{Schedule}
 use Rattle.trace_text.specs.Orders.{text_in_order}
 use Rattle.rtheap_core.specs.declared.exit.RunEnd.TheVariants.{Replayed, Ran}
 use Rattle.rtheap_core.specs.Ends.{HasHistory}
-use Rattle.rtheap_core.specs.Exits.{Headline, IsReplay, IsWritten}
+use Rattle.rtheap_core.specs.Exits.{Headline, IsReplay, IsOfThreads, IsWritten}
 use Rattle.rtheap_core.specs.Outcomes.{HasRun, HasReplay}
 use Rattle.rtheap_core.specs.Sides.{Sides}
 
@@ -24,7 +24,7 @@ text_of_run run r =
     ∙ ap (λ k. run_text (parts run.config.threads r.history) (starts_in r.history) k)
     (sym r.work_counted)
 
-pub headline_of : (source sink : Sides) (status : ℕ) (run : ClosedState)
+abbrev pub headline_of : (source sink : Sides) (status : ℕ) (run : ClosedState)
     → HasRun source (Ran run)
     → IsWritten sink status (run_text run.logs run.cycles (units_in run.logs))
     → Headline source sink status (Ran run)
@@ -34,6 +34,12 @@ headline_of source sink status run r w = record {
   ran = r.ran;
   text = subst (IsWritten sink status) (text_of_run run r.ran) w;
 }
+
+pub of_threads : (source sink : Sides) (status : ℕ) (run : ClosedState)
+    → HasRun source (Ran run)
+    → IsWritten sink status (run_text run.logs run.cycles (units_in run.logs))
+    → IsOfThreads source sink status (Ran run)
+of_threads source sink status run r w = (headline_of source sink status run r w, r.turns)
 
 pub replay_of : (source sink : Sides) (status : ℕ) (schedule : Schedule) (turns : ℕ) (f : Finish)
     → (r : HasReplay source schedule turns f)

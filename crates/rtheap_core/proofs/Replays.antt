@@ -12,7 +12,8 @@ use Rattle.never_heap.specs.Orders.{item_of, IsHistoryOf}
 use Rattle.heap_system.specs.Machines.{State, Run, next, after_turns, opened, heap_in, IsJob, IsOpening}
 use Rattle.heap_system.specs.Serials.{job_bound}
 use Rattle.heap_system.specs.Systems.{Finish, Whole, Ordered, AllDone, IsLeastUndone, IsReached, IsFinished, traces_of, logs_of, units_of, opening_order, ordered_after, items_kept}
-use Rattle.heap_system.proofs.Reached.{turned_traces, all_done, done_run, logged_all}
+use Rattle.heap_system.proofs.Finishing.{all_done, done_run, done_turns, logged_all}
+use Rattle.heap_system.proofs.Reached.{turned_traces}
 use Rattle.heap_system.proofs.Starting.{opened_traces}
 use Rattle.rate_plan.specs.Rates.{IsRate}
 use Rattle.schedules.specs.declared.Schedule.{Schedule}
@@ -22,21 +23,22 @@ use Rattle.schedules.specs.Schedules.{turns_of}
 use Rattle.trace_text.specs.Jobs.{Job}
 use Rattle.rtheap_core.specs.declared.exit.RunEnd.TheVariants.{Replayed}
 use Rattle.rtheap_core.specs.declared.trial.Totals.{Totals}
-use Rattle.rtheap_core.specs.Ends.{EndsIn, job_of, run_of}
+use Rattle.rtheap_core.specs.Ends.{EndsIn, EndsBy, job_of, run_of}
 use Rattle.rtheap_core.specs.Outcomes.{HasTotals}
 use Rattle.rtheap_core.specs.Refusals.{LeavesUndone}
 use Rattle.rtheap_core.specs.Outcomes as outcomes
 use Rattle.threaded_runs.specs.Ends.{commands_of}
-use Rattle.threaded_runs.proofs.Shown.{TurnLaws, has_history, history_is, traces_shown}
+use Rattle.threaded_runs.proofs.Shown.{TurnLaws, has_history, history_is, turned_is, traces_shown}
 
 after_traces : (c : Config) (r : Run) (ts : List ℕ)
     → traces_of (after_turns c r ts).state ≡ traces_of r.state
 after_traces c r [] = refl
 after_traces c r (t ∷ ts) = after_traces c (next c t r) ts ∙ turned_traces c t r.state
 
--- finished, with this run
-abbrev pub Shows : Run → Config → List (List Command) → List (List Entry) → ℕ → Type 0
-Shows r c traces logs cycles = (e : IsFinished c traces logs cycles) × (e.run ≡ r)
+-- finished, with this run and these turns
+abbrev pub Shows : Run → List ℕ → Config → List (List Command) → List (List Entry) → ℕ → Type 0
+Shows r ts c traces logs cycles =
+    (e : IsFinished c traces logs cycles) × (e.run ≡ r) × (e.turns ≡ ts)
 
 -- the state of a replay in which all threads are done
 module _ (c : Config) (traces : List (List Command)) (schedule : Schedule) (turns : ℕ) (r : Run)
@@ -61,19 +63,21 @@ module _ (c : Config) (traces : List (List Command)) (schedule : Schedule) (turn
     state = same;
   }
 
-  pub shows : Shows r c traces (logs_of s) (cycle_of (heap_in c s Phase))
+  abbrev made : List ℕ
+  made = turns_of schedule c is.first turns
+
+  pub shows : Shows r made c traces (logs_of s) (cycle_of (heap_in c s Phase))
   unfolding reached
-  shows = subst (λ xs. (e : IsFinished c xs (logs_of s) (cycle_of (heap_in c s Phase))) × (e.run ≡ r)) traces_are
-      (all_done c s reached done, done_run c s reached done)
+  shows = subst (λ xs. Shows r made c xs (logs_of s) (cycle_of (heap_in c s Phase))) traces_are
+      (all_done c s reached done, done_run c s reached done, done_turns c s reached done)
 
   -- by what a finished system shows
   module _ (f : Finish) (config : f.config ≡ c) (logs : f.logs ≡ logs_of s)
       (cycles : f.cycles ≡ cycle_of (heap_in c s Phase)) where
-    finished : (e : IsFinished c traces f.logs f.cycles) × (e.run ≡ r)
+    finished : Shows r made c traces f.logs f.cycles
     finished =
-        subst (λ k. (e : IsFinished c traces f.logs k) × (e.run ≡ r)) (sym cycles)
-        (subst (λ ls. (e : IsFinished c traces ls (cycle_of (heap_in c s Phase))) × (e.run ≡ r))
-        (sym logs) shows)
+        subst (λ k. Shows r made c traces f.logs k) (sym cycles)
+        (subst (λ ls. Shows r made c traces ls (cycle_of (heap_in c s Phase))) (sym logs) shows)
 
     whole : map commands_of f.logs ≡ traces
     whole = traces_shown c traces f.logs f.cycles finished.0
@@ -81,17 +85,19 @@ module _ (c : Config) (traces : List (List Command)) (schedule : Schedule) (turn
     pub job_is : (j : Job) → j ≡ record { config = c; traces = traces } → job_of (Replayed f) ≡ j
     job_is j e = (λ i. record { config = config i; traces = whole i }) ∙ sym e
 
-    by_parts : (e : IsFinished f.config (map commands_of f.logs) f.logs f.cycles) × (e.run ≡ r)
+    by_parts : Shows r made f.config (map commands_of f.logs) f.logs f.cycles
     by_parts =
-        subst (λ q. (e : IsFinished q (map commands_of f.logs) f.logs f.cycles) × (e.run ≡ r))
-        (sym config)
-        (subst (λ xs. (e : IsFinished c xs f.logs f.cycles) × (e.run ≡ r)) (sym whole) finished)
+        subst (λ q. Shows r made q (map commands_of f.logs) f.logs f.cycles) (sym config)
+        (subst (λ xs. Shows r made c xs f.logs f.cycles) (sym whole) finished)
 
-    ends : EndsIn (job_of (Replayed f)) schedule turns r
-    ends = subst (λ (j : Job). EndsIn j schedule turns r)
+    ends : EndsBy (job_of (Replayed f)) schedule turns r made
+    ends = subst (λ (j : Job). EndsBy j schedule turns r made)
         (sym (job_is (record { config = c; traces = traces }) refl)) (record {
-          replayed = is;
-          done = subst (AllDone c) same done;
+          ends = record {
+            replayed = is;
+            done = subst (AllDone c) same done;
+          };
+          made_is = refl;
         })
 
     logged : (t : ℕ) → part t r.order ≡ get_or f.logs t []
@@ -104,11 +110,14 @@ module _ (c : Config) (traces : List (List Command)) (schedule : Schedule) (turn
         let ran = has_history laws (run_of (Replayed f)) by_parts.0 in
         let same : ran.history ≡ r.order =
         history_is laws (run_of (Replayed f)) by_parts.0 ∙ ap (λ (q : Run). q.order) by_parts.1 in
+        let counted : ran.turned.turns ≡ made =
+        ap (λ (e : IsFinished f.config (map commands_of f.logs) f.logs f.cycles). e.turns)
+        (turned_is laws (run_of (Replayed f)) by_parts.0) ∙ by_parts.2 in
         record {
           ran = ran;
           replay = record {
             run = r;
-            ends = ends;
+            by = subst (EndsBy (job_of (Replayed f)) schedule turns r) (sym counted) ends;
             history_is = same;
             order = order ∙ ap (λ h. Some (map item_of h)) (sym same);
           };
@@ -125,7 +134,7 @@ module _ (c : Config) (traces : List (List Command)) (schedule : Schedule) (turn
           → turns ≤ job_bound x.config rate x.traces) (sym e) few;
       run = r;
       ends = subst (λ k. EndsIn j k turns r) serial
-          (subst (λ (x : Job). EndsIn x schedule turns r) (job_is j e) ends);
+          (subst (λ (x : Job). EndsIn x schedule turns r) (job_is j e) ends.ends);
       cycles = cs ∙ finished.0.starts ∙ ap (λ (q : Run). starts_in q.order) finished.1;
       units = us ∙ sym finished.0.works ∙ ap (λ (q : Run). work_in q.order) finished.1;
     }

@@ -13,8 +13,8 @@ use Rattle.trace_text.specs.Jobs.{Job, IsInput, input_limit}
 use Rattle.trace_text.specs.Refusals.{IsFirstBadLine}
 use Rattle.rtheap_core.specs.declared.exit.Exit.{Exit}
 use Rattle.rtheap_core.specs.declared.task.Task.TheVariants.{Run, Replay, Plan, Make, Trial}
-use Rattle.rtheap_core.specs.Ends.{EndsIn, IsOfThreads}
-use Rattle.rtheap_core.specs.Exits.{Headline, IsReplay, IsWritten, Planned, Tried, IsDue, IsDueOrFails}
+use Rattle.rtheap_core.specs.Ends.{EndsIn}
+use Rattle.rtheap_core.specs.Exits.{Headline, IsReplay, IsOfThreads, IsWritten, Planned, Tried, IsDue, IsDueOrFails}
 use Rattle.rtheap_core.specs.Generated.{generated_job}
 use Rattle.rtheap_core.specs.Refusals.{IsUntouched, LeavesUndone, Refused}
 use Rattle.rtheap_core.specs.Sides.{Sides}
@@ -34,7 +34,8 @@ pub record IsCarriedOut (c : Call) : Type 0 where
   -- A run is there exactly where the words ask for it and nothing refused it. It is of threads, or
   -- of the turns of a schedule, as the words say.
   pub run : IsSome c.exit.run ↔ (AskForRun c.words × (c.exit.due ≡ 0))
-  pub ran : AsksFor c.words Run → IfSome c.exit.run IsOfThreads
+  pub ran : AsksFor c.words Run
+      → IfSome c.exit.run (IsOfThreads c.source c.sink c.exit.status)
   pub replayed : (schedule : Schedule) (turns : ℕ) → AsksFor c.words (Replay schedule turns)
       → IfSome c.exit.run (IsReplay c.source c.sink c.exit.status schedule turns)
   -- The other tasks were done, where nothing refused them.

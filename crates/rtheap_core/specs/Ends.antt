@@ -9,6 +9,7 @@ use Rattle.heap_system.specs.Systems.{Finish, AllDone}
 use Rattle.heap_system.specs.Systems as systems
 use Rattle.schedules.specs.declared.Schedule.{Schedule}
 use Rattle.schedules.specs.Replays.{IsReplayed}
+use Rattle.schedules.specs.Schedules.{turns_of}
 use Rattle.threaded_runs.specs.Ends as runs
 use Rattle.trace_text.specs.Jobs.{Job}
 use Rattle.trace_text.specs.Orders.{text_in_order}
@@ -47,22 +48,23 @@ abbrev pub text_of : RunEnd → List HistoryItem → List ℕ
 text_of (Replayed f) history = text_in_order history
 text_of (Ran f) history = text_by_threads f.config.threads history
 
--- the run is one of threads that ran beside each other
-abbrev pub IsOfThreads : RunEnd → Type 0
-IsOfThreads (Replayed f) = ⊥
-IsOfThreads (Ran f) = Unit {0}
-
 -- A job replayed to its end: each thread is done after the first turns of the schedule, so many at
 -- most, and this is the run of these turns.
 pub record EndsIn (job : Job) (schedule : Schedule) (turns : ℕ) (run : machines.Run) : Type 0 where
   pub replayed : IsReplayed job.config job.traces schedule turns run
   pub done : AllDone job.config run.state
 
--- a replay's history is the order of the turns of the schedule, and the order that was kept is that
--- of the history
-pub record IsReplayOf (schedule : Schedule) (turns : ℕ) (f : Finish) (history : List HistoryItem)
-    : Type 0 where
+-- so is it, and these are the turns of the schedule that were made
+pub record EndsBy (job : Job) (schedule : Schedule) (turns : ℕ) (run : machines.Run)
+    (made : List ℕ) : Type 0 where
+  pub ends : EndsIn job schedule turns run
+  pub made_is : made ≡ turns_of schedule job.config ends.replayed.first turns
+
+-- A replay's history is the order of the turns of the schedule: its units are counted over these
+-- turns, and the order that was kept is that of the history.
+pub record IsReplayOf (schedule : Schedule) (turns : ℕ) (f : Finish)
+    (ran : HasHistory (Replayed f)) : Type 0 where
   pub run : machines.Run
-  pub ends : EndsIn (job_of (Replayed f)) schedule turns run
-  pub history_is : history ≡ run.order
-  pub order : f.order ≡ Some (map item_of history)
+  pub by : EndsBy (job_of (Replayed f)) schedule turns run ran.turned.turns
+  pub history_is : ran.history ≡ run.order
+  pub order : f.order ≡ Some (map item_of ran.history)

@@ -8,13 +8,14 @@ use Rattle.heap_system.specs.Serials.{job_bound}
 use Rattle.rate_plan.specs.Rates.{IsAdmitted, IsRate}
 use Rattle.schedules.specs.declared.Schedule.{Schedule}
 use Rattle.schedules.specs.declared.Schedule.TheVariants.{Serial}
+use Rattle.threaded_runs.specs.Ends.{HasOwnTurns}
 use Rattle.trace_text.specs.Jobs.{Job, IsJobInBounds, IsInput}
 use Rattle.trace_text.specs.Lines.{line_feed}
 use Rattle.trace_text.specs.Streams.{Appends, AppendsPrefix, IsAtEnd}
 use Rattle.trace_text.specs.Texts.{totals_line}
 use Rattle.rtheap_core.specs.declared.exit.RunEnd.{RunEnd}
 use Rattle.rtheap_core.specs.declared.exit.RunEnd.TheVariants.{Replayed, Ran}
-use Rattle.rtheap_core.specs.Ends.{HasHistory, EndsIn, IsReplayOf, job_of, logs_of, text_of}
+use Rattle.rtheap_core.specs.Ends.{HasHistory, EndsIn, IsReplayOf, run_of, job_of, logs_of, text_of}
 use Rattle.rtheap_core.specs.Generated.{generated_job}
 use Rattle.rtheap_core.specs.Sides.{Sides}
 
@@ -65,8 +66,14 @@ pub record Planned (source sink : Sides) (status : ℕ) : Type 0 where
 -- the headline holds of a replay, and its history is that of the first turns of the schedule
 abbrev pub IsReplay : Sides → Sides → ℕ → Schedule → ℕ → RunEnd → Type 0
 IsReplay source sink status schedule turns (Replayed f) =
-    (h : Headline source sink status (Replayed f)) × IsReplayOf schedule turns f h.ran.history
+    (h : Headline source sink status (Replayed f)) × IsReplayOf schedule turns f h.ran
 IsReplay source sink status schedule turns (Ran f) = ⊥
+
+-- the headline holds of threads that ran beside each other, and the turns of its history are theirs
+abbrev pub IsOfThreads : Sides → Sides → ℕ → RunEnd → Type 0
+IsOfThreads source sink status (Replayed f) = ⊥
+IsOfThreads source sink status (Ran f) =
+    (h : Headline source sink status (Ran f)) × HasOwnTurns (run_of (Ran f)) h.ran
 
 -- The generated job was done by serial turns, no more than the bounds of all commands sum up to,
 -- and the last line of its text was written.

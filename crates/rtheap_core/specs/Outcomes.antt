@@ -9,6 +9,7 @@ use Rattle.heap_system.specs.Systems.{Finish}
 use Rattle.rate_plan.specs.Rates.{IsAdmitted, IsRate}
 use Rattle.schedules.specs.declared.Schedule.{Schedule}
 use Rattle.schedules.specs.declared.Schedule.TheVariants.{Serial}
+use Rattle.threaded_runs.specs.Ends.{HasOwnTurns}
 use Rattle.trace_text.specs.Jobs.{Job}
 use Rattle.trace_text.specs.Orders.{IsOrderOf}
 use Rattle.rtheap_core.specs.declared.exit.RunEnd.{RunEnd}
@@ -16,7 +17,7 @@ use Rattle.rtheap_core.specs.declared.exit.RunEnd.TheVariants.{Replayed}
 use Rattle.rtheap_core.specs.declared.refusal.Refusal.{Refusal}
 use Rattle.rtheap_core.specs.declared.refusal.Refusal.TheVariants.{OutOfMemory, TurnsUsed}
 use Rattle.rtheap_core.specs.declared.trial.Totals.{Totals}
-use Rattle.rtheap_core.specs.Ends.{HasHistory, EndsIn, IsReplayOf, job_of}
+use Rattle.rtheap_core.specs.Ends.{HasHistory, EndsIn, IsReplayOf, run_of, job_of}
 use Rattle.rtheap_core.specs.Exits.{IsReadAs}
 use Rattle.rtheap_core.specs.Refusals.{LeavesUndone}
 use Rattle.rtheap_core.specs.Sides.{Sides}
@@ -26,11 +27,12 @@ pub record HasRun (source : Sides) (end : RunEnd) : Type 0 where
   pub read : IsReadAs source (job_of end)
   pub admitted : IsAdmitted (job_of end).config
   pub ran : HasHistory end
+  pub turns : HasOwnTurns (run_of end) ran
 
 -- a replay with its history, which is that of the order that was kept
 pub record IsReplayShown (schedule : Schedule) (turns : ℕ) (f : Finish) : Type 0 where
   pub ran : HasHistory (Replayed f)
-  pub replay : IsReplayOf schedule turns f ran.history
+  pub replay : IsReplayOf schedule turns f ran
   pub told : IsHistoryOf (map item_of ran.history) f.logs ran.history
 
 -- an order was kept, and is one of the logs

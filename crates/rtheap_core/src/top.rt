@@ -38,7 +38,9 @@ use trace_text::{Sink, Source, inputs_are_told_apart, jobs_are_one};
 /// front only in the number 0. Any other words are refused with the line `rtheap: usage`.
 ///
 /// The entries, cycles and units that an ended run shows by `Logs` are those that `done` is about:
-/// the order of one list of turns, which for a replay is that of its schedule. An allocation is
+/// the order of one list of turns, each that of a thread of the job. For a replay these are the
+/// turns of its schedule; for `run` they are, where the job has one thread, at most as many as the
+/// bounds of its commands sum up to. An allocation is
 /// answered `full` only where more blocks than the job's live limit were reachable at the start of
 /// the cycle that the reply names; so where no cycle of the run began with more, no command was
 /// answered `full` (`never_full`).

@@ -3,7 +3,7 @@ use Rattle.std.proofs.Common.{zero, suc, ◌+◌, ◌*◌, ◌≡◌, ◌≢◌,
 use Rattle.std.proofs.lemmas.Bool.{cases_Bool}
 use Rattle.block_store.specs.declared.Shape.TheVariants as shapes
 use Rattle.block_store.specs.declared.Value.TheVariants.{Int, Ref}
-use Rattle.block_store.specs.Owners.{owner_word}
+use Rattle.block_store.specs.WideOwners.{wide_word}
 use Rattle.block_store.specs.Payloads.{target, reference_word, number_word}
 use Rattle.block_store.specs.Shapes.{shape_of, array_word}
 use Rattle.block_store.specs.declared.Width.TheVariants.{Four, Eight}
@@ -225,5 +225,5 @@ wide_rest (suc (suc j)) low high =
 
 pub wide_shared : ((opening_words wide_config).owner 4 ≡ 1099511627776)
     × ((opening_words wide_config).shape 4 ≡ 1)
-unfolding owner_word array_word tree
+unfolding wide_word array_word tree
 wide_shared = (refl, refl)

@@ -4,7 +4,7 @@ use Rattle.block_store.specs.declared.Width.{Width}
 use Rattle.block_store.specs.declared.Name.{Name}
 use Rattle.block_store.specs.declared.Shape.{Shape}
 use Rattle.block_store.specs.declared.Value.TheVariants.{Ref}
-use Rattle.block_store.specs.Owners.{owner_of}
+use Rattle.block_store.specs.WideOwners.{wide_of}
 use Rattle.block_store.specs.Payloads.{payload_of, target}
 use Rattle.block_store.proofs.PayloadWords.{target-reference}
 use Rattle.never_heap.specs.Graphs.{Graph, object_of, field_of, register_of}
@@ -45,14 +45,14 @@ module _ (W : Width) (n m : ℕ) (K : Name → Type 0) (at : Name → ℕ → �
 
   pub name_shown : (v : ValueLoad) (a : Name) → ValueIs s.graph at t v
       → register_of s.graph t v.origin ≡ Ref a
-      → owner_of (s.words.owner (target v.word))
+      → wide_of (s.words.owner (target v.word))
       ≡ Some (record { thread = a.thread; serial = a.serial; ordinal = 0 })
   name_shown v a is refers =
       let kept : K a = subst (λ x. IsValueOf K x) refers
       (k.shows.closed.registers t v.origin there is.origin) in
       let block : target v.word ≡ at a 0 =
       ap target (is.word ∙ ap (value_word (heads at)) refers) ∙ target-reference (at a 0) in
-      ap (λ x. owner_of (s.words.owner x)) block
+      ap (λ x. wide_of (s.words.owner x)) block
       ∙ owner_read W n m K s.graph at s.words (pending_registers s.loads) k.shows a 0 kept
       (object_layout W (object_of s.graph a)).first
 

@@ -5,7 +5,7 @@ use Rattle.block_store.specs.declared.Width.{Width}
 use Rattle.block_store.specs.declared.Name.{Name}
 use Rattle.block_store.specs.declared.Value.{Value}
 use Rattle.block_store.specs.declared.Value.TheVariants.{Nil, Int, Ref}
-use Rattle.block_store.proofs.OwnerWords.{one_owner}
+use Rattle.block_store.proofs.WideWords.{one_wide}
 use Rattle.never_heap.specs.Graphs.{Graph, Object, same_name, has_name, count_of, next_name}
 use Rattle.never_heap.proofs.GraphMoves.{name_of_thread, same_from}
 use Rattle.never_heap.specs.Steps.{same_value}
@@ -68,9 +68,9 @@ pub apart : (W : Width) (K : Name → Type 0) (object : Name → Object) (at : N
     → (a b : Name) (o p : ℕ) → K a → K b → o < object_blocks W (object a)
     → p < object_blocks W (object b) → at a o ≡ at b p → (same_name a b ≡ true) × (o ≡ p)
 apart W K object at w numbered written a b o p ka kb ol pl e =
-    let one = one_owner a.thread a.serial o b.thread b.serial p
-    (omega (arith, numbered.serials a ka)) (omega (arith, numbered.ordinals a ka))
-    (omega (arith, numbered.serials b kb)) (omega (arith, numbered.ordinals b kb))
+    let one = one_wide a.thread a.serial o b.thread b.serial p
+    (numbered.threads a ka) (omega (arith, numbered.ordinals a ka))
+    (numbered.threads b kb) (omega (arith, numbered.ordinals b kb))
     (sym (written.blocks a o ka ol).owned ∙ ap w.owner e ∙ (written.blocks b p kb pl).owned) in
     (same_from a b one.0 one.1, one.2)
 

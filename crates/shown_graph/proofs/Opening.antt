@@ -8,7 +8,7 @@ use Rattle.block_store.specs.declared.TheConstants.{REGISTERS}
 use Rattle.block_store.specs.declared.Value.{Value}
 use Rattle.block_store.specs.declared.Value.TheVariants.{Nil}
 use Rattle.block_store.specs.Configs.{IsInBounds}
-use Rattle.block_store.specs.Owners.{owner_word}
+use Rattle.block_store.specs.WideOwners.{wide_word}
 use Rattle.block_store.specs.Payloads.{reference_word}
 use Rattle.block_store.specs.Registers.{root_block, register_block, register_slot, registers_end, register_ordinal}
 use Rattle.block_store.specs.Shapes.{array_word}
@@ -65,8 +65,8 @@ module _ (c : Config) (inside : IsInBounds c) where
       (new_object Array c.shared) (opening_at c.width c.threads a) o
   shared_shows a o t s ol = record {
     owned = shared_at o _ _ ol
-        ∙ ap (λ k. owner_word c.threads 0 k) (ordinal_is (registers_end c.width c.threads) o)
-        ∙ ap (λ k. owner_word k 0 o) (sym t) ∙ ap (λ k. owner_word a.thread k o) (sym s);
+        ∙ ap (λ k. wide_word c.threads 0 k) (ordinal_is (registers_end c.width c.threads) o)
+        ∙ ap (λ k. wide_word k 0 o) (sym t) ∙ ap (λ k. wide_word a.thread k o) (sym s);
     shaped = shared_at o _ _ ol ∙ sym (ap array_word (length-replicate c.shared Nil));
     words = λ j jl. shared_at o _ _ ol
         ∙ ap (λ k. shared_word c k j) (ordinal_is (registers_end c.width c.threads) o)

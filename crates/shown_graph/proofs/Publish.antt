@@ -1,5 +1,5 @@
 -- The words go on showing the graph when an object that was made gets its name.
-use Rattle.std.proofs.Common.{◌≡◌, ℕ, ◌<◌, ◌≤◌, ⊎_elim, inl, inr, true, false, cond, Bool, [], ◌∷◌, ◌++◌, length, get_or, refl, sym, ap, ◌∙◌, subst, arith}
+use Rattle.std.proofs.Common.{◌≡◌, ℕ, ◌<◌, ◌≤◌, ⊎_elim, inl, inr, true, false, cond, Bool, [], ◌∷◌, ◌++◌, length, get_or, refl, sym, ap, ◌∙◌, subst, arith, ◌^◌}
 use Rattle.std.proofs.lemmas.Bool.{cases_lt}
 use Rattle.std.proofs.lemmas.List.{length-set, length-replicate, get_or-replicate, get_or_past}
 use Rattle.block_store.specs.Registers.{registers_end}
@@ -177,7 +177,7 @@ module _ (W : Width) (n m : ℕ) (K : Name → Type 0) (g : Graph) (at : Name �
       threads = λ a name. by_name (λ a x b. a.thread ≤ 16)
           (λ a is. omega (arith, (same_parts (next_name g t) a is).0, made.few_threads))
           (λ a ka. shows.numbered.threads a ka) a name;
-      serials = λ a name. by_name (λ a x b. a.serial ≤ 131072)
+      serials = λ a name. by_name (λ a x b. a.serial < 2 ^ 43)
           (λ a is. omega (arith, (same_parts (next_name g t) a is).1, made.serial))
           (λ a ka. shows.numbered.serials a ka) a name;
       ordinals = λ a name. by_name (λ a x b. object_blocks W x ≤ 1024)

@@ -10,10 +10,10 @@ use Rattle.block_store.specs.declared.Value.{Value}
 use Rattle.block_store.specs.declared.Value.TheVariants as values
 use Rattle.block_store.specs.declared.Payload.TheVariants as payloads
 use Rattle.block_store.specs.declared.Shape.TheVariants as shapes
-use Rattle.block_store.specs.Owners.{owner_of}
+use Rattle.block_store.specs.WideOwners.{wide_of}
 use Rattle.block_store.specs.Payloads.{payload_of, reference_word}
 use Rattle.block_store.specs.Shapes.{shape_of}
-use Rattle.block_store.proofs.OwnerWords.{owner-code}
+use Rattle.block_store.proofs.WideWords.{read_wide}
 use Rattle.block_store.proofs.PayloadWords.{payload-code, one_reference, one_number, number-reference, number_positive, reference_positive}
 use Rattle.block_store.proofs.ShapeWords.{shape-code}
 use Rattle.never_heap.specs.Graphs.{Graph, ObjectKind, Record, Array, object_of, field_of, register_of}
@@ -34,16 +34,12 @@ module _ (W : Width) (n m : ℕ) (K : Name → Type 0) (g : Graph) (at : Name �
 
   -- the owner word of a kept object's block reads as the name and the ordinal
   pub owner_read : (a : Name) (o : ℕ) → K a → o < object_blocks W (object_of g a)
-      → owner_of (w.owner (at a o))
+      → wide_of (w.owner (at a o))
       ≡ Some (record { thread = a.thread; serial = a.serial; ordinal = o })
   owner_read a o ka ol =
-      ap owner_of (shows.written.blocks a o ka ol).owned
-      ∙ owner-code (record { thread = a.thread; serial = a.serial; ordinal = o })
-      (record {
-        thread = shows.numbered.threads a ka;
-        serial = shows.numbered.serials a ka;
-        ordinal = omega (arith, shows.numbered.ordinals a ka, ol);
-      })
+      ap wide_of (shows.written.blocks a o ka ol).owned
+      ∙ read_wide a.thread a.serial o (shows.numbered.threads a ka)
+      (omega (arith, shows.numbered.ordinals a ka, ol))
 
   -- the word of a kept value reads as nil, as its number, or as the first block of its name
   pub value_read : (v : Value) → m ≤ 65535 → IsValueOf K v

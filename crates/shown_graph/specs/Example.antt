@@ -9,7 +9,7 @@ use Rattle.block_store.specs.declared.Value.TheVariants.{Int}
 use Rattle.block_store.specs.declared.Width.{Width}
 use Rattle.block_store.specs.declared.Width.TheVariants.{Eight}
 use Rattle.block_store.specs.Widths.{payloads}
-use Rattle.block_store.specs.Owners.{owner_word}
+use Rattle.block_store.specs.WideOwners.{wide_word}
 use Rattle.block_store.specs.Payloads.{reference_word}
 use Rattle.block_store.specs.Shapes.{record_word}
 use Rattle.shown_graph.specs.Words.{BlockWords}
@@ -61,7 +61,7 @@ with_record W w =
     let shape = record_word (payloads W) in
     record {
       owner = λ x.
-          cond (x == 12) (owner_word 0 1 0) (cond (x == 13) (owner_word 0 1 1) (w.owner x));
+          cond (x == 12) (wide_word 0 1 0) (cond (x == 13) (wide_word 0 1 1) (w.owner x));
       shape = λ x. cond (x == 12) shape (cond (x == 13) shape (w.shape x));
       payload = λ x j. cond ((x == 12) && (j == 0)) (reference_word 13) (w.payload x j);
     }

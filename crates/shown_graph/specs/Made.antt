@@ -1,10 +1,10 @@
 -- An object that was made, and its name.
-use Rattle.std.specs.Prelude.{ℕ, ◌+◌, ◌<◌, ◌≤◌, ◌⊎◌, ◌≡◌, true, cond, Option, Some, None}
+use Rattle.std.specs.Prelude.{ℕ, ◌+◌, ◌<◌, ◌≤◌, ◌⊎◌, ◌≡◌, true, cond, Option, Some, None, ◌^◌}
 use Rattle.block_store.specs.declared.Name.{Name}
 use Rattle.block_store.specs.declared.Width.{Width}
 use Rattle.block_store.specs.Widths.{payloads}
 use Rattle.block_store.specs.Registers.{registers_end}
-use Rattle.block_store.specs.Owners.{owner_word}
+use Rattle.block_store.specs.WideOwners.{wide_word}
 use Rattle.block_store.specs.Payloads.{reference_word}
 use Rattle.object_lists.specs.Parts.{link_in}
 use Rattle.never_heap.specs.Graphs.{Graph, Object, ObjectKind, nil_object, count_of, same_name, next_name}
@@ -31,7 +31,7 @@ pub record IsMade (W : Width) (threads m : ℕ) (g : Graph) (w : BlockWords) (t 
     (k : ObjectKind) (n : ℕ) (block_of : ℕ → ℕ) : Type 0 where
   pub thread : t < threads
   pub few_threads : t ≤ 16
-  pub serial : count_of g t + 1 ≤ 131072
+  pub serial : count_of g t + 1 < 2 ^ 43
   pub ordinals : layout_blocks W k n ≤ 1024
   pub behind : (o : ℕ) → o < layout_blocks W k n → registers_end W threads < block_of o
   pub within : (o : ℕ) → o < layout_blocks W k n → block_of o ≤ m
@@ -46,7 +46,7 @@ link_word block_of (Some o) = reference_word (block_of o)
 -- a block of a new object by its words alone: its owner, its shape, and its links
 pub record IsWritten (W : Width) (w : BlockWords) (a : Name) (k : ObjectKind) (n : ℕ)
     (block_of : ℕ → ℕ) (o : ℕ) : Type 0 where
-  pub owned : w.owner (block_of o) ≡ owner_word a.thread a.serial o
+  pub owned : w.owner (block_of o) ≡ wide_word a.thread a.serial o
   pub shaped : w.shape (block_of o) ≡ kind_word k n
   pub links : (j : ℕ) → j < payloads W
       → w.payload (block_of o) j ≡ link_word block_of (link_in (layout_part W k n o j))

@@ -6,7 +6,7 @@ use Rattle.block_store.specs.declared.Name.{Name}
 use Rattle.block_store.specs.declared.TheConstants.{REGISTERS}
 use Rattle.block_store.specs.declared.Value.TheVariants.{Nil}
 use Rattle.block_store.specs.declared.Width.{Width}
-use Rattle.block_store.specs.Owners.{owner_word}
+use Rattle.block_store.specs.WideOwners.{wide_word}
 use Rattle.block_store.specs.Registers.{root_block, registers_end, register_thread, register_ordinal}
 use Rattle.block_store.specs.Shapes.{array_word}
 use Rattle.array_trees.specs.Levels.{array_part}
@@ -49,8 +49,8 @@ shared_ordinal c x = x - (registers_end c.width c.threads + 1)
 abbrev pub opening_words : Config → BlockWords
 opening_words c = record {
   owner = λ x. by_block c x
-      (owner_word (register_thread c.width x) 0 (register_ordinal c.width x))
-      (owner_word c.threads 0 (shared_ordinal c x));
+      (wide_word (register_thread c.width x) 0 (register_ordinal c.width x))
+      (wide_word c.threads 0 (shared_ordinal c x));
   shape = λ x. by_block c x (array_word REGISTERS) (array_word c.shared);
   payload = λ x j. by_block c x
       (register_word c (register_thread c.width x) (register_ordinal c.width x) j)

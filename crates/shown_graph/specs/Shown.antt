@@ -9,7 +9,7 @@ use Rattle.block_store.specs.declared.Value.TheVariants.{Nil, Int, Ref}
 use Rattle.block_store.specs.declared.Width.{Width}
 use Rattle.block_store.specs.Widths.{payloads, register_blocks}
 use Rattle.block_store.specs.Registers.{root_block, register_block, register_slot, registers_end}
-use Rattle.block_store.specs.Owners.{owner_word}
+use Rattle.block_store.specs.WideOwners.{wide_word}
 use Rattle.block_store.specs.Payloads.{reference_word}
 use Rattle.never_heap.specs.Graphs.{Graph, Object, object_of, field_of, register_of, mutator_at, has_name}
 use Rattle.shown_graph.specs.Layouts.{object_blocks, object_part}
@@ -29,7 +29,7 @@ heads at a = at a 0
 -- them. It is said of objects that the graph has, and of those that are still being made.
 pub record BlockShows (W : Width) (head : Name → ℕ) (w : BlockWords) (a : Name) (object : Object)
     (block_of : ℕ → ℕ) (o : ℕ) : Type 0 where
-  pub owned : w.owner (block_of o) ≡ owner_word a.thread a.serial o
+  pub owned : w.owner (block_of o) ≡ wide_word a.thread a.serial o
   pub shaped : w.shape (block_of o) ≡ object_shape object
   pub words : (j : ℕ) → j < payloads W → w.payload (block_of o) j
       ≡ part_word head block_of (field_of object) (object_part W object o j)
@@ -50,7 +50,7 @@ pub record Placed (W : Width) (n m : ℕ) (K : Name → Type 0) (object : Name �
 -- the blocks of kept objects have owner words
 pub record Numbered (W : Width) (K : Name → Type 0) (object : Name → Object) : Type 0 where
   pub threads : (a : Name) → K a → a.thread ≤ 16
-  pub serials : (a : Name) → K a → a.serial ≤ 131072
+  pub serials : (a : Name) → K a → a.serial < 2 ^ 43
   pub ordinals : (a : Name) → K a → object_blocks W (object a) ≤ 1024
 
 -- a register's word is that of its value; where the register is pending, it is still that of an

@@ -13,7 +13,7 @@ ghost use Rattle.block_store.specs.declared.Value.TheVariants.{Int, Ref};
 ghost use Rattle.block_store.specs.declared.Width.{Width};
 ghost use Rattle.block_store.specs.declared.Width.TheVariants.{Four, Eight};
 ghost use Rattle.block_store.specs.Configs.{IsInBounds};
-ghost use Rattle.block_store.specs.Owners.{owner_of};
+ghost use Rattle.block_store.specs.WideOwners.{wide_of};
 ghost use Rattle.block_store.specs.Payloads.{payload_of, reference_word, target};
 ghost use Rattle.block_store.specs.Registers.{register_block, register_slot, registers_end};
 ghost use Rattle.block_store.specs.Shapes.{shape_of};
@@ -131,7 +131,7 @@ pub fn other_words_are_free()
 /// at the end of a way a field. Blocks of two names or ordinals are two.
 pub fn shown_words_are_read()
     ensures owner { (s : Snapshot) (a : Name) (o : ℕ) → IsShown s → IsBlockOf s a o
-        → owner_of (s.words.owner (s.at a o))
+        → wide_of (s.words.owner (s.at a o))
         ≡ Some (record { thread = a.thread; serial = a.serial; ordinal = o }) }
     ensures length { (s : Snapshot) (a : Name) (o : ℕ) → IsShown s → IsBlockOf s a o
         → shape_of (s.words.shape (s.at a o))
@@ -173,7 +173,7 @@ pub fn loads_are_read()
     ensures name { (W : Width) (n m t : ℕ) (kept : Name → Bool) (at : Name → ℕ → ℕ) (s : GraphState)
         (v : ValueLoad) (a : Name) → Follows W n m (named kept) at s → t < n
         → ValueIs s.graph at t v → register_of s.graph t v.origin ≡ Ref a
-        → owner_of (s.words.owner (target v.word))
+        → wide_of (s.words.owner (target v.word))
         ≡ Some (record { thread = a.thread; serial = a.serial; ordinal = 0 }) }
     ensures length { (W : Width) (t : ℕ) (at : Name → ℕ → ℕ) (g : Graph) (l : ObjectLoad)
         (f : Shape) (a : Name) → ObjectIs W g at t l → l.shape ≡ Some f

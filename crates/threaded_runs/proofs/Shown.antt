@@ -1,20 +1,20 @@
 -- What an ended run shows.
 use Rattle.std.proofs.Common.{ℕ, zero, suc, ◌+◌, ◌-◌, ◌*◌, ◌≡◌, ◌≤◌, List, [], ◌∷◌, map, length, get_or, refl, sym, ap, ◌∙◌, subst, arith, zero-add}
-use Rattle.atom_board.specs.Mutators.{ClosedState}
+use Rattle.atom_board.specs.Mutators.{ClosedState, MutatorState, IsFinishedBy}
 use Rattle.block_store.specs.declared.Config.{Config}
 use Rattle.never_heap.specs.declared.Command.{Command}
 use Rattle.never_heap.specs.declared.Entry.{Entry}
 use Rattle.never_heap.specs.Given.{given}
 use Rattle.never_heap.specs.Histories.{HistoryItem, part, parts_from, starts_in, work_in}
-use Rattle.never_heap.specs.Licensed.{Licensed, StartsSmall, NoFulls}
-use Rattle.never_heap.specs.Runs.{IsRun}
+use Rattle.never_heap.specs.Licensed.{StartsSmall, NoFulls}
 use Rattle.rate_plan.specs.Rates.{IsRate}
 use Rattle.cycle_tally.specs.Kept.{most_given}
 use Rattle.trace_text.specs.Jobs.{Job}
 use Rattle.heap_system.specs.Machines.{Run, IsAfterTurns}
 use Rattle.heap_system.specs.Costs.{units_so_far}
+use Rattle.heap_system.specs.Serials.{AreOfThreads, AreFew}
 use Rattle.heap_system.specs.Systems.{AllDone, IsFinished}
-use Rattle.threaded_runs.specs.Ends.{HasHistory, commands_of, job_of}
+use Rattle.threaded_runs.specs.Ends.{HasHistory, HasTurns, commands_of, job_of}
 
 -- where the commands of each part are the trace of its thread, those of all parts are all traces
 traces_from : (h : List HistoryItem) (t n : ℕ) (traces : List (List Command)) → length traces ≡ n
@@ -43,7 +43,7 @@ traces_shown c traces logs cycles f =
     ap (map commands_of) f.parts_logged
     ∙ traces_from f.run.order 0 c.threads traces f.job.bounds.threads
     (λ u. subst (λ k. commands_of (part k f.run.order) ≡ get_or traces u []) (sym (zero-add u))
-    (f.traces_whole u))
+    ((f.is_run f.by_turns.opening.rate f.by_turns.opening.planned).traces_whole u))
 
 -- the job that was run is the one that is shown
 job_shown : (c : Config) (traces : List (List Command)) (f : ClosedState) → f.config ≡ c
@@ -55,7 +55,6 @@ job_shown c traces f same ended job is =
 
 -- what holds of each run after some turns
 pub record TurnLaws : Type 0 where
-  pub licensed : (c : Config) (r : Run) → IsAfterTurns c r → Licensed c r.order
   pub never : (c : Config) (r : Run) → IsAfterTurns c r → StartsSmall c r.order → NoFulls r.order
   pub few : (c : Config) (r : Run) (rate : ℕ) → IsAfterTurns c r → IsRate c rate
       → (z : ℕ) → z ≤ starts_in r.order → given c.width r.order z ≤ most_given c rate
@@ -84,16 +83,6 @@ module _ (laws : TurnLaws) where
   by_turns_of c traces logs cycles e =
       record { traces = traces; job = e.job; turns = e.turns; by_turns = e.by_turns }
 
-  order_is_run : (c : Config) (traces : List (List Command)) (logs : List (List Entry)) (cycles : ℕ)
-      → (e : IsFinished c traces logs cycles)
-      → IsRun c e.by_turns.opening.rate traces e.run.order
-  order_is_run c traces logs cycles e = record {
-    legal = e.legal;
-    traces_whole = e.traces_whole;
-    licensed = laws.licensed c e.run (by_turns_of c traces logs cycles e);
-    right_work = e.right_work e.by_turns.opening.rate e.by_turns.opening.planned;
-  }
-
   pub has_history : (f : ClosedState) → IsFinished f.config (map commands_of f.logs) f.logs f.cycles
       → HasHistory f
   has_history f e =
@@ -104,7 +93,7 @@ module _ (laws : TurnLaws) where
         rate = e.by_turns.opening.rate;
         is_rate = e.by_turns.opening.planned;
         history = e.run.order;
-        is_run = order_is_run f.config traces f.logs f.cycles e;
+        is_run = e.is_run e.by_turns.opening.rate e.by_turns.opening.planned;
         turned = e;
         same = refl;
         parts_logged = sym e.parts_logged;
@@ -127,19 +116,37 @@ module _ (laws : TurnLaws) where
   unfolding has_history
   history_is f e = refl
 
-  -- both, where the job is known by its parts
-  pub run_shows : (c k : Config) (ts traces : List (List Command)) (f : ClosedState) (job : Job)
-      → f.config ≡ k → k ≡ c → ts ≡ traces → IsFinished k ts f.logs f.cycles
+  -- and its turns are these
+  pub turned_is : (f : ClosedState)
+      → (e : IsFinished f.config (map commands_of f.logs) f.logs
+      f.cycles)
+      → (has_history f e).turned ≡ e
+  unfolding has_history
+  turned_is f e = refl
+
+  -- a run that has ended by these mutators, where the job is known by its parts
+  pub run_shows : (c k : Config) (ts traces : List (List Command)) (ms : List MutatorState)
+      (f : ClosedState) (job : Job)
+      → f.config ≡ k → k ≡ c → ts ≡ traces → IsFinishedBy k ts ms f.logs f.cycles
       → record { config = c; traces = traces } ≡ job
-      → (job_of f ≡ job) × HasHistory f
-  run_shows c k ts traces f job same config whole ended is =
+      → (job_of f ≡ job) × HasTurns f
+  run_shows c k ts traces ms f job same config whole ended is =
       let made : IsFinished c traces f.logs f.cycles =
       subst (λ xs. IsFinished c xs f.logs f.cycles) whole
-      (subst (λ q. IsFinished q ts f.logs f.cycles) config ended) in
-      let shown = traces_shown k ts f.logs f.cycles ended in
-      let by_logs : IsFinished k (map commands_of f.logs) f.logs f.cycles =
-      subst (λ xs. IsFinished k xs f.logs f.cycles) (sym shown) ended in (
+      (subst (λ q. IsFinished q ts f.logs f.cycles) config ended.finished) in
+      let shown = traces_shown k ts f.logs f.cycles ended.finished in
+      let by_logs : IsFinishedBy f.config (map commands_of f.logs) ms f.logs f.cycles =
+      subst (λ q. IsFinishedBy q (map commands_of f.logs) ms f.logs f.cycles) (sym same)
+      (subst (λ xs. IsFinishedBy k xs ms f.logs f.cycles) (sym shown) ended) in
+      let e = by_logs.finished in (
         job_shown c traces f (same ∙ config) made job (sym is),
-        has_history f (subst (λ q. IsFinished q (map commands_of f.logs) f.logs f.cycles)
-            (sym same) by_logs),
+        (
+          has_history f e,
+          record {
+            own = subst (λ (x : IsFinished f.config (map commands_of f.logs) f.logs f.cycles).
+                AreOfThreads f.config x.turns) (sym (turned_is f e)) by_logs.own;
+            few = subst (λ (x : IsFinished f.config (map commands_of f.logs) f.logs f.cycles).
+                AreFew f.config (map commands_of f.logs) x.turns) (sym (turned_is f e)) by_logs.few;
+          },
+        ),
       )

@@ -9,6 +9,7 @@ use Rattle.never_heap.specs.Licensed.{StartsSmall, NoFulls}
 use Rattle.never_heap.specs.Runs.{IsRun}
 use Rattle.rate_plan.specs.Rates.{IsRate}
 use Rattle.cycle_tally.specs.Kept.{most_given}
+use Rattle.heap_system.specs.Serials.{AreOfThreads, AreFew}
 use Rattle.heap_system.specs.Systems.{IsFinished, units_of}
 use Rattle.trace_text.specs.Jobs.{Job}
 
@@ -43,3 +44,12 @@ pub record HasHistory (run : ClosedState) : Type 0 where
       → given (job_of run).config.width history z ≤ most_given (job_of run).config rate
   pub least_units : (run.cycles - 1) * (job_of run).config.blocks ≤ units_of run.logs
   pub most_units : units_of run.logs ≤ 2 * (job_of run).config.blocks * run.cycles
+
+-- The turns of its history are those of its threads alone, and where there is one thread they are
+-- at most as many as the bounds of its commands sum up to.
+pub record HasOwnTurns (run : ClosedState) (ran : HasHistory run) : Type 0 where
+  pub own : AreOfThreads (job_of run).config ran.turned.turns
+  pub few : AreFew (job_of run).config (job_of run).traces ran.turned.turns
+
+abbrev pub HasTurns : ClosedState → Type 0
+HasTurns run = (ran : HasHistory run) × HasOwnTurns run ran

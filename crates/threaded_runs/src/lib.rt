@@ -6,7 +6,7 @@ ghost use Rattle.rate_plan.specs.Rates.{IsAdmitted};
 ghost use Rattle.trace_text.specs.Jobs.{IsJobInBounds};
 ghost use Rattle.heap_system.specs.Locals.{is_done};
 ghost use Rattle.atom_board.specs.Mutators.{AreInOrder, AllAreDone, IsLater};
-ghost use Rattle.threaded_runs.specs.Ends.{HasHistory, job_of};
+ghost use Rattle.threaded_runs.specs.Ends.{HasHistory, HasTurns, job_of};
 
 use atom_board::{AtomBoard, Closed, Mutator};
 use block_store::OutOfMemory;
@@ -20,7 +20,9 @@ use trace_text::Job;
 
 /// Runs a job to its end, each of its threads in a call of its own, and tells the pace before each
 /// command. The calls are made beside each other where threads can be made, and else one after
-/// another. That they come to their ends is not promised.
+/// another. That they come to their ends is not promised. The history of the run is the order of
+/// turns of its threads; where there is one thread they are at most as many as the bounds of its
+/// commands sum up to.
 ///
 /// # Errors
 ///
@@ -35,6 +37,7 @@ pub fn run_job<R: Threads + Wait + Sync, Q: Pace>(
     requires admitted { IsAdmitted job.config }
     ensures job { IfOk result (λ f. job_of f ≡ job) }
     ensures ran { IfOk result HasHistory }
+    ensures turns { IfOk result HasTurns }
 {
     fulls_are_licensed();
     cycles_give_few_blocks();

@@ -33,6 +33,16 @@ reply_text Kind work = codes "kind"
 reply_text Range work = codes "range"
 reply_text Idle work = codes "idle" ++ codes " work " ++ decimal work
 
+-- the serial of the name that it has; 0 where it has none
+abbrev pub value_serial : Value → ℕ
+value_serial (values.Ref name) = name.serial
+value_serial _ = 0
+
+abbrev pub reply_serial : Reply → ℕ
+reply_serial (New name) = name.serial
+reply_serial (Val v) = value_serial v
+reply_serial _ = 0
+
 -- an entry: the thread, a space, the reply
 abbrev pub entry_text : Entry → List ℕ
 entry_text e = decimal e.thread ++ (space ∷ reply_text e.reply e.work)

@@ -1,10 +1,10 @@
 //! What is printed of a run.
 
-ghost use Rattle.std.specs.Prelude.{◌≡◌, ◌+◌, ◌≤◌, ◌++◌, length, codes, decimal, OnOk, OnErr};
+ghost use Rattle.std.specs.Prelude.{◌≡◌, ◌+◌, ◌^◌, ◌<◌, ◌≤◌, ◌++◌, length, codes, decimal, OnOk, OnErr};
 ghost use Rattle.std.specs.List.{flat_map};
 ghost use Rattle.trace_text.specs.Faults.{Rose};
 ghost use Rattle.trace_text.specs.Streams.{Appends, AppendsPrefix};
-ghost use Rattle.trace_text.specs.Texts.{name_text, value_text, reply_text, entry_line, totals_line, start_line, run_text};
+ghost use Rattle.trace_text.specs.Texts.{name_text, value_text, value_serial, reply_text, reply_serial, entry_line, totals_line, start_line, run_text};
 
 use crate::line_buffer::LineBuffer;
 use crate::{Failed, Sink};
@@ -38,9 +38,11 @@ pub fn write_run<R: Logs, K: Sink>(run: &R, sink: &mut K) -> Result<(), Failed>
     sink.put(line.bytes())
 }
 
-/// A law: each line of a run has at most 64 bytes, whatever its numbers.
+/// A law: each line of a run has at most 74 bytes, whatever its numbers; and at most 64 where the
+/// serial that it has is below 2^32, as each is in the run of a job.
 pub fn lines_are_short(entry: Entry, cycles: u64, units: u64)
-    ensures entry { length (entry_line entry) ≤ 64 }
+    ensures entry { reply_serial entry.reply < 2 ^ 32 → length (entry_line entry) ≤ 64 }
+    ensures any { length (entry_line entry) ≤ 74 }
     ensures totals { length (totals_line cycles units) ≤ 64 }
 {
     let mut line = LineBuffer::new();
@@ -68,7 +70,8 @@ fn write_log<K: Sink>(log: &[Entry], sink: &mut K) -> Result<(), Failed>
 /// Makes an entry's line, in place of what the buffer held.
 pub fn fill_entry(line: &mut LineBuffer, entry: &Entry)
     ensures text { line.new ≡ entry_line entry.now }
-    ensures short { length line.new ≤ 64 }
+    ensures short { reply_serial entry.now.reply < 2 ^ 32 → length line.new ≤ 64 }
+    ensures any { length line.new ≤ 74 }
 {
     line.clear();
     line.prepend(b"\n");
@@ -104,7 +107,8 @@ pub fn fill_start(line: &mut LineBuffer, cycle: u64)
 fn prepend_reply(line: &mut LineBuffer, reply: Reply, work: u64)
     requires { length line.old ≤ 1 }
     ensures text { line.new ≡ reply_text reply work ++ line.old }
-    ensures length { length line.new ≤ 53 }
+    ensures short { reply_serial reply < 2 ^ 32 → length line.new ≤ 53 }
+    ensures any { length line.new ≤ 63 }
 {
     match reply {
         Reply::New(name) => {
@@ -147,7 +151,8 @@ fn prepend_work(line: &mut LineBuffer, work: u64)
 fn prepend_value(line: &mut LineBuffer, value: Value)
     requires { length line.old ≤ 1 }
     ensures text { line.new ≡ value_text value ++ line.old }
-    ensures length { length line.new ≤ 25 + length line.old }
+    ensures short { value_serial value < 2 ^ 32 → length line.new ≤ 25 + length line.old }
+    ensures any { length line.new ≤ 35 + length line.old }
 {
     match value {
         Value::Nil => line.prepend(b"nil"),
@@ -165,11 +170,26 @@ fn prepend_value(line: &mut LineBuffer, value: Value)
 fn prepend_name(line: &mut LineBuffer, name: Name)
     requires { length line.old ≤ 27 }
     ensures text { line.new ≡ name_text name ++ line.old }
-    ensures length { length line.new ≤ 21 + length line.old }
+    ensures short { name.serial < 2 ^ 32 → length line.new ≤ 21 + length line.old }
+    ensures any { length line.new ≤ 31 + length line.old }
 {
-    line.prepend_short_number(name.serial);
+    prepend_serial(line, name.serial);
     line.prepend(b".");
     line.prepend_short_number(name.thread);
+}
+
+// A short number where it is one, so that its line is known to be short too.
+fn prepend_serial(line: &mut LineBuffer, serial: u64)
+    requires { length line.old ≤ 27 }
+    ensures text { line.new ≡ decimal serial ++ line.old }
+    ensures short { serial < 2 ^ 32 → length line.new ≤ 10 + length line.old }
+    ensures any { length line.new ≤ 20 + length line.old }
+{
+    if serial < 1 << 32 {
+        line.prepend_short_number(serial as u32);
+    } else {
+        line.prepend_number(serial);
+    }
 }
 
 #[cfg(test)]
@@ -214,13 +234,22 @@ end cycles 2 work 53
     fn the_longest_line_fits(rt: HostRuntime) -> Result<(), Fail> {
         let most = Name {
             thread: u32::MAX,
-            serial: u32::MAX,
+            serial: u64::from(u32::MAX),
         };
         let mut line = LineBuffer::new();
         fill_entry(&mut line, &entry(u32::MAX, Reply::New(most), u64::MAX));
         assert_eq!(rt;
             line.bytes(),
             b"4294967295 new 4294967295.4294967295 work 18446744073709551615\n".as_slice()
+        );
+        let longest = Name {
+            serial: u64::MAX,
+            ..most
+        };
+        fill_entry(&mut line, &entry(u32::MAX, Reply::New(longest), u64::MAX));
+        assert_eq!(rt;
+            line.bytes(),
+            b"4294967295 new 4294967295.18446744073709551615 work 18446744073709551615\n".as_slice()
         );
         Ok(())
     }

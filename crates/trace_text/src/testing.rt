@@ -48,7 +48,7 @@ pub fn entry(thread: u32, reply: Reply, work: u64) -> Entry {
     }
 }
 
-fn name(thread: u32, serial: u32) -> Name {
+fn name(thread: u32, serial: u64) -> Name {
     Name { thread, serial }
 }
 

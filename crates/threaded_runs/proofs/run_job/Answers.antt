@@ -3,7 +3,7 @@ use Rattle.heap_system.specs.Machines.{IsJob}
 use Rattle.heap_system.proofs.Lived.{job_of_text}
 use Rattle.trace_text.specs.Jobs.{Job}
 use Rattle.atom_board.proofs.Orders.{in_order_each}
-use Rattle.threaded_runs.specs.Ends.{HasHistory, job_of}
+use Rattle.threaded_runs.specs.Ends.{HasTurns, job_of}
 use Rattle.threaded_runs.proofs.Shown.{run_shows}
 use Rattle.threaded_runs.proofs.run_job.Given.{Over}
 use Rattle.threaded_runs.proofs.run_job.Goals as goal
@@ -13,22 +13,24 @@ close-requires-clause-mutators g c =
     in_order_each c.in_ok-board.board c.in_ok-done.done.items c.in_ok-done.ensures.mutators
 
 shows : (g : Over) (c : goal.After-close g)
-    → (job_of c.close.result ≡ c.args.job) × HasHistory c.close.result
+    → (job_of c.close.result ≡ c.args.job) × HasTurns c.close.result
 shows g c = run_shows (record {
-  licensed = c.fulls_are_licensed.ensures.licensed;
   never = c.fulls_are_licensed.ensures.never;
   few = c.cycles_give_few_blocks.ensures;
   least = c.cycles_cost_few_units.ensures.least;
   most = c.cycles_cost_few_units.ensures.most;
   done = c.cycles_cost_few_units.ensures.done;
-}) _ _ _ _ c.close.result _ c.close.ensures.config c.in_ok-board.ensures.board.0 c.in_ok-board.ensures.board.1
-    c.close.ensures.finished c.job.view_is
+}) _ _ _ _ _ c.close.result _ c.close.ensures.config c.in_ok-board.ensures.board.0 c.in_ok-board.ensures.board.1
+    c.close.ensures.counted c.job.view_is
 
 pub returns-clause-job : goal.returns-clause-job
 returns-clause-job g c = (shows g c).0
 
 pub returns-clause-ran : goal.returns-clause-ran
-returns-clause-ran g c = (shows g c).1
+returns-clause-ran g c = (shows g c).1.0
+
+pub returns-clause-turns : goal.returns-clause-turns
+returns-clause-turns g c = (shows g c).1
 
 pub new-requires : goal.new-requires
 new-requires g c =

@@ -36,7 +36,6 @@ returns-in-None-clause-replayed c =
     (subst (λ (j : Job). IsJob j.config j.traces) (sym c.job.view_is)
     (job_of_text _ _ c.requires.bounds c.requires.admitted)) c.in-None.ensures.done c.finished.result c.finished.ensures.config
     c.finished.ensures.logs c.finished.ensures.cycles (record {
-      licensed = c.fulls_are_licensed.ensures.licensed;
       never = c.fulls_are_licensed.ensures.never;
       few = c.cycles_give_few_blocks.ensures;
       least = c.cycles_cost_few_units.ensures.least;

@@ -27,5 +27,6 @@ returns-clause-ran g c =
           (sides g.S.Source.left g.S.Source.faults c.args.source.now c.planned_job.new.source))
           (sym same) c.in_ok-job.ensures.read;
       admitted = subst (λ (j : Job). IsAdmitted j.config) (sym same) c.in_ok-job.ensures.rate.0;
-      ran = c.in_ok-run.ensures.ran;
+      ran = c.in_ok-run.ensures.turns.0;
+      turns = c.in_ok-run.ensures.turns.1;
     }

@@ -8,7 +8,8 @@ use Rattle.heap_system.specs.Systems.{Whole, AllDone, IsReached, IsFinished, IsF
 use Rattle.heap_system.specs.Ordering.{ordered}
 use Rattle.heap_system.proofs.Ordering.{finished_in_order}
 use Rattle.heap_system.specs.declared.system.System.TheInside.{Inside}
-use Rattle.heap_system.proofs.Reached.{reached_kept, all_done}
+use Rattle.heap_system.proofs.Finishing.{all_done}
+use Rattle.heap_system.proofs.Reached.{reached_kept}
 use Rattle.heap_system.proofs.system.System.finish.Goals as goal
 
 -- the words and threads of a system

@@ -1,0 +1,3 @@
+pub mod Rooms
+pub mod Speakers
+pub mod Begun

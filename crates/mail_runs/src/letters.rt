@@ -1,0 +1,87 @@
+//! From a job to its closed board and its letters.
+
+ghost use Rattle.std.specs.Prelude.{◌≡◌, ◌≤◌, ◌+◌, ◌*◌, map, length, IfOk};
+ghost use Rattle.rate_plan.specs.Rates.{IsAdmitted};
+ghost use Rattle.trace_text.specs.Jobs.{IsJobInBounds};
+ghost use Rattle.said_numbers.specs.Said.{numbers_said, says_in};
+ghost use Rattle.threaded_runs.specs.Ends.{HasHistory, HasTurns, job_of};
+ghost use Rattle.mail_runs.specs.Rooms.{room_of};
+ghost use Rattle.mail_runs.specs.Speakers.{AreSpeakers, IsFirst};
+
+use crate::office::{Office, closed, paired};
+use crate::receiving::delivered;
+use crate::speaker::Speaker;
+use atom_board::{AtomBoard, Closed};
+use block_store::OutOfMemory;
+use heap_system::{cycles_cost_few_units, cycles_give_few_blocks, fulls_are_licensed};
+use mail_post::{Post, Taken, Taker};
+use never_heap::Pace;
+use said_numbers::says_of;
+use std::alloc::Global;
+use std::sync::Wait;
+use std::thread::Threads;
+use trace_text::Job;
+
+/// Runs a job of one or two threads to its end, and tells the pace before each command. Each thread
+/// sends the numbers that it says, in order, and the caller takes them while the threads run. Gives
+/// the board, closed, and the letters: of each thread just the numbers that its log shows by `say`.
+///
+/// A thread that cannot be made is run by the caller at once. The queue has room for all letters of
+/// the job, so that no thread waits for the caller. That the threads come to their ends is not
+/// promised.
+///
+/// # Errors
+///
+/// `OutOfMemory` where there is no room for the heap, the logs, the queue or the letters.
+pub fn deliver<R: Threads + Wait + Sync, Q: Pace>(
+    rt: &R,
+    alloc: Global,
+    job: Job,
+    pace: &Q,
+) -> Result<(Closed, Taken), OutOfMemory>
+    requires bounds { IsJobInBounds job }
+    requires admitted { IsAdmitted job.config }
+    requires few { job.config.threads ≤ 2 }
+    ensures job { IfOk result (λ r. job_of r.0 ≡ job) }
+    ensures ran { IfOk result (λ r. HasHistory r.0) }
+    ensures turns { IfOk result (λ r. HasTurns r.0) }
+    ensures taken { IfOk result (λ r. r.1.taken ≡ map numbers_said r.0.logs) }
+    ensures sent { IfOk result (λ r. r.1.sent ≡ map numbers_said r.0.logs) }
+{
+    fulls_are_licensed();
+    cycles_give_few_blocks();
+    cycles_cost_few_units();
+    let (office, speakers, taker) = opened(alloc, job)?;
+    let (mutators, taker) = delivered(rt, alloc, &office, pace, speakers, taker)?;
+    Ok(closed(office, mutators, taker))
+}
+
+/// The board of a job and its post, with a speaker for each thread, before the first turn.
+fn opened(alloc: Global, job: Job) -> Result<(Office, Vec<Speaker>, Taker), OutOfMemory>
+    requires bounds { IsJobInBounds job }
+    requires admitted { IsAdmitted job.config }
+    requires few { job.config.threads ≤ 2 }
+    ensures board { IfOk result (λ r. (r.0.board.config ≡ job.config)
+        × (r.0.board.traces ≡ job.traces)) }
+    ensures speakers { IfOk result (λ r. AreSpeakers r.0 r.1.items) }
+    ensures taker { IfOk result (λ r. IsFirst r.0 r.2) }
+{
+    let threads = job.config.threads;
+    let room = room_for(&job);
+    let (board, mutators) = AtomBoard::new(alloc, job.config, job.traces)?;
+    let (post, senders, taker) = Post::new(alloc, threads, room)?;
+    let speakers = paired(alloc, mutators, senders)?;
+    Ok((Office { board, post }, speakers, taker))
+}
+
+/// The room for the letters of a job: as many as it has `say` commands, and one at least.
+fn room_for(job: &Job) -> usize
+    requires { IsJobInBounds job.now }
+    ensures { result ≡ room_of job.now.traces }
+{
+    let mut says: usize = 0;
+    for trace in &job.traces {
+        says += says_of(trace);
+    }
+    says.max(1)
+}

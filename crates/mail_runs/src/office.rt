@@ -1,0 +1,50 @@
+//! A board and its post.
+
+ghost use Rattle.std.specs.Prelude.{◌≡◌, length, map, IfOk};
+ghost use Rattle.said_numbers.specs.Said.{numbers_said};
+ghost use Rattle.atom_board.specs.Mutators.{IsFinishedBy};
+ghost use Rattle.mail_runs.specs.Speakers.{zipped, IsReceived};
+
+use crate::speaker::Speaker;
+use atom_board::{AtomBoard, Closed, Mutator};
+use block_store::OutOfMemory;
+use mail_post::{Post, Sender, Taken, Taker};
+use std::alloc::Global;
+
+/// The board of a job, and the post by which its threads send.
+#[derive(Drop)]
+pub(crate) struct Office {
+    pub(crate) board: AtomBoard,
+    pub(crate) post: Post,
+}
+
+/// Each mutator with a sender, in order.
+pub(crate) fn paired(
+    alloc: Global,
+    mutators: Vec<Mutator>,
+    senders: Vec<Sender>,
+) -> Result<Vec<Speaker>, OutOfMemory>
+    requires { length mutators.items ≡ length senders.items }
+    ensures { IfOk result (λ v. v.items ≡ zipped mutators.items senders.items) }
+{
+    let mut senders = senders;
+    let mut speakers = Vec::new(alloc);
+    for mutator in mutators {
+        let sender = senders.remove(0);
+        speakers.push(Speaker { mutator, sender })?;
+    }
+    Ok(speakers)
+}
+
+/// Closes board and post, when all was done and taken.
+pub(crate) fn closed(office: Office, mutators: Vec<Mutator>, taker: Taker) -> (Closed, Taken)
+    requires { IsReceived office mutators.items taker }
+    ensures config { result.0.config ≡ office.board.config }
+    ensures counted { IsFinishedBy office.board.config office.board.traces mutators.items
+        result.0.logs result.0.cycles }
+    ensures taken { result.1.taken ≡ map numbers_said result.0.logs }
+    ensures sent { result.1.sent ≡ map numbers_said result.0.logs }
+{
+    let Office { board, post } = office;
+    (board.close(mutators), post.close(taker))
+}

@@ -1,0 +1,90 @@
+//! A thread that sends what it says.
+
+ghost use Rattle.std.specs.Prelude.{◌≡◌, ◌++◌, ◌∷◌, []};
+ghost use Rattle.said_numbers.specs.Said.{numbers_said};
+ghost use Rattle.mail_runs.specs.Speakers.{IsSpeaker, HasSpoken};
+
+use crate::office::Office;
+use atom_board::Mutator;
+use crossbeam_utils::Backoff;
+use heap_system::Turn;
+use mail_post::{Post, Sender};
+use never_heap::{Entry, Pace};
+use said_numbers::number_said;
+use std::sync::Wait;
+use std::thread;
+
+/// A mutator, and the sender that sends what it says.
+#[derive(Drop)]
+pub(crate) struct Speaker {
+    pub(crate) mutator: Mutator,
+    pub(crate) sender: Sender,
+}
+
+impl Speaker {
+    /// Makes a turn of the mutator, and sends the numbers by which its log has grown.
+    fn turn<R: Wait>(&mut self, rt: &R, office: &Office) -> Turn
+        requires { IsSpeaker office.now self.old.mutator.local.thread self.old }
+        ensures { IsSpeaker office.now self.old.mutator.local.thread self.new }
+    {
+        let told = self.mutator.log().len();
+        let answer = office.board.turn(&mut self.mutator);
+        tell(
+            rt,
+            &office.post,
+            &mut self.sender,
+            &self.mutator.log()[told..],
+        );
+        answer
+    }
+
+    /// Makes turns until the mutator is done, and tells the pace before each command. After a turn
+    /// that waited it pauses, longer each time until it has ended a command.
+    pub(crate) fn speak<R: Wait, Q: Pace>(self, rt: &R, office: &Office, pace: &Q) -> Speaker
+        requires { IsSpeaker office.now self.mutator.local.thread self }
+        ensures { HasSpoken office.now self.mutator.local.thread result }
+    {
+        let mut who = self;
+        let backoff = Backoff::new();
+        for _ in rt.forever() {
+            let ended = who.mutator.log().len();
+            if who.mutator.at_rest() {
+                if who.mutator.done() {
+                    return who;
+                }
+                pace.before(rt, who.mutator.thread(), ended as u64);
+            }
+            if who.turn(rt, office) == Turn::Waited {
+                backoff.snooze();
+                thread::yield_now();
+            } else if who.mutator.log().len() > ended {
+                backoff.reset();
+            }
+        }
+        unreachable!()
+    }
+}
+
+/// Sends the numbers that entries show.
+fn tell<R: Wait>(rt: &R, post: &Post, sender: &mut Sender, entries: &[Entry])
+    requires { sender.old.post ≡ post.now.id }
+    ensures post { sender.new.post ≡ sender.old.post }
+    ensures thread { sender.new.thread ≡ sender.old.thread }
+    ensures sent { sender.new.sent ≡ sender.old.sent ++ numbers_said entries.now }
+{
+    for entry in entries {
+        tell_one(rt, post, sender, entry);
+    }
+}
+
+/// The same of one entry.
+fn tell_one<R: Wait>(rt: &R, post: &Post, sender: &mut Sender, entry: &Entry)
+    requires { sender.old.post ≡ post.now.id }
+    ensures post { sender.new.post ≡ sender.old.post }
+    ensures thread { sender.new.thread ≡ sender.old.thread }
+    ensures sent { sender.new.sent ≡ sender.old.sent ++ numbers_said (entry.now ∷ []) }
+{
+    if let Some(number) = number_said(entry) {
+        post.send(rt, sender, number);
+    }
+}

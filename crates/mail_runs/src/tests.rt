@@ -1,0 +1,152 @@
+//! Whole jobs, from their texts to their letters.
+
+ghost use Rattle.std.specs.Prelude.{◌≡◌, map, IfOk};
+ghost use Rattle.said_numbers.specs.Said.{numbers_said};
+
+use crate::deliver;
+use atom_board::Closed;
+use board_jobs::Meeting;
+use mail_post::Taken;
+use never_heap::{Logs, NoPace, Pace};
+use rate_plan::plan;
+use std::alloc::{AllocError, Global};
+use std::sync::Wait;
+use std::test::Fail;
+use std::thread::Threads;
+use trace_text::{MemSource, read_trace};
+
+/// What comes of a job of one or two threads that a text spells.
+fn delivered<R: Threads + Wait + Sync, Q: Pace>(
+    rt: &R,
+    alloc: Global,
+    text: &str,
+    pace: &Q,
+) -> Result<(Closed, Taken), Fail>
+    ensures { IfOk result (λ r. r.1.taken ≡ map numbers_said r.0.logs) }
+{
+    let bytes = Vec::from_slice(alloc, text.as_bytes())?;
+    let mut source = MemSource::new(bytes, 4096, Vec::new(alloc));
+    let Ok(job) = read_trace(alloc, &mut source) else {
+        return Err("no job".into());
+    };
+    if plan(&job.config).is_err() || job.config.threads > 2 {
+        return Err("no job of two threads with a rate".into());
+    }
+    match deliver(rt, alloc, job, pace) {
+        Ok(mail) => Ok(mail),
+        Err(_) => Err("no memory".into()),
+    }
+}
+
+/// Whether there are so many threads, and of each these numbers were taken.
+fn are_taken(closed: &Closed, taken: &Taken, wanted: &[&[u64]]) -> bool
+    requires { taken.now.taken ≡ map numbers_said closed.now.logs }
+{
+    if closed.threads() as usize != wanted.len() {
+        return false;
+    }
+    for t in 0..closed.threads() {
+        if taken.numbers(t) != wanted[t as usize] {
+            return false;
+        }
+    }
+    true
+}
+
+#[test]
+fn a_thread_sends_ten_numbers_and_the_other_none(rt: HostRuntime) -> Result<(), Fail> {
+    let alloc = rt.alloc();
+    let mut text = String::from_str(
+        alloc,
+        "rtheap 1 threads 2 blocks 64 live 20 object 2 shared 4\nthread 0\n",
+    )?;
+    for j in 0..10u32 {
+        text.push_str(format!(in alloc; "set 1 {j}\nsay 1\n")?.as_str())?;
+    }
+    text.push_str("thread 1\nend\n")?;
+    let (closed, taken) = delivered(&rt, alloc, text.as_str(), &NoPace)?;
+    let ten: &[u64] = &[0, 1, 2, 3, 4, 5, 6, 7, 8, 9];
+    assert!(rt; are_taken(&closed, &taken, &[ten, &[]]));
+    Ok(())
+}
+
+#[test]
+fn objects_and_nil_are_not_sent(rt: HostRuntime) -> Result<(), Fail> {
+    let text = "rtheap 2 threads 1 blocks 64 live 20 object 2 shared 0
+thread 0
+set 1 5
+say 1
+set 1 6
+say 1
+say 0
+nil 1
+say 1
+new 1 1
+say 1
+set 2 7
+get 1 2 0
+say 2
+end
+";
+    let (closed, taken) = delivered(&rt, rt.alloc(), text, &NoPace)?;
+    assert!(rt; are_taken(&closed, &taken, &[&[5, 6, 7]]));
+    Ok(())
+}
+
+/// How often each of two threads says its number.
+const OFTEN: u32 = 3000;
+
+/// The text in which each of two threads says its number often.
+fn often_said(alloc: Global) -> Result<String, AllocError> {
+    let mut text = String::from_str(
+        alloc,
+        "rtheap 1 threads 2 blocks 64 live 20 object 2 shared 4\n",
+    )?;
+    for t in 0..2u32 {
+        text.push_str(format!(in alloc; "thread {t}\nset 1 {t}\n")?.as_str())?;
+        for _ in 0..OFTEN {
+            text.push_str("say 1\n")?;
+        }
+    }
+    text.push_str("end\n")?;
+    Ok(text)
+}
+
+// With a queue of less room a thread could wait for a caller that waits for it.
+#[test]
+fn threads_that_say_thousands_of_numbers_end(rt: HostRuntime) -> Result<(), Fail> {
+    let alloc = rt.alloc();
+    let text = often_said(alloc)?;
+    let (closed, taken) = delivered(&rt, alloc, text.as_str(), &NoPace)?;
+    let mut numbers: [Vec<u64>; 2] = [Vec::new(alloc), Vec::new(alloc)];
+    for _ in 0..OFTEN {
+        numbers[0].push(0)?;
+        numbers[1].push(1)?;
+    }
+    assert!(rt;
+        are_taken(
+            &closed,
+            &taken,
+            &[numbers[0].as_slice(), numbers[1].as_slice()]
+        )
+    );
+    Ok(())
+}
+
+#[test]
+fn threads_speak_beside_each_other(rt: HostRuntime) -> Result<(), Fail> {
+    let text = "rtheap 1 threads 2 blocks 64 live 20 object 2 shared 4
+thread 0
+say 0
+say 0
+thread 1
+say 0
+say 0
+end
+";
+    let pace = Meeting::new();
+    let (closed, taken) = delivered(&rt, rt.alloc(), text, &pace)?;
+    assert!(rt; are_taken(&closed, &taken, &[&[], &[]]));
+    assert!(rt; pace.took_place());
+    Ok(())
+}
