@@ -1,5 +1,5 @@
-//! How the call of a program ends that has no words and reads one text: why it is refused, with which
-//! status and line, and what a call is to answer.
+//! How the call of a program ends that reads one text at most: why it is refused, with which status
+//! and line, and what a call is to answer.
 #![tactic(auto)]
 
 mod reading;

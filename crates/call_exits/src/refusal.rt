@@ -2,26 +2,42 @@
 
 ghost use Rattle.std.specs.Prelude.{◌≡◌, ◌≤◌, ◌++◌, length};
 ghost use Rattle.call_exits.specs.declared.refusal.Refusal.TheVariants as refusals;
-ghost use Rattle.call_exits.specs.Refusals.{status_of, refusal_of, refusal_line, refusal_text};
+ghost use Rattle.call_exits.specs.Refusals.{status_of, refusal_line, refusal_text};
+ghost use Rattle.call_exits.specs.Refusals.{refusal_of, refusal_of_plan};
 
 use block_store::OutOfMemory;
-use trace_text::{LineBuffer, TraceFault};
+use rate_plan::PlanFault;
+use std::alloc::AllocFailed;
+use trace_text::{LineBuffer, TraceFault, Why};
 
-/// Why a call was refused, each with a status and a line of its own.
+/// Why a call was refused, each with a status and a line of its own. Which of these a program can
+/// answer is said by what it names as their causes.
 #[derive(Clone, Copy, Debug, PartialEq, Eq)]
 pub enum Refusal {
-    /// There are words.
+    /// The words ask for nothing.
     Usage,
-    /// This line of the input, counted from 1, is the first that cannot stand at its place.
-    BadLine { line: u64 },
-    /// The input has more than 16,777,216 bytes.
+    /// This line of a job, counted from 1, is the first outside the grammar.
+    BadLine { line: u64, why: Why },
+    /// This line of a script, counted from 1, is the first that cannot stand at its place.
+    BadScriptLine { line: u64 },
+    /// The input has too many bytes, or its job has.
     TooLong,
-    /// No rate is enough for the heap.
+    /// The jobs of an input have more threads together than may be begun.
+    TooManyThreads,
+    /// The job of an input says more than there is room for.
+    TooManySays,
+    /// The heap opens with more blocks than the live limit.
+    LiveTooSmall,
+    /// No rate is enough for the configuration.
     NoRate,
     /// The source failed.
     ReadFault,
     /// Memory ran out.
     OutOfMemory,
+    /// The turns of a replay were made, and this is the least thread that is not done.
+    TurnsUsed { thread: u32 },
+    /// This line of an order, counted from 1, is the first that is not good.
+    BadOrder { line: u64 },
 }
 
 impl Refusal {
@@ -31,10 +47,13 @@ impl Refusal {
     {
         match self {
             Refusal::Usage => 2,
-            Refusal::BadLine { .. } | Refusal::TooLong => 3,
-            Refusal::NoRate => 4,
+            Refusal::BadLine { .. } | Refusal::BadScriptLine { .. } | Refusal::TooLong => 3,
+            Refusal::TooManyThreads | Refusal::TooManySays => 3,
+            Refusal::LiveTooSmall | Refusal::NoRate => 4,
             Refusal::ReadFault => 5,
             Refusal::OutOfMemory => 7,
+            Refusal::TurnsUsed { .. } => 8,
+            Refusal::BadOrder { .. } => 9,
         }
     }
 
@@ -54,18 +73,35 @@ impl Refusal {
     fn prepend_reason(self, line: &mut LineBuffer)
         requires { length line.old ≤ 1 }
         ensures text { line.new ≡ refusal_text self ++ line.old }
-        ensures length { length line.new ≤ 40 }
+        ensures length { length line.new ≤ 60 }
     {
         match self {
             Refusal::Usage => line.prepend(b"usage"),
-            Refusal::BadLine { line: number } => {
+            Refusal::BadLine { line: number, why } => {
+                line.prepend(why.text().as_bytes());
+                line.prepend(b": ");
+                line.prepend_number(number);
+                line.prepend(b"line ");
+            }
+            Refusal::BadScriptLine { line: number } => {
                 line.prepend_number(number);
                 line.prepend(b"line ");
             }
             Refusal::TooLong => line.prepend(b"input too long"),
+            Refusal::TooManyThreads => line.prepend(b"too many threads"),
+            Refusal::TooManySays => line.prepend(b"too many says"),
+            Refusal::LiveTooSmall => line.prepend(b"live limit too small"),
             Refusal::NoRate => line.prepend(b"no rate"),
             Refusal::ReadFault => line.prepend(b"read fault"),
             Refusal::OutOfMemory => line.prepend(b"no memory"),
+            Refusal::TurnsUsed { thread } => {
+                line.prepend_short_number(thread);
+                line.prepend(b"turns used, thread ");
+            }
+            Refusal::BadOrder { line: number } => {
+                line.prepend_number(number);
+                line.prepend(b"order line ");
+            }
         }
     }
 }
@@ -78,6 +114,14 @@ impl From<OutOfMemory> for Refusal {
     }
 }
 
+impl<T: Drop> From<AllocFailed<T>> for Refusal {
+    ghost from_gives = { λ _ refusal. refusal ≡ refusals.OutOfMemory };
+
+    fn from(_error: AllocFailed<T>) -> Refusal {
+        Refusal::OutOfMemory
+    }
+}
+
 impl From<TraceFault> for Refusal {
     ghost from_gives = { λ fault refusal. refusal ≡ refusal_of fault };
 
@@ -85,8 +129,19 @@ impl From<TraceFault> for Refusal {
         match fault {
             TraceFault::ReadFault => Refusal::ReadFault,
             TraceFault::TooLong => Refusal::TooLong,
-            TraceFault::BadLine { line, .. } => Refusal::BadLine { line },
+            TraceFault::BadLine { line, why } => Refusal::BadLine { line, why },
             TraceFault::OutOfMemory => Refusal::OutOfMemory,
+        }
+    }
+}
+
+impl From<PlanFault> for Refusal {
+    ghost from_gives = { λ fault refusal. refusal ≡ refusal_of_plan fault };
+
+    fn from(fault: PlanFault) -> Refusal {
+        match fault {
+            PlanFault::LiveTooSmall => Refusal::LiveTooSmall,
+            PlanFault::NoRate => Refusal::NoRate,
         }
     }
 }

@@ -8,7 +8,7 @@ use Rattle.historian_core.specs.declared.Limits.{Limits}
 use Rattle.historian_core.specs.declared.texts.Stop.{Stop}
 use Rattle.historian_core.specs.declared.texts.Stop.TheVariants.{BadLine, NoLifeLeft, ReadFault, WriteFault}
 use Rattle.historian_core.specs.Lines.{Spells, SpellsNone, IsFirstLine, IsNextLine}
-use Rattle.historian_core.specs.Reports.{IsReadTo, IsReport, IsReportBehind}
+use Rattle.historian_core.specs.Reports.{IsReadTo, IsReport, IsReportBehind, IsFineText, IsToldOrFails}
 use Rattle.historian_core.specs.Texts.{life, reading_at, limits_at, readings_in, limits_in, stop_in, told_in, stop_behind, told_behind}
 use Rattle.historian_core.specs.Windows.{told_line, told_lines}
 use Rattle.historian_core.proofs.TextLaws.{readings_more, stop_none, told_all, stop_bad, told_bad, one_more_read, stop_life, told_life}
@@ -263,3 +263,40 @@ report_bad (Some bytes) left held ReadFault first = record {
 }
 report_bad (Some bytes) left held NoLifeLeft first = absurd first
 report_bad (Some bytes) left held WriteFault first = absurd first
+
+-- ---- a text of limits and readings
+
+module _ (bytes : List ℕ) (l : Limits) (xs : List ℕ) (fine : IsFineText bytes l xs) where
+  end : fine.others ≡ fine.others ++ []
+  end = sym (append-nil fine.others)
+
+  no_stop : stop_in (lines_of bytes) ≡ None
+  no_stop =
+      ap stop_in fine.lines ∙ ap (λ o. stop_behind o fine.others) fine.limits
+      ∙ stop_none l fine.others fine.others xs fine.readings end fine.few
+
+  told_whole_text : told_in (lines_of bytes) ≡ told_lines l [] xs
+  told_whole_text =
+      ap told_in fine.lines ∙ ap (λ o. told_behind o fine.others) fine.limits
+      ∙ told_all l fine.others fine.others xs fine.readings end fine.few
+
+  none_stops : (stop : Stop) → stop_in (lines_of bytes) ≡ Some stop → ⊥
+  none_stops stop is = differ stop (sym no_stop ∙ is)
+    where
+      differ : (s : Stop) → None ≡ Some s → ⊥
+      differ s e = absurd cc
+
+  fine_told : (left held now : Option (List ℕ)) (r : Result (Unit {0}) Stop)
+      → IsReport bytes left held now r → IsToldOrFails l xs held now r
+  fine_told left held now (Ok done) by = subst (Appends held now) told_whole_text by.2
+  fine_told left held now (Err (BadLine n)) by = none_stops (BadLine n) by.0
+  fine_told left held now (Err NoLifeLeft) by = none_stops NoLifeLeft by.0
+  fine_told left held now (Err ReadFault) by = tt
+  fine_told left held now (Err WriteFault) by = tt
+
+pub fine_reported : (all left held now : Option (List ℕ)) (r : Result (Unit {0}) Stop)
+    → IfSome all (λ bytes. IsReport bytes left held now r)
+    → IfSome all (λ bytes. (l : Limits) (xs : List ℕ) → IsFineText bytes l xs
+    → IsToldOrFails l xs held now r)
+fine_reported None left held now r by = tt
+fine_reported (Some bytes) left held now r by = λ l xs fine. fine_told bytes l xs fine left held now r by

@@ -7,7 +7,7 @@ use Rattle.short_lines.specs.Found.{IsCut}
 use Rattle.historian_core.specs.declared.Limits.{Limits}
 use Rattle.historian_core.specs.declared.texts.Stop.{Stop}
 use Rattle.historian_core.specs.declared.texts.Stop.TheVariants.{ReadFault, WriteFault}
-use Rattle.historian_core.specs.Texts.{life, reading_at, stop_in, told_in, stop_behind, told_behind, limits_in, readings_in}
+use Rattle.historian_core.specs.Texts.{life, reading_at, limits_at, stop_in, told_in, stop_behind, told_behind, limits_in, readings_in}
 use Rattle.historian_core.specs.Windows.{told_line, told_lines}
 
 -- The source failed: these lines were read, and what they ask is told. Of the next one some bytes
@@ -45,6 +45,29 @@ IsReport bytes left held held_now (Err WriteFault) = BreaksOff bytes held held_n
 IsReport bytes left held held_now (Err stop) =
     (stop_in (lines_of bytes) ≡ Some stop) × Appends held held_now (told_in (lines_of bytes))
 
+-- these lines spell these readings
+abbrev pub AreReadings : List (List ℕ) → List ℕ → Type 0
+AreReadings [] [] = Unit {0}
+AreReadings (line ∷ lines) (x ∷ xs) = (reading_at line ≡ Some x) × AreReadings lines xs
+AreReadings _ _ = ⊥
+
+-- a text of limits, and of readings for which one life is enough
+pub record IsFineText (bytes : List ℕ) (l : Limits) (xs : List ℕ) : Type 0 where
+  pub first : List ℕ
+  pub others : List (List ℕ)
+  pub lines : lines_of bytes ≡ first ∷ others
+  pub limits : limits_at first ≡ Some l
+  pub readings : AreReadings others xs
+  pub few : length xs ≤ life
+
+-- these readings are told, unless a stream failed
+abbrev pub IsToldOrFails : Limits → List ℕ → Option (List ℕ) → Option (List ℕ)
+    → Result (Unit {0}) Stop → Type 0
+IsToldOrFails l xs held held_now (Ok done) = Appends held held_now (told_lines l [] xs)
+IsToldOrFails l xs held held_now (Err ReadFault) = Unit {0}
+IsToldOrFails l xs held held_now (Err WriteFault) = Unit {0}
+IsToldOrFails l xs held held_now (Err _) = ⊥
+
 -- Which faults the source and the sink have counted: a fault is that of its stream, and each is
 -- told.
 abbrev pub AreCounted : ℕ → ℕ → ℕ → ℕ → Result (Unit {0}) Stop → Type 0
@@ -55,12 +78,6 @@ AreCounted read read_now written written_now (Err WriteFault) =
 AreCounted read read_now written written_now r = (read_now ≡ read) × (written_now ≡ written)
 
 -- ---- the same of the lines behind the limits
-
--- these lines spell these readings
-abbrev pub AreReadings : List (List ℕ) → List ℕ → Type 0
-AreReadings [] [] = Unit {0}
-AreReadings (line ∷ lines) (x ∷ xs) = (reading_at line ≡ Some x) × AreReadings lines xs
-AreReadings _ _ = ⊥
 
 -- these readings were read, and this is left
 pub record IsReadTo (bytes : List ℕ) (past : List ℕ) (left : Option (List ℕ)) : Type 0 where

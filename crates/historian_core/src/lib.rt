@@ -11,6 +11,8 @@ ghost use Rattle.trace_text.specs.Streams.{Appends, AppendsPrefix};
 ghost use Rattle.historian_core.specs.Kept.{Holds, Keeps, heap_config, listed_from, refers};
 ghost use Rattle.historian_core.specs.Windows as windows;
 
+#[cfg(test)]
+mod tests;
 mod texts;
 
 use asked_graph::{ask_all, lives_add_up, open};

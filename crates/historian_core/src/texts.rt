@@ -5,7 +5,7 @@ ghost use Rattle.trace_text.specs.Streams.{Appends};
 ghost use Rattle.historian_core.specs.declared.Limits.{Limits};
 ghost use Rattle.historian_core.specs.Kept.{Keeps};
 ghost use Rattle.historian_core.specs.Lines.{IsFirstLine, IsNextLine, CountsRead};
-ghost use Rattle.historian_core.specs.Reports.{IsReport, IsReportBehind, AreCounted};
+ghost use Rattle.historian_core.specs.Reports.{IsReport, IsReportBehind, IsFineText, IsToldOrFails, AreCounted};
 ghost use Rattle.historian_core.specs.Texts.{reading_at, limits_at, status_of};
 
 use crate::{LIFE, Limits, tell};
@@ -82,6 +82,9 @@ pub fn report<S: Source, K: Sink>(
     requires { (l : Limits) → Keeps heap.old l [] }
     ensures report { IfSome (S.left source.old) (λ bytes.
         IsReport bytes (S.left source.new) (K.held sink.old) (K.held sink.new) result) }
+    ensures fine { IfSome (S.left source.old) (λ bytes. (l : Limits) (xs : List ℕ)
+        → IsFineText bytes l xs
+        → IsToldOrFails l xs (K.held sink.old) (K.held sink.new) result) }
     ensures counted { AreCounted (S.faults source.old) (S.faults source.new) (K.faults sink.old)
         (K.faults sink.new) result }
 {

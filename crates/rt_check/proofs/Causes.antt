@@ -1,111 +1,63 @@
 -- What was read causes the answer.
-use Rattle.std.proofs.Common.{◌≡◌, ◌≢◌, ℕ, ◌+◌, ◌<◌, ◌≤◌, inl, inr, ◌↔◌, List, [], ◌++◌, length, drop, Option, Some, None, sym, refl, ap, ◌∙◌, subst, append-nil, length-append, arith}
-use Rattle.std.specs.Prelude.{IfSome}
-use Rattle.std.proofs.Math.Seq.{drop-append_seam}
-use Rattle.std.proofs.lemmas.List.{drop_all}
+use Rattle.std.proofs.Common.{ℕ, inl, inr, List, [], ◌∷◌, Some, None, sym, refl, ap, subst}
 use Rattle.std.proofs.lemmas.Option.{same_Some}
-use Rattle.trace_text.specs.Inputs.{HasRead}
-use Rattle.trace_text.specs.Streams.{IsAtEnd, TookAtMost}
-use Rattle.rt_check.specs.declared.refusal.Refusal.{Refusal}
-use Rattle.rt_check.specs.declared.refusal.Refusal.TheVariants.{Usage, BadLine, TooLong, LiveTooSmall, NoRate, ReadFault, OutOfMemory, BadOrder}
-use Rattle.rt_check.specs.Answers.{status_of, IsAnswerTo, IsAnswered, IsCause, IsJudged, IsDueOrFails}
+use Rattle.call_exits.specs.declared.refusal.Refusal.{Refusal}
+use Rattle.call_exits.specs.declared.refusal.Refusal.TheVariants.{Usage, BadLine, TooLong, LiveTooSmall, NoRate, ReadFault, OutOfMemory, BadOrder}
+use Rattle.call_exits.specs.Exits.{IsDue}
+use Rattle.call_exits.specs.Refusals.{AreNone, status_of, IsReadWhole, IsReadRefusal, HasRead}
+use Rattle.call_exits.specs.Sides.{Sides, IsUnfailed}
+use Rattle.call_exits.proofs.Ending.{AreApart}
+use Rattle.call_exits.proofs.WholeTexts.{few_taken, refused_unread}
+use Rattle.rt_check.specs.Answers.{Causes, IsAccepted, IsCause, IsJudged}
+use Rattle.rt_check.specs.Inputs.{check_limit}
 use Rattle.rt_check.proofs.OneAnswer.{one_answer}
 
--- ---- a source that was read
+-- ---- bytes have one answer
 
-pub left_behind : (bytes front rest : List ℕ) → bytes ≡ front ++ rest → drop (length front) bytes ≡ rest
-left_behind bytes front rest e = ap (drop (length front)) e ∙ drop-append_seam front rest
+own_status : (b : List ℕ) (r : Refusal) → Causes b r → IsDue (4 ∷ 9 ∷ []) (status_of r)
+own_status b TooLong c = inr (inr (inl refl))
+own_status b (BadLine line why) c = inr (inr (inl refl))
+own_status b LiveTooSmall c = inr (inr (inr (inr (inr (inl refl)))))
+own_status b NoRate c = inr (inr (inr (inr (inr (inl refl)))))
+own_status b (BadOrder n) c = inr (inr (inr (inr (inr (inr (inl refl))))))
+own_status b _ c = absurd c.2
 
-pub too_long : (old new : Option (List ℕ)) (front : List ℕ) → length front ≡ 67108865
-    → HasRead old front new → IsAnswered (Some TooLong) old new
-too_long None new front long h = tt
-too_long (Some bytes) new front long h =
-    let size : length bytes ≡ length front + length h.0 = ap length h.1 ∙ length-append front h.0 in
-    let more : 67108864 < length bytes = omega arith in (
-      inl more,
-      h.2 ∙ ap Some (sym (left_behind bytes front h.0 h.1) ∙ ap (λ (n : ℕ). drop n bytes) long),
-    )
+not_accepted : (b : List ℕ) (r : Refusal) → Causes b r → IsAccepted b → ⊥
+not_accepted b r c fine = let same = one_answer b (Some r) None c fine in cc
 
-pub took_front : (old new : Option (List ℕ)) (front : List ℕ) (most : ℕ) → length front ≤ most
-    → HasRead old front new → TookAtMost most old new
-took_front None new front most few h = tt
-took_front (Some bytes) new front most few h =
-    (length front, few, h.2 ∙ ap Some (sym (left_behind bytes front h.0 h.1)))
+pub are_apart : AreApart AreNone AreNone check_limit Causes IsAccepted (4 ∷ 9 ∷ [])
+are_apart = record {
+  asked = λ words none. none;
+  one = λ b r q c d. ap status_of (same_Some r q (one_answer b (Some r) (Some q) c d));
+  not_fine = not_accepted;
+  due = own_status;
+}
 
-answered : (a : Option Refusal) (old new : Option (List ℕ)) (front : List ℕ)
-    → length front ≤ 67108864 → HasRead old front new → IsAtEnd old new → IsAnswerTo front a
-    → IsAnswered a old new
-answered a None new front few h e p = tt
-answered a (Some bytes) new front few h e p =
-    let none : h.0 ≡ [] = same_Some h.0 [] (sym h.2 ∙ e) in
-    let all : bytes ≡ front = h.1 ∙ ap (λ (r : List ℕ). front ++ r) none ∙ append-nil front in
-    let size : length bytes ≡ length front = ap length all in (
-      subst (λ (b : List ℕ). IsAnswerTo b a) (sym all) p,
-      e ∙ ap Some (sym (drop_all 67108865 bytes (omega arith))),
-    )
+-- ---- bytes that were read, or were not
 
-module _ (old new : Option (List ℕ)) (before now : ℕ) (front : List ℕ)
-    (few : length front ≤ 67108864) (h : HasRead old front new) (e : IsAtEnd old new)
-    (still : now ≡ before) where
-  caused : (a : Option Refusal) → IsAnswerTo front a → IsCause [] old new before now a
-  caused None p = (refl, answered None old new front few h e p, still)
-  caused (Some Usage) p = absurd p.2
-  caused (Some TooLong) p = (refl, answered (Some TooLong) old new front few h e p, still)
-  caused (Some (BadLine line why)) p =
-      (refl, answered (Some (BadLine line why)) old new front few h e p, still)
-  caused (Some LiveTooSmall) p = (refl, answered (Some LiveTooSmall) old new front few h e p, still)
-  caused (Some NoRate) p = (refl, answered (Some NoRate) old new front few h e p, still)
-  caused (Some ReadFault) p = absurd p.2
-  caused (Some OutOfMemory) p = absurd p.2
-  caused (Some (BadOrder n)) p = (refl, answered (Some (BadOrder n)) old new front few h e p, still)
+pub refused_by_source : (source : Sides) (r : Refusal) → IsReadRefusal check_limit source r
+    → IsCause [] source r
+refused_by_source source r c =
+    refused_unread AreNone AreNone check_limit Causes [] refl refl source r c
 
-  pub judged_cause : (a : Option Refusal) → IsJudged front a → IsCause [] old new before now a
-  judged_cause a (inl p) = caused a p
-  judged_cause a (inr q) =
-      subst (IsCause [] old new before now) (sym q)
-      (refl, took_front old new front 67108865 (omega arith) h, still)
+module _ (source : Sides) (bytes : List ℕ) (whole : IsReadWhole check_limit source bytes)
+    (still : IsUnfailed source) where
+  has_read : (P : List ℕ → Type 0) → P bytes → HasRead check_limit P source
+  has_read P p = record { text = bytes; whole = whole; holds = p; unfailed = still }
 
--- ---- the call
+  caused : (r : Refusal) → Causes bytes r → IsCause [] source r
+  caused Usage c = absurd c.2
+  caused ReadFault c = absurd c.2
+  caused OutOfMemory c = absurd c.2
+  caused TooLong c = inr (refl, has_read (λ text. Causes text TooLong) c)
+  caused r c = (refl, has_read (λ text. Causes text r) c)
 
-module _ (words : List (List ℕ)) (left left_now : Option (List ℕ)) (before now due : ℕ) where
-  pub usage_of : (a : Option Refusal) → due ≡ status_of a
-      → IsCause words left left_now before now a → (due ≡ 2) ↔ (words ≢ [])
-  usage_of None d c = (λ e. absurd (omega arith), λ some. absurd (some c.0))
-  usage_of (Some Usage) d c = (λ e. c.0, λ some. d)
-  usage_of (Some TooLong) d c = (λ e. absurd (omega arith), λ some. absurd (some c.0))
-  usage_of (Some (BadLine line why)) d c = (λ e. absurd (omega arith), λ some. absurd (some c.0))
-  usage_of (Some LiveTooSmall) d c = (λ e. absurd (omega arith), λ some. absurd (some c.0))
-  usage_of (Some NoRate) d c = (λ e. absurd (omega arith), λ some. absurd (some c.0))
-  usage_of (Some ReadFault) d c = (λ e. absurd (omega arith), λ some. absurd (some c.0))
-  usage_of (Some OutOfMemory) d c = (λ e. absurd (omega arith), λ some. absurd (some c.0))
-  usage_of (Some (BadOrder n)) d c = (λ e. absurd (omega arith), λ some. absurd (some c.0))
+  pub judged_cause : (r : Refusal) → IsJudged bytes (Some r) → IsCause [] source r
+  judged_cause r (inl p) = caused r p
+  judged_cause r (inr q) =
+      subst (IsCause [] source) (sym (same_Some r OutOfMemory q))
+      (refl, (few_taken check_limit source bytes whole, still))
 
-  one_of : (bytes : List ℕ) (a b : Option Refusal) → due ≡ status_of b → IsAnswerTo bytes b
-      → IsAnswerTo bytes a → IsDueOrFails (status_of a) due
-  one_of bytes a b d q p = inl (d ∙ ap status_of (one_answer bytes b a q p))
-
-  pub complete_of : (b : Option Refusal) → due ≡ status_of b
-      → IsCause words left left_now before now b → words ≡ []
-      → IfSome left (λ bytes. (a : Option Refusal) → IsAnswerTo bytes a
-      → IsDueOrFails (status_of a) due)
-  complete_of b d c none =
-      elim left as (λ (l : Option (List ℕ)). IsCause words l left_now before now b
-      → IfSome l (λ bytes. (a : Option Refusal) → IsAnswerTo bytes a
-      → IsDueOrFails (status_of a) due)) [
-        | None ↦ λ _. tt
-        | Some bytes ↦ λ k a p. known bytes b d k none a p
-      ] c
-    where
-      known : (bytes : List ℕ) (b : Option Refusal) → due ≡ status_of b
-          → IsCause words (Some bytes) left_now before now b → words ≡ []
-          → (a : Option Refusal) → IsAnswerTo bytes a → IsDueOrFails (status_of a) due
-      known bytes None d c none a p = one_of bytes a None d c.1.0 p
-      known bytes (Some Usage) d c none a p = absurd (c.0 none)
-      known bytes (Some TooLong) d c none a p = one_of bytes a (Some TooLong) d c.1.0 p
-      known bytes (Some (BadLine line why)) d c none a p =
-          one_of bytes a (Some (BadLine line why)) d c.1.0 p
-      known bytes (Some LiveTooSmall) d c none a p = one_of bytes a (Some LiveTooSmall) d c.1.0 p
-      known bytes (Some NoRate) d c none a p = one_of bytes a (Some NoRate) d c.1.0 p
-      known bytes (Some ReadFault) d c none a p = inr (inl d)
-      known bytes (Some OutOfMemory) d c none a p = inr (inr d)
-      known bytes (Some (BadOrder n)) d c none a p = one_of bytes a (Some (BadOrder n)) d c.1.0 p
+  pub judged_fine : IsJudged bytes None → HasRead check_limit IsAccepted source
+  judged_fine (inl p) = has_read IsAccepted p
+  judged_fine (inr q) = absurd cc

@@ -11,3 +11,4 @@ pub mod Leading
 pub mod OneTaken
 pub mod OneAnswer
 pub mod Causes
+pub mod CarriedOut

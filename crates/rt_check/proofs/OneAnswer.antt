@@ -7,8 +7,8 @@ use Rattle.trace_text.specs.Jobs.{Job}
 use Rattle.trace_text.specs.Lines.{lines_of}
 use Rattle.trace_text.proofs.OneJob.{one_job}
 use Rattle.trace_text.proofs.WholeLaws.{apart, one_first}
-use Rattle.rt_check.specs.declared.refusal.Refusal.{Refusal}
-use Rattle.rt_check.specs.declared.refusal.Refusal.TheVariants.{Usage, BadLine, TooLong, LiveTooSmall, NoRate, ReadFault, OutOfMemory, BadOrder}
+use Rattle.call_exits.specs.declared.refusal.Refusal.{Refusal}
+use Rattle.call_exits.specs.declared.refusal.Refusal.TheVariants.{BadLine, TooLong, LiveTooSmall, NoRate, BadOrder}
 use Rattle.rt_check.specs.Answers.{IsAnswerOf, IsAnswerTo}
 use Rattle.rt_check.specs.Good.{AreGood, FirstBad}
 use Rattle.rt_check.specs.Inputs.{job_part, order_part, IsTooLong, IsShort, HasBadLine, HasJob, IsOrderOf, IsBadAt}
@@ -50,61 +50,41 @@ module _ (bytes : List ℕ) (job : Job) (few : length job.traces ≤ 16) where
 
   same_none : (b : Option Refusal) → IsOrderOf bytes job → IsAnswerOf bytes job b → None ≡ b
   same_none None o p = refl
-  same_none (Some Usage) o p = absurd p
-  same_none (Some TooLong) o p = absurd p
-  same_none (Some (BadLine line why)) o p = absurd p
   same_none (Some LiveTooSmall) o p = absurd (not_small o.admitted p)
   same_none (Some NoRate) o p = absurd (not_rateless o.admitted p)
-  same_none (Some ReadFault) o p = absurd p
-  same_none (Some OutOfMemory) o p = absurd p
   same_none (Some (BadOrder n)) o p = absurd (order_not_bad n o p)
+  same_none (Some _) o p = absurd p
 
   same_small : (b : Option Refusal) → IsAnswerOf bytes job (Some LiveTooSmall)
       → IsAnswerOf bytes job b → Some LiveTooSmall ≡ b
   same_small None a p = absurd (not_small p.admitted a)
-  same_small (Some Usage) a p = absurd p
-  same_small (Some TooLong) a p = absurd p
-  same_small (Some (BadLine line why)) a p = absurd p
   same_small (Some LiveTooSmall) a p = refl
   same_small (Some NoRate) a p = absurd (let q = p.0 in omega arith)
-  same_small (Some ReadFault) a p = absurd p
-  same_small (Some OutOfMemory) a p = absurd p
   same_small (Some (BadOrder n)) a p = absurd (not_small p.admitted a)
+  same_small (Some _) a p = absurd p
 
   same_rateless : (b : Option Refusal) → IsAnswerOf bytes job (Some NoRate)
       → IsAnswerOf bytes job b → Some NoRate ≡ b
   same_rateless None a p = absurd (not_rateless p.admitted a)
-  same_rateless (Some Usage) a p = absurd p
-  same_rateless (Some TooLong) a p = absurd p
-  same_rateless (Some (BadLine line why)) a p = absurd p
   same_rateless (Some LiveTooSmall) a p = absurd (let q = a.0 in omega arith)
   same_rateless (Some NoRate) a p = refl
-  same_rateless (Some ReadFault) a p = absurd p
-  same_rateless (Some OutOfMemory) a p = absurd p
   same_rateless (Some (BadOrder n)) a p = absurd (not_rateless p.admitted a)
+  same_rateless (Some _) a p = absurd p
 
   same_bad : (m : ℕ) (b : Option Refusal) → IsBadAt bytes job m → IsAnswerOf bytes job b
       → Some (BadOrder m) ≡ b
   same_bad m None a p = absurd (order_not_bad m p a)
-  same_bad m (Some Usage) a p = absurd p
-  same_bad m (Some TooLong) a p = absurd p
-  same_bad m (Some (BadLine line why)) a p = absurd p
   same_bad m (Some LiveTooSmall) a p = absurd (not_small a.admitted p)
   same_bad m (Some NoRate) a p = absurd (not_rateless a.admitted p)
-  same_bad m (Some ReadFault) a p = absurd p
-  same_bad m (Some OutOfMemory) a p = absurd p
   same_bad m (Some (BadOrder n)) a p = ap (λ (k : ℕ). Some (BadOrder k)) (bad_once m n a p)
+  same_bad m (Some _) a p = absurd p
 
   same_of : (a b : Option Refusal) → IsAnswerOf bytes job a → IsAnswerOf bytes job b → a ≡ b
   same_of None b p q = same_none b p q
-  same_of (Some Usage) b p q = absurd p
-  same_of (Some TooLong) b p q = absurd p
-  same_of (Some (BadLine line why)) b p q = absurd p
   same_of (Some LiveTooSmall) b p q = same_small b p q
   same_of (Some NoRate) b p q = same_rateless b p q
-  same_of (Some ReadFault) b p q = absurd p
-  same_of (Some OutOfMemory) b p q = absurd p
   same_of (Some (BadOrder n)) b p q = same_bad n b p q
+  same_of (Some _) b p q = absurd p
 
 -- ---- of any bytes
 
@@ -124,14 +104,9 @@ data Kind (bytes : List ℕ) (a : Option Refusal) : Type 0 where
 
 kind_of : (bytes : List ℕ) (a : Option Refusal) → IsAnswerTo bytes a → Kind bytes a
 kind_of bytes None p = Judged p
-kind_of bytes (Some Usage) p = Judged p
 kind_of bytes (Some TooLong) p = Long p refl
 kind_of bytes (Some (BadLine line why)) p = Wrong line why p refl
-kind_of bytes (Some LiveTooSmall) p = Judged p
-kind_of bytes (Some NoRate) p = Judged p
-kind_of bytes (Some ReadFault) p = Judged p
-kind_of bytes (Some OutOfMemory) p = Judged p
-kind_of bytes (Some (BadOrder n)) p = Judged p
+kind_of bytes (Some _) p = Judged p
 
 threads_few : (bytes : List ℕ) (job : Job) → HasJob bytes job → length job.traces ≤ 16
 threads_few bytes job h = let l = h.is_job.in_bounds.threads in

@@ -6,7 +6,6 @@ mod input;
 mod laws;
 mod lines;
 mod moves;
-mod refusal;
 mod taken;
 #[cfg(test)]
 mod tests;
@@ -15,6 +14,5 @@ mod top;
 pub use input::parted;
 pub use laws::{answers_are_one, good_orders_are_runs, lines_are_taken_once};
 pub use moves::Move;
-pub use refusal::Refusal;
 pub use taken::moves_of;
 pub use top::{CHECK_LIMIT, CheckExit, check};

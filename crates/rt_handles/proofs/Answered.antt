@@ -25,6 +25,7 @@ use Rattle.handle_table.proofs.Jobs.{jobs_fit}
 use Rattle.handle_table.proofs.Keeping.{slots_are_kept}
 use Rattle.threaded_runs.specs.Ends.{HasHistory, commands_of, job_of}
 use Rattle.trace_text.specs.Jobs.{Job}
+use Rattle.trace_text.specs.Reading.{tokenized}
 use Rattle.rt_handles.specs.declared.line.Header.{Header}
 use Rattle.rt_handles.specs.Answers.{outcomes_in}
 use Rattle.rt_handles.specs.Lines.{Tokens, IsHandleScript}
@@ -92,9 +93,9 @@ pub has_outcomes : (source : Sides) (h : Header) (scripts : List (List Operation
 has_outcomes source h scripts run read room job ran =
     let same : IsRun (config_of h) ran.rate (traces_of rows_of command_at (all_deeds 0 scripts)) ran.history =
     moved_run (job_of run) (job_of_script h scripts) ran.rate ran.history job ran.is_run in
-    let size : length scripts ≡ h.threads = count read.lines h scripts read.script in
+    let size : length scripts ≡ h.threads = count (tokenized read.text) h scripts read.script in
     let kept = slots_are_kept h.threads h.slots h.blocks ran.rate scripts ran.history size
-    (λ t. (each_range read.lines h scripts read.script t).each) same in
+    (λ t. (each_range (tokenized read.text) h scripts read.script t).each) same in
     let parts_are : parts h.threads ran.history ≡ run.logs =
     ap (λ (j : Job). parts j.config.threads ran.history) (sym job) ∙ ran.parts_logged in (
       record {
@@ -121,7 +122,7 @@ pub slots_tell : (source : Sides) (run : ClosedState) (slots : HasSlots source r
     → ShowMakes slots.order × TellFates slots.order
 slots_tell source run slots =
     let h = slots.header in
-    let range = each_range slots.read.lines h slots.scripts slots.read.script in (
+    let range = each_range (tokenized slots.read.text) h slots.scripts slots.read.script in (
       makes_are_shown h.slots slots.scripts slots.order range slots.linear.each slots.linear.answered,
       fates_are_told h.slots slots.scripts slots.order range slots.linear.each slots.linear.answered,
     )

@@ -1,17 +1,17 @@
 -- A call that kept slots, or was refused, did what it is to do.
-use Rattle.std.proofs.Common.{◌≡◌, ◌≢◌, ℕ, List, [], Option, Some, None, IfSome, IsSome, codes, refl, sym, ◌∙◌, subst, arith}
+use Rattle.std.proofs.Common.{◌≡◌, ◌≢◌, ℕ, List, [], ◌∷◌, Option, Some, None, IfSome, IsSome, codes, refl, sym, ◌∙◌, subst}
 use Rattle.atom_board.specs.Mutators.{ClosedState}
 use Rattle.call_exits.specs.declared.refusal.Refusal.{Refusal}
-use Rattle.call_exits.specs.declared.refusal.Refusal.TheVariants.{Usage, BadLine, TooLong, NoRate, ReadFault, OutOfMemory}
 use Rattle.call_exits.specs.Exits.{IsWritten, IsToldBy}
-use Rattle.call_exits.specs.Refusals.{status_of, refusal_line, IsCause}
+use Rattle.call_exits.specs.Refusals.{AreNone, status_of, refusal_line}
 use Rattle.call_exits.specs.Sides.{Sides, IsUnfailed}
-use Rattle.call_exits.proofs.Ending.{done_is_ended, refusal_is_ended}
+use Rattle.call_exits.proofs.Ending.{never_done, done_is_ended, refusal_is_ended}
 use Rattle.handle_table.specs.declared.told.Outcome.{Outcome}
+use Rattle.trace_text.specs.Jobs.{input_limit}
 use Rattle.trace_text.specs.Streams.{Appends, AppendsPrefix}
 use Rattle.rt_handles.specs.declared.exit.HandleExit.{HandleExit}
 use Rattle.rt_handles.specs.Calls.{Headline, HasOutcomes, IsCarriedOut, exit_of}
-use Rattle.rt_handles.specs.Scripts.{HasRoom, IsBadAt, HasNoRate, IsFine}
+use Rattle.rt_handles.specs.Scripts.{HasRoom, Causes, IsCause, IsFine}
 use Rattle.rt_handles.specs.Tellings.{lines_from}
 use Rattle.rt_handles.proofs.Answered.{slots_tell}
 use Rattle.rt_handles.proofs.Apart.{are_apart, script_read}
@@ -41,33 +41,24 @@ module _ (words : List (List ℕ)) (source sink : Sides) (x : HandleExit)
         run = (λ _. due, λ _. subst (λ (o : Option ClosedState). IsSome o) (sym is) refl);
         headline = subst (λ (o : Option ClosedState). IfSome o (Headline source sink x.status))
             (sym is) headline;
-        ended = done_is_ended IsBadAt HasNoRate IsFine are_apart (codes "rt_handles")
-            (exit_of words source sink x) told none due
-            (script_read source slots.header slots.scripts slots.read still HasRoom slots.room);
+        ended = done_is_ended AreNone AreNone input_limit Causes IsFine (4 ∷ []) are_apart
+            (codes "rt_handles") (exit_of words source sink x) told none due still
+            (λ _. script_read source slots.header slots.scripts slots.read still HasRoom slots.room);
       }
-
-  -- the status of a refusal is not that of a call that was carried out
-  some_status : (r : Refusal) → status_of r ≡ 0 → ⊥
-  some_status Usage e = omega arith
-  some_status (BadLine n) e = omega arith
-  some_status TooLong e = omega arith
-  some_status NoRate e = omega arith
-  some_status ReadFault e = omega arith
-  some_status OutOfMemory e = omega arith
 
   -- the call was refused
   pub refusal_is_carried_out : (r : Refusal) → x.due ≡ status_of r → x.run ≡ None
-      → IsCause IsBadAt HasNoRate words source r
+      → IsCause words source r
       → (x.status ≢ 6 → Appends sink.bytes sink.bytes_now (refusal_line (codes "rt_handles") r))
       → (x.status ≡ 6 → AppendsPrefix sink.bytes sink.bytes_now (refusal_line (codes "rt_handles") r))
       → IsCarriedOut words source sink x
   refusal_is_carried_out r due is cause line prefix = record {
     run = (
       λ some. absurd (not_some x.run is some),
-      λ zero. absurd (some_status r (sym due ∙ zero)),
+      λ zero. absurd (never_done r (sym due ∙ zero)),
     );
     headline = subst (λ (o : Option ClosedState). IfSome o (Headline source sink x.status))
         (sym is) tt;
-    ended = refusal_is_ended IsBadAt HasNoRate IsFine are_apart (codes "rt_handles")
-        (exit_of words source sink x) told r due line prefix cause;
+    ended = refusal_is_ended AreNone AreNone input_limit Causes IsFine (4 ∷ []) are_apart
+        (codes "rt_handles") (exit_of words source sink x) told r due line prefix cause;
   }

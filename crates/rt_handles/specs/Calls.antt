@@ -1,7 +1,8 @@
 -- A call, and what is promised of it.
-use Rattle.std.specs.Prelude.{ℕ, ◌≡◌, ◌≤◌, ◌↔◌, List, length, IfSome, IsSome, codes}
+use Rattle.std.specs.Prelude.{ℕ, ◌≡◌, ◌↔◌, List, [], ◌∷◌, IfSome, IsSome, codes}
 use Rattle.atom_board.specs.Mutators.{ClosedState}
 use Rattle.call_exits.specs.Exits.{Exit, IsWritten, IsEnded}
+use Rattle.call_exits.specs.Refusals.{AreNone, IsReadWhole}
 use Rattle.call_exits.specs.Sides.{Sides}
 use Rattle.never_heap.specs.Licensed.{NoFulls}
 use Rattle.operations.specs.Linearizations.{Call, IsLinearization}
@@ -11,21 +12,17 @@ use Rattle.handle_table.specs.declared.told.Outcome.{Outcome}
 use Rattle.handle_table.specs.Fates.{ShowMakes, TellFates}
 use Rattle.threaded_runs.specs.Ends.{HasHistory, job_of}
 use Rattle.trace_text.specs.Jobs.{input_limit}
-use Rattle.trace_text.specs.Reading.{tokenized}
-use Rattle.trace_text.specs.Streams.{IsAtEnd}
 use Rattle.rt_handles.specs.declared.exit.HandleExit.{HandleExit}
 use Rattle.rt_handles.specs.declared.line.Header.{Header}
-use Rattle.rt_handles.specs.Lines.{Tokens, IsHandleScript}
-use Rattle.rt_handles.specs.Scripts.{job_of_script, HasRoom, IsBadAt, HasNoRate, IsFine}
+use Rattle.rt_handles.specs.Scripts.{job_of_script, HasRoom, IsScriptOf, Causes, IsFine}
 use Rattle.rt_handles.specs.Tellings.{outcomes_from, outcomes_text}
 
--- A script was read: where the source told its bytes, they were not too many, and these are their
--- lines. All were read.
+-- A script was read: this text is that script, it is not too long, and where the source told its
+-- bytes they were this text. All were read.
 pub record IsReadAs (source : Sides) (h : Header) (scripts : List (List Operation)) : Type 0 where
-  pub lines : List Tokens
-  pub script : IsHandleScript lines h scripts
-  pub told : IfSome source.bytes (λ bytes. (length bytes ≤ input_limit) × (lines ≡ tokenized bytes))
-  pub ended : IsAtEnd source.bytes source.bytes_now
+  pub text : List ℕ
+  pub whole : IsReadWhole input_limit source text
+  pub script : IsScriptOf text h scripts
 
 -- The slots of a script were kept by a run of its job: the run has a history, and the history a
 -- linearization. No allocation of it was answered full.
@@ -71,4 +68,5 @@ pub record IsCarriedOut (words : List (List ℕ)) (source sink : Sides) (x : Han
   pub run : IsSome x.run ↔ (x.due ≡ 0)
   pub headline : IfSome x.run (Headline source sink x.status)
   -- Each status has its cause, and a known input has one answer.
-  pub ended : IsEnded IsBadAt HasNoRate IsFine (codes "rt_handles") (exit_of words source sink x)
+  pub ended : IsEnded AreNone AreNone input_limit Causes IsFine (4 ∷ []) (codes "rt_handles")
+      (exit_of words source sink x)

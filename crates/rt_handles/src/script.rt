@@ -39,7 +39,7 @@ impl From<Fault> for Refusal {
 
     fn from(fault: Fault) -> Refusal {
         match fault {
-            Fault::BadLine(line) => Refusal::BadLine { line },
+            Fault::BadLine(line) => Refusal::BadScriptLine { line },
             Fault::OutOfMemory => Refusal::OutOfMemory,
         }
     }

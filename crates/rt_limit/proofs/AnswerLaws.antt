@@ -1,76 +1,22 @@
 -- What was read causes the answer, and bytes have one status.
-use Rattle.std.proofs.Common.{◌≡◌, ℕ, ◌+◌, ◌<◌, ◌≤◌, inl, inr, Bool, true, false, List, [], ◌++◌, length, drop, Option, Some, None, Result, Ok, Err, sym, refl, ap, ◌∙◌, subst, append-nil, length-append, arith}
-use Rattle.std.specs.Prelude.{IfSome, IfOk, MatchResult}
-use Rattle.std.proofs.lemmas.List.{drop_all}
-use Rattle.std.proofs.lemmas.Option.{same_Some}
-use Rattle.trace_text.specs.Inputs.{HasRead}
+use Rattle.std.proofs.Common.{◌≡◌, ℕ, inl, inr, Bool, true, false, List, [], ◌∷◌, Result, Ok, Err, sym, refl, subst}
+use Rattle.std.specs.Prelude.{IfOk}
+use Rattle.call_exits.specs.declared.refusal.Refusal.{Refusal}
+use Rattle.call_exits.specs.declared.refusal.Refusal.TheVariants.{Usage, BadLine, TooLong, ReadFault, OutOfMemory, BadOrder}
+use Rattle.call_exits.specs.Exits.{IsDue}
+use Rattle.call_exits.specs.Refusals.{AreNone, status_of, IsReadWhole, IsReadRefusal, HasRead}
+use Rattle.call_exits.specs.Sides.{Sides, IsUnfailed}
+use Rattle.call_exits.proofs.Ending.{AreApart}
+use Rattle.call_exits.proofs.WholeTexts.{few_taken, refused_unread}
 use Rattle.trace_text.specs.declared.trace_faults.Why.{Why}
 use Rattle.trace_text.specs.Jobs.{Job, IsJobInBounds}
 use Rattle.trace_text.specs.Lines.{lines_of}
-use Rattle.trace_text.specs.Streams.{IsAtEnd}
 use Rattle.trace_text.proofs.OneJob.{one_job}
 use Rattle.trace_text.proofs.WholeLaws.{apart}
-use Rattle.rt_check.specs.Answers.{refusal_status, IsDueOrFails}
-use Rattle.rt_check.specs.Inputs.{job_part, order_part, HasBadLine, HasJob, IsTooLong}
-use Rattle.rt_check.specs.declared.refusal.Refusal.{Refusal}
-use Rattle.rt_check.specs.declared.refusal.Refusal.TheVariants.{Usage, BadLine, TooLong, LiveTooSmall, NoRate, ReadFault, OutOfMemory, BadOrder}
-use Rattle.rt_check.proofs.Causes.{left_behind, took_front}
+use Rattle.rt_check.specs.Inputs.{check_limit, job_part, order_part, HasBadLine, HasJob}
 use Rattle.rt_check.proofs.OneAnswer.{long_or_short}
 use Rattle.rt_check.proofs.OneTaken.{apart_taken}
-use Rattle.rt_limit.specs.Answers.{Answer, Told, Refused, status_of, IsOrder, AreNeeds, IsLeftOrder, IsAnswerTo, IsAnswered, IsCause, IsDue, IsJudged}
-
--- ---- a source that was read
-
-pub too_long : (old new : Option (List ℕ)) (front : List ℕ) → length front ≡ 67108865
-    → HasRead old front new → IsAnswered (Refused TooLong) old new
-too_long None new front long h = tt
-too_long (Some bytes) new front long h =
-    let size : length bytes ≡ length front + length h.0 = ap length h.1 ∙ length-append front h.0 in
-    let more : 67108864 < length bytes = omega arith in (
-      inl more,
-      h.2 ∙ ap Some (sym (left_behind bytes front h.0 h.1) ∙ ap (λ (n : ℕ). drop n bytes) long),
-    )
-
-answered : (a : Answer) (old new : Option (List ℕ)) (front : List ℕ)
-    → length front ≤ 67108864 → HasRead old front new → IsAtEnd old new → IsAnswerTo front a
-    → IsAnswered a old new
-answered a None new front few h e p = tt
-answered a (Some bytes) new front few h e p =
-    let none : h.0 ≡ [] = same_Some h.0 [] (sym h.2 ∙ e) in
-    let all : bytes ≡ front = h.1 ∙ ap (λ (r : List ℕ). front ++ r) none ∙ append-nil front in
-    let size : length bytes ≡ length front = ap length all in (
-      subst (λ (b : List ℕ). IsAnswerTo b a) (sym all) p,
-      e ∙ ap Some (sym (drop_all 67108865 bytes (omega arith))),
-    )
-
-module _ (old new : Option (List ℕ)) (before now : ℕ) (front : List ℕ)
-    (few : length front ≤ 67108864) (h : HasRead old front new) (e : IsAtEnd old new)
-    (still : now ≡ before) where
-  caused : (a : Answer) → IsAnswerTo front a → IsCause [] old new before now a
-  caused (Told text) p = (refl, answered (Told text) old new front few h e p, still)
-  caused (Refused TooLong) p = (refl, answered (Refused TooLong) old new front few h e p, still)
-  caused (Refused (BadLine line why)) p =
-      (refl, answered (Refused (BadLine line why)) old new front few h e p, still)
-  caused (Refused (BadOrder n)) p =
-      (refl, answered (Refused (BadOrder n)) old new front few h e p, still)
-  caused (Refused Usage) p = absurd p
-  caused (Refused LiveTooSmall) p = absurd p
-  caused (Refused NoRate) p = absurd p
-  caused (Refused ReadFault) p = absurd p
-  caused (Refused OutOfMemory) p = absurd p
-
-  pub judged_cause : (a : Answer) → IsJudged front a → IsCause [] old new before now a
-  judged_cause a (inl p) = caused a p
-  judged_cause a (inr q) =
-      subst (IsCause [] old new before now) (sym q)
-      (refl, took_front old new front 67108865 (omega arith) h, still)
-
--- ---- one result
-
-pub match_map : {X E : Type 0} (P P' : X → Type 0) (Q Q' : E → Type 0) (r : Result X E)
-    → ((x : X) → P x → P' x) → ((e : E) → Q e → Q' e) → MatchResult r P Q → MatchResult r P' Q'
-match_map P P' Q Q' (Ok x) f g m = f x m
-match_map P P' Q Q' (Err e) f g m = g e m
+use Rattle.rt_limit.specs.Answers.{IsOrder, AreNeeds, IsLeftOrder, HasNeeds, Causes, IsFine, HasNoText, IsCause}
 
 pub ok_map : {X E : Type 0} (P P' : X → Type 0) (r : Result X E) → ((x : X) → P x → P' x)
     → IfOk r P → IfOk r P'
@@ -88,8 +34,8 @@ needs_or_left job b lines text n needs left = of_order needs.given needs.order
     of_order true order = apart_taken job b [] lines order.1.0 n order.1.1 left.first
     of_order false order = left.some order.0
 
-needed_or_left : (bytes text : List ℕ) (n : ℕ) → IsAnswerTo bytes (Told text)
-    → IsAnswerTo bytes (Refused (BadOrder n)) → ⊥
+needed_or_left : (bytes text : List ℕ) (n : ℕ) → HasNeeds bytes text
+    → Causes bytes (BadOrder n) → ⊥
 needed_or_left bytes text n p q =
     let lines = lines_of (order_part bytes) in
     let same : q.0 ≡ p.0 = one_job (job_part bytes) q.0 p.0 q.1.is_job p.1.is_job in
@@ -100,107 +46,65 @@ no_job : (bytes : List ℕ) (job : Job) (line : ℕ) (why : Why) → HasJob byte
     → HasBadLine bytes line why → ⊥
 no_job bytes job line why h b = apart (job_part bytes) job line why h.is_job b.first
 
-module _ (bytes : List ℕ) where
-  told_status : (text : List ℕ) (b : Answer) → IsAnswerTo bytes (Told text) → IsAnswerTo bytes b
-      → status_of b ≡ 0
-  told_status text (Told other) p q = refl
-  told_status text (Refused TooLong) p q = absurd (long_or_short bytes q p.1.short)
-  told_status text (Refused (BadLine line why)) p q = absurd (no_job bytes p.0 line why p.1 q)
-  told_status text (Refused (BadOrder n)) p q = absurd (needed_or_left bytes text n p q)
-  told_status text (Refused Usage) p q = absurd q
-  told_status text (Refused LiveTooSmall) p q = absurd q
-  told_status text (Refused NoRate) p q = absurd q
-  told_status text (Refused ReadFault) p q = absurd q
-  told_status text (Refused OutOfMemory) p q = absurd q
+one_status : (b : List ℕ) (r q : Refusal) → Causes b r → Causes b q → status_of r ≡ status_of q
+one_status b TooLong TooLong c d = refl
+one_status b TooLong (BadLine line why) c d = refl
+one_status b TooLong (BadOrder n) c d = absurd (long_or_short b c d.1.short)
+one_status b TooLong _ c d = absurd d
+one_status b (BadLine line why) TooLong c d = refl
+one_status b (BadLine line why) (BadLine other reason) c d = refl
+one_status b (BadLine line why) (BadOrder n) c d = absurd (no_job b d.0 line why d.1 c)
+one_status b (BadLine line why) _ c d = absurd d
+one_status b (BadOrder n) TooLong c d = absurd (long_or_short b d c.1.short)
+one_status b (BadOrder n) (BadLine line why) c d = absurd (no_job b c.0 line why c.1 d)
+one_status b (BadOrder n) (BadOrder m) c d = refl
+one_status b (BadOrder n) _ c d = absurd d
+one_status b _ _ c d = absurd c
 
-  long_status : (b : Answer) → IsTooLong bytes → IsAnswerTo bytes b → status_of b ≡ 3
-  long_status (Told text) p q = absurd (long_or_short bytes p q.1.short)
-  long_status (Refused TooLong) p q = refl
-  long_status (Refused (BadLine line why)) p q = refl
-  long_status (Refused (BadOrder n)) p q = absurd (long_or_short bytes p q.1.short)
-  long_status (Refused Usage) p q = absurd q
-  long_status (Refused LiveTooSmall) p q = absurd q
-  long_status (Refused NoRate) p q = absurd q
-  long_status (Refused ReadFault) p q = absurd q
-  long_status (Refused OutOfMemory) p q = absurd q
+not_fine : (b : List ℕ) (r : Refusal) → Causes b r → IsFine b → ⊥
+not_fine b TooLong c fine = long_or_short b c fine.1.1.short
+not_fine b (BadLine line why) c fine = no_job b fine.1.0 line why fine.1.1 c
+not_fine b (BadOrder n) c fine = needed_or_left b fine.0 n fine.1 c
+not_fine b _ c fine = absurd c
 
-  bad_status : (line : ℕ) (why : Why) (b : Answer) → HasBadLine bytes line why
-      → IsAnswerTo bytes b → status_of b ≡ 3
-  bad_status line why (Told text) p q = absurd (no_job bytes q.0 line why q.1 p)
-  bad_status line why (Refused TooLong) p q = refl
-  bad_status line why (Refused (BadLine other reason)) p q = refl
-  bad_status line why (Refused (BadOrder n)) p q = absurd (no_job bytes q.0 line why q.1 p)
-  bad_status line why (Refused Usage) p q = absurd q
-  bad_status line why (Refused LiveTooSmall) p q = absurd q
-  bad_status line why (Refused NoRate) p q = absurd q
-  bad_status line why (Refused ReadFault) p q = absurd q
-  bad_status line why (Refused OutOfMemory) p q = absurd q
+own_status : (b : List ℕ) (r : Refusal) → Causes b r → IsDue (9 ∷ []) (status_of r)
+own_status b TooLong c = inr (inr (inl refl))
+own_status b (BadLine line why) c = inr (inr (inl refl))
+own_status b (BadOrder n) c = inr (inr (inr (inr (inr (inl refl)))))
+own_status b _ c = absurd c
 
-  left_status : (n : ℕ) (b : Answer) → IsAnswerTo bytes (Refused (BadOrder n))
-      → IsAnswerTo bytes b → status_of b ≡ 9
-  left_status n (Told text) p q = absurd (needed_or_left bytes text n q p)
-  left_status n (Refused TooLong) p q = absurd (long_or_short bytes q p.1.short)
-  left_status n (Refused (BadLine line why)) p q = absurd (no_job bytes p.0 line why p.1 q)
-  left_status n (Refused (BadOrder m)) p q = refl
-  left_status n (Refused Usage) p q = absurd q
-  left_status n (Refused LiveTooSmall) p q = absurd q
-  left_status n (Refused NoRate) p q = absurd q
-  left_status n (Refused ReadFault) p q = absurd q
-  left_status n (Refused OutOfMemory) p q = absurd q
+pub are_apart : AreApart AreNone AreNone check_limit Causes IsFine (9 ∷ [])
+are_apart = record {
+  asked = λ words none. none;
+  one = one_status;
+  not_fine = not_fine;
+  due = own_status;
+}
 
-  pub one_status : (a b : Answer) → IsAnswerTo bytes a → IsAnswerTo bytes b
-      → status_of b ≡ status_of a
-  one_status (Told text) b p q = told_status text b p q
-  one_status (Refused TooLong) b p q = long_status b p q
-  one_status (Refused (BadLine line why)) b p q = bad_status line why b p q
-  one_status (Refused (BadOrder n)) b p q = left_status n b p q
-  one_status (Refused Usage) b p q = absurd p
-  one_status (Refused LiveTooSmall) b p q = absurd p
-  one_status (Refused NoRate) b p q = absurd p
-  one_status (Refused ReadFault) b p q = absurd p
-  one_status (Refused OutOfMemory) b p q = absurd p
+-- ---- bytes that were read, or were not
 
--- ---- the call
+pub refused_by_source : (source : Sides) (r : Refusal) → IsReadRefusal check_limit source r
+    → IsCause [] source r
+refused_by_source source r c =
+    refused_unread AreNone AreNone check_limit Causes [] refl refl source r c
 
-module _ (words : List (List ℕ)) (left left_now : Option (List ℕ)) (before now due : ℕ) where
-  one_of : (bytes : List ℕ) (a b : Answer) → due ≡ status_of b → IsAnswerTo bytes b
-      → IsAnswerTo bytes a → IsDueOrFails (status_of a) due
-  one_of bytes a b d q p = inl (d ∙ one_status bytes a b p q)
+module _ (source : Sides) (bytes : List ℕ) (whole : IsReadWhole check_limit source bytes)
+    (still : IsUnfailed source) where
+  has_read : (P : List ℕ → Type 0) → P bytes → HasRead check_limit P source
+  has_read P p = record { text = bytes; whole = whole; holds = p; unfailed = still }
 
-  known : (bytes : List ℕ) (b : Answer) → due ≡ status_of b
-      → IsCause words (Some bytes) left_now before now b → words ≡ []
-      → (a : Answer) → IsAnswerTo bytes a → IsDueOrFails (status_of a) due
-  known bytes (Told text) d c none a p = one_of bytes a (Told text) d c.1.0 p
-  known bytes (Refused Usage) d c none a p = absurd (c.0 none)
-  known bytes (Refused TooLong) d c none a p = one_of bytes a (Refused TooLong) d c.1.0 p
-  known bytes (Refused (BadLine line why)) d c none a p =
-      one_of bytes a (Refused (BadLine line why)) d c.1.0 p
-  known bytes (Refused (BadOrder n)) d c none a p =
-      one_of bytes a (Refused (BadOrder n)) d c.1.0 p
-  known bytes (Refused LiveTooSmall) d c none a p = absurd c
-  known bytes (Refused NoRate) d c none a p = absurd c
-  known bytes (Refused ReadFault) d c none a p = inr (inl d)
-  known bytes (Refused OutOfMemory) d c none a p = inr (inr d)
+  caused : (r : Refusal) → Causes bytes r → IsCause [] source r
+  caused Usage c = absurd c
+  caused ReadFault c = absurd c
+  caused OutOfMemory c = absurd c
+  caused TooLong c = inr (refl, has_read (λ text. Causes text TooLong) c)
+  caused r c = (refl, has_read (λ text. Causes text r) c)
 
-  pub complete_of : (b : Answer) → due ≡ status_of b
-      → IsCause words left left_now before now b → words ≡ []
-      → IfSome left (λ bytes. (a : Answer) → IsAnswerTo bytes a
-      → IsDueOrFails (status_of a) due)
-  complete_of b d c none =
-      elim left as (λ (l : Option (List ℕ)). IsCause words l left_now before now b
-      → IfSome l (λ bytes. (a : Answer) → IsAnswerTo bytes a
-      → IsDueOrFails (status_of a) due)) [
-        | None ↦ λ _. tt
-        | Some bytes ↦ λ k a p. known bytes b d k none a p
-      ] c
+  pub judged_cause : (r : Refusal) → HasNoText bytes r → IsCause [] source r
+  judged_cause r (inl p) = caused r p
+  judged_cause r (inr q) =
+      subst (IsCause [] source) (sym q) (refl, (few_taken check_limit source bytes whole, still))
 
-  pub due_of : (r : Refusal) → due ≡ refusal_status r
-      → IsCause words left left_now before now (Refused r) → IsDue due
-  due_of Usage d c = inr (inl d)
-  due_of TooLong d c = inr (inr (inl d))
-  due_of (BadLine line why) d c = inr (inr (inl d))
-  due_of LiveTooSmall d c = absurd c
-  due_of NoRate d c = absurd c
-  due_of ReadFault d c = inr (inr (inr (inl d)))
-  due_of OutOfMemory d c = inr (inr (inr (inr (inl d))))
-  due_of (BadOrder n) d c = inr (inr (inr (inr (inr d))))
+  pub judged_fine : (text : List ℕ) → HasNeeds bytes text
+      → HasRead check_limit (λ b. HasNeeds b text) source
+  judged_fine text p = has_read (λ b. HasNeeds b text) p

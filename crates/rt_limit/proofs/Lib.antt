@@ -7,3 +7,4 @@ pub mod OneOrder
 pub mod JobLaws
 pub mod AnswerLaws
 pub mod OneThread
+pub mod CarriedOut

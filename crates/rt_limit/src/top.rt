@@ -1,14 +1,16 @@
 //! The top call.
 
-ghost use Rattle.std.specs.Prelude.{◌≡◌, ◌≢◌, ◌<◌, ◌≤◌, ◌⊎◌, ◌↔◌, [], true, false, length, map, string_bytes, IfOk, IfSome, MatchResult};
+ghost use Rattle.std.specs.Prelude.{◌≡◌, ◌≢◌, ◌≤◌, ◌⊎◌, [], true, false, length, map, string_bytes, IfOk, IfErr, OnOk, MatchResult};
+ghost use Rattle.call_exits.specs.Exits.{IsWritten};
+ghost use Rattle.call_exits.specs.Refusals.{HasRead};
+ghost use Rattle.call_exits.specs.Sides.{sides};
 ghost use Rattle.trace_text.specs.Faults.{Rose};
 ghost use Rattle.trace_text.specs.Jobs.{IsJobInBounds};
 ghost use Rattle.trace_text.specs.Lines.{lines_of};
-ghost use Rattle.trace_text.specs.Streams.{Appends, AppendsPrefix};
-ghost use Rattle.rt_check.specs.Answers.{IsDueOrFails};
-ghost use Rattle.rt_limit.specs.Answers.{Answer, Told, Refused, IsAnswer, IsAnswerTo, IsCause, IsDue};
-ghost use Rattle.rt_limit.specs.Answers.{AreNeeds, HasNoNeeds, IsJudged, refusal_line, status_of};
+ghost use Rattle.rt_limit.specs.Answers.{AreNeeds, HasNoNeeds, HasNeeds, HasNoText};
+ghost use Rattle.rt_limit.specs.Answers.{IsCarriedOut, IsCause};
 ghost use Rattle.never_heap.specs.Graphs.{start_graph};
+ghost use Rattle.rt_check.specs.Inputs.{check_limit};
 ghost use Rattle.rt_check.specs.Moves.{AreMovesOf};
 ghost use Rattle.rt_limit.specs.declared.counts.Figures.{Figures};
 ghost use Rattle.rt_limit.specs.Figures.{AreFigures};
@@ -18,11 +20,10 @@ use crate::counts::figures_of;
 use crate::orders::thread_by_thread;
 use crate::texts::text_of;
 use block_store::OutOfMemory;
-use rt_check::{CHECK_LIMIT, Move, Refusal, moves_of, parted};
+use call_exits::{Refusal, refused};
+use rt_check::{CHECK_LIMIT, Move, moves_of, parted};
 use std::alloc::Global;
-use trace_text::{
-    INPUT_LIMIT, Job, LineBuffer, Sink, Source, first_line, input_of, job_of, put_line,
-};
+use trace_text::{INPUT_LIMIT, Job, Sink, Source, first_line, job_of, put_line};
 
 /// How a call ended.
 #[derive(Clone, Copy, Debug, PartialEq, Eq)]
@@ -42,38 +43,26 @@ pub fn limit<S: Source, K: Sink>(
     source: &mut S,
     sink: &mut K,
 ) -> LimitExit
-    // The answer, its cause and its text; and there is no other status.
-    ensures answered { IsAnswer (map (λ w. string_bytes w) words.now)
-        (S.left source.old) (S.left source.new) (K.held sink.old) (K.held sink.new)
-        (S.faults source.old) (S.faults source.new) result.status result.due }
-    ensures any_due { IsDue result.due }
-    ensures any_status { (result.status ≡ result.due) ⊎ (result.status ≡ 6) }
-    ensures usage { (result.due ≡ 2) ↔ (map (λ w. string_bytes w) words.now ≢ []) }
-
-    // A fault is that of its stream, and each is told.
-    ensures read_fault { result.due ≡ 5 → Rose (S.faults source.old) (S.faults source.new) }
-    ensures read_fault_told { S.faults source.old < S.faults source.new → result.due ≡ 5 }
-    ensures write_fault { result.status ≡ 6 → Rose (K.faults sink.old) (K.faults sink.new) }
-    ensures write_fault_told { K.faults sink.old < K.faults sink.new → result.status ≡ 6 }
-
-    // Known bytes get the status that they have, unless the source fails or it is want of memory.
-    ensures complete { map (λ w. string_bytes w) words.now ≡ []
-        → IfSome (S.left source.old) (λ bytes. (a : Answer) → IsAnswerTo bytes a
-        → IsDueOrFails (status_of a) result.due) }
+    ensures { IsCarriedOut (map (λ w. string_bytes w) words.now)
+        (sides S.left S.faults source.old source.new)
+        (sides K.held K.faults sink.old sink.new) result }
 {
-    match answer_of(alloc, words, source) {
-        Ok(text) => told(&text, 0, sink),
-        Err(refusal) => told(line_of(refusal).bytes(), refusal.status(), sink),
+    match asked(alloc, words, source) {
+        Ok(text) => told(&text, sink),
+        Err(refusal) => LimitExit {
+            status: refused(refusal, b"rt_limit", sink),
+            due: refusal.status(),
+        },
     }
 }
 
-/// The text of the job's needs, or why there is none.
-fn answer_of<S: Source>(alloc: Global, words: &[String], source: &mut S) -> Result<Vec<u8>, Refusal>
-    ensures { MatchResult result
-        (λ v. IsCause (map (λ w. string_bytes w) words.now) (S.left source.old)
-        (S.left source.new) (S.faults source.old) (S.faults source.new) (Told v.items))
-        (λ r. IsCause (map (λ w. string_bytes w) words.now) (S.left source.old)
-        (S.left source.new) (S.faults source.old) (S.faults source.new) (Refused r)) }
+/// The text of the job's needs, where there are no words.
+fn asked<S: Source>(alloc: Global, words: &[String], source: &mut S) -> Result<Vec<u8>, Refusal>
+    ensures none { OnOk result (map (λ w. string_bytes w) words.now ≡ []) }
+    ensures needs { IfOk result (λ v. HasRead check_limit (λ bytes. HasNeeds bytes v.items)
+        (sides S.left S.faults source.old source.new)) }
+    ensures refused { IfErr result (IsCause (map (λ w. string_bytes w) words.now)
+        (sides S.left S.faults source.old source.new)) }
 {
     if !words.is_empty() {
         return Err(Refusal::Usage);
@@ -83,24 +72,18 @@ fn answer_of<S: Source>(alloc: Global, words: &[String], source: &mut S) -> Resu
 
 /// Reads the input and looks at it.
 fn judged<S: Source>(alloc: Global, source: &mut S) -> Result<Vec<u8>, Refusal>
-    ensures { MatchResult result
-        (λ v. IsCause [] (S.left source.old) (S.left source.new)
-        (S.faults source.old) (S.faults source.new) (Told v.items))
-        (λ r. IsCause [] (S.left source.old) (S.left source.new)
-        (S.faults source.old) (S.faults source.new) (Refused r)) }
+    ensures needs { IfOk result (λ v. HasRead check_limit (λ bytes. HasNeeds bytes v.items)
+        (sides S.left S.faults source.old source.new)) }
+    ensures refused { IfErr result (IsCause [] (sides S.left S.faults source.old source.new)) }
 {
-    let input = input_of(alloc, source, CHECK_LIMIT)?;
-    if input.len() > CHECK_LIMIT {
-        return Err(Refusal::TooLong);
-    }
+    let input = call_exits::text_of(alloc, source, CHECK_LIMIT)?;
     judged_bytes(alloc, &input)
 }
 
 /// The text for the bytes of an input.
 fn judged_bytes(alloc: Global, input: &[u8]) -> Result<Vec<u8>, Refusal>
     requires { length input.now ≤ CHECK_LIMIT }
-    ensures { MatchResult result (λ v. IsJudged input.now (Told v.items))
-        (λ r. IsJudged input.now (Refused r)) }
+    ensures { MatchResult result (λ v. HasNeeds input.now v.items) (HasNoText input.now) }
 {
     let (job, order) = parted(input);
     if job.len() > INPUT_LIMIT {
@@ -145,28 +128,14 @@ fn counted(alloc: Global, job: &Job, given: bool, moves: &[Move]) -> Result<Vec<
     text_of(alloc, &job.config, given, &figures)
 }
 
-/// Writes an answer.
-fn told<K: Sink>(text: &[u8], due: u8, sink: &mut K) -> LimitExit
-    requires { due ≢ 6 }
-    ensures due { result.due ≡ due }
-    ensures status { (result.status ≡ due) ⊎ (result.status ≡ 6) }
-    ensures text { result.status ≢ 6 → Appends (K.held sink.old) (K.held sink.new) text.now }
-    ensures prefix { result.status ≡ 6
-        → AppendsPrefix (K.held sink.old) (K.held sink.new) text.now }
+/// Writes the text of a job's needs.
+fn told<K: Sink>(text: &[u8], sink: &mut K) -> LimitExit
+    ensures due { result.due ≡ 0 }
+    ensures status { (result.status ≡ 0) ⊎ (result.status ≡ 6) }
+    ensures text { IsWritten (sides K.held K.faults sink.old sink.new) result.status text.now }
     ensures still { result.status ≢ 6 → K.faults sink.new ≡ K.faults sink.old }
     ensures rose { result.status ≡ 6 → Rose (K.faults sink.old) (K.faults sink.new) }
 {
-    let status = put_line(text, due, sink);
-    LimitExit { status, due }
-}
-
-/// The line of a refusal.
-fn line_of(refusal: Refusal) -> LineBuffer
-    ensures { result ≡ refusal_line refusal }
-{
-    let mut line = LineBuffer::new();
-    line.prepend(b"\n");
-    refusal.prepend_reason(&mut line);
-    line.prepend(b"rt_limit: ");
-    line
+    let status = put_line(text, 0, sink);
+    LimitExit { status, due: 0 }
 }

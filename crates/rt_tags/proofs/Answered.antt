@@ -9,10 +9,10 @@ use Rattle.call_exits.specs.Sides.{Sides}
 use Rattle.never_heap.specs.declared.Command.{Command}
 use Rattle.never_heap.specs.declared.Entry.{Entry}
 use Rattle.never_heap.specs.declared.Reply.{Reply}
-use Rattle.never_heap.specs.Histories.{HistoryItem, part, parts}
+use Rattle.never_heap.specs.Histories.{HistoryItem, parts}
 use Rattle.never_heap.specs.Jobs.{IsJobInBounds}
 use Rattle.never_heap.specs.Runs.{IsRun}
-use Rattle.operations.specs.Linearizations.{Call, calls_of, replies_in, traces_of}
+use Rattle.operations.specs.Linearizations.{Call, calls_of, traces_of}
 use Rattle.operations.proofs.Logged.{logged}
 use Rattle.tag_table.specs.declared.operation.Operation.{Operation}
 use Rattle.tag_table.specs.Tables.{Tag, rows_of, command_at, answers_of}
@@ -20,10 +20,11 @@ use Rattle.tag_table.proofs.Jobs.{jobs_fit}
 use Rattle.tag_table.proofs.Keeping.{tables_are_kept}
 use Rattle.threaded_runs.specs.Ends.{HasHistory, commands_of, job_of}
 use Rattle.trace_text.specs.Jobs.{Job}
+use Rattle.trace_text.specs.Reading.{tokenized}
 use Rattle.rt_tags.specs.declared.line.Header.{Header}
 use Rattle.rt_tags.specs.Answers.{answers_in}
 use Rattle.rt_tags.specs.Lines.{Tokens, IsTagScript}
-use Rattle.rt_tags.specs.Calls.{IsReadAs, HasTable, HasAnswers}
+use Rattle.rt_tags.specs.Calls.{IsReadAs, HasAnswers}
 use Rattle.rt_tags.specs.Scripts.{config_of, job_of_script, HasRoom}
 use Rattle.rt_tags.specs.Tellings.{answers_from}
 use Rattle.rt_tags.proofs.Items.{same_default}
@@ -74,9 +75,9 @@ pub has_answers : (source : Sides) (h : Header) (scripts : List (List Operation)
 has_answers source h scripts run read room job ran =
     let same : IsRun (config_of h) ran.rate (traces_of rows_of command_at scripts) ran.history =
     moved_run (job_of run) (job_of_script h scripts) ran.rate ran.history job ran.is_run in
-    let size : length scripts ≡ h.threads = count read.lines h scripts read.script in
+    let size : length scripts ≡ h.threads = count (tokenized read.text) h scripts read.script in
     let kept = tables_are_kept h.threads h.tags h.blocks ran.rate scripts ran.history size
-    (places read.lines h scripts read.script) same in
+    (places (tokenized read.text) h scripts read.script) same in
     let parts_are : parts h.threads ran.history ≡ run.logs =
     ap (λ (j : Job). parts j.config.threads ran.history) (sym job) ∙ ran.parts_logged in (
       record {

@@ -1,29 +1,26 @@
 -- A call, and what is promised of it.
-use Rattle.std.specs.Prelude.{ℕ, ◌≡◌, ◌≤◌, ◌↔◌, List, length, Option, IfSome, IsSome, codes}
+use Rattle.std.specs.Prelude.{ℕ, ◌≡◌, ◌↔◌, List, [], ◌∷◌, IfSome, IsSome, codes}
 use Rattle.atom_board.specs.Mutators.{ClosedState}
 use Rattle.call_exits.specs.Exits.{Exit, IsWritten, IsEnded}
-use Rattle.call_exits.specs.Sides.{Sides, IsUnfailed}
+use Rattle.call_exits.specs.Refusals.{AreNone, IsReadWhole}
+use Rattle.call_exits.specs.Sides.{Sides}
 use Rattle.never_heap.specs.Licensed.{NoFulls}
 use Rattle.operations.specs.Linearizations.{Call, IsLinearization}
 use Rattle.tag_table.specs.declared.operation.Operation.{Operation}
 use Rattle.tag_table.specs.Tables.{Tag, answer, table_after, empty_table, rows_of, decides, ends}
 use Rattle.threaded_runs.specs.Ends.{HasHistory, job_of}
 use Rattle.trace_text.specs.Jobs.{input_limit}
-use Rattle.trace_text.specs.Reading.{tokenized}
-use Rattle.trace_text.specs.Streams.{IsAtEnd}
 use Rattle.rt_tags.specs.declared.exit.TagExit.{TagExit}
 use Rattle.rt_tags.specs.declared.line.Header.{Header}
-use Rattle.rt_tags.specs.Lines.{Tokens, IsTagScript}
-use Rattle.rt_tags.specs.Scripts.{job_of_script, HasRoom, IsBadAt, HasNoRate, IsFine}
+use Rattle.rt_tags.specs.Scripts.{job_of_script, HasRoom, IsScriptOf, Causes, IsFine}
 use Rattle.rt_tags.specs.Tellings.{answers_from, answers_text}
 
--- A script was read: where the source told its bytes, they were not too many, and these are their
--- lines. All were read.
+-- A script was read: this text is that script, it is not too long, and where the source told its
+-- bytes they were this text. All were read.
 pub record IsReadAs (source : Sides) (h : Header) (scripts : List (List Operation)) : Type 0 where
-  pub lines : List Tokens
-  pub script : IsTagScript lines h scripts
-  pub told : IfSome source.bytes (λ bytes. (length bytes ≤ input_limit) × (lines ≡ tokenized bytes))
-  pub ended : IsAtEnd source.bytes source.bytes_now
+  pub text : List ℕ
+  pub whole : IsReadWhole input_limit source text
+  pub script : IsScriptOf text h scripts
 
 -- The table of a script was kept by a run of its job: the run has a history, and the history a
 -- linearization. No allocation of it was answered full.
@@ -65,4 +62,5 @@ pub record IsCarriedOut (words : List (List ℕ)) (source sink : Sides) (x : Tag
   pub run : IsSome x.run ↔ (x.due ≡ 0)
   pub headline : IfSome x.run (Headline source sink x.status)
   -- Each status has its cause, and a known input has one answer.
-  pub ended : IsEnded IsBadAt HasNoRate IsFine (codes "rt_tags") (exit_of words source sink x)
+  pub ended : IsEnded AreNone AreNone input_limit Causes IsFine (4 ∷ []) (codes "rt_tags")
+      (exit_of words source sink x)

@@ -14,7 +14,7 @@ use Rattle.rt_tags.specs.Said.{said}
 
 -- the refusal of a call for a fault of reading
 abbrev pub refusal_of : Fault → Refusal
-refusal_of (BadLine n) = refusals.BadLine n
+refusal_of (BadLine n) = refusals.BadScriptLine n
 refusal_of OutOfMemory = refusals.OutOfMemory
 
 -- a reader refuses for a line, or because memory ran out

@@ -1,14 +1,19 @@
 -- What a script of tags asks for: a job, where the heap that it names has a rate.
-use Rattle.std.specs.Prelude.{ℕ, ◌+◌, ◌*◌, ◌<◌, ◌≤◌, ◌≡◌, List, Some, IfSome, length}
+use Rattle.std.specs.Prelude.{ℕ, ◌+◌, ◌*◌, ◌<◌, ◌≤◌, ◌≡◌, List, Some}
 use Rattle.block_store.specs.declared.Config.{Config}
+use Rattle.call_exits.specs.declared.refusal.Refusal.{Refusal}
+use Rattle.call_exits.specs.declared.refusal.Refusal.TheVariants.{BadScriptLine, NoRate}
+use Rattle.call_exits.specs.Refusals as calls
+use Rattle.call_exits.specs.Refusals.{AreNone}
+use Rattle.call_exits.specs.Sides.{Sides}
 use Rattle.operations.specs.Linearizations.{traces_of}
 use Rattle.scripts.specs.Scripts.{Start, bad_line}
 use Rattle.tag_table.specs.declared.operation.Operation.{Operation}
 use Rattle.tag_table.specs.Tables.{rows_of, command_at, tag_config}
-use Rattle.trace_text.specs.Jobs.{Job}
+use Rattle.trace_text.specs.Jobs.{Job, input_limit}
 use Rattle.trace_text.specs.Reading.{tokenized}
 use Rattle.rt_tags.specs.declared.line.Header.{Header}
-use Rattle.rt_tags.specs.Lines.{Tokens, tag_language, IsTagScript}
+use Rattle.rt_tags.specs.Lines.{tag_language, IsTagScript}
 
 -- the heap of a table, and the job that a script's operations are
 abbrev pub config_of : Header → Config
@@ -42,3 +47,13 @@ HasNoRate bytes =
 abbrev pub IsFine : List ℕ → Type 0
 IsFine bytes =
     (h : Header) × (scripts : List (List Operation)) × IsScriptOf bytes h scripts × HasRoom h
+
+-- which text is refused, and why: for a line, or for its heap
+abbrev pub Causes : List ℕ → Refusal → Type 0
+Causes bytes (BadScriptLine n) = IsBadAt bytes n
+Causes bytes NoRate = HasNoRate bytes
+Causes bytes r = ⊥
+
+-- what caused a refusal, by the words, of which there are to be none, and by the source
+abbrev pub IsCause : List (List ℕ) → Sides → Refusal → Type 0
+IsCause words source r = calls.IsCause AreNone AreNone input_limit Causes words source r

@@ -1,13 +1,12 @@
 //! Running the job of a script, and reading the answers off its logs.
 
 ghost use Rattle.std.specs.Prelude.{◌≡◌, map, [], IfOk, IfErr, OnOk};
-ghost use Rattle.call_exits.specs.Refusals.{IsCause};
 ghost use Rattle.call_exits.specs.Sides.{sides};
 ghost use Rattle.operations.specs.Linearizations.{traces_of};
 ghost use Rattle.tag_table.specs.Tables.{rows_of, command_at};
 ghost use Rattle.threaded_runs.specs.Ends.{commands_of};
 ghost use Rattle.rt_tags.specs.Calls.{HasAnswers};
-ghost use Rattle.rt_tags.specs.Scripts.{IsBadAt, HasNoRate};
+ghost use Rattle.rt_tags.specs.Scripts.{IsCause};
 ghost use Rattle.rt_tags.specs.Answers.{answers_in};
 
 use crate::planning::{planned, traces};
@@ -36,7 +35,7 @@ pub fn kept<R: Threads + Wait + Sync, S: Source, Q: Pace>(
     ensures kept { IfOk result (λ x. HasAnswers (sides S.left S.faults source.old source.new)
         x.0 (map (λ v. v.items) x.1.items)) }
     ensures still { OnOk result (S.faults source.new ≡ S.faults source.old) }
-    ensures refused { IfErr result (IsCause IsBadAt HasNoRate []
+    ensures refused { IfErr result (IsCause []
         (sides S.left S.faults source.old source.new)) }
 {
     let (header, scripts) = read_script(alloc, source)?;

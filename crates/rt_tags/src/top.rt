@@ -1,10 +1,9 @@
 //! The top call.
 
 ghost use Rattle.std.specs.Prelude.{◌≡◌, map, string_bytes, IfOk, IfErr, OnOk};
-ghost use Rattle.call_exits.specs.Refusals.{IsCause};
 ghost use Rattle.call_exits.specs.Sides.{sides};
 ghost use Rattle.rt_tags.specs.Calls.{IsCarriedOut, HasAnswers};
-ghost use Rattle.rt_tags.specs.Scripts.{IsBadAt, HasNoRate};
+ghost use Rattle.rt_tags.specs.Scripts.{IsCause};
 ghost use Rattle.std.specs.Prelude.{◌≢◌, ◌⊎◌, Some, []};
 ghost use Rattle.trace_text.specs.Faults.{Rose};
 ghost use Rattle.call_exits.specs.Exits.{IsWritten};
@@ -65,7 +64,7 @@ fn asked<R: Threads + Wait + Sync, S: Source, Q: Pace>(
     ensures kept { IfOk result (λ x. HasAnswers (sides S.left S.faults source.old source.new)
         x.0 (map (λ v. v.items) x.1.items)) }
     ensures still { OnOk result (S.faults source.new ≡ S.faults source.old) }
-    ensures refused { IfErr result (IsCause IsBadAt HasNoRate (map (λ w. string_bytes w) words.now)
+    ensures refused { IfErr result (IsCause (map (λ w. string_bytes w) words.now)
         (sides S.left S.faults source.old source.new)) }
 {
     if !words.is_empty() {

@@ -1,10 +1,22 @@
 use Rattle.std.proofs.Common.{map, string_bytes}
-use Rattle.rt_check.proofs.Causes.{complete_of}
+use Rattle.call_exits.specs.Sides.{sides}
+use Rattle.rt_check.proofs.CarriedOut.{accepted_is_carried_out, refusal_is_carried_out}
 use Rattle.rt_check.proofs.top.check.Goals as goal
 
-pub returns-clause-complete : goal.returns-clause-complete
-returns-clause-complete g c =
-    complete_of (map (λ w. string_bytes w) c.args.words.now) (g.S.Source.left c.args.source.now)
-    (g.S.Source.left c.answer_of-answer.new.source) (g.S.Source.faults c.args.source.now)
-    (g.S.Source.faults c.answer_of-answer.new.source) c.told.result.due c.answer_of-answer.result
-    c.told.ensures.due c.answer_of-answer.ensures
+pub returns-in-Ok : goal.returns-in-Ok
+returns-in-Ok g c =
+    let w = c.accepted.ensures in
+    accepted_is_carried_out (map (λ w. string_bytes w) c.args.words.now)
+    (sides g.S.Source.left g.S.Source.faults c.args.source.now c.asked.new.source)
+    (sides g.K.Sink.held g.K.Sink.faults c.args.sink.now c.accepted.new.sink)
+    c.accepted.result record { any_status = rw w.due w.status; still = w.still; rose = w.rose }
+    c.in-Ok.ensures.none c.in-Ok.ensures.read w.due w.text
+
+pub returns-in-Err : goal.returns-in-Err
+returns-in-Err g c =
+    let r = c.refused.ensures in
+    refusal_is_carried_out (map (λ w. string_bytes w) c.args.words.now)
+    (sides g.S.Source.left g.S.Source.faults c.args.source.now c.asked.new.source)
+    (sides g.K.Sink.held g.K.Sink.faults c.args.sink.now c.refused.new.sink) _
+    record { any_status = rw c.status.ensures r.status; still = r.still; rose = r.rose }
+    c.in-Err.refusal c.status.ensures c.in-Err.ensures.refused r.line r.prefix

@@ -4,6 +4,7 @@ use Rattle.std.proofs.lemmas.List.{length-map}
 use Rattle.heap_system.proofs.Lived.{job_of_text, text_few}
 use Rattle.operations.specs.Linearizations.{traces_of}
 use Rattle.handle_table.specs.Handles.{AreNamed, rows_of, command_at, all_deeds}
+use Rattle.trace_text.specs.Reading.{tokenized}
 use Rattle.rt_handles.proofs.Answered.{job_fits}
 use Rattle.rt_handles.proofs.Ranges.{are_named, few_threads}
 use Rattle.rt_handles.proofs.drawn.opening_of.Goals as goal
@@ -12,7 +13,7 @@ pub new_ordered-requires-clause-job : goal.new_ordered-requires-clause-job
 new_ordered-requires-clause-job c =
     let read = c.in_ok-header.ensures.read in
     job_of_text c.in_ok-config.config (map (λ v. v.items) c.in_ok-traces.traces.items)
-    (job_fits read.lines c.in_ok-header.header
+    (job_fits (tokenized read.text) c.in_ok-header.header
     (map (λ ops. ops.items) c.in_ok-header.scripts.items) read.script c.in_ok-config.config
     (map (λ v. v.items) c.in_ok-traces.traces.items) c.in_ok-config.ensures.0
     (c.in_ok-traces.ensures
@@ -23,7 +24,7 @@ pub new_ordered-requires-clause-few : goal.new_ordered-requires-clause-few
 new_ordered-requires-clause-few c =
     let read = c.in_ok-header.ensures.read in
     text_few c.in_ok-config.config (map (λ v. v.items) c.in_ok-traces.traces.items)
-    (job_fits read.lines c.in_ok-header.header
+    (job_fits (tokenized read.text) c.in_ok-header.header
     (map (λ ops. ops.items) c.in_ok-header.scripts.items) read.script c.in_ok-config.config
     (map (λ v. v.items) c.in_ok-traces.traces.items) c.in_ok-config.ensures.0
     (c.in_ok-traces.ensures
@@ -33,7 +34,7 @@ pub traces-requires-clause-named : goal.traces-requires-clause-named
 traces-requires-clause-named c =
     let read = c.in_ok-header.ensures.read in
     subst (λ xs. AllByRecursion AreNamed (map (λ ops. ops.items) xs)) (sym c.deref.ensures.value)
-    (are_named read.lines c.in_ok-header.header (map (λ ops. ops.items) c.in_ok-header.scripts.items)
+    (are_named (tokenized read.text) c.in_ok-header.header (map (λ ops. ops.items) c.in_ok-header.scripts.items)
     read.script)
 
 pub traces-requires-clause-few : goal.traces-requires-clause-few
@@ -41,7 +42,7 @@ traces-requires-clause-few c =
     let read = c.in_ok-header.ensures.read in
     omega (
       arith,
-      few_threads read.lines c.in_ok-header.header
+      few_threads (tokenized read.text) c.in_ok-header.header
           (map (λ ops. ops.items) c.in_ok-header.scripts.items) read.script,
       length-map c.in_ok-header.scripts.items (λ ops. ops.items),
       ap length c.deref.ensures.value,

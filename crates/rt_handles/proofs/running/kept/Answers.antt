@@ -1,6 +1,7 @@
 use Rattle.std.proofs.Common.{◌≡◌, ◌∙◌, List, length, map, ap, sym, subst, arith}
 use Rattle.std.specs.List.{AllByRecursion}
 use Rattle.std.proofs.lemmas.List.{length-map}
+use Rattle.trace_text.specs.Reading.{tokenized}
 use Rattle.rt_handles.proofs.Ranges.{are_named, few_threads}
 use Rattle.std.proofs.lemmas.Result.{err_from_is_err_and}
 use Rattle.never_heap.specs.declared.Command.{Command}
@@ -44,7 +45,7 @@ returns-in_err-told-clause-refused g c =
 pub run_job-requires-clause-bounds : goal.run_job-requires-clause-bounds
 run_job-requires-clause-bounds g c κs within =
     let read = c.in_ok-header.ensures.read in
-    job_fits read.lines c.in_ok-header.header
+    job_fits (tokenized read.text) c.in_ok-header.header
     (map (λ ops. ops.items) c.in_ok-header.scripts.items) read.script c.in_ok-config.config
     (map (λ v. v.items) c.in_ok-traces.traces.items) c.in_ok-config.ensures.0
     (c.in_ok-traces.ensures
@@ -74,7 +75,7 @@ pub traces-requires-clause-named : goal.traces-requires-clause-named
 traces-requires-clause-named g c =
     let read = c.in_ok-header.ensures.read in
     subst (λ xs. AllByRecursion AreNamed (map (λ ops. ops.items) xs)) (sym c.deref.ensures.value)
-    (are_named read.lines c.in_ok-header.header (map (λ ops. ops.items) c.in_ok-header.scripts.items)
+    (are_named (tokenized read.text) c.in_ok-header.header (map (λ ops. ops.items) c.in_ok-header.scripts.items)
     read.script)
 
 pub traces-requires-clause-few : goal.traces-requires-clause-few
@@ -82,7 +83,7 @@ traces-requires-clause-few g c =
     let read = c.in_ok-header.ensures.read in
     omega (
       arith,
-      few_threads read.lines c.in_ok-header.header
+      few_threads (tokenized read.text) c.in_ok-header.header
           (map (λ ops. ops.items) c.in_ok-header.scripts.items) read.script,
       length-map c.in_ok-header.scripts.items (λ ops. ops.items),
       ap length c.deref.ensures.value,

@@ -6,6 +6,7 @@ use Rattle.tag_table.specs.declared.operation.Operation.{Operation}
 use Rattle.tag_table.specs.Tables.{rows_of, command_at}
 use Rattle.threaded_runs.specs.Ends.{job_of}
 use Rattle.call_exits.specs.Sides.{sides}
+use Rattle.trace_text.specs.Reading.{tokenized}
 use Rattle.rt_tags.specs.Answers.{answers_in}
 use Rattle.rt_tags.proofs.Answered.{has_answers, job_fits, job_is, told_as}
 use Rattle.rt_tags.proofs.Apart.{without_memory}
@@ -41,7 +42,7 @@ returns-in_err-told-clause-refused g c =
 pub run_job-requires-clause-bounds : goal.run_job-requires-clause-bounds
 run_job-requires-clause-bounds g c κs within =
     let read = c.in_ok-header.ensures.read in
-    job_fits read.lines c.in_ok-header.header
+    job_fits (tokenized read.text) c.in_ok-header.header
     (map (λ ops. ops.items) c.in_ok-header.scripts.items) read.script c.in_ok-config.config
     (map (λ v. v.items) c.in_ok-traces.traces.items) c.in_ok-config.ensures.0
     (c.in_ok-traces.ensures

@@ -1,0 +1,68 @@
+//! Texts that are told to their end, and texts that are not.
+
+use crate::{Stop, report, start};
+use std::alloc::Global;
+use std::process::Abort;
+use std::test::Fail;
+use trace_text::{MemSink, MemSource};
+
+/// Reports a text from a source and to a sink of which these calls fail, and compares the answer
+/// and what is written.
+fn tells(
+    rt: &impl Abort,
+    alloc: Global,
+    text: &[u8],
+    fail: (&[u64], &[u64]),
+    answer: Result<(), Stop>,
+    told: &[u8],
+) -> Result<(), Fail> {
+    let Ok(mut heap) = start(alloc) else {
+        return Err(Fail::from("memory"));
+    };
+    let bytes = Vec::from_slice(alloc, text)?;
+    let mut source = MemSource::new(bytes, 100, Vec::from_slice(alloc, fail.0)?);
+    let mut sink = MemSink::new(alloc, 4000, Vec::from_slice(alloc, fail.1)?)
+        .ok()
+        .ok_or("memory")?;
+    assert_eq!(rt; report(&mut heap, &mut source, &mut sink), answer);
+    assert_eq!(rt; sink.bytes(), told);
+    Ok(())
+}
+
+const TWO: &[u8] =
+    b"least 50 greatest 50 mean 50 alarms 0\nleast 50 greatest 90 mean 70 alarms 1\n";
+
+const ONE: &[u8] = b"least 50 greatest 50 mean 50 alarms 0\n";
+
+#[test]
+fn a_text_is_told_up_to_its_first_wrong_line(rt: HostRuntime) -> Result<(), Fail> {
+    let none: (&[u64], &[u64]) = (&[], &[]);
+    let text = b"20 80\n50\n90";
+    tells(&rt, rt.alloc(), text, none, Ok(()), TWO)?;
+    let bad = Err(Stop::BadLine(4));
+    tells(&rt, rt.alloc(), b"20 80\n50\n90\nx\n1\n", none, bad, TWO)?;
+    let no_limits = Err(Stop::BadLine(1));
+    tells(&rt, rt.alloc(), b"20 80 1\n50\n", none, no_limits, b"")?;
+    tells(&rt, rt.alloc(), b"", none, no_limits, b"")
+}
+
+#[test]
+fn a_fault_stops_the_report(rt: HostRuntime) -> Result<(), Fail> {
+    let text = b"20 80\n50\n90\n";
+    tells(
+        &rt,
+        rt.alloc(),
+        text,
+        (&[10], &[]),
+        Err(Stop::ReadFault),
+        ONE,
+    )?;
+    tells(
+        &rt,
+        rt.alloc(),
+        text,
+        (&[], &[1]),
+        Err(Stop::WriteFault),
+        ONE,
+    )
+}

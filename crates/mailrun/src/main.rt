@@ -1,0 +1,51 @@
+//! Runs a job on a garbage-collected heap, sends the numbers that its threads say through a queue,
+//! keeps the last of them on a second heap, and prints them.
+#![tactic(auto)]
+
+use never_heap::NoPace;
+use rt_mail::mail;
+use std::alloc::AllocError;
+use std::env;
+use std::io::{self, BufWriter, ErrorKind, Write};
+use std::process::ExitCode;
+use std::rt::Env;
+use std::sync::Wait;
+use std::thread::Threads;
+use trace_text::{StdSink, StdSource, WRITE_FAULT, put_line};
+
+/// The status of want of memory.
+const NO_MEMORY: u8 = 7;
+
+fn main(rt: HostRuntime) -> ExitCode {
+    ExitCode::from(run(&rt, &rt).unwrap_or_else(|_| without_memory(&rt)))
+}
+
+/// Tells that memory ran out before anything was done.
+fn without_memory(rt: &HostRuntime) -> u8 {
+    let mut sink = StdSink::new(rt.stdout());
+    put_line(b"rt_mail: no memory\n", NO_MEMORY, &mut sink)
+}
+
+/// Joins the two heaps for the job in standard input, and says with which status the program ends.
+/// What is written to standard output goes out in large pieces; the last goes out here, where none
+/// failed. The second handle is the same runtime, by which the runs make threads and wait.
+fn run<T: Threads + Wait + Sync>(rt: &HostRuntime, threads: &T) -> Result<u8, AllocError> {
+    let words = words_of(rt)?;
+    let mut source = StdSource::new(rt.stdin());
+    let mut out = BufWriter::new(rt.alloc(), rt.stdout()).map_err(|_| AllocError)?;
+    let mut sink = StdSink::new(&mut out);
+    let exit = mail(threads, rt.alloc(), &words, &mut source, &mut sink, &NoPace);
+    if exit.status != WRITE_FAULT && out.flush().is_err() {
+        return Ok(WRITE_FAULT);
+    }
+    Ok(exit.status)
+}
+
+/// The words behind the program's name. Words of which one is no text are words too, and refused.
+fn words_of(rt: &HostRuntime) -> Result<Vec<String>, AllocError> {
+    match env::args(rt) {
+        Ok(args) => args.skip(1).collect(rt.alloc()),
+        Err(e) if e.kind() == ErrorKind::OutOfMemory => Err(AllocError),
+        Err(_) => vec![in rt.alloc(); String::new(rt.alloc())].map_err(|_| AllocError),
+    }
+}

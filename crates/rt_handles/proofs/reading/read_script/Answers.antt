@@ -1,0 +1,11 @@
+use Rattle.std.proofs.lemmas.Result.{err_from_is_err_and}
+use Rattle.call_exits.specs.Sides.{sides}
+use Rattle.rt_handles.proofs.Apart.{refused_by_source}
+use Rattle.rt_handles.proofs.reading.read_script.Goals as goal
+
+pub returns-in_err-text-clause-refused : goal.returns-in_err-text-clause-refused
+returns-in_err-text-clause-refused g c =
+    let p = err_from_is_err_and c.from_residual.result c.from_residual.ensures.1 in
+    rw (p.1, p.2) (refused_by_source
+    (sides g.S.Source.left g.S.Source.faults c.args.source.now c.text_of.new.source) _
+    c.in_err-text.ensures.refused)

@@ -1,0 +1,5 @@
+pub mod Says
+pub mod Texts
+pub mod Recalled
+pub mod Tellings
+pub mod Calls
