@@ -52,79 +52,79 @@ longer [] v = refl
 longer (x ∷ xs) v = omega (arith, longer xs v)
 
 module _ (l : Limits) (xs : List ℕ) (v : ℕ) (fs : List Value) (r : IsRing l xs fs) (a w : Value)
-    where
-  abbrev n : ℕ
-  n = length xs
+  where
+    abbrev n : ℕ
+    n = length xs
 
-  abbrev ring : List Value
-  ring = slice_set fs (n % 40) a
+    abbrev ring : List Value
+    ring = slice_set fs (n % 40) a
 
-  abbrev both : List Value
-  both = slice_set ring (40 + n % 40) w
+    abbrev both : List Value
+    both = slice_set ring (40 + n % 40) w
 
-  pub ring_long : length ring ≡ 80
-  ring_long = length-set fs (n % 40) a ∙ r.long
+    pub ring_long : length ring ≡ 80
+    ring_long = length-set fs (n % 40) a ∙ r.long
 
-  pub both_long : length both ≡ 80
-  both_long = length-set ring (40 + n % 40) w ∙ ring_long
+    pub both_long : length both ≡ 80
+    both_long = length-set ring (40 + n % 40) w ∙ ring_long
 
-  pub ring_held : IsHeld a → (i : ℕ) → IsHeld (slice_index_or ring i Nil)
-  ring_held own = set_held fs (n % 40) a (omega (arith, r.long, place_low n)) r.held own
+    pub ring_held : IsHeld a → (i : ℕ) → IsHeld (slice_index_or ring i Nil)
+    ring_held own = set_held fs (n % 40) a (omega (arith, r.long, place_low n)) r.held own
 
-  pub both_held : IsHeld a → IsHeld w → (i : ℕ) → IsHeld (slice_index_or both i Nil)
-  both_held own also =
-      set_held ring (40 + n % 40) w (omega (arith, ring_long, place_low n)) (ring_held own) also
+    pub both_held : IsHeld a → IsHeld w → (i : ℕ) → IsHeld (slice_index_or both i Nil)
+    both_held own also =
+        set_held ring (40 + n % 40) w (omega (arith, ring_long, place_low n)) (ring_held own) also
 
-  other : (i : ℕ) → i ≢ (n % 40) → i ≢ (40 + n % 40)
-      → slice_index_or both i Nil ≡ slice_index_or fs i Nil
-  other i p q =
-      get_or-set_other ring (40 + n % 40) i w Nil q ∙ get_or-set_other fs (n % 40) i a Nil p
+    other : (i : ℕ) → i ≢ (n % 40) → i ≢ (40 + n % 40)
+        → slice_index_or both i Nil ≡ slice_index_or fs i Nil
+    other i p q =
+        get_or-set_other ring (40 + n % 40) i w Nil q ∙ get_or-set_other fs (n % 40) i a Nil p
 
-  slot_new : slice_index_or both (n % 40) Nil ≡ a
-  slot_new =
-      get_or-set_other ring (40 + n % 40) (n % 40) w Nil (λ e. absurd (omega (arith, e)))
-      ∙ set_at fs (n % 40) (n % 40) a refl (omega (arith, r.long, place_low n))
+    slot_new : slice_index_or both (n % 40) Nil ≡ a
+    slot_new =
+        get_or-set_other ring (40 + n % 40) (n % 40) w Nil (λ e. absurd (omega (arith, e)))
+        ∙ set_at fs (n % 40) (n % 40) a refl (omega (arith, r.long, place_low n))
 
-  alarm_new : slice_index_or both (40 + n % 40) Nil ≡ w
-  alarm_new =
-      set_at ring (40 + n % 40) (40 + n % 40) w refl (omega (arith, ring_long, place_low n))
+    alarm_new : slice_index_or both (40 + n % 40) Nil ≡ w
+    alarm_new =
+        set_at ring (40 + n % 40) (40 + n % 40) w refl (omega (arith, ring_long, place_low n))
 
-  slot_old : (i : ℕ) → i < n → n + 1 ≤ i + 40
-      → slice_index_or both (i % 40) Nil ≡ slice_index_or fs (i % 40) Nil
-  slot_old i low m =
-      other (i % 40) (apart i n low m) (λ e. absurd (omega (arith, e, place_low i)))
+    slot_old : (i : ℕ) → i < n → n + 1 ≤ i + 40
+        → slice_index_or both (i % 40) Nil ≡ slice_index_or fs (i % 40) Nil
+    slot_old i low m =
+        other (i % 40) (apart i n low m) (λ e. absurd (omega (arith, e, place_low i)))
 
-  alarm_old : (i : ℕ) → i < n → n + 1 ≤ i + 40
-      → slice_index_or both (40 + i % 40) Nil ≡ slice_index_or fs (40 + i % 40) Nil
-  alarm_old i low m =
-      other (40 + i % 40) (λ e. absurd (omega (arith, e, place_low n)))
-      (λ e. apart i n low m (omega (arith, e)))
+    alarm_old : (i : ℕ) → i < n → n + 1 ≤ i + 40
+        → slice_index_or both (40 + i % 40) Nil ≡ slice_index_or fs (40 + i % 40) Nil
+    alarm_old i low m =
+        other (40 + i % 40) (λ e. absurd (omega (arith, e, place_low n)))
+        (λ e. apart i n low m (omega (arith, e)))
 
-  free_old : (i : ℕ) → n + 1 ≤ i
-      → slice_index_or both (40 + i) Nil ≡ slice_index_or fs (40 + i) Nil
-  free_old i low =
-      other (40 + i) (λ e. absurd (omega (arith, e, place_low n)))
-      (λ e. absurd (omega (arith, e)))
+    free_old : (i : ℕ) → n + 1 ≤ i
+        → slice_index_or both (40 + i) Nil ≡ slice_index_or fs (40 + i) Nil
+    free_old i low =
+        other (40 + i) (λ e. absurd (omega (arith, e, place_low n)))
+        (λ e. absurd (omega (arith, e)))
 
-  pub ring_more : a ≡ Ref (name_at n) → w ≡ listed l v (name_at n) → IsHeld a → IsHeld w
-      → IsRing l (xs ++ v ∷ []) both
-  ring_more is lists own also = record {
-    long = both_long;
-    held = both_held own also;
-    slots = λ i low m. elim (cases_eq i n) [
-      | inl e ↦ ap (λ k. slice_index_or both (k % 40) Nil) e ∙ slot_new ∙ is
-          ∙ ap (λ k. Ref (name_at k)) (sym e)
-      | inr ne ↦ slot_old i (omega (arith, ne, low, longer xs v)) (omega (arith, m, longer xs v))
-          ∙ r.slots i (omega (arith, ne, low, longer xs v)) (omega (arith, m, longer xs v))
-    ];
-    alarms = λ i low m. elim (cases_eq i n) [
-      | inl e ↦ ap (λ k. slice_index_or both (40 + k % 40) Nil) e ∙ alarm_new ∙ lists
-          ∙ sym (λ t. listed l (last_is xs v i e t) (name_at (e t)))
-      | inr ne ↦ alarm_old i (omega (arith, ne, low, longer xs v)) (omega (arith, m, longer xs v))
-          ∙ r.alarms i (omega (arith, ne, low, longer xs v)) (omega (arith, m, longer xs v))
-          ∙ ap (λ x. listed l x (name_at i))
-          (sym (get_or_append_left xs (v ∷ []) 0 i (omega (arith, ne, low, longer xs v))))
-    ];
-    free = λ i low.
-        free_old i (omega (arith, low, longer xs v)) ∙ r.free i (omega (arith, low, longer xs v));
-  }
+    pub ring_more : a ≡ Ref (name_at n) → w ≡ listed l v (name_at n) → IsHeld a → IsHeld w
+        → IsRing l (xs ++ v ∷ []) both
+    ring_more is lists own also = record {
+      long = both_long;
+      held = both_held own also;
+      slots = λ i low m. elim (cases_eq i n) [
+        | inl e ↦ ap (λ k. slice_index_or both (k % 40) Nil) e ∙ slot_new ∙ is
+            ∙ ap (λ k. Ref (name_at k)) (sym e)
+        | inr ne ↦ slot_old i (omega (arith, ne, low, longer xs v)) (omega (arith, m, longer xs v))
+            ∙ r.slots i (omega (arith, ne, low, longer xs v)) (omega (arith, m, longer xs v))
+      ];
+      alarms = λ i low m. elim (cases_eq i n) [
+        | inl e ↦ ap (λ k. slice_index_or both (40 + k % 40) Nil) e ∙ alarm_new ∙ lists
+            ∙ sym (λ t. listed l (last_is xs v i e t) (name_at (e t)))
+        | inr ne ↦ alarm_old i (omega (arith, ne, low, longer xs v)) (omega (arith, m, longer xs v))
+            ∙ r.alarms i (omega (arith, ne, low, longer xs v)) (omega (arith, m, longer xs v))
+            ∙ ap (λ x. listed l x (name_at i))
+            (sym (get_or_append_left xs (v ∷ []) 0 i (omega (arith, ne, low, longer xs v))))
+      ];
+      free = λ i low.
+          free_old i (omega (arith, low, longer xs v)) ∙ r.free i (omega (arith, low, longer xs v));
+    }

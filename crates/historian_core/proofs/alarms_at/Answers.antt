@@ -1,4 +1,4 @@
-use Rattle.std.proofs.Common.{◌≡◌, ◌∙◌, arith}
+use Rattle.std.proofs.Common.{◌∙◌}
 use Rattle.asked_graph.specs.Asked.{HasUsed}
 use Rattle.historian_core.proofs.Lives.{listed_commands, room_listed}
 use Rattle.historian_core.proofs.Moves.{found_listed}
