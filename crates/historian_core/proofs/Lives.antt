@@ -1,5 +1,5 @@
 -- What the commands of a historian take of the heap's life.
-use Rattle.std.proofs.Common.{◌≡◌, ℕ, ◌+◌, ◌*◌, ◌-◌, ◌%◌, ◌^◌, ◌<◌, ◌≤◌, inl, inr, List, [], ◌∷◌, length, sym, ap, ◌∙◌, subst, arith}
+use Rattle.std.proofs.Common.{◌≡◌, ℕ, ◌+◌, ◌*◌, ◌-◌, ◌%◌, ◌^◌, ◌<◌, ◌≤◌, inl, inr, Bool, cond, List, [], ◌∷◌, length, sym, ap, ◌∙◌, subst, arith}
 use Rattle.std.proofs.lemmas.Nat.{mul-le}
 use Rattle.std.specs.List.{AllByRecursion}
 use Rattle.std.proofs.lemmas.Bool.{cases_Bool}
@@ -14,31 +14,39 @@ use Rattle.heap_system.specs.Lives.{sum_after}
 use Rattle.control_heap.specs.Controls.{Control, asked, units}
 use Rattle.asked_graph.specs.Asked.{HasUsed, HasRoomFor}
 use Rattle.historian_core.specs.declared.Limits.{Limits}
-use Rattle.historian_core.specs.Kept.{heap_config, Holds}
+use Rattle.historian_core.specs.Kept.{heap_config, Holds, listed_from}
 use Rattle.historian_core.specs.Texts.{life}
-use Rattle.historian_core.specs.Windows.{is_alarm, mark}
+use Rattle.historian_core.specs.Windows.{is_alarm}
 
 abbrev pub asked_commands : ℕ → ℕ → ℕ → List Command
-asked_commands value m count =
-    commands.New 1 2 ∷ commands.Set 2 value ∷ commands.Put 1 0 2 ∷ commands.Set 2 m
-    ∷ commands.Put 1 1 2 ∷ commands.Put 0 (count % 40) 1 ∷ []
+asked_commands value from count =
+    commands.New 1 1 ∷ commands.Set 2 value ∷ commands.Put 1 0 2 ∷ commands.Put 0 (count % 40) 1
+    ∷ commands.Put 0 (40 + count % 40) from ∷ []
 
-abbrev pub fetched_commands : ℕ → ℕ → List Command
-fetched_commands i f = commands.Get 3 0 (i % 40) ∷ commands.Get 4 3 f ∷ []
+abbrev pub fetched_commands : ℕ → List Command
+fetched_commands i = commands.Get 3 0 (i % 40) ∷ commands.Get 4 3 0 ∷ []
 
-asked_owe : (rate value m count : ℕ)
-    → sum_after (units_owed Eight rate) 0 (asked_commands value m count) ≡ rate
-asked_owe rate value m count = sum
+abbrev pub listed_commands : ℕ → List Command
+listed_commands i = commands.Get 3 0 (40 + i % 40) ∷ []
+
+asked_owe : (rate value from count : ℕ)
+    → sum_after (units_owed Eight rate) 0 (asked_commands value from count) ≡ rate
+asked_owe rate value from count = sum
   where
     sum : (rate * 1 + 0) + ((rate * 0 + 0) + ((rate * 0 + 0) + ((rate * 0 + 0)
-        + ((rate * 0 + 0) + ((rate * 0 + 0) + 0))))) ≡ rate
+        + ((rate * 0 + 0) + 0)))) ≡ rate
     sum = omega arith
 
-fetched_owe : (rate i f : ℕ)
-    → sum_after (units_owed Eight rate) 0 (fetched_commands i f) ≡ 0
-fetched_owe rate i f = sum
+fetched_owe : (rate i : ℕ) → sum_after (units_owed Eight rate) 0 (fetched_commands i) ≡ 0
+fetched_owe rate i = sum
   where
     sum : (rate * 0 + 0) + ((rate * 0 + 0) + 0) ≡ 0
+    sum = omega arith
+
+listed_owe : (rate i : ℕ) → sum_after (units_owed Eight rate) 0 (listed_commands i) ≡ 0
+listed_owe rate i = sum
+  where
+    sum : (rate * 0 + 0) + 0 ≡ 0
     sum = omega arith
 
 -- the units that commands took of a heap of this configuration
@@ -50,28 +58,41 @@ units_taken h new ks n rate same took is_rate owed =
     (took.units rate (subst (λ c. IsRate c rate) (sym same) is_rate))
     ∙ ap (λ m. units h + m) owed
 
-pub kept_units : (h new : Control) (value m count : ℕ) → h.config ≡ heap_config
-    → HasUsed h (asked_commands value m count) new → (rate : ℕ) → IsRate heap_config rate
+pub kept_units : (h new : Control) (value from count : ℕ) → h.config ≡ heap_config
+    → HasUsed h (asked_commands value from count) new → (rate : ℕ) → IsRate heap_config rate
     → units new ≡ units h + rate
-kept_units h new value m count same took rate is_rate =
-    units_taken h new (asked_commands value m count) rate rate same took is_rate
-    (asked_owe rate value m count)
+kept_units h new value from count same took rate is_rate =
+    units_taken h new (asked_commands value from count) rate rate same took is_rate
+    (asked_owe rate value from count)
 
-pub fetched_units : (h new : Control) (i f : ℕ) → h.config ≡ heap_config
-    → HasUsed h (fetched_commands i f) new → (rate : ℕ) → IsRate heap_config rate
+-- these take none
+pub fetched_units : (h new : Control) (i : ℕ) → h.config ≡ heap_config
+    → HasUsed h (fetched_commands i) new → (rate : ℕ) → IsRate heap_config rate
     → units new ≡ units h
-fetched_units h new i f same took rate is_rate =
-    let by = units_taken h new (fetched_commands i f) 0 rate same took is_rate
-    (fetched_owe rate i f) in
+fetched_units h new i same took rate is_rate =
+    let by = units_taken h new (fetched_commands i) 0 rate same took is_rate
+    (fetched_owe rate i) in
     omega (arith, by)
 
-pub kept_objects : (h new : Control) (value m count : ℕ)
-    → HasUsed h (asked_commands value m count) new → new.objects ≡ h.objects + 1
-kept_objects h new value m count took = took.objects
+pub listed_units : (h new : Control) (i : ℕ) → h.config ≡ heap_config
+    → HasUsed h (listed_commands i) new → (rate : ℕ) → IsRate heap_config rate
+    → units new ≡ units h
+listed_units h new i same took rate is_rate =
+    let by = units_taken h new (listed_commands i) 0 rate same took is_rate
+    (listed_owe rate i) in
+    omega (arith, by)
 
-pub fetched_objects : (h new : Control) (i f : ℕ) → HasUsed h (fetched_commands i f) new
+pub kept_objects : (h new : Control) (value from count : ℕ)
+    → HasUsed h (asked_commands value from count) new → new.objects ≡ h.objects + 1
+kept_objects h new value from count took = took.objects
+
+pub fetched_objects : (h new : Control) (i : ℕ) → HasUsed h (fetched_commands i) new
     → new.objects ≡ h.objects + 0
-fetched_objects h new i f took = took.objects
+fetched_objects h new i took = took.objects
+
+pub listed_objects : (h new : Control) (i : ℕ) → HasUsed h (listed_commands i) new
+    → new.objects ≡ h.objects + 0
+listed_objects h new i took = took.objects
 
 -- a rate of this configuration is small
 low_rate : (rate : ℕ) → IsRate heap_config rate → rate ≤ 512
@@ -81,11 +102,26 @@ few_units : (rate n : ℕ) → rate ≤ 512 → n ≤ life → rate * n ≤ 2 ^ 
 few_units rate n low few = omega (arith, mul-le rate n 512 (2 ^ 32) low few)
 
 module _ (l : Limits) (xs : List ℕ) (h : Control) (k : Holds h l xs) (few : asked h < 2 ^ 40) where
+  fits : (rate n : ℕ) (ks : List Command) → sum_after (units_owed Eight rate) 0 ks ≡ n
+      → units h + n ≤ 2 ^ 45
+      → units h + sum_after (units_owed h.config.width rate) 0 ks ≤ 2 ^ 45
+  fits rate n ks owed few =
+      subst (λ (c : Config). units h + sum_after (units_owed c.width rate) 0 ks ≤ 2 ^ 45)
+      (sym k.config) (omega (arith, owed, few))
+
+  few_used : (rate : ℕ) → IsRate h.config rate → length xs ≤ life
+      → (units h ≤ 2 ^ 41) × (rate ≤ 512)
+  few_used rate is_rate inside =
+      let here : IsRate heap_config rate = subst (λ c. IsRate c rate) k.config is_rate in (
+        omega (arith, k.units rate here, few_units rate (length xs) (low_rate rate here) inside),
+        low_rate rate here,
+      )
+
   -- the life has room for a reading more
-  pub room_kept : (value m count : ℕ) → value < 2 ^ 62 → m < 2 ^ 62 → length xs < life
-      → HasRoomFor h (asked_commands value m count)
-  room_kept value m count small marked inside = record {
-    bounds = subst (λ c. AllByRecursion (IsCommandInBounds c) (asked_commands value m count))
+  pub room_kept : (value from count : ℕ) → value < 2 ^ 62 → from < 6 → length xs < life
+      → HasRoomFor h (asked_commands value from count)
+  room_kept value from count small low inside = record {
+    bounds = subst (λ c. AllByRecursion (IsCommandInBounds c) (asked_commands value from count))
         (sym k.config) (
           (omega arith, omega arith, omega arith),
           (
@@ -93,73 +129,58 @@ module _ (l : Limits) (xs : List ℕ) (h : Control) (k : Holds h l xs) (few : as
             (
               (omega arith, omega arith, omega arith),
               (
-                (omega arith, marked),
-                (
-                  (omega arith, omega arith, omega arith),
-                  ((omega arith, omega arith, omega arith), tt),
-                ),
+                (omega arith, omega arith, omega arith),
+                ((omega arith, omega arith, omega (arith, low)), tt),
               ),
             ),
           ),
         );
     count = omega (arith, few);
     objects = objects;
-    units = λ rate is_rate. units_fit rate (subst (λ c. IsRate c rate) k.config is_rate);
+    units = λ rate is_rate.
+        let used = few_used rate is_rate (omega (arith, inside)) in
+        fits rate rate (asked_commands value from count) (asked_owe rate value from count)
+        (omega (arith, used.0, used.1));
   }
     where
       objects : h.objects + 1 ≤ 2 ^ 43 - 1
       objects = omega (arith, k.objects, inside)
 
-      units_fit : (rate : ℕ) → IsRate heap_config rate
-          → units h + sum_after (units_owed h.config.width rate) 0 (asked_commands value m count)
-          ≤ 2 ^ 45
-      units_fit rate is_rate =
-          subst (λ (c : Config). units h
-          + sum_after (units_owed c.width rate) 0 (asked_commands value m count) ≤ 2 ^ 45)
-          (sym k.config)
-          (omega (
-            arith,
-            asked_owe rate value m count,
-            k.units rate is_rate,
-            few_units rate (length xs) (low_rate rate is_rate) (omega (arith, inside)),
-            low_rate rate is_rate,
-          ))
-
-  -- and for fetching one
-  pub room_fetched : (i f : ℕ) → f < 2 → length xs ≤ life → HasRoomFor h (fetched_commands i f)
-  room_fetched i f two inside = record {
-    bounds = subst (λ c. AllByRecursion (IsCommandInBounds c) (fetched_commands i f))
+  -- for fetching one
+  pub room_fetched : (i : ℕ) → length xs ≤ life → HasRoomFor h (fetched_commands i)
+  room_fetched i inside = record {
+    bounds = subst (λ c. AllByRecursion (IsCommandInBounds c) (fetched_commands i))
         (sym k.config) (
           (omega arith, omega arith, omega arith),
-          ((omega arith, omega arith, omega (arith, two)), tt),
+          ((omega arith, omega arith, omega arith), tt),
         );
     count = omega (arith, few);
     objects = objects;
-    units = λ rate is_rate. units_fit rate (subst (λ c. IsRate c rate) k.config is_rate);
+    units = λ rate is_rate.
+        let used = few_used rate is_rate inside in
+        fits rate 0 (fetched_commands i) (fetched_owe rate i) (omega (arith, used.0));
   }
     where
       objects : h.objects + 0 ≤ 2 ^ 43 - 1
       objects = omega (arith, k.objects, inside)
 
-      units_fit : (rate : ℕ) → IsRate heap_config rate
-          → units h + sum_after (units_owed h.config.width rate) 0 (fetched_commands i f) ≤ 2 ^ 45
-      units_fit rate is_rate =
-          subst (λ (c : Config). units h
-          + sum_after (units_owed c.width rate) 0 (fetched_commands i f) ≤ 2 ^ 45)
-          (sym k.config)
-          (omega (
-            arith,
-            fetched_owe rate i f,
-            k.units rate is_rate,
-            few_units rate (length xs) (low_rate rate is_rate) inside,
-          ))
+  -- and for looking into the list of alarms
+  pub room_listed : (i : ℕ) → length xs ≤ life → HasRoomFor h (listed_commands i)
+  room_listed i inside = record {
+    bounds = subst (λ c. AllByRecursion (IsCommandInBounds c) (listed_commands i))
+        (sym k.config) ((omega arith, omega arith, omega arith), tt);
+    count = omega (arith, few);
+    objects = objects;
+    units = λ rate is_rate.
+        let used = few_used rate is_rate inside in
+        fits rate 0 (listed_commands i) (listed_owe rate i) (omega (arith, used.0));
+  }
+    where
+      objects : h.objects + 0 ≤ 2 ^ 43 - 1
+      objects = omega (arith, k.objects, inside)
 
--- a mark is 0 or 1
-pub mark_low : (l : Limits) (x : ℕ) → mark l x ≤ 1
-mark_low l x = elim (cases_Bool (is_alarm l x)) [
-  | inl y ↦ rw y (omega arith)
-  | inr y ↦ rw y (omega arith)
+pub from_low : (l : Limits) (x m : ℕ) → m ≡ listed_from l x → m < 6
+from_low l x m e = elim (cases_Bool (is_alarm l x)) [
+  | inl y ↦ let is : m ≡ 1 = e ∙ ap (λ (b : Bool). cond b 1 5) y in omega (arith, is)
+  | inr y ↦ let is : m ≡ 5 = e ∙ ap (λ (b : Bool). cond b 1 5) y in omega (arith, is)
 ]
-
-pub mark_small : (l : Limits) (x m : ℕ) → m ≡ mark l x → m < 2 ^ 62
-mark_small l x m e = omega (arith, e, mark_low l x)

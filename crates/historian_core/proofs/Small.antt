@@ -24,7 +24,7 @@ pub record IsOne (o : Object) : Type 0 where
 abbrev pub AreOnes : List Object → Type 0
 AreOnes os = (i : ℕ) → IsOne (slice_index_or os i no_object)
 
-array_is : array_blocks Eight 40 ≤ 10
+array_is : array_blocks Eight 80 ≤ 13
 unfolding tree
 array_is = omega arith
 
@@ -52,7 +52,7 @@ module _ (a b c d : Value) (os : List Object) (fs : List Value) where
       ∙ ap (λ n. object_at (slice_index_or g.mutators n no_mutator) x.serial) t
 
   module _ (ah : IsHeld a) (bp : IsPlain b) (ch : IsHeld c) (dp : IsPlain d) (ones : AreOnes os)
-      (held : (i : ℕ) → IsHeld (slice_index_or fs i Nil)) (long : length fs ≡ 40) where
+      (held : (i : ℕ) → IsHeld (slice_index_or fs i Nil)) (long : length fs ≡ 80) where
     carried : (x : Name) → x.thread ≡ 0 → 1 ≤ x.serial → Carries Eight g x 1
     carried x t s =
         let one : IsOne (object_of g x) = subst IsOne (sym (object_is x t s)) (ones (x.serial - 1)) in
@@ -95,7 +95,7 @@ module _ (a b c d : Value) (os : List Object) (fs : List Value) where
         (λ t q x l e. register t q x l e)
         (λ i x e. let own = held_ref (slice_index_or fs i Nil) x (held i) e in carried x own.0 own.1)
         (λ t q x i e. by_register t q x i e) in
-        let array : object_blocks Eight (object_of g (shared_name 1)) ≡ array_blocks Eight 40 =
+        let array : object_blocks Eight (object_of g (shared_name 1)) ≡ array_blocks Eight 80 =
         ap (array_blocks Eight) long in
         omega (arith, all, array, array_is, long)
       where

@@ -3,7 +3,6 @@ use Rattle.std.proofs.Common.{◌≡◌, ℕ, ◌+◌, ◌-◌, ◌<◌, min, ma
 use Rattle.std.proofs.lemmas.List.{at_drop_more, drop_all}
 use Rattle.historian_core.specs.declared.Limits.{Limits}
 use Rattle.historian_core.specs.declared.Figures.{Figures}
-use Rattle.historian_core.specs.Kept.{field_number}
 use Rattle.historian_core.specs.Windows.{figures_of, last_ones, mark}
 use Rattle.historian_core.proofs.Moves.{length_more}
 
@@ -40,8 +39,8 @@ first_figures l xs r count f same e =
 pub more_figures : (l : Limits) (xs : List ℕ) (r count back : ℕ) (f : Figures) (v m : ℕ)
     → length xs ≡ count → back < count + 1
     → f ≡ figures_of l (drop ((count + 1) - back) (xs ++ r ∷ []))
-    → v ≡ field_number l (xs ++ r ∷ []) (count - back) 0
-    → m ≡ field_number l (xs ++ r ∷ []) (count - back) 1
+    → v ≡ slice_index_or (xs ++ r ∷ []) (count - back) 0
+    → m ≡ mark l (slice_index_or (xs ++ r ∷ []) (count - back) 0)
     → grown f v m ≡ figures_of l (drop ((count + 1) - (back + 1)) (xs ++ r ∷ []))
 more_figures l xs r count back f v m same low e a b =
     let ys : List ℕ = xs ++ r ∷ [] in

@@ -1,5 +1,5 @@
 -- A heap that keeps readings.
-use Rattle.std.specs.Prelude.{ℕ, zero, suc, ◌+◌, ◌*◌, ◌%◌, ◌<◌, ◌≤◌, ◌≡◌, ◌^◌, List, [], ◌∷◌, length, map, slice_index_or}
+use Rattle.std.specs.Prelude.{ℕ, ◌+◌, ◌*◌, ◌%◌, ◌<◌, ◌≤◌, ◌≡◌, ◌^◌, if◌then◌else◌, List, [], ◌∷◌, length, map, slice_index_or}
 use Rattle.std.specs.List.{AllByRecursion}
 use Rattle.block_store.specs.declared.Config.{Config}
 use Rattle.block_store.specs.declared.Name.{Name}
@@ -7,27 +7,38 @@ use Rattle.block_store.specs.declared.Value.{Value}
 use Rattle.block_store.specs.declared.Value.TheVariants.{Nil, Int, Ref}
 use Rattle.block_store.specs.declared.Width.TheVariants.{Eight}
 use Rattle.rate_plan.specs.Rates.{IsRate}
+use Rattle.never_heap.specs.declared.Reply.{Reply}
+use Rattle.never_heap.specs.declared.Reply.TheVariants.{Val}
 use Rattle.never_heap.specs.Graphs.{Graph, Object, Record, Array, nils, shared_name}
 use Rattle.control_heap.specs.Controls.{Control, asked, units}
 use Rattle.asked_graph.specs.Shown.{Shows}
 use Rattle.historian_core.specs.declared.Limits.{Limits}
-use Rattle.historian_core.specs.Windows.{mark}
+use Rattle.historian_core.specs.Windows.{is_alarm}
 
 abbrev pub heap_config : Config
 heap_config =
-    record { width = Eight; threads = 1; blocks = 256; live = 64; object = 1; shared = 40 }
+    record { width = Eight; threads = 1; blocks = 512; live = 128; object = 1; shared = 80 }
 
--- the record of a reading: it, and its mark
-abbrev pub record_of : Limits → ℕ → Object
-record_of l v = record { kind = Record; fields = Int v ∷ Int (mark l v) ∷ [] }
-
-abbrev pub field_number : Limits → List ℕ → ℕ → ℕ → ℕ
-field_number l xs i zero = slice_index_or xs i 0
-field_number l xs i (suc f) = mark l (slice_index_or xs i 0)
+-- the record of a reading
+abbrev pub record_of : ℕ → Object
+record_of v = record { kind = Record; fields = Int v ∷ [] }
 
 -- the name of the record of reading i
 abbrev pub name_at : ℕ → Name
 name_at i = record { thread = 0; serial = i + 1 }
+
+-- what the list of alarms has for a reading with this record: the record, where it is an alarm
+abbrev pub listed : Limits → ℕ → Name → Value
+listed l v a = if is_alarm l v then Ref a else Nil
+
+-- the register from which that is put: 1 has the record, and 5 is never written
+abbrev pub listed_from : Limits → ℕ → ℕ
+listed_from l v = if is_alarm l v then 1 else 5
+
+-- 1 where a reply shows a reference, and 0 where it does not
+abbrev pub refers : Reply → ℕ
+refers (Val (Ref a)) = 1
+refers _ = 0
 
 -- numbers and nil
 abbrev pub IsPlain : Value → Type 0
@@ -51,11 +62,17 @@ kept_graph a b c d os fs = record {
   } ∷ [];
 }
 
--- the shared array has the records of the last 40 of n readings, that of reading i at i modulo 40
-pub record IsRing (n : ℕ) (fs : List Value) : Type 0 where
-  pub long : length fs ≡ 40
+-- The shared array has the records of the last 40 readings, that of reading i at i modulo 40. The 40
+-- places behind these are the list of alarms: at 40 + i modulo 40 it has that record again where
+-- reading i is an alarm, and else nil.
+pub record IsRing (l : Limits) (xs : List ℕ) (fs : List Value) : Type 0 where
+  pub long : length fs ≡ 80
   pub held : (i : ℕ) → IsHeld (slice_index_or fs i Nil)
-  pub slots : (i : ℕ) → i < n → n ≤ i + 40 → slice_index_or fs (i % 40) Nil ≡ Ref (name_at i)
+  pub slots : (i : ℕ) → i < length xs → length xs ≤ i + 40
+      → slice_index_or fs (i % 40) Nil ≡ Ref (name_at i)
+  pub alarms : (i : ℕ) → i < length xs → length xs ≤ i + 40
+      → slice_index_or fs (40 + i % 40) Nil ≡ listed l (slice_index_or xs i 0) (name_at i)
+  pub free : (i : ℕ) → length xs ≤ i → slice_index_or fs (40 + i) Nil ≡ Nil
 
 -- A heap that was given these readings: it shows a graph with a record for each, of which the last
 -- 40 stand in the shared array. Each took one object of its life, and the units of one block.
@@ -70,14 +87,14 @@ pub record Holds (h : Control) (l : Limits) (xs : List ℕ) : Type 0 where
   pub b_plain : IsPlain b
   pub c_held : IsHeld c
   pub d_plain : IsPlain d
-  pub ring : IsRing (length xs) fields
+  pub ring : IsRing l xs fields
   pub low : AllByRecursion (λ (x : ℕ). x < 2 ^ 32) xs
-  pub shows : Shows h (kept_graph a b c d (map (record_of l) xs) fields)
+  pub shows : Shows h (kept_graph a b c d (map record_of xs) fields)
   pub objects : h.objects ≡ length xs
   pub units : (rate : ℕ) → IsRate heap_config rate → units h ≡ rate * length xs
 
--- The same between two readings: each took no more than 6 commands to keep it, and 4 for each of 40
+-- The same between two readings: each took no more than 5 commands to keep it, and 3 for each of 40
 -- that were told.
 pub record Keeps (h : Control) (l : Limits) (xs : List ℕ) : Type 0 where
   pub holds : Holds h l xs
-  pub few : asked h ≤ 166 * length xs
+  pub few : asked h ≤ 125 * length xs

@@ -8,7 +8,7 @@ ghost use Rattle.control_heap.specs.Controls.{asked};
 ghost use Rattle.control_heap.specs.Refusals.{IsOpenFault};
 ghost use Rattle.trace_text.specs.Faults.{Rose};
 ghost use Rattle.trace_text.specs.Streams.{Appends, AppendsPrefix};
-ghost use Rattle.historian_core.specs.Kept.{Holds, Keeps, heap_config, field_number};
+ghost use Rattle.historian_core.specs.Kept.{Holds, Keeps, heap_config, listed_from, refers};
 ghost use Rattle.historian_core.specs.Windows as windows;
 
 #[cfg(test)]
@@ -29,14 +29,14 @@ pub const KEPT: u64 = 40;
 /// How many readings a heap keeps in its life.
 pub const LIFE: u64 = 1 << 32;
 
-/// The heap: no more than 64 of its 256 blocks are ever live.
+/// The heap: no more than 128 of its 512 blocks are ever live.
 const HEAP: Config = Config {
     width: Width::Eight,
     threads: 1,
-    blocks: 256,
-    live: 64,
+    blocks: 512,
+    live: 128,
     object: 1,
-    shared: 40,
+    shared: 80,
 };
 
 /// What a reading may be without an alarm: at least `low` and at most `high`.
@@ -58,14 +58,15 @@ pub struct Figures {
 }
 
 impl Limits {
-    /// 1 for a reading that is outside of the limits, and 0 for any other.
-    fn mark(&self, reading: u32) -> u64
-        ensures { result ≡ windows.mark self.now reading }
+    /// The register that is put into the list of alarms: 1, which has the record, for a reading
+    /// outside of the limits, and 5, which is always nil, for any other.
+    fn listed_from(&self, reading: u32) -> u8
+        ensures { result ≡ listed_from self.now reading }
     {
         if reading < self.low || self.high < reading {
             1
         } else {
-            0
+            5
         }
     }
 }
@@ -84,7 +85,7 @@ impl Figures {
         }
     }
 
-    /// Those with one reading more, with this mark.
+    /// Those with one reading more; the mark is 1 where it is an alarm, and else 0.
     fn with(self, value: u64, mark: u64) -> Figures
         requires total { self.total + value < 2 ^ 64 }
         requires count { self.count + 1 < 2 ^ 64 }
@@ -186,34 +187,38 @@ pub fn take(heap: &mut ControlHeap, limits: &Limits, count: u64, reading: u32) -
     let mut figures = Figures::none();
     let kept = (count + 1).min(KEPT);
     for back in 0..kept {
-        let value = field_at(heap, count - back, 0);
-        let mark = field_at(heap, count - back, 1);
+        let value = reading_at(heap, count - back);
+        let mark = alarms_at(heap, count - back);
         figures = figures.with(value, mark);
     }
     figures
 }
 
-/// Keeps one reading more, as a record of it and its mark, in the place of the one 40 before.
+/// Keeps one reading more, as a record in the place of the one 40 before, and lists it where it is
+/// an alarm.
 fn keep(heap: &mut ControlHeap, limits: &Limits, count: u64, reading: u32)
     requires kept { (xs : List ℕ) × Holds heap.old limits.now xs × (length xs ≡ count) }
     requires room { count < LIFE }
     requires few { asked heap.old < 2 ^ 40 }
     ensures kept { (xs : List ℕ) → Holds heap.old limits.now xs → length xs ≡ count
         → Holds heap.new limits.now (xs ++ reading ∷ []) }
-    ensures six { asked heap.new ≡ asked heap.old + 6 }
+    ensures five { asked heap.new ≡ asked heap.old + 5 }
 {
     let value = u64::from(reading);
-    let mark = limits.mark(reading);
+    let from = limits.listed_from(reading);
     let commands = [
-        Command::New { d: 1, fields: 2 },
+        Command::New { d: 1, fields: 1 },
         Command::Set { d: 2, value },
         Command::Put { s: 1, i: 0, v: 2 },
-        Command::Set { d: 2, value: mark },
-        Command::Put { s: 1, i: 1, v: 2 },
         Command::Put {
             s: 0,
             i: count % KEPT,
             v: 1,
+        },
+        Command::Put {
+            s: 0,
+            i: KEPT + count % KEPT,
+            v: from,
         },
     ];
     lives_add_up();
@@ -222,15 +227,14 @@ fn keep(heap: &mut ControlHeap, limits: &Limits, count: u64, reading: u32)
     };
 }
 
-/// Fetches the reading number i (field 0), counted from 0, or its mark (field 1).
-fn field_at(heap: &mut ControlHeap, i: u64, field: u64) -> u64
+/// Fetches the reading number i, counted from 0.
+fn reading_at(heap: &mut ControlHeap, i: u64) -> u64
     requires kept { (l : Limits) × (xs : List ℕ) × Holds heap.old l xs
         × (i < length xs) × (length xs ≤ i + KEPT) × (length xs ≤ LIFE) }
-    requires field { field < 2 }
     requires few { asked heap.old < 2 ^ 40 }
     ensures kept { (l : Limits) (xs : List ℕ) → Holds heap.old l xs → i < length xs
         → length xs ≤ i + KEPT
-        → (result ≡ field_number l xs i field) × Holds heap.new l xs }
+        → (result ≡ slice_index_or xs i 0) × Holds heap.new l xs }
     ensures small { result < 2 ^ 32 }
     ensures two { asked heap.new ≡ asked heap.old + 2 }
 {
@@ -240,17 +244,36 @@ fn field_at(heap: &mut ControlHeap, i: u64, field: u64) -> u64
             s: 0,
             i: i % KEPT,
         },
-        Command::Get {
-            d: 4,
-            s: 3,
-            i: field,
-        },
+        Command::Get { d: 4, s: 3, i: 0 },
     ];
     lives_add_up();
     let Ok(reply) = ask_all(heap, &commands) else {
         unreachable!();
     };
     number_in(reply)
+}
+
+/// How many alarms stand in the list for the reading number i, counted from 0: 1 or 0.
+fn alarms_at(heap: &mut ControlHeap, i: u64) -> u64
+    requires kept { (l : Limits) × (xs : List ℕ) × Holds heap.old l xs
+        × (i < length xs) × (length xs ≤ i + KEPT) × (length xs ≤ LIFE) }
+    requires few { asked heap.old < 2 ^ 40 }
+    ensures kept { (l : Limits) (xs : List ℕ) → Holds heap.old l xs → i < length xs
+        → length xs ≤ i + KEPT
+        → (result ≡ windows.mark l (slice_index_or xs i 0)) × Holds heap.new l xs }
+    ensures small { result ≤ 1 }
+    ensures one { asked heap.new ≡ asked heap.old + 1 }
+{
+    let commands = [Command::Get {
+        d: 3,
+        s: 0,
+        i: KEPT + i % KEPT,
+    }];
+    lives_add_up();
+    let Ok(reply) = ask_all(heap, &commands) else {
+        unreachable!();
+    };
+    references_in(reply)
 }
 
 /// The number that a reply shows.
@@ -261,5 +284,16 @@ fn number_in(reply: Reply) -> u64
     match reply {
         Reply::Val(Value::Int(number)) => number,
         _ => unreachable!(),
+    }
+}
+
+/// 1 for a reply that shows a reference, and 0 for any other.
+fn references_in(reply: Reply) -> u64
+    ensures count { result ≡ refers reply }
+    ensures small { result ≤ 1 }
+{
+    match reply {
+        Reply::Val(Value::Ref(_)) => 1,
+        _ => 0,
     }
 }

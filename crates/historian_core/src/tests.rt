@@ -66,3 +66,27 @@ fn a_fault_stops_the_report(rt: HostRuntime) -> Result<(), Fail> {
         ONE,
     )
 }
+
+/// Behind the 40th and the 41st reading, of which the first is an alarm.
+const LAST: &[u8] =
+    b"least 50 greatest 90 mean 51 alarms 1\nleast 50 greatest 50 mean 50 alarms 0\n";
+
+#[test]
+fn an_alarm_stands_for_40_readings(rt: HostRuntime) -> Result<(), Fail> {
+    let Ok(mut heap) = start(rt.alloc()) else {
+        return Err(Fail::from("memory"));
+    };
+    let mut text = Vec::from_slice(rt.alloc(), b"20 80\n90\n")?;
+    for _ in 0..40 {
+        text.extend_from_slice(b"50\n")?;
+    }
+    let mut source = MemSource::new(text, 100, Vec::from_slice(rt.alloc(), &[])?);
+    let mut sink = MemSink::new(rt.alloc(), 4000, Vec::from_slice(rt.alloc(), &[])?)
+        .ok()
+        .ok_or("memory")?;
+    assert_eq!(rt; report(&mut heap, &mut source, &mut sink), Ok(()));
+    let told = sink.bytes();
+    let from = told.len().saturating_sub(LAST.len());
+    assert_eq!(rt; told.get(from..).unwrap_or(&[]), LAST);
+    Ok(())
+}

@@ -19,7 +19,7 @@ pub enum Stop {
     /// The line of this number, counted from 1, is the first that cannot stand at its place: the
     /// first spells no limits or is not there, or another one spells no reading.
     BadLine(u64),
-    /// The heap kept 131,072 readings, and one more came.
+    /// The heap kept 2^32 readings, and one more came.
     NoLifeLeft,
     /// The source failed.
     ReadFault,
@@ -70,8 +70,8 @@ pub fn limits_of(line: &[u8]) -> Option<Limits>
 ///
 /// # Errors
 ///
-/// `BadLine` with the first line that cannot stand at its place, and `NoLifeLeft` at the 131,073rd
-/// reading: then what the lines before ask is written. `ReadFault` where the source fails: then
+/// `BadLine` with the first line that cannot stand at its place, and `NoLifeLeft` at a reading
+/// behind 2^32: then what the lines before ask is written. `ReadFault` where the source fails: then
 /// what the lines ask that were read is written. `WriteFault` where the sink fails, which may leave
 /// a prefix of a line written.
 pub fn report<S: Source, K: Sink>(

@@ -18,14 +18,14 @@ loop-back-init c = record {
     first_figures c.args.limits.now xs c.args.reading c.args.count c.none-figures.result same
         (c.none-figures.ensures c.args.limits.now),
   );
-  few = omega (arith, c.keep.ensures.six);
+  few = omega (arith, c.keep.ensures.five);
   total = omega (arith, ap (λ (f : Figures). f.total) (c.none-figures.ensures c.args.limits.now));
   count = ap (λ (f : Figures). f.count) (c.none-figures.ensures c.args.limits.now);
   alarms = omega (arith, ap (λ (f : Figures). f.alarms) (c.none-figures.ensures c.args.limits.now));
 }
 
-pub field_at-value-requires-clause-kept : goal.field_at-value-requires-clause-kept
-field_at-value-requires-clause-kept c =
+pub reading_at-value-requires-clause-kept : goal.reading_at-value-requires-clause-kept
+reading_at-value-requires-clause-kept c =
     let r = c.requires.kept in
     let n = length_more r.0 c.args.reading in (
       c.args.limits.now,
@@ -36,8 +36,8 @@ field_at-value-requires-clause-kept c =
       omega (arith, n, r.2, c.requires.room),
     )
 
-pub field_at-mark-requires-clause-kept : goal.field_at-mark-requires-clause-kept
-field_at-mark-requires-clause-kept c =
+pub alarms_at-mark-requires-clause-kept : goal.alarms_at-mark-requires-clause-kept
+alarms_at-mark-requires-clause-kept c =
     let r = c.requires.kept in
     let n = length_more r.0 c.args.reading in
     let inside : c.args.count - c.loop-back.back < length (r.0 ++ c.args.reading ∷ []) =
@@ -46,7 +46,7 @@ field_at-mark-requires-clause-kept c =
     omega (arith, n, r.2, c.loop-back-test.true, c.min-kept.ensures) in (
       c.args.limits.now,
       r.0 ++ c.args.reading ∷ [],
-      (c.field_at-value.ensures.kept c.args.limits.now (r.0 ++ c.args.reading ∷ [])
+      (c.reading_at-value.ensures.kept c.args.limits.now (r.0 ++ c.args.reading ∷ [])
           (c.loop-back.invariant.told r.0 r.1 r.2).0 inside recent).1,
       inside,
       recent,
@@ -62,22 +62,22 @@ loop-back-preserved c = record {
       let recent : length (xs ++ c.args.reading ∷ []) ≤ c.args.count - c.loop-back.back + 40 =
       omega (arith, n, same, c.loop-back-test.true, c.min-kept.ensures) in
       let old = c.loop-back.invariant.told xs k same in
-      let one = c.field_at-value.ensures.kept c.args.limits.now (xs ++ c.args.reading ∷ []) old.0
+      let one = c.reading_at-value.ensures.kept c.args.limits.now (xs ++ c.args.reading ∷ []) old.0
       inside recent in
-      let two = c.field_at-mark.ensures.kept c.args.limits.now (xs ++ c.args.reading ∷ []) one.1
+      let two = c.alarms_at-mark.ensures.kept c.args.limits.now (xs ++ c.args.reading ∷ []) one.1
       inside recent in (
         two.1,
         c.with-figures.ensures
             ∙ more_figures c.args.limits.now xs c.args.reading c.args.count c.loop-back.back
-            c.loop-back.figures c.field_at-value.result c.field_at-mark.result same
+            c.loop-back.figures c.reading_at-value.result c.alarms_at-mark.result same
             (omega (arith, c.loop-back-test.true, c.min-kept.ensures)) old.1 one.0 two.0,
       );
   few =
       omega (
         arith,
         c.loop-back.invariant.few,
-        c.field_at-value.ensures.two,
-        c.field_at-mark.ensures.two,
+        c.reading_at-value.ensures.two,
+        c.alarms_at-mark.ensures.one,
       );
   total = search rules;
   count = search rules;

@@ -10,8 +10,8 @@ invariant-loop-back l = record {
   told : (xs : List ℕ) → Keeps l.fn.heap l.limits xs → length xs ≡ l.count
       → Holds l.heap l.limits (xs ++ l.reading ∷ [])
       × (l.figures ≡ figures_of l.limits (drop ((l.count + 1) - l.back) (xs ++ l.reading ∷ [])));
-  few : asked l.heap ≡ asked l.fn.heap + 6 + 4 * l.back;
+  few : asked l.heap ≡ asked l.fn.heap + 5 + 3 * l.back;
   total : l.figures.total ≤ l.back * 2 ^ 32;
   count : l.figures.count ≡ l.back;
-  alarms : l.figures.alarms ≤ l.back * 2 ^ 32;
+  alarms : l.figures.alarms ≤ l.back;
 }

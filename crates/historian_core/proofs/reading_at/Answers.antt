@@ -1,12 +1,11 @@
-use Rattle.std.proofs.Common.{◌≡◌, ℕ, sym, ap, ◌∙◌, arith}
+use Rattle.std.proofs.Common.{◌≡◌, ℕ, sym, ap, ◌∙◌, slice_index_or, arith}
 use Rattle.block_store.specs.declared.Value.TheVariants.{Int}
 use Rattle.never_heap.specs.declared.Reply.{Reply}
 use Rattle.never_heap.specs.declared.Reply.TheVariants.{Val}
 use Rattle.asked_graph.specs.Asked.{HasUsed}
-use Rattle.historian_core.specs.Kept.{field_number}
 use Rattle.historian_core.proofs.Lives.{fetched_commands, room_fetched}
 use Rattle.historian_core.proofs.Moves.{fetched, number_low}
-use Rattle.historian_core.proofs.field_at.Goals as goal
+use Rattle.historian_core.proofs.reading_at.Goals as goal
 
 -- the number in a reply
 abbrev shown : Reply → ℕ
@@ -21,50 +20,44 @@ unreachable-requires c =
     let k = c.requires.kept in
     c.lives_add_up.ensures.fits c.args.heap.now c.ask_all.new.heap _ k.2.shows.run
     c.in_default.field-0 k.2.shows.stands
-    (room_fetched k.0 k.1 c.args.heap.now k.2 c.requires.few c.args.i c.args.field
-    c.requires.field k.5) c.in_default.ensures.refused
+    (room_fetched k.0 k.1 c.args.heap.now k.2 c.requires.few c.args.i k.5)
+    c.in_default.ensures.refused
 
 pub number_in-requires : goal.number_in-requires
 number_in-requires c =
     let k = c.requires.kept in
-    let used : HasUsed c.args.heap.now (fetched_commands c.args.i c.args.field)
-    c.ask_all.new.heap =
+    let used : HasUsed c.args.heap.now (fetched_commands c.args.i) c.ask_all.new.heap =
     c.lives_add_up.ensures.used c.args.heap.now c.ask_all.new.heap _ k.2.shows.run k.2.shows.stands
     c.in-Ok.ensures.done in (
-      field_number k.0 k.1 c.args.i c.args.field,
-      (fetched k.0 k.1 c.args.heap.now k.2 0 c.args.i c.args.field k.3 k.4 c.requires.field
-          c.ask_all.new.heap c.in-Ok.reply c.ask_all.ensures.config c.in-Ok.ensures.shown used).0,
+      slice_index_or k.1 c.args.i 0,
+      (fetched k.0 k.1 c.args.heap.now k.2 c.args.i k.3 k.4 c.ask_all.new.heap c.in-Ok.reply
+          c.ask_all.ensures.config c.in-Ok.ensures.shown used).0,
     )
 
 pub returns-clause-kept : goal.returns-clause-kept
 returns-clause-kept c = λ l xs k inside recent.
-    let used : HasUsed c.args.heap.now (fetched_commands c.args.i c.args.field)
-    c.ask_all.new.heap =
+    let used : HasUsed c.args.heap.now (fetched_commands c.args.i) c.ask_all.new.heap =
     c.lives_add_up.ensures.used c.args.heap.now c.ask_all.new.heap _ k.shows.run k.shows.stands
     c.in-Ok.ensures.done in
-    let by = fetched l xs c.args.heap.now k 0 c.args.i c.args.field inside recent c.requires.field
-    c.ask_all.new.heap c.in-Ok.reply c.ask_all.ensures.config
-    c.in-Ok.ensures.shown used in
+    let by = fetched l xs c.args.heap.now k c.args.i inside recent c.ask_all.new.heap
+    c.in-Ok.reply c.ask_all.ensures.config c.in-Ok.ensures.shown used in
     (one c.in-Ok.reply _ _ c.number_in.ensures by.0, by.1)
 
 pub returns-clause-small : goal.returns-clause-small
 returns-clause-small c =
     let k = c.requires.kept in
-    let used : HasUsed c.args.heap.now (fetched_commands c.args.i c.args.field)
-    c.ask_all.new.heap =
+    let used : HasUsed c.args.heap.now (fetched_commands c.args.i) c.ask_all.new.heap =
     c.lives_add_up.ensures.used c.args.heap.now c.ask_all.new.heap _ k.2.shows.run k.2.shows.stands
     c.in-Ok.ensures.done in
-    let by = fetched k.0 k.1 c.args.heap.now k.2 0 c.args.i c.args.field k.3 k.4 c.requires.field
-    c.ask_all.new.heap c.in-Ok.reply c.ask_all.ensures.config
-    c.in-Ok.ensures.shown used in
+    let by = fetched k.0 k.1 c.args.heap.now k.2 c.args.i k.3 k.4 c.ask_all.new.heap
+    c.in-Ok.reply c.ask_all.ensures.config c.in-Ok.ensures.shown used in
     let same = one c.in-Ok.reply _ _ c.number_in.ensures by.0 in
-    omega (arith, same, number_low k.0 k.1 c.args.heap.now k.2 0 c.args.i c.args.field c.requires.field)
+    omega (arith, same, number_low k.0 k.1 c.args.heap.now k.2 c.args.i)
 
 pub returns-clause-two : goal.returns-clause-two
 returns-clause-two c =
     let k = c.requires.kept in
-    let used : HasUsed c.args.heap.now (fetched_commands c.args.i c.args.field)
-    c.ask_all.new.heap =
+    let used : HasUsed c.args.heap.now (fetched_commands c.args.i) c.ask_all.new.heap =
     c.lives_add_up.ensures.used c.args.heap.now c.ask_all.new.heap _ k.2.shows.run k.2.shows.stands
     c.in-Ok.ensures.done in
     used.count
