@@ -1,42 +1,34 @@
 -- What a call did, put together from what it found and what it wrote.
-use Rattle.std.proofs.Common.{ℕ, ◌≡◌, ◌≢◌, ◌<◌, ◌⊎◌, ◌↔◌, inl, inr, List, Option, Some, None, IfSome, IsSome, refl, sym, ◌∙◌, subst, arith}
-use Rattle.std.proofs.lemmas.Bool.{cases_eq}
+use Rattle.std.proofs.Common.{ℕ, ◌≡◌, ◌≢◌, ◌↔◌, List, [], ◌∷◌, codes, Option, Some, None, IfSome, IsSome, refl, sym, ◌∙◌, subst}
 use Rattle.atom_board.specs.Mutators.{ClosedState}
+use Rattle.call_exits.specs.declared.refusal.Refusal.{Refusal}
+use Rattle.call_exits.specs.Exits.{IsWritten, IsToldBy}
+use Rattle.call_exits.specs.Refusals.{status_of, refusal_line, HasRead}
+use Rattle.call_exits.specs.Sides.{IsUnfailed, IsUntouched}
+use Rattle.call_exits.proofs.Ending.{never_done, done_is_ended, refusal_is_ended}
 use Rattle.heap_system.specs.Systems.{Finish}
 use Rattle.heap_system.specs.Systems.{units_of as units_in}
 use Rattle.schedules.specs.declared.Schedule.{Schedule}
-use Rattle.trace_text.specs.Faults.{Rose}
+use Rattle.trace_text.specs.Jobs.{input_limit}
 use Rattle.trace_text.specs.JobTexts.{job_text}
 use Rattle.trace_text.specs.Orders.{text_in_order}
 use Rattle.trace_text.specs.Streams.{Appends, AppendsPrefix}
 use Rattle.trace_text.specs.Texts.{run_text}
 use Rattle.rtheap_core.specs.declared.exit.RunEnd.{RunEnd}
 use Rattle.rtheap_core.specs.declared.exit.RunEnd.TheVariants.{Replayed, Ran}
-use Rattle.rtheap_core.specs.declared.refusal.Refusal.{Refusal}
-use Rattle.rtheap_core.specs.declared.refusal.Refusal.TheVariants.{Usage, BadLine, TooLong, LiveTooSmall, NoRate, ReadFault, OutOfMemory, TurnsUsed}
 use Rattle.rtheap_core.specs.declared.task.Task.{Task}
 use Rattle.rtheap_core.specs.declared.task.Task.TheVariants.{Run, Replay, Plan, Make, Trial}
-use Rattle.rtheap_core.specs.Calls.{Call, IsCarriedOut}
-use Rattle.rtheap_core.specs.Exits.{Headline, IsReplay, IsOfThreads, IsWritten, Planned, Tried, IsDue, rate_text}
+use Rattle.rtheap_core.specs.Calls.{Call, IsFine, IsCarriedOut, exit_of}
+use Rattle.rtheap_core.specs.Ends.{job_of}
+use Rattle.rtheap_core.specs.Exits.{Headline, IsReplay, IsOfThreads, Planned, Tried, rate_text}
 use Rattle.rtheap_core.specs.Generated.{generated_job}
 use Rattle.rtheap_core.specs.Outcomes.{HasRun, HasReplay, HasRate}
-use Rattle.rtheap_core.specs.Refusals.{IsCause, IsUnfailed, IsUntouched, status_of, refusal_line}
-use Rattle.rtheap_core.specs.Sides.{Sides}
-use Rattle.rtheap_core.specs.Tasks.{AsksFor, Ask, AskForRun, AskForJob, Runs}
+use Rattle.rtheap_core.specs.Refusals.{Causes, IsCause}
+use Rattle.rtheap_core.specs.Tasks.{AsksFor, Ask, AskForRun, AskForJob, Runs, Reads}
+use Rattle.rtheap_core.proofs.Apart.{are_apart}
 use Rattle.rtheap_core.proofs.Asked.{one_task}
 use Rattle.rtheap_core.proofs.Headlines.{headline_of, of_threads, replay_of}
-
--- what became of the writing
-pub record IsTold (c : Call) : Type 0 where
-  pub status : (c.exit.status ≡ c.exit.due) ⊎ (c.exit.status ≡ 6)
-  pub still : c.exit.status ≢ 6 → c.sink.faults_now ≡ c.sink.faults
-  pub rose : c.exit.status ≡ 6 → Rose c.sink.faults c.sink.faults_now
-
-failed : (c : Call) → IsTold c → c.sink.faults < c.sink.faults_now → c.exit.status ≡ 6
-failed c t more = elim (cases_eq c.exit.status 6) [
-  | inl e ↦ e
-  | inr n ↦ let same = t.still n in absurd (omega (arith, same, more))
-]
+use Rattle.rtheap_core.proofs.Taken.{fine_read}
 
 none_is : (P : RunEnd → Type 0) (o : Option RunEnd) → o ≡ None → IfSome o P
 none_is P o e = subst (λ (x : Option RunEnd). IfSome x P) (sym e) tt
@@ -68,10 +60,14 @@ pub record IsOf (c : Call) : Type 0 where
   pub tried : (key lines : ℕ) → AsksFor c.words (Trial key lines)
       → Tried c.sink c.exit.status key lines
 
+abbrev IsTold : Call → Type 0
+IsTold c = IsToldBy c.sink c.exit.status c.exit.due
+
 done_is_carried_out : (c : Call) (task : Task) → AsksFor c.words task → c.exit.due ≡ 0
-    → IsUnfailed c.source → IsTold c → ((AskForJob c.words → ⊥) → IsUntouched c.source) → IsOf c
+    → IsUnfailed c.source → IsTold c → ((AskForJob c.words → ⊥) → IsUntouched c.source)
+    → (AskForJob c.words → HasRead input_limit (IsFine c.words) c.source) → IsOf c
     → IsCarriedOut c
-done_is_carried_out c task asked due unfailed t unread of = record {
+done_is_carried_out c task asked due unfailed t unread fine of = record {
   headline = of.headline;
   run = of.run;
   ran = of.ran;
@@ -80,14 +76,9 @@ done_is_carried_out c task asked due unfailed t unread of = record {
   made = λ key lines a _. of.made key lines a;
   tried = λ key lines a _. of.tried key lines a;
   unread = unread;
-  any_due = inl due;
-  any_status = t.status;
-  refused = λ n. absurd (n due);
-  usage = (λ e. absurd (omega (arith, due, e)), λ n. absurd (n (task, asked)));
-  read_fault = λ e. absurd (omega (arith, due, e));
-  read_fault_told = λ more. absurd (omega (arith, unfailed, more));
-  write_fault = t.rose;
-  write_fault_told = failed c t;
+  any_status = t.any_status;
+  ended = done_is_ended Ask AskForJob input_limit (Causes c.words) (IsFine c.words) (4 ∷ 8 ∷ [])
+      (are_apart c.words) (codes "rtheap") (exit_of c) t (task, asked) due unfailed fine;
 }
 
 -- the words ask for no other task
@@ -100,13 +91,20 @@ not_of : (words : List (List ℕ)) (task : Task) → (Runs task → ⊥) → Ask
 not_of words task none asked other =
     none (subst Runs (one_task words other.0 task other.2 asked) other.1)
 
+not_read : (words : List (List ℕ)) (task : Task) → (Reads task → ⊥) → AsksFor words task
+    → AskForJob words → ⊥
+not_read words task none asked other =
+    none (subst Reads (one_task words other.0 task other.2 asked) other.1)
+
 pub run_is_carried_out : (c : Call) (run : ClosedState) → AsksFor c.words Run
     → HasRun c.source (Ran run)
     → IsUnfailed c.source → c.exit.due ≡ 0 → c.exit.run ≡ Some (Ran run)
     → IsWritten c.sink c.exit.status (run_text run.logs run.cycles (units_in run.logs))
     → IsTold c → IsCarriedOut c
 run_is_carried_out c run asked has unfailed due is written t =
-    done_is_carried_out c Run asked due unfailed t (λ n. absurd (n (Run, tt, asked))) (record {
+    done_is_carried_out c Run asked due unfailed t (λ n. absurd (n (Run, tt, asked)))
+    (λ _. fine_read c.source (job_of (Ran run)) has.read unfailed c.words Run asked has.admitted tt)
+    (record {
       headline = some_is (Headline c.source c.sink c.exit.status) c.exit.run (Ran run) is
           (headline_of c.source c.sink c.exit.status run has written);
       run = (λ _. ((Run, tt, asked), due), λ _. there c.exit.run (Ran run) is);
@@ -140,7 +138,11 @@ pub replay_is_carried_out : (c : Call) (schedule : Schedule) (turns : ℕ) (f : 
 replay_is_carried_out c schedule turns f asked has unfailed due is written t =
     let task = Replay schedule turns in
     let replay = replay_of c.source c.sink c.exit.status schedule turns f has written in
-    done_is_carried_out c task asked due unfailed t (λ n. absurd (n (task, tt, asked))) (record {
+    let replayed = has.replayed.replay in
+    done_is_carried_out c task asked due unfailed t (λ n. absurd (n (task, tt, asked)))
+    (λ _. fine_read c.source (job_of (Replayed f)) has.read unfailed c.words task asked has.admitted
+    (replayed.run, replayed.ends))
+    (record {
       headline = some_is (Headline c.source c.sink c.exit.status) c.exit.run (Replayed f) is replay.0;
       run = (λ _. ((task, tt, asked), due), λ _. there c.exit.run (Replayed f) is);
       ran = λ a. no_other c.words task Run (λ e. absurd cc) asked a;
@@ -168,7 +170,9 @@ pub plan_is_carried_out : (c : Call) (rate : ℕ) → AsksFor c.words Plan → H
     → IsUnfailed c.source → c.exit.due ≡ 0 → c.exit.run ≡ None
     → IsWritten c.sink c.exit.status (rate_text rate) → IsTold c → IsCarriedOut c
 plan_is_carried_out c rate asked has unfailed due is written t =
-    done_is_carried_out c Plan asked due unfailed t (λ n. absurd (n (Plan, tt, asked))) (record {
+    done_is_carried_out c Plan asked due unfailed t (λ n. absurd (n (Plan, tt, asked)))
+    (λ _. fine_read c.source has.job has.read unfailed c.words Plan asked has.admitted tt)
+    (record {
       headline = none_is (Headline c.source c.sink c.exit.status) c.exit.run is;
       run = not_run c Plan asked due is (λ r. r);
       ran = λ a. none_is (IsOfThreads c.source c.sink c.exit.status) c.exit.run is;
@@ -190,7 +194,8 @@ pub make_is_carried_out : (c : Call) (key lines : ℕ) → AsksFor c.words (Make
     → IsWritten c.sink c.exit.status (job_text (generated_job key lines)) → IsTold c → IsCarriedOut c
 make_is_carried_out c key lines asked untouched due is written t =
     let task = Make key lines in
-    done_is_carried_out c task asked due untouched.1 t (λ _. untouched) (record {
+    done_is_carried_out c task asked due untouched.1 t (λ _. untouched)
+    (λ a. absurd (not_read c.words task (λ r. r) asked a)) (record {
       headline = none_is (Headline c.source c.sink c.exit.status) c.exit.run is;
       run = not_run c task asked due is (λ r. r);
       ran = λ a. none_is (IsOfThreads c.source c.sink c.exit.status) c.exit.run is;
@@ -210,7 +215,8 @@ pub trial_is_carried_out : (c : Call) (key lines : ℕ) → AsksFor c.words (Tri
     → Tried c.sink c.exit.status key lines → IsTold c → IsCarriedOut c
 trial_is_carried_out c key lines asked untouched due is tried t =
     let task = Trial key lines in
-    done_is_carried_out c task asked due untouched.1 t (λ _. untouched) (record {
+    done_is_carried_out c task asked due untouched.1 t (λ _. untouched)
+    (λ a. absurd (not_read c.words task (λ r. r) asked a)) (record {
       headline = none_is (Headline c.source c.sink c.exit.status) c.exit.run is;
       run = not_run c task asked due is (λ r. r);
       ran = λ a. none_is (IsOfThreads c.source c.sink c.exit.status) c.exit.run is;
@@ -227,92 +233,25 @@ trial_is_carried_out c key lines asked untouched due is tried t =
 
 -- ---- a refusal
 
-never_done : (r : Refusal) → status_of r ≢ 0
-never_done Usage e = absurd cc
-never_done (BadLine line why) e = absurd cc
-never_done TooLong e = absurd cc
-never_done LiveTooSmall e = absurd cc
-never_done NoRate e = absurd cc
-never_done ReadFault e = absurd cc
-never_done OutOfMemory e = absurd cc
-never_done (TurnsUsed thread) e = absurd cc
-
-is_due : (r : Refusal) → IsDue (status_of r)
-is_due Usage = inr (inl refl)
-is_due (BadLine line why) = inr (inr (inl refl))
-is_due TooLong = inr (inr (inl refl))
-is_due LiveTooSmall = inr (inr (inr (inl refl)))
-is_due NoRate = inr (inr (inr (inl refl)))
-is_due ReadFault = inr (inr (inr (inr (inl refl))))
-is_due OutOfMemory = inr (inr (inr (inr (inr (inl refl)))))
-is_due (TurnsUsed thread) = inr (inr (inr (inr (inr (inr refl)))))
-
--- words that ask for a job ask for something
-any_of : (words : List (List ℕ)) → AskForJob words → Ask words
-any_of words a = (a.0, a.2)
-
-module _ (words : List (List ℕ)) (source : Sides) where
-  usage_is : (r : Refusal) → IsCause words source r → (status_of r ≡ 2) ↔ (Ask words → ⊥)
-  usage_is Usage c = (λ _. c.0, λ _. refl)
-  usage_is (BadLine line why) c = (λ e. absurd cc, λ n. absurd (n (any_of words c.0)))
-  usage_is TooLong c = (λ e. absurd cc, λ n. absurd (n (any_of words c.0)))
-  usage_is LiveTooSmall c = (λ e. absurd cc, λ n. absurd (n (any_of words c.0)))
-  usage_is NoRate c = (λ e. absurd cc, λ n. absurd (n (any_of words c.0)))
-  usage_is ReadFault c = (λ e. absurd cc, λ n. absurd (n (any_of words c.0)))
-  usage_is OutOfMemory c = (λ e. absurd cc, λ n. absurd (n c.0))
-  usage_is (TurnsUsed thread) c =
-      (λ e. absurd cc, λ n. absurd (n (Replay c.0.schedule c.0.turns, c.0.asked)))
-
-  fault_rose : (r : Refusal) → IsCause words source r → status_of r ≡ 5
-      → Rose source.faults source.faults_now
-  fault_rose Usage c e = absurd cc
-  fault_rose (BadLine line why) c e = absurd cc
-  fault_rose TooLong c e = absurd cc
-  fault_rose LiveTooSmall c e = absurd cc
-  fault_rose NoRate c e = absurd cc
-  fault_rose ReadFault c e = c.2
-  fault_rose OutOfMemory c e = absurd cc
-  fault_rose (TurnsUsed thread) c e = absurd cc
-
-  no_fault : {P : Type 0} → IsUnfailed source → source.faults < source.faults_now → P
-  no_fault same more = absurd (omega (arith, same, more))
-
-  fault_is : (r : Refusal) → IsCause words source r → source.faults < source.faults_now
-      → status_of r ≡ 5
-  fault_is Usage c more = no_fault c.1.1 more
-  fault_is (BadLine line why) c more = no_fault c.3 more
-  fault_is TooLong c more = no_fault c.2 more
-  fault_is LiveTooSmall c more = no_fault c.2 more
-  fault_is NoRate c more = no_fault c.2 more
-  fault_is ReadFault c more = refl
-  fault_is OutOfMemory c more = no_fault c.2 more
-  fault_is (TurnsUsed thread) c more = no_fault c.1 more
-
 pub refusal_is_carried_out : (c : Call) (r : Refusal) → c.exit.due ≡ status_of r
     → c.exit.run ≡ None → IsCause c.words c.source r
     → ((AskForJob c.words → ⊥) → IsUntouched c.source)
-    → (c.exit.status ≢ 6 → Appends c.sink.bytes c.sink.bytes_now (refusal_line r))
-    → (c.exit.status ≡ 6 → AppendsPrefix c.sink.bytes c.sink.bytes_now (refusal_line r))
+    → (c.exit.status ≢ 6
+    → Appends c.sink.bytes c.sink.bytes_now (refusal_line (codes "rtheap") r))
+    → (c.exit.status ≡ 6
+    → AppendsPrefix c.sink.bytes c.sink.bytes_now (refusal_line (codes "rtheap") r))
     → IsTold c → IsCarriedOut c
-refusal_is_carried_out c r due is cause unread line front t =
-    let usage = usage_is c.words c.source r cause in
-    record {
-      headline = none_is (Headline c.source c.sink c.exit.status) c.exit.run is;
-      run = (λ s. absurd (not_some c.exit.run is s), λ p. absurd (never_done r (sym due ∙ p.1)));
-      ran = λ _. none_is (IsOfThreads c.source c.sink c.exit.status) c.exit.run is;
-      replayed = λ schedule turns _.
-          none_is (IsReplay c.source c.sink c.exit.status schedule turns) c.exit.run is;
-      planned = λ _ e. absurd (never_done r (sym due ∙ e));
-      made = λ _ _ _ e. absurd (never_done r (sym due ∙ e));
-      tried = λ _ _ _ e. absurd (never_done r (sym due ∙ e));
-      unread = unread;
-      any_due = subst IsDue (sym due) (is_due r);
-      any_status = t.status;
-      refused = λ _.
-          record { refusal = r; is_due = due; cause = cause; line = line; prefix = front };
-      usage = (λ e. usage.0 (sym due ∙ e), λ n. due ∙ usage.1 n);
-      read_fault = λ e. fault_rose c.words c.source r cause (sym due ∙ e);
-      read_fault_told = λ more. due ∙ fault_is c.words c.source r cause more;
-      write_fault = t.rose;
-      write_fault_told = failed c t;
-    }
+refusal_is_carried_out c r due is cause unread line front t = record {
+  headline = none_is (Headline c.source c.sink c.exit.status) c.exit.run is;
+  run = (λ s. absurd (not_some c.exit.run is s), λ p. absurd (never_done r (sym due ∙ p.1)));
+  ran = λ _. none_is (IsOfThreads c.source c.sink c.exit.status) c.exit.run is;
+  replayed = λ schedule turns _.
+      none_is (IsReplay c.source c.sink c.exit.status schedule turns) c.exit.run is;
+  planned = λ _ e. absurd (never_done r (sym due ∙ e));
+  made = λ _ _ _ e. absurd (never_done r (sym due ∙ e));
+  tried = λ _ _ _ e. absurd (never_done r (sym due ∙ e));
+  unread = unread;
+  any_status = t.any_status;
+  ended = refusal_is_ended Ask AskForJob input_limit (Causes c.words) (IsFine c.words) (4 ∷ 8 ∷ [])
+      (are_apart c.words) (codes "rtheap") (exit_of c) t r due line front cause;
+}

@@ -1,46 +1,46 @@
 -- What came of a replay of the job that was read.
 use Rattle.std.proofs.Common.{ℕ, ◌≡◌, List, Result, Ok, Err, IfOk, IfErr, sym, subst}
+use Rattle.call_exits.specs.Sides.{Sides, IsUnfailed}
 use Rattle.rate_plan.specs.Rates.{IsAdmitted}
 use Rattle.heap_system.specs.Systems.{Finish}
 use Rattle.schedules.specs.declared.Schedule.{Schedule}
 use Rattle.trace_text.specs.Jobs.{Job}
 use Rattle.rtheap_core.specs.declared.exit.RunEnd.TheVariants.{Replayed}
-use Rattle.rtheap_core.specs.declared.refusal.Refusal.{Refusal}
-use Rattle.rtheap_core.specs.declared.refusal.Refusal.TheVariants.{Usage, BadLine, TooLong, LiveTooSmall, NoRate, ReadFault, OutOfMemory, TurnsUsed}
+use Rattle.call_exits.specs.declared.refusal.Refusal.{Refusal}
+use Rattle.call_exits.specs.declared.refusal.Refusal.TheVariants.{OutOfMemory, TurnsUsed}
 use Rattle.rtheap_core.specs.declared.task.Task.TheVariants.{Replay}
 use Rattle.rtheap_core.specs.Ends.{job_of}
 use Rattle.rtheap_core.specs.Exits.{IsReadAs}
 use Rattle.rtheap_core.specs.Outcomes.{IsReplayShown, HasReplay, IsReplayFault}
-use Rattle.rtheap_core.specs.Refusals.{IsCause, IsUnfailed}
-use Rattle.rtheap_core.specs.Sides.{Sides}
+use Rattle.rtheap_core.specs.Refusals.{IsCause}
 use Rattle.rtheap_core.specs.Tasks.{AsksFor}
-use Rattle.rtheap_core.proofs.Taken.{few_taken}
+use Rattle.rtheap_core.proofs.Taken.{without_memory}
 
 module _ (source : Sides) (job : Job) (schedule : Schedule) (turns : ℕ)
     (read : IsReadAs source job) (admitted : IsAdmitted job.config) where
   cause : IsUnfailed source → (r : Refusal) → IsReplayFault job schedule turns r
       → (words : List (List ℕ)) → AsksFor words (Replay schedule turns) → IsCause words source r
   cause still OutOfMemory f words asked =
-      ((Replay schedule turns, asked), few_taken source job read, still)
+      without_memory source job read still words (Replay schedule turns, asked)
   cause still (TurnsUsed thread) f words asked = (
+    (Replay schedule turns, tt, asked),
     record {
-      schedule = schedule;
-      turns = turns;
-      asked = asked;
-      job = job;
-      read = read;
-      admitted = admitted;
-      run = f.0;
-      leaves = f.1;
+      text = read.text;
+      whole = read.whole;
+      holds = record {
+        schedule = schedule;
+        turns = turns;
+        asked = asked;
+        job = job;
+        is_job = read.is_job;
+        admitted = admitted;
+        run = f.0;
+        leaves = f.1;
+      };
+      unfailed = still;
     },
-    still,
   )
-  cause still Usage f words asked = absurd f
-  cause still (BadLine line why) f words asked = absurd f
-  cause still TooLong f words asked = absurd f
-  cause still LiveTooSmall f words asked = absurd f
-  cause still NoRate f words asked = absurd f
-  cause still ReadFault f words asked = absurd f
+  cause still _ f words asked = absurd f
 
   pub cause_of : IsUnfailed source → (r : Result Finish Refusal)
       → IfErr r (IsReplayFault job schedule turns)

@@ -1,5 +1,7 @@
 -- The headline of an ended run.
 use Rattle.std.proofs.Common.{ℕ, ◌≡◌, sym, ap, ◌∙◌, subst}
+use Rattle.call_exits.specs.Exits.{IsWritten}
+use Rattle.call_exits.specs.Sides.{Sides}
 use Rattle.never_heap.specs.Histories.{parts, starts_in}
 use Rattle.atom_board.specs.Mutators.{ClosedState}
 use Rattle.trace_text.specs.Texts.{run_text, text_by_threads}
@@ -9,9 +11,8 @@ use Rattle.schedules.specs.declared.Schedule.{Schedule}
 use Rattle.trace_text.specs.Orders.{text_in_order}
 use Rattle.rtheap_core.specs.declared.exit.RunEnd.TheVariants.{Replayed, Ran}
 use Rattle.rtheap_core.specs.Ends.{HasHistory}
-use Rattle.rtheap_core.specs.Exits.{Headline, IsReplay, IsOfThreads, IsWritten}
+use Rattle.rtheap_core.specs.Exits.{Headline, IsReplay, IsOfThreads}
 use Rattle.rtheap_core.specs.Outcomes.{HasRun, HasReplay}
-use Rattle.rtheap_core.specs.Sides.{Sides}
 
 -- what the run shows is the text of its history
 text_of_run : (run : ClosedState) (r : HasHistory (Ran run))

@@ -1,4 +1,6 @@
 pub mod Asked
+pub mod Apart
+pub mod Taken
 pub mod Faults
 pub mod Untouched
 pub mod Ordered
@@ -9,6 +11,5 @@ pub mod CarriedOut
 pub mod Headlines
 pub mod Unfilled
 pub mod Verdicts
-pub mod Taken
 pub mod Drawing
 pub mod Admitting

@@ -7,7 +7,7 @@ use Rattle.never_heap.specs.Licensed.{NoFulls}
 use Rattle.rtheap_core.specs.declared.exit.RunEnd.{RunEnd}
 use Rattle.rtheap_core.specs.Ends.{job_of}
 use Rattle.rtheap_core.specs.Exits.{Headline, NoneFull, NeverFull}
-use Rattle.rtheap_core.specs.Sides.{Sides}
+use Rattle.call_exits.specs.Sides.{Sides}
 
 abbrev NotFull : Entry → Type 0
 NotFull e = is_full e.reply ≡ false

@@ -1,16 +1,17 @@
 -- What came of a generated job.
 use Rattle.std.proofs.Common.{ℕ, ◌≡◌, List, Option, Some, None, ap, ◌∙◌, subst, arith}
+use Rattle.call_exits.specs.Exits.{IsWritten}
+use Rattle.call_exits.specs.Sides.{Sides, IsUntouched}
 use Rattle.never_heap.specs.Histories.{starts_in}
 use Rattle.trace_text.specs.Streams.{TookAtMost}
 use Rattle.trace_text.specs.Texts.{totals_line}
-use Rattle.rtheap_core.specs.declared.refusal.Refusal.TheVariants.{OutOfMemory}
+use Rattle.call_exits.specs.declared.refusal.Refusal.TheVariants.{OutOfMemory}
 use Rattle.rtheap_core.specs.declared.task.Task.{Task}
 use Rattle.rtheap_core.specs.declared.trial.Totals.{Totals}
-use Rattle.rtheap_core.specs.Exits.{IsWritten, Tried}
+use Rattle.rtheap_core.specs.Exits.{Tried}
 use Rattle.rtheap_core.specs.Generated.{generated_job}
 use Rattle.rtheap_core.specs.Outcomes.{HasTotals}
-use Rattle.rtheap_core.specs.Refusals.{IsCause, IsUntouched}
-use Rattle.rtheap_core.specs.Sides.{Sides}
+use Rattle.rtheap_core.specs.Refusals.{IsCause}
 use Rattle.rtheap_core.specs.Tasks.{AsksFor}
 
 none_taken : (most : ℕ) (old new : Option (List ℕ)) → new ≡ old → TookAtMost most old new
@@ -20,7 +21,7 @@ none_taken most (Some bytes) new same = (0, omega arith, same)
 pub memory_cause : (words : List (List ℕ)) (source : Sides) (task : Task) → IsUntouched source
     → AsksFor words task → IsCause words source OutOfMemory
 memory_cause words source task untouched asked =
-    ((task, asked), none_taken 16777217 source.bytes source.bytes_now untouched.0, untouched.1)
+    ((task, asked), (none_taken 16777217 source.bytes source.bytes_now untouched.0, untouched.1))
 
 -- the totals are those of the run
 pub tried_of : (sink : Sides) (status key lines : ℕ) (totals : Totals)

@@ -1,5 +1,8 @@
 -- What the top call answers.
-use Rattle.std.specs.Prelude.{ℕ, ◌≡◌, ◌≤◌, ◌⊎◌, false, List, [], ◌∷◌, ◌++◌, codes, decimal, All, IfSome}
+use Rattle.std.specs.Prelude.{ℕ, ◌≡◌, ◌≤◌, false, List, [], ◌∷◌, ◌++◌, codes, decimal, All}
+use Rattle.call_exits.specs.Exits.{IsWritten}
+use Rattle.call_exits.specs.Refusals.{IsReadWhole}
+use Rattle.call_exits.specs.Sides.{Sides}
 use Rattle.never_heap.specs.declared.Entry.{Entry}
 use Rattle.never_heap.specs.Histories.{is_full, starts_in, work_in}
 use Rattle.never_heap.specs.Licensed.{StartsSmall}
@@ -9,26 +12,19 @@ use Rattle.rate_plan.specs.Rates.{IsAdmitted, IsRate}
 use Rattle.schedules.specs.declared.Schedule.{Schedule}
 use Rattle.schedules.specs.declared.Schedule.TheVariants.{Serial}
 use Rattle.threaded_runs.specs.Ends.{HasOwnTurns}
-use Rattle.trace_text.specs.Jobs.{Job, IsJobInBounds, IsInput}
+use Rattle.trace_text.specs.Jobs.{Job, IsJob, input_limit}
 use Rattle.trace_text.specs.Lines.{line_feed}
-use Rattle.trace_text.specs.Streams.{Appends, AppendsPrefix, IsAtEnd}
 use Rattle.trace_text.specs.Texts.{totals_line}
 use Rattle.rtheap_core.specs.declared.exit.RunEnd.{RunEnd}
 use Rattle.rtheap_core.specs.declared.exit.RunEnd.TheVariants.{Replayed, Ran}
 use Rattle.rtheap_core.specs.Ends.{HasHistory, EndsIn, IsReplayOf, run_of, job_of, logs_of, text_of}
 use Rattle.rtheap_core.specs.Generated.{generated_job}
-use Rattle.rtheap_core.specs.Sides.{Sides}
 
--- where the source told its bytes, they were the input that is this job, and all were read
+-- a text was read that is this job
 pub record IsReadAs (source : Sides) (job : Job) : Type 0 where
-  pub bounds : IsJobInBounds job
-  pub input : IfSome source.bytes (λ bytes. IsInput bytes job)
-  pub ended : IsAtEnd source.bytes source.bytes_now
-
--- the text was appended where the status is 0, and a prefix of it where the writing failed
-pub record IsWritten (sink : Sides) (status : ℕ) (text : List ℕ) : Type 0 where
-  pub whole : status ≡ 0 → Appends sink.bytes sink.bytes_now text
-  pub prefix : status ≡ 6 → AppendsPrefix sink.bytes sink.bytes_now text
+  pub text : List ℕ
+  pub whole : IsReadWhole input_limit source text
+  pub is_job : IsJob text job
 
 -- The headline. There is one history: its replies, thread by thread in trace order, are those of
 -- the logs, and they are those of a heap that never frees, but for the fulls, each of which is
@@ -84,12 +80,3 @@ pub record Tried (sink : Sides) (status key lines : ℕ) : Type 0 where
   pub run : machines.Run
   pub ends : EndsIn (generated_job key lines) Serial turns run
   pub text : IsWritten sink status (totals_line (starts_in run.order) (work_in run.order))
-
--- what `due` may be
-abbrev pub IsDue : ℕ → Type 0
-IsDue due =
-    (due ≡ 0) ⊎ ((due ≡ 2) ⊎ ((due ≡ 3) ⊎ ((due ≡ 4) ⊎ ((due ≡ 5) ⊎ ((due ≡ 7) ⊎ (due ≡ 8))))))
-
--- the status by all but the writing is k, unless the source failed or the answer is want of memory
-abbrev pub IsDueOrFails : ℕ → ℕ → Type 0
-IsDueOrFails k due = (due ≡ k) ⊎ ((due ≡ 5) ⊎ (due ≡ 7))

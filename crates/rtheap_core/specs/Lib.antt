@@ -1,5 +1,4 @@
 pub mod Tasks
-pub mod Sides
 pub mod Generated
 pub mod Ends
 pub mod Exits

@@ -8,7 +8,6 @@ mod generated;
 mod making;
 mod planning;
 mod reading;
-mod refusal;
 mod replay;
 mod replaying;
 mod running;
@@ -27,5 +26,4 @@ mod trial;
 
 pub use exit::{Exit, RunEnd};
 pub use generated::generate;
-pub use refusal::Refusal;
 pub use top::rtheap;

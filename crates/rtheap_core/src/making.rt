@@ -7,21 +7,20 @@ ghost use Rattle.trace_text.specs.JobTexts.{job_text};
 ghost use Rattle.trace_text.specs.Texts.{totals_line};
 ghost use Rattle.rtheap_core.specs.declared.task.Task.TheVariants.{Make, Trial};
 ghost use Rattle.rtheap_core.specs.Calls.{IsCarriedOut};
-ghost use Rattle.rtheap_core.specs.Exits.{IsWritten};
+ghost use Rattle.call_exits.specs.Exits.{IsWritten};
 ghost use Rattle.rtheap_core.specs.Generated.{generated_job};
 ghost use Rattle.rtheap_core.specs.Outcomes.{HasTotals};
-ghost use Rattle.rtheap_core.specs.Refusals.{IsUntouched};
-ghost use Rattle.rtheap_core.specs.Sides.{Sides, sides};
+ghost use Rattle.call_exits.specs.Sides.{Sides, sides, IsUntouched};
 ghost use Rattle.rtheap_core.specs.Tasks.{AsksFor, most_lines};
 
 use crate::exit::Exit;
 use crate::generated::generate;
-use crate::refusal::Refusal;
-use crate::telling::{WRITE_FAULT, refused, told};
+use crate::telling::{refused, told};
 use crate::trial::{Totals, trial};
 use block_store::OutOfMemory;
+use call_exits::Refusal;
 use std::alloc::Global;
-use trace_text::{Job, LineBuffer, Sink, fill_totals, write_job};
+use trace_text::{Job, LineBuffer, Sink, WRITE_FAULT, fill_totals, write_job};
 
 /// Writes a generated job.
 pub fn make_told<K: Sink>(alloc: Global, sink: &mut K, key: u64, lines: u32) -> Exit
@@ -100,5 +99,5 @@ fn written_totals<K: Sink>(totals: Totals, sink: &mut K) -> Exit
 {
     let mut line = LineBuffer::new();
     fill_totals(&mut line, totals.cycles, totals.units);
-    told(&line, 0, sink)
+    told(&line, sink)
 }

@@ -4,16 +4,17 @@ ghost use Rattle.std.specs.Prelude.{◌≡◌, ◌≢◌, ◌⊎◌, List, ℕ, 
 ghost use Rattle.trace_text.specs.Faults.{Rose};
 ghost use Rattle.rtheap_core.specs.declared.task.Task.TheVariants.{Plan};
 ghost use Rattle.rtheap_core.specs.Calls.{IsCarriedOut};
-ghost use Rattle.rtheap_core.specs.Exits.{IsWritten, rate_text};
+ghost use Rattle.call_exits.specs.Exits.{IsWritten};
+ghost use Rattle.rtheap_core.specs.Exits.{rate_text};
 ghost use Rattle.rtheap_core.specs.Outcomes.{HasRate};
-ghost use Rattle.rtheap_core.specs.Sides.{sides};
+ghost use Rattle.call_exits.specs.Sides.{sides};
 ghost use Rattle.rtheap_core.specs.Tasks.{AsksFor, AskForJob};
 ghost use Rattle.rtheap_core.specs.Refusals.{IsCause};
 
 use crate::exit::Exit;
 use crate::reading::planned_job;
-use crate::refusal::Refusal;
 use crate::telling::{refused, told};
+use call_exits::Refusal;
 use std::alloc::Global;
 use trace_text::{LineBuffer, Sink, Source};
 
@@ -57,5 +58,5 @@ fn planned<K: Sink>(rate: u64, sink: &mut K) -> Exit
     line.prepend(b"\n");
     line.prepend_number(rate);
     line.prepend(b"rate ");
-    told(&line, 0, sink)
+    told(&line, sink)
 }

@@ -3,14 +3,14 @@
 ghost use Rattle.std.specs.Prelude.{◌≡◌, List, ℕ, IfOk, IfErr, OnOk};
 ghost use Rattle.rate_plan.specs.Rates.{IsAdmitted, IsRate};
 ghost use Rattle.rtheap_core.specs.Exits.{IsReadAs};
-ghost use Rattle.rtheap_core.specs.Sides.{sides};
+ghost use Rattle.call_exits.specs.Sides.{sides};
 ghost use Rattle.rtheap_core.specs.Tasks.{AskForJob};
 ghost use Rattle.rtheap_core.specs.Refusals.{IsCause};
 
-use crate::refusal::Refusal;
+use call_exits::{Refusal, text_of};
 use rate_plan::plan;
 use std::alloc::Global;
-use trace_text::{Job, Source, read_trace};
+use trace_text::{INPUT_LIMIT, Job, Source, job_of};
 
 /// Reads a job, and finds its rate.
 pub fn planned_job<S: Source>(alloc: Global, source: &mut S) -> Result<(Job, u64), Refusal>
@@ -20,7 +20,8 @@ pub fn planned_job<S: Source>(alloc: Global, source: &mut S) -> Result<(Job, u64
     ensures refused { IfErr result (λ refusal. (words : List (List ℕ)) → AskForJob words
         → IsCause words (sides S.left S.faults source.old source.new) refusal) }
 {
-    let job = read_trace(alloc, source)?;
+    let text = text_of(alloc, source, INPUT_LIMIT)?;
+    let job = job_of(alloc, &text)?;
     let rate = plan(&job.config)?;
     Ok((job, rate))
 }

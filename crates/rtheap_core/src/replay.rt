@@ -12,7 +12,7 @@ ghost use Rattle.rtheap_core.specs.Ends.{job_of};
 ghost use Rattle.rtheap_core.specs.Outcomes.{IsReplayShown, IsReplayFault};
 ghost use Rattle.rtheap_core.specs.Tasks.{most_turns};
 
-use crate::refusal::Refusal;
+use call_exits::Refusal;
 use heap_system::{
     Finished, System, cycles_cost_few_units, cycles_give_few_blocks, fulls_are_licensed,
 };

@@ -8,21 +8,21 @@ ghost use Rattle.trace_text.specs.Orders.{order_text};
 ghost use Rattle.rtheap_core.specs.declared.exit.RunEnd.TheVariants as ends;
 ghost use Rattle.rtheap_core.specs.declared.task.Task.TheVariants.{Replay};
 ghost use Rattle.rtheap_core.specs.Calls.{IsCarriedOut};
-ghost use Rattle.rtheap_core.specs.Exits.{IsWritten};
+ghost use Rattle.call_exits.specs.Exits.{IsWritten};
 ghost use Rattle.rtheap_core.specs.Outcomes.{HasReplay, HasOrder};
-ghost use Rattle.rtheap_core.specs.Sides.{sides};
+ghost use Rattle.call_exits.specs.Sides.{sides};
 ghost use Rattle.rtheap_core.specs.Tasks.{AsksFor, most_turns};
 ghost use Rattle.rtheap_core.specs.Refusals.{IsCause};
 
 use crate::exit::{Exit, RunEnd};
 use crate::reading::planned_job;
-use crate::refusal::Refusal;
 use crate::replay::replay_job;
-use crate::telling::{WRITE_FAULT, refused};
+use crate::telling::refused;
+use call_exits::Refusal;
 use heap_system::Finished;
 use schedules::Schedule;
 use std::alloc::Global;
-use trace_text::{Sink, Source, orders_tell_histories, write_order};
+use trace_text::{Sink, Source, WRITE_FAULT, orders_tell_histories, write_order};
 
 /// Reads a job, makes the turns of a schedule, at most so many, and writes the run in order.
 pub fn replay_told<S: Source, K: Sink>(

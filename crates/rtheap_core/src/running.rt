@@ -7,23 +7,23 @@ ghost use Rattle.trace_text.specs.Texts.{run_text};
 ghost use Rattle.rtheap_core.specs.declared.exit.RunEnd.TheVariants as ends;
 ghost use Rattle.rtheap_core.specs.declared.task.Task.TheVariants.{Run};
 ghost use Rattle.rtheap_core.specs.Calls.{IsCarriedOut};
-ghost use Rattle.rtheap_core.specs.Exits.{IsWritten};
+ghost use Rattle.call_exits.specs.Exits.{IsWritten};
 ghost use Rattle.rtheap_core.specs.Outcomes.{HasRun};
-ghost use Rattle.rtheap_core.specs.Sides.{sides};
+ghost use Rattle.call_exits.specs.Sides.{sides};
 ghost use Rattle.rtheap_core.specs.Tasks.{AsksFor, AskForJob};
 ghost use Rattle.rtheap_core.specs.Refusals.{IsCause};
 
 use crate::exit::{Exit, RunEnd};
 use crate::reading::planned_job;
-use crate::refusal::Refusal;
-use crate::telling::{WRITE_FAULT, refused};
+use crate::telling::refused;
 use atom_board::Closed;
+use call_exits::Refusal;
 use never_heap::Pace;
 use std::alloc::Global;
 use std::sync::Wait;
 use std::thread::Threads;
 use threaded_runs::run_job;
-use trace_text::{Sink, Source, write_run};
+use trace_text::{Sink, Source, WRITE_FAULT, write_run};
 
 /// Reads a job, runs its threads beside each other, and writes the run by threads.
 pub fn run_told<R: Threads + Wait + Sync, S: Source, K: Sink, Q: Pace>(

@@ -1,16 +1,15 @@
 //! What is written of a task that runs nothing, and of a refusal.
 
-ghost use Rattle.std.specs.Prelude.{◌≡◌, ◌≢◌, ◌⊎◌, None};
+ghost use Rattle.std.specs.Prelude.{◌≡◌, ◌≢◌, ◌⊎◌, None, codes};
+ghost use Rattle.call_exits.specs.Exits.{IsWritten};
+ghost use Rattle.call_exits.specs.Refusals.{status_of, refusal_line};
+ghost use Rattle.call_exits.specs.Sides.{sides};
 ghost use Rattle.trace_text.specs.Faults.{Rose};
 ghost use Rattle.trace_text.specs.Streams.{Appends, AppendsPrefix};
-ghost use Rattle.rtheap_core.specs.Refusals.{status_of, refusal_line};
 
 use crate::exit::Exit;
-use crate::refusal::Refusal;
-use trace_text::{LineBuffer, Sink};
-
-/// The status of a writing that failed.
-pub const WRITE_FAULT: u8 = 6;
+use call_exits::Refusal;
+use trace_text::{LineBuffer, Sink, put_line};
 
 /// Writes the line of a refusal.
 pub fn refused<K: Sink>(refusal: Refusal, sink: &mut K) -> Exit
@@ -18,34 +17,32 @@ pub fn refused<K: Sink>(refusal: Refusal, sink: &mut K) -> Exit
     ensures run { result.run ≡ None }
     ensures status { (result.status ≡ result.due) ⊎ (result.status ≡ 6) }
     ensures line { result.status ≢ 6
-        → Appends (K.held sink.old) (K.held sink.new) (refusal_line refusal) }
+        → Appends (K.held sink.old) (K.held sink.new) (refusal_line (codes "rtheap") refusal) }
     ensures prefix { result.status ≡ 6
-        → AppendsPrefix (K.held sink.old) (K.held sink.new) (refusal_line refusal) }
+        → AppendsPrefix (K.held sink.old) (K.held sink.new)
+        (refusal_line (codes "rtheap") refusal) }
     ensures still { result.status ≢ 6 → K.faults sink.new ≡ K.faults sink.old }
     ensures rose { result.status ≡ 6 → Rose (K.faults sink.old) (K.faults sink.new) }
 {
-    told(&refusal.line(), refusal.status(), sink)
+    Exit {
+        status: call_exits::refused(refusal, b"rtheap", sink),
+        due: refusal.status(),
+        run: None,
+    }
 }
 
-/// Writes the one line of a call that ran nothing.
-pub fn told<K: Sink>(line: &LineBuffer, due: u8, sink: &mut K) -> Exit
-    requires { due ≢ WRITE_FAULT }
-    ensures due { result.due ≡ due }
+/// Writes the one line of a task that was done and ran nothing.
+pub fn told<K: Sink>(line: &LineBuffer, sink: &mut K) -> Exit
+    ensures due { result.due ≡ 0 }
     ensures run { result.run ≡ None }
-    ensures status { (result.status ≡ due) ⊎ (result.status ≡ 6) }
-    ensures line { result.status ≢ 6 → Appends (K.held sink.old) (K.held sink.new) line.now }
-    ensures prefix { result.status ≡ 6
-        → AppendsPrefix (K.held sink.old) (K.held sink.new) line.now }
+    ensures status { (result.status ≡ 0) ⊎ (result.status ≡ 6) }
+    ensures text { IsWritten (sides K.held K.faults sink.old sink.new) result.status line.now }
     ensures still { result.status ≢ 6 → K.faults sink.new ≡ K.faults sink.old }
     ensures rose { result.status ≡ 6 → Rose (K.faults sink.old) (K.faults sink.new) }
 {
-    let status = match sink.put(line.bytes()) {
-        Ok(()) => due,
-        Err(_) => WRITE_FAULT,
-    };
     Exit {
-        status,
-        due,
+        status: put_line(line.bytes(), 0, sink),
+        due: 0,
         run: None,
     }
 }

@@ -5,22 +5,22 @@ ghost use Rattle.rtheap_core.specs.declared.exit.RunEnd.{RunEnd};
 ghost use Rattle.rtheap_core.specs.Calls.{IsCarriedOut, IsComplete};
 ghost use Rattle.rtheap_core.specs.Ends.{logs_of, cycles_of, units_of};
 ghost use Rattle.rtheap_core.specs.Exits.{NeverFull};
-ghost use Rattle.rtheap_core.specs.Sides.{sides};
+ghost use Rattle.call_exits.specs.Sides.{sides};
 
 use crate::exit::{Exit, RunEnd};
 use crate::making::{make_told, trial_told};
 use crate::planning::plan_told;
-use crate::refusal::Refusal;
 use crate::replaying::replay_told;
 use crate::running::run_told;
 use crate::task::Task;
 use crate::telling::refused;
+use call_exits::Refusal;
 use never_heap::{Logs, Pace};
-use schedules::{replays_end, replays_have_one_order};
+use schedules::replays_end;
 use std::alloc::Global;
 use std::sync::Wait;
 use std::thread::Threads;
-use trace_text::{Sink, Source, inputs_are_told_apart, jobs_are_one};
+use trace_text::{Sink, Source};
 
 /// Does what the words ask for:
 ///
@@ -73,9 +73,6 @@ pub fn rtheap<R: Threads + Wait + Sync, S: Source, K: Sink, Q: Pace>(
     ensures never_full { IfSome result.run (NeverFull (sides S.left S.faults source.old source.new)
         (sides K.held K.faults sink.old sink.new) result.status) }
 {
-    inputs_are_told_apart();
-    jobs_are_one();
-    replays_have_one_order();
     replays_end();
     carried_out(rt, alloc, words, source, sink, pace)
 }

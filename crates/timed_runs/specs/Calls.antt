@@ -1,6 +1,6 @@
 -- What the call of a timed run is.
 use Rattle.std.specs.Prelude.{ℕ, List, [], ◌∷◌, codes, None}
-use Rattle.rtheap_core.specs.Sides.{Sides}
+use Rattle.call_exits.specs.Sides.{Sides}
 
 -- the words of the run that is timed: `run` where there are no words, and else none
 abbrev pub run_words : List (List ℕ) → List (List ℕ)

@@ -2,7 +2,7 @@
 
 ghost use Rattle.std.specs.Prelude.{◌≡◌, ◌⊎◌, map, string_bytes, IfOk};
 ghost use Rattle.rtheap_core.specs.Calls.{IsCarriedOut, IsComplete};
-ghost use Rattle.rtheap_core.specs.Sides.{sides};
+ghost use Rattle.call_exits.specs.Sides.{sides};
 ghost use Rattle.timed_runs.specs.Calls.{run_words, silent};
 
 use crate::counted::Counted;

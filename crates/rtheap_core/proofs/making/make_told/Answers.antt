@@ -1,4 +1,4 @@
-use Rattle.rtheap_core.specs.declared.refusal.Refusal.TheVariants.{OutOfMemory}
+use Rattle.call_exits.specs.declared.refusal.Refusal.TheVariants.{OutOfMemory}
 use Rattle.rtheap_core.specs.declared.task.Task.TheVariants.{Make}
 use Rattle.rtheap_core.proofs.CarriedOut.{refusal_is_carried_out}
 use Rattle.rtheap_core.proofs.Untouched.{memory_cause}
@@ -9,4 +9,4 @@ returns-in-Err g c words source untouched asked =
     let r = c.refused.ensures in
     refusal_is_carried_out _ OutOfMemory r.due r.run
     (memory_cause words source (Make c.args.key c.args.lines) untouched asked) (λ _. untouched)
-    r.line r.prefix record { status = r.status; still = r.still; rose = r.rose }
+    r.line r.prefix record { any_status = r.status; still = r.still; rose = r.rose }

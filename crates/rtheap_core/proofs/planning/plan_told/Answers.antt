@@ -7,11 +7,11 @@ returns-in-Ok g c words asked =
     let w = c.planned.ensures in
     let rated = c.in-Ok.ensures in
     plan_is_carried_out _ c.in-Ok.rate asked rated.rated rated.still w.due w.run w.text
-    record { status = rw w.due w.status; still = w.still; rose = w.rose }
+    record { any_status = rw w.due w.status; still = w.still; rose = w.rose }
 
 pub returns-in-Err : goal.returns-in-Err
 returns-in-Err g c words asked =
     let r = c.refused.ensures in
     refusal_is_carried_out _ c.in-Err.refusal r.due r.run
     (c.in-Err.ensures.refused words (Plan, tt, asked)) (λ n. absurd (n (Plan, tt, asked)))
-    r.line r.prefix record { status = r.status; still = r.still; rose = r.rose }
+    r.line r.prefix record { any_status = r.status; still = r.still; rose = r.rose }

@@ -16,7 +16,7 @@ returns-in-Ok g c words asked =
     w.due w.run
     (written_as _ _ c.args.schedule c.args.turns c.in-Ok.run' c.orders_tell_histories.ensures.text
     ran.replayed.replayed w.text)
-    record { status = rw w.due w.status; still = w.still; rose = w.rose }
+    record { any_status = rw w.due w.status; still = w.still; rose = w.rose }
 
 pub returns-in-Err : goal.returns-in-Err
 returns-in-Err g c words asked =
@@ -24,4 +24,4 @@ returns-in-Err g c words asked =
     let r = c.refused.ensures in
     refusal_is_carried_out _ c.in-Err.refusal r.due r.run
     (c.in-Err.ensures.refused words asked) (λ n. absurd (n (task, tt, asked)))
-    r.line r.prefix record { status = r.status; still = r.still; rose = r.rose }
+    r.line r.prefix record { any_status = r.status; still = r.still; rose = r.rose }

@@ -1,5 +1,5 @@
 use Rattle.std.proofs.Common.{refl}
-use Rattle.rtheap_core.specs.declared.refusal.Refusal.TheVariants.{Usage}
+use Rattle.call_exits.specs.declared.refusal.Refusal.TheVariants.{Usage}
 use Rattle.rtheap_core.proofs.CarriedOut.{refusal_is_carried_out}
 use Rattle.rtheap_core.proofs.top.carried_out.Goals as goal
 
@@ -9,7 +9,7 @@ returns-in-None g c =
     record {
       done = refusal_is_carried_out _ Usage r.due r.run (c.in-None.ensures.none, (refl, refl))
           (λ _. (refl, refl)) r.line r.prefix
-          record { status = r.status; still = r.still; rose = r.rose };
+          record { any_status = r.status; still = r.still; rose = r.rose };
     }
 
 pub returns-in-Some-Make : goal.returns-in-Some-Make

@@ -8,9 +8,6 @@ returns g c = record {
   shown = λ end. (refl, refl, refl);
   done = c.carried_out.ensures.done;
   complete = completes (record {
-    apart = c.inputs_are_told_apart.ensures.apart;
-    one = c.jobs_are_one.ensures;
-    replays = c.replays_have_one_order.ensures.done;
     serial = c.replays_end.ensures.serial;
     single = c.replays_end.ensures.single;
   }) _ c.carried_out.ensures.done;
