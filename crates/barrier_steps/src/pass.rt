@@ -27,8 +27,8 @@ use crate::operands::{
 use crate::walks::{field_at, length_of, link_at, links_to};
 use crate::{FieldRow, FieldStore, Way};
 use block_store::{
-    Name, Payload, PhaseWord, Places, Shape, Value, Width, payload_word, read_wide, read_payload,
-    read_shape,
+    Name, Payload, PhaseWord, Places, Shape, Value, Width, payload_word, read_payload, read_shape,
+    read_wide,
 };
 use grey_steps::{GreyPass, GreyRow};
 use heap_machine::{Memory, Op, Pass, Step};
