@@ -1,7 +1,7 @@
 //! What callers know of a board beside its calls: each law is the contract of a function that does
 //! nothing.
 
-ghost use Rattle.std.specs.Prelude.{◌≡◌, ℕ, Unit};
+ghost use Rattle.std.specs.Prelude.{◌≡◌, ℕ};
 ghost use Rattle.atomic_table.specs.Table as table;
 ghost use Rattle.heap_system.specs.Locals.{LocalState};
 ghost use Rattle.heap_system.specs.Systems.{Whole, units_of};
