@@ -1,13 +1,15 @@
 -- A ring of the last 40 records, and the list of alarms behind it.
-use Rattle.std.proofs.Common.{◌≡◌, ◌≢◌, ℕ, ◌+◌, ◌%◌, ◌<◌, ◌≤◌, inl, inr, List, [], ◌∷◌, ◌++◌, length, slice_index_or, slice_set, sym, refl, ap, ◌∙◌, subst, arith}
+use Rattle.std.proofs.Common.{◌≡◌, ◌≢◌, ℕ, ◌+◌, ◌-◌, ◌%◌, ◌<◌, ◌≤◌, inl, inr, List, [], ◌∷◌, ◌++◌, length, drop, slice_index_or, slice_set, sym, refl, ap, ◌∙◌, subst, arith}
 use Rattle.std.proofs.lemmas.Bool.{cases_lt, cases_eq}
-use Rattle.std.proofs.lemmas.List.{get_or_past, get_or-replicate, get_or-set_same, get_or-set_other, get_or_append_left, length-set}
+use Rattle.std.proofs.lemmas.List.{get_or_past, get_or-replicate, get_or-set_same, get_or-set_other, get_or_append_left, length-set, at_drop_more}
 use Rattle.std.proofs.Math.Seq.{get_or-append_seam}
 use Rattle.block_store.specs.declared.Value.{Value}
 use Rattle.block_store.specs.declared.Value.TheVariants.{Nil, Ref}
 use Rattle.never_heap.specs.Graphs.{nils}
 use Rattle.historian_core.specs.declared.Limits.{Limits}
-use Rattle.historian_core.specs.Kept.{IsHeld, IsRing, name_at, listed}
+use Rattle.historian_core.specs.Kept.{IsHeld, IsRing, name_at, listed, references, ref_count}
+use Rattle.historian_core.specs.Windows.{mark, alarms_in, last_ones}
+use Rattle.historian_core.proofs.Standing.{set_before, set_within, counts_listed, alarms_more}
 
 nil_at : (i : ℕ) → slice_index_or (nils 80) i Nil ≡ Nil
 nil_at i = elim (cases_lt i 80) [
@@ -22,6 +24,7 @@ ring_start l = record {
   slots = λ i l m. absurd (omega arith);
   alarms = λ i l m. absurd (omega arith);
   free = λ i l. nil_at (40 + i);
+  standing = refl;
 }
 
 pub place_low : (i : ℕ) → i % 40 < 40
@@ -106,6 +109,49 @@ module _ (l : Limits) (xs : List ℕ) (v : ℕ) (fs : List Value) (r : IsRing l 
         other (40 + i) (λ e. absurd (omega (arith, e, place_low n)))
         (λ e. absurd (omega (arith, e)))
 
+    -- how many references the list has then
+    counted : references (drop 40 both) + ref_count (slice_index_or fs (40 + n % 40) Nil)
+        ≡ references (drop 40 fs) + ref_count w
+    counted =
+        let put = set_within 40 (40 + n % 40) ring w (omega arith)
+        (omega (arith, ring_long, place_low n)) in
+        let same = ap ref_count
+        (get_or-set_other fs (n % 40) (40 + n % 40) a Nil (λ e. absurd (omega (arith, e)))) in
+        let before = set_before 40 (n % 40) fs a (place_low n) in
+        omega (arith, put, same, before)
+
+    module _ (lists : w ≡ listed l v (name_at n)) where
+      w_counts : ref_count w ≡ mark l v
+      w_counts = ap ref_count lists ∙ counts_listed l v (name_at n)
+
+      -- no reading goes
+      few_stand : n < 40 → references (drop 40 both) ≡ alarms_in l (last_ones (xs ++ v ∷ []))
+      few_stand few =
+          let place : n % 40 ≡ n = omega (arith, few) in
+          let none : ref_count (slice_index_or fs (40 + n % 40) Nil) ≡ 0 =
+          ap (λ k. ref_count (slice_index_or fs (40 + k) Nil)) place
+          ∙ ap ref_count (r.free n (omega arith)) in
+          let from : length (xs ++ v ∷ []) - 40 ≡ n - 40 = omega (arith, longer xs v, few) in
+          let now = ap (λ k. alarms_in l (drop k (xs ++ v ∷ []))) from in
+          let more = alarms_more l (n - 40) xs v (omega arith) in
+          omega (arith, counted, none, now, more, r.standing, w_counts)
+
+      -- the first of the last 40 goes
+      full_stand : 40 ≤ n → references (drop 40 both) ≡ alarms_in l (last_ones (xs ++ v ∷ []))
+      full_stand full =
+          let first : ℕ = n - 40 in
+          let place : n % 40 ≡ first % 40 = omega (arith, full) in
+          let gone : ref_count (slice_index_or fs (40 + n % 40) Nil)
+          ≡ mark l (slice_index_or xs first 0) =
+          ap (λ k. ref_count (slice_index_or fs (40 + k) Nil)) place
+          ∙ ap ref_count (r.alarms first (omega (arith, full)) (omega (arith, full)))
+          ∙ counts_listed l (slice_index_or xs first 0) (name_at first) in
+          let old = at_drop_more (alarms_in l) xs first 0 (omega (arith, full)) in
+          let from : length (xs ++ v ∷ []) - 40 ≡ first + 1 = omega (arith, longer xs v, full) in
+          let now = ap (λ k. alarms_in l (drop k (xs ++ v ∷ []))) from in
+          let more = alarms_more l (first + 1) xs v (omega (arith, full)) in
+          omega (arith, counted, gone, old, now, more, r.standing, w_counts)
+
     pub ring_more : a ≡ Ref (name_at n) → w ≡ listed l v (name_at n) → IsHeld a → IsHeld w
         → IsRing l (xs ++ v ∷ []) both
     ring_more is lists own also = record {
@@ -127,4 +173,8 @@ module _ (l : Limits) (xs : List ℕ) (v : ℕ) (fs : List Value) (r : IsRing l 
       ];
       free = λ i low.
           free_old i (omega (arith, low, longer xs v)) ∙ r.free i (omega (arith, low, longer xs v));
+      standing = elim (cases_lt n 40) [
+        | inl few ↦ few_stand lists few
+        | inr full ↦ full_stand lists full
+      ];
     }

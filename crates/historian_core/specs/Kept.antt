@@ -1,5 +1,5 @@
 -- A heap that keeps readings.
-use Rattle.std.specs.Prelude.{ℕ, ◌+◌, ◌*◌, ◌%◌, ◌<◌, ◌≤◌, ◌≡◌, ◌^◌, if◌then◌else◌, List, [], ◌∷◌, length, map, slice_index_or}
+use Rattle.std.specs.Prelude.{ℕ, ◌+◌, ◌*◌, ◌%◌, ◌<◌, ◌≤◌, ◌≡◌, ◌^◌, if◌then◌else◌, List, [], ◌∷◌, length, drop, map, slice_index_or}
 use Rattle.std.specs.List.{AllByRecursion}
 use Rattle.block_store.specs.declared.Config.{Config}
 use Rattle.block_store.specs.declared.Name.{Name}
@@ -13,7 +13,7 @@ use Rattle.never_heap.specs.Graphs.{Graph, Object, Record, Array, nils, shared_n
 use Rattle.control_heap.specs.Controls.{Control, asked, units}
 use Rattle.asked_graph.specs.Shown.{Shows}
 use Rattle.historian_core.specs.declared.Limits.{Limits}
-use Rattle.historian_core.specs.Windows.{is_alarm}
+use Rattle.historian_core.specs.Windows.{is_alarm, alarms_in, last_ones}
 
 abbrev pub heap_config : Config
 heap_config =
@@ -40,6 +40,15 @@ abbrev pub refers : Reply → ℕ
 refers (Val (Ref a)) = 1
 refers _ = 0
 
+-- how many of some values are references
+abbrev pub ref_count : Value → ℕ
+ref_count (Ref a) = 1
+ref_count _ = 0
+
+abbrev pub references : List Value → ℕ
+references [] = 0
+references (v ∷ vs) = ref_count v + references vs
+
 -- numbers and nil
 abbrev pub IsPlain : Value → Type 0
 IsPlain Nil = Unit {0}
@@ -64,7 +73,7 @@ kept_graph a b c d os fs = record {
 
 -- The shared array has the records of the last 40 readings, that of reading i at i modulo 40. The 40
 -- places behind these are the list of alarms: at 40 + i modulo 40 it has that record again where
--- reading i is an alarm, and else nil.
+-- reading i is an alarm, and else nil. So as many alarms stand as it has references.
 pub record IsRing (l : Limits) (xs : List ℕ) (fs : List Value) : Type 0 where
   pub long : length fs ≡ 80
   pub held : (i : ℕ) → IsHeld (slice_index_or fs i Nil)
@@ -73,6 +82,7 @@ pub record IsRing (l : Limits) (xs : List ℕ) (fs : List Value) : Type 0 where
   pub alarms : (i : ℕ) → i < length xs → length xs ≤ i + 40
       → slice_index_or fs (40 + i % 40) Nil ≡ listed l (slice_index_or xs i 0) (name_at i)
   pub free : (i : ℕ) → length xs ≤ i → slice_index_or fs (40 + i) Nil ≡ Nil
+  pub standing : references (drop 40 fs) ≡ alarms_in l (last_ones xs)
 
 -- A heap that was given these readings: it shows a graph with a record for each, of which the last
 -- 40 stand in the shared array. Each took one object of its life, and the units of one block.
