@@ -141,7 +141,7 @@ replay_is_carried_out c schedule turns f asked has unfailed due is written t =
     let replayed = has.replayed.replay in
     done_is_carried_out c task asked due unfailed t (λ n. absurd (n (task, tt, asked)))
     (λ _. fine_read c.source (job_of (Replayed f)) has.read unfailed c.words task asked has.admitted
-    (replayed.run, replayed.ends))
+    (replayed.run, replayed.by.ends))
     (record {
       headline = some_is (Headline c.source c.sink c.exit.status) c.exit.run (Replayed f) is replay.0;
       run = (λ _. ((task, tt, asked), due), λ _. there c.exit.run (Replayed f) is);

@@ -15,7 +15,7 @@ use Rattle.rtheap_core.specs.Exits.{Headline, IsReplay, IsOfThreads}
 use Rattle.rtheap_core.specs.Outcomes.{HasRun, HasReplay}
 
 -- what the run shows is the text of its history
-text_of_run : (run : ClosedState) (r : HasHistory (Ran run))
+pub text_of_run : (run : ClosedState) (r : HasHistory (Ran run))
     → run_text run.logs run.cycles (units_in run.logs)
     ≡ text_by_threads run.config.threads r.history
 text_of_run run r =
