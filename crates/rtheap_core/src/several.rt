@@ -7,7 +7,7 @@ use std::test::Fail;
 
 /// A job in which each of so many threads shows the shared array twice, and what is written.
 fn meeting(alloc: Global, threads: u32) -> Result<(String, String), Fail> {
-    let header = "blocks 64 live 20 object 2 shared 4\n";
+    let header = "blocks 128 live 40 object 2 shared 4\n";
     let mut text = format!(in alloc; "rtheap 1 threads {threads} {header}")?;
     let mut written = String::new(alloc);
     for t in 0..threads {
