@@ -23,7 +23,8 @@ use Rattle.handle_table.specs.Handles.{Answer}
 use Rattle.handle_table.specs.Handles.{Deed, Make, See, Drop, Take, Evict, Slot, answer, slots_after, empty_slots, Row, rows_of, command_at, decides, ends, last_after, AreNumbered, handle_config, all_deeds, AreInTurn, outcome_of, outcomes_told}
 use Rattle.handle_table.proofs.Bound.{few}
 use Rattle.handle_table.proofs.Places.{Here, InPlace, Shows, IsSmall, At, owed, IsFirst, IsProper}
-use Rattle.handle_table.proofs.Rows.{rest_at, first_owes, goes, tells}
+use Rattle.handle_table.proofs.AnyRow.{goes, tells}
+use Rattle.handle_table.proofs.Moving.{rest_at, first_owes}
 
 -- the rows of a script begin with the first row of an operation, and stand in their order
 first_rows : (ops : List Deed) → IsFirst (flat_map rows_of ops)

@@ -1,6 +1,8 @@
 pub mod Places
 pub mod Gets
+pub mod Moving
 pub mod Rows
+pub mod AnyRow
 pub mod Bound
 pub mod Numbering
 pub mod Chunks
