@@ -9,6 +9,8 @@
 //!     machine measure [serial]        as run or serial, but prints turns, units and waits, and the
 //!                                     most turns of a command by the blocks that it asks for, and
 //!                                     of an idle by its units
+//!     machine worst CYCLES            the most turns of an allocation of 1 block and more in a job that
+//!                                     is made for the worst, of this header (bench/worst.rs)
 
 use std::cell::Cell;
 use std::collections::BTreeMap;
@@ -17,6 +19,8 @@ use std::io::{self, Read, Write};
 use std::process::ExitCode;
 use std::sync::atomic::{AtomicU64, Ordering::SeqCst};
 use std::thread;
+
+mod worst;
 
 const REGISTERS: usize = 16;
 const RANGE: u64 = 8;
@@ -1508,6 +1512,12 @@ fn main() -> ExitCode {
             threads.parse().unwrap(),
             lines.parse().unwrap(),
         )),
+        ["worst", cycles] => {
+            let worst = worst::worst(read_job().config, cycles.parse().unwrap());
+            for (blocks, turns) in (1..).zip(worst.most_turns) {
+                println!("blocks {blocks} most turns {turns} rate {}", worst.rate);
+            }
+        }
         _ => {
             println!("rtheap: usage");
             return ExitCode::from(2);

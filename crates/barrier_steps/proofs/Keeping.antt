@@ -1,54 +1,181 @@
--- Each event of a command keeps all that a heap keeps in either phase.
-use Rattle.std.proofs.Common.{◌≡◌, ℕ, ◌<◌, true, false, cond, ltb, eqb, IsSome, Option, None, Some, refl, sym, ap, ◌∙◌, subst, inl, inr}
-use Rattle.std.proofs.lemmas.Bool.{cases_Bool}
+-- Each event of a command keeps all that a heap keeps in either phase, and leaves the phase, the
+-- cursor and the grey blocks as they are.
+use Rattle.std.proofs.Common.{◌≡◌, ℕ, true, false, eqb, refl, sym, ap, ◌∙◌, inl, inr, eqb-true, ◌<◌, cond, IsSome, Option, None, Some, subst}
+use Rattle.std.proofs.lemmas.Bool.{cases_Bool, cases_eq, ne_eqb}
 use Rattle.block_store.specs.declared.Config.{Config}
+use Rattle.block_store.specs.Colours.{is_grey, white_word, grey_word}
+use Rattle.block_store.proofs.ColourWords.{not_grey_white}
+use Rattle.block_store.specs.Heaps.{Heap, put_at}
+use Rattle.block_store.specs.Places.{Place, extent, Phase, Cursor, ColourOf, PayloadOf, Extent}
+use Rattle.block_store.specs.Widths.{payloads}
+use Rattle.never_heap.specs.declared.Command.{Command}
+use Rattle.heap_machine.specs.Holdings.{sweep_held, Holding, holds_nothing, grey_held, tricolour_held, free_held}
+use Rattle.heap_machine.specs.Operations.{CompareExchange, heap_after, Exchange, place_of}
+use Rattle.heap_machine.specs.Sweeping.{no_claim}
+use Rattle.heap_machine.specs.declared.pass.Pass.{Pass}
+use Rattle.grey_steps.specs.declared.rows.GreyRow.{GreyRow}
+use Rattle.grey_steps.specs.declared.rows.GreyRow.TheVariants as greys
+use Rattle.grey_steps.specs.Ends.{is_shading, block_stored}
+use Rattle.grey_steps.specs.Rows.{grey_holding, grey_over}
+use Rattle.grey_steps.specs.Rows as marking
+use Rattle.barrier_steps.specs.declared.rows.FieldRow.{FieldRow}
+use Rattle.barrier_steps.specs.declared.rows.FieldRow.TheVariants.{Shade, Store, LoadRegister, LoadShape, LoadLink, LoadField, LoadOwner, StoreConstant, IdleLook, Answered}
+use Rattle.barrier_steps.specs.declared.rows.FieldStore.TheVariants.{Compared, Moved, Pending, InField, Exchanged}
+use Rattle.barrier_steps.specs.Fits.{FitsAt, FieldFits, IsBarrier, StoreFits, ReadsAt, FieldReads}
+use Rattle.barrier_steps.specs.Rows.{FieldState, shades, row_want, field_want, row_holding, field_holding, payload_or_nil, payload_in, shape_in, object_in, at_first_row, stored_word, shaded_for, store_want, way_on, after_field, row_got, word_stored, field_got, field_reply, held_before_store}
+use Rattle.barrier_steps.proofs.FieldRows.{barrier_shades, stores_held}
 use Rattle.block_store.specs.declared.Payload.{Payload}
 use Rattle.block_store.specs.declared.Payload.TheVariants as payloads
-use Rattle.block_store.specs.declared.Shape.{Shape}
 use Rattle.block_store.specs.Counts.{changed}
-use Rattle.block_store.specs.Heaps.{Heap, put_at}
-use Rattle.block_store.specs.Payloads.{payload_of, target, number_word}
+use Rattle.block_store.specs.Payloads.{payload_of, target}
 use Rattle.block_store.specs.Phases.{is_sweep, cycle_of}
-use Rattle.block_store.specs.Places.{Extent, extent, Phase, ColourOf, PayloadOf}
-use Rattle.block_store.specs.Widths.{payloads}
 use Rattle.block_store.proofs.Functions.{changed_map, changed_self}
 use Rattle.block_store.proofs.PayloadWords as payload_words
 use Rattle.block_store.proofs.PayloadWords.{target-number, target-nil}
-use Rattle.never_heap.specs.declared.Command.{Command}
 use Rattle.never_heap.specs.declared.Command.TheVariants as commands
 use Rattle.heap_machine.specs.Grey.{GreyHolding, GreyKept}
 use Rattle.heap_machine.specs.HeapKept.{CanRefer}
-use Rattle.heap_machine.specs.Holdings.{Holding, holds_nothing, grey_held, tricolour_held, free_held, sweep_held}
-use Rattle.heap_machine.specs.Operations.{Exchange, CompareExchange, place_of, heap_after}
 use Rattle.heap_machine.specs.PhaseKept.{PhaseKept}
-use Rattle.heap_machine.specs.Readings.{IsHeld}
+use Rattle.heap_machine.specs.Readings.{CanHold, IsHeld}
 use Rattle.heap_machine.specs.Solid.{NotFree}
 use Rattle.heap_machine.specs.Tricolour.{TricolourHolding, NotWhite, TricolourKept}
-use Rattle.heap_machine.specs.declared.pass.Pass.{Pass}
 use Rattle.heap_machine.proofs.GreyBlocks.{kept_other}
 use Rattle.heap_machine.proofs.Held.{held_after}
 use Rattle.heap_machine.proofs.Keeping.{part_changed}
 use Rattle.heap_machine.proofs.Reusing.{reuse_other, reuse_stays}
 use Rattle.heap_machine.proofs.Solids.{solid_payload}
 use Rattle.heap_machine.proofs.Tricolours.{lets_go, kept_payload}
-use Rattle.grey_steps.specs.declared.rows.GreyRow.{GreyRow}
 use Rattle.grey_steps.specs.declared.rows.GreyRow.TheVariants.{Shaded}
-use Rattle.grey_steps.specs.Ends.{is_shading, block_stored}
-use Rattle.grey_steps.specs.Rows as marking
-use Rattle.grey_steps.specs.Rows.{grey_over, grey_holding}
 use Rattle.grey_steps.proofs.Ends.{shading_goes_on, block_stays}
 use Rattle.grey_steps.proofs.Reuses as reuses
-use Rattle.barrier_steps.specs.declared.rows.FieldRow.{FieldRow}
-use Rattle.barrier_steps.specs.declared.rows.FieldRow.TheVariants.{StoreNumber, StoreNil, LoadMoved, StoreMoved, LoadObject, LoadShape, LoadValue, LoadLink, LoadField, LoadOwner, StorePending, StoreField, Shade, LoadFirst, LoadSecond, LoadSaid, LoadSaidOwner, Answered, LoadExpected, ExchangeField, CompareField, IdleLook}
 use Rattle.barrier_steps.specs.declared.rows.FieldStore.{FieldStore}
-use Rattle.barrier_steps.specs.declared.rows.FieldStore.TheVariants.{Moved, Pending, InField, Exchanged, Compared}
-use Rattle.barrier_steps.specs.declared.rows.Way.{Way}
-use Rattle.barrier_steps.specs.Fits.{IsBarrier, FitsAt, FieldFits, ReadsAt, FieldReads}
-use Rattle.barrier_steps.specs.Operands.{field_index, number_set}
-use Rattle.barrier_steps.specs.Rows.{FieldState, payload_or_nil, payload_in, shape_in, object_in, at_first_row, stored_word, store_row, shaded_for, before_store, at_block, on_way, way_from, way_on, after_object, after_shape, after_field, after_said, row_want, row_got, word_stored, field_want, field_got, field_reply, held_before_store, row_holding, field_holding}
-use Rattle.barrier_steps.specs.Walks.{shape_length, links_to}
-use Rattle.barrier_steps.proofs.FieldRows.{barrier_shades, stores_held}
-use Rattle.barrier_steps.proofs.Stores.{before_is, barrier_is}
+use Rattle.barrier_steps.specs.Operands.{constant_word}
+use Rattle.barrier_steps.proofs.Decisions.{way_quiet, shape_quiet, register_quiet, owner_quiet}
+use Rattle.barrier_steps.proofs.Stores.{barrier_is}
+
+-- a place where nothing is written but where a white block becomes grey
+shade_leaves : (h : Heap) (y old v : ℕ) (at : Place) → put_at h (ColourOf y) v at ≡ h at
+    → heap_after h (CompareExchange (ColourOf y) old v) at ≡ h at
+shade_leaves h y old v at other = elim (cases_Bool (eqb (h (ColourOf y)) old)) [
+  | inl is ↦ rw is other
+  | inr is ↦ rw is refl
+]
+
+-- a place where nothing is written but where a field has the expected word
+compare_leaves : (h : Heap) (x j old v : ℕ) (at : Place) → put_at h (PayloadOf x j) v at ≡ h at
+    → heap_after h (CompareExchange (PayloadOf x j) old v) at ≡ h at
+compare_leaves h x j old v at other = elim (cases_Bool (eqb (h (PayloadOf x j)) old)) [
+  | inl is ↦ rw is other
+  | inr is ↦ rw is refl
+]
+
+module _ (h : Heap) (t n cycle : ℕ) where
+  marking_phase : (r : GreyRow) → heap_after h (marking.row_want t n cycle r) Phase ≡ h Phase
+  marking_phase (greys.Shade x j y a) =
+      shade_leaves h y (white_word cycle) (grey_word a) Phase refl
+  marking_phase (greys.ShadeStored y a) =
+      shade_leaves h y (white_word cycle) (grey_word a) Phase refl
+  marking_phase _ = refl
+
+  marking_cursor : (r : GreyRow) → heap_after h (marking.row_want t n cycle r) Cursor ≡ h Cursor
+  marking_cursor (greys.Shade x j y a) =
+      shade_leaves h y (white_word cycle) (grey_word a) Cursor refl
+  marking_cursor (greys.ShadeStored y a) =
+      shade_leaves h y (white_word cycle) (grey_word a) Cursor refl
+  marking_cursor _ = refl
+
+module _ (c : Config) (h : Heap) where
+  row_phase : (p : Pass) (k : Command) (row : FieldRow)
+      → heap_after h (row_want (extent c) p k row) Phase ≡ h Phase
+  row_phase p k (Shade r store) = marking_phase h p.thread p.threads p.cycle r
+  row_phase p k (Store (Compared way word)) = compare_leaves h way.block _ way.expected word Phase refl
+  row_phase p k _ = refl
+
+  row_cursor : (p : Pass) (k : Command) (row : FieldRow)
+      → heap_after h (row_want (extent c) p k row) Cursor ≡ h Cursor
+  row_cursor p k (Shade r store) = marking_cursor h p.thread p.threads p.cycle r
+  row_cursor p k (Store (Compared way word)) =
+      compare_leaves h way.block _ way.expected word Cursor refl
+  row_cursor p k _ = refl
+
+  -- but by the barrier no colour changes
+  pub row_colour : (p : Pass) (k : Command) (row : FieldRow) → shades row ≡ false → (x : ℕ)
+      → heap_after h (row_want (extent c) p k row) (ColourOf x) ≡ h (ColourOf x)
+  row_colour p k (Shade r store) none x = absurd cc
+  row_colour p k (Store (Compared way word)) none x =
+      compare_leaves h way.block _ way.expected word (ColourOf x) refl
+  row_colour p k _ none x = refl
+
+  pub field_phase : (f : FieldState) → heap_after h (field_want (extent c) f) Phase ≡ h Phase
+  field_phase f = row_phase f.pass f.command f.row
+
+  pub field_cursor : (f : FieldState) → heap_after h (field_want (extent c) f) Cursor ≡ h Cursor
+  field_cursor f = row_cursor f.pass f.command f.row
+
+-- a white block alone becomes grey
+module _ (c : Config) (h : Heap) (x : ℕ) (grey : is_grey (h (ColourOf x)) ≡ true) where
+  grey_left : (y cycle v : ℕ)
+      → heap_after h (CompareExchange (ColourOf y) (white_word cycle) v) (ColourOf x)
+      ≡ h (ColourOf x)
+  grey_left y cycle v = elim (cases_Bool (eqb (h (ColourOf y)) (white_word cycle))) [
+    | inl is ↦ elim (cases_eq y x) [
+      | inl e ↦
+          let white : h (ColourOf x) ≡ white_word cycle = ap (λ z. h (ColourOf z)) (sym e)
+          ∙ eqb-true (h (ColourOf y)) (white_word cycle) is in
+          absurd (let z : true ≡ false = sym grey ∙ ap is_grey white ∙ not_grey_white cycle in cc)
+      | inr away ↦ rw (is, ne_eqb y x away) refl
+    ]
+    | inr is ↦ rw is refl
+  ]
+
+  row_grey : (p : Pass) (k : Command) (row : FieldRow) → FitsAt c p k row
+      → heap_after h (row_want (extent c) p k row) (ColourOf x) ≡ h (ColourOf x)
+  row_grey p k (Shade r store) fits = go r (barrier_shades c p r store fits.row.0)
+    where
+      go : (r : GreyRow) → is_shading r ≡ true
+          → heap_after h (marking.row_want p.thread p.threads p.cycle r) (ColourOf x)
+          ≡ h (ColourOf x)
+      go (greys.TakeOwn y) is = refl
+      go (greys.ShadeStored y a) is = grey_left y p.cycle (grey_word a)
+      go (greys.PutOwn y a) is = refl
+      go (greys.Shaded y) is = refl
+      go _ is = absurd cc
+  row_grey p k (Store (Compared way word)) fits =
+      compare_leaves h way.block _ way.expected word (ColourOf x) refl
+  row_grey p k _ fits = refl
+
+pub grey_stays : (c : Config) (h : Heap) (f : FieldState) (x : ℕ) → FieldFits c f
+    → is_grey (h (ColourOf x)) ≡ true
+    → heap_after h (field_want (extent c) f) (ColourOf x) ≡ h (ColourOf x)
+grey_stays c h f x fits grey = row_grey c h x grey f.pass f.command f.row fits
+
+-- a command scans nothing and has claimed nothing
+shading_found : (m : ℕ) (r : GreyRow) → is_shading r ≡ true → (grey_holding m r).found ≡ 0
+shading_found m (greys.TakeOwn y) is = refl
+shading_found m (greys.ShadeStored y a) is = refl
+shading_found m (greys.PutOwn y a) is = refl
+shading_found m (greys.Shaded y) is = refl
+shading_found m _ is = absurd cc
+
+row_found : (c : Config) (p : Pass) (k : Command) (row : FieldRow) → FitsAt c p k row
+    → (row_holding (payloads c.width) p row).found ≡ 0
+row_found c p k (Shade r store) fits = shading_found (payloads c.width) r (barrier_shades c p r store fits.row.0)
+row_found c p k _ fits = refl
+
+pub field_found : (c : Config) (f : FieldState) → FieldFits c f
+    → (field_holding (extent c) f).found ≡ 0
+field_found c f fits = row_found c f.pass f.command f.row fits
+
+marking_claims : (m : ℕ) (r : GreyRow) → sweep_held (grey_holding m r) ≡ no_claim
+marking_claims m (greys.Take u) = refl
+marking_claims m _ = refl
+
+row_claims : (m : ℕ) (p : Pass) (row : FieldRow) → sweep_held (row_holding m p row) ≡ no_claim
+row_claims m p (Shade r store) = marking_claims m r
+row_claims m p _ = refl
+
+pub field_claims : (c : Config) (f : FieldState) → sweep_held (field_holding (extent c) f) ≡ no_claim
+field_claims c f = row_claims (payloads c.width) f.pass f.row
 
 -- a part of what the threads hold, where thread t holds as much of it as before
 still_holds : {A : Type 0} (part : Holding → A) (hs : ℕ → Holding) (t : ℕ) (w : Holding)
@@ -86,66 +213,6 @@ stored_kept e h hs x j w can k = record {
 no_block : (cycle : ℕ) (h : Heap) (y : ℕ) → y ≡ 0 → CanRefer cycle h y
 no_block cycle h y none = record { dark = λ some. absurd (some none); solid = λ some. absurd (some none) }
 
--- what a thread holds before a row that is no store of a loaded word, nor one of a barrier
-nothing_shaded : (m : ℕ) (p : Pass) (store : FieldStore) → shaded_for p (stored_word store) ≡ 0
-    → row_holding m p (store_row store) ≡ holds_nothing
-nothing_shaded m p (Moved word) none = ap (λ y. record holds_nothing { shaded = y }) none
-nothing_shaded m p (Pending word value) none = ap (λ y. record holds_nothing { shaded = y }) none
-nothing_shaded m p (InField way word) none = ap (λ y. record holds_nothing { shaded = y }) none
-nothing_shaded m p (Exchanged way word) none = ap (λ y. record holds_nothing { shaded = y }) none
-nothing_shaded m p (Compared way word) none = ap (λ y. record holds_nothing { shaded = y }) none
-
-before_nothing : (m : ℕ) (p : Pass) (store : FieldStore)
-    → row_holding m p (before_store p store) ≡ holds_nothing
-before_nothing m p store = before_is (λ row. row_holding m p row ≡ holds_nothing) p store
-    (nothing_shaded m p store) (λ _. refl)
-
-block_nothing : (m : ℕ) (p : Pass) (k : Command) (way : Way) (word : ℕ)
-    → row_holding m p (at_block p k way word) ≡ holds_nothing
-block_nothing m p (commands.Put s i v) way word = before_nothing m p (InField way word)
-block_nothing m p (commands.Swap s i v) way word = before_nothing m p (Exchanged way word)
-block_nothing m p (commands.Cas s i a v) way word = before_nothing m p (Compared way word)
-block_nothing m p _ way word = refl
-
-way_nothing : (e : Extent) (m : ℕ) (p : Pass) (k : Command) (way : Way) (word : ℕ)
-    → row_holding m p (on_way e p k way word) ≡ holds_nothing
-way_nothing e m p k way word =
-    elim (cases_Bool (ltb way.level (links_to e way.shape (field_index k)))) [
-      | inl is ↦ rw is refl
-      | inr is ↦ rw is (block_nothing m p k way word)
-    ]
-
-object_nothing : (m : ℕ) (p : Pass) (q : Payload) → row_holding m p (after_object q) ≡ holds_nothing
-object_nothing m p payloads.Nil = refl
-object_nothing m p (payloads.Int v) = refl
-object_nothing m p (payloads.Block x) = refl
-
-said_nothing : (m : ℕ) (p : Pass) (w : ℕ) (q : Payload)
-    → row_holding m p (after_said w q) ≡ holds_nothing
-said_nothing m p w payloads.Nil = refl
-said_nothing m p w (payloads.Int v) = refl
-said_nothing m p w (payloads.Block x) = refl
-
-shape_nothing : (e : Extent) (m : ℕ) (p : Pass) (k : Command) (x : ℕ) (f : Shape)
-    → row_holding m p (after_shape e p k x f) ≡ holds_nothing
-shape_nothing e m p (commands.Get d s i) x f = elim (cases_Bool (ltb i (shape_length f))) [
-  | inl is ↦ rw is (way_nothing e m p (commands.Get d s i) (way_from f x) 0)
-  | inr is ↦ rw is refl
-]
-shape_nothing e m p (commands.Put s i v) x f = elim (cases_Bool (ltb i (shape_length f))) [
-  | inl is ↦ rw is refl
-  | inr is ↦ rw is refl
-]
-shape_nothing e m p (commands.Swap s i v) x f = elim (cases_Bool (ltb i (shape_length f))) [
-  | inl is ↦ rw is refl
-  | inr is ↦ rw is refl
-]
-shape_nothing e m p (commands.Cas s i a v) x f = elim (cases_Bool (ltb i (shape_length f))) [
-  | inl is ↦ rw is refl
-  | inr is ↦ rw is refl
-]
-shape_nothing e m p _ x f = refl
-
 -- nil and numbers refer to no block
 none_shaded : (p : Pass) (w : ℕ) → target w ≡ 0 → shaded_for p w ≡ 0
 none_shaded p w none = elim (cases_Bool p.sweep) [
@@ -172,20 +239,14 @@ over_holds : (m : ℕ) (r : GreyRow) → is_shading r ≡ true → grey_over r �
 over_holds m (Shaded y) shading over = refl
 over_holds m _ shading over = absurd cc
 
-shaded_holds : (m : ℕ) (p : Pass) (store : FieldStore) → p.sweep ≡ false
-    → record holds_nothing { shaded = target (stored_word store) }
-    ≡ row_holding m p (store_row store)
-shaded_holds m p store mark = go store
-  where
-    in_mark : (word : ℕ) → target word ≡ shaded_for p word
-    in_mark word = ap (λ b. cond b 0 (target word)) (sym mark)
+shaded_holds : (p : Pass) (word : ℕ) → p.sweep ≡ false
+    → record holds_nothing { shaded = target word } ≡ held_before_store p word
+shaded_holds p word mark = ap (λ b. record holds_nothing { shaded = cond b 0 (target word) }) (sym mark)
 
-    go : (s : FieldStore) → record holds_nothing { shaded = target (stored_word s) } ≡ row_holding m p (store_row s)
-    go (Moved word) = ap (λ y. record holds_nothing { shaded = y }) (in_mark word)
-    go (Pending word value) = ap (λ y. record holds_nothing { shaded = y }) (in_mark word)
-    go (InField way word) = ap (λ y. record holds_nothing { shaded = y }) (in_mark word)
-    go (Exchanged way word) = ap (λ y. record holds_nothing { shaded = y }) (in_mark word)
-    go (Compared way word) = ap (λ y. record holds_nothing { shaded = y }) (in_mark word)
+-- the constant that is stored refers to no block
+constant_target : (k : Command) → target (constant_word k) ≡ 0
+constant_target (commands.Set d v) = target-number v
+constant_target _ = target-nil
 
 module _ (c : Config) (h : Heap) (hs : ℕ → Holding) (p : Pass) (k : Command)
     (sweep : is_sweep (h Phase) ≡ p.sweep) (cycle : cycle_of (h Phase) ≡ p.cycle)
@@ -248,11 +309,11 @@ module _ (c : Config) (h : Heap) (hs : ℕ → Holding) (p : Pass) (k : Command)
         (lets_shaded_go (extent c) h hs kept p.thread y low is)
   ]
 
-  shades : (r : GreyRow) (store : FieldStore) → IsBarrier c p r (stored_word store)
+  barrier_keeps : (r : GreyRow) (store : FieldStore) → IsBarrier c p r (stored_word store)
       → hs p.thread ≡ grey_holding m r
       → After (heap_after h (row_want (extent c) p k (Shade r store)))
       (next (Shade r store))
-  shades r store is holds =
+  barrier_keeps r store is holds =
       let w : ℕ = read (Shade r store) in
       let q : Heap = heap_after h (row_want (extent c) p k (Shade r store)) in
       let on : GreyRow = marking.row_got m p.threads p.cycle r w in
@@ -263,37 +324,37 @@ module _ (c : Config) (h : Heap) (hs : ℕ → Holding) (p : Pass) (k : Command)
       let held = over_holds m on (shading_goes_on m p.threads p.cycle r w shading) over in
       let block = block_stays m p.threads p.cycle r w shading ∙ is.stores in
       subst (λ (v : Holding). PhaseKept (extent c) q (changed hs p.thread v))
-      (held ∙ ap (λ y. record holds_nothing { shaded = y }) block ∙ shaded_holds m p store is.mark) goes)
+      (held ∙ ap (λ y. record holds_nothing { shaded = y }) block ∙ shaded_holds p (stored_word store) is.mark) goes)
       (λ _. goes)
+
+  store_keeps : (store : FieldStore) → StoreFits c k store
+      → CanHold (extent c) (place_of (store_want (extent c) p.thread k store)) (read (Store store))
+      → NotFree (λ x. h (ColourOf x)) (target (stored_word store))
+      → hs p.thread ≡ held_before_store p (stored_word store)
+      → After (heap_after h (store_want (extent c) p.thread k store)) (next (Store store))
+  store_keeps (Moved word) fits reads solid is = stores _ _ word _ is (can_store word is solid)
+  store_keeps (Pending word value) fits reads solid is = stores _ _ word _ is (can_store word is solid)
+  store_keeps (InField way word) fits reads solid is = stores _ _ word _ is (can_store word is solid)
+  store_keeps (Exchanged way word) fits reads solid is =
+      exchanges (Store (Exchanged way word)) _ _ word _ is (can_store word is solid)
+      (field_nothing m p (read (Store (Exchanged way word))) reads.0)
+  store_keeps (Compared way word) fits reads solid is =
+      compares _ _ way.expected word _ is (can_store word is solid)
 
   row_keeps : (row : FieldRow) → FitsAt c p k row
       → ReadsAt c p k row (read row)
       → NotFree (λ x. h (ColourOf x)) (target (word_stored row)) → hs p.thread ≡ row_holding m p row
       → After (heap_after h (row_want (extent c) p k row)) (next row)
-  row_keeps StoreNumber fits reads solid is =
-      stores _ _ (number_word (number_set k)) 0 is (λ _. no_block _ h _ (target-number (number_set k)))
-  row_keeps StoreNil fits reads solid is = stores _ _ 0 0 is (λ _. no_block _ h _ target-nil)
-  row_keeps LoadMoved fits reads solid is = loads LoadMoved is (before_nothing m p (Moved (read LoadMoved)))
-  row_keeps (StoreMoved word) fits reads solid is = stores _ _ word _ is (can_store word is solid)
-  row_keeps LoadObject fits reads solid is = loads LoadObject is (object_nothing m p (payload_in (read LoadObject)))
-  row_keeps (LoadShape x) fits reads solid is = loads (LoadShape x) is (shape_nothing (extent c) m p k x (shape_in (read (LoadShape x))))
-  row_keeps (LoadValue way) fits reads solid is = loads (LoadValue way) is (way_nothing (extent c) m p k way (read (LoadValue way)))
-  row_keeps (LoadExpected way) fits reads solid is = loads (LoadExpected way) is refl
-  row_keeps (LoadLink way word) fits reads solid is = loads (LoadLink way word) is (way_nothing (extent c) m p k (way_on way (target (read (LoadLink way word)))) word)
+  row_keeps (LoadRegister wanted) fits reads solid is =
+      loads (LoadRegister wanted) is (register_quiet (extent c) m p k wanted (read (LoadRegister wanted))).1
+  row_keeps (LoadShape x) fits reads solid is = loads (LoadShape x) is (shape_quiet (extent c) m p k x (shape_in (read (LoadShape x)))).1
+  row_keeps (LoadLink way word) fits reads solid is = loads (LoadLink way word) is (way_quiet (extent c) m p k (way_on way (target (read (LoadLink way word)))) word).1
   row_keeps (LoadField way) fits reads solid is = loads (LoadField way) is (field_nothing m p (read (LoadField way)) reads.0.0)
-  row_keeps (LoadOwner word) fits reads solid is = loads (LoadOwner word) is (before_nothing m p (Pending word (object_in (read (LoadOwner word)))))
-  row_keeps (StorePending word value) fits reads solid is = stores _ _ word _ is (can_store word is solid)
-  row_keeps (StoreField way word) fits reads solid is = stores _ _ word _ is (can_store word is solid)
-  row_keeps (ExchangeField way word) fits reads solid is =
-      exchanges (ExchangeField way word) _ _ word _ is (can_store word is solid)
-      (field_nothing m p (read (ExchangeField way word)) reads.0.0)
-  row_keeps (CompareField way word) fits reads solid is =
-      compares _ _ way.expected word _ is (can_store word is solid)
-  row_keeps (Shade r store) fits reads solid is = shades r store fits.row.0 is
-  row_keeps LoadFirst fits reads solid is = loads LoadFirst is refl
-  row_keeps (LoadSecond word) fits reads solid is = loads (LoadSecond word) is refl
-  row_keeps LoadSaid fits reads solid is = loads LoadSaid is (said_nothing m p (read LoadSaid) (payload_in (read LoadSaid)))
-  row_keeps (LoadSaidOwner word) fits reads solid is = loads (LoadSaidOwner word) is refl
+  row_keeps (LoadOwner word) fits reads solid is = loads (LoadOwner word) is (owner_quiet m p k word (object_in (read (LoadOwner word)))).1
+  row_keeps (Shade r store) fits reads solid is = barrier_keeps r store fits.row.0 is
+  row_keeps (Store store) fits reads solid is = store_keeps store fits.row reads.0 solid is
+  row_keeps StoreConstant fits reads solid is =
+      stores _ _ (constant_word k) 0 is (λ _. no_block _ h _ (constant_target k))
   row_keeps IdleLook fits reads solid is = loads IdleLook is refl
   row_keeps (Answered reply) fits reads solid is = loads (Answered reply) is refl
 

@@ -1,15 +1,10 @@
 pub mod Named
-pub mod Walking
-pub mod ReadWords
 pub mod Stores
 pub mod FieldRows
 pub mod Decisions
-pub mod Promising
+pub mod Outcomes
 pub mod Projecting
-pub mod Stepping
 pub mod Showing
-pub mod Registers
 pub mod Dues
 pub mod Keeping
-pub mod Leaving
 pub mod Naming

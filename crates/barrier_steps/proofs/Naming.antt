@@ -1,5 +1,5 @@
 -- Each event of a command is one that keeps what the graph reaches, or changes nothing that those see.
-use Rattle.std.proofs.Common.{◌≡◌, ℕ, ◌<◌, ◌≤◌, Bool, true, false, cond, Option, None, Some, IfSome, List, [], ◌∷◌, ◌++◌, refl, arith, sym, ap, ◌∙◌, subst, inl, inr, eqb}
+use Rattle.std.proofs.Common.{◌≡◌, ℕ, ◌<◌, ◌≤◌, Bool, true, false, not, cond, Option, None, Some, IfSome, List, [], ◌∷◌, ◌++◌, refl, arith, sym, ap, ◌∙◌, subst, inl, inr, eqb}
 use Rattle.std.proofs.lemmas.Bool.{both_ways, cases_Bool}
 use Rattle.block_store.specs.declared.Config.{Config}
 use Rattle.block_store.specs.declared.Name.{Name}
@@ -17,7 +17,7 @@ use Rattle.never_heap.specs.Graphs.{Graph}
 use Rattle.never_heap.specs.Histories.{HistoryItem, Did, after}
 use Rattle.never_heap.proofs.Answering.{step_not_full}
 use Rattle.shown_graph.specs.Events as commanded
-use Rattle.shown_graph.specs.Events.{ValueLoad, Loading, Event, GraphState, IsPrompt, HasValue, value_at, value_in, with_load}
+use Rattle.shown_graph.specs.Events.{ValueLoad, Loading, Event, GraphState, IsPrompt, value_at, value_in}
 use Rattle.shown_graph.specs.Shown.{heads}
 use Rattle.kept_names.specs.Building.{Build}
 use Rattle.kept_names.specs.Events.{event_thread, leaves_graph, loaded_word, MayDecide}
@@ -30,106 +30,80 @@ use Rattle.heap_machine.specs.Operations.{place_of, heap_after}
 use Rattle.heap_machine.specs.Readings.{IsHeld}
 use Rattle.heap_machine.specs.Solid.{NotFree}
 use Rattle.heap_machine.specs.declared.pass.Pass.{Pass}
-use Rattle.grey_steps.specs.declared.rows.GreyRow.{GreyRow}
 use Rattle.grey_steps.specs.Ends.{block_stored}
 use Rattle.grey_steps.proofs.Pictures.{shading_keeps_names}
 use Rattle.barrier_steps.specs.declared.rows.FieldRow.{FieldRow}
-use Rattle.barrier_steps.specs.declared.rows.FieldRow.TheVariants.{StoreNumber, StoreNil, LoadMoved, StoreMoved, LoadObject, LoadShape, LoadValue, LoadLink, LoadField, LoadOwner, StorePending, StoreField, Shade, LoadFirst, LoadSecond, LoadSaid, LoadSaidOwner, Answered, LoadExpected, ExchangeField, CompareField, IdleLook}
+use Rattle.barrier_steps.specs.declared.rows.FieldRow.TheVariants.{LoadRegister, LoadShape, LoadLink, LoadField, LoadOwner, Shade, Store, StoreConstant, IdleLook, Answered}
+use Rattle.barrier_steps.specs.declared.rows.Wanted.{Wanted}
+use Rattle.barrier_steps.specs.declared.rows.Wanted.TheVariants as wants
 use Rattle.barrier_steps.specs.declared.rows.FieldStore.{FieldStore}
 use Rattle.barrier_steps.specs.declared.rows.FieldStore.TheVariants.{Moved, Pending, InField, Exchanged, Compared}
 use Rattle.barrier_steps.specs.Decided.{field_task, entry_on, graph_on, order_on}
-use Rattle.barrier_steps.specs.Deciding.{refers, length_decides, is_deciding}
+use Rattle.barrier_steps.specs.Deciding.{refers, length_decides, register_decides, is_deciding}
 use Rattle.barrier_steps.specs.Fits.{FitsAt, FieldFits, FieldReads}
-use Rattle.barrier_steps.specs.Projection.{store_loading, row_loading, row_event, after_event, event_of, IsAtRow, InHandAt, IsInHand}
+use Rattle.barrier_steps.specs.Projection.{store_loading, wanted_loading, row_loading, register_event, store_event, row_event, after_event, event_of, IsAtRow, InHandAt, IsInHand}
 use Rattle.barrier_steps.specs.Replies.{answer, graph_after, ShownAt, Shown, reply_due, IsKnown}
-use Rattle.barrier_steps.specs.Rows.{FieldState, payload_in, shape_in, stored_word, shades, reads_beside_graph, word_stored, row_want, row_got, field_want, field_got, field_reply}
+use Rattle.barrier_steps.specs.Rows.{FieldState, payload_in, shape_in, stored_word, shades, reads_beside_graph, word_stored, row_want, field_want, field_got, field_reply, is_taken}
 use Rattle.barrier_steps.specs.Walks.{shape_length}
 use Rattle.barrier_steps.proofs.Dues.{row_due}
 use Rattle.barrier_steps.proofs.FieldRows.{barrier_shades}
-use Rattle.barrier_steps.proofs.Leaving.{row_colour, field_phase}
-use Rattle.barrier_steps.proofs.Projecting.{has_value, words_moved, loads_moved, row_guarded, barrier_loading}
+use Rattle.barrier_steps.proofs.Keeping.{row_colour, field_phase}
+use Rattle.barrier_steps.proofs.Projecting.{has_value, words_moved, loads_moved, row_guarded, barrier_loading, graph_stays, graph_steps}
 use Rattle.barrier_steps.proofs.Showing.{row_reads, row_shown}
-use Rattle.barrier_steps.proofs.Stepping.{graph_stays, graph_steps}
+use Rattle.barrier_steps.proofs.Stores.{either}
+use Rattle.barrier_steps.specs.Operands.{takes_field}
 
--- an event of thread t
+-- the event of a row is of its thread, and leaves the graph where it does not decide
 module _ (e : Extent) (a : Name) (t : ℕ) (k : Command) where
-  abbrev Is : (Event → Type 0) → FieldRow → ℕ → Type 0
-  Is P row w = IfSome (row_event e a t k row w) P
+  abbrev IsOwn : Bool → Option Event → Type 0
+  IsOwn decides o = IfSome o (λ x. (t ≡ event_thread x) × (decides ≡ false → leaves_graph x ≡ true))
 
-  -- a choice of events
-  chosen : (P : Event → Type 0) (b : Bool) (o u : Option Event) → IfSome o P → IfSome u P
-      → IfSome (cond b o u) P
-  chosen P true o u x y = x
-  chosen P false o u x y = y
+  register_own : (wanted : Wanted) (w : ℕ) → IsOwn (register_decides wanted w) (register_event t k wanted w)
+  register_own wants.Object w = either (IsOwn (not (refers (payload_in w)))) (refers (payload_in w)) _ _ (refl, λ _. refl) tt
+  register_own wants.Shown w = either (IsOwn true) (refers (payload_in w)) _ _ (refl, λ _. refl) tt
+  register_own _ w = (refl, λ _. refl)
 
-  pub own_event : (row : FieldRow) (w : ℕ) → Is (λ x. t ≡ event_thread x) row w
-  own_event LoadObject w = chosen (λ x. t ≡ event_thread x) (refers (payload_in w)) _ _ refl tt
-  own_event (LoadShape x) w = chosen (λ x. t ≡ event_thread x)
-      (length_decides k (shape_length (shape_in w))) _ _ refl refl
-  own_event (CompareField way word) w =
-      chosen (λ x. t ≡ event_thread x) (eqb w way.expected) _ _ refl refl
-  own_event LoadSaid w = chosen (λ x. t ≡ event_thread x) (refers (payload_in w)) _ _ refl tt
-  own_event StoreNumber w = refl
-  own_event StoreNil w = refl
-  own_event LoadMoved w = refl
-  own_event (StoreMoved word) w = refl
-  own_event (LoadValue way) w = refl
-  own_event (LoadExpected way) w = refl
-  own_event (LoadLink way word) w = refl
-  own_event (LoadField way) w = refl
-  own_event (LoadOwner word) w = tt
-  own_event (StorePending word value) w = refl
-  own_event (StoreField way word) w = refl
-  own_event (ExchangeField way word) w = refl
-  own_event IdleLook w = refl
+  store_own : (store : FieldStore) (w : ℕ) → IsOwn (not (is_taken store)) (store_event e a t k store w)
+  store_own (Pending word value) w = (refl, λ _. refl)
+  store_own (Compared way word) w = either (IsOwn true) (eqb w way.expected) _ _ (refl, λ n. absurd cc) (refl, λ _. refl)
+  store_own _ w = (refl, λ n. absurd cc)
+
+  own_event : (row : FieldRow) (w : ℕ) → IsOwn (is_deciding k row w) (row_event e a t k row w)
+  own_event (LoadRegister wanted) w = register_own wanted w
+  own_event (LoadShape x) w = let b = length_decides k (shape_length (shape_in w)) in either (IsOwn b) b _ _ (refl, λ _. refl) (refl, λ _. refl)
+  own_event (LoadLink way word) w = (refl, λ _. refl)
+  own_event (LoadField way) w = (refl, λ n. absurd cc)
+  own_event (LoadOwner word) w = either (IsOwn false) (takes_field k) _ _ tt (refl, λ _. refl)
   own_event (Shade r store) w = tt
-  own_event LoadFirst w = refl
-  own_event (LoadSecond word) w = refl
-  own_event (LoadSaidOwner word) w = refl
+  own_event (Store store) w = store_own store w
+  own_event StoreConstant w = (refl, λ n. absurd cc)
+  own_event IdleLook w = (refl, λ _. refl)
   own_event (Answered reply) w = tt
 
-  -- one that does not decide leaves the graph
-  pub left_event : (row : FieldRow) (w : ℕ) → is_deciding k row w ≡ false
-      → Is (λ x. leaves_graph x ≡ true) row w
-  left_event LoadMoved w n = refl
-  left_event LoadObject w n = chosen (λ x. leaves_graph x ≡ true) (refers (payload_in w)) _ _ refl tt
-  left_event (LoadShape x) w n = chosen (λ x. leaves_graph x ≡ true)
-      (length_decides k (shape_length (shape_in w))) _ _ refl refl
-  left_event (LoadValue way) w n = refl
-  left_event (LoadExpected way) w n = refl
-  left_event (LoadLink way word) w n = refl
-  left_event (LoadOwner word) w n = tt
-  left_event (StorePending word value) w n = refl
-  left_event (Shade r store) w n = tt
-  left_event LoadFirst w n = refl
-  left_event (LoadSaidOwner word) w n = refl
-  left_event (Answered reply) w n = tt
-  left_event _ w n = absurd cc
+  -- one that decides comes with no store due
+  register_prompt : (wanted : Wanted) → IsPrompt (wanted_loading e k wanted)
+  register_prompt (wants.Second word) = refl
+  register_prompt _ = refl
 
-  -- and one that decides comes with no store due
-  pub prompt_row : (row : FieldRow) (w : ℕ) → is_deciding k row w ≡ true
-      → IsPrompt (row_loading e k row)
-  prompt_row StoreNumber w n = refl
-  prompt_row StoreNil w n = refl
-  prompt_row (StoreMoved word) w n = refl
-  prompt_row LoadObject w n = refl
-  prompt_row (LoadShape x) w n = refl
-  prompt_row (LoadField way) w n = refl
-  prompt_row (StoreField way word) w n = refl
-  prompt_row (ExchangeField way word) w n = refl
-  prompt_row (CompareField way word) w n = refl
-  prompt_row IdleLook w n = refl
-  prompt_row (LoadSecond word) w n = refl
-  prompt_row LoadSaid w n = refl
-  prompt_row _ w n = absurd cc
+  store_prompt : (store : FieldStore) → not (is_taken store) ≡ true → IsPrompt (store_loading e k store)
+  store_prompt (Pending word value) n = absurd cc
+  store_prompt _ n = refl
+
+  prompt_row : (row : FieldRow) (w : ℕ) → is_deciding k row w ≡ true → IsPrompt (row_loading e k row)
+  prompt_row (LoadRegister wanted) w n = register_prompt wanted
+  prompt_row (Store store) w n = store_prompt store n
+  prompt_row (Shade r store) w n = absurd cc
+  prompt_row (LoadLink way word) w n = absurd cc
+  prompt_row (LoadOwner word) w n = absurd cc
+  prompt_row _ w n = refl
 
 -- the object in which a row loads or stores a field
 pub in_hand : (s : GraphState) (at : Name → ℕ → ℕ) (t : ℕ) (k : Command) (r : FieldRow) (w : ℕ)
     → ShownAt (heads at) s.graph t k r w → (a : Name) × InHandAt s a t k r
 in_hand s at t k (LoadField way) w shown = (shown.0.name, shown.0.refers)
-in_hand s at t k (StoreField way word) w shown = (shown.name, shown.refers)
-in_hand s at t k (ExchangeField way word) w shown = (shown.0.name, shown.0.refers)
-in_hand s at t k (CompareField way word) w shown = (shown.0.name, shown.0.refers)
+in_hand s at t k (Store (InField way word)) w shown = (shown.name, shown.refers)
+in_hand s at t k (Store (Exchanged way word)) w shown = (shown.0.name, shown.0.refers)
+in_hand s at t k (Store (Compared way word)) w shown = (shown.0.name, shown.0.refers)
 in_hand s at t k _ w shown = (record { thread = 0; serial = 0 }, tt)
 
 -- an event, or none, of a command, with which it is decided or is not
@@ -138,16 +112,15 @@ module _ (c : Config) (s : KeptState) (k : IsKept c s) (entry : Entry) where
   ordered d = cond d (s.order ++ Did entry ∷ []) s.order
 
   moved : (o : Option Event) (d : Bool) → IfSome o (commanded.Guard c.width c.threads s.seen)
-      → (d ≡ false → IfSome o (λ x. leaves_graph x ≡ true))
-      → IfSome o (λ x. entry.thread ≡ event_thread x)
+      → IfSome o (λ x. (entry.thread ≡ event_thread x) × (d ≡ false → leaves_graph x ≡ true))
       → (d ≡ true → MayDecide c s entry)
       → (d ≡ true → (after_event (extent c) s.seen o).graph ≡ after s.seen.graph (Did entry))
       → IsKept c (record s { seen = after_event (extent c) s.seen o; order = ordered d })
-  moved None false guard leaves own may graph = k
-  moved None true guard leaves own may graph = answers c s k entry (may refl, sym (graph refl))
-  moved (Some x) false guard leaves own may graph = serves c s k x (guard, leaves refl)
-  moved (Some x) true guard leaves own may graph =
-      decides c s k x entry (guard, may refl, own, graph refl)
+  moved None false guard own may graph = k
+  moved None true guard own may graph = answers c s k entry (may refl, sym (graph refl))
+  moved (Some x) false guard own may graph = serves c s k x (guard, own.1 refl)
+  moved (Some x) true guard own may graph =
+      decides c s k x entry (guard, may refl, own.0, graph refl)
 
 module _ (c : Config) (g : Graph) (order : List HistoryItem) (h : Heap) (names : Names)
     (tasks : ℕ → Task) (f : FieldState) (fits : FieldFits c f)
@@ -231,7 +204,6 @@ module _ (c : Config) (g : Graph) (order : List HistoryItem) (h : Heap) (names :
     })
     goes = moved c now k (entry_on g f) event (is_deciding f.command f.row w)
         (row_guarded c h now.seen hand.0 f.pass f.command f.row w fits reads at_row hand.1)
-        (left_event (extent c) hand.0 t f.command f.row w)
         (own_event (extent c) hand.0 t f.command f.row w) decided steps
 
     loads_is : (after_event (extent c) now.seen event).loads ≡ (λ u. (changed tasks t next u).loading)
@@ -293,78 +265,49 @@ store_word c k (Compared way word) = refl
 
 module _ (c : Config) (g : Graph) (order : List HistoryItem) (h : Heap) (names : Names)
     (tasks : ℕ → Task) where
+  -- the picture is kept before the event of a row, and after it
+  abbrev IsBefore : FieldState → Type 0
+  IsBefore f = (is_sweep (h Phase) ≡ f.pass.sweep) × (cycle_of (h Phase) ≡ f.pass.cycle)
+      × (tasks f.pass.thread ≡ field_task (extent c) f) × IsKept c (picture g order h names tasks)
+
+  abbrev IsAfter : FieldState → Type 0
+  IsAfter f = let w = h (place_of (field_want (extent c) f)) in
+      IsKept c (picture (graph_on g f w) (order_on g order f w) (heap_after h (field_want (extent c) f)) names
+      (changed tasks f.pass.thread (field_task (extent c) (field_got (extent c) f w))))
+
+  abbrev at : Pass → Command → FieldRow → FieldState
+  at p k row = record { pass = p; command = k; row = row }
+
   -- a row of the barrier
-  shade_names : (p : Pass) (k : Command) (r : GreyRow) (store : FieldStore)
-      → FitsAt c p k (Shade r store)
-      → is_sweep (h Phase) ≡ p.sweep → cycle_of (h Phase) ≡ p.cycle
-      → tasks p.thread ≡ field_task (extent c) (record { pass = p; command = k; row = Shade r store })
-      → IsKept c (picture g order h names tasks)
-      → IsKept c (picture g order (heap_after h (row_want (extent c) p k (Shade r store))) names
-      (changed tasks p.thread (field_task (extent c) (record {
-        pass = p;
-        command = k;
-        row = row_got (extent c) p k (Shade r store) (h (place_of (row_want (extent c) p k (Shade r store))));
-      }))))
-  shade_names p k r store fits sweep cycle is kept =
+  shade_names : (p : Pass) (k : Command) (row : FieldRow) → shades row ≡ true → FitsAt c p k row → IsBefore (at p k row) → IsAfter (at p k row)
+  shade_names p k (Shade r store) part fits before =
       let e : Extent = extent c in
       let b = fits.row.0 in
-      let w : ℕ = h (place_of (row_want e p k (Shade r store))) in
-      let q : Heap = heap_after h (row_want e p k (Shade r store)) in
-      let next : Task = field_task e (record { pass = p; command = k; row = row_got e p k (Shade r store) w }) in
+      let next : Task = field_task e (field_got e (at p k (Shade r store)) (h (place_of (row_want e p k (Shade r store))))) in
       let seen : GraphState = (picture g order h names tasks).seen in
-      let value = ap (λ (x : Task). x.loading.value) is ∙ store_value c k store in
+      let value = ap (λ (x : Task). x.loading.value) before.2 ∙ store_value c k store in
       let block : target (value_at seen p.thread).word ≡ block_stored r =
-      ap (λ (x : Task). target (value_in x.loading.value).word) is ∙ ap target (store_word c k store) ∙ sym b.stores in
-      let same : field_task e (record { pass = p; command = k; row = Shade r store }) ≡ next =
-      ap (λ (l : Loading). field_at l) (sym (barrier_loading c k _ store)) in
-      subst (λ (ts : ℕ → Task). IsKept c (picture g order q names ts))
-      (sym (changed_self tasks p.thread next (is ∙ same)))
-      (shading_keeps_names c g order h names tasks (record { pass = p; row = r }) b.fits (sweep ∙ b.mark) cycle
+      ap (λ (x : Task). target (value_in x.loading.value).word) before.2 ∙ ap target (store_word c k store) ∙ sym b.stores in
+      let same : field_task e (at p k (Shade r store)) ≡ next =
+      ap (λ (l : Loading). task_of l) (sym (barrier_loading c k _ store)) in
+      subst (λ (ts : ℕ → Task). IsKept c (picture g order (heap_after h (row_want e p k (Shade r store))) names ts))
+      (sym (changed_self tasks p.thread next (before.2 ∙ same)))
+      (shading_keeps_names c g order h names tasks (record { pass = p; row = r }) b.fits (before.0 ∙ b.mark) before.1
       (barrier_shades c p r store b)
-      (has_value seen p.thread _ value) block kept)
+      (has_value seen p.thread _ value) block before.3)
     where
-      field_at : Loading → Task
-      field_at l = record { loading = l; build = None; scan = 0 }
-
-  barrier_names : (f : FieldState) → shades f.row ≡ true → FieldFits c f
-      → is_sweep (h Phase) ≡ f.pass.sweep → cycle_of (h Phase) ≡ f.pass.cycle
-      → tasks f.pass.thread ≡ field_task (extent c) f
-      → IsKept c (picture g order h names tasks)
-      → IsKept c (picture (graph_on g f (h (place_of (field_want (extent c) f))))
-      (order_on g order f (h (place_of (field_want (extent c) f))))
-      (heap_after h (field_want (extent c) f)) names
-      (changed tasks f.pass.thread (field_task (extent c)
-      (field_got (extent c) f (h (place_of (field_want (extent c) f)))))))
-  barrier_names f = go f.pass f.command f.row
-    where
-      go : (p : Pass) (k : Command) (row : FieldRow) → shades row ≡ true → FitsAt c p k row
-          → is_sweep (h Phase) ≡ p.sweep → cycle_of (h Phase) ≡ p.cycle
-          → tasks p.thread ≡ field_task (extent c) (record { pass = p; command = k; row = row })
-          → IsKept c (picture g order h names tasks)
-          → IsKept c (picture (graph_on g (record { pass = p; command = k; row = row }) (h (place_of (row_want (extent c) p k row))))
-          (order_on g order (record { pass = p; command = k; row = row }) (h (place_of (row_want (extent c) p k row))))
-          (heap_after h (row_want (extent c) p k row)) names
-          (changed tasks p.thread (field_task (extent c) (record {
-            pass = p;
-            command = k;
-            row = row_got (extent c) p k row (h (place_of (row_want (extent c) p k row)));
-          }))))
-      go p k (Shade r store) part fits sweep cycle is kept = shade_names p k r store fits sweep cycle is kept
-      go p k _ part fits sweep cycle is kept = absurd cc
+      task_of : Loading → Task
+      task_of l = record { loading = l; build = None; scan = 0 }
+  shade_names p k _ part fits before = absurd cc
 
 pub keeps_names : (c : Config) (g : Graph) (order : List HistoryItem) (h : Heap) (names : Names)
     (tasks : ℕ → Task) (f : FieldState) → FieldFits c f → field_reply f.row ≡ None
     → is_sweep (h Phase) ≡ f.pass.sweep → cycle_of (h Phase) ≡ f.pass.cycle
     → tasks f.pass.thread ≡ field_task (extent c) f
-    → IsKept c (picture g order h names tasks)
-    → IsKept c (picture (graph_on g f (h (place_of (field_want (extent c) f))))
-    (order_on g order f (h (place_of (field_want (extent c) f))))
-    (heap_after h (field_want (extent c) f)) names
-    (changed tasks f.pass.thread (field_task (extent c)
-    (field_got (extent c) f (h (place_of (field_want (extent c) f)))))))
+    → IsKept c (picture g order h names tasks) → IsAfter c g order h names tasks f
 keeps_names c g order h names tasks f fits going sweep cycle is kept = elim
     (cases_Bool (shades f.row)) [
-      | inl part ↦ barrier_names c g order h names tasks f part fits sweep cycle is kept
+      | inl part ↦ shade_names c g order h names tasks f.pass f.command f.row part fits (sweep, cycle, is, kept)
       | inr plain ↦ plain_names c g order h names tasks f fits is kept plain going
     ]
 
@@ -386,13 +329,7 @@ loaded_solid c g order h names tasks f fits is k = go f.row (ap (λ (x : Task). 
   where
     go : (row : FieldRow) → (tasks f.pass.thread).loading ≡ row_loading (extent c) f.command row
         → NotFree (λ x. h (ColourOf x)) (target (word_stored row))
-    go (StoreMoved word) e = value_solid c (picture g order h names tasks) k f.pass.thread _ fits.thread.thread (ap (λ (l : Loading). l.value) e)
-    go (StorePending word value) e = value_solid c (picture g order h names tasks) k f.pass.thread _ fits.thread.thread (ap (λ (l : Loading). l.value) e)
-    go (ExchangeField way word) e =
-        value_solid c (picture g order h names tasks) k f.pass.thread _ fits.thread.thread
-        (ap (λ (l : Loading). l.value) e)
-    go (CompareField way word) e =
-        value_solid c (picture g order h names tasks) k f.pass.thread _ fits.thread.thread
-        (ap (λ (l : Loading). l.value) e)
-    go (StoreField way word) e = value_solid c (picture g order h names tasks) k f.pass.thread _ fits.thread.thread (ap (λ (l : Loading). l.value) e)
+    go (Store store) e = subst (λ x. NotFree (λ y. h (ColourOf y)) (target x)) (store_word c f.command store)
+        (value_solid c (picture g order h names tasks) k f.pass.thread (value_in (store_loading (extent c) f.command store).value) fits.thread.thread
+        (ap (λ (l : Loading). l.value) e ∙ store_value c f.command store))
     go _ e = λ some. absurd (some target-nil)

@@ -13,6 +13,7 @@ use Rattle.block_store.specs.Places.{extent, Phase, OwnerOf}
 use Rattle.block_store.specs.Shapes.{shape_of}
 use Rattle.block_store.proofs.PayloadWords.{payload-code, target-reference, target-number, target-nil}
 use Rattle.never_heap.specs.declared.Command.{Command}
+use Rattle.never_heap.specs.Bounds.{IsCommandInRange}
 use Rattle.never_heap.specs.declared.Reply.{Reply}
 use Rattle.never_heap.specs.declared.Reply.TheVariants as replies
 use Rattle.never_heap.specs.Graphs.{ObjectKind, Record, Array, object_of, field_of, register_of}
@@ -30,19 +31,20 @@ use Rattle.heap_machine.specs.declared.pass.Pass.{Pass}
 use Rattle.heap_machine.specs.Operations.{place_of}
 use Rattle.heap_machine.specs.Readings.{CanHold, IsHeld}
 use Rattle.barrier_steps.specs.declared.rows.FieldRow.{FieldRow}
-use Rattle.barrier_steps.specs.declared.rows.FieldRow.TheVariants.{StoreNumber, StoreNil, LoadMoved, StoreMoved, LoadObject, LoadShape, LoadValue, LoadLink, LoadField, LoadOwner, StorePending, StoreField, Shade, LoadFirst, LoadSecond, LoadSaid, LoadSaidOwner, Answered, LoadExpected, ExchangeField, CompareField, IdleLook}
-use Rattle.barrier_steps.specs.declared.rows.FieldStore.TheVariants.{Pending}
+use Rattle.barrier_steps.specs.declared.rows.FieldRow.TheVariants.{LoadRegister, LoadShape, LoadLink, LoadField, LoadOwner, Shade, Store, StoreConstant, IdleLook, Answered}
+use Rattle.barrier_steps.specs.declared.rows.Wanted.TheVariants as wants
+use Rattle.barrier_steps.specs.declared.rows.FieldStore.{FieldStore}
+use Rattle.barrier_steps.specs.declared.rows.FieldStore.TheVariants.{Moved, Pending, InField, Exchanged, Compared}
 use Rattle.barrier_steps.specs.Walks.{shape_length, links_to, link_at, field_at, ordinal_at}
-use Rattle.barrier_steps.specs.Operands.{to_register, from_register, other_register, field_index, expected_register}
-use Rattle.barrier_steps.specs.Rows.{register_place, row_want, field_reply, reads_beside_graph}
-use Rattle.barrier_steps.specs.Fits.{IsWalk, IsThere, FitsAt, ReadsAt}
-use Rattle.barrier_steps.specs.Replies.{IsWordOf, ShapeShown, FieldFound, ShownAt, RefersTo, Promises, OwnerShown, NameShown, ShowsAt, due_at, KnownAt}
-use Rattle.barrier_steps.specs.Projection.{walk_load, object_on, object_load, value_load, pending_load, IsAt}
-use Rattle.barrier_steps.proofs.Named.{to_low, from_low, other_low, expected_low}
-use Rattle.barrier_steps.proofs.Walking.{way_is, field_low}
+use Rattle.barrier_steps.specs.Operands.{to_register, answered_register, from_register, other_register, field_index, expected_register, takes_field}
+use Rattle.barrier_steps.specs.Rows.{register_place, register_wanted, field_place, store_want, row_want, field_reply, reads_beside_graph}
+use Rattle.barrier_steps.specs.Fits.{IsThread, IsWalk, IsThere, StoreFits, FitsAt, ReadsAt}
+use Rattle.barrier_steps.specs.Replies.{IsWordOf, ShapeShown, FieldFound, ShownAt, RefersTo, StorePromises, Promises, OwnerShown, NameShown, ShowsAt, due_before, due_at, KnownBefore, KnownAt}
+use Rattle.barrier_steps.specs.Projection.{walk_load, object_on, object_load, value_load, answered_load, store_loading, row_loading, IsAt}
+use Rattle.barrier_steps.proofs.Named.{to_low, from_low, other_low, expected_low, wanted_low, way_is, field_low}
 use Rattle.barrier_steps.proofs.FieldRows.{place_at}
 use Rattle.barrier_steps.proofs.Projecting.{payload_read, cas_expects}
-use Rattle.barrier_steps.proofs.Promising.{kind_length}
+use Rattle.barrier_steps.proofs.Outcomes.{kind_length}
 
 -- what stands in the blocks of an object's shape is what stands in those of the object
 same_part : (c : Config) (k : ObjectKind) (n o j : ℕ) → shape_part c.width (kind_shape k n) o j ≡ layout_part c.width k n o j
@@ -205,70 +207,25 @@ module _ (c : Config) (m : ℕ) (K : Name → Type 0) (at : Name → ℕ → ℕ
   not_pending : (t r : ℕ) (l : Loading) → s.loads t ≡ l → is_pending l.value r ≡ false → pending_registers s.loads t r ≡ false
   not_pending t r l e now = ap (λ x. is_pending x.value r) e ∙ now
 
-  -- the object in hand on a way
-  way_object : (t : ℕ) (k : Command) (way : Way) (l : Loading) → t < c.threads → s.loads t ≡ l → l.object ≡ object_on (extent c) k way → ObjectIs c.width s.graph at t (object_in (object_on (extent c) k way))
-  way_object t k way l tn e there = object_is t l (object_in (object_on (extent c) k way)) tn e there
+  -- the field at the end of a way: the object has it, and its word is what stands there
+  field_at_end : (p : Pass) (k : Command) (way : Way) (w : ℕ) (l : Loading) → IsThread c p.thread → IsCommandInRange k
+      → IsWalk c (field_index k) way → IsThere c (field_index k) way → s.loads p.thread ≡ l → l.object ≡ object_on (extent c) k way
+      → s.words ≡ block_words h → w ≡ h (field_place (extent c) k way)
+      → (found : FieldFound s.graph p.thread (from_register k) (field_index k))
+      × IsValueOf K (field_of (object_of s.graph found.name) (field_index k))
+      × (value_word (heads at) (field_of (object_of s.graph found.name) (field_index k)) ≡ w)
+  field_at_end p k way w l thread range walk there loads hand words reads =
+      let object = object_is p.thread l (object_in (object_on (extent c) k way)) thread.thread loads hand in (
+        found_field p.thread (from_register k) (field_index k) way object walk thread.thread (from_low k range),
+        field_kept p.thread (from_register k) (field_index k) way object walk thread.thread (from_low k range),
+        field_word p.thread (from_register k) (field_index k) way object walk thread.thread (from_low k range) w there (payload_read s h _ _ w words reads),
+      )
 
   -- what a row has loaded and reads is what the graph says
   pub row_shown : (p : Pass) (k : Command) (row : FieldRow) (w : ℕ) → FitsAt c p k row → IsAt (extent c) s h p k row w → ShownAt (heads at) s.graph p.thread k row w
-  row_shown p k StoreNumber w fits is = tt
-  row_shown p k StoreNil w fits is = tt
-  row_shown p k LoadMoved w fits is = tt
-  row_shown p k (StoreMoved word) w fits is = tt
-  row_shown p k LoadObject w fits is =
+  row_shown p k (LoadRegister wants.Object) w fits is =
       register_shown p.thread (from_register k) w fits.thread.thread (from_low k fits.command) (not_pending p.thread (from_register k) _ is.loads refl) (register_at p.thread (from_register k) w is.words is.reads)
-  row_shown p k (LoadShape x) w fits is =
-      shape_word p.thread (from_register k) x w (object_is p.thread _ _ fits.thread.thread is.loads refl) fits.thread.thread (from_low k fits.command) (ap (λ b. b.shape x) is.words ∙ sym is.reads)
-  row_shown p k (LoadValue way) w fits is = tt
-  row_shown p k (LoadExpected way) w fits is = tt
-  row_shown p k (LoadLink way word) w fits is = tt
-  row_shown p k (LoadField way) w fits is =
-      let object = way_object p.thread k way _ fits.thread.thread is.loads refl in (
-        found_field p.thread (from_register k) (field_index k) way object fits.row.0 fits.thread.thread (from_low k fits.command),
-        read_word (field_of (object_of s.graph object.name) (field_index k)) w (field_kept p.thread (from_register k) (field_index k) way object fits.row.0 fits.thread.thread (from_low k fits.command))
-            (field_word p.thread (from_register k) (field_index k) way object fits.row.0 fits.thread.thread (from_low k fits.command) w fits.row.1 (payload_read s h _ _ w is.words is.reads)),
-      )
-  row_shown p k (LoadOwner word) w fits is = tt
-  row_shown p k (StorePending word value) w fits is = tt
-  row_shown p k (StoreField way word) w fits is =
-      found_field p.thread (from_register k) (field_index k) way (way_object p.thread k way _ fits.thread.thread is.loads refl) fits.row.0 fits.thread.thread (from_low k fits.command)
-  row_shown p k (ExchangeField way word) w fits is =
-      let object = way_object p.thread k way _ fits.thread.thread is.loads refl in (
-        found_field p.thread (from_register k) (field_index k) way object fits.row.0
-            fits.thread.thread (from_low k fits.command),
-        read_word (field_of (object_of s.graph object.name) (field_index k)) w
-            (field_kept p.thread (from_register k) (field_index k) way object fits.row.0
-            fits.thread.thread (from_low k fits.command))
-            (field_word p.thread (from_register k) (field_index k) way object fits.row.0
-            fits.thread.thread (from_low k fits.command) w fits.row.1
-            (payload_read s h _ _ w is.words is.reads)),
-      )
-  row_shown p k (CompareField way word) w fits is =
-      let object = way_object p.thread k way _ fits.thread.thread is.loads refl in
-      let expected =
-      expected_is p.thread _ (value_in (value_load (expected_register k) way.expected))
-      fits.thread.thread is.loads (cas_expects k way.expected fits.belongs) in
-      let v = field_of (object_of s.graph object.name) (field_index k) in
-      let u = register_of s.graph p.thread (expected_register k) in
-      let field : value_word (heads at) (field_of (object_of s.graph object.name) (field_index k))
-      ≡ w =
-      field_word p.thread (from_register k) (field_index k) way object fits.row.0 fits.thread.thread
-      (from_low k fits.command) w fits.row.1 (payload_read s h _ _ w is.words is.reads) in (
-        found_field p.thread (from_register k) (field_index k) way object fits.row.0
-            fits.thread.thread (from_low k fits.command),
-        ap (λ x. eqb x way.expected) (sym field)
-            ∙ ap (λ y. eqb (value_word (heads at) v) y) expected.word
-            ∙ words_tell c.width c.threads m K s.graph at s.words (pending_registers s.loads)
-            follows.shows v u
-            (field_kept p.thread (from_register k) (field_index k) way object fits.row.0
-            fits.thread.thread (from_low k fits.command))
-            (follows.shows.closed.registers p.thread (expected_register k) fits.thread.thread
-            (expected_low k fits.command)),
-      )
-  row_shown p k IdleLook w fits is = tt
-  row_shown p k (Shade r store) w fits is = tt
-  row_shown p k LoadFirst w fits is = tt
-  row_shown p k (LoadSecond word) w fits is =
+  row_shown p k (LoadRegister (wants.Second word)) w fits is =
       let a = from_register k in
       let b = other_register k in
       let value = value_is p.thread _ (value_in (value_load a word)) fits.thread.thread is.loads refl in
@@ -279,123 +236,93 @@ module _ (c : Config) (m : ℕ) (K : Name → Type 0) (at : Name → ℕ → ℕ
             (blocks_apart c.width c.threads m K s.graph at s.words (pending_registers s.loads) follows.shows x y 0 0 (is_kept p.thread a x fits.thread.thread (from_low k fits.command) ex) (is_kept p.thread b y fits.thread.thread (other_low k fits.command) ey)
             (object_layout c.width (object_of s.graph x)).first (object_layout c.width (object_of s.graph y)).first e).0;
       }
-  row_shown p k LoadSaid w fits is =
+  row_shown p k (LoadRegister wants.Shown) w fits is =
       register_shown p.thread (from_register k) w fits.thread.thread (from_low k fits.command) (not_pending p.thread (from_register k) _ is.loads refl) (register_at p.thread (from_register k) w is.words is.reads)
-  row_shown p k (LoadSaidOwner word) w fits is = tt
-  row_shown p k (Answered reply) w fits is = tt
-
-  to_held : (p : Pass) (k : Command) (row : FieldRow) (w : ℕ) → FitsAt c p k row → w ≡ h (register_place (extent c) p.thread (to_register k)) → s.words ≡ block_words h → IsSome (payload_of w) × (target w ≤ c.blocks)
-  to_held p k row w fits reads is = register_held p.thread (to_register k) w fits.thread.thread (to_low k fits.command) (register_at p.thread (to_register k) w is reads)
-
-  from_held : (p : Pass) (k : Command) (row : FieldRow) (w : ℕ) → FitsAt c p k row → w ≡ h (register_place (extent c) p.thread (from_register k)) → s.words ≡ block_words h → IsSome (payload_of w) × (target w ≤ c.blocks)
-  from_held p k row w fits reads is = register_held p.thread (from_register k) w fits.thread.thread (from_low k fits.command) (register_at p.thread (from_register k) w is reads)
-
-  other_held : (p : Pass) (k : Command) (row : FieldRow) (w : ℕ) → FitsAt c p k row → w ≡ h (register_place (extent c) p.thread (other_register k)) → s.words ≡ block_words h → IsSome (payload_of w) × (target w ≤ c.blocks)
-  other_held p k row w fits reads is = register_held p.thread (other_register k) w fits.thread.thread (other_low k fits.command) (register_at p.thread (other_register k) w is reads)
+  row_shown p k (LoadShape x) w fits is =
+      shape_word p.thread (from_register k) x w (object_is p.thread _ _ fits.thread.thread is.loads refl) fits.thread.thread (from_low k fits.command) (ap (λ b. b.shape x) is.words ∙ sym is.reads)
+  row_shown p k (LoadField way) w fits is =
+      let field = field_at_end p k way w _ fits.thread fits.command fits.row.0 fits.row.1 is.loads refl is.words is.reads in
+      (field.0, read_word _ w field.1 field.2)
+  row_shown p k (Store (InField way word)) w fits is =
+      (field_at_end p k way w _ fits.thread fits.command fits.row.0 fits.row.1 is.loads refl is.words is.reads).0
+  row_shown p k (Store (Exchanged way word)) w fits is =
+      let field = field_at_end p k way w _ fits.thread fits.command fits.row.0 fits.row.1 is.loads refl is.words is.reads in
+      (field.0, read_word _ w field.1 field.2)
+  row_shown p k (Store (Compared way word)) w fits is =
+      let field = field_at_end p k way w _ fits.thread fits.command fits.row.0 fits.row.1 is.loads refl is.words is.reads in
+      let expected =
+      expected_is p.thread _ (value_in (value_load (expected_register k) way.expected))
+      fits.thread.thread is.loads (cas_expects k way.expected fits.belongs) in
+      let v = field_of (object_of s.graph field.0.name) (field_index k) in
+      let u = register_of s.graph p.thread (expected_register k) in (
+        field.0,
+        ap (λ x. eqb x way.expected) (sym field.2)
+            ∙ ap (λ y. eqb (value_word (heads at) v) y) expected.word
+            ∙ words_tell c.width c.threads m K s.graph at s.words (pending_registers s.loads)
+            follows.shows v u field.1
+            (follows.shows.closed.registers p.thread (expected_register k) fits.thread.thread
+            (expected_low k fits.command)),
+      )
+  row_shown p k _ w fits is = tt
 
   -- the words that a row reads are among those that it may read
+  store_reads : (p : Pass) (k : Command) (store : FieldStore) (w : ℕ) → IsThread c p.thread → IsCommandInRange k → StoreFits c k store
+      → s.words ≡ block_words h → s.loads p.thread ≡ store_loading (extent c) k store → w ≡ h (place_of (store_want (extent c) p.thread k store))
+      → CanHold (extent c) (place_of (store_want (extent c) p.thread k store)) w
+  store_reads p k (Moved word) w thread range fits words loads reads = register_held p.thread (to_register k) w thread.thread (to_low k range) (register_at p.thread (to_register k) w words reads)
+  store_reads p k (Pending word value) w thread range fits words loads reads = register_held p.thread (to_register k) w thread.thread (to_low k range) (register_at p.thread (to_register k) w words reads)
+  store_reads p k (InField way word) w thread range fits words loads reads =
+      let field = field_at_end p k way w _ thread range fits.0 fits.1 loads refl words reads in value_held _ w field.1 field.2
+  store_reads p k (Exchanged way word) w thread range fits words loads reads =
+      let field = field_at_end p k way w _ thread range fits.0 fits.1 loads refl words reads in value_held _ w field.1 field.2
+  store_reads p k (Compared way word) w thread range fits words loads reads =
+      let field = field_at_end p k way w _ thread range fits.0 fits.1 loads refl words reads in value_held _ w field.1 field.2
+
+  -- the value of which the owner is read
+  owner_value : (p : Pass) (k : Command) (word : ℕ) → IsThread c p.thread → s.loads p.thread ≡ row_loading (extent c) k (LoadOwner word)
+      → ValueIs s.graph at p.thread (record { origin = answered_register k; word = word; pending = false })
+  owner_value p k word thread loads =
+      on_time p.thread (answered_register k) word (takes_field k) (value_is p.thread _ (value_in (answered_load k word)) thread.thread loads refl)
+
   pub row_reads : (p : Pass) (k : Command) (row : FieldRow) (w : ℕ) → FitsAt c p k row
       → IsAt (extent c) s h p k row w → (reads_beside_graph row ≡ true → IsHeld c h)
       → field_reply row ≡ None → ReadsAt c p k row w
-  row_reads p k StoreNumber w fits is held goes = (to_held p k StoreNumber w fits is.reads is.words, tt)
-  row_reads p k StoreNil w fits is held goes = (to_held p k StoreNil w fits is.reads is.words, tt)
-  row_reads p k LoadMoved w fits is held goes = (from_held p k LoadMoved w fits is.reads is.words, tt)
-  row_reads p k (StoreMoved word) w fits is held goes = (to_held p k (StoreMoved word) w fits is.reads is.words, tt)
-  row_reads p k LoadObject w fits is held goes = (from_held p k LoadObject w fits is.reads is.words, tt)
+  row_reads p k (LoadRegister wanted) w fits is held goes =
+      (register_held p.thread (register_wanted k wanted) w fits.thread.thread (wanted_low k wanted fits.command) (register_at p.thread (register_wanted k wanted) w is.words is.reads), tt)
   row_reads p k (LoadShape x) w fits is held goes = (ap is_some (row_shown p k (LoadShape x) w fits is).shape, tt)
-  row_reads p k (LoadValue way) w fits is held goes = (other_held p k (LoadValue way) w fits is.reads is.words, tt)
-  row_reads p k (LoadExpected way) w fits is held goes = (
-    register_held p.thread (expected_register k) w fits.thread.thread
-        (expected_low k fits.command)
-        (register_at p.thread (expected_register k) w is.words is.reads),
-    tt,
-  )
   row_reads p k (LoadLink way word) w fits is held goes =
-      link_held p.thread (from_register k) (field_index k) way (way_object p.thread k way _ fits.thread.thread is.loads refl) fits.row.0 fits.thread.thread (from_low k fits.command) w fits.row.1 (payload_read s h _ _ w is.words is.reads)
+      link_held p.thread (from_register k) (field_index k) way (object_is p.thread _ (object_in (object_on (extent c) k way)) fits.thread.thread is.loads refl) fits.row.0 fits.thread.thread (from_low k fits.command) w fits.row.1 (payload_read s h _ _ w is.words is.reads)
   row_reads p k (LoadField way) w fits is held goes =
-      let object = way_object p.thread k way _ fits.thread.thread is.loads refl in (
-        value_held (field_of (object_of s.graph object.name) (field_index k)) w (field_kept p.thread (from_register k) (field_index k) way object fits.row.0 fits.thread.thread (from_low k fits.command))
-            (field_word p.thread (from_register k) (field_index k) way object fits.row.0 fits.thread.thread (from_low k fits.command) w fits.row.1 (payload_read s h _ _ w is.words is.reads)),
-        tt,
-      )
+      let field = field_at_end p k way w _ fits.thread fits.command fits.row.0 fits.row.1 is.loads refl is.words is.reads in
+      (value_held _ w field.1 field.2, tt)
   row_reads p k (LoadOwner word) w fits is held goes =
-      (value_named p.thread (to_register k) word w fits.thread.thread (on_time p.thread (to_register k) word true (value_is p.thread _ (value_in (pending_load (to_register k) word)) fits.thread.thread is.loads refl)) fits.row.1 (owner_word_read (target word) w is.words is.reads), tt)
-  row_reads p k (StorePending word value) w fits is held goes = (to_held p k (StorePending word value) w fits is.reads is.words, tt)
-  row_reads p k (StoreField way word) w fits is held goes =
-      let object = way_object p.thread k way _ fits.thread.thread is.loads refl in (
-        value_held (field_of (object_of s.graph object.name) (field_index k)) w (field_kept p.thread (from_register k) (field_index k) way object fits.row.0 fits.thread.thread (from_low k fits.command))
-            (field_word p.thread (from_register k) (field_index k) way object fits.row.0 fits.thread.thread (from_low k fits.command) w fits.row.1 (payload_read s h _ _ w is.words is.reads)),
-        tt,
-      )
-  row_reads p k (ExchangeField way word) w fits is held goes =
-      let object = way_object p.thread k way _ fits.thread.thread is.loads refl in (
-        value_held (field_of (object_of s.graph object.name) (field_index k)) w
-            (field_kept p.thread (from_register k) (field_index k) way object fits.row.0
-            fits.thread.thread (from_low k fits.command))
-            (field_word p.thread (from_register k) (field_index k) way object fits.row.0
-            fits.thread.thread (from_low k fits.command) w fits.row.1
-            (payload_read s h _ _ w is.words is.reads)),
-        tt,
-      )
-  row_reads p k (CompareField way word) w fits is held goes =
-      let object = way_object p.thread k way _ fits.thread.thread is.loads refl in (
-        value_held (field_of (object_of s.graph object.name) (field_index k)) w
-            (field_kept p.thread (from_register k) (field_index k) way object fits.row.0
-            fits.thread.thread (from_low k fits.command))
-            (field_word p.thread (from_register k) (field_index k) way object fits.row.0
-            fits.thread.thread (from_low k fits.command) w fits.row.1
-            (payload_read s h _ _ w is.words is.reads)),
-        tt,
-      )
-  row_reads p k IdleLook w fits is held goes =
-      (subst (CanHold (extent c) Phase) (sym is.reads) (held refl Phase refl), tt)
+      (value_named p.thread (answered_register k) word w fits.thread.thread (owner_value p k word fits.thread is.loads) fits.row.1 (owner_word_read (target word) w is.words is.reads), tt)
   row_reads p k (Shade r store) w fits is held goes =
       (subst (CanHold (extent c) (place_of (row_want (extent c) p k (Shade r store)))) (sym is.reads) (held refl (place_of (row_want (extent c) p k (Shade r store))) (place_at c p k (Shade r store) fits)), tt)
-  row_reads p k LoadFirst w fits is held goes = (from_held p k LoadFirst w fits is.reads is.words, tt)
-  row_reads p k (LoadSecond word) w fits is held goes = (other_held p k (LoadSecond word) w fits is.reads is.words, tt)
-  row_reads p k LoadSaid w fits is held goes = (from_held p k LoadSaid w fits is.reads is.words, tt)
-  row_reads p k (LoadSaidOwner word) w fits is held goes =
-      (value_named p.thread (from_register k) word w fits.thread.thread (value_is p.thread _ (value_in (value_load (from_register k) word)) fits.thread.thread is.loads refl) fits.row.1 (owner_word_read (target word) w is.words is.reads), tt)
+  row_reads p k (Store store) w fits is held goes = (store_reads p k store w fits.thread fits.command fits.row is.words is.loads is.reads, tt)
+  row_reads p k StoreConstant w fits is held goes =
+      (register_held p.thread (to_register k) w fits.thread.thread (to_low k fits.command) (register_at p.thread (to_register k) w is.words is.reads), tt)
+  row_reads p k IdleLook w fits is held goes =
+      (subst (CanHold (extent c) Phase) (sym is.reads) (held refl Phase refl), tt)
   row_reads p k (Answered reply) w fits is held goes = absurd cc
 
   -- and where its reply shows a register, it reads the name of the object to which that refers
   pub row_named : (p : Pass) (k : Command) (row : FieldRow) (w : ℕ) (reply : Reply) → FitsAt c p k row → IsAt (extent c) s h p k row w → ShowsAt s.graph p.thread k row reply → NameShown (heads at) row reply w
   row_named p k (LoadOwner word) w reply fits is shows =
-      register_named p.thread (to_register k) word w reply fits.thread.thread (on_time p.thread (to_register k) word true (value_is p.thread _ (value_in (pending_load (to_register k) word)) fits.thread.thread is.loads refl)) (owner_word_read (target word) w is.words is.reads) shows
-  row_named p k (LoadSaidOwner word) w reply fits is shows =
-      register_named p.thread (from_register k) word w reply fits.thread.thread (value_is p.thread _ (value_in (value_load (from_register k) word)) fits.thread.thread is.loads refl) (owner_word_read (target word) w is.words is.reads) shows
-  row_named p k StoreNumber w reply fits is shows = tt
-  row_named p k StoreNil w reply fits is shows = tt
-  row_named p k LoadMoved w reply fits is shows = tt
-  row_named p k (StoreMoved word) w reply fits is shows = tt
-  row_named p k LoadObject w reply fits is shows = tt
-  row_named p k (LoadShape x) w reply fits is shows = tt
-  row_named p k (LoadValue way) w reply fits is shows = tt
-  row_named p k (LoadExpected way) w reply fits is shows = tt
-  row_named p k (LoadLink way word) w reply fits is shows = tt
-  row_named p k (LoadField way) w reply fits is shows = tt
-  row_named p k (StorePending word value) w reply fits is shows = tt
-  row_named p k (StoreField way word) w reply fits is shows = tt
-  row_named p k (ExchangeField way word) w reply fits is shows = tt
-  row_named p k (CompareField way word) w reply fits is shows = tt
-  row_named p k IdleLook w reply fits is shows = tt
-  row_named p k (Shade r store) w reply fits is shows = tt
-  row_named p k LoadFirst w reply fits is shows = tt
-  row_named p k (LoadSecond word) w reply fits is shows = tt
-  row_named p k LoadSaid w reply fits is shows = tt
-  row_named p k (Answered given) w reply fits is shows = tt
+      register_named p.thread (answered_register k) word w reply fits.thread.thread (owner_value p k word fits.thread is.loads) (owner_word_read (target word) w is.words is.reads) shows
+  row_named p k _ w reply fits is shows = tt
 
   -- a decided row promises the reply that is due
+  store_promises : (t : ℕ) (k : Command) (store : FieldStore) (reply : Reply) → KnownBefore s.graph t k store → due_before s.graph t k store ≡ Some reply → StorePromises store reply
+  store_promises t k (Pending word value) reply known due =
+      let says : reply ≡ replies.Val (register_of s.graph t (to_register k)) = cc in
+      says ∙ ap replies.Val (sym known)
+  store_promises t k _ reply known due = absurd cc
+
   pub row_promises : (p : Pass) (k : Command) (row : FieldRow) (w : ℕ) (reply : Reply) → FitsAt c p k row → IsAt (extent c) s h p k row w → KnownAt s.graph p.thread k row → due_at s.graph p.thread k row ≡ Some reply → Promises (heads at) row reply
   row_promises p k (LoadOwner word) w reply fits is known due =
-      refers_to p.thread (to_register k) word reply (on_time p.thread (to_register k) word true (value_is p.thread _ (value_in (pending_load (to_register k) word)) fits.thread.thread is.loads refl)) fits.row.1 cc
-  row_promises p k (StorePending word value) w reply fits is known due =
-      let says : reply ≡ replies.Val (register_of s.graph p.thread (to_register k)) = cc in
-      says ∙ ap replies.Val (sym known)
-  row_promises p k (Shade r (Pending word value)) w reply fits is known due =
-      let says : reply ≡ replies.Val (register_of s.graph p.thread (to_register k)) = cc in
-      says ∙ ap replies.Val (sym known)
-  row_promises p k (LoadSaidOwner word) w reply fits is known due =
-      refers_to p.thread (from_register k) word reply (value_is p.thread _ (value_in (value_load (from_register k) word)) fits.thread.thread is.loads refl) fits.row.1 cc
+      refers_to p.thread (answered_register k) word reply (owner_value p k word fits.thread is.loads) fits.row.1 cc
+  row_promises p k (Shade r store) w reply fits is known due = store_promises p.thread k store reply known due
+  row_promises p k (Store store) w reply fits is known due = store_promises p.thread k store reply known due
   row_promises p k (Answered given) w reply fits is known due = cc
   row_promises p k _ w reply fits is known due = absurd cc

@@ -6,9 +6,11 @@ use Rattle.block_store.specs.declared.Payload.TheVariants as payloads
 use Rattle.never_heap.specs.declared.Command.{Command}
 use Rattle.never_heap.specs.declared.Command.TheVariants as commands
 use Rattle.barrier_steps.specs.declared.rows.FieldRow.{FieldRow}
-use Rattle.barrier_steps.specs.declared.rows.FieldRow.TheVariants.{StoreNumber, StoreNil, LoadMoved, StoreMoved, LoadObject, LoadShape, LoadValue, LoadLink, LoadField, LoadOwner, StorePending, StoreField, Shade, LoadFirst, LoadSecond, LoadSaid, LoadSaidOwner, Answered, LoadExpected, ExchangeField, CompareField, IdleLook}
+use Rattle.barrier_steps.specs.declared.rows.FieldRow.TheVariants.{LoadRegister, LoadShape, LoadField, Store, StoreConstant, IdleLook}
+use Rattle.barrier_steps.specs.declared.rows.Wanted.{Wanted}
+use Rattle.barrier_steps.specs.declared.rows.Wanted.TheVariants as wants
 use Rattle.barrier_steps.specs.Walks.{shape_length}
-use Rattle.barrier_steps.specs.Rows.{payload_in, shape_in}
+use Rattle.barrier_steps.specs.Rows.{payload_in, shape_in, is_taken}
 
 -- whether a payload is a reference
 abbrev pub refers : Payload → Bool
@@ -24,30 +26,22 @@ length_decides (commands.Swap s i v) n = not (nat_lt i n)
 length_decides (commands.Cas s i a v) n = not (nat_lt i n)
 length_decides _ n = true
 
+-- whether the load of a register is the deciding event
+abbrev pub register_decides : Wanted → ℕ → Bool
+register_decides wants.Object w = not (refers (payload_in w))
+register_decides (wants.Second word) w = true
+register_decides wants.Shown w = true
+register_decides _ w = false
+
 -- whether the event of a row of command k that reads w is the deciding one: the store of `set`,
 -- `nil`, `mov` and `put`, the load of the field of `get`, its exchange of `swap`, its comparison of
 -- `cas`, the load of the second register of `same`, of the register of `say`, of the shape of
 -- `len`, the look of `idle`; or the one that shows a refusal
 abbrev pub is_deciding : Command → FieldRow → ℕ → Bool
-is_deciding k StoreNumber w = true
-is_deciding k StoreNil w = true
-is_deciding k LoadMoved w = false
-is_deciding k (StoreMoved word) w = true
-is_deciding k LoadObject w = not (refers (payload_in w))
+is_deciding k (LoadRegister wanted) w = register_decides wanted w
 is_deciding k (LoadShape x) w = length_decides k (shape_length (shape_in w))
-is_deciding k (LoadValue way) w = false
-is_deciding k (LoadExpected way) w = false
-is_deciding k (LoadLink way word) w = false
 is_deciding k (LoadField way) w = true
-is_deciding k (LoadOwner word) w = false
-is_deciding k (StorePending word value) w = false
-is_deciding k (StoreField way word) w = true
-is_deciding k (ExchangeField way word) w = true
-is_deciding k (CompareField way word) w = true
-is_deciding k (Shade r store) w = false
-is_deciding k LoadFirst w = false
-is_deciding k (LoadSecond word) w = true
-is_deciding k LoadSaid w = true
-is_deciding k (LoadSaidOwner word) w = false
+is_deciding k (Store store) w = not (is_taken store)
+is_deciding k StoreConstant w = true
 is_deciding k IdleLook w = true
-is_deciding k (Answered reply) w = false
+is_deciding k _ w = false

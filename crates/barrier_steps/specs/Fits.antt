@@ -14,11 +14,13 @@ use Rattle.grey_steps.specs.declared.rows.GreyRow.{GreyRow}
 use Rattle.grey_steps.specs.Ends.{block_stored}
 use Rattle.grey_steps.specs.Fits.{GreyFits}
 use Rattle.barrier_steps.specs.declared.rows.FieldRow.{FieldRow}
-use Rattle.barrier_steps.specs.declared.rows.FieldRow.TheVariants.{StoreNumber, StoreNil, LoadMoved, StoreMoved, LoadObject, LoadShape, LoadValue, LoadLink, LoadField, LoadOwner, StorePending, StoreField, Shade, LoadFirst, LoadSecond, LoadSaid, LoadSaidOwner, Answered, LoadExpected, ExchangeField, CompareField, IdleLook}
+use Rattle.barrier_steps.specs.declared.rows.FieldRow.TheVariants.{LoadRegister, LoadShape, LoadLink, LoadField, LoadOwner, Shade, Store, StoreConstant, IdleLook, Answered}
+use Rattle.barrier_steps.specs.declared.rows.Wanted.{Wanted}
+use Rattle.barrier_steps.specs.declared.rows.Wanted.TheVariants as wants
 use Rattle.barrier_steps.specs.declared.rows.Way.{Way}
 use Rattle.barrier_steps.specs.declared.rows.FieldStore.{FieldStore}
 use Rattle.barrier_steps.specs.declared.rows.FieldStore.TheVariants.{Moved, Pending, InField, Exchanged, Compared}
-use Rattle.barrier_steps.specs.Operands.{field_index, is_set, is_nil, is_mov, is_get, is_put, goes_to_field, looks_at_object, is_same, is_say, is_swap, is_cas, is_idle, takes_field, stores_in_field}
+use Rattle.barrier_steps.specs.Operands.{field_index, sets_constant, is_mov, is_get, is_put, goes_to_field, looks_at_object, is_same, is_say, is_swap, is_cas, is_idle, takes_field, answers_value, stores_in_field}
 use Rattle.barrier_steps.specs.Walks.{shape_length, links_to}
 use Rattle.barrier_steps.specs.Rows.{FieldState, stored_word, row_want}
 
@@ -71,59 +73,47 @@ StoreFits c k (Exchanged way word) = IsWalk c (field_index k) way × IsThere c (
 StoreFits c k (Compared way word) = IsWalk c (field_index k) way × IsThere c (field_index k) way
     × IsLoaded c word
 
+-- whether command k loads a register for this
+abbrev pub is_wanted_by : Command → Wanted → Bool
+is_wanted_by k wants.Copied = is_mov k
+is_wanted_by k wants.Object = looks_at_object k
+is_wanted_by k (wants.Expected way) = is_cas k
+is_wanted_by k (wants.Stored way) = stores_in_field k
+is_wanted_by k wants.First = is_same k
+is_wanted_by k (wants.Second word) = is_same k
+is_wanted_by k wants.Shown = is_say k
+
+-- the numbers that are in hand where a register is loaded are in range
+abbrev pub WantedFits : Config → Command → Wanted → Type 0
+WantedFits c k (wants.Expected way) = IsWalk c (field_index k) way × (way.level ≡ 0)
+WantedFits c k (wants.Stored way) = IsWalk c (field_index k) way × (way.level ≡ 0)
+WantedFits c k (wants.Second word) = IsLoaded c word
+WantedFits c k _ = Unit {0}
+
 -- whether command k comes to this row
 abbrev pub is_row_of : Command → FieldRow → Bool
-is_row_of k StoreNumber = is_set k
-is_row_of k StoreNil = is_nil k
-is_row_of k LoadMoved = is_mov k
-is_row_of k (StoreMoved word) = is_mov k
-is_row_of k LoadObject = looks_at_object k
+is_row_of k (LoadRegister wanted) = is_wanted_by k wanted
 is_row_of k (LoadShape x) = looks_at_object k
-is_row_of k (LoadValue way) = stores_in_field k
-is_row_of k (LoadExpected way) = is_cas k
 is_row_of k (LoadLink way word) = goes_to_field k
 is_row_of k (LoadField way) = is_get k
-is_row_of k (LoadOwner word) = takes_field k
-is_row_of k (StorePending word value) = takes_field k
-is_row_of k (StoreField way word) = is_put k
-is_row_of k (ExchangeField way word) = is_swap k
-is_row_of k (CompareField way word) = is_cas k
+is_row_of k (LoadOwner word) = answers_value k
 is_row_of k (Shade r store) = is_store_of k store
-is_row_of k LoadFirst = is_same k
-is_row_of k (LoadSecond word) = is_same k
-is_row_of k LoadSaid = is_say k
-is_row_of k (LoadSaidOwner word) = is_say k
+is_row_of k (Store store) = is_store_of k store
+is_row_of k StoreConstant = sets_constant k
 is_row_of k IdleLook = is_idle k
 is_row_of k (Answered reply) = true
 
 -- the numbers that a row of command k in this pass names are in range
 abbrev pub RowFits : Config → Pass → Command → FieldRow → Type 0
-RowFits c p k StoreNumber = Unit {0}
-RowFits c p k StoreNil = Unit {0}
-RowFits c p k LoadMoved = Unit {0}
-RowFits c p k (StoreMoved word) = IsLoaded c word
-RowFits c p k LoadObject = Unit {0}
+RowFits c p k (LoadRegister wanted) = WantedFits c k wanted
 RowFits c p k (LoadShape x) = IsBlock c x
-RowFits c p k (LoadValue way) = IsWalk c (field_index k) way × (way.level ≡ 0)
-RowFits c p k (LoadExpected way) = IsWalk c (field_index k) way × (way.level ≡ 0)
 RowFits c p k (LoadLink way word) = IsWalk c (field_index k) way
     × (way.level < links_to (extent c) way.shape (field_index k)) × IsLoaded c word
 RowFits c p k (LoadField way) = IsWalk c (field_index k) way × IsThere c (field_index k) way
 RowFits c p k (LoadOwner word) = IsLoaded c word × (target word ≢ 0)
-RowFits c p k (StorePending word value) = IsLoaded c word
-RowFits c p k (StoreField way word) = IsWalk c (field_index k) way × IsThere c (field_index k) way
-    × IsLoaded c word
-RowFits c p k (ExchangeField way word) = IsWalk c (field_index k) way
-    × IsThere c (field_index k) way × IsLoaded c word
-RowFits c p k (CompareField way word) = IsWalk c (field_index k) way × IsThere c (field_index k) way
-    × IsLoaded c word
 RowFits c p k (Shade r store) = IsBarrier c p r (stored_word store) × StoreFits c k store
-RowFits c p k LoadFirst = Unit {0}
-RowFits c p k (LoadSecond word) = IsLoaded c word
-RowFits c p k LoadSaid = Unit {0}
-RowFits c p k (LoadSaidOwner word) = IsLoaded c word × (target word ≢ 0)
-RowFits c p k IdleLook = Unit {0}
-RowFits c p k (Answered reply) = Unit {0}
+RowFits c p k (Store store) = StoreFits c k store
+RowFits c p k _ = Unit {0}
 
 -- the heap has the pass's threads, of which this is one, and at most 65,535 blocks; the command is
 -- in range and comes to the row, and the row's numbers are in range

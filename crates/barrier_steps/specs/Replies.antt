@@ -14,9 +14,11 @@ use Rattle.never_heap.specs.Steps.{step, same_value}
 use Rattle.shown_graph.specs.Layouts.{kind_shape}
 use Rattle.shown_graph.specs.Read.{value_payload}
 use Rattle.barrier_steps.specs.declared.rows.FieldRow.{FieldRow}
-use Rattle.barrier_steps.specs.declared.rows.FieldRow.TheVariants.{LoadObject, LoadShape, LoadField, LoadOwner, StorePending, StoreField, Shade, LoadSecond, LoadSaid, LoadSaidOwner, Answered, ExchangeField, CompareField}
-use Rattle.barrier_steps.specs.declared.rows.FieldStore.TheVariants.{Pending}
-use Rattle.barrier_steps.specs.Operands.{to_register, from_register, other_register, field_index, expected_register}
+use Rattle.barrier_steps.specs.declared.rows.FieldRow.TheVariants.{LoadRegister, LoadShape, LoadField, LoadOwner, Shade, Store, Answered}
+use Rattle.barrier_steps.specs.declared.rows.Wanted.TheVariants as wants
+use Rattle.barrier_steps.specs.declared.rows.FieldStore.{FieldStore}
+use Rattle.barrier_steps.specs.declared.rows.FieldStore.TheVariants.{Pending, InField, Exchanged, Compared}
+use Rattle.barrier_steps.specs.Operands.{to_register, answered_register, from_register, other_register, field_index, expected_register}
 use Rattle.barrier_steps.specs.Rows.{FieldState}
 
 -- what the step of command k of thread t answers on a graph
@@ -51,24 +53,29 @@ pub record BothShown (head : Name → ℕ) (g : Graph) (t a b word w : ℕ) : Ty
   pub apart : (x y : Name) → register_of g t a ≡ Ref x → register_of g t b ≡ Ref y → head x ≡ head y
       → x ≡ y
 
+-- register s refers to an object, of whose field i this is the word
+abbrev pub FieldShown : (Name → ℕ) → Graph → ℕ → ℕ → ℕ → ℕ → Type 0
+FieldShown head g t s i w = (found : FieldFound g t s i)
+    × IsWordOf head (field_of (object_of g found.name) i) w
+
 -- what a row of thread t in command k has loaded, and the word w that it reads, are what the graph
 -- says
 abbrev pub ShownAt : (Name → ℕ) → Graph → ℕ → Command → FieldRow → ℕ → Type 0
-ShownAt head g t k LoadObject w = IsWordOf head (register_of g t (from_register k)) w
+ShownAt head g t k (LoadRegister wants.Object) w =
+    IsWordOf head (register_of g t (from_register k)) w
+ShownAt head g t k (LoadRegister (wants.Second word)) w = BothShown head g t (from_register k)
+    (other_register k) word w
+ShownAt head g t k (LoadRegister wants.Shown) w =
+    IsWordOf head (register_of g t (from_register k)) w
 ShownAt head g t k (LoadShape x) w = ShapeShown g t (from_register k) w
-ShownAt head g t k (LoadField way) w = (found : FieldFound g t (from_register k) (field_index k))
-    × IsWordOf head (field_of (object_of g found.name) (field_index k)) w
-ShownAt head g t k (StoreField way word) w = FieldFound g t (from_register k) (field_index k)
-ShownAt head g t k (ExchangeField way word) w =
-    (found : FieldFound g t (from_register k) (field_index k))
-    × IsWordOf head (field_of (object_of g found.name) (field_index k)) w
-ShownAt head g t k (CompareField way word) w =
+ShownAt head g t k (LoadField way) w = FieldShown head g t (from_register k) (field_index k) w
+ShownAt head g t k (Store (InField way word)) w = FieldFound g t (from_register k) (field_index k)
+ShownAt head g t k (Store (Exchanged way word)) w =
+    FieldShown head g t (from_register k) (field_index k) w
+ShownAt head g t k (Store (Compared way word)) w =
     (found : FieldFound g t (from_register k) (field_index k))
     × ((w == way.expected) ≡ same_value (field_of (object_of g found.name) (field_index k))
     (register_of g t (expected_register k)))
-ShownAt head g t k (LoadSecond word) w = BothShown head g t (from_register k)
-    (other_register k) word w
-ShownAt head g t k LoadSaid w = IsWordOf head (register_of g t (from_register k)) w
 ShownAt head g t k _ w = Unit {0}
 
 -- the value is a reference to the object whose first block the word refers to
@@ -77,12 +84,16 @@ pub record RefersTo (head : Name → ℕ) (word : ℕ) (reply : Reply) : Type 0 
   pub says : reply ≡ Val (Ref name)
   pub block : target word ≡ head name
 
+-- a store behind the deciding event comes before this reply
+abbrev pub StorePromises : FieldStore → Reply → Type 0
+StorePromises (Pending word value) reply = reply ≡ Val value
+StorePromises _ reply = ⊥
+
 -- a decided row will give this reply
 abbrev pub Promises : (Name → ℕ) → FieldRow → Reply → Type 0
 Promises head (LoadOwner word) reply = RefersTo head word reply
-Promises head (StorePending word value) reply = reply ≡ Val value
-Promises head (Shade r (Pending word value)) reply = reply ≡ Val value
-Promises head (LoadSaidOwner word) reply = RefersTo head word reply
+Promises head (Shade r store) reply = StorePromises store reply
+Promises head (Store store) reply = StorePromises store reply
 Promises head (Answered given) reply = given ≡ reply
 Promises head _ reply = ⊥
 
@@ -96,30 +107,36 @@ OwnerShown head word reply w =
 -- shows it
 abbrev pub NameShown : (Name → ℕ) → FieldRow → Reply → ℕ → Type 0
 NameShown head (LoadOwner word) reply w = OwnerShown head word reply w
-NameShown head (LoadSaidOwner word) reply w = OwnerShown head word reply w
 NameShown head _ reply w = Unit {0}
 
 -- where a decided row of thread t in command k still reads a name, its reply is the value of the
 -- register that the word is of
 abbrev pub ShowsAt : Graph → ℕ → Command → FieldRow → Reply → Type 0
-ShowsAt g t k (LoadOwner word) reply = reply ≡ Val (register_of g t (to_register k))
-ShowsAt g t k (LoadSaidOwner word) reply = reply ≡ Val (register_of g t (from_register k))
+ShowsAt g t k (LoadOwner word) reply = reply ≡ Val (register_of g t (answered_register k))
 ShowsAt g t k _ reply = Unit {0}
+
+-- the reply that was decided before a store: the value that the register has in the graph
+abbrev pub due_before : Graph → ℕ → Command → FieldStore → Option Reply
+due_before g t k (Pending word value) = Some (Val (register_of g t (to_register k)))
+due_before g t k _ = None
 
 -- the reply that was decided, also where it is not given yet: a value is the one that the register
 -- has in the graph
 abbrev pub due_at : Graph → ℕ → Command → FieldRow → Option Reply
-due_at g t k (LoadOwner word) = Some (Val (register_of g t (to_register k)))
-due_at g t k (StorePending word value) = Some (Val (register_of g t (to_register k)))
-due_at g t k (Shade r (Pending word value)) = Some (Val (register_of g t (to_register k)))
-due_at g t k (LoadSaidOwner word) = Some (Val (register_of g t (from_register k)))
+due_at g t k (LoadOwner word) = Some (Val (register_of g t (answered_register k)))
+due_at g t k (Shade r store) = due_before g t k store
+due_at g t k (Store store) = due_before g t k store
 due_at g t k (Answered reply) = Some reply
 due_at g t k _ = None
 
 -- the value that `get` or `swap` has still to store is the one that its register has in the graph
+abbrev pub KnownBefore : Graph → ℕ → Command → FieldStore → Type 0
+KnownBefore g t k (Pending word value) = value ≡ register_of g t (to_register k)
+KnownBefore g t k _ = Unit {0}
+
 abbrev pub KnownAt : Graph → ℕ → Command → FieldRow → Type 0
-KnownAt g t k (StorePending word value) = value ≡ register_of g t (to_register k)
-KnownAt g t k (Shade r (Pending word value)) = value ≡ register_of g t (to_register k)
+KnownAt g t k (Shade r store) = KnownBefore g t k store
+KnownAt g t k (Store store) = KnownBefore g t k store
 KnownAt g t k _ = Unit {0}
 
 -- the same of the state of a part

@@ -9,7 +9,7 @@ use Rattle.block_store.specs.declared.Shape.TheVariants as shapes
 use Rattle.block_store.specs.declared.Value.{Value}
 use Rattle.block_store.specs.declared.Value.TheVariants as values
 use Rattle.block_store.specs.WideOwners.{wide_of}
-use Rattle.block_store.specs.Payloads.{payload_of, target, number_word}
+use Rattle.block_store.specs.Payloads.{payload_of, target}
 use Rattle.block_store.specs.Places.{Extent, Place, Phase, OwnerOf, ShapeOf, PayloadOf}
 use Rattle.block_store.specs.Shapes.{shape_of}
 use Rattle.block_store.specs.Widths.{payloads}
@@ -24,7 +24,9 @@ use Rattle.heap_machine.specs.declared.pass.Pass.{Pass}
 use Rattle.heap_machine.specs.declared.Step.{Step}
 use Rattle.heap_machine.specs.declared.Step.TheVariants.{Went, Over}
 use Rattle.barrier_steps.specs.declared.rows.FieldRow.{FieldRow}
-use Rattle.barrier_steps.specs.declared.rows.FieldRow.TheVariants.{StoreNumber, StoreNil, LoadMoved, StoreMoved, LoadObject, LoadShape, LoadValue, LoadLink, LoadField, LoadOwner, StorePending, StoreField, Shade, LoadFirst, LoadSecond, LoadSaid, LoadSaidOwner, Answered, LoadExpected, ExchangeField, CompareField, IdleLook}
+use Rattle.barrier_steps.specs.declared.rows.FieldRow.TheVariants.{LoadRegister, LoadShape, LoadLink, LoadField, LoadOwner, Shade, Store, StoreConstant, IdleLook, Answered}
+use Rattle.barrier_steps.specs.declared.rows.Wanted.{Wanted}
+use Rattle.barrier_steps.specs.declared.rows.Wanted.TheVariants as wants
 use Rattle.barrier_steps.specs.declared.rows.Way.{Way}
 use Rattle.barrier_steps.specs.declared.rows.FieldStore.{FieldStore}
 use Rattle.barrier_steps.specs.declared.rows.FieldStore.TheVariants.{Moved, Pending, InField, Exchanged, Compared}
@@ -32,7 +34,7 @@ use Rattle.grey_steps.specs.declared.rows.GreyRow.{GreyRow}
 use Rattle.grey_steps.specs.declared.rows.GreyRow.TheVariants.{TakeOwn}
 use Rattle.grey_steps.specs.Rows as marking
 use Rattle.grey_steps.specs.Rows.{grey_over, grey_holding}
-use Rattle.barrier_steps.specs.Operands.{to_register, from_register, other_register, field_index, number_set, expected_register}
+use Rattle.barrier_steps.specs.Operands.{to_register, from_register, other_register, field_index, constant_word, expected_register}
 use Rattle.barrier_steps.specs.Walks.{shape_length, links_to, link_at, field_at}
 
 -- a thread in a command: its pass, the command, and its row
@@ -73,22 +75,22 @@ object_in w = object_or_nil (wide_of w)
 abbrev pub first_row : Command → FieldRow
 first_row (commands.New d f) = Answered replies.Stored
 first_row (commands.Arr d e) = Answered replies.Stored
-first_row (commands.Set d v) = StoreNumber
-first_row (commands.Nil d) = StoreNil
-first_row (commands.Mov d s) = LoadMoved
-first_row (commands.Get d s i) = LoadObject
-first_row (commands.Put s i v) = LoadObject
-first_row (commands.Len s) = LoadObject
-first_row (commands.Same a b) = LoadFirst
-first_row (commands.Say s) = LoadSaid
-first_row (commands.Swap s i v) = LoadObject
-first_row (commands.Cas s i a v) = LoadObject
+first_row (commands.Set d v) = StoreConstant
+first_row (commands.Nil d) = StoreConstant
+first_row (commands.Mov d s) = LoadRegister wants.Copied
+first_row (commands.Get d s i) = LoadRegister wants.Object
+first_row (commands.Put s i v) = LoadRegister wants.Object
+first_row (commands.Len s) = LoadRegister wants.Object
+first_row (commands.Same a b) = LoadRegister wants.First
+first_row (commands.Say s) = LoadRegister wants.Shown
+first_row (commands.Swap s i v) = LoadRegister wants.Object
+first_row (commands.Cas s i a v) = LoadRegister wants.Object
 first_row (commands.Idle u) = IdleLook
 
 abbrev pub at_first_row : Pass → Command → FieldState
 at_first_row p k = record { pass = p; command = k; row = first_row k }
 
--- what is stored, and the row that stores it
+-- what is stored
 abbrev pub stored_word : FieldStore → ℕ
 stored_word (Moved word) = word
 stored_word (Pending word value) = word
@@ -96,12 +98,10 @@ stored_word (InField way word) = word
 stored_word (Exchanged way word) = word
 stored_word (Compared way word) = word
 
-abbrev pub store_row : FieldStore → FieldRow
-store_row (Moved word) = StoreMoved word
-store_row (Pending word value) = StorePending word value
-store_row (InField way word) = StoreField way word
-store_row (Exchanged way word) = ExchangeField way word
-store_row (Compared way word) = CompareField way word
+-- whether the value was taken before: it is the answer of a command that is decided
+abbrev pub is_taken : FieldStore → Bool
+is_taken (Pending word value) = true
+is_taken _ = false
 
 -- the block that is shaded before this word is stored, or 0: while the phase is Mark the one to
 -- which the word refers
@@ -110,43 +110,50 @@ shaded_for p word = if p.sweep then 0 else target word
 
 -- before a store: the write barrier, where a block is to be shaded
 abbrev pub before_store : Pass → FieldStore → FieldRow
-before_store p store = if shaded_for p (stored_word store) == 0 then store_row store
+before_store p store = if shaded_for p (stored_word store) == 0 then Store store
     else Shade (TakeOwn (shaded_for p (stored_word store))) store
 
 -- at this row of the barrier: once it is over the store follows
 abbrev pub in_barrier : GreyRow → FieldStore → FieldRow
-in_barrier r store = if grey_over r then store_row store else Shade r store
+in_barrier r store = if grey_over r then Store store else Shade r store
 
--- the operation of a row of command k in this pass. A part that is over would look at the phase
+-- which register of command k is loaded
+abbrev pub register_wanted : Command → Wanted → ℕ
+register_wanted k (wants.Expected way) = expected_register k
+register_wanted k (wants.Stored way) = other_register k
+register_wanted k (wants.Second word) = other_register k
+register_wanted k _ = from_register k
+
+-- where the field of command k stands, at the end of its way
+abbrev pub field_place : Extent → Command → Way → Place
+field_place e k way = PayloadOf way.block (field_at e way.shape (field_index k))
+
+-- the store of thread t
+abbrev pub store_want : Extent → ℕ → Command → FieldStore → Operation
+store_want e t k (Moved word) = Exchange (register_place e t (to_register k)) word
+store_want e t k (Pending word value) = Exchange (register_place e t (to_register k)) word
+store_want e t k (InField way word) = Exchange (field_place e k way) word
+store_want e t k (Exchanged way word) = Exchange (field_place e k way) word
+store_want e t k (Compared way word) = CompareExchange (field_place e k way) way.expected word
+
+-- the place that a row of command k in this pass loads. A part that is over would look at the phase
 -- once more
+abbrev pub row_place : Extent → Pass → Command → FieldRow → Place
+row_place e p k (LoadRegister wanted) = register_place e p.thread (register_wanted k wanted)
+row_place e p k (LoadShape x) = ShapeOf x
+row_place e p k (LoadLink way word) = PayloadOf way.block
+    (link_at e way.shape (field_index k) way.level)
+row_place e p k (LoadField way) = field_place e k way
+row_place e p k (LoadOwner word) = OwnerOf (target word)
+row_place e p k _ = Phase
+
+-- the operation of a row
 abbrev pub row_want : Extent → Pass → Command → FieldRow → Operation
-row_want e p k StoreNumber = Exchange (register_place e p.thread (to_register k))
-    (number_word (number_set k))
-row_want e p k StoreNil = Exchange (register_place e p.thread (to_register k)) 0
-row_want e p k LoadMoved = Load (register_place e p.thread (from_register k))
-row_want e p k (StoreMoved word) = Exchange (register_place e p.thread (to_register k)) word
-row_want e p k LoadObject = Load (register_place e p.thread (from_register k))
-row_want e p k (LoadShape x) = Load (ShapeOf x)
-row_want e p k (LoadValue way) = Load (register_place e p.thread (other_register k))
-row_want e p k (LoadExpected way) = Load (register_place e p.thread (expected_register k))
-row_want e p k (LoadLink way word) = Load (PayloadOf way.block
-    (link_at e way.shape (field_index k) way.level))
-row_want e p k (LoadField way) = Load (PayloadOf way.block (field_at e way.shape (field_index k)))
-row_want e p k (LoadOwner word) = Load (OwnerOf (target word))
-row_want e p k (StorePending word value) = Exchange (register_place e p.thread (to_register k)) word
-row_want e p k (StoreField way word) = Exchange
-    (PayloadOf way.block (field_at e way.shape (field_index k))) word
-row_want e p k (ExchangeField way word) = Exchange
-    (PayloadOf way.block (field_at e way.shape (field_index k))) word
-row_want e p k (CompareField way word) = CompareExchange
-    (PayloadOf way.block (field_at e way.shape (field_index k))) way.expected word
 row_want e p k (Shade r store) = marking.row_want p.thread p.threads p.cycle r
-row_want e p k LoadFirst = Load (register_place e p.thread (from_register k))
-row_want e p k (LoadSecond word) = Load (register_place e p.thread (other_register k))
-row_want e p k LoadSaid = Load (register_place e p.thread (from_register k))
-row_want e p k (LoadSaidOwner word) = Load (OwnerOf (target word))
-row_want e p k IdleLook = Load Phase
-row_want e p k (Answered reply) = Load Phase
+row_want e p k (Store store) = store_want e p.thread k store
+row_want e p k StoreConstant = Exchange (register_place e p.thread (to_register k))
+    (constant_word k)
+row_want e p k row = Load (row_place e p k row)
 
 -- after the register that refers to the object: nil is answered null, a number kind
 abbrev pub after_object : Payload → FieldRow
@@ -184,53 +191,62 @@ abbrev pub after_shape : Extent → Pass → Command → ℕ → Shape → Field
 after_shape e p (commands.Get d s i) x f = if nat_lt i (shape_length f)
     then on_way e p (commands.Get d s i) (way_from f x) 0 else Answered replies.Range
 after_shape e p (commands.Put s i v) x f = if nat_lt i (shape_length f)
-    then LoadValue (way_from f x)
-    else Answered replies.Range
+    then LoadRegister (wants.Stored (way_from f x)) else Answered replies.Range
 after_shape e p (commands.Swap s i v) x f = if nat_lt i (shape_length f)
-    then LoadValue (way_from f x)
-    else Answered replies.Range
+    then LoadRegister (wants.Stored (way_from f x)) else Answered replies.Range
 after_shape e p (commands.Cas s i a v) x f = if nat_lt i (shape_length f)
-    then LoadExpected (way_from f x)
-    else Answered replies.Range
+    then LoadRegister (wants.Expected (way_from f x)) else Answered replies.Range
 after_shape e p _ x f = Answered (replies.Len (shape_length f))
 
 -- after the field that `get` loads, or `swap` exchanges: its word is then stored, once its value is
 -- known
 abbrev pub after_field : ℕ → Payload → FieldRow
-after_field word payloads.Nil = StorePending word values.Nil
-after_field word (payloads.Int v) = StorePending word (values.Int v)
+after_field word payloads.Nil = Store (Pending word values.Nil)
+after_field word (payloads.Int v) = Store (Pending word (values.Int v))
 after_field word (payloads.Block x) = LoadOwner word
 
 -- after the register that `say` shows
 abbrev pub after_said : ℕ → Payload → FieldRow
 after_said word payloads.Nil = Answered (replies.Val values.Nil)
 after_said word (payloads.Int v) = Answered (replies.Val (values.Int v))
-after_said word (payloads.Block x) = LoadSaidOwner word
+after_said word (payloads.Block x) = LoadOwner word
+
+-- after the owner of the block to which the word refers: `say` answers its name, and the others
+-- store the word
+abbrev pub after_owner : Pass → Command → ℕ → Value → FieldRow
+after_owner p (commands.Say s) word value = Answered (replies.Val value)
+after_owner p _ word value = before_store p (Pending word value)
+
+-- after a register, in which w stood
+abbrev pub after_register : Extent → Pass → Command → Wanted → ℕ → FieldRow
+after_register e p k wants.Copied w = before_store p (Moved w)
+after_register e p k wants.Object w = after_object (payload_in w)
+after_register e p k (wants.Expected way) w = LoadRegister (wants.Stored (way_with way w))
+after_register e p k (wants.Stored way) w = on_way e p k way w
+after_register e p k wants.First w = LoadRegister (wants.Second w)
+after_register e p k (wants.Second word) w =
+    Answered (if word == w then replies.Yes else replies.No)
+after_register e p k wants.Shown w = after_said w (payload_in w)
+
+-- after a store in whose place w stood
+abbrev pub after_store : FieldStore → ℕ → FieldRow
+after_store (Pending word value) w = Answered (replies.Val value)
+after_store (Exchanged way word) w = after_field w (payload_in w)
+after_store (Compared way word) w =
+    Answered (if w == way.expected then replies.Yes else replies.No)
+after_store _ w = Answered replies.Stored
 
 -- the row after it, where it read w
 abbrev pub row_got : Extent → Pass → Command → FieldRow → ℕ → FieldRow
-row_got e p k StoreNumber w = Answered replies.Stored
-row_got e p k StoreNil w = Answered replies.Stored
-row_got e p k LoadMoved w = before_store p (Moved w)
-row_got e p k (StoreMoved word) w = Answered replies.Stored
-row_got e p k LoadObject w = after_object (payload_in w)
+row_got e p k (LoadRegister wanted) w = after_register e p k wanted w
 row_got e p k (LoadShape x) w = after_shape e p k x (shape_in w)
-row_got e p k (LoadValue way) w = on_way e p k way w
-row_got e p k (LoadExpected way) w = LoadValue (way_with way w)
 row_got e p k (LoadLink way word) w = on_way e p k (way_on way (target w)) word
 row_got e p k (LoadField way) w = after_field w (payload_in w)
-row_got e p k (LoadOwner word) w = before_store p (Pending word (object_in w))
-row_got e p k (StorePending word value) w = Answered (replies.Val value)
-row_got e p k (StoreField way word) w = Answered replies.Stored
-row_got e p k (ExchangeField way word) w = after_field w (payload_in w)
-row_got e p k (CompareField way word) w =
-    Answered (if w == way.expected then replies.Yes else replies.No)
+row_got e p k (LoadOwner word) w = after_owner p k word (object_in w)
 row_got e p k (Shade r store) w =
     in_barrier (marking.row_got (payloads e.width) p.threads p.cycle r w) store
-row_got e p k LoadFirst w = LoadSecond w
-row_got e p k (LoadSecond word) w = Answered (if word == w then replies.Yes else replies.No)
-row_got e p k LoadSaid w = after_said w (payload_in w)
-row_got e p k (LoadSaidOwner word) w = Answered (replies.Val (object_in w))
+row_got e p k (Store store) w = after_store store w
+row_got e p k StoreConstant w = Answered replies.Stored
 row_got e p k IdleLook w = Answered replies.Idle
 row_got e p k (Answered reply) w = Answered reply
 
@@ -257,11 +273,7 @@ reads_beside_graph _ = false
 
 -- the word that a row stores of those that it has loaded; 0, which is nil, where it stores none
 abbrev pub word_stored : FieldRow → ℕ
-word_stored (StoreMoved word) = word
-word_stored (StorePending word value) = word
-word_stored (StoreField way word) = word
-word_stored (ExchangeField way word) = word
-word_stored (CompareField way word) = word
+word_stored (Store store) = stored_word store
 word_stored _ = 0
 
 -- the reply, once the part is over
@@ -280,9 +292,8 @@ field_step e s w = step_of (field_reply (field_got e s w).row)
 -- the rows behind the deciding event
 abbrev pub field_decided : FieldRow → Bool
 field_decided (LoadOwner word) = true
-field_decided (StorePending word value) = true
-field_decided (Shade r (Pending word value)) = true
-field_decided (LoadSaidOwner word) = true
+field_decided (Shade r store) = is_taken store
+field_decided (Store store) = is_taken store
 field_decided (Answered reply) = true
 field_decided _ = false
 
@@ -292,12 +303,8 @@ abbrev pub held_before_store : Pass → ℕ → Holding
 held_before_store p word = record holds_nothing { shaded = shaded_for p word }
 
 abbrev pub row_holding : ℕ → Pass → FieldRow → Holding
-row_holding width p (StoreMoved word) = held_before_store p word
-row_holding width p (StorePending word value) = held_before_store p word
-row_holding width p (StoreField way word) = held_before_store p word
-row_holding width p (ExchangeField way word) = held_before_store p word
-row_holding width p (CompareField way word) = held_before_store p word
 row_holding width p (Shade r store) = grey_holding width r
+row_holding width p (Store store) = held_before_store p (stored_word store)
 row_holding width p _ = holds_nothing
 
 abbrev pub field_holding : Extent → FieldState → Holding

@@ -4,6 +4,7 @@ ghost use Rattle.std.specs.Prelude.{◌≡◌, ◌<◌, ◌||◌, ℕ, ◌≤◌
 ghost use Rattle.block_store.specs.declared.Config.{Config};
 ghost use Rattle.block_store.specs.declared.Name.{Name};
 ghost use Rattle.block_store.specs.declared.Shape.{Shape};
+ghost use Rattle.block_store.specs.declared.Width.{Width};
 ghost use Rattle.block_store.specs.Heaps.{Heap};
 ghost use Rattle.block_store.specs.Places.{extent, in_range};
 ghost use Rattle.object_lists.specs.Layouts.{IsWay};
@@ -12,7 +13,7 @@ ghost use Rattle.never_heap.specs.declared.Reply.{Reply};
 ghost use Rattle.never_heap.specs.declared.Reply.TheVariants as replies;
 ghost use Rattle.never_heap.specs.Graphs.{Graph};
 ghost use Rattle.never_heap.specs.Bounds.{IsCommandInRange};
-ghost use Rattle.never_heap.specs.Steps.{makes_object};
+ghost use Rattle.never_heap.specs.Steps.{blocks_of};
 ghost use Rattle.shown_graph.specs.Layouts.{shape_part};
 ghost use Rattle.shown_graph.specs.Words.{block_words};
 ghost use Rattle.shown_graph.specs.Shown.{heads, named, IsSized};
@@ -53,7 +54,8 @@ pub fn rows_stay_in_the_heap()
 /// A part is decided exactly behind its deciding event, of which there is one at most, and it has a
 /// reply only behind it. That never says that an object was made.
 pub fn rows_decide_once()
-    ensures first { (k : Command) → makes_object k ≡ false → field_decided (first_row k) ≡ false }
+    ensures first { (w : Width) (k : Command) → blocks_of w k ≡ 0
+        → field_decided (first_row k) ≡ false }
     ensures after { (c : Config) (f : FieldState) (w : ℕ)
         → field_decided (field_got (extent c) f w).row
         ≡ (field_decided f.row || is_deciding f.command f.row w) }

@@ -1,12 +1,12 @@
 //! What a command names.
 
-ghost use Rattle.std.specs.Prelude.{◌≡◌, ◌<◌, ◌^◌};
+ghost use Rattle.std.specs.Prelude.{◌≡◌, ◌<◌};
 ghost use Rattle.block_store.specs.Shapes.{IsShape};
 ghost use Rattle.never_heap.specs.Bounds.{IsCommandInRange};
 ghost use Rattle.barrier_steps.specs.Operands;
 ghost use Rattle.barrier_steps.specs.Walks.{shape_length};
 
-use block_store::Shape;
+use block_store::{Payload, Shape, payload_word};
 use never_heap::Command;
 
 // The register that becomes something.
@@ -18,10 +18,10 @@ pub(crate) fn to_register(command: Command) -> u8
     use Command::*;
 
     match command {
-        Set { d, .. } | Nil { d } | Mov { d, .. } | Get { d, .. } => d,
+        New { d, .. } | Arr { d, .. } | Set { d, .. } | Nil { d } => d,
+        Mov { d, .. } | Get { d, .. } => d,
         Swap { v, .. } => v,
-        New { .. } | Arr { .. } | Put { .. } | Len { .. } | Same { .. } | Say { .. } => 0,
-        Cas { .. } | Idle { .. } => 0,
+        Put { .. } | Len { .. } | Same { .. } | Say { .. } | Cas { .. } | Idle { .. } => 0,
     }
 }
 
@@ -41,7 +41,7 @@ pub(crate) fn from_register(command: Command) -> u8
     }
 }
 
-// The other register that is read.
+// The other register that is read, which is the last.
 pub(crate) fn other_register(command: Command) -> u8
     requires { IsCommandInRange command }
     ensures is { result ≡ Operands.other_register command }
@@ -52,36 +52,36 @@ pub(crate) fn other_register(command: Command) -> u8
     match command {
         Put { v, .. } | Swap { v, .. } | Cas { v, .. } => v,
         Same { b, .. } => b,
-        New { .. } | Arr { .. } | Set { .. } | Nil { .. } => 0,
-        Mov { .. } | Get { .. } | Len { .. } | Say { .. } | Idle { .. } => 0,
+        Mov { s, .. } | Get { s, .. } | Len { s } | Say { s } => s,
+        New { .. } | Arr { .. } | Set { .. } | Nil { .. } | Idle { .. } => 0,
     }
 }
 
-// The register with whose value a field is compared.
+// The register with whose value a field is compared, which is the second that is read.
 pub(crate) fn expected_register(command: Command) -> u8
     requires { IsCommandInRange command }
     ensures is { result ≡ Operands.expected_register command }
     ensures low { result < 16 }
 {
-    match command {
-        Command::Cas { a, .. } => a,
-        _ => 0,
-    }
-}
-
-// The number that a register becomes.
-pub(crate) fn number_set(command: Command) -> u64
-    requires { IsCommandInRange command }
-    ensures is { result ≡ Operands.number_set command }
-    ensures low { result < 2 ^ 62 }
-{
     use Command::*;
 
     match command {
-        Set { value, .. } => value,
-        New { .. } | Arr { .. } | Nil { .. } | Mov { .. } | Get { .. } => 0,
-        Put { .. } | Len { .. } | Same { .. } | Say { .. } => 0,
-        Swap { .. } | Cas { .. } | Idle { .. } => 0,
+        Put { v, .. } | Swap { v, .. } => v,
+        Same { b, .. } => b,
+        Cas { a, .. } => a,
+        New { .. } | Arr { .. } | Set { .. } | Nil { .. } | Mov { .. } => 0,
+        Get { .. } | Len { .. } | Say { .. } | Idle { .. } => 0,
+    }
+}
+
+// The word of the number that a register becomes, or of nil.
+pub(crate) fn constant_word(command: Command) -> u64
+    requires { IsCommandInRange command }
+    ensures { result ≡ Operands.constant_word command }
+{
+    match command {
+        Command::Set { value, .. } => payload_word(Payload::Int(value)),
+        _ => payload_word(Payload::Nil),
     }
 }
 

@@ -9,7 +9,6 @@ ghost use Rattle.block_store.specs.declared.TheConstants.{REGISTERS};
 ghost use Rattle.block_store.specs.Registers.{register_block, register_slot};
 ghost use Rattle.block_store.specs.Shapes.{IsShape, shape_of};
 ghost use Rattle.never_heap.specs.Bounds.{IsCommandInRange};
-ghost use Rattle.never_heap.specs.Steps.{makes_object};
 ghost use Rattle.heap_machine.specs.Memories.{ReadsOnly, ActsOnce};
 ghost use Rattle.heap_machine.specs.Operations.{op_at, Load, Exchange};
 ghost use Rattle.grey_steps.specs.Fits.{GreyFits, GreyReads};
@@ -19,16 +18,15 @@ ghost use Rattle.barrier_steps.specs.Walks;
 ghost use Rattle.barrier_steps.specs.Walks.{shape_length, links_to};
 ghost use Rattle.barrier_steps.specs.Rows;
 ghost use Rattle.barrier_steps.specs.Rows.{at_first_row, register_place, field_want, field_got, field_step, field_decided, field_reply};
-ghost use Rattle.barrier_steps.specs.Fits.{IsThread, IsWalk, FitsAt, ReadsAt, FieldFits, FieldReads};
+ghost use Rattle.barrier_steps.specs.Fits.{IsThread, IsWalk, StoreFits, WantedFits, FitsAt, ReadsAt, FieldFits, FieldReads};
 
 use crate::operands::{
-    expected_register, field_index, from_register, number_set, other_register, to_register,
+    constant_word, expected_register, field_index, from_register, other_register, to_register,
 };
 use crate::walks::{field_at, length_of, link_at, links_to};
-use crate::{FieldRow, FieldStore, Way};
+use crate::{FieldRow, FieldStore, Wanted, Way};
 use block_store::{
-    Name, Payload, PhaseWord, Places, Shape, Value, Width, payload_word, read_payload, read_shape,
-    read_wide,
+    Name, Payload, PhaseWord, Places, Shape, Value, Width, read_payload, read_shape, read_wide,
 };
 use grey_steps::{GreyPass, GreyRow};
 use heap_machine::{Memory, Op, Pass, Step};
@@ -106,26 +104,30 @@ fn register(places: &Places, thread: u32, r: u8) -> usize
 fn word_of(store: FieldStore) -> u64
     ensures { result ≡ Rows.stored_word store }
 {
+    use FieldStore::*;
+
     match store {
-        FieldStore::Moved { word } => word,
-        FieldStore::Pending { word, .. } => word,
-        FieldStore::InField { word, .. } => word,
-        FieldStore::Exchanged { word, .. } => word,
-        FieldStore::Compared { word, .. } => word,
+        Moved { word } | Pending { word, .. } => word,
+        InField { word, .. } | Exchanged { word, .. } | Compared { word, .. } => word,
+    }
+}
+
+// Whether the value was taken before.
+fn is_taken(store: FieldStore) -> bool
+    ensures { result ≡ Rows.is_taken store }
+{
+    match store {
+        FieldStore::Pending { .. } => true,
+        _ => false,
     }
 }
 
 // The row that stores it.
-fn store_row(store: FieldStore) -> FieldRow
-    ensures { result ≡ Rows.store_row store }
+#[inline(always)]
+fn storing(store: FieldStore) -> FieldRow
+    ensures { result ≡ FieldRow.Store store }
 {
-    match store {
-        FieldStore::Moved { word } => FieldRow::StoreMoved { word },
-        FieldStore::Pending { word, value } => FieldRow::StorePending { word, value },
-        FieldStore::InField { way, word } => FieldRow::StoreField { way, word },
-        FieldStore::Exchanged { way, word } => FieldRow::ExchangeField { way, word },
-        FieldStore::Compared { way, word } => FieldRow::CompareField { way, word },
-    }
+    FieldRow::Store { store }
 }
 
 // The block that is shaded before this word is stored, or 0.
@@ -143,7 +145,7 @@ fn before_store(pass: Pass, store: FieldStore) -> FieldRow
 {
     let block = shaded_for(pass, word_of(store));
     if block == 0 {
-        store_row(store)
+        storing(store)
     } else {
         FieldRow::Shade {
             shade: GreyRow::TakeOwn { target: block },
@@ -163,7 +165,7 @@ fn in_barrier(places: &Places, pass: Pass, row: GreyRow, store: FieldStore, read
     let mut part = GreyPass::at_row(pass, row);
     part.got(places, read);
     if part.over() {
-        store_row(store)
+        storing(store)
     } else {
         FieldRow::Shade {
             shade: part.row(),
@@ -174,19 +176,40 @@ fn in_barrier(places: &Places, pass: Pass, row: GreyRow, store: FieldStore, read
 
 // The first row of a command.
 fn first_row(command: Command) -> FieldRow
-    requires { makes_object command ≡ false }
+    requires { field_decided (Rows.first_row command) ≡ false }
     ensures { result ≡ Rows.first_row command }
 {
     match command {
         Command::New { .. } | Command::Arr { .. } => unreachable!(),
-        Command::Set { .. } => FieldRow::StoreNumber,
-        Command::Nil { .. } => FieldRow::StoreNil,
-        Command::Mov { .. } => FieldRow::LoadMoved,
-        Command::Get { .. } | Command::Put { .. } | Command::Len { .. } => FieldRow::LoadObject,
-        Command::Swap { .. } | Command::Cas { .. } => FieldRow::LoadObject,
+        Command::Set { .. } | Command::Nil { .. } => FieldRow::StoreConstant,
+        Command::Mov { .. } => loading(Wanted::Copied),
+        Command::Get { .. } | Command::Put { .. } | Command::Len { .. } => loading(Wanted::Object),
+        Command::Swap { .. } | Command::Cas { .. } => loading(Wanted::Object),
         Command::Idle { .. } => FieldRow::IdleLook,
-        Command::Same { .. } => FieldRow::LoadFirst,
-        Command::Say { .. } => FieldRow::LoadSaid,
+        Command::Same { .. } => loading(Wanted::First),
+        Command::Say { .. } => loading(Wanted::Shown),
+    }
+}
+
+// The load of a register.
+#[inline(always)]
+fn loading(wanted: Wanted) -> FieldRow
+    ensures { result ≡ FieldRow.LoadRegister wanted }
+{
+    FieldRow::LoadRegister { wanted }
+}
+
+// Which register it is.
+#[inline(always)]
+fn register_wanted(command: Command, wanted: Wanted) -> u8
+    requires { IsCommandInRange command }
+    ensures is { result ≡ Rows.register_wanted command wanted }
+    ensures low { result < 16 }
+{
+    match wanted {
+        Wanted::Expected { .. } => expected_register(command),
+        Wanted::Stored { .. } | Wanted::Second { .. } => other_register(command),
+        Wanted::Copied | Wanted::Object | Wanted::First | Wanted::Shown => from_register(command),
     }
 }
 
@@ -264,8 +287,8 @@ fn after_shape(places: &Places, pass: Pass, command: Command, block: u32, shape:
     let way = way_from(shape, block);
     match command {
         Get { i, .. } if i < length => on_way(places, pass, command, way, 0),
-        Put { i, .. } | Swap { i, .. } if i < length => FieldRow::LoadValue { way },
-        Cas { i, .. } if i < length => FieldRow::LoadExpected { way },
+        Put { i, .. } | Swap { i, .. } if i < length => loading(Wanted::Stored { way }),
+        Cas { i, .. } if i < length => loading(Wanted::Expected { way }),
         Get { .. } | Put { .. } | Swap { .. } | Cas { .. } => answered(Reply::Range),
         New { .. } | Arr { .. } | Set { .. } | Nil { .. } => answered(Reply::Len(length)),
         Mov { .. } | Len { .. } | Same { .. } | Say { .. } | Idle { .. } => {
@@ -300,9 +323,9 @@ fn after_link(
 
 // The store of a field's word, once its value is known.
 fn store_pending(word: u64, value: Value) -> FieldRow
-    ensures { result ≡ FieldRow.StorePending word value }
+    ensures { result ≡ FieldRow.Store (FieldStore.Pending word value) }
 {
-    FieldRow::StorePending { word, value }
+    storing(FieldStore::Pending { word, value })
 }
 
 // After the field that `get` loads.
@@ -323,7 +346,7 @@ fn after_said(word: u64, payload: Payload) -> FieldRow
     match payload {
         Payload::Nil => answered(Reply::Val(Value::Nil)),
         Payload::Int(number) => answered(Reply::Val(Value::Int(number))),
-        Payload::Block(_) => FieldRow::LoadSaidOwner { word },
+        Payload::Block(_) => FieldRow::LoadOwner { word },
     }
 }
 
@@ -335,6 +358,31 @@ fn after_both(first: u64, second: u64) -> FieldRow
         answered(Reply::Yes)
     } else {
         answered(Reply::No)
+    }
+}
+
+// After the owner of the block to which the word refers.
+fn after_owner(pass: Pass, command: Command, word: u64, value: Value) -> FieldRow
+    requires { IsSome (payload_of word) }
+    ensures { result ≡ Rows.after_owner pass command word value }
+{
+    match command {
+        Command::Say { .. } => answered(Reply::Val(value)),
+        _ => before_store(pass, FieldStore::Pending { word, value }),
+    }
+}
+
+// After a store in whose place this word stood.
+#[inline(always)]
+fn after_store(store: FieldStore, read: u64) -> FieldRow
+    requires { IsSome (payload_of read) }
+    ensures { result ≡ Rows.after_store store read }
+{
+    match store {
+        FieldStore::Moved { .. } | FieldStore::InField { .. } => answered(Reply::Stored),
+        FieldStore::Pending { value, .. } => answered(Reply::Val(value)),
+        FieldStore::Exchanged { .. } => after_field(read, payload_in(read)),
+        FieldStore::Compared { way, .. } => after_both(read, way.expected),
     }
 }
 
@@ -381,7 +429,7 @@ impl FieldPass {
     pub fn new(thread: u32, threads: u32, phase: PhaseWord, command: Command) -> FieldPass
         requires thread { (thread < threads) × (threads ≤ 16) }
         requires range { IsCommandInRange command }
-        requires allocates { makes_object command ≡ false }
+        requires allocates { field_decided (Rows.first_row command) ≡ false }
         ensures { result
             ≡ at_first_row
             (record {
@@ -405,7 +453,7 @@ impl FieldPass {
     pub fn new_in(pass: Pass, command: Command) -> FieldPass
         requires thread { (pass.thread < pass.threads) × (pass.threads ≤ 16) }
         requires range { IsCommandInRange command }
-        requires allocates { makes_object command ≡ false }
+        requires allocates { field_decided (Rows.first_row command) ≡ false }
         ensures { result ≡ at_first_row pass command }
     {
         FieldPass {
@@ -437,26 +485,38 @@ impl FieldPass {
 
         let command = self.command;
         match row {
-            StoreNumber => self.store(places, payload_word(Payload::Int(number_set(command)))),
-            StoreNil => self.store(places, payload_word(Payload::Nil)),
-            StoreMoved { word } | StorePending { word, .. } => self.store(places, word),
-            LoadMoved | LoadObject | LoadFirst | LoadSaid => {
-                self.load(places, from_register(command))
-            }
-            LoadValue { .. } | LoadSecond { .. } => self.load(places, other_register(command)),
-            LoadExpected { .. } => self.load(places, expected_register(command)),
+            LoadRegister { wanted } => self.load(places, register_wanted(command, wanted)),
             LoadShape { block } => Op::load(places.shape(block)),
             LoadLink { way, .. } => Op::load(link(places, command, way)),
             LoadField { way } => Op::load(field(places, command, way)),
-            StoreField { way, word } | ExchangeField { way, word } => {
-                Op::exchange(field(places, command, way), word)
-            }
-            CompareField { way, word } => {
-                Op::compare_exchange(field(places, command, way), way.expected, word)
-            }
+            LoadOwner { word } => Op::load(places.owner(target(word))),
             Shade { shade, .. } => GreyPass::at_row(self.pass, shade).want(places),
-            LoadOwner { word } | LoadSaidOwner { word } => Op::load(places.owner(target(word))),
+            Store { store } => self.stores(places, store),
+            StoreConstant => self.store(places, constant_word(command)),
             IdleLook | Answered { .. } => Op::load(places.phase()),
+        }
+    }
+
+    // The store of a word that was loaded.
+    #[inline(always)]
+    fn stores(&self, places: &Places, store: FieldStore) -> Op
+        requires thread { IsThread places.now self.now.pass.thread }
+        requires command { IsCommandInRange self.now.command }
+        requires fits { StoreFits places.now self.now.command store }
+        ensures { result
+            ≡ op_at (extent places.now) (Rows.store_want (extent places.now)
+            self.now.pass.thread self.now.command store) }
+    {
+        use FieldStore::*;
+
+        match store {
+            Moved { word } | Pending { word, .. } => self.store(places, word),
+            InField { way, word } | Exchanged { way, word } => {
+                Op::exchange(field(places, self.command, way), word)
+            }
+            Compared { way, word } => {
+                Op::compare_exchange(field(places, self.command, way), way.expected, word)
+            }
         }
     }
 
@@ -510,34 +570,42 @@ impl FieldPass {
 
         let (pass, command) = (self.pass, self.command);
         match row {
-            StoreNumber | StoreNil | StoreMoved { .. } | StoreField { .. } => {
-                answered(Reply::Stored)
-            }
-            LoadMoved => before_store(pass, FieldStore::Moved { word: read }),
-            LoadObject => after_object(payload_in(read)),
+            LoadRegister { wanted } => self.after_register(places, wanted, read),
             LoadShape { block } => after_shape(places, pass, command, block, shape_in(read)),
-            LoadValue { way } => on_way(places, pass, command, way, read),
-            LoadExpected { way } => LoadValue {
+            LoadLink { way, word } => after_link(places, pass, command, way, word, target(read)),
+            LoadField { .. } => after_field(read, payload_in(read)),
+            LoadOwner { word } => after_owner(pass, command, word, object_in(read)),
+            Shade { shade, store } => in_barrier(places, pass, shade, store, read),
+            Store { store } => after_store(store, read),
+            StoreConstant => answered(Reply::Stored),
+            IdleLook => answered(Reply::Idle),
+            Answered { reply } => answered(reply),
+        }
+    }
+
+    // After a register in which this word stands.
+    #[inline(always)]
+    fn after_register(&self, places: &Places, wanted: Wanted, read: u64) -> FieldRow
+        requires word { IsSome (payload_of read) }
+        requires fits { WantedFits places.now self.now.command wanted }
+        ensures { result
+            ≡ Rows.after_register (extent places.now) self.now.pass self.now.command wanted read }
+    {
+        use Wanted::*;
+
+        match wanted {
+            Copied => before_store(self.pass, FieldStore::Moved { word: read }),
+            Object => after_object(payload_in(read)),
+            Expected { way } => loading(Stored {
                 way: Way {
                     expected: read,
                     ..way
                 },
-            },
-            LoadLink { way, word } => after_link(places, pass, command, way, word, target(read)),
-            LoadField { .. } | ExchangeField { .. } => after_field(read, payload_in(read)),
-            CompareField { way, .. } => after_both(read, way.expected),
-            LoadOwner { word } => {
-                let value = object_in(read);
-                before_store(pass, FieldStore::Pending { word, value })
-            }
-            StorePending { value, .. } => answered(Reply::Val(value)),
-            Shade { shade, store } => in_barrier(places, pass, shade, store, read),
-            LoadFirst => LoadSecond { word: read },
-            LoadSecond { word } => after_both(word, read),
-            LoadSaid => after_said(read, payload_in(read)),
-            LoadSaidOwner { .. } => answered(Reply::Val(object_in(read))),
-            IdleLook => answered(Reply::Idle),
-            Answered { reply } => answered(reply),
+            }),
+            Stored { way } => on_way(places, self.pass, self.command, way, read),
+            First => loading(Second { word: read }),
+            Second { word } => after_both(word, read),
+            Shown => after_said(read, payload_in(read)),
         }
     }
 
@@ -557,34 +625,41 @@ impl FieldPass {
         ensures fits { FieldFits places.now self.new }
     {
         use FieldRow::*;
+        use FieldStore::*;
+        use Wanted::*;
 
         // The row is made anew in each arm, so that the compiler leads each on its own way.
         match self.row {
-            StoreNumber => self.makes(StoreNumber, places, memory, shared),
-            StoreNil => self.makes(StoreNil, places, memory, shared),
-            LoadObject => self.makes(LoadObject, places, memory, shared),
+            LoadRegister { wanted: Object } => self.makes(loading(Object), places, memory, shared),
+            LoadRegister {
+                wanted: Stored { way },
+            } => self.makes(loading(Stored { way }), places, memory, shared),
+            LoadRegister { wanted: Copied } => self.makes(loading(Copied), places, memory, shared),
+            LoadRegister { wanted: First } => self.makes(loading(First), places, memory, shared),
+            LoadRegister {
+                wanted: Second { word },
+            } => self.makes(loading(Second { word }), places, memory, shared),
             LoadShape { block } => self.makes(LoadShape { block }, places, memory, shared),
-            LoadValue { way } => self.makes(LoadValue { way }, places, memory, shared),
             LoadLink { way, word } => self.makes(LoadLink { way, word }, places, memory, shared),
             LoadField { way } => self.makes(LoadField { way }, places, memory, shared),
-            StoreField { way, word } => {
-                self.makes(StoreField { way, word }, places, memory, shared)
-            }
-            StorePending { word, value } => {
-                self.makes(StorePending { word, value }, places, memory, shared)
-            }
-            ExchangeField { way, word } => {
-                self.makes(ExchangeField { way, word }, places, memory, shared)
-            }
-            CompareField { way, word } => {
-                self.makes(CompareField { way, word }, places, memory, shared)
-            }
             LoadOwner { word } => self.makes(LoadOwner { word }, places, memory, shared),
-            LoadMoved => self.makes(LoadMoved, places, memory, shared),
-            StoreMoved { word } => self.makes(StoreMoved { word }, places, memory, shared),
             Shade { shade, store } => self.makes(Shade { shade, store }, places, memory, shared),
-            LoadFirst => self.makes(LoadFirst, places, memory, shared),
-            LoadSecond { word } => self.makes(LoadSecond { word }, places, memory, shared),
+            Store {
+                store: InField { way, word },
+            } => self.makes(storing(InField { way, word }), places, memory, shared),
+            Store {
+                store: Pending { word, value },
+            } => self.makes(storing(Pending { word, value }), places, memory, shared),
+            Store {
+                store: Exchanged { way, word },
+            } => self.makes(storing(Exchanged { way, word }), places, memory, shared),
+            Store {
+                store: Compared { way, word },
+            } => self.makes(storing(Compared { way, word }), places, memory, shared),
+            Store {
+                store: Moved { word },
+            } => self.makes(storing(Moved { word }), places, memory, shared),
+            StoreConstant => self.makes(StoreConstant, places, memory, shared),
             row => self.makes(row, places, memory, shared),
         }
     }
@@ -623,14 +698,8 @@ impl FieldPass {
         ensures { result ≡ field_decided self.now.row }
     {
         match self.row {
-            FieldRow::LoadOwner { .. }
-            | FieldRow::StorePending { .. }
-            | FieldRow::Shade {
-                store: FieldStore::Pending { .. },
-                ..
-            }
-            | FieldRow::LoadSaidOwner { .. }
-            | FieldRow::Answered { .. } => true,
+            FieldRow::LoadOwner { .. } | FieldRow::Answered { .. } => true,
+            FieldRow::Shade { store, .. } | FieldRow::Store { store } => is_taken(store),
             _ => false,
         }
     }

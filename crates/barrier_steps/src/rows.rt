@@ -32,52 +32,48 @@ pub enum FieldStore {
     Compared { way: Way, word: u64 },
 }
 
+/// What a command loads a register for: which one that is, the command says.
+#[derive(Clone, Copy, Debug, PartialEq, Eq)]
+pub enum Wanted {
+    /// `mov`: for the word that it copies.
+    Copied,
+    /// All that look at an object: for the object to which it should refer.
+    Object,
+    /// `cas`: for the word with which the field is compared.
+    Expected { way: Way },
+    /// `put`, `swap` and `cas`: for the word that they store.
+    Stored { way: Way },
+    /// `same`: for the first word.
+    First,
+    /// `same`: for the second word, to be compared with the first.
+    Second { word: u64 },
+    /// `say`: for the value that it shows.
+    Shown,
+}
+
 /// The next event of a command that allocates nothing, or its reply. A row has what was loaded for
 /// the command and is still needed: blocks, the object's shape, words of values.
 #[derive(Clone, Copy, Debug, PartialEq, Eq)]
 pub enum FieldRow {
-    /// `set`: stores the number in its register.
-    StoreNumber,
-    /// `nil`: stores nil in its register.
-    StoreNil,
-    /// `mov`: loads the register that it copies.
-    LoadMoved,
-    /// `mov`: stores the word of that register in the other one.
-    StoreMoved { word: u64 },
-    /// All that look at an object: loads the register that should refer to it.
-    LoadObject,
+    /// Loads a register.
+    LoadRegister { wanted: Wanted },
     /// All that look at an object: loads its shape, at its first block.
     LoadShape { block: u32 },
-    /// `cas`: loads the register with whose word the field is compared.
-    LoadExpected { way: Way },
-    /// `put`, `swap` and `cas`: loads the register whose word they store.
-    LoadValue { way: Way },
     /// All that go to a field: loads the next link on the way to it. Of `get` the word is 0, and of
     /// the others the one that they store.
     LoadLink { way: Way, word: u64 },
     /// `get`: loads the field.
     LoadField { way: Way },
-    /// `get` and `swap`: loads the owner of the block to which the field's word refers.
+    /// `get`, `swap` and `say`: loads the owner of the block to which the word refers that they
+    /// have loaded.
     LoadOwner { word: u64 },
-    /// `get` and `swap`: stores the field's word, which shows this value, in its register.
-    StorePending { word: u64, value: Value },
-    /// `put`: stores the word in the field.
-    StoreField { way: Way, word: u64 },
-    /// `swap`: exchanges the field with the word.
-    ExchangeField { way: Way, word: u64 },
-    /// `cas`: compares the field, and stores the word in it where it has the expected one.
-    CompareField { way: Way, word: u64 },
     /// All that store a reference, in Mark: the write barrier of its block has come to this row of
     /// its own.
     Shade { shade: GreyRow, store: FieldStore },
-    /// `same`: loads the first register.
-    LoadFirst,
-    /// `same`: loads the second register, to be compared with the word of the first.
-    LoadSecond { word: u64 },
-    /// `say`: loads the register.
-    LoadSaid,
-    /// `say`: loads the owner of the block to which the word of the register refers.
-    LoadSaidOwner { word: u64 },
+    /// Stores a word that was loaded.
+    Store { store: FieldStore },
+    /// `set` and `nil`: stores the number, or nil, in the register.
+    StoreConstant,
     /// `idle`: looks at the phase.
     IdleLook,
     /// The command is over, with this reply.

@@ -48,6 +48,7 @@ use Rattle.build_steps.specs.Naming.{
 use Rattle.build_steps.specs.Rows.{BuildState, build_over, row_holding, build_holding}
 use Rattle.build_steps.specs.Standing.{IsWhole, IsBegun, Stands, left_of, begun_of}
 use Rattle.build_steps.proofs.Once.{row_holds}
+use Rattle.build_steps.proofs.Parts.{has_blocks}
 use Rattle.build_steps.proofs.Shapes.{made_blocks, payload_made, shape_made}
 
 over_row : (W : Width) (s : BuildState) (r : BuildRow) → build_over r ≡ true
@@ -75,7 +76,7 @@ holds_build c s f = holds_row c s s.row f.row
 -- the object takes the state's blocks
 pub sized : (c : Config) (s : BuildState) → BuildFits c s → (left step : ℕ)
     → build_blocks c.width (built_object s left step) ≡ s.blocks
-sized c s f left step = made_blocks c.width s.command f.makes ∙ sym f.size
+sized c s f left step = made_blocks c.width s.command (has_blocks c s f) ∙ sym f.size
 
 module _ (c : Config) (h : Heap) (s : BuildState) (f : BuildFits c s) where
   abbrev IsBuildOf : Build → Type 0
@@ -106,18 +107,18 @@ module _ (c : Config) (h : Heap) (s : BuildState) (f : BuildFits c s) where
             let w = k.written o from hi in
             record {
               owned = w.owned;
-              shaped = w.shaped ∙ shape_made s.command f.makes;
+              shaped = w.shaped ∙ shape_made c.width s.command (has_blocks c s f);
               links = λ j few. w.links j few
-                  ∙ payload_made c.width s.command s.held o j f.makes;
+                  ∙ payload_made c.width s.command s.held o j (has_blocks c s f);
               black = k.black o from hi;
             };
         begun = λ o last.
             let w = k.begun o last in
             record {
               owned = w.owned;
-              shaped = λ some. w.shaped some ∙ shape_made s.command f.makes;
+              shaped = λ some. w.shaped some ∙ shape_made c.width s.command (has_blocks c s f);
               links = λ j few some. w.links j few some
-                  ∙ payload_made c.width s.command s.held o j f.makes;
+                  ∙ payload_made c.width s.command s.held o j (has_blocks c s f);
             };
       }
 

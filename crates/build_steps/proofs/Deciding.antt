@@ -1,6 +1,6 @@
 -- The event that decides a command which makes an object keeps the rules of kept names: it is
 -- answered full, or the object is published.
-use Rattle.std.proofs.Common.{◌≡◌, ℕ, ◌<◌, ◌&&◌, true, false, Option, Some, None, refl, subst, sym, ap, ◌∙◌, inr, ltb, List, [], ◌∷◌, ◌++◌}
+use Rattle.std.proofs.Common.{◌≡◌, ℕ, ◌<◌, ◌≤◌, ◌&&◌, true, false, Option, Some, None, refl, subst, sym, ap, ◌∙◌, inr, ltb, List, [], ◌∷◌, ◌++◌}
 use Rattle.block_store.specs.declared.Config.{Config}
 use Rattle.block_store.specs.declared.Width.{Width}
 use Rattle.block_store.specs.Configs.{IsInBounds}
@@ -10,7 +10,8 @@ use Rattle.never_heap.specs.declared.Reply.{Reply}
 use Rattle.never_heap.specs.declared.Reply.TheVariants as answers
 use Rattle.never_heap.specs.Graphs.{Graph, next_name}
 use Rattle.never_heap.specs.Histories.{HistoryItem, Did}
-use Rattle.never_heap.specs.Steps.{step}
+use Rattle.never_heap.specs.Steps.{blocks_of, step}
+use Rattle.never_heap.proofs.Answering.{blocks_answer, blocks_make}
 use Rattle.kept_names.specs.Kept.{IsKept}
 use Rattle.kept_names.specs.Pictures.{Names, Task, picture}
 use Rattle.heap_machine.specs.Holdings.{Holding}
@@ -43,7 +44,8 @@ use Rattle.build_steps.specs.Rows.{
 }
 use Rattle.build_steps.proofs.Building.{sized, thread_low}
 use Rattle.build_steps.proofs.Pictures.{answered, pictured_self, publishes}
-use Rattle.build_steps.proofs.Shapes.{command_made, graph_made, reply_made}
+use Rattle.build_steps.proofs.Parts.{has_blocks}
+use Rattle.build_steps.proofs.Shapes.{command_made, graph_made}
 use Rattle.build_steps.proofs.Wanted.{register_in_range}
 
 module _ (c : Config) (g : Graph) (order : List HistoryItem) (h : Heap) (names : Names)
@@ -55,8 +57,11 @@ module _ (c : Config) (g : Graph) (order : List HistoryItem) (h : Heap) (names :
   low : s.thread < c.threads
   low = thread_low c s p.fits
 
+  some : 1 ≤ blocks_of W s.command
+  some = has_blocks c s p.fits
+
   new_reply : (step g s.thread s.command).1 ≡ answers.New (next_name g s.thread)
-  new_reply = reply_made g s.thread s.command p.fits.makes
+  new_reply = blocks_answer W g s.thread s.command some
 
   -- the reply after the event of row r, which read v
   abbrev answer : BuildRow → ℕ → Option Reply
@@ -92,7 +97,7 @@ module _ (c : Config) (g : Graph) (order : List HistoryItem) (h : Heap) (names :
         subst (λ k. IsKept c k)
         (pictured_self g (order ++ Did entry ∷ []) h names tasks s.thread None build)
         (answered c inside g order h names tasks s.thread low p.kept entry low p.loading
-        (inr (refl, p.fits.makes)) refl)
+        (inr (refl, blocks_make W s.command some)) refl)
     full_row _ build e = absurd (let z : false ≡ true = e in cc)
 
     publish_row : (r : BuildRow) → RowFits c s.blocks s.held r
@@ -100,10 +105,10 @@ module _ (c : Config) (g : Graph) (order : List HistoryItem) (h : Heap) (names :
         → DecidedAt (step g s.thread s.command).0 (heap_after h (row_want W s r))
         (names_made names (next_name g s.thread) (built_at s)) (step g s.thread s.command).1
     publish_row Publish all build e =
-        subst (λ k. IsKept c k) (λ i. picture (graph_made g s.thread s.command p.fits.makes i)
+        subst (λ k. IsKept c k) (λ i. picture (graph_made W g s.thread s.command some i)
         (order ++ Did (record {
           thread = s.thread;
-          command = command_made s.command p.fits.makes i;
+          command = command_made W s.command some i;
           reply = sym new_reply i;
           work = work;
         }) ∷ [])

@@ -59,6 +59,7 @@ use Rattle.build_steps.proofs.Pictures.{
   writes_shape,
 }
 use Rattle.build_steps.proofs.Ranges.{at_last, at_more, length_more}
+use Rattle.build_steps.proofs.Parts.{has_blocks}
 use Rattle.build_steps.proofs.Shapes.{payload_made, shape_made}
 
 none_beyond : (xs : List ℕ) (o : ℕ) → length xs ≤ o → block_at xs o ≡ 0
@@ -277,7 +278,7 @@ module _ (c : Config) (inside : IsInBounds c) (g : Graph) (order : List HistoryI
         → KeptAt (heap_after h (row_want W s (WriteShape o))) (Some (built_object s (o + 1) 2))
     shape_row build =
         subst (λ v. KeptAt (put_at h (ShapeOf (built_at s o)) v) (Some (built_object s (o + 1) 2)))
-        (shape_made s.command p.fits.makes)
+        (shape_made W s.command (has_blocks c s p.fits))
         (writes_shape c inside g order h names tasks s.thread low p.kept
         (built_object s (o + 1) 1) build o (all ∙ sym (sized c s p.fits (o + 1) 1)) (omega arith)
         (held_once o 1 (omega arith) hold build) refl)
@@ -289,7 +290,7 @@ module _ (c : Config) (inside : IsInBounds c) (g : Graph) (order : List HistoryI
     payload_row j few build =
         subst (λ v. KeptAt (put_at h (PayloadOf (built_at s o) j) v)
         (Some (built_object s (o + 1) (j + 3))))
-        (payload_made W s.command s.held o j p.fits.makes)
+        (payload_made W s.command s.held o j (has_blocks c s p.fits))
         (writes_payload c inside g order h names tasks s.thread low p.kept
         (built_object s (o + 1) (j + 2)) build o (all ∙ sym (sized c s p.fits (o + 1) (j + 2)))
         (omega arith) (held_once o (j + 2) (omega arith) hold build) j few refl)

@@ -9,8 +9,6 @@ use Rattle.std.proofs.Common.{
   ◌*◌,
   ◌<◌,
   ◌≤◌,
-  true,
-  false,
   Option,
   Some,
   None,
@@ -24,6 +22,7 @@ use Rattle.std.proofs.Common.{
   inr,
 }
 use Rattle.std.proofs.lemmas.Bool.{cases_Bool}
+use Rattle.block_store.specs.declared.Config.{Config}
 use Rattle.block_store.specs.declared.Width.{Width}
 use Rattle.block_store.specs.Widths.{payloads}
 use Rattle.object_lists.specs.Parts.{Part, Link, Field, Blank, link_in, field_below}
@@ -36,8 +35,10 @@ use Rattle.array_trees.proofs.Arrays.{tree_layout}
 use Rattle.array_trees.proofs.Counts.{many}
 use Rattle.never_heap.specs.declared.Command.{Command}
 use Rattle.never_heap.specs.declared.Command.TheVariants.{New, Arr}
-use Rattle.never_heap.specs.Steps.{makes_object, blocks_of}
+use Rattle.never_heap.specs.Steps.{blocks_of}
+use Rattle.build_steps.specs.Fits.{BuildFits}
 use Rattle.build_steps.specs.Objects.{made_part}
+use Rattle.build_steps.specs.Rows.{BuildState}
 
 field_links : (i n : ℕ) → link_in (field_below i n) ≡ None
 field_links i n = elim (cases_Bool (ltb i n)) [ inl is ↦ rw is refl | inr is ↦ rw is refl ]
@@ -78,8 +79,6 @@ made_onward w k b o j None size e = tt
 made_onward w k b o j (Some p) size e =
     let on = links_onward w k o j p (sym e) in (on.0, omega (arith, on.1, size))
 
--- an object has a block
-pub some_blocks : (w : Width) (k : Command) → makes_object k ≡ true → 1 ≤ blocks_of w k
-some_blocks w (New d f) e = (record_layout w f).first
-some_blocks w (Arr d f) e = (array_layout w f).first
-some_blocks w _ e = absurd (let z : false ≡ true = e in cc)
+-- the command of a state that fits has blocks
+pub has_blocks : (c : Config) (s : BuildState) → BuildFits c s → 1 ≤ blocks_of c.width s.command
+has_blocks c s f = omega (arith, f.size, f.some)

@@ -7,7 +7,6 @@ use Rattle.std.proofs.Common.{
   ◌<◌,
   ◌≤◌,
   ◌+◌,
-  true,
   arith,
   refl,
   ap,
@@ -36,7 +35,7 @@ use Rattle.block_store.specs.Colours.{link}
 use Rattle.block_store.specs.Places.{extent, IsBlock}
 use Rattle.never_heap.specs.declared.Command.{Command}
 use Rattle.never_heap.specs.Bounds.{IsCommandInRange}
-use Rattle.never_heap.specs.Steps.{makes_object, blocks_of}
+use Rattle.never_heap.specs.Steps.{blocks_of}
 use Rattle.block_store.specs.Registers.{registers_end}
 use Rattle.heap_machine.specs.Operations.{place_of}
 use Rattle.heap_machine.specs.Readings.{CanHold}
@@ -67,14 +66,13 @@ use Rattle.build_steps.specs.Rows.{
   after_collect,
 }
 use Rattle.build_steps.specs.Fits.{RowFits, BuildFits, BuildReads}
-use Rattle.build_steps.proofs.Parts.{some_blocks}
 
 pub first_fits : (c : Config) (t cycle serial : ℕ) (k : Command) (capacity : ℕ) → t < c.threads
     → c.threads ≤ 16 → c.blocks ≤ 65535 → registers_end c.width (t + 1) ≤ c.blocks
-    → serial < 2 ^ 43 → IsCommandInRange k → makes_object k ≡ true
+    → serial < 2 ^ 43 → IsCommandInRange k → 1 ≤ blocks_of c.width k
     → blocks_of c.width k ≤ 1024 → blocks_of c.width k ≤ capacity
     → BuildFits c (building c.width t c.threads cycle serial k capacity)
-first_fits c t cycle serial k capacity low few blocks registers last range makes most space =
+first_fits c t cycle serial k capacity low few blocks registers last range some most space =
     record {
       threads = refl;
       few = few;
@@ -83,9 +81,8 @@ first_fits c t cycle serial k capacity low few blocks registers last range makes
       registers = registers;
       serial = last;
       range = range;
-      makes = makes;
       size = refl;
-      some = some_blocks c.width k makes;
+      some = some;
       most = most;
       space = space;
       held = λ o none. absurd (omega arith);
@@ -202,7 +199,6 @@ fits_next c s v f reads =
       registers = f.registers;
       serial = f.serial;
       range = f.range;
-      makes = f.makes;
       size = f.size;
       some = f.some;
       most = f.most;

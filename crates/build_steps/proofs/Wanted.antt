@@ -6,7 +6,6 @@ use Rattle.std.proofs.Common.{
   ◌≤◌,
   ◌+◌,
   true,
-  false,
   Option,
   Some,
   None,
@@ -44,7 +43,7 @@ use Rattle.object_lists.specs.Parts.{link_in}
 use Rattle.never_heap.specs.declared.Command.{Command}
 use Rattle.never_heap.specs.declared.Command.TheVariants.{New, Arr}
 use Rattle.never_heap.specs.Bounds.{IsCommandInRange}
-use Rattle.never_heap.specs.Steps.{makes_object}
+use Rattle.never_heap.specs.Steps.{blocks_of}
 use Rattle.heap_machine.specs.Operations.{place_of, Fits}
 use Rattle.heap_machine.specs.Readings.{CanHold, StoresHeld}
 use Rattle.build_steps.specs.declared.rows.BuildRow.{BuildRow}
@@ -65,7 +64,7 @@ use Rattle.build_steps.specs.declared.rows.BuildRow.TheVariants.{
 use Rattle.build_steps.specs.Objects.{made_register, made_shape, made_part, block_at, link_word}
 use Rattle.build_steps.specs.Rows.{BuildState, list_of, row_want, build_want}
 use Rattle.build_steps.specs.Fits.{RowFits, BuildFits}
-use Rattle.build_steps.proofs.Parts.{links_onward}
+use Rattle.build_steps.proofs.Parts.{has_blocks, links_onward}
 
 pub own_first : (t n : ℕ) → t < n → list_of t n 0 ≡ t
 unfolding list_of
@@ -106,11 +105,11 @@ link_held c held x j None few blocks =
 link_held c held x j (Some p) few blocks =
     reference_held c x j (block_at held p) few (blocks p refl)
 
-shape_held : (k : Command) → IsCommandInRange k → makes_object k ≡ true
+shape_held : (w : Width) (k : Command) → IsCommandInRange k → 1 ≤ blocks_of w k
     → IsSome (shape_of (made_shape k))
-shape_held (New d f) range makes = ap is_some (shape-code (shapes.List f) range.1)
-shape_held (Arr d e) range makes = ap is_some (shape-code (shapes.Tree e) range.1)
-shape_held _ range makes = absurd (let z : false ≡ true = makes in cc)
+shape_held w (New d f) range some = ap is_some (shape-code (shapes.List f) range.1)
+shape_held w (Arr d e) range some = ap is_some (shape-code (shapes.Tree e) range.1)
+shape_held w _ range some = absurd (omega arith)
 
 owner_held : (t serial o : ℕ) → t ≤ 16 → o ≤ 1023 → IsSome (wide_of (wide_word t serial o))
 owner_held t serial o few low = ap is_some (read_wide t serial o few low)
@@ -173,7 +172,7 @@ module _ (c : Config) (s : BuildState) (f : BuildFits c s) where
       let most = f.most in
       let here = g.1 in
       owner_held s.thread s.serial o (omega arith) (omega arith)
-  row_stores (WriteShape o) g = shape_held s.command f.range f.makes
+  row_stores (WriteShape o) g = shape_held c.width s.command f.range (has_blocks c s f)
   row_stores (WritePayload o j) g =
       link_held c s.held (block_at s.held o) j (link_in (made_part c.width s.command o j))
       f.blocks (λ p e. linked o j p g.0.0 e)

@@ -1,11 +1,11 @@
 -- The ranges of the numbers in a row, and the words that it may read.
-use Rattle.std.specs.Prelude.{ℕ, ◌+◌, ◌<◌, ◌≤◌, ◌≡◌, true, List, [], length, ◌^◌}
+use Rattle.std.specs.Prelude.{ℕ, ◌+◌, ◌<◌, ◌≤◌, ◌≡◌, List, [], length, ◌^◌}
 use Rattle.block_store.specs.declared.Config.{Config}
 use Rattle.block_store.specs.Places.{extent, IsBlock}
 use Rattle.block_store.specs.Registers.{registers_end}
 use Rattle.block_store.specs.Widths.{payloads}
 use Rattle.never_heap.specs.Bounds.{IsCommandInRange}
-use Rattle.never_heap.specs.Steps.{makes_object, blocks_of}
+use Rattle.never_heap.specs.Steps.{blocks_of}
 use Rattle.heap_machine.specs.Operations.{place_of}
 use Rattle.heap_machine.specs.Readings.{CanHold}
 use Rattle.build_steps.specs.declared.rows.BuildRow.{BuildRow}
@@ -57,7 +57,6 @@ pub record BuildFits (c : Config) (s : BuildState) : Type 0 where
   pub registers : registers_end c.width (s.thread + 1) ≤ c.blocks
   pub serial : s.serial < 2 ^ 43
   pub range : IsCommandInRange s.command
-  pub makes : makes_object s.command ≡ true
   pub size : s.blocks ≡ blocks_of c.width s.command
   pub some : 1 ≤ s.blocks
   pub most : s.blocks ≤ 1024

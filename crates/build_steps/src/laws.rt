@@ -13,7 +13,7 @@ ghost use Rattle.block_store.specs.Widths.{payloads};
 ghost use Rattle.never_heap.specs.declared.Command.{Command};
 ghost use Rattle.never_heap.specs.declared.Reply.TheVariants as replies;
 ghost use Rattle.never_heap.specs.Bounds.{IsCommandInRange};
-ghost use Rattle.never_heap.specs.Steps.{makes_object, blocks_of};
+ghost use Rattle.never_heap.specs.Steps.{blocks_of};
 ghost use Rattle.block_store.specs.Counts.{changed, times};
 ghost use Rattle.heap_machine.specs.Grey.{no_grey, GreyKept};
 ghost use Rattle.heap_machine.specs.Tricolour.{no_tricolour, TricolourKept};
@@ -37,7 +37,7 @@ pub fn rows_stay_in_the_heap()
     ensures first { (c : Config) (t cycle serial : ℕ) (k : Command) (capacity : ℕ)
         → t < c.threads → c.threads ≤ 16 → c.blocks ≤ 65535
         → registers_end c.width (t + 1) ≤ c.blocks → serial < 2 ^ 43
-        → IsCommandInRange k → makes_object k ≡ true
+        → IsCommandInRange k → 1 ≤ blocks_of c.width k
         → blocks_of c.width k ≤ 1024 → blocks_of c.width k ≤ capacity
         → BuildFits c (building c.width t c.threads cycle serial k capacity) }
     ensures next { (c : Config) (s : BuildState) (v : ℕ) → BuildFits c s → BuildReads c s v

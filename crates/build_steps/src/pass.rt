@@ -1,6 +1,6 @@
 //! The part of a thread's work that builds an object.
 
-ghost use Rattle.std.specs.Prelude.{◌≡◌, ◌+◌, ◌-◌, ◌^◌, ◌<◌, ◌≤◌, IsSome, true, [], length, vec_capacity};
+ghost use Rattle.std.specs.Prelude.{◌≡◌, ◌+◌, ◌-◌, ◌^◌, ◌<◌, ◌≤◌, IsSome, [], length, vec_capacity};
 ghost use Rattle.block_store.specs.Colours as colours;
 ghost use Rattle.block_store.specs.Colours.{colour_of};
 ghost use Rattle.block_store.specs.Places.{extent, index, PayloadOf, IsBlock};
@@ -9,7 +9,7 @@ ghost use Rattle.block_store.specs.Widths.{payloads};
 ghost use Rattle.heap_machine.specs.Operations.{op_at};
 ghost use Rattle.heap_machine.specs.Memories.{ReadsOnly, ActsOnce};
 ghost use Rattle.never_heap.specs.Bounds.{IsCommandInRange};
-ghost use Rattle.never_heap.specs.Steps.{makes_object, blocks_of};
+ghost use Rattle.never_heap.specs.Steps.{blocks_of};
 ghost use Rattle.build_steps.specs.Rows;
 ghost use Rattle.build_steps.specs.Rows.{BuildState, build_want, build_got, build_step, build_reply, building, built_at, built_owner, built_payload, held_got, row_want, row_got, row_step, made_place};
 ghost use Rattle.build_steps.specs.Fits.{BuildFits, BuildReads, IsOrdinal};
@@ -185,7 +185,7 @@ fn after_colour(ordinal: u32) -> BuildRow
 impl BuildPass {
     /// The part that builds the object of the command, for the thread of this number, one of
     /// `threads`, 1 to 16, which is inside in this cycle, 1 to 2^54 − 2. The object's name has this
-    /// serial, at least 1 and below 2^43. The command makes an object of at most 1,024 blocks of
+    /// serial, at least 1 and below 2^43. The command makes an object of 1 to 1,024 blocks of
     /// this width. `room` is empty and has capacity for them.
     pub fn new(
         width: Width,
@@ -200,8 +200,7 @@ impl BuildPass {
         requires cycle { (1 ≤ cycle) × (cycle ≤ 2 ^ 54 - 2) }
         requires serial { (1 ≤ serial) × (serial < 2 ^ 43) }
         requires range { IsCommandInRange command }
-        requires makes { makes_object command ≡ true }
-        requires most { blocks_of width command ≤ 1024 }
+        requires blocks { (1 ≤ blocks_of width command) × (blocks_of width command ≤ 1024) }
         requires empty { room.items ≡ [] }
         requires room { blocks_of width command ≤ vec_capacity room }
         ensures { result ≡ building width thread threads cycle serial command (vec_capacity room) }

@@ -22,9 +22,9 @@ pub enum Refusal {
     BadScriptLine { line: u64 },
     /// The input has too many bytes, or its job has.
     TooLong,
-    /// The jobs of an input have more threads together than may be begun.
+    /// The job has more threads than this program takes.
     TooManyThreads,
-    /// The job of an input says more than there is room for.
+    /// A thread of the job says more often than this program takes.
     TooManySays,
     /// The heap opens with more blocks than the live limit.
     LiveTooSmall,

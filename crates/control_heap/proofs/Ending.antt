@@ -1,5 +1,5 @@
 -- A command is served within its bound, and what the heap stands for then.
-use Rattle.std.proofs.Common.{◌≡◌, ℕ, zero, suc, ◌+◌, ◌*◌, ◌^◌, ◌≤◌, Bool, true, false, cond, ◌&&◌, eqb, eqb-true, subst, List, [], ◌∷◌, ◌++◌, length, length-append, append-nil, get_or, map, take, refl, sym, ap, ◌∙◌, arith, inl, inr}
+use Rattle.std.proofs.Common.{◌≡◌, ℕ, zero, suc, ◌+◌, ◌*◌, ◌^◌, ◌<◌, ◌≤◌, Bool, true, false, cond, ltb, ◌&&◌, eqb, eqb-true, subst, List, [], ◌∷◌, ◌++◌, length, length-append, append-nil, get_or, map, take, refl, sym, ap, ◌∙◌, arith, inl, inr}
 use Rattle.std.proofs.lemmas.Bool.{cases_lt, and_parts}
 use Rattle.std.proofs.lemmas.List.{append_cancel_left}
 use Rattle.std.proofs.Math.Seq.{take-length}
@@ -18,10 +18,9 @@ use Rattle.heap_system.specs.Lives.{sum_after, objects_of, most_units, most_obje
 use Rattle.heap_system.specs.Units.{IsRight}
 use Rattle.heap_system.proofs.Told.{entries_right}
 use Rattle.control_heap.proofs.Opening.{HasRoomFor, sum_more, sum_last, owed_works}
-use Rattle.never_heap.specs.Steps.{makes_object, blocks_of}
+use Rattle.never_heap.specs.Steps.{blocks_of}
 use Rattle.never_heap.proofs.Growing.{part_append}
 use Rattle.barrier_steps.specs.Operands.{is_idle}
-use Rattle.lone_bound.specs.Near.{between}
 use Rattle.lone_bound.specs.Prices.{allocation_bound, idle_bound, other_bound}
 use Rattle.heap_system.specs.declared.local.Part.TheVariants.{Rest}
 use Rattle.heap_system.specs.declared.Turn.{Turn}
@@ -46,7 +45,7 @@ use Rattle.control_heap.proofs.Items.{Added, added_alone}
 
 -- the bound of a command of a heap of one thread
 pub bound_low : (c : Config) (rate : ℕ) (k : Command) → IsInBounds c → rate ≤ 131070 → c.threads ≡ 1 → IsCommandInBounds c k → command_bound c rate k ≤ 2 ^ 40
-bound_low c rate k bounds few single fits = by (makes_object k) (is_idle k)
+bound_low c rate k bounds few single fits = by (ltb 0 (blocks_of c.width k)) (is_idle k)
   where
     made : allocation_bound c.threads (blocks_of c.width k) rate ≤ 2 ^ 40
     made =
@@ -232,12 +231,12 @@ module _ (h : Control) (r : Run) (st : Stands h r) where
     over = done_at (command_bound h.config rate (command_of (local_in h.config grown 0))) ends (goes turns (omega arith))
 
     -- an end in fewer turns would be an end before the last
-    pub turns_near : (p charge : ℕ) → IsRate h.config p → between h.config.threads ≤ charge * h.config.blocks → makes_object k ≡ true → turns ≤ allocation_near h.config p charge k
-    turns_near p charge is pays makes =
-        let near = near_ends h.config begins.run.after.traces begins.run.after.job p charge is pays 0 (low h.config st.single) grown (kept_of h.config st.single grown begins.run.after) quiet has (ap makes_object command_is ∙ makes) in
-        let few : near.turns ≤ allocation_near h.config p charge k = subst (λ x. near.turns ≤ allocation_near h.config p charge x) command_is near.few in
+    pub turns_near : (p : ℕ) → IsRate h.config p → 0 < blocks_of h.config.width k → turns ≤ allocation_near h.config p k
+    turns_near p is some =
+        let near = near_ends h.config begins.run.after.traces begins.run.after.job p is 0 (low h.config st.single) grown (kept_of h.config st.single grown begins.run.after) quiet has (subst (λ x. 0 < blocks_of h.config.width x) (sym command_is) some) in
+        let few : near.turns ≤ allocation_near h.config p k = subst (λ x. near.turns ≤ allocation_near h.config p x) command_is near.few in
         elim (cases_lt near.turns turns) [
-          | inl fewer ↦ (let z : false ≡ true = sym (goes turns (omega arith) near.turns fewer) ∙ done_at (allocation_near h.config p charge (command_of (local_in h.config grown 0))) near (goes near.turns (omega arith)) in cc)
+          | inl fewer ↦ (let z : false ≡ true = sym (goes turns (omega arith) near.turns fewer) ∙ done_at (allocation_near h.config p (command_of (local_in h.config grown 0))) near (goes near.turns (omega arith)) in cc)
           | inr more ↦ omega (arith, few, more)
         ]
 

@@ -11,8 +11,8 @@ use Rattle.never_heap.specs.declared.Reply.{Reply}
 use Rattle.never_heap.specs.Bounds.{IsCommandInBounds}
 use Rattle.never_heap.specs.Histories.{HistoryItem, Started, Did}
 use Rattle.never_heap.specs.RightWork.{units_owed}
-use Rattle.never_heap.specs.Steps.{makes_object, blocks_of}
-use Rattle.lone_bound.specs.Near.{near_bound, between}
+use Rattle.never_heap.specs.Steps.{blocks_of}
+use Rattle.lone_bound.specs.Near.{near_bound}
 use Rattle.heap_machine.specs.Operations.{op_place, words_after}
 use Rattle.heap_system.specs.declared.Turn.TheVariants.{Went}
 use Rattle.heap_system.specs.Alone.{IsQuiet, after_alone, command_bound}
@@ -82,21 +82,21 @@ entries_in [] = []
 entries_in (Started ∷ h) = entries_in h
 entries_in (Did e ∷ h) = e ∷ entries_in h
 
--- the near bound of an allocation, at this rate and with this charge for the changes of a cycle
-abbrev pub allocation_near : Config → ℕ → ℕ → Command → ℕ
-allocation_near c rate charge k =
-    near_bound c.threads (payloads c.width) charge (rate * blocks_of c.width k)
+-- the near bound of an allocation, at this rate
+abbrev pub allocation_near : Config → ℕ → Command → ℕ
+allocation_near c rate k =
+    near_bound c.threads (payloads c.width) c.blocks (rate * blocks_of c.width k)
     (blocks_of c.width k)
 
 -- Run z is run r with command k behind the trace, and this reply to it. The thread had at most so
--- many turns more as are the bound of a lone thread, and, for an allocation, the near bound, at
--- each charge that pays; none of them waited. The order of z is that of r with items behind it:
--- starts, and the entry of k with the reply, and no other.
+-- many turns more as are the bound of a lone thread, and, for an allocation, the near bound;
+-- none of them waited. The order of z is that of r with items behind it: starts, and the entry of k
+-- with the reply, and no other.
 pub record Answers (c : Config) (k : Command) (a : Reply) (r z : Run) : Type 0 where
   pub turns : ℕ
   pub few : (rate : ℕ) → IsRate c rate → turns ≤ command_bound c rate k
-  pub near : (rate charge : ℕ) → IsRate c rate → between c.threads ≤ charge * c.blocks
-      → makes_object k ≡ true → turns ≤ allocation_near c rate charge k
+  pub near : (rate : ℕ) → IsRate c rate → 0 < blocks_of c.width k
+      → turns ≤ allocation_near c rate k
   pub went : (i : ℕ) → i < turns → answer c 0 (after_alone c 0 (run_grown 0 k r) i).state ≡ Went
   pub after : z ≡ after_alone c 0 (run_grown 0 k r) turns
   pub items : List HistoryItem

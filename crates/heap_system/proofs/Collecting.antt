@@ -26,7 +26,7 @@ use Rattle.grey_steps.specs.declared.rows.GreyRow.TheVariants as greys
 use Rattle.grey_steps.proofs.Reuses.{leaves_phase}
 use Rattle.barrier_steps.specs.declared.rows.FieldRow.{FieldRow}
 use Rattle.barrier_steps.specs.declared.rows.FieldRow.TheVariants as fields
-use Rattle.barrier_steps.proofs.Leaving.{field_phase}
+use Rattle.barrier_steps.proofs.Keeping.{field_phase}
 use Rattle.sweep_steps.specs.Rows as sweeping
 use Rattle.sweep_steps.specs.Ends as sweep_ends
 use Rattle.sweep_steps.specs.declared.rows.SweepRow.{SweepRow}

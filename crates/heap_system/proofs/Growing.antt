@@ -1,5 +1,5 @@
 -- What an event adds to the order, and what it leaves of other threads.
-use Rattle.std.proofs.Common.{zero, suc, ◌≡◌, ℕ, ◌+◌, ◌<◌, ◌≤◌, cond, eq-eqb, ne_eqb, Some, List, [], ◌∷◌, ◌++◌, length, get_or, append-nil, length-append, set, refl, sym, ap, ◌∙◌, arith, map, take}
+use Rattle.std.proofs.Common.{zero, suc, ◌≡◌, ℕ, ◌+◌, ◌<◌, cond, eq-eqb, ne_eqb, List, [], ◌∷◌, ◌++◌, length, get_or, append-nil, length-append, set, refl, sym, ap, ◌∙◌, arith, map, take}
 use Rattle.std.proofs.Math.Seq.{take-suc}
 use Rattle.std.proofs.lemmas.List.{map-append}
 use Rattle.block_store.specs.declared.Config.{Config}
@@ -7,23 +7,19 @@ use Rattle.block_store.specs.declared.Width.{Width}
 use Rattle.never_heap.specs.declared.Command.{Command}
 use Rattle.never_heap.specs.declared.Command.TheVariants as commands
 use Rattle.never_heap.specs.declared.Entry.{Entry}
-use Rattle.never_heap.specs.declared.Reply.{Reply}
-use Rattle.never_heap.specs.declared.Reply.TheVariants as replies
 use Rattle.never_heap.specs.Graphs.{Graph, register_of, count_of}
 use Rattle.never_heap.specs.Histories.{HistoryItem, replay, part, work_in}
-use Rattle.block_store.specs.Phases.{bit}
 use Rattle.never_heap.specs.RightWork.{units_owed}
-use Rattle.never_heap.specs.Steps.{step, makes_object}
+use Rattle.never_heap.specs.Steps.{step}
 use Rattle.never_heap.proofs.Growing.{part_append, work_append}
-use Rattle.never_heap.proofs.Stepping.{change_of, count_of_other}
-use Rattle.heap_system.specs.Locals.{LocalState, Verdict, Open, AsStep, Refused, made_got, entry_of, works}
+use Rattle.never_heap.proofs.Staying.{step_counts, step_register}
+use Rattle.heap_system.specs.Locals.{LocalState, Verdict, Open, AsStep, Refused, entry_of, works}
 use Rattle.heap_system.specs.Machines.{entries_by, starts_by}
 use Rattle.heap_system.specs.Naming.{Naming, Begun}
 use Rattle.heap_system.specs.Systems.{units_of}
 use Rattle.heap_system.specs.Units.{IsRight}
 use Rattle.heap_system.proofs.Paying.{works_append}
 use Rattle.heap_system.proofs.Seeing.{graph_decided, told_by, items_told, IsDecided}
-use Rattle.heap_system.proofs.Steady.{register_stays}
 
 -- a start is no thread's, and has no work
 pub part_starts : (u : ℕ) (n : Naming) → part u (starts_by n) ≡ []
@@ -82,12 +78,12 @@ module _ (c : Config) (order : List HistoryItem) (t : ℕ) (k : Command) (work :
 -- a step leaves the registers and the objects of other threads
 pub registers_stay : (g : Graph) (t : ℕ) (k : Command) (v : Verdict) (u q : ℕ) → t < length g.mutators → (t ≡ u → ⊥) → register_of (graph_decided g t k v) u q ≡ register_of g u q
 registers_stay g t k Open u q there other = refl
-registers_stay g t k AsStep u q there other = register_stays g t u q k there other
+registers_stay g t k AsStep u q there other = step_register g t k u q (λ same. absurd (other same))
 registers_stay g t k (Refused r) u q there other = refl
 
 pub counts_stay : (g : Graph) (t : ℕ) (k : Command) (v : Verdict) (u : ℕ) → t < length g.mutators → (t ≡ u → ⊥) → count_of (graph_decided g t k v) u ≡ count_of g u
 counts_stay g t k Open u there other = refl
-counts_stay g t k AsStep u there other = count_of_other g t u (makes_object k) (step g t k).0 there other (change_of g t k)
+counts_stay g t k AsStep u there other = step_counts g t k u (λ same. absurd (other same))
 counts_stay g t k (Refused r) u there other = refl
 
 -- the logs of all threads grow by what is put in one
@@ -110,8 +106,3 @@ right_more w rate [] g t k work Open is all = tt
 right_more w rate [] g t k work AsStep is all = (all tt, tt)
 right_more w rate [] g t k work (Refused r) is all = (all tt, tt)
 right_more w rate (x ∷ es) g t k work v is all = (is.0, right_more w rate es g t k work v is.1 all)
-
--- at most one object is made for a reply
-pub made_more : (k : Command) (r : Reply) (made : ℕ) → made_got k (Some r) made ≤ made + bit (makes_object k)
-made_more k (replies.New name) made = omega arith
-made_more k _ made = omega arith

@@ -1,5 +1,4 @@
 pub mod Opened
-pub mod Steady
 pub mod Paying
 pub mod Lived
 pub mod Seeing

@@ -1,21 +1,20 @@
 -- A trace of a text is a life: it has few commands.
-use Rattle.std.proofs.Common.{◌^◌, ◌≡◌, ℕ, ◌+◌, ◌*◌, ◌≤◌, ap, Bool, true, false, List, [], ◌∷◌, length, arith}
+use Rattle.std.proofs.Common.{◌^◌, ◌≡◌, ℕ, ◌+◌, ◌*◌, ◌≤◌, ap, List, [], ◌∷◌, length, arith}
 use Rattle.std.proofs.lemmas.Nat.{mul-le}
 use Rattle.std.specs.List.{AllByRecursion}
 use Rattle.block_store.specs.declared.Config.{Config}
 use Rattle.block_store.specs.Configs.{IsInBounds}
-use Rattle.block_store.specs.Phases.{bit}
 use Rattle.rate_plan.specs.Rates.{IsAdmitted}
 use Rattle.never_heap.specs.declared.Command.{Command}
 use Rattle.never_heap.specs.Bounds.{IsCommandInBounds}
 use Rattle.never_heap.specs.Jobs.{IsTraceInBounds, IsJobInBounds}
 use Rattle.never_heap.specs.RightWork.{units_told, units_owed}
-use Rattle.never_heap.specs.Steps.{makes_object, blocks_of}
+use Rattle.never_heap.specs.Steps.{blocks_of}
 use Rattle.heap_system.specs.Lives.{sum_after, objects_of, IsLife}
 use Rattle.heap_system.specs.Locals.{LocalState, IsLocal}
 use Rattle.heap_system.specs.Machines.{IsJob}
 use Rattle.heap_system.specs.Systems.{commands_in}
-use Rattle.heap_system.proofs.Paying.{blocks_low, told_low, rate_low}
+use Rattle.heap_system.proofs.Paying.{blocks_low, told_low, rate_low, one_object}
 
 pub one_owes : (c : Config) (rate : ℕ) (k : Command) → rate ≤ 131070 → c.object ≤ 1024 → IsCommandInBounds c k → units_owed c.width rate k ≤ 134346750
 one_owes c rate k low object is =
@@ -32,13 +31,9 @@ all_owe : (c : Config) (rate : ℕ) (ks : List Command) → rate ≤ 131070 → 
 all_owe c rate [] low object all = omega arith
 all_owe c rate (k ∷ ks) low object all = omega (arith, one_owes c rate k low object all.0, all_owe c rate ks low object all.1)
 
-one_at_most : (b : Bool) → bit b ≤ 1
-one_at_most true = omega arith
-one_at_most false = omega arith
-
 few_objects : (ks : List Command) → sum_after objects_of 0 ks ≤ length ks
 few_objects [] = omega arith
-few_objects (k ∷ ks) = omega (arith, one_at_most (makes_object k), few_objects ks)
+few_objects (k ∷ ks) = omega (arith, one_object k, few_objects ks)
 
 pub life_of : (c : Config) (ks : List Command) → IsInBounds c → IsAdmitted c → IsTraceInBounds c ks → IsLife c ks
 life_of c ks bounds plan is = record {

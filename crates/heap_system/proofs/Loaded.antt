@@ -19,13 +19,16 @@ use Rattle.kept_names.specs.Reached.{IsReachedBlock}
 use Rattle.kept_names.proofs.Holding.{some_is}
 use Rattle.kept_names.proofs.Showing.{reached_black, dark_refers}
 use Rattle.kept_names.proofs.Standing.{kept_not_held, value_refers}
-use Rattle.barrier_steps.specs.Fits.{is_row_of}
-use Rattle.barrier_steps.specs.Operands.{to_register, takes_field}
-use Rattle.barrier_steps.specs.Projection.{row_loading, carried_load}
-use Rattle.barrier_steps.specs.Rows.{FieldState, field_decided}
+use Rattle.barrier_steps.specs.Fits.{is_store_of, is_row_of}
+use Rattle.barrier_steps.specs.Operands.{to_register, takes_field, answers_value}
+use Rattle.barrier_steps.specs.Projection.{store_loading, row_loading, carried_load}
+use Rattle.barrier_steps.specs.Rows.{FieldState, is_taken, field_decided}
 use Rattle.barrier_steps.specs.declared.rows.FieldRow.{FieldRow}
 use Rattle.barrier_steps.specs.declared.rows.FieldRow.TheVariants as fields
+use Rattle.barrier_steps.specs.declared.rows.FieldStore.{FieldStore}
 use Rattle.barrier_steps.specs.declared.rows.FieldStore.TheVariants as stores
+use Rattle.barrier_steps.specs.declared.rows.Wanted.{Wanted}
+use Rattle.barrier_steps.specs.declared.rows.Wanted.TheVariants as wants
 use Rattle.heap_system.specs.declared.local.Part.{Part}
 use Rattle.heap_system.specs.declared.local.Part.TheVariants.{Serve}
 use Rattle.heap_system.specs.Loaded.{IsLoadedBlock, IsOfValue, IsTaking}
@@ -101,21 +104,32 @@ carries_none _ word q = refl
 abbrev Gets : Command → FieldRow → ℕ → Type 0
 Gets k row q = (takes_field k ≡ true) × (to_register k ≡ q) × (field_decided row ≡ true)
 
+register_gets : (e : Extent) (k : Command) (wanted : Wanted) (q : ℕ) → is_pending (row_loading e k (fields.LoadRegister wanted)).value q ≡ true → Gets k (fields.LoadRegister wanted) q
+register_gets e k (wants.Second word) q is = absurd cc
+register_gets e k _ q is = absurd cc
+
+owner_gets : (e : Extent) (k : Command) (word q : ℕ) → is_pending (row_loading e k (fields.LoadOwner word)).value q ≡ true → answers_value k ≡ true → Gets k (fields.LoadOwner word) q
+owner_gets e (commands.Get d s i) word q is of = (refl, eqb-true d q is, refl)
+owner_gets e (commands.Swap s i v) word q is of = (refl, eqb-true v q is, refl)
+owner_gets e (commands.Say s) word q is of = absurd cc
+owner_gets e _ word q is of = absurd cc
+
+store_gets : (e : Extent) (k : Command) (store : FieldStore) (q : ℕ) → is_pending (store_loading e k store).value q ≡ true → is_store_of k store ≡ true → (takes_field k ≡ true) × (to_register k ≡ q) × (is_taken store ≡ true)
+store_gets e k (stores.Pending word value) q is of = (of, eqb-true (to_register k) q is, refl)
+store_gets e k _ q is of = absurd cc
+
 row_gets : (e : Extent) (k : Command) (row : FieldRow) (q : ℕ) → is_pending (row_loading e k row).value q ≡ true → is_row_of k row ≡ true → Gets k row q
-row_gets e k (fields.LoadOwner word) q is of = (of, eqb-true (to_register k) q is, refl)
-row_gets e k (fields.StorePending word value) q is of = (of, eqb-true (to_register k) q is, refl)
-row_gets e k (fields.Shade r (stores.Pending word value)) q is of = (of, eqb-true (to_register k) q is, refl)
-row_gets e k (fields.Shade r (stores.Moved word)) q is of = absurd cc
-row_gets e k (fields.Shade r (stores.InField way word)) q is of = absurd cc
-row_gets e k (fields.Shade r (stores.Exchanged way word)) q is of = absurd cc
-row_gets e k (fields.Shade r (stores.Compared way word)) q is of = absurd cc
+row_gets e k (fields.LoadRegister wanted) q is of = register_gets e k wanted q is
+row_gets e k (fields.LoadOwner word) q is of = owner_gets e k word q is of
+row_gets e k (fields.Shade r store) q is of = store_gets e k store q is of
+row_gets e k (fields.Store store) q is of = store_gets e k store q is of
 row_gets e k (fields.LoadLink way word) q is of = absurd (cc (is, carries_none k word q))
 row_gets e k _ q is of = absurd cc
 
 module _ (c : Config) (traces : List (List Command)) (r : Run) (k : Kept c traces r) (t : ℕ) (tl : t < c.threads) where
   in_get : (f : FieldState) → (local_at c r.state t).part ≡ Serve f → (q : ℕ) → Gets f.command f.row q → IsTaking (local_at c r.state t) q
   in_get f is q gets =
-      let row : RowKept (replay c r.order) t (local_at c r.state t).pass (command_of (local_at c r.state t)) f =
+      let row : RowKept c (replay c r.order) t (local_at c r.state t).pass (command_of (local_at c r.state t)) f =
       subst (λ p. PartKept c (replay c r.order) t (local_at c r.state t).pass (command_of (local_at c r.state t)) p) is (k.locals t tl).stands in
       record {
         field = f;

@@ -9,9 +9,12 @@ use Rattle.never_heap.specs.RightWork.{units_told}
 use Rattle.heap_machine.specs.declared.pass.Pass.{Pass}
 use Rattle.barrier_steps.specs.declared.rows.FieldRow.{FieldRow}
 use Rattle.barrier_steps.specs.declared.rows.FieldRow.TheVariants as rows
+use Rattle.barrier_steps.specs.declared.rows.FieldStore.{FieldStore}
 use Rattle.barrier_steps.specs.declared.rows.FieldStore.TheVariants as stores
+use Rattle.barrier_steps.specs.declared.rows.Wanted.{Wanted}
+use Rattle.barrier_steps.specs.declared.rows.Wanted.TheVariants as wants
 use Rattle.barrier_steps.specs.Deciding.{is_deciding}
-use Rattle.barrier_steps.specs.Fits.{is_row_of}
+use Rattle.barrier_steps.specs.Fits.{is_store_of, is_wanted_by, is_row_of}
 use Rattle.barrier_steps.specs.Rows.{field_reply, field_decided, row_got}
 
 pub record Looks (e : Extent) (p : Pass) (k : Command) (r : FieldRow) (w : ℕ) : Type 0 where
@@ -19,15 +22,22 @@ pub record Looks (e : Extent) (p : Pass) (k : Command) (r : FieldRow) (w : ℕ) 
   pub reply : Reply
   pub replied : field_reply (row_got e p k r w) ≡ Some reply
 
+-- it loads no register, and stores nothing
+loads_none : (u : ℕ) (wanted : Wanted) → is_wanted_by (Idle u) wanted ≡ true → ⊥
+loads_none u wants.Copied own = cc
+loads_none u _ own = cc
+
+stores_none : (u : ℕ) (store : FieldStore) → is_store_of (Idle u) store ≡ true → ⊥
+stores_none u (stores.Moved word) own = cc
+stores_none u _ own = cc
+
 pub looks : (e : Extent) (p : Pass) (k : Command) (r : FieldRow) (w : ℕ) → is_row_of k r ≡ true
     → field_reply r ≡ None → (units_told k ≡ 0) ⊎ Looks e p k r w
 looks e p (Idle u) rows.IdleLook w own going = inr (record { decides = refl; reply = replies.Idle; replied = refl })
 looks e p (Idle u) (rows.Answered reply) w own going = absurd cc
-looks e p (Idle u) (rows.Shade r (stores.Moved word)) w own going = absurd cc
-looks e p (Idle u) (rows.Shade r (stores.Pending word value)) w own going = absurd cc
-looks e p (Idle u) (rows.Shade r (stores.InField way word)) w own going = absurd cc
-looks e p (Idle u) (rows.Shade r (stores.Exchanged way word)) w own going = absurd cc
-looks e p (Idle u) (rows.Shade r (stores.Compared way word)) w own going = absurd cc
+looks e p (Idle u) (rows.LoadRegister wanted) w own going = absurd (loads_none u wanted own)
+looks e p (Idle u) (rows.Shade r store) w own going = absurd (stores_none u store own)
+looks e p (Idle u) (rows.Store store) w own going = absurd (stores_none u store own)
 looks e p (Idle u) _ w own going = absurd cc
 looks e p _ r w own going = inl refl
 
@@ -35,10 +45,7 @@ looks e p _ r w own going = inl refl
 pub decided_untold : (k : Command) (r : FieldRow) → is_row_of k r ≡ true → field_decided r ≡ true
     → field_reply r ≡ None → units_told k ≡ 0
 decided_untold (Idle u) (rows.Answered reply) own decided going = absurd cc
-decided_untold (Idle u) (rows.Shade r (stores.Moved word)) own decided going = absurd cc
-decided_untold (Idle u) (rows.Shade r (stores.Pending word value)) own decided going = absurd cc
-decided_untold (Idle u) (rows.Shade r (stores.InField way word)) own decided going = absurd cc
-decided_untold (Idle u) (rows.Shade r (stores.Exchanged way word)) own decided going = absurd cc
-decided_untold (Idle u) (rows.Shade r (stores.Compared way word)) own decided going = absurd cc
+decided_untold (Idle u) (rows.Shade r store) own decided going = absurd (stores_none u store own)
+decided_untold (Idle u) (rows.Store store) own decided going = absurd (stores_none u store own)
 decided_untold (Idle u) _ own decided going = absurd cc
 decided_untold _ r own decided going = refl

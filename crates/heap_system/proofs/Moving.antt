@@ -22,10 +22,10 @@ use Rattle.heap_system.specs.Locals.{LocalState, command_of, owed, errand_of, ef
 use Rattle.heap_system.specs.Pictures.{stand_of, waiting}
 use Rattle.heap_system.specs.Units.{IsRight}
 use Rattle.heap_system.proofs.Balances.{paid_in, got_paid, paid_over, units_in, units_on, units_over, sound_in, sound_on, sound_over, is_made}
-use Rattle.heap_system.proofs.Growing.{said_more, right_more, made_more}
+use Rattle.heap_system.proofs.Growing.{said_more, right_more}
 use Rattle.heap_system.proofs.Kept.{LocalKept}
 use Rattle.heap_system.proofs.PartLaws.{PartLaws}
-use Rattle.heap_system.proofs.Paying.{works_append, price_low, price_paid, owed_next, objects_next}
+use Rattle.heap_system.proofs.Paying.{works_append, made_low, price_low, price_paid, owed_next, objects_next}
 use Rattle.heap_system.proofs.Seeing.{stage, stage_of, PartKept, Knows, IsSettled, Forward, graph_decided, told_by, IsDecided}
 
 -- plain arithmetic
@@ -61,17 +61,12 @@ local_stays c given g later order longer h new ns names u l laws kept same count
 
 -- a thread with its event done, by its number, its configuration, and the word that it read
 abbrev pub moved_on : LocalState → ℕ → Config → ℕ → LocalState
-moved_on l t c w = record {
-  config = l.config;
-  rate = l.rate;
+moved_on l t c w = record l {
   thread = t;
-  before = l.before;
-  trace = l.trace;
   log = l.log ++ entries_of t (command_of l) l.spent (effect c l.part w).reply;
   balance = balance_got (effect c l.part w) (units_told (command_of l)) (blocks_of c.width (command_of l)) l.balance;
   spent = spent_got (effect c l.part w).reply (effect c l.part w).unit l.spent;
   made = made_got (command_of l) (effect c l.part w).reply l.made;
-  space = l.space;
   pass = pass_got (effect c l.part w).entered t c.threads l.pass;
   part = part_got c t (errand_of l) l.pass l.part w;
 }
@@ -100,7 +95,7 @@ module _ (c : Config) (given : List Command) (g : Graph) (order longer : List Hi
   Event o = Moved c g order longer new names t l v unit q p o
 
   abbrev after_part : List Entry → Balance → ℕ → ℕ → Part → LocalState
-  after_part log balance spent made x = record { config = l.config; rate = l.rate; thread = t; before = l.before; trace = l.trace; log = log; balance = balance; spent = spent; made = made; space = l.space; pass = q; part = x }
+  after_part log balance spent made x = record l { thread = t; log = log; balance = balance; spent = spent; made = made; pass = q; part = x }
 
   abbrev told : ℕ
   told = units_told (command_of l)
@@ -204,7 +199,7 @@ module _ (c : Config) (given : List Command) (g : Graph) (order longer : List Hi
             sound = sound_over l.rate l.config.object r (blocks_of c.width (command_of l)) (balance_in i l.balance) (price_is event) sound_then;
             account = paid_over r _ (blocks_of c.width (command_of l)) (balance_in i l.balance);
             units = omega (arith, more_worked, units_over r (blocks_of c.width (command_of l)) (balance_in i l.balance), units_then);
-            made = subst (λ n. made_got (command_of l) (Some r) l.made + sum_after objects_of n l.trace ≤ most_objects) (sym longer_by) (omega (arith, made_more (command_of l) r l.made, kept.fits.made, objects_next l));
+            made = subst (λ n. made_got (command_of l) (Some r) l.made + sum_after objects_of n l.trace ≤ most_objects) (sym longer_by) (omega (arith, made_low (command_of l) r l.made, kept.fits.made, objects_next l));
             space = kept.fits.space;
             roomy = tt;
           };

@@ -23,7 +23,8 @@ use Rattle.std.proofs.lemmas.List.Elements.{All-from_recursion}
 use Rattle.never_heap.specs.Bounds.{IsCommandInBounds}
 use Rattle.never_heap.specs.RightWork.{units_told, units_owed}
 use Rattle.cycle_tally.specs.Kept.{most_work}
-use Rattle.never_heap.specs.Steps.{blocks_of, makes_object}
+use Rattle.never_heap.specs.Steps.{blocks_of}
+use Rattle.never_heap.proofs.Answering.{blocks_make}
 use Rattle.never_heap.proofs.Ranges as ranges
 use Rattle.heap_machine.specs.Gates.{gate_got, closed_by, is_going_in, is_of_pass, is_empty, GateFits, GateAt}
 use Rattle.heap_machine.proofs.GateRows.{gate_fits}
@@ -64,36 +65,24 @@ view_of l = record { config = l.config; rate = l.rate; thread = l.thread; before
 
 -- an object takes no more blocks than one object may
 pub blocks_low : (c : Config) (k : Command) → IsCommandInBounds c k → blocks_of c.width k ≤ c.object
-blocks_low c (commands.New d f) h = h.2
-blocks_low c (commands.Arr d e) h = h.2
-blocks_low c (commands.Set d v) h = omega arith
-blocks_low c (commands.Nil d) h = omega arith
-blocks_low c (commands.Mov d s) h = omega arith
-blocks_low c (commands.Get d s i) h = omega arith
-blocks_low c (commands.Put s i v) h = omega arith
-blocks_low c (commands.Len s) h = omega arith
-blocks_low c (commands.Same a b) h = omega arith
-blocks_low c (commands.Say s) h = omega arith
-blocks_low c (commands.Swap s i v) h = omega arith
-blocks_low c (commands.Cas s i a v) h = omega arith
-blocks_low c (commands.Idle u) h = omega arith
+blocks_low c k h = h.blocks
 
 -- it has blocks or is told of units, and not both, and of few
 pub told_low : (c : Config) (k : Command) → IsCommandInBounds c k → units_told k ≤ 131070
-told_low c (commands.Idle u) h = h.0
-told_low c _ h = omega arith
+told_low c k h = h.units
 
 pub told_apart : (w : Width) (k : Command) → (units_told k ≡ 0) ⊎ (blocks_of w k ≡ 0)
 told_apart w (commands.Idle u) = inr refl
-told_apart w (commands.New d f) = inl refl
-told_apart w (commands.Arr d e) = inl refl
 told_apart w _ = inl refl
 
-pub makers_untold : (k : Command) → makes_object k ≡ true → units_told k ≡ 0
-makers_untold (commands.Idle u) y = absurd cc
-makers_untold (commands.New d f) y = refl
-makers_untold (commands.Arr d e) y = refl
-makers_untold _ y = refl
+-- it makes one object where it has blocks, and else none
+pub one_object : (k : Command) → objects_of k ≤ 1
+one_object (commands.New d f) = omega arith
+one_object (commands.Arr d e) = omega arith
+one_object _ = omega arith
+
+pub blocks_object : (w : Width) (k : Command) → 0 < blocks_of w k → objects_of k ≡ 1
+blocks_object w k some = ap bit (blocks_make w k some)
 
 -- a sum over what is to come is the next command's, and what is to come behind it
 pub sum_next : (f : Command → ℕ) (ks : List Command) (n : ℕ) → f (commands.Nil 0) ≡ 0 → sum_after f n ks ≡ f (get_or ks n (commands.Nil 0)) + sum_after f (suc n) ks
@@ -115,7 +104,7 @@ each_at c traces job t tl = All-from_recursion (IsLife c) traces job.bounds.each
 pub bounds_at : (c : Config) (ks : List Command) (i : ℕ) → AllByRecursion (IsCommandInBounds c) ks → IsCommandInBounds c (get_or ks i (commands.Nil 0))
 bounds_at c ks i all = elim (cases_lt i (length ks)) [
   | inl low ↦ All-from_recursion (IsCommandInBounds c) ks all i (commands.Nil 0) low
-  | inr out ↦ subst (λ k. IsCommandInBounds c k) (sym (get_or_past ks i (commands.Nil 0) out)) (omega arith)
+  | inr out ↦ subst (λ k. IsCommandInBounds c k) (sym (get_or_past ks i (commands.Nil 0) out)) (record { range = omega arith; blocks = omega arith; units = omega arith; version = tt })
 ]
 
 pub rate_low : (c : Config) (rate : ℕ) → IsInBounds c → IsAdmitted c → IsRate c rate → rate ≤ 131070
@@ -168,10 +157,9 @@ pub command_small : (l : LocalState) → IsLocal l → blocks_of l.config.width 
 command_small l k = blocks_low l.config (command_of l) (command_fits l k)
 
 -- the serial of the object that it would make
-pub serial_low : (l : LocalState) → IsLocal l → (k : Command) → k ≡ command_of l → makes_object k ≡ true → l.made + 1 < 2 ^ 43
-serial_low l is k same makes =
-    let one : bit (makes_object (command_of l)) ≡ 1 = ap bit (ap makes_object (sym same) ∙ makes) in
-    omega (arith, is.made, objects_next l, one)
+pub serial_low : (l : LocalState) → IsLocal l → (k : Command) → k ≡ command_of l → 0 < blocks_of l.config.width k → l.made + 1 < 2 ^ 43
+serial_low l is k same some =
+    omega (arith, is.made, objects_next l, ap objects_of (sym same) ∙ blocks_object l.config.width k some)
 
 -- the part with which a thread begins what it went in for fits, and pays
 module _ (l : LocalState) (k : IsLocal l) (low : length l.log < length l.trace) (p : Pass)
@@ -179,12 +167,9 @@ module _ (l : LocalState) (k : IsLocal l) (low : length l.log < length l.trace) 
   thread : IsThread l.config p.thread
   thread = subst (λ t. IsThread l.config t) (sym mine) (thread_is l k)
 
-  serial : makes_object (command_of l) ≡ true → l.made + 1 < 2 ^ 43
-  serial makes = serial_low l k (command_of l) refl makes
-
-  build_fits : makes_object (command_of l) ≡ true → PartFits l.config (length l.log) (length l.trace) p (Build (building l.config.width p.thread p.threads p.cycle (l.made + 1) (command_of l) l.space))
-  build_fits makes = subst (λ n. PartFits l.config (length l.log) (length l.trace) p (Build (building l.config.width p.thread n p.cycle (l.made + 1) (command_of l) l.space))) (sym same) (
-    building_ranges.first_fits l.config p.thread p.cycle (l.made + 1) (command_of l) l.space thread.thread thread.few k.bounds.blocks thread.registers (serial makes) (ranges.in_range l.config (command_of l) (command_fits l k)) makes
+  build_fits : 0 < blocks_of l.config.width (command_of l) → PartFits l.config (length l.log) (length l.trace) p (Build (building l.config.width p.thread p.threads p.cycle (l.made + 1) (command_of l) l.space))
+  build_fits some = subst (λ n. PartFits l.config (length l.log) (length l.trace) p (Build (building l.config.width p.thread n p.cycle (l.made + 1) (command_of l) l.space))) (sym same) (
+    building_ranges.first_fits l.config p.thread p.cycle (l.made + 1) (command_of l) l.space thread.thread thread.few k.bounds.blocks thread.registers (serial_low l k (command_of l) refl some) (ranges.in_range l.config (command_of l) (command_fits l k)) some
         (omega (arith, command_small l k, k.bounds.object)) (omega (arith, command_small l k, k.space)),
     low,
   )
@@ -234,12 +219,12 @@ entered_local i z a k rest is =
     })
 
 -- a build that begins in a room of this capacity
-pub begins_build : (l : LocalState) (phase : PhaseWord) (p : Pass) (command : Command) (capacity : ℕ) (b : BuildState) → IsLocal l → length l.log < length l.trace → p ≡ pass_by l.thread l.config.threads phase → IsPass p → command ≡ command_of l → makes_object command ≡ true → owed l - l.spent ≡ 0 → capacity ≡ l.space → b ≡ building l.config.width p.thread p.threads p.cycle (l.made + 1) command capacity → IsLocal (record l { pass = p; part = Build b })
-begins_build l phase p command capacity b k low by pass is makes none space built =
+pub begins_build : (l : LocalState) (phase : PhaseWord) (p : Pass) (command : Command) (capacity : ℕ) (b : BuildState) → IsLocal l → length l.log < length l.trace → p ≡ pass_by l.thread l.config.threads phase → IsPass p → command ≡ command_of l → 0 < blocks_of l.config.width command → owed l - l.spent ≡ 0 → capacity ≡ l.space → b ≡ building l.config.width p.thread p.threads p.cycle (l.made + 1) command capacity → IsLocal (record l { pass = p; part = Build b })
+begins_build l phase p command capacity b k low by pass is some none space built =
     let whole : b ≡ building l.config.width p.thread p.threads p.cycle (l.made + 1) (command_of l) l.space = built ∙ ap (λ n. building l.config.width p.thread p.threads p.cycle (l.made + 1) command n) space ∙ ap (λ q. building l.config.width p.thread p.threads p.cycle (l.made + 1) q l.space) is in
     subst (λ x. IsLocal (record l { pass = p; part = Build x })) (sym whole)
     (begins l p (Build (building l.config.width p.thread p.threads p.cycle (l.made + 1) (command_of l) l.space)) k
-    (build_fits l k low p (ap (λ (q : Pass). q.thread) by) (ap (λ (q : Pass). q.threads) by) pass (ap makes_object (sym is) ∙ makes)) (omega (arith, k.paid)) (omega (arith, k.paid, none)) refl)
+    (build_fits l k low p (ap (λ (q : Pass). q.thread) by) (ap (λ (q : Pass). q.threads) by) pass (subst (λ x. 0 < blocks_of l.config.width x) is some)) (omega (arith, k.paid)) (omega (arith, k.paid, none)) refl)
 
 -- a part that turns over goes on with such rows
 turns_either : (b : Bool) (p q : GateRow) → turns_over p ≡ true → turns_over q ≡ true → turns_over (cond b p q) ≡ true
@@ -326,7 +311,7 @@ pub works_at : (xs : List Entry) (i : ℕ) (d : Entry) → i < length xs → wor
 works_at xs i d low = let e : i + 1 ≡ suc i = omega arith in ap (λ n. works (take n xs)) e ∙ works_suc xs i d low
 
 -- at most one object is made for each reply, and none but for a command that makes one
-pub made_low : (k : Command) (r : Reply) (n : ℕ) → made_got k (Some r) n ≤ n + bit (makes_object k)
+pub made_low : (k : Command) (r : Reply) (n : ℕ) → made_got k (Some r) n ≤ n + objects_of k
 made_low k (replies.New a) n = omega arith
 made_low k _ n = omega arith
 

@@ -13,7 +13,7 @@ use Rattle.block_store.specs.Widths.{payloads}
 use Rattle.block_store.specs.Places.{Extent, Place, PayloadOf, extent, index, in_range, in_block, is_block, block_index, block_size, place_at, words_count}
 use Rattle.never_heap.specs.declared.Command.{Command}
 use Rattle.never_heap.specs.declared.Reply.{Reply}
-use Rattle.never_heap.specs.Steps.{makes_object, blocks_of}
+use Rattle.never_heap.specs.Steps.{blocks_of}
 use Rattle.heap_machine.specs.Gates.{gate_got, gate_step, gate_entered}
 use Rattle.heap_machine.specs.Operations.{op_at, op_place, words_after}
 use Rattle.heap_machine.specs.declared.gate.GateRow.{GateRow}
@@ -137,7 +137,7 @@ replied_room None p r e = e
 replied_room (Some x) p r e = refl
 
 first_room : (c : Config) (q : Pass) (e : Errand) → first_part c q (record e { space = 0 }) ≡ part_without_room (first_part c q e)
-first_room c q e = cond_room (ltb 0 e.due) _ _ _ _ (cond_room q.sweep _ _ _ _ refl refl) (cond_room (makes_object e.command) _ _ _ _ refl refl)
+first_room c q e = cond_room (ltb 0 e.due) _ _ _ _ (cond_room q.sweep _ _ _ _ refl refl) (cond_room (ltb 0 (blocks_of c.width e.command)) _ _ _ _ refl refl)
 
 entered_room : (o : Option PhaseWord) (c : Config) (t : ℕ) (e : Errand) (g : GateRow) → if_entered o c t (record e { space = 0 }) g ≡ part_without_room (if_entered o c t e g)
 entered_room None c t e g = refl

@@ -14,8 +14,8 @@ use Rattle.never_heap.specs.declared.Reply.{Reply}
 use Rattle.never_heap.specs.Bounds.{IsCommandInBounds}
 use Rattle.never_heap.specs.Graphs.{Graph, count_of}
 use Rattle.never_heap.specs.Histories.{HistoryItem, Did}
-use Rattle.never_heap.specs.RightWork.{units_told}
-use Rattle.never_heap.specs.Steps.{step, makes_object}
+use Rattle.never_heap.specs.RightWork.{units_told, units_owed}
+use Rattle.never_heap.specs.Steps.{blocks_of, step}
 use Rattle.heap_machine.specs.Gating.{Gating, GateOf, is_outside, is_inside}
 use Rattle.heap_machine.specs.Holdings.{Holding, holds_nothing}
 use Rattle.heap_machine.specs.PhaseKept.{PhaseKept}
@@ -37,6 +37,7 @@ use Rattle.work_account.specs.Accounts.{Balance}
 use Rattle.kept_names.specs.Pictures.{Names, Task, no_task, picture}
 use Rattle.heap_system.specs.declared.local.Part.{Part}
 use Rattle.heap_system.specs.declared.local.Part.TheVariants.{Rest, Enter, Serve, Mark, Sweep, Build, Idle, TurnOver, Leave}
+use Rattle.heap_system.specs.Lives.{objects_of}
 use Rattle.heap_system.specs.Locals.{paid_part, Errand, Effect, Verdict, Open, AsStep, Refused, task, pass_got, spent_got, made_got, entry_of, entries_of, works, unit_to_come, PartFits, IsRoomy}
 use Rattle.heap_system.specs.Machines.{starts_by}
 use Rattle.heap_system.specs.Naming.{renamed}
@@ -50,8 +51,8 @@ abbrev pub stage_of : Heap → ℕ
 stage_of h = stage (cycle_of (h Phase)) (is_sweep (h Phase))
 
 -- thread t in command k, in this pass, that is not over
-pub record RowKept (g : Graph) (t : ℕ) (pass : Pass) (k : Command) (f : FieldState) : Type 0 where
-  pub serves : makes_object k ≡ false
+pub record RowKept (c : Config) (g : Graph) (t : ℕ) (pass : Pass) (k : Command) (f : FieldState) : Type 0 where
+  pub serves : blocks_of c.width k ≡ 0
   pub passes : f.pass ≡ pass
   pub thread : f.pass.thread ≡ t
   pub command : f.command ≡ k
@@ -81,7 +82,6 @@ pub record BuildKept (c : Config) (g : Graph) (t : ℕ) (pass : Pass) (k : Comma
   pub cycle : b.cycle ≡ pass.cycle
   pub serial : b.serial ≡ count_of g t + 1
   pub command : b.command ≡ k
-  pub makes : makes_object k ≡ true
   pub going : build_over b.row ≡ false
 
 -- a part on its way in is not over
@@ -105,7 +105,7 @@ IsTurning q _ = ⊥
 
 abbrev pub PartKept : Config → Graph → ℕ → Pass → Command → Part → Type 0
 PartKept c g t pass k (Enter a) = IsEntering a
-PartKept c g t pass k (Serve f) = RowKept g t pass k f
+PartKept c g t pass k (Serve f) = RowKept c g t pass k f
 PartKept c g t pass k (Mark m) = MarkKept t pass m
 PartKept c g t pass k (Sweep s) = SweepingKept c t pass s
 PartKept c g t pass k (Build b) = BuildKept c g t pass k b
@@ -162,7 +162,7 @@ pub record Forward (h new : Heap) : Type 0 where
 
 -- What a turn sees: the graph of the order, the order, the names, the heap, and of each thread where
 -- it stands, what it is at and what it holds; of the thread whose turn it is its pass, its command,
--- how many are done of all, the units due, its balance, the objects made and its room. And what holds
+-- how many are done of all, the rate, the units due, its balance, the objects made and its room. And what holds
 -- of them.
 pub record Seen (c : Config) : Type 0 where
   pub graph : Graph
@@ -177,6 +177,7 @@ pub record Seen (c : Config) : Type 0 where
   pub command : Command
   pub done : ℕ
   pub all : ℕ
+  pub rate : ℕ
   pub due : ℕ
   pub balance : Balance
   pub spent : ℕ
@@ -187,9 +188,9 @@ pub record Seen (c : Config) : Type 0 where
   pub low : thread < c.threads
   pub inside : IsCommandInBounds c command
   pub count : made ≡ count_of graph thread
-  pub few : made + bit (makes_object command) < 2 ^ 43
+  pub few : made + objects_of command < 2 ^ 43
   pub room : c.object ≤ space
-  pub free : makes_object command ≡ false → due ≡ units_told command
+  pub owes : due ≡ units_owed c.width rate command
   pub account : balance.paid ≡ paid_part (units_told command) spent
   pub gate : GateOf c.threads (heap Phase) gatings
   pub held : IsHeld c heap

@@ -158,8 +158,8 @@ module _ (c : Config) (traces : List (List Command)) (job : IsJob c traces) (rat
           both,
           given_append c.width before told,
           given_append c.width reply behind,
-          waiting_gives_none c (replay c r.order) (replay c r.order) u me.pass (command_of me) me.part c.width me.spent (kept.locals u ul).stands,
-          waiting_gives_none c graph graph u pass (command_of me) part c.width paid did.part,
+          waiting_gives_none c (replay c r.order) (replay c r.order) u me.pass (command_of me) me.part me.spent (kept.locals u ul).stands,
+          waiting_gives_none c graph graph u pass (command_of me) part paid did.part,
         )
 
     own_entries : blocks_given c.width (part u (entries ++ starts_by e.naming))

@@ -14,7 +14,6 @@ use Rattle.never_heap.specs.Graphs.{Graph}
 use Rattle.never_heap.specs.Histories.{HistoryItem, Started, Did, part, starts_in}
 use Rattle.never_heap.specs.Steps.{blocks_of}
 use Rattle.never_heap.specs.Taken.{blocks_if_new}
-use Rattle.never_heap.proofs.Answering.{others_have_none}
 use Rattle.never_heap.proofs.Cycling.{after_more}
 use Rattle.never_heap.proofs.Growing.{part_append, starts_append}
 use Rattle.work_account.specs.Accounts.{Balance, entered}
@@ -167,11 +166,11 @@ waits_none w t work k None e = refl
 waits_none w t work k (Some r) e = omega (arith, none_if_none r (blocks_of w k) e)
 
 pub waiting_gives_none : (c : Config) (g now : Graph) (t : ℕ) (q : Pass) (k : Command) (p : Part)
-    (w : Width) (work : ℕ) → PartKept c g t q k p
-    → blocks_given w (entries_of t k work (waiting now p)) ≡ 0
-waiting_gives_none c g now t q k (Serve f) w work kept =
-    waits_none w t work k (waiting now (Serve f)) (others_have_none w k kept.serves)
-waiting_gives_none c g now t q k _ w work kept = refl
+    (work : ℕ) → PartKept c g t q k p
+    → blocks_given c.width (entries_of t k work (waiting now p)) ≡ 0
+waiting_gives_none c g now t q k (Serve f) work kept =
+    waits_none c.width t work k (waiting now (Serve f)) kept.serves
+waiting_gives_none c g now t q k _ work kept = refl
 
 -- what a thread was given, up to the next start and from there on
 given_parts : (w : Width) (t : ℕ) (h : List HistoryItem)

@@ -8,7 +8,8 @@ use Rattle.never_heap.specs.declared.Command.TheVariants as commands
 use Rattle.never_heap.specs.declared.Reply.{Reply}
 use Rattle.never_heap.specs.Histories.{replay, part}
 use Rattle.never_heap.specs.Steps.{blocks_of}
-use Rattle.never_heap.proofs.Answering.{makers_have_blocks, others_have_none}
+use Rattle.never_heap.proofs.Answering.{owes_told}
+use Rattle.build_steps.proofs.Parts.{has_blocks}
 use Rattle.rate_plan.specs.Rates.{IsRate}
 use Rattle.heap_machine.specs.Holdings.{holds_nothing}
 use Rattle.barrier_steps.specs.Rows.{FieldState, field_decided}
@@ -57,14 +58,17 @@ module _ (c : Config) (traces : List (List Command)) (r : Run) (k : Kept c trace
   pub rest_told : is_rest (local_at c r.state t).part ≡ true → (part t r.order ≡ (local_at c r.state t).log) × (task c (local_at c r.state t).part ≡ no_task) × (holding c (local_at c r.state t).part ≡ holds_nothing)
   rest_told e = let is = rest_is (local_at c r.state t).part e in (told_at Rest is ∙ append-nil (local_at c r.state t).log, ap (task c) is, ap (holding c) is)
 
+  -- a command that has no blocks owes what it is told to make
+  owes_none : blocks_of c.width (command_of (local_at c r.state t)) ≡ 0 → owed (local_at c r.state t) ≡ units_told (command_of (local_at c r.state t))
+  owes_none none = owes_told (local_at c r.state t).config.width (local_at c r.state t).rate (command_of (local_at c r.state t)) (ap (λ (x : Config). blocks_of x.width (command_of (local_at c r.state t))) (k.locals t tl).config ∙ none)
+
   -- a command that is decided and has no reply yet is told of no units, and has made none
   unpaid : (f : FieldState) → (local_at c r.state t).part ≡ Serve f → field_decided f.row ≡ true → (local_at c r.state t).spent ≡ 0
   unpaid f is e =
-      let row : RowKept (replay c r.order) t (local_at c r.state t).pass (command_of (local_at c r.state t)) f = kept_at (Serve f) is in
+      let row : RowKept c (replay c r.order) t (local_at c r.state t).pass (command_of (local_at c r.state t)) f = kept_at (Serve f) is in
       let fits = subst (λ p. PartFits (local_at c r.state t).config (length (local_at c r.state t).log) (length (local_at c r.state t).trace) (local_at c r.state t).pass p) is (k.locals t tl).fits.part in
       let untold : units_told (command_of (local_at c r.state t)) ≡ 0 = ap units_told (sym row.command) ∙ decided_untold f.command f.row fits.0.belongs e row.going in
-      let none : owed (local_at c r.state t) ≡ (local_at c r.state t).rate * 0 + 0 = (λ i. (local_at c r.state t).rate * others_have_none (local_at c r.state t).config.width (command_of (local_at c r.state t)) row.serves i + untold i) in
-      omega (arith, (k.locals t tl).fits.paid, none)
+      omega (arith, (k.locals t tl).fits.paid, owes_none row.serves, untold)
 
   pub decided_told : (f : FieldState) → (local_at c r.state t).part ≡ Serve f → field_decided f.row ≡ true → (y : Reply) × (part t r.order ≡ (local_at c r.state t).log ++ entry_of t (command_of (local_at c r.state t)) 0 y ∷ [])
   decided_told f is e =
@@ -108,8 +112,10 @@ module _ (c : Config) (traces : List (List Command)) (r : Run) (k : Kept c trace
       × ((local_at c r.state t).spent ≡ owed (local_at c r.state t))
   build_settled b is rate planned =
       let row : BuildKept c (replay c r.order) t (local_at c r.state t).pass (command_of (local_at c r.state t)) b = kept_at (Build b) is in
+      let fits = subst (λ p. PartFits (local_at c r.state t).config (length (local_at c r.state t).log) (length (local_at c r.state t).trace) (local_at c r.state t).pass p) is (k.locals t tl).fits.part in
+      let some : 1 ≤ blocks_of (local_at c r.state t).config.width b.command = has_blocks (local_at c r.state t).config b fits.0 in
       let all : (local_at c r.state t).spent ≡ owed (local_at c r.state t) = settled_at (Build b) is in (
-        makers_have_blocks c.width (command_of (local_at c r.state t)) row.makes,
+        subst (λ n. 0 < n) (λ i. blocks_of ((k.locals t tl).config i).width (row.command i)) some,
         price_paid (local_at c r.state t) (k.locals t tl).fits all ∙ (λ i. one_rate c (local_at c r.state t).rate rate rate_is planned i * blocks_of ((k.locals t tl).config i).width (command_of (local_at c r.state t))),
         all,
       )
@@ -119,10 +125,9 @@ module _ (c : Config) (traces : List (List Command)) (r : Run) (k : Kept c trace
       → (blocks_of c.width (command_of (local_at c r.state t)) ≡ 0)
       × ((local_at c r.state t).spent ≡ units_told (command_of (local_at c r.state t)))
   serve_settled f is =
-      let row : RowKept (replay c r.order) t (local_at c r.state t).pass (command_of (local_at c r.state t)) f = kept_at (Serve f) is in
+      let row : RowKept c (replay c r.order) t (local_at c r.state t).pass (command_of (local_at c r.state t)) f = kept_at (Serve f) is in
       let all : (local_at c r.state t).spent ≡ owed (local_at c r.state t) = settled_at (Serve f) is in
-      let none : (local_at c r.state t).rate * blocks_of (local_at c r.state t).config.width (command_of (local_at c r.state t)) ≡ (local_at c r.state t).rate * 0 = ap (λ n. (local_at c r.state t).rate * n) (others_have_none (local_at c r.state t).config.width (command_of (local_at c r.state t)) row.serves) in
-      (others_have_none c.width (command_of (local_at c r.state t)) row.serves, all ∙ omega (arith, none))
+      (row.serves, all ∙ owes_none row.serves)
 
   pub entries_right : (rate : ℕ) → IsRate c rate → IsRight c.width rate (part t r.order)
   entries_right rate is = subst (λ n. IsRight c.width n (part t r.order)) (one_rate c (local_at c r.state t).rate rate rate_is is) (k.locals t tl).right

@@ -13,10 +13,8 @@ use Rattle.rate_plan.specs.Rates.{IsAdmitted}
 use Rattle.never_heap.specs.declared.Command.{Command}
 use Rattle.never_heap.specs.Bounds.{IsCommandInBounds}
 use Rattle.never_heap.specs.Graphs.{Graph}
-use Rattle.never_heap.specs.RightWork.{units_told}
+use Rattle.never_heap.specs.RightWork.{units_owed}
 use Rattle.never_heap.specs.Histories.{HistoryItem, replay}
-use Rattle.never_heap.specs.Steps.{makes_object, blocks_of}
-use Rattle.never_heap.proofs.Answering.{others_have_none}
 use Rattle.never_heap.proofs.GraphMoves.{get_or_set}
 use Rattle.heap_machine.specs.Gating.{GateOf, is_closing}
 use Rattle.heap_machine.specs.Holdings.{Holding, sweep_held}
@@ -87,10 +85,8 @@ module _ (c : Config) (traces : List (List Command)) (laws : (p : Part) → Part
   pub inside : IsCommandInBounds c (command_of (local_at c r.state t))
   inside = bounds_at c (local_at c r.state t).trace (length (local_at c r.state t).log) (subst (λ x. AllByRecursion (IsCommandInBounds x) (local_at c r.state t).trace) (kept.locals t tl).config (kept.locals t tl).fits.trace.commands)
 
-  pub free_of : makes_object (command_of (local_at c r.state t)) ≡ false → owed (local_at c r.state t) ≡ units_told (command_of (local_at c r.state t))
-  free_of z =
-      let none : (local_at c r.state t).rate * blocks_of (local_at c r.state t).config.width (command_of (local_at c r.state t)) ≡ (local_at c r.state t).rate * 0 = ap (λ n. (local_at c r.state t).rate * n) (others_have_none (local_at c r.state t).config.width (command_of (local_at c r.state t)) z) in
-      omega (arith, none)
+  pub owes_of : owed (local_at c r.state t) ≡ units_owed c.width (local_at c r.state t).rate (command_of (local_at c r.state t))
+  owes_of = ap (λ (x : Config). units_owed x.width (local_at c r.state t).rate (command_of (local_at c r.state t))) (kept.locals t tl).config
 
   pub cycle_low : cycle_of (heap_in c r.state Phase) ≤ 2 ^ 54 - 3
   cycle_low =
@@ -116,6 +112,7 @@ module _ (c : Config) (traces : List (List Command)) (laws : (p : Part) → Part
     command = command_of (local_at c r.state t);
     done = length (local_at c r.state t).log;
     all = length (local_at c r.state t).trace;
+    rate = (local_at c r.state t).rate;
     due = owed (local_at c r.state t);
     balance = (local_at c r.state t).balance;
     spent = (local_at c r.state t).spent;
@@ -128,7 +125,7 @@ module _ (c : Config) (traces : List (List Command)) (laws : (p : Part) → Part
     count = (kept.locals t tl).made;
     few = omega (arith, (kept.locals t tl).fits.made, objects_next (local_at c r.state t));
     room = room_of;
-    free = free_of;
+    owes = owes_of;
     account = (kept.locals t tl).fits.account;
     gate = kept.gate;
     held = kept.held;

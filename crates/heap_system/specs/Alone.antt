@@ -1,6 +1,6 @@
 -- One thread alone has turns: what it begins from, how many turns its command takes at most, and
 -- what they lead to.
-use Rattle.std.specs.Prelude.{ℕ, suc, ◌<◌, ◌≤◌, ◌≡◌, ◌≢◌, ◌++◌, Bool, true, false, if◌then◌else◌, [], ◌∷◌, length, replicate}
+use Rattle.std.specs.Prelude.{ℕ, suc, ◌<◌, ◌≤◌, ◌≡◌, ◌≢◌, ◌++◌, nat_lt, Bool, true, false, if◌then◌else◌, [], ◌∷◌, length, replicate}
 use Rattle.block_store.specs.declared.Config.{Config}
 use Rattle.block_store.specs.Phases.{inside_of, is_closed, is_sweep}
 use Rattle.block_store.specs.Places.{Phase}
@@ -8,7 +8,7 @@ use Rattle.never_heap.specs.declared.Command.{Command}
 use Rattle.never_heap.specs.declared.Entry.{Entry}
 use Rattle.never_heap.specs.RightWork.{units_told}
 use Rattle.barrier_steps.specs.Operands.{is_idle}
-use Rattle.never_heap.specs.Steps.{makes_object, blocks_of}
+use Rattle.never_heap.specs.Steps.{blocks_of}
 use Rattle.lone_bound.specs.Prices.{allocation_bound, idle_bound, other_bound}
 use Rattle.heap_system.specs.declared.Turn.TheVariants.{Went}
 use Rattle.heap_system.specs.Locals.{LocalState, command_of, is_rest}
@@ -28,7 +28,7 @@ pub record HasCommand (l : LocalState) : Type 0 where
 -- the most turns of a command, at this rate
 abbrev pub command_bound : Config → ℕ → Command → ℕ
 command_bound c rate k =
-    if makes_object k then allocation_bound c.threads (blocks_of c.width k) rate
+    if nat_lt 0 (blocks_of c.width k) then allocation_bound c.threads (blocks_of c.width k) rate
     else (if is_idle k then idle_bound c.threads (units_told k) else other_bound c.object)
 
 -- after so many turns of thread t, and of no other

@@ -13,7 +13,7 @@ use Rattle.never_heap.specs.declared.Entry.{Entry}
 use Rattle.never_heap.specs.declared.Reply.{Reply}
 use Rattle.never_heap.specs.declared.Reply.TheVariants as replies
 use Rattle.never_heap.specs.RightWork.{units_told, units_owed}
-use Rattle.never_heap.specs.Steps.{makes_object, blocks_of}
+use Rattle.never_heap.specs.Steps.{blocks_of}
 use Rattle.work_account.specs.Accounts.{Balance, IsSound, entered, with_unit, with_idle, published, refused}
 use Rattle.work_account.specs.Accounts as accounts
 use Rattle.heap_machine.specs.declared.op.Op.{Op}
@@ -210,7 +210,7 @@ abbrev pub first_part : Config → Pass → Errand → Part
 first_part c p e =
     if nat_lt 0 e.due
     then (if p.sweep then Sweep (sweeping p.thread p.cycle c.blocks e.due) else Mark (scanning p))
-    else (if makes_object e.command
+    else (if nat_lt 0 (blocks_of c.width e.command)
     then Build (building c.width p.thread p.threads p.cycle e.serial e.command e.space)
     else Serve (at_first_row p e.command))
 
@@ -387,7 +387,7 @@ balance_got e told k b = balance_paid e.reply e.unit told k (balance_in e.entere
 
 -- and the objects made, after a reply to this command
 abbrev pub made_got : Command → Option Reply → ℕ → ℕ
-made_got k (Some (replies.New name)) made = made + bit (makes_object k)
+made_got k (Some (replies.New name)) made = made + objects_of k
 made_got k _ made = made
 
 -- what a turn answers
@@ -448,18 +448,12 @@ commands_decided l = length l.log + decided_in l.part
 abbrev pub local_got : LocalState → ℕ → LocalState
 local_got l w =
     let e = effect l.config l.part w in
-    record {
-      config = l.config;
-      rate = l.rate;
-      thread = l.thread;
-      before = l.before;
-      trace = l.trace;
+    record l {
       log = l.log ++ entries_of l.thread (command_of l) l.spent e.reply;
       balance = balance_got e (units_told (command_of l)) (blocks_of l.config.width (command_of l))
           l.balance;
       spent = spent_got e.reply e.unit l.spent;
       made = made_got (command_of l) e.reply l.made;
-      space = l.space;
       pass = pass_got e.entered l.thread l.config.threads l.pass;
       part = part_got l.config l.thread (errand_of l) l.pass l.part w;
     }

@@ -12,11 +12,10 @@ use Rattle.heap_system.specs.Lives.{AreLives}
 use Rattle.never_heap.specs.Steps.{step}
 use Rattle.heap_machine.specs.Operations.{op_at, op_place, words_after}
 use Rattle.kept_names.specs.Pictures.{Names}
-use Rattle.work_account.specs.Accounts as accounts
 use Rattle.heap_system.specs.declared.local.Part.TheVariants.{Leave}
 use Rattle.heap_system.specs.declared.Turn.{Turn}
 use Rattle.heap_system.specs.declared.Turn.TheVariants.{Done}
-use Rattle.heap_system.specs.Locals.{LocalState, Effect, Verdict, Open, AsStep, Refused, no_pass, command_of, effect, entry_of, part_want, turn_of, local_got, is_done, at_start}
+use Rattle.heap_system.specs.Locals.{LocalState, Effect, Verdict, Open, AsStep, Refused, command_of, effect, entry_of, part_want, turn_of, local_got, is_done, at_start}
 use Rattle.heap_system.specs.Naming.{Naming, Begun, renamed, opening_names}
 use Rattle.heap_system.specs.Openings.{opening_heap}
 
@@ -26,20 +25,7 @@ pub record State : Type 0 where
 
 -- a thread that there is not
 abbrev pub no_local : Config → LocalState
-no_local c = record {
-  config = c;
-  rate = 0;
-  thread = c.threads;
-  before = 0;
-  trace = [];
-  log = [];
-  balance = accounts.opened;
-  spent = 0;
-  made = 0;
-  space = 0;
-  pass = no_pass c.threads c.threads;
-  part = Leave;
-}
+no_local c = record (at_start c 0 0 c.threads []) { part = Leave }
 
 abbrev pub local_at : Config → State → ℕ → LocalState
 local_at c s t = slice_index_or s.locals t (no_local c)

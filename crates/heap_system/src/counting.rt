@@ -1,9 +1,9 @@
-//! What an event makes of the numbers that a thread keeps: its account, the units made for the command
-//! in hand, the objects made, and the commands that are decided.
+//! What an event makes of the numbers that a thread keeps: its account, the units made for the
+//! command in hand, the objects made, and the commands that are decided.
 
 ghost use Rattle.std.specs.Prelude.{◌≡◌, ◌≤◌, ◌<◌, ◌+◌, ◌^◌, ◌*◌, ◌&&◌, not, true, None, Some};
 ghost use Rattle.block_store.specs.Phases.{bit};
-ghost use Rattle.never_heap.specs.Steps.{makes_object};
+ghost use Rattle.heap_system.specs.Lives.{objects_of};
 ghost use Rattle.heap_system.specs.Locals.{works, balance_on, balance_over, spent_got, made_got};
 
 use never_heap::{Command, Entry, Reply};
@@ -53,31 +53,26 @@ pub fn settle(account: &mut Account, reply: Reply, blocks: u32)
     }
 }
 
-/// Whether the command makes an object.
-pub fn makes_object(command: Command) -> bool
-    ensures { result ≡ makes_object command }
-{
-    matches!(command, Command::New { .. } | Command::Arr { .. })
-}
-
 /// How many objects are made after this reply to this command.
 pub fn made_after(made: u64, command: Command, reply: Reply) -> u64
     requires { made < 2 ^ 43 }
     ensures { result ≡ made_got command (Some reply) made }
 {
-    let makes = makes_object(command);
     match reply {
-        Reply::New(_) => one_more(made, makes),
+        Reply::New(_) => made + objects(command),
         _ => made,
     }
 }
 
-// One more object, where it is so.
-fn one_more(made: u64, makes: bool) -> u64
-    requires { made < 2 ^ 43 }
-    ensures { result ≡ made + bit makes }
+// How many objects the command makes.
+fn objects(command: Command) -> u64
+    ensures is { result ≡ objects_of command }
+    ensures few { result ≤ 1 }
 {
-    if makes { made + 1 } else { made }
+    match command {
+        Command::New { .. } | Command::Arr { .. } => 1,
+        _ => 0,
+    }
 }
 
 /// One more than the commands in the log, where the one in hand is decided.

@@ -2,7 +2,8 @@
 //! thread does what is left of its trace while it alone has turns, and each command takes no more
 //! turns than is proved: an allocation, an idle, and any other.
 
-ghost use Rattle.std.specs.Prelude.{◌≡◌, ◌<◌, ◌≤◌, None, IfOk, IfSome};
+ghost use Rattle.std.specs.Prelude.{◌≡◌, ◌<◌, ◌≤◌, None, IfOk, OnOk, IfSome, length};
+ghost use Rattle.std.specs.List.{All};
 ghost use Rattle.block_store.specs.Configs.{IsInBounds};
 ghost use Rattle.never_heap.specs.Bounds.{IsCommandInBounds};
 ghost use Rattle.never_heap.specs.Jobs.{IsTraceInBounds};
@@ -84,8 +85,22 @@ fn drawn_command(draws: &mut Lcg64Xsh32, kind: u32) -> Command {
     }
 }
 
-// Commands of all kinds in turn: those that are in bounds, which blocks of width four let no swap,
-// cas or idle be.
+// Puts a command behind others, where it is in bounds and there is room for it. With blocks of
+// width four no swap, cas or idle is in bounds.
+fn push_fitting(c: &Config, trace: &mut Vec<Command>, command: Command) -> Result<(), OutOfMemory>
+    requires few { length trace.old.items ≤ 131072 }
+    requires each { All (IsCommandInBounds c.now) trace.old.items }
+    ensures few { OnOk result (length trace.new.items ≤ 131072) }
+    ensures each { OnOk result (All (IsCommandInBounds c.now) trace.new.items) }
+{
+    if trace.len() >= 131_072 || !command.in_bounds(c) {
+        return Ok(());
+    }
+    trace.push(command)?;
+    Ok(())
+}
+
+// Commands of all kinds in turn: those that are in bounds.
 fn drawn_trace(
     alloc: Global,
     c: &Config,
@@ -96,9 +111,7 @@ fn drawn_trace(
     let mut trace = Vec::new(alloc);
     for place in 0..COMMANDS {
         let command = drawn_command(draws, place % 13);
-        if command.in_bounds(c) && trace.len() < 131_072 {
-            trace.push(command)?;
-        }
+        push_fitting(c, &mut trace, command)?;
     }
     Ok(trace)
 }

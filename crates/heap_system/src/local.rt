@@ -5,7 +5,7 @@ ghost use Rattle.block_store.specs.Configs.{IsInBounds};
 ghost use Rattle.block_store.specs.Places.{extent, words_count};
 ghost use Rattle.rate_plan.specs.Rates.{IsRate, IsAdmitted};
 ghost use Rattle.never_heap.specs.RightWork.{units_told, units_owed};
-ghost use Rattle.never_heap.specs.Steps.{makes_object, blocks_of};
+ghost use Rattle.never_heap.specs.Steps.{blocks_of};
 ghost use Rattle.work_account.specs.Accounts.{entered};
 ghost use Rattle.heap_machine.specs.Memories.{ReadsOnly, ActsOnce};
 ghost use Rattle.heap_machine.specs.Gates.{gate_want, gate_got, gate_step, GateAt};
@@ -20,9 +20,7 @@ ghost use Rattle.sweep_steps.specs.Rows.{sweeping};
 ghost use Rattle.heap_system.specs.Locals.{LocalReads, HasGot, is_done, is_rest, is_build, is_at_gate, is_in_command, is_marking, is_sweeping, is_on_way_out, part_want, part_step, local_got, at_start, turn_of, is_last, pass_by, first_part, errand_of, command_of, op_wanted, owed, made_got, works, entry_of, balance_over, commands_decided, begun};
 
 use crate::Turn;
-use crate::counting::{
-    count, if_decided, is_new, made_after, makes_object, settle, spend, sum_of_works,
-};
+use crate::counting::{count, if_decided, is_new, made_after, settle, spend, sum_of_works};
 use barrier_steps::FieldPass;
 use block_store::{Config, OutOfMemory, PhaseWord, Places};
 use build_steps::BuildPass;
@@ -654,7 +652,7 @@ impl Local {
         let due = self.due(&command);
         if due > 0 {
             self.part = first_units(pass, self.config.blocks, due);
-        } else if makes_object(command) {
+        } else if command.blocks(self.config.width) > 0 {
             let room = mem::replace(&mut self.room, Vec::new(self.alloc));
             self.part = Part::Build(BuildPass::new(
                 self.config.width,

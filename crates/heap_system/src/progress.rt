@@ -5,10 +5,10 @@ ghost use Rattle.std.specs.Prelude.{ℕ, ◌+◌, ◌*◌, ◌<◌, ◌≤◌, �
 ghost use Rattle.block_store.specs.declared.Config.{Config};
 ghost use Rattle.block_store.specs.Configs.{IsInBounds};
 ghost use Rattle.block_store.specs.Widths.{payloads};
-ghost use Rattle.lone_bound.specs.Near.{near_bound, between};
+ghost use Rattle.lone_bound.specs.Near.{near_bound};
 ghost use Rattle.never_heap.specs.declared.Command.{Command};
 ghost use Rattle.never_heap.specs.declared.Command.TheVariants.{Idle};
-ghost use Rattle.never_heap.specs.Steps.{makes_object, blocks_of};
+ghost use Rattle.never_heap.specs.Steps.{blocks_of};
 ghost use Rattle.barrier_steps.specs.Operands.{is_idle};
 ghost use Rattle.rate_plan.specs.Rates.{IsRate, IsAdmitted};
 ghost use Rattle.heap_system.specs.Alone.{IsQuiet, HasCommand, EndsWithin, command_bound, ChangesPhase, UnitBetween};
@@ -25,34 +25,31 @@ pub fn a_lone_thread_ends_its_command()
     ensures command { (c : Config) (r : Run) (t rate : ℕ) → IsAfterTurns c r → IsRate c rate
         → IsQuiet c r → t < c.threads → HasCommand (local_in c r t)
         → EndsWithin c t r (command_bound c rate (command_of (local_in c r t))) }
-    ensures allocation { (c : Config) (k : Command) (rate : ℕ) → makes_object k ≡ true
+    ensures allocation { (c : Config) (k : Command) (rate : ℕ) → 0 < blocks_of c.width k
         → command_bound c rate k
         ≡ (rate * blocks_of c.width k + 1) * (8 * c.threads + 64) + 16 * blocks_of c.width k
         + 8 * c.threads + 64 }
     ensures idle { (c : Config) (u rate : ℕ)
         → command_bound c rate (Idle u) ≡ (u + 1) * (8 * c.threads + 64) }
-    ensures other { (c : Config) (k : Command) (rate : ℕ) → makes_object k ≡ false
+    ensures other { (c : Config) (k : Command) (rate : ℕ) → blocks_of c.width k ≡ 0
         → is_idle k ≡ false → command_bound c rate k ≡ c.object + 64 }
 {}
 
-/// So an allocation is done in a number of turns that is near the most that one takes: where a
-/// sweep of the heap pays for the changes of a cycle by so much a unit (charge), it is a unit's
-/// turns and the charge for each unit, those of one cycle, and those that write the blocks
-/// (`near`). On any heap that has a rate a charge of 33 pays, and then it is within the bound of an
+/// So an allocation is done in a number of turns that is near the most that one takes: those of its
+/// units, of the changes of phase that can come among them and of the passes to others' grey lists
+/// before the first, and those that write the blocks (`near`). That is within the bound of an
 /// allocation that `a_lone_thread_ends_its_command` states, which so follows (`stated`).
 pub fn a_lone_allocation_ends_near_its_bound()
-    ensures near { (c : Config) (r : Run) (t rate charge : ℕ) → IsAfterTurns c r → IsRate c rate
-        → between c.threads ≤ charge * c.blocks
+    ensures near { (c : Config) (r : Run) (t rate : ℕ) → IsAfterTurns c r → IsRate c rate
         → IsQuiet c r → t < c.threads → HasCommand (local_in c r t)
-        → makes_object (command_of (local_in c r t)) ≡ true
-        → EndsWithin c t r (near_bound c.threads (payloads c.width) charge
+        → 0 < blocks_of c.width (command_of (local_in c r t))
+        → EndsWithin c t r (near_bound c.threads (payloads c.width) c.blocks
         (rate * blocks_of c.width (command_of (local_in c r t)))
         (blocks_of c.width (command_of (local_in c r t)))) }
     ensures stated { (c : Config) (k : Command) (rate : ℕ) → IsInBounds c → IsAdmitted c
-        → makes_object k ≡ true
-        → (between c.threads ≤ 33 * c.blocks)
-        × (near_bound c.threads (payloads c.width) 33 (rate * blocks_of c.width k)
-        (blocks_of c.width k) ≤ command_bound c rate k) }
+        → 0 < blocks_of c.width k
+        → near_bound c.threads (payloads c.width) c.blocks (rate * blocks_of c.width k)
+        (blocks_of c.width k) ≤ command_bound c rate k }
 {}
 
 /// Between two changes of the phase that a lone thread makes there is a unit: it does not turn the

@@ -1,5 +1,5 @@
 -- What the commands of a historian take of the heap's life.
-use Rattle.std.proofs.Common.{◌≡◌, ℕ, ◌+◌, ◌*◌, ◌-◌, ◌%◌, ◌^◌, ◌<◌, ◌≤◌, inl, inr, Bool, cond, List, [], ◌∷◌, length, sym, ap, ◌∙◌, subst, arith}
+use Rattle.std.proofs.Common.{◌≡◌, ℕ, ◌+◌, ◌*◌, ◌-◌, ◌%◌, ◌^◌, ◌<◌, ◌≤◌, inl, inr, Bool, cond, List, [], ◌∷◌, length, refl, sym, ap, ◌∙◌, subst, arith}
 use Rattle.std.proofs.lemmas.Nat.{mul-le}
 use Rattle.std.specs.List.{AllByRecursion}
 use Rattle.std.proofs.lemmas.Bool.{cases_Bool}
@@ -9,6 +9,7 @@ use Rattle.rate_plan.specs.Rates.{IsRate}
 use Rattle.never_heap.specs.declared.Command.{Command}
 use Rattle.never_heap.specs.declared.Command.TheVariants as commands
 use Rattle.never_heap.specs.Bounds.{IsCommandInBounds}
+use Rattle.never_heap.proofs.Ranges.{plain_fits}
 use Rattle.never_heap.specs.RightWork.{units_owed}
 use Rattle.heap_system.specs.Lives.{sum_after}
 use Rattle.control_heap.specs.Controls.{Control, asked, units}
@@ -123,14 +124,17 @@ module _ (l : Limits) (xs : List ℕ) (h : Control) (k : Holds h l xs) (few : as
   room_kept value from count small low inside = record {
     bounds = subst (λ c. AllByRecursion (IsCommandInBounds c) (asked_commands value from count))
         (sym k.config) (
-          (omega arith, omega arith, omega arith),
+          record { range = omega arith; blocks = omega arith; units = omega arith; version = tt },
           (
-            (omega arith, small),
+            plain_fits refl refl tt (omega arith, small),
             (
-              (omega arith, omega arith, omega arith),
+              plain_fits refl refl tt (omega arith, omega arith, omega arith),
               (
-                (omega arith, omega arith, omega arith),
-                ((omega arith, omega arith, omega (arith, low)), tt),
+                plain_fits refl refl tt (omega arith, omega arith, omega arith),
+                (
+                  plain_fits refl refl tt (omega arith, omega arith, omega (arith, low)),
+                  tt,
+                ),
               ),
             ),
           ),
@@ -151,8 +155,11 @@ module _ (l : Limits) (xs : List ℕ) (h : Control) (k : Holds h l xs) (few : as
   room_fetched i inside = record {
     bounds = subst (λ c. AllByRecursion (IsCommandInBounds c) (fetched_commands i))
         (sym k.config) (
-          (omega arith, omega arith, omega arith),
-          ((omega arith, omega arith, omega arith), tt),
+          plain_fits refl refl tt (omega arith, omega arith, omega arith),
+          (
+            plain_fits refl refl tt (omega arith, omega arith, omega arith),
+            tt,
+          ),
         );
     count = omega (arith, few);
     objects = objects;
@@ -168,7 +175,7 @@ module _ (l : Limits) (xs : List ℕ) (h : Control) (k : Holds h l xs) (few : as
   pub room_listed : (i : ℕ) → length xs ≤ life → HasRoomFor h (listed_commands i)
   room_listed i inside = record {
     bounds = subst (λ c. AllByRecursion (IsCommandInBounds c) (listed_commands i))
-        (sym k.config) ((omega arith, omega arith, omega arith), tt);
+        (sym k.config) (plain_fits refl refl tt (omega arith, omega arith, omega arith), tt);
     count = omega (arith, few);
     objects = objects;
     units = λ rate is_rate.

@@ -5,7 +5,7 @@
 ghost use Rattle.std.specs.Prelude.{ℕ, Bool, true, false, suc, ◌+◌, ◌*◌, ◌<◌, ◌≤◌, ◌≡◌, ◌⊎◌};
 ghost use Rattle.lone_bound.specs.Moves.{Look, Lone, Terms, Moves, Fresh, changes_phase};
 ghost use Rattle.lone_bound.specs.Prices.{left, at_look, unit_cost, inside_cost, allocation_bound, idle_bound, other_bound};
-ghost use Rattle.lone_bound.specs.Near.{Scene, NearMoves, near_left, near_at, near_unit, near_bound, between, spread};
+ghost use Rattle.lone_bound.specs.Near.{Scene, NearMoves, near_left, near_at, near_unit, near_bound, farthest, changes_cost};
 
 /// Each move lowers what is left of the command, on blocks of two payload words or more and at any
 /// price of a unit that is at least its cost.
@@ -47,26 +47,25 @@ pub fn one_change()
 {}
 
 /// Each move lowers what is left, where units and changes of phase are counted apart: on blocks of
-/// two payload words or more, in a heap of so many blocks that a sweep of it pays for the changes
-/// of a cycle.
+/// two payload words or more, in a heap of some blocks.
 pub fn near_moves_lower()
-    ensures { (e : Terms) (m charge : ℕ) → 2 ≤ e.payloads
-        → between e.threads ≤ charge * m → (s z : Scene) → NearMoves e m s z
-        → near_left e charge z < near_left e charge s }
+    ensures { (e : Terms) (m : ℕ) → 2 ≤ e.payloads → 0 < m
+        → (s z : Scene) → NearMoves e m s z → near_left e m z < near_left e m s }
 {}
 
 /// What is left at the look is within the near bound: of an allocation (`allocation`), and of any
-/// command (`any`). The stated bound follows from it, since on at most 16 threads, blocks of at
-/// most eight payload words, and a heap of at least as many blocks as threads, 33 turns a unit pay
-/// for the cycles (`stated`).
+/// command (`any`). The stated bound follows from it on at most 16 threads, blocks of at most eight
+/// payload words, and a heap of at least as many blocks as threads (`stated`).
 pub fn near_holds()
-    ensures allocation { (e : Terms) (charge r room far : ℕ) (sweep : Bool) → e.allocates ≡ true
-        → far ≤ spread e.threads → near_at e charge Look r sweep room far
-        ≤ near_bound e.threads e.payloads charge r e.blocks }
-    ensures any { (e : Terms) (charge r room far : ℕ) (sweep : Bool) → far ≤ spread e.threads
-        → near_at e charge Look r sweep room far
-        ≤ r * (near_unit e.payloads + charge) + between e.threads + inside_cost e 0 + 2 }
+    ensures allocation { (e : Terms) (m r room : ℕ) (far : ℕ → ℕ) (sweep : Bool)
+        → 2 ≤ e.payloads → 0 < m → e.allocates ≡ true
+        → ((passes : ℕ) → far passes ≤ farthest e.threads passes)
+        → near_at e m Look r sweep room far
+        ≤ near_bound e.threads e.payloads m r e.blocks }
+    ensures any { (e : Terms) (m r room : ℕ) (far : ℕ → ℕ) (sweep : Bool)
+        → 2 ≤ e.payloads → 0 < m → ((passes : ℕ) → far passes ≤ farthest e.threads passes)
+        → near_at e m Look r sweep room far
+        ≤ r * near_unit e.payloads + changes_cost e.threads m r + inside_cost e 0 + 2 }
     ensures stated { (n m w rate k : ℕ) → n ≤ 16 → w ≤ 8 → n ≤ m → 1 ≤ m
-        → (between n ≤ 33 * m)
-        × (near_bound n w 33 (rate * k) k ≤ allocation_bound n k rate) }
+        → near_bound n w m (rate * k) k ≤ allocation_bound n k rate }
 {}

@@ -3,6 +3,7 @@ pub mod GraphMoves
 pub mod FieldStores
 pub mod Starting
 pub mod Making
+pub mod Outcomes
 pub mod Stepping
 pub mod Ranges
 pub mod Naming

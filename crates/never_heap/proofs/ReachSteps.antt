@@ -17,8 +17,9 @@ use Rattle.never_heap.proofs.FieldStores.{object_with_field, object_with_object,
 use Rattle.never_heap.proofs.Naming.{one_name, same_itself}
 use Rattle.never_heap.proofs.Reaching.{field_there, reachable_closed, reachable_least, reachable_within}
 use Rattle.never_heap.proofs.Starting.{threads_of_start, object_of_start, has_shared, start_at}
-use Rattle.never_heap.proofs.Staying.{change_past, next_is_new, names_of_change, replay_keeps}
-use Rattle.never_heap.proofs.Stepping.{Stored, nil, number, register, field, Change, none, store, put, swap, make, change_of, has_field, with_object_threads, threads_put}
+use Rattle.never_heap.proofs.Staying.{step_past, next_is_new, names_of_change, replay_keeps}
+use Rattle.never_heap.proofs.Outcomes.{Stored, nil, number, register, field}
+use Rattle.never_heap.proofs.Stepping.{Change, none, store, put, swap, make, change_of, has_field, with_object_threads, threads_put}
 
 -- what stands in a list after a write was written, or stood there before
 set_cases : (xs : List Value) (i k : ℕ) (v : Value)
@@ -195,9 +196,7 @@ pub reached_after : (g : Graph) (t : ℕ) (command : Command) (a : Name)
 reached_after g t command a r = elim (cases_lt t (length g.mutators)) [
   | inl there ↦ reached_here g t (makes_object command) (step g t command).0 there
       (change_of g t command) a r
-  | inr past ↦ inl (ap (λ k. reachable k a)
-      (sym (change_past g t (makes_object command) (step g t command).0 past
-      (change_of g t command))) ∙ r)
+  | inr past ↦ inl (ap (λ k. reachable k a) (sym (step_past g t command past)) ∙ r)
 ]
 
 -- each reference, in a register or in a field, is to an object
@@ -228,8 +227,7 @@ sound_after g t command sound = elim (cases_lt t (length g.mutators)) [
   | inl there ↦ sound_here g t (makes_object command) (step g t command).0 there
       (change_of g t command) sound
   | inr past ↦ subst (λ (k : Graph). IsClosed k (has_name k))
-      (sym (change_past g t (makes_object command) (step g t command).0 past
-      (change_of g t command))) sound
+      (sym (step_past g t command past)) sound
 ]
 
 -- so it is at the start

@@ -1,6 +1,6 @@
 -- What a field holds is what was last stored there.
-use Rattle.std.proofs.Common.{ℕ, Bool, Option, Some, None, ◌≡◌, ◌<◌, true, false, cond, ltb, List, [], ◌∷◌, ◌++◌, length, get_or, ap, sym, ◌∙◌, refl, subst, arith, inl, inr, ◌⊎◌}
-use Rattle.std.proofs.lemmas.Bool.{cases_eq, cases_lt, cases_Bool, ltb-true, lt-ltb}
+use Rattle.std.proofs.Common.{ℕ, Option, Some, None, ◌≡◌, ◌<◌, true, false, cond, ltb, List, [], ◌∷◌, ◌++◌, length, get_or, ap, sym, ◌∙◌, refl, subst, arith, inl, inr, ◌⊎◌}
+use Rattle.std.proofs.lemmas.Bool.{cases_eq, cases_lt, cases_Bool, lt-ltb}
 use Rattle.std.proofs.lemmas.List.{get_or_past, get_or-set_same}
 use Rattle.block_store.specs.declared.Config.{Config}
 use Rattle.block_store.specs.declared.Name.{Name}
@@ -14,15 +14,16 @@ use Rattle.never_heap.specs.declared.Reply.TheVariants as replies
 use Rattle.never_heap.specs.Graphs.{Graph, Object, start_graph, register_of, object_of, has_name, same_name, with_register, with_field, with_object, set_field, field_of, nils, next_name}
 use Rattle.never_heap.specs.Histories.{HistoryItem, Started, Did, is_full, after, replay, replay_from, IsAnswered, Legal, LegalFrom}
 use Rattle.never_heap.specs.Reach.{refers}
-use Rattle.never_heap.specs.Steps.{step, made, swapped, at_field, makes_object, same_value}
+use Rattle.never_heap.specs.Steps.{step, made, at_field, makes_object}
 use Rattle.never_heap.specs.Readback.{stored_by, StoresIn, NoneStores, IsLastStore, IsLastStored}
 use Rattle.never_heap.proofs.FieldStores.{object_with_field, object_with_object}
 use Rattle.never_heap.proofs.Growing.{replay_more, legal_front}
 use Rattle.never_heap.proofs.Naming.{one_name, same_itself, refers-ref, ref-refers}
 use Rattle.never_heap.proofs.ReachSteps.{nil_of}
 use Rattle.never_heap.proofs.Starting.{object_of_start}
+use Rattle.never_heap.proofs.Outcomes.{Outcome, unchanged, in_register, in_field, in_both, new_object, outcome_of}
 use Rattle.never_heap.proofs.Stepping.{has_field}
-use Rattle.never_heap.proofs.Staying.{past_with, next_is_new, register_object, field_keeps, either_graph, object_keeps, field_at, put_apart, replay_shape}
+use Rattle.never_heap.proofs.Staying.{past_with, next_is_new, register_object, field_at, put_apart, replay_shape}
 
 -- a field of a name that the graph has not is nil
 field_of_none : (g : Graph) (a : Name) (i : ℕ) → has_name g a ≡ false → field_at g a i ≡ Nil
@@ -56,88 +57,31 @@ at_field_there g v a i act e l =
     ap (λ w. at_field g w i act) e
     ∙ ap (λ b. cond b (act a) (g, replies.Range)) (lt-ltb i (length (object_of g a).fields) l)
 
--- a command that stores in field i of a, on this graph
-abbrev PutsIn : Graph → ℕ → Command → Name → ℕ → Type 0
-PutsIn g t command a i =
-    (s w : ℕ) → stored_by command (step g t command).1 ≡ Some (s, (i, w))
-    → register_of g t s ≡ Ref a → ⊥
-
--- what a cas does with a field that there is
-abbrev chosen : Graph → ℕ → Name → ℕ → ℕ → ℕ → Bool → Graph × Reply
-chosen g t a i b v k = cond k (with_field g a i (register_of g t v), replies.Yes) (g, replies.No)
-
-module _ (g : Graph) (t s j w : ℕ) (a : Name) (i : ℕ) where
-  put_leaves : PutsIn g t (commands.Put s j w) a i
-      → field_at (step g t (commands.Put s j w)).0 a i ≡ field_at g a i
-  put_leaves apart =
-      field_keeps (λ k. field_at k a i ≡ field_at g a i) g j (register_of g t s) _ refl
-      (λ b r l. put_apart g j (register_of g t w) b a i l (λ same e.
-      apart s w (ap (λ (p : Graph × Reply). stored_by (commands.Put s j w) p.1)
-      (at_field_there g (register_of g t s) b j
-      (λ name. (with_field g name j (register_of g t w), replies.Stored)) r l)
-      ∙ ap (λ k. Some (s, (k, w))) e) (r ∙ ap Ref same)))
-
-  swap_leaves : PutsIn g t (commands.Swap s j w) a i
-      → field_at (step g t (commands.Swap s j w)).0 a i ≡ field_at g a i
-  swap_leaves apart =
-      field_keeps (λ k. field_at k a i ≡ field_at g a i) g j (register_of g t s) _ refl
-      (λ b r l. ap (λ (o : Object). field_of o i)
-      (register_object (with_field g b j (register_of g t w)) t w (field_at g b j) a)
-      ∙ put_apart g j (register_of g t w) b a i l (λ same e.
-      apart s w (ap (λ (p : Graph × Reply). stored_by (commands.Swap s j w) p.1)
-      (at_field_there g (register_of g t s) b j
-      (λ name. (swapped g t name j w, replies.Val (field_at g name j))) r l)
-      ∙ ap (λ k. Some (s, (k, w))) e) (r ∙ ap Ref same)))
-
-  -- a cas by what its test says
-  chosen_leaves : (c : ℕ) (b : Name) (k : Bool) → j < length (object_of g b).fields
-      → (k ≡ true → b ≡ a → j ≡ i → ⊥)
-      → field_at (chosen g t b j c w k).0 a i ≡ field_at g a i
-  chosen_leaves c b true l n = put_apart g j (register_of g t w) b a i l (n refl)
-  chosen_leaves c b false l n = refl
-
-  cas_leaves : (c : ℕ) → PutsIn g t (commands.Cas s j c w) a i
-      → field_at (step g t (commands.Cas s j c w)).0 a i ≡ field_at g a i
-  cas_leaves c apart =
-      field_keeps (λ k. field_at k a i ≡ field_at g a i) g j (register_of g t s) _ refl
-      (λ b r l. chosen_leaves c b (same_value (field_at g b j) (register_of g t c)) l
-      (λ won same e. apart s w (ap (λ (p : Graph × Reply). stored_by (commands.Cas s j c w) p.1)
-      (at_field_there g (register_of g t s) b j (λ name. chosen g t name j c w
-      (same_value (field_at g name j) (register_of g t c))) r l
-      ∙ ap (chosen g t b j c w) won)
-      ∙ ap (λ k. Some (s, (k, w))) e) (r ∙ ap Ref same)))
-
 -- a command that does not store in a field leaves it
+field_after : (g : Graph) (t : ℕ) (k : Command) (p : Graph × Reply) → Outcome g t k p
+    → (a : Name) (i : ℕ)
+    → ((s w : ℕ) → stored_by k p.1 ≡ Some (s, (i, w)) → register_of g t s ≡ Ref a → ⊥)
+    → field_at p.0 a i ≡ field_at g a i
+field_after g t k _ (unchanged r told makes by) a i apart = refl
+field_after g t k _ (in_register d v r s said to makes by) a i apart =
+    ap (λ (o : Object). field_of o i) (register_object g t d v a)
+field_after g t k _ (in_field s j w b r e l said at makes by) a i apart =
+    put_apart g j (register_of g t w) b a i l (λ same is.
+    apart s w (by ∙ ap (λ k. Some (s, (k, w))) is) (e ∙ ap Ref same))
+field_after g t k _ (in_both s j w b e l to at makes by) a i apart =
+    ap (λ (o : Object). field_of o i)
+    (register_object (with_field g b j (register_of g t w)) t w (field_at g b j) a)
+    ∙ put_apart g j (register_of g t w) b a i l (λ same is.
+    apart s w (by ∙ ap (λ k. Some (s, (k, w))) is) (e ∙ ap Ref same))
+field_after g t k _ (new_object d kind n is to at by) a i apart = made_fields g t d n _ a i refl
+
 step_leaves_field : (g : Graph) (t : ℕ) (command : Command) (a : Name) (i : ℕ)
-    → PutsIn g t command a i
+    → ((s w : ℕ) → stored_by command (step g t command).1 ≡ Some (s, (i, w))
+    → register_of g t s ≡ Ref a → ⊥)
     → field_at (step g t command).0 a i ≡ field_at g a i
-step_leaves_field g t (commands.New d f) a i apart = made_fields g t d f _ a i refl
-step_leaves_field g t (commands.Arr d e) a i apart = made_fields g t d e _ a i refl
-step_leaves_field g t (commands.Set d v) a i apart =
-    ap (λ (o : Object). field_of o i) (register_object g t d (Int v) a)
-step_leaves_field g t (commands.Nil d) a i apart =
-    ap (λ (o : Object). field_of o i) (register_object g t d Nil a)
-step_leaves_field g t (commands.Mov d s) a i apart =
-    ap (λ (o : Object). field_of o i) (register_object g t d (register_of g t s) a)
-step_leaves_field g t (commands.Get d s j) a i apart =
-    field_keeps (λ k. field_at k a i ≡ field_at g a i) g j (register_of g t s) _ refl
-    (λ b e l. ap (λ (o : Object). field_of o i) (register_object g t d _ a))
-step_leaves_field g t (commands.Put s j w) a i apart = put_leaves g t s j w a i apart
-step_leaves_field g t (commands.Len s) a i apart =
-    object_keeps (λ k. field_at k a i ≡ field_at g a i) g (register_of g t s) _ refl (λ b. refl)
-step_leaves_field g t (commands.Same b c) a i apart = refl
-step_leaves_field g t (commands.Say s) a i apart = refl
-step_leaves_field g t (commands.Swap s j w) a i apart = swap_leaves g t s j w a i apart
-step_leaves_field g t (commands.Cas s j c w) a i apart = cas_leaves g t s j w a i c apart
-step_leaves_field g t (commands.Idle u) a i apart = refl
+step_leaves_field g t command = field_after g t command _ (outcome_of g t command)
 
--- no command with these replies has stored
-no_store_out_of_range : (command : Command) → stored_by command replies.Range ≡ None
-no_store_out_of_range (commands.Put s i v) = refl
-no_store_out_of_range (commands.Swap s i v) = refl
-no_store_out_of_range (commands.Cas s i a v) = refl
-no_store_out_of_range _ = refl
-
+-- no command that is answered full has stored
 full_stores_nothing : (command : Command) (c : ℕ) → stored_by command (replies.Full c) ≡ None
 full_stores_nothing (commands.Put s i v) c = refl
 full_stores_nothing (commands.Swap s i v) c = refl
@@ -151,38 +95,6 @@ abbrev parts_of : Option Stored → Stored
 parts_of None = (0, (0, 0))
 parts_of (Some p) = p
 
--- the operands of a command that may store in a field
-abbrev operands : Command → Stored
-operands (commands.Put s i v) = (s, (i, v))
-operands (commands.Swap s i v) = (s, (i, v))
-operands (commands.Cas s i a v) = (s, (i, v))
-operands _ = (0, (0, 0))
-
-stored_operands : (command : Command) (r : Reply) (p : Stored)
-    → stored_by command r ≡ Some p → operands command ≡ p
-stored_operands (commands.Put s i v) replies.Stored p e = ap parts_of e
-stored_operands (commands.Put s i v) _ p e = absurd cc
-stored_operands (commands.Swap s i v) (replies.Val old) p e = ap parts_of e
-stored_operands (commands.Swap s i v) _ p e = absurd cc
-stored_operands (commands.Cas s i a v) replies.Yes p e = ap parts_of e
-stored_operands (commands.Cas s i a v) _ p e = absurd cc
-stored_operands _ r p e = absurd cc
-
--- and a field in which it is answered that something was stored is there
-field_is_there : (g : Graph) (command : Command) (v : Value) (a : Name) (i : ℕ)
-    (act : Name → Graph × Reply) (p : Stored)
-    → v ≡ Ref a → stored_by command (at_field g v i act).1 ≡ Some p
-    → i < length (object_of g a).fields
-field_is_there g command v a i act p e told =
-    elim (cases_Bool (ltb i (length (object_of g a).fields))) [
-      | inl y ↦ ltb-true i (length (object_of g a).fields) y
-      | inr n ↦ absurd (let both : Some p ≡ None = sym told
-          ∙ ap (λ (q : Graph × Reply). stored_by command q.1)
-          (ap (λ w. at_field g w i act) e
-          ∙ ap (λ b. cond b (act a) (g, replies.Range)) n)
-          ∙ no_store_out_of_range command in cc)
-    ]
-
 -- what stands in a field in which it was just stored
 field_put_there : (g : Graph) (a : Name) (i : ℕ) (w : Value) → i < length (object_of g a).fields
     → field_at (with_field g a i w) a i ≡ w
@@ -193,80 +105,41 @@ field_put_there g a i w there =
     ∙ get_or-set_same (object_of g a).fields i w Nil there
 
 -- A command that has stored, by its answer, found its field, which holds what its register held.
-record Stores (g : Graph) (t : ℕ) (command : Command) (a : Name) (i w : ℕ) : Type 0 where
+record Stores (g : Graph) (t : ℕ) (h : Graph) (a : Name) (i w : ℕ) : Type 0 where
   there : i < length (object_of g a).fields
-  now : field_at (step g t command).0 a i ≡ register_of g t w
+  now : field_at h a i ≡ register_of g t w
 
-module _ (g : Graph) (t s i w : ℕ) (a : Name) (e : register_of g t s ≡ Ref a) where
-  put_does : (p : Stored)
-      → stored_by (commands.Put s i w) (step g t (commands.Put s i w)).1 ≡ Some p
-      → Stores g t (commands.Put s i w) a i w
-  put_does p told =
-      let act : Name → Graph × Reply =
-      λ name. (with_field g name i (register_of g t w), replies.Stored) in
-      let there : i < length (object_of g a).fields =
-      field_is_there g (commands.Put s i w) (register_of g t s) a i act p e told in
-      record {
-        there = there;
-        now = ap (λ (p : Graph × Reply). field_at p.0 a i)
-            (at_field_there g (register_of g t s) a i act e there)
-            ∙ field_put_there g a i (register_of g t w) there;
-      }
+-- it is the field that its answer tells of
+stores_there : (g : Graph) (t : ℕ) (h : Graph) (told : Option Stored) (q j u s i w : ℕ) (b a : Name)
+    → Stores g t h b j u → told ≡ Some (q, (j, u)) → told ≡ Some (s, (i, w))
+    → register_of g t q ≡ Ref b → register_of g t s ≡ Ref a → Stores g t h a i w
+stores_there g t h told q j u s i w b a stores one other e f =
+    let is : ◌≡◌ {A = Stored} (q, (j, u)) (s, (i, w)) = ap parts_of (sym one ∙ other) in
+    let refs : Ref b ≡ Ref a =
+    sym e ∙ ap (λ (p : Stored). register_of g t p.0) is ∙ f in
+    let same : b ≡ a = cc in
+    subst (λ (p : Stored). Stores g t h a p.1.0 p.1.1) is
+    (subst (λ (x : Name). Stores g t h x j u) same stores)
 
-  swap_does : (p : Stored)
-      → stored_by (commands.Swap s i w) (step g t (commands.Swap s i w)).1 ≡ Some p
-      → Stores g t (commands.Swap s i w) a i w
-  swap_does p told =
-      let act : Name → Graph × Reply =
-      λ name. (swapped g t name i w, replies.Val (field_at g name i)) in
-      let there : i < length (object_of g a).fields =
-      field_is_there g (commands.Swap s i w) (register_of g t s) a i act p e told in
-      record {
-        there = there;
-        now = ap (λ (p : Graph × Reply). field_at p.0 a i)
-            (at_field_there g (register_of g t s) a i act e there)
-            ∙ ap (λ (o : Object). field_of o i)
-            (register_object (with_field g a i (register_of g t w)) t w (field_at g a i) a)
-            ∙ field_put_there g a i (register_of g t w) there;
-      }
-
-  chosen_does : (c : ℕ) (k : Bool) (p : Stored) → i < length (object_of g a).fields
-      → stored_by (commands.Cas s i c w) (chosen g t a i c w k).1 ≡ Some p
-      → field_at (chosen g t a i c w k).0 a i ≡ register_of g t w
-  chosen_does c true p there told = field_put_there g a i (register_of g t w) there
-  chosen_does c false p there told = absurd cc
-
-  cas_does : (c : ℕ) (p : Stored)
-      → stored_by (commands.Cas s i c w) (step g t (commands.Cas s i c w)).1 ≡ Some p
-      → Stores g t (commands.Cas s i c w) a i w
-  cas_does c p told =
-      let act : Name → Graph × Reply =
-      λ name. chosen g t name i c w (same_value (field_at g name i) (register_of g t c)) in
-      let there : i < length (object_of g a).fields =
-      field_is_there g (commands.Cas s i c w) (register_of g t s) a i act p e told in
-      let same : step g t (commands.Cas s i c w) ≡ act a =
-      at_field_there g (register_of g t s) a i act e there in
-      record {
-        there = there;
-        now = ap (λ (p : Graph × Reply). field_at p.0 a i) same
-            ∙ chosen_does c (same_value (field_at g a i) (register_of g t c)) p there
-            (ap (λ (q : Graph × Reply). stored_by (commands.Cas s i c w) q.1) (sym same) ∙ told);
-      }
-
--- the same of each command that may store
-does : (g : Graph) (t : ℕ) (command : Command) (s i w : ℕ) (a : Name)
-    → stored_by command (step g t command).1 ≡ Some (s, (i, w)) → operands command ≡ (s, (i, w))
-    → register_of g t s ≡ Ref a → Stores g t command a i w
-does g t (commands.Put q j u) s i w a told is e =
-    subst (λ (p : Stored). Stores g t (commands.Put q j u) a p.1.0 p.1.1) is
-    (put_does g t q j u a (ap (λ (p : Stored). register_of g t p.0) is ∙ e) _ told)
-does g t (commands.Swap q j u) s i w a told is e =
-    subst (λ (p : Stored). Stores g t (commands.Swap q j u) a p.1.0 p.1.1) is
-    (swap_does g t q j u a (ap (λ (p : Stored). register_of g t p.0) is ∙ e) _ told)
-does g t (commands.Cas q j c u) s i w a told is e =
-    subst (λ (p : Stored). Stores g t (commands.Cas q j c u) a p.1.0 p.1.1) is
-    (cas_does g t q j u a (ap (λ (p : Stored). register_of g t p.0) is ∙ e) c _ told)
-does g t _ s i w a told is e = absurd cc
+does : (g : Graph) (t : ℕ) (k : Command) (p : Graph × Reply) → Outcome g t k p
+    → (s i w : ℕ) (a : Name) → stored_by k p.1 ≡ Some (s, (i, w)) → register_of g t s ≡ Ref a
+    → Stores g t p.0 a i w
+does g t k _ (unchanged r quiet makes by) s i w a told f =
+    absurd (let both : None ≡ Some (s, (i, w)) = sym by ∙ told in cc)
+does g t k _ (in_register d v r x said to makes by) s i w a told f =
+    absurd (let both : None ≡ Some (s, (i, w)) = sym by ∙ told in cc)
+does g t k _ (in_field q j u b r e l said at makes by) s i w a told f =
+    stores_there g t _ (stored_by k r) q j u s i w b a
+    (record { there = l; now = field_put_there g b j (register_of g t u) l }) by told e f
+does g t k _ (in_both q j u b e l to at makes by) s i w a told f =
+    stores_there g t _ (stored_by k (replies.Val (field_at g b j))) q j u s i w b a (record {
+      there = l;
+      now = ap (λ (o : Object). field_of o j)
+          (register_object (with_field g b j (register_of g t u)) t u (field_at g b j) b)
+          ∙ field_put_there g b j (register_of g t u) l;
+    }) by told e f
+does g t k _ (new_object d kind n is to at by) s i w a told f =
+    absurd (let both : None ≡ Some (s, (i, w)) = sym (by _) ∙ told in cc)
 
 -- a reply that is no full comes of the step, and so does the graph
 answered : (g : Graph) (e : Entry) → IsAnswered g (Did e) → is_full e.reply ≡ false
@@ -291,10 +164,9 @@ module _ (g : Graph) (e : Entry) (a : Name) (i : ℕ) (v : Value) (s : StoresIn 
   not_full : is_full e.reply ≡ false
   not_full = stored_not_full e.command e.reply _ s.stored
 
-  stores : Stores g e.thread e.command a i s.w
-  stores = does g e.thread e.command s.s i s.w a
-      (ap (stored_by e.command) (sym (answered g e ok not_full)) ∙ s.stored)
-      (stored_operands e.command e.reply _ s.stored) s.object
+  stores : Stores g e.thread (step g e.thread e.command).0 a i s.w
+  stores = does g e.thread e.command _ (outcome_of g e.thread e.command) s.s i s.w a
+      (ap (stored_by e.command) (sym (answered g e ok not_full)) ∙ s.stored) s.object
 
   pub store_there : i < length (object_of g a).fields
   store_there = stores.there

@@ -1,22 +1,21 @@
 -- What stays over a step and over a replay: names, with the kind and length of their objects, and
 -- what no command stored in.
-use Rattle.std.proofs.Common.{ℕ, ◌+◌, ◌≡◌, ◌<◌, ◌≤◌, Bool, true, false, Option, Some, None, cond, eqb, leb, ltb, List, [], ◌∷◌, length, set, get_or, ap, sym, ◌∙◌, refl, subst, arith, inl, inr, eq-eqb, ne_eqb}
+use Rattle.std.proofs.Common.{ℕ, ◌+◌, ◌≡◌, ◌<◌, ◌≤◌, Bool, true, false, Option, Some, None, cond, eqb, leb, List, [], ◌∷◌, length, set, get_or, ap, sym, ◌∙◌, refl, subst, arith, inl, inr, eq-eqb, ne_eqb}
 use Rattle.std.proofs.lemmas.Bool.{cases_eq, cases_lt, cases_Bool, both_ways, or_right, lt-leb, eqb-false}
 use Rattle.std.proofs.lemmas.List.{length-set, set_past, get_or_past, get_or-set_other}
 use Rattle.block_store.specs.declared.Name.{Name}
 use Rattle.block_store.specs.declared.Value.{Value}
-use Rattle.block_store.specs.declared.Value.TheVariants.{Nil, Int, Ref}
+use Rattle.block_store.specs.declared.Value.TheVariants.{Nil, Ref}
 use Rattle.never_heap.specs.declared.Command.{Command}
-use Rattle.never_heap.specs.declared.Command.TheVariants as commands
 use Rattle.never_heap.specs.declared.Reply.{Reply}
-use Rattle.never_heap.specs.declared.Reply.TheVariants as replies
-use Rattle.never_heap.specs.declared.Reply.TheVariants.{Range}
 use Rattle.never_heap.specs.Graphs.{SameShape, Graph, Mutator, Object, no_mutator, mutator_at, count_of, register_of, object_of, has_name, same_name, with_mutator, with_register, with_field, with_object, set_field, field_of, next_name}
 use Rattle.never_heap.specs.Histories.{HistoryItem, Started, Did, is_full, after, replay_from}
-use Rattle.never_heap.specs.Steps.{step, made, swapped, at_field, at_object, makes_object, same_value, stores_in, stored_at}
+use Rattle.never_heap.specs.Signatures.{operands, destination_in}
+use Rattle.never_heap.specs.Steps.{step, made, makes_object, is_register, stores_in, stored_at}
 use Rattle.never_heap.proofs.GraphMoves.{mutator_with, object_with_register, has_name_with_register}
 use Rattle.never_heap.proofs.FieldStores.{object_with_field, has_name_with_field, object_with_object, has_name_with_object, registers_with_field, registers_with_object}
 use Rattle.never_heap.proofs.Naming.{one_name}
+use Rattle.never_heap.proofs.Outcomes.{Outcome, unchanged, in_register, in_field, in_both, new_object, outcome_of}
 use Rattle.never_heap.proofs.Stepping.{Change, none, store, put, swap, make, change_of, has_field, with_object_threads, threads_put, count_stays, made_count}
 
 -- a thread that there is not changes nothing
@@ -39,6 +38,12 @@ change_past g t new _ l (swap s i v a e k) = let nil : register_of g t s ≡ Nil
 change_past g t new _ l (make d o n e y) =
     ap (λ (k : Graph). with_register k t d (Ref (next_name g t))) (past_with g t _ l)
     ∙ past_with g t _ l
+
+-- so a command of a thread that there is not leaves the graph
+pub step_past : (g : Graph) (t : ℕ) (command : Command) → length g.mutators ≤ t
+    → (step g t command).0 ≡ g
+step_past g t command past =
+    change_past g t (makes_object command) (step g t command).0 past (change_of g t command)
 
 -- the next name is new
 pub next_is_new : (g : Graph) (t : ℕ) → has_name g (next_name g t) ≡ false
@@ -200,29 +205,6 @@ made_register g t d u q o f =
       | inr past ↦ ap (λ k. register_of k u q) (past_with g t _ past)
     ]
 
-pub field_keeps : (P : Graph → Type 0) (g : Graph) (i : ℕ) (v : Value) (act : Name → Graph × Reply)
-    → P g → ((a : Name) → v ≡ Ref a → i < length (object_of g a).fields → P (act a).0)
-    → P (at_field g v i act).0
-field_keeps P g i Nil act p f = p
-field_keeps P g i (Int n) act p f = p
-field_keeps P g i (Ref a) act p f = elim (cases_Bool (ltb i (length (object_of g a).fields))) [
-  | inl y ↦ subst (λ b. P (cond b (act a) (g, Range)).0) (sym y)
-      (f a refl (Rattle.std.proofs.lemmas.Bool.ltb-true i _ y))
-  | inr n ↦ subst (λ b. P (cond b (act a) (g, Range)).0) (sym n) p
-]
-
--- what holds of both graphs holds of the one that a test chooses
-pub either_graph : (P : Graph → Type 0) (k : Bool) (h g : Graph) → P h → P g
-    → P (cond {A = Graph × Reply} k (h, replies.Yes) (g, replies.No)).0
-either_graph P true h g p q = p
-either_graph P false h g p q = q
-
-pub object_keeps : (P : Graph → Type 0) (g : Graph) (v : Value) (act : Name → Graph × Reply) → P g
-    → ((a : Name) → (act a).0 ≡ g) → P (at_object g v act).0
-object_keeps P g Nil act p f = p
-object_keeps P g (Int n) act p f = p
-object_keeps P g (Ref a) act p f = subst (λ k. P k) (sym (f a)) p
-
 -- a store in a field leaves the registers
 put_register : (g : Graph) (i : ℕ) (w : Value) (a : Name) (u q : ℕ)
     → i < length (object_of g a).fields
@@ -230,35 +212,28 @@ put_register : (g : Graph) (i : ℕ) (w : Value) (a : Name) (u q : ℕ)
 put_register g i w a u q l = ap (λ rs. get_or rs q Nil)
     (registers_with_field g a i w (has_field g a i l) u)
 
+-- a command that stores in one register stores in no other
+apart : (k : Command) (t d u q : ℕ) → destination_in (operands k) ≡ Some d
+    → (t ≡ u → stores_in k q ≡ false) → t ≡ u → eqb d q ≡ false
+apart k t d u q to n same = sym (ap (λ o. is_register o q) to) ∙ n same
+
+register_after : (g : Graph) (t : ℕ) (k : Command) (p : Graph × Reply) → Outcome g t k p → (u q : ℕ)
+    → (t ≡ u → stores_in k q ≡ false) → register_of p.0 u q ≡ register_of g u q
+register_after g t k _ (unchanged r told makes by) u q n = refl
+register_after g t k _ (in_register d v r s said to makes by) u q n =
+    other_register g t d u q v (apart k t d u q to n)
+register_after g t k _ (in_field s i v a r e l said at makes by) u q n =
+    put_register g i (register_of g t v) a u q l
+register_after g t k _ (in_both s i v a e l to at makes by) u q n =
+    other_register (with_field g a i (register_of g t v)) t v u q (field_of (object_of g a) i)
+    (apart k t v u q to n) ∙ put_register g i (register_of g t v) a u q l
+register_after g t k _ (new_object d kind size is to at by) u q n =
+    made_register g t d u q _ (apart k t d u q to n)
+
 pub step_register : (g : Graph) (t : ℕ) (command : Command) (u q : ℕ)
     → (t ≡ u → stores_in command q ≡ false)
     → register_of (step g t command).0 u q ≡ register_of g u q
-step_register g t (commands.New d f) u q n = made_register g t d u q _ n
-step_register g t (commands.Arr d e) u q n = made_register g t d u q _ n
-step_register g t (commands.Set d v) u q n = other_register g t d u q (Int v) n
-step_register g t (commands.Nil d) u q n = other_register g t d u q Nil n
-step_register g t (commands.Mov d s) u q n = other_register g t d u q (register_of g t s) n
-step_register g t (commands.Get d s i) u q n =
-    field_keeps (λ k. register_of k u q ≡ register_of g u q) g i (register_of g t s) _ refl
-    (λ a e l. other_register g t d u q _ n)
-step_register g t (commands.Put s i v) u q n =
-    field_keeps (λ k. register_of k u q ≡ register_of g u q) g i (register_of g t s) _ refl
-    (λ a e l. put_register g i (register_of g t v) a u q l)
-step_register g t (commands.Len s) u q n =
-    object_keeps (λ k. register_of k u q ≡ register_of g u q) g (register_of g t s) _ refl
-    (λ a. refl)
-step_register g t (commands.Same a b) u q n = refl
-step_register g t (commands.Say s) u q n = refl
-step_register g t (commands.Swap s i v) u q n =
-    field_keeps (λ k. register_of k u q ≡ register_of g u q) g i (register_of g t s) _ refl
-    (λ a e l. other_register (with_field g a i (register_of g t v)) t v u q
-    (field_of (object_of g a) i) n ∙ put_register g i (register_of g t v) a u q l)
-step_register g t (commands.Cas s i b v) u q n =
-    field_keeps (λ k. register_of k u q ≡ register_of g u q) g i (register_of g t s) _ refl
-    (λ a e l. either_graph (λ k. register_of k u q ≡ register_of g u q)
-    (same_value (field_of (object_of g a) i) (register_of g t b)) _ g
-    (put_register g i (register_of g t v) a u q l) refl)
-step_register g t (commands.Idle k) u q n = refl
+step_register g t command = register_after g t command _ (outcome_of g t command)
 
 -- objects, but for one in which a command may store
 pub register_object : (g : Graph) (t d : ℕ) (v : Value) (a : Name)
@@ -281,24 +256,17 @@ made_object g t d o a has =
       ]
     ]
 
+object_after : (g : Graph) (t : ℕ) (k : Command) (p : Graph × Reply) → Outcome g t k p → (a : Name)
+    → has_name g a ≡ true → stored_at k ≡ None → object_of p.0 a ≡ object_of g a
+object_after g t k _ (unchanged r told makes by) a has n = refl
+object_after g t k _ (in_register d v r s said to makes by) a has n = register_object g t d v a
+object_after g t k _ (in_field s i v b r e l said at makes by) a has n = absurd cc
+object_after g t k _ (in_both s i v b e l to at makes by) a has n = absurd cc
+object_after g t k _ (new_object d kind size is to at by) a has n = made_object g t d _ a has
+
 pub step_object : (g : Graph) (t : ℕ) (command : Command) (a : Name) → has_name g a ≡ true
     → stored_at command ≡ None → object_of (step g t command).0 a ≡ object_of g a
-step_object g t (commands.New d f) a has n = made_object g t d _ a has
-step_object g t (commands.Arr d e) a has n = made_object g t d _ a has
-step_object g t (commands.Set d v) a has n = register_object g t d (Int v) a
-step_object g t (commands.Nil d) a has n = register_object g t d Nil a
-step_object g t (commands.Mov d s) a has n = register_object g t d (register_of g t s) a
-step_object g t (commands.Get d s i) a has n =
-    field_keeps (λ k. object_of k a ≡ object_of g a) g i (register_of g t s) _ refl
-    (λ b e l. register_object g t d _ a)
-step_object g t (commands.Put s i v) a has n = absurd cc
-step_object g t (commands.Len s) a has n =
-    object_keeps (λ k. object_of k a ≡ object_of g a) g (register_of g t s) _ refl (λ b. refl)
-step_object g t (commands.Same b c) a has n = refl
-step_object g t (commands.Say s) a has n = refl
-step_object g t (commands.Swap s i v) a has n = absurd cc
-step_object g t (commands.Cas s i b v) a has n = absurd cc
-step_object g t (commands.Idle u) a has n = refl
+step_object g t command = object_after g t command _ (outcome_of g t command)
 
 -- a store in a field leaves the objects of other names
 put_object : (g : Graph) (i : ℕ) (w : Value) (b a : Name) → i < length (object_of g b).fields
@@ -308,30 +276,6 @@ put_object g i w b a l n = elim (cases_Bool (same_name b a)) [
   | inr other ↦ object_with_field g b i w (has_field g b i l) a
       ∙ ap (λ k. cond k (set_field (object_of g b) i w) (object_of g a)) other
 ]
-
--- and so those to which its register does not refer
-abbrev LeavesOther : ℕ → Graph → ℕ → Command → Name → Type 0
-LeavesOther s g t command a =
-    (register_of g t s ≡ Ref a → ⊥) → object_of (step g t command).0 a ≡ object_of g a
-
-put_other : (g : Graph) (t s i v : ℕ) (a : Name) → LeavesOther s g t (commands.Put s i v) a
-put_other g t s i v a n =
-    field_keeps (λ k. object_of k a ≡ object_of g a) g i (register_of g t s) _ refl
-    (λ b e l. put_object g i (register_of g t v) b a l (λ same. n (e ∙ ap Ref same)))
-
-swap_other : (g : Graph) (t s i v : ℕ) (a : Name) → LeavesOther s g t (commands.Swap s i v) a
-swap_other g t s i v a n =
-    field_keeps (λ k. object_of k a ≡ object_of g a) g i (register_of g t s) _ refl
-    (λ b e l. register_object (with_field g b i (register_of g t v)) t v
-    (field_of (object_of g b) i) a
-    ∙ put_object g i (register_of g t v) b a l (λ same. n (e ∙ ap Ref same)))
-
-cas_other : (g : Graph) (t s i c v : ℕ) (a : Name) → LeavesOther s g t (commands.Cas s i c v) a
-cas_other g t s i c v a n =
-    field_keeps (λ k. object_of k a ≡ object_of g a) g i (register_of g t s) _ refl
-    (λ b e l. either_graph (λ k. object_of k a ≡ object_of g a)
-    (same_value (field_of (object_of g b) i) (register_of g t c)) _ g
-    (put_object g i (register_of g t v) b a l (λ same. n (e ∙ ap Ref same))) refl)
 
 -- and the fields of another place
 other_field : (o : Object) (i j : ℕ) (v : Value) → (i ≡ j → ⊥)
@@ -356,33 +300,7 @@ put_apart g i w b a j l n = elim (cases_Bool (same_name b a)) [
       ∙ ap (λ k. field_of (cond k (set_field (object_of g b) i w) (object_of g a)) j) other
 ]
 
-abbrev LeavesField : ℕ → Graph → ℕ → Command → Name → ℕ → Type 0
-LeavesField i g t command a j =
-    (i ≡ j → ⊥) → field_at (step g t command).0 a j ≡ field_at g a j
-
-put_field : (g : Graph) (t s i v : ℕ) (a : Name) (j : ℕ)
-    → LeavesField i g t (commands.Put s i v) a j
-put_field g t s i v a j n =
-    field_keeps (λ k. field_at k a j ≡ field_at g a j) g i (register_of g t s) _ refl
-    (λ b e l. put_apart g i (register_of g t v) b a j l (λ _. n))
-
-swap_field : (g : Graph) (t s i v : ℕ) (a : Name) (j : ℕ)
-    → LeavesField i g t (commands.Swap s i v) a j
-swap_field g t s i v a j n =
-    field_keeps (λ k. field_at k a j ≡ field_at g a j) g i (register_of g t s) _ refl
-    (λ b e l. ap (λ (o : Object). field_of o j)
-    (register_object (with_field g b i (register_of g t v)) t v (field_at g b i) a)
-    ∙ put_apart g i (register_of g t v) b a j l (λ _. n))
-
-cas_field : (g : Graph) (t s i c v : ℕ) (a : Name) (j : ℕ)
-    → LeavesField i g t (commands.Cas s i c v) a j
-cas_field g t s i c v a j n =
-    field_keeps (λ k. field_at k a j ≡ field_at g a j) g i (register_of g t s) _ refl
-    (λ b e l. either_graph (λ k. field_at k a j ≡ field_at g a j)
-    (same_value (field_at g b i) (register_of g t c)) _ g
-    (put_apart g i (register_of g t v) b a j l (λ _. n)) refl)
-
--- the same of each command that stores in a field
+-- the place in which a command stores is one
 abbrev first_of : Option (ℕ × ℕ) → ℕ
 first_of None = 0
 first_of (Some p) = p.0
@@ -391,27 +309,53 @@ abbrev second_of : Option (ℕ × ℕ) → ℕ
 second_of None = 0
 second_of (Some p) = p.1
 
+same_first : (o : Option (ℕ × ℕ)) (s i q j : ℕ) → o ≡ Some (s, i) → o ≡ Some (q, j) → s ≡ q
+same_first o s i q j e f = ap first_of (sym e ∙ f)
+
+same_second : (o : Option (ℕ × ℕ)) (s i q j : ℕ) → o ≡ Some (s, i) → o ≡ Some (q, j) → i ≡ j
+same_second o s i q j e f = ap second_of (sym e ∙ f)
+
+-- objects to which the register does not refer in whose object a command stores
+other_after : (g : Graph) (t : ℕ) (k : Command) (p : Graph × Reply) → Outcome g t k p
+    → (s i : ℕ) (a : Name) → stored_at k ≡ Some (s, i) → (register_of g t s ≡ Ref a → ⊥)
+    → object_of p.0 a ≡ object_of g a
+other_after g t k _ (unchanged r told makes by) s i a at n = refl
+other_after g t k _ (in_register d v r f said to makes by) s i a at n = register_object g t d v a
+other_after g t k _ (in_field q j v b r e l said place makes by) s i a at n =
+    put_object g j (register_of g t v) b a l (λ same.
+    n (ap (register_of g t) (same_first (stored_at k) s i q j at place) ∙ e ∙ ap Ref same))
+other_after g t k _ (in_both q j v b e l to place makes by) s i a at n =
+    register_object (with_field g b j (register_of g t v)) t v (field_of (object_of g b) j) a
+    ∙ put_object g j (register_of g t v) b a l (λ same.
+    n (ap (register_of g t) (same_first (stored_at k) s i q j at place) ∙ e ∙ ap Ref same))
+other_after g t k _ (new_object d kind size is to place by) s i a at n = absurd cc
+
 pub stored_other : (g : Graph) (t : ℕ) (command : Command) (s i : ℕ) (a : Name)
     → stored_at command ≡ Some (s, i)
     → (register_of g t s ≡ Ref a → ⊥) → object_of (step g t command).0 a ≡ object_of g a
-stored_other g t (commands.Put q j v) s i a e n =
-    put_other g t q j v a (λ r. n (ap (register_of g t) (sym (ap first_of e)) ∙ r))
-stored_other g t (commands.Swap q j v) s i a e n =
-    swap_other g t q j v a (λ r. n (ap (register_of g t) (sym (ap first_of e)) ∙ r))
-stored_other g t (commands.Cas q j c v) s i a e n =
-    cas_other g t q j c v a (λ r. n (ap (register_of g t) (sym (ap first_of e)) ∙ r))
-stored_other g t _ s i a e n = absurd cc
+stored_other g t command = other_after g t command _ (outcome_of g t command)
+
+-- and the fields of other places
+place_after : (g : Graph) (t : ℕ) (k : Command) (p : Graph × Reply) → Outcome g t k p
+    → (s i : ℕ) (a : Name) (z : ℕ) → stored_at k ≡ Some (s, i) → (i ≡ z → ⊥)
+    → field_at p.0 a z ≡ field_at g a z
+place_after g t k _ (unchanged r told makes by) s i a z at n = refl
+place_after g t k _ (in_register d v r f said to makes by) s i a z at n =
+    ap (λ (o : Object). field_of o z) (register_object g t d v a)
+place_after g t k _ (in_field q j v b r e l said place makes by) s i a z at n =
+    put_apart g j (register_of g t v) b a z l
+    (λ _ same. n (same_second (stored_at k) s i q j at place ∙ same))
+place_after g t k _ (in_both q j v b e l to place makes by) s i a z at n =
+    ap (λ (o : Object). field_of o z)
+    (register_object (with_field g b j (register_of g t v)) t v (field_at g b j) a)
+    ∙ put_apart g j (register_of g t v) b a z l
+    (λ _ same. n (same_second (stored_at k) s i q j at place ∙ same))
+place_after g t k _ (new_object d kind size is to place by) s i a z at n = absurd cc
 
 pub stored_field : (g : Graph) (t : ℕ) (command : Command) (s i : ℕ) (a : Name) (j : ℕ)
     → stored_at command ≡ Some (s, i)
     → (i ≡ j → ⊥) → field_of (object_of (step g t command).0 a) j ≡ field_of (object_of g a) j
-stored_field g t (commands.Put q k v) s i a j e n =
-    put_field g t q k v a j (λ r. n (sym (ap second_of e) ∙ r))
-stored_field g t (commands.Swap q k v) s i a j e n =
-    swap_field g t q k v a j (λ r. n (sym (ap second_of e) ∙ r))
-stored_field g t (commands.Cas q k c v) s i a j e n =
-    cas_field g t q k c v a j (λ r. n (sym (ap second_of e) ∙ r))
-stored_field g t _ s i a j e n = absurd cc
+stored_field g t command = place_after g t command _ (outcome_of g t command)
 
 -- how many objects a thread made
 pub step_counts : (g : Graph) (t : ℕ) (command : Command) (u : ℕ)
@@ -419,22 +363,17 @@ pub step_counts : (g : Graph) (t : ℕ) (command : Command) (u : ℕ)
 step_counts g t command u n = elim (cases_lt t (length g.mutators)) [
   | inl there ↦ count_stays g t u (makes_object command) (step g t command).0 there n
       (change_of g t command)
-  | inr past ↦ ap (λ k. count_of k u)
-      (change_past g t (makes_object command) (step g t command).0 past (change_of g t command))
+  | inr past ↦ ap (λ k. count_of k u) (step_past g t command past)
 ]
+
+made_after : (g : Graph) (t : ℕ) (k : Command) (p : Graph × Reply) → Outcome g t k p
+    → makes_object k ≡ true → t < length g.mutators → count_of p.0 t ≡ count_of g t + 1
+made_after g t k _ (unchanged r told nothing by) makes there = absurd cc
+made_after g t k _ (in_register d v r s said to nothing by) makes there = absurd cc
+made_after g t k _ (in_field s i v a r e l said at nothing by) makes there = absurd cc
+made_after g t k _ (in_both s i v a e l to at nothing by) makes there = absurd cc
+made_after g t k _ (new_object d kind size is to at by) makes there = made_count g t d _ there
 
 pub step_made : (g : Graph) (t : ℕ) (command : Command) → makes_object command ≡ true
     → t < length g.mutators → count_of (step g t command).0 t ≡ count_of g t + 1
-step_made g t (commands.New d f) e there = made_count g t d _ there
-step_made g t (commands.Arr d f) e there = made_count g t d _ there
-step_made g t (commands.Set d v) e there = absurd cc
-step_made g t (commands.Nil d) e there = absurd cc
-step_made g t (commands.Mov d s) e there = absurd cc
-step_made g t (commands.Get d s i) e there = absurd cc
-step_made g t (commands.Put s i v) e there = absurd cc
-step_made g t (commands.Len s) e there = absurd cc
-step_made g t (commands.Same a b) e there = absurd cc
-step_made g t (commands.Say s) e there = absurd cc
-step_made g t (commands.Swap s i v) e there = absurd cc
-step_made g t (commands.Cas s i a v) e there = absurd cc
-step_made g t (commands.Idle u) e there = absurd cc
+step_made g t command = made_after g t command _ (outcome_of g t command)

@@ -1,18 +1,17 @@
 -- What a step can do to a graph, by cases, and what every step leaves.
-use Rattle.std.proofs.Common.{ℕ, Bool, false, ◌+◌, ◌-◌, ◌≡◌, ◌<◌, ◌≤◌, true, cond, ltb, length, ap, sym, ◌∙◌, refl, subst, arith, inl, inr, eq-eqb, ne_eqb}
-use Rattle.std.proofs.lemmas.Bool.{cases_eq, cases_lt, cases_Bool, both_ways, ltb-true, le-leb}
+use Rattle.std.proofs.Common.{ℕ, Bool, false, ◌+◌, ◌-◌, ◌≡◌, ◌<◌, ◌≤◌, true, is_some, cond, length, ap, ◌∙◌, refl, subst, arith, inl, inr, eq-eqb, ne_eqb}
+use Rattle.std.proofs.lemmas.Bool.{cases_eq, cases_lt, both_ways, le-leb}
 use Rattle.std.proofs.lemmas.List.{length-set, get_or_past}
 use Rattle.block_store.specs.declared.Name.{Name}
 use Rattle.block_store.specs.declared.Value.{Value}
-use Rattle.block_store.specs.declared.Value.TheVariants.{Nil, Int, Ref}
+use Rattle.block_store.specs.declared.Value.TheVariants.{Ref}
 use Rattle.never_heap.specs.declared.Command.{Command}
-use Rattle.never_heap.specs.declared.Command.TheVariants as commands
 use Rattle.never_heap.specs.declared.Reply.{Reply}
-use Rattle.never_heap.specs.declared.Reply.TheVariants as replies
 use Rattle.never_heap.specs.Graphs.{Graph, Object, no_object, nils, mutator_at, count_of, register_of, object_of, has_name, field_of, with_register, with_field, with_object, next_name}
-use Rattle.never_heap.specs.Steps.{step, made, swapped, makes_object, at_field, at_object, same_value}
+use Rattle.never_heap.specs.Steps.{step, made, swapped, makes_object}
 use Rattle.never_heap.proofs.GraphMoves.{at_zero, at_serial, objects_with}
 use Rattle.never_heap.proofs.FieldStores.{threads_with_field, count_with_field, count_with_object}
+use Rattle.never_heap.proofs.Outcomes.{Stored, Outcome, unchanged, in_register, in_field, in_both, new_object, outcome_of}
 
 -- a name with a field is the name of an object
 pub has_field : (g : Graph) (a : Name) (i : ℕ) → i < length (object_of g a).fields
@@ -38,15 +37,6 @@ has_field g a i h = elim (cases_eq a.serial 0) [
   ]
 ]
 
--- what a command may store in a register: nil or a number, what a register of the thread holds,
--- or a field of an object in one
-pub data Stored (g : Graph) (t : ℕ) : Value → Type 0 where
-  nil : Stored g t Nil
-  number : (n : ℕ) → Stored g t (Int n)
-  register : (s : ℕ) → Stored g t (register_of g t s)
-  field : (s i : ℕ) (a : Name) → register_of g t s ≡ Ref a → i < length (object_of g a).fields
-      → Stored g t (field_of (object_of g a) i)
-
 -- what a step makes of a graph: nothing new, a store in a register, a store in a field, both at
 -- once, or a new object in a register
 pub data Change (g : Graph) (t : ℕ) (new : Bool) : Graph → Type 0 where
@@ -59,55 +49,18 @@ pub data Change (g : Graph) (t : ℕ) (new : Bool) : Graph → Type 0 where
   make : (d : ℕ) (o : Object) (n : ℕ) → o.fields ≡ nils n → new ≡ true
       → Change g t new (with_register (with_object g t o) t d (Ref (next_name g t)))
 
-at_field_changes : (g : Graph) (t : ℕ) (new : Bool) (i : ℕ) (v : Value) (act : Name → Graph × Reply)
-    → ((a : Name) → v ≡ Ref a → i < length (object_of g a).fields → Change g t new (act a).0)
-    → Change g t new (at_field g v i act).0
-at_field_changes g t new i Nil act h = none
-at_field_changes g t new i (Int n) act h = none
-at_field_changes g t new i (Ref a) act h =
-    elim (cases_Bool (ltb i (length (object_of g a).fields))) [
-      | inl y ↦ subst (λ b. Change g t new
-          (cond b (act a) (g, Rattle.never_heap.specs.declared.Reply.TheVariants.Range)).0) (sym y)
-          (h a refl (ltb-true i _ y))
-      | inr n ↦ subst (λ b. Change g t new
-          (cond b (act a) (g, Rattle.never_heap.specs.declared.Reply.TheVariants.Range)).0)
-          (sym n) none
-    ]
-
-at_object_changes : (g : Graph) (t : ℕ) (new : Bool) (v : Value) (act : Name → Graph × Reply)
-    → ((a : Name) → (act a).0 ≡ g) → Change g t new (at_object g v act).0
-at_object_changes g t new Nil act h = none
-at_object_changes g t new (Int n) act h = none
-at_object_changes g t new (Ref a) act h = subst (λ k. Change g t new k) (sym (h a)) none
-
--- a change where a test is so, and none where it is not
-put_or_none : (g : Graph) (t : ℕ) (new k : Bool) (h : Graph) → Change g t new h
-    → Change g t new (cond {A = Graph × Reply} k (h, replies.Yes) (g, replies.No)).0
-put_or_none g t new true h c = c
-put_or_none g t new false h c = none
+change_from : (g : Graph) (t : ℕ) (command : Command) (p : Graph × Reply) → Outcome g t command p
+    → Change g t (makes_object command) p.0
+change_from g t command _ (unchanged r told makes by) = none
+change_from g t command _ (in_register d v r s said to makes by) = store d v s
+change_from g t command _ (in_field s i v a r e l said at makes by) = put s i v a e l
+change_from g t command _ (in_both s i v a e l to at makes by) = swap s i v a e l
+change_from g t command _ (new_object d kind n is to at by) = make d _ n refl (ap is_some is)
 
 -- each step is one of these
 pub change_of : (g : Graph) (t : ℕ) (command : Command)
     → Change g t (makes_object command) (step g t command).0
-change_of g t (commands.New d f) = make d _ f refl refl
-change_of g t (commands.Arr d e) = make d _ e refl refl
-change_of g t (commands.Set d v) = store d (Int v) (number v)
-change_of g t (commands.Nil d) = store d Nil nil
-change_of g t (commands.Mov d s) = store d (register_of g t s) (register s)
-change_of g t (commands.Get d s i) =
-    at_field_changes g t false i (register_of g t s) _ (λ a e l. store d _ (field s i a e l))
-change_of g t (commands.Put s i v) =
-    at_field_changes g t false i (register_of g t s) _ (λ a e l. put s i v a e l)
-change_of g t (commands.Len s) = at_object_changes g t false (register_of g t s) _ (λ a. refl)
-change_of g t (commands.Same a b) = none
-change_of g t (commands.Say s) = none
-change_of g t (commands.Swap s i v) =
-    at_field_changes g t false i (register_of g t s) _ (λ a e l. swap s i v a e l)
-change_of g t (commands.Cas s i b v) =
-    at_field_changes g t false i (register_of g t s) _ (λ a e l.
-    put_or_none g t false (same_value (field_of (object_of g a) i) (register_of g t b))
-    (with_field g a i (register_of g t v)) (put s i v a e l))
-change_of g t (commands.Idle u) = none
+change_of g t command = change_from g t command _ (outcome_of g t command)
 
 with_register_threads : (g : Graph) (t d : ℕ) (v : Value)
     → length (with_register g t d v).mutators ≡ length g.mutators

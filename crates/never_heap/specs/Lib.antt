@@ -3,6 +3,7 @@ pub mod Finding
 pub mod Kinds
 pub mod Reach
 pub mod LiveBlocks
+pub mod Signatures
 pub mod Steps
 pub mod Bounds
 pub mod Histories

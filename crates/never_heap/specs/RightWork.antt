@@ -2,14 +2,13 @@
 use Rattle.std.specs.Prelude.{ℕ, ◌+◌, ◌*◌, ◌≡◌, List, [], ◌∷◌}
 use Rattle.block_store.specs.declared.Width.{Width}
 use Rattle.never_heap.specs.declared.Command.{Command}
-use Rattle.never_heap.specs.declared.Command.TheVariants.{Idle}
 use Rattle.never_heap.specs.Histories.{HistoryItem, Started, Did}
+use Rattle.never_heap.specs.Signatures.{operands, units_in}
 use Rattle.never_heap.specs.Steps.{blocks_of}
 
 -- the units that a command is told to make; 0 for one that is told of none
 abbrev pub units_told : Command → ℕ
-units_told (Idle u) = u
-units_told _ = 0
+units_told k = units_in (operands k)
 
 -- The units of work that a command owes at this rate, on blocks of this width: those of its blocks,
 -- and those that it is told to make. A command has blocks or is told of units, and not both.

@@ -1,62 +1,52 @@
 -- What one command does to the graph, and what it answers.
-use Rattle.std.specs.Prelude.{ℕ, ◌==◌, nat_lt, Bool, false, true, Option, Some, None, if◌then◌else◌, length}
+use Rattle.std.specs.Prelude.{ℕ, ◌==◌, nat_lt, Bool, false, true, Option, Some, None, is_some, if◌then◌else◌, length}
 use Rattle.block_store.specs.declared.Width.{Width}
 use Rattle.block_store.specs.declared.Value.{Value}
 use Rattle.block_store.specs.declared.Value.TheVariants.{Nil, Int, Ref}
 use Rattle.block_store.specs.declared.Name.{Name}
-use Rattle.object_lists.specs.Records.{record_blocks}
-use Rattle.array_trees.specs.Trees.{array_blocks}
 use Rattle.never_heap.specs.declared.Command.{Command}
 use Rattle.never_heap.specs.declared.Command.TheVariants as commands
 use Rattle.never_heap.specs.declared.Reply.{Reply}
 use Rattle.never_heap.specs.declared.Reply.TheVariants as replies
-use Rattle.never_heap.specs.Graphs.{Graph, Object, Record, Array, nil_object, same_name, register_of, object_of, field_of, with_register, with_field, with_object, next_name}
+use Rattle.never_heap.specs.Graphs.{Graph, Object, ObjectKind, Record, Array, nil_object, same_name, register_of, object_of, field_of, with_register, with_field, with_object, next_name}
+use Rattle.never_heap.specs.LiveBlocks.{blocks_of_kind}
+use Rattle.never_heap.specs.Signatures.{operands, object_in, destination_in, place_in}
+
+-- the kind and the length of the object that a command makes
+abbrev pub object_made : Command → Option (ObjectKind × ℕ)
+object_made k = object_in (operands k)
+
+abbrev pub length_in : Option (ObjectKind × ℕ) → ℕ
+length_in None = 0
+length_in (Some o) = o.1
+
+abbrev pub blocks_in : Width → Option (ObjectKind × ℕ) → ℕ
+blocks_in w None = 0
+blocks_in w (Some o) = blocks_of_kind w o.0 o.1
 
 -- how long the object is that a command makes; 0 for a command that makes none
 abbrev pub length_made : Command → ℕ
-length_made (commands.New d f) = f
-length_made (commands.Arr d e) = e
-length_made _ = 0
+length_made k = length_in (object_made k)
 
 -- the blocks of this width that a command allocates
 abbrev pub blocks_of : Width → Command → ℕ
-blocks_of w (commands.New d f) = record_blocks w f
-blocks_of w (commands.Arr d e) = array_blocks w e
-blocks_of w (commands.Set d v) = 0
-blocks_of w (commands.Nil d) = 0
-blocks_of w (commands.Mov d s) = 0
-blocks_of w (commands.Get d s i) = 0
-blocks_of w (commands.Put s i v) = 0
-blocks_of w (commands.Len s) = 0
-blocks_of w (commands.Same a b) = 0
-blocks_of w (commands.Say s) = 0
-blocks_of w (commands.Swap s i v) = 0
-blocks_of w (commands.Cas s i a v) = 0
-blocks_of w (commands.Idle u) = 0
+blocks_of w k = blocks_in w (object_made k)
 
 -- whether a command makes an object
 abbrev pub makes_object : Command → Bool
-makes_object (commands.New d f) = true
-makes_object (commands.Arr d e) = true
-makes_object _ = false
+makes_object k = is_some (object_made k)
+
+abbrev pub is_register : Option ℕ → ℕ → Bool
+is_register None q = false
+is_register (Some r) q = r == q
 
 -- whether a command, where it is not refused, stores in register q
 abbrev pub stores_in : Command → ℕ → Bool
-stores_in (commands.New d f) q = d == q
-stores_in (commands.Arr d e) q = d == q
-stores_in (commands.Set d v) q = d == q
-stores_in (commands.Nil d) q = d == q
-stores_in (commands.Mov d s) q = d == q
-stores_in (commands.Get d s i) q = d == q
-stores_in (commands.Swap s i v) q = v == q
-stores_in _ q = false
+stores_in k q = is_register (destination_in (operands k)) q
 
 -- the register of whose object a command, where it is not refused, stores in a field, and the field
 abbrev pub stored_at : Command → Option (ℕ × ℕ)
-stored_at (commands.Put s i v) = Some (s, i)
-stored_at (commands.Swap s i v) = Some (s, i)
-stored_at (commands.Cas s i a v) = Some (s, i)
-stored_at _ = None
+stored_at k = place_in (operands k)
 
 -- a new object in register d
 abbrev pub made : Graph → ℕ → ℕ → Object → Graph × Reply

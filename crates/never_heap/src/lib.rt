@@ -2,8 +2,9 @@
 #![tactic(auto)]
 
 ghost use Rattle.std.specs.Prelude.{◌≡◌, ◌<◌, ◌≤◌, ◌↔◌, IsTrue, ℕ, List, [], ◌∷◌, ◌++◌, length, slice_index_or};
-ghost use Rattle.never_heap.specs.Bounds.{IsCommandInBounds};
+ghost use Rattle.never_heap.specs.Bounds.{IsCommandInBounds, IsCommandInRange};
 ghost use Rattle.never_heap.specs.RightWork.{units_told};
+ghost use Rattle.never_heap.specs.Signatures.{IsOfVersion, signature};
 ghost use Rattle.never_heap.specs.Steps.{length_made, blocks_of};
 ghost use Rattle.block_store.specs.declared.Config.{Config};
 ghost use Rattle.never_heap.specs.declared.Entry.{Entry};
@@ -84,38 +85,43 @@ impl Command {
     /// made is at most 65,535 long and takes no more blocks than one object may, and an `Idle`
     /// makes at most `MOST_UNITS`. `Swap`, `Cas` and `Idle` are commands of version 2 alone, whose
     /// blocks are wide.
+    #[tactic(auto, using(crate::proofs::Ranges::length_in_range, crate::proofs::Ranges::bounds_are))]
     pub fn in_bounds(&self, c: &Config) -> bool
         ensures { IsTrue result ↔ IsCommandInBounds c.now self.now }
     {
+        self.is_in_range()
+            && self.blocks(c.width) <= c.object
+            && self.told() <= MOST_UNITS
+            && self.is_of_width(c.width)
+    }
+
+    /// Whether each operand is in its range.
+    fn is_in_range(&self) -> bool
+        ensures { IsTrue result ↔ IsCommandInRange self.now }
+    {
+        use Command::*;
+
         match *self {
-            Command::New { d, fields } => {
-                is_register(d)
-                    && fields <= MOST_FIELDS
-                    && blocks_of_record(c.width, fields) <= c.object
+            New { d, fields: n } | Arr { d, elements: n } => is_register(d) && n <= MOST_FIELDS,
+            Set { d, value } => is_register(d) && value < NUMBERS,
+            Nil { d: r } | Len { s: r } | Say { s: r } => is_register(r),
+            Mov { d: r, s: q } | Same { a: r, b: q } => is_register(r) && is_register(q),
+            Get { d, s, i } => is_register(d) && is_register(s) && i < NUMBERS,
+            Put { s, i, v } | Swap { s, i, v } => is_register(s) && i < NUMBERS && is_register(v),
+            Cas { s, i, a, v } => {
+                is_register(s) && i < NUMBERS && is_register(a) && is_register(v)
             }
-            Command::Arr { d, elements } => {
-                is_register(d)
-                    && elements <= MOST_FIELDS
-                    && blocks_of_array(c.width, elements) <= c.object
-            }
-            Command::Set { d, value } => is_register(d) && value < NUMBERS,
-            Command::Nil { d } => is_register(d),
-            Command::Mov { d, s } => is_register(d) && is_register(s),
-            Command::Get { d, s, i } => is_register(d) && is_register(s) && i < NUMBERS,
-            Command::Put { s, i, v } => is_register(s) && i < NUMBERS && is_register(v),
-            Command::Len { s } | Command::Say { s } => is_register(s),
-            Command::Same { a, b } => is_register(a) && is_register(b),
-            Command::Swap { s, i, v } => {
-                is_register(s) && i < NUMBERS && is_register(v) && is_wide(c.width)
-            }
-            Command::Cas { s, i, a, v } => {
-                is_register(s)
-                    && i < NUMBERS
-                    && is_register(a)
-                    && is_register(v)
-                    && is_wide(c.width)
-            }
-            Command::Idle { units } => units <= MOST_UNITS && is_wide(c.width),
+            Idle { units } => units < NUMBERS,
+        }
+    }
+
+    /// Whether it is a command of the version whose blocks have this width.
+    fn is_of_width(&self, width: Width) -> bool
+        ensures { IsTrue result ↔ IsOfVersion (signature self.now).version width }
+    {
+        match *self {
+            Command::Swap { .. } | Command::Cas { .. } | Command::Idle { .. } => is_wide(width),
+            _ => true,
         }
     }
 

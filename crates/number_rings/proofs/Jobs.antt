@@ -1,5 +1,5 @@
 -- The job of rings is in its ranges, and its heap has a rate.
-use Rattle.std.proofs.Common.{ℕ, zero, suc, ◌+◌, ◌*◌, ◌<◌, ◌≤◌, ◌^◌, List, [], ◌∷◌, ◌++◌, length, map, ◌∙◌, arith}
+use Rattle.std.proofs.Common.{ℕ, zero, suc, ◌+◌, ◌*◌, ◌<◌, ◌≤◌, ◌^◌, List, [], ◌∷◌, ◌++◌, length, map, ◌∙◌, refl, arith}
 use Rattle.std.specs.Prelude.{flat_map}
 use Rattle.std.specs.List.{AllByRecursion}
 use Rattle.std.proofs.lemmas.List.{length-map}
@@ -7,6 +7,7 @@ use Rattle.array_trees.proofs.Counts.{few_shared}
 use Rattle.block_store.specs.declared.Width.TheVariants.{Eight}
 use Rattle.never_heap.specs.Bounds.{IsCommandInBounds}
 use Rattle.never_heap.specs.Jobs.{IsTraceInBounds, IsJobInBounds}
+use Rattle.never_heap.proofs.Ranges.{plain_fits}
 use Rattle.operations.specs.Linearizations.{traces_of}
 use Rattle.rate_plan.specs.Rates.{IsAdmitted}
 use Rattle.number_rings.specs.Rings.{Operation, rows_of, command_at, keeps, recalls, script_of, scripts_from, lost_of, left_of, ring_config, ring_traces, IsKeepable}
@@ -23,13 +24,13 @@ module _ (n : ℕ) (few : n ≤ 16) where
   keeps_fit t j [] ops low small rest = rest
   keeps_fit t j (v ∷ vs) ops low small rest =
       let own = ring_own t j in (
-        omega arith,
+        record { range = omega arith; blocks = omega arith; units = omega arith; version = tt },
         (
-          (omega arith, small.0),
+          plain_fits refl refl tt (omega arith, small.0),
           (
-            omega arith,
+            plain_fits refl refl tt (omega arith),
             (
-              (omega arith, omega (arith, own.low), omega arith),
+              plain_fits refl refl tt (omega arith, omega (arith, own.low), omega arith),
               keeps_fit t (j + 1) vs ops low small.1 rest,
             ),
           ),
@@ -42,8 +43,11 @@ module _ (n : ℕ) (few : n ≤ 16) where
   recalls_fit t j zero low = tt
   recalls_fit t j (suc k) low =
       let own = ring_own t j in (
-        (omega arith, omega arith, omega (arith, own.low)),
-        ((omega arith, omega arith, omega arith), recalls_fit t (j + 1) k low),
+        plain_fits refl refl tt (omega arith, omega arith, omega (arith, own.low)),
+        (
+          plain_fits refl refl tt (omega arith, omega arith, omega arith),
+          recalls_fit t (j + 1) k low,
+        ),
       )
 
   trace_fits : (t : ℕ) (vs : List ℕ) → t < n → IsKeepable vs

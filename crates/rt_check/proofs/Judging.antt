@@ -5,7 +5,6 @@ use Rattle.std.proofs.lemmas.Nat.{mul-le}
 use Rattle.std.specs.List.{AllByRecursion}
 use Rattle.block_store.specs.declared.Config.{Config}
 use Rattle.never_heap.specs.declared.Command.{Command}
-use Rattle.never_heap.specs.declared.Command.TheVariants as commands
 use Rattle.never_heap.specs.declared.Entry.{Entry}
 use Rattle.never_heap.specs.declared.Reply.{Reply}
 use Rattle.never_heap.specs.declared.Reply.TheVariants as replies
@@ -18,8 +17,8 @@ use Rattle.never_heap.specs.Histories.{HistoryItem, Started, Did, is_full, after
 use Rattle.never_heap.specs.Licensed.{IsLicensedReply}
 use Rattle.never_heap.specs.LiveBlocks.{live_blocks}
 use Rattle.never_heap.specs.RightWork.{units_told, units_owed}
-use Rattle.never_heap.specs.Steps.{step, blocks_of, makes_object}
-use Rattle.never_heap.proofs.Answering.{step_not_full}
+use Rattle.never_heap.specs.Steps.{step, blocks_of}
+use Rattle.never_heap.proofs.Answering.{step_not_full, blocks_make}
 use Rattle.trace_text.specs.Jobs.{Job, IsJobInBounds}
 use Rattle.trace_text.specs.Orders.{item_text, end_text}
 use Rattle.trace_text.specs.Texts.{entry_text}
@@ -54,36 +53,15 @@ module _ (job : Job) (b : IsJobInBounds job) (t n : ℕ) (command : Command) (re
       all_at (IsCommandInBounds job.config) (get_or job.traces t []) n command rest
       (all_or (IsTraceInBounds job.config) job.traces [] t b.each none_in_bounds).commands next
 
-blocks_few : (c : Config) (command : Command) → IsCommandInBounds c command
-    → blocks_of c.width command ≤ c.object
-blocks_few c (commands.New d f) b = b.2
-blocks_few c (commands.Arr d e) b = b.2
-blocks_few c (commands.Set d v) b = omega arith
-blocks_few c (commands.Nil d) b = omega arith
-blocks_few c (commands.Mov d s) b = omega arith
-blocks_few c (commands.Get d s i) b = omega arith
-blocks_few c (commands.Put s i v) b = omega arith
-blocks_few c (commands.Len s) b = omega arith
-blocks_few c (commands.Same x y) b = omega arith
-blocks_few c (commands.Say s) b = omega arith
-blocks_few c (commands.Swap s i v) b = omega arith
-blocks_few c (commands.Cas s i x v) b = omega arith
-blocks_few c (commands.Idle u) b = omega arith
-
-pub told_few : (c : Config) (command : Command) → IsCommandInBounds c command
-    → units_told command ≤ 131070
-told_few c (commands.Idle u) b = b.0
-told_few c _ b = omega arith
-
 product_few : (a b m n : ℕ) → a ≤ m → b ≤ n → a * b ≤ m * n
 product_few a b m n p q = mul-le a b m n p q
 
 pub work_small : (c : Config) (rate : ℕ) (command : Command) → IsCommandInBounds c command
     → c.object ≤ 1024 → rate ≤ 131070 → units_owed c.width rate command ≤ 2 ^ 32
 work_small c rate command b object low =
-    let few = blocks_few c command b in
+    let few = b.blocks in
     let most = product_few rate (blocks_of c.width command) 131070 1024 low (omega arith) in
-    omega (arith, told_few c command b)
+    omega (arith, b.units)
 
 -- ---- the state and the items
 
@@ -192,14 +170,14 @@ module _ (c : Config) (rate : ℕ) (traces : List (List Command)) (past : List H
     text = text;
   }
 
-  pub filled_good : past ≢ [] → makes_object command ≡ true → Allows c past
+  pub filled_good : past ≢ [] → 0 < blocks_of c.width command → Allows c past
       → line ≡ item_text (starts_in past) (Did (filled c rate traces past t command))
       → IsGood c rate traces past line (Did (filled c rate traces past t command))
-  filled_good begun makes allows text = record {
+  filled_good begun some allows text = record {
     may_come = record {
       first = λ e. absurd (begun e);
       next = (rest, left);
-      answered = inr (refl, makes);
+      answered = inr (refl, blocks_make c.width command some);
       licensed = (refl, allows);
       right_work = refl;
     };
@@ -209,7 +187,7 @@ module _ (c : Config) (rate : ℕ) (traces : List (List Command)) (past : List H
   -- neither entry has the line's text
   pub command_bad : length traces ≤ 16 → Begins line (Some t)
       → (line ≡ item_text (starts_in past) (Did (stepped c rate traces past t command)) → ⊥)
-      → (makes_object command ≡ true → Allows c past
+      → (0 < blocks_of c.width command → Allows c past
       → line ≡ item_text (starts_in past) (Did (filled c rate traces past t command)) → ⊥)
       → IsBad c rate traces past line
   command_bad few begins step_no full_no = entry_bad c rate traces past line t few begins (λ e good.
@@ -281,7 +259,7 @@ module _ (job : Job) (rate : ℕ) (past : List HistoryItem) (f : Follower) (line
       subst (λ (x : Entry). IsGood job.config rate job.traces past line (Did x)) (sym full_entry)
           (filled_good job.config rate job.traces past line t command next.0 left
           (some_past job.config job.traces past f s begun)
-          (subst (λ (k : Command). makes_object k ≡ true) told full.0)
+          (subst (λ (k : Command). 0 < blocks_of job.config.width k) told full.0)
           (subst (λ (n : ℕ). job.config.live < n) live_is full.1)
           (text ∙ ap entry_text full_entry)),
       stands_entry job.config past f f' s e some (omega (arith, thread, here))
@@ -329,8 +307,8 @@ module _ (job : Job) (rate : ℕ) (past : List HistoryItem) (f : Follower) (line
     none_taken begins full_no step_no =
         command_bad job.config rate job.traces past line t command next.0 left few begins
         (λ text. step_no (text ∙ ap entry_text (sym step_entry)))
-        (λ makes allows text. full_no (
-          subst (λ (k : Command). makes_object k ≡ true) (sym told) makes,
+        (λ some allows text. full_no (
+          subst (λ (k : Command). 0 < blocks_of job.config.width k) (sym told) some,
           subst (λ (n : ℕ). job.config.live < n) (sym live_is) allows,
         )
         (text ∙ ap entry_text (sym full_entry)))

@@ -1,10 +1,9 @@
 -- A line is taken as one item at most, and lines are taken to the end or one of them is left.
-use Rattle.std.proofs.Common.{◌≡◌, ℕ, ◌*◌, ◌^◌, ◌≤◌, inl, inr, false, List, [], ◌∷◌, ◌++◌, length, get_or, codes, decimal, None, sym, refl, ap, ◌∙◌, subst, arith}
-use Rattle.std.proofs.lemmas.Bool.{cases_Bool}
+use Rattle.std.proofs.Common.{◌≡◌, ℕ, ◌^◌, ◌≤◌, inl, inr, List, [], ◌∷◌, ◌++◌, length, get_or, codes, decimal, None, sym, refl, ap, ◌∙◌, subst, arith}
+use Rattle.std.proofs.lemmas.Bool.{cases_eq}
 use Rattle.std.proofs.lemmas.Fmt.{decimal_injective}
 use Rattle.std.proofs.lemmas.List.{append_cancel_left}
 use Rattle.never_heap.specs.declared.Command.{Command}
-use Rattle.never_heap.specs.declared.Command.TheVariants as commands
 use Rattle.never_heap.specs.declared.Entry.{Entry}
 use Rattle.never_heap.specs.declared.Reply.{Reply}
 use Rattle.never_heap.specs.declared.Reply.TheVariants as replies
@@ -13,19 +12,14 @@ use Rattle.never_heap.specs.Coming.{left_of}
 use Rattle.never_heap.specs.Graphs.{Graph, next_name}
 use Rattle.never_heap.specs.Histories.{HistoryItem, Started, Did, part, replay}
 use Rattle.never_heap.specs.RightWork.{units_owed}
-use Rattle.never_heap.specs.Steps.{step, blocks_of, makes_object}
+use Rattle.never_heap.specs.Steps.{step, blocks_of}
+use Rattle.never_heap.proofs.Answering.{blocks_answer, owes_told}
 use Rattle.trace_text.specs.Jobs.{Job, IsJobInBounds}
 use Rattle.trace_text.specs.Texts.{entry_text, name_text, reply_text, totals_text}
 use Rattle.rt_check.specs.Taken.{IsTaken, IsEnd, AreTaken, FirstLeft}
 use Rattle.rt_check.proofs.Judging.{command_in_bounds, work_small}
 use Rattle.rt_check.proofs.TakenLaws.{totals_begin, no_one_full}
-use Rattle.rt_check.proofs.Telling.{begins_as, differ, maker_answers, stepped, candidate, entry_tells, no_entry, no_start}
-
-no_blocks : (job : Job) (command : Command) → makes_object command ≡ false
-    → blocks_of job.config.width command ≡ 0
-no_blocks job (commands.New d f) m = absurd cc
-no_blocks job (commands.Arr d e) m = absurd cc
-no_blocks job _ m = refl
+use Rattle.rt_check.proofs.Telling.{begins_as, differ, stepped, candidate, entry_tells, no_entry, no_start}
 
 module _ (job : Job) (b : IsJobInBounds job) (past : List HistoryItem) where
   few : length job.traces ≤ 16
@@ -45,12 +39,12 @@ module _ (job : Job) (b : IsJobInBounds job) (past : List HistoryItem) where
         → entry_text (stepped job.config p job.traces past t command)
         ≡ entry_text (stepped job.config q job.traces past t command)
         → units_owed job.config.width p command ≡ units_owed job.config.width q command
-    one_work p q low few_q same = elim (cases_Bool (makes_object command)) [
-      | inl makes ↦
+    one_work p q low few_q same = elim (cases_eq (blocks_of job.config.width command) 0) [
+      | inr blocks ↦
           let g : Graph = replay job.config past in
           let u : ℕ = units_owed job.config.width p command in
           let v : ℕ = units_owed job.config.width q command in
-          let new = maker_answers g t command makes in
+          let new = blocks_answer job.config.width g t command (omega arith) in
           let tail : 32 ∷ reply_text (step g t command).1 u ≡ 32 ∷ reply_text (step g t command).1 v =
           append_cancel_left (decimal t) (32 ∷ reply_text (step g t command).1 u)
           (32 ∷ reply_text (step g t command).1 v) same in
@@ -62,12 +56,8 @@ module _ (job : Job) (b : IsJobInBounds job) (past : List HistoryItem) where
           decimal_injective u v (let s = small p low in omega arith)
           (let s = small q few_q in omega arith)
           (append_cancel_left front (decimal u) (decimal v) made)
-      | inr none ↦
-          let k : ℕ = blocks_of job.config.width command in
-          let zero_blocks : k ≡ 0 = no_blocks job command none in
-          let a : p * k ≡ p * 0 = ap (λ (n : ℕ). p * n) zero_blocks in
-          let c : q * k ≡ q * 0 = ap (λ (n : ℕ). q * n) zero_blocks in
-          omega arith
+      | inl none ↦ owes_told job.config.width p command none
+          ∙ sym (owes_told job.config.width q command none)
     ]
 
     one_stepped : (p q : ℕ) → units_owed job.config.width p command

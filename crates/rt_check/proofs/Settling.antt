@@ -1,6 +1,6 @@
 -- Lines of an order are good to their end, or one of them is the first that is not.
-use Rattle.std.proofs.Common.{◌≡◌, ◌≢◌, ℕ, zero, suc, ◌+◌, ◌<◌, ◌≤◌, ◌⊎◌, inl, inr, true, false, List, [], ◌∷◌, ◌++◌, length, Some, sym, refl, ap, ◌∙◌, subst, arith}
-use Rattle.std.proofs.lemmas.Bool.{cases_Bool, cases_eq, cases_lt}
+use Rattle.std.proofs.Common.{◌≡◌, ◌≢◌, ℕ, zero, suc, ◌+◌, ◌<◌, ◌≤◌, ◌⊎◌, inl, inr, false, List, [], ◌∷◌, ◌++◌, length, Some, sym, refl, ap, ◌∙◌, subst, arith}
+use Rattle.std.proofs.lemmas.Bool.{cases_eq, cases_lt}
 use Rattle.block_store.specs.declared.Config.{Config}
 use Rattle.never_heap.specs.declared.Command.{Command}
 use Rattle.never_heap.specs.declared.Entry.{Entry}
@@ -11,8 +11,8 @@ use Rattle.never_heap.specs.Cycles.{graph_at}
 use Rattle.never_heap.specs.Histories.{HistoryItem, Started, Did, is_full, replay, starts_in}
 use Rattle.never_heap.specs.Licensed.{IsLicensedReply}
 use Rattle.never_heap.specs.LiveBlocks.{live_blocks}
-use Rattle.never_heap.specs.Steps.{step, makes_object}
-use Rattle.never_heap.proofs.Answering.{step_not_full}
+use Rattle.never_heap.specs.Steps.{step, blocks_of}
+use Rattle.never_heap.proofs.Answering.{step_not_full, blocks_make}
 use Rattle.trace_text.specs.Orders.{item_text, end_text}
 use Rattle.rt_check.specs.Good.{IsGood, IsLast, AreGood, FirstBad}
 use Rattle.rt_check.specs.Standing.{Begins}
@@ -73,12 +73,12 @@ module _ (c : Config) (rate : ℕ) (traces : List (List Command)) (few : length 
       right_work = refl;
     }
 
-    may_fill : makes_object command ≡ true → Allows c past
+    may_fill : 0 < blocks_of c.width command → Allows c past
         → MayCome c rate traces past (Did (filled c rate traces past t command))
-    may_fill makes allows = record {
+    may_fill some allows = record {
       first = λ none. absurd (begun none);
       next = (rest, left);
-      answered = inr (refl, makes);
+      answered = inr (refl, blocks_make c.width command some);
       licensed = (refl, allows);
       right_work = refl;
     }
@@ -87,7 +87,7 @@ module _ (c : Config) (rate : ℕ) (traces : List (List Command)) (few : length 
     full_or : line ≢ item_text (starts_in past) (Did (stepped c rate traces past t command))
         → OfThread t
     full_or other =
-        let none : ((makes_object command ≡ true) → Allows c past
+        let none : (0 < blocks_of c.width command → Allows c past
         → line ≡ item_text (starts_in past) (Did (filled c rate traces past t command)) → ⊥)
         → OfThread t =
         λ unfilled. inr (λ e is good.
@@ -96,20 +96,20 @@ module _ (c : Config) (rate : ℕ) (traces : List (List Command)) (few : length 
           | inr same ↦ unfilled same.1 same.2
               (good.text ∙ ap (λ x. item_text (starts_in past) (Did x)) same.0)
         ]) in
-        elim (cases_Bool (makes_object command)) [
-          | inl makes ↦ elim (cases_lt c.live
+        elim (cases_lt 0 (blocks_of c.width command)) [
+          | inl some ↦ elim (cases_lt c.live
               (live_blocks c.width (graph_at c past (full_cycle past)))) [
                 | inl allows ↦ elim (same_or line
                     (item_text (starts_in past) (Did (filled c rate traces past t command)))) [
                       | inl same ↦ inl (
                         filled c rate traces past t command,
-                        record { may_come = may_fill makes allows; text = same },
+                        record { may_come = may_fill some allows; text = same },
                       )
                       | inr ne ↦ none (λ m a same. ne same)
                     ]
                 | inr few ↦ none (λ m a same. omega arith)
               ]
-          | inr makes_none ↦ none (λ m a same. (let f : true ≡ false = sym m ∙ makes_none in cc))
+          | inr few ↦ none (λ m a same. omega arith)
         ]
 
     with_command : OfThread t

@@ -1,9 +1,8 @@
 -- Which lines are taken or left, by what the follower looks at.
-use Rattle.std.proofs.Common.{◌-◌, ◌*◌, ◌^◌, ◌≡◌, ℕ, zero, suc, max, ◌<◌, ◌≤◌, inl, inr, true, false, List, [], ◌∷◌, ◌++◌, length, drop, get_or, codes, decimal, Some, None, sym, refl, ap, ◌∙◌, arith}
+use Rattle.std.proofs.Common.{◌-◌, ◌*◌, ◌^◌, ◌≡◌, ℕ, zero, suc, max, ◌<◌, ◌≤◌, inl, inr, false, List, [], ◌∷◌, ◌++◌, length, drop, get_or, codes, decimal, Some, None, sym, refl, ap, ◌∙◌, arith}
 use Rattle.std.proofs.lemmas.Bool.{cases_eq, both_ways}
 use Rattle.block_store.specs.declared.Config.{Config}
 use Rattle.never_heap.specs.declared.Command.{Command}
-use Rattle.never_heap.specs.declared.Command.TheVariants as commands
 use Rattle.never_heap.specs.declared.Entry.{Entry}
 use Rattle.never_heap.specs.declared.Reply.{Reply}
 use Rattle.never_heap.specs.declared.Reply.TheVariants as replies
@@ -12,9 +11,9 @@ use Rattle.never_heap.specs.Coming.{left_of}
 use Rattle.never_heap.specs.Graphs.{Graph, count_of, next_name}
 use Rattle.never_heap.specs.Histories.{HistoryItem, Started, Did, is_full, replay, starts_in}
 use Rattle.never_heap.specs.Jobs.{IsTraceInBounds}
-use Rattle.never_heap.specs.RightWork.{units_told, units_owed}
-use Rattle.never_heap.specs.Steps.{step, blocks_of, makes_object}
-use Rattle.never_heap.proofs.Answering.{step_not_full}
+use Rattle.never_heap.specs.RightWork.{units_owed}
+use Rattle.never_heap.specs.Steps.{step, blocks_of}
+use Rattle.never_heap.proofs.Answering.{step_not_full, blocks_answer, blocks_untold, owes_told}
 use Rattle.trace_text.specs.Jobs.{Job, IsJobInBounds}
 use Rattle.trace_text.specs.Lines.{tokens_of}
 use Rattle.trace_text.specs.Orders.{item_text}
@@ -29,7 +28,7 @@ use Rattle.rt_check.specs.Taken.{IsTaken, TellsTotals, IsEnd, IsLeft}
 use Rattle.rt_check.specs.Taking.{first_number, number_behind}
 use Rattle.rt_check.proofs.Judging.{all_or, command_in_bounds, work_small, left_is, start_good, step_taken_as}
 use Rattle.rt_check.proofs.Passing.{made_units, totals_cycles, totals_units}
-use Rattle.rt_check.proofs.Telling.{begins_one, begins_as, maker_answers, stepped, candidate, no_entry, no_start, thread_low}
+use Rattle.rt_check.proofs.Telling.{begins_one, begins_as, stepped, candidate, no_entry, no_start, thread_low}
 
 -- ---- the totals
 
@@ -115,19 +114,6 @@ number_left c traces past line t begins bad = (
 
 -- ---- the next command of a thread
 
-told_none : (command : Command) → makes_object command ≡ true → units_told command ≡ 0
-told_none (commands.New d f) m = refl
-told_none (commands.Arr d e) m = refl
-told_none (commands.Idle u) m = absurd cc
-told_none _ m = refl
-
--- the commands with blocks are those that make an object
-some_makes : (c : Config) (command : Command) → 0 < blocks_of c.width command
-    → makes_object command ≡ true
-some_makes c (commands.New d f) l = refl
-some_makes c (commands.Arr d e) l = refl
-some_makes c _ l = absurd (omega arith)
-
 some_of_drop : (xs : List Command) (n : ℕ) (x : Command) (rest : List Command)
     → drop n xs ≡ x ∷ rest → n < length xs
 some_of_drop [] zero x rest e = absurd cc
@@ -166,18 +152,18 @@ module _ (job : Job) (past : List HistoryItem) (f : Follower) (line : List ℕ) 
       omega arith
 
   -- the units of an allocation stand in its line
-  units_stand : (rate : ℕ) → rate ≤ 131070 → makes_object command ≡ true
+  units_stand : (rate : ℕ) → rate ≤ 131070 → 0 < blocks_of job.config.width command
       → number_behind 4 (tokens_of (entry_text (stepped job.config rate job.traces past t command)))
       ≡ Some (rate * blocks_of job.config.width command)
-  units_stand rate low makes =
+  units_stand rate low some =
       let g : Graph = replay job.config past in
       let units : ℕ = units_owed job.config.width rate command in
       let small = work_small job.config rate command in_bounds
       (let k = b.config in omega arith) low in
       let made = ap (λ (h : Graph). count_of h t) s.graph in
-      let told = told_none command makes in
+      let told = blocks_untold job.config.width command some in
       ap (λ (r : Reply). number_behind 4 (tokens_of (decimal t ++ (32 ∷ reply_text r units))))
-      (maker_answers g t command makes)
+      (blocks_answer job.config.width g t command some)
       ∙ made_units t (next_name g t) units
       (let k = b.config in let h = here in omega arith)
       (let k = b.config in let h = here in omega arith)
@@ -194,15 +180,13 @@ module _ (job : Job) (past : List HistoryItem) (f : Follower) (line : List ℕ) 
   same_units rate shown low text shows =
       let k : ℕ = blocks_of job.config.width command in
       elim (cases_eq k 0) [
-        | inl none ↦
-            let a : rate * k ≡ rate * 0 = ap (λ (n : ℕ). rate * n) none in
-            let c : shown * k ≡ shown * 0 = ap (λ (n : ℕ). shown * n) none in
-            omega arith
+        | inl none ↦ owes_told job.config.width rate command none
+            ∙ sym (owes_told job.config.width shown command none)
         | inr some ↦
             let there : 0 < k = omega arith in
             let is = shows rate low there
             (ap (λ (l : List ℕ). number_behind 4 (tokens_of l)) text
-            ∙ units_stand rate low (some_makes job.config command there)) in
+            ∙ units_stand rate low there) in
             ap (λ (n : ℕ). units_owed job.config.width n command) (sym is)
       ]
 

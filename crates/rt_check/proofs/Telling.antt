@@ -9,18 +9,18 @@ use Rattle.std.proofs.lemmas.Option.{same_Some}
 use Rattle.std.proofs.lemmas.Str.Parse.{digit_from_value}
 use Rattle.block_store.specs.declared.Config.{Config}
 use Rattle.never_heap.specs.declared.Command.{Command}
-use Rattle.never_heap.specs.declared.Command.TheVariants as commands
 use Rattle.never_heap.specs.declared.Entry.{Entry}
 use Rattle.never_heap.specs.declared.Reply.{Reply}
 use Rattle.never_heap.specs.declared.Reply.TheVariants as replies
 use Rattle.never_heap.specs.Coming.{left_of}
-use Rattle.never_heap.specs.Graphs.{Graph, next_name}
+use Rattle.never_heap.specs.Graphs.{Graph}
 use Rattle.never_heap.specs.Cycles.{graph_at}
 use Rattle.never_heap.specs.Histories.{HistoryItem, Started, Did, is_full, part, replay, starts_in, work_in}
 use Rattle.never_heap.specs.Licensed.{IsLicensedReply}
 use Rattle.never_heap.specs.LiveBlocks.{live_blocks}
 use Rattle.never_heap.specs.RightWork.{units_owed}
-use Rattle.never_heap.specs.Steps.{step, makes_object}
+use Rattle.never_heap.specs.Steps.{step, blocks_of}
+use Rattle.never_heap.proofs.Answering.{makers_have_blocks, blocks_answer}
 use Rattle.trace_text.specs.Lines.{tokens_of, onto_first}
 use Rattle.trace_text.specs.Reading.{number_at, digits_on}
 use Rattle.trace_text.specs.Texts.{reply_text}
@@ -99,22 +99,6 @@ no e = cc
 pub differ : (m n : ℕ) → m ≡ n → m < n → ⊥
 differ m n e l = omega arith
 
-pub maker_answers : (g : Graph) (t : ℕ) (command : Command) → makes_object command ≡ true
-    → (step g t command).1 ≡ replies.New (next_name g t)
-maker_answers g t (commands.New d f) m = refl
-maker_answers g t (commands.Arr d e) m = refl
-maker_answers g t (commands.Set d v) m = absurd (no m)
-maker_answers g t (commands.Nil d) m = absurd (no m)
-maker_answers g t (commands.Mov d s) m = absurd (no m)
-maker_answers g t (commands.Get d s i) m = absurd (no m)
-maker_answers g t (commands.Put s i v) m = absurd (no m)
-maker_answers g t (commands.Len s) m = absurd (no m)
-maker_answers g t (commands.Same a b) m = absurd (no m)
-maker_answers g t (commands.Say s) m = absurd (no m)
-maker_answers g t (commands.Swap s i v) m = absurd (no m)
-maker_answers g t (commands.Cas s i a v) m = absurd (no m)
-maker_answers g t (commands.Idle u) m = absurd (no m)
-
 -- the cycle that a full names after these items
 abbrev pub full_cycle : List HistoryItem → ℕ
 full_cycle past = max 1 (starts_in past - 1)
@@ -168,7 +152,7 @@ module _ (c : Config) (rate : ℕ) (traces : List (List Command)) (past : List H
   abbrev pub IsOne : ℕ → Command → Entry → Type 0
   IsOne t command e =
       (e ≡ stepped t command) ⊎
-      ((e ≡ filled t command) × (makes_object command ≡ true) × Allows c past)
+      ((e ≡ filled t command) × (0 < blocks_of c.width command) × Allows c past)
 
   module _ (few : length traces ≤ 16) (line : List ℕ) where
     pub entry_tells : (e : Entry) → IsGood c rate traces past line (Did e) → Begins line (Some e.thread)
@@ -208,7 +192,8 @@ module _ (c : Config) (rate : ℕ) (traces : List (List Command)) (past : List H
           | inr is ↦ (let full = full_is c past e.reply is.0 good.may_come.licensed in
               inr (
                 same_entry e (filled t command) thread told full.0 work,
-                subst (λ (k : Command). makes_object k ≡ true) told is.1,
+                subst (λ (k : Command). 0 < blocks_of c.width k) told
+                    (makers_have_blocks c.width e.command is.1),
                 full.1,
               ))
         ]
@@ -222,11 +207,11 @@ module _ (c : Config) (rate : ℕ) (traces : List (List Command)) (past : List H
     no_start t begins good = let f = begins_one line None (Some t) (start_tells good) begins in cc
 
     -- the texts of the two differ
-    pub texts_differ : (t : ℕ) (command : Command) (s : ℕ) → makes_object command ≡ true
+    pub texts_differ : (t : ℕ) (command : Command) (s : ℕ) → 0 < blocks_of c.width command
         → item_text s (Did (stepped t command)) ≡ item_text s (Did (filled t command)) → ⊥
-    texts_differ t command s makes same =
+    texts_differ t command s some same =
         let g : Graph = replay c past in
-        let new = maker_answers g t command makes in
+        let new = blocks_answer c.width g t command some in
         let e = append_cancel_left (decimal t)
         (32 ∷ reply_text (step g t command).1 (units_owed c.width rate command))
         (32 ∷ reply_text (replies.Full (full_cycle past))

@@ -7,7 +7,7 @@ use Rattle.never_heap.specs.declared.Entry.{Entry}
 use Rattle.never_heap.specs.Graphs.{WideGraph, with_graph, count_of}
 use Rattle.never_heap.specs.Histories.{HistoryItem, Started, part, replay, starts_in, work_in}
 use Rattle.never_heap.specs.LiveBlocks.{live_blocks}
-use Rattle.never_heap.specs.Steps.{step, makes_object}
+use Rattle.never_heap.specs.Steps.{step, blocks_of}
 use Rattle.trace_text.specs.Lines.{tokens_of}
 use Rattle.trace_text.specs.Orders.{item_text}
 use Rattle.trace_text.specs.Reading.{number_at}
@@ -66,11 +66,11 @@ abbrev pub HasNext : List (List Command) → Follower → ℕ → Command → Ty
 HasNext traces f t command =
     (rest : List Command) × (rest_of traces f.done.items t ≡ command ∷ rest)
 
--- a full is licensed here: the command makes an object, and at the start of the cycle before the
+-- a full is licensed here: the command takes blocks, and at the start of the cycle before the
 -- present one, or of the first, more blocks were live than may be
 abbrev pub IsFullHere : Config → Follower → Command → Type 0
 IsFullHere c f command =
-    (makes_object command ≡ true)
+    (0 < blocks_of c.width command)
     × (c.live < slice_index_or f.live.items (max 1 (length f.live.items - 1) - 1) 0)
 
 -- an entry with the reply of the heap, and the graph behind it

@@ -5,7 +5,7 @@ ghost use Rattle.never_heap.specs.Histories.{HistoryItem};
 ghost use Rattle.never_heap.specs.Bounds.{IsCommandInRange};
 ghost use Rattle.never_heap.specs.Graphs.{count_of};
 ghost use Rattle.never_heap.specs.RightWork.{units_told, units_owed};
-ghost use Rattle.never_heap.specs.Steps.{length_made};
+ghost use Rattle.never_heap.specs.Steps.{length_made, blocks_of};
 ghost use Rattle.never_heap.specs.declared.Reply.TheVariants.{Full};
 ghost use Rattle.trace_text.specs.Jobs.{IsJobInBounds};
 ghost use Rattle.trace_text.specs.Lines.{ended};
@@ -14,8 +14,8 @@ ghost use Rattle.block_store.specs.declared.Config.{Config};
 ghost use Rattle.rt_check.specs.Standing.{Stands, Says, StartsHere, HasFollowed, HasNext, Begins, CanCount};
 ghost use Rattle.rt_check.specs.Standing.{Counted, IsFullHere, entry_here, graph_here, rest_of};
 
-use block_store::{Config, OutOfMemory};
-use never_heap::{Command, Entry, Graph, Reply};
+use block_store::{Config, OutOfMemory, Width};
+use never_heap::{Command, Entry, Graph, Reply, steps_answer};
 use std::alloc::Global;
 use trace_text::{Job, LineBuffer, fill_entry, fill_start, fill_totals, first_token, number_of};
 
@@ -283,14 +283,14 @@ impl Follower {
         (self.live.len() as u64).saturating_sub(1).max(1)
     }
 
-    // Whether a command may be answered full here: it makes an object, and more blocks than may be
+    // Whether a command may be answered full here: it takes blocks, and more blocks than may be
     // were live at the start of the cycle that the full names.
     fn may_be_full(&self, config: &Config, command: &Command) -> bool
         requires { 1 ≤ length self.now.live.items }
         ensures { result ≡ true ↔ IsFullHere config.now self.now command.now }
     {
-        let makes = matches!(*command, Command::New { .. } | Command::Arr { .. });
-        makes && self.live[self.full_cycle() as usize - 1] > u64::from(config.live)
+        let allocates = allocates(config.width, command);
+        allocates && self.live[self.full_cycle() as usize - 1] > u64::from(config.live)
     }
 
     // Counts an entry.
@@ -301,6 +301,14 @@ impl Follower {
         self.done[entry.thread as usize] += 1;
         self.work += entry.work;
     }
+}
+
+// Whether the command takes blocks of this width.
+fn allocates(width: Width, command: &Command) -> bool
+    ensures { result ≡ true ↔ (0 < blocks_of width command.now) }
+{
+    steps_answer();
+    matches!(*command, Command::New { .. } | Command::Arr { .. })
 }
 
 // Whether a line is that of an entry.

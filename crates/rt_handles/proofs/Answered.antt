@@ -1,5 +1,6 @@
--- The answers of all threads, by the logs of a run of their scripts, are those of its linearization.
-use Rattle.std.proofs.Common.{◌≡◌, ℕ, zero, suc, ◌+◌, ◌<◌, ◌≤◌, List, [], ◌∷◌, ◌++◌, length, drop, append_assoc, append-nil, get_or, slice_index_or, map, refl, sym, ap, ◌∙◌, subst, arith}
+-- The answers of all threads, by the logs of a run of their scripts, are those of its
+-- linearization.
+use Rattle.std.proofs.Common.{◌≡◌, ℕ, zero, suc, ◌+◌, ◌<◌, ◌≤◌, List, [], ◌∷◌, ◌++◌, length, drop, append_assoc, append-nil, get_or, map, sym, ap, ◌∙◌, subst, arith}
 use Rattle.std.specs.Prelude.{flat_map}
 use Rattle.std.specs.List.{AllByRecursion}
 use Rattle.handle_table.specs.Fates.{ShowMakes, TellFates}
@@ -10,15 +11,13 @@ use Rattle.block_store.specs.declared.Config.{Config}
 use Rattle.call_exits.specs.Sides.{Sides}
 use Rattle.never_heap.specs.declared.Command.{Command}
 use Rattle.never_heap.specs.declared.Entry.{Entry}
-use Rattle.never_heap.specs.declared.Reply.{Reply}
 use Rattle.never_heap.specs.Histories.{HistoryItem, parts}
 use Rattle.never_heap.specs.Jobs.{IsJobInBounds}
 use Rattle.never_heap.specs.Runs.{IsRun}
-use Rattle.operations.specs.Linearizations.{Call, calls_of, traces_of}
-use Rattle.operations.proofs.Logged.{logged}
+use Rattle.operations.specs.Linearizations.{traces_of}
 use Rattle.handle_table.specs.declared.operation.Operation.{Operation}
 use Rattle.handle_table.specs.declared.told.Outcome.{Outcome}
-use Rattle.handle_table.specs.Handles.{Deed, Answer, all_deeds, deeds_of, AreNamed, rows_of, command_at, outcome_of, outcomes_told, sizes_of}
+use Rattle.handle_table.specs.Handles.{Deed, all_deeds, deeds_of, AreNamed, rows_of, command_at, outcomes_told, sizes_of}
 use Rattle.handle_table.proofs.Finding.{fates_are_told, makes_are_shown}
 use Rattle.handle_table.proofs.Numbering.{deeds_of_thread, deeds_count, sizes_are}
 use Rattle.handle_table.proofs.Jobs.{jobs_fit}
@@ -26,59 +25,17 @@ use Rattle.handle_table.proofs.Keeping.{slots_are_kept}
 use Rattle.threaded_runs.specs.Ends.{HasHistory, commands_of, job_of}
 use Rattle.trace_text.specs.Jobs.{Job}
 use Rattle.trace_text.specs.Reading.{tokenized}
-use Rattle.rt_handles.specs.declared.line.Header.{Header}
-use Rattle.rt_handles.specs.Answers.{outcomes_in}
-use Rattle.rt_handles.specs.Lines.{Tokens, IsHandleScript}
-use Rattle.rt_handles.specs.Calls.{IsReadAs, HasSlots, HasOutcomes}
-use Rattle.rt_handles.specs.Scripts.{config_of, job_of_script, HasRoom}
-use Rattle.rt_handles.specs.Tellings.{outcomes_from}
-use Rattle.rt_handles.proofs.Items.{same_default}
-use Rattle.rt_handles.proofs.Ranges.{count, each_range, in_range}
-
-abbrev replies : List Entry → List Reply
-replies log = map (λ (e : Entry). e.reply) log
-
-plus_none : (t : ℕ) → t + 0 ≡ t
-plus_none t = omega arith
-
-none_plus : (u : ℕ) → u ≡ 0 + u
-none_plus u = omega arith
-
-plus_one : (t u : ℕ) → t + suc u ≡ t + 1 + u
-plus_one t u = omega arith
-
-abbrev outcome_in : Call Deed Answer → Outcome
-outcome_in c = outcome_of c.operation c.answer
-
--- thread by thread
-in_order : (t n : ℕ) (order : List (Call Deed Answer)) (scripts : List (List Operation))
-    (logs : List (List Entry)) → length scripts ≡ n
-    → ((u : ℕ) → u < n → map outcome_in (calls_of (t + u) order)
-    ≡ outcomes_told (t + u) 0 (slice_index_or scripts u []) (replies (slice_index_or logs u [])))
-    → outcomes_in t scripts logs ≡ outcomes_from t n order
-in_order t zero order [] logs size each = refl
-in_order t zero order (x ∷ xs) logs size each = absurd cc
-in_order t (suc n) order [] logs size each = absurd cc
-in_order t (suc n) order (ops ∷ scripts) [] size each =
-    let first : outcomes_told t 0 ops [] ≡ map outcome_in (calls_of t order) =
-    sym (subst (λ (k : ℕ). map outcome_in (calls_of k order) ≡ outcomes_told k 0 ops [])
-    (plus_none t) (each 0 (omega arith))) in
-    let rest : outcomes_in (t + 1) scripts [] ≡ outcomes_from (t + 1) n order =
-    in_order (t + 1) n order scripts [] (omega (arith, size)) (λ u low.
-    subst (λ (k : ℕ). map outcome_in (calls_of k order)
-    ≡ outcomes_told k 0 (slice_index_or scripts u []) (replies (slice_index_or [] u [])))
-    (plus_one t u) (each (suc u) (omega arith))) in
-    λ i. first i ∷ rest i
-in_order t (suc n) order (ops ∷ scripts) (log ∷ logs) size each =
-    let first : outcomes_told t 0 ops (replies log) ≡ map outcome_in (calls_of t order) =
-    sym (subst (λ (k : ℕ). map outcome_in (calls_of k order) ≡ outcomes_told k 0 ops (replies log))
-    (plus_none t) (each 0 (omega arith))) in
-    let rest : outcomes_in (t + 1) scripts logs ≡ outcomes_from (t + 1) n order =
-    in_order (t + 1) n order scripts logs (omega (arith, size)) (λ u low.
-    subst (λ (k : ℕ). map outcome_in (calls_of k order)
-    ≡ outcomes_told k 0 (slice_index_or scripts u []) (replies (slice_index_or logs u [])))
-    (plus_one t u) (each (suc u) (omega arith))) in
-    λ i. first i ∷ rest i
+use Rattle.array_scripts.specs.declared.header.Header.{Header}
+use Rattle.array_scripts.specs.Kinds.{Tokens}
+use Rattle.array_scripts.specs.Scripts.{HasRoom, IsReadAs}
+use Rattle.array_scripts.proofs.Answered.{in_order}
+use Rattle.array_scripts.proofs.Items.{same_default}
+use Rattle.array_scripts.proofs.Ranges.{count}
+use Rattle.rt_handles.specs.Calls.{HasSlots, HasOutcomes}
+use Rattle.rt_handles.specs.Lines.{handle_kind, IsHandleScript}
+use Rattle.rt_handles.specs.Scripts.{job_of_script}
+use Rattle.rt_handles.specs.Tellings.{outcomes_in, outcome_in}
+use Rattle.rt_handles.proofs.Ranges.{each_range, in_range}
 
 -- a history of a job, seen as one of another that is the same
 moved_run : (j k : Job) (rate : ℕ) (h : List HistoryItem) → j ≡ k → IsRun j.config rate j.traces h
@@ -87,14 +44,17 @@ moved_run j k rate h same run =
     subst (λ (x : Job). IsRun x.config rate x.traces h) same run
 
 -- what a run of a script's job is: the table was kept, and its answers are read off the logs
-pub has_outcomes : (source : Sides) (h : Header) (scripts : List (List Operation)) (run : ClosedState)
-    → IsReadAs source h scripts → HasRoom h → job_of run ≡ job_of_script h scripts → HasHistory run
-    → HasOutcomes source run (outcomes_in 0 scripts run.logs)
+pub has_outcomes : (source : Sides) (h : Header) (scripts : List (List Operation))
+    (run : ClosedState) → IsReadAs handle_kind source h scripts → HasRoom handle_kind h
+    → job_of run ≡ job_of_script h scripts → HasHistory run
+    → HasOutcomes source run (outcomes_in scripts run.logs)
 has_outcomes source h scripts run read room job ran =
-    let same : IsRun (config_of h) ran.rate (traces_of rows_of command_at (all_deeds 0 scripts)) ran.history =
+    let same : IsRun (handle_kind.config_of h) ran.rate (traces_of rows_of command_at (all_deeds 0 scripts))
+    ran.history =
     moved_run (job_of run) (job_of_script h scripts) ran.rate ran.history job ran.is_run in
-    let size : length scripts ≡ h.threads = count (tokenized read.text) h scripts read.script in
-    let kept = slots_are_kept h.threads h.slots h.blocks ran.rate scripts ran.history size
+    let size : length scripts ≡ h.threads =
+    count handle_kind h (tokenized read.text) scripts read.script in
+    let kept = slots_are_kept h.threads h.places h.blocks ran.rate scripts ran.history size
     (λ t. (each_range (tokenized read.text) h scripts read.script t).each) same in
     let parts_are : parts h.threads ran.history ≡ run.logs =
     ap (λ (j : Job). parts j.config.threads ran.history) (sym job) ∙ ran.parts_logged in (
@@ -109,12 +69,8 @@ has_outcomes source h scripts run read room job ran =
         linear = kept.1;
         none_full = kept.3;
       },
-      in_order 0 h.threads kept.0 scripts run.logs size (λ u low.
-          subst (λ (k : ℕ). map outcome_in (calls_of k kept.0)
-          ≡ outcomes_told k 0 (slice_index_or scripts u []) (replies (slice_index_or run.logs u [])))
-          (none_plus u)
-          (kept.2 u ∙ ap (λ (p : List Entry). outcomes_told u 0 (slice_index_or scripts u []) (replies p))
-          (logged h.threads ran.history run.logs u parts_are low))),
+      in_order (λ t. outcomes_told t 0) outcome_in kept.0 h.threads ran.history scripts run.logs
+          size parts_are kept.2,
     )
 
 -- in the order of a script's slots each handle is told as it is
@@ -123,24 +79,29 @@ pub slots_tell : (source : Sides) (run : ClosedState) (slots : HasSlots source r
 slots_tell source run slots =
     let h = slots.header in
     let range = each_range (tokenized slots.read.text) h slots.scripts slots.read.script in (
-      makes_are_shown h.slots slots.scripts slots.order range slots.linear.each slots.linear.answered,
-      fates_are_told h.slots slots.scripts slots.order range slots.linear.each slots.linear.answered,
+      makes_are_shown h.places slots.scripts slots.order range slots.linear.each
+          slots.linear.answered,
+      fates_are_told h.places slots.scripts slots.order range slots.linear.each
+          slots.linear.answered,
     )
 
 -- the job of a script is in its bounds, and what it is run as is that job
 pub job_fits : (lines : List Tokens) (h : Header) (scripts : List (List Operation))
-    → IsHandleScript lines h scripts → (c : Config) (traces : List (List Command)) → c ≡ config_of h
+    → IsHandleScript lines h scripts → (c : Config) (traces : List (List Command))
+    → c ≡ handle_kind.config_of h
     → traces ≡ traces_of rows_of command_at (all_deeds 0 scripts) → IsJobInBounds c traces
 job_fits lines h scripts is c traces same own =
-    let fit : IsJobInBounds (config_of h) (traces_of rows_of command_at (all_deeds 0 scripts)) =
-    jobs_fit h.threads h.slots h.blocks scripts is.header.some_thread is.header.threads
-    is.header.slots is.header.some_block is.header.blocks (count lines h scripts is)
+    let fit : IsJobInBounds (handle_kind.config_of h)
+    (traces_of rows_of command_at (all_deeds 0 scripts)) =
+    jobs_fit h.threads h.places h.blocks scripts is.header.some_thread is.header.threads
+    is.header.places is.header.some_block is.header.blocks (count handle_kind h lines scripts is)
     (in_range lines h scripts is) in
     subst (λ (k : Config). IsJobInBounds k traces) (sym same)
-    (subst (λ (ts : List (List Command)). IsJobInBounds (config_of h) ts) (sym own) fit)
+    (subst (λ (ts : List (List Command)). IsJobInBounds (handle_kind.config_of h) ts) (sym own) fit)
 
 pub job_is : (h : Header) (scripts : List (List Operation)) (j : Job) (c : Config)
-    (traces : List (List Command)) → j ≡ record { config = c; traces = traces } → c ≡ config_of h
+    (traces : List (List Command)) → j ≡ record { config = c; traces = traces }
+    → c ≡ handle_kind.config_of h
     → traces ≡ traces_of rows_of command_at (all_deeds 0 scripts) → j ≡ job_of_script h scripts
 job_is h scripts j c traces is same own = is ∙ (λ i. record { config = same i; traces = own i })
 
@@ -188,47 +149,6 @@ enough scripts logs t ops log there is_ops is_log same =
       length-map (flat_map rows_of (deeds_of t ops)) command_at,
       sizes_are t 0 (λ h. 0) ops,
     )
-
--- ---- what one thread's operations came to more
-
-behind_at : (t k : ℕ) (scripts : List (List Operation)) (logs : List (List Entry))
-    (ops : List Operation) (log : List Entry) → k < length scripts → k < length logs
-    → ops ≡ get_or scripts k ops → log ≡ get_or logs k log
-    → outcomes_in t (drop k scripts) (drop k logs)
-    ≡ outcomes_told t 0 ops (replies log) ∷ outcomes_in (t + 1) (drop (k + 1) scripts) (drop (k + 1) logs)
-behind_at t k scripts logs ops log low there is_ops is_log =
-    at_drop_more (λ (l : List (List Operation)). outcomes_in t l (drop k logs)) scripts k ops low
-    ∙ at_drop_more (λ (l : List (List Entry)).
-    outcomes_in t (get_or scripts k ops ∷ drop (k + 1) scripts) l) logs k log there
-    ∙ (λ i. outcomes_told t 0 (sym is_ops i) (replies (sym is_log i))
-    ∷ outcomes_in (t + 1) (drop (k + 1) scripts) (drop (k + 1) logs))
-
-pub turn : (scripts : List (List Operation)) (logs : List (List Entry)) (t : ℕ)
-    (ops : List Operation) (log : List Entry) (outcomes : List Outcome)
-    (told more : List (List Outcome))
-    → t < length logs → ops ≡ get_or scripts t ops → log ≡ get_or logs t []
-    → map commands_of logs ≡ traces_of rows_of command_at (all_deeds 0 scripts)
-    → outcomes ≡ outcomes_told t 0 ops (replies log) → more ≡ told ++ outcomes ∷ []
-    → told ++ outcomes_in t (drop t scripts) (drop t logs) ≡ outcomes_in 0 scripts logs
-    → more ++ outcomes_in (t + 1) (drop (t + 1) scripts) (drop (t + 1) logs)
-    ≡ outcomes_in 0 scripts logs
-turn scripts logs t ops log outcomes told more there is_ops is_log same is pushed so_far =
-    let rest : List (List Outcome) = outcomes_in (t + 1) (drop (t + 1) scripts) (drop (t + 1) logs) in
-    ap (λ (l : List (List Outcome)). l ++ rest)
-    (pushed ∙ ap (λ (l : List Outcome). told ++ l ∷ []) is)
-    ∙ append_assoc told (outcomes_told t 0 ops (replies log) ∷ []) rest
-    ∙ ap (λ (l : List (List Outcome)). told ++ l)
-    (sym (behind_at t t scripts logs ops log (omega (arith, there, same_count scripts logs same))
-    there is_ops (is_log ∙ same_default logs t [] log there))) ∙ so_far
-
-pub all_told : (scripts : List (List Operation)) (logs : List (List Entry)) (t : ℕ)
-    (told : List (List Outcome)) → length scripts ≤ t
-    → told ++ outcomes_in t (drop t scripts) (drop t logs) ≡ outcomes_in 0 scripts logs
-    → told ≡ outcomes_in 0 scripts logs
-all_told scripts logs t told past so_far =
-    sym (append-nil told)
-    ∙ ap (λ (l : List (List Operation)). told ++ outcomes_in t l (drop t logs))
-    (sym (drop_all t scripts past)) ∙ so_far
 
 -- ---- the traces so far, and those of the threads that are left
 

@@ -1,11 +1,5 @@
 pub mod Slots
 pub mod Telling
-pub mod Going
-pub mod Threads
 pub mod Ranges
-pub mod Apart
-pub mod Items
 pub mod Answered
 pub mod Rating
-pub mod Writing
-pub mod CarriedOut

@@ -1,41 +1,18 @@
 -- What a script of handles holds: as many threads as its header says, and operations that can stand.
-use Rattle.std.proofs.Common.{◌≡◌, ℕ, zero, suc, ◌+◌, ◌<◌, ◌≤◌, List, [], ◌∷◌, ◌++◌, length, length-append, slice_index_or, arith}
+use Rattle.std.proofs.Common.{ℕ, zero, suc, ◌<◌, List, [], ◌∷◌, ◌++◌, slice_index_or, arith}
 use Rattle.std.specs.List.{AllByRecursion}
-use Rattle.scripts.specs.Scripts.{AreFit, AllFit}
+use Rattle.array_scripts.specs.declared.header.Header.{Header}
+use Rattle.array_scripts.specs.Kinds.{Tokens}
+use Rattle.array_scripts.proofs.Ranges.{FitBehind, few_ops, each_thread}
 use Rattle.handle_table.specs.declared.operation.Operation.{Operation}
 use Rattle.handle_table.specs.declared.operation.Operation.TheVariants.{Make, See, Drop, Take, Evict}
 use Rattle.handle_table.specs.Handles.{AreInTurn, AreNamed, CanStand, handle_of, IsScriptInRange}
-use Rattle.rt_handles.specs.declared.line.Header.{Header}
-use Rattle.rt_handles.specs.Lines.{Tokens, handle_language, IsHeader, Fits, IsHandleScript}
+use Rattle.rt_handles.specs.Lines.{handle_kind, IsHandleScript}
 
-each_stands : (h : Header) (before ops : List Operation)
-    → AreFit handle_language IsHeader Fits h before ops → AreInTurn h.slots before ops
+each_stands : (h : Header) (before ops : List Operation) → FitBehind handle_kind h before ops
+    → AreInTurn h.places before ops
 each_stands h before [] f = tt
 each_stands h before (op ∷ ops) f = (f.0.1, each_stands h (before ++ op ∷ []) ops f.1)
-
-few_fit : (h : Header) (before ops : List Operation) → length before ≤ 14000
-    → AreFit handle_language IsHeader Fits h before ops → length before + length ops ≤ 14000
-few_fit h before [] low f = omega arith
-few_fit h before (op ∷ ops) low f =
-    let long : length (before ++ op ∷ []) ≡ length before + 1 = length-append before (op ∷ []) in
-    let rest = few_fit h (before ++ op ∷ []) ops (omega (arith, f.0.0, long)) f.1 in
-    omega (arith, rest, long)
-
-all_fit : (h : Header) (t : ℕ) (scripts : List (List Operation))
-    → AllFit handle_language IsHeader Fits h t scripts → AllByRecursion (IsScriptInRange h.slots) scripts
-all_fit h t [] f = tt
-all_fit h t (ops ∷ scripts) f = (
-  record {
-    few = omega (arith, few_fit h [] ops (omega arith) f.1);
-    each = each_stands h [] ops f.1;
-  },
-  all_fit h (t + 1) scripts f.2,
-)
-
-count_from : (h : Header) (t : ℕ) (scripts : List (List Operation))
-    → AllFit handle_language IsHeader Fits h t scripts → t + length scripts ≡ h.threads
-count_from h t [] f = omega (arith, f)
-count_from h t (ops ∷ scripts) f = omega (arith, count_from h (t + 1) scripts f.2)
 
 each_in_range : (slots : ℕ) (scripts : List (List Operation))
     → AllByRecursion (IsScriptInRange slots) scripts → (t : ℕ)
@@ -65,17 +42,12 @@ all_named slots (ops ∷ scripts) a = (named slots [] ops a.0.each, all_named sl
 
 module _ (lines : List Tokens) (h : Header) (scripts : List (List Operation))
     (is : IsHandleScript lines h scripts) where
-  pub in_range : AllByRecursion (IsScriptInRange h.slots) scripts
-  in_range = all_fit h 0 scripts is.fit
+  pub in_range : AllByRecursion (IsScriptInRange h.places) scripts
+  in_range = each_thread handle_kind h lines scripts is (IsScriptInRange h.places)
+      (λ ops f. record { few = few_ops handle_kind h ops f; each = each_stands h [] ops f })
 
-  pub count : length scripts ≡ h.threads
-  count = omega (arith, count_from h 0 scripts is.fit)
-
-  pub each_range : (t : ℕ) → IsScriptInRange h.slots (slice_index_or scripts t [])
-  each_range = each_in_range h.slots scripts in_range
+  pub each_range : (t : ℕ) → IsScriptInRange h.places (slice_index_or scripts t [])
+  each_range = each_in_range h.places scripts in_range
 
   pub are_named : AllByRecursion AreNamed scripts
-  are_named = all_named h.slots scripts in_range
-
-  pub few_threads : length scripts ≤ 16
-  few_threads = omega (arith, count, is.header.threads)
+  are_named = all_named h.places scripts in_range

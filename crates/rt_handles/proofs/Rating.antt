@@ -6,25 +6,26 @@ use Rattle.block_store.specs.declared.Width.TheVariants.{Eight}
 use Rattle.rate_plan.specs.declared.PlanFault.{PlanFault}
 use Rattle.rate_plan.specs.declared.PlanFault.TheVariants.{NoRate, LiveTooSmall}
 use Rattle.rate_plan.specs.Rates.{IsAdmitted, IsRefusal}
-use Rattle.rt_handles.specs.declared.line.Header.{Header}
-use Rattle.rt_handles.specs.Lines.{IsHeader}
-use Rattle.rt_handles.specs.Scripts.{config_of, HasRoom, HasNoRoom}
+use Rattle.array_scripts.specs.declared.header.Header.{Header}
+use Rattle.array_scripts.specs.Kinds.{IsHeader}
+use Rattle.array_scripts.specs.Scripts.{HasRoom, HasNoRoom}
+use Rattle.rt_handles.specs.Lines.{handle_kind}
 
-pub config_fits : (h : Header) → IsHeader h → IsInBounds (config_of h)
+pub config_fits : (h : Header) → IsHeader handle_kind h → IsInBounds (handle_kind.config_of h)
 config_fits h is = record {
   some_thread = is.some_thread;
   threads = is.threads;
   some_block = is.some_block;
   blocks = is.blocks;
-  live = omega (arith, is.threads, is.slots, few_shared Eight h.slots (omega (arith, is.slots)));
+  live = omega (arith, is.threads, is.places, few_shared Eight h.places (omega (arith, is.places)));
   some_object = omega arith;
   object = omega arith;
-  shared = omega (arith, is.slots);
+  shared = omega (arith, is.places);
 }
 
-pub has_room : (h : Header) → IsAdmitted (config_of h) → HasRoom h
+pub has_room : (h : Header) → IsAdmitted (handle_kind.config_of h) → HasRoom handle_kind h
 has_room h is = omega (arith, is.room)
 
-pub no_room : (h : Header) (fault : PlanFault) → IsRefusal (config_of h) fault → HasNoRoom h
+pub no_room : (h : Header) (fault : PlanFault) → IsRefusal (handle_kind.config_of h) fault → HasNoRoom handle_kind h
 no_room h LiveTooSmall r = absurd (omega (arith, r))
 no_room h NoRate r = omega (arith, r.1)

@@ -1,11 +1,12 @@
 -- The lines in which operations on handles are answered.
-use Rattle.std.specs.Prelude.{ℕ, zero, suc, ◌+◌, List, [], ◌∷◌, ◌++◌, codes, decimal, map}
-use Rattle.std.specs.List.{flat_map}
-use Rattle.operations.specs.Linearizations.{Call, calls_of}
+use Rattle.std.specs.Prelude.{ℕ, List, ◌++◌, codes, decimal}
+use Rattle.array_scripts.specs.Answers.{answers_in, answers_from}
+use Rattle.handle_table.specs.declared.operation.Operation.{Operation}
 use Rattle.handle_table.specs.declared.told.Outcome.{Outcome}
 use Rattle.handle_table.specs.declared.told.Outcome.TheVariants.{Made, Taken, Live, Stale, Dropped, Empty, Shown}
-use Rattle.handle_table.specs.Handles.{Deed, Answer, outcome_of}
-use Rattle.trace_text.specs.Lines.{ended}
+use Rattle.handle_table.specs.Handles.{Deed, Answer, outcome_of, outcomes_told}
+use Rattle.never_heap.specs.declared.Entry.{Entry}
+use Rattle.operations.specs.Linearizations.{Call}
 
 -- the handle of make k of thread t
 abbrev pub handle_text : ℕ → ℕ → List ℕ
@@ -20,22 +21,13 @@ outcome_text Dropped = codes "dropped"
 outcome_text Empty = codes "none"
 outcome_text (Shown t k x) = handle_text t k ++ codes " " ++ decimal x
 
--- the line of an operation of thread t
-abbrev pub answer_line : ℕ → Outcome → List ℕ
-answer_line t outcome = ended (decimal t ++ codes " " ++ outcome_text outcome)
+-- what the operations of scripts came to, each by the log of its thread
+abbrev pub outcomes_in : List (List Operation) → List (List Entry) → List (List Outcome)
+outcomes_in scripts logs = answers_in (λ t. outcomes_told t 0) 0 scripts logs
 
--- those of the threads from thread t on
-abbrev pub lines_from : ℕ → List (List Outcome) → List ℕ
-lines_from t [] = []
-lines_from t (told ∷ others) = flat_map (answer_line t) told ++ lines_from (t + 1) others
+-- what a call came to, and what the calls of n threads did, thread by thread
+abbrev pub outcome_in : Call Deed Answer → Outcome
+outcome_in c = outcome_of c.operation c.answer
 
--- what the calls of the n threads from thread t on came to, thread by thread
-abbrev pub outcomes_from : ℕ → ℕ → List (Call Deed Answer) → List (List Outcome)
-outcomes_from t zero order = []
-outcomes_from t (suc n) order =
-    map (λ (c : Call Deed Answer). outcome_of c.operation c.answer) (calls_of t order)
-    ∷ outcomes_from (t + 1) n order
-
--- the lines of n threads
-abbrev pub outcomes_text : ℕ → List (Call Deed Answer) → List ℕ
-outcomes_text n order = lines_from 0 (outcomes_from 0 n order)
+abbrev pub outcomes_from : ℕ → List (Call Deed Answer) → List (List Outcome)
+outcomes_from n order = answers_from outcome_in 0 n order

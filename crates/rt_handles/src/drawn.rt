@@ -4,8 +4,9 @@
 ghost use Rattle.std.specs.Prelude.{◌≡◌, ◌≤◌, true, IfOk, IfSome};
 ghost use Rattle.handle_table.specs.Handles.{size_of, sizes_of};
 
+use crate::kind::Handles;
 use crate::planning::{planned, traces};
-use crate::reading::read_script;
+use array_scripts::read_script;
 use block_store::OutOfMemory;
 use call_exits::Refusal;
 use handle_table::{Operation, Outcome, outcomes};
@@ -67,12 +68,12 @@ struct Opened {
 fn opening_of(alloc: Global, source: &mut MemSource) -> Result<Opened, Refusal>
     ensures { IfOk result (λ o. IfSome o.system.ordered (λ k. k.left ≡ TURNS)) }
 {
-    let (header, scripts) = read_script(alloc, source)?;
+    let (header, scripts) = read_script::<Handles, MemSource>(alloc, source)?;
     let config = planned(&header)?;
     let traces = traces(alloc, &scripts)?;
     let system = System::new_ordered(alloc, config, traces, TURNS)?;
     Ok(Opened {
-        slots: header.slots,
+        slots: header.places,
         scripts,
         system,
     })

@@ -1,11 +1,12 @@
 //! Handles in slots on the heap: scripts of operations, run on threads, and their answers.
 #![tactic(auto)]
 
-ghost use Rattle.std.specs.Prelude.{◌≡◌, ◌⊎◌, ℕ, Some, List};
+ghost use Rattle.std.specs.Prelude.{◌≡◌, ◌⊎◌, ℕ, List};
 ghost use Rattle.handle_table.specs.declared.operation.Operation.{Operation};
-ghost use Rattle.scripts.specs.Scripts.{Start, bad_line};
-ghost use Rattle.rt_handles.specs.declared.line.Header.{Header};
-ghost use Rattle.rt_handles.specs.Lines.{Tokens, handle_language, IsHandleScript};
+ghost use Rattle.array_scripts.specs.declared.header.Header.{Header};
+ghost use Rattle.array_scripts.specs.Kinds.{Tokens};
+ghost use Rattle.array_scripts.specs.Parts.{IsFirstBad};
+ghost use Rattle.rt_handles.specs.Lines.{handle_kind, IsHandleScript};
 
 mod before;
 #[cfg(test)]
@@ -13,10 +14,9 @@ mod calls;
 #[cfg(test)]
 mod drawn;
 mod exit;
+mod kind;
 mod line;
 mod planning;
-mod printing;
-mod reading;
 mod running;
 mod script;
 #[cfg(test)]
@@ -25,19 +25,19 @@ mod testing;
 mod tests;
 mod top;
 
+pub use array_scripts::{Fault, Header};
 pub use exit::HandleExit;
-pub use line::Header;
-pub use script::{Fault, script_of};
+pub use script::script_of;
 pub use top::handles;
 
-/// Lines are a script of handles, or one of them is the first that cannot stand at its place, and never
-/// both; and they are one script at most.
+/// Lines are a script of handles, or one of them is the first that cannot stand at its place, and
+/// never both; and they are one script at most.
 pub fn lines_are_told_apart()
     ensures either { (lines : List Tokens)
         → ((h : Header) × (scripts : List (List Operation)) × IsHandleScript lines h scripts)
-        ⊎ ((n : ℕ) × (bad_line handle_language Start 1 lines ≡ Some n)) }
+        ⊎ ((n : ℕ) × IsFirstBad handle_kind lines n) }
     ensures apart { (lines : List Tokens) (h : Header) (scripts : List (List Operation)) (n : ℕ)
-        → IsHandleScript lines h scripts → bad_line handle_language Start 1 lines ≡ Some n → ⊥ }
+        → IsHandleScript lines h scripts → IsFirstBad handle_kind lines n → ⊥ }
     ensures one { (lines : List Tokens) (h k : Header) (scripts others : List (List Operation))
         → IsHandleScript lines h scripts → IsHandleScript lines k others
         → (h ≡ k) × (scripts ≡ others) }

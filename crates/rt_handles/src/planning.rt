@@ -6,11 +6,11 @@ ghost use Rattle.call_exits.specs.declared.refusal.Refusal.TheVariants.{NoRate};
 ghost use Rattle.operations.specs.Linearizations.{traces_of};
 ghost use Rattle.rate_plan.specs.Rates.{IsAdmitted};
 ghost use Rattle.handle_table.specs.Handles.{rows_of, command_at, all_deeds, AreNamed};
-ghost use Rattle.rt_handles.specs.Lines.{IsHeader};
-ghost use Rattle.rt_handles.specs.Scripts.{HasRoom, HasNoRoom};
-ghost use Rattle.rt_handles.specs.Scripts as scripts;
+ghost use Rattle.array_scripts.specs.Kinds.{IsHeader};
+ghost use Rattle.array_scripts.specs.Scripts.{HasRoom, HasNoRoom};
+ghost use Rattle.rt_handles.specs.Lines.{handle_kind};
 
-use crate::line::Header;
+use array_scripts::Header;
 use array_trees::blocks_of_array;
 use block_store::{Config, OutOfMemory, Width};
 use call_exits::Refusal;
@@ -21,12 +21,12 @@ use std::alloc::Global;
 
 /// The heap of the slots.
 pub fn config_of(header: &Header) -> Config
-    requires { IsHeader header.now }
-    ensures { result ≡ scripts.config_of header.now }
+    requires { IsHeader handle_kind header.now }
+    ensures { result ≡ handle_kind.config_of header.now }
 {
     let Header {
         threads,
-        slots,
+        places: slots,
         blocks,
     } = *header;
     Config {
@@ -41,10 +41,10 @@ pub fn config_of(header: &Header) -> Config
 
 /// The heap of the slots, if it has a rate.
 pub fn planned(header: &Header) -> Result<Config, Refusal>
-    requires { IsHeader header.now }
+    requires { IsHeader handle_kind header.now }
     ensures { MatchResult result
-        (λ c. (c ≡ scripts.config_of header.now) × IsAdmitted c × HasRoom header.now)
-        (λ r. (r ≡ NoRate) × HasNoRoom header.now) }
+        (λ c. (c ≡ handle_kind.config_of header.now) × IsAdmitted c × HasRoom handle_kind header.now)
+        (λ r. (r ≡ NoRate) × HasNoRoom handle_kind header.now) }
 {
     let config = config_of(header);
     match plan(&config) {

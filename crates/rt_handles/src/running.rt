@@ -6,11 +6,13 @@ ghost use Rattle.operations.specs.Linearizations.{traces_of};
 ghost use Rattle.handle_table.specs.Handles.{rows_of, command_at, all_deeds};
 ghost use Rattle.threaded_runs.specs.Ends.{commands_of};
 ghost use Rattle.rt_handles.specs.Calls.{HasOutcomes};
-ghost use Rattle.rt_handles.specs.Scripts.{IsCause};
-ghost use Rattle.rt_handles.specs.Answers.{outcomes_in};
+ghost use Rattle.array_scripts.specs.Scripts.{IsCause};
+ghost use Rattle.rt_handles.specs.Lines.{handle_kind};
+ghost use Rattle.rt_handles.specs.Tellings.{outcomes_in};
 
+use crate::kind::Handles;
 use crate::planning::{planned, traces};
-use crate::reading::read_script;
+use array_scripts::read_script;
 use atom_board::Closed;
 use block_store::OutOfMemory;
 use call_exits::Refusal;
@@ -35,10 +37,10 @@ pub fn kept<R: Threads + Wait + Sync, S: Source, Q: Pace>(
     ensures kept { IfOk result (λ x. HasOutcomes (sides S.left S.faults source.old source.new)
         x.0 (map (λ v. v.items) x.1.items)) }
     ensures still { OnOk result (S.faults source.new ≡ S.faults source.old) }
-    ensures refused { IfErr result (IsCause []
+    ensures refused { IfErr result (IsCause handle_kind []
         (sides S.left S.faults source.old source.new)) }
 {
-    let (header, scripts) = read_script(alloc, source)?;
+    let (header, scripts) = read_script::<Handles, S>(alloc, source)?;
     let config = planned(&header)?;
     let traces = traces(alloc, &scripts)?;
     let run = run_job(rt, alloc, Job { config, traces }, pace)?;
@@ -55,7 +57,7 @@ fn all_outcomes(
     requires { map commands_of run.now.logs
         ≡ traces_of rows_of command_at (all_deeds 0 (map (λ ops. ops.items) scripts.now)) }
     ensures { IfOk result (λ told. map (λ v. v.items) told.items
-        ≡ outcomes_in 0 (map (λ ops. ops.items) scripts.now) run.now.logs) }
+        ≡ outcomes_in (map (λ ops. ops.items) scripts.now) run.now.logs) }
 {
     let mut told = Vec::new(alloc);
     for t in 0..run.threads() {

@@ -18,7 +18,7 @@ end
     let Ok((header, scripts)) = script_of(rt.alloc(), text) else {
         return Err("refused".into());
     };
-    assert_eq!(rt; (header.threads, header.slots, header.blocks), (2, 2, 128));
+    assert_eq!(rt; (header.threads, header.places, header.blocks), (2, 2, 128));
     let make = Operation::Make {
         handle: 7,
         slot: 1,

@@ -1,34 +1,32 @@
 //! The top call.
 
-ghost use Rattle.std.specs.Prelude.{◌≡◌, map, string_bytes, IfOk, IfErr, OnOk};
+ghost use Rattle.std.specs.Prelude.{◌≡◌, [], map, string_bytes, IfOk, IfErr, OnOk};
 ghost use Rattle.call_exits.specs.Sides.{sides};
 ghost use Rattle.rt_handles.specs.Calls.{IsCarriedOut, HasOutcomes};
-ghost use Rattle.rt_handles.specs.Scripts.{IsCause};
-ghost use Rattle.std.specs.Prelude.{◌≢◌, ◌⊎◌, Some, []};
-ghost use Rattle.trace_text.specs.Faults.{Rose};
-ghost use Rattle.call_exits.specs.Exits.{IsWritten};
-ghost use Rattle.rt_handles.specs.Tellings.{lines_from};
+ghost use Rattle.array_scripts.specs.Scripts.{IsCause};
+ghost use Rattle.rt_handles.specs.Lines.{handle_kind};
 
 use crate::exit::HandleExit;
-use crate::printing::write_answers;
+use crate::kind::Handles;
 use crate::running::{Outcomes, kept};
+use array_scripts::tell_answers;
 use atom_board::Closed;
 use call_exits::{Refusal, refused};
-use handle_table::Outcome;
 use never_heap::Pace;
 use std::alloc::Global;
 use std::sync::Wait;
 use std::thread::Threads;
-use trace_text::{Sink, Source, WRITE_FAULT};
+use trace_text::{Sink, Source};
 
-/// Keeps handles in the slots of an array on a heap of its own: reads a script, in which each thread
-/// has operations on the slots, runs the threads beside each other, and writes what each operation
-/// came to, a line each, thread by thread. The pace is told before each command. Words are refused
-/// with the line `rt_handles: usage`.
+/// Keeps handles in the slots of an array on a heap of its own: reads a script, in which each
+/// thread has operations on the slots, runs the threads beside each other, and writes what each
+/// operation came to, a line each, thread by thread. The pace is told before each command. Words
+/// are refused with the line `rt_handles: usage`.
 ///
 /// The lines are those of slots on which the operations are done one after the other, in one order
-/// that has each thread's in script order. So a handle that is shown has the number of its own make,
-/// and a thread whose handle was evicted is told so, also where its slot was given to another since.
+/// that has each thread's in script order. So a handle that is shown has the number of its own
+/// make, and a thread whose handle was evicted is told so, also where its slot was given to another
+/// since.
 ///
 /// That the call returns is not promised, for it makes turns of the threads until each is done.
 pub fn handles<R: Threads + Wait + Sync, S: Source, K: Sink, Q: Pace>(
@@ -44,7 +42,11 @@ pub fn handles<R: Threads + Wait + Sync, S: Source, K: Sink, Q: Pace>(
         (sides K.held K.faults sink.old sink.new) result }
 {
     match asked(rt, alloc, words, source, pace) {
-        Ok((run, told)) => written(run, &told, sink),
+        Ok((run, told)) => HandleExit {
+            status: tell_answers::<Handles, K>(&told, sink),
+            due: 0,
+            run: Some(run),
+        },
         Err(refusal) => HandleExit {
             status: refused(refusal, b"rt_handles", sink),
             due: refusal.status(),
@@ -65,32 +67,11 @@ fn asked<R: Threads + Wait + Sync, S: Source, Q: Pace>(
     ensures kept { IfOk result (λ x. HasOutcomes (sides S.left S.faults source.old source.new)
         x.0 (map (λ v. v.items) x.1.items)) }
     ensures still { OnOk result (S.faults source.new ≡ S.faults source.old) }
-    ensures refused { IfErr result (IsCause (map (λ w. string_bytes w) words.now)
+    ensures refused { IfErr result (IsCause handle_kind (map (λ w. string_bytes w) words.now)
         (sides S.left S.faults source.old source.new)) }
 {
     if !words.is_empty() {
         return Err(Refusal::Usage);
     }
     kept(rt, alloc, source, pace)
-}
-
-/// Writes what the operations of a run came to.
-fn written<K: Sink>(run: Closed, told: &[Vec<Outcome>], sink: &mut K) -> HandleExit
-    ensures due { result.due ≡ 0 }
-    ensures run { result.run ≡ Some run }
-    ensures status { (result.status ≡ 0) ⊎ (result.status ≡ 6) }
-    ensures text { IsWritten (sides K.held K.faults sink.old sink.new) result.status
-        (lines_from 0 (map (λ v. v.items) told.now)) }
-    ensures still { result.status ≢ 6 → K.faults sink.new ≡ K.faults sink.old }
-    ensures rose { result.status ≡ 6 → Rose (K.faults sink.old) (K.faults sink.new) }
-{
-    let status = match write_answers(told, sink) {
-        Ok(()) => 0,
-        Err(_) => WRITE_FAULT,
-    };
-    HandleExit {
-        status,
-        due: 0,
-        run: Some(run),
-    }
 }

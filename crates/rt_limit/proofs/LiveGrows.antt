@@ -13,13 +13,14 @@ use Rattle.never_heap.specs.declared.Command.TheVariants as commands
 use Rattle.never_heap.specs.Graphs.{Graph, Object, ObjectKind, Record, Array, nil_object, object_of, has_name, count_of, shared_name, with_object, next_name}
 use Rattle.never_heap.specs.LiveBlocks.{blocks_of_kind, object_blocks, live_of, live_blocks}
 use Rattle.never_heap.specs.Reach.{names, names_below, thread_names, reachable}
-use Rattle.never_heap.specs.Steps.{step, blocks_of, made, makes_object}
+use Rattle.never_heap.specs.Steps.{step, blocks_of, made}
+use Rattle.never_heap.proofs.Answering.{blocks_count, none_make}
 use Rattle.never_heap.proofs.FieldStores.{object_with_object}
 use Rattle.never_heap.proofs.GraphMoves.{object_with_register}
 use Rattle.never_heap.proofs.Naming.{same_itself, name_of_place, length_of_thread, thread_names_more}
 use Rattle.never_heap.proofs.ReachSteps.{reached_after}
-use Rattle.never_heap.proofs.Staying.{change_past, next_is_new, step_shape, step_counts, step_made}
-use Rattle.never_heap.proofs.Stepping.{change_of, step_threads, with_object_threads}
+use Rattle.never_heap.proofs.Staying.{step_past, next_is_new, step_shape, step_counts}
+use Rattle.never_heap.proofs.Stepping.{step_threads, with_object_threads}
 
 -- sums of what is no more at each element
 sum_le : (f h : Name → ℕ) (xs : List Name) → All (λ a. f a ≤ h a) xs → sum_by f xs ≤ sum_by h xs
@@ -58,13 +59,13 @@ made_is g t d o there =
 
 -- the object that a command makes has the command's blocks
 made_blocks : (w : Width) (g : Graph) (t : ℕ) (command : Command) → t < length g.mutators
-    → makes_object command ≡ true
+    → 0 < blocks_of w command
     → object_blocks w (object_of (step g t command).0 (next_name g t)) ≡ blocks_of w command
-made_blocks w g t (commands.New d f) there makes =
+made_blocks w g t (commands.New d f) there some =
     ap (object_blocks w) (made_is g t d (nil_object Record f) there) ∙ nil_blocks w Record f
-made_blocks w g t (commands.Arr d e) there makes =
+made_blocks w g t (commands.Arr d e) there some =
     ap (object_blocks w) (made_is g t d (nil_object Array e) there) ∙ nil_blocks w Array e
-made_blocks w g t _ there makes = absurd cc
+made_blocks w g t _ there some = absurd (omega arith)
 
 some_or_none : (b : Bool) (n : ℕ) → cond b n 0 ≤ n
 some_or_none true n = omega arith
@@ -116,11 +117,11 @@ module _ (w : Width) (g : Graph) (t : ℕ) (command : Command) (there : t < leng
     ]
   ]
 
-  new_live : makes_object command ≡ true → live_of w after (next_name g t) ≤ blocks_of w command
-  new_live makes =
+  new_live : 0 < blocks_of w command → live_of w after (next_name g t) ≤ blocks_of w command
+  new_live some =
       let most = some_or_none (reachable after (next_name g t))
       (object_blocks w (object_of after (next_name g t))) in
-      omega (arith, made_blocks w g t command there makes)
+      omega (arith, made_blocks w g t command there some)
 
   -- the names of one thread
   thread_live : (u : ℕ)
@@ -139,20 +140,21 @@ module _ (w : Width) (g : Graph) (t : ℕ) (command : Command) (there : t < leng
             ≡ sum_by (live_of w after) (thread_names u (count_of g u)) =
             ap (λ n. sum_by (live_of w after) (thread_names u n)) count in
             omega arith
-        | inl same ↦ elim (cases_Bool (makes_object command)) [
-          | inr none ↦
+        | inl same ↦ elim (cases_eq (blocks_of w command) 0) [
+          | inl none ↦
               let count : count_of after u ≡ count_of g u =
-              step_counts g t command u (λ _. none) in
+              step_counts g t command u (λ _. none_make w command none) in
               let names : sum_by (live_of w after) (thread_names u (count_of after u))
               ≡ sum_by (live_of w after) (thread_names u (count_of g u)) =
               ap (λ n. sum_by (live_of w after) (thread_names u n)) count in
               omega arith
-          | inl makes ↦
+          | inr blocks ↦
+              let some : 0 < blocks_of w command = omega arith in
               let one : sum_by (live_of w after) (thread_names t (count_of after t))
               ≡ sum_by (live_of w after) (thread_names t (count_of g t))
               + sum_by (live_of w after) (next_name g t ∷ []) =
               ap (λ n. sum_by (live_of w after) (thread_names t n))
-              (step_made g t command makes there)
+              (blocks_count w g t command some there)
               ∙ ap (λ (xs : List Name). sum_by (live_of w after) xs)
               (thread_names_more t (count_of g t))
               ∙ sum_by-append (live_of w after) (thread_names t (count_of g t))
@@ -166,7 +168,7 @@ module _ (w : Width) (g : Graph) (t : ℕ) (command : Command) (there : t < leng
               let before : sum_by (live_of w after) (thread_names u (count_of g u))
               ≡ sum_by (live_of w after) (thread_names t (count_of g t)) =
               ap (λ k. sum_by (live_of w after) (thread_names k (count_of g k))) (sym same) in
-              let new = new_live makes in
+              let new = new_live some in
               omega arith
         ]
       ]
@@ -209,7 +211,6 @@ grows w g t command = elim (cases_lt t (length g.mutators)) [
   | inl there ↦ grows_there w g t command there
   | inr past ↦
       let same : live_blocks w (step g t command).0 ≡ live_blocks w g =
-      ap (live_blocks w) (change_past g t (makes_object command) (step g t command).0 past
-      (change_of g t command)) in
+      ap (live_blocks w) (step_past g t command past) in
       omega arith
 ]

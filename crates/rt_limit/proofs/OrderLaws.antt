@@ -11,15 +11,14 @@ use Rattle.block_store.specs.Configs.{IsInBounds}
 use Rattle.block_store.proofs.Registers.{end_few}
 use Rattle.array_trees.proofs.Counts.{few_shared}
 use Rattle.never_heap.specs.declared.Command.{Command}
-use Rattle.never_heap.specs.declared.Command.TheVariants as commands
 use Rattle.never_heap.specs.Bounds.{IsCommandInBounds}
 use Rattle.never_heap.specs.Graphs.{Graph, WideGraph, with_graph, start_graph, count_of}
 use Rattle.never_heap.specs.LiveBlocks.{live_blocks}
-use Rattle.never_heap.specs.Steps.{step, blocks_of, length_made, makes_object}
+use Rattle.never_heap.specs.Steps.{step, blocks_of}
 use Rattle.never_heap.proofs.Opening.{opening_live}
 use Rattle.never_heap.proofs.Starting.{threads_of_start, count_of_start}
-use Rattle.never_heap.proofs.Staying.{change_past, step_counts}
-use Rattle.never_heap.proofs.Stepping.{change_of, step_threads, step_counts_one}
+use Rattle.never_heap.proofs.Staying.{step_past, step_counts}
+use Rattle.never_heap.proofs.Stepping.{step_threads, step_counts_one}
 use Rattle.rt_check.specs.declared.moves.Move.{Move}
 use Rattle.rt_check.specs.Moves.{commands_of}
 use Rattle.rt_limit.specs.declared.counts.Counter.{Counter}
@@ -59,8 +58,7 @@ one_more g m t = elim (cases_eq m.thread t) [
         | inr past ↦
             let still : count_of (graph_after g m) t ≡ count_of g t =
             ap (λ (h : Graph). count_of h t)
-            (change_past g m.thread (makes_object m.command) (graph_after g m) past
-            (change_of g m.thread m.command)) in
+            (step_past g m.thread m.command past) in
             omega arith
       ]
   | inr other ↦
@@ -79,30 +77,6 @@ count_behind g (m ∷ ms) t =
     ap length (commands_append t (m ∷ []) ms)
     ∙ length-append (commands_of t (m ∷ [])) (commands_of t ms) in
     omega arith
-
--- ---- commands in their ranges
-
-pub blocks_few : (c : Config) (command : Command) → IsCommandInBounds c command
-    → blocks_of c.width command ≤ c.object
-blocks_few c (commands.New d f) b = b.2
-blocks_few c (commands.Arr d e) b = b.2
-blocks_few c (commands.Set d v) b = omega arith
-blocks_few c (commands.Nil d) b = omega arith
-blocks_few c (commands.Mov d s) b = omega arith
-blocks_few c (commands.Get d s i) b = omega arith
-blocks_few c (commands.Put s i v) b = omega arith
-blocks_few c (commands.Len s) b = omega arith
-blocks_few c (commands.Same x y) b = omega arith
-blocks_few c (commands.Say s) b = omega arith
-blocks_few c (commands.Swap s i v) b = omega arith
-blocks_few c (commands.Cas s i x v) b = omega arith
-blocks_few c (commands.Idle u) b = omega arith
-
-pub length_few : (c : Config) (command : Command) → IsCommandInBounds c command
-    → length_made command ≤ 65535
-length_few c (commands.New d f) b = b.1
-length_few c (commands.Arr d e) b = b.1
-length_few c _ b = omega arith
 
 live_first : (c : Config) → IsInBounds c → live_blocks c.width (start_graph c) ≤ 421
 live_first c bounds =
@@ -156,11 +130,11 @@ module _ (c : Config) (moves : List Move) (i : ℕ) (m : Move) (bounds : IsInBou
   room short k knows =
       let f : Move → ℕ = λ (x : Move). blocks_of c.width x.command in
       let one : blocks_of c.width next.command ≤ c.object =
-      blocks_few c next.command (all i m low).command in
+      (all i m low).command.blocks in
       let object = bounds.object in
       let made : sum_by f moves ≤ length moves * 1024 =
       sum_by-le f 1024 moves (λ j d l.
-      let b = blocks_few c (get_or moves j d).command (all j d l).command in omega arith) in
+      let b = (all j d l).command.blocks in omega arith) in
       let part : sum_by f past + f next ≤ sum_by f moves = sum_by_more_le f moves i m low in
       let first = live_first c bounds in
       let allocated : k.figures.allocated ≡ sum_by f past = knows.figures.allocated in

@@ -1,361 +1,92 @@
 -- What a line of a script of tags says is what is spelled so, and what is spelled is read again.
-use Rattle.std.proofs.Common.{◌≡◌, ℕ, ◌<◌, ◌≤◌, ◌^◌, ◌==◌, ◌&&◌, ◌||◌, ltb, Bool, true, false, cond, Option, Some, None, List, [], ◌∷◌, codes, decimal, bytes_eq, eq-eqb, refl, ap, ◌∙◌, subst, arith}
-use Rattle.std.proofs.lemmas.Bool.{eqb-true, ltb-true, ltb-false, lt-ltb, le-ltb}
-use Rattle.std.proofs.lemmas.Slice.Eq.{bytes_eq-Decides}
+use Rattle.std.proofs.Common.{◌≡◌, ℕ, ◌≤◌, ◌^◌, Some, None, List, [], ◌∷◌, codes, decimal, refl, ◌∙◌, subst, arith}
+use Rattle.array_scripts.specs.declared.header.Header.{Header}
+use Rattle.array_scripts.specs.Kinds.{Tokens, IsHeader, Fits, below, line_at, told_at, language}
+use Rattle.array_scripts.proofs.Spelling.{bind_then, some_is, chosen, below_sound, below_again, one_of, three_of}
+use Rattle.array_scripts.proofs.Telling.{kind_reads}
+use Rattle.scripts.specs.Scripts.{Reads}
 use Rattle.tag_table.specs.declared.operation.Operation.{Operation}
 use Rattle.tag_table.specs.declared.operation.Operation.TheVariants.{Write, Clear, Read}
-use Rattle.scripts.specs.Scripts.{Said, Thread, Told, End, line_of, Stands, Reads}
-use Rattle.trace_text.specs.Headers.{behind_at, labelled_at}
-use Rattle.trace_text.specs.Reading.{◌>>=◌, parted, number_at, no_more_of, one_token_of, two_tokens_of, three_tokens_of}
-use Rattle.trace_text.proofs.NumberLaws.{number_sound, number_complete}
-use Rattle.rt_tags.specs.declared.line.Header.{Header}
-use Rattle.rt_tags.specs.Lines.{Tokens, header_line, op_line, IsHeader, Fits, ranged, header_at, below, thread_at, end_at, write_at, clear_at, read_at, op_at, told_at, line_at, tag_language}
-
--- a step that gave something
-bind_then : {A B P : Type 0} (o : Option A) (f : A → Option B) (y : B) → (o >>= f) ≡ Some y
-    → ((x : A) → o ≡ Some x → f x ≡ Some y → P) → P
-bind_then None f y e k = absurd cc
-bind_then (Some x) f y e k = k x refl e
-
-then_some : {A : Type 0} (b : Bool) (x y : A) → cond b (Some x) None ≡ Some y → (b ≡ true) × (x ≡ y)
-then_some true x y e = (refl, ap (from x) e)
-  where
-    from : {B : Type 0} → B → Option B → B
-    from z None = z
-    from z (Some w) = w
-then_some false x y e = absurd cc
-
-else_some : {A : Type 0} (b : Bool) (x y : A) → cond b None (Some x) ≡ Some y → (b ≡ false) × (x ≡ y)
-else_some false x y e = (refl, ap (from x) e)
-  where
-    from : {B : Type 0} → B → Option B → B
-    from z None = z
-    from z (Some w) = w
-else_some true x y e = absurd cc
-
-or_parts : (b c : Bool) → b || c ≡ false → (b ≡ false) × (c ≡ false)
-or_parts true c e = absurd cc
-or_parts false c e = (refl, e)
-
-and_parts : (b c : Bool) → b && c ≡ true → (b ≡ true) × (c ≡ true)
-and_parts true c e = (refl, e)
-and_parts false c e = absurd cc
-
--- ---- numbers in ranges
-
-ranged_sound : (least most : ℕ) (token : List ℕ) (n : ℕ) → ranged least most token ≡ Some n
-    → (token ≡ decimal n) × (least ≤ n) × (n ≤ most)
-unfolding ranged
-ranged_sound least most token n e =
-    bind_then (number_at token) _ n e (λ m is kept.
-    let low = else_some (ltb m least || ltb most m) m n kept in
-    let parts = or_parts (ltb m least) (ltb most m) low.0 in
-    let spelled = number_sound token m is in (
-      spelled.0 ∙ ap decimal low.1,
-      subst (λ (k : ℕ). least ≤ k) low.1 (ltb-false m least parts.0),
-      subst (λ (k : ℕ). k ≤ most) low.1 (ltb-false most m parts.1),
-    ))
-
-ranged_again : (least most n : ℕ) → least ≤ n → n ≤ most → most < 10 ^ 19
-    → ranged least most (decimal n) ≡ Some n
-unfolding ranged
-ranged_again least most n low high small =
-    ap (λ o. o >>= λ m. cond (ltb m least || ltb most m) None (Some m))
-    (number_complete n (omega arith))
-    ∙ (λ k. cond (le-ltb n least low k || le-ltb most n high k) None (Some n))
-
-below_sound : (most : ℕ) (token : List ℕ) (n : ℕ) → below most token ≡ Some n
-    → (token ≡ decimal n) × (n < most)
-unfolding below
-below_sound most token n e =
-    bind_then (number_at token) _ n e (λ m is kept.
-    let low = then_some (ltb m most) m n kept in
-    let spelled = number_sound token m is in
-    (spelled.0 ∙ ap decimal low.1, subst (λ (k : ℕ). k < most) low.1 (ltb-true m most low.0)))
-
-below_again : (most n : ℕ) → n < most → most ≤ 10 ^ 19 → below most (decimal n) ≡ Some n
-unfolding below
-below_again most n low small =
-    ap (λ o. o >>= λ m. cond (ltb m most) (Some m) None) (number_complete n (omega arith))
-    ∙ (λ k. cond (lt-ltb n most low k) (Some n) None)
-
--- ---- tokens
-
-none_of : (tokens : Tokens) (x : Unit {0}) → no_more_of tokens ≡ Some x → tokens ≡ []
-unfolding no_more_of
-none_of [] x e = refl
-none_of (a ∷ tokens) x e = absurd cc
-
-one_of : (tokens : Tokens) (a : List ℕ) → one_token_of tokens ≡ Some a → tokens ≡ a ∷ []
-unfolding one_token_of no_more_of
-one_of [] a e = absurd cc
-one_of (b ∷ []) a e = ap (λ (o : Option (List ℕ)). or b o ∷ []) e
-  where
-    or : List ℕ → Option (List ℕ) → List ℕ
-    or z None = z
-    or z (Some w) = w
-one_of (b ∷ c ∷ tokens) a e = absurd cc
-
-three_of : (tokens : Tokens) (p : List ℕ × List ℕ × List ℕ) → three_tokens_of tokens ≡ Some p
-    → tokens ≡ p.0 ∷ p.1 ∷ p.2 ∷ []
-unfolding three_tokens_of two_tokens_of one_token_of no_more_of
-three_of [] p e = absurd cc
-three_of (a ∷ []) p e = absurd cc
-three_of (a ∷ b ∷ []) p e = absurd cc
-three_of (a ∷ b ∷ c ∷ []) p e =
-    ap (λ (o : Option (List ℕ × List ℕ × List ℕ)). (or o).0 ∷ (or o).1 ∷ (or o).2 ∷ []) e
-  where
-    or : Option (List ℕ × List ℕ × List ℕ) → List ℕ × List ℕ × List ℕ
-    or None = (a, b, c)
-    or (Some w) = w
-three_of (a ∷ b ∷ c ∷ d ∷ tokens) p e = absurd cc
-
-behind_of : (word : List ℕ) (tokens rest : Tokens) → behind_at word tokens ≡ Some rest
-    → tokens ≡ word ∷ rest
-unfolding behind_at
-behind_of word [] rest e = absurd cc
-behind_of word (first ∷ others) rest e =
-    let t = then_some (bytes_eq first word) others rest e in
-    (λ k. (bytes_eq-Decides first word).0 t.0 k ∷ t.1 k)
-
-labelled_of : (word : List ℕ) (tokens : Tokens) (p : List ℕ × Tokens)
-    → labelled_at word tokens ≡ Some p → tokens ≡ word ∷ p.0 ∷ p.1
-unfolding labelled_at
-labelled_of word tokens p e =
-    bind_then (behind_at word tokens) _ p e (λ rest is more.
-    behind_of word tokens rest is ∙ ap (λ (l : Tokens). word ∷ l) (split rest more))
-  where
-    split : (rest : Tokens) → parted rest ≡ Some p → rest ≡ p.0 ∷ p.1
-    split [] f = absurd cc
-    split (a ∷ others) f = ap (λ (o : Option (List ℕ × Tokens)). (or o).0 ∷ (or o).1) f
-      where
-        or : Option (List ℕ × Tokens) → List ℕ × Tokens
-        or None = (a, others)
-        or (Some w) = w
-
--- ---- the header
-
-header_sound : (l : Tokens) (h : Header) → header_at l ≡ Some h → (l ≡ header_line h) × IsHeader h
-unfolding header_at no_more_of
-header_sound l h e =
-    bind_then (behind_at (codes "tags") l) _ h e (λ r1 is1 e1.
-    bind_then (behind_at (codes "1") r1) _ h e1 (λ r2 is2 e2.
-    bind_then (labelled_at (codes "threads") r2) _ h e2 (λ r3 is3 e3.
-    bind_then (labelled_at (codes "tags") r3.1) _ h e3 (λ r4 is4 e4.
-    bind_then (labelled_at (codes "blocks") r4.1) _ h e4 (λ r5 is5 e5.
-    bind_then (no_more_of r5.1) _ h e5 (λ u is6 e6.
-    bind_then (ranged 1 16 r3.0) _ h e6 (λ n is7 e7.
-    bind_then (ranged 1 1024 r4.0) _ h e7 (λ size is8 e8.
-    bind_then (ranged 1 65535 r5.0) _ h e8 (λ m is9 e9.
-    header_of l h r1 r2 r3 r4 r5 n size m (behind_of (codes "tags") l r1 is1)
-    (behind_of (codes "1") r1 r2 is2) (labelled_of (codes "threads") r2 r3 is3)
-    (labelled_of (codes "tags") r3.1 r4 is4) (labelled_of (codes "blocks") r4.1 r5 is5)
-    (none_of r5.1 u is6) (ranged_sound 1 16 r3.0 n is7) (ranged_sound 1 1024 r4.0 size is8)
-    (ranged_sound 1 65535 r5.0 m is9) (some_header e9))))))))))
-  where
-    some_header : {x y : Header} → Some x ≡ Some y → x ≡ y
-    some_header {x} {y} f = ap (λ (o : Option Header). or o) f
-      where
-        or : Option Header → Header
-        or None = x
-        or (Some w) = w
-
-    header_of : (l : Tokens) (h : Header) (r1 r2 : Tokens) (r3 r4 r5 : List ℕ × Tokens) (n size m : ℕ)
-        → l ≡ codes "tags" ∷ r1 → r1 ≡ codes "1" ∷ r2 → r2 ≡ codes "threads" ∷ r3.0 ∷ r3.1
-        → r3.1 ≡ codes "tags" ∷ r4.0 ∷ r4.1 → r4.1 ≡ codes "blocks" ∷ r5.0 ∷ r5.1 → r5.1 ≡ []
-        → (r3.0 ≡ decimal n) × (1 ≤ n) × (n ≤ 16)
-        → (r4.0 ≡ decimal size) × (1 ≤ size) × (size ≤ 1024)
-        → (r5.0 ≡ decimal m) × (1 ≤ m) × (m ≤ 65535)
-        → record { threads = n; tags = size; blocks = m } ≡ h
-        → (l ≡ header_line h) × IsHeader h
-    header_of l h r1 r2 r3 r4 r5 n size m p1 p2 p3 p4 p5 p6 a b c e =
-        subst (λ (x : Header). (l ≡ header_line x) × IsHeader x) e (
-          p1 ∙ ap (λ (x : Tokens). codes "tags" ∷ x) (p2 ∙ ap (λ (x : Tokens). codes "1" ∷ x) (p3
-              ∙ (λ k. codes "threads" ∷ a.0 k ∷ p4 k)
-              ∙ (λ k. codes "threads" ∷ decimal n ∷ codes "tags" ∷ b.0 k ∷ p5 k)
-              ∙ (λ k. codes "threads" ∷ decimal n ∷ codes "tags" ∷ decimal size ∷ codes "blocks"
-              ∷ c.0 k ∷ p6 k))),
-          record {
-            some_thread = a.1;
-            threads = a.2;
-            some_tag = b.1;
-            tags = b.2;
-            some_block = c.1;
-            blocks = c.2;
-          },
-        )
-
-header_again : (h : Header) → IsHeader h → header_at (header_line h) ≡ Some h
-unfolding header_at behind_at labelled_at no_more_of
-header_again h is =
-    ap (λ o. o >>= λ n. ranged 1 1024 (decimal h.tags) >>= λ size. ranged 1 65535 (decimal h.blocks)
-    >>= λ m. Some (make n size m)) (ranged_again 1 16 h.threads is.some_thread is.threads (omega arith))
-    ∙ ap (λ o. o >>= λ size. ranged 1 65535 (decimal h.blocks) >>= λ m. Some (make h.threads size m))
-    (ranged_again 1 1024 h.tags is.some_tag is.tags (omega arith))
-    ∙ ap (λ o. o >>= λ m. Some (make h.threads h.tags m))
-    (ranged_again 1 65535 h.blocks is.some_block is.blocks (omega arith))
-  where
-    make : ℕ → ℕ → ℕ → Header
-    make n size m = record { threads = n; tags = size; blocks = m }
-
--- ---- the other lines
-
-some_is : {A : Type 0} {x y : A} → Some x ≡ Some y → x ≡ y
-some_is {A} {x} {y} f = ap (λ (o : Option A). or o) f
-  where
-    or : Option A → A
-    or None = x
-    or (Some w) = w
-
-abbrev Sound : Header → ℕ → ℕ → Tokens → Said Operation → Type 0
-Sound h t done l x = (l ≡ line_of tag_language x) × Stands tag_language IsHeader Fits h t done x
-
-thread_sound : (h : Header) (t done : ℕ) (first : List ℕ) (tokens : Tokens) (x : Said Operation)
-    → first ≡ codes "thread" → thread_at h t tokens ≡ Some x → Sound h t done (first ∷ tokens) x
-unfolding thread_at
-thread_sound h t done first tokens x is e =
-    bind_then (one_token_of tokens) _ x e (λ token is1 e1.
-    bind_then (number_at token) _ x e1 (λ u is2 e2.
-    let kept = then_some ((u == t) && ltb t h.threads) (Thread u) x e2 in
-    let parts = and_parts (u == t) (ltb t h.threads) kept.0 in
-    subst (λ (y : Said Operation). Sound h t done (first ∷ tokens) y) kept.1 (
-      (λ k. is k ∷ (one_of tokens token is1
-          ∙ ap (λ (z : List ℕ). z ∷ []) (number_sound token u is2).0) k),
-      (eqb-true u t parts.0, ltb-true t h.threads parts.1),
-    )))
-
-end_sound : (h : Header) (t done : ℕ) (first : List ℕ) (tokens : Tokens) (x : Said Operation)
-    → first ≡ codes "end" → end_at h t tokens ≡ Some x → Sound h t done (first ∷ tokens) x
-unfolding end_at
-end_sound h t done first tokens x is e =
-    bind_then (no_more_of tokens) _ x e (λ u is1 e1.
-    let kept = then_some (t == h.threads) End x e1 in
-    subst (λ (y : Said Operation). Sound h t done (first ∷ tokens) y) kept.1
-    ((λ k. is k ∷ none_of tokens u is1 k), eqb-true t h.threads kept.0))
+use Rattle.tag_table.specs.Tables.{IsOperationInRange}
+use Rattle.trace_text.specs.Reading.{◌>>=◌, no_more_of, one_token_of, two_tokens_of, three_tokens_of}
+use Rattle.rt_tags.specs.Lines.{op_line, write_at, clear_at, read_at, op_at, tag_kind}
 
 -- what an operation's tokens say
-abbrev SoundOp : Header → List ℕ → Tokens → Operation → Type 0
-SoundOp h first tokens op =
-    (first ∷ tokens ≡ op_line op)
-    × Rattle.tag_table.specs.Tables.IsOperationInRange h.tags op
+abbrev SoundOp : ℕ → Tokens → Operation → Type 0
+SoundOp tags line op = (line ≡ op_line op) × IsOperationInRange tags op
 
-write_sound : (h : Header) (first : List ℕ) (tokens : Tokens) (op : Operation)
-    → first ≡ codes "write" → write_at h tokens ≡ Some op → SoundOp h first tokens op
+write_sound : (tags : ℕ) (first : List ℕ) (tokens : Tokens) (op : Operation)
+    → first ≡ codes "write" → write_at tags tokens ≡ Some op → SoundOp tags (first ∷ tokens) op
 unfolding write_at
-write_sound h first tokens op is e =
+write_sound tags first tokens op is e =
     bind_then (three_tokens_of tokens) _ op e (λ p is1 e1.
-    bind_then (below h.tags p.0) _ op e1 (λ i is2 e2.
+    bind_then (below tags p.0) _ op e1 (λ i is2 e2.
     bind_then (below (2 ^ 62) p.1) _ op e2 (λ v is3 e3.
     bind_then (below (2 ^ 62) p.2) _ op e3 (λ q is4 e4.
-    let a = below_sound h.tags p.0 i is2 in
+    let a = below_sound tags p.0 i is2 in
     let b = below_sound (2 ^ 62) p.1 v is3 in
     let c = below_sound (2 ^ 62) p.2 q is4 in
-    subst (λ (y : Operation). SoundOp h first tokens y) (some_is e4) (
+    subst (λ (y : Operation). SoundOp tags (first ∷ tokens) y) (some_is e4) (
       (λ k. is k ∷ (three_of tokens p is1 ∙ (λ j. a.0 j ∷ b.0 j ∷ c.0 j ∷ [])) k),
       (a.1, b.1, c.1),
     )))))
 
-clear_sound : (h : Header) (first : List ℕ) (tokens : Tokens) (op : Operation)
-    → first ≡ codes "clear" → clear_at h tokens ≡ Some op → SoundOp h first tokens op
+clear_sound : (tags : ℕ) (first : List ℕ) (tokens : Tokens) (op : Operation)
+    → first ≡ codes "clear" → clear_at tags tokens ≡ Some op → SoundOp tags (first ∷ tokens) op
 unfolding clear_at
-clear_sound h first tokens op is e =
+clear_sound tags first tokens op is e =
     bind_then (one_token_of tokens) _ op e (λ token is1 e1.
-    bind_then (below h.tags token) _ op e1 (λ i is2 e2.
-    let a = below_sound h.tags token i is2 in
-    subst (λ (y : Operation). SoundOp h first tokens y) (some_is e2)
+    bind_then (below tags token) _ op e1 (λ i is2 e2.
+    let a = below_sound tags token i is2 in
+    subst (λ (y : Operation). SoundOp tags (first ∷ tokens) y) (some_is e2)
     ((λ k. is k ∷ (one_of tokens token is1 ∙ (λ j. a.0 j ∷ [])) k), a.1)))
 
-read_sound : (h : Header) (first : List ℕ) (tokens : Tokens) (op : Operation)
-    → first ≡ codes "read" → read_at h tokens ≡ Some op → SoundOp h first tokens op
+read_sound : (tags : ℕ) (first : List ℕ) (tokens : Tokens) (op : Operation)
+    → first ≡ codes "read" → read_at tags tokens ≡ Some op → SoundOp tags (first ∷ tokens) op
 unfolding read_at
-read_sound h first tokens op is e =
+read_sound tags first tokens op is e =
     bind_then (one_token_of tokens) _ op e (λ token is1 e1.
-    bind_then (below h.tags token) _ op e1 (λ i is2 e2.
-    let a = below_sound h.tags token i is2 in
-    subst (λ (y : Operation). SoundOp h first tokens y) (some_is e2)
+    bind_then (below tags token) _ op e1 (λ i is2 e2.
+    let a = below_sound tags token i is2 in
+    subst (λ (y : Operation). SoundOp tags (first ∷ tokens) y) (some_is e2)
     ((λ k. is k ∷ (one_of tokens token is1 ∙ (λ j. a.0 j ∷ [])) k), a.1)))
 
--- a choice by the first token
-chosen : {A : Type 0} {P : Type 0} (first word : List ℕ) (a b : Option A) (x : A)
-    → cond (bytes_eq first word) a b ≡ Some x → (first ≡ word → a ≡ Some x → P) → (b ≡ Some x → P) → P
-chosen {A} {P} first word a b x e here there = go (bytes_eq first word) refl e
-  where
-    go : (t : Bool) → bytes_eq first word ≡ t → cond t a b ≡ Some x → P
-    go true is f = here ((bytes_eq-Decides first word).0 is) f
-    go false is f = there f
-
-op_sound : (h : Header) (first : List ℕ) (tokens : Tokens) (op : Operation)
-    → op_at h first tokens ≡ Some op → SoundOp h first tokens op
+op_sound : (tags : ℕ) (line : Tokens) (op : Operation) → op_at tags line ≡ Some op
+    → SoundOp tags line op
 unfolding op_at
-op_sound h first tokens op e =
-    chosen first (codes "write") _ _ op e (write_sound h first tokens op) (λ e1.
-    chosen first (codes "clear") _ _ op e1 (clear_sound h first tokens op) (λ e2.
-    chosen first (codes "read") _ None op e2 (read_sound h first tokens op) (λ bad. absurd cc)))
-
-told_sound : (h : Header) (t done : ℕ) (first : List ℕ) (tokens : Tokens) (x : Said Operation)
-    → told_at h t done first tokens ≡ Some x → Sound h t done (first ∷ tokens) x
-unfolding told_at
-told_sound h t done first tokens x e = go (ltb 0 t && ltb done 16384) refl e
-  where
-    go : (b : Bool) → ltb 0 t && ltb done 16384 ≡ b
-        → cond b (op_at h first tokens >>= (λ op. Some (Told op))) None ≡ Some x
-        → Sound h t done (first ∷ tokens) x
-    go false is f = absurd cc
-    go true is f =
-        let parts = and_parts (ltb 0 t) (ltb done 16384) is in
-        bind_then (op_at h first tokens) _ x f (λ op said f1.
-        let s = op_sound h first tokens op said in
-        subst (λ (y : Said Operation). Sound h t done (first ∷ tokens) y) (some_is f1)
-        (s.0, (ltb-true 0 t parts.0, (ltb-true done 16384 parts.1, s.1))))
-
-line_sound : (h : Header) (t done : ℕ) (l : Tokens) (x : Said Operation)
-    → line_at h t done l ≡ Some x → Sound h t done l x
-unfolding line_at
-line_sound h t done [] x e = absurd cc
-line_sound h t done (first ∷ tokens) x e =
-    chosen first (codes "thread") _ _ x e (thread_sound h t done first tokens x) (λ e1.
-    chosen first (codes "end") _ _ x e1 (end_sound h t done first tokens x)
-    (told_sound h t done first tokens x))
+op_sound tags [] op e = absurd cc
+op_sound tags (first ∷ tokens) op e =
+    chosen first (codes "write") _ _ op e (write_sound tags first tokens op) (λ e1.
+    chosen first (codes "clear") _ _ op e1 (clear_sound tags first tokens op) (λ e2.
+    chosen first (codes "read") _ None op e2 (read_sound tags first tokens op) (λ bad. absurd cc)))
 
 -- and what is spelled is read
-small : (n most : ℕ) → n < most → most ≤ 10 ^ 19 → number_at (decimal n) ≡ Some n
-small n most low few = number_complete n (omega arith)
-
-line_again : (h : Header) (t done : ℕ) (x : Said Operation)
-    → IsHeader h → Stands tag_language IsHeader Fits h t done x
-    → line_at h t done (line_of tag_language x) ≡ Some x
-unfolding line_at thread_at end_at told_at op_at write_at clear_at read_at no_more_of one_token_of two_tokens_of three_tokens_of
-line_again h t done (Thread u) is s =
-    ap (λ o. o >>= λ u. cond ((u == t) && ltb t h.threads) (Some (Thread u)) None)
-    (number_complete u (omega (arith, s.0, s.1, is.threads)))
-    ∙ (λ k. cond (eq-eqb u t s.0 k && lt-ltb t h.threads s.1 k) (Some (Thread u)) None)
-line_again h t done End is s = ap (λ b. cond b (Some End) None) (eq-eqb t h.threads s)
-line_again h t done (Told (Write i v q)) is s =
-    (λ k. cond (lt-ltb 0 t s.0 k && lt-ltb done 16384 s.1.0 k)
-    ((below h.tags (decimal i) >>= λ i. below (2 ^ 62) (decimal v) >>= λ v.
-    below (2 ^ 62) (decimal q) >>= λ q. Some (Write i v q)) >>= (λ op. Some (Told op))) None)
-    ∙ (λ k. (below_again h.tags i s.1.1.0 (omega (arith, is.tags)) k >>= λ i.
+op_again : (tags : ℕ) (op : Operation) → tags ≤ 1024 → IsOperationInRange tags op
+    → op_at tags (op_line op) ≡ Some op
+unfolding op_at write_at clear_at read_at no_more_of one_token_of two_tokens_of three_tokens_of
+op_again tags (Write i v q) few s =
+    (λ k. below_again tags i s.0 (omega (arith, few)) k >>= λ i.
     below (2 ^ 62) (decimal v) >>= λ v. below (2 ^ 62) (decimal q) >>= λ q. Some (Write i v q))
-    >>= (λ op. Some (Told op)))
-    ∙ (λ k. (below_again (2 ^ 62) v s.1.1.1 (omega arith) k >>= λ v.
-    below (2 ^ 62) (decimal q) >>= λ q. Some (Write i v q)) >>= (λ op. Some (Told op)))
-    ∙ (λ k. (below_again (2 ^ 62) q s.1.1.2 (omega arith) k >>= λ q. Some (Write i v q))
-    >>= (λ op. Some (Told op)))
-line_again h t done (Told (Clear i)) is s =
-    (λ k. cond (lt-ltb 0 t s.0 k && lt-ltb done 16384 s.1.0 k)
-    ((below h.tags (decimal i) >>= λ i. Some (Clear i)) >>= (λ op. Some (Told op))) None)
-    ∙ (λ k. (below_again h.tags i s.1.1 (omega (arith, is.tags)) k >>= λ i. Some (Clear i))
-    >>= (λ op. Some (Told op)))
-line_again h t done (Told (Read i)) is s =
-    (λ k. cond (lt-ltb 0 t s.0 k && lt-ltb done 16384 s.1.0 k)
-    ((below h.tags (decimal i) >>= λ i. Some (Read i)) >>= (λ op. Some (Told op))) None)
-    ∙ (λ k. (below_again h.tags i s.1.1 (omega (arith, is.tags)) k >>= λ i. Some (Read i))
-    >>= (λ op. Some (Told op)))
+    ∙ (λ k. below_again (2 ^ 62) v s.1 (omega arith) k >>= λ v.
+    below (2 ^ 62) (decimal q) >>= λ q. Some (Write i v q))
+    ∙ (λ k. below_again (2 ^ 62) q s.2 (omega arith) k >>= λ q. Some (Write i v q))
+op_again tags (Clear i) few s =
+    λ k. below_again tags i s (omega (arith, few)) k >>= λ i. Some (Clear i)
+op_again tags (Read i) few s =
+    λ k. below_again tags i s (omega (arith, few)) k >>= λ i. Some (Read i)
 
-pub tag_reads : Reads tag_language IsHeader Fits
-tag_reads = record {
-  header_sound = header_sound;
-  header_again = header_again;
-  line_sound = line_sound;
-  line_again = line_again;
-}
+-- no operation begins as the line of a thread does, or the end
+apart : (h : Header) (t : ℕ) (before : List Operation) (op : Operation)
+    → line_at tag_kind h t before (op_line op) ≡ told_at tag_kind h t before (op_line op)
+unfolding line_at
+apart h t before (Write i v q) = refl
+apart h t before (Clear i) = refl
+apart h t before (Read i) = refl
+
+pub tag_reads : Reads (language tag_kind) (IsHeader tag_kind) (Fits tag_kind)
+tag_reads = kind_reads tag_kind (record {
+  few_places = omega arith;
+  sound = λ tags before line op e. op_sound tags line op e;
+  again = λ tags before op few s. op_again tags op few s;
+  apart = apart;
+})

@@ -3,8 +3,9 @@
 
 ghost use Rattle.std.specs.Prelude.{◌≡◌, IfOk, IfSome};
 
+use crate::kind::Tags;
 use crate::planning::{planned, traces};
-use crate::reading::read_script;
+use array_scripts::read_script;
 use block_store::OutOfMemory;
 use call_exits::Refusal;
 use heap_system::System;
@@ -71,12 +72,12 @@ struct Opened {
 fn opening_of(alloc: Global, source: &mut MemSource) -> Result<Opened, Refusal>
     ensures { IfOk result (λ o. IfSome o.system.ordered (λ k. k.left ≡ TURNS)) }
 {
-    let (header, scripts) = read_script(alloc, source)?;
+    let (header, scripts) = read_script::<Tags, MemSource>(alloc, source)?;
     let config = planned(&header)?;
     let traces = traces(alloc, &scripts)?;
     let system = System::new_ordered(alloc, config, traces, TURNS)?;
     Ok(Opened {
-        tags: header.tags,
+        tags: header.places,
         scripts,
         system,
     })

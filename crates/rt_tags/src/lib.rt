@@ -1,21 +1,21 @@
 //! A table of process tags on the heap: scripts of operations, run on threads, and their answers.
 #![tactic(auto)]
 
-ghost use Rattle.std.specs.Prelude.{◌≡◌, ◌⊎◌, ℕ, Some, List};
+ghost use Rattle.std.specs.Prelude.{◌≡◌, ◌⊎◌, ℕ, List};
 ghost use Rattle.tag_table.specs.declared.operation.Operation.{Operation};
-ghost use Rattle.scripts.specs.Scripts.{Start, bad_line};
-ghost use Rattle.rt_tags.specs.declared.line.Header.{Header};
-ghost use Rattle.rt_tags.specs.Lines.{Tokens, tag_language, IsTagScript};
+ghost use Rattle.array_scripts.specs.declared.header.Header.{Header};
+ghost use Rattle.array_scripts.specs.Kinds.{Tokens};
+ghost use Rattle.array_scripts.specs.Parts.{IsFirstBad};
+ghost use Rattle.rt_tags.specs.Lines.{tag_kind, IsTagScript};
 
 #[cfg(test)]
 mod calls;
 #[cfg(test)]
 mod drawn;
 mod exit;
+mod kind;
 mod line;
 mod planning;
-mod printing;
-mod reading;
 mod running;
 mod script;
 #[cfg(test)]
@@ -24,19 +24,19 @@ mod testing;
 mod tests;
 mod top;
 
+pub use array_scripts::{Fault, Header};
 pub use exit::TagExit;
-pub use line::Header;
-pub use script::{Fault, script_of};
+pub use script::script_of;
 pub use top::tags;
 
-/// Lines are a script of tags, or one of them is the first that cannot stand at its place, and never
-/// both; and they are one script at most.
+/// Lines are a script of tags, or one of them is the first that cannot stand at its place, and
+/// never both; and they are one script at most.
 pub fn lines_are_told_apart()
     ensures either { (lines : List Tokens)
         → ((h : Header) × (scripts : List (List Operation)) × IsTagScript lines h scripts)
-        ⊎ ((n : ℕ) × (bad_line tag_language Start 1 lines ≡ Some n)) }
+        ⊎ ((n : ℕ) × IsFirstBad tag_kind lines n) }
     ensures apart { (lines : List Tokens) (h : Header) (scripts : List (List Operation)) (n : ℕ)
-        → IsTagScript lines h scripts → bad_line tag_language Start 1 lines ≡ Some n → ⊥ }
+        → IsTagScript lines h scripts → IsFirstBad tag_kind lines n → ⊥ }
     ensures one { (lines : List Tokens) (h k : Header) (scripts others : List (List Operation))
         → IsTagScript lines h scripts → IsTagScript lines k others
         → (h ≡ k) × (scripts ≡ others) }

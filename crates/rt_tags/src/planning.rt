@@ -5,11 +5,11 @@ ghost use Rattle.call_exits.specs.declared.refusal.Refusal.TheVariants.{NoRate};
 ghost use Rattle.operations.specs.Linearizations.{traces_of};
 ghost use Rattle.rate_plan.specs.Rates.{IsAdmitted};
 ghost use Rattle.tag_table.specs.Tables.{rows_of, command_at};
-ghost use Rattle.rt_tags.specs.Lines.{IsHeader};
-ghost use Rattle.rt_tags.specs.Scripts.{HasRoom, HasNoRoom};
-ghost use Rattle.rt_tags.specs.Scripts as scripts;
+ghost use Rattle.array_scripts.specs.Kinds.{IsHeader};
+ghost use Rattle.array_scripts.specs.Scripts.{HasRoom, HasNoRoom};
+ghost use Rattle.rt_tags.specs.Lines.{tag_kind};
 
-use crate::line::Header;
+use array_scripts::Header;
 use array_trees::blocks_of_array;
 use block_store::{Config, OutOfMemory, Width};
 use call_exits::Refusal;
@@ -20,12 +20,12 @@ use tag_table::{Operation, trace_of};
 
 /// The heap of a table.
 pub fn config_of(header: &Header) -> Config
-    requires { IsHeader header.now }
-    ensures { result ≡ scripts.config_of header.now }
+    requires { IsHeader tag_kind header.now }
+    ensures { result ≡ tag_kind.config_of header.now }
 {
     let Header {
         threads,
-        tags,
+        places: tags,
         blocks,
     } = *header;
     Config {
@@ -40,10 +40,10 @@ pub fn config_of(header: &Header) -> Config
 
 /// The heap of a table, if it has a rate.
 pub fn planned(header: &Header) -> Result<Config, Refusal>
-    requires { IsHeader header.now }
+    requires { IsHeader tag_kind header.now }
     ensures { MatchResult result
-        (λ c. (c ≡ scripts.config_of header.now) × IsAdmitted c × HasRoom header.now)
-        (λ r. (r ≡ NoRate) × HasNoRoom header.now) }
+        (λ c. (c ≡ tag_kind.config_of header.now) × IsAdmitted c × HasRoom tag_kind header.now)
+        (λ r. (r ≡ NoRate) × HasNoRoom tag_kind header.now) }
 {
     let config = config_of(header);
     match plan(&config) {

@@ -6,11 +6,13 @@ ghost use Rattle.operations.specs.Linearizations.{traces_of};
 ghost use Rattle.tag_table.specs.Tables.{rows_of, command_at};
 ghost use Rattle.threaded_runs.specs.Ends.{commands_of};
 ghost use Rattle.rt_tags.specs.Calls.{HasAnswers};
-ghost use Rattle.rt_tags.specs.Scripts.{IsCause};
-ghost use Rattle.rt_tags.specs.Answers.{answers_in};
+ghost use Rattle.array_scripts.specs.Scripts.{IsCause};
+ghost use Rattle.rt_tags.specs.Lines.{tag_kind};
+ghost use Rattle.rt_tags.specs.Tellings.{answers_in};
 
+use crate::kind::Tags;
 use crate::planning::{planned, traces};
-use crate::reading::read_script;
+use array_scripts::read_script;
 use atom_board::Closed;
 use block_store::OutOfMemory;
 use call_exits::Refusal;
@@ -35,10 +37,10 @@ pub fn kept<R: Threads + Wait + Sync, S: Source, Q: Pace>(
     ensures kept { IfOk result (λ x. HasAnswers (sides S.left S.faults source.old source.new)
         x.0 (map (λ v. v.items) x.1.items)) }
     ensures still { OnOk result (S.faults source.new ≡ S.faults source.old) }
-    ensures refused { IfErr result (IsCause []
+    ensures refused { IfErr result (IsCause tag_kind []
         (sides S.left S.faults source.old source.new)) }
 {
-    let (header, scripts) = read_script(alloc, source)?;
+    let (header, scripts) = read_script::<Tags, S>(alloc, source)?;
     let config = planned(&header)?;
     let traces = traces(alloc, &scripts)?;
     let run = run_job(rt, alloc, Job { config, traces }, pace)?;

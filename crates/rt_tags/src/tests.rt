@@ -18,7 +18,7 @@ end
     let Ok((header, scripts)) = script_of(rt.alloc(), text) else {
         return Err("refused".into());
     };
-    assert_eq!(rt; (header.threads, header.tags, header.blocks), (2, 2, 64));
+    assert_eq!(rt; (header.threads, header.places, header.blocks), (2, 2, 64));
     let write = Operation::Write {
         place: 1,
         value: 5,

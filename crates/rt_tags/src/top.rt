@@ -1,29 +1,27 @@
 //! The top call.
 
-ghost use Rattle.std.specs.Prelude.{◌≡◌, map, string_bytes, IfOk, IfErr, OnOk};
+ghost use Rattle.std.specs.Prelude.{◌≡◌, [], map, string_bytes, IfOk, IfErr, OnOk};
 ghost use Rattle.call_exits.specs.Sides.{sides};
 ghost use Rattle.rt_tags.specs.Calls.{IsCarriedOut, HasAnswers};
-ghost use Rattle.rt_tags.specs.Scripts.{IsCause};
-ghost use Rattle.std.specs.Prelude.{◌≢◌, ◌⊎◌, Some, []};
-ghost use Rattle.trace_text.specs.Faults.{Rose};
-ghost use Rattle.call_exits.specs.Exits.{IsWritten};
-ghost use Rattle.rt_tags.specs.Tellings.{lines_from};
+ghost use Rattle.array_scripts.specs.Scripts.{IsCause};
+ghost use Rattle.rt_tags.specs.Lines.{tag_kind};
 
 use crate::exit::TagExit;
-use crate::printing::write_answers;
+use crate::kind::Tags;
 use crate::running::{Answers, kept};
+use array_scripts::tell_answers;
 use atom_board::Closed;
 use call_exits::{Refusal, refused};
 use never_heap::Pace;
 use std::alloc::Global;
 use std::sync::Wait;
 use std::thread::Threads;
-use trace_text::{Sink, Source, WRITE_FAULT};
+use trace_text::{Sink, Source};
 
 /// Keeps a table of tags on a heap of its own: reads a script, in which each thread has operations
-/// on the table, runs the threads beside each other, and writes what each operation answered, a line
-/// each, thread by thread. The pace is told before each command. Words are refused with the line
-/// `rt_tags: usage`.
+/// on the table, runs the threads beside each other, and writes what each operation answered, a
+/// line each, thread by thread. The pace is told before each command. Words are refused with the
+/// line `rt_tags: usage`.
 ///
 /// The answers are those of a table on which the operations are done one after the other, in one
 /// order that has each thread's in script order; so no operation sees the value of one write with
@@ -43,7 +41,11 @@ pub fn tags<R: Threads + Wait + Sync, S: Source, K: Sink, Q: Pace>(
         (sides K.held K.faults sink.old sink.new) result }
 {
     match asked(rt, alloc, words, source, pace) {
-        Ok((run, told)) => written(run, &told, sink),
+        Ok((run, told)) => TagExit {
+            status: tell_answers::<Tags, K>(&told, sink),
+            due: 0,
+            run: Some(run),
+        },
         Err(refusal) => TagExit {
             status: refused(refusal, b"rt_tags", sink),
             due: refusal.status(),
@@ -64,32 +66,11 @@ fn asked<R: Threads + Wait + Sync, S: Source, Q: Pace>(
     ensures kept { IfOk result (λ x. HasAnswers (sides S.left S.faults source.old source.new)
         x.0 (map (λ v. v.items) x.1.items)) }
     ensures still { OnOk result (S.faults source.new ≡ S.faults source.old) }
-    ensures refused { IfErr result (IsCause (map (λ w. string_bytes w) words.now)
+    ensures refused { IfErr result (IsCause tag_kind (map (λ w. string_bytes w) words.now)
         (sides S.left S.faults source.old source.new)) }
 {
     if !words.is_empty() {
         return Err(Refusal::Usage);
     }
     kept(rt, alloc, source, pace)
-}
-
-/// Writes the answers of a run.
-fn written<K: Sink>(run: Closed, told: &[Vec<Option<(u64, u64)>>], sink: &mut K) -> TagExit
-    ensures due { result.due ≡ 0 }
-    ensures run { result.run ≡ Some run }
-    ensures status { (result.status ≡ 0) ⊎ (result.status ≡ 6) }
-    ensures text { IsWritten (sides K.held K.faults sink.old sink.new) result.status
-        (lines_from 0 (map (λ v. v.items) told.now)) }
-    ensures still { result.status ≢ 6 → K.faults sink.new ≡ K.faults sink.old }
-    ensures rose { result.status ≡ 6 → Rose (K.faults sink.old) (K.faults sink.new) }
-{
-    let status = match write_answers(told, sink) {
-        Ok(()) => 0,
-        Err(_) => WRITE_FAULT,
-    };
-    TagExit {
-        status,
-        due: 0,
-        run: Some(run),
-    }
 }

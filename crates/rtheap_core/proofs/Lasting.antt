@@ -1,16 +1,18 @@
 -- A job in bounds takes fewer than 2^64 serial turns.
-use Rattle.std.proofs.Common.{ℕ, zero, suc, ◌+◌, ◌-◌, ◌*◌, ◌^◌, ◌≤◌, List, [], ◌∷◌, length, get_or, arith}
+use Rattle.std.proofs.Common.{ℕ, zero, suc, ◌+◌, ◌-◌, ◌*◌, ◌^◌, ◌≤◌, Bool, true, false, cond, List, [], ◌∷◌, length, get_or, arith}
 use Rattle.std.proofs.lemmas.Nat.{mul-le}
 use Rattle.std.specs.List.{AllByRecursion}
 use Rattle.block_store.specs.declared.Config.{Config}
 use Rattle.block_store.specs.Counts.{total}
 use Rattle.never_heap.specs.declared.Command.{Command}
-use Rattle.never_heap.specs.declared.Command.TheVariants.{New, Arr, Set, Nil, Mov, Get, Put, Len, Same, Say, Swap, Cas, Idle}
 use Rattle.never_heap.specs.Bounds.{IsCommandInBounds}
 use Rattle.never_heap.specs.Jobs.{IsTraceInBounds, IsJobInBounds}
+use Rattle.never_heap.specs.RightWork.{units_told}
+use Rattle.never_heap.specs.Steps.{blocks_of}
 use Rattle.lone_bound.specs.Prices.{allocation_bound, idle_bound, other_bound}
 use Rattle.heap_system.specs.Alone.{command_bound}
 use Rattle.heap_system.specs.Serials.{trace_bound, job_bound}
+use Rattle.heap_system.proofs.Paying.{blocks_low, told_low}
 
 module _ (c : Config) (rate : ℕ) (threads : c.threads ≤ 16) (object : c.object ≤ 1024)
     (low : rate ≤ 131070) where
@@ -35,20 +37,15 @@ module _ (c : Config) (rate : ℕ) (threads : c.threads ≤ 16) (object : c.obje
       mul-le (u + 1) (8 * c.threads + 64) 131071 192 (omega (arith, few)) (omega (arith, threads)) in
       omega (arith, passes)
 
+  choice : (makes idles : Bool) (x y z : ℕ) → x ≤ most → y ≤ most → z ≤ most
+      → cond makes x (cond idles y z) ≤ most
+  choice true idles x y z a b c = a
+  choice false true x y z a b c = b
+  choice false false x y z a b c = c
+
   command : (k : Command) → IsCommandInBounds c k → command_bound c rate k ≤ most
-  command (New d f) b = allocation _ b.2
-  command (Arr d e) b = allocation _ b.2
-  command (Set d v) b = other
-  command (Nil d) b = other
-  command (Mov d s) b = other
-  command (Get d s i) b = other
-  command (Put s i v) b = other
-  command (Len s) b = other
-  command (Same a b) h = other
-  command (Say s) b = other
-  command (Swap s i v) b = other
-  command (Cas s i a v) b = other
-  command (Idle u) b = idle u b.0
+  command k b =
+      choice _ _ _ _ _ (allocation (blocks_of c.width k) b.blocks) (idle (units_told k) b.units) other
 
   commands : (ks : List Command) → AllByRecursion (IsCommandInBounds c) ks
       → trace_bound c rate ks ≤ length ks * most

@@ -183,7 +183,7 @@ step_keeps c g t (commands.New d f) b s =
     (store_small _ (make_small g s t f _) t d (Ref (next_name g t)) tt, tt)
 step_keeps c g t (commands.Arr d e) b s =
     (store_small _ (make_small g s t e _) t d (Ref (next_name g t)) tt, tt)
-step_keeps c g t (commands.Set d v) b s = (store_small g s t d (Int v) b.1, tt)
+step_keeps c g t (commands.Set d v) b s = (store_small g s t d (Int v) b.range.1, tt)
 step_keeps c g t (commands.Nil d) b s = (store_small g s t d Nil tt, tt)
 step_keeps c g t (commands.Mov d r) b s =
     (store_small g s t d (register_of g t r) (register_small g s t r), tt)

@@ -1,7 +1,9 @@
 //! Jobs for the tests: drawn ones, and a chain that grows.
 
-ghost use Rattle.std.specs.Prelude.{◌≡◌, map, IfOk};
+ghost use Rattle.std.specs.Prelude.{◌≡◌, ◌≤◌, ◌+◌, length, map, IfOk, OnOk};
+ghost use Rattle.std.specs.List.{All};
 ghost use Rattle.block_store.specs.Configs.{IsInBounds};
+ghost use Rattle.never_heap.specs.Bounds.{IsCommandInBounds};
 ghost use Rattle.never_heap.specs.Jobs.{IsJobInBounds, IsTraceInBounds};
 
 use block_store::{Config, OutOfMemory, Width};
@@ -61,12 +63,22 @@ fn drawn_trace(
 {
     let mut trace = Vec::new(alloc);
     for _command in 0..COMMANDS {
-        let command = drawn_command(draws);
-        if command.in_bounds(c) {
-            trace.push(command)?;
-        }
+        push_fitting(c, &mut trace, drawn_command(draws))?;
     }
     Ok(trace)
+}
+
+// Puts a command behind others, where it is in bounds.
+fn push_fitting(c: &Config, trace: &mut Vec<Command>, command: Command) -> Result<(), OutOfMemory>
+    requires { All (IsCommandInBounds c.now) trace.old.items }
+    ensures few { OnOk result (length trace.new.items ≤ length trace.old.items + 1) }
+    ensures each { OnOk result (All (IsCommandInBounds c.now) trace.new.items) }
+{
+    if !command.in_bounds(c) {
+        return Ok(());
+    }
+    trace.push(command)?;
+    Ok(())
 }
 
 // Any command; about three in eight of them make an object.

@@ -1,4 +1,4 @@
-//! Writing what was measured.
+//! The report of what was measured.
 
 use crate::bounds::turns_alone;
 use crate::kinds::{KINDS, Kind};
@@ -8,43 +8,17 @@ use atom_board::Closed;
 use block_store::OutOfMemory;
 use never_heap::Logs;
 use rate_plan::plan;
-use std::alloc::{AllocError, Global};
+use std::alloc::Global;
 use std::fmt;
 use std::time::Clock;
 use time_counts::{CLASSES, Times, bar_of, fullest, power};
-use trace_text::{Failed, Sink};
 
 /// How often the clock is read to tell the time of one reading.
 const READINGS: usize = 1_001;
 
 /// What is told of switches.
-const SWITCHES: &[u8] =
-    b"switches: std does not tell when a thread is switched away; the times have it in them\n";
-
-/// Why not all was written.
-#[derive(Clone, Copy, Debug)]
-pub enum Fault {
-    OutOfMemory,
-    Failed,
-}
-
-impl From<OutOfMemory> for Fault {
-    fn from(_error: OutOfMemory) -> Fault {
-        Fault::OutOfMemory
-    }
-}
-
-impl From<AllocError> for Fault {
-    fn from(_error: AllocError) -> Fault {
-        Fault::OutOfMemory
-    }
-}
-
-impl From<Failed> for Fault {
-    fn from(_error: Failed) -> Fault {
-        Fault::Failed
-    }
-}
+const SWITCHES: &str =
+    "switches: std does not tell when a thread is switched away; the times have it in them\n";
 
 /// A run, with what its times are told by.
 #[derive(Drop)]
@@ -66,74 +40,71 @@ pub fn reading_time<C: Clock>(alloc: Global, clock: &C) -> Result<u64, OutOfMemo
     Ok(Times::new(times).percentile(500).unwrap_or(0))
 }
 
-/// Writes what was measured of a run: of all threads, and where there are several of each.
-pub fn write_times<C: Clock + Sync, K: Sink>(
+/// The report of what was measured of a run: of all threads, and where there are several of each.
+///
+/// # Errors
+///
+/// `OutOfMemory` where there is no room for it, or for the times in order.
+pub fn report_of<C: Clock + Sync>(
     alloc: Global,
     reading: u64,
     run: &Closed,
     stamps: &Stamps<'_, C>,
-    sink: &mut K,
-) -> Result<(), Fault> {
+) -> Result<String, OutOfMemory> {
     let config = run.config();
     let rate = if config.in_bounds() {
         plan(config).ok()
     } else {
         None
     };
-    put(
-        sink,
-        &format!(in alloc; "clock: one reading takes {reading} ns, and is in each time\n")?,
+    let mut report = format!(in alloc;
+        "clock: one reading takes {reading} ns, and is in each time\n"
     )?;
-    sink.put(SWITCHES)?;
+    report.push_str(SWITCHES)?;
     let told = Told { run, stamps, rate };
-    write_group(alloc, &told, None, sink)?;
+    add_group(alloc, &told, None, &mut report)?;
     if run.threads() > 1 {
         for thread in 0..run.threads() {
-            write_group(alloc, &told, Some(thread), sink)?;
+            add_group(alloc, &told, Some(thread), &mut report)?;
         }
     }
-    Ok(())
+    Ok(report)
 }
 
-fn put<K: Sink>(sink: &mut K, text: &String) -> Result<(), Fault> {
-    sink.put(text.as_bytes())?;
-    Ok(())
-}
-
-/// Writes what was measured of the commands of one thread, or of all: a row for each kind, and the
+/// Adds what was measured of the commands of one thread, or of all: a row for each kind, and the
 /// histogram of all kinds.
-fn write_group<C: Clock + Sync, K: Sink>(
+fn add_group<C: Clock + Sync>(
     alloc: Global,
     told: &Told<'_, C>,
     thread: Option<u32>,
-    sink: &mut K,
-) -> Result<(), Fault> {
+    report: &mut String,
+) -> Result<(), OutOfMemory> {
     let head = match thread {
         Some(thread) => format!(in alloc; "\nthread {thread}\n")?,
         None => format!(in alloc; "\nall threads\n")?,
     };
-    put(sink, &head)?;
-    sink.put(TITLES)?;
+    report.push_str(head.as_str())?;
+    report.push_str(TITLES)?;
     for kind in KINDS {
-        write_kind(alloc, told, thread, Some(kind), sink)?;
+        add_kind(alloc, told, thread, Some(kind), report)?;
     }
-    let all = write_kind(alloc, told, thread, None, sink)?;
-    write_histogram(alloc, all.times.as_slice(), sink)
+    let all = add_kind(alloc, told, thread, None, report)?;
+    add_histogram(alloc, all.times.as_slice(), report)
 }
 
 /// The titles of the columns of a row.
-const TITLES: &[u8] =
-    b"kind                commands     median      99.9%    longest  thread  command      \
+const TITLES: &str =
+    "kind                commands     median      99.9%    longest  thread  command      \
 line  most turns\n";
 
-/// Writes the row of a kind, where there are commands of it.
-fn write_kind<C: Clock + Sync, K: Sink>(
+/// Adds the row of a kind, where there are commands of it.
+fn add_kind<C: Clock + Sync>(
     alloc: Global,
     told: &Told<'_, C>,
     thread: Option<u32>,
     kind: Option<Kind>,
-    sink: &mut K,
-) -> Result<Sample, Fault> {
+    report: &mut String,
+) -> Result<Sample, OutOfMemory> {
     let width = told.run.config().width;
     let which = Which { thread, kind };
     let sample = sample_of(alloc, width, told.run, told.stamps, which)?;
@@ -143,8 +114,8 @@ fn write_kind<C: Clock + Sync, K: Sink>(
         figures: figures_of(&sample),
     };
     if row.commands > 0 {
-        put(sink, &format!(in alloc; "{row}")?)?;
-        put(sink, &longest_text(alloc, told, &sample)?)?;
+        report.push_str(format!(in alloc; "{row}")?.as_str())?;
+        report.push_str(longest_text(alloc, told, &sample)?.as_str())?;
     }
     Ok(sample)
 }
@@ -200,7 +171,7 @@ fn longest_text<C: Clock + Sync>(
     alloc: Global,
     told: &Told<'_, C>,
     sample: &Sample,
-) -> Result<String, Fault> {
+) -> Result<String, OutOfMemory> {
     let Some(one) = &sample.longest else {
         return Ok(format!(in alloc; "\n")?);
     };
@@ -221,13 +192,13 @@ fn turns_of<C: Clock + Sync>(told: &Told<'_, C>, one: &Longest) -> Option<u64> {
     turns_alone(config, told.rate?, &one.command)
 }
 
-/// Writes how many times lie between each power of two and the next, with a row of marks each.
-fn write_histogram<K: Sink>(alloc: Global, times: &[u64], sink: &mut K) -> Result<(), Fault> {
+/// Adds how many times lie between each power of two and the next, with a row of marks each.
+fn add_histogram(alloc: Global, times: &[u64], report: &mut String) -> Result<(), OutOfMemory> {
     let most = fullest(times);
     for class in 0..CLASSES {
         let bar = bar_of(times, power(class), most);
         if bar.count > 0 {
-            put(sink, &format!(in alloc; "{bar}")?)?;
+            report.push_str(format!(in alloc; "{bar}")?.as_str())?;
         }
     }
     Ok(())

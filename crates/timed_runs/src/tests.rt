@@ -43,11 +43,11 @@ switches: std does not tell when a thread is switched away; the times have it in
 
 all threads
 kind                commands     median      99.9%    longest  thread  command      line  most turns
-1 block                    1       1000       1000       1000       0        4         6         146
-2 blocks                   1       1000       1000       1000       0        1         3         266
+1 block                    1       1000       1000       1000       0        4         6         139
+2 blocks                   1       1000       1000       1000       0        1         3         252
 get and put                2       1000       1000       1000       0        2         4          66
 others                     1
-all                        5       1000       1000       1000       0        1         3         266
+all                        5       1000       1000       1000       0        1         3         252
              512 ns          4 ############################################################
 ";
 

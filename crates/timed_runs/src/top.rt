@@ -1,23 +1,22 @@
 //! The top call.
 
-ghost use Rattle.std.specs.Prelude.{◌≡◌, ◌⊎◌, map, string_bytes, IfOk};
+ghost use Rattle.std.specs.Prelude.{◌≡◌, ◌≢◌, map, string_bytes, IfOk, OnErr};
 ghost use Rattle.rtheap_core.specs.Calls.{IsCarriedOut, IsComplete};
-ghost use Rattle.call_exits.specs.Sides.{sides};
-ghost use Rattle.timed_runs.specs.Calls.{run_words, silent};
+ghost use Rattle.call_exits.specs.Exits.{IsToldBy};
+ghost use Rattle.call_exits.specs.Sides.{sides, IsUntouched};
+ghost use Rattle.timed_runs.specs.Calls.{run_words, silent, IsReported, IsTimed};
 
 use crate::counted::Counted;
 use crate::stamps::Stamps;
-use crate::telling::{Fault, reading_time, write_times};
+use crate::telling::{reading_time, report_of};
 use block_store::OutOfMemory;
+use call_exits::{Refusal, refused};
 use rtheap_core::{Exit, RunEnd, rtheap};
 use std::alloc::Global;
 use std::sync::Wait;
 use std::thread::Threads;
 use std::time::Clock;
-use trace_text::{Sink, Source, WRITE_FAULT};
-
-/// The status of want of memory.
-const NO_MEMORY: u8 = 7;
+use trace_text::{Sink, Source, put_line};
 
 /// What became of a timed run: the status, and what the run itself answered.
 #[derive(Drop)]
@@ -27,12 +26,16 @@ pub struct TimedExit {
 }
 
 /// Runs the job of the source as `rtheap run` does, puts the replies into a sink that counts, and
-/// writes how long the commands took. Of the times nothing is proved: they are what the clock
-/// read. A refusal of the run is written in place of them.
+/// writes how long the commands took, as one report by one `put`. Of the times nothing is proved:
+/// they are what the clock read. A refusal of the run is written in place of them.
+///
+/// The status is 0 where the report was written, 6 where the sink failed, and 7 where there was no
+/// memory for the report; and where no run came to its end, that of the run, or 6.
 ///
 /// # Errors
 ///
-/// `OutOfMemory` where there is no room for the words of the times, before anything is read.
+/// `OutOfMemory` where there is no room for the words of the times. Nothing is read or written
+/// then.
 pub fn timed<R: Threads + Wait + Sync, C: Clock + Sync, S: Source, K: Sink>(
     rt: &R,
     clock: &C,
@@ -53,8 +56,10 @@ pub fn timed<R: Threads + Wait + Sync, C: Clock + Sync, S: Source, K: Sink>(
       sink = silent;
       exit = x.exit;
     })) }
-    ensures status { IfOk result (λ x.
-        (x.status ≡ 0) ⊎ ((x.status ≡ x.exit.status) ⊎ ((x.status ≡ 6) ⊎ (x.status ≡ 7)))) }
+    ensures status { IfOk result (λ x. IsTimed (sides K.held K.faults sink.old sink.new) x.exit.run
+        x.exit.status x.status) }
+    ensures unread { OnErr result (IsUntouched (sides S.left S.faults source.old source.new)) }
+    ensures unwritten { OnErr result (IsUntouched (sides K.held K.faults sink.old sink.new)) }
 {
     let asked = asked(alloc, words)?;
     let stamps = Stamps::new(alloc, clock)?;
@@ -62,8 +67,9 @@ pub fn timed<R: Threads + Wait + Sync, C: Clock + Sync, S: Source, K: Sink>(
     let mut counted = Counted::new(alloc);
     let exit = rtheap(rt, alloc, &asked, source, &mut counted, &stamps);
     let status = match &exit.run {
-        Some(RunEnd::Ran(run)) => status_of(write_times(alloc, reading, run, &stamps, sink)),
-        _ => refused(exit.status, &counted, sink),
+        Some(RunEnd::Ran(run)) => reported(report_of(alloc, reading, run, &stamps), sink),
+        Some(RunEnd::Replayed(_)) => retold(exit.status, &counted, sink),
+        None => retold(exit.status, &counted, sink),
     };
     Ok(TimedExit { status, exit })
 }
@@ -79,22 +85,20 @@ fn asked(alloc: Global, words: &[String]) -> Result<Vec<String>, OutOfMemory>
     }
 }
 
-fn status_of(written: Result<(), Fault>) -> u8
-    ensures { (result ≡ 0) ⊎ ((result ≡ 6) ⊎ (result ≡ 7)) }
+/// Writes the report, or that there was no memory for it.
+fn reported<K: Sink>(report: Result<String, OutOfMemory>, sink: &mut K) -> u8
+    ensures { IsReported (sides K.held K.faults sink.old sink.new) result }
 {
-    match written {
-        Ok(()) => 0,
-        Err(Fault::Failed) => WRITE_FAULT,
-        Err(Fault::OutOfMemory) => NO_MEMORY,
+    match report {
+        Ok(report) => put_line(report.as_bytes(), 0, sink),
+        Err(_) => refused(Refusal::OutOfMemory, b"rtheap", sink),
     }
 }
 
-/// Writes the line of a refusal.
-fn refused<K: Sink>(status: u8, counted: &Counted, sink: &mut K) -> u8
-    ensures { (result ≡ status) ⊎ (result ≡ 6) }
+/// Writes the line of a refusal, which is the last piece that was counted.
+fn retold<K: Sink>(status: u8, counted: &Counted, sink: &mut K) -> u8
+    requires { status ≢ 6 }
+    ensures { IsToldBy (sides K.held K.faults sink.old sink.new) result status }
 {
-    match sink.put(counted.last()) {
-        Ok(()) => status,
-        Err(_) => WRITE_FAULT,
-    }
+    put_line(counted.last(), status, sink)
 }

@@ -8,6 +8,7 @@ pub mod Fronts
 pub mod NumberLaws
 pub mod Numbers
 pub mod WordLaws
+pub mod Spelled
 pub mod Sizes
 pub mod LineLaws
 pub mod LabelLaws

@@ -14,6 +14,9 @@ use Rattle.array_trees.specs.Trees.{array_blocks}
 use Rattle.never_heap.specs.declared.Command.{Command}
 use Rattle.never_heap.specs.declared.Command.TheVariants as commands
 use Rattle.never_heap.specs.Bounds.{IsCommandInBounds}
+use Rattle.never_heap.specs.Signatures as signed
+use Rattle.never_heap.specs.Signatures.{numbers}
+use Rattle.never_heap.proofs.Ranges.{operands_in_range}
 use Rattle.trace_text.specs.declared.trace_faults.Why.{Why}
 use Rattle.trace_text.specs.declared.trace_faults.Why.TheVariants as whys
 use Rattle.trace_text.specs.declared.reading.lines.Line.{Line}
@@ -26,6 +29,7 @@ use Rattle.trace_text.specs.Words.{word_at, word_in, has_word, is_wide, is_comma
 use Rattle.trace_text.specs.Said.{◌>>=◌, HasRegisters, IsOfWidth, is_oversized, register_at, length_at, fitted, count_is, numbers_at, on_none, on_one, on_two, on_three, on_four, told_at, operands_at, in_turn, line_at}
 use Rattle.trace_text.specs.Refusals.{Before, first_of, is_number, value_of, any_operand, is_high_register, is_too_large, is_out_of_turn, word_fault, later_fault}
 use Rattle.trace_text.proofs.Sizes.{in_ranges, not_oversized}
+use Rattle.trace_text.proofs.Spelled.{are_written, operands_low, spelled, word_of}
 use Rattle.trace_text.proofs.WordLaws.{word_text, word_known, word_sound, word_complete, count_map, count_length, values_are, AreWritten, numbers_complete, numbers_sound}
 
 -- the reason of an answer
@@ -188,18 +192,18 @@ told_agree c t k words.New ns h =
     (length_test (leb (2 ^ 32) n) _ n _
     (too_long n (ltb c.object (record_blocks c.width n)) (leb 131072 k))
     (sized _ _ (Told (commands.New d n))
-    (or_turn (ltb 65535 n || ltb c.object (record_blocks c.width n)) (leb 131072 k)))))
+    refl)))
 told_agree c t k words.Arr ns h =
     at_two (Agrees c t k words.Arr) ns h
     (λ d n. one_test (leb REGISTERS d) d _ _
     (length_test (leb (2 ^ 32) n) _ n _
     (too_long n (ltb c.object (array_blocks c.width n)) (leb 131072 k))
     (sized _ _ (Told (commands.Arr d n))
-    (or_turn (ltb 65535 n || ltb c.object (array_blocks c.width n)) (leb 131072 k)))))
+    refl)))
 told_agree c t k words.Set ns h =
     at_two (Agrees c t k words.Set) ns h
     (λ d v. one_test (leb REGISTERS d) d _ _
-    (sized _ _ (Told (commands.Set d v)) (or_turn (leb (2 ^ 62) v) (leb 131072 k))))
+    (sized _ _ (Told (commands.Set d v)) refl))
 told_agree c t k words.Nil ns h =
     at_one (Agrees c t k words.Nil) ns h
     (λ s. one_test (leb REGISTERS s) s _ _ (sized _ _ (Told (commands.Nil s)) refl))
@@ -210,11 +214,11 @@ told_agree c t k words.Mov ns h =
 told_agree c t k words.Get ns h =
     at_three (Agrees c t k words.Get) ns h
     (λ d s i. two_tests (leb REGISTERS d) (leb REGISTERS s) d s _ _
-    (sized _ _ (Told (commands.Get d s i)) (or_turn (leb (2 ^ 62) i) (leb 131072 k))))
+    (sized _ _ (Told (commands.Get d s i)) refl))
 told_agree c t k words.Put ns h =
     at_three (Agrees c t k words.Put) ns h
     (λ s i v. two_tests (leb REGISTERS s) (leb REGISTERS v) s v _ _
-    (sized _ _ (Told (commands.Put s i v)) (or_turn (leb (2 ^ 62) i) (leb 131072 k))))
+    (sized _ _ (Told (commands.Put s i v)) refl))
 told_agree c t k words.Len ns h =
     at_one (Agrees c t k words.Len) ns h
     (λ s. one_test (leb REGISTERS s) s _ _ (sized _ _ (Told (commands.Len s)) refl))
@@ -228,14 +232,14 @@ told_agree c t k words.Say ns h =
 told_agree c t k words.Swap ns h =
     at_three (Agrees c t k words.Swap) ns h
     (λ s i v. two_tests (leb REGISTERS s) (leb REGISTERS v) s v _ _
-    (sized _ _ (Told (commands.Swap s i v)) (or_turn (leb (2 ^ 62) i) (leb 131072 k))))
+    (sized _ _ (Told (commands.Swap s i v)) refl))
 told_agree c t k words.Cas ns h =
     at_four (Agrees c t k words.Cas) ns h
     (λ s i a v. three_tests (leb REGISTERS s) (leb REGISTERS a) (leb REGISTERS v) s a v _ _
-    (sized _ _ (Told (commands.Cas s i a v)) (or_turn (leb (2 ^ 62) i) (leb 131072 k))))
+    (sized _ _ (Told (commands.Cas s i a v)) refl))
 told_agree c t k words.Idle ns h =
     at_one (Agrees c t k words.Idle) ns h
-    (λ u. sized _ _ (Told (commands.Idle u)) (or_turn (ltb 131070 u) (leb 131072 k)))
+    (λ u. sized _ _ (Told (commands.Idle u)) refl)
 
 first_test : (x : Bool) (why : Why) (r : Result Line Why) (o : Option Why) → reason r ≡ o
     → reason (cond x (Err why) r) ≡ cond x (Some why) o
@@ -491,36 +495,12 @@ line_sound c t k (first ∷ ps) l e =
 abbrev line_word : Line → Word
 line_word (Thread t) = words.Thread
 line_word End = words.End
-line_word (Told (commands.New d f)) = words.New
-line_word (Told (commands.Arr d e)) = words.Arr
-line_word (Told (commands.Set d v)) = words.Set
-line_word (Told (commands.Nil d)) = words.Nil
-line_word (Told (commands.Mov d s)) = words.Mov
-line_word (Told (commands.Get d s i)) = words.Get
-line_word (Told (commands.Put s i v)) = words.Put
-line_word (Told (commands.Len s)) = words.Len
-line_word (Told (commands.Same a b)) = words.Same
-line_word (Told (commands.Say s)) = words.Say
-line_word (Told (commands.Swap s i v)) = words.Swap
-line_word (Told (commands.Cas s i a v)) = words.Cas
-line_word (Told (commands.Idle u)) = words.Idle
+line_word (Told command) = word_of command
 
 abbrev line_numbers : Line → List ℕ
 line_numbers (Thread t) = t ∷ []
 line_numbers End = []
-line_numbers (Told (commands.New d f)) = d ∷ f ∷ []
-line_numbers (Told (commands.Arr d e)) = d ∷ e ∷ []
-line_numbers (Told (commands.Set d v)) = d ∷ v ∷ []
-line_numbers (Told (commands.Nil d)) = d ∷ []
-line_numbers (Told (commands.Mov d s)) = d ∷ s ∷ []
-line_numbers (Told (commands.Get d s i)) = d ∷ s ∷ i ∷ []
-line_numbers (Told (commands.Put s i v)) = s ∷ i ∷ v ∷ []
-line_numbers (Told (commands.Len s)) = s ∷ []
-line_numbers (Told (commands.Same a b)) = a ∷ b ∷ []
-line_numbers (Told (commands.Say s)) = s ∷ []
-line_numbers (Told (commands.Swap s i v)) = s ∷ i ∷ v ∷ []
-line_numbers (Told (commands.Cas s i a v)) = s ∷ i ∷ a ∷ v ∷ []
-line_numbers (Told (commands.Idle u)) = u ∷ []
+line_numbers (Told command) = numbers command
 
 -- how a line is written
 record IsWritten (l : Line) : Type 0 where
@@ -530,42 +510,17 @@ record IsWritten (l : Line) : Type 0 where
 written : (l : Line) → IsWritten l
 written (Thread t) = record { text = refl; count = refl }
 written End = record { text = refl; count = refl }
-written (Told (commands.New d f)) = record { text = refl; count = refl }
-written (Told (commands.Arr d e)) = record { text = refl; count = refl }
-written (Told (commands.Set d v)) = record { text = refl; count = refl }
-written (Told (commands.Nil d)) = record { text = refl; count = refl }
-written (Told (commands.Mov d s)) = record { text = refl; count = refl }
-written (Told (commands.Get d s i)) = record { text = refl; count = refl }
-written (Told (commands.Put s i v)) = record { text = refl; count = refl }
-written (Told (commands.Len s)) = record { text = refl; count = refl }
-written (Told (commands.Same a b)) = record { text = refl; count = refl }
-written (Told (commands.Say s)) = record { text = refl; count = refl }
-written (Told (commands.Swap s i v)) = record { text = refl; count = refl }
-written (Told (commands.Cas s i a v)) = record { text = refl; count = refl }
-written (Told (commands.Idle u)) = record { text = refl; count = refl }
+written (Told command) = record {
+  text = ap (λ (t : List ℕ). t ∷ map decimal (numbers command)) (spelled command).text;
+  count = (spelled command).count;
+}
 
 small : (c : Config) (t k : ℕ) (l : Line) → t < 10 ^ 19 → Fits c t k l → AreWritten (line_numbers l)
 small c t k (Thread n) le f = (omega (arith, f.0), tt)
 small c t k End le f = tt
-small c t k (Told (commands.New d n)) le f = (omega (arith, f.0.0), (omega (arith, f.0.1), tt))
-small c t k (Told (commands.Arr d e)) le f = (omega (arith, f.0.0), (omega (arith, f.0.1), tt))
-small c t k (Told (commands.Set d v)) le f = (omega (arith, f.0.0), (omega (arith, f.0.1), tt))
-small c t k (Told (commands.Nil d)) le f = (omega (arith, f.0), tt)
-small c t k (Told (commands.Mov d s)) le f = (omega (arith, f.0.0), (omega (arith, f.0.1), tt))
-small c t k (Told (commands.Get d s i)) le f =
-    (omega (arith, f.0.0), (omega (arith, f.0.1), (omega (arith, f.0.2), tt)))
-small c t k (Told (commands.Put s i v)) le f =
-    (omega (arith, f.0.0), (omega (arith, f.0.1), (omega (arith, f.0.2), tt)))
-small c t k (Told (commands.Len s)) le f = (omega (arith, f.0), tt)
-small c t k (Told (commands.Same a b)) le f = (omega (arith, f.0.0), (omega (arith, f.0.1), tt))
-small c t k (Told (commands.Say s)) le f = (omega (arith, f.0), tt)
-small c t k (Told (commands.Swap s i v)) le f =
-    (omega (arith, f.0.0), (omega (arith, f.0.1), (omega (arith, f.0.2), tt)))
-small c t k (Told (commands.Cas s i a v)) le f = (
-  omega (arith, f.0.0),
-  (omega (arith, f.0.1), (omega (arith, f.0.2), (omega (arith, f.0.3), tt))),
-)
-small c t k (Told (commands.Idle u)) le f = (omega (arith, f.0.0), tt)
+small c t k (Told command) le f =
+    are_written (numbers command)
+    (operands_low (signed.operands command) (operands_in_range command f.0.range))
 
 passes : (b : Bool) (why : Why) (n : ℕ) (told : ℕ → Result Line Why) (r : Result Line Why)
     → b ≡ false → told n ≡ r → (cond b (Err why) (Ok n) >>= told) ≡ r
@@ -598,29 +553,29 @@ unfolding told_at
 told_complete c t k (Thread n) f = rw (eq-eqb n t f.0, ne_eqb t c.threads f.1) refl
 told_complete c t k End f = rw (eq-eqb t c.threads f) refl
 told_complete c t k (Told (commands.New d n)) f =
-    has_low d _ _ f.0.0 (has_length n _ _ f.0.1 (fitting c t k (commands.New d n) f))
+    has_low d _ _ f.0.range.0 (has_length n _ _ f.0.range.1 (fitting c t k (commands.New d n) f))
 told_complete c t k (Told (commands.Arr d n)) f =
-    has_low d _ _ f.0.0 (has_length n _ _ f.0.1 (fitting c t k (commands.Arr d n) f))
+    has_low d _ _ f.0.range.0 (has_length n _ _ f.0.range.1 (fitting c t k (commands.Arr d n) f))
 told_complete c t k (Told (commands.Set d v)) f =
-    has_low d _ _ f.0.0 (fitting c t k (commands.Set d v) f)
+    has_low d _ _ f.0.range.0 (fitting c t k (commands.Set d v) f)
 told_complete c t k (Told (commands.Nil d)) f =
-    has_low d _ _ f.0 (fitting c t k (commands.Nil d) f)
+    has_low d _ _ f.0.range (fitting c t k (commands.Nil d) f)
 told_complete c t k (Told (commands.Mov d s)) f =
-    has_low d _ _ f.0.0 (has_low s _ _ f.0.1 (fitting c t k (commands.Mov d s) f))
+    has_low d _ _ f.0.range.0 (has_low s _ _ f.0.range.1 (fitting c t k (commands.Mov d s) f))
 told_complete c t k (Told (commands.Get d s i)) f =
-    has_low d _ _ f.0.0 (has_low s _ _ f.0.1 (fitting c t k (commands.Get d s i) f))
+    has_low d _ _ f.0.range.0 (has_low s _ _ f.0.range.1 (fitting c t k (commands.Get d s i) f))
 told_complete c t k (Told (commands.Put s i v)) f =
-    has_low s _ _ f.0.0 (has_low v _ _ f.0.2 (fitting c t k (commands.Put s i v) f))
+    has_low s _ _ f.0.range.0 (has_low v _ _ f.0.range.2 (fitting c t k (commands.Put s i v) f))
 told_complete c t k (Told (commands.Len s)) f =
-    has_low s _ _ f.0 (fitting c t k (commands.Len s) f)
+    has_low s _ _ f.0.range (fitting c t k (commands.Len s) f)
 told_complete c t k (Told (commands.Same a b)) f =
-    has_low a _ _ f.0.0 (has_low b _ _ f.0.1 (fitting c t k (commands.Same a b) f))
+    has_low a _ _ f.0.range.0 (has_low b _ _ f.0.range.1 (fitting c t k (commands.Same a b) f))
 told_complete c t k (Told (commands.Say s)) f =
-    has_low s _ _ f.0 (fitting c t k (commands.Say s) f)
+    has_low s _ _ f.0.range (fitting c t k (commands.Say s) f)
 told_complete c t k (Told (commands.Swap s i v)) f =
-    has_low s _ _ f.0.0 (has_low v _ _ f.0.2 (fitting c t k (commands.Swap s i v) f))
+    has_low s _ _ f.0.range.0 (has_low v _ _ f.0.range.2 (fitting c t k (commands.Swap s i v) f))
 told_complete c t k (Told (commands.Cas s i a v)) f =
-    has_low s _ _ f.0.0 (has_low a _ _ f.0.2 (has_low v _ _ f.0.3
+    has_low s _ _ f.0.range.0 (has_low a _ _ f.0.range.2 (has_low v _ _ f.0.range.3
     (fitting c t k (commands.Cas s i a v) f)))
 told_complete c t k (Told (commands.Idle u)) f = fitting c t k (commands.Idle u) f
 
@@ -632,27 +587,14 @@ is_told (Told command) = true
 told_word : (l : Line) → is_command (line_word l) ≡ is_told l
 told_word (Thread t) = refl
 told_word End = refl
-told_word (Told (commands.New d f)) = refl
-told_word (Told (commands.Arr d e)) = refl
-told_word (Told (commands.Set d v)) = refl
-told_word (Told (commands.Nil d)) = refl
-told_word (Told (commands.Mov d s)) = refl
-told_word (Told (commands.Get d s i)) = refl
-told_word (Told (commands.Put s i v)) = refl
-told_word (Told (commands.Len s)) = refl
-told_word (Told (commands.Same a b)) = refl
-told_word (Told (commands.Say s)) = refl
-told_word (Told (commands.Swap s i v)) = refl
-told_word (Told (commands.Cas s i a v)) = refl
-told_word (Told (commands.Idle u)) = refl
+told_word (Told command) = (spelled command).command
 
 -- and is a word of the job
 word_there : (c : Config) (t k : ℕ) (l : Line) → Fits c t k l
     → has_word c.width (line_word l) ≡ true
-word_there c t k (Told (commands.Swap s i v)) f = ap is_wide f.0.3
-word_there c t k (Told (commands.Cas s i a v)) f = ap is_wide f.0.4
-word_there c t k (Told (commands.Idle u)) f = ap is_wide f.0.1
-word_there c t k _ f = refl
+word_there c t k (Thread n) f = refl
+word_there c t k End f = refl
+word_there c t k (Told command) f = (spelled command).version c.width f.0.version
 
 pub line_complete : (c : Config) (t k : ℕ) (l : Line) → t < 10 ^ 19 → Fits c t k l
     → (is_told l && eqb t 0) ≡ false → line_at (place c t k) (line_text l) ≡ Ok l

@@ -4,7 +4,6 @@ use Rattle.std.specs.List.{AllByRecursion}
 use Rattle.block_store.specs.declared.Config.{Config}
 use Rattle.block_store.specs.Configs.{IsInBounds}
 use Rattle.never_heap.specs.declared.Command.{Command}
-use Rattle.never_heap.specs.declared.Command.TheVariants as commands
 use Rattle.never_heap.specs.Bounds.{IsCommandInBounds}
 use Rattle.never_heap.specs.Jobs.{IsTraceInBounds}
 use Rattle.trace_text.specs.declared.reading.lines.Line.{Line}
@@ -16,6 +15,7 @@ use Rattle.trace_text.specs.Spellings.{header, command_line, trace_lines, traces
 use Rattle.trace_text.specs.Jobs.{Job, IsJob}
 use Rattle.trace_text.specs.Words.{word_at, is_command}
 use Rattle.trace_text.specs.Said.{line_at, header_at}
+use Rattle.trace_text.proofs.Spelled.{spelled, word_again}
 use Rattle.trace_text.proofs.LineLaws.{place, line_complete}
 use Rattle.trace_text.proofs.HeaderLaws.{header_complete}
 
@@ -42,19 +42,7 @@ commands_word None = false
 commands_word (Some w) = is_command w
 
 command_named : (x : Command) → commands_word (named (command_line x)) ≡ true
-command_named (commands.New d f) = refl
-command_named (commands.Arr d e) = refl
-command_named (commands.Set d v) = refl
-command_named (commands.Nil d) = refl
-command_named (commands.Mov d s) = refl
-command_named (commands.Get d s i) = refl
-command_named (commands.Put s i v) = refl
-command_named (commands.Len s) = refl
-command_named (commands.Same a b) = refl
-command_named (commands.Say s) = refl
-command_named (commands.Swap s i v) = refl
-command_named (commands.Cas s i a v) = refl
-command_named (commands.Idle u) = refl
+command_named x = ap commands_word (word_again x) ∙ (spelled x).command
 
 -- commands on equal lines are equal
 same_command : (c : Config) (x y : Command) → IsCommandInBounds c x → IsCommandInBounds c y

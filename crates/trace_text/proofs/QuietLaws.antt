@@ -5,14 +5,17 @@ use Rattle.std.proofs.lemmas.Bool.{ne_eqb}
 use Rattle.block_store.specs.declared.Config.{Config}
 use Rattle.block_store.specs.Configs.{IsInBounds}
 use Rattle.never_heap.specs.declared.Command.{Command}
-use Rattle.never_heap.specs.declared.Command.TheVariants as commands
 use Rattle.never_heap.specs.Bounds.{IsCommandInBounds}
 use Rattle.trace_text.specs.declared.trace_faults.Why.{Why}
 use Rattle.trace_text.specs.declared.reading.lines.Line.{Line}
 use Rattle.trace_text.specs.declared.reading.lines.Line.TheVariants.{Thread, End, Told}
+use Rattle.trace_text.specs.declared.reading.words.Word.{Word}
+use Rattle.trace_text.specs.declared.reading.words.Word.TheVariants as words
+use Rattle.trace_text.specs.Words.{is_command}
+use Rattle.trace_text.proofs.Spelled.{spelled, word_again, word_of}
 use Rattle.trace_text.specs.Spellings.{header, command_line, trace_lines, traces_lines}
 use Rattle.trace_text.specs.Reading.{tokenized}
-use Rattle.trace_text.specs.Refusals.{Before, nothing_before, after_line, after_lines, later_fault, next_fault, header_fault, config_of, fault_at, IsFirstBadLine}
+use Rattle.trace_text.specs.Refusals.{Before, nothing_before, after_word, after_line, after_lines, later_fault, next_fault, header_fault, config_of, fault_at, IsFirstBadLine}
 use Rattle.never_heap.specs.Jobs.{IsTraceInBounds}
 use Rattle.trace_text.proofs.LineLaws.{reason, prior, line_text, Fits, is_told, line_agrees, line_complete}
 use Rattle.trace_text.proofs.HeaderLaws.{header_agrees, header_sound, header_complete}
@@ -42,20 +45,17 @@ quiet_line : (c : Config) (t k : ℕ) (l : Line) → t < 10 ^ 19 → Fits c t k 
 quiet_line c t k l le f turn =
     line_agrees c t k (line_text l) ∙ ap reason (line_complete c t k l le f turn)
 
+one_more : (b : Before) (w : Word) → is_command w ≡ true
+    → after_word b (Some w)
+    ≡ record { threads = b.threads; commands = b.commands + 1; ended = b.ended }
+one_more b words.Thread is = absurd cc
+one_more b words.End is = absurd cc
+one_more b _ is = refl
+
 after_command : (t k : ℕ) (x : Command) → after_line (prior t k) (command_line x) ≡ prior t (k + 1)
-after_command t k (commands.New d f) = refl
-after_command t k (commands.Arr d e) = refl
-after_command t k (commands.Set d v) = refl
-after_command t k (commands.Nil d) = refl
-after_command t k (commands.Mov d s) = refl
-after_command t k (commands.Get d s i) = refl
-after_command t k (commands.Put s i v) = refl
-after_command t k (commands.Len s) = refl
-after_command t k (commands.Same a b) = refl
-after_command t k (commands.Say s) = refl
-after_command t k (commands.Swap s i v) = refl
-after_command t k (commands.Cas s i a v) = refl
-after_command t k (commands.Idle u) = refl
+after_command t k x =
+    ap (after_word (prior t k)) (word_again x)
+    ∙ one_more (prior t k) (word_of x) (spelled x).command
 
 -- nothing is wrong with lines behind t threads and k commands of the last, and they lead on to
 -- other counts

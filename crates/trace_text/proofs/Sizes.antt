@@ -1,16 +1,20 @@
 -- The sizes of a command: the tests of a line against the ranges of a command.
-use Rattle.std.proofs.Common.{◌≡◌, ℕ, ◌^◌, ◌<◌, ◌≤◌, ◌↔◌, Bool, true, false, cond, leb, ltb, not, ◌||◌, IsTrue, Ok, Err, refl, arith}
+use Rattle.std.proofs.Common.{◌≡◌, ℕ, ◌^◌, ◌<◌, ◌≤◌, ◌↔◌, Bool, true, false, cond, leb, ltb, not, ◌||◌, IsTrue, List, [], ◌∷◌, length, Ok, Err, refl, arith}
+use Rattle.std.specs.List.{AllByRecursion, list_any}
 use Rattle.std.proofs.lemmas.Bool.Decides.{nat_tests}
 use Rattle.block_store.specs.declared.Config.{Config}
-use Rattle.object_lists.specs.Records.{record_blocks}
-use Rattle.array_trees.specs.Trees.{array_blocks}
+use Rattle.block_store.specs.declared.TheConstants.{REGISTERS}
 use Rattle.never_heap.specs.declared.Command.{Command}
-use Rattle.never_heap.specs.declared.Command.TheVariants as commands
 use Rattle.never_heap.specs.Bounds.{IsCommandInBounds}
+use Rattle.never_heap.specs.LiveBlocks.{blocks_of_kind}
+use Rattle.never_heap.specs.Signatures.{Operand, Register, Length, Field, Number, Units, IsInRange, object_in, operands, registers_in, sizes_in, units_in}
+use Rattle.never_heap.specs.Steps.{blocks_in}
+use Rattle.never_heap.proofs.Ranges.{all_of_each, each_of_all, operands_in_range}
 use Rattle.trace_text.specs.declared.trace_faults.Why.TheVariants as whys
 use Rattle.trace_text.specs.declared.reading.lines.Line.TheVariants.{Told}
 use Rattle.trace_text.specs.declared.reading.lines.Place.{Place}
-use Rattle.trace_text.specs.Said.{HasRegisters, IsOfWidth, is_oversized, fitted}
+use Rattle.trace_text.specs.Said.{HasRegisters, IsOfWidth, is_large, is_oversized, fitted}
+use Rattle.trace_text.proofs.Spelled.{spelled}
 
 short : (n blocks most : ℕ) → (ltb 65535 n || ltb most blocks) ≡ false
     → (n ≤ 65535) × (blocks ≤ most)
@@ -35,41 +39,101 @@ few_units u e = grind (arith, nat_tests)
 are_few : (u : ℕ) → u ≤ 131070 → ltb 131070 u ≡ false
 are_few u h = grind (arith, nat_tests)
 
+-- neither of two tests
+neither : (a b : Bool) → (a || b) ≡ false → (a ≡ false) × (b ≡ false)
+neither true b e = absurd cc
+neither false b e = (refl, e)
+
+-- ---- operands of which none is too large
+
+all_in_range : (c : Config) (os : List Operand)
+    → AllByRecursion (λ r. r < REGISTERS) (registers_in os) → list_any (is_large c) os ≡ false
+    → AllByRecursion IsInRange os
+all_in_range c [] h e = tt
+all_in_range c (Register role r ∷ os) h e = (h.0, all_in_range c os h.1 e)
+all_in_range c (Length kind n ∷ os) h e =
+    let p = neither (is_large c (Length kind n)) (list_any (is_large c) os) e in
+    ((short n (blocks_of_kind c.width kind n) c.object p.0).0, all_in_range c os h p.1)
+all_in_range c (Field access i ∷ os) h e =
+    let p = neither (is_large c (Field access i)) (list_any (is_large c) os) e in
+    (small i p.0, all_in_range c os h p.1)
+all_in_range c (Number n ∷ os) h e =
+    let p = neither (is_large c (Number n)) (list_any (is_large c) os) e in
+    (small n p.0, all_in_range c os h p.1)
+all_in_range c (Units u ∷ os) h e =
+    let p = neither (is_large c (Units u)) (list_any (is_large c) os) e in
+    (omega (arith, few_units u p.0), all_in_range c os h p.1)
+
+blocks_fit : (c : Config) (os : List Operand) → list_any (is_large c) os ≡ false
+    → blocks_in c.width (object_in os) ≤ c.object
+blocks_fit c [] e = omega arith
+blocks_fit c (Length kind n ∷ os) e =
+    (short n (blocks_of_kind c.width kind n) c.object
+    (neither (is_large c (Length kind n)) (list_any (is_large c) os) e).0).1
+blocks_fit c (Register role r ∷ os) e = blocks_fit c os e
+blocks_fit c (Field access i ∷ os) e =
+    blocks_fit c os (neither (is_large c (Field access i)) (list_any (is_large c) os) e).1
+blocks_fit c (Number n ∷ os) e =
+    blocks_fit c os (neither (is_large c (Number n)) (list_any (is_large c) os) e).1
+blocks_fit c (Units u ∷ os) e =
+    blocks_fit c os (neither (is_large c (Units u)) (list_any (is_large c) os) e).1
+
+units_fit : (c : Config) (os : List Operand) → list_any (is_large c) os ≡ false
+    → units_in os ≤ 131070
+units_fit c [] e = omega arith
+units_fit c (Units u ∷ os) e =
+    few_units u (neither (is_large c (Units u)) (list_any (is_large c) os) e).0
+units_fit c (Register role r ∷ os) e = units_fit c os e
+units_fit c (Length kind n ∷ os) e =
+    units_fit c os (neither (is_large c (Length kind n)) (list_any (is_large c) os) e).1
+units_fit c (Field access i ∷ os) e =
+    units_fit c os (neither (is_large c (Field access i)) (list_any (is_large c) os) e).1
+units_fit c (Number n ∷ os) e =
+    units_fit c os (neither (is_large c (Number n)) (list_any (is_large c) os) e).1
+
 -- a command of registers that is not oversized is in its ranges
 pub in_ranges : (c : Config) (command : Command) → HasRegisters command → IsOfWidth c.width command
     → is_oversized c command ≡ false → IsCommandInBounds c command
-in_ranges c (commands.New d f) h o e =
-    let s = short f (record_blocks c.width f) c.object e in (h, s.0, s.1)
-in_ranges c (commands.Arr d n) h o e =
-    let s = short n (array_blocks c.width n) c.object e in (h, s.0, s.1)
-in_ranges c (commands.Set d v) h o e = (h, small v e)
-in_ranges c (commands.Nil d) h o e = h
-in_ranges c (commands.Mov d s) h o e = h
-in_ranges c (commands.Get d s i) h o e = (h.0, h.1, small i e)
-in_ranges c (commands.Put s i v) h o e = (h.0, small i e, h.1)
-in_ranges c (commands.Len s) h o e = h
-in_ranges c (commands.Same a b) h o e = h
-in_ranges c (commands.Say s) h o e = h
-in_ranges c (commands.Swap s i v) h o e = (h.0, small i e, h.1, o)
-in_ranges c (commands.Cas s i a v) h o e = (h.0, small i e, h.1, h.2, o)
-in_ranges c (commands.Idle u) h o e = (few_units u e, o)
+in_ranges c command h o e =
+    let all = all_in_range c (operands command) (all_of_each _ (registers_in (operands command)) h) e
+    in
+    record {
+      range = each_of_all IsInRange (operands command) all;
+      blocks = blocks_fit c (operands command) e;
+      units = units_fit c (operands command) e;
+      version = o;
+    }
+
+-- ---- operands in their ranges
+
+-- registers alone are not too large
+registers_fit : (c : Config) (os : List Operand) → length (sizes_in os) ≤ 0
+    → list_any (is_large c) os ≡ false
+registers_fit c [] few = refl
+registers_fit c (Register role r ∷ os) few = registers_fit c os few
+registers_fit c (_ ∷ os) few = absurd (omega (arith, few))
+
+operands_fit : (c : Config) (os : List Operand) → AllByRecursion IsInRange os
+    → blocks_in c.width (object_in os) ≤ c.object → units_in os ≤ 131070
+    → length (sizes_in os) ≤ 1 → list_any (is_large c) os ≡ false
+operands_fit c [] h blocks units one = refl
+operands_fit c (Register role r ∷ os) h blocks units one = operands_fit c os h.1 blocks units one
+operands_fit c (Length kind n ∷ os) h blocks units one =
+    rw (is_short n (blocks_of_kind c.width kind n) c.object h.0 blocks)
+    (registers_fit c os (omega (arith, one)))
+operands_fit c (Field access i ∷ os) h blocks units one =
+    rw (is_small i h.0) (registers_fit c os (omega (arith, one)))
+operands_fit c (Number n ∷ os) h blocks units one =
+    rw (is_small n h.0) (registers_fit c os (omega (arith, one)))
+operands_fit c (Units u ∷ os) h blocks units one =
+    rw (are_few u units) (registers_fit c os (omega (arith, one)))
 
 -- a command in its ranges is not oversized
 pub not_oversized : (c : Config) (command : Command) → IsCommandInBounds c command
     → is_oversized c command ≡ false
-not_oversized c (commands.New d f) h = is_short f (record_blocks c.width f) c.object h.1 h.2
-not_oversized c (commands.Arr d n) h = is_short n (array_blocks c.width n) c.object h.1 h.2
-not_oversized c (commands.Set d v) h = is_small v h.1
-not_oversized c (commands.Nil d) h = refl
-not_oversized c (commands.Mov d s) h = refl
-not_oversized c (commands.Get d s i) h = is_small i h.2
-not_oversized c (commands.Put s i v) h = is_small i h.1
-not_oversized c (commands.Len s) h = refl
-not_oversized c (commands.Same a b) h = refl
-not_oversized c (commands.Say s) h = refl
-not_oversized c (commands.Swap s i v) h = is_small i h.1
-not_oversized c (commands.Cas s i a v) h = is_small i h.1
-not_oversized c (commands.Idle u) h = are_few u h.0
+not_oversized c command h =
+    operands_fit c (operands command) (operands_in_range command h.range) h.blocks h.units
+    (spelled command).one
 
 tested : (x b : Bool) (P : Type 0) → IsTrue b ↔ P → (x ≡ false → P) → (P → x ≡ false)
     → x ≡ not b

@@ -6,26 +6,22 @@ use Rattle.std.proofs.lemmas.Bool.Decides.{nat_tests}
 use Rattle.std.proofs.lemmas.Fmt.{decimal_is_IsNumeral}
 use Rattle.std.proofs.lemmas.Str.Parse.{digit_from_value}
 use Rattle.block_store.specs.declared.Config.{Config}
-use Rattle.block_store.specs.declared.TheConstants.{REGISTERS}
 use Rattle.block_store.specs.declared.Width.{Width}
 use Rattle.block_store.specs.declared.Width.TheVariants.{Four, Eight}
 use Rattle.block_store.specs.Configs.{IsInBounds}
 use Rattle.never_heap.specs.declared.Command.{Command}
-use Rattle.never_heap.specs.declared.Command.TheVariants.{New, Arr, Set, Nil, Mov, Get, Put, Len, Same, Say, Swap, Cas, Idle}
 use Rattle.never_heap.specs.Bounds.{IsCommandInBounds}
+use Rattle.never_heap.specs.Signatures.{numbers, operands}
+use Rattle.never_heap.proofs.Ranges.{operands_in_range}
 use Rattle.never_heap.specs.Jobs.{IsTraceInBounds}
 use Rattle.trace_text.specs.Lines.{lines_of, tokens_of, onto_first}
 use Rattle.trace_text.specs.Reading.{tokenized}
 use Rattle.trace_text.specs.Spellings.{version, header, command_line, trace_lines, traces_lines, job_lines}
 use Rattle.trace_text.specs.Jobs.{Job, input_limit, IsJobInBounds, IsJob, IsInput}
 use Rattle.trace_text.specs.JobTexts.{line_text, job_text}
+use Rattle.trace_text.proofs.Spelled.{is_token, operands_low, spelled}
 
 -- ---- bytes
-
--- bytes that stand behind the space
-abbrev is_token : List ℕ → Bool
-is_token [] = true
-is_token (b ∷ bs) = ltb 32 b && is_token bs
 
 -- the first line of these bytes has these tokens, and the others these
 record Begins (bytes first : List ℕ) (others : List (List ℕ)) (more : List (List (List ℕ)))
@@ -177,32 +173,15 @@ header_line c b =
 thread_line : (t : ℕ) → t < 16 → IsLine (codes "thread" ∷ decimal t ∷ [])
 thread_line t lt = rw (number_token t (omega arith)) refl
 
-register : (d : ℕ) → d < REGISTERS → is_token (decimal d) ≡ true
-register d lt = number_token d (omega arith)
-
-number : (v : ℕ) → v < 2 ^ 62 → is_token (decimal v) ≡ true
-number v lt = number_token v (omega arith)
-
-size : (f : ℕ) → f ≤ 65535 → is_token (decimal f) ≡ true
-size f le = number_token f (omega arith)
-
-units : (u : ℕ) → u ≤ 131070 → is_token (decimal u) ≡ true
-units u le = number_token u (omega arith)
+numbers_tokens : (ns : List ℕ) → AllByRecursion (λ n. n < 2 ^ 62) ns
+    → are_tokens (map decimal ns) ≡ true
+numbers_tokens [] h = refl
+numbers_tokens (n ∷ ns) h = rw (number_token n (omega (arith, h.0))) (numbers_tokens ns h.1)
 
 a_line : (c : Config) (x : Command) → IsCommandInBounds c x → IsLine (command_line x)
-a_line c (New d f) b = rw (register d b.0, size f b.1) refl
-a_line c (Arr d e) b = rw (register d b.0, size e b.1) refl
-a_line c (Set d v) b = rw (register d b.0, number v b.1) refl
-a_line c (Nil d) b = rw (register d b) refl
-a_line c (Mov d s) b = rw (register d b.0, register s b.1) refl
-a_line c (Get d s i) b = rw (register d b.0, register s b.1, number i b.2) refl
-a_line c (Put s i v) b = rw (register s b.0, number i b.1, register v b.2) refl
-a_line c (Len s) b = rw (register s b) refl
-a_line c (Same a z) b = rw (register a b.0, register z b.1) refl
-a_line c (Say s) b = rw (register s b) refl
-a_line c (Swap s i v) b = rw (register s b.0, number i b.1, register v b.2) refl
-a_line c (Cas s i a v) b = rw (register s b.0, number i b.1, register a b.2, register v b.3) refl
-a_line c (Idle u) b = rw (units u b.0) refl
+a_line c x b =
+    rw (spelled x).token
+    (numbers_tokens (numbers x) (operands_low (operands x) (operands_in_range x b.range)))
 
 commands_lines : (c : Config) (trace : List Command) → AllByRecursion (IsCommandInBounds c) trace
     → AllByRecursion IsLine (map command_line trace)

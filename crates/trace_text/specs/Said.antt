@@ -1,14 +1,15 @@
 -- What a line says, by its tokens, or the reason why it says nothing.
 use Rattle.std.specs.Prelude.{ℕ, zero, suc, ◌≡◌, ◌==◌, ◌<◌, ◌^◌, nat_le, nat_lt, Bool, true, false, not, ◌&&◌, ◌||◌, List, [], ◌∷◌, length, Result, Ok, Err, if◌then◌else◌}
+use Rattle.std.specs.List.{list_any}
 use Rattle.std.specs.Option.{ok_or}
 use Rattle.block_store.specs.declared.Config.{Config}
 use Rattle.block_store.specs.declared.Width.{Width}
-use Rattle.block_store.specs.declared.Width.TheVariants.{Eight}
 use Rattle.block_store.specs.declared.TheConstants.{REGISTERS}
-use Rattle.object_lists.specs.Records.{record_blocks}
-use Rattle.array_trees.specs.Trees.{array_blocks}
 use Rattle.never_heap.specs.declared.Command.{Command}
 use Rattle.never_heap.specs.declared.Command.TheVariants as commands
+use Rattle.never_heap.specs.LiveBlocks.{blocks_of_kind}
+use Rattle.never_heap.specs.Signatures as signed
+use Rattle.never_heap.specs.Signatures.{Operand, Register, Length, Units, Each, IsOfVersion, registers_in, signature, value_of}
 use Rattle.trace_text.specs.declared.trace_faults.Why.{Why}
 use Rattle.trace_text.specs.declared.trace_faults.Why.TheVariants as whys
 use Rattle.trace_text.specs.declared.reading.lines.Line.{Line}
@@ -56,40 +57,22 @@ numbers_at n tokens = if count_is n tokens then values_at tokens else Err whys.C
 
 -- the registers of a command are registers
 abbrev pub HasRegisters : Command → Type 0
-HasRegisters (commands.New d f) = d < REGISTERS
-HasRegisters (commands.Arr d e) = d < REGISTERS
-HasRegisters (commands.Set d v) = d < REGISTERS
-HasRegisters (commands.Nil d) = d < REGISTERS
-HasRegisters (commands.Mov d s) = (d < REGISTERS) × (s < REGISTERS)
-HasRegisters (commands.Get d s i) = (d < REGISTERS) × (s < REGISTERS)
-HasRegisters (commands.Put s i v) = (s < REGISTERS) × (v < REGISTERS)
-HasRegisters (commands.Len s) = s < REGISTERS
-HasRegisters (commands.Same a b) = (a < REGISTERS) × (b < REGISTERS)
-HasRegisters (commands.Say s) = s < REGISTERS
-HasRegisters (commands.Swap s i v) = (s < REGISTERS) × (v < REGISTERS)
-HasRegisters (commands.Cas s i a v) = (s < REGISTERS) × (a < REGISTERS) × (v < REGISTERS)
-HasRegisters (commands.Idle u) = Unit {0}
+HasRegisters k = Each (λ r. r < REGISTERS) (registers_in (signed.operands k))
 
 -- and it is one of the commands of its version
 abbrev pub IsOfWidth : Width → Command → Type 0
-IsOfWidth width (commands.Swap s i v) = width ≡ Eight
-IsOfWidth width (commands.Cas s i a v) = width ≡ Eight
-IsOfWidth width (commands.Idle u) = width ≡ Eight
-IsOfWidth width command = Unit {0}
+IsOfWidth width k = IsOfVersion (signature k).version width
 
--- a command has an object that is too long or has too many blocks, or a number that is too large
+-- an operand is an object that is too long or has too many blocks, or a number that is too large
+abbrev pub is_large : Config → Operand → Bool
+is_large c (Register role r) = false
+is_large c (Length kind n) = nat_lt 65535 n || nat_lt c.object (blocks_of_kind c.width kind n)
+is_large c (Units u) = nat_lt 131070 u
+is_large c o = nat_le (2 ^ 62) (value_of o)
+
+-- a command has such an operand
 abbrev pub is_oversized : Config → Command → Bool
-is_oversized c (commands.New d f) =
-    nat_lt 65535 f || nat_lt c.object (record_blocks c.width f)
-is_oversized c (commands.Arr d e) =
-    nat_lt 65535 e || nat_lt c.object (array_blocks c.width e)
-is_oversized c (commands.Set d v) = nat_le (2 ^ 62) v
-is_oversized c (commands.Get d s i) = nat_le (2 ^ 62) i
-is_oversized c (commands.Put s i v) = nat_le (2 ^ 62) i
-is_oversized c (commands.Swap s i v) = nat_le (2 ^ 62) i
-is_oversized c (commands.Cas s i a v) = nat_le (2 ^ 62) i
-is_oversized c (commands.Idle u) = nat_lt 131070 u
-is_oversized c command = false
+is_oversized c k = list_any (is_large c) (signed.operands k)
 
 -- the number of a register
 abbrev pub register_at : ℕ → Result ℕ Why

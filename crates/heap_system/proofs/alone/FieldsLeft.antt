@@ -7,6 +7,7 @@ use Rattle.block_store.specs.declared.Payload.{Payload}
 use Rattle.block_store.specs.declared.Payload.TheVariants as payloads
 use Rattle.block_store.specs.declared.Shape.{Shape}
 use Rattle.block_store.specs.declared.Shape.TheVariants as shapes
+use Rattle.block_store.specs.declared.Value.{Value}
 use Rattle.block_store.specs.declared.Width.{Width}
 use Rattle.block_store.specs.declared.Width.TheVariants.{Four, Eight}
 use Rattle.block_store.specs.Payloads.{target}
@@ -23,13 +24,15 @@ use Rattle.grey_steps.specs.declared.rows.GreyRow.TheVariants as greys
 use Rattle.grey_steps.specs.Ends.{block_stored}
 use Rattle.grey_steps.specs.Rows as marking
 use Rattle.barrier_steps.specs.declared.rows.FieldRow.{FieldRow}
-use Rattle.barrier_steps.specs.declared.rows.FieldRow.TheVariants.{StoreNumber, StoreNil, LoadMoved, StoreMoved, LoadObject, LoadShape, LoadValue, LoadLink, LoadField, LoadOwner, StorePending, StoreField, Shade, LoadFirst, LoadSecond, LoadSaid, LoadSaidOwner, Answered, LoadExpected, ExchangeField, CompareField, IdleLook}
+use Rattle.barrier_steps.specs.declared.rows.FieldRow.TheVariants.{LoadRegister, LoadShape, LoadLink, LoadField, LoadOwner, Shade, Store, StoreConstant, IdleLook, Answered}
+use Rattle.barrier_steps.specs.declared.rows.Wanted.{Wanted}
+use Rattle.barrier_steps.specs.declared.rows.Wanted.TheVariants as wants
 use Rattle.barrier_steps.specs.declared.rows.FieldStore.{FieldStore}
 use Rattle.barrier_steps.specs.declared.rows.FieldStore.TheVariants.{Moved, Pending, InField, Exchanged, Compared}
 use Rattle.barrier_steps.specs.declared.rows.Way.{Way}
 use Rattle.barrier_steps.specs.Fits.{RowFits}
 use Rattle.barrier_steps.specs.Operands.{field_index}
-use Rattle.barrier_steps.specs.Rows.{first_row, row_got, field_reply, shape_in, payload_in, on_way, at_block, after_object, after_shape, after_field, after_said, object_in, before_store, in_barrier, store_row, stored_word, shaded_for, way_from, way_on}
+use Rattle.barrier_steps.specs.Rows.{first_row, row_got, field_reply, shape_in, payload_in, on_way, at_block, after_object, after_shape, after_field, after_said, after_owner, after_register, after_store, object_in, before_store, in_barrier, stored_word, shaded_for, way_from, way_on}
 use Rattle.barrier_steps.specs.Walks.{links_to, shape_length}
 
 -- from the block of the field on: `put` and `cas` shade and store, `get` loads, names, shades and
@@ -53,29 +56,28 @@ after_left _ = 0
 
 -- How many events command k has left at most at a row. A way has at most seven links more than the
 -- largest object has blocks.
+abbrev pub register_left : Config → Command → Wanted → ℕ
+register_left c k wants.Copied = 5
+register_left c k wants.Object = c.object + 19
+register_left c k (wants.Expected way) =
+    links_to (extent c) way.shape (field_index k) + errand_left k + 2
+register_left c k (wants.Stored way) =
+    links_to (extent c) way.shape (field_index k) + errand_left k + 1
+register_left c k wants.First = 2
+register_left c k (wants.Second word) = 1
+register_left c k wants.Shown = 6
+
 abbrev pub field_left : Config → Command → FieldRow → ℕ
-field_left c k StoreNumber = 1
-field_left c k StoreNil = 1
-field_left c k LoadMoved = 5
-field_left c k (StoreMoved word) = 1
-field_left c k LoadObject = c.object + 19
+field_left c k (LoadRegister wanted) = register_left c k wanted
 field_left c k (LoadShape x) = c.object + 18
-field_left c k (LoadExpected way) = links_to (extent c) way.shape (field_index k) + errand_left k + 2
-field_left c k (LoadValue way) = links_to (extent c) way.shape (field_index k) + errand_left k + 1
 field_left c k (LoadLink way word) =
     links_to (extent c) way.shape (field_index k) - way.level + errand_left k
 field_left c k (LoadField way) = 6
 field_left c k (LoadOwner word) = 5
-field_left c k (StorePending word value) = 1
-field_left c k (StoreField way word) = 1
-field_left c k (ExchangeField way word) = 6
-field_left c k (CompareField way word) = 1
-field_left c k IdleLook = 1
 field_left c k (Shade r store) = barrier_left r + after_left store
-field_left c k LoadFirst = 2
-field_left c k (LoadSecond word) = 1
-field_left c k LoadSaid = 2
-field_left c k (LoadSaidOwner word) = 1
+field_left c k (Store store) = 1 + after_left store
+field_left c k StoreConstant = 1
+field_left c k IdleLook = 1
 field_left c k (Answered reply) = 0
 
 -- the object whose shape is read has no longer way to the field of command k
@@ -88,16 +90,9 @@ module _ (c : Config) (p : Pass) where
   abbrev L : Command → FieldRow → ℕ
   L k r = field_left c k r
 
-  store_left : (k : Command) (s : FieldStore) → L k (store_row s) ≡ 1 + after_left s
-  store_left k (Moved word) = refl
-  store_left k (Pending word value) = refl
-  store_left k (InField way word) = refl
-  store_left k (Exchanged way word) = refl
-  store_left k (Compared way word) = refl
-
   before_left : (k : Command) (s : FieldStore) → L k (before_store p s) ≤ 4 + after_left s
   before_left k s = elim (cases_Bool (eqb (shaded_for p (stored_word s)) 0)) [
-    | inl q ↦ (let one = store_left k s in rw q (omega arith))
+    | inl q ↦ rw q (omega arith)
     | inr q ↦ rw q (omega arith)
   ]
 
@@ -143,7 +138,7 @@ module _ (c : Config) (p : Pass) where
   field_next k w (payloads.Int v) = omega arith
   field_next k w (payloads.Block x) = omega arith
 
-  said_next : (k : Command) (w : ℕ) (v : Payload) → L k (after_said w v) ≤ 1
+  said_next : (k : Command) (w : ℕ) (v : Payload) → L k (after_said w v) ≤ 5
   said_next k w payloads.Nil = omega arith
   said_next k w (payloads.Int v) = omega arith
   said_next k w (payloads.Block x) = omega arith
@@ -151,39 +146,45 @@ module _ (c : Config) (p : Pass) where
   -- a barrier comes to its store
   stored_next : (k : Command) (y hand : ℕ) (s : FieldStore) → L k (in_barrier (marking.after_stored y hand) s) ≤ 2 + after_left s
   stored_next k y hand s = elim (cases_Bool (eqb hand 0)) [
-    | inl q ↦ (let one = store_left k s in rw q (omega arith))
+    | inl q ↦ rw q (omega arith)
     | inr q ↦ rw q (omega arith)
   ]
 
   barrier_next : (k : Command) (r : GreyRow) (s : FieldStore) (n w : ℕ) → block_stored r ≢ 0 → L k (in_barrier (marking.row_got n p.threads p.cycle r w) s) < barrier_left r + after_left s
   barrier_next k (greys.TakeOwn y) s n w some = omega arith
   barrier_next k (greys.ShadeStored y hand) s n w some = omega (arith, stored_next k y (marking.shaded_hand p.cycle y hand w) s)
-  barrier_next k (greys.PutOwn y hand) s n w some = omega (arith, store_left k s)
-  barrier_next k (greys.Shaded y) s n w some = omega (arith, store_left k s)
+  barrier_next k (greys.PutOwn y hand) s n w some = omega arith
+  barrier_next k (greys.Shaded y) s n w some = omega arith
   barrier_next k _ s n w some = absurd (some refl)
 
   -- each event leaves fewer
+  owner_left : (k : Command) (word : ℕ) (v : Value) → L k (after_owner p k word v) ≤ 4
+  owner_left (commands.Say s) word v = omega arith
+  owner_left (commands.Get d s i) word v = before_left (commands.Get d s i) (Pending word v)
+  owner_left k word v = before_left k (Pending word v)
+
+  register_falls : (k : Command) (wanted : Wanted) (w : ℕ) → L k (after_register (extent c) p k wanted w) < register_left c k wanted
+  register_falls k wants.Copied w = omega (arith, before_left k (Moved w))
+  register_falls k wants.Object w = omega (arith, object_left k (payload_in w))
+  register_falls k (wants.Expected way) w = omega arith
+  register_falls k (wants.Stored way) w = omega (arith, way_left k way w)
+  register_falls k wants.First w = omega arith
+  register_falls k (wants.Second word) w = omega arith
+  register_falls k wants.Shown w = omega (arith, said_next k w (payload_in w))
+
+  store_falls : (k : Command) (s : FieldStore) (w : ℕ) → L k (after_store s w) < 1 + after_left s
+  store_falls k (Exchanged way word) w = omega (arith, field_next k w (payload_in w))
+  store_falls k _ w = omega arith
+
   pub field_falls : (k : Command) (r : FieldRow) (w : ℕ) → RowFits c p k r → field_reply r ≡ None → IsWayShort c k r w → L k (row_got (extent c) p k r w) < L k r
-  field_falls k StoreNumber w fits going low = omega arith
-  field_falls k StoreNil w fits going low = omega arith
-  field_falls k LoadMoved w fits going low = omega (arith, before_left k (Moved w))
-  field_falls k (StoreMoved word) w fits going low = omega arith
-  field_falls k LoadObject w fits going low = omega (arith, object_left k (payload_in w))
+  field_falls k (LoadRegister wanted) w fits going low = register_falls k wanted w
   field_falls k (LoadShape x) w fits going low = omega (arith, shape_left k x (shape_in w) low)
-  field_falls k (LoadValue way) w fits going low = omega (arith, way_left k way w)
   field_falls k (LoadLink way word) w fits going low = omega (arith, way_left k (way_on way (target w)) word, fits.1)
   field_falls k (LoadField way) w fits going low = omega (arith, field_next k w (payload_in w))
-  field_falls k (LoadOwner word) w fits going low = omega (arith, before_left k (Pending word (object_in w)))
-  field_falls k (StorePending word value) w fits going low = omega arith
-  field_falls k (StoreField way word) w fits going low = omega arith
+  field_falls k (LoadOwner word) w fits going low = omega (arith, owner_left k word (object_in w))
   field_falls k (Shade r store) w fits going low = barrier_next k r store (payloads_of c.width) w (λ z. fits.0.refers (sym fits.0.stores ∙ z))
-  field_falls k LoadFirst w fits going low = omega arith
-  field_falls k (LoadSecond word) w fits going low = omega arith
-  field_falls k LoadSaid w fits going low = omega (arith, said_next k w (payload_in w))
-  field_falls k (LoadSaidOwner word) w fits going low = omega arith
-  field_falls k (LoadExpected way) w fits going low = omega arith
-  field_falls k (ExchangeField way word) w fits going low = omega (arith, field_next k w (payload_in w))
-  field_falls k (CompareField way word) w fits going low = omega arith
+  field_falls k (Store store) w fits going low = store_falls k store w
+  field_falls k StoreConstant w fits going low = omega arith
   field_falls k IdleLook w fits going low = omega arith
   field_falls k (Answered reply) w fits going low = absurd (let z : Some reply ≡ None = going in cc)
 

@@ -7,7 +7,7 @@ use Rattle.block_store.specs.Heaps.{Heap, put_at}
 use Rattle.block_store.specs.Phases.{is_sweep, cycle_of}
 use Rattle.block_store.specs.Places.{Phase, Cursor}
 use Rattle.block_store.proofs.PhaseWords.{phase-less}
-use Rattle.never_heap.specs.Steps.{makes_object}
+use Rattle.never_heap.specs.Steps.{blocks_of}
 use Rattle.heap_machine.specs.Gating.{Gating, Inside, is_outside}
 use Rattle.heap_machine.specs.declared.gate.GateRow.{GateRow}
 use Rattle.heap_machine.specs.declared.gate.GateRow.TheVariants as gates
@@ -93,7 +93,7 @@ enter_here c s pays out =
       | inr all ↦
           let due : ltb 0 (s.due - s.spent) ≡ false = le-ltb 0 (s.due - s.spent) (omega arith) in
           let owing : eqb (s.due - s.spent) 0 ≡ true = eq-eqb (s.due - s.spent) 0 (omega arith) in
-          elim (cases_Bool (makes_object s.command)) [
+          elim (cases_Bool (ltb 0 (blocks_of c.width s.command))) [
             | inl makes ↦ record {
               goes = rw won refl;
               out = rw (won, due, makes) refl;

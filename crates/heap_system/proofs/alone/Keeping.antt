@@ -6,12 +6,10 @@ use Rattle.std.proofs.lemmas.Nat.{mod-mul-add}
 use Rattle.block_store.specs.declared.Config.{Config}
 use Rattle.block_store.specs.declared.Width.{Width}
 use Rattle.block_store.specs.Colours.{white_word}
-use Rattle.block_store.specs.Counts.{total}
 use Rattle.block_store.specs.Heaps.{Heap, put_at}
 use Rattle.block_store.specs.Phases.{is_sweep}
 use Rattle.block_store.specs.Places.{Phase, Cursor, GreyList, ColourOf}
-use Rattle.block_store.proofs.Functions.{total_same}
-use Rattle.never_heap.specs.Steps.{makes_object}
+use Rattle.never_heap.specs.Steps.{blocks_of}
 use Rattle.heap_machine.specs.Gating.{Gating, is_outside}
 use Rattle.heap_machine.specs.declared.gate.GateRow.{GateRow}
 use Rattle.heap_machine.specs.declared.gate.GateRow.TheVariants as gates
@@ -19,12 +17,14 @@ use Rattle.heap_machine.specs.declared.pass.Pass.{Pass}
 use Rattle.grey_steps.specs.declared.rows.GreyRow.{GreyRow}
 use Rattle.grey_steps.specs.declared.rows.GreyRow.TheVariants as greys
 use Rattle.grey_steps.specs.Rows.{list_of}
+use Rattle.grey_steps.proofs.Marking.{list_low}
 use Rattle.sweep_steps.specs.declared.rows.SweepRow.{SweepRow}
 use Rattle.sweep_steps.specs.declared.rows.SweepRow.TheVariants as sweeps
 use Rattle.sweep_steps.specs.Rows.{SweepState, next_block, sweep_over, sweep_nothing}
 use Rattle.build_steps.specs.declared.rows.BuildRow.{BuildRow}
 use Rattle.build_steps.specs.declared.rows.BuildRow.TheVariants as builds
-use Rattle.lone_bound.specs.Near.{Scene, Keeps, spread}
+use Rattle.lone_bound.specs.Moves.{Spot}
+use Rattle.lone_bound.specs.Near.{Scene, Keeps, farthest}
 use Rattle.heap_system.specs.declared.local.Part.{Part}
 use Rattle.heap_system.specs.declared.local.Part.TheVariants.{Rest, Enter, Serve, Mark, Sweep, Build, Again, Idle, TurnOver, Leave}
 use Rattle.heap_system.specs.Locals.{if_over}
@@ -32,8 +32,7 @@ use Rattle.heap_system.proofs.PartLaws.{AtPart, PartEvent}
 use Rattle.heap_system.proofs.Seeing.{Seen}
 use Rattle.heap_system.proofs.alone.Gate.{less_inside}
 use Rattle.heap_system.proofs.alone.Heads.{open_here, has_pass}
-use Rattle.heap_system.proofs.alone.Marking.{taken}
-use Rattle.heap_system.proofs.alone.Standing.{spot_of, build_spot, lone_of, grey_heads, LoneKnows, Alone, heap_left, paid_left, part_left, is_out}
+use Rattle.heap_system.proofs.alone.Standing.{spot_of, build_spot, lone_of, grey_heads, OthersDry, LoneKnows, Alone, heap_left, paid_left, part_left, is_out}
 use Rattle.heap_system.proofs.alone.Sweeping.{still_owes}
 
 -- the blocks that the cursor has not passed, and those of a range that the thread has not
@@ -50,12 +49,14 @@ abbrev pub room_of : Config → Heap → Part → ℕ
 room_of c h (Sweep s) = unswept c h + in_range s.row
 room_of c h _ = unswept c h
 
--- how far on the list u is that has this head
-abbrev pub far_on : ℕ → ℕ → ℕ
-far_on u head = cond (eqb head 0) 0 u
+-- the most turns of so many passes to the lists below n that have a block, by their heads
+abbrev pub reach : ℕ → ℕ → (ℕ → ℕ) → ℕ
+reach zero passes f = 0
+reach (suc n) zero f = 0
+reach (suc n) (suc passes) f = cond (eqb (f n) 0) (reach n (suc passes) f) (n + reach n passes f)
 
-abbrev pub far_of : Config → Heap → ℕ → ℕ
-far_of c h t = total c.threads (λ u. far_on u (grey_heads c h t u))
+abbrev pub far_of : Config → Heap → ℕ → ℕ → ℕ
+far_of c h t passes = reach c.threads passes (grey_heads c h t)
 
 abbrev pub scene_of : Config → Heap → ℕ → ℕ → Part → Scene
 scene_of c h t owed p = record {
@@ -72,36 +73,138 @@ abbrev pub KeepLaw : Config → Part → Type 0
 KeepLaw c p = (s : Seen c) → AtPart c s p → Alone c s → PartEvent c s p
     → LoneKnows c s.heap s.thread s.pass s.due s.spent p → KeepStep c s p
 
--- no list is farther on than its number
-far_low : (u head : ℕ) → far_on u head ≤ u
-far_low u head = elim (cases_Bool (eqb head 0)) [
-  | inl e ↦ rw e (omega arith)
-  | inr e ↦ rw e (omega arith)
+reach_none : (n : ℕ) (f : ℕ → ℕ) → reach n 0 f ≡ 0
+reach_none zero f = refl
+reach_none (suc n) f = refl
+
+-- the lists behind the own one are those from 1 on
+abbrev Behind : ℕ → (ℕ → Type 0) → Type 0
+Behind n P = (v : ℕ) → v < n → 0 < v → P v
+
+fewer : (n : ℕ) (P : ℕ → Type 0) → Behind (suc n) P → Behind n P
+fewer n P each v low some = each v (omega arith) some
+
+-- where list n is empty, or has a block
+skips : (n p : ℕ) (f : ℕ → ℕ) → f n ≡ 0 → reach (suc n) p f ≡ reach n p f
+skips n zero f none = sym (reach_none n f)
+skips n (suc p) f none = rw (eq-eqb (f n) 0 none) refl
+
+goes : (n p : ℕ) (f : ℕ → ℕ) → (f n ≡ 0 → ⊥) → reach (suc n) (suc p) f ≡ n + reach n p f
+goes n p f some = rw (ne_eqb (f n) 0 some) refl
+
+farthest_more : (n p : ℕ) → farthest n p ≤ farthest (suc n) p
+farthest_more zero zero = omega arith
+farthest_more zero (suc p) = omega arith
+farthest_more (suc n) zero = omega arith
+farthest_more (suc n) (suc p) = let r = farthest_more n p in omega arith
+
+pub far_few : (n p : ℕ) (f : ℕ → ℕ) → reach n p f ≤ farthest n p
+far_few zero p f = omega arith
+far_few (suc n) zero f = omega arith
+far_few (suc n) (suc p) f = elim (cases_eq (f n) 0) [
+  | inl e ↦
+      let s = skips n (suc p) f e in
+      let r = far_few n (suc p) f in
+      let m = farthest_more n (suc p) in omega arith
+  | inr ne ↦ (let g = goes n p f ne in let r = far_few n p f in omega arith)
 ]
 
-pub far_few : (n : ℕ) (f : ℕ → ℕ) → total n (λ u. far_on u (f u)) ≤ spread n
-far_few zero f = omega arith
-far_few (suc n) f = let r = far_few n f in let l = far_low n (f n) in omega arith
+-- one pass more
+reach_more : (n p : ℕ) (f : ℕ → ℕ) → reach n (suc p) f ≤ n + reach n p f
+reach_more zero p f = omega arith
+reach_more (suc n) zero f = elim (cases_eq (f n) 0) [
+  | inl e ↦ (let s = skips n 1 f e in let r = reach_more n 0 f in let z = reach_none n f in omega arith)
+  | inr ne ↦ (let g = goes n 0 f ne in let z = reach_none n f in omega arith)
+]
+reach_more (suc n) (suc p) f = elim (cases_eq (f n) 0) [
+  | inl e ↦
+      let s = skips n (suc (suc p)) f e in
+      let o = skips n (suc p) f e in
+      let r = reach_more n (suc p) f in omega arith
+  | inr ne ↦
+      let s = goes n (suc p) f ne in
+      let o = goes n p f ne in
+      let r = reach_more n p f in omega arith
+]
 
-total_low : (n : ℕ) (f g : ℕ → ℕ) → ((v : ℕ) → v < n → f v ≤ g v) → total n f ≤ total n g
-total_low zero f g low = omega arith
-total_low (suc n) f g low =
-    let r = total_low n f g (λ v l. low v (omega arith)) in
-    let l = low n (omega arith) in omega arith
+-- no list more has a block
+reach_low : (n p : ℕ) (f g : ℕ → ℕ) → Behind n (λ v. f v ≡ 0 → g v ≡ 0) → reach n p g ≤ reach n p f
+reach_low zero p f g none = omega arith
+reach_low (suc zero) zero f g none = omega arith
+reach_low (suc zero) (suc p) f g none = elim (cases_eq (g 0) 0) [
+  | inl e ↦ (let s = skips 0 (suc p) g e in omega arith)
+  | inr ne ↦ (let s = goes 0 p g ne in omega arith)
+]
+reach_low (suc (suc n)) zero f g none = omega arith
+reach_low (suc (suc n)) (suc p) f g none = elim (cases_eq (g (suc n)) 0) [
+  | inl e ↦
+      let s = skips (suc n) (suc p) g e in
+      let r = reach_low (suc n) (suc p) f g (fewer (suc n) (λ v. f v ≡ 0 → g v ≡ 0) none) in
+      elim (cases_eq (f (suc n)) 0) [
+        | inl z ↦ (let o = skips (suc n) (suc p) f z in omega arith)
+        | inr nz ↦
+            let o = goes (suc n) p f nz in
+            let m = reach_more (suc n) p f in omega arith
+      ]
+  | inr ne ↦
+      let nz : f (suc n) ≡ 0 → ⊥ = λ z. ne (none (suc n) (omega arith) (omega arith) z) in
+      let s = goes (suc n) p g ne in
+      let o = goes (suc n) p f nz in
+      let r = reach_low (suc n) p f g (fewer (suc n) (λ v. f v ≡ 0 → g v ≡ 0) none) in
+      omega arith
+]
+
+-- without one that was found, before the last list
+nearer : (n p : ℕ) (f g : ℕ → ℕ) (u : ℕ) → u < n → Behind (suc n) (λ v. f v ≡ 0 → g v ≡ 0)
+    → ((q : ℕ) → reach n q g + u ≤ reach n (suc q) f)
+    → reach (suc n) p g + u ≤ reach (suc n) (suc p) f
+nearer n zero f g u ul none less = elim (cases_eq (f n) 0) [
+  | inl z ↦
+      let o = skips n 1 f z in
+      let r = less 0 in let e = reach_none n g in omega arith
+  | inr nz ↦ (let o = goes n 0 f nz in omega arith)
+]
+nearer n (suc p) f g u ul none less = elim (cases_eq (f n) 0) [
+  | inl z ↦
+      let s = skips n (suc p) g (none n (omega arith) (omega arith) z) in
+      let o = skips n (suc (suc p)) f z in
+      let r = less (suc p) in omega arith
+  | inr nz ↦
+      let o = goes n (suc p) f nz in
+      elim (cases_eq (g n) 0) [
+        | inl e ↦
+            let s = skips n (suc p) g e in
+            let r = reach_low n (suc p) f g (fewer n (λ v. f v ≡ 0 → g v ≡ 0) none) in
+            omega arith
+        | inr ne ↦ (let s = goes n p g ne in let r = less p in omega arith)
+      ]
+]
 
 -- without the one that was found
-total_less : (n : ℕ) (f g : ℕ → ℕ) (u : ℕ) → u < n → ((v : ℕ) → v < n → f v ≤ g v) → f u ≡ 0
-    → total n f + g u ≤ total n g
-total_less zero f g u l low none = absurd (omega arith)
-total_less (suc n) f g u l low none = elim (cases_eq u n) [
+reach_less : (n p : ℕ) (f g : ℕ → ℕ) (u : ℕ) → u < n → Behind n (λ v. f v ≡ 0 → g v ≡ 0)
+    → (f u ≡ 0 → ⊥) → g u ≡ 0 → reach n p g + u ≤ reach n (suc p) f
+reach_less zero p f g u low none some empty = absurd (omega arith)
+reach_less (suc n) p f g u low none some empty = elim (cases_eq u n) [
   | inl e ↦
-      let r = total_low n f g (λ v l. low v (omega arith)) in
-      let a : f n ≡ 0 = ap f (sym e) ∙ none in
-      let b : g u ≡ g n = ap g e in omega arith
+      let s = skips n p g (ap g (sym e) ∙ empty) in
+      let o = goes n p f (λ z. some (ap f e ∙ z)) in
+      let r = reach_low n p f g (fewer n (λ v. f v ≡ 0 → g v ≡ 0) none) in omega arith
   | inr ne ↦
-      let r = total_less n f g u (omega arith) (λ v l. low v (omega arith)) none in
-      let k = low n (omega arith) in omega arith
+      let ul : u < n = omega arith in
+      nearer n p f g u ul none
+      (λ q. reach_less n q f g u ul (fewer n (λ v. f v ≡ 0 → g v ≡ 0) none) some empty)
 ]
+
+-- where none has
+reach_all : (n p : ℕ) (f : ℕ → ℕ) → Behind n (λ v. f v ≡ 0) → reach n p f ≡ 0
+reach_all n p f none =
+    let r = reach_low n p (λ v. 0) f (λ v low some e. none v low some) in
+    let z = empty n p in omega arith
+  where
+    empty : (n p : ℕ) → reach n p (λ v. 0) ≡ 0
+    empty zero p = refl
+    empty (suc n) zero = refl
+    empty (suc n) (suc p) = empty n (suc p)
 
 -- the own list is the first alone
 own_alone : (t n v : ℕ) → t < n → v < n → 0 < v → list_of t n v ≡ t → ⊥
@@ -116,80 +219,79 @@ own_alone t n v low vlow some is = elim (cases_lt (t + v) n) [
 ]
 
 -- a word written on the own list
-far_own : (c : Config) (h : Heap) (t w : ℕ) → t < c.threads
-    → far_of c (put_at h (GreyList t) w) t ≡ far_of c h t
-far_own c h t w low =
-    total_same c.threads (λ u. far_on u (grey_heads c (put_at h (GreyList t) w) t u))
-    (λ u. far_on u (grey_heads c h t u)) each
-  where
-    own : (x : ℕ) → far_on 0 x ≡ 0
-    own x = elim (cases_Bool (eqb x 0)) [ inl e ↦ rw e refl | inr e ↦ rw e refl ]
+far_own : (c : Config) (h : Heap) (t w passes : ℕ) → t < c.threads
+    → far_of c (put_at h (GreyList t) w) t passes ≤ far_of c h t passes
+far_own c h t w passes low =
+    reach_low c.threads passes (grey_heads c h t) (grey_heads c (put_at h (GreyList t) w) t)
+    (λ v l some none. rw (ne_eqb t (list_of t c.threads v)
+    (λ e. own_alone t c.threads v low l some (sym e))) none)
 
-    each : (u : ℕ) → u < c.threads
-        → far_on u (grey_heads c (put_at h (GreyList t) w) t u) ≡ far_on u (grey_heads c h t u)
-    each zero l = own _ ∙ sym (own _)
-    each (suc u) l =
-        rw (ne_eqb t (list_of t c.threads (suc u))
-        (λ e. own_alone t c.threads (suc u) low l (omega arith) (sym e))) refl
-
-put_less : (h : Heap) (a b : ℕ) (u : ℕ) → far_on u (put_at h (GreyList a) 0 (GreyList b)) ≤ far_on u (h (GreyList b))
-put_less h a b u = elim (cases_Bool (eqb a b)) [
-  | inl e ↦ rw e (omega arith)
-  | inr e ↦ rw e (omega arith)
+put_none : (h : Heap) (a b : ℕ) → h (GreyList b) ≡ 0 → put_at h (GreyList a) 0 (GreyList b) ≡ 0
+put_none h a b none = elim (cases_Bool (eqb a b)) [
+  | inl e ↦ rw e refl
+  | inr e ↦ rw e none
 ]
 
 -- list u is taken, which had something
-far_taken : (c : Config) (h : Heap) (t u : ℕ) → u < c.threads → (grey_heads c h t u ≡ 0 → ⊥)
-    → far_of c (put_at h (GreyList (list_of t c.threads u)) 0) t + u ≤ far_of c h t
-far_taken c h t u l some =
+far_taken : (c : Config) (h : Heap) (t u passes : ℕ) → u < c.threads → (grey_heads c h t u ≡ 0 → ⊥)
+    → far_of c (put_at h (GreyList (list_of t c.threads u)) 0) t passes + u
+    ≤ far_of c h t (suc passes)
+far_taken c h t u passes l some =
     let later = put_at h (GreyList (list_of t c.threads u)) 0 in
-    let none : far_on u (grey_heads c later t u) ≡ 0 =
-    rw (eq-eqb (list_of t c.threads u) (list_of t c.threads u) refl) refl in
-    let had : far_on u (grey_heads c h t u) ≡ u = rw (ne_eqb (grey_heads c h t u) 0 some) refl in
-    let less = total_less c.threads (λ v. far_on v (grey_heads c later t v))
-    (λ v. far_on v (grey_heads c h t v)) u l
-    (λ v vl. put_less h (list_of t c.threads u) (list_of t c.threads v) v) none in
-    omega (arith, less, had)
+    reach_less c.threads passes (grey_heads c h t) (grey_heads c later t) u l
+    (λ v vl more none. put_none h (list_of t c.threads u) (list_of t c.threads v) none) some
+    (rw (eq-eqb (list_of t c.threads u) (list_of t c.threads u) refl) refl)
 
-far_skipped : (c : Config) (h : Heap) (t u : ℕ) → grey_heads c h t u ≡ 0
-    → far_of c (put_at h (GreyList (list_of t c.threads u)) 0) t ≡ far_of c h t
-far_skipped c h t u none =
-    total_same c.threads
-    (λ v. far_on v (grey_heads c (put_at h (GreyList (list_of t c.threads u)) 0) t v))
-    (λ v. far_on v (grey_heads c h t v))
-    (λ v vl. ap (far_on v) (taken h (list_of t c.threads u) (list_of t c.threads v) none))
+-- or had not
+far_emptied : (c : Config) (h : Heap) (t u passes : ℕ)
+    → far_of c (put_at h (GreyList (list_of t c.threads u)) 0) t passes ≤ far_of c h t passes
+far_emptied c h t u passes =
+    reach_low c.threads passes (grey_heads c h t)
+    (grey_heads c (put_at h (GreyList (list_of t c.threads u)) 0) t)
+    (λ v vl more none. put_none h (list_of t c.threads u) (list_of t c.threads v) none)
+
+-- no other thread has a list
+far_dry : (c : Config) (h : Heap) (t passes : ℕ) → t < c.threads → OthersDry c h t
+    → far_of c h t passes ≡ 0
+far_dry c h t passes low dry =
+    reach_all c.threads passes (grey_heads c h t)
+    (λ v l some. dry (list_of t c.threads v) (list_low t c.threads v low)
+    (λ e. own_alone t c.threads v low l some (sym e)))
+
+stays : (x : ℕ) → x ≤ x
+stays x = omega arith
 
 -- at the gate
 rest_keeps : (c : Config) → KeepLaw c Rest
 rest_keeps c s is alone event known =
     let free = open_here c s alone (ap (λ (g : Gating). is_outside g.stand) is.gating) in
-    rw free.opened (refl, refl)
+    rw free.opened (refl, λ p. stays _)
 
 enters : (c : Config) (s : Seen c) → KeepStep c s (Enter (gates.Enter (s.heap Phase)))
 enters c s =
     let won : eqb (s.heap Phase) (s.heap Phase) ≡ true = eq-eqb (s.heap Phase) (s.heap Phase) refl in
     elim (cases_Bool (ltb 0 (s.due - s.spent))) [
       | inl due ↦ elim (cases_Bool (is_sweep (s.heap Phase))) [
-        | inl sweeps ↦ rw (won, due, sweeps) (omega arith, refl)
-        | inr marks ↦ rw (won, due, marks) (refl, refl)
+        | inl sweeps ↦ rw (won, due, sweeps) (omega arith, λ p. stays _)
+        | inr marks ↦ rw (won, due, marks) (refl, λ p. stays _)
       ]
-      | inr due ↦ elim (cases_Bool (makes_object s.command)) [
-        | inl makes ↦ rw (won, due, makes) (refl, refl)
-        | inr serves ↦ rw (won, due, serves) (refl, refl)
+      | inr due ↦ elim (cases_Bool (ltb 0 (blocks_of c.width s.command))) [
+        | inl makes ↦ rw (won, due, makes) (refl, λ p. stays _)
+        | inr serves ↦ rw (won, due, serves) (refl, λ p. stays _)
       ]
     ]
 
 enter_keeps : (c : Config) (g : GateRow) → KeepLaw c (Enter g)
 enter_keeps c gates.Look s is alone event known =
     let free = open_here c s alone (ap (λ (g : Gating). is_outside g.stand) is.gating) in
-    rw free.opened (refl, refl)
+    rw free.opened (refl, λ p. stays _)
 enter_keeps c (gates.Enter seen) s is alone event known =
     subst (λ v. KeepStep c s (Enter (gates.Enter v))) (sym known) (enters c s)
 enter_keeps c g s is alone event known = absurd is.part
 
 again_keeps : (c : Config) → KeepLaw c Again
 again_keeps c s is alone event known =
-    (refl, refl, (less_inside c s (ap (λ (g : Gating). g.stand) is.gating)).1)
+    (refl, (λ p. stays _), (less_inside c s (ap (λ (g : Gating). g.stand) is.gating)).1)
 
 turn_keeps : (c : Config) (g : GateRow) → KeepLaw c (TurnOver g)
 turn_keeps c (gates.CloseLook p) s is alone event known = tt
@@ -201,7 +303,8 @@ turn_keeps c (gates.Flip p) s is alone event known =
 turn_keeps c (gates.Reopen p) s is alone event known = absurd known
 turn_keeps c (gates.ShadeRoot p u hand) s is alone event known = tt
 turn_keeps c (gates.PutRoots p hand) s is alone event known = tt
-turn_keeps c (gates.Start p) s is alone event known = tt
+turn_keeps c (gates.Start p) s is alone event known =
+    λ passes. far_dry c s.heap s.thread passes s.low known.2
 turn_keeps c g s is alone event known = absurd is.part.0
 
 -- the rows of a builder say nothing
@@ -228,18 +331,21 @@ module _ (c : Config) (s : Seen c) where
     abbrev q : Pass
     q = record { thread = s.thread; threads = c.threads; cycle = p.cycle; sweep = p.sweep }
 
+    emptied : (passes : ℕ) → far_of c (put_at s.heap (GreyList (list_of s.thread c.threads u)) 0) s.thread passes
+        ≤ far_of c s.heap s.thread passes
+    emptied passes = far_emptied c s.heap s.thread u passes
+
     takes_here : KeepStep c s (Marks q (greys.Take u))
     takes_here = elim (cases_eq (grey_heads c s.heap s.thread u) 0) [
       | inl z ↦
-          let same = far_skipped c s.heap s.thread u z in
           let none = eq-eqb (grey_heads c s.heap s.thread u) 0 z in
           elim (cases_Bool (ltb (u + 1) c.threads)) [
-            | inl more ↦ rw (none, more) (omega (arith, same))
-            | inr last ↦ rw (none, last) (omega (arith, same))
+            | inl more ↦ rw (none, more) (emptied, λ e. absurd (let w : Spot.Take (u + 1) ≡ Spot.Pop = e in cc))
+            | inr last ↦ rw (none, last) (emptied, λ e. absurd (let w : Spot.LeaveNone ≡ Spot.Pop = e in cc))
           ]
       | inr ne ↦
-          let less = far_taken c s.heap s.thread u ul ne in
-          rw (ne_eqb (grey_heads c s.heap s.thread u) 0 ne) less
+          rw (ne_eqb (grey_heads c s.heap s.thread u) 0 ne)
+          (emptied, λ e passes. far_taken c s.heap s.thread u passes ul ne)
     ]
 
     takes : KeepStep c s (Marks p (greys.Take u))
@@ -250,24 +356,24 @@ module _ (c : Config) (s : Seen c) where
   puts : (p : Pass) (hand : ℕ) → p.thread ≡ s.thread → is_sweep (s.heap Phase) ≡ false
       → KeepStep c s (Marks p (greys.Put hand))
   puts p hand own mark = (
-    ap (λ t. far_of c (put_at s.heap (GreyList t) hand) s.thread) own
-        ∙ far_own c s.heap s.thread hand s.low,
+    λ passes. subst (λ t. far_of c (put_at s.heap (GreyList t) hand) s.thread passes
+        ≤ far_of c s.heap s.thread passes) (sym own) (far_own c s.heap s.thread hand passes s.low),
     mark,
   )
 
   blackens : (p : Pass) (x hand : ℕ) → is_sweep (s.heap Phase) ≡ false
       → KeepStep c s (Marks p (greys.Blacken x hand))
-  blackens p x hand mark = (refl, mark)
+  blackens p x hand mark = ((λ passes. stays _), mark)
 
 mark_keeps : (c : Config) (p : Pass) (r : GreyRow) → KeepLaw c (Mark (record { pass = p; row = r }))
 mark_keeps c p (greys.Take u) s is alone event known =
     takes c s p is.part.thread is.fits.0.threads u is.fits.0.row
-mark_keeps c p (greys.Pop hand) s is alone event known = refl
-mark_keeps c p (greys.ScanWord x j hand) s is alone event known = refl
+mark_keeps c p (greys.Pop hand) s is alone event known = λ passes. stays _
+mark_keeps c p (greys.ScanWord x j hand) s is alone event known = λ passes. stays _
 mark_keeps c p (greys.Shade x j y hand) s is alone event known =
     elim (cases_Bool (eqb (s.heap (ColourOf y)) (white_word p.cycle))) [
-      | inl e ↦ rw e refl
-      | inr e ↦ rw e refl
+      | inl e ↦ rw e (λ passes. stays _)
+      | inr e ↦ rw e (λ passes. stays _)
     ]
 mark_keeps c p (greys.Blacken x hand) s is alone event known =
     let phase = has_pass c s (Mark (record { pass = p; row = greys.Blacken x hand })) is.gating refl in

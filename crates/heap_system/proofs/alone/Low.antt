@@ -17,13 +17,13 @@ use Rattle.never_heap.specs.declared.Command.TheVariants as commands
 use Rattle.never_heap.specs.declared.Entry.{Entry}
 use Rattle.never_heap.specs.Graphs.{Graph, Object, Record, Array, nil_object, no_object, start_graph, start_mutator, object_of, same_name, register_of, field_of, with_field, with_object, set_field, next_name, no_mutator}
 use Rattle.never_heap.specs.Histories.{HistoryItem, Started, Did, is_full, after, part, replay, replay_from}
-use Rattle.never_heap.specs.Steps.{step, made, makes_object, blocks_of}
+use Rattle.never_heap.specs.Steps.{step, made, blocks_of}
 use Rattle.never_heap.specs.declared.Reply.{Reply}
 use Rattle.never_heap.specs.Bounds.{IsCommandInBounds}
 use Rattle.never_heap.proofs.GraphMoves.{object_with_register}
 use Rattle.never_heap.proofs.FieldStores.{object_with_field, object_with_object}
 use Rattle.never_heap.proofs.Stepping.{Change, none, store, put, swap, make, change_of, has_field, threads_put, with_object_threads}
-use Rattle.never_heap.proofs.Staying.{change_past}
+use Rattle.never_heap.proofs.Staying.{step_past}
 use Rattle.heap_system.specs.Locals.{LocalState, command_of, entries_of}
 use Rattle.heap_system.specs.Machines.{Run, local_at}
 use Rattle.heap_system.specs.Pictures.{waiting, entries_waiting}
@@ -74,22 +74,12 @@ module _ (c : Config) (g : Graph) (low : RecordsAreLow c g) (t : ℕ) where
   there_low : (k : Command) → t < length g.mutators → blocks_of c.width k ≤ c.object → RecordsAreLow c (step g t k).0
   there_low (commands.New d f) there few = makes d (nil_object Record f) there (λ q. subst (λ n. record_blocks c.width n ≤ c.object) (sym (length-replicate f Nil)) few)
   there_low (commands.Arr d e) there few = makes d (nil_object Array e) there (λ q. (let z : Array ≡ Record = q in absurd cc))
-  there_low (commands.Set d v) there few = stays _ _ there refl (change_of g t (commands.Set d v))
-  there_low (commands.Nil d) there few = stays _ _ there refl (change_of g t (commands.Nil d))
-  there_low (commands.Mov d s) there few = stays _ _ there refl (change_of g t (commands.Mov d s))
-  there_low (commands.Get d s i) there few = stays _ _ there refl (change_of g t (commands.Get d s i))
-  there_low (commands.Put s i v) there few = stays _ _ there refl (change_of g t (commands.Put s i v))
-  there_low (commands.Len s) there few = stays _ _ there refl (change_of g t (commands.Len s))
-  there_low (commands.Same x y) there few = stays _ _ there refl (change_of g t (commands.Same x y))
-  there_low (commands.Say s) there few = stays _ _ there refl (change_of g t (commands.Say s))
-  there_low (commands.Swap s i v) there few = stays _ _ there refl (change_of g t (commands.Swap s i v))
-  there_low (commands.Cas s i x v) there few = stays _ _ there refl (change_of g t (commands.Cas s i x v))
-  there_low (commands.Idle u) there few = stays _ _ there refl (change_of g t (commands.Idle u))
+  there_low k there few = stays _ _ there refl (change_of g t k)
 
   step_low : (k : Command) → blocks_of c.width k ≤ c.object → RecordsAreLow c (step g t k).0
   step_low k few = elim (cases_lt t (length g.mutators)) [
     | inl there ↦ there_low k there few
-    | inr past ↦ subst (RecordsAreLow c) (sym (change_past g t (makes_object k) (step g t k).0 past (change_of g t k))) low
+    | inr past ↦ subst (RecordsAreLow c) (sym (step_past g t k past)) low
   ]
 
 replay_low : (c : Config) (h : List HistoryItem) (g : Graph) → CommandsAskFew c h → RecordsAreLow c g → RecordsAreLow c (replay_from g h)

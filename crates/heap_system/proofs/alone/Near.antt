@@ -1,5 +1,5 @@
 -- A lone thread comes to the end of its allocation within the near bound.
-use Rattle.std.proofs.Common.{◌≡◌, ℕ, zero, suc, ◌-◌, ◌*◌, ◌≤◌, ◌<◌, true, false, cond, List, [], length, get_or, refl, sym, ap, subst, arith, inl, inr}
+use Rattle.std.proofs.Common.{◌≡◌, ℕ, zero, suc, ◌-◌, ◌*◌, ◌≤◌, ◌<◌, true, false, cond, List, [], length, get_or, refl, sym, ap, subst, arith, inl, inr, lt-ltb}
 use Rattle.std.proofs.lemmas.Bool.{cases_Bool}
 use Rattle.block_store.specs.declared.Config.{Config}
 use Rattle.block_store.specs.declared.Width.{Width}
@@ -13,11 +13,12 @@ use Rattle.never_heap.specs.declared.Command.{Command}
 use Rattle.never_heap.specs.declared.Command.TheVariants as commands
 use Rattle.never_heap.specs.declared.Entry.{Entry}
 use Rattle.never_heap.specs.RightWork.{units_owed, units_told}
-use Rattle.never_heap.specs.Steps.{makes_object, blocks_of}
+use Rattle.never_heap.specs.Steps.{blocks_of}
+use Rattle.never_heap.proofs.Answering.{blocks_untold}
 use Rattle.barrier_steps.specs.Operands.{is_idle}
-use Rattle.lone_bound.specs.Near.{Keeps, near_left, near_bound, between}
+use Rattle.lone_bound.specs.Near.{Keeps, near_left, near_bound}
 use Rattle.lone_bound.specs.Prices.{allocation_bound, idle_bound, other_bound}
-use Rattle.lone_bound.proofs.Near.{lower, near, near_within, pays_at_most}
+use Rattle.lone_bound.proofs.Near.{lower, near, near_within}
 use Rattle.heap_system.specs.declared.local.Part.{Part}
 use Rattle.heap_system.specs.declared.local.Part.TheVariants.{Rest, Leave}
 use Rattle.heap_system.specs.Alone.{IsQuiet, HasCommand, EndsWithin, command_bound}
@@ -25,7 +26,7 @@ use Rattle.heap_system.specs.Locals.{LocalState, command_of, owed, is_done}
 use Rattle.heap_system.specs.Machines.{Run, IsJob, local_at, local_in, heap_in, next}
 use Rattle.heap_system.proofs.Kept.{Kept}
 use Rattle.heap_system.proofs.LawsOf.{laws_of}
-use Rattle.heap_system.proofs.Paying.{makers_untold, opening_room}
+use Rattle.heap_system.proofs.Paying.{opening_room}
 use Rattle.heap_system.proofs.Turning.{at_part, event, next_is}
 use Rattle.heap_system.proofs.alone.Keeping.{scene_of, far_of, far_few, keep_law}
 use Rattle.heap_system.proofs.alone.Runs
@@ -33,19 +34,18 @@ use Rattle.heap_system.proofs.alone.Runs.{wide}
 use Rattle.heap_system.proofs.alone.Standing.{terms_of, spot_of, LoneKnows, is_out, paid_left, grey_heads}
 
 module _ (c : Config) (traces : List (List Command)) (job : IsJob c traces) (rate : ℕ)
-    (planned : IsRate c rate) (t : ℕ) (tl : t < c.threads) (old : List Entry) (k : Command)
-    (charge : ℕ) (pays_all : between c.threads ≤ charge * c.blocks) where
+    (planned : IsRate c rate) (t : ℕ) (tl : t < c.threads) (old : List Entry) (k : Command) where
   abbrev due : ℕ
   due = units_owed c.width rate k
 
   abbrev price : Heap → LocalState → ℕ
-  price h l = near_left (terms_of c k) charge (scene_of c h t (due - l.spent) l.part)
+  price h l = near_left (terms_of c k) c.blocks (scene_of c h t (due - l.spent) l.part)
 
   abbrev Lonely : Run → Type 0
   Lonely r = Runs.LoneRun c traces job rate planned t tl old k r
 
   out_one : (h : Heap) (o : ℕ) (p : Part) → is_out p ≡ true
-      → near_left (terms_of c k) charge (scene_of c h t o p) ≡ 1
+      → near_left (terms_of c k) c.blocks (scene_of c h t o p) ≡ 1
   out_one h o Leave out = refl
   out_one h o p out = absurd (let z : false ≡ true = out in cc)
 
@@ -90,11 +90,10 @@ module _ (c : Config) (traces : List (List Command)) (job : IsJob c traces) (rat
     less : price after moved < price h l
     less =
         let low = wide c.width in
-        lower (terms_of c k) c.blocks charge low.0 pays_all (spot_of c l.part)
+        lower (terms_of c k) c.blocks low.0 job.bounds.config.some_block (spot_of c l.part)
         (scene_of c h t (due - l.spent) l.part)
         (scene_of c after t (due - moved.spent) moved.part)
         (Runs.moves c traces job rate planned t tl old k left_some command r lone on) keeps
-        (far_few c.threads (grey_heads c after t))
 
     near_turn : price (heap_in c (next c t r).state) (local_at c (next c t r).state t) < price h l
     near_turn =
@@ -145,46 +144,46 @@ module _ (c : Config) (traces : List (List Command)) (job : IsJob c traces) (rat
     ]
 
 -- at rest with an allocation left, where nobody is inside and the gate is open
-module _ (c : Config) (traces : List (List Command)) (job : IsJob c traces) (rate charge : ℕ)
-    (planned : IsRate c rate) (pays_all : between c.threads ≤ charge * c.blocks) (t : ℕ)
-    (tl : t < c.threads) (r : Run) (kept : Kept c traces r) (quiet : IsQuiet c r)
+module _ (c : Config) (traces : List (List Command)) (job : IsJob c traces) (rate : ℕ)
+    (planned : IsRate c rate) (t : ℕ) (tl : t < c.threads) (r : Run) (kept : Kept c traces r) (quiet : IsQuiet c r)
     (has : HasCommand (local_in c r t))
-    (makes : makes_object (command_of (local_in c r t)) ≡ true) where
+    (some : 0 < blocks_of c.width (command_of (local_in c r t))) where
   abbrev first : LocalState
   first = local_at c r.state t
 
   abbrev bound : ℕ
-  bound = near_bound c.threads (payloads c.width) charge
+  bound = near_bound c.threads (payloads c.width) c.blocks
       (rate * blocks_of c.width (command_of first)) (blocks_of c.width (command_of first))
 
   at_rest : first.part ≡ Rest
   at_rest = Runs.at_rest c traces job rate planned t tl r kept quiet has
 
   priced : (o : ℕ) → o ≡ rate * blocks_of c.width (command_of first)
-      → near_left (terms_of c (command_of first)) charge (scene_of c (heap_in c r.state) t o Rest)
+      → near_left (terms_of c (command_of first)) c.blocks (scene_of c (heap_in c r.state) t o Rest)
       ≤ bound
   priced o same =
-      subst (λ d. near_left (terms_of c (command_of first)) charge
+      subst (λ d. near_left (terms_of c (command_of first)) c.blocks
       (scene_of c (heap_in c r.state) t d Rest) ≤ bound) (sym same)
-      (near (terms_of c (command_of first)) charge
-      (rate * blocks_of c.width (command_of first)) _ (far_of c (heap_in c r.state) t) _ makes
-      (far_few c.threads (grey_heads c (heap_in c r.state) t)))
+      (near (terms_of c (command_of first)) c.blocks (wide c.width).0 job.bounds.config.some_block
+      (rate * blocks_of c.width (command_of first)) _ (far_of c (heap_in c r.state) t) _
+      (lt-ltb 0 (blocks_of c.width (command_of first)) some)
+      (λ passes. far_few c.threads passes (grey_heads c (heap_in c r.state) t)))
 
-  first_price : near_left (terms_of c (command_of first)) charge
+  first_price : near_left (terms_of c (command_of first)) c.blocks
       (scene_of c (heap_in c r.state) t
       (units_owed c.width rate (command_of first) - first.spent) first.part) ≤ bound
   first_price =
       let none = Runs.none_paid c traces job rate planned t tl r kept quiet has in
-      subst (λ p. near_left (terms_of c (command_of first)) charge
+      subst (λ p. near_left (terms_of c (command_of first)) c.blocks
       (scene_of c (heap_in c r.state) t
       (units_owed c.width rate (command_of first) - first.spent) p) ≤ bound) (sym at_rest)
       (priced (units_owed c.width rate (command_of first) - first.spent)
-      (omega (arith, none, makers_untold (command_of first) makes)))
+      (omega (arith, none, blocks_untold c.width (command_of first) some)))
 
   pub near_ends : EndsWithin c t r bound
   near_ends =
       let ended =
-      ends c traces job rate planned t tl first.log (command_of first) charge pays_all
+      ends c traces job rate planned t tl first.log (command_of first)
       (Runs.some_left c traces job rate planned t tl r kept quiet has)
       (Runs.command_is c traces job rate planned t tl r kept quiet has)
       bound r (Runs.begins c traces job rate planned t tl r kept quiet has) first_price in
@@ -204,22 +203,20 @@ threads_low : (w : Width) (n m : ℕ) → registers_end w n ≤ m → n ≤ m
 threads_low Four n m low = omega arith
 threads_low Eight n m low = omega arith
 
--- where a unit pays 33 turns for the changes of the cycles, the near bound is within the stated one
-pub stated : (c : Config) (k : Command) (rate : ℕ) → IsInBounds c → IsAdmitted c → makes_object k ≡ true
-    → (between c.threads ≤ 33 * c.blocks)
-    × (near_bound c.threads (payloads c.width) 33 (rate * blocks_of c.width k) (blocks_of c.width k)
-    ≤ command_bound c rate k)
-stated c k rate bounds plan makes =
+-- the near bound is within the stated one
+pub stated : (c : Config) (k : Command) (rate : ℕ) → IsInBounds c → IsAdmitted c → 0 < blocks_of c.width k
+    → near_bound c.threads (payloads c.width) c.blocks (rate * blocks_of c.width k) (blocks_of c.width k)
+    ≤ command_bound c rate k
+stated c k rate bounds plan some =
     let allocates : command_bound c rate k ≡ allocation_bound c.threads (blocks_of c.width k) rate =
     ap (λ b. cond b (allocation_bound c.threads (blocks_of c.width k) rate)
-    (cond (is_idle k) (idle_bound c.threads (units_told k)) (other_bound c.object))) makes in (
-      pays_at_most c.threads c.blocks bounds.threads
-          (threads_low c.width c.threads c.blocks (opening_room c plan)) bounds.some_block,
-      subst (λ n. near_bound c.threads (payloads c.width) 33 (rate * blocks_of c.width k)
-          (blocks_of c.width k) ≤ n) (sym allocates)
-          (near_within c.threads (payloads c.width) 33 rate (blocks_of c.width k) bounds.threads
-          (wide c.width).1 (omega arith)),
-    )
+    (cond (is_idle k) (idle_bound c.threads (units_told k)) (other_bound c.object)))
+    (lt-ltb 0 (blocks_of c.width k) some) in
+    subst (λ n. near_bound c.threads (payloads c.width) c.blocks (rate * blocks_of c.width k)
+    (blocks_of c.width k) ≤ n) (sym allocates)
+    (near_within c.threads c.blocks (payloads c.width) rate (blocks_of c.width k) bounds.threads
+    (wide c.width).1
+    (threads_low c.width c.threads c.blocks (opening_room c plan)) bounds.some_block)
 
 -- what ends within a bound ends within a greater one
 pub within : (c : Config) (t : ℕ) (r : Run) (few many : ℕ) → EndsWithin c t r few → few ≤ many

@@ -1,5 +1,5 @@
 -- A lone thread comes to the end of its command.
-use Rattle.std.proofs.Common.{◌≡◌, ℕ, zero, suc, ◌+◌, ◌-◌, ◌*◌, ◌≤◌, ◌<◌, Bool, true, false, cond, eqb, ◌&&◌, eq-eqb, ne_eqb, Option, Some, None, is_some, List, [], ◌∷◌, ◌++◌, length, get_or, append-nil, refl, sym, ap, ◌∙◌, subst, arith, inl, inr}
+use Rattle.std.proofs.Common.{◌≡◌, ℕ, zero, suc, ◌+◌, ◌-◌, ◌*◌, ◌≤◌, ◌<◌, Bool, true, false, cond, eqb, ◌&&◌, eq-eqb, ne_eqb, Option, Some, None, is_some, List, [], ◌∷◌, ◌++◌, length, get_or, append-nil, refl, sym, ap, ◌∙◌, subst, arith, inl, inr, ltb, ltb-true, ltb-false}
 use Rattle.std.proofs.lemmas.Bool.{cases_Bool}
 use Rattle.block_store.specs.declared.Config.{Config}
 use Rattle.block_store.specs.declared.Width.{Width}
@@ -15,8 +15,8 @@ use Rattle.never_heap.specs.declared.Command.TheVariants as commands
 use Rattle.never_heap.specs.declared.Entry.{Entry}
 use Rattle.never_heap.specs.declared.Reply.{Reply}
 use Rattle.never_heap.specs.RightWork.{units_told, units_owed}
-use Rattle.never_heap.specs.Steps.{makes_object, blocks_of}
-use Rattle.never_heap.proofs.Answering.{others_have_none}
+use Rattle.never_heap.specs.Steps.{blocks_of}
+use Rattle.never_heap.proofs.Answering.{blocks_untold, owes_told}
 use Rattle.heap_machine.specs.Gating.{is_outside, is_inside, is_closing}
 use Rattle.heap_machine.specs.Operations.{place_of}
 use Rattle.heap_machine.proofs.Gatings.{stand_out}
@@ -32,7 +32,6 @@ use Rattle.heap_system.specs.Alone.{IsQuiet, HasCommand, EndsWithin, command_bou
 use Rattle.heap_system.specs.Locals.{LocalState, command_of, owed, effect, is_rest, is_done, entry_of, entries_of, waits, part_want, part_got, errand_of}
 use Rattle.heap_system.specs.Machines.{Run, IsJob, local_at, local_in, heap_in, next, answer, word_read}
 use Rattle.heap_system.specs.Pictures.{gating, gates_in}
-use Rattle.heap_system.proofs.Paying.{makers_untold}
 use Rattle.heap_system.proofs.Kept.{Kept}
 use Rattle.heap_system.proofs.LawsOf.{laws_of}
 use Rattle.heap_system.proofs.Reached.{rest_is}
@@ -366,7 +365,7 @@ untold _ e = refl
 priced : (c : Config) (rate : ℕ) (k : Command) (owing : ℕ) (sweep ready : Bool)
     → owing ≡ units_owed c.width rate k
     → at_look (terms_of c k) (unit c) owing sweep ready ≤ command_bound c rate k
-priced c rate k owing sweep ready is = elim (cases_Bool (makes_object k)) [
+priced c rate k owing sweep ready is = elim (cases_Bool (ltb 0 (blocks_of c.width k))) [
   | inl makes ↦
       let low = wide c.width in
       let bound : command_bound c rate k ≡ allocation_bound c.threads (blocks_of c.width k) rate =
@@ -374,11 +373,11 @@ priced c rate k owing sweep ready is = elim (cases_Bool (makes_object k)) [
       subst (λ n. at_look (terms_of c k) (unit c) owing sweep ready ≤ n) (sym bound)
       (subst (λ d. at_look (terms_of c k) (unit c) d sweep ready
       ≤ allocation_bound c.threads (blocks_of c.width k) rate)
-      (let z : owing ≡ rate * blocks_of c.width k = omega (arith, is, makers_untold k makes) in sym z)
+      (let z : owing ≡ rate * blocks_of c.width k = omega (arith, is, blocks_untold c.width k (ltb-true 0 (blocks_of c.width k) makes)) in sym z)
       (within (terms_of c k) rate sweep ready low.0 low.1 makes))
   | inr serves ↦
-      let price : rate * blocks_of c.width k ≡ rate * 0 =
-      ap (λ n. rate * n) (others_have_none c.width k serves) in
+      let price : units_owed c.width rate k ≡ units_told k =
+      owes_told c.width rate k (omega (arith, ltb-false 0 (blocks_of c.width k) serves)) in
       elim (cases_Bool (is_idle k)) [
         | inl idle ↦
             let low = wide c.width in

@@ -8,7 +8,7 @@ use Rattle.block_store.specs.Phases.{is_sweep, cycle_of}
 use Rattle.block_store.specs.Places.{Phase, Cursor, GreyList, FreeCount, FreeList}
 use Rattle.block_store.specs.Widths.{payloads}
 use Rattle.never_heap.specs.declared.Command.{Command}
-use Rattle.never_heap.specs.Steps.{makes_object, blocks_of}
+use Rattle.never_heap.specs.Steps.{blocks_of}
 use Rattle.heap_machine.specs.Gating.{is_outside}
 use Rattle.heap_machine.specs.Operations.{heap_after}
 use Rattle.heap_machine.specs.declared.gate.GateRow.{GateRow}
@@ -38,7 +38,7 @@ abbrev pub terms_of : Config → Command → Terms
 terms_of c k = record {
   threads = c.threads;
   payloads = payloads c.width;
-  allocates = makes_object k;
+  allocates = ltb 0 (blocks_of c.width k);
   blocks = blocks_of c.width k;
   most = field_left c k (first_row k);
 }
@@ -150,6 +150,10 @@ NoGrey c h = (v : ℕ) → v < c.threads → h (GreyList v) ≡ 0
 abbrev pub IsDry : Config → Heap → Pass → Type 0
 IsDry c h q = q.sweep ≡ false → NoGrey c h
 
+-- nor has one of another thread
+abbrev pub OthersDry : Config → Heap → ℕ → Type 0
+OthersDry c h t = (v : ℕ) → v < c.threads → (t ≡ v → ⊥) → h (GreyList v) ≡ 0
+
 -- What a lone thread knows at its rows, since nobody else has turns. From a pass that found nothing
 -- to the change of phase it owes a unit.
 abbrev pub GateKnows : Config → Heap → ℕ → Pass → ℕ → ℕ → GateRow → Type 0
@@ -161,9 +165,10 @@ GateKnows c h t q due paid (gates.CheckList p u) = (paid < due) × NoGrey c h
 GateKnows c h t q due paid (gates.SetCursor p) = paid < due
 GateKnows c h t q due paid (gates.Flip p) = paid < due
 GateKnows c h t q due paid (gates.Reopen p) = ⊥
-GateKnows c h t q due paid (gates.ShadeRoot p u hand) = paid < due
-GateKnows c h t q due paid (gates.PutRoots p hand) = (paid < due) × (0 < hand)
-GateKnows c h t q due paid (gates.Start p) = (paid < due) × (0 < h (GreyList t))
+GateKnows c h t q due paid (gates.ShadeRoot p u hand) = (paid < due) × NoGrey c h
+GateKnows c h t q due paid (gates.PutRoots p hand) = (paid < due) × (0 < hand) × NoGrey c h
+GateKnows c h t q due paid (gates.Start p) =
+    (paid < due) × (0 < h (GreyList t)) × OthersDry c h t
 GateKnows c h t q due paid _ = Unit {0}
 
 abbrev pub GreyKnows : Config → Heap → ℕ → GreyRow → Type 0

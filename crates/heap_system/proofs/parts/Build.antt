@@ -40,17 +40,16 @@ use Rattle.block_store.specs.declared.Width.{Width}
 use Rattle.block_store.specs.Colours.{is_free, is_grey, black_word, link}
 use Rattle.block_store.specs.Counts.{changed}
 use Rattle.block_store.specs.Heaps.{Heap}
-use Rattle.block_store.specs.Phases.{bit, is_closed, is_sweep, cycle_of}
+use Rattle.block_store.specs.Phases.{is_closed, is_sweep, cycle_of}
 use Rattle.block_store.specs.Places.{Phase, Cursor, FreeCount, ColourOf, extent}
 use Rattle.block_store.proofs.ColourWords.{free_is, not_grey_black, not_grey_free}
 use Rattle.never_heap.specs.declared.Command.{Command}
-use Rattle.never_heap.specs.declared.Command.TheVariants.{New, Arr}
 use Rattle.never_heap.specs.declared.Reply.{Reply}
 use Rattle.never_heap.specs.declared.Reply.TheVariants as replies
-use Rattle.never_heap.specs.Graphs.{Graph, Record, Array, count_of, next_name, nil_object}
+use Rattle.never_heap.specs.Graphs.{count_of, next_name}
 use Rattle.never_heap.specs.Histories.{Did}
-use Rattle.never_heap.specs.Steps.{step, makes_object}
-use Rattle.never_heap.proofs.Stepping.{made_count}
+use Rattle.never_heap.specs.Steps.{step, blocks_of}
+use Rattle.never_heap.proofs.Answering.{blocks_answer, blocks_count}
 use Rattle.shown_graph.specs.Events.{unloaded}
 use Rattle.kept_names.specs.Building.{Build as Builder}
 use Rattle.kept_names.specs.Kept.{IsKept}
@@ -104,7 +103,7 @@ use Rattle.build_steps.proofs.Keeping.{over_holds_none}
 use Rattle.build_steps.proofs.Naming.{goes_on}
 use Rattle.build_steps.proofs.Once.{left_free}
 use Rattle.build_steps.proofs.Ranges.{fits_next}
-use Rattle.build_steps.proofs.Shapes.{reply_made}
+use Rattle.build_steps.proofs.Parts.{has_blocks}
 use Rattle.build_steps.proofs.Together.{keeps_phase, phase_stays}
 use Rattle.build_steps.proofs.Wanted.{place_fits, stores_held, sum_fits}
 use Rattle.heap_system.specs.declared.local.Part.TheVariants.{Build}
@@ -129,6 +128,7 @@ use Rattle.heap_system.specs.Machines.{starts_by}
 use Rattle.heap_system.specs.Naming.{Naming, Same, Made, renamed}
 use Rattle.heap_system.specs.Pictures.{gating}
 use Rattle.heap_system.specs.Units.{turns_black}
+use Rattle.heap_system.proofs.Paying.{blocks_object}
 use Rattle.heap_system.proofs.PartLaws.{AtPart, PartEvent, PartLaws}
 use Rattle.heap_system.proofs.Passing.{inside_open}
 use Rattle.heap_system.proofs.Seeing.{
@@ -267,13 +267,6 @@ row_no_reply b Built e = absurd (let z : true ≡ false = e in cc)
 row_no_reply b Refused e = absurd (let z : true ≡ false = e in cc)
 row_no_reply b _ e = refl
 
--- a command that makes an object makes one
-made_one : (g : Graph) (t : ℕ) (k : Command) → t < length g.mutators → makes_object k ≡ true
-    → count_of (step g t k).0 t ≡ count_of g t + 1
-made_one g t (New d f) there makes = made_count g t d (nil_object Record f) there
-made_one g t (Arr d e) there makes = made_count g t d (nil_object Array e) there
-made_one g t _ there makes = absurd (let z : false ≡ true = makes in cc)
-
 module _ (c : Config) (s : Seen c) (b : BuildState) (at : AtPart c s (Build b)) where
   abbrev word : ℕ
   word = s.heap (place_of (build_want (extent c) b))
@@ -283,6 +276,9 @@ module _ (c : Config) (s : Seen c) (b : BuildState) (at : AtPart c s (Build b)) 
 
   abbrev later : BuildState
   later = build_got (extent c) b word
+
+  pub some : 1 ≤ blocks_of c.width s.command
+  some = subst (λ k. 1 ≤ blocks_of c.width k) at.part.command (has_blocks c b at.fits.0)
 
   pub inside : (s.gatings s.thread).stand ≡ Inside
   inside = ap (λ (x : Gating). x.stand) at.gating
@@ -410,7 +406,6 @@ module _ (c : Config) (s : Seen c) (b : BuildState) (at : AtPart c s (Build b)) 
           cycle = at.part.cycle;
           serial = at.part.serial;
           command = at.part.command;
-          makes = at.part.makes;
           going = going;
         };
         knows = tt;
@@ -485,10 +480,10 @@ module _ (c : Config) (s : Seen c) (b : BuildState) (at : AtPart c s (Build b)) 
       (published c s.graph s.order s.heap s.names s.tasks s.holds b pictured s.bounds s.spent
       publishing))
       refl refl
-      (ap (λ r. made_got s.command (Some r) s.made) (reply_made s.graph s.thread s.command at.part.makes)
-      ∙ ap (λ b. s.made + bit b) at.part.makes
+      (ap (λ r. made_got s.command (Some r) s.made) (blocks_answer c.width s.graph s.thread s.command some)
+      ∙ ap (λ n. s.made + n) (blocks_object c.width s.command some)
       ∙ ap (λ n. n + 1) s.count
-      ∙ sym (made_one s.graph s.thread s.command there at.part.makes))
+      ∙ sym (blocks_count c.width s.graph s.thread s.command some there))
 
   -- these are the reply of its event, its verdict and what it changes of the names
   event_by : (o : Option Reply) (v : Verdict) (m : Naming) → o ≡ build_reply later
@@ -552,7 +547,6 @@ build_laws c b = record {
       cycle = kept.cycle;
       serial = kept.serial ∙ ap (λ n. n + 1) (sym count);
       command = kept.command;
-      makes = kept.makes;
       going = kept.going;
     },
     refl,

@@ -1,16 +1,16 @@
 -- A thread on its way in.
-use Rattle.std.proofs.Common.{◌≡◌, ℕ, ◌+◌, ◌-◌, ◌≤◌, ◌<◌, Bool, true, false, cond, eqb, ltb, eqb-true, ltb-true, lt-ltb, Some, None, refl, sym, ap, ◌∙◌, subst, arith, inl, inr}
+use Rattle.std.proofs.Common.{◌≡◌, ℕ, ◌+◌, ◌-◌, ◌≤◌, ◌<◌, Bool, true, false, cond, eqb, ltb, eqb-true, ltb-true, ltb-false, lt-ltb, Some, None, refl, sym, ap, ◌∙◌, subst, arith, inl, inr}
 use Rattle.std.proofs.lemmas.Bool.{cases_Bool, cases_lt}
 use Rattle.block_store.specs.declared.Config.{Config}
 use Rattle.block_store.specs.declared.PhaseWord.{PhaseWord}
 use Rattle.block_store.specs.Counts.{changed}
 use Rattle.block_store.specs.Heaps.{Heap, put_at}
-use Rattle.block_store.specs.Phases.{bit, phase_of, inside_of, is_closed, is_sweep, cycle_of}
+use Rattle.block_store.specs.Phases.{phase_of, inside_of, is_closed, is_sweep, cycle_of}
 use Rattle.block_store.specs.Places.{Phase, extent}
 use Rattle.block_store.proofs.PhaseWords.{phase-more}
 use Rattle.never_heap.specs.declared.Command.{Command}
 use Rattle.never_heap.specs.declared.Command.TheVariants as commands
-use Rattle.never_heap.specs.Steps.{blocks_of, makes_object}
+use Rattle.never_heap.specs.Steps.{blocks_of}
 use Rattle.never_heap.proofs.Ranges as ranges
 use Rattle.shown_graph.specs.Events.{unloaded}
 use Rattle.heap_machine.specs.Gates.{gate_step, is_of_pass, is_empty, is_going_in, GateFits, SeenOpen}
@@ -45,7 +45,7 @@ use Rattle.heap_system.specs.Pictures.{gating}
 use Rattle.heap_system.specs.Units.{blackens}
 use Rattle.heap_system.proofs.PartLaws.{AtPart, PartEvent, PartLaws, word_at}
 use Rattle.heap_system.proofs.Passing.{Comes, phase_is, began, look_event, gate_event, is_thread}
-use Rattle.heap_system.proofs.Paying.{blocks_low}
+use Rattle.heap_system.proofs.Paying.{blocks_low, blocks_object}
 use Rattle.heap_system.proofs.Seeing.{IsEntering, Knows, Seen, EventKept, errand}
 
 -- at the first row of a command nothing is loaded or held
@@ -100,8 +100,8 @@ module _ (c : Config) (s : Seen c) (q : Pass) (own : q.thread ≡ s.thread) (is 
     knows = λ h. tt;
   }
 
-  builds : makes_object s.command ≡ true → s.spent ≡ s.due → Entered c s q (Build (building c.width q.thread q.threads q.cycle (s.made + 1) s.command s.space))
-  builds makes all =
+  builds : 0 < blocks_of c.width s.command → s.spent ≡ s.due → Entered c s q (Build (building c.width q.thread q.threads q.cycle (s.made + 1) s.command s.space))
+  builds some all =
       let small : blocks_of c.width s.command ≤ c.object = blocks_low c s.command s.inside in
       let thread = is_thread c s.plan s.bounds.threads s.thread s.low in
       record {
@@ -110,11 +110,11 @@ module _ (c : Config) (s : Seen c) (q : Pass) (own : q.thread ≡ s.thread) (is 
           task = refl;
           holds = refl;
           waits = refl;
-          part = record { thread = own; threads = is.1; cycle = refl; serial = ap (λ n. n + 1) s.count; command = refl; makes = makes; going = refl };
+          part = record { thread = own; threads = is.1; cycle = refl; serial = ap (λ n. n + 1) s.count; command = refl; going = refl };
           fits = (subst (λ n. PartFits c s.done s.all q (Build (building c.width q.thread n q.cycle (s.made + 1) s.command s.space))) (sym is.1)
               (subst (λ t. PartFits c s.done s.all q (Build (building c.width t c.threads q.cycle (s.made + 1) s.command s.space))) (sym own) (
-                building_ranges.first_fits c s.thread q.cycle (s.made + 1) s.command s.space s.low s.bounds.threads s.bounds.blocks thread.registers (let one : bit (makes_object s.command) ≡ 1 = ap bit makes in omega (arith, s.few, one))
-                    (ranges.in_range c s.command s.inside) makes (omega (arith, small, s.bounds.object)) (omega (arith, small, s.room)),
+                building_ranges.first_fits c s.thread q.cycle (s.made + 1) s.command s.space s.low s.bounds.threads s.bounds.blocks thread.registers (omega (arith, s.few, blocks_object c.width s.command some))
+                    (ranges.in_range c s.command s.inside) some (omega (arith, small, s.bounds.object)) (omega (arith, small, s.room)),
                 low,
               )));
           roomy = refl;
@@ -124,9 +124,9 @@ module _ (c : Config) (s : Seen c) (q : Pass) (own : q.thread ≡ s.thread) (is 
         knows = λ h. tt;
       }
 
-  serves : makes_object s.command ≡ false → s.spent ≡ s.due → Entered c s q (Serve (at_first_row q s.command))
+  serves : blocks_of c.width s.command ≡ 0 → s.spent ≡ s.due → Entered c s q (Serve (at_first_row q s.command))
   serves none all =
-      let first = first_undecided s.command none in
+      let first = first_undecided c.width s.command none in
       let due = none_due s.graph q.thread s.command (first_row s.command) first in
       record {
         gates = refl;
@@ -147,13 +147,13 @@ module _ (c : Config) (s : Seen c) (q : Pass) (own : q.thread ≡ s.thread) (is 
   owing true e more = sweeps e more
   owing false e more = marks e more
 
-  paid : (b : Bool) → makes_object s.command ≡ b → s.spent ≡ s.due → Entered c s q (cond b (Build (building c.width q.thread q.threads q.cycle (s.made + 1) s.command s.space)) (Serve (at_first_row q s.command)))
-  paid true e all = builds e all
-  paid false e all = serves e all
+  paid : (b : Bool) → ltb 0 (blocks_of c.width s.command) ≡ b → s.spent ≡ s.due → Entered c s q (cond b (Build (building c.width q.thread q.threads q.cycle (s.made + 1) s.command s.space)) (Serve (at_first_row q s.command)))
+  paid true e all = builds (ltb-true 0 (blocks_of c.width s.command) e) all
+  paid false e all = serves (omega (arith, ltb-false 0 (blocks_of c.width s.command) e)) all
 
-  either : (b : Bool) → ltb 0 (s.due - s.spent) ≡ b → Entered c s q (cond b (cond q.sweep (Sweep (sweeping q.thread q.cycle c.blocks (s.due - s.spent))) (Mark (scanning q))) (cond (makes_object s.command) (Build (building c.width q.thread q.threads q.cycle (s.made + 1) s.command s.space)) (Serve (at_first_row q s.command))))
+  either : (b : Bool) → ltb 0 (s.due - s.spent) ≡ b → Entered c s q (cond b (cond q.sweep (Sweep (sweeping q.thread q.cycle c.blocks (s.due - s.spent))) (Mark (scanning q))) (cond (ltb 0 (blocks_of c.width s.command)) (Build (building c.width q.thread q.threads q.cycle (s.made + 1) s.command s.space)) (Serve (at_first_row q s.command))))
   either true e = (let some : 0 < s.due - s.spent = ltb-true 0 (s.due - s.spent) e in owing q.sweep refl (omega (arith, some)))
-  either false e = paid (makes_object s.command) refl (elim (cases_lt 0 (s.due - s.spent)) [
+  either false e = paid (ltb 0 (blocks_of c.width s.command)) refl (elim (cases_lt 0 (s.due - s.spent)) [
     | inl some ↦ absurd (let z : true ≡ false = sym (lt-ltb 0 (s.due - s.spent) some) ∙ e in cc)
     | inr none ↦ omega (arith, none, pays)
   ])

@@ -2,6 +2,7 @@
 use Rattle.std.proofs.Common.{◌⊎◌, ◌≡◌, ℕ, ◌+◌, ◌*◌, ◌-◌, ◌<◌, Bool, true, false, cond, eqb, Option, Some, None, is_some, List, [], ◌∷◌, ◌++◌, append-nil, length, refl, sym, ap, ◌∙◌, subst, arith, inl, inr, ne_eqb}
 use Rattle.std.proofs.lemmas.Bool.{cases_Bool}
 use Rattle.block_store.specs.declared.Config.{Config}
+use Rattle.block_store.specs.declared.Width.{Width}
 use Rattle.block_store.specs.Colours.{is_grey, black_word}
 use Rattle.block_store.specs.Counts.{changed}
 use Rattle.block_store.specs.Heaps.{Heap}
@@ -13,8 +14,9 @@ use Rattle.never_heap.specs.declared.Reply.{Reply}
 use Rattle.never_heap.specs.declared.Reply.TheVariants as replies
 use Rattle.never_heap.specs.Graphs.{Graph, register_of, count_of}
 use Rattle.never_heap.specs.Histories.{HistoryItem, Did}
-use Rattle.never_heap.specs.Steps.{step, makes_object}
-use Rattle.never_heap.proofs.Stepping.{change_of, count_stays}
+use Rattle.never_heap.specs.Steps.{step, blocks_of}
+use Rattle.never_heap.proofs.Answering.{none_make, owes_told}
+use Rattle.never_heap.proofs.Staying.{step_counts}
 use Rattle.heap_machine.specs.Gating.{Gating, GateOf, is_outside}
 use Rattle.heap_machine.specs.Holdings.{Holding}
 use Rattle.heap_machine.specs.Operations.{place_of, heap_after}
@@ -28,21 +30,22 @@ use Rattle.kept_names.specs.States.{KeptState}
 use Rattle.shown_graph.specs.Events.{Loading, unloaded}
 use Rattle.barrier_steps.specs.declared.rows.FieldRow.{FieldRow}
 use Rattle.barrier_steps.specs.declared.rows.FieldRow.TheVariants as rows
+use Rattle.barrier_steps.specs.declared.rows.FieldStore.{FieldStore}
 use Rattle.barrier_steps.specs.declared.rows.FieldStore.TheVariants as stores
 use Rattle.barrier_steps.specs.Decided.{field_task, graph_on, order_on}
 use Rattle.barrier_steps.specs.Deciding.{is_deciding}
 use Rattle.barrier_steps.specs.Fits.{FieldFits, FieldReads}
 use Rattle.never_heap.specs.RightWork.{units_told}
 use Rattle.heap_system.proofs.Looking.{Looks, looks}
-use Rattle.barrier_steps.specs.Operands.{to_register, from_register}
+use Rattle.barrier_steps.specs.Operands.{to_register, answered_register}
 use Rattle.barrier_steps.specs.Projection.{row_loading, loading_of}
-use Rattle.barrier_steps.specs.Replies.{due_at, reply_due, IsKnown, KnownAt}
+use Rattle.barrier_steps.specs.Replies.{due_before, due_at, reply_due, IsKnown, KnownBefore, KnownAt}
 use Rattle.barrier_steps.specs.Rows.{FieldState, field_want, field_got, field_reply, field_decided, field_holding, field_step, step_of}
 use Rattle.barrier_steps.proofs.Decisions.{decided_once, makes_none}
 use Rattle.barrier_steps.proofs.Dues.{none_due}
 use Rattle.barrier_steps.proofs.FieldRows.{field_sum, field_fits}
 use Rattle.barrier_steps.proofs.Keeping.{keeps_phase, keeps_words, over_nothing}
-use Rattle.barrier_steps.proofs.Leaving.{field_phase, field_cursor, grey_stays, field_found, field_claims}
+use Rattle.barrier_steps.proofs.Keeping.{field_phase, field_cursor, grey_stays, field_found, field_claims}
 use Rattle.barrier_steps.proofs.Naming.{keeps_names, loaded_solid, due_on, reads_on}
 use Rattle.sweep_steps.specs.Ends.{unpassed}
 use Rattle.heap_system.specs.declared.local.Part.{Part}
@@ -56,11 +59,14 @@ use Rattle.heap_system.proofs.PartLaws.{AtPart, PartLaws}
 use Rattle.heap_system.proofs.Seeing.{stage, stage_of, lead, Seen, EventKept, graph_decided, told_by, items_told}
 
 -- the other threads' rows say the same of a graph in which their registers are the same
+store_stays : (g new : Graph) (u : ℕ) (k : Command) (store : FieldStore) → ((q : ℕ) → register_of new u q ≡ register_of g u q) → (KnownBefore g u k store → KnownBefore new u k store) × (due_before new u k store ≡ due_before g u k store)
+store_stays g new u k (stores.Pending word value) same = (let s : register_of new u (to_register k) ≡ register_of g u (to_register k) = same (to_register k) in (λ x. x ∙ sym s, rw s refl))
+store_stays g new u k _ same = (λ x. x, refl)
+
 row_stays : (g new : Graph) (u : ℕ) (k : Command) (r : FieldRow) → ((q : ℕ) → register_of new u q ≡ register_of g u q) → (KnownAt g u k r → KnownAt new u k r) × (due_at new u k r ≡ due_at g u k r)
-row_stays g new u k (rows.LoadOwner word) same = (λ x. x, rw (same (to_register k)) refl)
-row_stays g new u k (rows.StorePending word value) same = (let s : register_of new u (to_register k) ≡ register_of g u (to_register k) = same (to_register k) in (λ x. x ∙ sym s, rw s refl))
-row_stays g new u k (rows.Shade r (stores.Pending word value)) same = (let s : register_of new u (to_register k) ≡ register_of g u (to_register k) = same (to_register k) in (λ x. x ∙ sym s, rw s refl))
-row_stays g new u k (rows.LoadSaidOwner word) same = (λ x. x, rw (same (from_register k)) refl)
+row_stays g new u k (rows.LoadOwner word) same = (λ x. x, rw (same (answered_register k)) refl)
+row_stays g new u k (rows.Shade r store) same = store_stays g new u k store same
+row_stays g new u k (rows.Store store) same = store_stays g new u k store same
 row_stays g new u k _ same = (λ x. x, refl)
 
 field_stays : (g new : Graph) (u : ℕ) (f : FieldState) → f.pass.thread ≡ u → ((q : ℕ) → register_of new u q ≡ register_of g u q) → (IsKnown g f → IsKnown new f) × (reply_due new f ≡ reply_due g f)
@@ -127,9 +133,9 @@ both_works g t k paid true None r decides replies = absurd cc
 both_works g t k paid false o r decides replies = absurd cc
 
 -- a command that makes no object leaves how many there are
-counts_on : (g : Graph) (t : ℕ) (k : Command) (b : Bool) → t < length g.mutators → makes_object k ≡ false → count_of (graph_decided g t k (if_decides b)) t ≡ count_of g t
-counts_on g t k true there none = count_stays g t t (makes_object k) (step g t k).0 there (λ _. none) (change_of g t k)
-counts_on g t k false there none = refl
+counts_on : (w : Width) (g : Graph) (t : ℕ) (k : Command) (b : Bool) → blocks_of w k ≡ 0 → count_of (graph_decided g t k (if_decides b)) t ≡ count_of g t
+counts_on w g t k true none = step_counts g t k t (λ _. none_make w k none)
+counts_on w g t k false none = refl
 
 made_on : (k : Command) (o : Option Reply) (made : ℕ) → ((n : _) → o ≡ Some (replies.New n) → ⊥) → made_got k o made ≡ made
 made_on k (Some (replies.New name)) made never = absurd (never name refl)
@@ -184,7 +190,7 @@ module _ (c : Config) (s : Seen c) (f : FieldState) (at : AtPart c s (Serve f)) 
 
   -- all that it is told to make is made
   told_made : s.spent ≡ units_told s.command
-  told_made = at.settled ∙ s.free at.part.serves
+  told_made = at.settled ∙ s.owes ∙ owes_told c.width s.rate s.command at.part.serves
 
   -- and it is told of none, or looks
   told_or_looks : (s.spent ≡ 0) ⊎ Looks (extent c) f.pass f.command f.row w
@@ -262,7 +268,7 @@ module _ (c : Config) (s : Seen c) (f : FieldState) (at : AtPart c s (Serve f)) 
     ]
 
     counts_is : made_got s.command o s.made ≡ count_of (graph_decided s.graph s.thread s.command verdict) s.thread
-    counts_is = made_on s.command o s.made (λ n e. makes_none c f.pass f.command f.row w at.part.going n (is ∙ e)) ∙ s.count ∙ sym (counts_on s.graph s.thread s.command decides there at.part.serves)
+    counts_is = made_on s.command o s.made (λ n e. makes_none c f.pass f.command f.row w at.part.going n (is ∙ e)) ∙ s.count ∙ sym (counts_on c.width s.graph s.thread s.command decides at.part.serves)
 
   abbrev effect_at : Option Reply → Effect
   effect_at o = record (plain (field_step (extent c) f w)) { reply = o; verdict = verdict }

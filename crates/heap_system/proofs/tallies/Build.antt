@@ -15,8 +15,9 @@ use Rattle.never_heap.specs.declared.Reply.{Reply}
 use Rattle.never_heap.specs.declared.Reply.TheVariants as replies
 use Rattle.never_heap.specs.Graphs.{next_name}
 use Rattle.never_heap.specs.Histories.{Did, is_full}
-use Rattle.never_heap.specs.Steps.{step, blocks_of, makes_object}
+use Rattle.never_heap.specs.Steps.{step, blocks_of}
 use Rattle.never_heap.specs.Taken.{blocks_if_new}
+use Rattle.never_heap.proofs.Answering.{blocks_answer, blocks_untold}
 use Rattle.heap_machine.specs.Gating.{Gating, is_outside}
 use Rattle.heap_machine.specs.Operations.{place_of, heap_after}
 use Rattle.heap_machine.specs.declared.Step.{Step}
@@ -27,14 +28,14 @@ use Rattle.build_steps.specs.Fits.{RowFits}
 use Rattle.build_steps.specs.Naming.{is_building, row_build, built_object}
 use Rattle.build_steps.specs.Rows.{BuildState, row_want, row_got, row_step, row_reply, row_holding, held_got, built_at, after_take, after_collect, after_last, after_payload, after_colour, build_over, full_cycle}
 use Rattle.build_steps.specs.Standing.{left_of, begun_of}
-use Rattle.build_steps.proofs.Shapes.{made_blocks, reply_made}
+use Rattle.build_steps.proofs.Parts.{has_blocks}
+use Rattle.build_steps.proofs.Shapes.{made_blocks}
 use Rattle.work_account.specs.Accounts.{published, refused}
 use Rattle.cycle_tally.specs.Events as events
 use Rattle.cycle_tally.specs.Tallies.{Spending, Tally, made_of}
 use Rattle.heap_system.specs.declared.local.Part.TheVariants.{Build, Leave}
 use Rattle.heap_system.specs.Locals.{Open, AsStep, Refused, plain, if_decides, if_replied, entry_of, idle_part}
 use Rattle.heap_system.proofs.Balances.{no_idle}
-use Rattle.heap_system.proofs.Paying.{makers_untold}
 use Rattle.heap_system.specs.Naming.{Same, Made}
 use Rattle.heap_system.proofs.PartLaws.{AtPart}
 use Rattle.heap_system.proofs.Seeing.{Seen}
@@ -45,20 +46,14 @@ use Rattle.heap_system.proofs.tallies.Moves.{SameWords, same_words, spends_here,
 -- a builder claims nothing
 no_claim : (k : ℕ) (held : List ℕ) (r : BuildRow) → ((row_holding k held r).low ≡ 0) × ((row_holding k held r).high ≡ 0)
 no_claim k held (rows.TakeFree u) = (refl, refl)
-no_claim k held (rows.Collect a u) = (refl, refl)
-no_claim k held (rows.PutRest a) = (refl, refl)
-no_claim k held (rows.WriteOwner o) = (refl, refl)
-no_claim k held (rows.WriteShape o) = (refl, refl)
-no_claim k held (rows.WritePayload o j) = (refl, refl)
-no_claim k held (rows.WriteColour o) = (refl, refl)
 no_claim k held _ = (refl, refl)
 
 -- while it is at work it has reserved all blocks of its command
-row_reserved : (w : Width) (b : BuildState) → makes_object b.command ≡ true → (r : BuildRow) → reserved_for w (row_build w b r) ≡ cond (is_building r) (blocks_of w b.command) 0
-row_reserved w b makes r = by (is_building r)
+row_reserved : (w : Width) (b : BuildState) → 1 ≤ blocks_of w b.command → (r : BuildRow) → reserved_for w (row_build w b r) ≡ cond (is_building r) (blocks_of w b.command) 0
+row_reserved w b some r = by (is_building r)
   where
     by : (x : Bool) → reserved_for w (cond x (Some (built_object b (left_of b.blocks r) (begun_of (payloads w) r))) None) ≡ cond x (blocks_of w b.command) 0
-    by true = made_blocks w b.command makes
+    by true = made_blocks w b.command some
     by false = refl
 
 -- the rows of which the part goes on, before its blocks are reserved or after that
@@ -112,9 +107,12 @@ module _ (c : Config) (rate : ℕ) (s : Seen c) (b : BuildState) (at : AtPart c 
   cycle : b.cycle ≡ before.cycle
   cycle = at.part.cycle ∙ ap (λ (x : Gating). x.cycle) (sym at.gating) ∙ (s.gate.passes s.thread s.low (ap (λ (x : Gating). is_outside x.stand) at.gating)).0 ∙ sym k.of.cycle
 
+  asks_some : 1 ≤ blocks_of c.width s.command
+  asks_some = subst (λ k. 1 ≤ blocks_of c.width k) at.part.command (has_blocks c b at.fits.0)
+
   -- all is paid
   untold : units_told s.command ≡ 0
-  untold = makers_untold s.command at.part.makes
+  untold = blocks_untold c.width s.command asks_some
 
   idled_none : (before.threads s.thread).idled ≡ 0
   idled_none = k.own.idled ∙ no_idle (units_told s.command) s.spent untold
@@ -134,7 +132,7 @@ module _ (c : Config) (rate : ℕ) (s : Seen c) (b : BuildState) (at : AtPart c 
     idled = idles;
     low = low ∙ sym (no_claim later.blocks later.held later.row).0;
     high = high ∙ sym (no_claim later.blocks later.held later.row).1;
-    reserved = reserved ∙ ap (λ n. cond x n 0) (sym asks ∙ ap (blocks_of c.width) (sym same)) ∙ ap (λ y. cond y (blocks_of c.width later.command) 0) (sym builds) ∙ sym (row_reserved c.width later (ap makes_object same ∙ at.fits.0.makes) later.row);
+    reserved = reserved ∙ ap (λ n. cond x n 0) (sym asks ∙ ap (blocks_of c.width) (sym same)) ∙ ap (λ y. cond y (blocks_of c.width later.command) 0) (sym builds) ∙ sym (row_reserved c.width later (subst (λ k. 1 ≤ blocks_of c.width k) (sym same) (has_blocks c b at.fits.0)) later.row);
   }
 
   -- an event that decides nothing, after which the part goes on
@@ -189,8 +187,7 @@ module _ (c : Config) (rate : ℕ) (s : Seen c) (b : BuildState) (at : AtPart c 
   publishes new same all step_is name =
       let w : Spending = before.threads s.thread in
       let r : Reply = (step s.graph s.thread s.command).1 in
-      let makes : makes_object s.command ≡ true = at.part.makes in
-      let made : r ≡ replies.New (next_name s.graph s.thread) = reply_made s.graph s.thread s.command makes in
+      let made : r ≡ replies.New (next_name s.graph s.thread) = blocks_answer c.width s.graph s.thread s.command asks_some in
       let later : Spending = record w { reserved = 0; balance = published w.asked w.balance } in
       moves c rate s (Build b) before k (events.Publish s.thread (entry r) ∷ events.Next s.thread next.blocks next.told ∷ []) (
         (s.low, k.own.inside, omega (arith, low, high), decides r, all ∙ sym k.own.asked, paid_all, ap (λ x. blocks_if_new x asked) made ∙ sym k.own.asked, ap is_full made),
@@ -243,4 +240,4 @@ module _ (c : Config) (rate : ℕ) (s : Seen c) (b : BuildState) (at : AtPart c 
 
 pub build_tallied : (c : Config) (b : BuildState) → TallyLaw c (Build b)
 build_tallied c b rate s at next few before k = by c rate s b at before k next few b.row at.fits.0.row at.part.going
-    (k.own.reserved ∙ row_reserved c.width b at.fits.0.makes b.row ∙ ap (λ n. cond (is_building b.row) n 0) (ap (blocks_of c.width) at.part.command))
+    (k.own.reserved ∙ row_reserved c.width b (has_blocks c b at.fits.0) b.row ∙ ap (λ n. cond (is_building b.row) n 0) (ap (blocks_of c.width) at.part.command))

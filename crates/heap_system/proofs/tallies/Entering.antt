@@ -10,7 +10,7 @@ use Rattle.block_store.proofs.Functions.{changed_else}
 use Rattle.block_store.proofs.PhaseWords.{phase-more}
 use Rattle.never_heap.specs.declared.Command.{Command}
 use Rattle.never_heap.specs.declared.Command.TheVariants as commands
-use Rattle.never_heap.specs.Steps.{makes_object}
+use Rattle.never_heap.specs.Steps.{blocks_of}
 use Rattle.heap_machine.specs.Operations.{heap_after}
 use Rattle.heap_machine.specs.declared.Step.TheVariants as steps
 use Rattle.heap_machine.specs.declared.gate.GateRow.{GateRow}
@@ -36,18 +36,7 @@ use Rattle.heap_system.proofs.tallies.Moves.{spends_on, same_words, spends_here,
 -- a command begins with nothing claimed
 first_claims : (c : Config) (q : Pass) (k : Command) → ((field_holding (extent c) (at_first_row q k)).low ≡ 0) × ((field_holding (extent c) (at_first_row q k)).high ≡ 0)
 first_claims c q (commands.New d f) = (refl, refl)
-first_claims c q (commands.Arr d e) = (refl, refl)
-first_claims c q (commands.Set d v) = (refl, refl)
-first_claims c q (commands.Nil d) = (refl, refl)
-first_claims c q (commands.Mov d s) = (refl, refl)
-first_claims c q (commands.Get d s i) = (refl, refl)
-first_claims c q (commands.Put s i v) = (refl, refl)
-first_claims c q (commands.Len s) = (refl, refl)
-first_claims c q (commands.Same a b) = (refl, refl)
-first_claims c q (commands.Say s) = (refl, refl)
-first_claims c q (commands.Swap s i v) = (refl, refl)
-first_claims c q (commands.Cas s i a v) = (refl, refl)
-first_claims c q (commands.Idle u) = (refl, refl)
+first_claims c q _ = (refl, refl)
 
 -- a pass begins inside, with nothing claimed or reserved
 module _ (c : Config) (q : Pass) (e : Errand) (b : Balance) (asked : Asking) (w : Spending) (inside : w.inside ≡ true) (pays : w.balance ≡ b) (asks : w.asked ≡ asked.blocks) (tells : w.told ≡ asked.told) (idles : w.idled ≡ asked.idled) (low : w.low ≡ 0) (high : w.high ≡ 0) (reserved : w.reserved ≡ 0) where
@@ -59,9 +48,9 @@ module _ (c : Config) (q : Pass) (e : Errand) (b : Balance) (asked : Asking) (w 
   paying true = record { inside = inside; account = pays; asked = asks; told = tells; idled = idles; low = low; high = high; reserved = reserved }
   paying false = record { inside = inside; account = pays; asked = asks; told = tells; idled = idles; low = low ∙ sym (first_claims c q e.command).0; high = high ∙ sym (first_claims c q e.command).1; reserved = reserved }
 
-  either : (y : Bool) → IsSpending c (cond y (cond q.sweep (Sweep (sweeping q.thread q.cycle c.blocks e.due)) (Mark (scanning q))) (cond (makes_object e.command) (Build (building c.width q.thread q.threads q.cycle e.serial e.command e.space)) (Serve (at_first_row q e.command)))) b asked w
+  either : (y : Bool) → IsSpending c (cond y (cond q.sweep (Sweep (sweeping q.thread q.cycle c.blocks e.due)) (Mark (scanning q))) (cond (ltb 0 (blocks_of c.width e.command)) (Build (building c.width q.thread q.threads q.cycle e.serial e.command e.space)) (Serve (at_first_row q e.command)))) b asked w
   either true = owing q.sweep
-  either false = paying (makes_object e.command)
+  either false = paying (ltb 0 (blocks_of c.width e.command))
 
   begins : IsSpending c (first_part c q e) b asked w
   begins = either (ltb 0 e.due)

@@ -14,7 +14,7 @@ use Rattle.never_heap.specs.declared.Entry.{Entry}
 use Rattle.never_heap.specs.declared.Reply.{Reply}
 use Rattle.never_heap.specs.Histories.{Did}
 use Rattle.never_heap.specs.Steps.{step, blocks_of}
-use Rattle.never_heap.proofs.Answering.{others_have_none}
+use Rattle.never_heap.proofs.Answering.{owes_told, step_not_full}
 use Rattle.heap_machine.specs.Gating.{Gating, is_outside}
 use Rattle.heap_machine.specs.Operations.{CompareExchange, place_of, heap_after}
 use Rattle.barrier_steps.specs.Operands.{field_index}
@@ -29,10 +29,10 @@ use Rattle.grey_steps.specs.Rows.{grey_over}
 use Rattle.barrier_steps.specs.declared.rows.FieldRow.{FieldRow}
 use Rattle.barrier_steps.specs.declared.rows.FieldRow.TheVariants as rows
 use Rattle.barrier_steps.specs.declared.rows.FieldStore.{FieldStore}
-use Rattle.barrier_steps.specs.declared.rows.FieldStore.TheVariants.{Moved, Pending, InField, Exchanged, Compared}
+use Rattle.barrier_steps.specs.declared.rows.FieldStore.TheVariants.{Compared}
 use Rattle.barrier_steps.specs.Deciding.{is_deciding}
 use Rattle.barrier_steps.specs.Fits.{RowFits}
-use Rattle.barrier_steps.specs.Rows.{FieldState, field_reply, field_got, field_step, row_want, row_got, row_holding, in_barrier, store_row}
+use Rattle.barrier_steps.specs.Rows.{FieldState, field_reply, field_got, field_step, store_want, row_want, row_got, row_holding, in_barrier}
 use Rattle.cycle_tally.specs.Events as events
 use Rattle.cycle_tally.specs.Tallies.{Spending, Tally, made_of}
 use Rattle.work_account.specs.Accounts.{Balance}
@@ -42,7 +42,6 @@ use Rattle.heap_system.proofs.Balances.{nothing_paid, all_made, no_idle}
 use Rattle.heap_system.proofs.Looking.{looks}
 use Rattle.heap_system.proofs.PartLaws.{AtPart}
 use Rattle.heap_system.proofs.Seeing.{Seen}
-use Rattle.heap_system.proofs.Steady.{never_full}
 use Rattle.heap_system.proofs.parts.Mark as mark
 use Rattle.heap_system.proofs.Tallying.{IsSpending, Counted, TallyEvent, TallyLaw, Asking, asking, IsNext}
 use Rattle.heap_system.proofs.tallies.Mark.{shades}
@@ -50,22 +49,12 @@ use Rattle.heap_system.proofs.tallies.Moves.{SameWords, same_words, spends_here,
 
 -- such a command claims nothing
 no_claim : (m : ℕ) (q : Pass) (r : FieldRow) → ((row_holding m q r).low ≡ 0) × ((row_holding m q r).high ≡ 0)
-no_claim m q (rows.StoreMoved word) = (refl, refl)
-no_claim m q (rows.StorePending word value) = (refl, refl)
-no_claim m q (rows.StoreField way word) = (refl, refl)
 no_claim m q (rows.Shade r store) = mark.no_claim m r
 no_claim m q _ = (refl, refl)
 
 -- no event of the barrier replies
-store_none : (store : FieldStore) → field_reply (store_row store) ≡ None
-store_none (Moved word) = refl
-store_none (Pending word value) = refl
-store_none (InField way word) = refl
-store_none (Exchanged way word) = refl
-store_none (Compared way word) = refl
-
 barrier_none : (r : GreyRow) (store : FieldStore) → field_reply (in_barrier r store) ≡ None
-barrier_none r store = elim (cases_Bool (grey_over r)) [ inl e ↦ rw e (store_none store) | inr e ↦ rw e refl ]
+barrier_none r store = elim (cases_Bool (grey_over r)) [ inl e ↦ rw e refl | inr e ↦ rw e refl ]
 
 -- a field that is compared is no word that a tally counts
 compared : (h : Heap) (x j old v : ℕ) → SameWords h (heap_after h (CompareExchange (PayloadOf x j) old v))
@@ -83,11 +72,11 @@ module _ (c : Config) (rate : ℕ) (s : Seen c) (f : FieldState) (at : AtPart c 
 
   -- all that it is told to make is made
   told_made : s.spent ≡ units_told s.command
-  told_made = at.settled ∙ s.free at.part.serves
+  told_made = at.settled ∙ s.owes ∙ owes_told c.width s.rate s.command at.part.serves
 
   -- it asks for nothing, so nothing is paid
   asks_none : blocks_of c.width s.command ≡ 0
-  asks_none = others_have_none c.width s.command at.part.serves
+  asks_none = at.part.serves
 
   pays_none : s.balance.paid ≡ 0
   pays_none = s.account ∙ all_made (units_told s.command) s.spent told_made
@@ -102,7 +91,7 @@ module _ (c : Config) (rate : ℕ) (s : Seen c) (f : FieldState) (at : AtPart c 
   decides = record { thread = refl; blocks = sym k.own.asked; told = sym k.own.told; work = sym (paid_by c rate s (Serve f) before k) }
 
   answers : events.Guard c rate black_word before (events.Answer s.thread entry)
-  answers = (s.low, decides, k.own.asked ∙ asks_none, never_full s.graph s.thread s.command, paid_by c rate s (Serve f) before k ∙ told_made ∙ sym k.own.told)
+  answers = (s.low, decides, k.own.asked ∙ asks_none, step_not_full s.graph s.thread s.command, paid_by c rate s (Serve f) before k ∙ told_made ∙ sym k.own.told)
 
   -- the thread once its command is decided
   abbrev answered : Spending
@@ -185,30 +174,16 @@ module _ (c : Config) (rate : ℕ) (s : Seen c) (f : FieldState) (at : AtPart c 
     same : (r : FieldRow) → SameWords s.heap (heap_after s.heap (row_want (extent c) f.pass f.command r)) → Why r → GoesFrom r
     same r words = by_same (heap_after s.heap (row_want (extent c) f.pass f.command r)) words (is_deciding f.command r (read r)) (field_reply (row_got (extent c) f.pass f.command r (read r)))
 
+    stored : (store : FieldStore) → SameWords s.heap (heap_after s.heap (store_want (extent c) f.pass.thread f.command store))
+    stored (Compared way word) = compared s.heap way.block (field_at (extent c) way.shape (field_index f.command)) way.expected word
+    stored _ = record { cycle = refl; sweep = refl; cursor = refl; free = refl; colour = λ x. refl }
+
     by : (r : FieldRow) → RowFits c f.pass f.command r → Why r → GoesFrom r
-    by rows.StoreNumber fits why = same rows.StoreNumber (record { cycle = refl; sweep = refl; cursor = refl; free = refl; colour = λ x. refl }) why
-    by rows.StoreNil fits why = same rows.StoreNil (record { cycle = refl; sweep = refl; cursor = refl; free = refl; colour = λ x. refl }) why
-    by rows.LoadMoved fits why = same rows.LoadMoved (same_words s.heap) why
-    by (rows.StoreMoved word) fits why = same (rows.StoreMoved word) (record { cycle = refl; sweep = refl; cursor = refl; free = refl; colour = λ x. refl }) why
-    by rows.LoadObject fits why = same rows.LoadObject (same_words s.heap) why
-    by (rows.LoadShape x) fits why = same (rows.LoadShape x) (same_words s.heap) why
-    by (rows.LoadValue way) fits why = same (rows.LoadValue way) (same_words s.heap) why
-    by (rows.LoadLink way word) fits why = same (rows.LoadLink way word) (same_words s.heap) why
-    by (rows.LoadField way) fits why = same (rows.LoadField way) (same_words s.heap) why
-    by (rows.LoadOwner word) fits why = same (rows.LoadOwner word) (same_words s.heap) why
-    by (rows.StorePending word value) fits why = same (rows.StorePending word value) (record { cycle = refl; sweep = refl; cursor = refl; free = refl; colour = λ x. refl }) why
-    by (rows.StoreField way word) fits why = same (rows.StoreField way word) (record { cycle = refl; sweep = refl; cursor = refl; free = refl; colour = λ x. refl }) why
     by (rows.Shade r store) fits why = subst (λ o. Goes (heap_after s.heap (marking.row_want f.pass.thread f.pass.threads f.pass.cycle r)) false o) (sym (barrier_none _ store))
         (by_barrier r (λ none. fits.0.refers (sym fits.0.stores ∙ none)))
-    by rows.LoadFirst fits why = same rows.LoadFirst (same_words s.heap) why
-    by (rows.LoadSecond word) fits why = same (rows.LoadSecond word) (same_words s.heap) why
-    by rows.LoadSaid fits why = same rows.LoadSaid (same_words s.heap) why
-    by (rows.LoadSaidOwner word) fits why = same (rows.LoadSaidOwner word) (same_words s.heap) why
-    by (rows.LoadExpected way) fits why = same (rows.LoadExpected way) (same_words s.heap) why
-    by (rows.ExchangeField way word) fits why = same (rows.ExchangeField way word) (record { cycle = refl; sweep = refl; cursor = refl; free = refl; colour = λ x. refl }) why
-    by (rows.CompareField way word) fits why = same (rows.CompareField way word) (compared s.heap way.block (field_at (extent c) way.shape (field_index f.command)) way.expected word) why
-    by rows.IdleLook fits why = same rows.IdleLook (same_words s.heap) why
-    by (rows.Answered reply) fits why = same (rows.Answered reply) (same_words s.heap) why
+    by (rows.Store store) fits why = same (rows.Store store) (stored store) why
+    by rows.StoreConstant fits why = same rows.StoreConstant (record { cycle = refl; sweep = refl; cursor = refl; free = refl; colour = λ x. refl }) why
+    by r fits why = same r (same_words s.heap) why
 
 pub serve_tallied : (c : Config) (f : FieldState) → TallyLaw c (Serve f)
 serve_tallied c f rate s at next few before k =

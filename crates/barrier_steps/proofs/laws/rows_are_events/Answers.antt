@@ -1,5 +1,5 @@
 use Rattle.barrier_steps.proofs.Projecting.{words_moved, loads_moved, row_guarded}
-use Rattle.barrier_steps.proofs.Stepping.{graph_stays, graph_steps}
+use Rattle.barrier_steps.proofs.Projecting.{graph_stays, graph_steps}
 use Rattle.barrier_steps.proofs.laws.rows_are_events.Goals as goal
 
 pub returns : goal.returns

@@ -1,7 +1,6 @@
 use Rattle.shown_graph.specs.Shown.{named}
 use Rattle.barrier_steps.proofs.Showing.{row_reads, row_shown, row_named}
-use Rattle.barrier_steps.proofs.Registers.{row_shows}
-use Rattle.barrier_steps.proofs.Dues.{row_due}
+use Rattle.barrier_steps.proofs.Dues.{row_shows, row_due}
 use Rattle.barrier_steps.proofs.laws.rows_read_the_graph.Goals as goal
 
 pub returns : goal.returns

@@ -1,4 +1,4 @@
-use Rattle.barrier_steps.proofs.Leaving.{field_phase, field_cursor, grey_stays, field_found, field_claims}
+use Rattle.barrier_steps.proofs.Keeping.{field_phase, field_cursor, grey_stays, field_found, field_claims}
 use Rattle.barrier_steps.proofs.rules.rows_leave_the_gate.Goals as goal
 
 pub returns : goal.returns

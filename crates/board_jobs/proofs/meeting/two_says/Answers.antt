@@ -1,8 +1,9 @@
-use Rattle.std.proofs.Common.{sym, subst, map, Vec, Global, List, [], ◌∷◌, arith}
+use Rattle.std.proofs.Common.{sym, subst, map, Vec, Global, List, [], ◌∷◌, refl, arith}
 use Rattle.block_store.specs.declared.Width.TheVariants.{Four}
 use Rattle.never_heap.specs.declared.Command.{Command}
 use Rattle.never_heap.specs.declared.Command.TheVariants as commands
 use Rattle.never_heap.specs.Jobs.{IsTraceInBounds}
+use Rattle.never_heap.proofs.Ranges.{plain_fits}
 use Rattle.heap_system.specs.Machines.{IsJob}
 use Rattle.heap_system.proofs.Jobs.{config, two, both}
 use Rattle.board_jobs.proofs.meeting.two_says.Goals as goal
@@ -11,7 +12,7 @@ abbrev says : List Command
 says = commands.Say 0 ∷ commands.Say 0 ∷ []
 
 fits : IsTraceInBounds (config Four) says
-fits = two Four (commands.Say 0) (commands.Say 0) (omega arith) (omega arith)
+fits = two Four (commands.Say 0) (commands.Say 0) (plain_fits refl refl tt (omega arith)) (plain_fits refl refl tt (omega arith))
 
 pub returns : goal.returns
 returns c =

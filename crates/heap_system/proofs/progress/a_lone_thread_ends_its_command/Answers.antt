@@ -1,7 +1,7 @@
-use Rattle.std.proofs.Common.{cond, ap, ◌∙◌, inl, inr}
-use Rattle.std.proofs.lemmas.Bool.{cases_Bool}
+use Rattle.std.proofs.Common.{cond, ap, ◌∙◌, arith, inl, inr, le-ltb, lt-ltb}
+use Rattle.std.proofs.lemmas.Bool.{cases_lt}
 use Rattle.never_heap.specs.RightWork.{units_told}
-use Rattle.never_heap.specs.Steps.{blocks_of, makes_object}
+use Rattle.never_heap.specs.Steps.{blocks_of}
 use Rattle.barrier_steps.specs.Operands.{is_idle}
 use Rattle.lone_bound.specs.Prices.{allocation_bound, idle_bound, other_bound}
 use Rattle.heap_system.specs.Locals.{command_of}
@@ -15,20 +15,20 @@ use Rattle.heap_system.proofs.progress.a_lone_thread_ends_its_command.Goals as g
 pub returns-clause-command : goal.returns-clause-command
 returns-clause-command _ c r t rate is planned quiet low has =
     let kept = run_kept c is.traces (laws_of c) is.job is.turns r is.by_turns in
-    elim (cases_Bool (makes_object (command_of (local_in c r t)))) [
-      | inl makes ↦
-          let s = stated c (command_of (local_in c r t)) rate is.job.bounds.config is.job.plan makes in
-          within c t r _ _ (near_ends c is.traces is.job rate 33 planned s.0 t low r kept quiet has makes) s.1
+    elim (cases_lt 0 (blocks_of c.width (command_of (local_in c r t)))) [
+      | inl some ↦
+          let s = stated c (command_of (local_in c r t)) rate is.job.bounds.config is.job.plan some in
+          within c t r _ _ (near_ends c is.traces is.job rate planned t low r kept quiet has some) s
       | inr other ↦ lone_ends c is.traces is.job rate planned t low r kept quiet has
     ]
 
 pub returns-clause-allocation : goal.returns-clause-allocation
-returns-clause-allocation _ c k rate makes =
+returns-clause-allocation _ c k rate some =
     ap (λ b. cond b (allocation_bound c.threads (blocks_of c.width k) rate)
-    (cond (is_idle k) (idle_bound c.threads (units_told k)) (other_bound c.object))) makes
+    (cond (is_idle k) (idle_bound c.threads (units_told k)) (other_bound c.object))) (lt-ltb 0 (blocks_of c.width k) some)
 
 pub returns-clause-other : goal.returns-clause-other
 returns-clause-other _ c k rate none quick =
     ap (λ b. cond b (allocation_bound c.threads (blocks_of c.width k) rate)
-    (cond (is_idle k) (idle_bound c.threads (units_told k)) (other_bound c.object))) none
+    (cond (is_idle k) (idle_bound c.threads (units_told k)) (other_bound c.object))) (le-ltb 0 (blocks_of c.width k) (omega (arith, none)))
     ∙ ap (λ b. cond b (idle_bound c.threads (units_told k)) (other_bound c.object)) quick

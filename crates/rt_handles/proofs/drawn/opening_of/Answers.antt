@@ -6,8 +6,14 @@ use Rattle.operations.specs.Linearizations.{traces_of}
 use Rattle.handle_table.specs.Handles.{AreNamed, rows_of, command_at, all_deeds}
 use Rattle.trace_text.specs.Reading.{tokenized}
 use Rattle.rt_handles.proofs.Answered.{job_fits}
-use Rattle.rt_handles.proofs.Ranges.{are_named, few_threads}
+use Rattle.array_scripts.proofs.Ranges.{few_threads}
+use Rattle.rt_handles.specs.Lines.{handle_kind}
+use Rattle.rt_handles.proofs.Ranges.{are_named}
+use Rattle.rt_handles.proofs.Telling.{handle_reads}
 use Rattle.rt_handles.proofs.drawn.opening_of.Goals as goal
+
+pub read_script-requires : goal.read_script-requires
+read_script-requires c = handle_reads
 
 pub new_ordered-requires-clause-job : goal.new_ordered-requires-clause-job
 new_ordered-requires-clause-job c =
@@ -42,7 +48,7 @@ traces-requires-clause-few c =
     let read = c.in_ok-header.ensures.read in
     omega (
       arith,
-      few_threads (tokenized read.text) c.in_ok-header.header
+      few_threads handle_kind c.in_ok-header.header (tokenized read.text)
           (map (λ ops. ops.items) c.in_ok-header.scripts.items) read.script,
       length-map c.in_ok-header.scripts.items (λ ops. ops.items),
       ap length c.deref.ensures.value,

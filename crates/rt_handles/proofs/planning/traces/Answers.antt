@@ -4,7 +4,7 @@ use Rattle.handle_table.specs.declared.operation.Operation.{Operation}
 use Rattle.handle_table.specs.Handles.{AreNamed, rows_of, command_at, deeds_of}
 use Rattle.std.specs.Prelude.{flat_map}
 use Rattle.rt_handles.proofs.Answered.{named_at, traces_more}
-use Rattle.rt_handles.proofs.Items.{items_at, pushed_items}
+use Rattle.array_scripts.proofs.Items.{items_at, pushed_items}
 use Rattle.rt_handles.proofs.planning.traces.Goals as goal
 
 pub trace_of-requires : goal.trace_of-requires

@@ -3,8 +3,9 @@ use Rattle.std.proofs.lemmas.List.{length-map}
 use Rattle.never_heap.specs.declared.Entry.{Entry}
 use Rattle.handle_table.specs.declared.operation.Operation.{Operation}
 use Rattle.handle_table.specs.Handles.{outcomes_told, sizes_of}
-use Rattle.rt_handles.proofs.Answered.{all_told, enough, same_count, turn}
-use Rattle.rt_handles.proofs.Items.{items_at, pushed_items}
+use Rattle.array_scripts.proofs.Answered.{all_told, turn}
+use Rattle.array_scripts.proofs.Items.{items_at, pushed_items}
+use Rattle.rt_handles.proofs.Answered.{enough, same_count}
 use Rattle.rt_handles.proofs.running.all_outcomes.Goals as goal
 
 pub outcomes-requires : goal.outcomes-requires
@@ -22,11 +23,13 @@ pub loop-t-preserved : goal.loop-t-preserved
 loop-t-preserved c =
     let there : c.loop-t.t < length c.args.run.now.logs =
     omega (arith, c.loop-t-test.true, c.threads-t-end.ensures) in
-    turn (map (λ ops. ops.items) c.args.scripts.now) c.args.run.now.logs c.loop-t.t
-    c.index-scripts-t.result.items c.entries.result.now c.in_ok-outcomes.field-0.items
-    (map (λ v. v.items) c.loop-t.told.items) (map (λ v. v.items) c.push.new.self.items) there
+    turn (λ t. outcomes_told t 0) (map (λ ops. ops.items) c.args.scripts.now) c.args.run.now.logs
+    c.loop-t.t c.index-scripts-t.result.items c.entries.result.now
+    c.in_ok-outcomes.field-0.items (map (λ v. v.items) c.loop-t.told.items)
+    (map (λ v. v.items) c.push.new.self.items)
+    (same_count (map (λ ops. ops.items) c.args.scripts.now) c.args.run.now.logs c.requires) there
     (items_at c.args.scripts.now c.loop-t.t c.index-scripts-t.result c.index-scripts-t.is
-    (λ ops. ops.items)) c.entries.ensures c.requires
+    (λ ops. ops.items)) c.entries.ensures
     (subst (λ (ops : List Operation). c.in_ok-outcomes.field-0.items
     ≡ outcomes_told c.loop-t.t 0 ops (map (λ (e : Entry). e.reply) c.entries.result.now))
     c.deref.ensures.value c.in_ok-outcomes.ensures)
@@ -46,8 +49,8 @@ bounds-scripts-t c =
 
 pub returns : goal.returns
 returns c =
-    all_told (map (λ ops. ops.items) c.args.scripts.now) c.args.run.now.logs c.loop-t.t
-    (map (λ v. v.items) c.loop-t.told.items)
+    all_told (λ t. outcomes_told t 0) (map (λ ops. ops.items) c.args.scripts.now)
+    c.args.run.now.logs c.loop-t.t (map (λ v. v.items) c.loop-t.told.items)
     (omega (
       arith,
       c.loop-t-test.false,

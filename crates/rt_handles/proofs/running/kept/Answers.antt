@@ -2,7 +2,7 @@ use Rattle.std.proofs.Common.{◌≡◌, ◌∙◌, List, length, map, ap, sym, 
 use Rattle.std.specs.List.{AllByRecursion}
 use Rattle.std.proofs.lemmas.List.{length-map}
 use Rattle.trace_text.specs.Reading.{tokenized}
-use Rattle.rt_handles.proofs.Ranges.{are_named, few_threads}
+use Rattle.rt_handles.proofs.Ranges.{are_named}
 use Rattle.std.proofs.lemmas.Result.{err_from_is_err_and}
 use Rattle.never_heap.specs.declared.Command.{Command}
 use Rattle.operations.specs.Linearizations.{traces_of}
@@ -10,16 +10,22 @@ use Rattle.handle_table.specs.declared.operation.Operation.{Operation}
 use Rattle.handle_table.specs.Handles.{AreNamed, rows_of, command_at, all_deeds}
 use Rattle.threaded_runs.specs.Ends.{job_of}
 use Rattle.call_exits.specs.Sides.{sides}
-use Rattle.rt_handles.specs.Answers.{outcomes_in}
+use Rattle.array_scripts.proofs.Apart.{without_memory}
+use Rattle.array_scripts.proofs.Ranges.{few_threads}
+use Rattle.rt_handles.specs.Lines.{handle_kind}
+use Rattle.rt_handles.specs.Tellings.{outcomes_in}
 use Rattle.rt_handles.proofs.Answered.{has_outcomes, job_fits, job_is, told_as}
-use Rattle.rt_handles.proofs.Apart.{without_memory}
+use Rattle.rt_handles.proofs.Telling.{handle_reads}
 use Rattle.rt_handles.proofs.running.kept.Goals as goal
+
+pub read_script-requires : goal.read_script-requires
+read_script-requires g c = handle_reads
 
 pub returns-in_err-traces-clause-refused : goal.returns-in_err-traces-clause-refused
 returns-in_err-traces-clause-refused g c =
     let p = err_from_is_err_and c.from_residual-in_err-traces.result
     c.from_residual-in_err-traces.ensures.1 in
-    rw (p.1, p.2) (without_memory
+    rw (p.1, p.2) (without_memory handle_kind
     (sides g.S.Source.left g.S.Source.faults c.args.source.now c.read_script.new.source)
     c.in_ok-header.header (map (λ ops. ops.items) c.in_ok-header.scripts.items)
     c.in_ok-header.ensures.read c.in_ok-header.ensures.still)
@@ -28,7 +34,7 @@ pub returns-in_err-run-clause-refused : goal.returns-in_err-run-clause-refused
 returns-in_err-run-clause-refused g c =
     let p = err_from_is_err_and c.from_residual-in_err-run.result
     c.from_residual-in_err-run.ensures.1 in
-    rw (p.1, p.2) (without_memory
+    rw (p.1, p.2) (without_memory handle_kind
     (sides g.S.Source.left g.S.Source.faults c.args.source.now c.read_script.new.source)
     c.in_ok-header.header (map (λ ops. ops.items) c.in_ok-header.scripts.items)
     c.in_ok-header.ensures.read c.in_ok-header.ensures.still)
@@ -37,7 +43,7 @@ pub returns-in_err-told-clause-refused : goal.returns-in_err-told-clause-refused
 returns-in_err-told-clause-refused g c =
     let p = err_from_is_err_and c.from_residual-in_err-told.result
     c.from_residual-in_err-told.ensures.1 in
-    rw (p.1, p.2) (without_memory
+    rw (p.1, p.2) (without_memory handle_kind
     (sides g.S.Source.left g.S.Source.faults c.args.source.now c.read_script.new.source)
     c.in_ok-header.header (map (λ ops. ops.items) c.in_ok-header.scripts.items)
     c.in_ok-header.ensures.read c.in_ok-header.ensures.still)
@@ -61,9 +67,9 @@ returns-clause-kept g c =
     ∙ ap (λ xs. traces_of rows_of command_at (all_deeds 0 (map (λ ops. ops.items) xs))) c.deref.ensures.value in
     let told_is = c.in_ok-told.ensures in
     told_as (sides g.S.Source.left g.S.Source.faults c.args.source.now c.read_script.new.source)
-    c.in_ok-run.run' (outcomes_in 0 scripts c.in_ok-run.run'.logs)
+    c.in_ok-run.run' (outcomes_in scripts c.in_ok-run.run'.logs)
     (map (λ v. v.items) c.in_ok-told.told.items)
-    (told_is ∙ ap (λ xs. outcomes_in 0 (map (λ ops. ops.items) xs) c.in_ok-run.run'.logs)
+    (told_is ∙ ap (λ xs. outcomes_in (map (λ ops. ops.items) xs) c.in_ok-run.run'.logs)
     c.deref-2.ensures.value)
     (has_outcomes
     (sides g.S.Source.left g.S.Source.faults c.args.source.now c.read_script.new.source)
@@ -83,7 +89,7 @@ traces-requires-clause-few g c =
     let read = c.in_ok-header.ensures.read in
     omega (
       arith,
-      few_threads (tokenized read.text) c.in_ok-header.header
+      few_threads handle_kind c.in_ok-header.header (tokenized read.text)
           (map (λ ops. ops.items) c.in_ok-header.scripts.items) read.script,
       length-map c.in_ok-header.scripts.items (λ ops. ops.items),
       ap length c.deref.ensures.value,

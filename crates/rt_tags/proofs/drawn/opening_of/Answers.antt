@@ -4,7 +4,11 @@ use Rattle.operations.specs.Linearizations.{traces_of}
 use Rattle.tag_table.specs.Tables.{rows_of, command_at}
 use Rattle.trace_text.specs.Reading.{tokenized}
 use Rattle.rt_tags.proofs.Answered.{job_fits}
+use Rattle.rt_tags.proofs.Telling.{tag_reads}
 use Rattle.rt_tags.proofs.drawn.opening_of.Goals as goal
+
+pub read_script-requires : goal.read_script-requires
+read_script-requires c = tag_reads
 
 pub new_ordered-requires-clause-job : goal.new_ordered-requires-clause-job
 new_ordered-requires-clause-job c =

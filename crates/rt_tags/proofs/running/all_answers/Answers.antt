@@ -1,10 +1,12 @@
-use Rattle.std.proofs.Common.{◌≡◌, ◌≤◌, ◌<◌, refl, ◌∙◌, List, get_or, length, map, subst, sym, arith}
+use Rattle.std.proofs.Common.{◌≡◌, ◌≤◌, ◌<◌, refl, List, length, map, subst, sym, arith}
 use Rattle.std.specs.Prelude.{flat_map}
+use Rattle.std.proofs.lemmas.List.{length-map}
 use Rattle.never_heap.specs.declared.Entry.{Entry}
 use Rattle.tag_table.specs.declared.operation.Operation.{Operation}
 use Rattle.tag_table.specs.Tables.{rows_of, answers_of}
-use Rattle.rt_tags.proofs.Answered.{enough, turn}
-use Rattle.rt_tags.proofs.Items.{items_at, pushed_items}
+use Rattle.array_scripts.proofs.Answered.{all_told, turn}
+use Rattle.array_scripts.proofs.Items.{items_at, pushed_items}
+use Rattle.rt_tags.proofs.Answered.{enough, same_count}
 use Rattle.rt_tags.proofs.running.all_answers.Goals as goal
 
 pub answers-requires : goal.answers-requires
@@ -22,14 +24,36 @@ pub loop-t-preserved : goal.loop-t-preserved
 loop-t-preserved c =
     let there : c.loop-t.t < length c.args.run.now.logs =
     omega (arith, c.loop-t-test.true, c.threads-t-end.ensures) in
-    turn (map (λ ops. ops.items) c.args.scripts.now) c.args.run.now.logs c.loop-t.t
+    turn (λ t. answers_of) (map (λ ops. ops.items) c.args.scripts.now) c.args.run.now.logs c.loop-t.t
     c.index-scripts-t.result.items c.entries.result.now c.in_ok-answers.field-0.items
-    (map (λ v. v.items) c.loop-t.told.items) (map (λ v. v.items) c.push.new.self.items) there
+    (map (λ v. v.items) c.loop-t.told.items) (map (λ v. v.items) c.push.new.self.items)
+    (same_count (map (λ ops. ops.items) c.args.scripts.now) c.args.run.now.logs c.requires) there
     (items_at c.args.scripts.now c.loop-t.t c.index-scripts-t.result c.index-scripts-t.is
-    (λ ops. ops.items)) c.entries.ensures c.requires
+    (λ ops. ops.items)) c.entries.ensures
     (subst (λ (ops : List Operation). c.in_ok-answers.field-0.items
     ≡ answers_of ops (map (λ (e : Entry). e.reply) c.entries.result.now))
     c.deref.ensures.value c.in_ok-answers.ensures)
     (pushed_items c.loop-t.told.items c.push.new.self.items c.in_ok-answers.field-0
     c.in_ok-answers.field-0.items c.in_ok-push.ensures.items (λ v. v.items) refl)
     c.loop-t.invariant
+
+pub bounds-scripts-t : goal.bounds-scripts-t
+bounds-scripts-t c =
+    omega (
+      arith,
+      c.loop-t-test.true,
+      c.threads-t-end.ensures,
+      same_count (map (λ ops. ops.items) c.args.scripts.now) c.args.run.now.logs c.requires,
+      length-map c.args.scripts.now (λ ops. ops.items),
+    )
+
+pub returns : goal.returns
+returns c =
+    all_told (λ t. answers_of) (map (λ ops. ops.items) c.args.scripts.now) c.args.run.now.logs
+    c.loop-t.t (map (λ v. v.items) c.loop-t.told.items)
+    (omega (
+      arith,
+      c.loop-t-test.false,
+      c.threads-t-end.ensures,
+      same_count (map (λ ops. ops.items) c.args.scripts.now) c.args.run.now.logs c.requires,
+    )) c.loop-t.invariant

@@ -7,16 +7,21 @@ use Rattle.tag_table.specs.Tables.{rows_of, command_at}
 use Rattle.threaded_runs.specs.Ends.{job_of}
 use Rattle.call_exits.specs.Sides.{sides}
 use Rattle.trace_text.specs.Reading.{tokenized}
-use Rattle.rt_tags.specs.Answers.{answers_in}
+use Rattle.array_scripts.proofs.Apart.{without_memory}
+use Rattle.rt_tags.specs.Lines.{tag_kind}
+use Rattle.rt_tags.specs.Tellings.{answers_in}
 use Rattle.rt_tags.proofs.Answered.{has_answers, job_fits, job_is, told_as}
-use Rattle.rt_tags.proofs.Apart.{without_memory}
+use Rattle.rt_tags.proofs.Telling.{tag_reads}
 use Rattle.rt_tags.proofs.running.kept.Goals as goal
+
+pub read_script-requires : goal.read_script-requires
+read_script-requires g c = tag_reads
 
 pub returns-in_err-traces-clause-refused : goal.returns-in_err-traces-clause-refused
 returns-in_err-traces-clause-refused g c =
     let p = err_from_is_err_and c.from_residual-in_err-traces.result
     c.from_residual-in_err-traces.ensures.1 in
-    rw (p.1, p.2) (without_memory
+    rw (p.1, p.2) (without_memory tag_kind
     (sides g.S.Source.left g.S.Source.faults c.args.source.now c.read_script.new.source)
     c.in_ok-header.header (map (λ ops. ops.items) c.in_ok-header.scripts.items)
     c.in_ok-header.ensures.read c.in_ok-header.ensures.still)
@@ -25,7 +30,7 @@ pub returns-in_err-run-clause-refused : goal.returns-in_err-run-clause-refused
 returns-in_err-run-clause-refused g c =
     let p = err_from_is_err_and c.from_residual-in_err-run.result
     c.from_residual-in_err-run.ensures.1 in
-    rw (p.1, p.2) (without_memory
+    rw (p.1, p.2) (without_memory tag_kind
     (sides g.S.Source.left g.S.Source.faults c.args.source.now c.read_script.new.source)
     c.in_ok-header.header (map (λ ops. ops.items) c.in_ok-header.scripts.items)
     c.in_ok-header.ensures.read c.in_ok-header.ensures.still)
@@ -34,7 +39,7 @@ pub returns-in_err-told-clause-refused : goal.returns-in_err-told-clause-refused
 returns-in_err-told-clause-refused g c =
     let p = err_from_is_err_and c.from_residual-in_err-told.result
     c.from_residual-in_err-told.ensures.1 in
-    rw (p.1, p.2) (without_memory
+    rw (p.1, p.2) (without_memory tag_kind
     (sides g.S.Source.left g.S.Source.faults c.args.source.now c.read_script.new.source)
     c.in_ok-header.header (map (λ ops. ops.items) c.in_ok-header.scripts.items)
     c.in_ok-header.ensures.read c.in_ok-header.ensures.still)

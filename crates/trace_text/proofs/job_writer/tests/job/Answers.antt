@@ -6,6 +6,7 @@ use Rattle.block_store.specs.declared.Width.TheVariants.{Four}
 use Rattle.never_heap.specs.declared.Command.{Command}
 use Rattle.never_heap.specs.declared.Command.TheVariants.{New, Arr, Set, Nil, Mov, Get, Put, Len, Same, Say}
 use Rattle.never_heap.specs.Bounds.{IsCommandInBounds}
+use Rattle.never_heap.proofs.Ranges.{plain_fits}
 use Rattle.trace_text.specs.Jobs.{Job, IsJobInBounds}
 use Rattle.trace_text.proofs.job_writer.tests.job.Goals as goal
 
@@ -27,19 +28,42 @@ empty_array = refl
 
 first_fits : AllByRecursion (IsCommandInBounds config) first
 first_fits = (
-  (omega arith, omega arith, omega arith),
+  record { range = omega arith; blocks = omega arith; units = omega arith; version = tt },
   (
-    (omega arith, omega arith, omega (arith, empty_array)),
-    ((omega arith, omega arith), (omega arith, ((omega arith, omega arith), tt))),
+    record {
+      range = (omega arith, omega arith);
+      blocks = omega (arith, empty_array);
+      units = omega arith;
+      version = tt;
+    },
+    (
+      plain_fits refl refl tt (omega arith, omega arith),
+      (
+        plain_fits refl refl tt (omega arith),
+        (
+          plain_fits refl refl tt (omega arith, omega arith),
+          tt,
+        ),
+      ),
+    ),
   ),
 )
 
 second_fits : AllByRecursion (IsCommandInBounds config) second
 second_fits = (
-  (omega arith, omega arith, omega arith),
+  plain_fits refl refl tt (omega arith, omega arith, omega arith),
   (
-    (omega arith, omega arith, omega arith),
-    (omega arith, ((omega arith, omega arith), (omega arith, tt))),
+    plain_fits refl refl tt (omega arith, omega arith, omega arith),
+    (
+      plain_fits refl refl tt (omega arith),
+      (
+        plain_fits refl refl tt (omega arith, omega arith),
+        (
+          plain_fits refl refl tt (omega arith),
+          tt,
+        ),
+      ),
+    ),
   ),
 )
 

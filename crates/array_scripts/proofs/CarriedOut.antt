@@ -1,0 +1,57 @@
+-- A call that ran a script, or was refused, did what it is to do.
+use Rattle.std.proofs.Common.{◌≡◌, ◌≢◌, ℕ, List, [], ◌∷◌, Option, Some, None, IfSome, IsSome, refl, sym, ◌∙◌, subst}
+use Rattle.call_exits.specs.declared.refusal.Refusal.{Refusal}
+use Rattle.call_exits.specs.Exits.{Exit, IsToldBy}
+use Rattle.call_exits.specs.Refusals.{AreNone, status_of, refusal_line}
+use Rattle.call_exits.specs.Sides.{Sides, IsUnfailed}
+use Rattle.call_exits.proofs.Ending.{never_done, done_is_ended, refusal_is_ended}
+use Rattle.scripts.specs.Scripts.{Reads}
+use Rattle.trace_text.specs.Jobs.{input_limit}
+use Rattle.trace_text.specs.Streams.{Appends, AppendsPrefix}
+use Rattle.array_scripts.specs.declared.header.Header.{Header}
+use Rattle.array_scripts.specs.Calls.{IsCarriedOut, exit_of}
+use Rattle.array_scripts.specs.Kinds.{Kind, language, IsHeader, Fits}
+use Rattle.array_scripts.specs.Scripts.{HasRoom, Causes, IsCause, IsFine, IsReadAs}
+use Rattle.array_scripts.proofs.Apart.{are_apart, script_read}
+
+not_some : {Run : Type 0} (o : Option Run) → o ≡ None → IsSome o → ⊥
+not_some {Run} o e s =
+    let none : IsSome {T = Run} None = subst (λ (x : Option Run). IsSome x) e s in cc
+
+module _ {Op Run : Type 0} (kind : Kind Op)
+    (reads : Reads (language kind) (IsHeader kind) (Fits kind)) (name : List ℕ)
+    (Headline : Run → Type 0) (words : List (List ℕ)) (source sink : Sides) (status due : ℕ)
+    (shown : Option Run) (told : IsToldBy sink status due) where
+  abbrev Done : Type 0
+  Done = IsCarriedOut kind name Headline words source sink status due shown
+
+  abbrev exit : Exit
+  exit = exit_of words source sink status due
+
+  -- a script was run
+  pub run_is_carried_out : (run : Run) → words ≡ [] → Headline run → (h : Header)
+      (scripts : List (List Op)) → IsReadAs kind source h scripts → HasRoom kind h
+      → IsUnfailed source → due ≡ 0 → shown ≡ Some run → Done
+  run_is_carried_out run none headline h scripts read room still zero is = record {
+    run = (λ _. zero, λ _. subst (λ (o : Option Run). IsSome o) (sym is) refl);
+    headline = subst (λ (o : Option Run). IfSome o Headline) (sym is) headline;
+    ended = done_is_ended AreNone AreNone input_limit (Causes kind) (IsFine kind) (4 ∷ [])
+        (are_apart kind reads) name exit told none zero still
+        (λ _. script_read kind source h scripts read still (HasRoom kind) room);
+  }
+
+  -- the call was refused
+  pub refusal_is_carried_out : (r : Refusal) → due ≡ status_of r → shown ≡ None
+      → IsCause kind words source r
+      → (status ≢ 6 → Appends sink.bytes sink.bytes_now (refusal_line name r))
+      → (status ≡ 6 → AppendsPrefix sink.bytes sink.bytes_now (refusal_line name r))
+      → Done
+  refusal_is_carried_out r own is cause line prefix = record {
+    run = (
+      λ some. absurd (not_some shown is some),
+      λ zero. absurd (never_done r (sym own ∙ zero)),
+    );
+    headline = subst (λ (o : Option Run). IfSome o Headline) (sym is) tt;
+    ended = refusal_is_ended AreNone AreNone input_limit (Causes kind) (IsFine kind) (4 ∷ [])
+        (are_apart kind reads) name exit told r own line prefix cause;
+  }

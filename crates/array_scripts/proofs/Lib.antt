@@ -1,0 +1,10 @@
+pub mod Spelling
+pub mod Telling
+pub mod Going
+pub mod Threads
+pub mod Ranges
+pub mod Apart
+pub mod Items
+pub mod Answered
+pub mod Writing
+pub mod CarriedOut

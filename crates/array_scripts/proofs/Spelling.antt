@@ -1,0 +1,174 @@
+-- What is spelled by tokens, by numbers and by the first word of a line.
+use Rattle.std.proofs.Common.{◌≡◌, ℕ, ◌<◌, ◌≤◌, ◌^◌, ◌&&◌, ◌||◌, ltb, Bool, true, false, cond, Option, Some, None, List, [], ◌∷◌, decimal, bytes_eq, refl, ap, ◌∙◌, subst, arith}
+use Rattle.std.proofs.lemmas.Bool.{ltb-true, ltb-false, lt-ltb, le-ltb}
+use Rattle.std.proofs.lemmas.Slice.Eq.{bytes_eq-Decides}
+use Rattle.trace_text.specs.Headers.{behind_at, labelled_at}
+use Rattle.trace_text.specs.Reading.{◌>>=◌, parted, number_at, no_more_of, one_token_of, two_tokens_of, three_tokens_of}
+use Rattle.trace_text.proofs.NumberLaws.{number_sound, number_complete}
+use Rattle.array_scripts.specs.Kinds.{Tokens, ranged, below}
+
+-- a step that gave something
+pub bind_then : {A B P : Type 0} (o : Option A) (f : A → Option B) (y : B) → (o >>= f) ≡ Some y
+    → ((x : A) → o ≡ Some x → f x ≡ Some y → P) → P
+bind_then None f y e k = absurd cc
+bind_then (Some x) f y e k = k x refl e
+
+pub then_some : {A : Type 0} (b : Bool) (x y : A) → cond b (Some x) None ≡ Some y
+    → (b ≡ true) × (x ≡ y)
+then_some true x y e = (refl, ap (from x) e)
+  where
+    from : {B : Type 0} → B → Option B → B
+    from z None = z
+    from z (Some w) = w
+then_some false x y e = absurd cc
+
+pub else_some : {A : Type 0} (b : Bool) (x y : A) → cond b None (Some x) ≡ Some y
+    → (b ≡ false) × (x ≡ y)
+else_some false x y e = (refl, ap (from x) e)
+  where
+    from : {B : Type 0} → B → Option B → B
+    from z None = z
+    from z (Some w) = w
+else_some true x y e = absurd cc
+
+pub or_parts : (b c : Bool) → b || c ≡ false → (b ≡ false) × (c ≡ false)
+or_parts true c e = absurd cc
+or_parts false c e = (refl, e)
+
+pub and_parts : (b c : Bool) → b && c ≡ true → (b ≡ true) × (c ≡ true)
+and_parts true c e = (refl, e)
+and_parts false c e = absurd cc
+
+-- ---- numbers in ranges
+
+pub ranged_sound : (least most : ℕ) (token : List ℕ) (n : ℕ) → ranged least most token ≡ Some n
+    → (token ≡ decimal n) × (least ≤ n) × (n ≤ most)
+unfolding ranged
+ranged_sound least most token n e =
+    bind_then (number_at token) _ n e (λ m is kept.
+    let low = else_some (ltb m least || ltb most m) m n kept in
+    let parts = or_parts (ltb m least) (ltb most m) low.0 in
+    let spelled = number_sound token m is in (
+      spelled.0 ∙ ap decimal low.1,
+      subst (λ (k : ℕ). least ≤ k) low.1 (ltb-false m least parts.0),
+      subst (λ (k : ℕ). k ≤ most) low.1 (ltb-false most m parts.1),
+    ))
+
+pub ranged_again : (least most n : ℕ) → least ≤ n → n ≤ most → most < 10 ^ 19
+    → ranged least most (decimal n) ≡ Some n
+unfolding ranged
+ranged_again least most n low high small =
+    ap (λ o. o >>= λ m. cond (ltb m least || ltb most m) None (Some m))
+    (number_complete n (omega arith))
+    ∙ (λ k. cond (le-ltb n least low k || le-ltb most n high k) None (Some n))
+
+pub below_sound : (most : ℕ) (token : List ℕ) (n : ℕ) → below most token ≡ Some n
+    → (token ≡ decimal n) × (n < most)
+unfolding below
+below_sound most token n e =
+    bind_then (number_at token) _ n e (λ m is kept.
+    let low = then_some (ltb m most) m n kept in
+    let spelled = number_sound token m is in
+    (spelled.0 ∙ ap decimal low.1, subst (λ (k : ℕ). k < most) low.1 (ltb-true m most low.0)))
+
+pub below_again : (most n : ℕ) → n < most → most ≤ 10 ^ 19 → below most (decimal n) ≡ Some n
+unfolding below
+below_again most n low small =
+    ap (λ o. o >>= λ m. cond (ltb m most) (Some m) None) (number_complete n (omega arith))
+    ∙ (λ k. cond (lt-ltb n most low k) (Some n) None)
+
+-- ---- tokens
+
+pub none_of : (tokens : Tokens) (x : Unit {0}) → no_more_of tokens ≡ Some x → tokens ≡ []
+unfolding no_more_of
+none_of [] x e = refl
+none_of (a ∷ tokens) x e = absurd cc
+
+pub one_of : (tokens : Tokens) (a : List ℕ) → one_token_of tokens ≡ Some a → tokens ≡ a ∷ []
+unfolding one_token_of no_more_of
+one_of [] a e = absurd cc
+one_of (b ∷ []) a e = ap (λ (o : Option (List ℕ)). or b o ∷ []) e
+  where
+    or : List ℕ → Option (List ℕ) → List ℕ
+    or z None = z
+    or z (Some w) = w
+one_of (b ∷ c ∷ tokens) a e = absurd cc
+
+pub two_of : (tokens : Tokens) (p : List ℕ × List ℕ) → two_tokens_of tokens ≡ Some p
+    → tokens ≡ p.0 ∷ p.1 ∷ []
+unfolding two_tokens_of one_token_of no_more_of
+two_of [] p e = absurd cc
+two_of (a ∷ []) p e = absurd cc
+two_of (a ∷ b ∷ []) p e = ap (λ (o : Option (List ℕ × List ℕ)). (or o).0 ∷ (or o).1 ∷ []) e
+  where
+    or : Option (List ℕ × List ℕ) → List ℕ × List ℕ
+    or None = (a, b)
+    or (Some w) = w
+two_of (a ∷ b ∷ c ∷ tokens) p e = absurd cc
+
+pub three_of : (tokens : Tokens) (p : List ℕ × List ℕ × List ℕ) → three_tokens_of tokens ≡ Some p
+    → tokens ≡ p.0 ∷ p.1 ∷ p.2 ∷ []
+unfolding three_tokens_of two_tokens_of one_token_of no_more_of
+three_of [] p e = absurd cc
+three_of (a ∷ []) p e = absurd cc
+three_of (a ∷ b ∷ []) p e = absurd cc
+three_of (a ∷ b ∷ c ∷ []) p e =
+    ap (λ (o : Option (List ℕ × List ℕ × List ℕ)). (or o).0 ∷ (or o).1 ∷ (or o).2 ∷ []) e
+  where
+    or : Option (List ℕ × List ℕ × List ℕ) → List ℕ × List ℕ × List ℕ
+    or None = (a, b, c)
+    or (Some w) = w
+three_of (a ∷ b ∷ c ∷ d ∷ tokens) p e = absurd cc
+
+pub behind_of : (word : List ℕ) (tokens rest : Tokens) → behind_at word tokens ≡ Some rest
+    → tokens ≡ word ∷ rest
+unfolding behind_at
+behind_of word [] rest e = absurd cc
+behind_of word (first ∷ others) rest e =
+    let t = then_some (bytes_eq first word) others rest e in
+    (λ k. (bytes_eq-Decides first word).0 t.0 k ∷ t.1 k)
+
+pub labelled_of : (word : List ℕ) (tokens : Tokens) (p : List ℕ × Tokens)
+    → labelled_at word tokens ≡ Some p → tokens ≡ word ∷ p.0 ∷ p.1
+unfolding labelled_at
+labelled_of word tokens p e =
+    bind_then (behind_at word tokens) _ p e (λ rest is more.
+    behind_of word tokens rest is ∙ ap (λ (l : Tokens). word ∷ l) (split rest more))
+  where
+    split : (rest : Tokens) → parted rest ≡ Some p → rest ≡ p.0 ∷ p.1
+    split [] f = absurd cc
+    split (a ∷ others) f = ap (λ (o : Option (List ℕ × Tokens)). (or o).0 ∷ (or o).1) f
+      where
+        or : Option (List ℕ × Tokens) → List ℕ × Tokens
+        or None = (a, others)
+        or (Some w) = w
+
+-- a choice by the first token
+pub chosen : {A : Type 0} {P : Type 0} (first word : List ℕ) (a b : Option A) (x : A)
+    → cond (bytes_eq first word) a b ≡ Some x → (first ≡ word → a ≡ Some x → P)
+    → (b ≡ Some x → P) → P
+chosen {A} {P} first word a b x e here there = go (bytes_eq first word) refl e
+  where
+    go : (t : Bool) → bytes_eq first word ≡ t → cond t a b ≡ Some x → P
+    go true is f = here ((bytes_eq-Decides first word).0 is) f
+    go false is f = there f
+
+pub some_is : {A : Type 0} {x y : A} → Some x ≡ Some y → x ≡ y
+some_is {A} {x} {y} f = ap (λ (o : Option A). or o) f
+  where
+    or : Option A → A
+    or None = x
+    or (Some w) = w
+
+-- ---- and what is spelled is read
+
+pub behind_again : (word : List ℕ) (rest : Tokens) → behind_at word (word ∷ rest) ≡ Some rest
+unfolding behind_at
+behind_again word rest =
+    ap (λ (b : Bool). cond b (Some rest) None) ((bytes_eq-Decides word word).1 refl)
+
+pub labelled_again : (label token : List ℕ) (rest : Tokens)
+    → labelled_at label (label ∷ token ∷ rest) ≡ Some (token, rest)
+unfolding labelled_at
+labelled_again label token rest =
+    ap (λ (o : Option Tokens). o >>= parted) (behind_again label (token ∷ rest))

@@ -1,0 +1,7 @@
+pub mod Kinds
+pub mod Said
+pub mod Parts
+pub mod Scripts
+pub mod Answers
+pub mod Tellings
+pub mod Calls

@@ -1,0 +1,19 @@
+//! Scripts of operations on an array that threads share, of any kind: their lines, the first that
+//! cannot stand, why a call refuses them, and the lines of what their operations answered.
+#![tactic(auto)]
+
+mod header;
+mod kinds;
+mod line;
+mod numbers;
+mod printing;
+mod reading;
+mod script;
+
+pub use header::{Header, header_of};
+pub use kinds::Scripted;
+pub use line::Line;
+pub use numbers::{below, place};
+pub use printing::tell_answers;
+pub use reading::read_script;
+pub use script::{Fault, script_of};
