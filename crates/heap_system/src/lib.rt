@@ -6,29 +6,15 @@ mod bound;
 mod collector;
 mod counting;
 mod cycles;
-#[cfg(test)]
-mod drawn;
 mod laws;
 mod local;
-#[cfg(test)]
-mod lone;
-#[cfg(test)]
-mod ordered;
 mod orders;
 mod payments;
 mod progress;
 mod replays;
-#[cfg(test)]
-mod schedules;
 mod serial;
 mod start;
 mod system;
-#[cfg(test)]
-mod tests;
-#[cfg(test)]
-mod traces;
-#[cfg(test)]
-mod ways;
 
 pub use accounts::accounts_are_sound;
 pub use bound::{cycles_cost_few_units, cycles_give_few_blocks, fulls_are_licensed};

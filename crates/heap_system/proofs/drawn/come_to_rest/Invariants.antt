@@ -1,5 +1,0 @@
-use Rattle.std.proofs.Common.{◌≡◌, None}
-use Rattle.heap_system.proofs.drawn.come_to_rest.Given as goal
-
-abbrev pub invariant-loop-turn : goal.invariant-loop-turn
-invariant-loop-turn l = (l.system.config ≡ l.fn.system.config) × (l.system.ordered ≡ None)

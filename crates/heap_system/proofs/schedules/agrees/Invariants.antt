@@ -1,7 +1,0 @@
-use Rattle.std.proofs.Common.{◌≡◌, None, ◌≤◌, ℕ, length}
-use Rattle.block_store.specs.declared.Width.TheVariants.{Four}
-use Rattle.never_heap.specs.Graphs.{count_of}
-use Rattle.heap_system.proofs.schedules.agrees.Given as goal
-
-abbrev pub invariant-loop-turn : goal.invariant-loop-turn
-invariant-loop-turn l = (l.system.config ≡ record { width = Four; threads = 3; blocks = 42; live = 26; object = 2; shared = 17 }) × (l.system.ordered ≡ None) × (length l.graph.graph.mutators ≡ 3) × ((u : ℕ) → count_of l.graph.graph u ≤ l._turn)

@@ -1,0 +1,17 @@
+//! Tests of `heap_system`: whole heaps, run turn by turn.
+#![tactic(auto)]
+
+#[cfg(test)]
+mod drawn;
+#[cfg(test)]
+mod lone;
+#[cfg(test)]
+mod ordered;
+#[cfg(test)]
+mod schedules;
+#[cfg(test)]
+mod tests;
+#[cfg(test)]
+mod traces;
+#[cfg(test)]
+mod ways;
