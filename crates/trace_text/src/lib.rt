@@ -13,8 +13,6 @@ mod sinks;
 mod sources;
 mod std_sink;
 mod std_source;
-#[cfg(test)]
-mod testing;
 mod trace_faults;
 
 pub use job_writer::{job_text_is_job, write_job};

@@ -97,29 +97,3 @@ impl Sink for MemSink {
         Ok(())
     }
 }
-
-#[cfg(test)]
-mod tests {
-    use super::*;
-    use std::test::Fail;
-
-    #[test]
-    fn a_sink_fails_where_told_and_where_a_piece_does_not_fit(rt: HostRuntime) -> Result<(), Fail> {
-        let fail = Vec::from_slice(rt.alloc(), &[3])?;
-        let mut sink = MemSink::new(rt.alloc(), 5, fail).ok().ok_or("memory")?;
-        let puts = [
-            (b"abc".as_slice(), Ok(())),
-            (b"def", Err(Failed)),
-            (b"d", Ok(())),
-            (b"e", Err(Failed)),
-            (b"e", Ok(())),
-            (b"", Ok(())),
-            (b"f", Err(Failed)),
-        ];
-        for (piece, answer) in puts {
-            assert_eq!(rt; sink.put(piece), answer);
-        }
-        assert_eq!(rt; sink.bytes(), b"abcde".as_slice());
-        Ok(())
-    }
-}

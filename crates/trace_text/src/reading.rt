@@ -13,10 +13,6 @@ mod header;
 mod input;
 mod lines;
 mod numbers;
-#[cfg(test)]
-mod refused;
-#[cfg(test)]
-mod tests;
 mod tokens;
 mod whole;
 mod words;

@@ -2,10 +2,10 @@
 
 ghost use Rattle.std.specs.Prelude.{◌≤◌};
 
-use crate::{Job, MemSource, TraceFault, read_trace};
 use std::alloc::{AllocError, Global};
 use std::process::Abort;
 use std::test::Fail;
+use trace_text::{Job, MemSource, TraceFault, read_trace};
 
 /// A heap for one thread, one for two, the largest of each number, and one of wide blocks.
 const ONE: &str = "rtheap 1 threads 1 blocks 64 live 20 object 2 shared 0";

@@ -8,7 +8,7 @@ use Rattle.never_heap.specs.declared.Command.TheVariants.{New, Arr, Set, Nil, Mo
 use Rattle.never_heap.specs.Bounds.{IsCommandInBounds}
 use Rattle.never_heap.proofs.Ranges.{plain_fits}
 use Rattle.trace_text.specs.Jobs.{Job, IsJobInBounds}
-use Rattle.trace_text.proofs.job_writer.tests.job.Goals as goal
+use Rattle.text_tests.proofs.job_writer.job.Goals as goal
 
 abbrev config : Config
 config = record { width = Four; threads = 2; blocks = 65535; live = 0; object = 2; shared = 1024 }

@@ -1,10 +1,10 @@
 //! A run of two threads, and sinks that fail, for the tests of the writers.
 
-use crate::MemSink;
 use block_store::{Name, Value};
 use never_heap::{Command, Entry, Logs, Reply};
 use std::alloc::Global;
 use std::test::Fail;
+use trace_text::MemSink;
 
 /// What two threads answered, one reply of each kind, in two cycles.
 #[derive(Drop)]

@@ -3,13 +3,12 @@
 ghost use Rattle.std.specs.Prelude.{◌≤◌, IfOk};
 ghost use Rattle.trace_text.specs.Jobs.{IsJobInBounds};
 
-use super::*;
-use crate::{MemSink, MemSource, Why, write_job};
 use block_store::{Config, Width};
 use never_heap::Command;
-use std::alloc::AllocError;
+use std::alloc::{AllocError, Global};
 use std::process::Abort;
 use std::test::Fail;
+use trace_text::{Job, MemSink, MemSource, TraceFault, Why, read_trace, write_job};
 
 const SMALL: Config = Config {
     width: Width::Four,
