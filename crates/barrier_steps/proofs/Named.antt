@@ -75,14 +75,15 @@ answered_low (commands.Say s) h = h
 answered_low k h = to_low k h
 
 -- what holds of nil, of each number, and of the word's target, holds of the payload in a word
-pub payload_cases : (w : ℕ) → IsSome (payload_of w) → (P : Payload → Type 0) → P payloads.Nil → ((v : ℕ) → v < 2 ^ 62 → P (payloads.Int v))
+pub payload_cases : (w : ℕ) → IsSome (payload_of w) → (P : Payload → Type 0)
+    → (target w ≡ 0 → P payloads.Nil) → ((v : ℕ) → target w ≡ 0 → v < 2 ^ 62 → P (payloads.Int v))
     → ((x : ℕ) → x ≡ target w → 1 ≤ x → P (payloads.Block x)) → P (payload_in w)
 payload_cases w some P nil int block = go (payload_of w) refl some
   where
     go : (o : Option Payload) → payload_of w ≡ o → IsSome o → P (payload_or_nil o)
     go None is h = absurd cc
-    go (Some payloads.Nil) is h = nil
-    go (Some (payloads.Int v)) is h = int v (payload_words.reads w (payloads.Int v) is).0
+    go (Some payloads.Nil) is h = nil (sym (payload_words.reads w payloads.Nil is).2)
+    go (Some (payloads.Int v)) is h = let all = payload_words.reads w (payloads.Int v) is in int v (sym all.2) all.0
     go (Some (payloads.Block x)) is h = let all = payload_words.reads w (payloads.Block x) is in block x all.2 all.0.0
 
 -- the shape in a shape word is one that has a word

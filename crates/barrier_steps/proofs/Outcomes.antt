@@ -35,22 +35,19 @@ abbrev pub Refused : Graph → FieldRow → Graph × Reply → Type 0
 Refused g row after = (reply : Reply) × (row ≡ Answered reply) × (after ≡ (g, reply))
 
 -- where a register shows no reference
-refused_field : (head : Name → ℕ) (g : Graph) (w : ℕ) (v : Value) (i : ℕ) (act : Name → Graph × Reply) → IsWordOf head v w → not (refers (payload_in w)) ≡ true → Refused g (after_object (payload_in w)) (at_field g v i act)
-refused_field head g w values.Nil i act h n = (replies.Null, ap (λ o. after_object (payload_or_nil o)) h, refl)
-refused_field head g w (values.Int m) i act h n = (replies.Kind, ap (λ o. after_object (payload_or_nil o)) h, refl)
-refused_field head g w (values.Ref a) i act h n = absurd (let e : false ≡ true = subst (λ o. not (refers (payload_or_nil o)) ≡ true) h n in cc)
-
-refused_object : (head : Name → ℕ) (g : Graph) (w : ℕ) (v : Value) (act : Name → Graph × Reply) → IsWordOf head v w → not (refers (payload_in w)) ≡ true → Refused g (after_object (payload_in w)) (at_object g v act)
-refused_object head g w values.Nil act h n = (replies.Null, ap (λ o. after_object (payload_or_nil o)) h, refl)
-refused_object head g w (values.Int m) act h n = (replies.Kind, ap (λ o. after_object (payload_or_nil o)) h, refl)
-refused_object head g w (values.Ref a) act h n = absurd (let e : false ≡ true = subst (λ o. not (refers (payload_or_nil o)) ≡ true) h n in cc)
+refused_value : (head : Name → ℕ) (g : Graph) (w : ℕ) (v : Value) (x : Graph × Reply) → IsWordOf head v w
+    → not (refers (payload_in w)) ≡ true → (v ≡ values.Nil → x ≡ (g, replies.Null))
+    → ((m : ℕ) → v ≡ values.Int m → x ≡ (g, replies.Kind)) → Refused g (after_object (payload_in w)) x
+refused_value head g w values.Nil x h n nil int = (replies.Null, ap (λ o. after_object (payload_or_nil o)) h, nil refl)
+refused_value head g w (values.Int m) x h n nil int = (replies.Kind, ap (λ o. after_object (payload_or_nil o)) h, int m refl)
+refused_value head g w (values.Ref a) x h n nil int = absurd (let e : false ≡ true = subst (λ o. not (refers (payload_or_nil o)) ≡ true) h n in cc)
 
 pub object_refused : (head : Name → ℕ) (g : Graph) (t w : ℕ) (k : Command) → looks_at_object k ≡ true → IsWordOf head (register_of g t (from_register k)) w → not (refers (payload_in w)) ≡ true → Refused g (after_object (payload_in w)) (step g t k)
-object_refused head g t w (commands.Get d s i) is h n = refused_field head g w (register_of g t s) i _ h n
-object_refused head g t w (commands.Put s i v) is h n = refused_field head g w (register_of g t s) i _ h n
-object_refused head g t w (commands.Swap s i v) is h n = refused_field head g w (register_of g t s) i _ h n
-object_refused head g t w (commands.Cas s i a v) is h n = refused_field head g w (register_of g t s) i _ h n
-object_refused head g t w (commands.Len s) is h n = refused_object head g w (register_of g t s) _ h n
+object_refused head g t w (commands.Get d s i) is h n = refused_value head g w (register_of g t s) _ h n (λ e. rw e refl) (λ m e. rw e refl)
+object_refused head g t w (commands.Put s i v) is h n = refused_value head g w (register_of g t s) _ h n (λ e. rw e refl) (λ m e. rw e refl)
+object_refused head g t w (commands.Swap s i v) is h n = refused_value head g w (register_of g t s) _ h n (λ e. rw e refl) (λ m e. rw e refl)
+object_refused head g t w (commands.Cas s i a v) is h n = refused_value head g w (register_of g t s) _ h n (λ e. rw e refl) (λ m e. rw e refl)
+object_refused head g t w (commands.Len s) is h n = refused_value head g w (register_of g t s) _ h n (λ e. rw e refl) (λ m e. rw e refl)
 object_refused head g t w _ is h n = absurd cc
 
 pub kind_length : (k : ObjectKind) (n : ℕ) → shape_length (kind_shape k n) ≡ n
