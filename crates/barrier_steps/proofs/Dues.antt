@@ -16,7 +16,7 @@ use Rattle.never_heap.specs.declared.Command.TheVariants as commands
 use Rattle.never_heap.specs.declared.Reply.{Reply}
 use Rattle.never_heap.specs.declared.Reply.TheVariants as replies
 use Rattle.never_heap.specs.Bounds.{IsCommandInRange}
-use Rattle.never_heap.specs.Graphs.{Graph, object_of, field_of, register_of, mutator_at, with_register, with_field}
+use Rattle.never_heap.specs.Graphs.{Graph, object_of, register_of, mutator_at, with_register, with_field}
 use Rattle.never_heap.proofs.GraphMoves.{same_from, register_with_register}
 use Rattle.shown_graph.proofs.Names.{same_is}
 use Rattle.never_heap.specs.Steps.{step, same_value, swapped}
@@ -35,7 +35,7 @@ use Rattle.barrier_steps.specs.Replies.{answer, IsWordOf, ShownAt, Promises, Nam
 use Rattle.barrier_steps.proofs.Stores.{before_is, barrier_is, field_is, said_is, after_owner_is}
 use Rattle.block_store.specs.declared.TheConstants.{REGISTERS}
 use Rattle.shown_graph.specs.Shown.{IsSized, heads}
-use Rattle.shown_graph.specs.Events.{GraphState, value_in, value_at, Follows}
+use Rattle.shown_graph.specs.Events.{GraphState, value_in, Follows}
 use Rattle.barrier_steps.specs.declared.rows.FieldStore.{FieldStore}
 use Rattle.barrier_steps.specs.Projection.{row_loading, row_event, after_event, InHandAt, IsAt}
 use Rattle.barrier_steps.proofs.Named.{to_low}
@@ -128,7 +128,7 @@ module _ (head : Name → ℕ) where
     field_promised w a after e h = subst (Promises head (after_field w (payload_in w))) (sym (answers _ e)) (field_value w (value_there g k a) h)
 
     -- a deciding event answers as the step does
-    pub promised : (row : FieldRow) (w : ℕ) → is_row_of k row ≡ true → is_deciding k row w ≡ true → ShownAt head g t k row w → Promises head (row_got (extent c) p k row w) (answer g t k)
+    pub promised : (row : FieldRow) (w : ℕ) → is_row_of c p k row ≡ true → is_deciding k row w ≡ true → ShownAt head g t k row w → Promises head (row_got (extent c) p k row w) (answer g t k)
     promised (LoadRegister wants.Object) w is n h = refused _ (object_refused head g t w k is h n)
     promised (LoadRegister (wants.Second word)) w is n h =
         ap (λ y. cond y replies.Yes replies.No) (same_words (register_of g t (from_register k)) (register_of g t (other_register k)) word w h.first h.second h.apart)

@@ -35,7 +35,7 @@ use Rattle.barrier_steps.specs.declared.rows.FieldStore.TheVariants.{Moved, Pend
 use Rattle.barrier_steps.specs.declared.rows.Way.{Way}
 use Rattle.barrier_steps.specs.Operands.{to_register, answered_register, field_index, constant_word, is_get, is_say, goes_to_field, is_swap, is_cas, takes_field, answers_value, stores_in_field}
 use Rattle.barrier_steps.specs.Walks.{shape_length, links_to}
-use Rattle.barrier_steps.specs.Rows.{FieldState, register_place, payload_in, shape_in, object_in, stored_word, shaded_for, before_store, first_row, at_first_row, register_wanted, store_want, row_want, row_got, field_want, field_got, after_object, after_shape, after_field, after_said, after_owner, after_register, after_store, on_way, at_block, way_from, way_on}
+use Rattle.barrier_steps.specs.Rows.{FieldState, register_place, payload_in, shape_in, object_in, stored_word, shaded_for, before_store, first_row, at_first_row, register_wanted, store_want, row_want, row_got, field_got, after_object, after_shape, after_field, after_said, after_owner, after_register, after_store, on_way, way_from, way_on}
 use Rattle.barrier_steps.specs.Fits.{IsThread, IsLoaded, IsWalk, IsThere, IsBarrier, is_store_of, StoreFits, is_wanted_by, WantedFits, is_row_of, RowFits, FitsAt, FieldFits, ReadsAt, FieldReads}
 use Rattle.barrier_steps.proofs.Named.{to_low, wanted_low, link_low, field_low, payload_cases, shape_fits}
 use Rattle.barrier_steps.proofs.Stores.{before_is, barrier_is, at_block_is, after_shape_is, after_owner_is}
@@ -174,13 +174,13 @@ module _ (c : Config) (p : Pass) (k : Command) where
 
   -- A row that fits becomes one that fits: the command comes to it, and its numbers are in range.
   abbrev Good : FieldRow → Type 0
-  Good row = (is_row_of k row ≡ true) × RowFits c p k row
+  Good row = (is_row_of c p k row ≡ true) × RowFits c p k row
 
   -- the first row of a command
   first_good : Good (first_row k)
   first_good = go k
     where
-      go : (q : Command) → (is_row_of q (first_row q) ≡ true) × RowFits c p q (first_row q)
+      go : (q : Command) → (is_row_of c p q (first_row q) ≡ true) × RowFits c p q (first_row q)
       go (commands.New d f) = (refl, tt)
       go _ = (refl, tt)
 
@@ -255,7 +255,7 @@ module _ (c : Config) (p : Pass) (k : Command) where
     stored_fits (Exchanged way word) w is r = field_row_fits w (swap_takes k is) r
     stored_fits _ w is r = (refl, tt)
 
-    row_fits : (row : FieldRow) (w : ℕ) → is_row_of k row ≡ true → RowFits c p k row → ReadsAt c p k row w → Good (row_got (extent c) p k row w)
+    row_fits : (row : FieldRow) (w : ℕ) → is_row_of c p k row ≡ true → RowFits c p k row → ReadsAt c p k row w → Good (row_got (extent c) p k row w)
     row_fits (LoadRegister wanted) w is h r = register_fits wanted w is h r.0
     row_fits (LoadShape x) w is h r = shape_row_fits x (shape_in w) h (shape_fits w r.0)
     row_fits (LoadLink way word) w is h r = way_fits (way_on way (target w)) word is (record {

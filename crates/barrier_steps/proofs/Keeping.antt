@@ -1,12 +1,12 @@
 -- Each event of a command keeps all that a heap keeps in either phase, and leaves the phase, the
 -- cursor and the grey blocks as they are.
-use Rattle.std.proofs.Common.{◌≡◌, ℕ, Bool, true, false, eqb, refl, sym, ap, ◌∙◌, inl, inr, eqb-true, ◌<◌, cond, IsSome, Option, None, Some, subst}
+use Rattle.std.proofs.Common.{◌≡◌, ℕ, Bool, true, false, eqb, refl, sym, ap, ◌∙◌, inl, inr, eqb-true, ◌<◌, cond, IsSome, subst}
 use Rattle.std.proofs.lemmas.Bool.{cases_Bool, cases_eq, ne_eqb}
 use Rattle.block_store.specs.declared.Config.{Config}
-use Rattle.block_store.specs.Colours.{is_grey, white_word, grey_word}
+use Rattle.block_store.specs.Colours.{is_grey, white_word}
 use Rattle.block_store.proofs.ColourWords.{not_grey_white}
 use Rattle.block_store.specs.Heaps.{Heap, put_at}
-use Rattle.block_store.specs.Places.{Place, extent, Phase, Cursor, ColourOf, PayloadOf, Extent}
+use Rattle.block_store.specs.Places.{extent, Phase, Cursor, ColourOf, PayloadOf, Extent}
 use Rattle.block_store.specs.Widths.{payloads}
 use Rattle.never_heap.specs.declared.Command.{Command}
 use Rattle.heap_machine.specs.Holdings.{sweep_held, Holding, holds_nothing, grey_held, tricolour_held, free_held}
@@ -22,15 +22,12 @@ use Rattle.barrier_steps.specs.declared.rows.FieldRow.{FieldRow}
 use Rattle.barrier_steps.specs.declared.rows.FieldRow.TheVariants.{Shade, Store, LoadRegister, LoadShape, LoadLink, LoadField, LoadOwner, StoreConstant, IdleLook, Answered}
 use Rattle.barrier_steps.specs.declared.rows.FieldStore.TheVariants.{Compared, Moved, Pending, InField, Exchanged}
 use Rattle.barrier_steps.specs.Fits.{FitsAt, FieldFits, IsBarrier, StoreFits, ReadsAt, FieldReads}
-use Rattle.barrier_steps.specs.Rows.{FieldState, shades, row_want, field_want, row_holding, field_holding, payload_or_nil, payload_in, shape_in, object_in, at_first_row, stored_word, shaded_for, field_place, store_want, way_on, after_field, row_got, word_stored, field_got, field_reply, held_before_store}
+use Rattle.barrier_steps.specs.Rows.{FieldState, shades, row_want, field_want, row_holding, field_holding, payload_in, shape_in, object_in, at_first_row, stored_word, field_place, store_want, way_on, after_field, row_got, word_stored, field_got, field_reply, held_before_store}
 use Rattle.barrier_steps.proofs.FieldRows.{barrier_shades, stores_at}
-use Rattle.block_store.specs.declared.Payload.{Payload}
-use Rattle.block_store.specs.declared.Payload.TheVariants as payloads
 use Rattle.block_store.specs.Counts.{changed}
 use Rattle.block_store.specs.Payloads.{payload_of, target}
 use Rattle.block_store.specs.Phases.{is_sweep, cycle_of}
 use Rattle.block_store.proofs.Functions.{changed_map, changed_self}
-use Rattle.block_store.proofs.PayloadWords as payload_words
 use Rattle.block_store.proofs.PayloadWords.{target-number, target-nil}
 use Rattle.never_heap.specs.declared.Command.TheVariants as commands
 use Rattle.heap_machine.specs.Grey.{GreyHolding, GreyKept}

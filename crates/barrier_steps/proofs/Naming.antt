@@ -19,7 +19,6 @@ use Rattle.never_heap.proofs.Answering.{step_not_full}
 use Rattle.shown_graph.specs.Events as commanded
 use Rattle.shown_graph.specs.Events.{ValueLoad, Loading, Event, GraphState, IsPrompt, value_at, value_in}
 use Rattle.shown_graph.specs.Shown.{heads}
-use Rattle.kept_names.specs.Building.{Build}
 use Rattle.kept_names.specs.Events.{event_thread, leaves_graph, loaded_word, MayDecide}
 use Rattle.kept_names.specs.Kept.{IsKept}
 use Rattle.kept_names.specs.Pictures.{Task, Names, picture}
@@ -33,7 +32,7 @@ use Rattle.heap_machine.specs.declared.pass.Pass.{Pass}
 use Rattle.grey_steps.specs.Ends.{block_stored}
 use Rattle.grey_steps.proofs.Pictures.{shading_keeps_names}
 use Rattle.barrier_steps.specs.declared.rows.FieldRow.{FieldRow}
-use Rattle.barrier_steps.specs.declared.rows.FieldRow.TheVariants.{LoadRegister, LoadShape, LoadLink, LoadField, LoadOwner, Shade, Store, StoreConstant, IdleLook, Answered}
+use Rattle.barrier_steps.specs.declared.rows.FieldRow.TheVariants.{LoadRegister, LoadShape, LoadLink, LoadField, LoadOwner, Shade, Store, Answered}
 use Rattle.barrier_steps.specs.declared.rows.Wanted.{Wanted}
 use Rattle.barrier_steps.specs.declared.rows.Wanted.TheVariants as wants
 use Rattle.barrier_steps.specs.declared.rows.FieldStore.{FieldStore}

@@ -9,9 +9,9 @@ use Rattle.block_store.specs.declared.Value.{Value}
 use Rattle.block_store.specs.declared.Value.TheVariants as values
 use Rattle.block_store.specs.Heaps.{Heap, put_at}
 use Rattle.block_store.specs.Payloads.{payload_of, target}
-use Rattle.block_store.specs.Colours.{white_word, grey_word}
+use Rattle.block_store.specs.Colours.{white_word}
 use Rattle.block_store.specs.Places.{extent, ColourOf, PayloadOf}
-use Rattle.heap_machine.specs.Operations.{CompareExchange, place_of, heap_after}
+use Rattle.heap_machine.specs.Operations.{place_of, heap_after}
 use Rattle.block_store.specs.Shapes.{shape_of}
 use Rattle.never_heap.specs.declared.Command.{Command}
 use Rattle.never_heap.specs.declared.Command.TheVariants as commands
@@ -19,7 +19,6 @@ use Rattle.never_heap.specs.declared.Reply.{Reply}
 use Rattle.never_heap.specs.declared.Reply.TheVariants as replies
 use Rattle.never_heap.specs.Bounds.{IsCommandInRange}
 use Rattle.never_heap.specs.Graphs.{register_of, Graph, object_of, field_of, with_register, with_field}
-use Rattle.object_lists.specs.Parts.{Link, Field}
 use Rattle.shown_graph.specs.Layouts.{shape_part}
 use Rattle.block_store.specs.Registers.{register_block, register_slot}
 use Rattle.shown_graph.specs.Words.{BlockWords, block_words, with_payload, value_word}
@@ -354,7 +353,7 @@ module _ (c : Config) (s : GraphState) (a : Name) (p : Pass) (k : Command) where
         compared true = λ i. with_field s.graph a (field_index k) (register_of s.graph p.thread (value_in (loads i).value).origin)
         compared false = refl
 
-    pub graph_steps : (row : FieldRow) (w : ℕ) → is_row_of k row ≡ true → is_deciding k row w ≡ true → ShownAt head s.graph p.thread k row w
+    pub graph_steps : (row : FieldRow) (w : ℕ) → is_row_of c p k row ≡ true → is_deciding k row w ≡ true → ShownAt head s.graph p.thread k row w
         → s.loads p.thread ≡ row_loading (extent c) k row → InHandAt s a p.thread k row
         → graph (row_event (extent c) a p.thread k row w) ≡ graph_after s.graph p.thread k
     graph_steps (LoadRegister wants.Object) w is n h loads hand =

@@ -195,7 +195,7 @@ module _ (c : Config) (s : Seen c) (f : FieldState) (at : AtPart c s (Serve f)) 
 
   -- and it is told of none, or looks
   told_or_looks : (s.spent ≡ 0) ⊎ Looks (extent c) f.pass f.command f.row w
-  told_or_looks = elim (looks (extent c) f.pass f.command f.row w fits.belongs at.part.going) [
+  told_or_looks = elim (looks c f.pass f.command f.row w fits.belongs at.part.going) [
     | inl none ↦ inl (told_made ∙ ap units_told (sym at.part.command) ∙ none)
     | inr look ↦ inr look
   ]
