@@ -1,31 +1,15 @@
 -- The part is decided behind its deciding event, and over once it has its reply.
 use Rattle.std.proofs.Common.{◌≡◌, ℕ, Bool, true, false, ◌||◌, not, cond, None, Some, IsSome, ltb, eqb, refl, arith, ap, ◌∙◌}
-use Rattle.block_store.specs.declared.Config.{Config}
-use Rattle.block_store.specs.declared.Payload.{Payload}
+use Rattle.barrier_steps.proofs.Common.{Config, Payload, Shape, Extent, extent, holds_nothing, Command, Name, Value, target, Width, FieldRow, Wanted, Pass, FieldStore, Way, shape_length, payload_in, shape_in, is_taken, before_store, first_row, row_got, field_reply, field_decided, after_object, after_shape, after_field, after_owner, after_register, after_store, on_way, way_from, way_on, row_holding, refers, length_decides, register_decides, is_deciding}
 use Rattle.block_store.specs.declared.Payload.TheVariants as payloads
-use Rattle.block_store.specs.declared.Shape.{Shape}
-use Rattle.block_store.specs.Places.{Extent, extent}
-use Rattle.heap_machine.specs.Holdings.{holds_nothing}
-use Rattle.never_heap.specs.declared.Command.{Command}
 use Rattle.never_heap.specs.declared.Command.TheVariants as commands
 use Rattle.never_heap.specs.declared.Reply.TheVariants as replies
-use Rattle.block_store.specs.declared.Name.{Name}
-use Rattle.block_store.specs.declared.Value.{Value}
-use Rattle.block_store.specs.Payloads.{target}
-use Rattle.block_store.specs.declared.Width.{Width}
 use Rattle.never_heap.specs.Steps.{blocks_of}
 use Rattle.never_heap.proofs.Answering.{makers_have_blocks}
-use Rattle.barrier_steps.specs.declared.rows.FieldRow.{FieldRow}
 use Rattle.barrier_steps.specs.declared.rows.FieldRow.TheVariants.{LoadRegister, LoadShape, LoadLink, LoadField, LoadOwner, Shade, Store, Answered}
-use Rattle.barrier_steps.specs.declared.rows.Wanted.{Wanted}
 use Rattle.barrier_steps.specs.declared.rows.Wanted.TheVariants as wants
-use Rattle.heap_machine.specs.declared.pass.Pass.{Pass}
-use Rattle.barrier_steps.specs.declared.rows.FieldStore.{FieldStore}
 use Rattle.barrier_steps.specs.declared.rows.FieldStore.TheVariants.{Moved, Pending, Exchanged, Compared}
-use Rattle.barrier_steps.specs.declared.rows.Way.{Way}
-use Rattle.barrier_steps.specs.Walks.{shape_length}
-use Rattle.barrier_steps.specs.Rows.{payload_in, shape_in, object_in, is_taken, before_store, first_row, row_got, field_reply, field_decided, after_object, after_shape, after_field, after_owner, after_register, after_store, on_way, way_from, way_on, row_holding}
-use Rattle.barrier_steps.specs.Deciding.{refers, length_decides, register_decides, is_deciding}
+use Rattle.barrier_steps.specs.Rows.{object_in}
 use Rattle.barrier_steps.proofs.Stores.{before_is, barrier_is, object_is, field_is, said_is, on_way_is, after_shape_is, after_owner_is}
 
 object_decided : (p : Payload) → field_decided (after_object p) ≡ not (refers p)

@@ -1,51 +1,30 @@
 -- What a row owes as its reply: from the deciding event on the answer of the step, by what the events
 -- read and as the value of a register of the graph, and that stays until it is given.
 use Rattle.std.proofs.Common.{◌≡◌, ℕ, Bool, true, cond, Some, refl, sym, ap, ◌∙◌, subst, inl, inr, eqb, eq-eqb, eqb-true, ◌<◌, false, length, ◌||◌, ◌≤◌, None}
-use Rattle.std.proofs.lemmas.Bool.{cases_Bool, cases_eq, ne_eqb}
-use Rattle.block_store.specs.declared.Config.{Config}
-use Rattle.block_store.specs.declared.Name.{Name}
-use Rattle.block_store.specs.declared.Payload.{Payload}
+use Rattle.barrier_steps.proofs.Common.{FieldFound, cases_Bool, cases_eq, ne_eqb, Config, Name, Payload, Value, payload_of, payload_code, target, extent, Command, Reply, IsCommandInRange, Graph, object_of, register_of, with_register, with_field, step, same_value, swapped, Pass, FieldRow, from_register, other_register, field_index, to_register, answered_register, is_say, takes_field, payload_or_nil, payload_in, row_got, field_reply, after_field, after_said, field_decided, is_row_of, FitsAt, is_deciding, answer, IsWordOf, ShownAt, Promises, NameShown, ShowsAt, due_at, KnownAt, REGISTERS, heads, GraphState, value_in, Follows, row_loading, row_event, after_event, InHandAt, IsAt, Heap}
 use Rattle.block_store.specs.declared.Payload.TheVariants as payloads
-use Rattle.block_store.specs.declared.Value.{Value}
 use Rattle.block_store.specs.declared.Value.TheVariants as values
-use Rattle.block_store.specs.Payloads.{payload_of, payload_code, target}
-use Rattle.block_store.specs.Places.{extent}
 use Rattle.block_store.proofs.PayloadWords as payload_words
-use Rattle.never_heap.specs.declared.Command.{Command}
 use Rattle.never_heap.specs.declared.Command.TheVariants as commands
-use Rattle.never_heap.specs.declared.Reply.{Reply}
 use Rattle.never_heap.specs.declared.Reply.TheVariants as replies
-use Rattle.never_heap.specs.Bounds.{IsCommandInRange}
-use Rattle.never_heap.specs.Graphs.{Graph, object_of, register_of, mutator_at, with_register, with_field}
+use Rattle.never_heap.specs.Graphs.{mutator_at}
 use Rattle.never_heap.proofs.GraphMoves.{same_from, register_with_register}
 use Rattle.shown_graph.proofs.Names.{same_is}
-use Rattle.never_heap.specs.Steps.{step, same_value, swapped}
 use Rattle.barrier_steps.proofs.Outcomes.{Refused, value_there, answer_is, object_refused, shape_refused, get_is, put_is, swap_is, cas_is, constant_is, mov_is, same_step_is, say_is, idle_is}
 use Rattle.shown_graph.specs.Read.{value_payload}
-use Rattle.heap_machine.specs.declared.pass.Pass.{Pass}
-use Rattle.barrier_steps.specs.declared.rows.FieldRow.{FieldRow}
 use Rattle.barrier_steps.specs.declared.rows.FieldRow.TheVariants.{LoadRegister, LoadShape, LoadField, LoadOwner, Shade, Store, StoreConstant, IdleLook, Answered}
 use Rattle.barrier_steps.specs.declared.rows.Wanted.TheVariants as wants
 use Rattle.barrier_steps.specs.declared.rows.FieldStore.TheVariants.{Moved, Pending, InField, Exchanged, Compared}
-use Rattle.barrier_steps.specs.Operands.{from_register, other_register, field_index, to_register, answered_register, is_say, takes_field}
-use Rattle.barrier_steps.specs.Rows.{payload_or_nil, payload_in, object_or_nil, object_in, row_got, field_reply, after_field, after_said, field_decided}
-use Rattle.barrier_steps.specs.Fits.{is_row_of, FitsAt}
-use Rattle.barrier_steps.specs.Deciding.{is_deciding}
-use Rattle.barrier_steps.specs.Replies.{answer, IsWordOf, ShownAt, Promises, NameShown, ShowsAt, StorePromises, due_before, due_at, KnownBefore, KnownAt}
-use Rattle.barrier_steps.proofs.Stores.{before_is, barrier_is, field_is, said_is, after_owner_is}
-use Rattle.block_store.specs.declared.TheConstants.{REGISTERS}
-use Rattle.shown_graph.specs.Shown.{IsSized, heads}
-use Rattle.shown_graph.specs.Events.{GraphState, value_in, Follows}
-use Rattle.barrier_steps.specs.declared.rows.FieldStore.{FieldStore}
-use Rattle.barrier_steps.specs.Projection.{row_loading, row_event, after_event, InHandAt, IsAt}
+use Rattle.barrier_steps.specs.Rows.{object_or_nil, object_in}
+use Rattle.barrier_steps.proofs.Stores.{before_is, barrier_is, after_owner_is}
+use Rattle.shown_graph.specs.Shown.{IsSized}
 use Rattle.barrier_steps.proofs.Named.{to_low}
 use Rattle.barrier_steps.proofs.FieldRows.{get_takes, swap_takes, taken_register}
-use Rattle.barrier_steps.proofs.Projecting.{swap_register, within, register_leaves, graph_stays}
+use Rattle.barrier_steps.proofs.Projecting.{swap_register, one_name, within, register_leaves, graph_stays}
 use Rattle.never_heap.proofs.FieldStores.{threads_with_field, registers_with_field}
 use Rattle.never_heap.proofs.Stepping.{has_field}
-use Rattle.block_store.specs.Heaps.{Heap}
 use Rattle.barrier_steps.proofs.Decisions.{decided_after, decided_once}
-use Rattle.barrier_steps.proofs.Showing.{row_shown, row_named, row_promises}
+use Rattle.barrier_steps.proofs.Showing.{NameIs, name_is, row_shown}
 
 -- what a value's word says is that value
 one_payload : (head : Name → ℕ) (u v : Value) → value_payload head u ≡ value_payload head v → ((x y : Name) → u ≡ values.Ref x → v ≡ values.Ref y → head x ≡ head y → x ≡ y) → u ≡ v
@@ -150,35 +129,14 @@ said_register (commands.Say s) is = refl
 said_register _ is = absurd cc
 
 module _ (g : Graph) (t : ℕ) (k : Command) where
-  -- a decided row that reads a name, or stores the value, replies with the value of its register
-  abbrev HasBefore : FieldStore → Reply → Type 0
-  HasBefore (Pending word value) reply = reply ≡ replies.Val (register_of g t (to_register k))
-  HasBefore _ reply = Unit {0}
+  -- at this row the reply is due
+  abbrev Owes : Reply → FieldRow → Type 0
+  Owes reply row = (due_at g t k row ≡ Some reply) × KnownAt g t k row
 
-  abbrev HasRegister : Reply → FieldRow → Type 0
-  HasRegister reply (Shade r store) = HasBefore store reply
-  HasRegister reply (Store store) = HasBefore store reply
-  HasRegister reply row = ShowsAt g t k row reply
-
-  has_shows : (row : FieldRow) (reply : Reply) → HasRegister reply row → ShowsAt g t k row reply
-  has_shows (LoadOwner word) reply h = h
-  has_shows _ reply h = tt
-
-  field_row : (reply : Reply) (w : ℕ) → takes_field k ≡ true → reply ≡ replies.Val (register_of g t (to_register k)) → HasRegister reply (after_field w (payload_in w))
-  field_row reply w is e = field_is (HasRegister reply) w (payload_in w) (λ v. e)
-      (e ∙ ap (λ r. replies.Val (register_of g t r)) (sym (taken_register k is)))
-
-  -- a promised reply that shows its register is due
-  promised_before : (store : FieldStore) (reply : Reply) → StorePromises store reply → HasBefore store reply → (due_before g t k store ≡ Some reply) × KnownBefore g t k store
-  promised_before (Pending word value) reply p e = (ap Some (sym e), let same : replies.Val value ≡ replies.Val (register_of g t (to_register k)) = sym p ∙ e in cc)
-  promised_before _ reply p e = absurd p
-
-  promised_due : (head : Name → ℕ) (row : FieldRow) (reply : Reply) → Promises head row reply → HasRegister reply row → (due_at g t k row ≡ Some reply) × KnownAt g t k row
-  promised_due head (LoadOwner word) reply p e = (ap Some (sym e), tt)
-  promised_due head (Shade r store) reply p e = promised_before store reply p e
-  promised_due head (Store store) reply p e = promised_before store reply p e
-  promised_due head (Answered given) reply p e = (ap Some p, tt)
-  promised_due head _ reply p e = absurd p
+  -- one that is due shows its register
+  due_shows : (row : FieldRow) (reply : Reply) → due_at g t k row ≡ Some reply → ShowsAt g t k row reply
+  due_shows (LoadOwner word) reply e = cc
+  due_shows _ reply e = tt
 
   -- before the deciding event none is due
   pub none_due : (row : FieldRow) → field_decided row ≡ false → (due_at g t k row ≡ None) × KnownAt g t k row
@@ -195,21 +153,30 @@ module _ (g : Graph) (t : ℕ) (k : Command) where
   some_due (Answered given) e = (given, refl)
   some_due _ e = absurd cc
 
-  due_has : (row : FieldRow) (reply : Reply) → due_at g t k row ≡ Some reply → HasRegister reply row
-  due_has (LoadOwner word) reply e = cc
-  due_has (Shade r (Pending word value)) reply e = cc
-  due_has (Store (Pending word value)) reply e = cc
-  due_has _ reply e = tt
+  -- the value of the command's register is due where its word was taken or is shown
+  field_owes : (head : Name → ℕ) (w : ℕ) (v : Value) → IsWordOf head v w → takes_field k ≡ true → register_of g t (to_register k) ≡ v
+      → Owes (replies.Val v) (after_field w (payload_in w))
+  field_owes head w v h takes e = value_cases head (λ q u. register_of g t (to_register k) ≡ u → Owes (replies.Val u) (after_field w q)) w v h
+      (λ e. (ap (λ x. Some (replies.Val x)) e, sym e)) (λ n e. (ap (λ x. Some (replies.Val x)) e, sym e))
+      (λ a to e. (ap (λ r. Some (replies.Val (register_of g t r))) (taken_register k takes) ∙ ap (λ x. Some (replies.Val x)) e, tt)) e
 
-  still_has : (c : Config) (p : Pass) (row : FieldRow) (w : ℕ) (reply : Reply) → field_decided row ≡ true → HasRegister reply row → HasRegister reply (row_got (extent c) p k row w)
-  still_has c p (LoadOwner word) w reply h e = after_owner_is (HasRegister reply) p k word (object_in w) (λ say. tt)
+  said_owes : (head : Name → ℕ) (w : ℕ) (v : Value) → IsWordOf head v w → register_of g t (answered_register k) ≡ v
+      → Owes (replies.Val v) (after_said w (payload_in w))
+  said_owes head w v h e = value_cases head (λ q u. register_of g t (answered_register k) ≡ u → Owes (replies.Val u) (after_said w q)) w v h
+      (λ e. (refl, tt)) (λ n e. (refl, tt)) (λ a to e. (ap (λ x. Some (replies.Val x)) e, tt)) e
+
+  -- a decided row goes on owing it, where a name that it reads is its register's
+  still_due : (c : Config) (p : Pass) (row : FieldRow) (w : ℕ) (reply : Reply) → field_decided row ≡ true → due_at g t k row ≡ Some reply → KnownAt g t k row
+      → NameIs g t k row w → Owes reply (row_got (extent c) p k row w)
+  still_due c p (LoadOwner word) w reply d due known shown =
+      after_owner_is (Owes reply) p k word (object_in w) (λ say. (ap (λ x. Some (replies.Val x)) shown ∙ due, tt))
       (λ takes same.
-      let says = e ∙ ap (λ r. replies.Val (register_of g t r)) same in
-      before_is (HasRegister reply) p (Pending word (object_in w)) (λ _. says) (λ _. says))
-  still_has c p (Shade r store) w reply h e = barrier_is (HasRegister reply) _ store (λ _. e) (λ _. e)
-  still_has c p (Store (Pending word value)) w reply h e = tt
-  still_has c p (Answered given) w reply h e = tt
-  still_has c p _ w reply h e = absurd cc
+      let owes : Owes reply (Store (Pending word (object_in w))) = (ap (λ r. Some (replies.Val (register_of g t r))) (sym same) ∙ due, shown ∙ ap (register_of g t) same) in
+      before_is (Owes reply) p (Pending word (object_in w)) (λ _. owes) (λ _. owes))
+  still_due c p (Shade r store) w reply d due known shown = barrier_is (Owes reply) _ store (λ _. (due, known)) (λ _. (due, known))
+  still_due c p (Store (Pending word value)) w reply d due known shown = (ap (λ x. Some (replies.Val x)) known ∙ due, tt)
+  still_due c p (Answered given) w reply d due known shown = (due, tt)
+  still_due c p _ w reply d due known shown = absurd cc
 
 -- a register that was stored has the value
 stored : (n : ℕ) (g : Graph) (t d : ℕ) (v : Value) → IsSized n g → t < n → d < REGISTERS → register_of (with_register g t d v) t d ≡ v
@@ -226,100 +193,92 @@ sized_put n g a i v sized there = record {
   sixteen = λ t tn. ap length (registers_with_field g a i v (has_field g a i there) t) ∙ sized.sixteen t tn;
 }
 
--- the deciding event gives such a reply
+-- at the deciding event the step's answer falls due
 module _ (c : Config) (head : Name → ℕ) (s : GraphState) (a : Name) (p : Pass) (k : Command) (w : ℕ) where
   abbrev after : FieldRow → Graph
   after row = (after_event (extent c) s (row_event (extent c) a p.thread k row w)).graph
 
-  abbrev Has : Graph → FieldRow → Type 0
-  Has g row = HasRegister g p.thread k (answer s.graph p.thread k) row
+  abbrev Due : Graph → FieldRow → Type 0
+  Due g row = Owes g p.thread k (answer s.graph p.thread k) row
 
-  refused_has : (g : Graph) (row : FieldRow) → Refused s.graph row (step s.graph p.thread k) → Has g row
-  refused_has g row r = subst (Has g) (sym r.1) tt
+  refused_due : (g : Graph) (row : FieldRow) → Refused s.graph row (step s.graph p.thread k) → Due g row
+  refused_due g row r = subst (Due g) (sym r.1) (ap Some (sym (answer_is s.graph p.thread k _ r.2)), tt)
 
   -- where it stores the value of the field in the command's register
-  field_has : (g : Graph) → step s.graph p.thread k ≡ (with_register g p.thread (to_register k) (value_there s.graph k a), replies.Val (value_there s.graph k a))
-      → IsSized c.threads g → p.thread < c.threads → IsCommandInRange k → takes_field k ≡ true
-      → Has (with_register g p.thread (to_register k) (value_there s.graph k a)) (after_field w (payload_in w))
-  field_has g e sized low range takes = field_row (with_register g p.thread (to_register k) (value_there s.graph k a)) p.thread k _ w takes
-      (answer_is s.graph p.thread k _ e ∙ ap replies.Val (sym (stored c.threads g p.thread (to_register k) (value_there s.graph k a) sized low (to_low k range))))
+  field_due : (g : Graph) → step s.graph p.thread k ≡ (with_register g p.thread (to_register k) (value_there s.graph k a), replies.Val (value_there s.graph k a))
+      → IsSized c.threads g → p.thread < c.threads → IsCommandInRange k → takes_field k ≡ true → IsWordOf head (value_there s.graph k a) w
+      → Due (with_register g p.thread (to_register k) (value_there s.graph k a)) (after_field w (payload_in w))
+  field_due g e sized low range takes h =
+      let to = with_register g p.thread (to_register k) (value_there s.graph k a) in
+      subst (λ y. Owes to p.thread k y (after_field w (payload_in w))) (sym (answer_is s.graph p.thread k _ e))
+      (field_owes to p.thread k head w (value_there s.graph k a) h takes (stored c.threads g p.thread (to_register k) (value_there s.graph k a) sized low (to_low k range)))
 
-  row_has : (row : FieldRow) → IsSized c.threads s.graph → FitsAt c p k row
+  -- the word is that of the field of the object in hand
+  word_there : (found : FieldFound s.graph p.thread (from_register k) (field_index k)) → register_of s.graph p.thread (from_register k) ≡ values.Ref a
+      → IsWordOf head (value_there s.graph k found.name) w → IsWordOf head (value_there s.graph k a) w
+  word_there found hand h = subst (λ b. IsWordOf head (value_there s.graph k b) w) (one_name (register_of s.graph p.thread (from_register k)) found.name a found.refers hand) h
+
+  row_decides : (row : FieldRow) → IsSized c.threads s.graph → FitsAt c p k row
       → ShownAt head s.graph p.thread k row w → s.loads p.thread ≡ row_loading (extent c) k row
-      → InHandAt s a p.thread k row → is_deciding k row w ≡ true → Has (after row) (row_got (extent c) p k row w)
-  row_has (LoadRegister wants.Object) sized fits h loads hand n =
-      refused_has (after (LoadRegister wants.Object)) _ (object_refused head s.graph p.thread w k fits.belongs h n)
-  row_has (LoadRegister (wants.Second word)) sized fits h loads hand n = tt
-  row_has (LoadRegister wants.Shown) sized fits h loads hand n =
-      said_is (Has (after (LoadRegister wants.Shown))) w (payload_in w) (λ v. tt)
-      (answer_is s.graph p.thread k _ (say_is s.graph p.thread k fits.belongs)
-      ∙ ap (λ r. replies.Val (register_of s.graph p.thread r)) (sym (said_register k fits.belongs))
-      ∙ ap (λ g. replies.Val (register_of g p.thread (answered_register k))) (sym (register_leaves c s p.thread k wants.Shown w).1))
-  row_has (LoadShape x) sized fits h loads hand n =
-      refused_has (after (LoadShape x)) _ (shape_refused c p s.graph p.thread x w k fits.belongs h n)
-  row_has (LoadField way) sized fits h loads hand n =
-      field_has s.graph (get_is s.graph p.thread k a fits.belongs (within s.graph p.thread k a h.0 hand))
-      sized fits.thread.thread fits.command (get_takes k fits.belongs)
-  row_has (Store (Exchanged way word)) sized fits h loads hand n =
+      → InHandAt s a p.thread k row → is_deciding k row w ≡ true → Due (after row) (row_got (extent c) p k row w)
+  row_decides (LoadRegister wants.Object) sized fits h loads hand n =
+      refused_due (after (LoadRegister wants.Object)) _ (object_refused head s.graph p.thread w k fits.belongs h n)
+  row_decides (LoadRegister (wants.Second word)) sized fits h loads hand n = (ap Some (promised head c s.graph p.thread p k (LoadRegister (wants.Second word)) w fits.belongs n h), tt)
+  row_decides (LoadRegister wants.Shown) sized fits h loads hand n =
+      subst (λ y. Owes (after (LoadRegister wants.Shown)) p.thread k y (after_said w (payload_in w))) (sym (answer_is s.graph p.thread k _ (say_is s.graph p.thread k fits.belongs)))
+      (said_owes (after (LoadRegister wants.Shown)) p.thread k head w (register_of s.graph p.thread (from_register k)) h
+      (ap (λ g. register_of g p.thread (answered_register k)) (register_leaves c s p.thread k wants.Shown w).1 ∙ ap (register_of s.graph p.thread) (said_register k fits.belongs)))
+  row_decides (LoadShape x) sized fits h loads hand n =
+      refused_due (after (LoadShape x)) _ (shape_refused c p s.graph p.thread x w k fits.belongs h n)
+  row_decides (LoadField way) sized fits h loads hand n =
+      field_due s.graph (get_is s.graph p.thread k a fits.belongs (within s.graph p.thread k a h.0 hand))
+      sized fits.thread.thread fits.command (get_takes k fits.belongs) (word_there h.0 hand h.1)
+  row_decides (Store (Exchanged way word)) sized fits h loads hand n =
       let i = field_index k in
       let x = register_of s.graph p.thread (to_register k) in
       let has = within s.graph p.thread k a h.0 hand in
       let swaps = swap_register k fits.belongs in
-      subst (λ d. Has (swapped s.graph p.thread a i d) (after_field w (payload_in w)))
+      subst (λ d. Due (swapped s.graph p.thread a i d) (after_field w (payload_in w)))
       (sym (ap (λ l. (value_in l.value).origin) loads ∙ swaps))
-      (field_has (with_field s.graph a i x)
+      (field_due (with_field s.graph a i x)
       (swap_is s.graph p.thread k a fits.belongs has ∙ ap (λ d. (swapped s.graph p.thread a i d, replies.Val (value_there s.graph k a))) swaps)
-      (sized_put c.threads s.graph a i x sized has.1) fits.thread.thread fits.command (swap_takes k fits.belongs))
-  row_has (Store (Pending word value)) sized fits h loads hand n = absurd cc
-  row_has (Store store) sized fits h loads hand n = tt
-  row_has StoreConstant sized fits h loads hand n = tt
-  row_has IdleLook sized fits h loads hand n = tt
-  row_has _ sized fits h loads hand n = absurd cc
+      (sized_put c.threads s.graph a i x sized has.1) fits.thread.thread fits.command (swap_takes k fits.belongs) (word_there h.0 hand h.1))
+  row_decides (Store (Pending word value)) sized fits h loads hand n = absurd cc
+  row_decides (Store store) sized fits h loads hand n = (ap Some (promised head c s.graph p.thread p k (Store store) w fits.belongs n h), tt)
+  row_decides StoreConstant sized fits h loads hand n = (ap Some (promised head c s.graph p.thread p k StoreConstant w fits.belongs n h), tt)
+  row_decides IdleLook sized fits h loads hand n = (ap Some (promised head c s.graph p.thread p k IdleLook w fits.belongs n h), tt)
+  row_decides _ sized fits h loads hand n = absurd cc
 
-  pub row_shows : (row : FieldRow) → IsSized c.threads s.graph → FitsAt c p k row
-      → ShownAt head s.graph p.thread k row w → s.loads p.thread ≡ row_loading (extent c) k row
-      → InHandAt s a p.thread k row → is_deciding k row w ≡ true
+  pub row_shows : (row : FieldRow) → IsSized c.threads s.graph → FitsAt c p k row → ShownAt head s.graph p.thread k row w
+      → s.loads p.thread ≡ row_loading (extent c) k row → InHandAt s a p.thread k row → is_deciding k row w ≡ true
       → ShowsAt (after row) p.thread k (row_got (extent c) p k row w) (answer s.graph p.thread k)
-  row_shows row sized fits h loads hand n = has_shows (after row) p.thread k
-      (row_got (extent c) p k row w) (answer s.graph p.thread k) (row_has row sized fits h loads hand n)
+  row_shows row sized fits h loads hand n = due_shows (after row) p.thread k (row_got (extent c) p k row w) (answer s.graph p.thread k)
+      (row_decides row sized fits h loads hand n).0
 
 module _ (c : Config) (m : ℕ) (K : Name → Type 0) (at : Name → ℕ → ℕ) (few : c.blocks ≤ 65535) (low : m ≤ c.blocks) (s : GraphState) (follows : Follows c.width c.threads m K at s) (h : Heap)
     (a : Name) (p : Pass) (k : Command) (row : FieldRow) (w : ℕ) where
-  abbrev next : FieldRow
-  next = row_got (extent c) p k row w
-
-  abbrev reply : Reply
-  reply = answer s.graph p.thread k
-
   abbrev on : Graph
   on = (after_event (extent c) s (row_event (extent c) a p.thread k row w)).graph
 
   -- in graph g the reply that is due is the one that was, or at the deciding event the step's
-  abbrev IsDue : Graph → Type 0
-  IsDue g = (due_at g p.thread k next ≡ cond (is_deciding k row w) (Some reply) (due_at s.graph p.thread k row)) × KnownAt g p.thread k next
+  abbrev IsDue : Bool → Graph → Type 0
+  IsDue b g = (due_at g p.thread k (row_got (extent c) p k row w) ≡ cond b (Some (answer s.graph p.thread k)) (due_at s.graph p.thread k row))
+      × KnownAt g p.thread k (row_got (extent c) p k row w)
 
-  due_is : (g : Graph) (b : Bool) → is_deciding k row w ≡ b
-      → (due_at g p.thread k next ≡ cond b (Some reply) (due_at s.graph p.thread k row)) × KnownAt g p.thread k next → IsDue g
-  due_is g b is out = (out.0 ∙ ap (λ b. cond b (Some reply) (due_at s.graph p.thread k row)) (sym is), out.1)
-
-  pub row_due : FitsAt c p k row → IsAt (extent c) s h p k row w → InHandAt s a p.thread k row → KnownAt s.graph p.thread k row → IsDue on
+  pub row_due : FitsAt c p k row → IsAt (extent c) s h p k row w → InHandAt s a p.thread k row → KnownAt s.graph p.thread k row
+      → IsDue (is_deciding k row w) on
   row_due fits is hand known = elim (cases_Bool (field_decided row)) [
     | inl d ↦
         let quiet : is_deciding k row w ≡ false = decided_once k row w d in
         let due = some_due s.graph p.thread k row d in
-        let has = due_has s.graph p.thread k row due.0 due.1 in
-        let says = kept (heads at) c p k row w due.0 (row_promises c m K at few low s follows h p k row w due.0 fits is known due.1) (row_named c m K at few low s follows h p k row w due.0 fits is (has_shows s.graph p.thread k row due.0 has)) in
-        let out = promised_due s.graph p.thread k (heads at) next due.0 says (still_has s.graph p.thread k c p row w due.0 d has) in
-        subst IsDue (sym (graph_stays c s a p k row w quiet)) (due_is s.graph false quiet (out.0 ∙ sym due.1, out.1))
+        let out = still_due s.graph p.thread k c p row w due.0 d due.1 known (name_is c m K at few low s follows h p k row w fits is) in
+        subst (λ b. IsDue b on) (sym quiet) (subst (IsDue false) (sym (graph_stays c s a p k row w quiet)) (out.0 ∙ sym due.1, out.1))
     | inr u ↦ elim (cases_Bool (is_deciding k row w)) [
-      | inl n ↦
-          let shown = row_shown c m K at few low s follows h p k row w fits is in
-          due_is on true n (promised_due on p.thread k (heads at) next reply
-          (promised (heads at) c s.graph p.thread p k row w fits.belongs n shown)
-          (row_has c (heads at) s a p k w row follows.shows.sized fits shown is.loads hand n))
+      | inl n ↦ subst (λ b. IsDue b on) (sym n) (row_decides c (heads at) s a p k w row follows.shows.sized fits
+          (row_shown c m K at few low s follows h p k row w fits is) is.loads hand n)
       | inr n ↦
           let still : (field_decided row || is_deciding k row w) ≡ false = rw (u, n) refl in
-          let out = none_due on p.thread k next (decided_after c p k row w ∙ still) in
-          due_is on false n (out.0 ∙ sym (none_due s.graph p.thread k row u).0, out.1)
+          let out = none_due on p.thread k (row_got (extent c) p k row w) (decided_after c p k row w ∙ still) in
+          subst (λ b. IsDue b on) (sym n) (out.0 ∙ sym (none_due s.graph p.thread k row u).0, out.1)
     ]
   ]

@@ -1,42 +1,23 @@
 -- What holds of the rows: their places are in range, and a row that fits becomes one that fits.
 use Rattle.std.proofs.Common.{◌≡◌, ◌≢◌, ℕ, ◌<◌, ◌≤◌, ◌+◌, Bool, true, false, ◌||◌, cond, IsSome, is_some, arith, refl, sym, subst, ap, ◌∙◌, inl, inr, leb}
-use Rattle.std.proofs.lemmas.Bool.{cases_Bool, cases_lt, lt-ltb, le-ltb, le-leb}
-use Rattle.block_store.specs.declared.Config.{Config}
-use Rattle.block_store.specs.declared.TheConstants.{REGISTERS}
-use Rattle.block_store.specs.declared.Payload.{Payload}
+use Rattle.barrier_steps.proofs.Common.{cases_Bool, cases_lt, lt-ltb, le-ltb, Config, REGISTERS, Payload, Shape, Value, target, payload_of, payload_code, payload-code, target-number, target-nil, extent, PayloadOf, register_block, register_slot, payloads, IsShape, Command, IsCommandInRange, place_of, CanHold, Pass, FieldRow, Wanted, GreyRow, is_shading, block_stored, block_stays, FieldStore, Way, to_register, answered_register, field_index, constant_word, is_get, is_say, goes_to_field, is_swap, is_cas, takes_field, answers_value, stores_in_field, shape_length, links_to, FieldState, register_place, payload_in, shape_in, stored_word, shaded_for, before_store, first_row, at_first_row, register_wanted, store_want, row_want, row_got, field_got, after_object, after_shape, after_field, after_said, after_owner, after_register, after_store, on_way, way_from, way_on, IsThread, IsWalk, IsThere, IsBarrier, is_store_of, StoreFits, is_wanted_by, is_row_of, FitsAt, FieldFits, ReadsAt, FieldReads}
+use Rattle.std.proofs.lemmas.Bool.{le-leb}
 use Rattle.block_store.specs.declared.Payload.TheVariants as payloads
-use Rattle.block_store.specs.declared.Shape.{Shape}
-use Rattle.block_store.specs.declared.Value.{Value}
-use Rattle.block_store.specs.Payloads.{target, payload_of, payload_code, IsPayload}
-use Rattle.block_store.proofs.PayloadWords.{payload-code, target-number, target-nil}
-use Rattle.block_store.specs.Places.{extent, in_range, is_block, IsBlock, PayloadOf}
-use Rattle.block_store.specs.Registers.{register_block, register_slot, registers_end}
-use Rattle.block_store.specs.Widths.{payloads}
+use Rattle.block_store.specs.Payloads.{IsPayload}
+use Rattle.block_store.specs.Places.{in_range, is_block, IsBlock}
+use Rattle.block_store.specs.Registers.{registers_end}
 use Rattle.block_store.proofs.Registers.{in_array, root_end, register_some, slot_low}
-use Rattle.block_store.specs.Shapes.{IsShape}
-use Rattle.never_heap.specs.declared.Command.{Command}
 use Rattle.never_heap.specs.declared.Command.TheVariants as commands
-use Rattle.never_heap.specs.Bounds.{IsCommandInRange}
-use Rattle.heap_machine.specs.Operations.{place_of, Fits}
-use Rattle.heap_machine.specs.Readings.{CanHold, StoresHeld}
-use Rattle.heap_machine.specs.declared.pass.Pass.{Pass}
-use Rattle.barrier_steps.specs.declared.rows.FieldRow.{FieldRow}
+use Rattle.heap_machine.specs.Operations.{Fits}
+use Rattle.heap_machine.specs.Readings.{StoresHeld}
 use Rattle.barrier_steps.specs.declared.rows.FieldRow.TheVariants.{LoadRegister, LoadShape, LoadLink, LoadField, LoadOwner, Shade, Store, StoreConstant}
-use Rattle.barrier_steps.specs.declared.rows.Wanted.{Wanted}
 use Rattle.barrier_steps.specs.declared.rows.Wanted.TheVariants as wants
-use Rattle.grey_steps.specs.declared.rows.GreyRow.{GreyRow}
 use Rattle.grey_steps.specs.declared.rows.GreyRow.TheVariants.{TakeOwn, ShadeStored, PutOwn, Shaded}
 use Rattle.grey_steps.specs.Rows as marking
-use Rattle.grey_steps.specs.Ends.{is_shading, block_stored}
-use Rattle.grey_steps.proofs.Ends.{block_stays}
 use Rattle.grey_steps.proofs.Ranges as ranges
-use Rattle.barrier_steps.specs.declared.rows.FieldStore.{FieldStore}
 use Rattle.barrier_steps.specs.declared.rows.FieldStore.TheVariants.{Moved, Pending, InField, Exchanged, Compared}
-use Rattle.barrier_steps.specs.declared.rows.Way.{Way}
-use Rattle.barrier_steps.specs.Operands.{to_register, answered_register, field_index, constant_word, is_get, is_say, goes_to_field, is_swap, is_cas, takes_field, answers_value, stores_in_field}
-use Rattle.barrier_steps.specs.Walks.{shape_length, links_to}
-use Rattle.barrier_steps.specs.Rows.{FieldState, register_place, payload_in, shape_in, object_in, stored_word, shaded_for, before_store, first_row, at_first_row, register_wanted, store_want, row_want, row_got, field_got, after_object, after_shape, after_field, after_said, after_owner, after_register, after_store, on_way, way_from, way_on}
-use Rattle.barrier_steps.specs.Fits.{IsThread, IsLoaded, IsWalk, IsThere, IsBarrier, is_store_of, StoreFits, is_wanted_by, WantedFits, is_row_of, RowFits, FitsAt, FieldFits, ReadsAt, FieldReads}
+use Rattle.barrier_steps.specs.Rows.{object_in}
+use Rattle.barrier_steps.specs.Fits.{IsLoaded, WantedFits, RowFits}
 use Rattle.barrier_steps.proofs.Named.{to_low, wanted_low, link_low, field_low, payload_cases, shape_fits}
 use Rattle.barrier_steps.proofs.Stores.{before_is, barrier_is, at_block_is, after_shape_is, after_owner_is}
 

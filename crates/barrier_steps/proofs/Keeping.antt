@@ -1,40 +1,24 @@
 -- Each event of a command keeps all that a heap keeps in either phase, and leaves the phase, the
 -- cursor and the grey blocks as they are.
 use Rattle.std.proofs.Common.{◌≡◌, ℕ, Bool, true, false, eqb, refl, sym, ap, ◌∙◌, inl, inr, eqb-true, ◌<◌, cond, IsSome, subst}
-use Rattle.std.proofs.lemmas.Bool.{cases_Bool, cases_eq, ne_eqb}
-use Rattle.block_store.specs.declared.Config.{Config}
-use Rattle.block_store.specs.Colours.{is_grey, white_word}
+use Rattle.barrier_steps.proofs.Common.{cases_Bool, cases_eq, ne_eqb, Config, white_word, Heap, put_at, extent, Phase, ColourOf, PayloadOf, Extent, payloads, Command, holds_nothing, heap_after, place_of, Pass, GreyRow, is_shading, block_stored, grey_over, FieldRow, FitsAt, FieldFits, IsBarrier, StoreFits, ReadsAt, FieldReads, FieldState, shades, row_want, field_want, row_holding, payload_in, shape_in, at_first_row, stored_word, field_place, store_want, way_on, after_field, row_got, word_stored, field_got, field_reply, changed, payload_of, target, is_sweep, cycle_of, changed_map, changed_self, target-number, target-nil, CanHold, IsHeld, NotFree, block_stays, FieldStore, constant_word}
+use Rattle.block_store.specs.Colours.{is_grey}
 use Rattle.block_store.proofs.ColourWords.{not_grey_white}
-use Rattle.block_store.specs.Heaps.{Heap, put_at}
-use Rattle.block_store.specs.Places.{extent, Phase, Cursor, ColourOf, PayloadOf, Extent}
-use Rattle.block_store.specs.Widths.{payloads}
-use Rattle.never_heap.specs.declared.Command.{Command}
-use Rattle.heap_machine.specs.Holdings.{sweep_held, Holding, holds_nothing, grey_held, tricolour_held, free_held}
-use Rattle.heap_machine.specs.Operations.{CompareExchange, heap_after, Exchange, place_of}
+use Rattle.block_store.specs.Places.{Cursor}
+use Rattle.heap_machine.specs.Holdings.{sweep_held, Holding, grey_held, tricolour_held, free_held}
+use Rattle.heap_machine.specs.Operations.{CompareExchange, Exchange}
 use Rattle.heap_machine.specs.Sweeping.{no_claim}
-use Rattle.heap_machine.specs.declared.pass.Pass.{Pass}
-use Rattle.grey_steps.specs.declared.rows.GreyRow.{GreyRow}
 use Rattle.grey_steps.specs.declared.rows.GreyRow.TheVariants as greys
-use Rattle.grey_steps.specs.Ends.{is_shading, block_stored}
-use Rattle.grey_steps.specs.Rows.{grey_holding, grey_over}
+use Rattle.grey_steps.specs.Rows.{grey_holding}
 use Rattle.grey_steps.specs.Rows as marking
-use Rattle.barrier_steps.specs.declared.rows.FieldRow.{FieldRow}
 use Rattle.barrier_steps.specs.declared.rows.FieldRow.TheVariants.{Shade, Store, LoadRegister, LoadShape, LoadLink, LoadField, LoadOwner, StoreConstant, IdleLook, Answered}
 use Rattle.barrier_steps.specs.declared.rows.FieldStore.TheVariants.{Compared, Moved, Pending, InField, Exchanged}
-use Rattle.barrier_steps.specs.Fits.{FitsAt, FieldFits, IsBarrier, StoreFits, ReadsAt, FieldReads}
-use Rattle.barrier_steps.specs.Rows.{FieldState, shades, row_want, field_want, row_holding, field_holding, payload_in, shape_in, object_in, at_first_row, stored_word, field_place, store_want, way_on, after_field, row_got, word_stored, field_got, field_reply, held_before_store}
+use Rattle.barrier_steps.specs.Rows.{field_holding, object_in, held_before_store}
 use Rattle.barrier_steps.proofs.FieldRows.{barrier_shades, stores_at}
-use Rattle.block_store.specs.Counts.{changed}
-use Rattle.block_store.specs.Payloads.{payload_of, target}
-use Rattle.block_store.specs.Phases.{is_sweep, cycle_of}
-use Rattle.block_store.proofs.Functions.{changed_map, changed_self}
-use Rattle.block_store.proofs.PayloadWords.{target-number, target-nil}
 use Rattle.never_heap.specs.declared.Command.TheVariants as commands
 use Rattle.heap_machine.specs.Grey.{GreyHolding, GreyKept}
 use Rattle.heap_machine.specs.HeapKept.{CanRefer}
 use Rattle.heap_machine.specs.PhaseKept.{PhaseKept}
-use Rattle.heap_machine.specs.Readings.{CanHold, IsHeld}
-use Rattle.heap_machine.specs.Solid.{NotFree}
 use Rattle.heap_machine.specs.Tricolour.{TricolourHolding, NotWhite, TricolourKept}
 use Rattle.heap_machine.proofs.GreyBlocks.{kept_other}
 use Rattle.heap_machine.proofs.Held.{held_after}
@@ -43,10 +27,8 @@ use Rattle.heap_machine.proofs.Reusing.{reuse_other, reuse_stays}
 use Rattle.heap_machine.proofs.Solids.{solid_payload}
 use Rattle.heap_machine.proofs.Tricolours.{lets_go, kept_payload}
 use Rattle.grey_steps.specs.declared.rows.GreyRow.TheVariants.{Shaded}
-use Rattle.grey_steps.proofs.Ends.{shading_goes_on, block_stays}
+use Rattle.grey_steps.proofs.Ends.{shading_goes_on}
 use Rattle.grey_steps.proofs.Reuses as reuses
-use Rattle.barrier_steps.specs.declared.rows.FieldStore.{FieldStore}
-use Rattle.barrier_steps.specs.Operands.{constant_word}
 use Rattle.barrier_steps.proofs.Decisions.{way_quiet, shape_quiet, register_quiet, owner_quiet}
 use Rattle.barrier_steps.proofs.Named.{payload_cases}
 use Rattle.barrier_steps.proofs.Stores.{barrier_is, either}

@@ -1,56 +1,32 @@
 -- Each event of a command is one that keeps what the graph reaches, or changes nothing that those see.
 use Rattle.std.proofs.Common.{◌≡◌, ℕ, ◌<◌, ◌≤◌, Bool, true, false, not, cond, Option, None, Some, IfSome, List, [], ◌∷◌, ◌++◌, refl, arith, sym, ap, ◌∙◌, subst, inl, inr, eqb}
-use Rattle.std.proofs.lemmas.Bool.{both_ways, cases_Bool}
-use Rattle.block_store.specs.declared.Config.{Config}
-use Rattle.block_store.specs.declared.Name.{Name}
+use Rattle.barrier_steps.proofs.Common.{cases_Bool, Config, Name, changed, Heap, target, is_sweep, cycle_of, Extent, extent, Phase, ColourOf, changed_map, changed_self, target-nil, Command, Graph, ValueLoad, Loading, Event, GraphState, IsPrompt, value_at, value_in, heads, place_of, heap_after, IsHeld, NotFree, Pass, block_stored, FieldRow, Wanted, FieldStore, refers, length_decides, register_decides, is_deciding, FitsAt, FieldFits, FieldReads, store_loading, wanted_loading, row_loading, register_event, store_event, row_event, after_event, InHandAt, answer, graph_after, ShownAt, FieldState, payload_in, shape_in, stored_word, shades, reads_beside_graph, word_stored, row_want, field_want, field_got, field_reply, is_taken, shape_length, takes_field}
+use Rattle.std.proofs.lemmas.Bool.{both_ways}
 use Rattle.block_store.specs.Colours.{is_free}
-use Rattle.block_store.specs.Counts.{changed}
-use Rattle.block_store.specs.Heaps.{Heap}
-use Rattle.block_store.specs.Payloads.{target}
-use Rattle.block_store.specs.Phases.{is_sweep, cycle_of}
-use Rattle.block_store.specs.Places.{Extent, extent, Phase, ColourOf}
-use Rattle.block_store.proofs.Functions.{funext, changed_map, changed_self}
-use Rattle.block_store.proofs.PayloadWords.{target-nil}
-use Rattle.never_heap.specs.declared.Command.{Command}
+use Rattle.block_store.proofs.Functions.{funext}
 use Rattle.never_heap.specs.declared.Entry.{Entry}
-use Rattle.never_heap.specs.Graphs.{Graph}
 use Rattle.never_heap.specs.Histories.{HistoryItem, Did, after}
 use Rattle.never_heap.proofs.Answering.{step_not_full}
 use Rattle.shown_graph.specs.Events as commanded
-use Rattle.shown_graph.specs.Events.{ValueLoad, Loading, Event, GraphState, IsPrompt, value_at, value_in}
-use Rattle.shown_graph.specs.Shown.{heads}
 use Rattle.kept_names.specs.Events.{event_thread, leaves_graph, loaded_word, MayDecide}
 use Rattle.kept_names.specs.Kept.{IsKept}
 use Rattle.kept_names.specs.Pictures.{Task, Names, picture}
 use Rattle.kept_names.specs.States.{KeptState, Kept}
 use Rattle.kept_names.proofs.Commands.{serves, decides, answers}
 use Rattle.kept_names.proofs.Standing.{loaded_kept}
-use Rattle.heap_machine.specs.Operations.{place_of, heap_after}
-use Rattle.heap_machine.specs.Readings.{IsHeld}
-use Rattle.heap_machine.specs.Solid.{NotFree}
-use Rattle.heap_machine.specs.declared.pass.Pass.{Pass}
-use Rattle.grey_steps.specs.Ends.{block_stored}
 use Rattle.grey_steps.proofs.Pictures.{shading_keeps_names}
-use Rattle.barrier_steps.specs.declared.rows.FieldRow.{FieldRow}
 use Rattle.barrier_steps.specs.declared.rows.FieldRow.TheVariants.{LoadRegister, LoadShape, LoadLink, LoadField, LoadOwner, Shade, Store, Answered}
-use Rattle.barrier_steps.specs.declared.rows.Wanted.{Wanted}
 use Rattle.barrier_steps.specs.declared.rows.Wanted.TheVariants as wants
-use Rattle.barrier_steps.specs.declared.rows.FieldStore.{FieldStore}
 use Rattle.barrier_steps.specs.declared.rows.FieldStore.TheVariants.{Moved, Pending, InField, Exchanged, Compared}
 use Rattle.barrier_steps.specs.Decided.{field_task, entry_on, graph_on, order_on}
-use Rattle.barrier_steps.specs.Deciding.{refers, length_decides, register_decides, is_deciding}
-use Rattle.barrier_steps.specs.Fits.{FitsAt, FieldFits, FieldReads}
-use Rattle.barrier_steps.specs.Projection.{store_loading, wanted_loading, row_loading, register_event, store_event, row_event, after_event, event_of, IsAtRow, InHandAt, IsInHand}
-use Rattle.barrier_steps.specs.Replies.{answer, graph_after, ShownAt, Shown, reply_due, IsKnown}
-use Rattle.barrier_steps.specs.Rows.{FieldState, payload_in, shape_in, stored_word, shades, reads_beside_graph, word_stored, row_want, field_want, field_got, field_reply, is_taken}
-use Rattle.barrier_steps.specs.Walks.{shape_length}
+use Rattle.barrier_steps.specs.Projection.{event_of, IsAtRow, IsInHand}
+use Rattle.barrier_steps.specs.Replies.{Shown, reply_due, IsKnown}
 use Rattle.barrier_steps.proofs.Dues.{row_due}
 use Rattle.barrier_steps.proofs.FieldRows.{barrier_shades}
 use Rattle.barrier_steps.proofs.Keeping.{row_colour, field_phase}
 use Rattle.barrier_steps.proofs.Projecting.{has_value, words_moved, loads_moved, row_guarded, barrier_loading, graph_stays, graph_steps}
 use Rattle.barrier_steps.proofs.Showing.{row_reads, row_shown}
 use Rattle.barrier_steps.proofs.Stores.{either}
-use Rattle.barrier_steps.specs.Operands.{takes_field}
 
 -- the event of a row is of its thread, and leaves the graph where it does not decide
 module _ (e : Extent) (a : Name) (t : ℕ) (k : Command) where

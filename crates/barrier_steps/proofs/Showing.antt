@@ -1,46 +1,25 @@
 -- Where the words show the graph, a row reads words that its places can hold, and these are what the graph says.
 use Rattle.std.proofs.Common.{◌≡◌, ◌≢◌, ℕ, ◌+◌, ◌<◌, ◌≤◌, Bool, true, false, None, Some, IfSome, IsSome, is_some, eqb, length, refl, sym, ap, ◌∙◌, subst, arith}
-use Rattle.block_store.specs.declared.Config.{Config}
-use Rattle.block_store.specs.declared.TheConstants.{REGISTERS}
-use Rattle.block_store.specs.declared.Name.{Name}
+use Rattle.barrier_steps.proofs.Common.{Config, REGISTERS, Name, Value, Heap, payload_of, target, extent, Phase, shape_of, payloads, payload-code, target-number, target-nil, Command, IsCommandInRange, Reply, ObjectKind, Record, Array, object_of, field_of, register_of, kind_shape, shape_part, block_words, value_word, heads, ValueLoad, Loading, GraphState, Follows, Way, Pass, place_of, CanHold, IsHeld, FieldRow, FieldStore, shape_length, links_to, link_at, field_at, ordinal_at, to_register, answered_register, from_register, other_register, field_index, expected_register, register_place, register_wanted, field_place, store_want, row_want, field_reply, reads_beside_graph, IsThread, IsWalk, IsThere, StoreFits, FitsAt, ReadsAt, IsWordOf, ShapeShown, FieldFound, ShownAt, NameShown, ShowsAt, walk_load, object_on, object_load, store_loading, IsAt, Graph}
 use Rattle.block_store.specs.declared.Payload.TheVariants as payloads
-use Rattle.block_store.specs.declared.Value.{Value}
 use Rattle.block_store.specs.declared.Value.TheVariants as values
-use Rattle.block_store.specs.Heaps.{Heap}
 use Rattle.block_store.specs.WideOwners.{wide_of}
-use Rattle.block_store.specs.Payloads.{payload_of, target, reference_word}
-use Rattle.block_store.specs.Places.{extent, Phase}
-use Rattle.block_store.specs.Shapes.{shape_of}
-use Rattle.block_store.specs.Widths.{payloads}
-use Rattle.block_store.proofs.PayloadWords.{payload-code, target-reference, target-number, target-nil}
-use Rattle.never_heap.specs.declared.Command.{Command}
-use Rattle.never_heap.specs.Bounds.{IsCommandInRange}
-use Rattle.never_heap.specs.declared.Reply.{Reply}
+use Rattle.block_store.specs.Payloads.{reference_word}
+use Rattle.block_store.proofs.PayloadWords.{target-reference}
 use Rattle.never_heap.specs.declared.Reply.TheVariants as replies
-use Rattle.never_heap.specs.Graphs.{ObjectKind, Record, Array, object_of, field_of, register_of}
 use Rattle.object_lists.specs.Parts.{Part, Link, Field}
-use Rattle.shown_graph.specs.Layouts.{kind_shape, layout_part, object_part, shape_part}
-use Rattle.shown_graph.specs.Words.{block_words, value_word, part_word}
-use Rattle.shown_graph.specs.Shown.{IsValueOf, heads}
-use Rattle.shown_graph.specs.Events.{ValueLoad, Loading, GraphState, pending_registers, is_pending, object_in, ObjectIs, ValueIs, LoadIs, Follows}
+use Rattle.shown_graph.specs.Layouts.{layout_part, object_part}
+use Rattle.shown_graph.specs.Words.{part_word}
+use Rattle.shown_graph.specs.Shown.{IsValueOf}
+use Rattle.shown_graph.specs.Events.{pending_registers, is_pending, object_in, ObjectIs, ValueIs, LoadIs}
 use Rattle.shown_graph.proofs.ObjectLayouts.{object_layout}
 use Rattle.shown_graph.proofs.Reading.{value_read, owner_read, length_read, register_read, blocks_apart, words_tell}
 use Rattle.shown_graph.proofs.Loads.{name_shown}
-use Rattle.barrier_steps.specs.declared.rows.Way.{Way}
-use Rattle.heap_machine.specs.declared.pass.Pass.{Pass}
-use Rattle.heap_machine.specs.Operations.{place_of}
-use Rattle.heap_machine.specs.Readings.{CanHold, IsHeld}
-use Rattle.barrier_steps.specs.declared.rows.FieldRow.{FieldRow}
 use Rattle.barrier_steps.specs.declared.rows.FieldRow.TheVariants.{LoadRegister, LoadShape, LoadLink, LoadField, LoadOwner, Shade, Store, StoreConstant, IdleLook, Answered}
 use Rattle.barrier_steps.specs.declared.rows.Wanted.TheVariants as wants
-use Rattle.barrier_steps.specs.declared.rows.FieldStore.{FieldStore}
 use Rattle.barrier_steps.specs.declared.rows.FieldStore.TheVariants.{Moved, Pending, InField, Exchanged, Compared}
-use Rattle.barrier_steps.specs.Walks.{shape_length, links_to, link_at, field_at, ordinal_at}
-use Rattle.barrier_steps.specs.Operands.{to_register, answered_register, from_register, other_register, field_index, expected_register}
-use Rattle.barrier_steps.specs.Rows.{register_place, register_wanted, field_place, store_want, row_want, field_reply, reads_beside_graph}
-use Rattle.barrier_steps.specs.Fits.{IsThread, IsWalk, IsThere, StoreFits, FitsAt, ReadsAt}
-use Rattle.barrier_steps.specs.Replies.{IsWordOf, ShapeShown, FieldFound, ShownAt, RefersTo, StorePromises, Promises, NameShown, ShowsAt, due_before, due_at, KnownBefore, KnownAt}
-use Rattle.barrier_steps.specs.Projection.{walk_load, object_on, object_load, store_loading, IsAt}
+use Rattle.barrier_steps.specs.Rows as rows
+use Rattle.barrier_steps.specs.Replies.{RefersTo}
 use Rattle.barrier_steps.proofs.Named.{to_low, from_low, other_low, expected_low, wanted_low, way_is, link_low, field_low}
 use Rattle.barrier_steps.proofs.FieldRows.{IsHeldWord, place_at}
 use Rattle.barrier_steps.proofs.Projecting.{payload_read, cas_expects}
@@ -50,6 +29,11 @@ use Rattle.barrier_steps.proofs.Outcomes.{kind_length}
 same_part : (c : Config) (k : ObjectKind) (n o j : ℕ) → shape_part c.width (kind_shape k n) o j ≡ layout_part c.width k n o j
 same_part c Record n o j = refl
 same_part c Array n o j = refl
+
+-- the name that a row reads is its register's
+abbrev pub NameIs : Graph → ℕ → Command → FieldRow → ℕ → Type 0
+NameIs g t k (LoadOwner word) w = rows.object_in w ≡ register_of g t (answered_register k)
+NameIs g t k _ w = Unit {0}
 
 module _ (c : Config) (m : ℕ) (K : Name → Type 0) (at : Name → ℕ → ℕ) (few : c.blocks ≤ 65535) (low : m ≤ c.blocks) (s : GraphState) (follows : Follows c.width c.threads m K at s) (h : Heap) where
   abbrev pending : ℕ → ℕ → Bool
@@ -270,17 +254,10 @@ module _ (c : Config) (m : ℕ) (K : Name → Type 0) (at : Name → ℕ → ℕ
       ∙ name_shown c.width c.threads m K at s follows p.thread fits.thread.thread _ a (load_is p.thread _ fits.thread.thread is.loads).value refers
   row_named p k _ w reply fits is shows = tt
 
-  -- a decided row promises the reply that is due
-  store_promises : (t : ℕ) (k : Command) (store : FieldStore) (reply : Reply) → KnownBefore s.graph t k store → due_before s.graph t k store ≡ Some reply → StorePromises store reply
-  store_promises t k (Pending word value) reply known due =
-      let says : reply ≡ replies.Val (register_of s.graph t (to_register k)) = cc in
-      says ∙ ap replies.Val (sym known)
-  store_promises t k _ reply known due = absurd cc
-
-  pub row_promises : (p : Pass) (k : Command) (row : FieldRow) (w : ℕ) (reply : Reply) → FitsAt c p k row → IsAt (extent c) s h p k row w → KnownAt s.graph p.thread k row → due_at s.graph p.thread k row ≡ Some reply → Promises (heads at) row reply
-  row_promises p k (LoadOwner word) w reply fits is known due =
-      refers_to p.thread _ reply (load_is p.thread _ fits.thread.thread is.loads).value fits.row.1 cc
-  row_promises p k (Shade r store) w reply fits is known due = store_promises p.thread k store reply known due
-  row_promises p k (Store store) w reply fits is known due = store_promises p.thread k store reply known due
-  row_promises p k (Answered given) w reply fits is known due = cc
-  row_promises p k _ w reply fits is known due = absurd cc
+  pub name_is : (p : Pass) (k : Command) (row : FieldRow) (w : ℕ) → FitsAt c p k row → IsAt (extent c) s h p k row w → NameIs s.graph p.thread k row w
+  name_is p k (LoadOwner word) w fits is =
+      let to = refers_to p.thread _ (replies.Val (register_of s.graph p.thread (answered_register k))) (load_is p.thread _ fits.thread.thread is.loads).value fits.row.1 refl in
+      let says : replies.Val (register_of s.graph p.thread (answered_register k)) ≡ replies.Val (values.Ref to.name) = to.says in
+      let refers : register_of s.graph p.thread (answered_register k) ≡ values.Ref to.name = cc in
+      ap rows.object_or_nil (row_named p k (LoadOwner word) w _ fits is refl to.name to.says to.block) ∙ sym refers
+  name_is p k _ w fits is = tt

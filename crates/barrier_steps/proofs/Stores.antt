@@ -1,30 +1,14 @@
 -- What holds of each row that may follow holds of the one that follows.
 use Rattle.std.proofs.Common.{◌≡◌, ◌≢◌, ℕ, ◌<◌, Bool, true, false, cond, ltb, refl, sym, subst, inl, inr, eq-eqb}
-use Rattle.std.proofs.lemmas.Bool.{cases_Bool, cases_eq, cases_lt, lt-ltb, le-ltb, ne_eqb}
-use Rattle.block_store.specs.declared.Payload.{Payload}
+use Rattle.barrier_steps.proofs.Common.{cases_Bool, cases_eq, cases_lt, lt-ltb, le-ltb, ne_eqb, Payload, Name, Shape, Extent, Value, Command, Reply, Pass, GreyRow, grey_over, FieldRow, Way, FieldStore, stored_word, is_taken, shaded_for, before_store, in_barrier, after_object, after_shape, after_field, after_said, after_owner, at_block, on_way, way_from, to_register, answered_register, field_index, is_get, is_put, is_swap, is_cas, is_say, goes_to_field, takes_field, answers_value, stores_in_field, shape_length, links_to}
 use Rattle.block_store.specs.declared.Payload.TheVariants as payloads
-use Rattle.block_store.specs.declared.Name.{Name}
-use Rattle.block_store.specs.declared.Shape.{Shape}
-use Rattle.block_store.specs.Places.{Extent}
-use Rattle.block_store.specs.declared.Value.{Value}
 use Rattle.block_store.specs.declared.Value.TheVariants as values
-use Rattle.never_heap.specs.declared.Command.{Command}
 use Rattle.never_heap.specs.declared.Command.TheVariants as commands
-use Rattle.never_heap.specs.declared.Reply.{Reply}
 use Rattle.never_heap.specs.declared.Reply.TheVariants as replies
-use Rattle.heap_machine.specs.declared.pass.Pass.{Pass}
-use Rattle.grey_steps.specs.declared.rows.GreyRow.{GreyRow}
 use Rattle.grey_steps.specs.declared.rows.GreyRow.TheVariants.{TakeOwn}
-use Rattle.grey_steps.specs.Rows.{grey_over}
-use Rattle.barrier_steps.specs.declared.rows.FieldRow.{FieldRow}
 use Rattle.barrier_steps.specs.declared.rows.FieldRow.TheVariants.{LoadRegister, LoadShape, LoadField, LoadLink, LoadOwner, Shade, Store, Answered}
 use Rattle.barrier_steps.specs.declared.rows.Wanted.TheVariants as wants
-use Rattle.barrier_steps.specs.declared.rows.Way.{Way}
-use Rattle.barrier_steps.specs.declared.rows.FieldStore.{FieldStore}
 use Rattle.barrier_steps.specs.declared.rows.FieldStore.TheVariants.{Pending, InField, Exchanged, Compared}
-use Rattle.barrier_steps.specs.Rows.{stored_word, is_taken, shaded_for, before_store, in_barrier, after_object, after_shape, after_field, after_said, after_owner, at_block, on_way, way_from}
-use Rattle.barrier_steps.specs.Operands.{to_register, answered_register, field_index, is_get, is_put, is_swap, is_cas, is_say, goes_to_field, takes_field, answers_value, stores_in_field}
-use Rattle.barrier_steps.specs.Walks.{shape_length, links_to}
 
 -- what holds of the store's row and of the first of its barrier
 pub before_is : (P : FieldRow → Type 0) (p : Pass) (store : FieldStore)
