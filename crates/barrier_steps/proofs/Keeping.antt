@@ -1,43 +1,24 @@
 -- Each event of a command keeps all that a heap keeps in either phase, and leaves the phase, the
 -- cursor and the grey blocks as they are.
-use Rattle.std.proofs.Common.{◌≡◌, ℕ, true, false, eqb, refl, sym, ap, ◌∙◌, inl, inr, eqb-true, ◌<◌, cond, IsSome, Option, None, Some, subst}
-use Rattle.std.proofs.lemmas.Bool.{cases_Bool, cases_eq, ne_eqb}
-use Rattle.block_store.specs.declared.Config.{Config}
-use Rattle.block_store.specs.Colours.{is_grey, white_word, grey_word}
+use Rattle.std.proofs.Common.{◌≡◌, ℕ, Bool, true, false, eqb, refl, sym, ap, ◌∙◌, inl, inr, eqb-true, ◌<◌, cond, IsSome, subst}
+use Rattle.barrier_steps.proofs.Common.{cases_Bool, cases_eq, ne_eqb, Config, white_word, Heap, put_at, extent, Phase, ColourOf, PayloadOf, Extent, payloads, Command, holds_nothing, heap_after, place_of, Pass, GreyRow, is_shading, block_stored, grey_over, FieldRow, FitsAt, FieldFits, IsBarrier, StoreFits, ReadsAt, FieldReads, FieldState, shades, row_want, field_want, row_holding, payload_in, shape_in, at_first_row, stored_word, field_place, store_want, way_on, after_field, row_got, word_stored, field_got, field_reply, changed, payload_of, target, is_sweep, cycle_of, changed_map, changed_self, target-number, target-nil, CanHold, IsHeld, NotFree, block_stays, FieldStore, constant_word}
+use Rattle.block_store.specs.Colours.{is_grey}
 use Rattle.block_store.proofs.ColourWords.{not_grey_white}
-use Rattle.block_store.specs.Heaps.{Heap, put_at}
-use Rattle.block_store.specs.Places.{Place, extent, Phase, Cursor, ColourOf, PayloadOf, Extent}
-use Rattle.block_store.specs.Widths.{payloads}
-use Rattle.never_heap.specs.declared.Command.{Command}
-use Rattle.heap_machine.specs.Holdings.{sweep_held, Holding, holds_nothing, grey_held, tricolour_held, free_held}
-use Rattle.heap_machine.specs.Operations.{CompareExchange, heap_after, Exchange, place_of}
+use Rattle.block_store.specs.Places.{Cursor}
+use Rattle.heap_machine.specs.Holdings.{sweep_held, Holding, grey_held, tricolour_held, free_held}
+use Rattle.heap_machine.specs.Operations.{CompareExchange, Exchange}
 use Rattle.heap_machine.specs.Sweeping.{no_claim}
-use Rattle.heap_machine.specs.declared.pass.Pass.{Pass}
-use Rattle.grey_steps.specs.declared.rows.GreyRow.{GreyRow}
 use Rattle.grey_steps.specs.declared.rows.GreyRow.TheVariants as greys
-use Rattle.grey_steps.specs.Ends.{is_shading, block_stored}
-use Rattle.grey_steps.specs.Rows.{grey_holding, grey_over}
+use Rattle.grey_steps.specs.Rows.{grey_holding}
 use Rattle.grey_steps.specs.Rows as marking
-use Rattle.barrier_steps.specs.declared.rows.FieldRow.{FieldRow}
 use Rattle.barrier_steps.specs.declared.rows.FieldRow.TheVariants.{Shade, Store, LoadRegister, LoadShape, LoadLink, LoadField, LoadOwner, StoreConstant, IdleLook, Answered}
 use Rattle.barrier_steps.specs.declared.rows.FieldStore.TheVariants.{Compared, Moved, Pending, InField, Exchanged}
-use Rattle.barrier_steps.specs.Fits.{FitsAt, FieldFits, IsBarrier, StoreFits, ReadsAt, FieldReads}
-use Rattle.barrier_steps.specs.Rows.{FieldState, shades, row_want, field_want, row_holding, field_holding, payload_or_nil, payload_in, shape_in, object_in, at_first_row, stored_word, shaded_for, store_want, way_on, after_field, row_got, word_stored, field_got, field_reply, held_before_store}
-use Rattle.barrier_steps.proofs.FieldRows.{barrier_shades, stores_held}
-use Rattle.block_store.specs.declared.Payload.{Payload}
-use Rattle.block_store.specs.declared.Payload.TheVariants as payloads
-use Rattle.block_store.specs.Counts.{changed}
-use Rattle.block_store.specs.Payloads.{payload_of, target}
-use Rattle.block_store.specs.Phases.{is_sweep, cycle_of}
-use Rattle.block_store.proofs.Functions.{changed_map, changed_self}
-use Rattle.block_store.proofs.PayloadWords as payload_words
-use Rattle.block_store.proofs.PayloadWords.{target-number, target-nil}
+use Rattle.barrier_steps.specs.Rows.{field_holding, object_in, held_before_store}
+use Rattle.barrier_steps.proofs.FieldRows.{barrier_shades, stores_at}
 use Rattle.never_heap.specs.declared.Command.TheVariants as commands
 use Rattle.heap_machine.specs.Grey.{GreyHolding, GreyKept}
 use Rattle.heap_machine.specs.HeapKept.{CanRefer}
 use Rattle.heap_machine.specs.PhaseKept.{PhaseKept}
-use Rattle.heap_machine.specs.Readings.{CanHold, IsHeld}
-use Rattle.heap_machine.specs.Solid.{NotFree}
 use Rattle.heap_machine.specs.Tricolour.{TricolourHolding, NotWhite, TricolourKept}
 use Rattle.heap_machine.proofs.GreyBlocks.{kept_other}
 use Rattle.heap_machine.proofs.Held.{held_after}
@@ -46,108 +27,68 @@ use Rattle.heap_machine.proofs.Reusing.{reuse_other, reuse_stays}
 use Rattle.heap_machine.proofs.Solids.{solid_payload}
 use Rattle.heap_machine.proofs.Tricolours.{lets_go, kept_payload}
 use Rattle.grey_steps.specs.declared.rows.GreyRow.TheVariants.{Shaded}
-use Rattle.grey_steps.proofs.Ends.{shading_goes_on, block_stays}
+use Rattle.grey_steps.proofs.Ends.{shading_goes_on}
 use Rattle.grey_steps.proofs.Reuses as reuses
-use Rattle.barrier_steps.specs.declared.rows.FieldStore.{FieldStore}
-use Rattle.barrier_steps.specs.Operands.{constant_word}
 use Rattle.barrier_steps.proofs.Decisions.{way_quiet, shape_quiet, register_quiet, owner_quiet}
-use Rattle.barrier_steps.proofs.Stores.{barrier_is}
+use Rattle.barrier_steps.proofs.Named.{payload_cases}
+use Rattle.barrier_steps.proofs.Stores.{barrier_is, either}
 
--- a place where nothing is written but where a white block becomes grey
-shade_leaves : (h : Heap) (y old v : ℕ) (at : Place) → put_at h (ColourOf y) v at ≡ h at
-    → heap_after h (CompareExchange (ColourOf y) old v) at ≡ h at
-shade_leaves h y old v at other = elim (cases_Bool (eqb (h (ColourOf y)) old)) [
-  | inl is ↦ rw is other
-  | inr is ↦ rw is refl
-]
+module _ (h : Heap) where
+  -- phase and cursor are as they were
+  abbrev IsGate : Heap → Type 0
+  IsGate q = (q Phase ≡ h Phase) × (q Cursor ≡ h Cursor)
 
--- a place where nothing is written but where a field has the expected word
-compare_leaves : (h : Heap) (x j old v : ℕ) (at : Place) → put_at h (PayloadOf x j) v at ≡ h at
-    → heap_after h (CompareExchange (PayloadOf x j) old v) at ≡ h at
-compare_leaves h x j old v at other = elim (cases_Bool (eqb (h (PayloadOf x j)) old)) [
-  | inl is ↦ rw is other
-  | inr is ↦ rw is refl
-]
+  tried : (b : Bool) (q : Heap) → IsGate q → IsGate (cond b q h)
+  tried b q is = either IsGate b q h is (refl, refl)
 
-module _ (h : Heap) (t n cycle : ℕ) where
-  marking_phase : (r : GreyRow) → heap_after h (marking.row_want t n cycle r) Phase ≡ h Phase
-  marking_phase (greys.Shade x j y a) =
-      shade_leaves h y (white_word cycle) (grey_word a) Phase refl
-  marking_phase (greys.ShadeStored y a) =
-      shade_leaves h y (white_word cycle) (grey_word a) Phase refl
-  marking_phase _ = refl
+  marking_gate : (t n cycle : ℕ) (r : GreyRow) → IsGate (heap_after h (marking.row_want t n cycle r))
+  marking_gate t n cycle (greys.Shade x j y a) = tried (eqb (h (ColourOf y)) (white_word cycle)) _ (refl, refl)
+  marking_gate t n cycle (greys.ShadeStored y a) = tried (eqb (h (ColourOf y)) (white_word cycle)) _ (refl, refl)
+  marking_gate t n cycle _ = (refl, refl)
 
-  marking_cursor : (r : GreyRow) → heap_after h (marking.row_want t n cycle r) Cursor ≡ h Cursor
-  marking_cursor (greys.Shade x j y a) =
-      shade_leaves h y (white_word cycle) (grey_word a) Cursor refl
-  marking_cursor (greys.ShadeStored y a) =
-      shade_leaves h y (white_word cycle) (grey_word a) Cursor refl
-  marking_cursor _ = refl
+  row_gate : (e : Extent) (p : Pass) (k : Command) (row : FieldRow) → IsGate (heap_after h (row_want e p k row))
+  row_gate e p k (Shade r store) = marking_gate p.thread p.threads p.cycle r
+  row_gate e p k (Store (Compared way word)) = tried (eqb (h (field_place e k way)) way.expected) _ (refl, refl)
+  row_gate e p k _ = (refl, refl)
 
-module _ (c : Config) (h : Heap) where
-  row_phase : (p : Pass) (k : Command) (row : FieldRow)
-      → heap_after h (row_want (extent c) p k row) Phase ≡ h Phase
-  row_phase p k (Shade r store) = marking_phase h p.thread p.threads p.cycle r
-  row_phase p k (Store (Compared way word)) = compare_leaves h way.block _ way.expected word Phase refl
-  row_phase p k _ = refl
+pub field_phase : (c : Config) (h : Heap) (f : FieldState) → heap_after h (field_want (extent c) f) Phase ≡ h Phase
+field_phase c h f = (row_gate h (extent c) f.pass f.command f.row).0
 
-  row_cursor : (p : Pass) (k : Command) (row : FieldRow)
-      → heap_after h (row_want (extent c) p k row) Cursor ≡ h Cursor
-  row_cursor p k (Shade r store) = marking_cursor h p.thread p.threads p.cycle r
-  row_cursor p k (Store (Compared way word)) =
-      compare_leaves h way.block _ way.expected word Cursor refl
-  row_cursor p k _ = refl
+pub field_cursor : (c : Config) (h : Heap) (f : FieldState) → heap_after h (field_want (extent c) f) Cursor ≡ h Cursor
+field_cursor c h f = (row_gate h (extent c) f.pass f.command f.row).1
+
+module _ (c : Config) (h : Heap) (x : ℕ) (p : Pass) (k : Command) where
+  abbrev Stays : FieldRow → Type 0
+  Stays row = heap_after h (row_want (extent c) p k row) (ColourOf x) ≡ h (ColourOf x)
 
   -- but by the barrier no colour changes
-  pub row_colour : (p : Pass) (k : Command) (row : FieldRow) → shades row ≡ false → (x : ℕ)
-      → heap_after h (row_want (extent c) p k row) (ColourOf x) ≡ h (ColourOf x)
-  row_colour p k (Shade r store) none x = absurd cc
-  row_colour p k (Store (Compared way word)) none x =
-      compare_leaves h way.block _ way.expected word (ColourOf x) refl
-  row_colour p k _ none x = refl
+  pub row_colour : (row : FieldRow) → shades row ≡ false → Stays row
+  row_colour (Shade r store) none = absurd cc
+  row_colour (Store (Compared way word)) none =
+      either (λ (q : Heap). q (ColourOf x) ≡ h (ColourOf x)) (eqb (h (field_place (extent c) k way)) way.expected) _ _ refl refl
+  row_colour _ none = refl
 
-  pub field_phase : (f : FieldState) → heap_after h (field_want (extent c) f) Phase ≡ h Phase
-  field_phase f = row_phase f.pass f.command f.row
-
-  pub field_cursor : (f : FieldState) → heap_after h (field_want (extent c) f) Cursor ≡ h Cursor
-  field_cursor f = row_cursor f.pass f.command f.row
-
--- a white block alone becomes grey
-module _ (c : Config) (h : Heap) (x : ℕ) (grey : is_grey (h (ColourOf x)) ≡ true) where
-  grey_left : (y cycle v : ℕ)
-      → heap_after h (CompareExchange (ColourOf y) (white_word cycle) v) (ColourOf x)
-      ≡ h (ColourOf x)
-  grey_left y cycle v = elim (cases_Bool (eqb (h (ColourOf y)) (white_word cycle))) [
-    | inl is ↦ elim (cases_eq y x) [
-      | inl e ↦
-          let white : h (ColourOf x) ≡ white_word cycle = ap (λ z. h (ColourOf z)) (sym e)
-          ∙ eqb-true (h (ColourOf y)) (white_word cycle) is in
-          absurd (let z : true ≡ false = sym grey ∙ ap is_grey white ∙ not_grey_white cycle in cc)
-      | inr away ↦ rw (is, ne_eqb y x away) refl
-    ]
-    | inr is ↦ rw is refl
-  ]
-
-  row_grey : (p : Pass) (k : Command) (row : FieldRow) → FitsAt c p k row
-      → heap_after h (row_want (extent c) p k row) (ColourOf x) ≡ h (ColourOf x)
-  row_grey p k (Shade r store) fits = go r (barrier_shades c p r store fits.row.0)
+  -- and there a white block alone becomes grey
+  pub row_grey : (row : FieldRow) → FitsAt c p k row → is_grey (h (ColourOf x)) ≡ true → Stays row
+  row_grey (Shade r store) fits grey = go r (barrier_shades c p r store fits.row.0)
     where
       go : (r : GreyRow) → is_shading r ≡ true
-          → heap_after h (marking.row_want p.thread p.threads p.cycle r) (ColourOf x)
-          ≡ h (ColourOf x)
-      go (greys.TakeOwn y) is = refl
-      go (greys.ShadeStored y a) is = grey_left y p.cycle (grey_word a)
-      go (greys.PutOwn y a) is = refl
-      go (greys.Shaded y) is = refl
-      go _ is = absurd cc
-  row_grey p k (Store (Compared way word)) fits =
-      compare_leaves h way.block _ way.expected word (ColourOf x) refl
-  row_grey p k _ fits = refl
-
-pub grey_stays : (c : Config) (h : Heap) (f : FieldState) (x : ℕ) → FieldFits c f
-    → is_grey (h (ColourOf x)) ≡ true
-    → heap_after h (field_want (extent c) f) (ColourOf x) ≡ h (ColourOf x)
-grey_stays c h f x fits grey = row_grey c h x grey f.pass f.command f.row fits
+          → heap_after h (marking.row_want p.thread p.threads p.cycle r) (ColourOf x) ≡ h (ColourOf x)
+      go (greys.ShadeStored y a) is = elim (cases_Bool (eqb (h (ColourOf y)) (white_word p.cycle))) [
+        | inl is ↦ elim (cases_eq y x) [
+          | inl e ↦
+              let white : h (ColourOf x) ≡ white_word p.cycle = ap (λ z. h (ColourOf z)) (sym e)
+              ∙ eqb-true (h (ColourOf y)) (white_word p.cycle) is in
+              absurd (let z : true ≡ false = sym grey ∙ ap is_grey white ∙ not_grey_white p.cycle in cc)
+          | inr away ↦ rw (is, ne_eqb y x away) refl
+        ]
+        | inr is ↦ rw is refl
+      ]
+      go (greys.Shade z j y a) is = absurd cc
+      go (greys.Blacken y a) is = absurd cc
+      go _ is = refl
+  row_grey (Store store) fits grey = row_colour (Store store) refl
+  row_grey _ fits grey = refl
 
 -- a command scans nothing and has claimed nothing
 shading_found : (m : ℕ) (r : GreyRow) → is_shading r ≡ true → (grey_holding m r).found ≡ 0
@@ -157,25 +98,18 @@ shading_found m (greys.PutOwn y a) is = refl
 shading_found m (greys.Shaded y) is = refl
 shading_found m _ is = absurd cc
 
-row_found : (c : Config) (p : Pass) (k : Command) (row : FieldRow) → FitsAt c p k row
+pub row_found : (c : Config) (p : Pass) (k : Command) (row : FieldRow) → FitsAt c p k row
     → (row_holding (payloads c.width) p row).found ≡ 0
 row_found c p k (Shade r store) fits = shading_found (payloads c.width) r (barrier_shades c p r store fits.row.0)
 row_found c p k _ fits = refl
-
-pub field_found : (c : Config) (f : FieldState) → FieldFits c f
-    → (field_holding (extent c) f).found ≡ 0
-field_found c f fits = row_found c f.pass f.command f.row fits
 
 marking_claims : (m : ℕ) (r : GreyRow) → sweep_held (grey_holding m r) ≡ no_claim
 marking_claims m (greys.Take u) = refl
 marking_claims m _ = refl
 
-row_claims : (m : ℕ) (p : Pass) (row : FieldRow) → sweep_held (row_holding m p row) ≡ no_claim
+pub row_claims : (m : ℕ) (p : Pass) (row : FieldRow) → sweep_held (row_holding m p row) ≡ no_claim
 row_claims m p (Shade r store) = marking_claims m r
 row_claims m p _ = refl
-
-pub field_claims : (c : Config) (f : FieldState) → sweep_held (field_holding (extent c) f) ≡ no_claim
-field_claims c f = row_claims (payloads c.width) f.pass f.row
 
 -- a part of what the threads hold, where thread t holds as much of it as before
 still_holds : {A : Type 0} (part : Holding → A) (hs : ℕ → Holding) (t : ℕ) (w : Holding)
@@ -214,24 +148,14 @@ no_block : (cycle : ℕ) (h : Heap) (y : ℕ) → y ≡ 0 → CanRefer cycle h y
 no_block cycle h y none = record { dark = λ some. absurd (some none); solid = λ some. absurd (some none) }
 
 -- nil and numbers refer to no block
-none_shaded : (p : Pass) (w : ℕ) → target w ≡ 0 → shaded_for p w ≡ 0
-none_shaded p w none = elim (cases_Bool p.sweep) [
-  | inl is ↦ rw is refl
-  | inr is ↦ rw is none
-]
-
 field_nothing : (m : ℕ) (p : Pass) (w : ℕ) → IsSome (payload_of w)
     → row_holding m p (after_field w (payload_in w)) ≡ holds_nothing
-field_nothing m p w some = go (payload_of w) refl some
+field_nothing m p w some = payload_cases w some (λ q. row_holding m p (after_field w q) ≡ holds_nothing)
+    (λ none. none_shaded none) (λ v none low. none_shaded none) (λ x to some. refl)
   where
-    go : (o : Option Payload) → payload_of w ≡ o → IsSome o
-        → row_holding m p (after_field w (payload_or_nil o)) ≡ holds_nothing
-    go None is h = absurd cc
-    go (Some payloads.Nil) is h = ap (λ y. record holds_nothing { shaded = y })
-        (none_shaded p w (sym (payload_words.reads w payloads.Nil is).2))
-    go (Some (payloads.Int v)) is h = ap (λ y. record holds_nothing { shaded = y })
-        (none_shaded p w (sym (payload_words.reads w (payloads.Int v) is).2))
-    go (Some (payloads.Block x)) is h = refl
+    none_shaded : target w ≡ 0 → held_before_store p w ≡ holds_nothing
+    none_shaded none = ap (λ y. record holds_nothing { shaded = y })
+        (either (λ y. y ≡ 0) p.sweep 0 (target w) refl none)
 
 -- at its end a barrier holds that its block was shaded
 over_holds : (m : ℕ) (r : GreyRow) → is_shading r ≡ true → grey_over r ≡ true
@@ -301,13 +225,9 @@ module _ (c : Config) (h : Heap) (hs : ℕ → Holding) (p : Pass) (k : Command)
       → (is_sweep (h Phase) ≡ false → CanRefer (cycle_of (h Phase)) h (target w))
       → PhaseKept (extent c) (heap_after h (CompareExchange (PayloadOf x j) old w))
       (changed hs p.thread holds_nothing)
-  compares x j old w y is can = elim (cases_Bool (eqb (h (PayloadOf x j)) old)) [
-    | inl won ↦ subst (λ b. PhaseKept (extent c) (cond b (put_at h (PayloadOf x j) w) h)
-        (changed hs p.thread holds_nothing)) (sym won) (stores x j w y is can)
-    | inr lost ↦ subst (λ b. PhaseKept (extent c) (cond b (put_at h (PayloadOf x j) w) h)
-        (changed hs p.thread holds_nothing)) (sym lost)
-        (lets_shaded_go (extent c) h hs kept p.thread y low is)
-  ]
+  compares x j old w y is can = either (λ q. PhaseKept (extent c) q (changed hs p.thread holds_nothing))
+      (eqb (h (PayloadOf x j)) old) _ _ (stores x j w y is can)
+      (lets_shaded_go (extent c) h hs kept p.thread y low is)
 
   barrier_keeps : (r : GreyRow) (store : FieldStore) → IsBarrier c p r (stored_word store)
       → hs p.thread ≡ grey_holding m r
@@ -350,7 +270,7 @@ module _ (c : Config) (h : Heap) (hs : ℕ → Holding) (p : Pass) (k : Command)
   row_keeps (LoadShape x) fits reads solid is = loads (LoadShape x) is (shape_quiet (extent c) m p k x (shape_in (read (LoadShape x)))).1
   row_keeps (LoadLink way word) fits reads solid is = loads (LoadLink way word) is (way_quiet (extent c) m p k (way_on way (target (read (LoadLink way word)))) word).1
   row_keeps (LoadField way) fits reads solid is = loads (LoadField way) is (field_nothing m p (read (LoadField way)) reads.0.0)
-  row_keeps (LoadOwner word) fits reads solid is = loads (LoadOwner word) is (owner_quiet m p k word (object_in (read (LoadOwner word)))).1
+  row_keeps (LoadOwner word) fits reads solid is = loads (LoadOwner word) is (owner_quiet (extent c) m p k word (object_in (read (LoadOwner word)))).1
   row_keeps (Shade r store) fits reads solid is = barrier_keeps r store fits.row.0 is
   row_keeps (Store store) fits reads solid is = store_keeps store fits.row reads.0 solid is
   row_keeps StoreConstant fits reads solid is =
@@ -374,12 +294,9 @@ pub first_nothing : (e : Extent) (p : Pass) (k : Command) → field_holding e (a
 first_nothing e p (commands.New d f) = refl
 first_nothing e p _ = refl
 
-pub over_nothing : (e : Extent) (f : FieldState) → IsSome (field_reply f.row) → field_holding e f ≡ holds_nothing
-over_nothing e f over = go f.row over
-  where
-    go : (row : FieldRow) → IsSome (field_reply row) → row_holding (payloads e.width) f.pass row ≡ holds_nothing
-    go (Answered reply) h = refl
-    go _ h = absurd cc
+pub over_nothing : (m : ℕ) (p : Pass) (row : FieldRow) → IsSome (field_reply row) → row_holding m p row ≡ holds_nothing
+over_nothing m p (Answered reply) over = refl
+over_nothing m p _ over = absurd cc
 
 pub keeps_words : (c : Config) (h : Heap) (f : FieldState) → FieldFits c f → IsHeld c h → IsHeld c (heap_after h (field_want (extent c) f))
-keeps_words c h f fits k = held_after c h (field_want (extent c) f) (stores_held c f fits) k
+keeps_words c h f fits k = held_after c h (field_want (extent c) f) (stores_at c f.pass f.command f.row fits) k

@@ -1,31 +1,20 @@
 -- The registers that a command in range names are in range, payloads and shapes are read of their
 -- words, and the way to a field leads to it.
 use Rattle.std.proofs.Common.{ℕ, zero, suc, ◌-◌, ◌<◌, ◌≤◌, ◌≡◌, ◌^◌, ◌/◌, ◌%◌, Option, None, Some, IsSome, List, [], ◌∷◌, length, get_or, refl, sym, subst, arith}
+use Rattle.barrier_steps.proofs.Common.{Command, IsCommandInRange, to_register, from_register, other_register, expected_register, answered_register, register_wanted, payload_or_nil, payload_in, shape_or_empty, shape_in, Wanted, Payload, Shape, payload_of, target, shape_of, IsShape, Config, Width, Extent, extent, payloads, shape_part, shape_length, links_to, link_at, field_at, ordinal_at}
 use Rattle.std.proofs.lemmas.List.{get_or_past}
 use Rattle.std.specs.List.{AllByRecursion}
-use Rattle.never_heap.specs.declared.Command.{Command}
 use Rattle.never_heap.specs.declared.Command.TheVariants as commands
-use Rattle.never_heap.specs.Bounds.{IsCommandInRange}
 use Rattle.never_heap.specs.Signatures.{Operand, Register, Destination, Exchanged, IsInRange, operands, destination_in}
 use Rattle.never_heap.proofs.Ranges.{operands_in_range}
-use Rattle.barrier_steps.specs.Operands.{or_zero, reads_in, to_register, from_register, other_register, expected_register, answered_register}
-use Rattle.barrier_steps.specs.Rows.{register_wanted, payload_or_nil, payload_in, shape_or_empty, shape_in}
-use Rattle.barrier_steps.specs.declared.rows.Wanted.{Wanted}
+use Rattle.barrier_steps.specs.Operands.{or_zero, reads_in}
 use Rattle.barrier_steps.specs.declared.rows.Wanted.TheVariants as wants
-use Rattle.block_store.specs.declared.Payload.{Payload}
 use Rattle.block_store.specs.declared.Payload.TheVariants as payloads
-use Rattle.block_store.specs.declared.Shape.{Shape}
-use Rattle.block_store.specs.Payloads.{payload_of, target}
-use Rattle.block_store.specs.Shapes.{shape_of, IsShape}
 use Rattle.block_store.proofs.PayloadWords as payload_words
 use Rattle.block_store.proofs.ShapeWords as shape_words
 use Rattle.std.proofs.lemmas.Nat.{mod_below}
-use Rattle.block_store.specs.declared.Config.{Config}
 use Rattle.block_store.specs.declared.Shape.TheVariants as shapes
-use Rattle.block_store.specs.declared.Width.{Width}
 use Rattle.block_store.specs.declared.Width.TheVariants.{Four, Eight}
-use Rattle.block_store.specs.Places.{Extent, extent}
-use Rattle.block_store.specs.Widths.{payloads}
 use Rattle.block_store.proofs.Registers.{wide}
 use Rattle.object_lists.specs.Layouts.{IsWay}
 use Rattle.object_lists.specs.Records.{record_slot}
@@ -33,8 +22,6 @@ use Rattle.object_lists.proofs.Lists.{record_way}
 use Rattle.array_trees.specs.Levels.{array_depth}
 use Rattle.array_trees.proofs.Depths.{depth_few}
 use Rattle.array_trees.proofs.Arrays.{tree_is_way}
-use Rattle.shown_graph.specs.Layouts.{shape_part}
-use Rattle.barrier_steps.specs.Walks.{shape_length, links_to, link_at, field_at, ordinal_at}
 
 reads_low : (os : List Operand) → AllByRecursion IsInRange os → (i : ℕ)
     → get_or (reads_in os) i 0 < 16
@@ -75,14 +62,15 @@ answered_low (commands.Say s) h = h
 answered_low k h = to_low k h
 
 -- what holds of nil, of each number, and of the word's target, holds of the payload in a word
-pub payload_cases : (w : ℕ) → IsSome (payload_of w) → (P : Payload → Type 0) → P payloads.Nil → ((v : ℕ) → v < 2 ^ 62 → P (payloads.Int v))
+pub payload_cases : (w : ℕ) → IsSome (payload_of w) → (P : Payload → Type 0)
+    → (target w ≡ 0 → P payloads.Nil) → ((v : ℕ) → target w ≡ 0 → v < 2 ^ 62 → P (payloads.Int v))
     → ((x : ℕ) → x ≡ target w → 1 ≤ x → P (payloads.Block x)) → P (payload_in w)
 payload_cases w some P nil int block = go (payload_of w) refl some
   where
     go : (o : Option Payload) → payload_of w ≡ o → IsSome o → P (payload_or_nil o)
     go None is h = absurd cc
-    go (Some payloads.Nil) is h = nil
-    go (Some (payloads.Int v)) is h = int v (payload_words.reads w (payloads.Int v) is).0
+    go (Some payloads.Nil) is h = nil (sym (payload_words.reads w payloads.Nil is).2)
+    go (Some (payloads.Int v)) is h = let all = payload_words.reads w (payloads.Int v) is in int v (sym all.2) all.0
     go (Some (payloads.Block x)) is h = let all = payload_words.reads w (payloads.Block x) is in block x all.2 all.0.0
 
 -- the shape in a shape word is one that has a word

@@ -1,57 +1,32 @@
 -- Each event of a command is one that keeps what the graph reaches, or changes nothing that those see.
 use Rattle.std.proofs.Common.{◌≡◌, ℕ, ◌<◌, ◌≤◌, Bool, true, false, not, cond, Option, None, Some, IfSome, List, [], ◌∷◌, ◌++◌, refl, arith, sym, ap, ◌∙◌, subst, inl, inr, eqb}
-use Rattle.std.proofs.lemmas.Bool.{both_ways, cases_Bool}
-use Rattle.block_store.specs.declared.Config.{Config}
-use Rattle.block_store.specs.declared.Name.{Name}
+use Rattle.barrier_steps.proofs.Common.{cases_Bool, Config, Name, changed, Heap, target, is_sweep, cycle_of, Extent, extent, Phase, ColourOf, changed_map, changed_self, target-nil, Command, Graph, ValueLoad, Loading, Event, GraphState, IsPrompt, value_at, value_in, heads, place_of, heap_after, IsHeld, NotFree, Pass, block_stored, FieldRow, Wanted, FieldStore, refers, length_decides, register_decides, is_deciding, FitsAt, FieldFits, FieldReads, store_loading, wanted_loading, row_loading, register_event, store_event, row_event, after_event, InHandAt, answer, graph_after, ShownAt, FieldState, payload_in, shape_in, stored_word, shades, reads_beside_graph, word_stored, row_want, field_want, field_got, field_reply, is_taken, shape_length, takes_field}
+use Rattle.std.proofs.lemmas.Bool.{both_ways}
 use Rattle.block_store.specs.Colours.{is_free}
-use Rattle.block_store.specs.Counts.{changed}
-use Rattle.block_store.specs.Heaps.{Heap}
-use Rattle.block_store.specs.Payloads.{target}
-use Rattle.block_store.specs.Phases.{is_sweep, cycle_of}
-use Rattle.block_store.specs.Places.{Extent, extent, Phase, ColourOf}
-use Rattle.block_store.proofs.Functions.{funext, changed_map, changed_self}
-use Rattle.block_store.proofs.PayloadWords.{target-nil}
-use Rattle.never_heap.specs.declared.Command.{Command}
+use Rattle.block_store.proofs.Functions.{funext}
 use Rattle.never_heap.specs.declared.Entry.{Entry}
-use Rattle.never_heap.specs.Graphs.{Graph}
 use Rattle.never_heap.specs.Histories.{HistoryItem, Did, after}
 use Rattle.never_heap.proofs.Answering.{step_not_full}
 use Rattle.shown_graph.specs.Events as commanded
-use Rattle.shown_graph.specs.Events.{ValueLoad, Loading, Event, GraphState, IsPrompt, value_at, value_in}
-use Rattle.shown_graph.specs.Shown.{heads}
-use Rattle.kept_names.specs.Building.{Build}
 use Rattle.kept_names.specs.Events.{event_thread, leaves_graph, loaded_word, MayDecide}
 use Rattle.kept_names.specs.Kept.{IsKept}
 use Rattle.kept_names.specs.Pictures.{Task, Names, picture}
 use Rattle.kept_names.specs.States.{KeptState, Kept}
 use Rattle.kept_names.proofs.Commands.{serves, decides, answers}
 use Rattle.kept_names.proofs.Standing.{loaded_kept}
-use Rattle.heap_machine.specs.Operations.{place_of, heap_after}
-use Rattle.heap_machine.specs.Readings.{IsHeld}
-use Rattle.heap_machine.specs.Solid.{NotFree}
-use Rattle.heap_machine.specs.declared.pass.Pass.{Pass}
-use Rattle.grey_steps.specs.Ends.{block_stored}
 use Rattle.grey_steps.proofs.Pictures.{shading_keeps_names}
-use Rattle.barrier_steps.specs.declared.rows.FieldRow.{FieldRow}
-use Rattle.barrier_steps.specs.declared.rows.FieldRow.TheVariants.{LoadRegister, LoadShape, LoadLink, LoadField, LoadOwner, Shade, Store, StoreConstant, IdleLook, Answered}
-use Rattle.barrier_steps.specs.declared.rows.Wanted.{Wanted}
+use Rattle.barrier_steps.specs.declared.rows.FieldRow.TheVariants.{LoadRegister, LoadShape, LoadLink, LoadField, LoadOwner, Shade, Store, Answered}
 use Rattle.barrier_steps.specs.declared.rows.Wanted.TheVariants as wants
-use Rattle.barrier_steps.specs.declared.rows.FieldStore.{FieldStore}
 use Rattle.barrier_steps.specs.declared.rows.FieldStore.TheVariants.{Moved, Pending, InField, Exchanged, Compared}
 use Rattle.barrier_steps.specs.Decided.{field_task, entry_on, graph_on, order_on}
-use Rattle.barrier_steps.specs.Deciding.{refers, length_decides, register_decides, is_deciding}
-use Rattle.barrier_steps.specs.Fits.{FitsAt, FieldFits, FieldReads}
-use Rattle.barrier_steps.specs.Projection.{store_loading, wanted_loading, row_loading, register_event, store_event, row_event, after_event, event_of, IsAtRow, InHandAt, IsInHand}
-use Rattle.barrier_steps.specs.Replies.{answer, graph_after, ShownAt, Shown, reply_due, IsKnown}
-use Rattle.barrier_steps.specs.Rows.{FieldState, payload_in, shape_in, stored_word, shades, reads_beside_graph, word_stored, row_want, field_want, field_got, field_reply, is_taken}
-use Rattle.barrier_steps.specs.Walks.{shape_length}
+use Rattle.barrier_steps.specs.Projection.{event_of, IsAtRow, IsInHand}
+use Rattle.barrier_steps.specs.Replies.{Shown, reply_due, IsKnown}
 use Rattle.barrier_steps.proofs.Dues.{row_due}
 use Rattle.barrier_steps.proofs.FieldRows.{barrier_shades}
 use Rattle.barrier_steps.proofs.Keeping.{row_colour, field_phase}
 use Rattle.barrier_steps.proofs.Projecting.{has_value, words_moved, loads_moved, row_guarded, barrier_loading, graph_stays, graph_steps}
 use Rattle.barrier_steps.proofs.Showing.{row_reads, row_shown}
 use Rattle.barrier_steps.proofs.Stores.{either}
-use Rattle.barrier_steps.specs.Operands.{takes_field}
 
 -- the event of a row is of its thread, and leaves the graph where it does not decide
 module _ (e : Extent) (a : Name) (t : ℕ) (k : Command) where
@@ -64,21 +39,17 @@ module _ (e : Extent) (a : Name) (t : ℕ) (k : Command) where
   register_own _ w = (refl, λ _. refl)
 
   store_own : (store : FieldStore) (w : ℕ) → IsOwn (not (is_taken store)) (store_event e a t k store w)
-  store_own (Pending word value) w = (refl, λ _. refl)
   store_own (Compared way word) w = either (IsOwn true) (eqb w way.expected) _ _ (refl, λ n. absurd cc) (refl, λ _. refl)
-  store_own _ w = (refl, λ n. absurd cc)
+  store_own _ w = (refl, λ n. cc)
 
   own_event : (row : FieldRow) (w : ℕ) → IsOwn (is_deciding k row w) (row_event e a t k row w)
   own_event (LoadRegister wanted) w = register_own wanted w
   own_event (LoadShape x) w = let b = length_decides k (shape_length (shape_in w)) in either (IsOwn b) b _ _ (refl, λ _. refl) (refl, λ _. refl)
-  own_event (LoadLink way word) w = (refl, λ _. refl)
-  own_event (LoadField way) w = (refl, λ n. absurd cc)
   own_event (LoadOwner word) w = either (IsOwn false) (takes_field k) _ _ tt (refl, λ _. refl)
-  own_event (Shade r store) w = tt
   own_event (Store store) w = store_own store w
-  own_event StoreConstant w = (refl, λ n. absurd cc)
-  own_event IdleLook w = (refl, λ _. refl)
+  own_event (Shade r store) w = tt
   own_event (Answered reply) w = tt
+  own_event _ w = (refl, λ n. cc)
 
   -- one that decides comes with no store due
   register_prompt : (wanted : Wanted) → IsPrompt (wanted_loading e k wanted)
@@ -159,9 +130,9 @@ module _ (c : Config) (g : Graph) (order : List HistoryItem) (h : Heap) (names :
 
   graph_is : (after_event (extent c) now.seen event).graph ≡ graph_on g f w
   graph_is = elim (cases_Bool (is_deciding f.command f.row w)) [
-    | inl d ↦ graph_steps c (heads names.at) now.seen hand.0 t f.command f.row w fits.belongs d shown
+    | inl d ↦ graph_steps c now.seen hand.0 f.pass f.command (heads names.at) f.row w fits.belongs d shown
         at_row.loads hand.1 ∙ ap (λ b. cond b (graph_after g t f.command) g) (sym d)
-    | inr d ↦ graph_stays c now.seen hand.0 t f.command f.row w d
+    | inr d ↦ graph_stays c now.seen hand.0 f.pass f.command f.row w d
         ∙ ap (λ b. cond b (graph_after g t f.command) g) (sym d)
   ]
 
@@ -203,26 +174,17 @@ module _ (c : Config) (g : Graph) (order : List HistoryItem) (h : Heap) (names :
       order = order_on g order f w;
     })
     goes = moved c now k (entry_on g f) event (is_deciding f.command f.row w)
-        (row_guarded c h now.seen hand.0 f.pass f.command f.row w fits reads at_row hand.1)
+        (row_guarded c now.seen hand.0 f.pass f.command h f.row w fits reads at_row hand.1)
         (own_event (extent c) hand.0 t f.command f.row w) decided steps
 
     loads_is : (after_event (extent c) now.seen event).loads ≡ (λ u. (changed tasks t next u).loading)
-    loads_is = funext _ _ (loads_moved c h now.seen hand.0 f.pass f.command f.row w fits reads at_row)
+    loads_is = funext _ _ (loads_moved c now.seen hand.0 f.pass f.command h f.row w fits reads at_row)
         ∙ sym (changed_map (λ (x : Task). x.loading) tasks t next)
 
-    builds_is : ◌≡◌ {A = ℕ → Option Build} (λ u. (tasks u).build) (λ u. (changed tasks t next u).build)
-    builds_is = sym (changed_map (λ (x : Task). x.build) tasks t next
-        ∙ changed_self (λ u. (tasks u).build) t None (ap (λ (x : Task). x.build) is))
-
-    scans_is : ◌≡◌ {A = ℕ → ℕ} (λ u. (tasks u).scan) (λ u. (changed tasks t next u).scan)
-    scans_is = sym (changed_map (λ (x : Task). x.scan) tasks t next
-        ∙ changed_self (λ u. (tasks u).scan) t 0 (ap (λ (x : Task). x.scan) is))
-
-    phase_is : h Phase ≡ q Phase
-    phase_is = sym (field_phase c h f)
-
-    colour_is : (x : ℕ) → h (ColourOf x) ≡ q (ColourOf x)
-    colour_is x = sym (row_colour c h f.pass f.command f.row plain x)
+    -- what is neither loaded nor built or scanned by a command
+    stays : {A : Type 0} (part : Task → A) → part (field_task (extent c) f) ≡ part next
+        → ◌≡◌ {A = ℕ → A} (λ u. part (tasks u)) (λ u. part (changed tasks t next u))
+    stays part same = sym (changed_map part tasks t next ∙ changed_self (λ u. part (tasks u)) t (part next) (ap part is ∙ same))
 
     is_picture : record now {
       seen = after_event (extent c) now.seen event;
@@ -231,15 +193,15 @@ module _ (c : Config) (g : Graph) (order : List HistoryItem) (h : Heap) (names :
     is_picture = λ i. record now {
       seen = record {
         graph = graph_is i;
-        words = words_moved c h now.seen hand.0 f.pass f.command f.row w at_row i;
+        words = words_moved c now.seen hand.0 f.pass f.command h f.row w at_row i;
         loads = loads_is i;
       };
       order = order_on g order f w;
-      cycle = cycle_of (phase_is i);
-      sweep = is_sweep (phase_is i);
-      colour = λ x. colour_is x i;
-      builds = builds_is i;
-      scans = scans_is i;
+      cycle = cycle_of (sym (field_phase c h f) i);
+      sweep = is_sweep (sym (field_phase c h f) i);
+      colour = λ x. sym (row_colour c h x f.pass f.command f.row plain) i;
+      builds = stays (λ (x : Task). x.build) refl i;
+      scans = stays (λ (x : Task). x.scan) refl i;
     }
 
     pub plain_names : IsKept c (picture (graph_on g f w) (order_on g order f w) q names
@@ -248,20 +210,10 @@ module _ (c : Config) (g : Graph) (order : List HistoryItem) (h : Heap) (names :
 
 -- what is loaded before a store is its word
 store_value : (c : Config) (k : Command) (store : FieldStore)
-    → (store_loading (extent c) k store).value ≡ Some (value_in (store_loading (extent c) k store).value)
-store_value c k (Moved word) = refl
-store_value c k (Pending word value) = refl
-store_value c k (InField way word) = refl
-store_value c k (Exchanged way word) = refl
-store_value c k (Compared way word) = refl
-
-store_word : (c : Config) (k : Command) (store : FieldStore)
-    → (value_in (store_loading (extent c) k store).value).word ≡ stored_word store
-store_word c k (Moved word) = refl
-store_word c k (Pending word value) = refl
-store_word c k (InField way word) = refl
-store_word c k (Exchanged way word) = refl
-store_word c k (Compared way word) = refl
+    → ((store_loading (extent c) k store).value ≡ Some (value_in (store_loading (extent c) k store).value))
+    × ((value_in (store_loading (extent c) k store).value).word ≡ stored_word store)
+store_value c k (Moved word) = (refl, refl)
+store_value c k _ = (refl, refl)
 
 module _ (c : Config) (g : Graph) (order : List HistoryItem) (h : Heap) (names : Names)
     (tasks : ℕ → Task) where
@@ -285,11 +237,11 @@ module _ (c : Config) (g : Graph) (order : List HistoryItem) (h : Heap) (names :
       let b = fits.row.0 in
       let next : Task = field_task e (field_got e (at p k (Shade r store)) (h (place_of (row_want e p k (Shade r store))))) in
       let seen : GraphState = (picture g order h names tasks).seen in
-      let value = ap (λ (x : Task). x.loading.value) before.2 ∙ store_value c k store in
+      let value = ap (λ (x : Task). x.loading.value) before.2 ∙ (store_value c k store).0 in
       let block : target (value_at seen p.thread).word ≡ block_stored r =
-      ap (λ (x : Task). target (value_in x.loading.value).word) before.2 ∙ ap target (store_word c k store) ∙ sym b.stores in
+      ap (λ (x : Task). target (value_in x.loading.value).word) before.2 ∙ ap target (store_value c k store).1 ∙ sym b.stores in
       let same : field_task e (at p k (Shade r store)) ≡ next =
-      ap (λ (l : Loading). task_of l) (sym (barrier_loading c k _ store)) in
+      ap (λ (l : Loading). task_of l) (sym (barrier_loading c p k _ store)) in
       subst (λ (ts : ℕ → Task). IsKept c (picture g order (heap_after h (row_want e p k (Shade r store))) names ts))
       (sym (changed_self tasks p.thread next (before.2 ∙ same)))
       (shading_keeps_names c g order h names tasks (record { pass = p; row = r }) b.fits (before.0 ∙ b.mark) before.1
@@ -329,7 +281,7 @@ loaded_solid c g order h names tasks f fits is k = go f.row (ap (λ (x : Task). 
   where
     go : (row : FieldRow) → (tasks f.pass.thread).loading ≡ row_loading (extent c) f.command row
         → NotFree (λ x. h (ColourOf x)) (target (word_stored row))
-    go (Store store) e = subst (λ x. NotFree (λ y. h (ColourOf y)) (target x)) (store_word c f.command store)
+    go (Store store) e = subst (λ x. NotFree (λ y. h (ColourOf y)) (target x)) (store_value c f.command store).1
         (value_solid c (picture g order h names tasks) k f.pass.thread (value_in (store_loading (extent c) f.command store).value) fits.thread.thread
-        (ap (λ (l : Loading). l.value) e ∙ store_value c f.command store))
+        (ap (λ (l : Loading). l.value) e ∙ (store_value c f.command store).0))
     go _ e = λ some. absurd (some target-nil)

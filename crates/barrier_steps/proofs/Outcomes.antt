@@ -1,27 +1,12 @@
 -- What the step of a command is, where the graph is what its deciding event reads.
 use Rattle.std.proofs.Common.{◌≡◌, ℕ, ◌<◌, Bool, true, false, not, cond, length, refl, sym, ap, ◌∙◌, subst, ltb}
-use Rattle.std.proofs.lemmas.Bool.{lt-ltb}
-use Rattle.block_store.specs.declared.Config.{Config}
-use Rattle.block_store.specs.declared.Name.{Name}
-use Rattle.block_store.specs.declared.Value.{Value}
+use Rattle.barrier_steps.proofs.Common.{lt-ltb, Config, Name, Value, extent, Command, Reply, Graph, ObjectKind, Record, Array, object_of, field_of, register_of, with_register, with_field, step, swapped, same_value, kind_shape, Pass, FieldRow, to_register, from_register, other_register, field_index, is_get, is_put, looks_at_object, is_say, expected_register, is_swap, is_cas, shape_length, payload_or_nil, payload_in, shape_or_empty, shape_in, after_object, after_shape, refers, length_decides, answer, graph_after, IsWordOf, ShapeShown, constant_set}
 use Rattle.block_store.specs.declared.Value.TheVariants as values
-use Rattle.block_store.specs.Places.{extent}
-use Rattle.never_heap.specs.declared.Command.{Command}
 use Rattle.never_heap.specs.declared.Command.TheVariants as commands
-use Rattle.never_heap.specs.declared.Reply.{Reply}
 use Rattle.never_heap.specs.declared.Reply.TheVariants as replies
-use Rattle.never_heap.specs.Graphs.{Graph, ObjectKind, Record, Array, object_of, field_of, register_of, with_register, with_field}
-use Rattle.never_heap.specs.Steps.{step, at_object, at_field, swapped, same_value}
-use Rattle.shown_graph.specs.Layouts.{kind_shape}
-use Rattle.heap_machine.specs.declared.pass.Pass.{Pass}
-use Rattle.barrier_steps.specs.declared.rows.FieldRow.{FieldRow}
+use Rattle.never_heap.specs.Steps.{at_object, at_field}
 use Rattle.barrier_steps.specs.declared.rows.FieldRow.TheVariants.{Answered}
-use Rattle.barrier_steps.specs.Operands.{to_register, from_register, other_register, field_index, sets_constant, is_mov, is_get, is_put, looks_at_object, is_same, is_say, expected_register, is_swap, is_cas, is_idle}
-use Rattle.barrier_steps.specs.Walks.{shape_length}
-use Rattle.barrier_steps.specs.Rows.{payload_or_nil, payload_in, shape_or_empty, shape_in, after_object, after_shape}
-use Rattle.barrier_steps.specs.Deciding.{refers, length_decides}
-use Rattle.barrier_steps.specs.Replies.{answer, graph_after, IsWordOf, ShapeShown}
-use Rattle.barrier_steps.specs.Projection.{constant_set}
+use Rattle.barrier_steps.specs.Operands.{sets_constant, is_mov, is_same, is_idle}
 
 -- what a step answers, and the graph that it leaves
 pub answer_is : (g : Graph) (t : ℕ) (k : Command) (x : Graph × Reply) → step g t k ≡ x → answer g t k ≡ x.1
@@ -35,22 +20,19 @@ abbrev pub Refused : Graph → FieldRow → Graph × Reply → Type 0
 Refused g row after = (reply : Reply) × (row ≡ Answered reply) × (after ≡ (g, reply))
 
 -- where a register shows no reference
-refused_field : (head : Name → ℕ) (g : Graph) (w : ℕ) (v : Value) (i : ℕ) (act : Name → Graph × Reply) → IsWordOf head v w → not (refers (payload_in w)) ≡ true → Refused g (after_object (payload_in w)) (at_field g v i act)
-refused_field head g w values.Nil i act h n = (replies.Null, ap (λ o. after_object (payload_or_nil o)) h, refl)
-refused_field head g w (values.Int m) i act h n = (replies.Kind, ap (λ o. after_object (payload_or_nil o)) h, refl)
-refused_field head g w (values.Ref a) i act h n = absurd (let e : false ≡ true = subst (λ o. not (refers (payload_or_nil o)) ≡ true) h n in cc)
-
-refused_object : (head : Name → ℕ) (g : Graph) (w : ℕ) (v : Value) (act : Name → Graph × Reply) → IsWordOf head v w → not (refers (payload_in w)) ≡ true → Refused g (after_object (payload_in w)) (at_object g v act)
-refused_object head g w values.Nil act h n = (replies.Null, ap (λ o. after_object (payload_or_nil o)) h, refl)
-refused_object head g w (values.Int m) act h n = (replies.Kind, ap (λ o. after_object (payload_or_nil o)) h, refl)
-refused_object head g w (values.Ref a) act h n = absurd (let e : false ≡ true = subst (λ o. not (refers (payload_or_nil o)) ≡ true) h n in cc)
+refused_value : (head : Name → ℕ) (g : Graph) (w : ℕ) (v : Value) (x : Graph × Reply) → IsWordOf head v w
+    → not (refers (payload_in w)) ≡ true → (v ≡ values.Nil → x ≡ (g, replies.Null))
+    → ((m : ℕ) → v ≡ values.Int m → x ≡ (g, replies.Kind)) → Refused g (after_object (payload_in w)) x
+refused_value head g w values.Nil x h n nil int = (replies.Null, ap (λ o. after_object (payload_or_nil o)) h, nil refl)
+refused_value head g w (values.Int m) x h n nil int = (replies.Kind, ap (λ o. after_object (payload_or_nil o)) h, int m refl)
+refused_value head g w (values.Ref a) x h n nil int = absurd (let e : false ≡ true = subst (λ o. not (refers (payload_or_nil o)) ≡ true) h n in cc)
 
 pub object_refused : (head : Name → ℕ) (g : Graph) (t w : ℕ) (k : Command) → looks_at_object k ≡ true → IsWordOf head (register_of g t (from_register k)) w → not (refers (payload_in w)) ≡ true → Refused g (after_object (payload_in w)) (step g t k)
-object_refused head g t w (commands.Get d s i) is h n = refused_field head g w (register_of g t s) i _ h n
-object_refused head g t w (commands.Put s i v) is h n = refused_field head g w (register_of g t s) i _ h n
-object_refused head g t w (commands.Swap s i v) is h n = refused_field head g w (register_of g t s) i _ h n
-object_refused head g t w (commands.Cas s i a v) is h n = refused_field head g w (register_of g t s) i _ h n
-object_refused head g t w (commands.Len s) is h n = refused_object head g w (register_of g t s) _ h n
+object_refused head g t w (commands.Get d s i) is h n = refused_value head g w (register_of g t s) _ h n (λ e. rw e refl) (λ m e. rw e refl)
+object_refused head g t w (commands.Put s i v) is h n = refused_value head g w (register_of g t s) _ h n (λ e. rw e refl) (λ m e. rw e refl)
+object_refused head g t w (commands.Swap s i v) is h n = refused_value head g w (register_of g t s) _ h n (λ e. rw e refl) (λ m e. rw e refl)
+object_refused head g t w (commands.Cas s i a v) is h n = refused_value head g w (register_of g t s) _ h n (λ e. rw e refl) (λ m e. rw e refl)
+object_refused head g t w (commands.Len s) is h n = refused_value head g w (register_of g t s) _ h n (λ e. rw e refl) (λ m e. rw e refl)
 object_refused head g t w _ is h n = absurd cc
 
 pub kind_length : (k : ObjectKind) (n : ℕ) → shape_length (kind_shape k n) ≡ n

@@ -1,48 +1,27 @@
 -- Where the words show the graph, a row reads words that its places can hold, and these are what the graph says.
 use Rattle.std.proofs.Common.{◌≡◌, ◌≢◌, ℕ, ◌+◌, ◌<◌, ◌≤◌, Bool, true, false, None, Some, IfSome, IsSome, is_some, eqb, length, refl, sym, ap, ◌∙◌, subst, arith}
-use Rattle.block_store.specs.declared.Config.{Config}
-use Rattle.block_store.specs.declared.TheConstants.{REGISTERS}
-use Rattle.block_store.specs.declared.Name.{Name}
+use Rattle.barrier_steps.proofs.Common.{Config, REGISTERS, Name, Value, Heap, payload_of, target, extent, Phase, shape_of, payloads, payload-code, target-number, target-nil, Command, IsCommandInRange, Reply, ObjectKind, Record, Array, object_of, field_of, register_of, kind_shape, shape_part, block_words, value_word, heads, ValueLoad, Loading, GraphState, Follows, Way, Pass, place_of, CanHold, IsHeld, FieldRow, FieldStore, shape_length, links_to, link_at, field_at, ordinal_at, to_register, answered_register, from_register, other_register, field_index, expected_register, register_place, register_wanted, field_place, store_want, row_want, field_reply, reads_beside_graph, IsThread, IsWalk, IsThere, StoreFits, FitsAt, ReadsAt, IsWordOf, ShapeShown, FieldFound, ShownAt, NameShown, ShowsAt, walk_load, object_on, object_load, store_loading, IsAt, Graph}
 use Rattle.block_store.specs.declared.Payload.TheVariants as payloads
-use Rattle.block_store.specs.declared.Value.{Value}
 use Rattle.block_store.specs.declared.Value.TheVariants as values
-use Rattle.block_store.specs.Heaps.{Heap}
 use Rattle.block_store.specs.WideOwners.{wide_of}
-use Rattle.block_store.specs.Payloads.{payload_of, target, reference_word}
-use Rattle.block_store.specs.Places.{extent, Phase, OwnerOf}
-use Rattle.block_store.specs.Shapes.{shape_of}
-use Rattle.block_store.proofs.PayloadWords.{payload-code, target-reference, target-number, target-nil}
-use Rattle.never_heap.specs.declared.Command.{Command}
-use Rattle.never_heap.specs.Bounds.{IsCommandInRange}
-use Rattle.never_heap.specs.declared.Reply.{Reply}
+use Rattle.block_store.specs.Payloads.{reference_word}
+use Rattle.block_store.proofs.PayloadWords.{target-reference}
 use Rattle.never_heap.specs.declared.Reply.TheVariants as replies
-use Rattle.never_heap.specs.Graphs.{ObjectKind, Record, Array, object_of, field_of, register_of}
 use Rattle.object_lists.specs.Parts.{Part, Link, Field}
-use Rattle.shown_graph.specs.Layouts.{kind_shape, layout_part, object_part, shape_part}
-use Rattle.block_store.specs.Registers.{register_block, register_slot}
-use Rattle.shown_graph.specs.Words.{block_words, value_word, part_word}
-use Rattle.shown_graph.specs.Shown.{IsValueOf, heads}
-use Rattle.shown_graph.specs.Events.{ObjectLoad, ValueLoad, Loading, GraphState, pending_registers, is_pending, object_in, value_in, ObjectIs, ValueIs, Follows}
+use Rattle.shown_graph.specs.Layouts.{layout_part, object_part}
+use Rattle.shown_graph.specs.Words.{part_word}
+use Rattle.shown_graph.specs.Shown.{IsValueOf}
+use Rattle.shown_graph.specs.Events.{pending_registers, is_pending, object_in, ObjectIs, ValueIs, LoadIs}
 use Rattle.shown_graph.proofs.ObjectLayouts.{object_layout}
-use Rattle.shown_graph.proofs.Reading.{value_read, owner_read, length_read, register_read, link_read, blocks_apart, words_tell}
+use Rattle.shown_graph.proofs.Reading.{value_read, owner_read, length_read, register_read, blocks_apart, words_tell}
 use Rattle.shown_graph.proofs.Loads.{name_shown}
-use Rattle.barrier_steps.specs.declared.rows.Way.{Way}
-use Rattle.heap_machine.specs.declared.pass.Pass.{Pass}
-use Rattle.heap_machine.specs.Operations.{place_of}
-use Rattle.heap_machine.specs.Readings.{CanHold, IsHeld}
-use Rattle.barrier_steps.specs.declared.rows.FieldRow.{FieldRow}
 use Rattle.barrier_steps.specs.declared.rows.FieldRow.TheVariants.{LoadRegister, LoadShape, LoadLink, LoadField, LoadOwner, Shade, Store, StoreConstant, IdleLook, Answered}
 use Rattle.barrier_steps.specs.declared.rows.Wanted.TheVariants as wants
-use Rattle.barrier_steps.specs.declared.rows.FieldStore.{FieldStore}
 use Rattle.barrier_steps.specs.declared.rows.FieldStore.TheVariants.{Moved, Pending, InField, Exchanged, Compared}
-use Rattle.barrier_steps.specs.Walks.{shape_length, links_to, link_at, field_at, ordinal_at}
-use Rattle.barrier_steps.specs.Operands.{to_register, answered_register, from_register, other_register, field_index, expected_register, takes_field}
-use Rattle.barrier_steps.specs.Rows.{register_place, register_wanted, field_place, store_want, row_want, field_reply, reads_beside_graph}
-use Rattle.barrier_steps.specs.Fits.{IsThread, IsWalk, IsThere, StoreFits, FitsAt, ReadsAt}
-use Rattle.barrier_steps.specs.Replies.{IsWordOf, ShapeShown, FieldFound, ShownAt, RefersTo, StorePromises, Promises, OwnerShown, NameShown, ShowsAt, due_before, due_at, KnownBefore, KnownAt}
-use Rattle.barrier_steps.specs.Projection.{walk_load, object_on, object_load, value_load, answered_load, store_loading, row_loading, IsAt}
-use Rattle.barrier_steps.proofs.Named.{to_low, from_low, other_low, expected_low, wanted_low, way_is, field_low}
-use Rattle.barrier_steps.proofs.FieldRows.{place_at}
+use Rattle.barrier_steps.specs.Rows as rows
+use Rattle.barrier_steps.specs.Replies.{RefersTo}
+use Rattle.barrier_steps.proofs.Named.{to_low, from_low, other_low, expected_low, wanted_low, way_is, link_low, field_low}
+use Rattle.barrier_steps.proofs.FieldRows.{IsHeldWord, place_at}
 use Rattle.barrier_steps.proofs.Projecting.{payload_read, cas_expects}
 use Rattle.barrier_steps.proofs.Outcomes.{kind_length}
 
@@ -51,15 +30,20 @@ same_part : (c : Config) (k : ObjectKind) (n o j : ℕ) → shape_part c.width (
 same_part c Record n o j = refl
 same_part c Array n o j = refl
 
+-- the name that a row reads is its register's
+abbrev pub NameIs : Graph → ℕ → Command → FieldRow → ℕ → Type 0
+NameIs g t k (LoadOwner word) w = rows.object_in w ≡ register_of g t (answered_register k)
+NameIs g t k _ w = Unit {0}
+
 module _ (c : Config) (m : ℕ) (K : Name → Type 0) (at : Name → ℕ → ℕ) (few : c.blocks ≤ 65535) (low : m ≤ c.blocks) (s : GraphState) (follows : Follows c.width c.threads m K at s) (h : Heap) where
-  held_word : (w : ℕ) → Type 0
-  held_word w = IsSome (payload_of w) × (target w ≤ c.blocks)
+  abbrev pending : ℕ → ℕ → Bool
+  pending = pending_registers s.loads
 
   few_blocks : m ≤ 65535
   few_blocks = omega (arith, few, low)
 
   read_word : (v : Value) (w : ℕ) → IsValueOf K v → value_word (heads at) v ≡ w → IsWordOf (heads at) v w
-  read_word v w kept e = ap payload_of (sym e) ∙ value_read c.width c.threads m K s.graph at s.words (pending_registers s.loads) follows.shows v few_blocks kept
+  read_word v w kept e = ap payload_of (sym e) ∙ value_read c.width c.threads m K s.graph at s.words pending follows.shows v few_blocks kept
 
   -- the word of a kept value is one that a payload place can hold
   value_target : (v : Value) → IsValueOf K v → target (value_word (heads at) v) ≤ c.blocks
@@ -68,57 +52,52 @@ module _ (c : Config) (m : ℕ) (K : Name → Type 0) (at : Name → ℕ → ℕ
   value_target (values.Ref a) kept =
       omega (arith, target-reference (at a 0), follows.shows.placed.within a 0 kept (object_layout c.width (object_of s.graph a)).first, low)
 
-  value_held : (v : Value) (w : ℕ) → IsValueOf K v → value_word (heads at) v ≡ w → IsSome (payload_of w) × (target w ≤ c.blocks)
+  value_held : (v : Value) (w : ℕ) → IsValueOf K v → value_word (heads at) v ≡ w → IsHeldWord c w
   value_held v w kept e = (ap is_some (read_word v w kept e), subst (λ x. target x ≤ c.blocks) e (value_target v kept))
 
-  register_held : (t r w : ℕ) → t < c.threads → r < REGISTERS → s.words.payload (register_block c.width t r) (register_slot c.width r) ≡ w → IsSome (payload_of w) × (target w ≤ c.blocks)
-  register_held t r w tn rl e = let shown = follows.shows.registers.holds t r tn rl in value_held shown.value w shown.kept (sym shown.reads ∙ e)
+  register_held : (t r w : ℕ) → t < c.threads → r < REGISTERS → s.words ≡ block_words h → w ≡ h (register_place (extent c) t r) → IsHeldWord c w
+  register_held t r w tn rl words reads =
+      let shown = follows.shows.registers.holds t r tn rl in value_held shown.value w shown.kept (sym shown.reads ∙ payload_read s h _ _ w words reads)
 
-  register_shown : (t r w : ℕ) → t < c.threads → r < REGISTERS → pending_registers s.loads t r ≡ false → s.words.payload (register_block c.width t r) (register_slot c.width r) ≡ w → IsWordOf (heads at) (register_of s.graph t r) w
-  register_shown t r w tn rl now e =
-      read_word (register_of s.graph t r) w (follows.shows.closed.registers t r tn rl)
-      (sym (register_read c.width c.threads m K s.graph at s.words (pending_registers s.loads) follows.shows t r tn rl now) ∙ e)
+  register_shown : (t r w : ℕ) (l : Loading) → t < c.threads → r < REGISTERS → s.loads t ≡ l → is_pending l.value r ≡ false
+      → s.words ≡ block_words h → w ≡ h (register_place (extent c) t r) → IsWordOf (heads at) (register_of s.graph t r) w
+  register_shown t r w l tn rl loads now words reads = read_word (register_of s.graph t r) w (follows.shows.closed.registers t r tn rl)
+      (sym (register_read c.width c.threads m K s.graph at s.words pending follows.shows t r tn rl (ap (λ x. is_pending x.value r) loads ∙ now))
+      ∙ payload_read s h _ _ w words reads)
 
-  -- the object in hand
-  object_is : (t : ℕ) (l : Loading) (o : ObjectLoad) → t < c.threads → s.loads t ≡ l → l.object ≡ Some o → ObjectIs c.width s.graph at t o
-  object_is t l o tn e there = subst (λ x. IfSome x (λ y. ObjectIs c.width s.graph at t y)) (ap (λ x. x.object) e ∙ there) (follows.loads t tn).object
-
-  value_is : (t : ℕ) (l : Loading) (v : ValueLoad) → t < c.threads → s.loads t ≡ l → l.value ≡ Some v → ValueIs s.graph at t v
-  value_is t l v tn e there = subst (λ x. IfSome x (λ y. ValueIs s.graph at t y)) (ap (λ x. x.value) e ∙ there) (follows.loads t tn).value
-
-  expected_is : (t : ℕ) (l : Loading) (v : ValueLoad) → t < c.threads → s.loads t ≡ l
-      → l.expected ≡ Some v → ValueIs s.graph at t v
-  expected_is t l v tn e there =
-      subst (λ x. IfSome x (λ y. ValueIs s.graph at t y)) (ap (λ x. x.expected) e ∙ there)
-      (follows.loads t tn).expected
+  -- what is in hand is of the graph
+  load_is : (t : ℕ) (l : Loading) → t < c.threads → s.loads t ≡ l → LoadIs c.width s.graph at t l
+  load_is t l tn e = subst (LoadIs c.width s.graph at t) e (follows.loads t tn)
 
   is_kept : (t r : ℕ) (a : Name) → t < c.threads → r < REGISTERS → register_of s.graph t r ≡ values.Ref a → K a
   is_kept t r a tn rl e = subst (IsValueOf K) e (follows.shows.closed.registers t r tn rl)
 
   -- the shape of the object in hand
   shape_word : (t r x w : ℕ) → ObjectIs c.width s.graph at t (object_in (object_load r x)) → t < c.threads → r < REGISTERS → s.words.shape x ≡ w → ShapeShown s.graph t r w
-  shape_word t r x w is tn rl e =
-      let kept = is_kept t r is.name tn rl is.refers in
-      record {
-        name = is.name;
-        refers = is.refers;
-        shape = ap shape_of (sym e ∙ ap s.words.shape is.block)
-            ∙ length_read c.width c.threads m K s.graph at s.words (pending_registers s.loads) follows.shows is.name 0 kept (object_layout c.width (object_of s.graph is.name)).first;
-      }
+  shape_word t r x w is tn rl e = record {
+    name = is.name;
+    refers = is.refers;
+    shape = ap shape_of (sym e ∙ ap s.words.shape is.block)
+        ∙ length_read c.width c.threads m K s.graph at s.words pending follows.shows is.name 0 (is_kept t r is.name tn rl is.refers) (object_layout c.width (object_of s.graph is.name)).first;
+  }
 
   module _ (t r i : ℕ) (way : Way) (is : ObjectIs c.width s.graph at t (object_in (walk_load (extent c) r i way))) (fits : IsWalk c i way) (tn : t < c.threads) (rl : r < REGISTERS) where
     kept : K is.name
     kept = is_kept t r is.name tn rl is.refers
 
-    ordinal : ℕ
+    abbrev ordinal : ℕ
     ordinal = ordinal_at (extent c) way.shape i way.level
 
-    -- the shape that was read is the object's
-    part_is : (j : ℕ) (p : Part) → shape_part c.width way.shape (ordinal_at (extent c) way.shape i way.level) j ≡ p → object_part c.width (object_of s.graph is.name) (ordinal_at (extent c) way.shape i way.level) j ≡ p
-    part_is j p e =
-        sym (ap (λ f. shape_part c.width f (ordinal_at (extent c) way.shape i way.level) j) is.shape
-        ∙ same_part c (object_of s.graph is.name).kind (length (object_of s.graph is.name).fields) (ordinal_at (extent c) way.shape i way.level) j)
-        ∙ e
+    -- the shape that was read is the object's, and what stands there is in the object's block
+    part_is : (j : ℕ) (p : Part) → shape_part c.width way.shape ordinal j ≡ p → object_part c.width (object_of s.graph is.name) ordinal j ≡ p
+    part_is j p e = sym (ap (λ f. shape_part c.width f ordinal j) is.shape
+        ∙ same_part c (object_of s.graph is.name).kind (length (object_of s.graph is.name).fields) ordinal j) ∙ e
+
+    stands : (j : ℕ) (p : Part) → j < payloads c.width → shape_part c.width way.shape ordinal j ≡ p
+        → s.words.payload way.block j ≡ part_word (heads at) (at is.name) (field_of (object_of s.graph is.name)) p
+    stands j p low e = ap (λ x. s.words.payload x j) is.block
+        ∙ (follows.shows.written.blocks is.name ordinal kept is.ordinal).words j low
+        ∙ ap (part_word (heads at) (at is.name) (field_of (object_of s.graph is.name))) (part_is j p e)
 
     -- the object has the field
     abbrev found_field : FieldFound s.graph t r i
@@ -131,31 +110,19 @@ module _ (c : Config) (m : ℕ) (K : Name → Type 0) (at : Name → ℕ → ℕ
     -- and its word is that of its value
     field_word : (w : ℕ) → IsThere c i way → s.words.payload way.block (field_at (extent c) way.shape i) ≡ w
         → value_word (heads at) (field_of (object_of s.graph is.name) i) ≡ w
-    field_word w there e =
-        let end : shape_part c.width way.shape (ordinal_at (extent c) way.shape i way.level) (field_at (extent c) way.shape i) ≡ Field i =
-        subst (λ l. shape_part c.width way.shape (ordinal_at (extent c) way.shape i l) (field_at (extent c) way.shape i) ≡ Field i) (sym there) (way_is c way.shape i fits.index).ends in
-        let block = follows.shows.written.blocks is.name (ordinal_at (extent c) way.shape i way.level) kept is.ordinal in
-        sym (ap (part_word (heads at) (at is.name) (field_of (object_of s.graph is.name))) (part_is (field_at (extent c) way.shape i) (Field i) end))
-        ∙ sym (block.words (field_at (extent c) way.shape i) (field_low c way.shape i))
-        ∙ sym (ap (λ x. s.words.payload x (field_at (extent c) way.shape i)) is.block)
-        ∙ e
-
-    field_kept : IsValueOf K (field_of (object_of s.graph is.name) i)
-    field_kept = follows.shows.closed.fields is.name i kept
+    field_word w there e = sym (stands (field_at (extent c) way.shape i) (Field i) (field_low c way.shape i)
+        (ap (λ l. shape_part c.width way.shape (ordinal_at (extent c) way.shape i l) (field_at (extent c) way.shape i)) there ∙ (way_is c way.shape i fits.index).ends)) ∙ e
 
     -- a link's word is a reference
     link_held : (w : ℕ) → way.level < links_to (extent c) way.shape i → s.words.payload way.block (link_at (extent c) way.shape i way.level) ≡ w
-        → (IsSome (payload_of w) × (target w ≤ c.blocks)) × (target w ≢ 0)
+        → IsHeldWord c w × (target w ≢ 0)
     link_held w less e =
         let next = ordinal_at (extent c) way.shape i (way.level + 1) in
-        let link : object_part c.width (object_of s.graph is.name) (ordinal_at (extent c) way.shape i way.level) (link_at (extent c) way.shape i way.level) ≡ Link next =
-        part_is (link_at (extent c) way.shape i way.level) (Link next) ((way_is c way.shape i fits.index).links way.level less) in
-        let on = (object_layout c.width (object_of s.graph is.name)).onward _ _ next link in
-        let word : reference_word (at is.name next) ≡ w =
-        sym (link_read c.width c.threads m K s.graph at s.words (pending_registers s.loads) follows.shows is.name _ _ next kept link)
-        ∙ sym (ap (λ x. s.words.payload x (link_at (extent c) way.shape i way.level)) is.block)
-        ∙ e in
-        reference_held (at is.name next) w word (behind_registers (follows.shows.placed.behind is.name next kept on.2)) (omega (arith, follows.shows.placed.within is.name next kept on.2, low))
+        let j = link_at (extent c) way.shape i way.level in
+        let links = (way_is c way.shape i fits.index).links way.level less in
+        let on = (object_layout c.width (object_of s.graph is.name)).onward _ _ next (part_is j (Link next) links) in
+        reference_held (at is.name next) w (sym (stands j (Link next) (link_low c way.shape i way.level) links) ∙ e)
+        (behind_registers (follows.shows.placed.behind is.name next kept on.2)) (omega (arith, follows.shows.placed.within is.name next kept on.2, low))
       where
         positive : (a b : ℕ) → a ≡ b → 1 ≤ b → a ≢ 0
         positive a b e some = omega arith
@@ -163,49 +130,29 @@ module _ (c : Config) (m : ℕ) (K : Name → Type 0) (at : Name → ℕ → ℕ
         behind_registers : {x y : ℕ} → x < y → 1 ≤ y
         behind_registers h = omega arith
 
-        reference_held : (x w : ℕ) → reference_word x ≡ w → 1 ≤ x → x ≤ c.blocks → (IsSome (payload_of w) × (target w ≤ c.blocks)) × (target w ≢ 0)
+        reference_held : (x w : ℕ) → reference_word x ≡ w → 1 ≤ x → x ≤ c.blocks → IsHeldWord c w × (target w ≢ 0)
         reference_held x w e some high =
             let goes : target w ≡ x = ap target (sym e) ∙ target-reference x in
             let reads : payload_of w ≡ Some (payloads.Block x) = ap payload_of (sym e) ∙ payload-code (payloads.Block x) (some, omega (arith, few)) in
             ((ap is_some reads, omega arith), positive (target w) x goes some)
 
   -- a value's word that refers to a block is that of a name, whose first block it is
-  refers_to : (t r w : ℕ) (reply : Reply) → ValueIs s.graph at t (record { origin = r; word = w; pending = false }) → target w ≢ 0 → reply ≡ replies.Val (register_of s.graph t r) → RefersTo (heads at) w reply
-  refers_to t r w reply is some shows = go (register_of s.graph t r) refl
+  refers_to : (t : ℕ) (v : ValueLoad) (reply : Reply) → ValueIs s.graph at t v → target v.word ≢ 0 → reply ≡ replies.Val (register_of s.graph t v.origin) → RefersTo (heads at) v.word reply
+  refers_to t v reply is some shows = go (register_of s.graph t v.origin) refl
     where
-      go : (v : Value) → register_of s.graph t r ≡ v → RefersTo (heads at) w reply
+      go : (x : Value) → register_of s.graph t v.origin ≡ x → RefersTo (heads at) v.word reply
       go values.Nil e = absurd (some (ap target (is.word ∙ ap (value_word (heads at)) e) ∙ target-nil))
       go (values.Int n) e = absurd (some (ap target (is.word ∙ ap (value_word (heads at)) e) ∙ target-number n))
       go (values.Ref a) e = record { name = a; says = shows ∙ ap replies.Val e; block = ap target (is.word ∙ ap (value_word (heads at)) e) ∙ target-reference (at a 0) }
 
   -- and that block has an owner word
-  value_named : (t r w x : ℕ) → t < c.threads → ValueIs s.graph at t (record { origin = r; word = w; pending = false }) → target w ≢ 0 → s.words.owner (target w) ≡ x → IsSome (wide_of x)
-  value_named t r w x tn is some e =
-      let to = refers_to t r w (replies.Val (register_of s.graph t r)) is some refl in
-      let says : replies.Val (register_of s.graph t r) ≡ replies.Val (values.Ref to.name) = to.says in
-      let refers : register_of s.graph t r ≡ values.Ref to.name = cc in
-      ap is_some (ap wide_of (sym e ∙ ap s.words.owner to.block)
-      ∙ owner_read c.width c.threads m K s.graph at s.words (pending_registers s.loads) follows.shows to.name 0 (is_kept t r to.name tn is.origin refers) (object_layout c.width (object_of s.graph to.name)).first)
-
-  on_time : (t r w : ℕ) (b : Bool) → ValueIs s.graph at t (record { origin = r; word = w; pending = b }) → ValueIs s.graph at t (record { origin = r; word = w; pending = false })
-  on_time t r w b is = record { origin = is.origin; word = is.word }
-
-  register_named : (t r word w : ℕ) (reply : Reply) → t < c.threads → ValueIs s.graph at t (record { origin = r; word = word; pending = false }) → s.words.owner (target word) ≡ w
-      → reply ≡ replies.Val (register_of s.graph t r) → OwnerShown (heads at) word reply w
-  register_named t r word w reply tn is e shows a says goes =
-      let values_one : replies.Val (register_of s.graph t r) ≡ replies.Val (values.Ref a) = sym shows ∙ says in
-      let refers : register_of s.graph t r ≡ values.Ref a = cc in
-      ap wide_of (sym e) ∙ name_shown c.width c.threads m K at s follows t tn (record { origin = r; word = word; pending = false }) a is refers
-
-  owner_word_read : (x w : ℕ) → s.words ≡ block_words h → w ≡ h (OwnerOf x) → s.words.owner x ≡ w
-  owner_word_read x w is reads = ap (λ b. b.owner x) is ∙ sym reads
-
-  register_at : (t r w : ℕ) → s.words ≡ block_words h → w ≡ h (register_place (extent c) t r) → s.words.payload (register_block c.width t r) (register_slot c.width r) ≡ w
-  register_at t r w is reads = payload_read s h (register_block c.width t r) (register_slot c.width r) w is reads
-
-  -- no register of the thread is pending
-  not_pending : (t r : ℕ) (l : Loading) → s.loads t ≡ l → is_pending l.value r ≡ false → pending_registers s.loads t r ≡ false
-  not_pending t r l e now = ap (λ x. is_pending x.value r) e ∙ now
+  value_named : (t : ℕ) (v : ValueLoad) → t < c.threads → ValueIs s.graph at t v → target v.word ≢ 0 → IsSome (wide_of (s.words.owner (target v.word)))
+  value_named t v tn is some =
+      let to = refers_to t v (replies.Val (register_of s.graph t v.origin)) is some refl in
+      let says : replies.Val (register_of s.graph t v.origin) ≡ replies.Val (values.Ref to.name) = to.says in
+      let refers : register_of s.graph t v.origin ≡ values.Ref to.name = cc in
+      ap is_some (ap (λ x. wide_of (s.words.owner x)) to.block
+      ∙ owner_read c.width c.threads m K s.graph at s.words pending follows.shows to.name 0 (is_kept t v.origin to.name tn is.origin refers) (object_layout c.width (object_of s.graph to.name)).first)
 
   -- the field at the end of a way: the object has it, and its word is what stands there
   field_at_end : (p : Pass) (k : Command) (way : Way) (w : ℕ) (l : Loading) → IsThread c p.thread → IsCommandInRange k
@@ -215,31 +162,31 @@ module _ (c : Config) (m : ℕ) (K : Name → Type 0) (at : Name → ℕ → ℕ
       × IsValueOf K (field_of (object_of s.graph found.name) (field_index k))
       × (value_word (heads at) (field_of (object_of s.graph found.name) (field_index k)) ≡ w)
   field_at_end p k way w l thread range walk there loads hand words reads =
-      let object = object_is p.thread l (object_in (object_on (extent c) k way)) thread.thread loads hand in (
+      let object = subst (λ x. IfSome x (λ y. ObjectIs c.width s.graph at p.thread y)) hand (load_is p.thread l thread.thread loads).object in (
         found_field p.thread (from_register k) (field_index k) way object walk thread.thread (from_low k range),
-        field_kept p.thread (from_register k) (field_index k) way object walk thread.thread (from_low k range),
+        follows.shows.closed.fields object.name (field_index k) (kept p.thread (from_register k) (field_index k) way object walk thread.thread (from_low k range)),
         field_word p.thread (from_register k) (field_index k) way object walk thread.thread (from_low k range) w there (payload_read s h _ _ w words reads),
       )
 
   -- what a row has loaded and reads is what the graph says
   pub row_shown : (p : Pass) (k : Command) (row : FieldRow) (w : ℕ) → FitsAt c p k row → IsAt (extent c) s h p k row w → ShownAt (heads at) s.graph p.thread k row w
   row_shown p k (LoadRegister wants.Object) w fits is =
-      register_shown p.thread (from_register k) w fits.thread.thread (from_low k fits.command) (not_pending p.thread (from_register k) _ is.loads refl) (register_at p.thread (from_register k) w is.words is.reads)
+      register_shown p.thread (from_register k) w _ fits.thread.thread (from_low k fits.command) is.loads refl is.words is.reads
   row_shown p k (LoadRegister (wants.Second word)) w fits is =
       let a = from_register k in
       let b = other_register k in
-      let value = value_is p.thread _ (value_in (value_load a word)) fits.thread.thread is.loads refl in
       record {
-        first = read_word (register_of s.graph p.thread a) word (follows.shows.closed.registers p.thread a fits.thread.thread (from_low k fits.command)) (sym value.word);
-        second = register_shown p.thread b w fits.thread.thread (other_low k fits.command) (not_pending p.thread b _ is.loads refl) (register_at p.thread b w is.words is.reads);
+        first = read_word (register_of s.graph p.thread a) word (follows.shows.closed.registers p.thread a fits.thread.thread (from_low k fits.command))
+            (sym (load_is p.thread _ fits.thread.thread is.loads).value.word);
+        second = register_shown p.thread b w _ fits.thread.thread (other_low k fits.command) is.loads refl is.words is.reads;
         apart = λ x y ex ey e.
-            (blocks_apart c.width c.threads m K s.graph at s.words (pending_registers s.loads) follows.shows x y 0 0 (is_kept p.thread a x fits.thread.thread (from_low k fits.command) ex) (is_kept p.thread b y fits.thread.thread (other_low k fits.command) ey)
+            (blocks_apart c.width c.threads m K s.graph at s.words pending follows.shows x y 0 0 (is_kept p.thread a x fits.thread.thread (from_low k fits.command) ex) (is_kept p.thread b y fits.thread.thread (other_low k fits.command) ey)
             (object_layout c.width (object_of s.graph x)).first (object_layout c.width (object_of s.graph y)).first e).0;
       }
   row_shown p k (LoadRegister wants.Shown) w fits is =
-      register_shown p.thread (from_register k) w fits.thread.thread (from_low k fits.command) (not_pending p.thread (from_register k) _ is.loads refl) (register_at p.thread (from_register k) w is.words is.reads)
+      register_shown p.thread (from_register k) w _ fits.thread.thread (from_low k fits.command) is.loads refl is.words is.reads
   row_shown p k (LoadShape x) w fits is =
-      shape_word p.thread (from_register k) x w (object_is p.thread _ _ fits.thread.thread is.loads refl) fits.thread.thread (from_low k fits.command) (ap (λ b. b.shape x) is.words ∙ sym is.reads)
+      shape_word p.thread (from_register k) x w (load_is p.thread _ fits.thread.thread is.loads).object fits.thread.thread (from_low k fits.command) (ap (λ b. b.shape x) is.words ∙ sym is.reads)
   row_shown p k (LoadField way) w fits is =
       let field = field_at_end p k way w _ fits.thread fits.command fits.row.0 fits.row.1 is.loads refl is.words is.reads in
       (field.0, read_word _ w field.1 field.2)
@@ -250,18 +197,14 @@ module _ (c : Config) (m : ℕ) (K : Name → Type 0) (at : Name → ℕ → ℕ
       (field.0, read_word _ w field.1 field.2)
   row_shown p k (Store (Compared way word)) w fits is =
       let field = field_at_end p k way w _ fits.thread fits.command fits.row.0 fits.row.1 is.loads refl is.words is.reads in
-      let expected =
-      expected_is p.thread _ (value_in (value_load (expected_register k) way.expected))
-      fits.thread.thread is.loads (cas_expects k way.expected fits.belongs) in
+      let expected = subst (λ x. IfSome x (λ y. ValueIs s.graph at p.thread y)) (cas_expects k way.expected fits.belongs)
+      (load_is p.thread _ fits.thread.thread is.loads).expected in
       let v = field_of (object_of s.graph field.0.name) (field_index k) in
       let u = register_of s.graph p.thread (expected_register k) in (
         field.0,
-        ap (λ x. eqb x way.expected) (sym field.2)
-            ∙ ap (λ y. eqb (value_word (heads at) v) y) expected.word
-            ∙ words_tell c.width c.threads m K s.graph at s.words (pending_registers s.loads)
-            follows.shows v u field.1
-            (follows.shows.closed.registers p.thread (expected_register k) fits.thread.thread
-            (expected_low k fits.command)),
+        ap (λ x. eqb x way.expected) (sym field.2) ∙ ap (λ y. eqb (value_word (heads at) v) y) expected.word
+            ∙ words_tell c.width c.threads m K s.graph at s.words pending follows.shows v u field.1
+            (follows.shows.closed.registers p.thread (expected_register k) fits.thread.thread (expected_low k fits.command)),
       )
   row_shown p k _ w fits is = tt
 
@@ -269,8 +212,8 @@ module _ (c : Config) (m : ℕ) (K : Name → Type 0) (at : Name → ℕ → ℕ
   store_reads : (p : Pass) (k : Command) (store : FieldStore) (w : ℕ) → IsThread c p.thread → IsCommandInRange k → StoreFits c k store
       → s.words ≡ block_words h → s.loads p.thread ≡ store_loading (extent c) k store → w ≡ h (place_of (store_want (extent c) p.thread k store))
       → CanHold (extent c) (place_of (store_want (extent c) p.thread k store)) w
-  store_reads p k (Moved word) w thread range fits words loads reads = register_held p.thread (to_register k) w thread.thread (to_low k range) (register_at p.thread (to_register k) w words reads)
-  store_reads p k (Pending word value) w thread range fits words loads reads = register_held p.thread (to_register k) w thread.thread (to_low k range) (register_at p.thread (to_register k) w words reads)
+  store_reads p k (Moved word) w thread range fits words loads reads = register_held p.thread (to_register k) w thread.thread (to_low k range) words reads
+  store_reads p k (Pending word value) w thread range fits words loads reads = register_held p.thread (to_register k) w thread.thread (to_low k range) words reads
   store_reads p k (InField way word) w thread range fits words loads reads =
       let field = field_at_end p k way w _ thread range fits.0 fits.1 loads refl words reads in value_held _ w field.1 field.2
   store_reads p k (Exchanged way word) w thread range fits words loads reads =
@@ -278,51 +221,43 @@ module _ (c : Config) (m : ℕ) (K : Name → Type 0) (at : Name → ℕ → ℕ
   store_reads p k (Compared way word) w thread range fits words loads reads =
       let field = field_at_end p k way w _ thread range fits.0 fits.1 loads refl words reads in value_held _ w field.1 field.2
 
-  -- the value of which the owner is read
-  owner_value : (p : Pass) (k : Command) (word : ℕ) → IsThread c p.thread → s.loads p.thread ≡ row_loading (extent c) k (LoadOwner word)
-      → ValueIs s.graph at p.thread (record { origin = answered_register k; word = word; pending = false })
-  owner_value p k word thread loads =
-      on_time p.thread (answered_register k) word (takes_field k) (value_is p.thread _ (value_in (answered_load k word)) thread.thread loads refl)
-
   pub row_reads : (p : Pass) (k : Command) (row : FieldRow) (w : ℕ) → FitsAt c p k row
       → IsAt (extent c) s h p k row w → (reads_beside_graph row ≡ true → IsHeld c h)
       → field_reply row ≡ None → ReadsAt c p k row w
   row_reads p k (LoadRegister wanted) w fits is held goes =
-      (register_held p.thread (register_wanted k wanted) w fits.thread.thread (wanted_low k wanted fits.command) (register_at p.thread (register_wanted k wanted) w is.words is.reads), tt)
+      (register_held p.thread (register_wanted k wanted) w fits.thread.thread (wanted_low k wanted fits.command) is.words is.reads, tt)
   row_reads p k (LoadShape x) w fits is held goes = (ap is_some (row_shown p k (LoadShape x) w fits is).shape, tt)
   row_reads p k (LoadLink way word) w fits is held goes =
-      link_held p.thread (from_register k) (field_index k) way (object_is p.thread _ (object_in (object_on (extent c) k way)) fits.thread.thread is.loads refl) fits.row.0 fits.thread.thread (from_low k fits.command) w fits.row.1 (payload_read s h _ _ w is.words is.reads)
+      link_held p.thread (from_register k) (field_index k) way (load_is p.thread _ fits.thread.thread is.loads).object fits.row.0 fits.thread.thread (from_low k fits.command) w fits.row.1 (payload_read s h _ _ w is.words is.reads)
   row_reads p k (LoadField way) w fits is held goes =
       let field = field_at_end p k way w _ fits.thread fits.command fits.row.0 fits.row.1 is.loads refl is.words is.reads in
       (value_held _ w field.1 field.2, tt)
-  row_reads p k (LoadOwner word) w fits is held goes =
-      (value_named p.thread (answered_register k) word w fits.thread.thread (owner_value p k word fits.thread is.loads) fits.row.1 (owner_word_read (target word) w is.words is.reads), tt)
+  row_reads p k (LoadOwner word) w fits is held goes = (
+    subst (λ x. IsSome (wide_of x)) (ap (λ b. b.owner (target word)) is.words ∙ sym is.reads)
+        (value_named p.thread _ fits.thread.thread (load_is p.thread _ fits.thread.thread is.loads).value fits.row.1),
+    tt,
+  )
   row_reads p k (Shade r store) w fits is held goes =
       (subst (CanHold (extent c) (place_of (row_want (extent c) p k (Shade r store)))) (sym is.reads) (held refl (place_of (row_want (extent c) p k (Shade r store))) (place_at c p k (Shade r store) fits)), tt)
   row_reads p k (Store store) w fits is held goes = (store_reads p k store w fits.thread fits.command fits.row is.words is.loads is.reads, tt)
   row_reads p k StoreConstant w fits is held goes =
-      (register_held p.thread (to_register k) w fits.thread.thread (to_low k fits.command) (register_at p.thread (to_register k) w is.words is.reads), tt)
-  row_reads p k IdleLook w fits is held goes =
-      (subst (CanHold (extent c) Phase) (sym is.reads) (held refl Phase refl), tt)
+      (register_held p.thread (to_register k) w fits.thread.thread (to_low k fits.command) is.words is.reads, tt)
+  row_reads p k IdleLook w fits is held goes = (subst (CanHold (extent c) Phase) (sym is.reads) (held refl Phase refl), tt)
   row_reads p k (Answered reply) w fits is held goes = absurd cc
 
   -- and where its reply shows a register, it reads the name of the object to which that refers
   pub row_named : (p : Pass) (k : Command) (row : FieldRow) (w : ℕ) (reply : Reply) → FitsAt c p k row → IsAt (extent c) s h p k row w → ShowsAt s.graph p.thread k row reply → NameShown (heads at) row reply w
-  row_named p k (LoadOwner word) w reply fits is shows =
-      register_named p.thread (answered_register k) word w reply fits.thread.thread (owner_value p k word fits.thread is.loads) (owner_word_read (target word) w is.words is.reads) shows
+  row_named p k (LoadOwner word) w reply fits is shows = λ a says goes.
+      let values_one : replies.Val (register_of s.graph p.thread (answered_register k)) ≡ replies.Val (values.Ref a) = sym shows ∙ says in
+      let refers : register_of s.graph p.thread (answered_register k) ≡ values.Ref a = cc in
+      ap wide_of (is.reads ∙ sym (ap (λ b. b.owner (target word)) is.words))
+      ∙ name_shown c.width c.threads m K at s follows p.thread fits.thread.thread _ a (load_is p.thread _ fits.thread.thread is.loads).value refers
   row_named p k _ w reply fits is shows = tt
 
-  -- a decided row promises the reply that is due
-  store_promises : (t : ℕ) (k : Command) (store : FieldStore) (reply : Reply) → KnownBefore s.graph t k store → due_before s.graph t k store ≡ Some reply → StorePromises store reply
-  store_promises t k (Pending word value) reply known due =
-      let says : reply ≡ replies.Val (register_of s.graph t (to_register k)) = cc in
-      says ∙ ap replies.Val (sym known)
-  store_promises t k _ reply known due = absurd cc
-
-  pub row_promises : (p : Pass) (k : Command) (row : FieldRow) (w : ℕ) (reply : Reply) → FitsAt c p k row → IsAt (extent c) s h p k row w → KnownAt s.graph p.thread k row → due_at s.graph p.thread k row ≡ Some reply → Promises (heads at) row reply
-  row_promises p k (LoadOwner word) w reply fits is known due =
-      refers_to p.thread (answered_register k) word reply (owner_value p k word fits.thread is.loads) fits.row.1 cc
-  row_promises p k (Shade r store) w reply fits is known due = store_promises p.thread k store reply known due
-  row_promises p k (Store store) w reply fits is known due = store_promises p.thread k store reply known due
-  row_promises p k (Answered given) w reply fits is known due = cc
-  row_promises p k _ w reply fits is known due = absurd cc
+  pub name_is : (p : Pass) (k : Command) (row : FieldRow) (w : ℕ) → FitsAt c p k row → IsAt (extent c) s h p k row w → NameIs s.graph p.thread k row w
+  name_is p k (LoadOwner word) w fits is =
+      let to = refers_to p.thread _ (replies.Val (register_of s.graph p.thread (answered_register k))) (load_is p.thread _ fits.thread.thread is.loads).value fits.row.1 refl in
+      let says : replies.Val (register_of s.graph p.thread (answered_register k)) ≡ replies.Val (values.Ref to.name) = to.says in
+      let refers : register_of s.graph p.thread (answered_register k) ≡ values.Ref to.name = cc in
+      ap rows.object_or_nil (row_named p k (LoadOwner word) w _ fits is refl to.name to.says to.block) ∙ sym refers
+  name_is p k _ w fits is = tt

@@ -1,30 +1,14 @@
 -- What holds of each row that may follow holds of the one that follows.
 use Rattle.std.proofs.Common.{◌≡◌, ◌≢◌, ℕ, ◌<◌, Bool, true, false, cond, ltb, refl, sym, subst, inl, inr, eq-eqb}
-use Rattle.std.proofs.lemmas.Bool.{cases_Bool, cases_eq, cases_lt, lt-ltb, le-ltb, ne_eqb}
-use Rattle.block_store.specs.declared.Payload.{Payload}
+use Rattle.barrier_steps.proofs.Common.{cases_Bool, cases_eq, cases_lt, lt-ltb, le-ltb, ne_eqb, Payload, Name, Shape, Extent, Value, Command, Reply, Pass, GreyRow, grey_over, FieldRow, Way, FieldStore, stored_word, is_taken, shaded_for, before_store, in_barrier, after_object, after_shape, after_field, after_said, after_owner, at_block, on_way, way_from, to_register, answered_register, field_index, is_get, is_put, is_swap, is_cas, is_say, goes_to_field, takes_field, answers_value, stores_in_field, shape_length, links_to}
 use Rattle.block_store.specs.declared.Payload.TheVariants as payloads
-use Rattle.block_store.specs.declared.Name.{Name}
-use Rattle.block_store.specs.declared.Shape.{Shape}
-use Rattle.block_store.specs.Places.{Extent}
-use Rattle.block_store.specs.declared.Value.{Value}
 use Rattle.block_store.specs.declared.Value.TheVariants as values
-use Rattle.never_heap.specs.declared.Command.{Command}
 use Rattle.never_heap.specs.declared.Command.TheVariants as commands
-use Rattle.never_heap.specs.declared.Reply.{Reply}
 use Rattle.never_heap.specs.declared.Reply.TheVariants as replies
-use Rattle.heap_machine.specs.declared.pass.Pass.{Pass}
-use Rattle.grey_steps.specs.declared.rows.GreyRow.{GreyRow}
 use Rattle.grey_steps.specs.declared.rows.GreyRow.TheVariants.{TakeOwn}
-use Rattle.grey_steps.specs.Rows.{grey_over}
-use Rattle.barrier_steps.specs.declared.rows.FieldRow.{FieldRow}
 use Rattle.barrier_steps.specs.declared.rows.FieldRow.TheVariants.{LoadRegister, LoadShape, LoadField, LoadLink, LoadOwner, Shade, Store, Answered}
 use Rattle.barrier_steps.specs.declared.rows.Wanted.TheVariants as wants
-use Rattle.barrier_steps.specs.declared.rows.Way.{Way}
-use Rattle.barrier_steps.specs.declared.rows.FieldStore.{FieldStore}
 use Rattle.barrier_steps.specs.declared.rows.FieldStore.TheVariants.{Pending, InField, Exchanged, Compared}
-use Rattle.barrier_steps.specs.Rows.{stored_word, is_taken, shaded_for, before_store, in_barrier, after_object, after_shape, after_field, after_said, at_block, on_way, way_from}
-use Rattle.barrier_steps.specs.Operands.{field_index, is_get, is_cas, stores_in_field}
-use Rattle.barrier_steps.specs.Walks.{shape_length, links_to}
 
 -- what holds of the store's row and of the first of its barrier
 pub before_is : (P : FieldRow → Type 0) (p : Pass) (store : FieldStore)
@@ -76,19 +60,22 @@ either P false q r x y = y
 
 -- of those at the block of the field, on the way to it and behind the object's shape
 pub at_block_is : (P : FieldRow → Type 0) (p : Pass) (k : Command) (way : Way) (word : ℕ)
-    → P (LoadField way) → ((s : FieldStore) → is_taken s ≡ false → P (before_store p s))
-    → P (at_block p k way word)
-at_block_is P p (commands.Put s i v) way word field store = store (InField way word) refl
-at_block_is P p (commands.Swap s i v) way word field store = store (Exchanged way word) refl
-at_block_is P p (commands.Cas s i a v) way word field store = store (Compared way word) refl
-at_block_is P p _ way word field store = field
+    → ((goes_to_field k ≡ true → is_get k ≡ true) → P (LoadField way))
+    → (is_put k ≡ true → P (before_store p (InField way word)))
+    → (is_swap k ≡ true → P (before_store p (Exchanged way word)))
+    → (is_cas k ≡ true → P (before_store p (Compared way word))) → P (at_block p k way word)
+at_block_is P p (commands.Put s i v) way word field put swap cas = put refl
+at_block_is P p (commands.Swap s i v) way word field put swap cas = swap refl
+at_block_is P p (commands.Cas s i a v) way word field put swap cas = cas refl
+at_block_is P p _ way word field put swap cas = field (λ goes. cc)
 
 pub on_way_is : (P : FieldRow → Type 0) (e : Extent) (p : Pass) (k : Command) (way : Way) (word : ℕ)
     → P (LoadLink way word) → P (LoadField way)
     → ((s : FieldStore) → is_taken s ≡ false → P (before_store p s)) → P (on_way e p k way word)
 on_way_is P e p k way word link field store =
     either P (ltb way.level (links_to e way.shape (field_index k))) (LoadLink way word)
-    (at_block p k way word) link (at_block_is P p k way word field store)
+    (at_block p k way word) link (at_block_is P p k way word (λ _. field) (λ _. store (InField way word) refl)
+    (λ _. store (Exchanged way word) refl) (λ _. store (Compared way word) refl))
 
 -- the index is tried first
 within : (P : FieldRow → Type 0) (i n : ℕ) (row : FieldRow) → (i < n → P row)
@@ -116,3 +103,12 @@ after_shape_is P e p (commands.Cas s i a v) x f answer stored expected way =
     within P i (shape_length f) _ (λ less. expected less refl) (answer replies.Range (λ n e. cc))
 after_shape_is P e p _ x f answer stored expected way =
     answer (replies.Len (shape_length f)) (λ n e. cc)
+
+-- and behind the owner of a block
+pub after_owner_is : (P : FieldRow → Type 0) (p : Pass) (k : Command) (word : ℕ) (value : Value)
+    → (is_say k ≡ true → P (Answered (replies.Val value)))
+    → ((answers_value k ≡ true → takes_field k ≡ true) → answered_register k ≡ to_register k
+    → P (before_store p (Pending word value)))
+    → P (after_owner p k word value)
+after_owner_is P p (commands.Say s) word value answer store = answer refl
+after_owner_is P p _ word value answer store = store (λ is. cc) refl

@@ -90,30 +90,47 @@ WantedFits c k (wants.Stored way) = IsWalk c (field_index k) way × (way.level �
 WantedFits c k (wants.Second word) = IsLoaded c word
 WantedFits c k _ = Unit {0}
 
--- whether command k comes to this row
-abbrev pub is_row_of : Command → FieldRow → Bool
-is_row_of k (LoadRegister wanted) = is_wanted_by k wanted
-is_row_of k (LoadShape x) = looks_at_object k
-is_row_of k (LoadLink way word) = goes_to_field k
-is_row_of k (LoadField way) = is_get k
-is_row_of k (LoadOwner word) = answers_value k
-is_row_of k (Shade r store) = is_store_of k store
-is_row_of k (Store store) = is_store_of k store
-is_row_of k StoreConstant = sets_constant k
-is_row_of k IdleLook = is_idle k
-is_row_of k (Answered reply) = true
+-- what a row asks: whether the command comes to it, and that its numbers are in range
+pub record Asks : Type 1 where
+  pub comes : Bool
+  pub Numbers : Type 0
 
--- the numbers that a row of command k in this pass names are in range
+-- what it asks of command k in this pass
+abbrev pub row_asks : Config → Pass → Command → FieldRow → Asks
+row_asks c p k (LoadRegister wanted) = record {
+  comes = is_wanted_by k wanted;
+  Numbers = WantedFits c k wanted;
+}
+row_asks c p k (LoadShape x) = record { comes = looks_at_object k; Numbers = IsBlock c x }
+row_asks c p k (LoadLink way word) = record {
+  comes = goes_to_field k;
+  Numbers = IsWalk c (field_index k) way
+      × (way.level < links_to (extent c) way.shape (field_index k)) × IsLoaded c word;
+}
+row_asks c p k (LoadField way) = record {
+  comes = is_get k;
+  Numbers = IsWalk c (field_index k) way × IsThere c (field_index k) way;
+}
+row_asks c p k (LoadOwner word) = record {
+  comes = answers_value k;
+  Numbers = IsLoaded c word × (target word ≢ 0);
+}
+row_asks c p k (Shade r store) = record {
+  comes = is_store_of k store;
+  Numbers = IsBarrier c p r (stored_word store) × StoreFits c k store;
+}
+row_asks c p k (Store store) = record { comes = is_store_of k store; Numbers = StoreFits c k store }
+row_asks c p k StoreConstant = record { comes = sets_constant k; Numbers = Unit {0} }
+row_asks c p k IdleLook = record { comes = is_idle k; Numbers = Unit {0} }
+row_asks c p k (Answered reply) = record { comes = true; Numbers = Unit {0} }
+
+-- whether command k comes to this row of this pass
+abbrev pub is_row_of : Config → Pass → Command → FieldRow → Bool
+is_row_of c p k row = (row_asks c p k row).comes
+
+-- the numbers that it names are in range
 abbrev pub RowFits : Config → Pass → Command → FieldRow → Type 0
-RowFits c p k (LoadRegister wanted) = WantedFits c k wanted
-RowFits c p k (LoadShape x) = IsBlock c x
-RowFits c p k (LoadLink way word) = IsWalk c (field_index k) way
-    × (way.level < links_to (extent c) way.shape (field_index k)) × IsLoaded c word
-RowFits c p k (LoadField way) = IsWalk c (field_index k) way × IsThere c (field_index k) way
-RowFits c p k (LoadOwner word) = IsLoaded c word × (target word ≢ 0)
-RowFits c p k (Shade r store) = IsBarrier c p r (stored_word store) × StoreFits c k store
-RowFits c p k (Store store) = StoreFits c k store
-RowFits c p k _ = Unit {0}
+RowFits c p k row = (row_asks c p k row).Numbers
 
 -- the heap has the pass's threads, of which this is one, and at most 65,535 blocks; the command is
 -- in range and comes to the row, and the row's numbers are in range
@@ -122,7 +139,7 @@ pub record FitsAt (c : Config) (p : Pass) (k : Command) (r : FieldRow) : Type 0 
   pub threads : p.threads ≡ c.threads
   pub blocks : c.blocks ≤ 65535
   pub command : IsCommandInRange k
-  pub belongs : is_row_of k r ≡ true
+  pub belongs : is_row_of c p k r ≡ true
   pub row : RowFits c p k r
 
 abbrev pub FieldFits : Config → FieldState → Type 0

@@ -71,7 +71,7 @@ pub fn rows_decide_once()
 /// name of the object that it refers to is read.
 pub fn rows_answer_as_steps()
     ensures decided { (c : Config) (head : Name → ℕ) (g : Graph) (f : FieldState) (w : ℕ)
-        → is_row_of f.command f.row ≡ true → is_deciding f.command f.row w ≡ true
+        → is_row_of c f.pass f.command f.row ≡ true → is_deciding f.command f.row w ≡ true
         → Shown head g f w
         → Promises head (field_got (extent c) f w).row (answer g f.pass.thread f.command) }
     ensures kept { (c : Config) (head : Name → ℕ) (f : FieldState) (w : ℕ) (reply : Reply)
@@ -98,7 +98,7 @@ pub fn rows_are_events()
         → (after_event (extent c) s (event_of (extent c) a f w)).graph ≡ s.graph }
     ensures steps { (c : Config) (head : Name
         → ℕ) (s : GraphState) (a : Name) (f : FieldState) (w : ℕ)
-        → is_row_of f.command f.row ≡ true → is_deciding f.command f.row w ≡ true
+        → is_row_of c f.pass f.command f.row ≡ true → is_deciding f.command f.row w ≡ true
         → Shown head s.graph f w
         → s.loads f.pass.thread ≡ loading_of (extent c) f → IsInHand s a f
         → (after_event (extent c) s (event_of (extent c) a f w)).graph

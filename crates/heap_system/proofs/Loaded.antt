@@ -4,6 +4,7 @@ use Rattle.std.proofs.Common.{◌≡◌, ℕ, ◌<◌, ◌⊎◌, inl, inr, true
 use Rattle.block_store.specs.declared.Config.{Config}
 use Rattle.block_store.specs.Colours.{is_free, is_grey, black_word}
 use Rattle.block_store.specs.Places.{Extent, extent}
+use Rattle.heap_machine.specs.declared.pass.Pass.{Pass}
 use Rattle.block_store.specs.Widths.{payloads}
 use Rattle.never_heap.specs.declared.Command.{Command}
 use Rattle.never_heap.specs.declared.Command.TheVariants as commands
@@ -118,13 +119,13 @@ store_gets : (e : Extent) (k : Command) (store : FieldStore) (q : ℕ) → is_pe
 store_gets e k (stores.Pending word value) q is of = (of, eqb-true (to_register k) q is, refl)
 store_gets e k _ q is of = absurd cc
 
-row_gets : (e : Extent) (k : Command) (row : FieldRow) (q : ℕ) → is_pending (row_loading e k row).value q ≡ true → is_row_of k row ≡ true → Gets k row q
-row_gets e k (fields.LoadRegister wanted) q is of = register_gets e k wanted q is
-row_gets e k (fields.LoadOwner word) q is of = owner_gets e k word q is of
-row_gets e k (fields.Shade r store) q is of = store_gets e k store q is of
-row_gets e k (fields.Store store) q is of = store_gets e k store q is of
-row_gets e k (fields.LoadLink way word) q is of = absurd (cc (is, carries_none k word q))
-row_gets e k _ q is of = absurd cc
+row_gets : (e : Extent) (c : Config) (p : Pass) (k : Command) (row : FieldRow) (q : ℕ) → is_pending (row_loading e k row).value q ≡ true → is_row_of c p k row ≡ true → Gets k row q
+row_gets e c p k (fields.LoadRegister wanted) q is of = register_gets e k wanted q is
+row_gets e c p k (fields.LoadOwner word) q is of = owner_gets e k word q is of
+row_gets e c p k (fields.Shade r store) q is of = store_gets e k store q is of
+row_gets e c p k (fields.Store store) q is of = store_gets e k store q is of
+row_gets e c p k (fields.LoadLink way word) q is of = absurd (cc (is, carries_none k word q))
+row_gets e c p k _ q is of = absurd cc
 
 module _ (c : Config) (traces : List (List Command)) (r : Run) (k : Kept c traces r) (t : ℕ) (tl : t < c.threads) where
   in_get : (f : FieldState) → (local_at c r.state t).part ≡ Serve f → (q : ℕ) → Gets f.command f.row q → IsTaking (local_at c r.state t) q
@@ -143,7 +144,7 @@ module _ (c : Config) (traces : List (List Command)) (r : Run) (k : Kept c trace
   at_part : (p : Part) → (local_at c r.state t).part ≡ p → (q : ℕ) → is_pending (task c p).loading.value q ≡ true → IsTaking (local_at c r.state t) q
   at_part (Serve f) is q e =
       let fits = subst (λ p. PartFits (local_at c r.state t).config (length (local_at c r.state t).log) (length (local_at c r.state t).trace) (local_at c r.state t).pass p) is (k.locals t tl).fits.part in
-      in_get f is q (row_gets (extent c) f.command f.row q e fits.0.belongs)
+      in_get f is q (row_gets (extent c) (local_at c r.state t).config f.pass f.command f.row q e fits.0.belongs)
   at_part _ is q e = absurd cc
 
   pub pending_get : (q : ℕ) → is_pending (task c (local_at c r.state t).part).loading.value q ≡ true → IsTaking (local_at c r.state t) q

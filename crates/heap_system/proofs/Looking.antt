@@ -1,6 +1,7 @@
 -- A command that is told of units stands at its look, which decides it and has its reply.
 use Rattle.std.proofs.Common.{◌⊎◌, ◌≡◌, ℕ, true, Some, None, refl, inl, inr}
-use Rattle.block_store.specs.Places.{Extent}
+use Rattle.block_store.specs.declared.Config.{Config}
+use Rattle.block_store.specs.Places.{Extent, extent}
 use Rattle.never_heap.specs.declared.Command.{Command}
 use Rattle.never_heap.specs.declared.Command.TheVariants.{Idle}
 use Rattle.never_heap.specs.declared.Reply.{Reply}
@@ -31,21 +32,21 @@ stores_none : (u : ℕ) (store : FieldStore) → is_store_of (Idle u) store ≡ 
 stores_none u (stores.Moved word) own = cc
 stores_none u _ own = cc
 
-pub looks : (e : Extent) (p : Pass) (k : Command) (r : FieldRow) (w : ℕ) → is_row_of k r ≡ true
-    → field_reply r ≡ None → (units_told k ≡ 0) ⊎ Looks e p k r w
-looks e p (Idle u) rows.IdleLook w own going = inr (record { decides = refl; reply = replies.Idle; replied = refl })
-looks e p (Idle u) (rows.Answered reply) w own going = absurd cc
-looks e p (Idle u) (rows.LoadRegister wanted) w own going = absurd (loads_none u wanted own)
-looks e p (Idle u) (rows.Shade r store) w own going = absurd (stores_none u store own)
-looks e p (Idle u) (rows.Store store) w own going = absurd (stores_none u store own)
-looks e p (Idle u) _ w own going = absurd cc
-looks e p _ r w own going = inl refl
+pub looks : (c : Config) (p : Pass) (k : Command) (r : FieldRow) (w : ℕ)
+    → is_row_of c p k r ≡ true → field_reply r ≡ None → (units_told k ≡ 0) ⊎ Looks (extent c) p k r w
+looks c p (Idle u) rows.IdleLook w own going = inr (record { decides = refl; reply = replies.Idle; replied = refl })
+looks c p (Idle u) (rows.Answered reply) w own going = absurd cc
+looks c p (Idle u) (rows.LoadRegister wanted) w own going = absurd (loads_none u wanted own)
+looks c p (Idle u) (rows.Shade r store) w own going = absurd (stores_none u store own)
+looks c p (Idle u) (rows.Store store) w own going = absurd (stores_none u store own)
+looks c p (Idle u) _ w own going = absurd cc
+looks c p _ r w own going = inl refl
 
 -- once decided it has its reply
-pub decided_untold : (k : Command) (r : FieldRow) → is_row_of k r ≡ true → field_decided r ≡ true
-    → field_reply r ≡ None → units_told k ≡ 0
-decided_untold (Idle u) (rows.Answered reply) own decided going = absurd cc
-decided_untold (Idle u) (rows.Shade r store) own decided going = absurd (stores_none u store own)
-decided_untold (Idle u) (rows.Store store) own decided going = absurd (stores_none u store own)
-decided_untold (Idle u) _ own decided going = absurd cc
-decided_untold _ r own decided going = refl
+pub decided_untold : (c : Config) (p : Pass) (k : Command) (r : FieldRow) → is_row_of c p k r ≡ true
+    → field_decided r ≡ true → field_reply r ≡ None → units_told k ≡ 0
+decided_untold c p (Idle u) (rows.Answered reply) own decided going = absurd cc
+decided_untold c p (Idle u) (rows.Shade r store) own decided going = absurd (stores_none u store own)
+decided_untold c p (Idle u) (rows.Store store) own decided going = absurd (stores_none u store own)
+decided_untold c p (Idle u) _ own decided going = absurd cc
+decided_untold c p _ r own decided going = refl

@@ -67,7 +67,7 @@ module _ (c : Config) (traces : List (List Command)) (r : Run) (k : Kept c trace
   unpaid f is e =
       let row : RowKept c (replay c r.order) t (local_at c r.state t).pass (command_of (local_at c r.state t)) f = kept_at (Serve f) is in
       let fits = subst (λ p. PartFits (local_at c r.state t).config (length (local_at c r.state t).log) (length (local_at c r.state t).trace) (local_at c r.state t).pass p) is (k.locals t tl).fits.part in
-      let untold : units_told (command_of (local_at c r.state t)) ≡ 0 = ap units_told (sym row.command) ∙ decided_untold f.command f.row fits.0.belongs e row.going in
+      let untold : units_told (command_of (local_at c r.state t)) ≡ 0 = ap units_told (sym row.command) ∙ decided_untold (local_at c r.state t).config f.pass f.command f.row fits.0.belongs e row.going in
       omega (arith, (k.locals t tl).fits.paid, owes_none row.serves, untold)
 
   pub decided_told : (f : FieldState) → (local_at c r.state t).part ≡ Serve f → field_decided f.row ≡ true → (y : Reply) × (part t r.order ≡ (local_at c r.state t).log ++ entry_of t (command_of (local_at c r.state t)) 0 y ∷ [])

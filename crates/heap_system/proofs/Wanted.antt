@@ -8,7 +8,7 @@ use Rattle.heap_machine.specs.declared.pass.Pass.{Pass}
 use Rattle.heap_machine.specs.Operations.{op_at, op_place, place_of}
 use Rattle.heap_machine.proofs.HeapAfter.{op_place-at}
 use Rattle.heap_machine.proofs.GateRows.{gate_place}
-use Rattle.barrier_steps.proofs.FieldRows.{field_place}
+use Rattle.barrier_steps.proofs.FieldRows as fields
 use Rattle.grey_steps.proofs.Ranges as marking
 use Rattle.sweep_steps.proofs.Ranges as sweeping
 use Rattle.build_steps.proofs.Wanted as building
@@ -22,7 +22,7 @@ pub place_at : (c : Config) (done all : ℕ) (q : Pass) (p : Part) → PartFits 
     → in_range (extent c) (place_of (part_want c p)) ≡ true
 place_at c done all q Rest f = refl
 place_at c done all q (Enter g) f = gate_place c g f.0 (going_at c g f.1)
-place_at c done all q (Serve s) f = field_place c s f.0
+place_at c done all q (Serve s) f = fields.place_at c s.pass s.command s.row f.0
 place_at c done all q (Mark m) f = marking.place_fits c m f.0
 place_at c done all q (Sweep s) f = sweeping.place_fits c s f.0
 place_at c done all q (Build b) f = building.place_fits c b f.0

@@ -1,6 +1,7 @@
 -- A thread in a command that allocates nothing.
 use Rattle.std.proofs.Common.{◌⊎◌, ◌≡◌, ℕ, ◌+◌, ◌*◌, ◌-◌, ◌<◌, Bool, true, false, cond, eqb, Option, Some, None, is_some, List, [], ◌∷◌, ◌++◌, append-nil, length, refl, sym, ap, ◌∙◌, subst, arith, inl, inr, ne_eqb}
 use Rattle.std.proofs.lemmas.Bool.{cases_Bool}
+use Rattle.block_store.specs.Widths.{payloads}
 use Rattle.block_store.specs.declared.Config.{Config}
 use Rattle.block_store.specs.declared.Width.{Width}
 use Rattle.block_store.specs.Colours.{is_grey, black_word}
@@ -43,9 +44,9 @@ use Rattle.barrier_steps.specs.Replies.{due_before, due_at, reply_due, IsKnown, 
 use Rattle.barrier_steps.specs.Rows.{FieldState, field_want, field_got, field_reply, field_decided, field_holding, field_step, step_of}
 use Rattle.barrier_steps.proofs.Decisions.{decided_once, makes_none}
 use Rattle.barrier_steps.proofs.Dues.{none_due}
-use Rattle.barrier_steps.proofs.FieldRows.{field_sum, field_fits}
+use Rattle.barrier_steps.proofs.FieldRows.{sum_at, field_fits}
 use Rattle.barrier_steps.proofs.Keeping.{keeps_phase, keeps_words, over_nothing}
-use Rattle.barrier_steps.proofs.Keeping.{field_phase, field_cursor, grey_stays, field_found, field_claims}
+use Rattle.barrier_steps.proofs.Keeping.{field_phase, field_cursor, row_grey, row_found, row_claims}
 use Rattle.barrier_steps.proofs.Naming.{keeps_names, loaded_solid, due_on, reads_on}
 use Rattle.sweep_steps.specs.Ends.{unpassed}
 use Rattle.heap_system.specs.declared.local.Part.{Part}
@@ -85,7 +86,7 @@ turns_none cycle _ before after same = refl
 field_blackens : (c : Config) (h : Heap) (f : FieldState) → FieldFits c f → blackens h (field_want (extent c) f) ≡ false
 field_blackens c h f fits =
     turns_none (cycle_of (h Phase)) (place_of (field_want (extent c) f)) (h (place_of (field_want (extent c) f))) (heap_after h (field_want (extent c) f) (place_of (field_want (extent c) f)))
-    (λ x e grey. subst (λ p. is_grey (h p) ≡ true → heap_after h (field_want (extent c) f) p ≡ h p) (sym e) (grey_stays c h f x fits) grey)
+    (λ x e grey. subst (λ p. is_grey (h p) ≡ true → heap_after h (field_want (extent c) f) p ≡ h p) (sym e) (row_grey c h x f.pass f.command f.row fits) grey)
 
 -- a row with a reply has nothing loaded, and that reply is due
 row_unloads : (c : Config) (k : Command) (r : FieldRow) (y : Reply) → field_reply r ≡ Some y → row_loading (extent c) k r ≡ unloaded
@@ -169,7 +170,7 @@ module _ (c : Config) (s : Seen c) (f : FieldState) (at : AtPart c s (Serve f)) 
   fits = at.fits.0
 
   task_is : s.tasks f.pass.thread ≡ field_task (extent c) f
-  task_is = ap s.tasks at.part.thread ∙ at.task ∙ ap (λ x. record { loading = loading_of (extent c) f; build = None; scan = x }) (field_found c f fits)
+  task_is = ap s.tasks at.part.thread ∙ at.task ∙ ap (λ x. record { loading = loading_of (extent c) f; build = None; scan = x }) (row_found c f.pass f.command f.row fits)
 
   holds_is : s.holds f.pass.thread ≡ field_holding (extent c) f
   holds_is = ap s.holds at.part.thread ∙ at.holds
@@ -194,7 +195,7 @@ module _ (c : Config) (s : Seen c) (f : FieldState) (at : AtPart c s (Serve f)) 
 
   -- and it is told of none, or looks
   told_or_looks : (s.spent ≡ 0) ⊎ Looks (extent c) f.pass f.command f.row w
-  told_or_looks = elim (looks (extent c) f.pass f.command f.row w fits.belongs at.part.going) [
+  told_or_looks = elim (looks c f.pass f.command f.row w fits.belongs at.part.going) [
     | inl none ↦ inl (told_made ∙ ap units_told (sym at.part.command) ∙ none)
     | inr look ↦ inr look
   ]
@@ -236,7 +237,7 @@ module _ (c : Config) (s : Seen c) (f : FieldState) (at : AtPart c s (Serve f)) 
   lead_is = λ i. (cycle_of (phase_is i) - 1) * c.blocks + cond (is_sweep (phase_is i)) (cursor_is i - 1) 0
 
   none_claimed : unpassed (s.holds s.thread) ≡ 0
-  none_claimed = ap unpassed at.holds ∙ ap (λ (x : SweepHolding). x.high - x.low) (field_claims c f)
+  none_claimed = ap unpassed at.holds ∙ ap (λ (x : SweepHolding). x.high - x.low) (row_claims (payloads c.width) f.pass f.row)
 
   next_fits : FieldFits c next
   next_fits = field_fits c f w fits reads
@@ -279,12 +280,12 @@ module _ (c : Config) (s : Seen c) (f : FieldState) (at : AtPart c s (Serve f)) 
     gate = gate_is;
     held = keeps_words c s.heap f fits s.held;
     rules = rules_are (Serve next) refl;
-    kept = names_are (Serve next) (ap (λ x. record { loading = loading_of (extent c) next; build = None; scan = x }) (sym (field_found c next next_fits)));
+    kept = names_are (Serve next) (ap (λ x. record { loading = loading_of (extent c) next; build = None; scan = x }) (sym (row_found c next.pass next.command next.row next_fits)));
     unshaded = λ sweep opened. s.unshaded (sym (ap is_sweep phase_is) ∙ sweep) (sym (ap is_closed phase_is) ∙ opened);
     forward = record { stages = omega (arith, stage_is); cursor = λ e sweep. omega (arith, cursor_is) };
     behind = omega (arith, stage_is, s.behind);
     leads =
-        let after : unpassed (holding c (Serve next)) ≡ 0 = ap (λ (x : SweepHolding). x.high - x.low) (field_claims c next) in
+        let after : unpassed (holding c (Serve next)) ≡ 0 = ap (λ (x : SweepHolding). x.high - x.low) (row_claims (payloads c.width) next.pass next.row) in
         omega (arith, lead_is, none_claimed, after);
     part = record { serves = at.part.serves; passes = at.part.passes; thread = at.part.thread; command = at.part.command; known = known_is; going = is };
     knows = tt;
@@ -304,7 +305,7 @@ module _ (c : Config) (s : Seen c) (f : FieldState) (at : AtPart c s (Serve f)) 
   over_event r is = record {
     gate = gate_is;
     held = keeps_words c s.heap f fits s.held;
-    rules = rules_are Leave (over_nothing (extent c) next (ap is_some is));
+    rules = rules_are Leave (over_nothing (payloads c.width) next.pass next.row (ap is_some is));
     kept = names_are Leave (ap (λ (l : Loading). record { loading = l; build = None; scan = 0 }) (row_unloads c f.command next.row r is));
     unshaded = λ sweep opened. s.unshaded (sym (ap is_sweep phase_is) ∙ sweep) (sym (ap is_closed phase_is) ∙ opened);
     forward = record { stages = omega (arith, stage_is); cursor = λ e sweep. omega (arith, cursor_is) };
@@ -331,7 +332,7 @@ module _ (c : Config) (s : Seen c) (f : FieldState) (at : AtPart c s (Serve f)) 
 pub serve_laws : (c : Config) (f : FieldState) → PartLaws c (Serve f)
 serve_laws c f = record {
   reads = λ s at. reads c s f at;
-  sum = λ s at. field_sum c f (s.heap (place_of (field_want (extent c) f)));
+  sum = λ s at. sum_at c f.pass f.command f.row (s.heap (place_of (field_want (extent c) f)));
   event = λ s at low. serve_event c s f at (field_reply (field_got (extent c) f (s.heap (place_of (field_want (extent c) f)))).row) refl;
   stays = λ g new u pass k kept same count. (let s = field_stays g new u f kept.thread same in (record { serves = kept.serves; passes = kept.passes; thread = kept.thread; command = kept.command; known = s.0 kept.known; going = kept.going }, s.1));
   knows = λ h new ns later pass on cursor behind still is. tt;

@@ -188,7 +188,7 @@ module _ (c : Config) (rate : ℕ) (s : Seen c) (f : FieldState) (at : AtPart c 
 pub serve_tallied : (c : Config) (f : FieldState) → TallyLaw c (Serve f)
 serve_tallied c f rate s at next few before k =
     let w : ℕ = s.heap (place_of (row_want (extent c) f.pass f.command f.row)) in
-    by c rate s f at before k next few (field_step (extent c) f w) (field_got (extent c) f w) f.row at.fits.0.row (elim (looks (extent c) f.pass f.command f.row w at.fits.0.belongs at.part.going) [
+    by c rate s f at before k next few (field_step (extent c) f w) (field_got (extent c) f w) f.row at.fits.0.row (elim (looks c f.pass f.command f.row w at.fits.0.belongs at.part.going) [
       | inl none ↦ inl (ap units_told (sym at.part.command) ∙ none)
       | inr look ↦ inr (look.decides, ap is_some look.replied)
     ])

@@ -3,7 +3,7 @@ use Rattle.barrier_steps.proofs.laws.rows_answer_as_steps.Goals as goal
 
 pub returns : goal.returns
 returns c = record {
-  decided = λ c head g f w. promised c head g f.pass.thread f.pass f.command f.row w;
-  kept = λ c head f w reply. kept c head f.pass f.command f.row w reply;
+  decided = λ c head g f. promised head c g f.pass.thread f.pass f.command f.row;
+  kept = λ c head f. kept head c f.pass f.command f.row;
   given = given;
 }

@@ -7,7 +7,7 @@ pub returns : goal.returns
 returns c = record {
   reads = λ c m kept at s h f w few low k. row_reads c m (named kept) at few low s k h f.pass f.command f.row w;
   shown = λ c m kept at s h f w few low k. row_shown c m (named kept) at few low s k h f.pass f.command f.row w;
-  register = λ c head s a f w. row_shows c head s a f.pass f.command f.row w;
+  register = λ c head s a f w. row_shows c head s a f.pass f.command w f.row;
   name = λ c m kept at s h f w reply few low k. row_named c m (named kept) at few low s k h f.pass f.command f.row w reply;
   due = λ c m kept at s h a f w few low k fits is hand known. (row_due c m (named kept) at few low s k h a f.pass f.command f.row w fits is hand known).0;
   known = λ c m kept at s h a f w few low k fits is hand known. (row_due c m (named kept) at few low s k h a f.pass f.command f.row w fits is hand known).1;
