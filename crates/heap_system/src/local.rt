@@ -1,6 +1,6 @@
 //! One thread's whole state, one event at a time.
 
-ghost use Rattle.std.specs.Prelude.{◌≡◌, ◌≤◌, ◌<◌, ◌+◌, ◌^◌, ◌-◌, ◌++◌, ◌∷◌, [], true, false, Some, if◌then◌else◌, length, IfOk};
+ghost use Rattle.std.specs.Prelude.{◌≡◌, ◌≤◌, ◌<◌, ◌+◌, ◌^◌, ◌-◌, ◌++◌, ◌∷◌, [], true, false, Some, if◌then◌else◌, length, slice_index_or, IfOk};
 ghost use Rattle.block_store.specs.Configs.{IsInBounds};
 ghost use Rattle.block_store.specs.Places.{extent, words_count};
 ghost use Rattle.rate_plan.specs.Rates.{IsRate, IsAdmitted};
@@ -13,6 +13,7 @@ ghost use Rattle.heap_machine.specs.Operations.{op_at, op_place, place_of};
 ghost use Rattle.heap_machine.specs.Readings.{CanHold};
 ghost use Rattle.heap_machine.specs.Passes.{IsPass};
 ghost use Rattle.never_heap.specs.Bounds.{IsCommandInBounds};
+ghost use Rattle.never_heap.specs.declared.Command.TheVariants as commands;
 ghost use Rattle.heap_system.specs.Lives.{IsLife, objects_of, most_units, most_objects};
 ghost use Rattle.heap_machine.specs.declared.gate.GateRow.{GateRow};
 ghost use Rattle.grey_steps.specs.Rows.{scanning};
@@ -194,6 +195,15 @@ fn after_pass(nothing: bool) -> Part
     ensures { result ≡ (if nothing then Part.Idle else Part.Again) }
 {
     if nothing { Part::Idle } else { Part::Again }
+}
+
+// The units that the command is told to make that comes after those in the log.
+#[inline(always)]
+fn told(trace: &[Command], log: &[Entry]) -> u64
+    requires { length log.now < length trace.now }
+    ensures { result ≡ units_told (slice_index_or trace.now (length log.now) (commands.Nil 0)) }
+{
+    trace[log.len()].told()
 }
 
 // The part that turns the phase over, after a pass that found nothing to do.
@@ -540,12 +550,12 @@ impl Local {
             (λ w. HasGot self.old w self.new result) }
     {
         let places = Places::new(&self.config);
-        let told = self.told();
         match &mut self.part {
             Part::Mark(scan) => {
                 let before = scan.unit();
                 let step = scan.event(&places, memory, shared);
                 let unit = is_new(scan.unit(), before);
+                let told = told(&self.trace, &self.log);
                 count(&mut self.account, told, unit);
                 self.spent = spend(self.spent, unit);
                 if is_last(step) {
@@ -571,12 +581,12 @@ impl Local {
             (λ w. HasGot self.old w self.new result) }
     {
         let places = Places::new(&self.config);
-        let told = self.told();
         match &mut self.part {
             Part::Sweep(pass) => {
                 let passed = pass.passed();
                 let step = pass.event(&places, memory, shared);
                 let unit = pass.passed() > passed;
+                let told = told(&self.trace, &self.log);
                 count(&mut self.account, told, unit);
                 self.spent = spend(self.spent, unit);
                 if is_last(step) {
@@ -666,14 +676,6 @@ impl Local {
         } else {
             self.part = Part::Serve(FieldPass::new_in(pass, command));
         }
-    }
-
-    // The units that the command in hand is told to make.
-    fn told(&self) -> u64
-        requires { length self.now.log < length self.now.trace }
-        ensures { result ≡ units_told (command_of self.now) }
-    {
-        self.trace[self.log.len()].told()
     }
 
     // The units that the command in hand still owes.
