@@ -87,8 +87,9 @@ pub fn few_blocks_are_in_use()
         + given c.width s.order s.cycle }
 {}
 
-/// While the works of what was decided and what was made for the commands in hand are below 2^50,
-/// so are the units of all cycles and the number of the cycle, however many commands there were.
+/// While the works of what was decided and what was made for the commands in hand are below
+/// 2^50 − 1, the units of all cycles and the number of the cycle are below 2^50, however many
+/// commands there were.
 pub fn counts_stay_small()
     ensures { (c : Config) (rate : ℕ) (s : Tally) → Bound c rate s
         → 0 < c.blocks → work_in s.order + made_now c.threads s < 2 ^ 50 - 1

@@ -8,7 +8,7 @@ use std::test::Fail;
 use std::thread::Threads;
 use trace_text::{MemSink, MemSource};
 
-/// A job with commands of every kind, on a heap whose rate is 7.
+/// A job with commands of seven kinds, on a heap whose rate is 7.
 pub const JOB: &[u8] = b"rtheap 1 threads 1 blocks 64 live 20 object 2 shared 0
 thread 0
 new 1 2

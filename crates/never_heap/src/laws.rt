@@ -33,7 +33,7 @@ pub fn live_blocks_are_few()
         registers_end w (length g.mutators) + sum_by (λ a. object_blocks w (object_of g a)) some }
 {}
 
-/// The opening heap has as many live blocks as it has blocks.
+/// All blocks that the opening has given are live.
 pub fn opening_blocks_are_live()
     ensures { (c : Config) → IsInBounds c → live_blocks c.width (start_graph c) ≡ opening_blocks c }
 {}

@@ -61,7 +61,7 @@ pub fn orders_make_one_history()
 {}
 
 /// A run is items of which each may come behind those before it, to the end of all traces; and any
-/// such items are a run.
+/// such items, where there are some, are a run.
 pub fn runs_are_items_that_may_come()
     ensures item { (c : Config) (rate : ℕ) (traces : List (List Command))
         (past : List HistoryItem) (i : HistoryItem) (rest : List HistoryItem)

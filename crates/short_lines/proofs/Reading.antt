@@ -2,7 +2,7 @@
 use Rattle.std.proofs.Common.{◌≡◌, ◌≢◌, ℕ, zero, suc, ◌+◌, ◌<◌, ◌≤◌, true, false, inl, inr, eqb, List, [], ◌∷◌, ◌++◌, length, get_or, take, drop, Option, Some, None, IfSome, Ok, Err, eq-eqb, ne_eqb, sym, refl, ap, ◌∙◌, subst, arith, take-append-drop}
 use Rattle.std.specs.List.{AllByRecursion}
 use Rattle.std.proofs.lemmas.Bool.{cases_eq}
-use Rattle.std.proofs.lemmas.List.{take_all}
+use Rattle.std.proofs.lemmas.List.{length-take-le, take_all}
 use Rattle.trace_text.specs.declared.Failed.{Failed}
 use Rattle.trace_text.specs.Lines.{lines_of, onto_first}
 use Rattle.trace_text.specs.Streams.{TookAtMost}
@@ -85,14 +85,21 @@ read_more (Some bytes) left new i b line next r leads ne e =
       none = none_more bytes i b r.none at.is ne;
     }
 
+-- as many bytes of the line came
+read_short : (bytes : List ℕ) (i : ℕ) (line : List ℕ) (left : Option (List ℕ))
+    → IsReadTo bytes i line left → i < 40 → length line < 40
+read_short bytes i line left r few =
+    omega (arith, few, ap length r.read, length-take-le i bytes r.within)
+
 -- the line feed behind it
-pub read_line : (all left new : Option (List ℕ)) (i b : ℕ) (line : List ℕ)
+pub read_line : (all left new : Option (List ℕ)) (i b : ℕ) (line : List ℕ) → i < 40
     → IfSome all (λ bytes. IsReadTo bytes i line left) → LeadsBy b left new → b ≡ 10
     → IfSome all (λ bytes. IsFound bytes new line (Ok Line))
-read_line None left new i b line r leads e = tt
-read_line (Some bytes) left new i b line r leads e =
+read_line None left new i b line few r leads e = tt
+read_line (Some bytes) left new i b line few r leads e =
     let at = at_read bytes i b line left new r leads in
     record {
+      short = read_short bytes i line left r few;
       rest = drop (suc i) bytes;
       lines = lines_at bytes i at.inside (eq-eqb (get_or bytes i 0) 10 (at.is ∙ e)) r.none
           ∙ ap (λ ys. ys ∷ lines_of (drop (suc i) bytes)) (sym r.read);
@@ -105,12 +112,12 @@ all_there (x ∷ bytes) zero l e = absurd cc
 all_there (x ∷ bytes) (suc i) l e = let rest = all_there bytes i (omega arith) e in omega (arith, rest)
 
 -- the end of the source behind it
-pub read_end : (all left new : Option (List ℕ)) (i : ℕ) (line : List ℕ) (next : Next)
+pub read_end : (all left new : Option (List ℕ)) (i : ℕ) (line : List ℕ) (next : Next) → i < 40
     → IfSome all (λ bytes. IsReadTo bytes i line left) → EndsAt left new
     → (i ≡ 0 → next ≡ End) → (0 < i → next ≡ Line)
     → IfSome all (λ bytes. IsFound bytes new line (Ok next))
-read_end None left new i line next r ends none some = tt
-read_end (Some bytes) left new i line next r ends none some =
+read_end None left new i line next few r ends none some = tt
+read_end (Some bytes) left new i line next few r ends none some =
     let by : EndsAt (Some (drop i bytes)) new = subst (λ o. EndsAt o new) r.now ends in
     let whole : i ≡ length bytes = all_there bytes i r.within by.0 in
     elim (cases_eq i 0) [
@@ -118,6 +125,7 @@ read_end (Some bytes) left new i line next r ends none some =
           (sym (ap (λ j. drop j bytes) e) ∙ by.0, by.1)
       | inr ne ↦ subst (λ (n : Next). IsFound bytes new line (Ok n)) (sym (some (omega (arith, ne))))
           (record {
+            short = read_short bytes i line left r few;
             rest = [];
             lines = lines_none bytes (omega (arith, whole, ne)) (subst (NoneBefore 10 bytes) whole r.none)
                 ∙ ap (λ ys. ys ∷ []) (sym (r.read ∙ take_all i bytes (omega (arith, whole))));

@@ -1,6 +1,6 @@
 -- What is found where the next line of a source should stand. Where the source tells nothing,
 -- nothing is said.
-use Rattle.std.specs.Prelude.{ℕ, ◌≡◌, ◌≢◌, ◌≤◌, ◌++◌, length, List, [], ◌∷◌, Option, Some, Result, Ok, Err, IfSome, drop}
+use Rattle.std.specs.Prelude.{ℕ, ◌≡◌, ◌≢◌, ◌≤◌, ◌<◌, ◌++◌, length, List, [], ◌∷◌, Option, Some, Result, Ok, Err, IfSome, drop}
 use Rattle.std.specs.List.{AllByRecursion}
 use Rattle.trace_text.specs.declared.Failed.{Failed}
 use Rattle.trace_text.specs.Lines.{lines_of, line_feed}
@@ -16,8 +16,9 @@ LeadsBy b old new = IfSome old (λ bytes. (rest : List ℕ) × (bytes ≡ b ∷ 
 abbrev pub EndsAt : Option (List ℕ) → Option (List ℕ) → Type 0
 EndsAt old new = IfSome old (λ bytes. (bytes ≡ []) × (new ≡ Some []))
 
--- the first line is this one, and what is left are the lines behind it
+-- the first line is this one, of fewer than 40 bytes, and what is left are the lines behind it
 pub record LeadsByLine (bytes : List ℕ) (left : Option (List ℕ)) (line : List ℕ) : Type 0 where
+  pub short : length line < 40
   pub rest : List ℕ
   pub lines : lines_of bytes ≡ line ∷ lines_of rest
   pub now : left ≡ Some rest

@@ -53,8 +53,8 @@ pub record Numbered (W : Width) (K : Name → Type 0) (object : Name → Object)
   pub serials : (a : Name) → K a → a.serial < 2 ^ 43
   pub ordinals : (a : Name) → K a → object_blocks W (object a) ≤ 1024
 
--- a register's word is that of its value; where the register is pending, it is still that of an
--- earlier value
+-- a register's word is that of its value; where the register is pending, it is that of some kept
+-- value
 pub record RegisterShows (word : ℕ) (head : Name → ℕ) (K : Name → Type 0) (v : Value)
     (pending : Bool) : Type 0 where
   pub value : Value

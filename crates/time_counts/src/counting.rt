@@ -59,6 +59,7 @@ impl Times {
         requires most { thousandths ≤ 1000 }
         ensures is { IfSome result (IsPercentile thousandths self.now) }
         ensures none { IfNone result ((length self.now ≡ 0) ⊎ (2 ^ 32 < length self.now)) }
+        ensures much { 2 ^ 32 < length self.now → result ≡ None }
     {
         let times = self.sorted.as_slice();
         let count = times.len();

@@ -15,12 +15,12 @@ returns-in-Err-clause-found g c =
 
 pub returns-in_default-clause-found : goal.returns-in_default-clause-found
 returns-in_default-clause-found g c =
-    read_end _ _ _ _ _ _ c.loop-place.invariant.read (c.in-Ok.ensures.end (search rules))
+    read_end _ _ _ _ _ _ (omega (arith, c.loop-place-test.true)) c.loop-place.invariant.read (c.in-Ok.ensures.end (search rules))
     c.at_end.ensures.none c.at_end.ensures.some
 
 pub returns-then-byte-eq10-clause-found : goal.returns-then-byte-eq10-clause-found
 returns-then-byte-eq10-clause-found g c =
-    read_line _ _ _ _ c.in-Some.byte _ c.loop-place.invariant.read
+    read_line _ _ _ _ c.in-Some.byte _ (omega (arith, c.loop-place-test.true)) c.loop-place.invariant.read
     (rw c.in-Some.is at c.in-Ok.ensures.some) c.if-byte-eq10.true
 
 pub push-requires : goal.push-requires
