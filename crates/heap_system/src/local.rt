@@ -1,6 +1,6 @@
 //! One thread's whole state, one event at a time.
 
-ghost use Rattle.std.specs.Prelude.{◌≡◌, ◌≤◌, ◌<◌, ◌+◌, ◌^◌, ◌-◌, ◌++◌, ◌∷◌, [], true, false, Some, if◌then◌else◌, length, slice_index_or, IfOk};
+ghost use Rattle.std.specs.Prelude.{◌≡◌, ◌≤◌, ◌<◌, ◌+◌, ◌^◌, ◌-◌, ◌++◌, ◌∷◌, [], true, false, Some, if◌then◌else◌, length, IfOk};
 ghost use Rattle.block_store.specs.Configs.{IsInBounds};
 ghost use Rattle.block_store.specs.Places.{extent, words_count};
 ghost use Rattle.rate_plan.specs.Rates.{IsRate, IsAdmitted};
@@ -13,7 +13,6 @@ ghost use Rattle.heap_machine.specs.Operations.{op_at, op_place, place_of};
 ghost use Rattle.heap_machine.specs.Readings.{CanHold};
 ghost use Rattle.heap_machine.specs.Passes.{IsPass};
 ghost use Rattle.never_heap.specs.Bounds.{IsCommandInBounds};
-ghost use Rattle.never_heap.specs.declared.Command.TheVariants as commands;
 ghost use Rattle.heap_system.specs.Lives.{IsLife, objects_of, most_units, most_objects};
 ghost use Rattle.heap_machine.specs.declared.gate.GateRow.{GateRow};
 ghost use Rattle.grey_steps.specs.Rows.{scanning};
@@ -21,7 +20,7 @@ ghost use Rattle.sweep_steps.specs.Rows.{sweeping};
 ghost use Rattle.heap_system.specs.Locals.{LocalReads, HasGot, is_done, is_rest, is_build, is_at_gate, is_in_command, is_marking, is_sweeping, is_on_way_out, part_want, part_step, local_got, at_start, turn_of, is_last, pass_by, first_part, errand_of, command_of, op_wanted, owed, made_got, works, entry_of, balance_over, commands_decided, begun};
 
 use crate::Turn;
-use crate::counting::{count, if_decided, is_new, made_after, settle, spend, sum_of_works};
+use crate::counting::{count, if_decided, is_new, made_after, settle, sum_of_works};
 use barrier_steps::FieldPass;
 use block_store::{Config, OutOfMemory, PhaseWord, Places};
 use build_steps::BuildPass;
@@ -195,15 +194,6 @@ fn after_pass(nothing: bool) -> Part
     ensures { result ≡ (if nothing then Part.Idle else Part.Again) }
 {
     if nothing { Part::Idle } else { Part::Again }
-}
-
-// The units that the command is told to make that comes after those in the log.
-#[inline(always)]
-fn told(trace: &[Command], log: &[Entry]) -> u64
-    requires { length log.now < length trace.now }
-    ensures { result ≡ units_told (slice_index_or trace.now (length log.now) (commands.Nil 0)) }
-{
-    trace[log.len()].told()
 }
 
 // The part that turns the phase over, after a pass that found nothing to do.
@@ -555,9 +545,13 @@ impl Local {
                 let before = scan.unit();
                 let step = scan.event(&places, memory, shared);
                 let unit = is_new(scan.unit(), before);
-                let told = told(&self.trace, &self.log);
-                count(&mut self.account, told, unit);
-                self.spent = spend(self.spent, unit);
+                count(
+                    &mut self.account,
+                    &mut self.spent,
+                    &self.trace,
+                    &self.log,
+                    unit,
+                );
                 if is_last(step) {
                     self.part = after_pass(scan.nothing());
                     turn_after(step)
@@ -586,9 +580,13 @@ impl Local {
                 let passed = pass.passed();
                 let step = pass.event(&places, memory, shared);
                 let unit = pass.passed() > passed;
-                let told = told(&self.trace, &self.log);
-                count(&mut self.account, told, unit);
-                self.spent = spend(self.spent, unit);
+                count(
+                    &mut self.account,
+                    &mut self.spent,
+                    &self.trace,
+                    &self.log,
+                    unit,
+                );
                 if is_last(step) {
                     self.part = after_pass(pass.nothing());
                     turn_after(step)
