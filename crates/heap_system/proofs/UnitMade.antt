@@ -15,12 +15,19 @@ use Rattle.work_account.specs.Accounts.{AccountState}
 use Rattle.heap_system.specs.declared.local.Local.TheInside.{Inside}
 use Rattle.heap_system.specs.declared.local.Part.{Part}
 use Rattle.heap_system.specs.declared.local.Part.TheVariants.{Sweep, Again, Idle}
+use Rattle.never_heap.specs.declared.Command.{Command}
+use Rattle.never_heap.specs.declared.Entry.{Entry}
 use Rattle.never_heap.specs.RightWork.{units_told}
 use Rattle.never_heap.specs.Steps.{blocks_of}
-use Rattle.heap_system.specs.Locals.{IsLocal, PartFits, IsRoomy, IsAllMade, IsPassAt, HasRoom, balance_on, spent_got, command_of, owed, unit_to_come, works, is_last, local_got}
+use Rattle.heap_system.specs.Locals.{LocalState, told_behind, IsLocal, PartFits, IsRoomy, IsAllMade, IsPassAt, HasRoom, balance_on, spent_got, command_of, owed, unit_to_come, works, is_last, local_got}
 use Rattle.heap_system.proofs.Balances.{paid_after, part_low, units_on, sound_on}
 use Rattle.heap_system.proofs.Paying.{view_of, price_low, paid_low, worked_low, passed_more, swept_last}
 use Rattle.heap_system.proofs.parts.InPass.{paid_more}
+
+-- what the command in hand is told to make, read off the trace behind the log
+pub units_read : (l : LocalState) (trace : List Command) (log : List Entry)
+    → trace ≡ l.trace → log ≡ l.log → told_behind trace log ≡ units_told (command_of l)
+units_read l trace log same logged = λ i. told_behind (same i) (logged i)
 
 -- a Mark pass makes one unit at most
 mark_sum : (a black : Bool) (paid due : ℕ) → paid + bit (not a) ≤ due

@@ -77,9 +77,17 @@ pub record LocalState : Type 0 where
   pub pass : Pass
   pub part : Part
 
+-- the command of a trace that comes after those in a log
+abbrev pub command_behind : List Command → List Entry → Command
+command_behind trace log = slice_index_or trace (length log) (commands.Nil 0)
+
 -- the command in hand, or the next one
 abbrev pub command_of : LocalState → Command
-command_of l = slice_index_or l.trace (length l.log) (commands.Nil 0)
+command_of l = command_behind l.trace l.log
+
+-- the units that it is told to make
+abbrev pub told_behind : List Command → List Entry → ℕ
+told_behind trace log = units_told (command_behind trace log)
 
 -- the units that the command in hand owes
 abbrev pub owed : LocalState → ℕ

@@ -1,37 +1,36 @@
 //! What an event makes of the numbers that a thread keeps: its account, the units made for the
 //! command in hand, the objects made, and the commands that are decided.
 
-ghost use Rattle.std.specs.Prelude.{◌≡◌, ◌≤◌, ◌<◌, ◌+◌, ◌^◌, ◌*◌, ◌&&◌, not, true, None, Some};
+ghost use Rattle.std.specs.Prelude.{◌≡◌, ◌≤◌, ◌<◌, ◌+◌, ◌^◌, ◌*◌, ◌&&◌, not, true, None, Some, length};
 ghost use Rattle.block_store.specs.Phases.{bit};
 ghost use Rattle.heap_system.specs.Lives.{objects_of};
-ghost use Rattle.heap_system.specs.Locals.{works, balance_on, balance_over, spent_got, made_got};
+ghost use Rattle.heap_system.specs.Locals.{works, told_behind, balance_on, balance_over, spent_got, made_got};
 
 use never_heap::{Command, Entry, Reply};
 use work_account::Account;
 
-/// An event by which a unit is made, or not, for a command that is told of so many.
-pub fn count(account: &mut Account, told: u64, unit: bool)
-    requires owed { unit ≡ true → told ≡ 0
+/// An event by which a unit is made, or not, for the command that comes after those in the log: the
+/// unit is paid, unless that command is told to make some.
+#[inline(always)]
+pub fn count(account: &mut Account, spent: &mut u64, trace: &[Command], log: &[Entry], unit: bool)
+    requires there { length log.now < length trace.now }
+    requires owed { unit ≡ true → told_behind trace.now log.now ≡ 0
         → account.old.balance.paid < account.old.rate * account.old.object }
     requires few { account.old.balance.units < 2 ^ 50 }
-    ensures { account.new
-        ≡ record account.old { balance = balance_on unit told account.old.balance } }
+    requires spent { spent.old < 2 ^ 50 }
+    ensures account { account.new ≡ record account.old {
+      balance = balance_on unit (told_behind trace.now log.now) account.old.balance;
+    } }
+    ensures spent { spent.new ≡ spent_got None unit spent.old }
 {
     if unit {
-        if told == 0 {
+        if trace[log.len()].told() == 0 {
             account.unit();
         } else {
             account.idle();
         }
+        *spent += 1;
     }
-}
-
-/// The units made for the command in hand, after such an event.
-pub fn spend(spent: u64, unit: bool) -> u64
-    requires { spent < 2 ^ 50 }
-    ensures { result ≡ spent_got None unit spent }
-{
-    if unit { spent + 1 } else { spent }
 }
 
 /// Whether what is so now was not so before.

@@ -20,7 +20,7 @@ ghost use Rattle.sweep_steps.specs.Rows.{sweeping};
 ghost use Rattle.heap_system.specs.Locals.{LocalReads, HasGot, is_done, is_rest, is_build, is_at_gate, is_in_command, is_marking, is_sweeping, is_on_way_out, part_want, part_step, local_got, at_start, turn_of, is_last, pass_by, first_part, errand_of, command_of, op_wanted, owed, made_got, works, entry_of, balance_over, commands_decided, begun};
 
 use crate::Turn;
-use crate::counting::{count, if_decided, is_new, made_after, settle, spend, sum_of_works};
+use crate::counting::{count, if_decided, is_new, made_after, settle, sum_of_works};
 use barrier_steps::FieldPass;
 use block_store::{Config, OutOfMemory, PhaseWord, Places};
 use build_steps::BuildPass;
@@ -540,14 +540,18 @@ impl Local {
             (λ w. HasGot self.old w self.new result) }
     {
         let places = Places::new(&self.config);
-        let told = self.told();
         match &mut self.part {
             Part::Mark(scan) => {
                 let before = scan.unit();
                 let step = scan.event(&places, memory, shared);
                 let unit = is_new(scan.unit(), before);
-                count(&mut self.account, told, unit);
-                self.spent = spend(self.spent, unit);
+                count(
+                    &mut self.account,
+                    &mut self.spent,
+                    &self.trace,
+                    &self.log,
+                    unit,
+                );
                 if is_last(step) {
                     self.part = after_pass(scan.nothing());
                     turn_after(step)
@@ -571,14 +575,18 @@ impl Local {
             (λ w. HasGot self.old w self.new result) }
     {
         let places = Places::new(&self.config);
-        let told = self.told();
         match &mut self.part {
             Part::Sweep(pass) => {
                 let passed = pass.passed();
                 let step = pass.event(&places, memory, shared);
                 let unit = pass.passed() > passed;
-                count(&mut self.account, told, unit);
-                self.spent = spend(self.spent, unit);
+                count(
+                    &mut self.account,
+                    &mut self.spent,
+                    &self.trace,
+                    &self.log,
+                    unit,
+                );
                 if is_last(step) {
                     self.part = after_pass(pass.nothing());
                     turn_after(step)
@@ -666,14 +674,6 @@ impl Local {
         } else {
             self.part = Part::Serve(FieldPass::new_in(pass, command));
         }
-    }
-
-    // The units that the command in hand is told to make.
-    fn told(&self) -> u64
-        requires { length self.now.log < length self.now.trace }
-        ensures { result ≡ units_told (command_of self.now) }
-    {
-        self.trace[self.log.len()].told()
     }
 
     // The units that the command in hand still owes.
