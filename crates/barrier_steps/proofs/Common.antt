@@ -1,9 +1,9 @@
--- The names that most proofs of this crate cite, passed on from one place. Declares nothing.
+-- The names that several proofs of this crate cite, passed on from one place. Declares nothing.
 pub use Rattle.barrier_steps.specs.Deciding.{refers, length_decides, register_decides, is_deciding}
 pub use Rattle.barrier_steps.specs.Fits.{is_row_of, FitsAt, IsThread, IsWalk, IsThere, IsBarrier, is_store_of, StoreFits, is_wanted_by, FieldFits, ReadsAt, FieldReads}
 pub use Rattle.barrier_steps.specs.Operands.{from_register, other_register, field_index, to_register, answered_register, is_say, takes_field, constant_word, is_get, goes_to_field, is_swap, is_cas, answers_value, stores_in_field, expected_register, is_put, looks_at_object}
 pub use Rattle.barrier_steps.specs.Projection.{row_loading, row_event, after_event, InHandAt, IsAt, store_loading, wanted_loading, register_event, store_event, constant_set, walk_load, object_on, object_load}
-pub use Rattle.barrier_steps.specs.Replies.{answer, IsWordOf, ShownAt, Promises, NameShown, ShowsAt, StorePromises, due_before, due_at, KnownBefore, KnownAt, graph_after, ShapeShown, FieldFound}
+pub use Rattle.barrier_steps.specs.Replies.{answer, IsWordOf, ShownAt, Promises, NameShown, ShowsAt, due_at, KnownAt, graph_after, ShapeShown, FieldFound}
 pub use Rattle.barrier_steps.specs.Rows.{payload_in, shape_in, is_taken, before_store, first_row, row_got, field_reply, field_decided, after_object, after_shape, after_field, after_owner, after_register, after_store, on_way, way_from, way_on, row_holding, payload_or_nil, after_said, FieldState, register_place, stored_word, shaded_for, at_first_row, register_wanted, store_want, row_want, field_got, shades, field_want, field_place, word_stored, shape_or_empty, reads_beside_graph, in_barrier, at_block}
 pub use Rattle.barrier_steps.specs.Walks.{shape_length, links_to, link_at, field_at, ordinal_at}
 pub use Rattle.barrier_steps.specs.declared.rows.FieldRow.{FieldRow}
