@@ -1,8 +1,6 @@
 //! The top call of rtheap.
 #![tactic(auto)]
 
-#[cfg(test)]
-mod comparing;
 mod exit;
 mod generated;
 mod making;
@@ -11,16 +9,8 @@ mod reading;
 mod replay;
 mod replaying;
 mod running;
-#[cfg(test)]
-mod scheduled;
-#[cfg(test)]
-mod several;
 mod task;
 mod telling;
-#[cfg(test)]
-mod testing;
-#[cfg(test)]
-mod tests;
 mod top;
 mod trial;
 

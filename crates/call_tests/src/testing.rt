@@ -1,7 +1,7 @@
 //! Whole calls over sources and sinks in memory, for the tests.
 
-use crate::{Exit, rtheap};
 use never_heap::{NoPace, Pace};
+use rtheap_core::{Exit, rtheap};
 use std::alloc::{AllocError, Global};
 use std::process::Abort;
 use std::sync::Wait;

@@ -1,8 +1,8 @@
 //! Whole calls: words, inputs, faults, and runs of one thread.
 
-use crate::rtheap;
 use crate::testing::{Call, EACH_KIND, HEADER, answers, job, job_begun, made, texts};
 use never_heap::NoPace;
+use rtheap_core::rtheap;
 use std::alloc::{AllocError, Global};
 use std::process::Abort;
 use std::sync::Wait;

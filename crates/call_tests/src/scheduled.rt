@@ -1,9 +1,9 @@
 //! Replays, and what needs no input: generated jobs and trials of them.
 
 use crate::testing::{Call, EACH_KIND, job, job_begun, made};
-use crate::{Exit, RunEnd};
 use heap_system::Finished;
 use never_heap::{Item, Logs};
+use rtheap_core::{Exit, RunEnd};
 use std::alloc::{AllocError, Global};
 use std::process::Abort;
 use std::sync::Wait;

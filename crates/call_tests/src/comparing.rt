@@ -3,10 +3,10 @@
 ghost use Rattle.std.specs.Prelude.{◌≡◌, ◌≤◌, length};
 ghost use Rattle.block_store.specs.Configs.{IsInBounds};
 
-use crate::RunEnd;
 use crate::testing::{Call, EACH_KIND, job, job_begun, made};
 use block_store::Config;
 use never_heap::{Entry, Graph, Logs};
+use rtheap_core::RunEnd;
 use std::alloc::{AllocError, Global};
 use std::process::Abort;
 use std::sync::Wait;

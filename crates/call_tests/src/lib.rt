@@ -1,0 +1,15 @@
+//! Tests of the top call of `rtheap`: whole calls over streams in memory.
+#![tactic(auto)]
+
+#[cfg(test)]
+mod comparing;
+#[cfg(test)]
+mod generated;
+#[cfg(test)]
+mod scheduled;
+#[cfg(test)]
+mod several;
+#[cfg(test)]
+mod testing;
+#[cfg(test)]
+mod tests;
