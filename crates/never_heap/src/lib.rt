@@ -19,8 +19,6 @@ mod object;
 mod reach;
 mod read_laws;
 mod run_laws;
-#[cfg(test)]
-mod tests;
 
 use array_trees::blocks_of_array;
 use block_store::{Config, Name, REGISTERS, Value, Width};

@@ -7,8 +7,6 @@ mod bounds;
 mod counts;
 mod orders;
 mod replays;
-#[cfg(test)]
-mod tests;
 
 pub use bounds::in_bounds;
 pub use counts::{after_start, before_start, given_in, is_right_work, starts, work};

@@ -7,8 +7,6 @@ mod laws;
 mod lines;
 mod moves;
 mod taken;
-#[cfg(test)]
-mod tests;
 mod top;
 
 pub use input::parted;

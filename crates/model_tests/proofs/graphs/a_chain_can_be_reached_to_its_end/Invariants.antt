@@ -1,6 +1,6 @@
 use Rattle.std.proofs.Common.{◌≡◌, ◌≤◌, ◌*◌, length}
 use Rattle.never_heap.specs.Graphs.{count_of}
-use Rattle.never_heap.proofs.tests.a_chain_can_be_reached_to_its_end.Given as goal
+use Rattle.model_tests.proofs.graphs.a_chain_can_be_reached_to_its_end.Given as goal
 
 abbrev pub invariant-loop-round : goal.invariant-loop-round
 invariant-loop-round g l =

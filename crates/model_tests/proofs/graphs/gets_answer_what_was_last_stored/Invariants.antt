@@ -1,6 +1,6 @@
 use Rattle.std.proofs.Common.{◌≡◌, ◌≤◌, length}
 use Rattle.never_heap.specs.Graphs.{count_of}
-use Rattle.never_heap.proofs.tests.gets_answer_what_was_last_stored.Given as goal
+use Rattle.model_tests.proofs.graphs.gets_answer_what_was_last_stored.Given as goal
 
 abbrev pub invariant-loop-thread : goal.invariant-loop-thread
 invariant-loop-thread g l =

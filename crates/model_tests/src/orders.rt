@@ -2,7 +2,7 @@
 
 ghost use Rattle.std.specs.Prelude.{◌≤◌};
 
-use crate::check;
+use rt_check::check;
 use std::alloc::{AllocError, Global};
 use std::test::Fail;
 use trace_text::{MemSink, MemSource};
