@@ -2,17 +2,11 @@
 //! registers and fields, exchanges and comparisons of fields, and the replies.
 #![tactic(auto)]
 
-#[cfg(test)]
-mod exchange_tests;
 mod laws;
 mod operands;
 mod pass;
 mod rows;
 mod rules;
-#[cfg(test)]
-mod shading_tests;
-#[cfg(test)]
-mod tests;
 mod walks;
 
 pub use laws::{

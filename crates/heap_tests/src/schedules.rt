@@ -2,7 +2,7 @@
 //! drawn schedules: each reply is that of the heap that never frees, in the order of the deciding
 //! events, but where an allocation is refused. The blocks are given many times over.
 
-ghost use Rattle.std.specs.Prelude.{◌≡◌, ◌<◌, ◌≤◌, ◌+◌, ◌^◌, ℕ, None, length, map, IfOk, OnOk, IfSome};
+ghost use Rattle.std.specs.Prelude.{◌≡◌, ◌<◌, ◌≤◌, ◌+◌, ◌^◌, ℕ, length, map, IfOk, OnOk, IfSome};
 ghost use Rattle.never_heap.specs.Graphs.{count_of};
 ghost use Rattle.heap_system.specs.Machines.{IsJob};
 ghost use Rattle.heap_system.specs.Systems.{commands_in};
@@ -54,14 +54,6 @@ const COMMANDS: [Command; 19] = [
 ];
 
 fn three_threads(alloc: Global) -> Result<System, OutOfMemory>
-    ensures plain { IfOk result (λ s. s.ordered ≡ None) }
-    ensures config { IfOk result (λ s. s.config ≡ THREE) }
-{
-    System::new(alloc, THREE, three_traces(alloc)?)
-}
-
-// The same, with room for the order of its turns.
-fn three_in_order(alloc: Global) -> Result<System, OutOfMemory>
     ensures room { IfOk result (λ s. IfSome s.ordered (λ o. TURNS ≤ o.left)) }
     ensures config { IfOk result (λ s. s.config ≡ THREE) }
 {
@@ -103,38 +95,34 @@ fn model_reply(
     }
 }
 
-// Makes the turn in both systems, of which the second keeps its order.
-fn turn_both(plain: &mut System, ordered: &mut System, thread: u32, left: u32)
+// Makes a turn, behind which there is room for so many events more.
+fn turn(system: &mut System, thread: u32, left: u32)
     requires thread { thread < 3 }
-    requires configs { (plain.old.config ≡ THREE) × (ordered.old.config ≡ THREE) }
-    requires plain { plain.old.ordered ≡ None }
-    requires left { IfSome ordered.old.ordered (λ o. left < o.left) }
-    ensures configs { (plain.new.config ≡ THREE) × (ordered.new.config ≡ THREE) }
-    ensures plain { plain.new.ordered ≡ None }
-    ensures left { IfSome ordered.new.ordered (λ o. left ≤ o.left) }
+    requires config { system.old.config ≡ THREE }
+    requires left { IfSome system.old.ordered (λ o. left < o.left) }
+    ensures config { system.new.config ≡ THREE }
+    ensures left { IfSome system.new.ordered (λ o. left ≤ o.left) }
 {
-    plain.turn(thread);
-    ordered.turn(thread);
+    system.turn(thread);
 }
 
-// Whether each reply is the model's, in the order that is kept of the same turns.
+// Whether each reply is the model's, in the order that is kept.
 fn agrees(alloc: Global, key: u64) -> Result<bool, OutOfMemory> {
     let mut system = three_threads(alloc)?;
-    let mut ordered = three_in_order(alloc)?;
     let mut graph = Graph::start(alloc, &THREE)?;
     let mut draws = Lcg64Xsh32::new(key, 1);
     let mut waiting = [None; 3];
     let mut good = true;
-    for turn in 0..TURNS {
+    for number in 0..TURNS {
         if all_done(&system) {
             break;
         }
         let thread = draws.next_word() % 3;
         let logged = system.local(thread).log().len();
-        let known = ordered.order().unwrap_or(&[]).len();
-        turn_both(&mut system, &mut ordered, thread, TURNS - 1 - turn);
+        let known = system.order().unwrap_or(&[]).len();
+        turn(&mut system, thread, TURNS - 1 - number);
         let last = system.local(thread).log().last().map(|entry| entry.reply);
-        if is_decided(&ordered, known, thread) {
+        if is_decided(&system, known, thread) {
             if let Some(command) = COMMANDS.get(logged % COMMANDS.len()) {
                 waiting[thread as usize] = model_reply(&mut graph, thread, command, last)?;
             }
@@ -149,10 +137,12 @@ fn agrees(alloc: Global, key: u64) -> Result<bool, OutOfMemory> {
     Ok(good && logs.cycles() >= 20)
 }
 
-// Whether a command of the thread stands in the order behind this many items.
-fn is_decided(ordered: &System, known: usize, thread: u32) -> bool {
-    let order = ordered.order().unwrap_or(&[]);
-    order.iter().skip(known).any(|item| matches!(item, Item::Entry(t) if u32::from(*t) == thread))
+// Whether a command of the thread comes behind this many items of the order.
+fn is_decided(system: &System, known: usize, thread: u32) -> bool {
+    match system.order().unwrap_or(&[]).get(known) {
+        Some(Item::Entry(t)) => u32::from(*t) == thread,
+        _ => false,
+    }
 }
 
 // Whether each of the three threads is done.

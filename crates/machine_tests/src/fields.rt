@@ -1,7 +1,8 @@
 //! Commands done by hand on the words of a heap with one thread. Its register 0 refers to an array
 //! of five elements, in blocks 6 to 8, and register 1 to a record of one field, in block 9.
 
-use crate::*;
+use crate::hand::{behind, over};
+use barrier_steps::FieldPass;
 use block_store::{Config, Name, OutOfMemory, PhaseWord, Places, Value, Width};
 use heap_machine::{Op, Step, Words};
 use never_heap::{Command, Reply};
@@ -71,63 +72,58 @@ fn get_of_an_element(rt: HostRuntime) {
 }
 
 #[test]
-#[tactic(auto, unfolding(block_store::specs::Payloads::payload_of, block_store::specs::Payloads::target, block_store::specs::Shapes::shape_of))]
 fn put_in_a_field(rt: HostRuntime) {
     let places = Places::new(&SMALL);
-    let mut put = FieldPass::new(0, 1, MARK, Command::Put { s: 1, i: 0, v: 2 });
-    assert_eq!(rt; put.want(&places), Op::load(places.payload(2, 1)));
-    assert_eq!(rt; put.got(&places, TO_9), Step::Went);
-    assert_eq!(rt; put.want(&places), Op::load(places.shape(9)));
-    assert_eq!(rt; put.got(&places, ONE), Step::Went);
-    assert_eq!(rt; put.want(&places), Op::load(places.payload(2, 2)));
-    assert_eq!(rt; put.got(&places, FOUR), Step::Went);
-    assert!(rt; !put.decided());
-    assert_eq!(rt; put.want(&places), Op::exchange(places.payload(9, 1), FOUR));
-    assert_eq!(rt; put.got(&places, NIL), Step::Over);
-    assert!(rt; put.decided());
-    assert_eq!(rt; put.reply(), Some(Reply::Stored));
+    let put = Command::Put { s: 1, i: 0, v: 2 };
+    let events = [
+        (Op::load(places.payload(2, 1)), TO_9),
+        (Op::load(places.shape(9)), ONE),
+        (Op::load(places.payload(2, 2)), FOUR),
+        (Op::exchange(places.payload(9, 1), FOUR), NIL),
+    ];
+    assert_eq!(rt; behind(&SMALL, MARK, put, &events), over(4, Reply::Stored));
 }
 
 #[test]
-#[tactic(auto, unfolding(block_store::specs::Payloads::payload_of, block_store::specs::Payloads::target, block_store::specs::Shapes::shape_of, block_store::specs::WideOwners::wide_of, block_store::specs::WideOwners::wide_parts))]
 fn registers_are_shown(rt: HostRuntime) {
     let places = Places::new(&SMALL);
-    let mut len = FieldPass::new(0, 1, MARK, Command::Len { s: 0 });
-    assert_eq!(rt; len.got(&places, TO_6), Step::Went);
-    assert_eq!(rt; len.got(&places, FIVE), Step::Over);
-    assert_eq!(rt; len.reply(), Some(Reply::Len(5)));
-    let mut same = FieldPass::new(0, 1, MARK, Command::Same { a: 0, b: 1 });
-    assert_eq!(rt; same.got(&places, TO_6), Step::Went);
-    assert_eq!(rt; same.want(&places), Op::load(places.payload(2, 1)));
-    assert_eq!(rt; same.got(&places, TO_9), Step::Over);
-    assert_eq!(rt; same.reply(), Some(Reply::No));
-    let mut say = FieldPass::new(0, 1, MARK, Command::Say { s: 0 });
-    assert_eq!(rt; say.got(&places, TO_6), Step::Went);
-    assert!(rt; say.decided());
-    assert_eq!(rt; say.want(&places), Op::load(places.owner(6)));
-    assert_eq!(rt; say.got(&places, SHARED), Step::Over);
+    let from = (Op::load(places.payload(2, 0)), TO_6);
+    let len = [from, (Op::load(places.shape(6)), FIVE)];
+    assert_eq!(rt;
+        behind(&SMALL, MARK, Command::Len { s: 0 }, &len),
+        over(2, Reply::Len(5))
+    );
+    let same = [from, (Op::load(places.payload(2, 1)), TO_9)];
+    assert_eq!(rt;
+        behind(&SMALL, MARK, Command::Same { a: 0, b: 1 }, &same),
+        over(2, Reply::No)
+    );
+    let say = [from, (Op::load(places.owner(6)), SHARED)];
     let shared = Name {
         thread: 1,
         serial: 0,
     };
-    assert_eq!(rt; say.reply(), Some(Reply::Val(Value::Ref(shared))));
+    assert_eq!(rt;
+        behind(&SMALL, MARK, Command::Say { s: 0 }, &say),
+        over(1, Reply::Val(Value::Ref(shared)))
+    );
 }
 
 #[test]
-#[tactic(auto, unfolding(block_store::specs::Payloads::payload_of, block_store::specs::Payloads::target, block_store::specs::Shapes::shape_of))]
 fn refusals(rt: HostRuntime) {
     let places = Places::new(&SMALL);
     let get = Command::Get { d: 3, s: 0, i: 5 };
-    let mut null = FieldPass::new(0, 1, MARK, get);
-    assert_eq!(rt; null.got(&places, NIL), Step::Over);
-    assert_eq!(rt; null.reply(), Some(Reply::Null));
-    let mut kind = FieldPass::new(0, 1, MARK, get);
-    assert_eq!(rt; kind.got(&places, THREE), Step::Over);
-    assert_eq!(rt; kind.reply(), Some(Reply::Kind));
-    let mut range = FieldPass::new(0, 1, MARK, get);
-    assert_eq!(rt; range.got(&places, TO_6), Step::Went);
-    assert_eq!(rt; range.got(&places, FIVE), Step::Over);
-    assert_eq!(rt; range.reply(), Some(Reply::Range));
+    let from = Op::load(places.payload(2, 0));
+    assert_eq!(rt;
+        behind(&SMALL, MARK, get, &[(from, NIL)]),
+        over(1, Reply::Null)
+    );
+    assert_eq!(rt;
+        behind(&SMALL, MARK, get, &[(from, THREE)]),
+        over(1, Reply::Kind)
+    );
+    let range = [(from, TO_6), (Op::load(places.shape(6)), FIVE)];
+    assert_eq!(rt; behind(&SMALL, MARK, get, &range), over(2, Reply::Range));
 }
 
 // One event at a time over the words themselves: a register becomes 3, and says so.
