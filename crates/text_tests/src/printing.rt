@@ -2,14 +2,19 @@
 
 use crate::testing::{entry, replies, sink_failing_at};
 use block_store::Name;
-use never_heap::Reply;
+use never_heap::{Entry, Reply};
 use std::test::Fail;
-use trace_text::{Failed, LineBuffer, fill_entry, write_run};
+use trace_text::{Failed, LineBuffer, MemSink, fill_entry, write_run};
+
+/// Writes the replies, thread by thread.
+fn written(sink: &mut MemSink) -> Result<(), Failed> {
+    write_run(&replies(), sink)
+}
 
 #[test]
 fn each_reply_has_its_text(rt: HostRuntime) -> Result<(), Fail> {
     let mut sink = sink_failing_at(rt.alloc(), &[])?;
-    assert_eq!(rt; write_run(&replies(), &mut sink), Ok(()));
+    assert_eq!(rt; written(&mut sink), Ok(()));
     let text = b"0 new 0.1 work 36
 0 full 3 work 7
 0 ok
@@ -32,10 +37,15 @@ end cycles 2 work 53
 #[test]
 fn a_put_that_fails_leaves_the_lines_before(rt: HostRuntime) -> Result<(), Fail> {
     let mut sink = sink_failing_at(rt.alloc(), &[3])?;
-    assert_eq!(rt; write_run(&replies(), &mut sink), Err(Failed));
+    assert_eq!(rt; written(&mut sink), Err(Failed));
     let text = b"0 new 0.1 work 36\n0 full 3 work 7\n0 ok\n";
     assert_eq!(rt; sink.bytes(), text.as_slice());
     Ok(())
+}
+
+/// Fills a line, of which the caller then knows nothing.
+fn filled(line: &mut LineBuffer, entry: &Entry) {
+    fill_entry(line, entry);
 }
 
 #[test]
@@ -45,7 +55,7 @@ fn the_longest_line_fits(rt: HostRuntime) -> Result<(), Fail> {
         serial: u64::from(u32::MAX),
     };
     let mut line = LineBuffer::new();
-    fill_entry(&mut line, &entry(u32::MAX, Reply::New(most), u64::MAX));
+    filled(&mut line, &entry(u32::MAX, Reply::New(most), u64::MAX));
     assert_eq!(rt;
         line.bytes(),
         b"4294967295 new 4294967295.4294967295 work 18446744073709551615\n".as_slice()
@@ -54,7 +64,7 @@ fn the_longest_line_fits(rt: HostRuntime) -> Result<(), Fail> {
         serial: u64::MAX,
         ..most
     };
-    fill_entry(&mut line, &entry(u32::MAX, Reply::New(longest), u64::MAX));
+    filled(&mut line, &entry(u32::MAX, Reply::New(longest), u64::MAX));
     assert_eq!(rt;
         line.bytes(),
         b"4294967295 new 4294967295.18446744073709551615 work 18446744073709551615\n".as_slice()

@@ -213,6 +213,11 @@ end
     expect_round_trip(&rt, rt.alloc(), text, &config, &[&FIRST, &SECOND, &third])
 }
 
+/// So many bytes of one letter.
+fn letters(alloc: Global, len: usize) -> Result<Vec<u8>, AllocError> {
+    vec![in alloc; b'x'; len]
+}
+
 #[test]
 fn input_ends_early_or_never(rt: HostRuntime) -> Result<(), Fail> {
     let text = b"rtheap 1 threads 1 blocks 64 live 20 object 2 shared 0\nthread 0\nnew 1 1";
@@ -226,9 +231,9 @@ fn input_ends_early_or_never(rt: HostRuntime) -> Result<(), Fail> {
         why: Why::Header,
     };
     expect_fault(&rt, rt.alloc(), b"", line)?;
-    let most = vec![in rt.alloc(); b'x'; 16_777_216]?;
+    let most = letters(rt.alloc(), 16_777_216)?;
     expect_fault(&rt, rt.alloc(), &most, line)?;
-    let more = vec![in rt.alloc(); b'x'; 16_777_217]?;
+    let more = letters(rt.alloc(), 16_777_217)?;
     expect_fault(&rt, rt.alloc(), &more, TraceFault::TooLong)
 }
 
