@@ -4,27 +4,22 @@
 ghost use Rattle.std.specs.Prelude.{◌≡◌, ℕ, ◌+◌, ◌<◌, ◌≤◌, SomeIff};
 ghost use Rattle.object_lists.specs.Layouts.{IsLayout, IsWay, IsPath};
 ghost use Rattle.object_lists.specs.Parts.{Part, link_in};
-ghost use Rattle.object_lists.specs.Records.{record_blocks, record_part, record_slot, room};
+ghost use Rattle.object_lists.specs.Records.{record_blocks, record_part, record_slot};
 ghost use Rattle.block_store.specs.declared.Width.{Width};
 ghost use Rattle.block_store.specs.Widths.{payloads};
 
 use block_store::Width;
-
-// How many fields a block has: the first payload word refers to the next block.
-fn room(width: Width) -> u32
-    ensures value { result ≡ room width }
-    ensures some { 0 < result }
-    ensures few { result < 8 }
-{
-    width.payloads() - 1
-}
 
 /// How many blocks a record of `f` fields takes. `f` is at most 65,535.
 pub fn blocks_of_record(width: Width, f: u32) -> u32
     requires { f ≤ 65535 }
     ensures { result ≡ record_blocks width f }
 {
-    f.div_ceil(room(width)).max(1)
+    // The first payload of a block is its link. A division by a constant takes no division.
+    match width {
+        Width::Four => f.div_ceil(3).max(1),
+        Width::Eight => f.div_ceil(7).max(1),
+    }
 }
 
 /// Where field `i` of a record stands: the number of links to follow from the first block, which is
@@ -34,8 +29,10 @@ pub fn walk_of(width: Width, i: u32) -> (u32, u32)
     ensures way { (f : ℕ) → i < f
         → IsWay (record_part width f) i result.0 result.1 (λ l. l) (λ l. 0) }
 {
-    let room = room(width);
-    (i / room, 1 + i % room)
+    match width {
+        Width::Four => (i / 3, 1 + i % 3),
+        Width::Eight => (i / 7, 1 + i % 7),
+    }
 }
 
 /// The ordinal to which the block of this ordinal refers, in a record of this many blocks. `None`
