@@ -1,70 +1,82 @@
--- The part is decided behind its deciding event, and over once it has its reply.
-use Rattle.std.proofs.Common.{◌≡◌, ℕ, Bool, true, false, ◌||◌, not, cond, None, Some, IsSome, ltb, eqb, refl, arith, ap, ◌∙◌}
-use Rattle.barrier_steps.proofs.Common.{Config, Payload, Shape, Extent, extent, holds_nothing, Command, Name, Value, target, Width, FieldRow, Wanted, Pass, FieldStore, Way, shape_length, payload_in, shape_in, is_taken, before_store, first_row, row_got, field_reply, field_decided, after_object, after_shape, after_field, after_owner, after_register, after_store, on_way, way_from, way_on, row_holding, refers, length_decides, register_decides, is_deciding}
+-- What holds of each row that may follow holds of the one that follows. The part is decided behind
+-- its deciding event, and over once it has its reply.
+use Rattle.std.proofs.Common.{◌≡◌, ◌≢◌, ℕ, ◌<◌, Bool, true, false, ◌||◌, not, cond, None, Some, IsSome, ltb, ltb-true, eqb, eqb-true, refl, arith, ap}
+use Rattle.barrier_steps.proofs.Common.{eqb-false, Config, Payload, Shape, Extent, extent, holds_nothing, Command, Name, Value, Reply, target, Width, FieldRow, Wanted, Pass, GreyRow, grey_over, FieldStore, Way, shape_length, links_to, payload_in, shape_in, object_in, stored_word, shaded_for, is_taken, before_store, in_barrier, first_row, row_got, field_reply, field_decided, after_object, after_shape, after_field, after_said, after_owner, after_register, at_block, on_way, way_from, way_on, row_holding, refers, length_decides, register_decides, is_deciding, blocks_of, to_register, answered_register, field_index, is_get, is_put, is_swap, is_cas, is_say, goes_to_field, takes_field, answers_value, stores_in_field, TakeOwn, LoadRegister, LoadShape, LoadLink, LoadField, LoadOwner, Shade, Store, Answered, Moved, Pending, InField, Exchanged, Compared, Copied, Object, Expected, Stored, Second, Shown, New, Arr, Get, Put, Swap, Cas, Say, answer, payloads, shades}
 use Rattle.block_store.specs.declared.Payload.TheVariants as payloads
-use Rattle.never_heap.specs.declared.Command.TheVariants as commands
+use Rattle.block_store.specs.declared.Value.TheVariants as values
 use Rattle.never_heap.specs.declared.Reply.TheVariants as replies
-use Rattle.never_heap.specs.Steps.{blocks_of}
 use Rattle.never_heap.proofs.Answering.{makers_have_blocks}
-use Rattle.barrier_steps.specs.declared.rows.FieldRow.TheVariants.{LoadRegister, LoadShape, LoadLink, LoadField, LoadOwner, Shade, Store, Answered}
-use Rattle.barrier_steps.specs.declared.rows.Wanted.TheVariants as wants
-use Rattle.barrier_steps.specs.declared.rows.FieldStore.TheVariants.{Moved, Pending, Exchanged, Compared}
-use Rattle.barrier_steps.specs.Rows.{object_in}
-use Rattle.barrier_steps.proofs.Stores.{before_is, barrier_is, object_is, field_is, said_is, on_way_is, after_shape_is, after_owner_is}
 
-object_decided : (p : Payload) → field_decided (after_object p) ≡ not (refers p)
-object_decided payloads.Nil = refl
-object_decided (payloads.Int v) = refl
-object_decided (payloads.Block x) = refl
+pub either_is : {A : Type 0} (P : A → Type 0) (b : Bool) (q r : A) → (b ≡ true → P q) → (b ≡ false → P r)
+    → P (cond b q r)
+either_is P true q r x y = x refl
+either_is P false q r x y = y refl
 
-within_decided : (b : Bool) (row : FieldRow) → field_decided row ≡ false
-    → field_decided (cond b row (Answered replies.Range)) ≡ not b
-within_decided true row e = e
-within_decided false row e = refl
+pub either : {A : Type 0} (P : A → Type 0) (b : Bool) (q r : A) → P q → P r → P (cond b q r)
+either P b q r x y = either_is P b q r (λ _. x) (λ _. y)
 
-field_decides : (w : ℕ) → field_decided (after_field w (payload_in w)) ≡ true
-field_decides w = field_is (λ row. field_decided row ≡ true) w (payload_in w) (λ v. refl) refl
+module _ (P : FieldRow → Type 0) where
+  -- what holds of the store's row and of the first of its barrier
+  pub before_is : (p : Pass) (store : FieldStore) → (shaded_for p (stored_word store) ≡ 0 → P (Store store))
+      → (shaded_for p (stored_word store) ≢ 0
+      → P (Shade (TakeOwn (shaded_for p (stored_word store))) store)) → P (before_store p store)
+  before_is p store once shades =
+      let y : ℕ = shaded_for p (stored_word store) in
+      either_is P (eqb y 0) _ _ (λ e. once (eqb-true y 0 e)) (λ e. shades (eqb-false y 0 e))
 
-store_decided : (store : FieldStore) (w : ℕ) → field_decided (after_store store w) ≡ (is_taken store || not (is_taken store))
-store_decided (Exchanged way word) w = field_decides w
-store_decided _ w = refl
+  -- what holds of the store's row behind its barrier and of row r of it
+  pub barrier_is : (r : GreyRow) (store : FieldStore) → (grey_over r ≡ true → P (Store store))
+      → (grey_over r ≡ false → P (Shade r store)) → P (in_barrier r store)
+  barrier_is r store over shades = either_is P (grey_over r) _ _ over shades
 
-or_none : (b : Bool) → b ≡ (b || false)
-or_none true = refl
-or_none false = refl
+  -- of those behind a field, and behind a register that is shown
+  pub field_is : (w : ℕ) (q : Payload) → ((v : Value) → P (Store (Pending w v))) → P (LoadOwner w)
+      → P (after_field w q)
+  field_is w payloads.Nil store owner = store values.Nil
+  field_is w (payloads.Int n) store owner = store (values.Int n)
+  field_is w (payloads.Block x) store owner = owner
 
-module _ (c : Config) (p : Pass) (k : Command) where
-  before_decided : (store : FieldStore) → field_decided (before_store p store) ≡ is_taken store
-  before_decided store = before_is (λ row. field_decided row ≡ is_taken store) p store (λ _. refl) (λ _. refl)
+  pub said_is : (w : ℕ) (q : Payload) → ((v : Value) → P (Answered (replies.Val v))) → P (LoadOwner w)
+      → P (after_said w q)
+  said_is w payloads.Nil answer owner = answer values.Nil
+  said_is w (payloads.Int n) answer owner = answer (values.Int n)
+  said_is w (payloads.Block x) answer owner = owner
 
-  way_undecided : (way : Way) (word : ℕ) → field_decided (on_way (extent c) p k way word) ≡ false
-  way_undecided way word = on_way_is (λ row. field_decided row ≡ false) (extent c) p k way word refl refl (λ s none. before_decided s ∙ none)
+  -- of those at the block of the field, and behind the object's shape
+  pub at_block_is : (p : Pass) (k : Command) (way : Way) (word : ℕ)
+      → ((goes_to_field k ≡ true → is_get k ≡ true) → P (LoadField way))
+      → (is_put k ≡ true → P (before_store p (InField way word)))
+      → (is_swap k ≡ true → P (before_store p (Exchanged way word)))
+      → (is_cas k ≡ true → P (before_store p (Compared way word))) → P (at_block p k way word)
+  at_block_is p (Put s i v) way word field put swap cas = put refl
+  at_block_is p (Swap s i v) way word field put swap cas = swap refl
+  at_block_is p (Cas s i a v) way word field put swap cas = cas refl
+  at_block_is p _ way word field put swap cas = field (λ goes. cc)
 
-  register_decided : (wanted : Wanted) (w : ℕ) → field_decided (after_register (extent c) p k wanted w) ≡ register_decides wanted w
-  register_decided wants.Copied w = before_decided (Moved w)
-  register_decided wants.Object w = object_decided (payload_in w)
-  register_decided (wants.Stored way) w = way_undecided way w
-  register_decided wants.Shown w = said_is (λ row. field_decided row ≡ true) w (payload_in w) (λ v. refl) refl
-  register_decided _ w = refl
+  pub after_shape_is : (e : Extent) (p : Pass) (k : Command) (x : ℕ) (f : Shape)
+      → ((reply : Reply) → P (Answered reply))
+      → (field_index k < shape_length f → stores_in_field k ≡ true → P (LoadRegister (Stored (way_from f x))))
+      → (field_index k < shape_length f → is_cas k ≡ true → P (LoadRegister (Expected (way_from f x))))
+      → (field_index k < shape_length f → is_get k ≡ true → P (on_way e p k (way_from f x) 0))
+      → P (after_shape e p k x f)
+  after_shape_is e p (Get d s i) x f answer stored expected way =
+      either_is P (ltb i (shape_length f)) _ _ (λ e. way (ltb-true i _ e) refl) (λ _. answer replies.Range)
+  after_shape_is e p (Put s i v) x f answer stored expected way =
+      either_is P (ltb i (shape_length f)) _ _ (λ e. stored (ltb-true i _ e) refl) (λ _. answer replies.Range)
+  after_shape_is e p (Swap s i v) x f answer stored expected way =
+      either_is P (ltb i (shape_length f)) _ _ (λ e. stored (ltb-true i _ e) refl) (λ _. answer replies.Range)
+  after_shape_is e p (Cas s i a v) x f answer stored expected way =
+      either_is P (ltb i (shape_length f)) _ _ (λ e. expected (ltb-true i _ e) refl) (λ _. answer replies.Range)
+  after_shape_is e p _ x f answer stored expected way = answer (replies.Len (shape_length f))
 
-shape_decided : (c : Config) (p : Pass) (k : Command) (x : ℕ) (f : Shape) → field_decided (after_shape (extent c) p k x f) ≡ length_decides k (shape_length f)
-shape_decided c p (commands.Get d s i) x f =
-    within_decided (ltb i (shape_length f)) _ (way_undecided c p (commands.Get d s i) (way_from f x) 0)
-shape_decided c p (commands.Put s i v) x f = within_decided (ltb i (shape_length f)) _ refl
-shape_decided c p (commands.Swap s i v) x f = within_decided (ltb i (shape_length f)) _ refl
-shape_decided c p (commands.Cas s i a v) x f = within_decided (ltb i (shape_length f)) _ refl
-shape_decided c p _ x f = refl
-
-pub decided_after : (c : Config) (p : Pass) (k : Command) (row : FieldRow) (w : ℕ) → field_decided (row_got (extent c) p k row w) ≡ (field_decided row || is_deciding k row w)
-decided_after c p k (LoadRegister wanted) w = register_decided c p k wanted w
-decided_after c p k (LoadShape x) w = shape_decided c p k x (shape_in w)
-decided_after c p k (LoadLink way word) w = way_undecided c p k _ word
-decided_after c p k (LoadField way) w = field_decides w
-decided_after c p k (LoadOwner word) w = after_owner_is (λ row. field_decided row ≡ true) p k word (object_in w) (λ _. refl)
-    (λ _ _. before_decided c p k (Pending word (object_in w)))
-decided_after c p k (Shade r store) w = barrier_is (λ row. field_decided row ≡ (is_taken store || false)) _ store (λ _. or_none (is_taken store)) (λ _. or_none (is_taken store))
-decided_after c p k (Store store) w = store_decided store w
-decided_after c p k _ w = refl
+  -- and behind the owner of a block
+  pub after_owner_is : (p : Pass) (k : Command) (word : ℕ) (value : Value)
+      → (is_say k ≡ true → P (Answered (replies.Val value)))
+      → ((answers_value k ≡ true → takes_field k ≡ true) → answered_register k ≡ to_register k
+      → P (before_store p (Pending word value)))
+      → P (after_owner p k word value)
+  after_owner_is p (Say s) word value answer store = answer refl
+  after_owner_is p _ word value answer store = store (λ is. cc) refl
 
 pub decided_once : (k : Command) (row : FieldRow) (w : ℕ) → field_decided row ≡ true → is_deciding k row w ≡ false
 decided_once k (Store store) w h = ap not h
@@ -78,58 +90,83 @@ answered_decided (Answered reply) h = refl
 answered_decided _ h = absurd cc
 
 pub first_undecided : (w : Width) (k : Command) → blocks_of w k ≡ 0 → field_decided (first_row k) ≡ false
-first_undecided w (commands.New d f) none = absurd (omega (arith, none, makers_have_blocks w (commands.New d f) refl))
-first_undecided w (commands.Arr d e) none = absurd (omega (arith, none, makers_have_blocks w (commands.Arr d e) refl))
+first_undecided w (New d f) none = absurd (omega (arith, none, makers_have_blocks w (New d f) refl))
+first_undecided w (Arr d e) none = absurd (omega (arith, none, makers_have_blocks w (Arr d e) refl))
 first_undecided w _ none = refl
 
 -- no command of these makes an object
 abbrev MakesNone : FieldRow → Type 0
 MakesNone row = (n : Name) → field_reply row ≡ Some (replies.New n) → ⊥
 
-both_make : (b : Bool) → MakesNone (Answered (cond b replies.Yes replies.No))
-both_make true n e = cc
-both_make false n e = cc
+field_told : (w : ℕ) → (field_decided (after_field w (payload_in w)) ≡ true) × MakesNone (after_field w (payload_in w))
+field_told w = field_is (λ row. (field_decided row ≡ true) × MakesNone row) w (payload_in w)
+    (λ v. (refl, λ n e. cc)) (refl, λ n e. cc)
 
-module _ (e : Extent) (m : ℕ) (p : Pass) (k : Command) where
-  -- and behind the event of a row that stores no word that was loaded its thread holds nothing
-  abbrev Quiet : FieldRow → Type 0
-  Quiet row = MakesNone row × (row_holding m p row ≡ holds_nothing)
+or_none : (b : Bool) → b ≡ (b || false)
+or_none true = refl
+or_none false = refl
 
-  before_quiet : (store : FieldStore) → Quiet (before_store p store)
-  before_quiet store = before_is Quiet p store
-      (λ none. (λ n e. cc, ap (λ y. record holds_nothing { shaded = y }) none)) (λ _. (λ n e. cc, refl))
+module _ (m : ℕ) (p : Pass) where
+  -- whether it is decided; and behind the event of a row that stores no word that was loaded its
+  -- thread holds nothing
+  abbrev Quiet : Bool → FieldRow → Type 0
+  Quiet b row = (field_decided row ≡ b) × MakesNone row × (row_holding m p row ≡ holds_nothing)
 
-  pub way_quiet : (way : Way) (word : ℕ) → Quiet (on_way e p k way word)
-  way_quiet way word = on_way_is Quiet e p k way word (λ n e. cc, refl) (λ n e. cc, refl) (λ s _. before_quiet s)
+  before_quiet : (store : FieldStore) → Quiet (is_taken store) (before_store p store)
+  before_quiet store = before_is (Quiet (is_taken store)) p store
+      (λ none. (refl, λ n e. cc, ap (λ y. record holds_nothing { shaded = y }) none)) (λ _. (refl, λ n e. cc, refl))
 
-  pub shape_quiet : (x : ℕ) (f : Shape) → Quiet (after_shape e p k x f)
-  shape_quiet x f = after_shape_is Quiet e p k x f
-      (λ r none. (λ n e. none n (let same : r ≡ replies.New n = cc in same), refl)) (λ less is. (λ n e. cc, refl))
-      (λ less is. (λ n e. cc, refl)) (λ less is. way_quiet (way_from f x) 0)
+  object_quiet : (q : Payload) → Quiet (not (refers q)) (after_object q)
+  object_quiet payloads.Nil = (refl, λ n e. cc, refl)
+  object_quiet _ = (refl, λ n e. cc, refl)
 
-  pub register_quiet : (wanted : Wanted) (w : ℕ) → Quiet (after_register e p k wanted w)
-  register_quiet wants.Copied w = before_quiet (Moved w)
-  register_quiet wants.Object w = object_is Quiet (payload_in w) (λ n e. cc, refl) (λ n e. cc, refl) (λ x. (λ n e. cc, refl))
-  register_quiet (wants.Stored way) w = way_quiet way w
-  register_quiet (wants.Second word) w = (both_make (eqb word w), refl)
-  register_quiet wants.Shown w = said_is Quiet w (payload_in w) (λ v. (λ n e. cc, refl)) (λ n e. cc, refl)
-  register_quiet _ w = (λ n e. cc, refl)
+  range_quiet : (b : Bool) (row : FieldRow) → Quiet false row → Quiet (not b) (cond b row (Answered replies.Range))
+  range_quiet true row q = q
+  range_quiet false row q = (refl, λ n e. cc, refl)
 
-  pub owner_quiet : (word : ℕ) (value : Value) → Quiet (after_owner p k word value)
-  owner_quiet word value = after_owner_is Quiet p k word value (λ _. (λ n e. cc, refl)) (λ _ _. before_quiet (Pending word value))
+  pub way_quiet : (e : Extent) (k : Command) (way : Way) (word : ℕ) → Quiet false (on_way e p k way word)
+  way_quiet e k way word = either (Quiet false) (ltb way.level (links_to e way.shape (field_index k))) _ _
+      (refl, λ n e. cc, refl) (at_block_is (Quiet false) p k way word (λ _. (refl, λ n e. cc, refl))
+      (λ _. before_quiet (InField way word)) (λ _. before_quiet (Exchanged way word)) (λ _. before_quiet (Compared way word)))
 
-field_makes : (w : ℕ) → MakesNone (after_field w (payload_in w))
-field_makes w = field_is MakesNone w (payload_in w) (λ v n e. cc) (λ n e. cc)
+  pub shape_quiet : (e : Extent) (k : Command) (x : ℕ) (f : Shape) → Quiet (length_decides k (shape_length f)) (after_shape e p k x f)
+  shape_quiet e (Get d s i) x f = range_quiet (ltb i (shape_length f)) _ (way_quiet e (Get d s i) (way_from f x) 0)
+  shape_quiet e (Put s i v) x f = range_quiet (ltb i (shape_length f)) _ (refl, λ n e. cc, refl)
+  shape_quiet e (Swap s i v) x f = range_quiet (ltb i (shape_length f)) _ (refl, λ n e. cc, refl)
+  shape_quiet e (Cas s i a v) x f = range_quiet (ltb i (shape_length f)) _ (refl, λ n e. cc, refl)
+  shape_quiet e _ x f = (refl, λ n e. cc, refl)
+
+  module _ (e : Extent) (k : Command) where
+    pub register_quiet : (wanted : Wanted) (w : ℕ) → Quiet (register_decides wanted w) (after_register e p k wanted w)
+    register_quiet Copied w = before_quiet (Moved w)
+    register_quiet Object w = object_quiet (payload_in w)
+    register_quiet (Stored way) w = way_quiet e k way w
+    register_quiet (Second word) w = either (λ r. Quiet true (Answered r)) (eqb word w) replies.Yes replies.No
+        (refl, λ n e. cc, refl) (refl, λ n e. cc, refl)
+    register_quiet Shown w = said_is (Quiet true) w (payload_in w) (λ v. (refl, λ n e. cc, refl)) (refl, λ n e. cc, refl)
+    register_quiet _ w = (refl, λ n e. cc, refl)
+
+    pub owner_quiet : (word : ℕ) (value : Value) → Quiet true (after_owner p k word value)
+    owner_quiet word value = after_owner_is (Quiet true) p k word value (λ _. (refl, λ n e. cc, refl)) (λ _ _. before_quiet (Pending word value))
+
+    -- the same of the row after it
+    pub goes_on : (row : FieldRow) (w : ℕ) → (field_decided (row_got e p k row w) ≡ (field_decided row || is_deciding k row w))
+        × (field_reply row ≡ None → MakesNone (row_got e p k row w))
+    goes_on (LoadRegister wanted) w = let q = register_quiet wanted w in (q.0, λ _. q.1)
+    goes_on (LoadShape x) w = let q = shape_quiet e k x (shape_in w) in (q.0, λ _. q.1)
+    goes_on (LoadLink way word) w = let q = way_quiet e k (way_on way (target w)) word in (q.0, λ _. q.1)
+    goes_on (LoadField way) w = let q = field_told w in (q.0, λ _. q.1)
+    goes_on (LoadOwner word) w = let q = owner_quiet word (object_in w) in (q.0, λ _. q.1)
+    goes_on (Shade r store) w = barrier_is (λ row. (field_decided row ≡ (is_taken store || false)) × (field_reply (Shade r store) ≡ None → MakesNone row)) _ store
+        (λ _. (or_none (is_taken store), λ _ n e. cc)) (λ _. (or_none (is_taken store), λ _ n e. cc))
+    goes_on (Store (Exchanged way word)) w = let q = field_told w in (q.0, λ _. q.1)
+    goes_on (Store (Compared way word)) w = (refl, λ _. either (λ r. MakesNone (Answered r)) (eqb w way.expected) replies.Yes replies.No (λ n e. cc) (λ n e. cc))
+    goes_on (Answered reply) w = (refl, λ going. absurd cc)
+    goes_on _ w = (refl, λ _ n e. cc)
+
+pub decided_after : (c : Config) (p : Pass) (k : Command) (row : FieldRow) (w : ℕ) → field_decided (row_got (extent c) p k row w) ≡ (field_decided row || is_deciding k row w)
+decided_after c p k row w = (goes_on 0 p (extent c) k row w).0
 
 pub makes_none : (c : Config) (p : Pass) (k : Command) (row : FieldRow) (w : ℕ)
     → field_reply row ≡ None → MakesNone (row_got (extent c) p k row w)
-makes_none c p k (LoadRegister wanted) w going = (register_quiet (extent c) 0 p k wanted w).0
-makes_none c p k (LoadShape x) w going = (shape_quiet (extent c) 0 p k x (shape_in w)).0
-makes_none c p k (LoadLink way word) w going = (way_quiet (extent c) 0 p k (way_on way (target w)) word).0
-makes_none c p k (LoadField way) w going = field_makes w
-makes_none c p k (LoadOwner word) w going = (owner_quiet (extent c) 0 p k word (object_in w)).0
-makes_none c p k (Shade r store) w going = barrier_is MakesNone _ store (λ _ n e. cc) (λ _ n e. cc)
-makes_none c p k (Store (Exchanged way word)) w going = field_makes w
-makes_none c p k (Store (Compared way word)) w going = both_make (eqb w way.expected)
-makes_none c p k (Answered reply) w going = absurd cc
-makes_none c p k _ w going = λ n e. cc
+makes_none c p k row w = (goes_on 0 p (extent c) k row w).1

@@ -1,29 +1,20 @@
 -- What a row owes as its reply: from the deciding event on the answer of the step, by what the events
 -- read and as the value of a register of the graph, and that stays until it is given.
 use Rattle.std.proofs.Common.{◌≡◌, ℕ, Bool, true, cond, Some, refl, sym, ap, ◌∙◌, subst, inl, inr, eqb, eq-eqb, eqb-true, ◌<◌, false, length, ◌||◌, ◌≤◌, None}
-use Rattle.barrier_steps.proofs.Common.{FieldFound, cases_Bool, cases_eq, ne_eqb, Config, Name, Payload, Value, payload_of, payload_code, target, extent, Command, Reply, IsCommandInRange, Graph, object_of, register_of, with_register, with_field, step, same_value, swapped, Pass, FieldRow, from_register, other_register, field_index, to_register, answered_register, is_say, takes_field, payload_or_nil, payload_in, row_got, field_reply, after_field, after_said, field_decided, is_row_of, FitsAt, is_deciding, answer, IsWordOf, ShownAt, Promises, NameShown, ShowsAt, due_at, KnownAt, REGISTERS, heads, GraphState, value_in, Follows, row_loading, row_event, after_event, InHandAt, IsAt, Heap}
+use Rattle.barrier_steps.proofs.Common.{FieldFound, cases_Bool, cases_eq, ne_eqb, Config, Name, Payload, Value, payload_of, payload_code, target, extent, Command, Reply, IsCommandInRange, Graph, object_of, register_of, with_register, with_field, step, same_value, swapped, Pass, FieldRow, from_register, other_register, field_index, to_register, answered_register, is_say, takes_field, payload_or_nil, payload_in, row_got, field_reply, after_field, after_said, field_decided, is_row_of, FitsAt, is_deciding, answer, IsWordOf, ShownAt, Promises, NameShown, ShowsAt, due_at, KnownAt, REGISTERS, heads, GraphState, value_in, Follows, row_loading, row_event, after_event, InHandAt, IsAt, Heap, mutator_at, LoadRegister, LoadShape, LoadField, LoadOwner, Shade, Store, StoreConstant, IdleLook, Answered, Moved, Pending, InField, Exchanged, Compared, object_or_nil, object_in, IsSized, Object, Second, Shown, Say, payloads}
 use Rattle.block_store.specs.declared.Payload.TheVariants as payloads
 use Rattle.block_store.specs.declared.Value.TheVariants as values
 use Rattle.block_store.proofs.PayloadWords as payload_words
-use Rattle.never_heap.specs.declared.Command.TheVariants as commands
 use Rattle.never_heap.specs.declared.Reply.TheVariants as replies
-use Rattle.never_heap.specs.Graphs.{mutator_at}
 use Rattle.never_heap.proofs.GraphMoves.{same_from, register_with_register}
 use Rattle.shown_graph.proofs.Names.{same_is}
 use Rattle.barrier_steps.proofs.Outcomes.{Refused, value_there, answer_is, object_refused, shape_refused, get_is, put_is, swap_is, cas_is, constant_is, mov_is, same_step_is, say_is, idle_is}
 use Rattle.shown_graph.specs.Read.{value_payload}
-use Rattle.barrier_steps.specs.declared.rows.FieldRow.TheVariants.{LoadRegister, LoadShape, LoadField, LoadOwner, Shade, Store, StoreConstant, IdleLook, Answered}
-use Rattle.barrier_steps.specs.declared.rows.Wanted.TheVariants as wants
-use Rattle.barrier_steps.specs.declared.rows.FieldStore.TheVariants.{Moved, Pending, InField, Exchanged, Compared}
-use Rattle.barrier_steps.specs.Rows.{object_or_nil, object_in}
-use Rattle.barrier_steps.proofs.Stores.{before_is, barrier_is, after_owner_is}
-use Rattle.shown_graph.specs.Shown.{IsSized}
-use Rattle.barrier_steps.proofs.Named.{to_low}
-use Rattle.barrier_steps.proofs.FieldRows.{get_takes, swap_takes, taken_register}
+use Rattle.barrier_steps.proofs.Decisions.{before_is, barrier_is, after_owner_is, decided_after, decided_once}
+use Rattle.barrier_steps.proofs.FieldRows.{to_low, get_takes, swap_takes, taken_register}
 use Rattle.barrier_steps.proofs.Projecting.{swap_register, one_name, within, register_leaves, graph_stays}
 use Rattle.never_heap.proofs.FieldStores.{threads_with_field, registers_with_field}
 use Rattle.never_heap.proofs.Stepping.{has_field}
-use Rattle.barrier_steps.proofs.Decisions.{decided_after, decided_once}
 use Rattle.barrier_steps.proofs.Showing.{NameIs, name_is, row_shown}
 
 -- what a value's word says is that value
@@ -108,11 +99,11 @@ module _ (head : Name → ℕ) where
 
     -- a deciding event answers as the step does
     pub promised : (row : FieldRow) (w : ℕ) → is_row_of c p k row ≡ true → is_deciding k row w ≡ true → ShownAt head g t k row w → Promises head (row_got (extent c) p k row w) (answer g t k)
-    promised (LoadRegister wants.Object) w is n h = refused _ (object_refused head g t w k is h n)
-    promised (LoadRegister (wants.Second word)) w is n h =
+    promised (LoadRegister Object) w is n h = refused _ (object_refused head g t w k is h n)
+    promised (LoadRegister (Second word)) w is n h =
         ap (λ y. cond y replies.Yes replies.No) (same_words (register_of g t (from_register k)) (register_of g t (other_register k)) word w h.first h.second h.apart)
         ∙ sym (answers _ (same_step_is g t k is))
-    promised (LoadRegister wants.Shown) w is n h = subst (Promises head (after_said w (payload_in w))) (sym (answers _ (say_is g t k is))) (said_value w (register_of g t (from_register k)) h)
+    promised (LoadRegister Shown) w is n h = subst (Promises head (after_said w (payload_in w))) (sym (answers _ (say_is g t k is))) (said_value w (register_of g t (from_register k)) h)
     promised (LoadShape x) w is n h = refused _ (shape_refused c p g t x w k is h n)
     promised (LoadField way) w is n h = field_promised w h.0.name _ (get_is g t k h.0.name is (h.0.refers, h.0.within)) h.1
     promised (Store (Moved word)) w is n h = sym (answers _ (mov_is g t k is))
@@ -125,7 +116,7 @@ module _ (head : Name → ℕ) where
 
 -- which register the answer is of
 said_register : (k : Command) → is_say k ≡ true → answered_register k ≡ from_register k
-said_register (commands.Say s) is = refl
+said_register (Say s) is = refl
 said_register _ is = absurd cc
 
 module _ (g : Graph) (t : ℕ) (k : Command) where
@@ -221,13 +212,13 @@ module _ (c : Config) (head : Name → ℕ) (s : GraphState) (a : Name) (p : Pas
   row_decides : (row : FieldRow) → IsSized c.threads s.graph → FitsAt c p k row
       → ShownAt head s.graph p.thread k row w → s.loads p.thread ≡ row_loading (extent c) k row
       → InHandAt s a p.thread k row → is_deciding k row w ≡ true → Due (after row) (row_got (extent c) p k row w)
-  row_decides (LoadRegister wants.Object) sized fits h loads hand n =
-      refused_due (after (LoadRegister wants.Object)) _ (object_refused head s.graph p.thread w k fits.belongs h n)
-  row_decides (LoadRegister (wants.Second word)) sized fits h loads hand n = (ap Some (promised head c s.graph p.thread p k (LoadRegister (wants.Second word)) w fits.belongs n h), tt)
-  row_decides (LoadRegister wants.Shown) sized fits h loads hand n =
-      subst (λ y. Owes (after (LoadRegister wants.Shown)) p.thread k y (after_said w (payload_in w))) (sym (answer_is s.graph p.thread k _ (say_is s.graph p.thread k fits.belongs)))
-      (said_owes (after (LoadRegister wants.Shown)) p.thread k head w (register_of s.graph p.thread (from_register k)) h
-      (ap (λ g. register_of g p.thread (answered_register k)) (register_leaves c s p.thread k wants.Shown w).1 ∙ ap (register_of s.graph p.thread) (said_register k fits.belongs)))
+  row_decides (LoadRegister Object) sized fits h loads hand n =
+      refused_due (after (LoadRegister Object)) _ (object_refused head s.graph p.thread w k fits.belongs h n)
+  row_decides (LoadRegister (Second word)) sized fits h loads hand n = (ap Some (promised head c s.graph p.thread p k (LoadRegister (Second word)) w fits.belongs n h), tt)
+  row_decides (LoadRegister Shown) sized fits h loads hand n =
+      subst (λ y. Owes (after (LoadRegister Shown)) p.thread k y (after_said w (payload_in w))) (sym (answer_is s.graph p.thread k _ (say_is s.graph p.thread k fits.belongs)))
+      (said_owes (after (LoadRegister Shown)) p.thread k head w (register_of s.graph p.thread (from_register k)) h
+      (ap (λ g. register_of g p.thread (answered_register k)) (register_leaves c s p.thread k Shown w).1 ∙ ap (register_of s.graph p.thread) (said_register k fits.belongs)))
   row_decides (LoadShape x) sized fits h loads hand n =
       refused_due (after (LoadShape x)) _ (shape_refused c p s.graph p.thread x w k fits.belongs h n)
   row_decides (LoadField way) sized fits h loads hand n =

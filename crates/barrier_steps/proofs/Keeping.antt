@@ -1,21 +1,11 @@
 -- Each event of a command keeps all that a heap keeps in either phase, and leaves the phase, the
 -- cursor and the grey blocks as they are.
 use Rattle.std.proofs.Common.{◌≡◌, ℕ, Bool, true, false, eqb, refl, sym, ap, ◌∙◌, inl, inr, eqb-true, ◌<◌, cond, IsSome, subst}
-use Rattle.barrier_steps.proofs.Common.{cases_Bool, cases_eq, ne_eqb, Config, white_word, Heap, put_at, extent, Phase, ColourOf, PayloadOf, Extent, payloads, Command, holds_nothing, heap_after, place_of, Pass, GreyRow, is_shading, block_stored, grey_over, FieldRow, FitsAt, FieldFits, IsBarrier, StoreFits, ReadsAt, FieldReads, FieldState, shades, row_want, field_want, row_holding, payload_in, shape_in, at_first_row, stored_word, field_place, store_want, way_on, after_field, row_got, word_stored, field_got, field_reply, changed, payload_of, target, is_sweep, cycle_of, changed_map, changed_self, target-number, target-nil, CanHold, IsHeld, NotFree, block_stays, FieldStore, constant_word}
-use Rattle.block_store.specs.Colours.{is_grey}
+use Rattle.barrier_steps.proofs.Common.{cases_Bool, cases_eq, ne_eqb, Config, white_word, Heap, put_at, extent, Phase, ColourOf, PayloadOf, Extent, payloads, Command, holds_nothing, heap_after, place_of, Pass, GreyRow, is_shading, block_stored, grey_over, FieldRow, FitsAt, FieldFits, ReadsAt, FieldReads, FieldState, shades, row_want, field_want, row_holding, payload_in, shape_in, at_first_row, stored_word, field_place, way_on, after_field, row_got, word_stored, field_got, field_reply, changed, payload_of, target, is_sweep, cycle_of, changed_map, changed_self, target-number, target-nil, IsHeld, NotFree, block_stays, constant_word, is_grey, Cursor, sweep_held, Holding, grey_held, tricolour_held, free_held, Exchange, grey_holding, Shade, Store, LoadRegister, LoadShape, LoadLink, LoadField, LoadOwner, StoreConstant, Answered, Compared, Exchanged, field_holding, object_in, held_before_store, shading_goes_on, Set, New, ShadeStored, marking_got, refers}
 use Rattle.block_store.proofs.ColourWords.{not_grey_white}
-use Rattle.block_store.specs.Places.{Cursor}
-use Rattle.heap_machine.specs.Holdings.{sweep_held, Holding, grey_held, tricolour_held, free_held}
-use Rattle.heap_machine.specs.Operations.{CompareExchange, Exchange}
 use Rattle.heap_machine.specs.Sweeping.{no_claim}
 use Rattle.grey_steps.specs.declared.rows.GreyRow.TheVariants as greys
-use Rattle.grey_steps.specs.Rows.{grey_holding}
-use Rattle.grey_steps.specs.Rows as marking
-use Rattle.barrier_steps.specs.declared.rows.FieldRow.TheVariants.{Shade, Store, LoadRegister, LoadShape, LoadLink, LoadField, LoadOwner, StoreConstant, IdleLook, Answered}
-use Rattle.barrier_steps.specs.declared.rows.FieldStore.TheVariants.{Compared, Moved, Pending, InField, Exchanged}
-use Rattle.barrier_steps.specs.Rows.{field_holding, object_in, held_before_store}
-use Rattle.barrier_steps.proofs.FieldRows.{barrier_shades, stores_at}
-use Rattle.never_heap.specs.declared.Command.TheVariants as commands
+use Rattle.barrier_steps.proofs.FieldRows.{barrier_shades, stores_at, payload_cases}
 use Rattle.heap_machine.specs.Grey.{GreyHolding, GreyKept}
 use Rattle.heap_machine.specs.HeapKept.{CanRefer}
 use Rattle.heap_machine.specs.PhaseKept.{PhaseKept}
@@ -27,11 +17,8 @@ use Rattle.heap_machine.proofs.Reusing.{reuse_other, reuse_stays}
 use Rattle.heap_machine.proofs.Solids.{solid_payload}
 use Rattle.heap_machine.proofs.Tricolours.{lets_go, kept_payload}
 use Rattle.grey_steps.specs.declared.rows.GreyRow.TheVariants.{Shaded}
-use Rattle.grey_steps.proofs.Ends.{shading_goes_on}
 use Rattle.grey_steps.proofs.Reuses as reuses
-use Rattle.barrier_steps.proofs.Decisions.{way_quiet, shape_quiet, register_quiet, owner_quiet}
-use Rattle.barrier_steps.proofs.Named.{payload_cases}
-use Rattle.barrier_steps.proofs.Stores.{barrier_is, either}
+use Rattle.barrier_steps.proofs.Decisions.{way_quiet, shape_quiet, register_quiet, owner_quiet, barrier_is, either}
 
 module _ (h : Heap) where
   -- phase and cursor are as they were
@@ -41,13 +28,9 @@ module _ (h : Heap) where
   tried : (b : Bool) (q : Heap) → IsGate q → IsGate (cond b q h)
   tried b q is = either IsGate b q h is (refl, refl)
 
-  marking_gate : (t n cycle : ℕ) (r : GreyRow) → IsGate (heap_after h (marking.row_want t n cycle r))
-  marking_gate t n cycle (greys.Shade x j y a) = tried (eqb (h (ColourOf y)) (white_word cycle)) _ (refl, refl)
-  marking_gate t n cycle (greys.ShadeStored y a) = tried (eqb (h (ColourOf y)) (white_word cycle)) _ (refl, refl)
-  marking_gate t n cycle _ = (refl, refl)
-
   row_gate : (e : Extent) (p : Pass) (k : Command) (row : FieldRow) → IsGate (heap_after h (row_want e p k row))
-  row_gate e p k (Shade r store) = marking_gate p.thread p.threads p.cycle r
+  row_gate e p k (Shade (greys.Shade x j y a) store) = tried (eqb (h (ColourOf y)) (white_word p.cycle)) _ (refl, refl)
+  row_gate e p k (Shade (ShadeStored y a) store) = tried (eqb (h (ColourOf y)) (white_word p.cycle)) _ (refl, refl)
   row_gate e p k (Store (Compared way word)) = tried (eqb (h (field_place e k way)) way.expected) _ (refl, refl)
   row_gate e p k _ = (refl, refl)
 
@@ -70,45 +53,29 @@ module _ (c : Config) (h : Heap) (x : ℕ) (p : Pass) (k : Command) where
 
   -- and there a white block alone becomes grey
   pub row_grey : (row : FieldRow) → FitsAt c p k row → is_grey (h (ColourOf x)) ≡ true → Stays row
-  row_grey (Shade r store) fits grey = go r (barrier_shades c p r store fits.row.0)
-    where
-      go : (r : GreyRow) → is_shading r ≡ true
-          → heap_after h (marking.row_want p.thread p.threads p.cycle r) (ColourOf x) ≡ h (ColourOf x)
-      go (greys.ShadeStored y a) is = elim (cases_Bool (eqb (h (ColourOf y)) (white_word p.cycle))) [
-        | inl is ↦ elim (cases_eq y x) [
-          | inl e ↦
-              let white : h (ColourOf x) ≡ white_word p.cycle = ap (λ z. h (ColourOf z)) (sym e)
-              ∙ eqb-true (h (ColourOf y)) (white_word p.cycle) is in
-              absurd (let z : true ≡ false = sym grey ∙ ap is_grey white ∙ not_grey_white p.cycle in cc)
-          | inr away ↦ rw (is, ne_eqb y x away) refl
-        ]
-        | inr is ↦ rw is refl
-      ]
-      go (greys.Shade z j y a) is = absurd cc
-      go (greys.Blacken y a) is = absurd cc
-      go _ is = refl
+  row_grey (Shade (ShadeStored y a) store) fits grey = elim (cases_Bool (eqb (h (ColourOf y)) (white_word p.cycle))) [
+    | inl is ↦ elim (cases_eq y x) [
+      | inl e ↦
+          let white : h (ColourOf x) ≡ white_word p.cycle = ap (λ z. h (ColourOf z)) (sym e)
+          ∙ eqb-true (h (ColourOf y)) (white_word p.cycle) is in
+          absurd (let z : true ≡ false = sym grey ∙ ap is_grey white ∙ not_grey_white p.cycle in cc)
+      | inr away ↦ rw (is, ne_eqb y x away) refl
+    ]
+    | inr is ↦ rw is refl
+  ]
+  row_grey (Shade (greys.Shade z j y a) store) fits grey = absurd (fits.row.0.refers (sym fits.row.0.stores))
+  row_grey (Shade (greys.Blacken y a) store) fits grey = absurd (fits.row.0.refers (sym fits.row.0.stores))
   row_grey (Store store) fits grey = row_colour (Store store) refl
   row_grey _ fits grey = refl
 
 -- a command scans nothing and has claimed nothing
-shading_found : (m : ℕ) (r : GreyRow) → is_shading r ≡ true → (grey_holding m r).found ≡ 0
-shading_found m (greys.TakeOwn y) is = refl
-shading_found m (greys.ShadeStored y a) is = refl
-shading_found m (greys.PutOwn y a) is = refl
-shading_found m (greys.Shaded y) is = refl
-shading_found m _ is = absurd cc
-
 pub row_found : (c : Config) (p : Pass) (k : Command) (row : FieldRow) → FitsAt c p k row
     → (row_holding (payloads c.width) p row).found ≡ 0
-row_found c p k (Shade r store) fits = shading_found (payloads c.width) r (barrier_shades c p r store fits.row.0)
+row_found c p k (Shade (greys.Shade x j y a) store) fits = absurd (fits.row.0.refers (sym fits.row.0.stores))
 row_found c p k _ fits = refl
 
-marking_claims : (m : ℕ) (r : GreyRow) → sweep_held (grey_holding m r) ≡ no_claim
-marking_claims m (greys.Take u) = refl
-marking_claims m _ = refl
-
 pub row_claims : (m : ℕ) (p : Pass) (row : FieldRow) → sweep_held (row_holding m p row) ≡ no_claim
-row_claims m p (Shade r store) = marking_claims m r
+row_claims m p (Shade (greys.Take u) store) = refl
 row_claims m p _ = refl
 
 -- a part of what the threads hold, where thread t holds as much of it as before
@@ -143,10 +110,6 @@ stored_kept e h hs x j w can k = record {
       (k.solid mark);
 }
 
--- no block
-no_block : (cycle : ℕ) (h : Heap) (y : ℕ) → y ≡ 0 → CanRefer cycle h y
-no_block cycle h y none = record { dark = λ some. absurd (some none); solid = λ some. absurd (some none) }
-
 -- nil and numbers refer to no block
 field_nothing : (m : ℕ) (p : Pass) (w : ℕ) → IsSome (payload_of w)
     → row_holding m p (after_field w (payload_in w)) ≡ holds_nothing
@@ -169,7 +132,7 @@ shaded_holds p word mark = ap (λ b. record holds_nothing { shaded = cond b 0 (t
 
 -- the constant that is stored refers to no block
 constant_target : (k : Command) → target (constant_word k) ≡ 0
-constant_target (commands.Set d v) = target-number v
+constant_target (Set d v) = target-number v
 constant_target _ = target-nil
 
 module _ (c : Config) (h : Heap) (hs : ℕ → Holding) (p : Pass) (k : Command)
@@ -188,11 +151,14 @@ module _ (c : Config) (h : Heap) (hs : ℕ → Holding) (p : Pass) (k : Command)
   abbrev next : FieldRow → FieldRow
   next row = row_got (extent c) p k row (read row)
 
+  -- where the row after it holds nothing
+  goes : (q : Heap) (row : FieldRow) → row_holding m p row ≡ holds_nothing
+      → PhaseKept (extent c) q (changed hs p.thread holds_nothing) → After q row
+  goes q row e = subst (λ (w : Holding). PhaseKept (extent c) q (changed hs p.thread w)) (sym e)
+
   -- a load, before which and after which the thread holds nothing
-  loads : (row : FieldRow) → hs p.thread ≡ holds_nothing
-      → row_holding m p (next row) ≡ holds_nothing → After h (next row)
-  loads row is goes = subst (λ (w : Holding). PhaseKept (extent c) h (changed hs p.thread w)) (sym goes)
-      (lets_shaded_go (extent c) h hs kept p.thread 0 low is)
+  loads : (row : FieldRow) → hs p.thread ≡ holds_nothing → row_holding m p (next row) ≡ holds_nothing → After h (next row)
+  loads row is e = goes h (next row) e (lets_shaded_go (extent c) h hs kept p.thread 0 low is)
 
   -- a store, with which the command is over
   stores : (x j w y : ℕ) → hs p.thread ≡ record holds_nothing { shaded = y }
@@ -211,32 +177,23 @@ module _ (c : Config) (h : Heap) (hs : ℕ → Holding) (p : Pass) (k : Command)
     solid = solid;
   }
 
-  -- an exchange, after which the thread holds nothing
-  exchanges : (row : FieldRow) (x j w y : ℕ) → hs p.thread ≡ record holds_nothing { shaded = y }
-      → (is_sweep (h Phase) ≡ false → CanRefer (cycle_of (h Phase)) h (target w))
-      → row_holding m p (next row) ≡ holds_nothing → After (put_at h (PayloadOf x j) w) (next row)
-  exchanges row x j w y is can goes =
-      subst (λ (v : Holding). PhaseKept (extent c) (put_at h (PayloadOf x j) w)
-      (changed hs p.thread v))
-      (sym goes) (stores x j w y is can)
-
-  -- a comparison, which stores where the field has the expected word
-  compares : (x j old w y : ℕ) → hs p.thread ≡ record holds_nothing { shaded = y }
-      → (is_sweep (h Phase) ≡ false → CanRefer (cycle_of (h Phase)) h (target w))
-      → PhaseKept (extent c) (heap_after h (CompareExchange (PayloadOf x j) old w))
-      (changed hs p.thread holds_nothing)
-  compares x j old w y is can = either (λ q. PhaseKept (extent c) q (changed hs p.thread holds_nothing))
-      (eqb (h (PayloadOf x j)) old) _ _ (stores x j w y is can)
-      (lets_shaded_go (extent c) h hs kept p.thread y low is)
-
-  barrier_keeps : (r : GreyRow) (store : FieldStore) → IsBarrier c p r (stored_word store)
-      → hs p.thread ≡ grey_holding m r
-      → After (heap_after h (row_want (extent c) p k (Shade r store)))
-      (next (Shade r store))
-  barrier_keeps r store is holds =
+  row_keeps : (row : FieldRow) → FitsAt c p k row
+      → ReadsAt c p k row (read row)
+      → NotFree (λ x. h (ColourOf x)) (target (word_stored row)) → hs p.thread ≡ row_holding m p row
+      → After (heap_after h (row_want (extent c) p k row)) (next row)
+  row_keeps (LoadRegister wanted) fits reads solid is =
+      loads (LoadRegister wanted) is (register_quiet m p (extent c) k wanted (read (LoadRegister wanted))).2
+  row_keeps (LoadShape x) fits reads solid is = loads (LoadShape x) is (shape_quiet m p (extent c) k x (shape_in (read (LoadShape x)))).2
+  row_keeps (LoadLink way word) fits reads solid is =
+      loads (LoadLink way word) is (way_quiet m p (extent c) k (way_on way (target (read (LoadLink way word)))) word).2
+  row_keeps (LoadField way) fits reads solid is = loads (LoadField way) is (field_nothing m p (read (LoadField way)) reads.0.0)
+  row_keeps (LoadOwner word) fits reads solid is =
+      loads (LoadOwner word) is (owner_quiet m p (extent c) k word (object_in (read (LoadOwner word)))).2
+  row_keeps (Shade r store) fits reads solid holds =
+      let is = fits.row.0 in
       let w : ℕ = read (Shade r store) in
       let q : Heap = heap_after h (row_want (extent c) p k (Shade r store)) in
-      let on : GreyRow = marking.row_got m p.threads p.cycle r w in
+      let on : GreyRow = marking_got m p.threads p.cycle r w in
       let shading = barrier_shades c p r store is in
       let goes = reuses.keeps_phase c h hs (record { pass = p; row = r }) is.fits (sweep ∙ is.mark) cycle kept holds in
       barrier_is (After q) on store
@@ -246,37 +203,15 @@ module _ (c : Config) (h : Heap) (hs : ℕ → Holding) (p : Pass) (k : Command)
       subst (λ (v : Holding). PhaseKept (extent c) q (changed hs p.thread v))
       (held ∙ ap (λ y. record holds_nothing { shaded = y }) block ∙ shaded_holds p (stored_word store) is.mark) goes)
       (λ _. goes)
-
-  store_keeps : (store : FieldStore) → StoreFits c k store
-      → CanHold (extent c) (place_of (store_want (extent c) p.thread k store)) (read (Store store))
-      → NotFree (λ x. h (ColourOf x)) (target (stored_word store))
-      → hs p.thread ≡ held_before_store p (stored_word store)
-      → After (heap_after h (store_want (extent c) p.thread k store)) (next (Store store))
-  store_keeps (Moved word) fits reads solid is = stores _ _ word _ is (can_store word is solid)
-  store_keeps (Pending word value) fits reads solid is = stores _ _ word _ is (can_store word is solid)
-  store_keeps (InField way word) fits reads solid is = stores _ _ word _ is (can_store word is solid)
-  store_keeps (Exchanged way word) fits reads solid is =
-      exchanges (Store (Exchanged way word)) _ _ word _ is (can_store word is solid)
-      (field_nothing m p (read (Store (Exchanged way word))) reads.0)
-  store_keeps (Compared way word) fits reads solid is =
-      compares _ _ way.expected word _ is (can_store word is solid)
-
-  row_keeps : (row : FieldRow) → FitsAt c p k row
-      → ReadsAt c p k row (read row)
-      → NotFree (λ x. h (ColourOf x)) (target (word_stored row)) → hs p.thread ≡ row_holding m p row
-      → After (heap_after h (row_want (extent c) p k row)) (next row)
-  row_keeps (LoadRegister wanted) fits reads solid is =
-      loads (LoadRegister wanted) is (register_quiet (extent c) m p k wanted (read (LoadRegister wanted))).1
-  row_keeps (LoadShape x) fits reads solid is = loads (LoadShape x) is (shape_quiet (extent c) m p k x (shape_in (read (LoadShape x)))).1
-  row_keeps (LoadLink way word) fits reads solid is = loads (LoadLink way word) is (way_quiet (extent c) m p k (way_on way (target (read (LoadLink way word)))) word).1
-  row_keeps (LoadField way) fits reads solid is = loads (LoadField way) is (field_nothing m p (read (LoadField way)) reads.0.0)
-  row_keeps (LoadOwner word) fits reads solid is = loads (LoadOwner word) is (owner_quiet (extent c) m p k word (object_in (read (LoadOwner word)))).1
-  row_keeps (Shade r store) fits reads solid is = barrier_keeps r store fits.row.0 is
-  row_keeps (Store store) fits reads solid is = store_keeps store fits.row reads.0 solid is
-  row_keeps StoreConstant fits reads solid is =
-      stores _ _ (constant_word k) 0 is (λ _. no_block _ h _ (constant_target k))
-  row_keeps IdleLook fits reads solid is = loads IdleLook is refl
-  row_keeps (Answered reply) fits reads solid is = loads (Answered reply) is refl
+  row_keeps (Store (Exchanged way word)) fits reads solid is = goes _ (next (Store (Exchanged way word)))
+      (field_nothing m p (read (Store (Exchanged way word))) reads.0.0) (stores _ _ word _ is (can_store word is solid))
+  row_keeps (Store (Compared way word)) fits reads solid is = either (λ q. PhaseKept (extent c) q (changed hs p.thread holds_nothing))
+      (eqb (h (field_place (extent c) k way)) way.expected) _ _ (stores _ _ word _ is (can_store word is solid))
+      (lets_shaded_go (extent c) h hs kept p.thread _ low is)
+  row_keeps (Store store) fits reads solid is = stores _ _ (stored_word store) _ is (can_store (stored_word store) is solid)
+  row_keeps StoreConstant fits reads solid is = stores _ _ (constant_word k) 0 is
+      (λ _. record { dark = λ some. absurd (some (constant_target k)); solid = λ some. absurd (some (constant_target k)) })
+  row_keeps row fits reads solid is = loads row is refl
 
 pub keeps_phase : (c : Config) (h : Heap) (hs : ℕ → Holding) (f : FieldState) → FieldFits c f
     → FieldReads c f (h (place_of (field_want (extent c) f)))
@@ -291,7 +226,7 @@ keeps_phase c h hs f fits reads sweep cycle solid kept is =
 
 -- a command begins and ends with nothing in hand
 pub first_nothing : (e : Extent) (p : Pass) (k : Command) → field_holding e (at_first_row p k) ≡ holds_nothing
-first_nothing e p (commands.New d f) = refl
+first_nothing e p (New d f) = refl
 first_nothing e p _ = refl
 
 pub over_nothing : (m : ℕ) (p : Pass) (row : FieldRow) → IsSome (field_reply row) → row_holding m p row ≡ holds_nothing

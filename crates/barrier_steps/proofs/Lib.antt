@@ -1,8 +1,6 @@
 pub mod Common
-pub mod Named
-pub mod Stores
-pub mod FieldRows
 pub mod Decisions
+pub mod FieldRows
 pub mod Outcomes
 pub mod Projecting
 pub mod Showing

@@ -26,7 +26,7 @@ use Rattle.barrier_steps.proofs.FieldRows.{barrier_shades}
 use Rattle.barrier_steps.proofs.Keeping.{row_colour, field_phase}
 use Rattle.barrier_steps.proofs.Projecting.{has_value, words_moved, loads_moved, row_guarded, barrier_loading, graph_stays, graph_steps}
 use Rattle.barrier_steps.proofs.Showing.{row_reads, row_shown}
-use Rattle.barrier_steps.proofs.Stores.{either}
+use Rattle.barrier_steps.proofs.Decisions.{either}
 
 -- the event of a row is of its thread, and leaves the graph where it does not decide
 module _ (e : Extent) (a : Name) (t : ℕ) (k : Command) where

@@ -1,12 +1,9 @@
 -- What the step of a command is, where the graph is what its deciding event reads.
 use Rattle.std.proofs.Common.{◌≡◌, ℕ, ◌<◌, Bool, true, false, not, cond, length, refl, sym, ap, ◌∙◌, subst, ltb}
-use Rattle.barrier_steps.proofs.Common.{lt-ltb, Config, Name, Value, extent, Command, Reply, Graph, ObjectKind, Record, Array, object_of, field_of, register_of, with_register, with_field, step, swapped, same_value, kind_shape, Pass, FieldRow, to_register, from_register, other_register, field_index, is_get, is_put, looks_at_object, is_say, expected_register, is_swap, is_cas, shape_length, payload_or_nil, payload_in, shape_or_empty, shape_in, after_object, after_shape, refers, length_decides, answer, graph_after, IsWordOf, ShapeShown, constant_set}
+use Rattle.barrier_steps.proofs.Common.{lt-ltb, Config, Name, Value, extent, Command, Reply, Graph, ObjectKind, Record, Array, object_of, field_of, register_of, with_register, with_field, step, swapped, same_value, kind_shape, Pass, FieldRow, to_register, from_register, other_register, field_index, is_get, is_put, looks_at_object, is_say, expected_register, is_swap, is_cas, shape_length, payload_or_nil, payload_in, shape_or_empty, shape_in, after_object, after_shape, refers, length_decides, answer, graph_after, IsWordOf, ShapeShown, constant_set, at_object, at_field, Answered, sets_constant, is_mov, is_same, is_idle}
 use Rattle.block_store.specs.declared.Value.TheVariants as values
 use Rattle.never_heap.specs.declared.Command.TheVariants as commands
 use Rattle.never_heap.specs.declared.Reply.TheVariants as replies
-use Rattle.never_heap.specs.Steps.{at_object, at_field}
-use Rattle.barrier_steps.specs.declared.rows.FieldRow.TheVariants.{Answered}
-use Rattle.barrier_steps.specs.Operands.{sets_constant, is_mov, is_same, is_idle}
 
 -- what a step answers, and the graph that it leaves
 pub answer_is : (g : Graph) (t : ℕ) (k : Command) (x : Graph × Reply) → step g t k ≡ x → answer g t k ≡ x.1

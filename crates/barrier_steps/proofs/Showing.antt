@@ -20,8 +20,7 @@ use Rattle.barrier_steps.specs.declared.rows.Wanted.TheVariants as wants
 use Rattle.barrier_steps.specs.declared.rows.FieldStore.TheVariants.{Moved, Pending, InField, Exchanged, Compared}
 use Rattle.barrier_steps.specs.Rows as rows
 use Rattle.barrier_steps.specs.Replies.{RefersTo}
-use Rattle.barrier_steps.proofs.Named.{to_low, from_low, other_low, expected_low, wanted_low, way_is, link_low, field_low}
-use Rattle.barrier_steps.proofs.FieldRows.{IsHeldWord, place_at}
+use Rattle.barrier_steps.proofs.FieldRows.{to_low, from_low, other_low, expected_low, wanted_low, way_is, link_low, field_low, IsHeldWord, place_at}
 use Rattle.barrier_steps.proofs.Projecting.{payload_read, cas_expects}
 use Rattle.barrier_steps.proofs.Outcomes.{kind_length}
 
