@@ -1,33 +1,29 @@
 -- What a row owes as its reply: from the deciding event on the answer of the step, by what the events
 -- read and as the value of a register of the graph, and that stays until it is given.
 use Rattle.std.proofs.Common.{◌≡◌, ℕ, Bool, true, cond, Some, refl, sym, ap, ◌∙◌, subst, inl, inr, eqb, eq-eqb, eqb-true, ◌<◌, false, length, ◌||◌, ◌≤◌, None}
-use Rattle.barrier_steps.proofs.Common.{FieldFound, cases_Bool, cases_eq, ne_eqb, Config, Name, Payload, Value, payload_of, payload_code, target, extent, Command, Reply, IsCommandInRange, Graph, object_of, register_of, with_register, with_field, step, same_value, swapped, Pass, FieldRow, from_register, other_register, field_index, to_register, answered_register, is_say, takes_field, payload_or_nil, payload_in, row_got, field_reply, after_field, after_said, field_decided, is_row_of, FitsAt, is_deciding, answer, IsWordOf, ShownAt, Promises, NameShown, ShowsAt, due_at, KnownAt, REGISTERS, heads, GraphState, value_in, Follows, row_loading, row_event, after_event, InHandAt, IsAt, Heap, mutator_at, LoadRegister, LoadShape, LoadField, LoadOwner, Shade, Store, StoreConstant, IdleLook, Answered, Moved, Pending, InField, Exchanged, Compared, object_or_nil, object_in, IsSized, Object, Second, Shown, Say, payloads}
+use Rattle.barrier_steps.proofs.Common.{cases_Bool, cases_eq, ne_eqb, Config, Name, Payload, Value, payload_of, payload_code, target, extent, Command, Reply, IsCommandInRange, Graph, object_of, register_of, with_register, with_field, step, same_value, swapped, Pass, FieldRow, from_register, other_register, field_index, to_register, answered_register, is_say, takes_field, payload_or_nil, payload_in, row_got, field_reply, after_field, after_said, field_decided, is_row_of, FitsAt, is_deciding, answer, IsWordOf, ShownAt, Promises, NameShown, ShowsAt, due_at, KnownAt, REGISTERS, heads, GraphState, value_in, Follows, row_loading, row_event, after_event, InHandAt, IsAt, Heap, mutator_at, LoadRegister, LoadShape, LoadField, LoadOwner, Shade, Store, StoreConstant, IdleLook, Answered, Moved, Pending, InField, Exchanged, Compared, object_or_nil, object_in, IsSized, Object, Second, Shown, Say, payloads, false_from_ne_true, payload_reads}
 use Rattle.block_store.specs.declared.Payload.TheVariants as payloads
 use Rattle.block_store.specs.declared.Value.TheVariants as values
-use Rattle.block_store.proofs.PayloadWords as payload_words
 use Rattle.never_heap.specs.declared.Reply.TheVariants as replies
 use Rattle.never_heap.proofs.GraphMoves.{same_from, register_with_register}
 use Rattle.shown_graph.proofs.Names.{same_is}
 use Rattle.barrier_steps.proofs.Outcomes.{Refused, value_there, answer_is, object_refused, shape_refused, get_is, put_is, swap_is, cas_is, constant_is, mov_is, same_step_is, say_is, idle_is}
 use Rattle.shown_graph.specs.Read.{value_payload}
-use Rattle.barrier_steps.proofs.Decisions.{before_is, barrier_is, after_owner_is, decided_after, decided_once}
+use Rattle.barrier_steps.proofs.Decisions.{field_is, before_is, barrier_is, after_owner_is, decided_after, decided_once}
 use Rattle.barrier_steps.proofs.FieldRows.{to_low, get_takes, swap_takes, taken_register}
-use Rattle.barrier_steps.proofs.Projecting.{swap_register, one_name, within, register_leaves, graph_stays}
+use Rattle.barrier_steps.proofs.Projecting.{swap_register, within, register_leaves, graph_stays}
 use Rattle.never_heap.proofs.FieldStores.{threads_with_field, registers_with_field}
 use Rattle.never_heap.proofs.Stepping.{has_field}
 use Rattle.barrier_steps.proofs.Showing.{NameIs, name_is, row_shown}
 
--- what a value's word says is that value
-one_payload : (head : Name → ℕ) (u v : Value) → value_payload head u ≡ value_payload head v → ((x y : Name) → u ≡ values.Ref x → v ≡ values.Ref y → head x ≡ head y → x ≡ y) → u ≡ v
+-- values with one payload are the same
+one_payload : (head : Name → ℕ) (u v : Value) → value_payload head u ≡ value_payload head v → ((x y : Name) → u ≡ values.Ref x → v ≡ values.Ref y → head x ≡ head y → x ≡ y) → same_value u v ≡ true
 one_payload head values.Nil values.Nil e apart = refl
-one_payload head (values.Int m) (values.Int n) e apart = let same : m ≡ n = cc in ap values.Int same
-one_payload head (values.Ref a) (values.Ref b) e apart = let same : head a ≡ head b = cc in ap values.Ref (apart a b refl refl same)
+one_payload head (values.Int m) (values.Int n) e apart = let same : m ≡ n = cc in eq-eqb m n same
+one_payload head (values.Ref a) (values.Ref b) e apart =
+    let one = apart a b refl refl (let same : head a ≡ head b = cc in same) in
+    same_from a b (ap (λ (x : Name). x.thread) one) (ap (λ (x : Name). x.serial) one)
 one_payload head _ _ e apart = absurd cc
-
-same_self : (v : Value) → same_value v v ≡ true
-same_self values.Nil = refl
-same_self (values.Int n) = eq-eqb n n refl
-same_self (values.Ref a) = same_from a a refl refl
 
 one_value : (u v : Value) → same_value u v ≡ true → u ≡ v
 one_value values.Nil values.Nil h = refl
@@ -43,15 +39,7 @@ module _ (head : Name → ℕ) where
   value_cases P w values.Nil h nil int ref = subst (λ o. P (payload_or_nil o) values.Nil) (sym h) nil
   value_cases P w (values.Int n) h nil int ref = subst (λ o. P (payload_or_nil o) (values.Int n)) (sym h) (int n)
   value_cases P w (values.Ref a) h nil int ref = subst (λ o. P (payload_or_nil o) (values.Ref a)) (sym h)
-      (ref a (sym (payload_words.reads w (payloads.Block (head a)) h).2))
-
-  field_value : (w : ℕ) (v : Value) → IsWordOf head v w → Promises head (after_field w (payload_in w)) (replies.Val v)
-  field_value w v h = value_cases (λ q u. Promises head (after_field w q) (replies.Val u)) w v h refl (λ n. refl)
-      (λ a to. record { name = a; says = refl; block = to })
-
-  said_value : (w : ℕ) (v : Value) → IsWordOf head v w → Promises head (after_said w (payload_in w)) (replies.Val v)
-  said_value w v h = value_cases (λ q u. Promises head (after_said w q) (replies.Val u)) w v h refl (λ n. refl)
-      (λ a to. record { name = a; says = refl; block = to })
+      (ref a (sym (payload_reads w (payloads.Block (head a)) h).2))
 
   -- two registers have one word exactly where they have one value
   same_words : (u v : Value) (x w : ℕ) → IsWordOf head u x → IsWordOf head v w → ((a b : Name) → u ≡ values.Ref a → v ≡ values.Ref b → head a ≡ head b → a ≡ b)
@@ -60,12 +48,9 @@ module _ (head : Name → ℕ) where
     | inl e ↦
         let payloads_one : Some (value_payload head u) ≡ Some (value_payload head v) = sym hu ∙ ap payload_of e ∙ hv in
         let payload_one : value_payload head u ≡ value_payload head v = cc in
-        let values_one : u ≡ v = one_payload head u v payload_one apart in
-        eq-eqb x w e ∙ sym (subst (λ y. same_value u y ≡ true) values_one (same_self u))
-    | inr ne ↦ elim (cases_Bool (same_value u v)) [
-      | inl is ↦ absurd (ne (sym (payload_words.reads x _ hu).1 ∙ ap (λ y. payload_code (value_payload head y)) (one_value u v is) ∙ (payload_words.reads w _ hv).1))
-      | inr is ↦ ne_eqb x w ne ∙ sym is
-    ]
+        eq-eqb x w e ∙ sym (one_payload head u v payload_one apart)
+    | inr ne ↦ ne_eqb x w ne ∙ sym (false_from_ne_true (same_value u v) (λ is.
+        ne (sym (payload_reads x _ hu).1 ∙ ap (λ y. payload_code (value_payload head y)) (one_value u v is) ∙ (payload_reads w _ hv).1)))
   ]
 
   -- a decided row keeps its promise
@@ -95,7 +80,9 @@ module _ (head : Name → ℕ) where
     -- and so is the value of a field
     field_promised : (w : ℕ) (a : Name) (after : Graph) → step g t k ≡ (after, replies.Val (value_there g k a))
         → IsWordOf head (value_there g k a) w → Promises head (after_field w (payload_in w)) (answer g t k)
-    field_promised w a after e h = subst (Promises head (after_field w (payload_in w))) (sym (answers _ e)) (field_value w (value_there g k a) h)
+    field_promised w a after e h = subst (Promises head (after_field w (payload_in w))) (sym (answers _ e))
+        (value_cases (λ q u. Promises head (after_field w q) (replies.Val u)) w (value_there g k a) h refl (λ n. refl)
+        (λ a to. record { name = a; says = refl; block = to }))
 
     -- a deciding event answers as the step does
     pub promised : (row : FieldRow) (w : ℕ) → is_row_of c p k row ≡ true → is_deciding k row w ≡ true → ShownAt head g t k row w → Promises head (row_got (extent c) p k row w) (answer g t k)
@@ -103,7 +90,9 @@ module _ (head : Name → ℕ) where
     promised (LoadRegister (Second word)) w is n h =
         ap (λ y. cond y replies.Yes replies.No) (same_words (register_of g t (from_register k)) (register_of g t (other_register k)) word w h.first h.second h.apart)
         ∙ sym (answers _ (same_step_is g t k is))
-    promised (LoadRegister Shown) w is n h = subst (Promises head (after_said w (payload_in w))) (sym (answers _ (say_is g t k is))) (said_value w (register_of g t (from_register k)) h)
+    promised (LoadRegister Shown) w is n h = subst (Promises head (after_said w (payload_in w))) (sym (answers _ (say_is g t k is)))
+        (value_cases (λ q u. Promises head (after_said w q) (replies.Val u)) w (register_of g t (from_register k)) h refl (λ n. refl)
+        (λ a to. record { name = a; says = refl; block = to }))
     promised (LoadShape x) w is n h = refused _ (shape_refused c p g t x w k is h n)
     promised (LoadField way) w is n h = field_promised w h.0.name _ (get_is g t k h.0.name is (h.0.refers, h.0.within)) h.1
     promised (Store (Moved word)) w is n h = sym (answers _ (mov_is g t k is))
@@ -144,17 +133,11 @@ module _ (g : Graph) (t : ℕ) (k : Command) where
   some_due (Answered given) e = (given, refl)
   some_due _ e = absurd cc
 
-  -- the value of the command's register is due where its word was taken or is shown
-  field_owes : (head : Name → ℕ) (w : ℕ) (v : Value) → IsWordOf head v w → takes_field k ≡ true → register_of g t (to_register k) ≡ v
-      → Owes (replies.Val v) (after_field w (payload_in w))
-  field_owes head w v h takes e = value_cases head (λ q u. register_of g t (to_register k) ≡ u → Owes (replies.Val u) (after_field w q)) w v h
-      (λ e. (ap (λ x. Some (replies.Val x)) e, sym e)) (λ n e. (ap (λ x. Some (replies.Val x)) e, sym e))
-      (λ a to e. (ap (λ r. Some (replies.Val (register_of g t r))) (taken_register k takes) ∙ ap (λ x. Some (replies.Val x)) e, tt)) e
-
-  said_owes : (head : Name → ℕ) (w : ℕ) (v : Value) → IsWordOf head v w → register_of g t (answered_register k) ≡ v
-      → Owes (replies.Val v) (after_said w (payload_in w))
-  said_owes head w v h e = value_cases head (λ q u. register_of g t (answered_register k) ≡ u → Owes (replies.Val u) (after_said w q)) w v h
-      (λ e. (refl, tt)) (λ n e. (refl, tt)) (λ a to e. (ap (λ x. Some (replies.Val x)) e, tt)) e
+  -- a row that promises the reply which is due knows its register's value
+  knows : (head : Name → ℕ) (row : FieldRow) (reply : Reply) → Promises head row reply → due_at g t k row ≡ Some reply → KnownAt g t k row
+  knows head (Shade r (Pending word value)) reply h due = cc
+  knows head (Store (Pending word value)) reply h due = cc
+  knows head _ reply h due = tt
 
   -- a decided row goes on owing it, where a name that it reads is its register's
   still_due : (c : Config) (p : Pass) (row : FieldRow) (w : ℕ) (reply : Reply) → field_decided row ≡ true → due_at g t k row ≡ Some reply → KnownAt g t k row
@@ -190,40 +173,39 @@ module _ (c : Config) (head : Name → ℕ) (s : GraphState) (a : Name) (p : Pas
   after row = (after_event (extent c) s (row_event (extent c) a p.thread k row w)).graph
 
   abbrev Due : Graph → FieldRow → Type 0
-  Due g row = Owes g p.thread k (answer s.graph p.thread k) row
+  Due g row = due_at g p.thread k row ≡ Some (answer s.graph p.thread k)
 
   refused_due : (g : Graph) (row : FieldRow) → Refused s.graph row (step s.graph p.thread k) → Due g row
-  refused_due g row r = subst (Due g) (sym r.1) (ap Some (sym (answer_is s.graph p.thread k _ r.2)), tt)
+  refused_due g row r = subst (Due g) (sym r.1) (ap Some (sym (answer_is s.graph p.thread k _ r.2)))
 
   -- where it stores the value of the field in the command's register
   field_due : (g : Graph) → step s.graph p.thread k ≡ (with_register g p.thread (to_register k) (value_there s.graph k a), replies.Val (value_there s.graph k a))
-      → IsSized c.threads g → p.thread < c.threads → IsCommandInRange k → takes_field k ≡ true → IsWordOf head (value_there s.graph k a) w
+      → IsSized c.threads g → p.thread < c.threads → IsCommandInRange k → takes_field k ≡ true
       → Due (with_register g p.thread (to_register k) (value_there s.graph k a)) (after_field w (payload_in w))
-  field_due g e sized low range takes h =
+  field_due g e sized low range takes =
       let to = with_register g p.thread (to_register k) (value_there s.graph k a) in
-      subst (λ y. Owes to p.thread k y (after_field w (payload_in w))) (sym (answer_is s.graph p.thread k _ e))
-      (field_owes to p.thread k head w (value_there s.graph k a) h takes (stored c.threads g p.thread (to_register k) (value_there s.graph k a) sized low (to_low k range)))
-
-  -- the word is that of the field of the object in hand
-  word_there : (found : FieldFound s.graph p.thread (from_register k) (field_index k)) → register_of s.graph p.thread (from_register k) ≡ values.Ref a
-      → IsWordOf head (value_there s.graph k found.name) w → IsWordOf head (value_there s.graph k a) w
-  word_there found hand h = subst (λ b. IsWordOf head (value_there s.graph k b) w) (one_name (register_of s.graph p.thread (from_register k)) found.name a found.refers hand) h
+      let says : replies.Val (register_of to p.thread (to_register k)) ≡ answer s.graph p.thread k =
+          ap replies.Val (stored c.threads g p.thread (to_register k) (value_there s.graph k a) sized low (to_low k range)) ∙ sym (answer_is s.graph p.thread k _ e) in
+      field_is (Due to) w (payload_in w) (λ v. ap Some says)
+      (ap Some (ap (λ r. replies.Val (register_of to p.thread r)) (taken_register k takes) ∙ says))
 
   row_decides : (row : FieldRow) → IsSized c.threads s.graph → FitsAt c p k row
       → ShownAt head s.graph p.thread k row w → s.loads p.thread ≡ row_loading (extent c) k row
       → InHandAt s a p.thread k row → is_deciding k row w ≡ true → Due (after row) (row_got (extent c) p k row w)
   row_decides (LoadRegister Object) sized fits h loads hand n =
       refused_due (after (LoadRegister Object)) _ (object_refused head s.graph p.thread w k fits.belongs h n)
-  row_decides (LoadRegister (Second word)) sized fits h loads hand n = (ap Some (promised head c s.graph p.thread p k (LoadRegister (Second word)) w fits.belongs n h), tt)
+  row_decides (LoadRegister (Second word)) sized fits h loads hand n = ap Some (promised head c s.graph p.thread p k (LoadRegister (Second word)) w fits.belongs n h)
   row_decides (LoadRegister Shown) sized fits h loads hand n =
-      subst (λ y. Owes (after (LoadRegister Shown)) p.thread k y (after_said w (payload_in w))) (sym (answer_is s.graph p.thread k _ (say_is s.graph p.thread k fits.belongs)))
-      (said_owes (after (LoadRegister Shown)) p.thread k head w (register_of s.graph p.thread (from_register k)) h
-      (ap (λ g. register_of g p.thread (answered_register k)) (register_leaves c s p.thread k Shown w).1 ∙ ap (register_of s.graph p.thread) (said_register k fits.belongs)))
+      let says = sym (answer_is s.graph p.thread k _ (say_is s.graph p.thread k fits.belongs)) in
+      value_cases head (λ q u. replies.Val u ≡ answer s.graph p.thread k → Due (after (LoadRegister Shown)) (after_said w q))
+      w (register_of s.graph p.thread (from_register k)) h (λ e. ap Some e) (λ n e. ap Some e)
+      (λ b to e. ap Some (ap (λ g. replies.Val (register_of g p.thread (answered_register k))) (register_leaves c s p.thread k Shown w).1
+      ∙ ap (λ r. replies.Val (register_of s.graph p.thread r)) (said_register k fits.belongs) ∙ says)) says
   row_decides (LoadShape x) sized fits h loads hand n =
       refused_due (after (LoadShape x)) _ (shape_refused c p s.graph p.thread x w k fits.belongs h n)
   row_decides (LoadField way) sized fits h loads hand n =
       field_due s.graph (get_is s.graph p.thread k a fits.belongs (within s.graph p.thread k a h.0 hand))
-      sized fits.thread.thread fits.command (get_takes k fits.belongs) (word_there h.0 hand h.1)
+      sized fits.thread.thread fits.command (get_takes k fits.belongs)
   row_decides (Store (Exchanged way word)) sized fits h loads hand n =
       let i = field_index k in
       let x = register_of s.graph p.thread (to_register k) in
@@ -233,18 +215,18 @@ module _ (c : Config) (head : Name → ℕ) (s : GraphState) (a : Name) (p : Pas
       (sym (ap (λ l. (value_in l.value).origin) loads ∙ swaps))
       (field_due (with_field s.graph a i x)
       (swap_is s.graph p.thread k a fits.belongs has ∙ ap (λ d. (swapped s.graph p.thread a i d, replies.Val (value_there s.graph k a))) swaps)
-      (sized_put c.threads s.graph a i x sized has.1) fits.thread.thread fits.command (swap_takes k fits.belongs) (word_there h.0 hand h.1))
+      (sized_put c.threads s.graph a i x sized has.1) fits.thread.thread fits.command (swap_takes k fits.belongs))
   row_decides (Store (Pending word value)) sized fits h loads hand n = absurd cc
-  row_decides (Store store) sized fits h loads hand n = (ap Some (promised head c s.graph p.thread p k (Store store) w fits.belongs n h), tt)
-  row_decides StoreConstant sized fits h loads hand n = (ap Some (promised head c s.graph p.thread p k StoreConstant w fits.belongs n h), tt)
-  row_decides IdleLook sized fits h loads hand n = (ap Some (promised head c s.graph p.thread p k IdleLook w fits.belongs n h), tt)
+  row_decides (Store store) sized fits h loads hand n = ap Some (promised head c s.graph p.thread p k (Store store) w fits.belongs n h)
+  row_decides StoreConstant sized fits h loads hand n = ap Some (promised head c s.graph p.thread p k StoreConstant w fits.belongs n h)
+  row_decides IdleLook sized fits h loads hand n = ap Some (promised head c s.graph p.thread p k IdleLook w fits.belongs n h)
   row_decides _ sized fits h loads hand n = absurd cc
 
   pub row_shows : (row : FieldRow) → IsSized c.threads s.graph → FitsAt c p k row → ShownAt head s.graph p.thread k row w
       → s.loads p.thread ≡ row_loading (extent c) k row → InHandAt s a p.thread k row → is_deciding k row w ≡ true
       → ShowsAt (after row) p.thread k (row_got (extent c) p k row w) (answer s.graph p.thread k)
   row_shows row sized fits h loads hand n = due_shows (after row) p.thread k (row_got (extent c) p k row w) (answer s.graph p.thread k)
-      (row_decides row sized fits h loads hand n).0
+      (row_decides row sized fits h loads hand n)
 
 module _ (c : Config) (m : ℕ) (K : Name → Type 0) (at : Name → ℕ → ℕ) (few : c.blocks ≤ 65535) (low : m ≤ c.blocks) (s : GraphState) (follows : Follows c.width c.threads m K at s) (h : Heap)
     (a : Name) (p : Pass) (k : Command) (row : FieldRow) (w : ℕ) where
@@ -265,8 +247,11 @@ module _ (c : Config) (m : ℕ) (K : Name → Type 0) (at : Name → ℕ → ℕ
         let out = still_due s.graph p.thread k c p row w due.0 d due.1 known (name_is c m K at few low s follows h p k row w fits is) in
         subst (λ b. IsDue b on) (sym quiet) (subst (IsDue false) (sym (graph_stays c s a p k row w quiet)) (out.0 ∙ sym due.1, out.1))
     | inr u ↦ elim (cases_Bool (is_deciding k row w)) [
-      | inl n ↦ subst (λ b. IsDue b on) (sym n) (row_decides c (heads at) s a p k w row follows.shows.sized fits
-          (row_shown c m K at few low s follows h p k row w fits is) is.loads hand n)
+      | inl n ↦
+          let shown = row_shown c m K at few low s follows h p k row w fits is in
+          let due = row_decides c (heads at) s a p k w row follows.shows.sized fits shown is.loads hand n in
+          subst (λ b. IsDue b on) (sym n) (due, knows on p.thread k (heads at) (row_got (extent c) p k row w) (answer s.graph p.thread k)
+          (promised (heads at) c s.graph p.thread p k row w fits.belongs n shown) due)
       | inr n ↦
           let still : (field_decided row || is_deciding k row w) ≡ false = rw (u, n) refl in
           let out = none_due on p.thread k (row_got (extent c) p k row w) (decided_after c p k row w ∙ still) in
