@@ -2,7 +2,7 @@
 -- words, and the way to a field leads to it. What holds of the rows: their places are in range, and
 -- a row that fits becomes one that fits.
 use Rattle.std.proofs.Common.{◌≡◌, ◌≢◌, ℕ, ◌<◌, ◌≤◌, ◌+◌, true, false, ◌||◌, cond, IsSome, is_some, arith, refl, sym, subst, ap, ◌∙◌, inl, inr, leb, zero, suc, ◌-◌, ◌^◌, ◌/◌, ◌%◌, Option, None, Some, List, [], ◌∷◌, length, get_or, ltb, ltb-true, ltb-false}
-use Rattle.barrier_steps.proofs.Common.{cases_Bool, lt-ltb, Config, REGISTERS, Payload, Shape, target, payload_of, payload_code, payload-code, target-number, target-nil, extent, PayloadOf, register_block, register_slot, payloads, IsShape, Command, IsCommandInRange, place_of, Pass, FieldRow, Wanted, GreyRow, is_shading, block_stored, block_stays, FieldStore, Way, to_register, answered_register, field_index, constant_word, is_get, is_say, goes_to_field, is_swap, is_cas, takes_field, stores_in_field, shape_length, links_to, FieldState, register_place, payload_in, shape_in, stored_word, shaded_for, before_store, first_row, at_first_row, register_wanted, store_want, row_want, row_got, field_got, after_object, after_shape, after_field, after_said, on_way, way_from, way_on, IsThread, IsWalk, IsThere, IsBarrier, is_store_of, StoreFits, is_row_of, FitsAt, FieldFits, ReadsAt, FieldReads, le-leb, IsPayload, in_range, is_block, IsBlock, registers_end, Fits, StoresHeld, LoadRegister, LoadShape, LoadLink, LoadField, LoadOwner, Shade, Store, StoreConstant, Moved, Pending, InField, Exchanged, Compared, object_in, IsLoaded, RowFits, Swap, Cas, Get, Set, New, Copied, Object, Expected, Stored, First, Second, Shown, from_register, other_register, expected_register, payload_or_nil, shape_or_empty, shape_of, Width, Extent, shape_part, link_at, field_at, ordinal_at, or_zero, reads_in, TakeOwn, ShadeStored, PutOwn, Shaded, marking_got, payload_reads, refers, shades, or_right}
+use Rattle.barrier_steps.proofs.Common.{cases_Bool, lt-ltb, Config, REGISTERS, Payload, Shape, target, payload_of, payload_code, payload-code, target-number, target-nil, extent, PayloadOf, register_block, register_slot, payloads, IsShape, Command, IsCommandInRange, place_of, Pass, FieldRow, Wanted, GreyRow, is_shading, block_stays, FieldStore, Way, to_register, answered_register, field_index, constant_word, is_get, is_say, goes_to_field, is_swap, is_cas, takes_field, stores_in_field, shape_length, links_to, FieldState, register_place, payload_in, shape_in, stored_word, shaded_for, before_store, at_first_row, register_wanted, row_want, row_got, field_got, after_object, after_field, after_said, on_way, way_from, way_on, IsThread, IsWalk, IsThere, IsBarrier, is_store_of, StoreFits, is_row_of, FitsAt, FieldFits, ReadsAt, FieldReads, le-leb, IsPayload, in_range, is_block, IsBlock, registers_end, Fits, StoresHeld, LoadRegister, LoadShape, LoadLink, LoadField, LoadOwner, Shade, Store, StoreConstant, Moved, Pending, InField, Exchanged, Compared, object_in, IsLoaded, RowFits, Swap, Cas, Get, Set, New, Copied, Object, Expected, Stored, First, Second, Shown, from_register, other_register, expected_register, payload_or_nil, shape_or_empty, shape_of, Width, Extent, shape_part, link_at, field_at, ordinal_at, or_zero, reads_in, TakeOwn, ShadeStored, PutOwn, Shaded, marking_got, payload_reads, refers, shades, or_right}
 use Rattle.block_store.specs.declared.Payload.TheVariants as payloads
 use Rattle.block_store.proofs.Registers.{wide, in_array, root_end, register_some, slot_low}
 use Rattle.grey_steps.proofs.Ranges as ranges
@@ -44,8 +44,7 @@ pub from_low : (k : Command) → IsCommandInRange k → from_register k < 16
 from_low k h = reads_low (operands k) (operands_in_range k h) 0
 
 pub other_low : (k : Command) → IsCommandInRange k → other_register k < 16
-other_low k h =
-    reads_low (operands k) (operands_in_range k h) (length (reads_in (operands k)) - 1)
+other_low k h = reads_low (operands k) (operands_in_range k h) (length (reads_in (operands k)) - 1)
 
 pub expected_low : (k : Command) → IsCommandInRange k → expected_register k < 16
 expected_low k h = reads_low (operands k) (operands_in_range k h) 1
@@ -161,25 +160,15 @@ is_shaded p word ne = elim (cases_Bool p.sweep) [
 ]
 
 -- a row that shades a block is one of a barrier
-stored_shades : (r : GreyRow) → block_stored r ≢ 0 → is_shading r ≡ true
-stored_shades (TakeOwn y) some = refl
-stored_shades (ShadeStored y a) some = refl
-stored_shades (PutOwn y a) some = refl
-stored_shades (Shaded y) some = refl
-stored_shades _ some = absurd (some refl)
-
 pub barrier_shades : (c : Config) (p : Pass) (r : GreyRow) (store : FieldStore) → IsBarrier c p r (stored_word store) → is_shading r ≡ true
-barrier_shades c p r store is = stored_shades r (λ none. is.refers (sym is.stores ∙ none))
+barrier_shades c p (TakeOwn y) store is = refl
+barrier_shades c p (ShadeStored y a) store is = refl
+barrier_shades c p (PutOwn y a) store is = refl
+barrier_shades c p (Shaded y) store is = refl
+barrier_shades c p _ store is = absurd (is.refers (sym is.stores))
 
 module _ (c : Config) (p : Pass) (k : Command) where
   -- the place that a row wants is in range
-  store_place : (store : FieldStore) → IsThread c p.thread → IsCommandInRange k → StoreFits c k store
-      → in_range (extent c) (place_of (store_want (extent c) p.thread k store)) ≡ true
-  store_place (InField way word) th range fits = payload_in_range c way.block _ fits.0.block (field_low c way.shape (field_index k))
-  store_place (Exchanged way word) th range fits = payload_in_range c way.block _ fits.0.block (field_low c way.shape (field_index k))
-  store_place (Compared way word) th range fits = payload_in_range c way.block _ fits.0.block (field_low c way.shape (field_index k))
-  store_place _ th range fits = register_in c p.thread (to_register k) th (to_low k range)
-
   pub place_at : (row : FieldRow) → FitsAt c p k row → in_range (extent c) (place_of (row_want (extent c) p k row)) ≡ true
   place_at (LoadRegister wanted) f = register_in c p.thread (register_wanted k wanted) f.thread (wanted_low k wanted f.command)
   place_at (LoadShape x) f = block_in c x f.row
@@ -187,7 +176,10 @@ module _ (c : Config) (p : Pass) (k : Command) where
   place_at (LoadField way) f = payload_in_range c way.block _ f.row.0.block (field_low c way.shape (field_index k))
   place_at (LoadOwner word) f = block_in c (target word) (target_block c word f.row.0 f.row.1)
   place_at (Shade r store) f = ranges.place_fits c (record { pass = p; row = r }) f.row.0.fits
-  place_at (Store store) f = store_place store f.thread f.command f.row
+  place_at (Store (InField way word)) f = payload_in_range c way.block _ f.row.0.block (field_low c way.shape (field_index k))
+  place_at (Store (Exchanged way word)) f = payload_in_range c way.block _ f.row.0.block (field_low c way.shape (field_index k))
+  place_at (Store (Compared way word)) f = payload_in_range c way.block _ f.row.0.block (field_low c way.shape (field_index k))
+  place_at (Store store) f = register_in c p.thread (to_register k) f.thread (to_low k f.command)
   place_at StoreConstant f = register_in c p.thread (to_register k) f.thread (to_low k f.command)
   place_at _ f = refl
 
@@ -244,16 +236,6 @@ module _ (c : Config) (p : Pass) (k : Command) where
         (λ swap. before_fits (Exchanged way word) swap (is, there, fits))
         (λ cas. before_fits (Compared way word) cas (is, there, fits)))
 
-    start_is_walk : (x : ℕ) (f : Shape) → IsBlock c x → IsShape f → field_index k < shape_length f → IsWalk c (field_index k) (way_from f x)
-    start_is_walk x f block shape index = record { shape = shape; index = index; level = omega arith; block = block }
-
-    shape_row_fits : (x : ℕ) (f : Shape) → IsBlock c x → IsShape f → Good (after_shape (extent c) p k x f)
-    shape_row_fits x f block shape = after_shape_is Good (extent c) p k x f (λ r. (refl, tt))
-        (λ less is. (is, (start_is_walk x f block shape less, refl)))
-        (λ less is. (is, (start_is_walk x f block shape less, refl)))
-        (λ less is. way_fits (way_from f x) 0 ((goes_to k).0 is) (start_is_walk x f block shape less)
-        (loaded c 0 (held c payloads.Nil tt (omega (arith, target-nil)))))
-
     -- after a word that is stored in a register, or shown
     field_row_fits : (w : ℕ) → takes_field k ≡ true → IsHeldWord c w → Good (after_field w (payload_in w))
     field_row_fits w is r = payload_cases w r.0 (λ q. Good (after_field w q)) (λ none. (is, loaded c w r))
@@ -271,7 +253,13 @@ module _ (c : Config) (p : Pass) (k : Command) where
     row_fits (LoadRegister Shown) w is h r =
         payload_cases w r.0.0 (λ q. Good (after_said w q)) (λ none. (refl, tt)) (λ v none low. (refl, tt))
         (λ x to some. (or_right (takes_field k) (is_say k) is, (loaded c w r.0, reference x w to some)))
-    row_fits (LoadShape x) w is h r = shape_row_fits x (shape_in w) h (shape_fits w r.0)
+    row_fits (LoadShape x) w is h r =
+        let walk : field_index k < shape_length (shape_in w) → IsWalk c (field_index k) (way_from (shape_in w) x) =
+            λ less. record { shape = shape_fits w r.0; index = less; level = omega arith; block = h } in
+        after_shape_is Good (extent c) p k x (shape_in w) (λ _. (refl, tt)) (λ less is. (is, (walk less, refl)))
+        (λ less is. (is, (walk less, refl)))
+        (λ less is. way_fits (way_from (shape_in w) x) 0 ((goes_to k).0 is) (walk less)
+        (loaded c 0 (held c payloads.Nil tt (omega (arith, target-nil)))))
     row_fits (LoadLink way word) w is h r = way_fits (way_on way (target w)) word is (record {
       shape = h.0.shape;
       index = h.0.index;
@@ -293,14 +281,11 @@ module _ (c : Config) (p : Pass) (k : Command) where
     row_fits (Store (Exchanged way word)) w is h r = field_row_fits w (swap_takes k is) r.0
     row_fits _ w is h r = (refl, tt)
 
-first_good : (c : Config) (p : Pass) (k : Command) → Good c p k (first_row k)
-first_good c p (New d f) = (refl, tt)
-first_good c p _ = (refl, tt)
-
 pub first_fits : (c : Config) (p : Pass) (k : Command) → IsThread c p.thread → p.threads ≡ c.threads → c.blocks ≤ 65535 → IsCommandInRange k → FieldFits c (at_first_row p k)
-first_fits c p k thread threads blocks range =
-    let good = first_good c p k in
-    record { thread = thread; threads = threads; blocks = blocks; command = range; belongs = good.0; row = good.1 }
+first_fits c p (New d f) thread threads blocks range =
+    record { thread = thread; threads = threads; blocks = blocks; command = range; belongs = refl; row = tt }
+first_fits c p _ thread threads blocks range =
+    record { thread = thread; threads = threads; blocks = blocks; command = range; belongs = refl; row = tt }
 
 pub field_fits : (c : Config) (s : FieldState) (w : ℕ) → FieldFits c s → FieldReads c s w → FieldFits c (field_got (extent c) s w)
 field_fits c s w f r =
