@@ -1,7 +1,7 @@
 -- Each event of a command keeps all that a heap keeps in either phase, and leaves the phase, the
 -- cursor and the grey blocks as they are.
-use Rattle.std.proofs.Common.{◌≡◌, ℕ, Bool, true, false, eqb, refl, sym, ap, ◌∙◌, inl, inr, eqb-true, ◌<◌, cond, IsSome, subst}
-use Rattle.barrier_steps.proofs.Common.{cases_Bool, cases_eq, ne_eqb, Config, white_word, Heap, put_at, extent, Phase, ColourOf, PayloadOf, Extent, payloads, Command, holds_nothing, heap_after, place_of, Pass, GreyRow, is_shading, block_stored, grey_over, FieldRow, FitsAt, FieldFits, ReadsAt, FieldReads, FieldState, shades, row_want, field_want, row_holding, payload_in, shape_in, at_first_row, stored_word, field_place, way_on, after_field, row_got, word_stored, field_got, field_reply, changed, payload_of, target, is_sweep, cycle_of, changed_map, changed_self, target-number, target-nil, IsHeld, NotFree, block_stays, constant_word, is_grey, Cursor, sweep_held, Holding, grey_held, tricolour_held, free_held, Exchange, grey_holding, Shade, Store, LoadRegister, LoadShape, LoadLink, LoadField, LoadOwner, StoreConstant, Answered, Compared, Exchanged, field_holding, object_in, held_before_store, shading_goes_on, Set, New, ShadeStored, marking_got, refers}
+use Rattle.std.proofs.Common.{◌≡◌, ℕ, true, false, eqb, refl, sym, ap, ◌∙◌, eqb-true, ◌<◌, cond, IsSome, subst}
+use Rattle.barrier_steps.proofs.Common.{Config, white_word, Heap, put_at, extent, Phase, ColourOf, PayloadOf, Extent, payloads, Command, holds_nothing, heap_after, place_of, Pass, GreyRow, is_shading, block_stored, grey_over, FieldRow, FitsAt, FieldFits, ReadsAt, FieldReads, FieldState, shades, row_want, field_want, row_holding, payload_in, shape_in, at_first_row, stored_word, field_place, way_on, after_field, row_got, word_stored, field_got, field_reply, changed, payload_of, target, is_sweep, cycle_of, changed_map, changed_self, target-number, target-nil, IsHeld, NotFree, block_stays, constant_word, is_grey, Cursor, sweep_held, Holding, grey_held, tricolour_held, free_held, Exchange, grey_holding, Shade, Store, LoadRegister, LoadShape, LoadLink, LoadField, LoadOwner, StoreConstant, Answered, Compared, Exchanged, field_holding, object_in, held_before_store, shading_goes_on, Set, New, ShadeStored, marking_got, refers}
 use Rattle.block_store.proofs.ColourWords.{not_grey_white}
 use Rattle.heap_machine.specs.Sweeping.{no_claim}
 use Rattle.grey_steps.specs.declared.rows.GreyRow.TheVariants as greys
@@ -18,20 +18,17 @@ use Rattle.heap_machine.proofs.Solids.{solid_payload}
 use Rattle.heap_machine.proofs.Tricolours.{lets_go, kept_payload}
 use Rattle.grey_steps.specs.declared.rows.GreyRow.TheVariants.{Shaded}
 use Rattle.grey_steps.proofs.Reuses as reuses
-use Rattle.barrier_steps.proofs.Decisions.{way_quiet, shape_quiet, register_quiet, owner_quiet, barrier_is, either}
+use Rattle.barrier_steps.proofs.Decisions.{way_quiet, shape_quiet, register_quiet, owner_quiet, barrier_is, either, either_is}
 
 module _ (h : Heap) where
   -- phase and cursor are as they were
   abbrev IsGate : Heap → Type 0
   IsGate q = (q Phase ≡ h Phase) × (q Cursor ≡ h Cursor)
 
-  tried : (b : Bool) (q : Heap) → IsGate q → IsGate (cond b q h)
-  tried b q is = either IsGate b q h is (refl, refl)
-
   row_gate : (e : Extent) (p : Pass) (k : Command) (row : FieldRow) → IsGate (heap_after h (row_want e p k row))
-  row_gate e p k (Shade (greys.Shade x j y a) store) = tried (eqb (h (ColourOf y)) (white_word p.cycle)) _ (refl, refl)
-  row_gate e p k (Shade (ShadeStored y a) store) = tried (eqb (h (ColourOf y)) (white_word p.cycle)) _ (refl, refl)
-  row_gate e p k (Store (Compared way word)) = tried (eqb (h (field_place e k way)) way.expected) _ (refl, refl)
+  row_gate e p k (Shade (greys.Shade x j y a) store) = either IsGate (eqb (h (ColourOf y)) (white_word p.cycle)) _ h (refl, refl) (refl, refl)
+  row_gate e p k (Shade (ShadeStored y a) store) = either IsGate (eqb (h (ColourOf y)) (white_word p.cycle)) _ h (refl, refl) (refl, refl)
+  row_gate e p k (Store (Compared way word)) = either IsGate (eqb (h (field_place e k way)) way.expected) _ h (refl, refl) (refl, refl)
   row_gate e p k _ = (refl, refl)
 
 pub field_phase : (c : Config) (h : Heap) (f : FieldState) → heap_after h (field_want (extent c) f) Phase ≡ h Phase
@@ -53,16 +50,11 @@ module _ (c : Config) (h : Heap) (x : ℕ) (p : Pass) (k : Command) where
 
   -- and there a white block alone becomes grey
   pub row_grey : (row : FieldRow) → FitsAt c p k row → is_grey (h (ColourOf x)) ≡ true → Stays row
-  row_grey (Shade (ShadeStored y a) store) fits grey = elim (cases_Bool (eqb (h (ColourOf y)) (white_word p.cycle))) [
-    | inl is ↦ elim (cases_eq y x) [
-      | inl e ↦
-          let white : h (ColourOf x) ≡ white_word p.cycle = ap (λ z. h (ColourOf z)) (sym e)
-          ∙ eqb-true (h (ColourOf y)) (white_word p.cycle) is in
-          absurd (let z : true ≡ false = sym grey ∙ ap is_grey white ∙ not_grey_white p.cycle in cc)
-      | inr away ↦ rw (is, ne_eqb y x away) refl
-    ]
-    | inr is ↦ rw is refl
-  ]
+  row_grey (Shade (ShadeStored y a) store) fits grey =
+      either_is (λ (q : Heap). q (ColourOf x) ≡ h (ColourOf x)) (eqb (h (ColourOf y)) (white_word p.cycle)) _ _
+      (λ is. either_is (λ v. v ≡ h (ColourOf x)) (eqb y x) _ _ (λ e.
+      let white : h (ColourOf x) ≡ white_word p.cycle = ap (λ z. h (ColourOf z)) (sym (eqb-true y x e)) ∙ eqb-true _ _ is in
+      absurd (let z : true ≡ false = sym grey ∙ ap is_grey white ∙ not_grey_white p.cycle in cc)) (λ _. refl)) (λ _. refl)
   row_grey (Shade (greys.Shade z j y a) store) fits grey = absurd (fits.row.0.refers (sym fits.row.0.stores))
   row_grey (Shade (greys.Blacken y a) store) fits grey = absurd (fits.row.0.refers (sym fits.row.0.stores))
   row_grey (Store store) fits grey = row_colour (Store store) refl
@@ -78,18 +70,14 @@ pub row_claims : (m : ℕ) (p : Pass) (row : FieldRow) → sweep_held (row_holdi
 row_claims m p (Shade (greys.Take u) store) = refl
 row_claims m p _ = refl
 
--- a part of what the threads hold, where thread t holds as much of it as before
-still_holds : {A : Type 0} (part : Holding → A) (hs : ℕ → Holding) (t : ℕ) (w : Holding)
-    → part (hs t) ≡ part w → ◌≡◌ {A = ℕ → A} (λ u. part (changed hs t w u)) (λ u. part (hs u))
-still_holds part hs t w is = changed_map part hs t w ∙ changed_self (λ u. part (hs u)) t (part w) is
-
 -- thread t goes on where it holds nothing but a block that it has shaded, and then nothing
 module _ (e : Extent) (h : Heap) (hs : ℕ → Holding) (k : PhaseKept e h hs) (t y : ℕ)
     (low : t < e.threads) (is : hs t ≡ record holds_nothing { shaded = y }) where
   pub lets_shaded_go : PhaseKept e h (changed hs t holds_nothing)
   lets_shaded_go = record {
     grey = subst (λ (ws : ℕ → GreyHolding). GreyKept e.threads h ws)
-        (sym (still_holds grey_held hs t holds_nothing (ap grey_held is))) k.grey;
+        (sym (changed_map grey_held hs t holds_nothing
+        ∙ changed_self (λ u. grey_held (hs u)) t (grey_held holds_nothing) (ap grey_held is))) k.grey;
     reuse = reuse_stays e h hs k.reuse t holds_nothing low (ap free_held is) (ap sweep_held is);
     tricolour = λ mark. subst (λ (ws : ℕ → TricolourHolding).
         TricolourKept e (cycle_of (h Phase)) h ws) (part_changed tricolour_held hs t holds_nothing)
@@ -113,22 +101,17 @@ stored_kept e h hs x j w can k = record {
 -- nil and numbers refer to no block
 field_nothing : (m : ℕ) (p : Pass) (w : ℕ) → IsSome (payload_of w)
     → row_holding m p (after_field w (payload_in w)) ≡ holds_nothing
-field_nothing m p w some = payload_cases w some (λ q. row_holding m p (after_field w q) ≡ holds_nothing)
-    (λ none. none_shaded none) (λ v none low. none_shaded none) (λ x to some. refl)
-  where
-    none_shaded : target w ≡ 0 → held_before_store p w ≡ holds_nothing
-    none_shaded none = ap (λ y. record holds_nothing { shaded = y })
-        (either (λ y. y ≡ 0) p.sweep 0 (target w) refl none)
+field_nothing m p w some =
+    let none : target w ≡ 0 → held_before_store p w ≡ holds_nothing =
+        λ is. ap (λ y. record holds_nothing { shaded = y }) (either (λ y. y ≡ 0) p.sweep 0 (target w) refl is) in
+    payload_cases w some (λ q. row_holding m p (after_field w q) ≡ holds_nothing) none (λ v is low. none is) (λ x to some. refl)
 
 -- at its end a barrier holds that its block was shaded
-over_holds : (m : ℕ) (r : GreyRow) → is_shading r ≡ true → grey_over r ≡ true
-    → grey_holding m r ≡ record holds_nothing { shaded = block_stored r }
-over_holds m (Shaded y) shading over = refl
-over_holds m _ shading over = absurd cc
-
-shaded_holds : (p : Pass) (word : ℕ) → p.sweep ≡ false
-    → record holds_nothing { shaded = target word } ≡ held_before_store p word
-shaded_holds p word mark = ap (λ b. record holds_nothing { shaded = cond b 0 (target word) }) (sym mark)
+over_holds : (m : ℕ) (p : Pass) (word : ℕ) (r : GreyRow) → p.sweep ≡ false → grey_over r ≡ true → is_shading r ≡ true
+    → block_stored r ≡ target word → grey_holding m r ≡ held_before_store p word
+over_holds m p word (Shaded y) mark over shading stores =
+    ap (λ y. record holds_nothing { shaded = y }) (stores ∙ ap (λ b. cond b 0 (target word)) (sym mark))
+over_holds m p word _ mark over shading stores = absurd cc
 
 -- the constant that is stored refers to no block
 constant_target : (k : Command) → target (constant_word k) ≡ 0
@@ -177,8 +160,7 @@ module _ (c : Config) (h : Heap) (hs : ℕ → Holding) (p : Pass) (k : Command)
     solid = solid;
   }
 
-  row_keeps : (row : FieldRow) → FitsAt c p k row
-      → ReadsAt c p k row (read row)
+  row_keeps : (row : FieldRow) → FitsAt c p k row → ReadsAt c p k row (read row)
       → NotFree (λ x. h (ColourOf x)) (target (word_stored row)) → hs p.thread ≡ row_holding m p row
       → After (heap_after h (row_want (extent c) p k row)) (next row)
   row_keeps (LoadRegister wanted) fits reads solid is =
@@ -197,11 +179,9 @@ module _ (c : Config) (h : Heap) (hs : ℕ → Holding) (p : Pass) (k : Command)
       let shading = barrier_shades c p r store is in
       let goes = reuses.keeps_phase c h hs (record { pass = p; row = r }) is.fits (sweep ∙ is.mark) cycle kept holds in
       barrier_is (After q) on store
-      (λ over.
-      let held = over_holds m on (shading_goes_on m p.threads p.cycle r w shading) over in
-      let block = block_stays m p.threads p.cycle r w shading ∙ is.stores in
-      subst (λ (v : Holding). PhaseKept (extent c) q (changed hs p.thread v))
-      (held ∙ ap (λ y. record holds_nothing { shaded = y }) block ∙ shaded_holds p (stored_word store) is.mark) goes)
+      (λ over. subst (λ (v : Holding). PhaseKept (extent c) q (changed hs p.thread v))
+      (over_holds m p (stored_word store) on is.mark over (shading_goes_on m p.threads p.cycle r w shading)
+      (block_stays m p.threads p.cycle r w shading ∙ is.stores)) goes)
       (λ _. goes)
   row_keeps (Store (Exchanged way word)) fits reads solid is = goes _ (next (Store (Exchanged way word)))
       (field_nothing m p (read (Store (Exchanged way word))) reads.0.0) (stores _ _ word _ is (can_store word is solid))
@@ -218,8 +198,7 @@ pub keeps_phase : (c : Config) (h : Heap) (hs : ℕ → Holding) (f : FieldState
     → is_sweep (h Phase) ≡ f.pass.sweep → cycle_of (h Phase) ≡ f.pass.cycle
     → NotFree (λ x. h (ColourOf x)) (target (word_stored f.row))
     → PhaseKept (extent c) h hs → hs f.pass.thread ≡ field_holding (extent c) f
-    → PhaseKept (extent c) (heap_after h (field_want (extent c) f))
-    (changed hs f.pass.thread
+    → PhaseKept (extent c) (heap_after h (field_want (extent c) f)) (changed hs f.pass.thread
     (field_holding (extent c) (field_got (extent c) f (h (place_of (field_want (extent c) f))))))
 keeps_phase c h hs f fits reads sweep cycle solid kept is =
     row_keeps c h hs f.pass f.command sweep cycle kept fits.thread.thread f.row fits reads solid is
