@@ -51,4 +51,4 @@ pub use Rattle.shown_graph.specs.Events.{GraphState, value_in, Follows, ValueLoa
 pub use Rattle.shown_graph.specs.Layouts.{shape_part, kind_shape}
 pub use Rattle.shown_graph.specs.Shown.{heads, IsSized}
 pub use Rattle.shown_graph.specs.Words.{block_words, value_word}
-pub use Rattle.std.proofs.lemmas.Bool.{cases_Bool, cases_eq, ne_eqb, cases_lt, lt-ltb, le-ltb, le-leb, eqb-false, or_right, false_from_ne_true}
+pub use Rattle.std.proofs.lemmas.Bool.{cases_Bool, cases_eq, ne_eqb, cases_lt, lt-ltb, le-ltb, le-leb, eqb-false, or_right, false_from_ne_true, not-true}

@@ -7,9 +7,8 @@ use Rattle.block_store.specs.declared.Value.TheVariants as values
 use Rattle.never_heap.specs.declared.Reply.TheVariants as replies
 use Rattle.never_heap.proofs.GraphMoves.{same_from, register_with_register}
 use Rattle.shown_graph.proofs.Names.{same_is}
-use Rattle.barrier_steps.proofs.Outcomes.{Refused, value_there, answer_is, object_refused, shape_refused, get_is, put_is, swap_is, cas_is, constant_is, mov_is, same_step_is, say_is, idle_is}
+use Rattle.barrier_steps.proofs.Decisions.{Refused, value_there, answer_is, object_refused, shape_refused, get_is, put_is, swap_is, cas_is, constant_is, mov_is, same_step_is, say_is, idle_is, field_is, before_is, barrier_is, after_owner_is, decided_after, decided_once}
 use Rattle.shown_graph.specs.Read.{value_payload}
-use Rattle.barrier_steps.proofs.Decisions.{field_is, before_is, barrier_is, after_owner_is, decided_after, decided_once}
 use Rattle.barrier_steps.proofs.FieldRows.{to_low, get_takes, swap_takes, taken_register}
 use Rattle.barrier_steps.proofs.Projecting.{swap_register, within, register_leaves, graph_stays}
 use Rattle.never_heap.proofs.FieldStores.{threads_with_field, registers_with_field}
@@ -114,7 +113,7 @@ module _ (g : Graph) (t : ℕ) (k : Command) where
   Owes reply row = (due_at g t k row ≡ Some reply) × KnownAt g t k row
 
   -- one that is due shows its register
-  due_shows : (row : FieldRow) (reply : Reply) → due_at g t k row ≡ Some reply → ShowsAt g t k row reply
+  pub due_shows : (row : FieldRow) (reply : Reply) → due_at g t k row ≡ Some reply → ShowsAt g t k row reply
   due_shows (LoadOwner word) reply e = cc
   due_shows _ reply e = tt
 
@@ -122,9 +121,7 @@ module _ (g : Graph) (t : ℕ) (k : Command) where
   pub none_due : (row : FieldRow) → field_decided row ≡ false → (due_at g t k row ≡ None) × KnownAt g t k row
   none_due (Shade r (Pending word value)) e = absurd cc
   none_due (Store (Pending word value)) e = absurd cc
-  none_due (LoadOwner word) e = absurd cc
-  none_due (Answered given) e = absurd cc
-  none_due _ e = (refl, tt)
+  none_due _ e = (cc, tt)
 
   pub some_due : (row : FieldRow) → field_decided row ≡ true → (reply : Reply) × (due_at g t k row ≡ Some reply)
   some_due (LoadOwner word) e = (_, refl)
@@ -169,7 +166,7 @@ sized_put n g a i v sized there = record {
 
 -- at the deciding event the step's answer falls due
 module _ (c : Config) (head : Name → ℕ) (s : GraphState) (a : Name) (p : Pass) (k : Command) (w : ℕ) where
-  abbrev after : FieldRow → Graph
+  abbrev pub after : FieldRow → Graph
   after row = (after_event (extent c) s (row_event (extent c) a p.thread k row w)).graph
 
   abbrev Due : Graph → FieldRow → Type 0
@@ -189,7 +186,7 @@ module _ (c : Config) (head : Name → ℕ) (s : GraphState) (a : Name) (p : Pas
       field_is (Due to) w (payload_in w) (λ v. ap Some says)
       (ap Some (ap (λ r. replies.Val (register_of to p.thread r)) (taken_register k takes) ∙ says))
 
-  row_decides : (row : FieldRow) → IsSized c.threads s.graph → FitsAt c p k row
+  pub row_decides : (row : FieldRow) → IsSized c.threads s.graph → FitsAt c p k row
       → ShownAt head s.graph p.thread k row w → s.loads p.thread ≡ row_loading (extent c) k row
       → InHandAt s a p.thread k row → is_deciding k row w ≡ true → Due (after row) (row_got (extent c) p k row w)
   row_decides (LoadRegister Object) sized fits h loads hand n =
@@ -221,12 +218,6 @@ module _ (c : Config) (head : Name → ℕ) (s : GraphState) (a : Name) (p : Pas
   row_decides StoreConstant sized fits h loads hand n = ap Some (promised head c s.graph p.thread p k StoreConstant w fits.belongs n h)
   row_decides IdleLook sized fits h loads hand n = ap Some (promised head c s.graph p.thread p k IdleLook w fits.belongs n h)
   row_decides _ sized fits h loads hand n = absurd cc
-
-  pub row_shows : (row : FieldRow) → IsSized c.threads s.graph → FitsAt c p k row → ShownAt head s.graph p.thread k row w
-      → s.loads p.thread ≡ row_loading (extent c) k row → InHandAt s a p.thread k row → is_deciding k row w ≡ true
-      → ShowsAt (after row) p.thread k (row_got (extent c) p k row w) (answer s.graph p.thread k)
-  row_shows row sized fits h loads hand n = due_shows (after row) p.thread k (row_got (extent c) p k row w) (answer s.graph p.thread k)
-      (row_decides row sized fits h loads hand n)
 
 module _ (c : Config) (m : ℕ) (K : Name → Type 0) (at : Name → ℕ → ℕ) (few : c.blocks ≤ 65535) (low : m ≤ c.blocks) (s : GraphState) (follows : Follows c.width c.threads m K at s) (h : Heap)
     (a : Name) (p : Pass) (k : Command) (row : FieldRow) (w : ℕ) where

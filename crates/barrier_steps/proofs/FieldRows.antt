@@ -145,8 +145,7 @@ swap_takes _ is = absurd cc
 
 pub taken_register : (k : Command) → takes_field k ≡ true → answered_register k ≡ to_register k
 taken_register (Get d s i) is = refl
-taken_register (Swap s i v) is = refl
-taken_register _ is = absurd cc
+taken_register _ is = cc
 
 constant_held : (c : Config) (k : Command) → IsCommandInRange k → IsHeldWord c (constant_word k)
 constant_held c (Set d v) h = held c (payloads.Int v) h.1 (omega (arith, target-number v))

@@ -1,7 +1,6 @@
 pub mod Common
 pub mod Decisions
 pub mod FieldRows
-pub mod Outcomes
 pub mod Projecting
 pub mod Showing
 pub mod Dues

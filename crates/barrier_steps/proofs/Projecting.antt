@@ -15,9 +15,8 @@ use Rattle.barrier_steps.specs.declared.rows.Wanted.TheVariants as wants
 use Rattle.barrier_steps.specs.declared.rows.FieldStore.TheVariants.{Moved, Pending, InField, Exchanged, Compared}
 use Rattle.barrier_steps.specs.Rows as rows
 use Rattle.barrier_steps.proofs.FieldRows.{to_low, from_low, other_low, expected_low, way_is, payload_cases, reference, get_takes, swap_takes, taken_register}
-use Rattle.barrier_steps.proofs.Decisions.{before_is, barrier_is, field_is, either}
+use Rattle.barrier_steps.proofs.Decisions.{before_is, barrier_is, field_is, either, graph_is, object_refused, shape_refused, Has, get_is, put_is, swap_is, cas_is, constant_is, mov_is, same_step_is, say_is, idle_is}
 use Rattle.barrier_steps.specs.Projection.{carried_load, expected_load, value_load, pending_load}
-use Rattle.barrier_steps.proofs.Outcomes.{graph_is, object_refused, shape_refused, Has, get_is, put_is, swap_is, cas_is, constant_is, mov_is, same_step_is, say_is, idle_is}
 
 -- marking writes neither owner nor shape nor payload
 marking_words : (h : Heap) (t n cycle : ℕ) (r : GreyRow) → block_words (heap_after h (marking.row_want t n cycle r)) ≡ block_words h

@@ -22,7 +22,7 @@ use Rattle.barrier_steps.specs.Rows as rows
 use Rattle.barrier_steps.specs.Replies.{RefersTo}
 use Rattle.barrier_steps.proofs.FieldRows.{to_low, from_low, other_low, expected_low, wanted_low, way_is, link_low, field_low, IsHeldWord, place_at}
 use Rattle.barrier_steps.proofs.Projecting.{payload_read, cas_expects}
-use Rattle.barrier_steps.proofs.Outcomes.{kind_length}
+use Rattle.barrier_steps.proofs.Decisions.{kind_length}
 
 -- what stands in the blocks of an object's shape is what stands in those of the object
 same_part : (c : Config) (k : ObjectKind) (n o j : ℕ) → shape_part c.width (kind_shape k n) o j ≡ layout_part c.width k n o j
