@@ -1,4 +1,5 @@
--- The names that several proofs of this crate cite, passed on from one place. Declares nothing.
+-- The names of other modules that the proofs of this crate cite, passed on from one place. Declares
+-- nothing.
 pub use Rattle.barrier_steps.specs.Deciding.{refers, length_decides, register_decides, is_deciding}
 pub use Rattle.barrier_steps.specs.Fits.{is_row_of, FitsAt, IsThread, IsWalk, IsThere, IsBarrier, is_store_of, StoreFits, is_wanted_by, FieldFits, ReadsAt, FieldReads, IsLoaded, WantedFits, RowFits}
 pub use Rattle.barrier_steps.specs.Operands.{from_register, other_register, field_index, to_register, answered_register, is_say, takes_field, constant_word, is_get, goes_to_field, is_swap, is_cas, answers_value, stores_in_field, expected_register, is_put, looks_at_object, sets_constant, is_mov, is_same, is_idle, or_zero, reads_in}

@@ -1,7 +1,7 @@
 -- What a row owes as its reply: from the deciding event on the answer of the step, by what the events
 -- read and as the value of a register of the graph, and that stays until it is given.
 use Rattle.std.proofs.Common.{◌≡◌, ℕ, Bool, true, cond, Some, refl, sym, ap, ◌∙◌, subst, inl, inr, eqb, eq-eqb, eqb-true, ◌<◌, false, length, ◌||◌, ◌≤◌, None}
-use Rattle.barrier_steps.proofs.Common.{cases_Bool, cases_eq, ne_eqb, Config, Name, Payload, Value, payload_of, payload_code, target, extent, Command, Reply, IsCommandInRange, Graph, object_of, register_of, with_register, with_field, step, same_value, swapped, Pass, FieldRow, from_register, other_register, field_index, to_register, answered_register, is_say, takes_field, payload_or_nil, payload_in, row_got, field_reply, after_field, after_said, field_decided, is_row_of, FitsAt, is_deciding, answer, IsWordOf, ShownAt, Promises, NameShown, ShowsAt, due_at, KnownAt, REGISTERS, heads, GraphState, value_in, Follows, row_loading, row_event, after_event, InHandAt, IsAt, Heap, mutator_at, LoadRegister, LoadShape, LoadField, LoadOwner, Shade, Store, StoreConstant, IdleLook, Answered, Moved, Pending, InField, Exchanged, Compared, object_or_nil, object_in, IsSized, Object, Second, Shown, Say, payloads, false_from_ne_true, payload_reads}
+use Rattle.barrier_steps.proofs.Common.{cases_Bool, cases_eq, ne_eqb, Config, Name, Payload, Value, payload_of, payload_code, target, extent, Command, Reply, IsCommandInRange, Graph, register_of, with_register, with_field, step, same_value, swapped, Pass, FieldRow, from_register, other_register, field_index, to_register, answered_register, is_say, takes_field, payload_or_nil, payload_in, row_got, field_reply, after_field, after_said, field_decided, is_row_of, FitsAt, is_deciding, answer, IsWordOf, ShownAt, Promises, NameShown, ShowsAt, due_at, KnownAt, heads, GraphState, value_in, Follows, row_loading, row_event, after_event, InHandAt, IsAt, Heap, mutator_at, LoadRegister, LoadShape, LoadField, LoadOwner, Shade, Store, StoreConstant, IdleLook, Answered, Moved, Pending, InField, Exchanged, Compared, object_or_nil, object_in, IsSized, Object, Second, Shown, Say, payloads, false_from_ne_true, payload_reads}
 use Rattle.block_store.specs.declared.Payload.TheVariants as payloads
 use Rattle.block_store.specs.declared.Value.TheVariants as values
 use Rattle.never_heap.specs.declared.Reply.TheVariants as replies
@@ -69,17 +69,14 @@ module _ (head : Name → ℕ) where
   given _ q reply e p = absurd cc
 
   module _ (c : Config) (g : Graph) (t : ℕ) (p : Pass) (k : Command) where
-    answers : (x : Graph × Reply) → step g t k ≡ x → answer g t k ≡ x.1
-    answers x e = answer_is g t k x e
-
     -- a refusal is answered
     refused : (row : FieldRow) → Refused g row (step g t k) → Promises head row (answer g t k)
-    refused row r = subst (λ x. Promises head x (answer g t k)) (sym r.1) (sym (answers _ r.2))
+    refused row r = subst (λ x. Promises head x (answer g t k)) (sym r.1) (sym (answer_is g t k _ r.2))
 
     -- and so is the value of a field
     field_promised : (w : ℕ) (a : Name) (after : Graph) → step g t k ≡ (after, replies.Val (value_there g k a))
         → IsWordOf head (value_there g k a) w → Promises head (after_field w (payload_in w)) (answer g t k)
-    field_promised w a after e h = subst (Promises head (after_field w (payload_in w))) (sym (answers _ e))
+    field_promised w a after e h = subst (Promises head (after_field w (payload_in w))) (sym (answer_is g t k _ e))
         (value_cases (λ q u. Promises head (after_field w q) (replies.Val u)) w (value_there g k a) h refl (λ n. refl)
         (λ a to. record { name = a; says = refl; block = to }))
 
@@ -88,18 +85,18 @@ module _ (head : Name → ℕ) where
     promised (LoadRegister Object) w is n h = refused _ (object_refused head g t w k is h n)
     promised (LoadRegister (Second word)) w is n h =
         ap (λ y. cond y replies.Yes replies.No) (same_words (register_of g t (from_register k)) (register_of g t (other_register k)) word w h.first h.second h.apart)
-        ∙ sym (answers _ (same_step_is g t k is))
-    promised (LoadRegister Shown) w is n h = subst (Promises head (after_said w (payload_in w))) (sym (answers _ (say_is g t k is)))
+        ∙ sym (answer_is g t k _ (same_step_is g t k is))
+    promised (LoadRegister Shown) w is n h = subst (Promises head (after_said w (payload_in w))) (sym (answer_is g t k _ (say_is g t k is)))
         (value_cases (λ q u. Promises head (after_said w q) (replies.Val u)) w (register_of g t (from_register k)) h refl (λ n. refl)
         (λ a to. record { name = a; says = refl; block = to }))
     promised (LoadShape x) w is n h = refused _ (shape_refused c p g t x w k is h n)
     promised (LoadField way) w is n h = field_promised w h.0.name _ (get_is g t k h.0.name is (h.0.refers, h.0.within)) h.1
-    promised (Store (Moved word)) w is n h = sym (answers _ (mov_is g t k is))
-    promised (Store (InField way word)) w is n h = sym (answers _ (put_is g t k h.name is (h.refers, h.within)))
+    promised (Store (Moved word)) w is n h = sym (answer_is g t k _ (mov_is g t k is))
+    promised (Store (InField way word)) w is n h = sym (answer_is g t k _ (put_is g t k h.name is (h.refers, h.within)))
     promised (Store (Exchanged way word)) w is n h = field_promised w h.0.name _ (swap_is g t k h.0.name is (h.0.refers, h.0.within)) h.1
-    promised (Store (Compared way word)) w is n h = sym (answers _ (cas_is g t k h.0.name (eqb w way.expected) is (h.0.refers, h.0.within) h.1))
-    promised StoreConstant w is n h = sym (answers _ (constant_is g t k is))
-    promised IdleLook w is n h = sym (answers _ (idle_is g t k is))
+    promised (Store (Compared way word)) w is n h = sym (answer_is g t k _ (cas_is g t k h.0.name (eqb w way.expected) is (h.0.refers, h.0.within) h.1))
+    promised StoreConstant w is n h = sym (answer_is g t k _ (constant_is g t k is))
+    promised IdleLook w is n h = sym (answer_is g t k _ (idle_is g t k is))
     promised _ w is n h = absurd cc
 
 -- which register the answer is of
@@ -149,21 +146,6 @@ module _ (g : Graph) (t : ℕ) (k : Command) where
   still_due c p (Answered given) w reply d due known shown = (due, tt)
   still_due c p _ w reply d due known shown = absurd cc
 
--- a register that was stored has the value
-stored : (n : ℕ) (g : Graph) (t d : ℕ) (v : Value) → IsSized n g → t < n → d < REGISTERS → register_of (with_register g t d v) t d ≡ v
-stored n g t d v sized tn dl =
-    let threads : t < length g.mutators = subst (λ x. t < x) (sym sized.threads) tn in
-    let sixteen : d < length (mutator_at g t).registers = subst (λ x. d < x) (sym (sized.sixteen t tn)) dl in
-    register_with_register g t d t d v threads sixteen ∙ rw (eq-eqb t t refl, eq-eqb d d refl) refl
-
--- a store in a field leaves the threads and how many registers each has
-sized_put : (n : ℕ) (g : Graph) (a : Name) (i : ℕ) (v : Value) → IsSized n g
-    → i < length (object_of g a).fields → IsSized n (with_field g a i v)
-sized_put n g a i v sized there = record {
-  threads = threads_with_field g a i v (has_field g a i there) ∙ sized.threads;
-  sixteen = λ t tn. ap length (registers_with_field g a i v (has_field g a i there) t) ∙ sized.sixteen t tn;
-}
-
 -- at the deciding event the step's answer falls due
 module _ (c : Config) (head : Name → ℕ) (s : GraphState) (a : Name) (p : Pass) (k : Command) (w : ℕ) where
   abbrev pub after : FieldRow → Graph
@@ -181,8 +163,14 @@ module _ (c : Config) (head : Name → ℕ) (s : GraphState) (a : Name) (p : Pas
       → Due (with_register g p.thread (to_register k) (value_there s.graph k a)) (after_field w (payload_in w))
   field_due g e sized low range takes =
       let to = with_register g p.thread (to_register k) (value_there s.graph k a) in
+      let threads : p.thread < length g.mutators = subst (λ x. p.thread < x) (sym sized.threads) low in
+      let sixteen : to_register k < length (mutator_at g p.thread).registers =
+          subst (λ x. to_register k < x) (sym (sized.sixteen p.thread low)) (to_low k range) in
+      let is : register_of to p.thread (to_register k) ≡ value_there s.graph k a =
+          register_with_register g p.thread (to_register k) p.thread (to_register k) _ threads sixteen
+          ∙ rw (eq-eqb p.thread p.thread refl, eq-eqb (to_register k) (to_register k) refl) refl in
       let says : replies.Val (register_of to p.thread (to_register k)) ≡ answer s.graph p.thread k =
-          ap replies.Val (stored c.threads g p.thread (to_register k) (value_there s.graph k a) sized low (to_low k range)) ∙ sym (answer_is s.graph p.thread k _ e) in
+          ap replies.Val is ∙ sym (answer_is s.graph p.thread k _ e) in
       field_is (Due to) w (payload_in w) (λ v. ap Some says)
       (ap Some (ap (λ r. replies.Val (register_of to p.thread r)) (taken_register k takes) ∙ says))
 
@@ -207,12 +195,16 @@ module _ (c : Config) (head : Name → ℕ) (s : GraphState) (a : Name) (p : Pas
       let i = field_index k in
       let x = register_of s.graph p.thread (to_register k) in
       let has = within s.graph p.thread k a h.0 hand in
+      let there = has_field s.graph a i has.1 in
       let swaps = swap_register k fits.belongs in
       subst (λ d. Due (swapped s.graph p.thread a i d) (after_field w (payload_in w)))
       (sym (ap (λ l. (value_in l.value).origin) loads ∙ swaps))
       (field_due (with_field s.graph a i x)
       (swap_is s.graph p.thread k a fits.belongs has ∙ ap (λ d. (swapped s.graph p.thread a i d, replies.Val (value_there s.graph k a))) swaps)
-      (sized_put c.threads s.graph a i x sized has.1) fits.thread.thread fits.command (swap_takes k fits.belongs))
+      (record {
+        threads = threads_with_field s.graph a i x there ∙ sized.threads;
+        sixteen = λ t tn. ap length (registers_with_field s.graph a i x there t) ∙ sized.sixteen t tn;
+      }) fits.thread.thread fits.command (swap_takes k fits.belongs))
   row_decides (Store (Pending word value)) sized fits h loads hand n = absurd cc
   row_decides (Store store) sized fits h loads hand n = ap Some (promised head c s.graph p.thread p k (Store store) w fits.belongs n h)
   row_decides StoreConstant sized fits h loads hand n = ap Some (promised head c s.graph p.thread p k StoreConstant w fits.belongs n h)

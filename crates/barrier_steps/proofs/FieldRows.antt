@@ -1,8 +1,8 @@
 -- The registers that a command in range names are in range, payloads and shapes are read of their
 -- words, and the way to a field leads to it. What holds of the rows: their places are in range, and
 -- a row that fits becomes one that fits.
-use Rattle.std.proofs.Common.{◌≡◌, ◌≢◌, ℕ, ◌<◌, ◌≤◌, ◌+◌, true, false, ◌||◌, cond, IsSome, is_some, arith, refl, sym, subst, ap, ◌∙◌, inl, inr, leb, zero, suc, ◌-◌, ◌^◌, ◌/◌, ◌%◌, Option, None, Some, List, [], ◌∷◌, length, get_or, ltb, ltb-true, ltb-false}
-use Rattle.barrier_steps.proofs.Common.{cases_Bool, lt-ltb, Config, REGISTERS, Payload, Shape, target, payload_of, payload_code, payload-code, target-number, target-nil, extent, PayloadOf, register_block, register_slot, payloads, IsShape, Command, IsCommandInRange, place_of, Pass, FieldRow, Wanted, GreyRow, is_shading, block_stays, FieldStore, Way, to_register, answered_register, field_index, constant_word, is_get, is_say, goes_to_field, is_swap, is_cas, takes_field, stores_in_field, shape_length, links_to, FieldState, register_place, payload_in, shape_in, stored_word, shaded_for, before_store, at_first_row, register_wanted, row_want, row_got, field_got, after_object, after_field, after_said, on_way, way_from, way_on, IsThread, IsWalk, IsThere, IsBarrier, is_store_of, StoreFits, is_row_of, FitsAt, FieldFits, ReadsAt, FieldReads, le-leb, IsPayload, in_range, is_block, IsBlock, registers_end, Fits, StoresHeld, LoadRegister, LoadShape, LoadLink, LoadField, LoadOwner, Shade, Store, StoreConstant, Moved, Pending, InField, Exchanged, Compared, object_in, IsLoaded, RowFits, Swap, Cas, Get, Set, New, Copied, Object, Expected, Stored, First, Second, Shown, from_register, other_register, expected_register, payload_or_nil, shape_or_empty, shape_of, Width, Extent, shape_part, link_at, field_at, ordinal_at, or_zero, reads_in, TakeOwn, ShadeStored, PutOwn, Shaded, marking_got, payload_reads, refers, shades, or_right}
+use Rattle.std.proofs.Common.{◌≡◌, ◌≢◌, ℕ, ◌<◌, ◌≤◌, ◌+◌, true, false, ◌||◌, cond, IsSome, is_some, arith, refl, sym, subst, ap, ◌∙◌, leb, zero, suc, ◌-◌, ◌^◌, ◌/◌, ◌%◌, Option, None, Some, List, [], ◌∷◌, length, get_or, ltb, ltb-true, ltb-false}
+use Rattle.barrier_steps.proofs.Common.{lt-ltb, Config, REGISTERS, Payload, Shape, target, payload_of, payload_code, payload-code, target-number, target-nil, extent, PayloadOf, register_block, register_slot, payloads, IsShape, Command, IsCommandInRange, place_of, Pass, FieldRow, Wanted, GreyRow, is_shading, block_stays, FieldStore, Way, to_register, answered_register, field_index, constant_word, is_get, is_say, goes_to_field, is_swap, is_cas, takes_field, stores_in_field, shape_length, links_to, FieldState, register_place, payload_in, shape_in, stored_word, shaded_for, before_store, at_first_row, register_wanted, row_want, row_got, field_got, after_object, after_field, after_said, on_way, way_from, way_on, IsThread, IsWalk, IsThere, IsBarrier, is_store_of, StoreFits, is_row_of, FitsAt, FieldFits, ReadsAt, FieldReads, le-leb, IsPayload, in_range, is_block, IsBlock, registers_end, Fits, StoresHeld, LoadRegister, LoadShape, LoadLink, LoadField, LoadOwner, Shade, Store, StoreConstant, Moved, Pending, InField, Exchanged, Compared, object_in, IsLoaded, RowFits, Swap, Cas, Get, Set, New, Copied, Object, Expected, Stored, First, Second, Shown, from_register, other_register, expected_register, payload_or_nil, shape_or_empty, shape_of, Width, Extent, shape_part, link_at, field_at, ordinal_at, or_zero, reads_in, TakeOwn, ShadeStored, PutOwn, Shaded, marking_got, payload_reads, refers, shades, or_right, false_from_ne_true}
 use Rattle.block_store.specs.declared.Payload.TheVariants as payloads
 use Rattle.block_store.proofs.Registers.{wide, in_array, root_end, register_some, slot_low}
 use Rattle.grey_steps.proofs.Ranges as ranges
@@ -151,13 +151,6 @@ constant_held : (c : Config) (k : Command) → IsCommandInRange k → IsHeldWord
 constant_held c (Set d v) h = held c (payloads.Int v) h.1 (omega (arith, target-number v))
 constant_held c _ h = held c payloads.Nil tt (omega (arith, target-nil))
 
--- what is shaded before a store is a block, and the phase is Mark
-pub is_shaded : (p : Pass) (word : ℕ) → shaded_for p word ≢ 0 → (p.sweep ≡ false) × (shaded_for p word ≡ target word)
-is_shaded p word ne = elim (cases_Bool p.sweep) [
-  | inl e ↦ absurd (ne (ap (λ b. cond b 0 (target word)) e))
-  | inr e ↦ (e, ap (λ b. cond b 0 (target word)) e)
-]
-
 -- a row that shades a block is one of a barrier
 pub barrier_shades : (c : Config) (p : Pass) (r : GreyRow) (store : FieldStore) → IsBarrier c p r (stored_word store) → is_shading r ≡ true
 barrier_shades c p (TakeOwn y) store is = refl
@@ -209,15 +202,16 @@ module _ (c : Config) (p : Pass) (k : Command) where
     before_fits : (store : FieldStore) → is_store_of k store ≡ true → StoreFits c k store → Good (before_store p store)
     before_fits store of fits = before_is Good p store (λ _. (of, fits))
         (λ ne.
-        let is = is_shaded p (stored_word store) ne in
-        let refers : target (stored_word store) ≢ 0 = subst (λ y. y ≢ 0) is.1 ne in
+        let mark : p.sweep ≡ false = false_from_ne_true p.sweep (λ e. ne (ap (λ b. cond b 0 (target (stored_word store))) e)) in
+        let is : shaded_for p (stored_word store) ≡ target (stored_word store) = ap (λ b. cond b 0 (target (stored_word store))) mark in
+        let refers : target (stored_word store) ≢ 0 = subst (λ y. y ≢ 0) is ne in
         let few : p.threads ≤ 16 = subst (λ n. n ≤ 16) (sym threads) thread.few in
         let low : p.thread < p.threads = subst (λ n. p.thread < n) (sym threads) thread.thread in
-        let block : IsBlock c (shaded_for p (stored_word store)) = subst (IsBlock c) (sym is.1) (target_block c (stored_word store) (store_loaded store fits) refers) in
+        let block : IsBlock c (shaded_for p (stored_word store)) = subst (IsBlock c) (sym is) (target_block c (stored_word store) (store_loaded store fits) refers) in
         let barrier : IsBarrier c p (TakeOwn (shaded_for p (stored_word store))) (stored_word store) = record {
-          mark = is.0;
+          mark = mark;
           refers = refers;
-          stores = is.1;
+          stores = is;
           fits = ranges.shade_fits c p (shaded_for p (stored_word store)) threads few blocks low block;
         } in
         (of, (barrier, fits)))
