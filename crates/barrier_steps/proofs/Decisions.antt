@@ -161,9 +161,6 @@ module _ (m : ℕ) (p : Pass) where
     goes_on (Store (Compared way word)) w = (refl, λ _. either (λ r. MakesNone (Answered r)) (eqb w way.expected) replies.Yes replies.No (λ n e. cc) (λ n e. cc))
     goes_on _ w = (refl, λ going n e. cc)
 
-pub decided_after : (c : Config) (p : Pass) (k : Command) (row : FieldRow) (w : ℕ) → field_decided (row_got (extent c) p k row w) ≡ (field_decided row || is_deciding k row w)
-decided_after c p k row w = (goes_on 0 p (extent c) k row w).0
-
 pub makes_none : (c : Config) (p : Pass) (k : Command) (row : FieldRow) (w : ℕ)
     → field_reply row ≡ None → MakesNone (row_got (extent c) p k row w)
 makes_none c p k row w = (goes_on 0 p (extent c) k row w).1

@@ -7,7 +7,7 @@ use Rattle.block_store.specs.declared.Value.TheVariants as values
 use Rattle.never_heap.specs.declared.Reply.TheVariants as replies
 use Rattle.never_heap.proofs.GraphMoves.{same_from, register_with_register}
 use Rattle.shown_graph.proofs.Names.{same_is}
-use Rattle.barrier_steps.proofs.Decisions.{Refused, value_there, answer_is, object_refused, shape_refused, get_is, put_is, swap_is, cas_is, constant_is, mov_is, same_step_is, say_is, idle_is, field_is, before_is, barrier_is, after_owner_is, decided_after, decided_once}
+use Rattle.barrier_steps.proofs.Decisions.{Refused, value_there, answer_is, object_refused, shape_refused, get_is, put_is, swap_is, cas_is, constant_is, mov_is, same_step_is, say_is, idle_is, field_is, before_is, barrier_is, after_owner_is, goes_on, decided_once}
 use Rattle.shown_graph.specs.Read.{value_payload}
 use Rattle.barrier_steps.proofs.FieldRows.{to_low, get_takes, swap_takes, taken_register}
 use Rattle.barrier_steps.proofs.Projecting.{swap_register, within, register_leaves, graph_stays}
@@ -165,12 +165,12 @@ module _ (c : Config) (head : Name → ℕ) (s : GraphState) (a : Name) (p : Pas
       let to = with_register g p.thread (to_register k) (value_there s.graph k a) in
       let threads : p.thread < length g.mutators = subst (λ x. p.thread < x) (sym sized.threads) low in
       let sixteen : to_register k < length (mutator_at g p.thread).registers =
-          subst (λ x. to_register k < x) (sym (sized.sixteen p.thread low)) (to_low k range) in
+      subst (λ x. to_register k < x) (sym (sized.sixteen p.thread low)) (to_low k range) in
       let is : register_of to p.thread (to_register k) ≡ value_there s.graph k a =
-          register_with_register g p.thread (to_register k) p.thread (to_register k) _ threads sixteen
-          ∙ rw (eq-eqb p.thread p.thread refl, eq-eqb (to_register k) (to_register k) refl) refl in
+      register_with_register g p.thread (to_register k) p.thread (to_register k) _ threads sixteen
+      ∙ rw (eq-eqb p.thread p.thread refl, eq-eqb (to_register k) (to_register k) refl) refl in
       let says : replies.Val (register_of to p.thread (to_register k)) ≡ answer s.graph p.thread k =
-          ap replies.Val is ∙ sym (answer_is s.graph p.thread k _ e) in
+      ap replies.Val is ∙ sym (answer_is s.graph p.thread k _ e) in
       field_is (Due to) w (payload_in w) (λ v. ap Some says)
       (ap Some (ap (λ r. replies.Val (register_of to p.thread r)) (taken_register k takes) ∙ says))
 
@@ -233,11 +233,14 @@ module _ (c : Config) (m : ℕ) (K : Name → Type 0) (at : Name → ℕ → ℕ
       | inl n ↦
           let shown = row_shown c m K at few low s follows h p k row w fits is in
           let due = row_decides c (heads at) s a p k w row follows.shows.sized fits shown is.loads hand n in
-          subst (λ b. IsDue b on) (sym n) (due, knows on p.thread k (heads at) (row_got (extent c) p k row w) (answer s.graph p.thread k)
-          (promised (heads at) c s.graph p.thread p k row w fits.belongs n shown) due)
+          subst (λ b. IsDue b on) (sym n) (
+            due,
+            knows on p.thread k (heads at) (row_got (extent c) p k row w) (answer s.graph p.thread k)
+                (promised (heads at) c s.graph p.thread p k row w fits.belongs n shown) due,
+          )
       | inr n ↦
           let still : (field_decided row || is_deciding k row w) ≡ false = rw (u, n) refl in
-          let out = none_due on p.thread k (row_got (extent c) p k row w) (decided_after c p k row w ∙ still) in
+          let out = none_due on p.thread k (row_got (extent c) p k row w) ((goes_on 0 p (extent c) k row w).0 ∙ still) in
           subst (λ b. IsDue b on) (sym n) (out.0 ∙ sym (none_due s.graph p.thread k row u).0, out.1)
     ]
   ]

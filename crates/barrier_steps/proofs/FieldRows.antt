@@ -248,7 +248,7 @@ module _ (c : Config) (p : Pass) (k : Command) where
         (λ x to some. (or_right (takes_field k) (is_say k) is, (loaded c w r.0, reference x w to some)))
     row_fits (LoadShape x) w is h r =
         let walk : field_index k < shape_length (shape_in w) → IsWalk c (field_index k) (way_from (shape_in w) x) =
-            λ less. record { shape = shape_fits w r.0; index = less; level = omega arith; block = h } in
+        λ less. record { shape = shape_fits w r.0; index = less; level = omega arith; block = h } in
         after_shape_is Good (extent c) p k x (shape_in w) (λ _. (refl, tt)) (λ less is. (is, (walk less, refl)))
         (λ less is. (is, (walk less, refl)))
         (λ less is. way_fits (way_from (shape_in w) x) 0 ((goes_to k).0 is) (walk less)

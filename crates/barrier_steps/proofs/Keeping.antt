@@ -103,7 +103,7 @@ field_nothing : (m : ℕ) (p : Pass) (w : ℕ) → IsSome (payload_of w)
     → row_holding m p (after_field w (payload_in w)) ≡ holds_nothing
 field_nothing m p w some =
     let none : target w ≡ 0 → held_before_store p w ≡ holds_nothing =
-        λ is. ap (λ y. record holds_nothing { shaded = y }) (either (λ y. y ≡ 0) p.sweep 0 (target w) refl is) in
+    λ is. ap (λ y. record holds_nothing { shaded = y }) (either (λ y. y ≡ 0) p.sweep 0 (target w) refl is) in
     payload_cases w some (λ q. row_holding m p (after_field w q) ≡ holds_nothing) none (λ v is low. none is) (λ x to some. refl)
 
 -- at its end a barrier holds that its block was shaded

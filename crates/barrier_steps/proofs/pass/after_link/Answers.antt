@@ -1,6 +1,5 @@
 use Rattle.std.proofs.Common.{arith}
-use Rattle.block_store.specs.Places.{extent}
-use Rattle.barrier_steps.specs.Operands.{field_index}
+use Rattle.barrier_steps.proofs.Common.{extent, field_index}
 use Rattle.barrier_steps.proofs.FieldRows.{links_few}
 use Rattle.barrier_steps.proofs.pass.after_link.Goals as goal
 
