@@ -1,7 +1,7 @@
 -- The names of other modules that the proofs of this crate cite, passed on from one place. Declares
 -- nothing.
 pub use Rattle.barrier_steps.specs.Deciding.{refers, length_decides, register_decides, is_deciding}
-pub use Rattle.barrier_steps.specs.Fits.{is_row_of, FitsAt, IsThread, IsWalk, IsThere, IsBarrier, is_store_of, StoreFits, is_wanted_by, FieldFits, ReadsAt, FieldReads, IsLoaded, WantedFits, RowFits}
+pub use Rattle.barrier_steps.specs.Fits.{is_row_of, FitsAt, IsThread, IsWalk, IsThere, IsBarrier, is_store_of, StoreFits, is_wanted_by, FieldFits, ReadsAt, FieldReads, IsLoaded, RowFits}
 pub use Rattle.barrier_steps.specs.Operands.{from_register, other_register, field_index, to_register, answered_register, is_say, takes_field, constant_word, is_get, goes_to_field, is_swap, is_cas, answers_value, stores_in_field, expected_register, is_put, looks_at_object, sets_constant, is_mov, is_same, is_idle, or_zero, reads_in}
 pub use Rattle.barrier_steps.specs.Projection.{row_loading, row_event, after_event, InHandAt, IsAt, store_loading, wanted_loading, register_event, store_event, constant_set, walk_load, object_on, object_load}
 pub use Rattle.barrier_steps.specs.Replies.{answer, IsWordOf, ShownAt, Promises, NameShown, ShowsAt, due_at, KnownAt, graph_after, ShapeShown, FieldFound}
@@ -34,11 +34,11 @@ pub use Rattle.block_store.specs.declared.Value.{Value}
 pub use Rattle.block_store.specs.declared.Width.{Width}
 pub use Rattle.grey_steps.proofs.Ends.{block_stays, shading_goes_on}
 pub use Rattle.grey_steps.specs.Ends.{is_shading, block_stored}
-pub use Rattle.grey_steps.specs.Rows.{grey_over, grey_holding, row_want as marking_want, row_got as marking_got}
+pub use Rattle.grey_steps.specs.Rows.{grey_over, grey_holding, row_got as marking_got}
 pub use Rattle.grey_steps.specs.declared.rows.GreyRow.{GreyRow}
 pub use Rattle.grey_steps.specs.declared.rows.GreyRow.TheVariants.{TakeOwn, ShadeStored, PutOwn, Shaded}
 pub use Rattle.heap_machine.specs.Holdings.{holds_nothing, sweep_held, Holding, grey_held, tricolour_held, free_held}
-pub use Rattle.heap_machine.specs.Operations.{place_of, heap_after, CompareExchange, Exchange, Fits}
+pub use Rattle.heap_machine.specs.Operations.{place_of, heap_after, Exchange, Fits}
 pub use Rattle.heap_machine.specs.Readings.{CanHold, IsHeld, StoresHeld}
 pub use Rattle.heap_machine.specs.Solid.{NotFree}
 pub use Rattle.heap_machine.specs.declared.pass.Pass.{Pass}
@@ -52,4 +52,4 @@ pub use Rattle.shown_graph.specs.Events.{GraphState, value_in, Follows, ValueLoa
 pub use Rattle.shown_graph.specs.Layouts.{shape_part, kind_shape}
 pub use Rattle.shown_graph.specs.Shown.{heads, IsSized}
 pub use Rattle.shown_graph.specs.Words.{block_words, value_word}
-pub use Rattle.std.proofs.lemmas.Bool.{cases_Bool, cases_eq, ne_eqb, cases_lt, lt-ltb, le-ltb, le-leb, eqb-false, or_right, false_from_ne_true, not-true}
+pub use Rattle.std.proofs.lemmas.Bool.{cases_Bool, cases_eq, ne_eqb, lt-ltb, le-leb, eqb-false, or_right, false_from_ne_true, not-true}

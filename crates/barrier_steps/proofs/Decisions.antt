@@ -2,7 +2,7 @@
 -- its deciding event, and over once it has its reply. And what the step of a command is, where the
 -- graph is what its deciding event reads.
 use Rattle.std.proofs.Common.{◌≡◌, ◌≢◌, ℕ, ◌<◌, Bool, true, false, ◌||◌, not, cond, None, Some, IsSome, ltb, ltb-true, eqb, eqb-true, refl, arith, ap, length, sym, ◌∙◌, subst}
-use Rattle.barrier_steps.proofs.Common.{eqb-false, Config, Payload, Shape, Extent, extent, holds_nothing, Command, Name, Value, Reply, target, Width, FieldRow, Wanted, Pass, GreyRow, grey_over, FieldStore, Way, shape_length, links_to, payload_in, shape_in, object_in, stored_word, shaded_for, is_taken, before_store, in_barrier, first_row, row_got, field_reply, field_decided, after_object, after_shape, after_field, after_said, after_owner, after_register, at_block, on_way, way_from, way_on, row_holding, refers, length_decides, register_decides, is_deciding, blocks_of, to_register, answered_register, field_index, is_get, is_put, is_swap, is_cas, is_say, goes_to_field, takes_field, answers_value, stores_in_field, TakeOwn, LoadRegister, LoadShape, LoadLink, LoadField, LoadOwner, Shade, Store, Answered, Moved, Pending, InField, Exchanged, Compared, Copied, Object, Expected, Stored, Second, Shown, New, Arr, Get, Put, Swap, Cas, Say, answer, payloads, shades, lt-ltb, Graph, ObjectKind, Record, Array, object_of, field_of, register_of, with_register, with_field, step, swapped, same_value, kind_shape, from_register, other_register, looks_at_object, expected_register, payload_or_nil, shape_or_empty, graph_after, IsWordOf, ShapeShown, constant_set, at_object, at_field, sets_constant, is_mov, is_same, is_idle, not-true, Set, Mov, Len, Same, Idle}
+use Rattle.barrier_steps.proofs.Common.{eqb-false, Config, Payload, Shape, Extent, extent, holds_nothing, Command, Name, Value, Reply, target, Width, FieldRow, Wanted, Pass, GreyRow, grey_over, FieldStore, Way, shape_length, links_to, payload_in, shape_in, object_in, stored_word, shaded_for, is_taken, before_store, in_barrier, first_row, row_got, field_reply, field_decided, after_object, after_shape, after_field, after_said, after_owner, after_register, at_block, on_way, way_from, way_on, row_holding, refers, length_decides, register_decides, is_deciding, blocks_of, to_register, answered_register, field_index, is_get, is_put, is_swap, is_cas, is_say, goes_to_field, takes_field, answers_value, stores_in_field, TakeOwn, LoadRegister, LoadShape, LoadLink, LoadField, LoadOwner, Shade, Store, Answered, Moved, Pending, InField, Exchanged, Compared, Copied, Object, Expected, Stored, Second, Shown, New, Arr, Get, Put, Swap, Cas, Say, answer, shades, lt-ltb, Graph, ObjectKind, Record, Array, object_of, field_of, register_of, with_register, with_field, step, swapped, same_value, kind_shape, from_register, other_register, looks_at_object, expected_register, payload_or_nil, shape_or_empty, graph_after, IsWordOf, ShapeShown, constant_set, at_object, at_field, sets_constant, is_mov, is_same, is_idle, not-true, Set, Mov, Len, Same, Idle}
 use Rattle.block_store.specs.declared.Payload.TheVariants as payloads
 use Rattle.block_store.specs.declared.Value.TheVariants as values
 use Rattle.never_heap.specs.declared.Reply.TheVariants as replies

@@ -1,7 +1,7 @@
 -- What a row owes as its reply: from the deciding event on the answer of the step, by what the events
 -- read and as the value of a register of the graph, and that stays until it is given.
 use Rattle.std.proofs.Common.{◌≡◌, ℕ, Bool, true, cond, Some, refl, sym, ap, ◌∙◌, subst, inl, inr, eqb, eq-eqb, eqb-true, ◌<◌, false, length, ◌||◌, ◌≤◌, None}
-use Rattle.barrier_steps.proofs.Common.{cases_Bool, cases_eq, ne_eqb, Config, Name, Payload, Value, payload_of, payload_code, target, extent, Command, Reply, IsCommandInRange, Graph, register_of, with_register, with_field, step, same_value, swapped, Pass, FieldRow, from_register, other_register, field_index, to_register, answered_register, is_say, takes_field, payload_or_nil, payload_in, row_got, field_reply, after_field, after_said, field_decided, is_row_of, FitsAt, is_deciding, answer, IsWordOf, ShownAt, Promises, NameShown, ShowsAt, due_at, KnownAt, heads, GraphState, value_in, Follows, row_loading, row_event, after_event, InHandAt, IsAt, Heap, mutator_at, LoadRegister, LoadShape, LoadField, LoadOwner, Shade, Store, StoreConstant, IdleLook, Answered, Moved, Pending, InField, Exchanged, Compared, object_or_nil, object_in, IsSized, Object, Second, Shown, Say, payloads, false_from_ne_true, payload_reads}
+use Rattle.barrier_steps.proofs.Common.{cases_Bool, cases_eq, ne_eqb, Config, Name, Payload, Value, payload_of, payload_code, target, extent, Command, Reply, IsCommandInRange, Graph, register_of, with_register, with_field, step, same_value, swapped, Pass, FieldRow, from_register, other_register, field_index, to_register, answered_register, is_say, takes_field, payload_or_nil, payload_in, row_got, field_reply, after_field, after_said, field_decided, is_row_of, FitsAt, is_deciding, answer, IsWordOf, ShownAt, Promises, NameShown, ShowsAt, due_at, KnownAt, heads, GraphState, value_in, Follows, row_loading, row_event, after_event, InHandAt, IsAt, Heap, mutator_at, LoadRegister, LoadShape, LoadField, LoadOwner, Shade, Store, StoreConstant, IdleLook, Answered, Moved, Pending, InField, Exchanged, Compared, object_or_nil, object_in, IsSized, Object, Second, Shown, Say, false_from_ne_true, payload_reads}
 use Rattle.block_store.specs.declared.Payload.TheVariants as payloads
 use Rattle.block_store.specs.declared.Value.TheVariants as values
 use Rattle.never_heap.specs.declared.Reply.TheVariants as replies

@@ -1,8 +1,8 @@
 -- The registers that a command in range names are in range, payloads and shapes are read of their
 -- words, and the way to a field leads to it. What holds of the rows: their places are in range, and
 -- a row that fits becomes one that fits.
-use Rattle.std.proofs.Common.{◌≡◌, ◌≢◌, ℕ, ◌<◌, ◌≤◌, ◌+◌, true, false, ◌||◌, cond, IsSome, is_some, arith, refl, sym, subst, ap, ◌∙◌, leb, zero, suc, ◌-◌, ◌^◌, ◌/◌, ◌%◌, Option, None, Some, List, [], ◌∷◌, length, get_or, ltb, ltb-true, ltb-false}
-use Rattle.barrier_steps.proofs.Common.{lt-ltb, Config, REGISTERS, Payload, Shape, target, payload_of, payload_code, payload-code, target-number, target-nil, extent, PayloadOf, register_block, register_slot, payloads, IsShape, Command, IsCommandInRange, place_of, Pass, FieldRow, Wanted, GreyRow, is_shading, block_stays, FieldStore, Way, to_register, answered_register, field_index, constant_word, is_get, is_say, goes_to_field, is_swap, is_cas, takes_field, stores_in_field, shape_length, links_to, FieldState, register_place, payload_in, shape_in, stored_word, shaded_for, before_store, at_first_row, register_wanted, row_want, row_got, field_got, after_object, after_field, after_said, on_way, way_from, way_on, IsThread, IsWalk, IsThere, IsBarrier, is_store_of, StoreFits, is_row_of, FitsAt, FieldFits, ReadsAt, FieldReads, le-leb, IsPayload, in_range, is_block, IsBlock, registers_end, Fits, StoresHeld, LoadRegister, LoadShape, LoadLink, LoadField, LoadOwner, Shade, Store, StoreConstant, Moved, Pending, InField, Exchanged, Compared, object_in, IsLoaded, RowFits, Swap, Cas, Get, Set, New, Copied, Object, Expected, Stored, First, Second, Shown, from_register, other_register, expected_register, payload_or_nil, shape_or_empty, shape_of, Width, Extent, shape_part, link_at, field_at, ordinal_at, or_zero, reads_in, TakeOwn, ShadeStored, PutOwn, Shaded, marking_got, payload_reads, refers, shades, or_right, false_from_ne_true}
+use Rattle.std.proofs.Common.{◌≡◌, ◌≢◌, ℕ, ◌<◌, ◌≤◌, ◌+◌, true, false, cond, IsSome, is_some, arith, refl, sym, subst, ap, ◌∙◌, leb, zero, suc, ◌-◌, ◌^◌, ◌/◌, ◌%◌, Option, None, Some, List, [], ◌∷◌, length, get_or, ltb, ltb-true, ltb-false}
+use Rattle.barrier_steps.proofs.Common.{lt-ltb, Config, REGISTERS, Payload, Shape, target, payload_of, payload_code, payload-code, target-number, target-nil, extent, PayloadOf, register_block, register_slot, payloads, IsShape, Command, IsCommandInRange, place_of, Pass, FieldRow, Wanted, GreyRow, is_shading, block_stays, FieldStore, Way, to_register, answered_register, field_index, constant_word, is_get, is_say, goes_to_field, is_swap, is_cas, takes_field, stores_in_field, shape_length, links_to, FieldState, register_place, payload_in, shape_in, stored_word, shaded_for, before_store, at_first_row, register_wanted, row_want, row_got, field_got, after_object, after_field, after_said, on_way, way_from, way_on, IsThread, IsWalk, IsThere, IsBarrier, is_store_of, StoreFits, is_row_of, FitsAt, FieldFits, ReadsAt, FieldReads, le-leb, IsPayload, in_range, is_block, IsBlock, registers_end, Fits, StoresHeld, LoadRegister, LoadShape, LoadLink, LoadField, LoadOwner, Shade, Store, StoreConstant, Moved, Pending, InField, Exchanged, Compared, object_in, IsLoaded, RowFits, Swap, Cas, Get, Set, New, Copied, Object, Expected, Stored, First, Second, Shown, from_register, other_register, expected_register, payload_or_nil, shape_or_empty, shape_of, Width, Extent, shape_part, link_at, field_at, ordinal_at, or_zero, reads_in, TakeOwn, ShadeStored, PutOwn, Shaded, marking_got, payload_reads, or_right, false_from_ne_true}
 use Rattle.block_store.specs.declared.Payload.TheVariants as payloads
 use Rattle.block_store.proofs.Registers.{wide, in_array, root_end, register_some, slot_low}
 use Rattle.grey_steps.proofs.Ranges as ranges

@@ -1,7 +1,7 @@
 -- Each event of a command keeps all that a heap keeps in either phase, and leaves the phase, the
 -- cursor and the grey blocks as they are.
 use Rattle.std.proofs.Common.{◌≡◌, ℕ, true, false, eqb, refl, sym, ap, ◌∙◌, eqb-true, ◌<◌, cond, IsSome, subst}
-use Rattle.barrier_steps.proofs.Common.{Config, white_word, Heap, put_at, extent, Phase, ColourOf, PayloadOf, Extent, payloads, Command, holds_nothing, heap_after, place_of, Pass, GreyRow, is_shading, block_stored, grey_over, FieldRow, FitsAt, FieldFits, ReadsAt, FieldReads, FieldState, shades, row_want, field_want, row_holding, payload_in, shape_in, at_first_row, stored_word, field_place, way_on, after_field, row_got, word_stored, field_got, field_reply, changed, payload_of, target, is_sweep, cycle_of, changed_map, changed_self, target-number, target-nil, IsHeld, NotFree, block_stays, constant_word, is_grey, Cursor, sweep_held, Holding, grey_held, tricolour_held, free_held, Exchange, grey_holding, Shade, Store, LoadRegister, LoadShape, LoadLink, LoadField, LoadOwner, StoreConstant, Answered, Compared, Exchanged, field_holding, object_in, held_before_store, shading_goes_on, Set, New, ShadeStored, marking_got, refers}
+use Rattle.barrier_steps.proofs.Common.{Config, white_word, Heap, put_at, extent, Phase, ColourOf, PayloadOf, Extent, payloads, Command, holds_nothing, heap_after, place_of, Pass, GreyRow, is_shading, block_stored, grey_over, FieldRow, FitsAt, FieldFits, ReadsAt, FieldReads, FieldState, shades, row_want, field_want, row_holding, payload_in, shape_in, at_first_row, stored_word, field_place, way_on, after_field, row_got, word_stored, field_got, field_reply, changed, payload_of, target, is_sweep, cycle_of, changed_map, changed_self, target-number, target-nil, IsHeld, NotFree, block_stays, constant_word, is_grey, Cursor, sweep_held, Holding, grey_held, tricolour_held, free_held, Exchange, grey_holding, Shade, Store, LoadRegister, LoadShape, LoadLink, LoadField, LoadOwner, StoreConstant, Answered, Compared, Exchanged, field_holding, object_in, held_before_store, shading_goes_on, Set, New, ShadeStored, marking_got}
 use Rattle.block_store.proofs.ColourWords.{not_grey_white}
 use Rattle.heap_machine.specs.Sweeping.{no_claim}
 use Rattle.grey_steps.specs.declared.rows.GreyRow.TheVariants as greys
