@@ -14,7 +14,7 @@ use Rattle.barrier_steps.specs.declared.rows.FieldRow.TheVariants.{LoadRegister,
 use Rattle.barrier_steps.specs.declared.rows.Wanted.TheVariants as wants
 use Rattle.barrier_steps.specs.declared.rows.FieldStore.TheVariants.{Moved, Pending, InField, Exchanged, Compared}
 use Rattle.barrier_steps.specs.Rows as rows
-use Rattle.barrier_steps.proofs.Named.{to_low, from_low, other_low, expected_low, way_is, payload_cases}
+use Rattle.barrier_steps.proofs.Named.{to_low, from_low, wanted_low, way_is, payload_cases}
 use Rattle.barrier_steps.proofs.Stores.{before_is, barrier_is, field_is, either}
 use Rattle.barrier_steps.proofs.FieldRows.{reference, get_takes, swap_takes, taken_register}
 use Rattle.barrier_steps.specs.Projection.{carried_load, expected_load, value_load, pending_load}
@@ -28,21 +28,15 @@ marking_words h t n cycle (greys.ShadeStored y a) =
     either (λ (q : Heap). block_words q ≡ block_words h) (eqb (h (ColourOf y)) (white_word cycle)) _ _ refl refl
 marking_words h t n cycle _ = refl
 
-constant_is_word : (k : Command) → value_word (λ b. 0) (constant_set k) ≡ constant_word k
-constant_is_word (commands.Set d v) = refl
-constant_is_word _ = refl
-
-constant_low : (k : Command) → IsCommandInRange k → IsConstant (constant_set k)
-constant_low (commands.Set d v) h = h.1
-constant_low _ h = tt
+set_constant : (k : Command) → (value_word (λ b. 0) (constant_set k) ≡ constant_word k) × (IsCommandInRange k → IsConstant (constant_set k))
+set_constant (commands.Set d v) = (refl, λ h. h.1)
+set_constant _ = (refl, λ h. tt)
 
 -- what a command that stores in a field has loaded is its value, and what `cas` has loaded is the
 -- one with which it compares
 stores_carries : (k : Command) (w : ℕ) → stores_in_field k ≡ true → carried_load k w ≡ value_load (other_register k) w
 stores_carries (commands.Put s i v) w is = refl
-stores_carries (commands.Swap s i v) w is = refl
-stores_carries (commands.Cas s i a v) w is = refl
-stores_carries _ w is = absurd cc
+stores_carries _ w is = cc
 
 pub cas_expects : (k : Command) (w : ℕ) → is_cas k ≡ true → expected_load k w ≡ value_load (expected_register k) w
 cas_expects (commands.Cas s i a v) w is = refl
@@ -95,8 +89,7 @@ block_loading c p _ way word = refl
 
 way_loading : (c : Config) (p : Pass) (k : Command) (way : Way) (word : ℕ) → loading c p k (on_way (extent c) p k way word) ≡ on_its_way c p k way word
 way_loading c p k way word = either (λ row. loading c p k row ≡ on_its_way c p k way word)
-    (ltb way.level (links_to (extent c) way.shape (field_index k))) (LoadLink way word)
-    (at_block p k way word) refl (block_loading c p k way word)
+    (ltb way.level (links_to (extent c) way.shape (field_index k))) _ _ refl (block_loading c p k way word)
 
 -- no load changes where the row has the same
 pub unmoved : (ls : ℕ → Loading) (t : ℕ) (l : Loading) (u : ℕ) → ls t ≡ l → ls u ≡ with_load ls t l u
@@ -104,6 +97,10 @@ unmoved ls t l u e = elim (cases_eq t u) [
   | inl same ↦ rw (eq-eqb t u same) (ap ls (sym same) ∙ e)
   | inr ne ↦ rw (ne_eqb t u ne) refl
 ]
+
+both : (P : Bool → Type 0) (b : Bool) → P true → P false → P b
+both P true x y = x
+both P false x y = y
 
 -- what is loaded is there
 has_object : (s : GraphState) (t : ℕ) (o : ObjectLoad) → (s.loads t).object ≡ Some o → HasObject s t
@@ -130,12 +127,6 @@ module _ (c : Config) (s : GraphState) (t : ℕ) where
   register_leaves k wants.Shown w = either Leaves (refers (payload_in w)) _ _ (refl, refl) (refl, refl)
   register_leaves k _ w = (refl, refl)
 
-  shape_leaves : (b : Bool) (f : Shape) → Leaves (cond b (Some (events.Finish t)) (Some (events.ReadShape t f)))
-  shape_leaves b f = either Leaves b _ _ (refl, refl) (refl, refl)
-
-  owner_leaves : (b : Bool) → Leaves (cond b None (Some (events.Finish t)))
-  owner_leaves b = either Leaves b _ _ (refl, refl) (refl, refl)
-
   -- behind it the thread has loaded l
   abbrev LoadsTo : Loading → ℕ → Option Event → Type 0
   LoadsTo l u o = (after_event (extent c) s o).loads u ≡ with_load s.loads t l u
@@ -148,26 +139,23 @@ module _ (c : Config) (s : GraphState) (t : ℕ) where
 
   -- the shape of an object, whose way begins, where an index is tried
   index_moved : (p : Pass) (k : Command) (x u i : ℕ) (f : Shape) (row : FieldRow) → s.loads t ≡ pair (object_load (from_register k) x) None
-      → (i < shape_length f → loading c p k row ≡ pair (walk_load (extent c) (from_register k) i (way_from f x)) None)
+      → loading c p k row ≡ pair (walk_load (extent c) (from_register k) i (way_from f x)) None
       → LoadsTo (loading c p k (cond (ltb i (shape_length f)) row (Answered replies.Range))) u (cond (not (ltb i (shape_length f))) (Some (events.Finish t)) (Some (events.ReadShape t f)))
   index_moved p k x u i f row loads goes = elim (cases_Bool (ltb i (shape_length f))) [
-    | inl is ↦
-        let within = ltb-true i (shape_length f) is in
-        rw is ((λ j. with_load s.loads t (record (loads j) { object = Some (record (object_in (loads j).object) { shape = Some f }) }) u)
+    | inl is ↦ rw is ((λ j. with_load s.loads t (record (loads j) { object = Some (record (object_in (loads j).object) { shape = Some f }) }) u)
         ∙ ap (λ o. with_load s.loads t (pair (Some (record { source = from_register k; block = x; ordinal = o; shape = Some f })) None) u)
-        (sym (way_is c f i within).starts)
-        ∙ ap (λ y. with_load s.loads t y u) (sym (goes within)))
+        (sym (way_is c f i (ltb-true i (shape_length f) is)).starts)
+        ∙ ap (λ y. with_load s.loads t y u) (sym goes))
     | inr is ↦ rw is refl
   ]
 
-  shape_moved : (p : Pass) (k : Command) (x u : ℕ) (f : Shape) → looks_at_object k ≡ true → s.loads t ≡ pair (object_load (from_register k) x) None
+  shape_moved : (p : Pass) (k : Command) (x u : ℕ) (f : Shape) → s.loads t ≡ pair (object_load (from_register k) x) None
       → LoadsTo (loading c p k (after_shape (extent c) p k x f)) u (cond (length_decides k (shape_length f)) (Some (events.Finish t)) (Some (events.ReadShape t f)))
-  shape_moved p (commands.Get d r i) x u f looks loads = index_moved p (commands.Get d r i) x u i f _ loads (λ less. way_loading c p (commands.Get d r i) (way_from f x) 0)
-  shape_moved p (commands.Put r i v) x u f looks loads = index_moved p (commands.Put r i v) x u i f _ loads (λ less. refl)
-  shape_moved p (commands.Swap r i v) x u f looks loads = index_moved p (commands.Swap r i v) x u i f _ loads (λ less. refl)
-  shape_moved p (commands.Cas r i q v) x u f looks loads = index_moved p (commands.Cas r i q v) x u i f _ loads (λ less. refl)
-  shape_moved p (commands.Len r) x u f looks loads = refl
-  shape_moved p _ x u f looks loads = absurd cc
+  shape_moved p (commands.Get d r i) x u f loads = index_moved p (commands.Get d r i) x u i f _ loads (way_loading c p (commands.Get d r i) (way_from f x) 0)
+  shape_moved p (commands.Put r i v) x u f loads = index_moved p (commands.Put r i v) x u i f _ loads refl
+  shape_moved p (commands.Swap r i v) x u f loads = index_moved p (commands.Swap r i v) x u i f _ loads refl
+  shape_moved p (commands.Cas r i q v) x u f loads = index_moved p (commands.Cas r i q v) x u i f _ loads refl
+  shape_moved p _ x u f loads = refl
 
   -- after a link the thread is at the next block of the way
   link_moved : (p : Pass) (k : Command) (w u : ℕ) (way : Way) (word : ℕ) → s.loads t ≡ on_its_way c p k way word
@@ -228,16 +216,11 @@ module _ (c : Config) (s : GraphState) (t : ℕ) where
   register_guarded k (wants.Second word) w tn range some loads read = (tn, prompt _ loads refl)
   register_guarded k wants.Shown w tn range some loads read =
       either MayCome (refers (payload_in w)) _ _ (tn, from_low k range, prompt unloaded loads refl) tt
-  register_guarded k (wants.Stored way) w tn range some loads read = (tn, other_low k range, prompt _ loads refl)
-  register_guarded k (wants.Expected way) w tn range some loads read = (tn, expected_low k range, prompt _ loads refl)
-  register_guarded k _ w tn range some loads read = (tn, from_low k range, prompt unloaded loads refl)
+  register_guarded k wanted w tn range some loads read = (tn, wanted_low k wanted range, prompt _ loads refl)
 
-  owner_guarded : (k : Command) (word : ℕ) → t < c.threads → answers_value k ≡ true → s.loads t ≡ row_loading (extent c) k (LoadOwner word)
-      → MayCome (cond (takes_field k) None (Some (events.Finish t)))
-  owner_guarded (commands.Say r) word tn is loads = (tn, prompt _ loads refl)
-  owner_guarded (commands.Get d r i) word tn is loads = tt
-  owner_guarded (commands.Swap r i v) word tn is loads = tt
-  owner_guarded _ word tn is loads = absurd cc
+  owner_guarded : (b : Bool) → t < c.threads → (value_at s t).pending ≡ b → MayCome (cond b None (Some (events.Finish t)))
+  owner_guarded true tn is = tt
+  owner_guarded false tn is = (tn, is)
 
   -- at a link or a field of its way
   module _ (r i : ℕ) (way : Way) (loads : (s.loads t).object ≡ walk_load (extent c) r i way) (is : IsWalk c i way) where
@@ -287,20 +270,17 @@ module _ (c : Config) (s : GraphState) (a : Name) (p : Pass) (k : Command) where
   -- an event that does not decide leaves the graph
   pub graph_stays : (row : FieldRow) (w : ℕ) → is_deciding k row w ≡ false → graph (row_event (extent c) a p.thread k row w) ≡ s.graph
   graph_stays (LoadRegister wanted) w n = (register_leaves c s p.thread k wanted w).1
-  graph_stays (LoadShape x) w n = (shape_leaves c s p.thread (length_decides k (shape_length (shape_in w))) (shape_in w)).1
-  graph_stays (LoadOwner word) w n = (owner_leaves c s p.thread (takes_field k)).1
-  graph_stays (LoadLink way word) w n = refl
-  graph_stays (Shade r store) w n = refl
+  graph_stays (LoadShape x) w n = either (λ o. graph o ≡ s.graph) (length_decides k (shape_length (shape_in w))) _ _ refl refl
+  graph_stays (LoadOwner word) w n = either (λ o. graph o ≡ s.graph) (takes_field k) _ _ refl refl
   graph_stays (Store (Pending word value)) w n = refl
-  graph_stays (Answered reply) w n = refl
-  graph_stays _ w n = absurd cc
+  graph_stays _ w n = cc
 
   module _ (head : Name → ℕ) where
     -- the deciding event makes the step
     steps : (x : Graph × Reply) → step s.graph p.thread k ≡ x → x.0 ≡ graph_after s.graph p.thread k
     steps x e = sym (graph_is s.graph p.thread k x e)
 
-    store_steps : (store : FieldStore) (w : ℕ) → is_store_of k store ≡ true → is_taken store ≡ false → ShownAt head s.graph p.thread k (Store store) w
+    store_steps : (store : FieldStore) (w : ℕ) → is_store_of k store ≡ true → not (is_taken store) ≡ true → ShownAt head s.graph p.thread k (Store store) w
         → s.loads p.thread ≡ store_loading (extent c) k store → InHandAt s a p.thread k (Store store)
         → graph (store_event (extent c) a p.thread k store w) ≡ graph_after s.graph p.thread k
     store_steps (Moved word) w is n h loads hand =
@@ -314,15 +294,12 @@ module _ (c : Config) (s : GraphState) (a : Name) (p : Pass) (k : Command) where
         (λ i. swapped s.graph p.thread a (field_index k) (value_in (loads i).value).origin)
         ∙ steps _ (swap_is s.graph p.thread k a is (within s.graph p.thread k a h.0 hand))
     store_steps (Compared way word) w is n h loads hand =
-        compared (eqb w way.expected)
+        both (λ b. graph (cond b (Some (events.StoreField p.thread a (field_index k) (stored_at way))) (Some (events.Finish p.thread)))
+        ≡ cond b (with_field s.graph a (field_index k) (register_of s.graph p.thread (other_register k))) s.graph) (eqb w way.expected)
+        (λ i. with_field s.graph a (field_index k) (register_of s.graph p.thread (value_in (loads i).value).origin)) refl
         ∙ steps _ (cas_is s.graph p.thread k a (eqb w way.expected) is (within s.graph p.thread k a h.0 hand)
         (subst (λ b. eqb w way.expected ≡ same_value (field_of (object_of s.graph b) (field_index k)) (register_of s.graph p.thread (expected_register k)))
         (one_name (register_of s.graph p.thread (from_register k)) h.0.name a h.0.refers hand) h.1))
-      where
-        compared : (b : Bool) → graph (cond b (Some (events.StoreField p.thread a (field_index k) (stored_at way))) (Some (events.Finish p.thread)))
-            ≡ cond b (with_field s.graph a (field_index k) (register_of s.graph p.thread (other_register k))) s.graph
-        compared true = λ i. with_field s.graph a (field_index k) (register_of s.graph p.thread (value_in (loads i).value).origin)
-        compared false = refl
 
     pub graph_steps : (row : FieldRow) (w : ℕ) → is_row_of c p k row ≡ true → is_deciding k row w ≡ true → ShownAt head s.graph p.thread k row w
         → s.loads p.thread ≡ row_loading (extent c) k row → InHandAt s a p.thread k row
@@ -333,14 +310,10 @@ module _ (c : Config) (s : GraphState) (a : Name) (p : Pass) (k : Command) where
     graph_steps (LoadRegister wants.Shown) w is n h loads hand =
         (register_leaves c s p.thread k wants.Shown w).1 ∙ steps _ (say_is s.graph p.thread k is)
     graph_steps (LoadShape x) w is n h loads hand =
-        (shape_leaves c s p.thread (length_decides k (shape_length (shape_in w))) (shape_in w)).1
+        either (λ o. graph o ≡ s.graph) (length_decides k (shape_length (shape_in w))) (Some (events.Finish p.thread)) _ refl refl
         ∙ steps _ (shape_refused c p s.graph p.thread x w k is h n).2
     graph_steps (LoadField way) w is n h loads hand = steps _ (get_is s.graph p.thread k a is (within s.graph p.thread k a h.0 hand))
-    graph_steps (Store store) w is n h loads hand = store_steps store w is (untaken (is_taken store) n) h loads hand
-      where
-        untaken : (b : Bool) → not b ≡ true → b ≡ false
-        untaken true n = absurd cc
-        untaken false n = refl
+    graph_steps (Store store) w is n h loads hand = store_steps store w is n h loads hand
     graph_steps StoreConstant w is n h loads hand = steps _ (constant_is s.graph p.thread k is)
     graph_steps IdleLook w is n h loads hand = steps _ (idle_is s.graph p.thread k is)
     graph_steps _ w is n h loads hand = absurd cc
@@ -366,21 +339,19 @@ module _ (c : Config) (s : GraphState) (a : Name) (p : Pass) (k : Command) where
     store_words (Exchanged way word) w words loads reads =
         λ i. with_payload (words i) (object_in (loads i).object).block (stored_at way) (value_in (loads i).value).word
     store_words (Compared way word) w words loads reads =
-        compared (eqb w way.expected) ∙ ap (λ x. tried way word (eqb x way.expected)) reads
-      where
-        compared : (b : Bool) → WordsAre (tried way word b) (cond b (Some (events.StoreField p.thread a (field_index k) (stored_at way))) (Some (events.Finish p.thread)))
-        compared true = λ i. with_payload (words i) (object_in (loads i).object).block (stored_at way) (value_in (loads i).value).word
-        compared false = words
+        both (λ b. WordsAre (tried way word b) (cond b (Some (events.StoreField p.thread a (field_index k) (stored_at way))) (Some (events.Finish p.thread))))
+        (eqb w way.expected)
+        (λ i. with_payload (words i) (object_in (loads i).object).block (stored_at way) (value_in (loads i).value).word) words
+        ∙ ap (λ x. tried way word (eqb x way.expected)) reads
 
     pub words_moved : (row : FieldRow) (w : ℕ) → IsAt (extent c) s h p k row w
         → WordsAre (block_words (heap_after h (row_want (extent c) p k row))) (row_event (extent c) a p.thread k row w)
     words_moved (LoadRegister wanted) w at = (register_leaves c s p.thread k wanted w).0 ∙ at.words
-    words_moved (LoadShape x) w at =
-        (shape_leaves c s p.thread (length_decides k (shape_length (shape_in w))) (shape_in w)).0 ∙ at.words
-    words_moved (LoadOwner word) w at = (owner_leaves c s p.thread (takes_field k)).0 ∙ at.words
+    words_moved (LoadShape x) w at = either (WordsAre (block_words h)) (length_decides k (shape_length (shape_in w))) _ _ at.words at.words
+    words_moved (LoadOwner word) w at = either (WordsAre (block_words h)) (takes_field k) _ _ at.words at.words
     words_moved (Store store) w at = store_words store w at.words at.loads at.reads
     words_moved StoreConstant w at =
-        λ i. with_payload (at.words i) (register_block c.width p.thread (to_register k)) (register_slot c.width (to_register k)) (constant_is_word k i)
+        λ i. with_payload (at.words i) (register_block c.width p.thread (to_register k)) (register_slot c.width (to_register k)) ((set_constant k).0 i)
     words_moved (Shade r store) w at = at.words ∙ sym (marking_words h p.thread p.threads p.cycle r)
     words_moved _ w at = at.words
 
@@ -429,7 +400,7 @@ module _ (c : Config) (s : GraphState) (a : Name) (p : Pass) (k : Command) where
         → (u : ℕ) → LoadsTo c s p.thread (loading c p k (row_got (extent c) p k row w)) u (row_event (extent c) a p.thread k row w)
     loads_moved (LoadRegister wanted) w fits reads at u =
         register_loads c s p.thread p k wanted w u fits.belongs (reads refl).0.0 at.loads (payload_read s h _ _ w at.words at.reads)
-    loads_moved (LoadShape x) w fits reads at u = shape_moved c s p.thread p k x u (shape_in w) fits.belongs at.loads
+    loads_moved (LoadShape x) w fits reads at u = shape_moved c s p.thread p k x u (shape_in w) at.loads
     loads_moved (LoadLink way word) w fits reads at u = link_moved c s p.thread p k w u way word at.loads (payload_read s h _ _ w at.words at.reads)
     loads_moved (LoadField way) w fits reads at u =
         ap (λ x. with_load s.loads p.thread (pair None (pending_load (to_register k) x)) u) (field_read way w _ at.words at.loads refl at.reads)
@@ -458,9 +429,9 @@ module _ (c : Config) (s : GraphState) (a : Name) (p : Pass) (k : Command) where
       prompt c s p.thread _ at.loads refl,
       at_field c s p.thread (from_register k) (field_index k) way (ap (λ l. l.object) at.loads) fits.row.0 a fits.row.1 hand,
     )
-    row_guarded (LoadOwner word) w fits reads at hand = owner_guarded c s p.thread k word fits.thread.thread fits.belongs at.loads
+    row_guarded (LoadOwner word) w fits reads at hand = owner_guarded c s p.thread (takes_field k) fits.thread.thread (ap (λ l. (value_in l.value).pending) at.loads)
     row_guarded (Store store) w fits reads at hand = store_guarded store w fits.thread.thread fits.command fits.row at.loads hand
     row_guarded StoreConstant w fits reads at hand =
-        (fits.thread.thread, to_low k fits.command, prompt c s p.thread unloaded at.loads refl, constant_low k fits.command)
+        (fits.thread.thread, to_low k fits.command, prompt c s p.thread unloaded at.loads refl, (set_constant k).1 fits.command)
     row_guarded IdleLook w fits reads at hand = (fits.thread.thread, prompt c s p.thread unloaded at.loads refl)
     row_guarded _ w fits reads at hand = tt
