@@ -7,7 +7,9 @@ pub use Rattle.barrier_steps.specs.Replies.{answer, IsWordOf, ShownAt, Promises,
 pub use Rattle.barrier_steps.specs.Rows.{payload_in, shape_in, is_taken, before_store, first_row, row_got, field_reply, field_decided, after_object, after_shape, after_field, after_owner, after_register, after_store, on_way, way_from, way_on, row_holding, payload_or_nil, after_said, FieldState, register_place, stored_word, shaded_for, at_first_row, register_wanted, store_want, row_want, field_got, shades, field_want, field_place, word_stored, shape_or_empty, reads_beside_graph, in_barrier, at_block}
 pub use Rattle.barrier_steps.specs.Walks.{shape_length, links_to, link_at, field_at, ordinal_at}
 pub use Rattle.barrier_steps.specs.declared.rows.FieldRow.{FieldRow}
+pub use Rattle.barrier_steps.specs.declared.rows.FieldRow.TheVariants.{LoadRegister, LoadShape, LoadLink, LoadField, LoadOwner, Shade, Store, StoreConstant, IdleLook, Answered}
 pub use Rattle.barrier_steps.specs.declared.rows.FieldStore.{FieldStore}
+pub use Rattle.barrier_steps.specs.declared.rows.FieldStore.TheVariants.{Moved, Pending, InField, Exchanged, Compared}
 pub use Rattle.barrier_steps.specs.declared.rows.Wanted.{Wanted}
 pub use Rattle.barrier_steps.specs.declared.rows.Way.{Way}
 pub use Rattle.block_store.proofs.Functions.{changed_map, changed_self}

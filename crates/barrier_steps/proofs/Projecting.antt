@@ -1,7 +1,8 @@
 -- A row is its event: the words, what the thread has loaded and the graph are those after it, and it
 -- may come where it does.
 use Rattle.std.proofs.Common.{false, ◌≡◌, ◌≢◌, ℕ, ◌+◌, ◌<◌, true, not, cond, Option, None, Some, IfSome, IsSome, refl, sym, ap, ◌∙◌, subst, inl, inr, ltb, eqb, eq-eqb, ltb-true, Bool, length}
-use Rattle.barrier_steps.proofs.Common.{cases_Bool, cases_eq, ne_eqb, Config, Name, Shape, Value, Heap, put_at, payload_of, target, white_word, extent, ColourOf, PayloadOf, place_of, heap_after, shape_of, Command, Reply, IsCommandInRange, register_of, Graph, object_of, field_of, with_register, with_field, shape_part, register_block, register_slot, block_words, value_word, ValueLoad, Loading, value_in, GraphState, Event, IsPrompt, value_at, Pass, GreyRow, FieldRow, Wanted, FieldStore, Way, to_register, from_register, other_register, field_index, constant_word, expected_register, is_say, is_swap, is_cas, takes_field, answers_value, stores_in_field, shape_length, links_to, link_at, field_at, ordinal_at, payload_in, shape_or_empty, shape_in, register_wanted, field_place, store_want, before_store, in_barrier, row_want, row_got, after_object, after_shape, after_field, after_said, after_owner, after_register, after_store, at_block, on_way, way_from, way_on, reads_beside_graph, is_taken, IsWalk, IsThere, is_store_of, StoreFits, is_wanted_by, FitsAt, ReadsAt, is_row_of, refers, length_decides, is_deciding, store_loading, wanted_loading, row_loading, constant_set, register_event, store_event, row_event, after_event, IsAt, InHandAt, walk_load, object_on, object_load, step, swapped, same_value, graph_after, FieldFound, ShownAt}
+use Rattle.barrier_steps.proofs.Common.{cases_Bool, cases_eq, ne_eqb, Config, Name, Shape, Value, Heap, put_at, payload_of, target, white_word, extent, ColourOf, PayloadOf, place_of, heap_after, shape_of, Command, Reply, IsCommandInRange, register_of, Graph, object_of, field_of, with_register, with_field, shape_part, register_block, register_slot, block_words, value_word, ValueLoad, Loading, value_in, GraphState, Event, IsPrompt, value_at, Pass, GreyRow, FieldRow, Wanted, FieldStore, Way, to_register, from_register, other_register, field_index, constant_word, expected_register, is_say, is_swap, is_cas, takes_field, answers_value, stores_in_field, shape_length, links_to, link_at, field_at, ordinal_at, payload_in, shape_or_empty, shape_in, register_wanted, field_place, store_want, before_store, in_barrier, row_want, row_got, after_object, after_shape, after_field, after_said, after_owner, after_register, after_store, at_block, on_way, way_from, way_on, reads_beside_graph, is_taken, IsWalk, IsThere, is_store_of, StoreFits, is_wanted_by, FitsAt, ReadsAt, is_row_of, refers, length_decides, is_deciding, store_loading, wanted_loading, row_loading, constant_set, register_event, store_event, row_event, after_event, IsAt, InHandAt, walk_load, object_on, object_load, step, swapped, same_value, graph_after, FieldFound, ShownAt, LoadRegister, LoadShape, LoadLink, LoadField, LoadOwner, Shade, Store, StoreConstant, IdleLook, Answered, Moved, Pending, InField, Exchanged, Compared}
+use Rattle.barrier_steps.specs.declared.rows.Wanted.TheVariants as wants
 use Rattle.block_store.specs.declared.Value.TheVariants as values
 use Rattle.never_heap.specs.declared.Command.TheVariants as commands
 use Rattle.never_heap.specs.declared.Reply.TheVariants as replies
@@ -10,9 +11,6 @@ use Rattle.shown_graph.specs.Events as events
 use Rattle.shown_graph.specs.Events.{ObjectLoad, unloaded, object_in, with_load, Guard, HasObject, HasValue, object_at, register_word_in, IsAtField, IsAtLink, IsConstant}
 use Rattle.grey_steps.specs.declared.rows.GreyRow.TheVariants as greys
 use Rattle.grey_steps.specs.Rows as marking
-use Rattle.barrier_steps.specs.declared.rows.FieldRow.TheVariants.{LoadRegister, LoadShape, LoadLink, LoadField, LoadOwner, Shade, Store, StoreConstant, IdleLook, Answered}
-use Rattle.barrier_steps.specs.declared.rows.Wanted.TheVariants as wants
-use Rattle.barrier_steps.specs.declared.rows.FieldStore.TheVariants.{Moved, Pending, InField, Exchanged, Compared}
 use Rattle.barrier_steps.specs.Rows as rows
 use Rattle.barrier_steps.proofs.Named.{to_low, from_low, wanted_low, way_is, payload_cases}
 use Rattle.barrier_steps.proofs.Stores.{before_is, barrier_is, field_is, either}

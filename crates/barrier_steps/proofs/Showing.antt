@@ -1,6 +1,7 @@
 -- Where the words show the graph, a row reads words that its places can hold, and these are what the graph says.
 use Rattle.std.proofs.Common.{◌≡◌, ◌≢◌, ℕ, ◌+◌, ◌<◌, ◌≤◌, Bool, true, false, None, Some, IfSome, IsSome, is_some, eqb, length, refl, sym, ap, ◌∙◌, subst, arith}
-use Rattle.barrier_steps.proofs.Common.{Config, REGISTERS, Name, Value, Heap, payload_of, target, extent, Phase, shape_of, payloads, payload-code, target-number, target-nil, Command, IsCommandInRange, Reply, ObjectKind, Record, Array, object_of, field_of, register_of, kind_shape, shape_part, block_words, value_word, heads, ValueLoad, Loading, GraphState, Follows, Way, Pass, place_of, CanHold, IsHeld, FieldRow, FieldStore, shape_length, links_to, link_at, field_at, ordinal_at, to_register, answered_register, from_register, other_register, field_index, expected_register, register_place, register_wanted, field_place, store_want, row_want, field_reply, reads_beside_graph, IsThread, IsWalk, IsThere, StoreFits, FitsAt, ReadsAt, IsWordOf, ShapeShown, FieldFound, ShownAt, NameShown, ShowsAt, walk_load, object_on, object_load, store_loading, IsAt, Graph}
+use Rattle.barrier_steps.proofs.Common.{Config, REGISTERS, Name, Value, Heap, payload_of, target, extent, Phase, shape_of, payloads, payload-code, target-number, target-nil, Command, IsCommandInRange, Reply, ObjectKind, Record, Array, object_of, field_of, register_of, kind_shape, shape_part, block_words, value_word, heads, ValueLoad, Loading, GraphState, Follows, Way, Pass, place_of, CanHold, IsHeld, FieldRow, FieldStore, shape_length, links_to, link_at, field_at, ordinal_at, to_register, answered_register, from_register, other_register, field_index, expected_register, register_place, register_wanted, field_place, store_want, row_want, field_reply, reads_beside_graph, IsThread, IsWalk, IsThere, StoreFits, FitsAt, ReadsAt, IsWordOf, ShapeShown, FieldFound, ShownAt, NameShown, ShowsAt, walk_load, object_on, object_load, store_loading, IsAt, Graph, LoadRegister, LoadShape, LoadLink, LoadField, LoadOwner, Shade, Store, StoreConstant, IdleLook, Answered, Moved, Pending, InField, Exchanged, Compared}
+use Rattle.barrier_steps.specs.declared.rows.Wanted.TheVariants as wants
 use Rattle.block_store.specs.declared.Payload.TheVariants as payloads
 use Rattle.block_store.specs.declared.Value.TheVariants as values
 use Rattle.block_store.specs.WideOwners.{wide_of}
@@ -15,9 +16,6 @@ use Rattle.shown_graph.specs.Events.{pending_registers, is_pending, object_in, O
 use Rattle.shown_graph.proofs.ObjectLayouts.{object_layout}
 use Rattle.shown_graph.proofs.Reading.{value_read, owner_read, length_read, register_read, blocks_apart, words_tell}
 use Rattle.shown_graph.proofs.Loads.{name_shown}
-use Rattle.barrier_steps.specs.declared.rows.FieldRow.TheVariants.{LoadRegister, LoadShape, LoadLink, LoadField, LoadOwner, Shade, Store, StoreConstant, IdleLook, Answered}
-use Rattle.barrier_steps.specs.declared.rows.Wanted.TheVariants as wants
-use Rattle.barrier_steps.specs.declared.rows.FieldStore.TheVariants.{Moved, Pending, InField, Exchanged, Compared}
 use Rattle.barrier_steps.specs.Rows as rows
 use Rattle.barrier_steps.specs.Replies.{RefersTo}
 use Rattle.barrier_steps.proofs.Named.{to_low, from_low, other_low, expected_low, wanted_low, way_is, link_low, field_low}
