@@ -80,100 +80,6 @@ module _ (c : Config) (s : KeptState) (k : IsKept c s) (entry : Entry) where
   moved (Some x) true guard own may graph =
       decides c s k x entry (guard, may refl, own.0, graph refl)
 
-module _ (c : Config) (g : Graph) (order : List HistoryItem) (h : Heap) (names : Names)
-    (tasks : ℕ → Task) (f : FieldState) (fits : FieldFits c f)
-    (is : tasks f.pass.thread ≡ field_task (extent c) f)
-    (k : IsKept c (picture g order h names tasks)) where
-  abbrev now : KeptState
-  now = picture g order h names tasks
-
-  abbrev t : ℕ
-  t = f.pass.thread
-
-  abbrev w : ℕ
-  w = h (place_of (field_want (extent c) f))
-
-  abbrev next : Task
-  next = field_task (extent c) (field_got (extent c) f w)
-
-  at_row : IsAtRow (extent c) now.seen h f w
-  at_row = record { words = refl; loads = ap (λ (x : Task). x.loading) is; reads = refl }
-
-  shown : Shown (heads names.at) g f w
-  shown = row_shown c c.blocks (Kept now) names.at fits.blocks (omega arith) now.seen k.follows h f.pass
-      f.command f.row w fits at_row
-
-  reads : (reads_beside_graph f.row ≡ true → IsHeld c h) → field_reply f.row ≡ None → FieldReads c f w
-  reads = row_reads c c.blocks (Kept now) names.at fits.blocks (omega arith) now.seen k.follows h f.pass f.command f.row w fits at_row
-
-  hand : (a : Name) × IsInHand now.seen a f
-  hand = in_hand now.seen names.at t f.command f.row w shown
-
-  abbrev event : Option Event
-  event = event_of (extent c) hand.0 f w
-
-  -- the picture with its event, and that of the words and the part after it
-  abbrev went : KeptState
-  went = record now { seen = after_event (extent c) now.seen event; order = order_on g order f w }
-
-  abbrev later : KeptState
-  later = picture (graph_on g f w) (order_on g order f w) (heap_after h (field_want (extent c) f)) names (changed tasks t next)
-
-  graph_is : (after_event (extent c) now.seen event).graph ≡ graph_on g f w
-  graph_is = elim (cases_Bool (is_deciding f.command f.row w)) [
-    | inl d ↦ graph_steps c now.seen hand.0 f.pass f.command (heads names.at) f.row w fits.belongs d shown
-        at_row.loads hand.1 ∙ ap (λ b. cond b (graph_after g t f.command) g) (sym d)
-    | inr d ↦ graph_stays c now.seen hand.0 f.pass f.command f.row w d
-        ∙ ap (λ b. cond b (graph_after g t f.command) g) (sym d)
-  ]
-
-  -- from the deciding event on the step's answer is due
-  pub due_on : IsKnown g f → (reply_due (graph_on g f w) (field_got (extent c) f w)
-      ≡ cond (is_deciding f.command f.row w) (Some (answer g t f.command)) (reply_due g f))
-      × IsKnown (graph_on g f w) (field_got (extent c) f w)
-  due_on known = subst (λ (x : Graph). (reply_due x (field_got (extent c) f w)
-      ≡ cond (is_deciding f.command f.row w) (Some (answer g t f.command)) (reply_due g f))
-      × IsKnown x (field_got (extent c) f w)) graph_is
-      (row_due c c.blocks (Kept now) names.at fits.blocks (omega arith) now.seen k.follows h hand.0 f.pass
-      f.command f.row w fits at_row hand.1 known)
-
-  pub reads_on : IsHeld c h → field_reply f.row ≡ None → FieldReads c f w
-  reads_on held = reads (λ _. held)
-
-  decided : is_deciding f.command f.row w ≡ true → MayDecide c now (entry_on g f)
-  decided d = (fits.thread.thread, subst IsPrompt (sym at_row.loads) ((own_event (extent c) hand.0 t f.command f.row w).1 d), inl refl)
-
-  steps : is_deciding f.command f.row w ≡ true
-      → (after_event (extent c) now.seen event).graph ≡ after g (Did (entry_on g f))
-  steps d = graph_is ∙ ap (λ b. cond b (graph_after g t f.command) g) d
-      ∙ ap (λ b. cond b g (graph_after g t f.command)) (sym (step_not_full g t f.command))
-
-  -- rows that are no part of a barrier
-  module _ (plain : shades f.row ≡ false) (going : field_reply f.row ≡ None) where
-    reads_in : reads_beside_graph f.row ≡ false → FieldReads c f w
-    reads_in within = reads (λ beside. absurd (both_ways (reads_beside_graph f.row) within beside)) going
-
-    is_picture : went ≡ later
-    is_picture = λ i. record now {
-      seen = record {
-        graph = graph_is i;
-        words = words_moved c now.seen hand.0 f.pass f.command h f.row w at_row i;
-        loads = (funext _ _ (loads_moved c now.seen hand.0 f.pass f.command h f.row w fits reads_in at_row)
-            ∙ sym (changed_map (λ (x : Task). x.loading) tasks t next)) i;
-      };
-      order = order_on g order f w;
-      cycle = cycle_of (sym (field_phase c h f) i);
-      sweep = is_sweep (sym (field_phase c h f) i);
-      colour = λ x. sym (row_colour c h x f.pass f.command f.row plain) i;
-      builds = sym (changed_map (λ (x : Task). x.build) tasks t next ∙ changed_self (λ u. (tasks u).build) t None (ap (λ (x : Task). x.build) is)) i;
-      scans = sym (changed_map (λ (x : Task). x.scan) tasks t next ∙ changed_self (λ u. (tasks u).scan) t 0 (ap (λ (x : Task). x.scan) is)) i;
-    }
-
-    pub plain_names : IsKept c later
-    plain_names = subst (λ (s : KeptState). IsKept c s) is_picture (moved c now k (entry_on g f) event (is_deciding f.command f.row w)
-        (row_guarded c now.seen hand.0 f.pass f.command h f.row w fits reads_in at_row hand.1)
-        (own_event (extent c) hand.0 t f.command f.row w).0 decided steps)
-
 -- what is loaded before a store is its word
 store_value : (c : Config) (k : Command) (store : FieldStore)
     → ((store_loading (extent c) k store).value ≡ Some (value_in (store_loading (extent c) k store).value))
@@ -181,13 +87,97 @@ store_value : (c : Config) (k : Command) (store : FieldStore)
 store_value c k (Moved word) = (refl, refl)
 store_value c k _ = (refl, refl)
 
-module _ (c : Config) (g : Graph) (order : List HistoryItem) (h : Heap) (names : Names)
-    (tasks : ℕ → Task) where
-  -- the picture is kept after the event of a row
-  abbrev IsAfter : FieldState → Type 0
-  IsAfter f = let w = h (place_of (field_want (extent c) f)) in
-      IsKept c (picture (graph_on g f w) (order_on g order f w) (heap_after h (field_want (extent c) f)) names
-      (changed tasks f.pass.thread (field_task (extent c) (field_got (extent c) f w))))
+module _ (c : Config) (g : Graph) (order : List HistoryItem) (h : Heap) (names : Names) (tasks : ℕ → Task) where
+  abbrev now : KeptState
+  now = picture g order h names tasks
+
+  -- the picture of the words and the part after the event of a row
+  abbrev later : FieldState → KeptState
+  later f = let w = h (place_of (field_want (extent c) f)) in
+      picture (graph_on g f w) (order_on g order f w) (heap_after h (field_want (extent c) f)) names
+      (changed tasks f.pass.thread (field_task (extent c) (field_got (extent c) f w)))
+
+  module _ (f : FieldState) (fits : FieldFits c f) (is : tasks f.pass.thread ≡ field_task (extent c) f) (k : IsKept c now) where
+    abbrev t : ℕ
+    t = f.pass.thread
+
+    abbrev w : ℕ
+    w = h (place_of (field_want (extent c) f))
+
+    abbrev next : Task
+    next = field_task (extent c) (field_got (extent c) f w)
+
+    at_row : IsAtRow (extent c) now.seen h f w
+    at_row = record { words = refl; loads = ap (λ (x : Task). x.loading) is; reads = refl }
+
+    shown : Shown (heads names.at) g f w
+    shown = row_shown c c.blocks (Kept now) names.at fits.blocks (omega arith) now.seen k.follows h f.pass
+        f.command f.row w fits at_row
+
+    reads : (reads_beside_graph f.row ≡ true → IsHeld c h) → field_reply f.row ≡ None → FieldReads c f w
+    reads = row_reads c c.blocks (Kept now) names.at fits.blocks (omega arith) now.seen k.follows h f.pass f.command f.row w fits at_row
+
+    hand : (a : Name) × IsInHand now.seen a f
+    hand = in_hand now.seen names.at t f.command f.row w shown
+
+    abbrev event : Option Event
+    event = event_of (extent c) hand.0 f w
+
+    -- the picture with its event
+    abbrev went : KeptState
+    went = record now { seen = after_event (extent c) now.seen event; order = order_on g order f w }
+
+    graph_is : (after_event (extent c) now.seen event).graph ≡ graph_on g f w
+    graph_is = elim (cases_Bool (is_deciding f.command f.row w)) [
+      | inl d ↦ rw d (graph_steps c now.seen hand.0 f.pass f.command (heads names.at) f.row w fits.belongs d shown at_row.loads hand.1)
+      | inr d ↦ rw d (graph_stays c now.seen hand.0 f.pass f.command f.row w d)
+    ]
+
+    -- from the deciding event on the step's answer is due
+    abbrev IsDueOn : Graph → Type 0
+    IsDueOn x = (reply_due x (field_got (extent c) f w) ≡ cond (is_deciding f.command f.row w) (Some (answer g t f.command)) (reply_due g f))
+        × IsKnown x (field_got (extent c) f w)
+
+    pub due_on : IsKnown g f → IsDueOn (graph_on g f w)
+    due_on known = subst IsDueOn graph_is (row_due c c.blocks (Kept now) names.at fits.blocks (omega arith) now.seen k.follows h hand.0 f.pass
+        f.command f.row w fits at_row hand.1 known)
+
+    pub reads_on : IsHeld c h → field_reply f.row ≡ None → FieldReads c f w
+    reads_on held = reads (λ _. held)
+
+    decided : is_deciding f.command f.row w ≡ true → MayDecide c now (entry_on g f)
+    decided d = (fits.thread.thread, subst IsPrompt (sym at_row.loads) ((own_event (extent c) hand.0 t f.command f.row w).1 d), inl refl)
+
+    steps : is_deciding f.command f.row w ≡ true
+        → (after_event (extent c) now.seen event).graph ≡ after g (Did (entry_on g f))
+    steps d = graph_is ∙ ap (λ b. cond b (graph_after g t f.command) g) d
+        ∙ ap (λ b. cond b g (graph_after g t f.command)) (sym (step_not_full g t f.command))
+
+    -- rows that are no part of a barrier
+    module _ (plain : shades f.row ≡ false) (going : field_reply f.row ≡ None) where
+      reads_in : reads_beside_graph f.row ≡ false → FieldReads c f w
+      reads_in within = reads (λ beside. absurd (both_ways (reads_beside_graph f.row) within beside)) going
+
+      is_picture : went ≡ later f
+      is_picture = λ i. record now {
+        seen = record {
+          graph = graph_is i;
+          words = words_moved c now.seen hand.0 f.pass f.command h f.row w at_row i;
+          loads = (funext _ _ (loads_moved c now.seen hand.0 f.pass f.command h f.row w fits reads_in at_row)
+              ∙ sym (changed_map (λ (x : Task). x.loading) tasks t next)) i;
+        };
+        order = order_on g order f w;
+        cycle = cycle_of (sym (field_phase c h f) i);
+        sweep = is_sweep (sym (field_phase c h f) i);
+        colour = λ x. sym (row_colour c h x f.pass f.command f.row plain) i;
+        builds = sym (changed_map (λ (x : Task). x.build) tasks t next ∙ changed_self (λ u. (tasks u).build) t None (ap (λ (x : Task). x.build) is)) i;
+        scans = sym (changed_map (λ (x : Task). x.scan) tasks t next ∙ changed_self (λ u. (tasks u).scan) t 0 (ap (λ (x : Task). x.scan) is)) i;
+      }
+
+      pub plain_names : IsKept c (later f)
+      plain_names = subst (λ (s : KeptState). IsKept c s) is_picture (moved c now k (entry_on g f) event (is_deciding f.command f.row w)
+          (row_guarded c now.seen hand.0 f.pass f.command h f.row w fits reads_in at_row hand.1)
+          (own_event (extent c) hand.0 t f.command f.row w).0 decided steps)
 
   abbrev at : Pass → Command → FieldRow → FieldState
   at p k row = record { pass = p; command = k; row = row }
@@ -195,14 +185,14 @@ module _ (c : Config) (g : Graph) (order : List HistoryItem) (h : Heap) (names :
   -- a row of the barrier
   shade_names : (p : Pass) (k : Command) (row : FieldRow) → shades row ≡ true → FitsAt c p k row
       → is_sweep (h Phase) ≡ p.sweep → cycle_of (h Phase) ≡ p.cycle → tasks p.thread ≡ field_task (extent c) (at p k row)
-      → IsKept c (picture g order h names tasks) → IsAfter (at p k row)
+      → IsKept c now → IsKept c (later (at p k row))
   shade_names p k (Shade r store) part fits sweep cycle is kept =
       let b = fits.row.0 in
       subst (λ (ts : ℕ → Task). IsKept c (picture g order (heap_after h (row_want (extent c) p k (Shade r store))) names ts))
       (sym (changed_self tasks p.thread _ (is ∙ ap (λ (l : Loading). task_of l) (sym (barrier_loading c p k _ store)))))
       (shading_keeps_names c g order h names tasks (record { pass = p; row = r }) b.fits (sweep ∙ b.mark) cycle
       (barrier_shades c p r store b)
-      (has_value (picture g order h names tasks).seen p.thread _ (ap (λ (x : Task). x.loading.value) is ∙ (store_value c k store).0))
+      (has_value now.seen p.thread _ (ap (λ (x : Task). x.loading.value) is ∙ (store_value c k store).0))
       (ap (λ (x : Task). target (value_in x.loading.value).word) is ∙ ap target (store_value c k store).1 ∙ sym b.stores) kept)
     where
       task_of : Loading → Task
@@ -211,32 +201,24 @@ module _ (c : Config) (g : Graph) (order : List HistoryItem) (h : Heap) (names :
 
   pub keeps_names : (f : FieldState) → FieldFits c f → field_reply f.row ≡ None
       → is_sweep (h Phase) ≡ f.pass.sweep → cycle_of (h Phase) ≡ f.pass.cycle
-      → tasks f.pass.thread ≡ field_task (extent c) f
-      → IsKept c (picture g order h names tasks) → IsAfter f
+      → tasks f.pass.thread ≡ field_task (extent c) f → IsKept c now → IsKept c (later f)
   keeps_names f fits going sweep cycle is kept = elim (cases_Bool (shades f.row)) [
     | inl part ↦ shade_names f.pass f.command f.row part fits sweep cycle is kept
-    | inr plain ↦ plain_names c g order h names tasks f fits is kept plain going
+    | inr plain ↦ plain_names f fits is kept plain going
   ]
 
--- what is loaded is of a kept name, and its block is not Free
-value_solid : (c : Config) (s : KeptState) → IsKept c s → (t : ℕ) (v : ValueLoad) → t < c.threads
-    → (s.seen.loads t).value ≡ Some v → NotFree s.colour (target v.word)
-value_solid c s k t v low is some =
-    let word : loaded_word s t ≡ v.word = ap (λ o. (value_in o).word) is in
-    let block = loaded_kept c s k t low (has_value s.seen t v is) (λ none. some (sym (ap target word) ∙ none)) in
-    ap (λ y. is_free (s.colour y)) (sym (ap target word) ∙ block.is)
-    ∙ k.painted.solid block.name block.ordinal block.kept block.low
-
-pub loaded_solid : (c : Config) (g : Graph) (order : List HistoryItem) (h : Heap) (names : Names)
-    (tasks : ℕ → Task) (f : FieldState) → FieldFits c f
-    → tasks f.pass.thread ≡ field_task (extent c) f
-    → IsKept c (picture g order h names tasks)
-    → NotFree (λ x. h (ColourOf x)) (target (word_stored f.row))
-loaded_solid c g order h names tasks f fits is k = go f.row (ap (λ (x : Task). x.loading) is)
-  where
-    go : (row : FieldRow) → (tasks f.pass.thread).loading ≡ row_loading (extent c) f.command row
-        → NotFree (λ x. h (ColourOf x)) (target (word_stored row))
-    go (Store store) e = subst (λ x. NotFree (λ y. h (ColourOf y)) (target x)) (store_value c f.command store).1
-        (value_solid c (picture g order h names tasks) k f.pass.thread (value_in (store_loading (extent c) f.command store).value) fits.thread.thread
-        (ap (λ (l : Loading). l.value) e ∙ (store_value c f.command store).0))
-    go _ e = λ some. absurd (some target-nil)
+  -- what is loaded is of a kept name, and its block is not Free
+  pub loaded_solid : (f : FieldState) → FieldFits c f → tasks f.pass.thread ≡ field_task (extent c) f
+      → IsKept c now → NotFree (λ x. h (ColourOf x)) (target (word_stored f.row))
+  loaded_solid f fits is k = go f.row (ap (λ (x : Task). x.loading) is)
+    where
+      go : (row : FieldRow) → (tasks f.pass.thread).loading ≡ row_loading (extent c) f.command row
+          → NotFree (λ x. h (ColourOf x)) (target (word_stored row))
+      go (Store store) e = λ some.
+          let value = ap (λ (l : Loading). l.value) e ∙ (store_value c f.command store).0 in
+          let word : loaded_word now f.pass.thread ≡ stored_word store = ap (λ o. (value_in o).word) value ∙ (store_value c f.command store).1 in
+          let block = loaded_kept c now k f.pass.thread fits.thread.thread (has_value now.seen f.pass.thread _ value)
+          (λ none. some (sym (ap target word) ∙ none)) in
+          ap (λ y. is_free (h (ColourOf y))) (sym (ap target word) ∙ block.is)
+          ∙ k.painted.solid block.name block.ordinal block.kept block.low
+      go _ e = λ some. absurd (some target-nil)
