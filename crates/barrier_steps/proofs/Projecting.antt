@@ -107,12 +107,9 @@ has_object s t o e = e ∙ ap (λ x. Some (object_in x)) (sym e)
 pub has_value : (s : GraphState) (t : ℕ) (v : ValueLoad) → (s.loads t).value ≡ Some v → HasValue s t
 has_value s t v e = e ∙ ap (λ x. Some (value_in x)) (sym e)
 
-shape_read : (w : ℕ) → IsSome (shape_of w) → shape_of w ≡ Some (shape_in w)
-shape_read w some = go (shape_of w) some
-  where
-    go : (o : Option Shape) → IsSome o → o ≡ Some (shape_or_empty o)
-    go None h = absurd cc
-    go (Some f) h = refl
+shape_read : (o : Option Shape) → IsSome o → o ≡ Some (shape_or_empty o)
+shape_read None h = absurd cc
+shape_read (Some f) h = refl
 
 -- the event of a row at state s
 module _ (c : Config) (s : GraphState) (t : ℕ) where
@@ -414,11 +411,9 @@ module _ (c : Config) (s : GraphState) (a : Name) (p : Pass) (k : Command) where
     row_guarded (LoadRegister wanted) w fits reads at hand =
         register_guarded c s p.thread k wanted w fits.thread.thread fits.command (reads refl).0.0 at.loads (payload_read s h _ _ w at.words at.reads)
     row_guarded (LoadShape x) w fits reads at hand =
-        let load : object_at s p.thread ≡ object_in (object_load (from_register k) x) = ap (λ l. object_in l.object) at.loads in
-        let word : s.words.shape (object_at s p.thread).block ≡ w = ap (λ o. s.words.shape o.block) load ∙ ap (λ b. b.shape x) at.words ∙ sym at.reads in
-        either (MayCome c s p.thread) (length_decides k (shape_length (shape_in w))) _ _
-        (fits.thread.thread, prompt c s p.thread _ at.loads refl)
-        (fits.thread.thread, has_object s p.thread (object_in (object_load (from_register k) x)) (ap (λ l. l.object) at.loads), ap shape_of word ∙ shape_read w (reads refl).0)
+        let word : s.words.shape (object_at s p.thread).block ≡ w = ap (λ l. s.words.shape (object_in l.object).block) at.loads ∙ ap (λ b. b.shape x) at.words ∙ sym at.reads in
+        either (MayCome c s p.thread) (length_decides k (shape_length (shape_in w))) _ _ (fits.thread.thread, prompt c s p.thread _ at.loads refl)
+        (fits.thread.thread, has_object s p.thread _ (ap (λ l. l.object) at.loads), ap shape_of word ∙ shape_read (shape_of w) (reads refl).0)
     row_guarded (LoadLink way word) w fits reads at hand =
         (fits.thread.thread, at_link c s p.thread (from_register k) (field_index k) way (ap (λ l. l.object) at.loads) fits.row.0 fits.row.1)
     row_guarded (LoadField way) w fits reads at hand = (

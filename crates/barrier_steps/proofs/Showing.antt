@@ -1,6 +1,6 @@
 -- Where the words show the graph, a row reads words that its places can hold, and these are what the graph says.
 use Rattle.std.proofs.Common.{◌≡◌, ◌≢◌, ℕ, ◌+◌, ◌<◌, ◌≤◌, Bool, true, false, None, Some, IfSome, is_some, eqb, length, refl, sym, ap, ◌∙◌, subst, arith}
-use Rattle.barrier_steps.proofs.Common.{Config, REGISTERS, Name, Value, Heap, payload_of, target, extent, Phase, shape_of, payloads, payload-code, target-number, target-nil, Command, Reply, ObjectKind, Record, Array, object_of, field_of, register_of, kind_shape, shape_part, block_words, value_word, heads, ValueLoad, Loading, GraphState, Follows, Way, Pass, place_of, CanHold, IsHeld, FieldRow, shape_length, links_to, link_at, field_at, ordinal_at, to_register, answered_register, from_register, other_register, field_index, expected_register, register_place, register_wanted, field_place, row_want, field_reply, reads_beside_graph, IsThread, IsWalk, IsThere, FitsAt, ReadsAt, IsWordOf, FieldFound, ShownAt, NameShown, ShowsAt, walk_load, object_on, object_load, IsAt, Graph, LoadRegister, LoadShape, LoadLink, LoadField, LoadOwner, Shade, Store, IdleLook, Answered, InField, Exchanged, Compared}
+use Rattle.barrier_steps.proofs.Common.{Config, REGISTERS, Name, Value, Heap, payload_of, target, extent, Phase, shape_of, payloads, payload-code, target-number, target-nil, Command, Reply, ObjectKind, Record, Array, object_of, field_of, register_of, kind_shape, shape_part, block_words, value_word, heads, ValueLoad, Loading, GraphState, Follows, Way, Pass, place_of, CanHold, IsHeld, FieldRow, shape_length, links_to, link_at, field_at, ordinal_at, to_register, answered_register, from_register, other_register, field_index, expected_register, register_place, register_wanted, field_place, row_want, field_reply, reads_beside_graph, IsThread, IsWalk, IsThere, FitsAt, ReadsAt, IsWordOf, ShownAt, NameShown, ShowsAt, walk_load, object_on, object_load, IsAt, Graph, LoadRegister, LoadShape, LoadLink, LoadField, LoadOwner, Shade, Store, IdleLook, Answered, InField, Exchanged, Compared}
 use Rattle.barrier_steps.specs.declared.rows.Wanted.TheVariants as wants
 use Rattle.block_store.specs.declared.Payload.TheVariants as payloads
 use Rattle.block_store.specs.declared.Value.TheVariants as values
@@ -67,6 +67,11 @@ module _ (c : Config) (m : ℕ) (K : Name → Type 0) (at : Name → ℕ → ℕ
   is_kept : (t r : ℕ) (a : Name) → t < c.threads → r < REGISTERS → register_of s.graph t r ≡ values.Ref a → K a
   is_kept t r a tn rl e = subst (IsValueOf K) e (follows.shows.closed.registers t r tn rl)
 
+  -- a register's object has field i, of whose kept value this is the word
+  abbrev FieldRead : ℕ → ℕ → ℕ → ℕ → Type 0
+  FieldRead t r i w = (shown : FieldShown (heads at) s.graph t r i w) × IsHeldWord c w
+      × IsValueOf K (field_of (object_of s.graph shown.0.name) i) × (value_word (heads at) (field_of (object_of s.graph shown.0.name) i) ≡ w)
+
   module _ (t r i : ℕ) (way : Way) (is : ObjectIs c.width s.graph at t (object_in (walk_load (extent c) r i way))) (fits : IsWalk c i way) (tn : t < c.threads) where
     kept : K is.name
     kept = is_kept t r is.name tn is.source is.refers
@@ -85,19 +90,14 @@ module _ (c : Config) (m : ℕ) (K : Name → Type 0) (at : Name → ℕ → ℕ
         ∙ (follows.shows.written.blocks is.name ordinal kept is.ordinal).words j low
         ∙ ap (part_word (heads at) (at is.name) (field_of (object_of s.graph is.name))) (part_is j p e)
 
-    -- the object has the field
-    abbrev found_field : FieldFound s.graph t r i
-    found_field = record {
-      name = is.name;
-      refers = is.refers;
-      within = subst (λ n. i < n) (ap shape_length is.shape ∙ kind_length (object_of s.graph is.name).kind (length (object_of s.graph is.name).fields)) fits.index;
-    }
-
-    -- and its word is that of its value
-    field_word : (w : ℕ) → IsThere c i way → s.words.payload way.block (field_at (extent c) way.shape i) ≡ w
-        → value_word (heads at) (field_of (object_of s.graph is.name) i) ≡ w
-    field_word w there e = sym (stands (field_at (extent c) way.shape i) (Field i) (field_low c way.shape i)
-        (ap (λ l. shape_part c.width way.shape (ordinal_at (extent c) way.shape i l) (field_at (extent c) way.shape i)) there ∙ (way_is c way.shape i fits.index).ends)) ∙ e
+    -- the object has the field, and its word is that of its value
+    field_read : (w : ℕ) → IsThere c i way → s.words.payload way.block (field_at (extent c) way.shape i) ≡ w → FieldRead t r i w
+    field_read w there e =
+        let value = follows.shows.closed.fields is.name i kept in
+        let word : value_word (heads at) (field_of (object_of s.graph is.name) i) ≡ w = sym (stands (field_at (extent c) way.shape i) (Field i) (field_low c way.shape i)
+        (ap (λ l. shape_part c.width way.shape (ordinal_at (extent c) way.shape i l) (field_at (extent c) way.shape i)) there ∙ (way_is c way.shape i fits.index).ends)) ∙ e in
+        let within = subst (λ n. i < n) (ap shape_length is.shape ∙ kind_length (object_of s.graph is.name).kind (length (object_of s.graph is.name).fields)) fits.index in
+        ((record { name = is.name; refers = is.refers; within = within }, read_word _ w value word), value_held _ w value word, value, word)
 
     -- a link's word is a reference
     link_held : (w : ℕ) → way.level < links_to (extent c) way.shape i → s.words.payload way.block (link_at (extent c) way.shape i way.level) ≡ w
@@ -126,19 +126,12 @@ module _ (c : Config) (m : ℕ) (K : Name → Type 0) (at : Name → ℕ → ℕ
       go (values.Int n) e = absurd (some (ap target (is.word ∙ ap (value_word (heads at)) e) ∙ target-number n))
       go (values.Ref a) e = (a, e, ap target (is.word ∙ ap (value_word (heads at)) e) ∙ target-reference (at a 0))
 
-  -- the field at the end of a way: the object has it, and its word is what stands there
   field_at_end : (p : Pass) (k : Command) (way : Way) (w : ℕ) (l : Loading) → IsThread c p.thread
       → IsWalk c (field_index k) way → IsThere c (field_index k) way → s.loads p.thread ≡ l → l.object ≡ object_on (extent c) k way
-      → s.words ≡ block_words h → w ≡ h (field_place (extent c) k way)
-      → (shown : FieldShown (heads at) s.graph p.thread (from_register k) (field_index k) w) × IsHeldWord c w
-      × IsValueOf K (field_of (object_of s.graph shown.0.name) (field_index k))
-      × (value_word (heads at) (field_of (object_of s.graph shown.0.name) (field_index k)) ≡ w)
+      → s.words ≡ block_words h → w ≡ h (field_place (extent c) k way) → FieldRead p.thread (from_register k) (field_index k) w
   field_at_end p k way w l thread walk there loads hand words reads =
       let object = subst (λ x. IfSome x (λ y. ObjectIs c.width s.graph at p.thread y)) hand (load_is p.thread l thread.thread loads).object in
-      let found = found_field p.thread (from_register k) (field_index k) way object walk thread.thread in
-      let value = follows.shows.closed.fields object.name (field_index k) (kept p.thread (from_register k) (field_index k) way object walk thread.thread) in
-      let word = field_word p.thread (from_register k) (field_index k) way object walk thread.thread w there (payload_read s h _ _ w words reads) in
-      ((found, read_word _ w value word), value_held _ w value word, value, word)
+      field_read p.thread (from_register k) (field_index k) way object walk thread.thread w there (payload_read s h _ _ w words reads)
 
   -- where its reply shows a register, a row reads the name of the object to which that refers
   pub row_named : (p : Pass) (k : Command) (row : FieldRow) (w : ℕ) (reply : Reply) → FitsAt c p k row → IsAt (extent c) s h p k row w → ShowsAt s.graph p.thread k row reply → NameShown (heads at) row reply w
