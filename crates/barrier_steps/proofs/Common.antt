@@ -44,7 +44,7 @@ pub use Rattle.never_heap.specs.Graphs.{Graph, object_of, register_of, with_regi
 pub use Rattle.never_heap.specs.Steps.{step, same_value, swapped}
 pub use Rattle.never_heap.specs.declared.Command.{Command}
 pub use Rattle.never_heap.specs.declared.Reply.{Reply}
-pub use Rattle.shown_graph.specs.Events.{GraphState, value_in, Follows, ValueLoad, Loading, Event, IsPrompt, value_at}
+pub use Rattle.shown_graph.specs.Events.{unloaded, GraphState, value_in, Follows, ValueLoad, Loading, Event, IsPrompt, value_at}
 pub use Rattle.shown_graph.specs.Layouts.{shape_part, kind_shape}
 pub use Rattle.shown_graph.specs.Shown.{heads}
 pub use Rattle.shown_graph.specs.Words.{block_words, value_word}

@@ -1,6 +1,6 @@
 -- Each event of a command is one that keeps what the graph reaches, or changes nothing that those see.
 use Rattle.std.proofs.Common.{◌≡◌, ℕ, Bool, true, false, not, cond, Option, None, Some, IfSome, List, [], ◌∷◌, ◌++◌, refl, arith, sym, ap, ◌∙◌, subst, inl, inr, eqb}
-use Rattle.barrier_steps.proofs.Common.{cases_Bool, Config, Name, changed, Heap, target, is_sweep, cycle_of, Extent, extent, Phase, ColourOf, changed_map, changed_self, target-nil, Command, Graph, Loading, Event, GraphState, IsPrompt, value_in, heads, place_of, heap_after, IsHeld, NotFree, Pass, FieldRow, Wanted, FieldStore, refers, length_decides, register_decides, is_deciding, FitsAt, FieldFits, FieldReads, store_loading, wanted_loading, row_loading, register_event, store_event, row_event, after_event, InHandAt, answer, graph_after, ShownAt, FieldState, payload_in, shape_in, stored_word, shades, reads_beside_graph, word_stored, row_want, field_want, field_got, field_reply, is_taken, shape_length, takes_field, LoadRegister, LoadShape, LoadField, LoadOwner, Shade, Store, Answered, Moved, InField, Exchanged, Compared}
+use Rattle.barrier_steps.proofs.Common.{unloaded, cases_Bool, Config, Name, changed, Heap, target, is_sweep, cycle_of, Extent, extent, Phase, ColourOf, changed_map, changed_self, target-nil, Command, Graph, Loading, Event, GraphState, IsPrompt, value_in, heads, place_of, heap_after, IsHeld, NotFree, Pass, FieldRow, Wanted, FieldStore, refers, length_decides, register_decides, is_deciding, FitsAt, FieldFits, FieldReads, store_loading, wanted_loading, row_loading, register_event, store_event, row_event, after_event, InHandAt, answer, graph_after, ShownAt, FieldState, payload_in, shape_in, stored_word, shades, reads_beside_graph, word_stored, row_want, field_want, field_got, field_reply, is_taken, shape_length, takes_field, LoadRegister, LoadShape, LoadField, LoadOwner, Shade, Store, Answered, Moved, InField, Exchanged, Compared}
 use Rattle.barrier_steps.specs.declared.rows.Wanted.TheVariants as wants
 use Rattle.std.proofs.lemmas.Bool.{both_ways}
 use Rattle.block_store.specs.Colours.{is_free}
@@ -9,7 +9,6 @@ use Rattle.never_heap.specs.declared.Entry.{Entry}
 use Rattle.never_heap.specs.Histories.{HistoryItem, Did, after}
 use Rattle.never_heap.proofs.Answering.{step_not_full}
 use Rattle.shown_graph.specs.Events as commanded
-use Rattle.shown_graph.specs.Events.{unloaded}
 use Rattle.kept_names.specs.Events.{event_thread, leaves_graph, loaded_word, MayDecide}
 use Rattle.kept_names.specs.Kept.{IsKept}
 use Rattle.kept_names.specs.Pictures.{Task, Names, picture}

@@ -248,11 +248,9 @@ one_name v a b e f = let same : values.Ref a ≡ values.Ref b = sym e ∙ f in c
 
 -- the object in hand has the field
 pub within : (g : Graph) (t : ℕ) (k : Command) (a : Name) (found : FieldFound g t (from_register k) (field_index k)) → register_of g t (from_register k) ≡ values.Ref a → Has g t k a
-within g t k a found hand = (
-  hand,
-  subst (λ b. field_index k < length (object_of g b).fields)
-      (one_name (register_of g t (from_register k)) found.name a found.refers hand) found.within,
-)
+within g t k a found hand =
+    let same = one_name (register_of g t (from_register k)) found.name a found.refers hand in
+    (hand, subst (λ b. field_index k < length (object_of g b).fields) same found.within)
 
 -- a row of command k of this pass, where a is the object in hand
 module _ (c : Config) (s : GraphState) (a : Name) (p : Pass) (k : Command) where
@@ -375,12 +373,9 @@ module _ (c : Config) (s : GraphState) (a : Name) (p : Pass) (k : Command) where
         → s.loads p.thread ≡ triple (object_on (extent c) k way) x (value_load (other_register k) word)
         → register_of s.graph p.thread (from_register k) ≡ values.Ref a
         → Guard c.width c.threads s (events.StoreField p.thread a (field_index k) (stored_at way))
-    in_field_guarded way word x tn walk there loads hand = (
-      tn,
-      prompt c s p.thread _ loads refl,
-      has _ loads refl,
-      at_field c s p.thread (from_register k) (field_index k) way (ap (λ l. l.object) loads) walk a there hand,
-    )
+    in_field_guarded way word x tn walk there loads hand =
+        let field = at_field c s p.thread (from_register k) (field_index k) way (ap (λ l. l.object) loads) walk a there hand in
+        (tn, prompt c s p.thread _ loads refl, has _ loads refl, field)
 
     store_guarded : (store : FieldStore) (w : ℕ) → p.thread < c.threads → IsCommandInRange k → StoreFits c k store → s.loads p.thread ≡ store_loading (extent c) k store
         → InHandAt s a p.thread k (Store store) → MayCome c s p.thread (store_event (extent c) a p.thread k store w)
@@ -416,12 +411,9 @@ module _ (c : Config) (s : GraphState) (a : Name) (p : Pass) (k : Command) where
         (fits.thread.thread, has_object s p.thread _ (ap (λ l. l.object) at.loads), ap shape_of word ∙ shape_read (shape_of w) (reads refl).0)
     row_guarded (LoadLink way word) w fits reads at hand =
         (fits.thread.thread, at_link c s p.thread (from_register k) (field_index k) way (ap (λ l. l.object) at.loads) fits.row.0 fits.row.1)
-    row_guarded (LoadField way) w fits reads at hand = (
-      fits.thread.thread,
-      to_low k fits.command,
-      prompt c s p.thread _ at.loads refl,
-      at_field c s p.thread (from_register k) (field_index k) way (ap (λ l. l.object) at.loads) fits.row.0 a fits.row.1 hand,
-    )
+    row_guarded (LoadField way) w fits reads at hand =
+        let field = at_field c s p.thread (from_register k) (field_index k) way (ap (λ l. l.object) at.loads) fits.row.0 a fits.row.1 hand in
+        (fits.thread.thread, to_low k fits.command, prompt c s p.thread _ at.loads refl, field)
     row_guarded (LoadOwner word) w fits reads at hand = owner_guarded c s p.thread (takes_field k) fits.thread.thread (ap (λ l. (value_in l.value).pending) at.loads)
     row_guarded (Store store) w fits reads at hand = store_guarded store w fits.thread.thread fits.command fits.row at.loads hand
     row_guarded StoreConstant w fits reads at hand =
