@@ -32,24 +32,17 @@ module _ (e : Extent) (a : Name) (t : ℕ) (k : Command) where
   abbrev IsOwn : Bool → Loading → Option Event → Type 0
   IsOwn decides l o = IfSome o (λ x. (t ≡ event_thread x) × (decides ≡ false → leaves_graph x ≡ true)) × (decides ≡ true → IsPrompt l)
 
-  register_own : (wanted : Wanted) (w : ℕ) → IsOwn (register_decides wanted w) (wanted_loading e k wanted) (register_event t k wanted w)
-  register_own wants.Object w =
-      either (IsOwn (not (refers (payload_in w))) unloaded) (refers (payload_in w)) _ _ ((refl, λ _. refl), λ _. refl) (tt, λ _. refl)
-  register_own wants.Shown w = either (IsOwn true unloaded) (refers (payload_in w)) _ _ ((refl, λ _. refl), λ _. refl) (tt, λ _. refl)
-  register_own _ w = ((refl, λ _. refl), λ _. refl)
-
-  store_own : (store : FieldStore) (w : ℕ) → IsOwn (not (is_taken store)) (store_loading e k store) (store_event e a t k store w)
-  store_own (Compared way word) w = either (IsOwn true (store_loading e k (Compared way word))) (eqb w way.expected) _ _
-      ((refl, λ n. absurd cc), λ _. refl) ((refl, λ _. refl), λ _. refl)
-  store_own _ w = ((refl, λ n. cc), λ n. cc)
-
   own_event : (row : FieldRow) (w : ℕ) → IsOwn (is_deciding k row w) (row_loading e k row) (row_event e a t k row w)
-  own_event (LoadRegister wanted) w = register_own wanted w
+  own_event (LoadRegister wants.Object) w =
+      either (IsOwn (not (refers (payload_in w))) unloaded) (refers (payload_in w)) _ _ ((refl, λ _. refl), λ _. refl) (tt, λ _. refl)
+  own_event (LoadRegister wants.Shown) w =
+      either (IsOwn true unloaded) (refers (payload_in w)) _ _ ((refl, λ _. refl), λ _. refl) (tt, λ _. refl)
   own_event (LoadShape x) w = let b = length_decides k (shape_length (shape_in w)) in
       either (IsOwn b (row_loading e k (LoadShape x))) b _ _ ((refl, λ _. refl), λ _. refl) ((refl, λ _. refl), λ _. refl)
   own_event (LoadOwner word) w =
       either (IsOwn false (row_loading e k (LoadOwner word))) (takes_field k) _ _ (tt, λ n. absurd cc) ((refl, λ _. refl), λ n. absurd cc)
-  own_event (Store store) w = store_own store w
+  own_event (Store (Compared way word)) w = either (IsOwn true (row_loading e k (Store (Compared way word)))) (eqb w way.expected) _ _
+      ((refl, λ n. absurd cc), λ _. refl) ((refl, λ _. refl), λ _. refl)
   own_event (Shade r store) w = (tt, λ n. absurd cc)
   own_event (Answered reply) w = (tt, λ n. absurd cc)
   own_event _ w = ((refl, λ n. cc), λ n. cc)

@@ -273,27 +273,6 @@ module _ (c : Config) (s : GraphState) (a : Name) (p : Pass) (k : Command) where
     steps : (x : Graph × Reply) → step s.graph p.thread k ≡ x → x.0 ≡ graph_after s.graph p.thread k
     steps x e = sym (graph_is s.graph p.thread k x e)
 
-    store_steps : (store : FieldStore) (w : ℕ) → is_store_of k store ≡ true → not (is_taken store) ≡ true → ShownAt head s.graph p.thread k (Store store) w
-        → s.loads p.thread ≡ store_loading (extent c) k store → InHandAt s a p.thread k (Store store)
-        → graph (store_event (extent c) a p.thread k store w) ≡ graph_after s.graph p.thread k
-    store_steps (Moved word) w is n h loads hand =
-        (λ i. with_register s.graph p.thread (to_register k) (register_of s.graph p.thread (value_in (loads i).value).origin))
-        ∙ steps _ (mov_is s.graph p.thread k is)
-    store_steps (Pending word value) w is n h loads hand = absurd cc
-    store_steps (InField way word) w is n h loads hand =
-        (λ i. with_field s.graph a (field_index k) (register_of s.graph p.thread (value_in (loads i).value).origin))
-        ∙ steps _ (put_is s.graph p.thread k a is (within s.graph p.thread k a h hand))
-    store_steps (Exchanged way word) w is n h loads hand =
-        (λ i. swapped s.graph p.thread a (field_index k) (value_in (loads i).value).origin)
-        ∙ steps _ (swap_is s.graph p.thread k a is (within s.graph p.thread k a h.0 hand))
-    store_steps (Compared way word) w is n h loads hand =
-        both (λ b. graph (cond b (Some (events.StoreField p.thread a (field_index k) (stored_at way))) (Some (events.Finish p.thread)))
-        ≡ cond b (with_field s.graph a (field_index k) (register_of s.graph p.thread (other_register k))) s.graph) (eqb w way.expected)
-        (λ i. with_field s.graph a (field_index k) (register_of s.graph p.thread (value_in (loads i).value).origin)) refl
-        ∙ steps _ (cas_is s.graph p.thread k a (eqb w way.expected) is (within s.graph p.thread k a h.0 hand)
-        (subst (λ b. eqb w way.expected ≡ same_value (field_of (object_of s.graph b) (field_index k)) (register_of s.graph p.thread (expected_register k)))
-        (one_name (register_of s.graph p.thread (from_register k)) h.0.name a h.0.refers hand) h.1))
-
     pub graph_steps : (row : FieldRow) (w : ℕ) → is_row_of c p k row ≡ true → is_deciding k row w ≡ true → ShownAt head s.graph p.thread k row w
         → s.loads p.thread ≡ row_loading (extent c) k row → InHandAt s a p.thread k row
         → graph (row_event (extent c) a p.thread k row w) ≡ graph_after s.graph p.thread k
@@ -306,7 +285,22 @@ module _ (c : Config) (s : GraphState) (a : Name) (p : Pass) (k : Command) where
         either (λ o. graph o ≡ s.graph) (length_decides k (shape_length (shape_in w))) (Some (events.Finish p.thread)) _ refl refl
         ∙ steps _ (shape_refused c p s.graph p.thread x w k is h n).2
     graph_steps (LoadField way) w is n h loads hand = steps _ (get_is s.graph p.thread k a is (within s.graph p.thread k a h.0 hand))
-    graph_steps (Store store) w is n h loads hand = store_steps store w is n h loads hand
+    graph_steps (Store (Moved word)) w is n h loads hand =
+        (λ i. with_register s.graph p.thread (to_register k) (register_of s.graph p.thread (value_in (loads i).value).origin))
+        ∙ steps _ (mov_is s.graph p.thread k is)
+    graph_steps (Store (InField way word)) w is n h loads hand =
+        (λ i. with_field s.graph a (field_index k) (register_of s.graph p.thread (value_in (loads i).value).origin))
+        ∙ steps _ (put_is s.graph p.thread k a is (within s.graph p.thread k a h hand))
+    graph_steps (Store (Exchanged way word)) w is n h loads hand =
+        (λ i. swapped s.graph p.thread a (field_index k) (value_in (loads i).value).origin)
+        ∙ steps _ (swap_is s.graph p.thread k a is (within s.graph p.thread k a h.0 hand))
+    graph_steps (Store (Compared way word)) w is n h loads hand =
+        both (λ b. graph (cond b (Some (events.StoreField p.thread a (field_index k) (stored_at way))) (Some (events.Finish p.thread)))
+        ≡ cond b (with_field s.graph a (field_index k) (register_of s.graph p.thread (other_register k))) s.graph) (eqb w way.expected)
+        (λ i. with_field s.graph a (field_index k) (register_of s.graph p.thread (value_in (loads i).value).origin)) refl
+        ∙ steps _ (cas_is s.graph p.thread k a (eqb w way.expected) is (within s.graph p.thread k a h.0 hand)
+        (subst (λ b. eqb w way.expected ≡ same_value (field_of (object_of s.graph b) (field_index k)) (register_of s.graph p.thread (expected_register k)))
+        (one_name (register_of s.graph p.thread (from_register k)) h.0.name a h.0.refers hand) h.1))
     graph_steps StoreConstant w is n h loads hand = steps _ (constant_is s.graph p.thread k is)
     graph_steps IdleLook w is n h loads hand = steps _ (idle_is s.graph p.thread k is)
     graph_steps _ w is n h loads hand = absurd cc
@@ -319,30 +313,25 @@ module _ (c : Config) (s : GraphState) (a : Name) (p : Pass) (k : Command) where
     abbrev tried : Way → ℕ → Bool → BlockWords
     tried way word b = block_words (cond b (put_at h (field_place (extent c) k way) word) h)
 
-    store_words : (store : FieldStore) (w : ℕ) → s.words ≡ block_words h → s.loads p.thread ≡ store_loading (extent c) k store
-        → w ≡ h (place_of (store_want (extent c) p.thread k store))
-        → WordsAre (block_words (heap_after h (store_want (extent c) p.thread k store))) (store_event (extent c) a p.thread k store w)
-    store_words (Moved word) w words loads reads =
-        λ i. with_payload (words i) (register_block c.width p.thread (to_register k)) (register_slot c.width (to_register k)) (value_in (loads i).value).word
-    store_words (Pending word value) w words loads reads =
-        λ i. let v = value_in (loads i).value in
-        with_payload (words i) (register_block c.width p.thread v.origin) (register_slot c.width v.origin) v.word
-    store_words (InField way word) w words loads reads =
-        λ i. with_payload (words i) (object_in (loads i).object).block (stored_at way) (value_in (loads i).value).word
-    store_words (Exchanged way word) w words loads reads =
-        λ i. with_payload (words i) (object_in (loads i).object).block (stored_at way) (value_in (loads i).value).word
-    store_words (Compared way word) w words loads reads =
-        both (λ b. WordsAre (tried way word b) (cond b (Some (events.StoreField p.thread a (field_index k) (stored_at way))) (Some (events.Finish p.thread))))
-        (eqb w way.expected)
-        (λ i. with_payload (words i) (object_in (loads i).object).block (stored_at way) (value_in (loads i).value).word) words
-        ∙ ap (λ x. tried way word (eqb x way.expected)) reads
-
     pub words_moved : (row : FieldRow) (w : ℕ) → IsAt (extent c) s h p k row w
         → WordsAre (block_words (heap_after h (row_want (extent c) p k row))) (row_event (extent c) a p.thread k row w)
     words_moved (LoadRegister wanted) w at = (register_leaves c s p.thread k wanted w).0 ∙ at.words
     words_moved (LoadShape x) w at = either (WordsAre (block_words h)) (length_decides k (shape_length (shape_in w))) _ _ at.words at.words
     words_moved (LoadOwner word) w at = either (WordsAre (block_words h)) (takes_field k) _ _ at.words at.words
-    words_moved (Store store) w at = store_words store w at.words at.loads at.reads
+    words_moved (Store (Moved word)) w at =
+        λ i. with_payload (at.words i) (register_block c.width p.thread (to_register k)) (register_slot c.width (to_register k)) (value_in (at.loads i).value).word
+    words_moved (Store (Pending word value)) w at =
+        λ i. let v = value_in (at.loads i).value in
+        with_payload (at.words i) (register_block c.width p.thread v.origin) (register_slot c.width v.origin) v.word
+    words_moved (Store (InField way word)) w at =
+        λ i. with_payload (at.words i) (object_in (at.loads i).object).block (stored_at way) (value_in (at.loads i).value).word
+    words_moved (Store (Exchanged way word)) w at =
+        λ i. with_payload (at.words i) (object_in (at.loads i).object).block (stored_at way) (value_in (at.loads i).value).word
+    words_moved (Store (Compared way word)) w at =
+        both (λ b. WordsAre (tried way word b) (cond b (Some (events.StoreField p.thread a (field_index k) (stored_at way))) (Some (events.Finish p.thread))))
+        (eqb w way.expected)
+        (λ i. with_payload (at.words i) (object_in (at.loads i).object).block (stored_at way) (value_in (at.loads i).value).word) at.words
+        ∙ ap (λ x. tried way word (eqb x way.expected)) at.reads
     words_moved StoreConstant w at =
         λ i. with_payload (at.words i) (register_block c.width p.thread (to_register k)) (register_slot c.width (to_register k)) ((set_constant k).0 i)
     words_moved (Shade r store) w at = at.words ∙ sym (marking_words h p.thread p.threads p.cycle r)
@@ -353,18 +342,6 @@ module _ (c : Config) (s : GraphState) (a : Name) (p : Pass) (k : Command) where
         → w ≡ h (field_place (extent c) k way) → s.words.payload (object_at s p.thread).block (stored_at way) ≡ w
     field_read way w l words loads hand reads = ap (λ y. s.words.payload (object_in y).block (stored_at way)) (ap (λ y. y.object) loads ∙ hand)
         ∙ payload_read s h _ _ w words reads
-
-    store_loads : (store : FieldStore) (w u : ℕ) → is_store_of k store ≡ true → s.words ≡ block_words h → s.loads p.thread ≡ store_loading (extent c) k store
-        → w ≡ h (place_of (store_want (extent c) p.thread k store))
-        → LoadsTo c s p.thread (loading c p k (after_store store w)) u (store_event (extent c) a p.thread k store w)
-    store_loads (Exchanged way word) w u is words loads reads =
-        let origin : (value_at s p.thread).origin ≡ to_register k = ap (λ y. (value_in y.value).origin) loads ∙ swap_register k is in
-        let read = field_read way w _ words loads refl reads in
-        (λ i. with_load s.loads p.thread (pair None (pending_load (origin i) (read i))) u)
-        ∙ ap (λ l. with_load s.loads p.thread l u) (sym (field_loading c p k w (swap_takes k is)))
-    store_loads (Compared way word) w u is words loads reads =
-        either (LoadsTo c s p.thread unloaded u) (eqb w way.expected) _ _ refl refl
-    store_loads _ w u is words loads reads = refl
 
     has : (l : Loading) → s.loads p.thread ≡ l → l.value ≡ Some (value_in l.value) → HasValue s p.thread
     has l loads is = has_value s p.thread (value_in l.value) (ap (λ y. y.value) loads ∙ is)
@@ -377,15 +354,6 @@ module _ (c : Config) (s : GraphState) (a : Name) (p : Pass) (k : Command) where
         let field = at_field c s p.thread (from_register k) (field_index k) way (ap (λ l. l.object) loads) walk a there hand in
         (tn, prompt c s p.thread _ loads refl, has _ loads refl, field)
 
-    store_guarded : (store : FieldStore) (w : ℕ) → p.thread < c.threads → IsCommandInRange k → StoreFits c k store → s.loads p.thread ≡ store_loading (extent c) k store
-        → InHandAt s a p.thread k (Store store) → MayCome c s p.thread (store_event (extent c) a p.thread k store w)
-    store_guarded (Moved word) w tn range fits loads hand = (tn, to_low k range, prompt c s p.thread _ loads refl, has _ loads refl)
-    store_guarded (Pending word value) w tn range fits loads hand = (tn, has _ loads refl, ap (λ l. (value_in l.value).pending) loads)
-    store_guarded (InField way word) w tn range fits loads hand = in_field_guarded way word _ tn fits.0 fits.1 loads hand
-    store_guarded (Exchanged way word) w tn range fits loads hand = in_field_guarded way word _ tn fits.0 fits.1 loads hand
-    store_guarded (Compared way word) w tn range fits loads hand = either (MayCome c s p.thread) (eqb w way.expected) _ _
-        (in_field_guarded way word _ tn fits.0 fits.1 loads hand) (tn, prompt c s p.thread _ loads refl)
-
     pub loads_moved : (row : FieldRow) (w : ℕ) → FitsAt c p k row → (reads_beside_graph row ≡ false → ReadsAt c p k row w) → IsAt (extent c) s h p k row w
         → (u : ℕ) → LoadsTo c s p.thread (loading c p k (row_got (extent c) p k row w)) u (row_event (extent c) a p.thread k row w)
     loads_moved (LoadRegister wanted) w fits reads at u =
@@ -397,7 +365,13 @@ module _ (c : Config) (s : GraphState) (a : Name) (p : Pass) (k : Command) where
         ∙ ap (λ l. with_load s.loads p.thread l u) (sym (field_loading c p k w (get_takes k fits.belongs)))
     loads_moved (LoadOwner word) w fits reads at u = owner_loads c s p.thread p k word u (rows.object_in w) fits.belongs at.loads
     loads_moved (Shade r store) w fits reads at u = unmoved s.loads p.thread _ u (at.loads ∙ sym (barrier_loading c p k _ store))
-    loads_moved (Store store) w fits reads at u = store_loads store w u fits.belongs at.words at.loads at.reads
+    loads_moved (Store (Exchanged way word)) w fits reads at u =
+        let origin : (value_at s p.thread).origin ≡ to_register k = ap (λ y. (value_in y.value).origin) at.loads ∙ swap_register k fits.belongs in
+        let read = field_read way w _ at.words at.loads refl at.reads in
+        (λ i. with_load s.loads p.thread (pair None (pending_load (origin i) (read i))) u)
+        ∙ ap (λ l. with_load s.loads p.thread l u) (sym (field_loading c p k w (swap_takes k fits.belongs)))
+    loads_moved (Store (Compared way word)) w fits reads at u =
+        either (LoadsTo c s p.thread unloaded u) (eqb w way.expected) _ _ refl refl
     loads_moved (Answered reply) w fits reads at u = unmoved s.loads p.thread unloaded u at.loads
     loads_moved _ w fits reads at u = refl
 
@@ -415,7 +389,12 @@ module _ (c : Config) (s : GraphState) (a : Name) (p : Pass) (k : Command) where
         let field = at_field c s p.thread (from_register k) (field_index k) way (ap (λ l. l.object) at.loads) fits.row.0 a fits.row.1 hand in
         (fits.thread.thread, to_low k fits.command, prompt c s p.thread _ at.loads refl, field)
     row_guarded (LoadOwner word) w fits reads at hand = owner_guarded c s p.thread (takes_field k) fits.thread.thread (ap (λ l. (value_in l.value).pending) at.loads)
-    row_guarded (Store store) w fits reads at hand = store_guarded store w fits.thread.thread fits.command fits.row at.loads hand
+    row_guarded (Store (Moved word)) w fits reads at hand = (fits.thread.thread, to_low k fits.command, prompt c s p.thread _ at.loads refl, has _ at.loads refl)
+    row_guarded (Store (Pending word value)) w fits reads at hand = (fits.thread.thread, has _ at.loads refl, ap (λ l. (value_in l.value).pending) at.loads)
+    row_guarded (Store (InField way word)) w fits reads at hand = in_field_guarded way word _ fits.thread.thread fits.row.0 fits.row.1 at.loads hand
+    row_guarded (Store (Exchanged way word)) w fits reads at hand = in_field_guarded way word _ fits.thread.thread fits.row.0 fits.row.1 at.loads hand
+    row_guarded (Store (Compared way word)) w fits reads at hand = either (MayCome c s p.thread) (eqb w way.expected) _ _
+        (in_field_guarded way word _ fits.thread.thread fits.row.0 fits.row.1 at.loads hand) (fits.thread.thread, prompt c s p.thread _ at.loads refl)
     row_guarded StoreConstant w fits reads at hand =
         (fits.thread.thread, to_low k fits.command, prompt c s p.thread unloaded at.loads refl, (set_constant k).1 fits.command)
     row_guarded IdleLook w fits reads at hand = (fits.thread.thread, prompt c s p.thread unloaded at.loads refl)
