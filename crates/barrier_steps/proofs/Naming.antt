@@ -1,6 +1,6 @@
 -- Each event of a command is one that keeps what the graph reaches, or changes nothing that those see.
 use Rattle.std.proofs.Common.{◌≡◌, ℕ, Bool, true, false, not, cond, Option, None, Some, IfSome, List, [], ◌∷◌, ◌++◌, refl, arith, sym, ap, ◌∙◌, subst, inl, inr, eqb}
-use Rattle.barrier_steps.proofs.Common.{unloaded, cases_Bool, Config, Name, changed, Heap, target, is_sweep, cycle_of, Extent, extent, Phase, ColourOf, changed_map, changed_self, target-nil, Command, Graph, Loading, Event, GraphState, IsPrompt, value_in, heads, place_of, heap_after, IsHeld, NotFree, Pass, FieldRow, Wanted, FieldStore, refers, length_decides, register_decides, is_deciding, FitsAt, FieldFits, FieldReads, store_loading, wanted_loading, row_loading, register_event, store_event, row_event, after_event, InHandAt, answer, graph_after, ShownAt, FieldState, payload_in, shape_in, stored_word, shades, reads_beside_graph, word_stored, row_want, field_want, field_got, field_reply, is_taken, shape_length, takes_field, LoadRegister, LoadShape, LoadField, LoadOwner, Shade, Store, Answered, Moved, InField, Exchanged, Compared}
+use Rattle.barrier_steps.proofs.Common.{unloaded, cases_Bool, Config, Name, changed, Heap, target, is_sweep, cycle_of, Extent, extent, Phase, ColourOf, changed_map, changed_self, target-nil, Command, Graph, Loading, Event, GraphState, IsPrompt, value_in, heads, place_of, heap_after, IsHeld, NotFree, Pass, FieldRow, FieldStore, refers, length_decides, is_deciding, FitsAt, FieldFits, FieldReads, store_loading, row_loading, row_event, after_event, InHandAt, answer, graph_after, ShownAt, FieldState, payload_in, shape_in, stored_word, shades, reads_beside_graph, word_stored, row_want, field_want, field_got, field_reply, shape_length, takes_field, LoadRegister, LoadShape, LoadField, LoadOwner, Shade, Store, Answered, Moved, InField, Exchanged, Compared}
 use Rattle.barrier_steps.specs.declared.rows.Wanted.TheVariants as wants
 use Rattle.std.proofs.lemmas.Bool.{both_ways}
 use Rattle.block_store.specs.Colours.{is_free}
@@ -11,7 +11,7 @@ use Rattle.never_heap.proofs.Answering.{step_not_full}
 use Rattle.shown_graph.specs.Events as commanded
 use Rattle.kept_names.specs.Events.{event_thread, leaves_graph, loaded_word, MayDecide}
 use Rattle.kept_names.specs.Kept.{IsKept}
-use Rattle.kept_names.specs.Pictures.{Task, Names, picture}
+use Rattle.kept_names.specs.Pictures.{Task, Names, no_task, picture}
 use Rattle.kept_names.specs.States.{KeptState, Kept}
 use Rattle.kept_names.proofs.Commands.{serves, decides, answers}
 use Rattle.kept_names.proofs.Standing.{loaded_kept}
@@ -58,14 +58,11 @@ in_hand s at t k _ w shown = (record { thread = 0; serial = 0 }, tt)
 
 -- an event, or none, of a command, with which it is decided or is not
 module _ (c : Config) (s : KeptState) (k : IsKept c s) (entry : Entry) where
-  abbrev ordered : Bool → List HistoryItem
-  ordered d = cond d (s.order ++ Did entry ∷ []) s.order
-
   moved : (o : Option Event) (d : Bool) → IfSome o (commanded.Guard c.width c.threads s.seen)
       → IfSome o (λ x. (entry.thread ≡ event_thread x) × (d ≡ false → leaves_graph x ≡ true))
       → (d ≡ true → MayDecide c s entry)
       → (d ≡ true → (after_event (extent c) s.seen o).graph ≡ after s.seen.graph (Did entry))
-      → IsKept c (record s { seen = after_event (extent c) s.seen o; order = ordered d })
+      → IsKept c (record s { seen = after_event (extent c) s.seen o; order = cond d (s.order ++ Did entry ∷ []) s.order })
   moved None false guard own may graph = k
   moved None true guard own may graph = answers c s k entry (may refl, sym (graph refl))
   moved (Some x) false guard own may graph = serves c s k x (guard, own.1 refl)
@@ -115,10 +112,6 @@ module _ (c : Config) (g : Graph) (order : List HistoryItem) (h : Heap) (names :
     abbrev event : Option Event
     event = event_of (extent c) hand.0 f w
 
-    -- the picture with its event
-    abbrev went : KeptState
-    went = record now { seen = after_event (extent c) now.seen event; order = order_on g order f w }
-
     graph_is : (after_event (extent c) now.seen event).graph ≡ graph_on g f w
     graph_is = elim (cases_Bool (is_deciding f.command f.row w)) [
       | inl d ↦ rw d (graph_steps c now.seen hand.0 f.pass f.command (heads names.at) f.row w fits.belongs d shown at_row.loads hand.1)
@@ -150,7 +143,7 @@ module _ (c : Config) (g : Graph) (order : List HistoryItem) (h : Heap) (names :
       reads_in : reads_beside_graph f.row ≡ false → FieldReads c f w
       reads_in within = reads (λ beside. absurd (both_ways (reads_beside_graph f.row) within beside)) going
 
-      is_picture : went ≡ later f
+      is_picture : record now { seen = after_event (extent c) now.seen event; order = order_on g order f w } ≡ later f
       is_picture = λ i. record now {
         seen = record {
           graph = graph_is i;
@@ -181,14 +174,11 @@ module _ (c : Config) (g : Graph) (order : List HistoryItem) (h : Heap) (names :
   shade_names p k (Shade r store) part fits sweep cycle is kept =
       let b = fits.row.0 in
       subst (λ (ts : ℕ → Task). IsKept c (picture g order (heap_after h (row_want (extent c) p k (Shade r store))) names ts))
-      (sym (changed_self tasks p.thread _ (is ∙ ap (λ (l : Loading). task_of l) (sym (barrier_loading c p k _ store)))))
+      (sym (changed_self tasks p.thread _ (is ∙ ap (λ (l : Loading). record no_task { loading = l }) (sym (barrier_loading c p k _ store)))))
       (shading_keeps_names c g order h names tasks (record { pass = p; row = r }) b.fits (sweep ∙ b.mark) cycle
       (barrier_shades c p r store b)
       (has_value now.seen p.thread _ (ap (λ (x : Task). x.loading.value) is ∙ (store_value c k store).0))
       (ap (λ (x : Task). target (value_in x.loading.value).word) is ∙ ap target (store_value c k store).1 ∙ sym b.stores) kept)
-    where
-      task_of : Loading → Task
-      task_of l = record { loading = l; build = None; scan = 0 }
   shade_names p k _ part fits sweep cycle is kept = absurd cc
 
   pub keeps_names : (f : FieldState) → FieldFits c f → field_reply f.row ≡ None

@@ -1,7 +1,7 @@
 -- A row is its event: the words, what the thread has loaded and the graph are those after it, and it
 -- may come where it does.
 use Rattle.std.proofs.Common.{false, ◌≡◌, ◌≢◌, ℕ, ◌+◌, ◌<◌, true, not, cond, Option, None, Some, IfSome, IsSome, refl, sym, ap, ◌∙◌, subst, inl, inr, ltb, eqb, eq-eqb, ltb-true, Bool, length}
-use Rattle.barrier_steps.proofs.Common.{cases_Bool, cases_eq, ne_eqb, Config, Name, Shape, Value, Heap, put_at, payload_of, target, white_word, extent, ColourOf, PayloadOf, place_of, heap_after, shape_of, Command, Reply, IsCommandInRange, register_of, Graph, object_of, field_of, with_register, with_field, shape_part, register_block, register_slot, block_words, value_word, ValueLoad, Loading, value_in, GraphState, Event, IsPrompt, value_at, Pass, GreyRow, FieldRow, Wanted, FieldStore, Way, to_register, from_register, other_register, field_index, constant_word, expected_register, is_say, is_swap, is_cas, takes_field, answers_value, stores_in_field, shape_length, links_to, link_at, field_at, ordinal_at, payload_in, shape_or_empty, shape_in, register_wanted, field_place, store_want, before_store, in_barrier, row_want, row_got, after_object, after_shape, after_field, after_said, after_owner, after_register, after_store, at_block, on_way, way_from, way_on, reads_beside_graph, is_taken, IsWalk, IsThere, is_store_of, StoreFits, is_wanted_by, FitsAt, ReadsAt, is_row_of, refers, length_decides, is_deciding, store_loading, wanted_loading, row_loading, constant_set, register_event, store_event, row_event, after_event, IsAt, InHandAt, walk_load, object_on, object_load, step, swapped, same_value, graph_after, FieldFound, ShownAt, LoadRegister, LoadShape, LoadLink, LoadField, LoadOwner, Shade, Store, StoreConstant, IdleLook, Answered, Moved, Pending, InField, Exchanged, Compared}
+use Rattle.barrier_steps.proofs.Common.{cases_Bool, cases_eq, ne_eqb, Config, Name, Shape, Value, Heap, put_at, payload_of, target, white_word, extent, ColourOf, PayloadOf, heap_after, shape_of, Command, Reply, IsCommandInRange, register_of, Graph, object_of, field_of, with_register, with_field, shape_part, register_block, register_slot, block_words, value_word, ValueLoad, Loading, value_in, GraphState, Event, IsPrompt, value_at, Pass, GreyRow, FieldRow, Wanted, FieldStore, Way, to_register, from_register, other_register, field_index, constant_word, expected_register, is_say, is_swap, is_cas, takes_field, answers_value, stores_in_field, shape_length, links_to, link_at, field_at, ordinal_at, payload_in, shape_or_empty, shape_in, register_wanted, field_place, before_store, in_barrier, row_want, row_got, after_object, after_shape, after_field, after_said, after_owner, after_register, at_block, on_way, way_from, way_on, reads_beside_graph, IsWalk, IsThere, is_wanted_by, FitsAt, ReadsAt, is_row_of, refers, length_decides, is_deciding, store_loading, wanted_loading, row_loading, constant_set, register_event, row_event, after_event, IsAt, InHandAt, walk_load, object_on, object_load, step, swapped, same_value, graph_after, FieldFound, ShownAt, LoadRegister, LoadShape, LoadLink, LoadField, LoadOwner, Shade, Store, StoreConstant, IdleLook, Answered, Moved, Pending, InField, Exchanged, Compared}
 use Rattle.barrier_steps.specs.declared.rows.Wanted.TheVariants as wants
 use Rattle.block_store.specs.declared.Value.TheVariants as values
 use Rattle.never_heap.specs.declared.Command.TheVariants as commands
@@ -10,21 +10,12 @@ use Rattle.shown_graph.specs.Words.{BlockWords, with_payload}
 use Rattle.shown_graph.specs.Events as events
 use Rattle.shown_graph.specs.Events.{ObjectLoad, unloaded, object_in, with_load, Guard, HasObject, HasValue, object_at, register_word_in, IsAtField, IsAtLink, IsConstant}
 use Rattle.grey_steps.specs.declared.rows.GreyRow.TheVariants as greys
-use Rattle.grey_steps.specs.Rows as marking
 use Rattle.barrier_steps.specs.Rows as rows
 use Rattle.barrier_steps.proofs.Named.{to_low, from_low, wanted_low, way_is, payload_cases}
 use Rattle.barrier_steps.proofs.Stores.{before_is, barrier_is, field_is, either}
 use Rattle.barrier_steps.proofs.FieldRows.{reference, get_takes, swap_takes, taken_register}
 use Rattle.barrier_steps.specs.Projection.{carried_load, expected_load, value_load, pending_load}
 use Rattle.barrier_steps.proofs.Outcomes.{graph_is, object_refused, shape_refused, Has, get_is, put_is, swap_is, cas_is, constant_is, mov_is, same_step_is, say_is, idle_is}
-
--- marking writes neither owner nor shape nor payload
-marking_words : (h : Heap) (t n cycle : ℕ) (r : GreyRow) → block_words (heap_after h (marking.row_want t n cycle r)) ≡ block_words h
-marking_words h t n cycle (greys.Shade x j y a) =
-    either (λ (q : Heap). block_words q ≡ block_words h) (eqb (h (ColourOf y)) (white_word cycle)) _ _ refl refl
-marking_words h t n cycle (greys.ShadeStored y a) =
-    either (λ (q : Heap). block_words q ≡ block_words h) (eqb (h (ColourOf y)) (white_word cycle)) _ _ refl refl
-marking_words h t n cycle _ = refl
 
 set_constant : (k : Command) → (value_word (λ b. 0) (constant_set k) ≡ constant_word k) × (IsCommandInRange k → IsConstant (constant_set k))
 set_constant (commands.Set d v) = (refl, λ h. h.1)
@@ -306,7 +297,7 @@ module _ (c : Config) (s : GraphState) (a : Name) (p : Pass) (k : Command) where
     graph_steps _ w is n h loads hand = absurd cc
 
   module _ (h : Heap) where
-    -- the words are those that the row's operation leaves
+    -- the words are those that the row's operation leaves; marking writes none of them
     abbrev WordsAre : BlockWords → Option Event → Type 0
     WordsAre words o = (after_event (extent c) s o).words ≡ words
 
@@ -334,7 +325,10 @@ module _ (c : Config) (s : GraphState) (a : Name) (p : Pass) (k : Command) where
         ∙ ap (λ x. tried way word (eqb x way.expected)) at.reads
     words_moved StoreConstant w at =
         λ i. with_payload (at.words i) (register_block c.width p.thread (to_register k)) (register_slot c.width (to_register k)) ((set_constant k).0 i)
-    words_moved (Shade r store) w at = at.words ∙ sym (marking_words h p.thread p.threads p.cycle r)
+    words_moved (Shade (greys.Shade x j y b) store) w at =
+        either (λ (q : Heap). s.words ≡ block_words q) (eqb (h (ColourOf y)) (white_word p.cycle)) _ _ at.words at.words
+    words_moved (Shade (greys.ShadeStored y b) store) w at =
+        either (λ (q : Heap). s.words ≡ block_words q) (eqb (h (ColourOf y)) (white_word p.cycle)) _ _ at.words at.words
     words_moved _ w at = at.words
 
     -- the word of a field that is loaded, or exchanged
