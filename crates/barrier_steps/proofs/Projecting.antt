@@ -1,7 +1,7 @@
 -- A row is its event: the words, what the thread has loaded and the graph are those after it, and it
 -- may come where it does.
 use Rattle.std.proofs.Common.{false, ◌≡◌, ◌≢◌, ℕ, ◌+◌, ◌<◌, true, not, cond, Option, None, Some, IfSome, IsSome, refl, sym, ap, ◌∙◌, subst, inl, inr, ltb, eqb, eq-eqb, ltb-true, Bool, length}
-use Rattle.barrier_steps.proofs.Common.{cases_Bool, cases_eq, ne_eqb, Config, Name, Shape, Value, Heap, put_at, payload_of, target, white_word, extent, ColourOf, PayloadOf, heap_after, shape_of, Command, Reply, IsCommandInRange, register_of, Graph, object_of, field_of, with_register, with_field, shape_part, register_block, register_slot, block_words, value_word, ValueLoad, Loading, value_in, GraphState, Event, IsPrompt, value_at, Pass, GreyRow, FieldRow, Wanted, FieldStore, Way, to_register, from_register, other_register, field_index, constant_word, expected_register, is_say, is_swap, is_cas, takes_field, answers_value, stores_in_field, shape_length, links_to, link_at, field_at, ordinal_at, payload_in, shape_or_empty, shape_in, register_wanted, field_place, before_store, in_barrier, row_want, row_got, after_object, after_shape, after_field, after_said, after_owner, after_register, at_block, on_way, way_from, way_on, reads_beside_graph, IsWalk, IsThere, is_wanted_by, FitsAt, ReadsAt, is_row_of, refers, length_decides, is_deciding, store_loading, wanted_loading, row_loading, constant_set, register_event, row_event, after_event, IsAt, InHandAt, walk_load, object_on, object_load, step, swapped, same_value, graph_after, FieldFound, ShownAt, LoadRegister, LoadShape, LoadLink, LoadField, LoadOwner, Shade, Store, StoreConstant, IdleLook, Answered, Moved, Pending, InField, Exchanged, Compared}
+use Rattle.barrier_steps.proofs.Common.{cases_Bool, cases_eq, ne_eqb, Config, Name, Shape, Value, Heap, put_at, payload_of, target, white_word, extent, ColourOf, PayloadOf, heap_after, shape_of, Command, Reply, IsCommandInRange, register_of, Graph, object_of, field_of, with_register, with_field, shape_part, register_block, register_slot, block_words, value_word, ValueLoad, Loading, value_in, GraphState, Event, IsPrompt, value_at, Pass, GreyRow, FieldRow, Wanted, FieldStore, Way, to_register, from_register, other_register, field_index, constant_word, expected_register, is_say, is_swap, is_cas, takes_field, answers_value, stores_in_field, shape_length, links_to, link_at, field_at, ordinal_at, payload_in, shape_or_empty, shape_in, register_wanted, field_place, before_store, in_barrier, row_want, row_got, after_object, after_shape, after_field, after_said, after_owner, at_block, on_way, way_from, way_on, reads_beside_graph, IsWalk, IsThere, FitsAt, ReadsAt, is_row_of, refers, length_decides, is_deciding, store_loading, wanted_loading, row_loading, constant_set, register_event, row_event, after_event, IsAt, InHandAt, walk_load, object_on, object_load, step, swapped, same_value, graph_after, FieldFound, ShownAt, LoadRegister, LoadShape, LoadLink, LoadField, LoadOwner, Shade, Store, StoreConstant, IdleLook, Answered, Moved, Pending, InField, Exchanged, Compared}
 use Rattle.barrier_steps.specs.declared.rows.Wanted.TheVariants as wants
 use Rattle.block_store.specs.declared.Value.TheVariants as values
 use Rattle.never_heap.specs.declared.Command.TheVariants as commands
@@ -153,28 +153,6 @@ module _ (c : Config) (s : GraphState) (t : ℕ) where
       (λ i. with_load s.loads t (record (loads i) { object = Some (record (object_in (loads i).object) { block = target (s.words.payload (object_in (loads i).object).block j); ordinal = next }) }) u)
       ∙ (λ i. with_load s.loads t (on_its_way c p k (record (way_on way (target w)) { block = target (read i) }) word) u)
       ∙ ap (λ y. with_load s.loads t y u) (sym (way_loading c p k (way_on way (target w)) word))
-
-  -- what the thread has loaded is what its next row has loaded
-  register_loads : (p : Pass) (k : Command) (wanted : Wanted) (w u : ℕ) → is_wanted_by k wanted ≡ true → IsSome (payload_of w)
-      → s.loads t ≡ wanted_loading (extent c) k wanted → register_word_in c.width s.words t (register_wanted k wanted) ≡ w
-      → LoadsTo (loading c p k (after_register (extent c) p k wanted w)) u (register_event t k wanted w)
-  register_loads p k wants.Copied w u is some loads read =
-      value_moved (from_register k) w u unloaded _ loads read (before_loading c p k (Moved w))
-  register_loads p k wants.Object w u is some loads read = payload_cases w some
-      (λ q. LoadsTo (loading c p k (after_object q)) u (cond (refers q) (Some (events.ReadObject t (from_register k))) None))
-      (λ none. unmoved s.loads t unloaded u loads) (λ v none low. unmoved s.loads t unloaded u loads)
-      (λ x to some i. with_load s.loads t (record (loads i) { object = object_load (from_register k) ((ap target read ∙ sym to) i) }) u)
-  register_loads p k (wants.Expected way) w u is some loads read =
-      (λ i. with_load s.loads t (record (loads i) { expected = value_load (expected_register k) (read i) }) u)
-      ∙ ap (λ x. with_load s.loads t (triple (object_on (extent c) k way) x None) u) (sym (cas_expects k w is))
-  register_loads p k (wants.Stored way) w u is some loads read = value_moved (other_register k) w u _ _ loads read
-      (way_loading c p k way w ∙ ap (triple (object_on (extent c) k way) (expected_load k way.expected)) (stores_carries k w is))
-  register_loads p k wants.First w u is some loads read = value_moved (from_register k) w u unloaded _ loads read refl
-  register_loads p k (wants.Second word) w u is some loads read = refl
-  register_loads p k wants.Shown w u is some loads read = payload_cases w some
-      (λ q. LoadsTo (loading c p k (after_said w q)) u (cond (refers q) (Some (events.ReadValue t (from_register k))) None))
-      (λ none. unmoved s.loads t unloaded u loads) (λ v none low. unmoved s.loads t unloaded u loads)
-      (λ x to some. value_moved (from_register k) w u unloaded _ loads read (said_loading c p k w is))
 
   owner_loads : (p : Pass) (k : Command) (word u : ℕ) (value : Value) → answers_value k ≡ true → s.loads t ≡ loading c p k (LoadOwner word)
       → LoadsTo (loading c p k (after_owner p k word value)) u (cond (takes_field k) None (Some (events.Finish t)))
@@ -350,8 +328,22 @@ module _ (c : Config) (s : GraphState) (a : Name) (p : Pass) (k : Command) where
 
     pub loads_moved : (row : FieldRow) (w : ℕ) → FitsAt c p k row → (reads_beside_graph row ≡ false → ReadsAt c p k row w) → IsAt (extent c) s h p k row w
         → (u : ℕ) → LoadsTo c s p.thread (loading c p k (row_got (extent c) p k row w)) u (row_event (extent c) a p.thread k row w)
-    loads_moved (LoadRegister wanted) w fits reads at u =
-        register_loads c s p.thread p k wanted w u fits.belongs (reads refl).0.0 at.loads (payload_read s h _ _ w at.words at.reads)
+    loads_moved (LoadRegister wants.Copied) w fits reads at u =
+        value_moved c s p.thread (from_register k) w u unloaded _ at.loads (payload_read s h _ _ w at.words at.reads) (before_loading c p k (Moved w))
+    loads_moved (LoadRegister wants.Object) w fits reads at u = payload_cases w (reads refl).0.0
+        (λ q. LoadsTo c s p.thread (loading c p k (after_object q)) u (cond (refers q) (Some (events.ReadObject p.thread (from_register k))) None))
+        (λ none. unmoved s.loads p.thread unloaded u at.loads) (λ v none low. unmoved s.loads p.thread unloaded u at.loads)
+        (λ x to some i. with_load s.loads p.thread (record (at.loads i) { object = object_load (from_register k) ((ap target (payload_read s h _ _ w at.words at.reads) ∙ sym to) i) }) u)
+    loads_moved (LoadRegister (wants.Expected way)) w fits reads at u =
+        (λ i. with_load s.loads p.thread (record (at.loads i) { expected = value_load (expected_register k) (payload_read s h _ _ w at.words at.reads i) }) u)
+        ∙ ap (λ x. with_load s.loads p.thread (triple (object_on (extent c) k way) x None) u) (sym (cas_expects k w fits.belongs))
+    loads_moved (LoadRegister (wants.Stored way)) w fits reads at u = value_moved c s p.thread (other_register k) w u _ _ at.loads (payload_read s h _ _ w at.words at.reads)
+        (way_loading c p k way w ∙ ap (triple (object_on (extent c) k way) (expected_load k way.expected)) (stores_carries k w fits.belongs))
+    loads_moved (LoadRegister wants.First) w fits reads at u = value_moved c s p.thread (from_register k) w u unloaded _ at.loads (payload_read s h _ _ w at.words at.reads) refl
+    loads_moved (LoadRegister wants.Shown) w fits reads at u = payload_cases w (reads refl).0.0
+        (λ q. LoadsTo c s p.thread (loading c p k (after_said w q)) u (cond (refers q) (Some (events.ReadValue p.thread (from_register k))) None))
+        (λ none. unmoved s.loads p.thread unloaded u at.loads) (λ v none low. unmoved s.loads p.thread unloaded u at.loads)
+        (λ x to some. value_moved c s p.thread (from_register k) w u unloaded _ at.loads (payload_read s h _ _ w at.words at.reads) (said_loading c p k w fits.belongs))
     loads_moved (LoadShape x) w fits reads at u = shape_moved c s p.thread p k x u (shape_in w) at.loads
     loads_moved (LoadLink way word) w fits reads at u = link_moved c s p.thread p k w u way word at.loads (payload_read s h _ _ w at.words at.reads)
     loads_moved (LoadField way) w fits reads at u =
