@@ -48,7 +48,7 @@ pub use Rattle.never_heap.specs.Steps.{step, same_value, swapped, blocks_of, at_
 pub use Rattle.never_heap.specs.declared.Command.{Command}
 pub use Rattle.never_heap.specs.declared.Command.TheVariants.{New, Arr, Set, Mov, Get, Put, Len, Same, Say, Swap, Cas, Idle}
 pub use Rattle.never_heap.specs.declared.Reply.{Reply}
-pub use Rattle.shown_graph.specs.Events.{GraphState, value_in, Follows, ValueLoad, Loading, Event, IsPrompt, value_at}
+pub use Rattle.shown_graph.specs.Events.{unloaded, GraphState, value_in, Follows, ValueLoad, Loading, Event, IsPrompt, value_at}
 pub use Rattle.shown_graph.specs.Layouts.{shape_part, kind_shape}
 pub use Rattle.shown_graph.specs.Shown.{heads, IsSized}
 pub use Rattle.shown_graph.specs.Words.{block_words, value_word}

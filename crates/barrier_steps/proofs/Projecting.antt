@@ -1,7 +1,8 @@
 -- A row is its event: the words, what the thread has loaded and the graph are those after it, and it
 -- may come where it does.
 use Rattle.std.proofs.Common.{false, ◌≡◌, ◌≢◌, ℕ, ◌+◌, ◌<◌, true, not, cond, Option, None, Some, IfSome, IsSome, refl, sym, ap, ◌∙◌, subst, inl, inr, ltb, eqb, eq-eqb, ltb-true, Bool, length}
-use Rattle.barrier_steps.proofs.Common.{cases_Bool, cases_eq, ne_eqb, Config, Name, Shape, Value, Heap, put_at, payload_of, target, white_word, extent, ColourOf, PayloadOf, place_of, heap_after, shape_of, Command, Reply, IsCommandInRange, register_of, Graph, object_of, field_of, with_register, with_field, shape_part, register_block, register_slot, block_words, value_word, ValueLoad, Loading, value_in, GraphState, Event, IsPrompt, value_at, Pass, GreyRow, FieldRow, Wanted, FieldStore, Way, to_register, from_register, other_register, field_index, constant_word, looks_at_object, expected_register, is_say, is_swap, is_cas, takes_field, answers_value, stores_in_field, shape_length, links_to, link_at, field_at, ordinal_at, payload_in, shape_or_empty, shape_in, register_wanted, field_place, store_want, before_store, in_barrier, row_want, row_got, after_object, after_shape, after_field, after_said, after_owner, after_register, after_store, at_block, on_way, way_from, way_on, reads_beside_graph, is_taken, IsWalk, IsThere, is_store_of, StoreFits, is_wanted_by, FitsAt, ReadsAt, is_row_of, refers, length_decides, is_deciding, store_loading, wanted_loading, row_loading, constant_set, register_event, store_event, row_event, after_event, IsAt, InHandAt, walk_load, object_on, object_load, step, swapped, same_value, graph_after, FieldFound, ShownAt}
+use Rattle.barrier_steps.proofs.Common.{cases_Bool, cases_eq, ne_eqb, Config, Name, Shape, Value, Heap, put_at, payload_of, target, white_word, extent, ColourOf, PayloadOf, heap_after, shape_of, Command, Reply, IsCommandInRange, register_of, Graph, object_of, field_of, with_register, with_field, shape_part, register_block, register_slot, block_words, value_word, ValueLoad, Loading, value_in, GraphState, Event, IsPrompt, value_at, Pass, GreyRow, FieldRow, Wanted, FieldStore, Way, to_register, from_register, other_register, field_index, constant_word, expected_register, is_say, is_swap, is_cas, takes_field, answers_value, stores_in_field, shape_length, links_to, link_at, field_at, ordinal_at, payload_in, shape_or_empty, shape_in, register_wanted, field_place, before_store, in_barrier, row_want, row_got, after_object, after_shape, after_field, after_said, after_owner, at_block, on_way, way_from, way_on, reads_beside_graph, IsWalk, IsThere, FitsAt, ReadsAt, is_row_of, refers, length_decides, is_deciding, store_loading, wanted_loading, row_loading, constant_set, register_event, row_event, after_event, IsAt, InHandAt, walk_load, object_on, object_load, step, swapped, same_value, graph_after, FieldFound, ShownAt, LoadRegister, LoadShape, LoadLink, LoadField, LoadOwner, Shade, Store, StoreConstant, IdleLook, Answered, Moved, Pending, InField, Exchanged, Compared}
+use Rattle.barrier_steps.specs.declared.rows.Wanted.TheVariants as wants
 use Rattle.block_store.specs.declared.Value.TheVariants as values
 use Rattle.never_heap.specs.declared.Command.TheVariants as commands
 use Rattle.never_heap.specs.declared.Reply.TheVariants as replies
@@ -9,38 +10,20 @@ use Rattle.shown_graph.specs.Words.{BlockWords, with_payload}
 use Rattle.shown_graph.specs.Events as events
 use Rattle.shown_graph.specs.Events.{ObjectLoad, unloaded, object_in, with_load, Guard, HasObject, HasValue, object_at, register_word_in, IsAtField, IsAtLink, IsConstant}
 use Rattle.grey_steps.specs.declared.rows.GreyRow.TheVariants as greys
-use Rattle.grey_steps.specs.Rows as marking
-use Rattle.barrier_steps.specs.declared.rows.FieldRow.TheVariants.{LoadRegister, LoadShape, LoadLink, LoadField, LoadOwner, Shade, Store, StoreConstant, IdleLook, Answered}
-use Rattle.barrier_steps.specs.declared.rows.Wanted.TheVariants as wants
-use Rattle.barrier_steps.specs.declared.rows.FieldStore.TheVariants.{Moved, Pending, InField, Exchanged, Compared}
 use Rattle.barrier_steps.specs.Rows as rows
-use Rattle.barrier_steps.proofs.FieldRows.{to_low, from_low, other_low, expected_low, way_is, payload_cases, reference, get_takes, swap_takes, taken_register}
+use Rattle.barrier_steps.proofs.FieldRows.{to_low, from_low, wanted_low, way_is, payload_cases, reference, get_takes, swap_takes, taken_register}
 use Rattle.barrier_steps.proofs.Decisions.{before_is, barrier_is, field_is, either, graph_is, object_refused, shape_refused, Has, get_is, put_is, swap_is, cas_is, constant_is, mov_is, same_step_is, say_is, idle_is}
 use Rattle.barrier_steps.specs.Projection.{carried_load, expected_load, value_load, pending_load}
 
--- marking writes neither owner nor shape nor payload
-marking_words : (h : Heap) (t n cycle : ℕ) (r : GreyRow) → block_words (heap_after h (marking.row_want t n cycle r)) ≡ block_words h
-marking_words h t n cycle (greys.Shade x j y a) =
-    either (λ (q : Heap). block_words q ≡ block_words h) (eqb (h (ColourOf y)) (white_word cycle)) _ _ refl refl
-marking_words h t n cycle (greys.ShadeStored y a) =
-    either (λ (q : Heap). block_words q ≡ block_words h) (eqb (h (ColourOf y)) (white_word cycle)) _ _ refl refl
-marking_words h t n cycle _ = refl
-
-constant_is_word : (k : Command) → value_word (λ b. 0) (constant_set k) ≡ constant_word k
-constant_is_word (commands.Set d v) = refl
-constant_is_word _ = refl
-
-constant_low : (k : Command) → IsCommandInRange k → IsConstant (constant_set k)
-constant_low (commands.Set d v) h = h.1
-constant_low _ h = tt
+set_constant : (k : Command) → (value_word (λ b. 0) (constant_set k) ≡ constant_word k) × (IsCommandInRange k → IsConstant (constant_set k))
+set_constant (commands.Set d v) = (refl, λ h. h.1)
+set_constant _ = (refl, λ h. tt)
 
 -- what a command that stores in a field has loaded is its value, and what `cas` has loaded is the
 -- one with which it compares
 stores_carries : (k : Command) (w : ℕ) → stores_in_field k ≡ true → carried_load k w ≡ value_load (other_register k) w
 stores_carries (commands.Put s i v) w is = refl
-stores_carries (commands.Swap s i v) w is = refl
-stores_carries (commands.Cas s i a v) w is = refl
-stores_carries _ w is = absurd cc
+stores_carries _ w is = cc
 
 pub cas_expects : (k : Command) (w : ℕ) → is_cas k ≡ true → expected_load k w ≡ value_load (expected_register k) w
 cas_expects (commands.Cas s i a v) w is = refl
@@ -93,8 +76,7 @@ block_loading c p _ way word = refl
 
 way_loading : (c : Config) (p : Pass) (k : Command) (way : Way) (word : ℕ) → loading c p k (on_way (extent c) p k way word) ≡ on_its_way c p k way word
 way_loading c p k way word = either (λ row. loading c p k row ≡ on_its_way c p k way word)
-    (ltb way.level (links_to (extent c) way.shape (field_index k))) (LoadLink way word)
-    (at_block p k way word) refl (block_loading c p k way word)
+    (ltb way.level (links_to (extent c) way.shape (field_index k))) _ _ refl (block_loading c p k way word)
 
 -- no load changes where the row has the same
 pub unmoved : (ls : ℕ → Loading) (t : ℕ) (l : Loading) (u : ℕ) → ls t ≡ l → ls u ≡ with_load ls t l u
@@ -103,6 +85,10 @@ unmoved ls t l u e = elim (cases_eq t u) [
   | inr ne ↦ rw (ne_eqb t u ne) refl
 ]
 
+both : (P : Bool → Type 0) (b : Bool) → P true → P false → P b
+both P true x y = x
+both P false x y = y
+
 -- what is loaded is there
 has_object : (s : GraphState) (t : ℕ) (o : ObjectLoad) → (s.loads t).object ≡ Some o → HasObject s t
 has_object s t o e = e ∙ ap (λ x. Some (object_in x)) (sym e)
@@ -110,12 +96,9 @@ has_object s t o e = e ∙ ap (λ x. Some (object_in x)) (sym e)
 pub has_value : (s : GraphState) (t : ℕ) (v : ValueLoad) → (s.loads t).value ≡ Some v → HasValue s t
 has_value s t v e = e ∙ ap (λ x. Some (value_in x)) (sym e)
 
-shape_read : (w : ℕ) → IsSome (shape_of w) → shape_of w ≡ Some (shape_in w)
-shape_read w some = go (shape_of w) some
-  where
-    go : (o : Option Shape) → IsSome o → o ≡ Some (shape_or_empty o)
-    go None h = absurd cc
-    go (Some f) h = refl
+shape_read : (o : Option Shape) → IsSome o → o ≡ Some (shape_or_empty o)
+shape_read None h = absurd cc
+shape_read (Some f) h = refl
 
 -- the event of a row at state s
 module _ (c : Config) (s : GraphState) (t : ℕ) where
@@ -127,12 +110,6 @@ module _ (c : Config) (s : GraphState) (t : ℕ) where
   register_leaves k wants.Object w = either Leaves (refers (payload_in w)) _ _ (refl, refl) (refl, refl)
   register_leaves k wants.Shown w = either Leaves (refers (payload_in w)) _ _ (refl, refl) (refl, refl)
   register_leaves k _ w = (refl, refl)
-
-  shape_leaves : (b : Bool) (f : Shape) → Leaves (cond b (Some (events.Finish t)) (Some (events.ReadShape t f)))
-  shape_leaves b f = either Leaves b _ _ (refl, refl) (refl, refl)
-
-  owner_leaves : (b : Bool) → Leaves (cond b None (Some (events.Finish t)))
-  owner_leaves b = either Leaves b _ _ (refl, refl) (refl, refl)
 
   -- behind it the thread has loaded l
   abbrev LoadsTo : Loading → ℕ → Option Event → Type 0
@@ -146,26 +123,23 @@ module _ (c : Config) (s : GraphState) (t : ℕ) where
 
   -- the shape of an object, whose way begins, where an index is tried
   index_moved : (p : Pass) (k : Command) (x u i : ℕ) (f : Shape) (row : FieldRow) → s.loads t ≡ pair (object_load (from_register k) x) None
-      → (i < shape_length f → loading c p k row ≡ pair (walk_load (extent c) (from_register k) i (way_from f x)) None)
+      → loading c p k row ≡ pair (walk_load (extent c) (from_register k) i (way_from f x)) None
       → LoadsTo (loading c p k (cond (ltb i (shape_length f)) row (Answered replies.Range))) u (cond (not (ltb i (shape_length f))) (Some (events.Finish t)) (Some (events.ReadShape t f)))
   index_moved p k x u i f row loads goes = elim (cases_Bool (ltb i (shape_length f))) [
-    | inl is ↦
-        let within = ltb-true i (shape_length f) is in
-        rw is ((λ j. with_load s.loads t (record (loads j) { object = Some (record (object_in (loads j).object) { shape = Some f }) }) u)
+    | inl is ↦ rw is ((λ j. with_load s.loads t (record (loads j) { object = Some (record (object_in (loads j).object) { shape = Some f }) }) u)
         ∙ ap (λ o. with_load s.loads t (pair (Some (record { source = from_register k; block = x; ordinal = o; shape = Some f })) None) u)
-        (sym (way_is c f i within).starts)
-        ∙ ap (λ y. with_load s.loads t y u) (sym (goes within)))
+        (sym (way_is c f i (ltb-true i (shape_length f) is)).starts)
+        ∙ ap (λ y. with_load s.loads t y u) (sym goes))
     | inr is ↦ rw is refl
   ]
 
-  shape_moved : (p : Pass) (k : Command) (x u : ℕ) (f : Shape) → looks_at_object k ≡ true → s.loads t ≡ pair (object_load (from_register k) x) None
+  shape_moved : (p : Pass) (k : Command) (x u : ℕ) (f : Shape) → s.loads t ≡ pair (object_load (from_register k) x) None
       → LoadsTo (loading c p k (after_shape (extent c) p k x f)) u (cond (length_decides k (shape_length f)) (Some (events.Finish t)) (Some (events.ReadShape t f)))
-  shape_moved p (commands.Get d r i) x u f looks loads = index_moved p (commands.Get d r i) x u i f _ loads (λ less. way_loading c p (commands.Get d r i) (way_from f x) 0)
-  shape_moved p (commands.Put r i v) x u f looks loads = index_moved p (commands.Put r i v) x u i f _ loads (λ less. refl)
-  shape_moved p (commands.Swap r i v) x u f looks loads = index_moved p (commands.Swap r i v) x u i f _ loads (λ less. refl)
-  shape_moved p (commands.Cas r i q v) x u f looks loads = index_moved p (commands.Cas r i q v) x u i f _ loads (λ less. refl)
-  shape_moved p (commands.Len r) x u f looks loads = refl
-  shape_moved p _ x u f looks loads = absurd cc
+  shape_moved p (commands.Get d r i) x u f loads = index_moved p (commands.Get d r i) x u i f _ loads (way_loading c p (commands.Get d r i) (way_from f x) 0)
+  shape_moved p (commands.Put r i v) x u f loads = index_moved p (commands.Put r i v) x u i f _ loads refl
+  shape_moved p (commands.Swap r i v) x u f loads = index_moved p (commands.Swap r i v) x u i f _ loads refl
+  shape_moved p (commands.Cas r i q v) x u f loads = index_moved p (commands.Cas r i q v) x u i f _ loads refl
+  shape_moved p _ x u f loads = refl
 
   -- after a link the thread is at the next block of the way
   link_moved : (p : Pass) (k : Command) (w u : ℕ) (way : Way) (word : ℕ) → s.loads t ≡ on_its_way c p k way word
@@ -177,28 +151,6 @@ module _ (c : Config) (s : GraphState) (t : ℕ) where
       (λ i. with_load s.loads t (record (loads i) { object = Some (record (object_in (loads i).object) { block = target (s.words.payload (object_in (loads i).object).block j); ordinal = next }) }) u)
       ∙ (λ i. with_load s.loads t (on_its_way c p k (record (way_on way (target w)) { block = target (read i) }) word) u)
       ∙ ap (λ y. with_load s.loads t y u) (sym (way_loading c p k (way_on way (target w)) word))
-
-  -- what the thread has loaded is what its next row has loaded
-  register_loads : (p : Pass) (k : Command) (wanted : Wanted) (w u : ℕ) → is_wanted_by k wanted ≡ true → IsSome (payload_of w)
-      → s.loads t ≡ wanted_loading (extent c) k wanted → register_word_in c.width s.words t (register_wanted k wanted) ≡ w
-      → LoadsTo (loading c p k (after_register (extent c) p k wanted w)) u (register_event t k wanted w)
-  register_loads p k wants.Copied w u is some loads read =
-      value_moved (from_register k) w u unloaded _ loads read (before_loading c p k (Moved w))
-  register_loads p k wants.Object w u is some loads read = payload_cases w some
-      (λ q. LoadsTo (loading c p k (after_object q)) u (cond (refers q) (Some (events.ReadObject t (from_register k))) None))
-      (λ none. unmoved s.loads t unloaded u loads) (λ v none low. unmoved s.loads t unloaded u loads)
-      (λ x to some i. with_load s.loads t (record (loads i) { object = object_load (from_register k) ((ap target read ∙ sym to) i) }) u)
-  register_loads p k (wants.Expected way) w u is some loads read =
-      (λ i. with_load s.loads t (record (loads i) { expected = value_load (expected_register k) (read i) }) u)
-      ∙ ap (λ x. with_load s.loads t (triple (object_on (extent c) k way) x None) u) (sym (cas_expects k w is))
-  register_loads p k (wants.Stored way) w u is some loads read = value_moved (other_register k) w u _ _ loads read
-      (way_loading c p k way w ∙ ap (triple (object_on (extent c) k way) (expected_load k way.expected)) (stores_carries k w is))
-  register_loads p k wants.First w u is some loads read = value_moved (from_register k) w u unloaded _ loads read refl
-  register_loads p k (wants.Second word) w u is some loads read = refl
-  register_loads p k wants.Shown w u is some loads read = payload_cases w some
-      (λ q. LoadsTo (loading c p k (after_said w q)) u (cond (refers q) (Some (events.ReadValue t (from_register k))) None))
-      (λ none. unmoved s.loads t unloaded u loads) (λ v none low. unmoved s.loads t unloaded u loads)
-      (λ x to some. value_moved (from_register k) w u unloaded _ loads read (said_loading c p k w is))
 
   owner_loads : (p : Pass) (k : Command) (word u : ℕ) (value : Value) → answers_value k ≡ true → s.loads t ≡ loading c p k (LoadOwner word)
       → LoadsTo (loading c p k (after_owner p k word value)) u (cond (takes_field k) None (Some (events.Finish t)))
@@ -226,16 +178,11 @@ module _ (c : Config) (s : GraphState) (t : ℕ) where
   register_guarded k (wants.Second word) w tn range some loads read = (tn, prompt _ loads refl)
   register_guarded k wants.Shown w tn range some loads read =
       either MayCome (refers (payload_in w)) _ _ (tn, from_low k range, prompt unloaded loads refl) tt
-  register_guarded k (wants.Stored way) w tn range some loads read = (tn, other_low k range, prompt _ loads refl)
-  register_guarded k (wants.Expected way) w tn range some loads read = (tn, expected_low k range, prompt _ loads refl)
-  register_guarded k _ w tn range some loads read = (tn, from_low k range, prompt unloaded loads refl)
+  register_guarded k wanted w tn range some loads read = (tn, wanted_low k wanted range, prompt _ loads refl)
 
-  owner_guarded : (k : Command) (word : ℕ) → t < c.threads → answers_value k ≡ true → s.loads t ≡ row_loading (extent c) k (LoadOwner word)
-      → MayCome (cond (takes_field k) None (Some (events.Finish t)))
-  owner_guarded (commands.Say r) word tn is loads = (tn, prompt _ loads refl)
-  owner_guarded (commands.Get d r i) word tn is loads = tt
-  owner_guarded (commands.Swap r i v) word tn is loads = tt
-  owner_guarded _ word tn is loads = absurd cc
+  owner_guarded : (b : Bool) → t < c.threads → (value_at s t).pending ≡ b → MayCome (cond b None (Some (events.Finish t)))
+  owner_guarded true tn is = tt
+  owner_guarded false tn is = (tn, is)
 
   -- at a link or a field of its way
   module _ (r i : ℕ) (way : Way) (loads : (s.loads t).object ≡ walk_load (extent c) r i way) (is : IsWalk c i way) where
@@ -268,11 +215,9 @@ one_name v a b e f = let same : values.Ref a ≡ values.Ref b = sym e ∙ f in c
 
 -- the object in hand has the field
 pub within : (g : Graph) (t : ℕ) (k : Command) (a : Name) (found : FieldFound g t (from_register k) (field_index k)) → register_of g t (from_register k) ≡ values.Ref a → Has g t k a
-within g t k a found hand = (
-  hand,
-  subst (λ b. field_index k < length (object_of g b).fields)
-      (one_name (register_of g t (from_register k)) found.name a found.refers hand) found.within,
-)
+within g t k a found hand =
+    let same = one_name (register_of g t (from_register k)) found.name a found.refers hand in
+    (hand, subst (λ b. field_index k < length (object_of g b).fields) same found.within)
 
 -- a row of command k of this pass, where a is the object in hand
 module _ (c : Config) (s : GraphState) (a : Name) (p : Pass) (k : Command) where
@@ -285,42 +230,15 @@ module _ (c : Config) (s : GraphState) (a : Name) (p : Pass) (k : Command) where
   -- an event that does not decide leaves the graph
   pub graph_stays : (row : FieldRow) (w : ℕ) → is_deciding k row w ≡ false → graph (row_event (extent c) a p.thread k row w) ≡ s.graph
   graph_stays (LoadRegister wanted) w n = (register_leaves c s p.thread k wanted w).1
-  graph_stays (LoadShape x) w n = (shape_leaves c s p.thread (length_decides k (shape_length (shape_in w))) (shape_in w)).1
-  graph_stays (LoadOwner word) w n = (owner_leaves c s p.thread (takes_field k)).1
-  graph_stays (LoadLink way word) w n = refl
-  graph_stays (Shade r store) w n = refl
+  graph_stays (LoadShape x) w n = either (λ o. graph o ≡ s.graph) (length_decides k (shape_length (shape_in w))) _ _ refl refl
+  graph_stays (LoadOwner word) w n = either (λ o. graph o ≡ s.graph) (takes_field k) _ _ refl refl
   graph_stays (Store (Pending word value)) w n = refl
-  graph_stays (Answered reply) w n = refl
-  graph_stays _ w n = absurd cc
+  graph_stays _ w n = cc
 
   module _ (head : Name → ℕ) where
     -- the deciding event makes the step
     steps : (x : Graph × Reply) → step s.graph p.thread k ≡ x → x.0 ≡ graph_after s.graph p.thread k
     steps x e = sym (graph_is s.graph p.thread k x e)
-
-    store_steps : (store : FieldStore) (w : ℕ) → is_store_of k store ≡ true → is_taken store ≡ false → ShownAt head s.graph p.thread k (Store store) w
-        → s.loads p.thread ≡ store_loading (extent c) k store → InHandAt s a p.thread k (Store store)
-        → graph (store_event (extent c) a p.thread k store w) ≡ graph_after s.graph p.thread k
-    store_steps (Moved word) w is n h loads hand =
-        (λ i. with_register s.graph p.thread (to_register k) (register_of s.graph p.thread (value_in (loads i).value).origin))
-        ∙ steps _ (mov_is s.graph p.thread k is)
-    store_steps (Pending word value) w is n h loads hand = absurd cc
-    store_steps (InField way word) w is n h loads hand =
-        (λ i. with_field s.graph a (field_index k) (register_of s.graph p.thread (value_in (loads i).value).origin))
-        ∙ steps _ (put_is s.graph p.thread k a is (within s.graph p.thread k a h hand))
-    store_steps (Exchanged way word) w is n h loads hand =
-        (λ i. swapped s.graph p.thread a (field_index k) (value_in (loads i).value).origin)
-        ∙ steps _ (swap_is s.graph p.thread k a is (within s.graph p.thread k a h.0 hand))
-    store_steps (Compared way word) w is n h loads hand =
-        compared (eqb w way.expected)
-        ∙ steps _ (cas_is s.graph p.thread k a (eqb w way.expected) is (within s.graph p.thread k a h.0 hand)
-        (subst (λ b. eqb w way.expected ≡ same_value (field_of (object_of s.graph b) (field_index k)) (register_of s.graph p.thread (expected_register k)))
-        (one_name (register_of s.graph p.thread (from_register k)) h.0.name a h.0.refers hand) h.1))
-      where
-        compared : (b : Bool) → graph (cond b (Some (events.StoreField p.thread a (field_index k) (stored_at way))) (Some (events.Finish p.thread)))
-            ≡ cond b (with_field s.graph a (field_index k) (register_of s.graph p.thread (other_register k))) s.graph
-        compared true = λ i. with_field s.graph a (field_index k) (register_of s.graph p.thread (value_in (loads i).value).origin)
-        compared false = refl
 
     pub graph_steps : (row : FieldRow) (w : ℕ) → is_row_of c p k row ≡ true → is_deciding k row w ≡ true → ShownAt head s.graph p.thread k row w
         → s.loads p.thread ≡ row_loading (extent c) k row → InHandAt s a p.thread k row
@@ -331,55 +249,62 @@ module _ (c : Config) (s : GraphState) (a : Name) (p : Pass) (k : Command) where
     graph_steps (LoadRegister wants.Shown) w is n h loads hand =
         (register_leaves c s p.thread k wants.Shown w).1 ∙ steps _ (say_is s.graph p.thread k is)
     graph_steps (LoadShape x) w is n h loads hand =
-        (shape_leaves c s p.thread (length_decides k (shape_length (shape_in w))) (shape_in w)).1
+        either (λ o. graph o ≡ s.graph) (length_decides k (shape_length (shape_in w))) (Some (events.Finish p.thread)) _ refl refl
         ∙ steps _ (shape_refused c p s.graph p.thread x w k is h n).2
     graph_steps (LoadField way) w is n h loads hand = steps _ (get_is s.graph p.thread k a is (within s.graph p.thread k a h.0 hand))
-    graph_steps (Store store) w is n h loads hand = store_steps store w is (untaken (is_taken store) n) h loads hand
-      where
-        untaken : (b : Bool) → not b ≡ true → b ≡ false
-        untaken true n = absurd cc
-        untaken false n = refl
+    graph_steps (Store (Moved word)) w is n h loads hand =
+        (λ i. with_register s.graph p.thread (to_register k) (register_of s.graph p.thread (value_in (loads i).value).origin))
+        ∙ steps _ (mov_is s.graph p.thread k is)
+    graph_steps (Store (InField way word)) w is n h loads hand =
+        (λ i. with_field s.graph a (field_index k) (register_of s.graph p.thread (value_in (loads i).value).origin))
+        ∙ steps _ (put_is s.graph p.thread k a is (within s.graph p.thread k a h hand))
+    graph_steps (Store (Exchanged way word)) w is n h loads hand =
+        (λ i. swapped s.graph p.thread a (field_index k) (value_in (loads i).value).origin)
+        ∙ steps _ (swap_is s.graph p.thread k a is (within s.graph p.thread k a h.0 hand))
+    graph_steps (Store (Compared way word)) w is n h loads hand =
+        both (λ b. graph (cond b (Some (events.StoreField p.thread a (field_index k) (stored_at way))) (Some (events.Finish p.thread)))
+        ≡ cond b (with_field s.graph a (field_index k) (register_of s.graph p.thread (other_register k))) s.graph) (eqb w way.expected)
+        (λ i. with_field s.graph a (field_index k) (register_of s.graph p.thread (value_in (loads i).value).origin)) refl
+        ∙ steps _ (cas_is s.graph p.thread k a (eqb w way.expected) is (within s.graph p.thread k a h.0 hand)
+        (subst (λ b. eqb w way.expected ≡ same_value (field_of (object_of s.graph b) (field_index k)) (register_of s.graph p.thread (expected_register k)))
+        (one_name (register_of s.graph p.thread (from_register k)) h.0.name a h.0.refers hand) h.1))
     graph_steps StoreConstant w is n h loads hand = steps _ (constant_is s.graph p.thread k is)
     graph_steps IdleLook w is n h loads hand = steps _ (idle_is s.graph p.thread k is)
     graph_steps _ w is n h loads hand = absurd cc
 
   module _ (h : Heap) where
-    -- the words are those that the row's operation leaves
+    -- the words are those that the row's operation leaves; marking writes none of them
     abbrev WordsAre : BlockWords → Option Event → Type 0
     WordsAre words o = (after_event (extent c) s o).words ≡ words
 
     abbrev tried : Way → ℕ → Bool → BlockWords
     tried way word b = block_words (cond b (put_at h (field_place (extent c) k way) word) h)
 
-    store_words : (store : FieldStore) (w : ℕ) → s.words ≡ block_words h → s.loads p.thread ≡ store_loading (extent c) k store
-        → w ≡ h (place_of (store_want (extent c) p.thread k store))
-        → WordsAre (block_words (heap_after h (store_want (extent c) p.thread k store))) (store_event (extent c) a p.thread k store w)
-    store_words (Moved word) w words loads reads =
-        λ i. with_payload (words i) (register_block c.width p.thread (to_register k)) (register_slot c.width (to_register k)) (value_in (loads i).value).word
-    store_words (Pending word value) w words loads reads =
-        λ i. let v = value_in (loads i).value in
-        with_payload (words i) (register_block c.width p.thread v.origin) (register_slot c.width v.origin) v.word
-    store_words (InField way word) w words loads reads =
-        λ i. with_payload (words i) (object_in (loads i).object).block (stored_at way) (value_in (loads i).value).word
-    store_words (Exchanged way word) w words loads reads =
-        λ i. with_payload (words i) (object_in (loads i).object).block (stored_at way) (value_in (loads i).value).word
-    store_words (Compared way word) w words loads reads =
-        compared (eqb w way.expected) ∙ ap (λ x. tried way word (eqb x way.expected)) reads
-      where
-        compared : (b : Bool) → WordsAre (tried way word b) (cond b (Some (events.StoreField p.thread a (field_index k) (stored_at way))) (Some (events.Finish p.thread)))
-        compared true = λ i. with_payload (words i) (object_in (loads i).object).block (stored_at way) (value_in (loads i).value).word
-        compared false = words
-
     pub words_moved : (row : FieldRow) (w : ℕ) → IsAt (extent c) s h p k row w
         → WordsAre (block_words (heap_after h (row_want (extent c) p k row))) (row_event (extent c) a p.thread k row w)
     words_moved (LoadRegister wanted) w at = (register_leaves c s p.thread k wanted w).0 ∙ at.words
-    words_moved (LoadShape x) w at =
-        (shape_leaves c s p.thread (length_decides k (shape_length (shape_in w))) (shape_in w)).0 ∙ at.words
-    words_moved (LoadOwner word) w at = (owner_leaves c s p.thread (takes_field k)).0 ∙ at.words
-    words_moved (Store store) w at = store_words store w at.words at.loads at.reads
+    words_moved (LoadShape x) w at = either (WordsAre (block_words h)) (length_decides k (shape_length (shape_in w))) _ _ at.words at.words
+    words_moved (LoadOwner word) w at = either (WordsAre (block_words h)) (takes_field k) _ _ at.words at.words
+    words_moved (Store (Moved word)) w at =
+        λ i. with_payload (at.words i) (register_block c.width p.thread (to_register k)) (register_slot c.width (to_register k)) (value_in (at.loads i).value).word
+    words_moved (Store (Pending word value)) w at =
+        λ i. let v = value_in (at.loads i).value in
+        with_payload (at.words i) (register_block c.width p.thread v.origin) (register_slot c.width v.origin) v.word
+    words_moved (Store (InField way word)) w at =
+        λ i. with_payload (at.words i) (object_in (at.loads i).object).block (stored_at way) (value_in (at.loads i).value).word
+    words_moved (Store (Exchanged way word)) w at =
+        λ i. with_payload (at.words i) (object_in (at.loads i).object).block (stored_at way) (value_in (at.loads i).value).word
+    words_moved (Store (Compared way word)) w at =
+        both (λ b. WordsAre (tried way word b) (cond b (Some (events.StoreField p.thread a (field_index k) (stored_at way))) (Some (events.Finish p.thread))))
+        (eqb w way.expected)
+        (λ i. with_payload (at.words i) (object_in (at.loads i).object).block (stored_at way) (value_in (at.loads i).value).word) at.words
+        ∙ ap (λ x. tried way word (eqb x way.expected)) at.reads
     words_moved StoreConstant w at =
-        λ i. with_payload (at.words i) (register_block c.width p.thread (to_register k)) (register_slot c.width (to_register k)) (constant_is_word k i)
-    words_moved (Shade r store) w at = at.words ∙ sym (marking_words h p.thread p.threads p.cycle r)
+        λ i. with_payload (at.words i) (register_block c.width p.thread (to_register k)) (register_slot c.width (to_register k)) ((set_constant k).0 i)
+    words_moved (Shade (greys.Shade x j y b) store) w at =
+        either (λ (q : Heap). s.words ≡ block_words q) (eqb (h (ColourOf y)) (white_word p.cycle)) _ _ at.words at.words
+    words_moved (Shade (greys.ShadeStored y b) store) w at =
+        either (λ (q : Heap). s.words ≡ block_words q) (eqb (h (ColourOf y)) (white_word p.cycle)) _ _ at.words at.words
     words_moved _ w at = at.words
 
     -- the word of a field that is loaded, or exchanged
@@ -388,18 +313,6 @@ module _ (c : Config) (s : GraphState) (a : Name) (p : Pass) (k : Command) where
     field_read way w l words loads hand reads = ap (λ y. s.words.payload (object_in y).block (stored_at way)) (ap (λ y. y.object) loads ∙ hand)
         ∙ payload_read s h _ _ w words reads
 
-    store_loads : (store : FieldStore) (w u : ℕ) → is_store_of k store ≡ true → s.words ≡ block_words h → s.loads p.thread ≡ store_loading (extent c) k store
-        → w ≡ h (place_of (store_want (extent c) p.thread k store))
-        → LoadsTo c s p.thread (loading c p k (after_store store w)) u (store_event (extent c) a p.thread k store w)
-    store_loads (Exchanged way word) w u is words loads reads =
-        let origin : (value_at s p.thread).origin ≡ to_register k = ap (λ y. (value_in y.value).origin) loads ∙ swap_register k is in
-        let read = field_read way w _ words loads refl reads in
-        (λ i. with_load s.loads p.thread (pair None (pending_load (origin i) (read i))) u)
-        ∙ ap (λ l. with_load s.loads p.thread l u) (sym (field_loading c p k w (swap_takes k is)))
-    store_loads (Compared way word) w u is words loads reads =
-        either (LoadsTo c s p.thread unloaded u) (eqb w way.expected) _ _ refl refl
-    store_loads _ w u is words loads reads = refl
-
     has : (l : Loading) → s.loads p.thread ≡ l → l.value ≡ Some (value_in l.value) → HasValue s p.thread
     has l loads is = has_value s p.thread (value_in l.value) (ap (λ y. y.value) loads ∙ is)
 
@@ -407,34 +320,42 @@ module _ (c : Config) (s : GraphState) (a : Name) (p : Pass) (k : Command) where
         → s.loads p.thread ≡ triple (object_on (extent c) k way) x (value_load (other_register k) word)
         → register_of s.graph p.thread (from_register k) ≡ values.Ref a
         → Guard c.width c.threads s (events.StoreField p.thread a (field_index k) (stored_at way))
-    in_field_guarded way word x tn walk there loads hand = (
-      tn,
-      prompt c s p.thread _ loads refl,
-      has _ loads refl,
-      at_field c s p.thread (from_register k) (field_index k) way (ap (λ l. l.object) loads) walk a there hand,
-    )
-
-    store_guarded : (store : FieldStore) (w : ℕ) → p.thread < c.threads → IsCommandInRange k → StoreFits c k store → s.loads p.thread ≡ store_loading (extent c) k store
-        → InHandAt s a p.thread k (Store store) → MayCome c s p.thread (store_event (extent c) a p.thread k store w)
-    store_guarded (Moved word) w tn range fits loads hand = (tn, to_low k range, prompt c s p.thread _ loads refl, has _ loads refl)
-    store_guarded (Pending word value) w tn range fits loads hand = (tn, has _ loads refl, ap (λ l. (value_in l.value).pending) loads)
-    store_guarded (InField way word) w tn range fits loads hand = in_field_guarded way word _ tn fits.0 fits.1 loads hand
-    store_guarded (Exchanged way word) w tn range fits loads hand = in_field_guarded way word _ tn fits.0 fits.1 loads hand
-    store_guarded (Compared way word) w tn range fits loads hand = either (MayCome c s p.thread) (eqb w way.expected) _ _
-        (in_field_guarded way word _ tn fits.0 fits.1 loads hand) (tn, prompt c s p.thread _ loads refl)
+    in_field_guarded way word x tn walk there loads hand =
+        let field = at_field c s p.thread (from_register k) (field_index k) way (ap (λ l. l.object) loads) walk a there hand in
+        (tn, prompt c s p.thread _ loads refl, has _ loads refl, field)
 
     pub loads_moved : (row : FieldRow) (w : ℕ) → FitsAt c p k row → (reads_beside_graph row ≡ false → ReadsAt c p k row w) → IsAt (extent c) s h p k row w
         → (u : ℕ) → LoadsTo c s p.thread (loading c p k (row_got (extent c) p k row w)) u (row_event (extent c) a p.thread k row w)
-    loads_moved (LoadRegister wanted) w fits reads at u =
-        register_loads c s p.thread p k wanted w u fits.belongs (reads refl).0.0 at.loads (payload_read s h _ _ w at.words at.reads)
-    loads_moved (LoadShape x) w fits reads at u = shape_moved c s p.thread p k x u (shape_in w) fits.belongs at.loads
+    loads_moved (LoadRegister wants.Copied) w fits reads at u =
+        value_moved c s p.thread (from_register k) w u unloaded _ at.loads (payload_read s h _ _ w at.words at.reads) (before_loading c p k (Moved w))
+    loads_moved (LoadRegister wants.Object) w fits reads at u = payload_cases w (reads refl).0.0
+        (λ q. LoadsTo c s p.thread (loading c p k (after_object q)) u (cond (refers q) (Some (events.ReadObject p.thread (from_register k))) None))
+        (λ none. unmoved s.loads p.thread unloaded u at.loads) (λ v none low. unmoved s.loads p.thread unloaded u at.loads)
+        (λ x to some i. with_load s.loads p.thread (record (at.loads i) { object = object_load (from_register k) ((ap target (payload_read s h _ _ w at.words at.reads) ∙ sym to) i) }) u)
+    loads_moved (LoadRegister (wants.Expected way)) w fits reads at u =
+        (λ i. with_load s.loads p.thread (record (at.loads i) { expected = value_load (expected_register k) (payload_read s h _ _ w at.words at.reads i) }) u)
+        ∙ ap (λ x. with_load s.loads p.thread (triple (object_on (extent c) k way) x None) u) (sym (cas_expects k w fits.belongs))
+    loads_moved (LoadRegister (wants.Stored way)) w fits reads at u = value_moved c s p.thread (other_register k) w u _ _ at.loads (payload_read s h _ _ w at.words at.reads)
+        (way_loading c p k way w ∙ ap (triple (object_on (extent c) k way) (expected_load k way.expected)) (stores_carries k w fits.belongs))
+    loads_moved (LoadRegister wants.First) w fits reads at u = value_moved c s p.thread (from_register k) w u unloaded _ at.loads (payload_read s h _ _ w at.words at.reads) refl
+    loads_moved (LoadRegister wants.Shown) w fits reads at u = payload_cases w (reads refl).0.0
+        (λ q. LoadsTo c s p.thread (loading c p k (after_said w q)) u (cond (refers q) (Some (events.ReadValue p.thread (from_register k))) None))
+        (λ none. unmoved s.loads p.thread unloaded u at.loads) (λ v none low. unmoved s.loads p.thread unloaded u at.loads)
+        (λ x to some. value_moved c s p.thread (from_register k) w u unloaded _ at.loads (payload_read s h _ _ w at.words at.reads) (said_loading c p k w fits.belongs))
+    loads_moved (LoadShape x) w fits reads at u = shape_moved c s p.thread p k x u (shape_in w) at.loads
     loads_moved (LoadLink way word) w fits reads at u = link_moved c s p.thread p k w u way word at.loads (payload_read s h _ _ w at.words at.reads)
     loads_moved (LoadField way) w fits reads at u =
         ap (λ x. with_load s.loads p.thread (pair None (pending_load (to_register k) x)) u) (field_read way w _ at.words at.loads refl at.reads)
         ∙ ap (λ l. with_load s.loads p.thread l u) (sym (field_loading c p k w (get_takes k fits.belongs)))
     loads_moved (LoadOwner word) w fits reads at u = owner_loads c s p.thread p k word u (rows.object_in w) fits.belongs at.loads
     loads_moved (Shade r store) w fits reads at u = unmoved s.loads p.thread _ u (at.loads ∙ sym (barrier_loading c p k _ store))
-    loads_moved (Store store) w fits reads at u = store_loads store w u fits.belongs at.words at.loads at.reads
+    loads_moved (Store (Exchanged way word)) w fits reads at u =
+        let origin : (value_at s p.thread).origin ≡ to_register k = ap (λ y. (value_in y.value).origin) at.loads ∙ swap_register k fits.belongs in
+        let read = field_read way w _ at.words at.loads refl at.reads in
+        (λ i. with_load s.loads p.thread (pair None (pending_load (origin i) (read i))) u)
+        ∙ ap (λ l. with_load s.loads p.thread l u) (sym (field_loading c p k w (swap_takes k fits.belongs)))
+    loads_moved (Store (Compared way word)) w fits reads at u =
+        either (LoadsTo c s p.thread unloaded u) (eqb w way.expected) _ _ refl refl
     loads_moved (Answered reply) w fits reads at u = unmoved s.loads p.thread unloaded u at.loads
     loads_moved _ w fits reads at u = refl
 
@@ -443,22 +364,22 @@ module _ (c : Config) (s : GraphState) (a : Name) (p : Pass) (k : Command) where
     row_guarded (LoadRegister wanted) w fits reads at hand =
         register_guarded c s p.thread k wanted w fits.thread.thread fits.command (reads refl).0.0 at.loads (payload_read s h _ _ w at.words at.reads)
     row_guarded (LoadShape x) w fits reads at hand =
-        let load : object_at s p.thread ≡ object_in (object_load (from_register k) x) = ap (λ l. object_in l.object) at.loads in
-        let word : s.words.shape (object_at s p.thread).block ≡ w = ap (λ o. s.words.shape o.block) load ∙ ap (λ b. b.shape x) at.words ∙ sym at.reads in
-        either (MayCome c s p.thread) (length_decides k (shape_length (shape_in w))) _ _
-        (fits.thread.thread, prompt c s p.thread _ at.loads refl)
-        (fits.thread.thread, has_object s p.thread (object_in (object_load (from_register k) x)) (ap (λ l. l.object) at.loads), ap shape_of word ∙ shape_read w (reads refl).0)
+        let word : s.words.shape (object_at s p.thread).block ≡ w = ap (λ l. s.words.shape (object_in l.object).block) at.loads ∙ ap (λ b. b.shape x) at.words ∙ sym at.reads in
+        either (MayCome c s p.thread) (length_decides k (shape_length (shape_in w))) _ _ (fits.thread.thread, prompt c s p.thread _ at.loads refl)
+        (fits.thread.thread, has_object s p.thread _ (ap (λ l. l.object) at.loads), ap shape_of word ∙ shape_read (shape_of w) (reads refl).0)
     row_guarded (LoadLink way word) w fits reads at hand =
         (fits.thread.thread, at_link c s p.thread (from_register k) (field_index k) way (ap (λ l. l.object) at.loads) fits.row.0 fits.row.1)
-    row_guarded (LoadField way) w fits reads at hand = (
-      fits.thread.thread,
-      to_low k fits.command,
-      prompt c s p.thread _ at.loads refl,
-      at_field c s p.thread (from_register k) (field_index k) way (ap (λ l. l.object) at.loads) fits.row.0 a fits.row.1 hand,
-    )
-    row_guarded (LoadOwner word) w fits reads at hand = owner_guarded c s p.thread k word fits.thread.thread fits.belongs at.loads
-    row_guarded (Store store) w fits reads at hand = store_guarded store w fits.thread.thread fits.command fits.row at.loads hand
+    row_guarded (LoadField way) w fits reads at hand =
+        let field = at_field c s p.thread (from_register k) (field_index k) way (ap (λ l. l.object) at.loads) fits.row.0 a fits.row.1 hand in
+        (fits.thread.thread, to_low k fits.command, prompt c s p.thread _ at.loads refl, field)
+    row_guarded (LoadOwner word) w fits reads at hand = owner_guarded c s p.thread (takes_field k) fits.thread.thread (ap (λ l. (value_in l.value).pending) at.loads)
+    row_guarded (Store (Moved word)) w fits reads at hand = (fits.thread.thread, to_low k fits.command, prompt c s p.thread _ at.loads refl, has _ at.loads refl)
+    row_guarded (Store (Pending word value)) w fits reads at hand = (fits.thread.thread, has _ at.loads refl, ap (λ l. (value_in l.value).pending) at.loads)
+    row_guarded (Store (InField way word)) w fits reads at hand = in_field_guarded way word _ fits.thread.thread fits.row.0 fits.row.1 at.loads hand
+    row_guarded (Store (Exchanged way word)) w fits reads at hand = in_field_guarded way word _ fits.thread.thread fits.row.0 fits.row.1 at.loads hand
+    row_guarded (Store (Compared way word)) w fits reads at hand = either (MayCome c s p.thread) (eqb w way.expected) _ _
+        (in_field_guarded way word _ fits.thread.thread fits.row.0 fits.row.1 at.loads hand) (fits.thread.thread, prompt c s p.thread _ at.loads refl)
     row_guarded StoreConstant w fits reads at hand =
-        (fits.thread.thread, to_low k fits.command, prompt c s p.thread unloaded at.loads refl, constant_low k fits.command)
+        (fits.thread.thread, to_low k fits.command, prompt c s p.thread unloaded at.loads refl, (set_constant k).1 fits.command)
     row_guarded IdleLook w fits reads at hand = (fits.thread.thread, prompt c s p.thread unloaded at.loads refl)
     row_guarded _ w fits reads at hand = tt
