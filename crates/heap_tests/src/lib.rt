@@ -11,7 +11,6 @@ mod ordered;
 mod schedules;
 #[cfg(test)]
 mod tests;
-#[cfg(test)]
 mod traces;
 #[cfg(test)]
 mod ways;

@@ -5,9 +5,7 @@
 mod exchanges;
 #[cfg(test)]
 mod fields;
-#[cfg(test)]
 mod hand;
-#[cfg(test)]
 mod held;
 #[cfg(test)]
 mod shading;
