@@ -422,6 +422,20 @@ fn step_at(row: FieldRow) -> Step
     }
 }
 
+impl FieldRow {
+    /// Whether the deciding event was made: the one at which the command takes its place among the
+    /// commands of all threads.
+    pub fn decided(&self) -> bool
+        ensures { result ≡ field_decided self.now }
+    {
+        match *self {
+            FieldRow::LoadOwner { .. } | FieldRow::Answered { .. } => true,
+            FieldRow::Shade { store, .. } | FieldRow::Store { store } => is_taken(store),
+            _ => false,
+        }
+    }
+}
+
 impl FieldPass {
     /// The part that does this command, which allocates nothing, for one of 1 to 16 threads that is
     /// inside. The command's registers are below 16, its numbers and indexes below 2^62. The phase
@@ -461,6 +475,20 @@ impl FieldPass {
             command,
             row: first_row(command),
         }
+    }
+
+    /// The part of this pass and command that has come to this row.
+    pub fn at_row(pass: Pass, command: Command, row: FieldRow) -> FieldPass
+        ensures { result ≡ record { pass = pass; command = command; row = row } }
+    {
+        FieldPass { pass, command, row }
+    }
+
+    /// The row to which the part has come.
+    pub fn row(&self) -> FieldRow
+        ensures { result ≡ self.now.row }
+    {
+        self.row
     }
 
     /// The operation of the next event. A part that is over wants no more than a look at the phase.
@@ -697,11 +725,7 @@ impl FieldPass {
     pub fn decided(&self) -> bool
         ensures { result ≡ field_decided self.now.row }
     {
-        match self.row {
-            FieldRow::LoadOwner { .. } | FieldRow::Answered { .. } => true,
-            FieldRow::Shade { store, .. } | FieldRow::Store { store } => is_taken(store),
-            _ => false,
-        }
+        self.row.decided()
     }
 
     /// The reply; `None` until the part is over.

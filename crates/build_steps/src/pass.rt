@@ -183,38 +183,51 @@ fn after_colour(ordinal: u32) -> BuildRow
 }
 
 impl BuildPass {
-    /// The part that builds the object of the command, for the thread of this number, one of
-    /// `threads`, 1 to 16, which is inside in this cycle, 1 to 2^54 − 2. The object's name has this
-    /// serial, at least 1 and below 2^43. The command makes an object of 1 to 1,024 blocks of
-    /// this width. `room` is empty and has capacity for them.
-    pub fn new(
+    /// A builder that has nothing to do, with this room for the blocks that it will hold.
+    pub fn idle(room: Vec<u32>) -> BuildPass
+        ensures { result.capacity ≡ vec_capacity room }
+    {
+        BuildPass {
+            thread: 0,
+            threads: 1,
+            cycle: 1,
+            serial: 1,
+            command: Command::Nil { d: 0 },
+            blocks: 0,
+            room,
+            row: BuildRow::Built,
+        }
+    }
+
+    /// Begins to build the object of the command, for the thread of this number, one of `threads`,
+    /// 1 to 16, which is inside in this cycle, 1 to 2^54 − 2. The object's name has this serial, at
+    /// least 1 and below 2^43. The command makes an object of 1 to 1,024 blocks of this width, for
+    /// which there is room.
+    pub fn begin(
+        &mut self,
         width: Width,
         thread: u32,
         threads: u32,
         cycle: u64,
         serial: u64,
         command: Command,
-        room: Vec<u32>,
-    ) -> BuildPass
+    )
         requires thread { (thread < threads) × (threads ≤ 16) }
         requires cycle { (1 ≤ cycle) × (cycle ≤ 2 ^ 54 - 2) }
         requires serial { (1 ≤ serial) × (serial < 2 ^ 43) }
         requires range { IsCommandInRange command }
         requires blocks { (1 ≤ blocks_of width command) × (blocks_of width command ≤ 1024) }
-        requires empty { room.items ≡ [] }
-        requires room { blocks_of width command ≤ vec_capacity room }
-        ensures { result ≡ building width thread threads cycle serial command (vec_capacity room) }
+        requires room { blocks_of width command ≤ self.old.capacity }
+        ensures { self.new ≡ building width thread threads cycle serial command self.old.capacity }
     {
-        BuildPass {
-            thread,
-            threads,
-            cycle,
-            serial,
-            command,
-            blocks: command.blocks(width),
-            room,
-            row: BuildRow::ReadCount,
-        }
+        self.thread = thread;
+        self.threads = threads;
+        self.cycle = cycle;
+        self.serial = serial;
+        self.command = command;
+        self.blocks = command.blocks(width);
+        self.room.clear();
+        self.row = BuildRow::ReadCount;
     }
 
     /// The operation of the next event. A part that is over wants no more than a look at the phase.
@@ -290,16 +303,6 @@ impl BuildPass {
             BuildRow::Refused => Some(Reply::Full(self.full_cycle())),
             _ => None,
         }
-    }
-
-    /// The room in which the held blocks stood, empty, with its capacity.
-    pub fn into_room(self) -> Vec<u32>
-        ensures empty { result.items ≡ [] }
-        ensures capacity { vec_capacity result ≡ self.capacity }
-    {
-        let mut room = self.room;
-        room.clear();
-        room
     }
 
     // The cycle before this one, or 1.

@@ -22,7 +22,7 @@ use Rattle.never_heap.specs.Steps.{blocks_of}
 use Rattle.never_heap.proofs.Growing.{part_append}
 use Rattle.barrier_steps.specs.Operands.{is_idle}
 use Rattle.lone_bound.specs.Prices.{allocation_bound, idle_bound, other_bound}
-use Rattle.heap_system.specs.declared.local.Part.TheVariants.{Rest}
+use Rattle.heap_system.specs.Parts.{Rest}
 use Rattle.heap_system.specs.declared.Turn.{Turn}
 use Rattle.heap_system.specs.declared.Turn.TheVariants.{Went, Done}
 use Rattle.heap_system.specs.Alone.{IsQuiet, HasCommand, EndsWithin, after_alone, command_bound}

@@ -11,8 +11,7 @@ use Rattle.never_heap.specs.Histories.{HistoryItem, replay}
 use Rattle.never_heap.specs.RightWork.{units_owed, units_told}
 use Rattle.never_heap.specs.Steps.{blocks_of}
 use Rattle.heap_machine.specs.Operations.{op_at, op_place, words_after}
-use Rattle.heap_system.specs.declared.local.Part.{Part}
-use Rattle.heap_system.specs.declared.local.Part.TheVariants.{Rest, Enter, Serve, Mark, Sweep, Build, Again, Idle, TurnOver, Leave}
+use Rattle.heap_system.specs.Parts.{Part, Rest, Enter, Serve, Mark, Sweep, Build, Again, Idle, TurnOver, Leave}
 use Rattle.heap_system.specs.Locals.{LocalState, Effect, IsLocal, PartFits, command_of, entries_of, balance_got, made_got, effect, part_want, part_got, local_got, is_done, is_rest}
 use Rattle.heap_system.specs.Machines.{State, Run, IsJob, local_at, no_local, heap_in, word_read, next_effect, event_done, has_event, items_by, next, after_turns}
 use Rattle.heap_system.specs.Naming.{renamed}

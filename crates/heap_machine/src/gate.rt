@@ -3,18 +3,17 @@
 //! start the next cycle.
 
 ghost use Rattle.std.specs.Prelude.{◌+◌, false, true, ◌≡◌, ◌<◌, ◌≤◌, ◌-◌, ◌^◌, IfSome};
-ghost use Rattle.block_store.specs.Places.{extent};
-ghost use Rattle.heap_machine.specs.Operations.{op_at, place_of};
-ghost use Rattle.heap_machine.specs.Memories.{ReadsOnly, ActsOnce};
+ghost use Rattle.block_store.specs.Places.{extent, Phase};
+ghost use Rattle.heap_machine.specs.Operations.{op_at, place_of, CompareExchange};
 ghost use Rattle.heap_machine.specs.Passes.{IsPass};
 ghost use Rattle.heap_machine.specs.Readings.{CanHold, IsPhaseWord};
-ghost use Rattle.heap_machine.specs.Gates.{gate_want, gate_got, going_got, gate_step, gate_entered, gate_started, is_going_in, GateFits, GateAt, SeenOpen};
+ghost use Rattle.heap_machine.specs.Gates.{gate_want, gate_got, going_got, gate_step, gate_entered, gate_started, GateFits, GateAt, SeenOpen};
 
 use crate::turnover::{
     check, close, flip, list_checked, look_to_close, put_roots, reopen, root_shaded, shade_root,
     start, tried_to_close,
 };
-use crate::{Memory, Op, Pass, Step};
+use crate::{Op, Pass, Step};
 use block_store::{PhaseWord, Places, read_phase};
 use std::marker::Model;
 
@@ -76,13 +75,13 @@ impl Model for Gate {
     ghost invariant = { λ g. GateFits g.row };
 }
 
-// Counts one thread more inside, where the phase word is still the one that was seen.
+/// Counts one thread more inside, where the phase word is still the open one that was seen.
 #[tactic(auto, unfolding(block_store::specs::Phases::inside_of))]
-fn entering(place: usize, seen: u64) -> Op
+pub fn entering(places: &Places, seen: u64) -> Op
     requires { SeenOpen seen }
-    ensures { result ≡ Op.CompareExchange place seen (seen + 1) }
+    ensures { result ≡ op_at (extent places.now) (CompareExchange Phase seen (seen + 1)) }
 {
-    Op::compare_exchange(place, seen, seen + 1)
+    Op::compare_exchange(places.phase(), seen, seen + 1)
 }
 
 impl Gate {
@@ -142,7 +141,7 @@ impl Gate {
             | TurnedOver
             | StartedCycle { cycle: _ }
             | KeptOut => Op::load(place),
-            Enter { seen } => entering(place, seen),
+            Enter { seen } => entering(places, seen),
             Leave => Op::FetchSub { place, by: 1 },
             Close { pass: _, seen } => close(place, seen),
             CheckList { pass: _, u } => check(places, u),
@@ -240,77 +239,6 @@ impl Gate {
         } else {
             self.row = GateRow::Look;
             Step::Waited
-        }
-    }
-
-    /// The part that goes in, after its first look read the word.
-    pub fn after_look(word: u64) -> Gate
-        requires { IsPhaseWord word }
-        ensures { result ≡ going_got GateRow.Look word }
-    {
-        if read_phase(word).closed {
-            Gate { row: GateRow::Look }
-        } else {
-            Gate {
-                row: GateRow::Enter { seen: word },
-            }
-        }
-    }
-
-    /// What this first look was.
-    pub fn look_step(word: u64) -> Step
-        requires { IsPhaseWord word }
-        ensures { result ≡ gate_step GateRow.Look word }
-    {
-        if read_phase(word).closed {
-            Step::Waited
-        } else {
-            Step::Went
-        }
-    }
-
-    /// `want`, of a part on its way in.
-    pub fn want_in(&self, places: &Places) -> Op
-        requires { is_going_in self.now ≡ true }
-        ensures { result ≡ op_at (extent places.now) (gate_want places.now.width self.now) }
-    {
-        let place = places.phase();
-        match self.row {
-            GateRow::Look => Op::load(place),
-            GateRow::Enter { seen } => entering(place, seen),
-            _ => unreachable!(),
-        }
-    }
-
-    /// One event of a part on its way in: the operation of `want_in`, made by this memory, and what
-    /// `got` does by the word that it read.
-    #[inline(always)]
-    pub fn event_in<M: Memory>(
-        &mut self,
-        places: &Places,
-        memory: &mut M,
-        shared: &M::Shared,
-    ) -> Step
-        requires way { is_going_in self.old ≡ true }
-        requires may { M.may memory.old shared.now
-            (op_at (extent places.now) (gate_want places.now.width self.old)) }
-        requires reads { ReadsOnly M.acts memory.old shared.now
-            (op_at (extent places.now) (gate_want places.now.width self.old)) IsPhaseWord }
-        ensures { ActsOnce M.acts memory.old shared.now
-            (op_at (extent places.now) (gate_want places.now.width self.old)) memory.new
-            (λ w. (self.new ≡ going_got self.old w) × (result ≡ gate_step self.old w)) }
-    {
-        let place = places.phase();
-        match self.row {
-            GateRow::Look => {
-                let word = memory.act(shared, &Op::load(place));
-                self.looked(word)
-            }
-            GateRow::Enter { seen } => {
-                let word = memory.act(shared, &entering(place, seen));
-                self.tried(seen, word)
-            }
-            _ => unreachable!(),
         }
     }
 

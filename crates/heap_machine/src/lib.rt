@@ -17,7 +17,7 @@ mod turning;
 mod turnover;
 mod words;
 
-pub use gate::{Gate, GateRow};
+pub use gate::{Gate, GateRow, entering};
 pub use laws::{
     black_blocks_refer_to_none_white, chains_are_lists, checked_lists_are_empty, gate_counts,
     gate_rows_stay_in_the_heap, grey_blocks_stand_once, lists_are_lost_at_a_put,

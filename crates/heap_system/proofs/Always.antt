@@ -19,8 +19,7 @@ use Rattle.work_account.proofs.Balances.{opened_sound}
 use Rattle.never_heap.specs.declared.Command.TheVariants as commands
 use Rattle.never_heap.specs.RightWork.{units_told}
 use Rattle.heap_system.proofs.Balances.{none_spent}
-use Rattle.heap_system.specs.declared.local.Part.{Part}
-use Rattle.heap_system.specs.declared.local.Part.TheVariants.{Rest}
+use Rattle.heap_system.specs.Parts.{Part, Rest}
 use Rattle.heap_system.specs.Locals.{LocalState, command_of, no_pass, at_start, task}
 use Rattle.heap_system.specs.Machines.{State, no_local, local_at, event_done, has_event, next_effect, items_by, Run, next, after_turns, starts_from, IsOpening, IsJob, opened, IsRunOf, heap_in}
 use Rattle.heap_system.specs.Naming.{renamed, opening_names}

@@ -11,8 +11,7 @@ use Rattle.heap_machine.specs.Gating.{is_inside}
 use Rattle.heap_machine.specs.Operations.{place_of}
 use Rattle.heap_machine.specs.declared.gate.GateRow.TheVariants as gates
 use Rattle.heap_machine.specs.declared.pass.Pass.{Pass}
-use Rattle.heap_system.specs.declared.local.Part.{Part}
-use Rattle.heap_system.specs.declared.local.Part.TheVariants.{Enter}
+use Rattle.heap_system.specs.Parts.{Part, Enter}
 use Rattle.heap_system.specs.Locals.{part_want, PartFits, EntersOn, LocalReads}
 use Rattle.heap_system.specs.Machines.{Run, local_in, word_read, heap_in, IsJob, IsRunOf}
 use Rattle.heap_system.specs.Pictures.{stand_of}

@@ -19,7 +19,7 @@ use Rattle.cycle_tally.specs.Tallies.{units, made_now}
 use Rattle.cycle_tally.proofs.Laws.{bound_of}
 use Rattle.cycle_tally.proofs.Listing.{total_plus}
 use Rattle.cycle_tally.proofs.Smalls.{counts_small}
-use Rattle.heap_system.specs.declared.local.Part.{Part}
+use Rattle.heap_system.specs.Parts.{Part}
 use Rattle.heap_system.specs.Costs.{units_so_far}
 use Rattle.heap_system.specs.Locals.{LocalState, works}
 use Rattle.heap_system.specs.Machines.{Run, IsJob, IsRunOf, local_at, local_in, no_local}

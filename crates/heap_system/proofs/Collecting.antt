@@ -39,8 +39,7 @@ use Rattle.build_steps.proofs.Together.{phase_stays}
 use Rattle.kept_names.specs.Colouring.{IsShadedRoot}
 use Rattle.kept_names.specs.Reached.{IsReachedBlock}
 use Rattle.kept_names.proofs.Showing.{flipped_black, started_black}
-use Rattle.heap_system.specs.declared.local.Part.{Part}
-use Rattle.heap_system.specs.declared.local.Part.TheVariants.{Rest, Enter, Serve, Mark, Sweep, Build, Again, Idle, TurnOver, Leave}
+use Rattle.heap_system.specs.Parts.{Part, Rest, Enter, Serve, Mark, Sweep, Build, Again, Idle, TurnOver, Leave}
 use Rattle.build_steps.specs.Rows.{BuildState}
 use Rattle.heap_system.specs.Locals.{part_want, is_rest, is_done, command_of}
 use Rattle.heap_system.specs.Machines.{Run, IsJob, local_at, heap_in, has_event, event_done, turned}

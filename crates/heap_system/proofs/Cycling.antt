@@ -29,8 +29,7 @@ use Rattle.cycle_tally.specs.Bounds.{Bound, IsSwept}
 use Rattle.cycle_tally.specs.Tallies.{Spending, Tally, units_now, made_now}
 use Rattle.cycle_tally.specs.Tallies as tallying
 use Rattle.cycle_tally.proofs.Laws.{bound_of}
-use Rattle.heap_system.specs.declared.local.Part.{Part}
-use Rattle.heap_system.specs.declared.local.Part.TheVariants.{Mark, Sweep, Build, TurnOver}
+use Rattle.heap_system.specs.Parts.{Part, Mark, Sweep, Build, TurnOver}
 use Rattle.heap_system.specs.Costs.{units_so_far}
 use Rattle.heap_system.specs.Cycles.{is_at_block, scans_block, passes_block, times_that, is_behind}
 use Rattle.heap_system.specs.Locals.{Verdict, Open, AsStep, Refused, effect, part_want, command_of, is_done}

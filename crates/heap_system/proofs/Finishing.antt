@@ -10,7 +10,7 @@ use Rattle.rate_plan.specs.Rates.{IsRate}
 use Rattle.never_heap.specs.declared.Entry.{Entry}
 use Rattle.never_heap.specs.Histories.{replay, part, parts_from}
 use Rattle.never_heap.specs.Runs.{IsRun}
-use Rattle.heap_system.specs.declared.local.Part.TheVariants.{Rest}
+use Rattle.heap_system.specs.Parts.{Rest}
 use Rattle.heap_system.specs.Locals.{LocalState, works, command_of, owed, entries_of, is_rest}
 use Rattle.heap_system.specs.Machines.{State, no_local, local_at, heap_in, opened}
 use Rattle.heap_system.specs.Pictures.{waiting}

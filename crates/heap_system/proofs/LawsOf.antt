@@ -1,7 +1,6 @@
 -- The laws of each part: one line a part.
 use Rattle.block_store.specs.declared.Config.{Config}
-use Rattle.heap_system.specs.declared.local.Part.{Part}
-use Rattle.heap_system.specs.declared.local.Part.TheVariants.{Rest, Enter, Serve, Mark, Sweep, Build, Again, Idle, TurnOver, Leave}
+use Rattle.heap_system.specs.Parts.{Part, Rest, Enter, Serve, Mark, Sweep, Build, Again, Idle, TurnOver, Leave}
 use Rattle.heap_system.proofs.PartLaws.{PartLaws}
 use Rattle.heap_system.proofs.parts.Rest.{rest_laws}
 use Rattle.heap_system.proofs.parts.Enter.{enter_laws}

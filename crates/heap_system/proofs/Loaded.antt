@@ -30,8 +30,7 @@ use Rattle.barrier_steps.specs.declared.rows.FieldStore.{FieldStore}
 use Rattle.barrier_steps.specs.declared.rows.FieldStore.TheVariants as stores
 use Rattle.barrier_steps.specs.declared.rows.Wanted.{Wanted}
 use Rattle.barrier_steps.specs.declared.rows.Wanted.TheVariants as wants
-use Rattle.heap_system.specs.declared.local.Part.{Part}
-use Rattle.heap_system.specs.declared.local.Part.TheVariants.{Serve}
+use Rattle.heap_system.specs.Parts.{Part, Serve}
 use Rattle.heap_system.specs.Loaded.{IsLoadedBlock, IsOfValue, IsTaking}
 use Rattle.heap_system.specs.Locals.{PartFits, task, command_of}
 use Rattle.heap_system.specs.Machines.{Run, local_at}

@@ -5,8 +5,7 @@ use Rattle.block_store.specs.declared.Config.{Config}
 use Rattle.block_store.specs.Phases.{bit}
 use Rattle.never_heap.specs.declared.Command.{Command}
 use Rattle.never_heap.specs.Histories.{part, replay}
-use Rattle.heap_system.specs.declared.local.Part.{Part}
-use Rattle.heap_system.specs.declared.local.Part.TheVariants.{Sweep}
+use Rattle.heap_system.specs.Parts.{Part, Sweep}
 use Rattle.heap_system.specs.Locals.{LocalState, Verdict, Open, AsStep, Refused, is_decided, owed, command_of, is_done, effect, part_want, makes_unit, spent_got, works}
 use Rattle.heap_system.specs.Machines.{Run, IsJob, IsRunOf, local_at, word_read, next_effect, items_by, event_done, has_event, next, after_turns, opened, heap_in}
 use Rattle.heap_system.specs.Naming.{renamed}

@@ -23,8 +23,7 @@ use Rattle.cycle_tally.proofs.Listing.{total_plus}
 use Rattle.cycle_tally.proofs.Sums.{total_below}
 use Rattle.heap_machine.specs.Readings.{CanHold}
 use Rattle.heap_machine.specs.declared.pass.Pass.{Pass}
-use Rattle.heap_system.specs.declared.local.Part.{Part}
-use Rattle.heap_system.specs.declared.local.Part.TheVariants.{Serve}
+use Rattle.heap_system.specs.Parts.{Part, Serve}
 use Rattle.heap_system.specs.Costs.{units_so_far}
 use Rattle.heap_system.specs.Locals.{LocalState, Effect, Verdict, Open, AsStep, Refused, PartFits, entries_of, decided_in, commands_decided, is_done}
 use Rattle.heap_system.specs.Machines.{State, Run, IsJob, IsOpening, opened, no_local, local_at, local_in, heap_in, turned, next, next_effect, has_event, entries_by, starts_by, items_by}

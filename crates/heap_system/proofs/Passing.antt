@@ -25,8 +25,7 @@ use Rattle.barrier_steps.specs.Fits.{IsThread}
 use Rattle.kept_names.specs.Kept.{IsKept}
 use Rattle.kept_names.specs.Pictures.{Names, Task, no_task, picture}
 use Rattle.sweep_steps.specs.Ends.{unpassed}
-use Rattle.heap_system.specs.declared.local.Part.{Part}
-use Rattle.heap_system.specs.declared.local.Part.TheVariants.{Rest}
+use Rattle.heap_system.specs.Parts.{Part, Rest}
 use Rattle.heap_system.specs.Locals.{plain, pass_got, entries_of, task, unit_to_come, PartFits, IsRoomy}
 use Rattle.heap_system.specs.Pictures.{gating, holding, waiting}
 use Rattle.heap_system.proofs.Seeing.{stage, stage_of, PartKept, Knows, IsSettled, lead, Seen, EventKept}

@@ -33,7 +33,10 @@ use Rattle.heap_machine.specs.Turning.{turns_over}
 use Rattle.heap_machine.specs.declared.pass.Pass.{Pass}
 use Rattle.heap_machine.specs.declared.gate.GateRow.{GateRow}
 use Rattle.heap_machine.specs.declared.gate.GateRow.TheVariants as gates
-use Rattle.barrier_steps.specs.Rows.{at_first_row}
+use Rattle.barrier_steps.specs.Rows.{FieldState, at_first_row}
+use Rattle.barrier_steps.specs.declared.rows.FieldRow.{FieldRow}
+use Rattle.heap_system.specs.declared.rows.Row.{Row}
+use Rattle.heap_system.specs.declared.rows.Row.TheVariants as rows
 use Rattle.barrier_steps.specs.Fits.{IsThread}
 use Rattle.barrier_steps.proofs.FieldRows.{first_fits}
 use Rattle.grey_steps.specs.Rows.{GreyState, grey_got, grey_unit, scanning}
@@ -50,18 +53,20 @@ use Rattle.build_steps.specs.Rows.{BuildState, building}
 use Rattle.build_steps.proofs.Ranges as building_ranges
 use Rattle.work_account.specs.Accounts.{Balance, AccountState, entered}
 use Rattle.heap_system.specs.declared.local.Local.TheInside.{Inside}
-use Rattle.heap_system.specs.declared.local.Part.{Part}
-use Rattle.heap_system.specs.declared.local.Part.TheVariants.{Rest, Enter, Serve, Mark, Sweep, Build, TurnOver, Leave}
+use Rattle.heap_system.specs.Parts.{part_at, Part, Rest, Enter, Serve, Mark, Sweep, Build, TurnOver, Leave}
 use Rattle.heap_system.specs.Machines.{IsJob}
 use Rattle.heap_system.specs.Lives.{IsLife, sum_after, objects_of, most_units, most_objects}
-use Rattle.heap_system.specs.Locals.{LocalState, IsLocal, PartFits, PartReads, IsRoomy, IsAllMade, HasRoom, errand_of, command_of, owed, pass_by, is_last, is_rest, unit_to_come, works, entry_of, made_got, balance_over, paid_part, begun}
+use Rattle.heap_system.specs.Locals.{LocalState, command_behind, IsLocal, PartFits, PartReads, IsRoomy, IsAllMade, errand_of, command_of, owed, pass_by, is_last, is_rest, unit_to_come, works, entry_of, made_got, balance_over, paid_part, begun}
 use Rattle.work_account.proofs.Balances.{entered_sound}
 use Rattle.cycle_tally.proofs.Sums.{paid_entered}
 use Rattle.heap_system.proofs.Balances.{none_spent, units_entered, paid_over, all_paid, units_over, sound_over}
 
--- what is seen of a thread
+-- the part at which a thread is, and what is seen of it
+abbrev pub part_of : Inside → Part
+part_of l = part_at l.config l.pass (command_behind l.trace.items l.log.items) l.field l.gate l.builder l.row
+
 abbrev pub view_of : Inside → LocalState
-view_of l = record { config = l.config; rate = l.rate; thread = l.thread; before = l.before; trace = l.trace.items; log = l.log.items; balance = l.account.balance; spent = l.spent; made = l.made; space = l.space; pass = l.pass; part = l.part }
+view_of l = record { config = l.config; rate = l.rate; thread = l.thread; before = l.before; trace = l.trace.items; log = l.log.items; balance = l.account.balance; spent = l.spent; made = l.made; space = l.builder.capacity; pass = l.pass; part = part_of l }
 
 -- an object takes no more blocks than one object may
 pub blocks_low : (c : Config) (k : Command) → IsCommandInBounds c k → blocks_of c.width k ≤ c.object
@@ -183,21 +188,13 @@ module _ (l : LocalState) (k : IsLocal l) (low : length l.log < length l.trace) 
   serve_fits : PartFits l.config (length l.log) (length l.trace) p (Serve (at_first_row p (command_of l)))
   serve_fits = (first_fits l.config p (command_of l) thread same k.bounds.blocks (ranges.in_range l.config (command_of l) (command_fits l k)), low)
 
--- a thread at rest has its room
-pub room_at_rest : (p : Part) (space capacity : ℕ) (held : List ℕ) → p ≡ Rest → HasRoom p space held capacity → (held ≡ []) × (capacity ≡ space)
-room_at_rest p space capacity held e h = subst (λ x. HasRoom x space held capacity) e h
-
--- and one that turns over
-pub room_there : (p : Part) (g : GateRow) (space capacity : ℕ) (held : List ℕ) → p ≡ TurnOver g → HasRoom p space held capacity → (held ≡ []) × (capacity ≡ space)
-room_there p g space capacity held e h = subst (λ x. HasRoom x space held capacity) e h
-
 -- a thread in another pass and part
 pub begins : (l : LocalState) (p : Pass) (part : Part) → IsLocal l → PartFits l.config (length l.log) (length l.trace) p part → l.spent + unit_to_come l.config part ≤ owed l → IsAllMade (owed l) l.spent part → IsRoomy l.space part → IsLocal (record l { pass = p; part = part })
 begins l p part k fits pays all roomy = record { bounds = k.bounds; plan = k.plan; rate = k.rate; thread = k.thread; trace = k.trace; life = k.life; log = k.log; part = fits; paid = pays; settled = all; sound = k.sound; account = k.account; units = k.units; made = k.made; space = k.space; roomy = roomy }
 
--- a thread at rest that enters a cycle
-pub entered_local : (i : Inside) (z : ℕ) (a : AccountState) → IsLocal (view_of i) → i.part ≡ Rest → a ≡ record i.account { balance = entered z i.account.balance } → IsLocal (record (view_of i) { balance = a.balance })
-entered_local i z a k rest is =
+-- a thread that enters a cycle
+pub entered_local : (i : Inside) (z : ℕ) (a : AccountState) → IsLocal (view_of i) → a ≡ record i.account { balance = entered z i.account.balance } → IsLocal (record (view_of i) { balance = a.balance })
+entered_local i z a k is =
     let same : (entered z i.account.balance).paid ≡ i.account.balance.paid = paid_entered z i.account.balance in
     subst (λ (x : AccountState). IsLocal (record (view_of i) { balance = x.balance })) (sym is) (record {
       bounds = k.bounds;
@@ -218,13 +215,20 @@ entered_local i z a k rest is =
       roomy = k.roomy;
     })
 
--- a build that begins in a room of this capacity
-pub begins_build : (l : LocalState) (phase : PhaseWord) (p : Pass) (command : Command) (capacity : ℕ) (b : BuildState) → IsLocal l → length l.log < length l.trace → p ≡ pass_by l.thread l.config.threads phase → IsPass p → command ≡ command_of l → 0 < blocks_of l.config.width command → owed l - l.spent ≡ 0 → capacity ≡ l.space → b ≡ building l.config.width p.thread p.threads p.cycle (l.made + 1) command capacity → IsLocal (record l { pass = p; part = Build b })
-begins_build l phase p command capacity b k low by pass is some none space built =
-    let whole : b ≡ building l.config.width p.thread p.threads p.cycle (l.made + 1) (command_of l) l.space = built ∙ ap (λ n. building l.config.width p.thread p.threads p.cycle (l.made + 1) command n) space ∙ ap (λ q. building l.config.width p.thread p.threads p.cycle (l.made + 1) q l.space) is in
-    subst (λ x. IsLocal (record l { pass = p; part = Build x })) (sym whole)
+-- a build that begins
+pub begins_build : (l : LocalState) (phase : PhaseWord) (p : Pass) (command : Command) (b : BuildState) → IsLocal l → length l.log < length l.trace → p ≡ pass_by l.thread l.config.threads phase → IsPass p → command ≡ command_of l → 0 < blocks_of l.config.width command → owed l - l.spent ≡ 0 → b ≡ building l.config.width p.thread p.threads p.cycle (l.made + 1) command l.space → IsLocal (record l { space = b.capacity; pass = p; part = Build b })
+begins_build l phase p command b k low by pass is some none built =
+    let whole : b ≡ building l.config.width p.thread p.threads p.cycle (l.made + 1) (command_of l) l.space = built ∙ ap (λ q. building l.config.width p.thread p.threads p.cycle (l.made + 1) q l.space) is in
+    subst (λ x. IsLocal (record l { space = x.capacity; pass = p; part = Build x })) (sym whole)
     (begins l p (Build (building l.config.width p.thread p.threads p.cycle (l.made + 1) (command_of l) l.space)) k
     (build_fits l k low p (ap (λ (q : Pass). q.thread) by) (ap (λ (q : Pass). q.threads) by) pass (subst (λ x. 0 < blocks_of l.config.width x) is some)) (omega (arith, k.paid)) (omega (arith, k.paid, none)) refl)
+
+-- a command that makes no object begins, at its first row
+pub begins_serve : (l : LocalState) (phase : PhaseWord) (p : Pass) (command : Command) (f : FieldState) (row : FieldRow) → IsLocal l → length l.log < length l.trace → p ≡ pass_by l.thread l.config.threads phase → IsPass p → command ≡ command_of l → owed l - l.spent ≡ 0 → f ≡ at_first_row p command → row ≡ f.row → IsLocal (record l { pass = p; part = Serve (record { pass = p; command = command_of l; row = row }) })
+begins_serve l phase p command f row k low by pass is none first at =
+    let whole : row ≡ (at_first_row p (command_of l)).row = at ∙ ap (λ (x : FieldState). x.row) (first ∙ ap (at_first_row p) is) in
+    subst (λ r. IsLocal (record l { pass = p; part = Serve (record { pass = p; command = command_of l; row = r }) })) (sym whole)
+    (begins l p (Serve (at_first_row p (command_of l))) k (serve_fits l k low p (ap (λ (q : Pass). q.thread) by) (ap (λ (q : Pass). q.threads) by) pass) (omega (arith, k.paid)) (omega (arith, k.paid, none)) tt)
 
 -- a part that turns over goes on with such rows
 turns_either : (b : Bool) (p q : GateRow) → turns_over p ≡ true → turns_over q ≡ true → turns_over (cond b p q) ≡ true
@@ -397,11 +401,17 @@ one_set [] k e = absurd (omega arith)
 one_set (x ∷ []) k e = refl
 one_set (x ∷ y ∷ zs) k e = absurd (omega arith)
 
-pub begun_with : (l : LocalState) (k : Command) (before : ℕ) (log : List Entry) → IsLocal (begun k l) → length l.trace ≡ 1 → before ≡ l.before + works l.log → log ≡ [] → IsLocal (record l { before = before; trace = set l.trace 0 k; log = log })
-begun_with l k before log is one more none =
-    subst (λ n. IsLocal (record l { before = n; trace = set l.trace 0 k; log = log })) (sym more)
+pub begun_with : (l : LocalState) (k : Command) (before : ℕ) (log : List Entry) (part : Part) → IsLocal (begun k l) → length l.trace ≡ 1 → before ≡ l.before + works l.log → log ≡ [] → part ≡ l.part → IsLocal (record l { before = before; trace = set l.trace 0 k; log = log; part = part })
+begun_with l k before log part is one more none same =
+    subst (λ p. IsLocal (record l { before = before; trace = set l.trace 0 k; log = log; part = p })) (sym same)
+    (subst (λ n. IsLocal (record l { before = n; trace = set l.trace 0 k; log = log })) (sym more)
     (subst (λ x. IsLocal (record l { before = l.before + works l.log; trace = set l.trace 0 k; log = x })) (sym none)
-    (subst (λ x. IsLocal (record l { before = l.before + works l.log; trace = x; log = [] })) (sym (one_set l.trace k one)) is))
+    (subst (λ x. IsLocal (record l { before = l.before + works l.log; trace = x; log = [] })) (sym (one_set l.trace k one)) is)))
+
+-- a thread at rest looks at no command
+pub rest_same : (c : Config) (q : Pass) (k n : Command) (f : FieldRow) (g : GateRow) (b : BuildState) (r : Row) → is_rest (part_at c q k f g b r) ≡ true → part_at c q n f g b r ≡ part_at c q k f g b r
+rest_same c q k n f g b rows.Rest e = refl
+rest_same c q k n f g b _ e = absurd cc
 
 pub begun_long : (xs : List Command) (k : Command) (n : ℕ) → length xs ≡ 1 → length xs ≤ n → length (set xs 0 k) ≤ n
 begun_long xs k n one low = let e : length (set xs 0 k) ≡ 1 = ap length (one_set xs k one) in omega arith

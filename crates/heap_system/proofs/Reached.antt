@@ -11,8 +11,7 @@ use Rattle.never_heap.specs.Histories.{HistoryItem, Started, Did, part, parts_fr
 use Rattle.never_heap.specs.RightWork.{RightWork, units_owed}
 use Rattle.heap_machine.specs.Operations.{op_at, op_place, words_after, SumFits}
 use Rattle.heap_machine.specs.declared.op.Op.{Op}
-use Rattle.heap_system.specs.declared.local.Part.{Part}
-use Rattle.heap_system.specs.declared.local.Part.TheVariants.{Rest}
+use Rattle.heap_system.specs.Parts.{Part, Rest}
 use Rattle.heap_system.specs.declared.Turn.{Turn}
 use Rattle.heap_system.specs.Locals.{LocalState, is_rest, is_done, part_want, part_step, turn_of, local_got, LocalReads}
 use Rattle.heap_system.specs.Machines.{State, no_local, local_at, word_read, event_done, has_event, turned, answer, Run, next, after_turns, IsJob, opened, IsRunOf}

@@ -23,8 +23,7 @@ use Rattle.barrier_steps.specs.Rows.{field_reply, field_got}
 use Rattle.grey_steps.specs.Rows.{grey_got, grey_over, grey_nothing}
 use Rattle.sweep_steps.specs.Rows.{sweep_got, sweep_over, sweep_nothing}
 use Rattle.build_steps.specs.Rows.{BuildState, build_got, build_reply}
-use Rattle.heap_system.specs.declared.local.Part.{Part}
-use Rattle.heap_system.specs.declared.local.Part.TheVariants.{Rest, Enter, Serve, Mark, Sweep, Build, Again, Idle, TurnOver, Leave}
+use Rattle.heap_system.specs.Parts.{Part, Rest, Enter, Serve, Mark, Sweep, Build, Again, Idle, TurnOver, Leave}
 use Rattle.build_steps.specs.declared.rows.BuildRow.{BuildRow}
 use Rattle.never_heap.specs.RightWork.{units_told}
 use Rattle.heap_system.specs.Locals.{LocalState, Effect, Errand, View, command_of, errand_of, entries_of, spent_got, balance_got, made_got, pass_got, effect, view, first_part, if_entered, if_over, if_replied, is_last, part_got, local_got, is_done, is_rest, pass_by, at_start}

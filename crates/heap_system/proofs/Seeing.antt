@@ -35,8 +35,7 @@ use Rattle.build_steps.specs.Naming.{HoldsBuild}
 use Rattle.kept_names.specs.Kept.{IsKept}
 use Rattle.work_account.specs.Accounts.{Balance}
 use Rattle.kept_names.specs.Pictures.{Names, Task, no_task, picture}
-use Rattle.heap_system.specs.declared.local.Part.{Part}
-use Rattle.heap_system.specs.declared.local.Part.TheVariants.{Rest, Enter, Serve, Mark, Sweep, Build, Idle, TurnOver, Leave}
+use Rattle.heap_system.specs.Parts.{Part, Rest, Enter, Serve, Mark, Sweep, Build, Idle, TurnOver, Leave}
 use Rattle.heap_system.specs.Lives.{objects_of}
 use Rattle.heap_system.specs.Locals.{paid_part, Errand, Effect, Verdict, Open, AsStep, Refused, task, pass_got, spent_got, made_got, entry_of, entries_of, works, unit_to_come, PartFits, IsRoomy}
 use Rattle.heap_system.specs.Machines.{starts_by}

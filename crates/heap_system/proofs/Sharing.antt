@@ -19,8 +19,7 @@ use Rattle.never_heap.proofs.Growing.{part_append, starts_append}
 use Rattle.work_account.specs.Accounts.{Balance, entered}
 use Rattle.heap_machine.specs.Gating.{is_inside}
 use Rattle.heap_machine.specs.declared.pass.Pass.{Pass}
-use Rattle.heap_system.specs.declared.local.Part.{Part}
-use Rattle.heap_system.specs.declared.local.Part.TheVariants.{Rest, Enter, Serve, Mark, Sweep, Build}
+use Rattle.heap_system.specs.Parts.{Part, Rest, Enter, Serve, Mark, Sweep, Build}
 use Rattle.heap_system.specs.Locals.{Verdict, Open, AsStep, Refused, effect, balance_in, balance_paid, entries_of}
 use Rattle.heap_system.specs.Machines.{entries_by, starts_by}
 use Rattle.heap_system.specs.Naming.{Naming, Begun}

@@ -24,7 +24,7 @@ use Rattle.cycle_tally.specs.Tallies.{Spending, Tally, made_of}
 use Rattle.work_account.specs.Accounts.{Balance}
 use Rattle.cycle_tally.proofs.Laws as tallies
 use Rattle.cycle_tally.proofs.Openings.{opens}
-use Rattle.heap_system.specs.declared.local.Part.{Part}
+use Rattle.heap_system.specs.Parts.{Part}
 use Rattle.heap_system.specs.Locals.{LocalState, command_of, owed, is_done, paid_part, spent_got, entries_of}
 use Rattle.heap_system.specs.Machines.{State, Run, local_at, event_done, has_event, next_effect, items_by, heap_in, next, after_turns, IsOpening, IsJob, IsRunOf, opened}
 use Rattle.heap_system.specs.Naming.{renamed}

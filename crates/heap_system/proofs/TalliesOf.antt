@@ -1,7 +1,6 @@
 -- How each part moves a tally: one line a part.
 use Rattle.block_store.specs.declared.Config.{Config}
-use Rattle.heap_system.specs.declared.local.Part.{Part}
-use Rattle.heap_system.specs.declared.local.Part.TheVariants.{Rest, Enter, Serve, Mark, Sweep, Build, Again, Idle, TurnOver, Leave}
+use Rattle.heap_system.specs.Parts.{Part, Rest, Enter, Serve, Mark, Sweep, Build, Again, Idle, TurnOver, Leave}
 use Rattle.heap_system.proofs.Tallying.{TallyLaw}
 use Rattle.heap_system.proofs.tallies.Build.{build_tallied}
 use Rattle.heap_system.proofs.tallies.Entering.{rest_tallied, enter_tallied}

@@ -19,7 +19,7 @@ use Rattle.kept_names.specs.Building.{Build as Builder, build_blocks}
 use Rattle.work_account.specs.Accounts.{Balance}
 use Rattle.cycle_tally.specs.Kept.{TallyKept}
 use Rattle.cycle_tally.specs.Tallies.{Spending, Tally, units_now}
-use Rattle.heap_system.specs.declared.local.Part.{Part}
+use Rattle.heap_system.specs.Parts.{Part}
 use Rattle.heap_system.specs.Locals.{Effect, view, effect, idle_part, spent_got, balance_got, part_want, part_got}
 use Rattle.heap_system.specs.Machines.{starts_by}
 use Rattle.heap_system.specs.Naming.{Naming, Begun}

@@ -16,8 +16,7 @@ use Rattle.barrier_steps.specs.Rows.{FieldState, field_decided}
 use Rattle.barrier_steps.proofs.Dues.{none_due, some_due}
 use Rattle.build_steps.specs.Rows.{BuildState}
 use Rattle.kept_names.specs.Pictures.{no_task}
-use Rattle.heap_system.specs.declared.local.Part.{Part}
-use Rattle.heap_system.specs.declared.local.Part.TheVariants.{Rest, Serve, Build, Leave}
+use Rattle.heap_system.specs.Parts.{Part, Rest, Serve, Build, Leave}
 use Rattle.never_heap.specs.RightWork.{units_told, units_owed}
 use Rattle.barrier_steps.specs.Operands.{is_idle}
 use Rattle.heap_system.proofs.Balances.{none_spent, all_paid}

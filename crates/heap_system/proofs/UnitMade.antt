@@ -13,15 +13,22 @@ use Rattle.sweep_steps.specs.Rows.{SweepState, sweep_got, sweep_passed, sweep_ov
 use Rattle.sweep_steps.proofs.Passing.{passed_bits, passed_few}
 use Rattle.work_account.specs.Accounts.{AccountState}
 use Rattle.heap_system.specs.declared.local.Local.TheInside.{Inside}
-use Rattle.heap_system.specs.declared.local.Part.{Part}
-use Rattle.heap_system.specs.declared.local.Part.TheVariants.{Sweep, Again, Idle}
+use Rattle.heap_system.specs.Parts.{part_at, Part, Serve, Mark, Sweep, Again, Idle, TurnOver}
+use Rattle.heap_system.specs.declared.rows.Row.{Row}
+use Rattle.heap_system.specs.declared.rows.Row.TheVariants as rows
+use Rattle.heap_machine.specs.declared.pass.Pass.{Pass}
+use Rattle.heap_machine.specs.declared.gate.GateRow.{GateRow}
+use Rattle.barrier_steps.specs.Rows.{FieldState}
+use Rattle.barrier_steps.specs.Fits.{FieldFits, FieldReads}
+use Rattle.grey_steps.specs.declared.rows.GreyRow.{GreyRow}
+use Rattle.sweep_steps.specs.declared.rows.SweepRow.{SweepRow}
 use Rattle.never_heap.specs.declared.Command.{Command}
 use Rattle.never_heap.specs.declared.Entry.{Entry}
 use Rattle.never_heap.specs.RightWork.{units_told}
 use Rattle.never_heap.specs.Steps.{blocks_of}
-use Rattle.heap_system.specs.Locals.{LocalState, told_behind, IsLocal, PartFits, IsRoomy, IsAllMade, IsPassAt, HasRoom, balance_on, spent_got, command_of, owed, unit_to_come, works, is_last, local_got}
+use Rattle.heap_system.specs.Locals.{LocalState, command_behind, told_behind, IsLocal, LocalReads, PartReads, PartFits, IsRoomy, IsAllMade, IsPassAt, balance_on, spent_got, command_of, owed, unit_to_come, works, is_last, local_got}
 use Rattle.heap_system.proofs.Balances.{paid_after, part_low, units_on, sound_on}
-use Rattle.heap_system.proofs.Paying.{view_of, price_low, paid_low, worked_low, passed_more, swept_last}
+use Rattle.heap_system.proofs.Paying.{part_of, view_of, price_low, paid_low, worked_low, passed_more, swept_last}
 use Rattle.heap_system.proofs.parts.InPass.{paid_more}
 
 -- what the command in hand is told to make, read off the trace behind the log
@@ -97,7 +104,7 @@ module _ (i : Inside) (k : IsLocal (view_of i)) (rate : i.account.rate ≡ i.rat
     pub counted_local : (part : Part)
         → PartFits i.config (length i.log.items) (length i.trace.items) i.pass part
         → i.spent + bit unit + unit_to_come i.config part ≤ owed (view_of i)
-        → IsAllMade (owed (view_of i)) spent part → IsRoomy i.space part
+        → IsAllMade (owed (view_of i)) spent part → IsRoomy i.builder.capacity part
         → IsLocal (record (view_of i) { balance = n.balance; spent = spent; part = part })
     counted_local part fits pays all roomy =
         let is : n.balance ≡ balance_on unit (units_told (command_of (view_of i))) i.account.balance =
@@ -145,7 +152,7 @@ module _ (i : Inside) (k : IsLocal (view_of i)) (rate : i.account.rate ≡ i.rat
         by false = counted_local Again low (omega (arith, pays)) tt tt
 
 -- the event of a sweep: what its thread was, and the units owed behind it
-module _ (i : Inside) (k : IsLocal (view_of i)) (s n : SweepState) (at : i.part ≡ Sweep s) where
+module _ (i : Inside) (k : IsLocal (view_of i)) (s n : SweepState) (at : part_of i ≡ Sweep s) where
   pub swept_fits : PartFits i.config (length i.log.items) (length i.trace.items) i.pass (Sweep s)
   swept_fits = subst (λ p. PartFits i.config (length i.log.items) (length i.trace.items) i.pass p) at k.part
 
@@ -162,20 +169,9 @@ module _ (i : Inside) (k : IsLocal (view_of i)) (s n : SweepState) (at : i.part 
             (subst (λ p. i.spent + unit_to_come i.config p ≤ owed (view_of i)) at k.paid),
       )
 
--- the room of a thread whose pass is over
-pub room_over : (part : Part) (none : Bool) (space capacity : ℕ) (held : List ℕ)
-    → part ≡ cond none Idle Again → (held ≡ []) × (capacity ≡ space)
-    → HasRoom part space held capacity
-room_over part none space capacity held is room =
-    subst (λ p. HasRoom p space held capacity) (sym is) (by none)
-  where
-    by : (b : Bool) → HasRoom (cond b Idle Again) space held capacity
-    by true = room
-    by false = room
-
 -- a Sweep pass that is not over
 pub swept_got : (i : Inside) (s n : SweepState) (w : ℕ) (a : AccountState) (told spent before now : ℕ) (step : Step)
-    → i.part ≡ Sweep s → n ≡ sweep_got s w → is_last step ≡ false → step ≡ sweep_step s w
+    → part_of i ≡ Sweep s → n ≡ sweep_got s w → is_last step ≡ false → step ≡ sweep_step s w
     → before ≡ sweep_passed s.row → now ≡ sweep_passed n.row
     → a ≡ record i.account { balance = balance_on (ltb before now) told i.account.balance }
     → told ≡ units_told (command_of (view_of i)) → spent ≡ spent_got None (ltb before now) i.spent
@@ -194,3 +190,69 @@ swept_got i s n w a told spent before now step at got on stepped was is counts s
           (Sweep (sweep_got s w));
     })
     ∙ sym (ap (λ p. local_got (record (view_of i) { part = p }) w) at)
+
+-- a part that turns the phase over, as the code keeps it, with this row of the gate
+pub turn_to : (i : Inside) (g : GateRow) → i.row ≡ rows.TurnOver
+    → part_at i.config i.pass (command_behind i.trace.items i.log.items) i.field g i.builder i.row ≡ TurnOver g
+turn_to i g is = ap (part_at i.config i.pass (command_behind i.trace.items i.log.items) i.field g i.builder) is
+
+-- a command that makes no object
+pub serve_at : (i : Inside) (k : Command) (f : FieldState) → i.row ≡ rows.Serve → k ≡ command_of (view_of i)
+    → f ≡ record { pass = i.pass; command = k; row = i.field } → part_of i ≡ Serve f
+serve_at i k f is same at =
+    let whole : f ≡ record { pass = i.pass; command = command_of (view_of i); row = i.field } = at ∙ ap (λ x. record { pass = i.pass; command = x; row = i.field }) same in
+    ap (part_at i.config i.pass (command_behind i.trace.items i.log.items) i.field i.gate i.builder) is ∙ sym (ap Serve whole)
+
+pub serve_fits : (i : Inside) (c : Config) (k : Command) (f : FieldState) → IsLocal (view_of i) → i.row ≡ rows.Serve
+    → k ≡ command_of (view_of i) → f ≡ record { pass = i.pass; command = k; row = i.field } → c ≡ i.config → FieldFits c f
+serve_fits i c k f inside is same at there =
+    subst (λ x. FieldFits x f) (sym there) (subst (λ p. PartFits i.config (length i.log.items) (length i.trace.items) i.pass p) (serve_at i k f is same at) inside.part).0
+
+pub serve_reads : (i : Inside) (c : Config) (k : Command) (f : FieldState) (w : ℕ) → i.row ≡ rows.Serve
+    → k ≡ command_of (view_of i) → f ≡ record { pass = i.pass; command = k; row = i.field } → c ≡ i.config
+    → LocalReads i.config (view_of i) w → FieldReads c f w
+serve_reads i c k f w is same at there reads =
+    subst (λ x. FieldReads x f w) (sym there) (subst (λ p. PartReads i.config p w) (serve_at i k f is same at) reads.0)
+
+-- a part on its way out
+abbrev pub over_part : Inside → Row → Part
+over_part i r = part_at i.config i.pass (command_behind i.trace.items i.log.items) i.field i.gate i.builder r
+
+pub over_at : (i : Inside) (r : Row) (none : Bool) → r ≡ cond none rows.Idle rows.Again
+    → over_part i r ≡ cond none Idle Again
+over_at i r none is = ap (over_part i) is ∙ by none
+  where
+    by : (b : Bool) → over_part i (cond b rows.Idle rows.Again) ≡ cond b Idle Again
+    by true = refl
+    by false = refl
+
+-- a Mark pass as the code keeps it, and behind its event
+pub mark_at : (i : Inside) (r : GreyRow) (m : GreyState) → i.row ≡ rows.Mark r
+    → m ≡ record { pass = i.pass; row = r } → part_of i ≡ Mark m
+mark_at i r m is at = ap (part_at i.config i.pass (command_behind i.trace.items i.log.items) i.field i.gate i.builder) is
+    ∙ sym (ap Mark at)
+
+pub mark_back : (q : Pass) (r s : GreyRow) (e : Extent) (m n : GreyState) (w : ℕ)
+    → m ≡ record { pass = q; row = r } → n ≡ grey_got e m w → s ≡ n.row
+    → Mark n ≡ Mark (record { pass = q; row = s })
+mark_back q r s e m n w at got is =
+    let p : n.pass ≡ q = ap (λ (x : GreyState). x.pass) got ∙ ap (λ (x : GreyState). x.pass) at in
+    λ j. Mark (record { pass = p j; row = sym is j })
+
+-- and a Sweep pass
+pub sweep_at : (i : Inside) (owed : ℕ) (r : SweepRow) (s : SweepState) → i.row ≡ rows.Sweep owed r
+    → s ≡ record { thread = i.pass.thread; cycle = i.pass.cycle; blocks = i.config.blocks; owed = owed; row = r }
+    → part_of i ≡ Sweep s
+sweep_at i owed r s is at = ap (part_at i.config i.pass (command_behind i.trace.items i.log.items) i.field i.gate i.builder) is
+    ∙ sym (ap Sweep at)
+
+pub sweep_back : (t c b owed : ℕ) (r : SweepRow) (s n : SweepState) (row : SweepRow) (w : ℕ)
+    → s ≡ record { thread = t; cycle = c; blocks = b; owed = owed; row = r } → n ≡ sweep_got s w → row ≡ n.row
+    → Sweep n ≡ Sweep (record { thread = t; cycle = c; blocks = b; owed = owed; row = row })
+sweep_back t c b owed r s n row w at got is = λ j. Sweep (record {
+  thread = (ap (λ (x : SweepState). x.thread) got ∙ ap (λ (x : SweepState). x.thread) at) j;
+  cycle = (ap (λ (x : SweepState). x.cycle) got ∙ ap (λ (x : SweepState). x.cycle) at) j;
+  blocks = (ap (λ (x : SweepState). x.blocks) got ∙ ap (λ (x : SweepState). x.blocks) at) j;
+  owed = (ap (λ (x : SweepState). x.owed) got ∙ ap (λ (x : SweepState). x.owed) at) j;
+  row = sym is j;
+})

@@ -12,8 +12,7 @@ use Rattle.barrier_steps.proofs.FieldRows as fields
 use Rattle.grey_steps.proofs.Ranges as marking
 use Rattle.sweep_steps.proofs.Ranges as sweeping
 use Rattle.build_steps.proofs.Wanted as building
-use Rattle.heap_system.specs.declared.local.Part.{Part}
-use Rattle.heap_system.specs.declared.local.Part.TheVariants.{Rest, Enter, Serve, Mark, Sweep, Build, Again, Idle, TurnOver, Leave}
+use Rattle.heap_system.specs.Parts.{Part, Rest, Enter, Serve, Mark, Sweep, Build, Again, Idle, TurnOver, Leave}
 use Rattle.heap_system.specs.Locals.{LocalState, IsLocal, PartFits, part_want}
 use Rattle.heap_system.proofs.Paying.{going_at}
 

@@ -1,6 +1,7 @@
 pub mod Naming
 pub mod Openings
 pub mod Lives
+pub mod Parts
 pub mod Locals
 pub mod Machines
 pub mod Rooms

@@ -5,7 +5,7 @@ use Rattle.block_store.specs.Payloads.{target}
 use Rattle.barrier_steps.specs.Operands.{takes_field, to_register}
 use Rattle.shown_graph.specs.Events.{Loading, ObjectLoad, ValueLoad}
 use Rattle.barrier_steps.specs.Rows.{FieldState, field_decided}
-use Rattle.heap_system.specs.declared.local.Part.TheVariants.{Serve}
+use Rattle.heap_system.specs.Parts.{Serve}
 use Rattle.heap_system.specs.Locals.{LocalState, command_of}
 
 -- a loaded value refers to block x: one that is to be stored, or with which a field is compared

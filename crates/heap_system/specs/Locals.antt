@@ -52,8 +52,7 @@ use Rattle.kept_names.specs.Building.{Build as Builder}
 use Rattle.kept_names.specs.Pictures.{Task}
 use Rattle.heap_system.specs.Lives.{AreCommands, sum_after, objects_of, most_units, most_objects}
 use Rattle.heap_system.specs.Naming.{Naming, Same, Lost, Begun, Shaded, Made}
-use Rattle.heap_system.specs.declared.local.Part.{Part}
-use Rattle.heap_system.specs.declared.local.Part.TheVariants.{Rest, Enter, Serve, Mark, Sweep, Build, Again, Idle, TurnOver, Leave}
+use Rattle.heap_system.specs.Parts.{Part, Rest, Enter, Serve, Mark, Sweep, Build, Again, Idle, TurnOver, Leave}
 use Rattle.heap_system.specs.declared.Turn.{Turn}
 use Rattle.heap_system.specs.declared.Turn.TheVariants as turns
 
@@ -178,7 +177,8 @@ abbrev pub is_build : Part → Bool
 is_build (Build b) = true
 is_build _ = false
 
--- what a part is about: it is at the gate outside, marks, sweeps, does the command, or goes out
+-- what a part is about: it is at the gate outside, marks, sweeps, does a command that makes no
+-- object, or goes out
 abbrev pub is_at_gate : Part → Bool
 is_at_gate Rest = true
 is_at_gate (Enter g) = true
@@ -193,10 +193,9 @@ abbrev pub is_sweeping : Part → Bool
 is_sweeping (Sweep s) = true
 is_sweeping _ = false
 
-abbrev pub is_in_command : Part → Bool
-is_in_command (Serve f) = true
-is_in_command (Build b) = true
-is_in_command _ = false
+abbrev pub is_serving : Part → Bool
+is_serving (Serve f) = true
+is_serving _ = false
 
 abbrev pub is_on_way_out : Part → Bool
 is_on_way_out Again = true
@@ -504,15 +503,10 @@ IsAllMade due spent (Serve f) = spent ≡ due
 IsAllMade due spent (Build b) = spent ≡ due
 IsAllMade due spent _ = Unit {0}
 
--- a builder has the thread's room, which it gives back
+-- a builder has the thread's room
 abbrev pub IsRoomy : ℕ → Part → Type 0
 IsRoomy space (Build b) = b.capacity ≡ space
 IsRoomy space _ = Unit {0}
-
--- and where none is at work the room is there, empty
-abbrev pub HasRoom : Part → ℕ → List ℕ → ℕ → Type 0
-HasRoom (Build b) space held capacity = Unit {0}
-HasRoom _ space held capacity = (held ≡ []) × (capacity ≡ space)
 
 -- A thread of a configuration that has a rate. No command has made more units than it owes, and the
 -- balance is sound; its units are in the log, or paid, or were those of the commands before. There

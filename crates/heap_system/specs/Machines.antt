@@ -12,7 +12,7 @@ use Rattle.heap_system.specs.Lives.{AreLives}
 use Rattle.never_heap.specs.Steps.{step}
 use Rattle.heap_machine.specs.Operations.{op_at, op_place, words_after}
 use Rattle.kept_names.specs.Pictures.{Names}
-use Rattle.heap_system.specs.declared.local.Part.TheVariants.{Leave}
+use Rattle.heap_system.specs.Parts.{Leave}
 use Rattle.heap_system.specs.declared.Turn.{Turn}
 use Rattle.heap_system.specs.declared.Turn.TheVariants.{Done}
 use Rattle.heap_system.specs.Locals.{LocalState, Effect, Verdict, Open, AsStep, Refused, command_of, effect, entry_of, part_want, turn_of, local_got, is_done, at_start}

@@ -12,8 +12,7 @@ use Rattle.heap_machine.specs.declared.pass.Pass.{Pass}
 use Rattle.barrier_steps.specs.Replies.{reply_due}
 use Rattle.kept_names.specs.Pictures.{Task, picture}
 use Rattle.kept_names.specs.States.{KeptState}
-use Rattle.heap_system.specs.declared.local.Part.{Part}
-use Rattle.heap_system.specs.declared.local.Part.TheVariants.{Serve}
+use Rattle.heap_system.specs.Parts.{Part, Serve}
 use Rattle.heap_system.specs.Locals.{LocalState, view, task, command_of, entries_of}
 use Rattle.heap_system.specs.Machines.{State, Run, local_at, heap_in}
 

@@ -1,8 +1,7 @@
 -- What is so of a thread beside the room that it has for the blocks that it holds while it builds:
 -- the one thing in which two openings of a job may differ.
 use Rattle.std.specs.Prelude.{List, map}
-use Rattle.heap_system.specs.declared.local.Part.{Part}
-use Rattle.heap_system.specs.declared.local.Part.TheVariants.{Build}
+use Rattle.heap_system.specs.Parts.{Part, Build}
 use Rattle.heap_system.specs.Locals.{LocalState}
 use Rattle.heap_system.specs.Machines.{State}
 

@@ -8,8 +8,7 @@ use Rattle.barrier_steps.specs.declared.rows.FieldRow.TheVariants as fields
 use Rattle.sweep_steps.specs.Ends as sweeping
 use Rattle.build_steps.specs.declared.rows.BuildRow.{BuildRow}
 use Rattle.build_steps.specs.declared.rows.BuildRow.TheVariants as builds
-use Rattle.heap_system.specs.declared.local.Part.{Part}
-use Rattle.heap_system.specs.declared.local.Part.TheVariants.{Serve, Mark, Sweep, Build, TurnOver}
+use Rattle.heap_system.specs.Parts.{Part, Serve, Mark, Sweep, Build, TurnOver}
 
 -- a write barrier puts what it has shaded, and a thread that turns the phase over the roots
 abbrev pub puts_shaded : FieldRow → Bool

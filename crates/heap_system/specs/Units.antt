@@ -10,8 +10,7 @@ use Rattle.never_heap.specs.declared.Entry.{Entry}
 use Rattle.never_heap.specs.Histories.{part}
 use Rattle.never_heap.specs.RightWork.{units_owed}
 use Rattle.heap_machine.specs.Operations.{Operation, place_of, heap_after}
-use Rattle.heap_system.specs.declared.local.Part.{Part}
-use Rattle.heap_system.specs.declared.local.Part.TheVariants.{Sweep}
+use Rattle.heap_system.specs.Parts.{Part, Sweep}
 use Rattle.heap_system.specs.Locals.{part_want, makes_unit, is_decided, works}
 use Rattle.heap_system.specs.Machines.{State, local_at, local_in, heap_in, word_read, next_effect, has_event, Run, next}
 

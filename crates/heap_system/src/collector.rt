@@ -22,7 +22,7 @@ ghost use Rattle.heap_machine.specs.Sweeping.{claims};
 ghost use Rattle.heap_machine.specs.Tricolour.{TricolourKept};
 ghost use Rattle.heap_machine.specs.declared.gate.GateRow.TheVariants as GateRow;
 ghost use Rattle.heap_machine.specs.declared.pass.Pass.{Pass};
-ghost use Rattle.heap_system.specs.declared.local.Part.TheVariants.{TurnOver};
+ghost use Rattle.heap_system.specs.Parts.{TurnOver};
 ghost use Rattle.heap_system.specs.Locals.{task, part_want};
 ghost use Rattle.heap_system.specs.Machines.{turned, Run, IsAfterTurns, local_in, heap_in};
 ghost use Rattle.heap_system.specs.Pictures.{holding, holdings_in, tasks_in, kept_state};

@@ -12,6 +12,7 @@ mod orders;
 mod payments;
 mod progress;
 mod replays;
+mod rows;
 mod serial;
 mod start;
 mod system;

@@ -8,81 +8,31 @@ ghost use Rattle.never_heap.specs.RightWork.{units_told, units_owed};
 ghost use Rattle.never_heap.specs.Steps.{blocks_of};
 ghost use Rattle.work_account.specs.Accounts.{entered};
 ghost use Rattle.heap_machine.specs.Memories.{ReadsOnly, ActsOnce};
-ghost use Rattle.heap_machine.specs.Gates.{gate_want, gate_got, gate_step, GateAt};
+ghost use Rattle.heap_machine.specs.Gates.{gate_want, gate_got, going_got, gate_step, GateAt};
 ghost use Rattle.heap_machine.specs.Operations.{op_at, op_place, place_of};
-ghost use Rattle.heap_machine.specs.Readings.{CanHold};
+ghost use Rattle.heap_machine.specs.Readings.{CanHold, IsPhaseWord};
 ghost use Rattle.heap_machine.specs.Passes.{IsPass};
 ghost use Rattle.never_heap.specs.Bounds.{IsCommandInBounds};
 ghost use Rattle.heap_system.specs.Lives.{IsLife, objects_of, most_units, most_objects};
 ghost use Rattle.heap_machine.specs.declared.gate.GateRow.{GateRow};
-ghost use Rattle.grey_steps.specs.Rows.{scanning};
-ghost use Rattle.sweep_steps.specs.Rows.{sweeping};
-ghost use Rattle.heap_system.specs.Locals.{LocalReads, HasGot, is_done, is_rest, is_build, is_at_gate, is_in_command, is_marking, is_sweeping, is_on_way_out, part_want, part_step, local_got, at_start, turn_of, is_last, pass_by, first_part, errand_of, command_of, op_wanted, owed, made_got, works, entry_of, balance_over, commands_decided, begun};
+ghost use Rattle.heap_system.specs.Parts.{Part};
+ghost use Rattle.heap_system.specs.declared.rows.Row.TheVariants as rows;
+ghost use Rattle.heap_system.specs.Locals.{LocalReads, HasGot, is_done, is_rest, is_build, is_at_gate, is_serving, is_marking, is_sweeping, is_on_way_out, part_want, part_step, local_got, at_start, turn_of, is_last, pass_by, first_part, errand_of, command_of, op_wanted, owed, made_got, works, entry_of, balance_over, commands_decided, begun};
 
 use crate::Turn;
 use crate::counting::{count, if_decided, is_new, made_after, settle, sum_of_works};
-use barrier_steps::FieldPass;
-use block_store::{Config, OutOfMemory, PhaseWord, Places};
+use crate::rows::Row;
+use barrier_steps::{FieldPass, FieldRow};
+use block_store::{Config, OutOfMemory, PhaseWord, Places, read_phase};
 use build_steps::BuildPass;
-use grey_steps::GreyPass;
-use heap_machine::{Gate, Memory, Op, Pass, Step};
+use grey_steps::{GreyPass, GreyRow};
+use heap_machine::{Gate, Memory, Op, Pass, Step, entering};
 use never_heap::{Command, Entry, Reply};
 use rate_plan::plan;
 use std::alloc::Global;
 use std::marker::Model;
-use std::mem;
-use sweep_steps::SweepPass;
+use sweep_steps::{SweepPass, SweepRow};
 use work_account::Account;
-
-/// The part of its work at which a thread is.
-#[derive(Drop)]
-pub enum Part {
-    /// At rest outside the gate.
-    Rest,
-    /// On its way in.
-    Enter(Gate),
-    /// Inside, in a command that makes no object and owes no more.
-    Serve(FieldPass),
-    /// Inside while the phase is Mark, in a command that owes units, of which it makes one at
-    /// most: none where nothing is grey.
-    Mark(GreyPass),
-    /// Inside while the phase is Sweep, in a command that owes units: it makes up to eight, and
-    /// none where each block is claimed.
-    Sweep(SweepPass),
-    /// Inside, in an allocation that owes no more: it makes the object, or is refused.
-    Build(BuildPass),
-    /// On its way out, to come in again for the command in hand.
-    Again,
-    /// On its way out after a pass that found nothing to do, to turn the phase over.
-    Idle,
-    /// Outside, to turn the phase over or to start the next cycle, and then to come in again.
-    TurnOver(Gate),
-    /// On its way out, with its command in the log.
-    Leave,
-}
-
-// A memory that answers one word, whatever is asked of it: it stands for an operation that was made
-// elsewhere.
-#[derive(Drop)]
-struct Given {
-    word: u64,
-}
-
-impl Memory for Given {
-    ghost use Rattle.std.specs.Prelude.{◌≡◌};
-
-    type Shared = ();
-
-    ghost may = { λ given none op. Unit {0} };
-
-    ghost acts = { λ given none op word after. word ≡ given.word };
-
-    #[inline(always)]
-    fn act(&mut self, shared: &(), op: &Op) -> u64 {
-        let (_shared, _op) = (shared, op);
-        self.word
-    }
-}
 
 /// A thread's whole state: its commands, the entries of those that are done, and where it is in the
 /// command in hand.
@@ -103,20 +53,21 @@ pub struct Local {
     spent: u64,
     // The objects made so far.
     made: u64,
-    // For how many blocks the room has capacity.
-    space: usize,
-    // The room for the blocks that are held while an object is built: empty, and a build has it.
-    room: Vec<u32>,
-    alloc: Global,
     // The pass of the last entry at the gate.
     pass: Pass,
-    part: Part,
+    row: Row,
+    // At `Serve` the row of the command, and at `TurnOver` that of the gate.
+    field: FieldRow,
+    gate: Gate,
+    // What builds an object at `Build`. It has room for the blocks of the largest object.
+    builder: BuildPass,
 }
 
 impl Model for Local {
     ghost use Rattle.std.specs.Prelude.{◌≡◌, ◌≤◌, length};
     ghost use Rattle.std.specs.Vec.{vec_capacity};
-    ghost use Rattle.heap_system.specs.Locals.{LocalState, IsLocal, HasRoom};
+    ghost use Rattle.heap_system.specs.Locals.{LocalState, IsLocal, command_behind};
+    ghost use Rattle.heap_system.specs.Parts.{part_at};
 
     ghost Value = { LocalState };
 
@@ -130,9 +81,10 @@ impl Model for Local {
       balance = l.account.balance;
       spent = l.spent;
       made = l.made;
-      space = l.space;
+      space = l.builder.capacity;
       pass = l.pass;
-      part = l.part;
+      part = part_at l.config l.pass (command_behind l.trace.items l.log.items)
+          l.field l.gate l.builder l.row;
     } };
 
     ghost invariant = { λ l. IsLocal (record {
@@ -145,12 +97,12 @@ impl Model for Local {
       balance = l.account.balance;
       spent = l.spent;
       made = l.made;
-      space = l.space;
+      space = l.builder.capacity;
       pass = l.pass;
-      part = l.part;
+      part = part_at l.config l.pass (command_behind l.trace.items l.log.items)
+          l.field l.gate l.builder l.row;
     }) × (l.account.rate ≡ l.rate) × (l.account.object ≡ l.config.object)
-        × (length l.trace.items ≤ vec_capacity l.log)
-        × HasRoom l.part l.space l.room.items (vec_capacity l.room) };
+        × (length l.trace.items ≤ vec_capacity l.log) };
 }
 
 // What a turn answers after this step of a part.
@@ -173,27 +125,11 @@ fn is_last(step: Step) -> bool
     }
 }
 
-// A pass that pays: a sweep or marking, by the phase.
-fn first_units(pass: Pass, blocks: u32, due: u64) -> Part
-    requires pass { IsPass pass }
-    requires blocks { (1 ≤ blocks) × (blocks ≤ 65535) }
-    requires due { 1 ≤ due }
-    ensures { result ≡ (if pass.sweep
-        then Part.Sweep (sweeping pass.thread pass.cycle blocks due)
-        else Part.Mark (scanning pass)) }
-{
-    if pass.sweep {
-        Part::Sweep(SweepPass::new(pass.thread, pass.cycle, blocks, due))
-    } else {
-        Part::Mark(GreyPass::scan_in(pass))
-    }
-}
-
 // On the way out after a pass that pays.
-fn after_pass(nothing: bool) -> Part
-    ensures { result ≡ (if nothing then Part.Idle else Part.Again) }
+fn after_pass(nothing: bool) -> Row
+    ensures { result ≡ (if nothing then rows.Idle else rows.Again) }
 {
-    if nothing { Part::Idle } else { Part::Again }
+    if nothing { Row::Idle } else { Row::Again }
 }
 
 // The part that turns the phase over, after a pass that found nothing to do.
@@ -265,16 +201,16 @@ impl Local {
             account: Account::new(rate, c.object),
             spent: 0,
             made: 0,
-            space: room.capacity(),
-            room,
-            alloc,
             pass: Pass {
                 thread,
                 threads: c.threads,
                 cycle: 0,
                 sweep: false,
             },
-            part: Part::Rest,
+            row: Row::Rest,
+            field: FieldRow::IdleLook,
+            gate: Gate::enter(),
+            builder: BuildPass::idle(room),
         })
     }
 
@@ -310,7 +246,7 @@ impl Local {
     pub fn at_rest(&self) -> bool
         ensures { result ≡ is_rest self.now.part }
     {
-        matches!(self.part, Part::Rest)
+        matches!(self.row, Row::Rest)
     }
 
     /// Whether the thread is at rest and has a log as long as its trace.
@@ -368,8 +304,8 @@ impl Local {
     pub(crate) fn commands_decided(&self) -> usize
         ensures { result ≡ commands_decided self.now }
     {
-        match &self.part {
-            Part::Serve(pass) => if_decided(self.log.len(), pass.decided()),
+        match self.row {
+            Row::Serve => if_decided(self.log.len(), self.field.decided()),
             _ => self.log.len(),
         }
     }
@@ -385,15 +321,18 @@ impl Local {
         ensures place { op_place result < words_count (extent self.now.config) }
     {
         let places = Places::new(&self.config);
-        match &self.part {
-            Part::Rest => Op::load(places.phase()),
-            Part::Enter(gate) => gate.want_in(&places),
-            Part::Serve(pass) => pass.want(&places),
-            Part::Mark(pass) => pass.want(&places),
-            Part::Sweep(pass) => pass.want(&places),
-            Part::Build(pass) => pass.want(&places),
-            Part::TurnOver(gate) => gate.want(&places),
-            Part::Again | Part::Idle | Part::Leave => Op::FetchSub {
+        match &self.row {
+            Row::Rest | Row::Look => Op::load(places.phase()),
+            Row::Enter { seen } => entering(&places, *seen),
+            Row::Serve => { FieldPass::at_row(self.pass, self.command(), self.field).want(&places) }
+            Row::Mark(row) => GreyPass::at_row(self.pass, *row).want(&places),
+            Row::Sweep { owed, row } => {
+                let Pass { thread, cycle, .. } = self.pass;
+                SweepPass::at_row(thread, cycle, self.config.blocks, *owed, *row).want(&places)
+            },
+            Row::Build => self.builder.want(&places),
+            Row::TurnOver => self.gate.want(&places),
+            Row::Again | Row::Idle | Row::Leave => Op::FetchSub {
                 place: places.phase(),
                 by: 1,
             },
@@ -407,23 +346,12 @@ impl Local {
     pub fn wants_a_word(&self)
         ensures { op_place (op_wanted self.now) < words_count (extent self.now.config) }
     {
-        let _part = &self.part;
+        let _row = &self.row;
     }
 
-    /// Moves on by one event, whose operation read the word. The thread is not done, and the word
-    /// is one that its row may read: on the way in a phase word of cycle 1 or later, and of none
-    /// before the one that the thread entered last.
-    pub fn got(&mut self, word: u64) -> Turn
-        requires open { is_done self.old ≡ false }
-        requires word { LocalReads self.old.config self.old word }
-        ensures local { self.new ≡ local_got self.old word }
-        ensures turn { result ≡ turn_of (part_step self.old.config self.old.part word) }
-    {
-        self.event(&mut Given { word }, &())
-    }
-
-    /// Makes the thread's next event by this memory: `want`, the operation and `got` at once. The
-    /// thread is not done, and the memory reads no word that its row may not.
+    /// Makes the thread's next event by this memory. The thread is not done, and the memory reads no
+    /// word that its row may not: on the way in a phase word of cycle 1 or later, and of none before
+    /// the one that the thread entered last.
     #[inline(always)]
     pub fn event<M: Memory>(&mut self, memory: &mut M, shared: &M::Shared) -> Turn
         requires open { is_done self.old ≡ false }
@@ -433,22 +361,22 @@ impl Local {
         ensures { ActsOnce M.acts memory.old shared.now (op_wanted self.old) memory.new
             (λ w. HasGot self.old w self.new result) }
     {
-        match &self.part {
-            Part::Rest => self.at_gate(memory, shared),
-            Part::Enter(_) => self.at_gate(memory, shared),
-            Part::TurnOver(_) => self.at_gate(memory, shared),
-            Part::Serve(_) => self.in_command(memory, shared),
-            Part::Build(_) => self.in_command(memory, shared),
-            Part::Mark(_) => self.marks(memory, shared),
-            Part::Sweep(_) => self.sweeps(memory, shared),
-            Part::Again => self.out(memory, shared),
-            Part::Idle => self.out(memory, shared),
-            Part::Leave => self.out(memory, shared),
+        match self.row {
+            Row::Rest => self.at_gate(memory, shared),
+            Row::Look => self.at_gate(memory, shared),
+            Row::Enter { .. } => self.at_gate(memory, shared),
+            Row::TurnOver => self.at_gate(memory, shared),
+            Row::Serve => self.serves(memory, shared),
+            Row::Build => self.builds(memory, shared),
+            Row::Mark(_) => self.marks(memory, shared),
+            Row::Sweep { .. } => self.sweeps(memory, shared),
+            Row::Again => self.out(memory, shared),
+            Row::Idle => self.out(memory, shared),
+            Row::Leave => self.out(memory, shared),
         }
     }
 
-    // `event`, of a part outside. Before a method is called on `self` the part is put at rest, so
-    // that it may be any; and no arm makes a part, a gate or a pass before it puts it in its place.
+    // `event`, of a part outside.
     #[inline(always)]
     #[tactic(auto, using(crate::proofs::Paying::turns_on, crate::proofs::Paying::going_at))]
     fn at_gate<M: Memory>(&mut self, memory: &mut M, shared: &M::Shared) -> Turn
@@ -461,27 +389,29 @@ impl Local {
             (λ w. HasGot self.old w self.new result) }
     {
         let places = Places::new(&self.config);
-        match &mut self.part {
-            Part::Rest => {
+        match self.row {
+            Row::Rest => {
                 let word = memory.act(shared, &Op::load(places.phase()));
-                self.part = Part::Enter(Gate::after_look(word));
-                turn_after(Gate::look_step(word))
+                self.looked(word)
             }
-            Part::Enter(gate) => {
-                let turn = turn_after(gate.event_in(&places, memory, shared));
-                match gate.entered() {
-                    Some(phase) => {
-                        self.part = Part::Rest;
-                        self.goes_in(phase);
-                        turn
-                    }
-                    None => turn,
+            Row::Look => {
+                let word = memory.act(shared, &Op::load(places.phase()));
+                self.looked(word)
+            }
+            Row::Enter { seen } => {
+                let word = memory.act(shared, &entering(&places, seen));
+                if word == seen {
+                    self.goes_in(read_phase(seen));
+                    Turn::Went
+                } else {
+                    self.row = Row::Look;
+                    Turn::Waited
                 }
             }
-            Part::TurnOver(gate) => {
-                let step = turns_over(gate, &places, memory, shared);
+            Row::TurnOver => {
+                let step = turns_over(&mut self.gate, &places, memory, shared);
                 if is_last(step) {
-                    self.part = Part::Enter(Gate::enter());
+                    self.row = Row::Look;
                     turn_after(step)
                 } else {
                     turn_after(step)
@@ -491,10 +421,28 @@ impl Local {
         }
     }
 
-    // `event`, of a part that does the command.
+    // A look whether the gate is closed read this word.
     #[inline(always)]
-    fn in_command<M: Memory>(&mut self, memory: &mut M, shared: &M::Shared) -> Turn
-        requires part { is_in_command self.old.part ≡ true }
+    fn looked(&mut self, word: u64) -> Turn
+        requires word { IsPhaseWord word }
+        requires command { length self.old.log < length self.old.trace }
+        ensures part { self.new
+            ≡ record self.old { part = Part.Enter (going_got GateRow.Look word) } }
+        ensures turn { result ≡ turn_of (gate_step GateRow.Look word) }
+    {
+        if read_phase(word).closed {
+            self.row = Row::Look;
+            Turn::Waited
+        } else {
+            self.row = Row::Enter { seen: word };
+            Turn::Went
+        }
+    }
+
+    // `event`, of a command that makes no object.
+    #[inline(always)]
+    fn serves<M: Memory>(&mut self, memory: &mut M, shared: &M::Shared) -> Turn
+        requires part { is_serving self.old.part ≡ true }
         requires may { M.may memory.old shared.now (op_wanted self.old) }
         requires reads { ReadsOnly M.acts memory.old shared.now (op_wanted self.old)
             (LocalReads self.old.config self.old) }
@@ -502,23 +450,42 @@ impl Local {
             (λ w. HasGot self.old w self.new result) }
     {
         let places = Places::new(&self.config);
-        match &mut self.part {
-            Part::Serve(pass) => {
+        match self.row {
+            Row::Serve => {
+                let mut pass = FieldPass::at_row(self.pass, self.command(), self.field);
                 let turn = turn_after(pass.event(&places, memory, shared));
                 match pass.reply() {
                     Some(reply) => {
-                        self.part = Part::Rest;
                         self.answer(reply);
                         turn
                     }
-                    None => turn,
+                    None => {
+                        self.field = pass.row();
+                        turn
+                    }
                 }
             }
-            Part::Build(pass) => {
-                let turn = turn_after(pass.event(&places, memory, shared));
-                match pass.reply() {
+            _ => unreachable!(),
+        }
+    }
+
+    // `event`, of an object that is built.
+    #[inline(always)]
+    fn builds<M: Memory>(&mut self, memory: &mut M, shared: &M::Shared) -> Turn
+        requires part { is_build self.old.part ≡ true }
+        requires may { M.may memory.old shared.now (op_wanted self.old) }
+        requires reads { ReadsOnly M.acts memory.old shared.now (op_wanted self.old)
+            (LocalReads self.old.config self.old) }
+        ensures { ActsOnce M.acts memory.old shared.now (op_wanted self.old) memory.new
+            (λ w. HasGot self.old w self.new result) }
+    {
+        let places = Places::new(&self.config);
+        match self.row {
+            Row::Build => {
+                let turn = turn_after(self.builder.event(&places, memory, shared));
+                match self.builder.reply() {
                     Some(reply) => {
-                        self.built(reply);
+                        self.answer(reply);
                         turn
                     }
                     None => turn,
@@ -540,8 +507,9 @@ impl Local {
             (λ w. HasGot self.old w self.new result) }
     {
         let places = Places::new(&self.config);
-        match &mut self.part {
-            Part::Mark(scan) => {
+        match &mut self.row {
+            Row::Mark(row) => {
+                let mut scan = GreyPass::at_row(self.pass, *row);
                 let before = scan.unit();
                 let step = scan.event(&places, memory, shared);
                 let unit = is_new(scan.unit(), before);
@@ -553,9 +521,10 @@ impl Local {
                     unit,
                 );
                 if is_last(step) {
-                    self.part = after_pass(scan.nothing());
+                    self.row = after_pass(scan.nothing());
                     turn_after(step)
                 } else {
+                    *row = scan.row();
                     turn_after(step)
                 }
             }
@@ -575,8 +544,10 @@ impl Local {
             (λ w. HasGot self.old w self.new result) }
     {
         let places = Places::new(&self.config);
-        match &mut self.part {
-            Part::Sweep(pass) => {
+        match &mut self.row {
+            Row::Sweep { owed, row } => {
+                let Pass { thread, cycle, .. } = self.pass;
+                let mut pass = SweepPass::at_row(thread, cycle, self.config.blocks, *owed, *row);
                 let passed = pass.passed();
                 let step = pass.event(&places, memory, shared);
                 let unit = pass.passed() > passed;
@@ -588,9 +559,10 @@ impl Local {
                     unit,
                 );
                 if is_last(step) {
-                    self.part = after_pass(pass.nothing());
+                    self.row = after_pass(pass.nothing());
                     turn_after(step)
                 } else {
+                    *row = pass.row();
                     turn_after(step)
                 }
             }
@@ -608,21 +580,31 @@ impl Local {
     {
         let place = Places::new(&self.config).phase();
         memory.act(shared, &Op::FetchSub { place, by: 1 });
-        match self.part {
-            Part::Again => {
-                self.part = Part::Enter(Gate::enter());
+        match self.row {
+            Row::Again => {
+                self.row = Row::Look;
                 Turn::Went
             }
-            Part::Idle => {
-                self.part = Part::TurnOver(turning(self.pass));
+            Row::Idle => {
+                self.gate = turning(self.pass);
+                self.row = Row::TurnOver;
                 Turn::Went
             }
-            Part::Leave => {
-                self.part = Part::Rest;
+            Row::Leave => {
+                self.row = Row::Rest;
                 Turn::Went
             }
             _ => unreachable!(),
         }
+    }
+
+    // The command in hand.
+    #[inline(always)]
+    fn command(&self) -> Command
+        requires { length self.now.log < length self.now.trace }
+        ensures { result ≡ command_of self.now }
+    {
+        self.trace[self.log.len()]
     }
 
     // The pass that begins by this phase word.
@@ -641,7 +623,6 @@ impl Local {
 
     // The thread is inside by this phase word, and begins what it went in for.
     fn goes_in(&mut self, phase: PhaseWord)
-        requires rest { self.old.part ≡ Part.Rest }
         requires command { length self.old.log < length self.old.trace }
         requires cycle { (1 ≤ phase.cycle) × (phase.cycle ≤ 2 ^ 54 - 2) }
         requires later { self.old.balance.cycle ≤ phase.cycle }
@@ -653,26 +634,33 @@ impl Local {
                   (pass_by self.old.thread self.old.config.threads phase) (errand_of self.old);
             } }
     {
-        let pass = self.pass_by(phase);
-        self.pass = pass;
-        self.account.enter(phase.cycle);
-        let command = self.trace[self.log.len()];
+        let command = self.command();
         let due = self.due(&command);
+        let pass = self.pass_by(phase);
+        self.account.enter(phase.cycle);
+        self.pass = pass;
         if due > 0 {
-            self.part = first_units(pass, self.config.blocks, due);
+            if phase.sweep {
+                self.row = Row::Sweep {
+                    owed: due,
+                    row: SweepRow::ReadCursor,
+                };
+            } else {
+                self.row = Row::Mark(GreyRow::Take { u: 0 });
+            }
         } else if command.blocks(self.config.width) > 0 {
-            let room = mem::replace(&mut self.room, Vec::new(self.alloc));
-            self.part = Part::Build(BuildPass::new(
+            self.builder.begin(
                 self.config.width,
                 pass.thread,
                 pass.threads,
                 pass.cycle,
                 self.made + 1,
                 command,
-                room,
-            ));
+            );
+            self.row = Row::Build;
         } else {
-            self.part = Part::Serve(FieldPass::new_in(pass, command));
+            self.field = FieldPass::new_in(pass, command).row();
+            self.row = Row::Serve;
         }
     }
 
@@ -686,32 +674,8 @@ impl Local {
         self.owes(command) - spent
     }
 
-    // The command in hand, which made an object or was refused, is done.
-    fn built(&mut self, reply: Reply)
-        requires command { length self.old.log < length self.old.trace }
-        requires build { is_build self.old.part ≡ true }
-        requires paid { self.old.spent ≡ owed self.old }
-        ensures { self.new
-            ≡ record self.old {
-              part = Part.Leave;
-              log = self.old.log ++ entry_of
-                  self.old.thread (command_of self.old) self.old.spent reply ∷ [];
-              balance = balance_over reply
-                  (blocks_of self.old.config.width (command_of self.old)) self.old.balance;
-              spent = 0;
-              made = made_got (command_of self.old) (Some reply) self.old.made;
-            } }
-    {
-        let Part::Build(pass) = mem::replace(&mut self.part, Part::Rest) else {
-            unreachable!();
-        };
-        self.room = pass.into_room();
-        self.answer(reply);
-    }
-
     // The command in hand is done.
     fn answer(&mut self, reply: Reply)
-        requires rest { self.old.part ≡ Part.Rest }
         requires command { length self.old.log < length self.old.trace }
         requires paid { self.old.spent ≡ owed self.old }
         ensures { self.new
@@ -725,7 +689,7 @@ impl Local {
               made = made_got (command_of self.old) (Some reply) self.old.made;
             } }
     {
-        let command = self.trace[self.log.len()];
+        let command = self.command();
         self.log.push_reserved(Entry {
             thread: self.thread,
             command,
@@ -736,6 +700,6 @@ impl Local {
         settle(&mut self.account, reply, blocks);
         self.spent = 0;
         self.made = made_after(self.made, command, reply);
-        self.part = Part::Leave;
+        self.row = Row::Leave;
     }
 }

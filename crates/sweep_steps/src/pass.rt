@@ -183,6 +183,32 @@ impl SweepPass {
         }
     }
 
+    /// The part that has come to this row.
+    pub fn at_row(thread: u32, cycle: u64, blocks: u32, owed: u64, row: SweepRow) -> SweepPass
+        ensures { result ≡ record {
+          thread = thread;
+          cycle = cycle;
+          blocks = blocks;
+          owed = owed;
+          row = row;
+        } }
+    {
+        SweepPass {
+            thread,
+            cycle,
+            blocks,
+            owed,
+            row,
+        }
+    }
+
+    /// The row to which the part has come.
+    pub fn row(&self) -> SweepRow
+        ensures { result ≡ self.now.row }
+    {
+        self.row
+    }
+
     /// The operation of the next event. A part that is over wants no more than a look at the phase.
     /// The places are those of a heap that has the part's thread and blocks, the same heap at all
     /// calls of one part.

@@ -18,7 +18,7 @@ use Rattle.build_steps.specs.declared.rows.BuildRow.TheVariants.{ReadCount, Rese
 use Rattle.build_steps.specs.Fits.{BuildFits, RowFits}
 use Rattle.build_steps.specs.Rows.{BuildState, build_got, build_over, build_reply, held_got, list_of, row_got, row_holding, row_reply, row_want}
 use Rattle.lone_bound.specs.Moves.{Spot, Lone, Terms, Moves}
-use Rattle.heap_system.specs.declared.local.Part.TheVariants.{Build}
+use Rattle.heap_system.specs.Parts.{Build}
 use Rattle.heap_system.specs.Locals.{build_waits, if_replied}
 use Rattle.heap_system.proofs.PartLaws.{AtPart, word_at}
 use Rattle.heap_system.proofs.Seeing.{Seen}

@@ -14,8 +14,7 @@ use Rattle.heap_machine.specs.declared.gate.GateRow.{GateRow}
 use Rattle.heap_machine.specs.declared.gate.GateRow.TheVariants as gates
 use Rattle.lone_bound.specs.Moves.{Lone, Terms, Moves, Turns, Fresh}
 use Rattle.lone_bound.proofs.Fresh as lone_fresh
-use Rattle.heap_system.specs.declared.local.Part.{Part}
-use Rattle.heap_system.specs.declared.local.Part.TheVariants.{TurnOver, Leave}
+use Rattle.heap_system.specs.Parts.{Part, TurnOver, Leave}
 use Rattle.heap_system.specs.Alone.{IsQuiet, HasCommand, after_alone, ChangesPhase, UnitBetween}
 use Rattle.heap_system.specs.Locals.{LocalState, command_of, is_rest, is_done, effect, makes_unit, spent_got, part_want}
 use Rattle.heap_system.specs.Machines.{Run, IsJob, local_at, heap_in, next, has_event, word_read}

@@ -16,7 +16,7 @@ use Rattle.heap_machine.proofs.Gatings.{closed_phase, open_parts}
 use Rattle.heap_machine.proofs.GreyBlocks.{first_is_grey}
 use Rattle.grey_steps.proofs.Marking.{own_first}
 use Rattle.lone_bound.specs.Moves.{Spot}
-use Rattle.heap_system.specs.declared.local.Part.TheVariants.{TurnOver}
+use Rattle.heap_system.specs.Parts.{TurnOver}
 use Rattle.heap_system.proofs.Seeing.{Seen}
 use Rattle.heap_system.proofs.parts.Closing.{may_turn}
 use Rattle.heap_system.proofs.alone.Heads.{IsOpen, some_first, same_lone, open_here}

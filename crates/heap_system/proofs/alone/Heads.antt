@@ -6,7 +6,7 @@ use Rattle.block_store.specs.Places.{Phase}
 use Rattle.block_store.specs.declared.Config.{Config}
 use Rattle.block_store.proofs.Functions.{total_none, bit_zero}
 use Rattle.heap_machine.specs.Gating.{Stand, Gating, Outside, Inside, Closing, is_outside, is_inside, is_closing}
-use Rattle.heap_system.specs.declared.local.Part.{Part}
+use Rattle.heap_system.specs.Parts.{Part}
 use Rattle.heap_system.specs.Pictures.{gating, stand_of}
 use Rattle.heap_system.proofs.Seeing.{Seen}
 use Rattle.heap_system.proofs.alone.Standing.{some, IsOfPass, Alone}

@@ -1,8 +1,7 @@
 -- The turn of a lone thread, by its part.
 use Rattle.std.proofs.Common.{◌≡◌, true, false}
 use Rattle.block_store.specs.declared.Config.{Config}
-use Rattle.heap_system.specs.declared.local.Part.{Part}
-use Rattle.heap_system.specs.declared.local.Part.TheVariants.{Rest, Enter, Serve, Mark, Sweep, Build, Again, Idle, TurnOver, Leave}
+use Rattle.heap_system.specs.Parts.{Part, Rest, Enter, Serve, Mark, Sweep, Build, Again, Idle, TurnOver, Leave}
 use Rattle.heap_system.proofs.alone.Building.{build_lone}
 use Rattle.heap_system.proofs.alone.Changing.{turn_lone}
 use Rattle.heap_system.proofs.alone.Gate.{rest_lone, again_lone, idle_lone, enter_lone}

@@ -13,8 +13,7 @@ use Rattle.grey_steps.specs.declared.rows.GreyRow.TheVariants as greys
 use Rattle.grey_steps.specs.Rows.{GreyState, list_of, after_word, shaded_hand, grey_over, grey_nothing}
 use Rattle.grey_steps.proofs.Ends.{each_list}
 use Rattle.lone_bound.specs.Moves.{Spot, Lone, Dealt}
-use Rattle.heap_system.specs.declared.local.Part.{Part}
-use Rattle.heap_system.specs.declared.local.Part.TheVariants.{Mark}
+use Rattle.heap_system.specs.Parts.{Part, Mark}
 use Rattle.heap_system.specs.Locals.{if_over}
 use Rattle.heap_system.proofs.Seeing.{Seen}
 use Rattle.heap_system.proofs.alone.Heads.{some_none, some_first, some_next, some_same, same_lone, has_pass}

@@ -19,8 +19,7 @@ use Rattle.barrier_steps.specs.Operands.{is_idle}
 use Rattle.lone_bound.specs.Near.{Keeps, near_left, near_bound}
 use Rattle.lone_bound.specs.Prices.{allocation_bound, idle_bound, other_bound}
 use Rattle.lone_bound.proofs.Near.{lower, near, near_within}
-use Rattle.heap_system.specs.declared.local.Part.{Part}
-use Rattle.heap_system.specs.declared.local.Part.TheVariants.{Rest, Leave}
+use Rattle.heap_system.specs.Parts.{Part, Rest, Leave}
 use Rattle.heap_system.specs.Alone.{IsQuiet, HasCommand, EndsWithin, command_bound}
 use Rattle.heap_system.specs.Locals.{LocalState, command_of, owed, is_done}
 use Rattle.heap_system.specs.Machines.{Run, IsJob, local_at, local_in, heap_in, next}

@@ -25,8 +25,7 @@ use Rattle.lone_bound.specs.Prices.{left, at_look, allocation_bound, idle_bound,
 use Rattle.lone_bound.proofs.Prices.{lower, within, one_event}
 use Rattle.barrier_steps.specs.Operands.{is_idle}
 use Rattle.barrier_steps.specs.Rows.{first_row}
-use Rattle.heap_system.specs.declared.local.Part.{Part}
-use Rattle.heap_system.specs.declared.local.Part.TheVariants.{Rest, Leave}
+use Rattle.heap_system.specs.Parts.{Part, Rest, Leave}
 use Rattle.heap_system.specs.declared.Turn.TheVariants as turns
 use Rattle.heap_system.specs.Alone.{IsQuiet, HasCommand, EndsWithin, command_bound, after_alone}
 use Rattle.heap_system.specs.Locals.{LocalState, command_of, owed, effect, is_rest, is_done, entry_of, entries_of, waits, part_want, part_got, errand_of}

@@ -10,7 +10,7 @@ use Rattle.rate_plan.specs.Rates.{IsRate}
 use Rattle.never_heap.specs.declared.Command.{Command}
 use Rattle.never_heap.specs.declared.Command.TheVariants as commands
 use Rattle.heap_machine.specs.Gating.{is_inside, is_closing}
-use Rattle.heap_system.specs.declared.local.Part.TheVariants.{Rest}
+use Rattle.heap_system.specs.Parts.{Rest}
 use Rattle.heap_system.specs.declared.Turn.TheVariants.{Went, Done}
 use Rattle.heap_system.specs.Alone.{IsQuiet, HasCommand, EndsWithin, after_alone, command_bound}
 use Rattle.heap_system.specs.Locals.{LocalState, command_of, is_done, is_rest, turn_of}

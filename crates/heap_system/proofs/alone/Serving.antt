@@ -27,7 +27,7 @@ use Rattle.barrier_steps.specs.Rows.{FieldState, field_want, field_got, field_re
 use Rattle.barrier_steps.specs.Walks.{shape_length, links_to}
 use Rattle.barrier_steps.proofs.Showing.{row_shown}
 use Rattle.lone_bound.specs.Moves.{Spot, Lone, Terms, Moves}
-use Rattle.heap_system.specs.declared.local.Part.TheVariants.{Serve}
+use Rattle.heap_system.specs.Parts.{Serve}
 use Rattle.heap_system.specs.Locals.{if_replied}
 use Rattle.heap_system.proofs.PartLaws.{AtPart}
 use Rattle.heap_system.proofs.Seeing.{Seen}

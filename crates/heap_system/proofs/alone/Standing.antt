@@ -25,8 +25,7 @@ use Rattle.build_steps.specs.Rows.{BuildState}
 use Rattle.build_steps.specs.declared.rows.BuildRow.{BuildRow}
 use Rattle.build_steps.specs.declared.rows.BuildRow.TheVariants as builds
 use Rattle.lone_bound.specs.Moves.{Spot, Lone, Terms, Moves}
-use Rattle.heap_system.specs.declared.local.Part.{Part}
-use Rattle.heap_system.specs.declared.local.Part.TheVariants.{Rest, Enter, Serve, Mark, Sweep, Build, Again, Idle, TurnOver, Leave}
+use Rattle.heap_system.specs.Parts.{Part, Rest, Enter, Serve, Mark, Sweep, Build, Again, Idle, TurnOver, Leave}
 use Rattle.heap_system.specs.Locals.{effect, part_want, part_got, pass_got, spent_got, waits}
 use Rattle.heap_system.proofs.PartLaws.{AtPart, PartEvent, word_at}
 use Rattle.heap_system.proofs.Seeing.{Seen, errand}

@@ -11,8 +11,7 @@ use Rattle.sweep_steps.specs.declared.rows.SweepRow.TheVariants as sweeps
 use Rattle.sweep_steps.specs.Fits.{IsLeft}
 use Rattle.sweep_steps.specs.Rows.{SweepState, next_block, range_end, sweep_over, sweep_nothing}
 use Rattle.lone_bound.specs.Moves.{Spot, Lone, Passed}
-use Rattle.heap_system.specs.declared.local.Part.{Part}
-use Rattle.heap_system.specs.declared.local.Part.TheVariants.{Sweep}
+use Rattle.heap_system.specs.Parts.{Part, Sweep}
 use Rattle.heap_system.specs.Locals.{if_over}
 use Rattle.heap_system.proofs.Seeing.{Seen}
 use Rattle.heap_system.proofs.alone.Heads.{has_pass}

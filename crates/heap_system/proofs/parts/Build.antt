@@ -106,7 +106,7 @@ use Rattle.build_steps.proofs.Ranges.{fits_next}
 use Rattle.build_steps.proofs.Parts.{has_blocks}
 use Rattle.build_steps.proofs.Together.{keeps_phase, phase_stays}
 use Rattle.build_steps.proofs.Wanted.{place_fits, stores_held, sum_fits}
-use Rattle.heap_system.specs.declared.local.Part.TheVariants.{Build}
+use Rattle.heap_system.specs.Parts.{Build}
 use Rattle.heap_system.specs.declared.Turn.TheVariants as turns
 use Rattle.heap_system.specs.Locals.{
   Verdict,

@@ -30,7 +30,7 @@ use Rattle.kept_names.specs.Events.{IsAlone}
 use Rattle.kept_names.specs.Pictures.{Task, no_task, picture}
 use Rattle.kept_names.proofs.Referring.{root_in}
 use Rattle.sweep_steps.specs.Ends.{unpassed}
-use Rattle.heap_system.specs.declared.local.Part.TheVariants.{TurnOver}
+use Rattle.heap_system.specs.Parts.{TurnOver}
 use Rattle.heap_system.specs.Locals.{task}
 use Rattle.heap_system.specs.Pictures.{gating}
 use Rattle.heap_system.proofs.PartLaws.{AtPart}

@@ -37,8 +37,7 @@ use Rattle.sweep_steps.proofs.Ranges as sweeping_ranges
 use Rattle.build_steps.specs.Rows.{building}
 use Rattle.build_steps.proofs.Ranges as building_ranges
 use Rattle.kept_names.specs.Pictures.{no_task}
-use Rattle.heap_system.specs.declared.local.Part.{Part}
-use Rattle.heap_system.specs.declared.local.Part.TheVariants.{Enter, Serve, Mark, Sweep, Build}
+use Rattle.heap_system.specs.Parts.{Part, Enter, Serve, Mark, Sweep, Build}
 use Rattle.heap_system.specs.declared.Turn.TheVariants as turns
 use Rattle.heap_system.specs.Locals.{part_want, plain, pass_by, first_part, task, turn_of, gate_waits, PartFits, PartReads, IsPassAt}
 use Rattle.heap_system.specs.Pictures.{gating}

@@ -10,7 +10,7 @@ use Rattle.heap_machine.specs.declared.Step.TheVariants as steps
 use Rattle.heap_machine.specs.declared.gate.GateRow.TheVariants as gates
 use Rattle.heap_machine.specs.declared.pass.Pass.{Pass}
 use Rattle.heap_machine.proofs.Gatings.{inside_some}
-use Rattle.heap_system.specs.declared.local.Part.TheVariants.{Idle, TurnOver}
+use Rattle.heap_system.specs.Parts.{Idle, TurnOver}
 use Rattle.heap_system.proofs.Passing.{phase_is, inside_low, leave_event, inside_open, same_stage}
 use Rattle.heap_system.proofs.Paying.{opening_room}
 use Rattle.heap_system.proofs.PartLaws.{AtPart, PartEvent, PartLaws}

@@ -16,7 +16,7 @@ use Rattle.heap_machine.proofs.Gatings.{gate_stays}
 use Rattle.kept_names.specs.Kept.{IsKept}
 use Rattle.kept_names.specs.Pictures.{picture}
 use Rattle.sweep_steps.specs.Ends.{unpassed}
-use Rattle.heap_system.specs.declared.local.Part.{Part}
+use Rattle.heap_system.specs.Parts.{Part}
 use Rattle.heap_system.specs.Locals.{Effect, plain, task, entries_of, spent_got, unit_to_come, PartFits, IsRoomy}
 use Rattle.heap_system.specs.Pictures.{gating, stand_of, holding, waiting}
 use Rattle.heap_system.proofs.PartLaws.{AtPart}

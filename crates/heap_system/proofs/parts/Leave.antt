@@ -5,7 +5,7 @@ use Rattle.block_store.specs.Places.{Phase}
 use Rattle.heap_machine.specs.Gating.{Gating}
 use Rattle.heap_machine.specs.declared.Step.TheVariants as steps
 use Rattle.heap_machine.proofs.Gatings.{inside_some}
-use Rattle.heap_system.specs.declared.local.Part.TheVariants.{Rest, Leave}
+use Rattle.heap_system.specs.Parts.{Rest, Leave}
 use Rattle.heap_system.proofs.Passing.{phase_is, inside_low, leave_event, inside_open}
 use Rattle.heap_system.proofs.PartLaws.{PartLaws}
 

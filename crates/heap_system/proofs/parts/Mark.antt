@@ -26,7 +26,7 @@ use Rattle.grey_steps.proofs.Pictures.{scan_keeps_names}
 use Rattle.grey_steps.proofs.Ranges.{next_fits, place_fits, sum_fits, keeps_words}
 use Rattle.grey_steps.proofs.Reuses.{keeps_phase, leaves_phase}
 use Rattle.heap_system.specs.declared.Turn.TheVariants as turns
-use Rattle.heap_system.specs.declared.local.Part.TheVariants.{Mark, Again, Idle}
+use Rattle.heap_system.specs.Parts.{Mark, Again, Idle}
 use Rattle.heap_system.specs.Locals.{turn_of, task, spent_got}
 use Rattle.heap_system.specs.Units.{blackens}
 use Rattle.heap_system.proofs.Passing.{inside_open}

@@ -8,7 +8,7 @@ use Rattle.heap_machine.specs.Gating.{Gating}
 use Rattle.heap_machine.specs.declared.Step.TheVariants as steps
 use Rattle.heap_machine.specs.declared.gate.GateRow.TheVariants as gates
 use Rattle.heap_machine.proofs.Gatings.{gate_stays}
-use Rattle.heap_system.specs.declared.local.Part.TheVariants.{Rest, Enter}
+use Rattle.heap_system.specs.Parts.{Rest, Enter}
 use Rattle.heap_system.proofs.Passing.{phase_is, began, look_event}
 use Rattle.heap_system.proofs.PartLaws.{AtPart, PartEvent, PartLaws}
 use Rattle.heap_system.proofs.Seeing.{Seen}

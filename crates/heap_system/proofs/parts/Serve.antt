@@ -49,8 +49,7 @@ use Rattle.barrier_steps.proofs.Keeping.{keeps_phase, keeps_words, over_nothing}
 use Rattle.barrier_steps.proofs.Keeping.{field_phase, field_cursor, row_grey, row_found, row_claims}
 use Rattle.barrier_steps.proofs.Naming.{keeps_names, loaded_solid, due_on, reads_on}
 use Rattle.sweep_steps.specs.Ends.{unpassed}
-use Rattle.heap_system.specs.declared.local.Part.{Part}
-use Rattle.heap_system.specs.declared.local.Part.TheVariants.{Serve, Leave}
+use Rattle.heap_system.specs.Parts.{Part, Serve, Leave}
 use Rattle.heap_system.specs.declared.Turn.TheVariants as turns
 use Rattle.heap_system.specs.Locals.{Verdict, Effect, plain, task, spent_got, made_got, if_replied, if_decides, turn_of, entry_of, entries_of, works}
 use Rattle.heap_system.specs.Pictures.{gating, holding}

@@ -27,7 +27,7 @@ use Rattle.sweep_steps.proofs.Passing.{passed_bits, passed_few}
 use Rattle.sweep_steps.proofs.Pictures.{keeps_names}
 use Rattle.sweep_steps.proofs.Ranges.{fits_next, place_fits, sum_fits}
 use Rattle.heap_system.specs.declared.Turn.TheVariants as turns
-use Rattle.heap_system.specs.declared.local.Part.TheVariants.{Sweep, Again, Idle}
+use Rattle.heap_system.specs.Parts.{Sweep, Again, Idle}
 use Rattle.heap_system.specs.Locals.{turn_of, sweep_waits, task, spent_got}
 use Rattle.heap_system.specs.Units.{blackens}
 use Rattle.heap_system.proofs.Passing.{inside_open}

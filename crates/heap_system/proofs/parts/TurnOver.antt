@@ -32,7 +32,7 @@ use Rattle.kept_names.specs.Pictures.{Names, no_task, picture}
 use Rattle.kept_names.specs.States.{KeptState}
 use Rattle.kept_names.proofs.Steps.{step_kept}
 use Rattle.sweep_steps.specs.Ends.{unpassed}
-use Rattle.heap_system.specs.declared.local.Part.TheVariants.{Enter, TurnOver}
+use Rattle.heap_system.specs.Parts.{Enter, TurnOver}
 use Rattle.heap_system.specs.Locals.{part_want, task, is_last, if_turned, turn_naming, entries_of, unit_to_come, PartFits, IsRoomy}
 use Rattle.heap_system.specs.Machines.{starts_by}
 use Rattle.heap_system.specs.Naming.{Naming, Same, Lost, Begun, Shaded, renamed}

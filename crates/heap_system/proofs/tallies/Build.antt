@@ -33,7 +33,7 @@ use Rattle.build_steps.proofs.Shapes.{made_blocks}
 use Rattle.work_account.specs.Accounts.{published, refused}
 use Rattle.cycle_tally.specs.Events as events
 use Rattle.cycle_tally.specs.Tallies.{Spending, Tally, made_of}
-use Rattle.heap_system.specs.declared.local.Part.TheVariants.{Build, Leave}
+use Rattle.heap_system.specs.Parts.{Build, Leave}
 use Rattle.heap_system.specs.Locals.{Open, AsStep, Refused, plain, if_decides, if_replied, entry_of, idle_part}
 use Rattle.heap_system.proofs.Balances.{no_idle}
 use Rattle.heap_system.specs.Naming.{Same, Made}

@@ -24,8 +24,7 @@ use Rattle.build_steps.specs.Rows.{building}
 use Rattle.work_account.specs.Accounts.{Balance, entered}
 use Rattle.cycle_tally.specs.Events as events
 use Rattle.cycle_tally.specs.Tallies.{Spending, Tally}
-use Rattle.heap_system.specs.declared.local.Part.{Part}
-use Rattle.heap_system.specs.declared.local.Part.TheVariants.{Rest, Enter, Serve, Mark, Sweep, Build}
+use Rattle.heap_system.specs.Parts.{Part, Rest, Enter, Serve, Mark, Sweep, Build}
 use Rattle.heap_system.specs.Locals.{Errand, plain, first_part, pass_by, effect, part_want, part_got}
 use Rattle.heap_system.proofs.Passing.{phase_is}
 use Rattle.heap_system.proofs.PartLaws.{word_at}

@@ -26,8 +26,7 @@ use Rattle.grey_steps.proofs.Ends.{unit_grey}
 use Rattle.work_account.specs.Accounts.{Balance}
 use Rattle.cycle_tally.specs.Events as events
 use Rattle.cycle_tally.specs.Tallies.{Spending, Tally, made_of, due_of, with_made}
-use Rattle.heap_system.specs.declared.local.Part.{Part}
-use Rattle.heap_system.specs.declared.local.Part.TheVariants.{Mark, Again, Idle}
+use Rattle.heap_system.specs.Parts.{Part, Mark, Again, Idle}
 use Rattle.heap_system.specs.Locals.{Effect, Open, idle_part, spent_got, balance_made, balance_got}
 use Rattle.heap_system.proofs.Balances.{idle_more}
 use Rattle.heap_system.specs.Machines.{starts_by}

@@ -15,7 +15,7 @@ use Rattle.work_account.specs.Accounts.{Balance}
 use Rattle.cycle_tally.specs.Events.{Event, run, Guarded}
 use Rattle.cycle_tally.specs.Tallies.{Spending, Tally, units_now, made_of}
 use Rattle.cycle_tally.proofs.Laws.{run_kept}
-use Rattle.heap_system.specs.declared.local.Part.{Part}
+use Rattle.heap_system.specs.Parts.{Part}
 use Rattle.heap_system.specs.Locals.{Effect, Open, view, paid_part, spent_got, balance_got}
 use Rattle.heap_system.specs.Machines.{starts_by}
 use Rattle.heap_system.specs.Naming.{Naming, Begun}

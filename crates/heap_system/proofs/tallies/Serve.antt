@@ -36,7 +36,7 @@ use Rattle.barrier_steps.specs.Rows.{FieldState, field_reply, field_got, field_s
 use Rattle.cycle_tally.specs.Events as events
 use Rattle.cycle_tally.specs.Tallies.{Spending, Tally, made_of}
 use Rattle.work_account.specs.Accounts.{Balance}
-use Rattle.heap_system.specs.declared.local.Part.TheVariants.{Serve, Leave}
+use Rattle.heap_system.specs.Parts.{Serve, Leave}
 use Rattle.heap_system.specs.Locals.{Open, AsStep, plain, if_decides, if_replied, entry_of, balance_paid}
 use Rattle.heap_system.proofs.Balances.{nothing_paid, all_made, no_idle}
 use Rattle.heap_system.proofs.Looking.{looks}

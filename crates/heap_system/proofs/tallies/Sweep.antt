@@ -28,8 +28,7 @@ use Rattle.cycle_tally.proofs.Steps.{step_kept}
 use Rattle.cycle_tally.specs.Tallies.{Spending, Tally, with_made}
 use Rattle.heap_system.specs.Locals.{idle_part, balance_made}
 use Rattle.heap_system.proofs.Balances.{idle_more}
-use Rattle.heap_system.specs.declared.local.Part.{Part}
-use Rattle.heap_system.specs.declared.local.Part.TheVariants.{Sweep, Again, Idle}
+use Rattle.heap_system.specs.Parts.{Part, Sweep, Again, Idle}
 use Rattle.heap_system.proofs.PartLaws.{AtPart}
 use Rattle.heap_system.proofs.Seeing.{Seen}
 use Rattle.heap_system.proofs.Tallying.{IsSpending, IsTallyOf, Counted, TallyEvent, TallyLaw, more_if, Asking, asking}

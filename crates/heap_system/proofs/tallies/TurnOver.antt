@@ -31,7 +31,7 @@ use Rattle.cycle_tally.specs.Events.{FewInUse}
 use Rattle.cycle_tally.specs.Events as events
 use Rattle.cycle_tally.specs.Tallies.{Tally}
 use Rattle.cycle_tally.proofs.KeptStart.{few_at_start}
-use Rattle.heap_system.specs.declared.local.Part.TheVariants.{TurnOver}
+use Rattle.heap_system.specs.Parts.{TurnOver}
 use Rattle.heap_system.specs.Locals.{plain, is_last, if_turned, turn_naming}
 use Rattle.heap_system.specs.Naming.{Naming, Same, Lost, Begun, Shaded}
 use Rattle.heap_system.proofs.PartLaws.{AtPart}

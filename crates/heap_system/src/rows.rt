@@ -1,0 +1,33 @@
+//! Where a thread stands, in few bytes.
+
+use grey_steps::GreyRow;
+use sweep_steps::SweepRow;
+
+/// The row at which a thread stands. What it needs beside the row is kept by the thread and is
+/// written once: the pass, the command, the row of a command or of a gate that is turned over, and
+/// the object that is built.
+#[derive(Clone, Copy)]
+pub enum Row {
+    /// At rest outside the gate.
+    Rest,
+    /// Outside, and looks whether the gate is closed.
+    Look,
+    /// Outside, and goes in where the phase word is still the one that was seen.
+    Enter { seen: u64 },
+    /// Inside, in a command that makes no object.
+    Serve,
+    /// Inside, and marks.
+    Mark(GreyRow),
+    /// Inside, and sweeps, with so many units owed when it came in.
+    Sweep { owed: u64, row: SweepRow },
+    /// Inside, and builds an object.
+    Build,
+    /// On its way out, to come in again.
+    Again,
+    /// On its way out, to turn the phase over.
+    Idle,
+    /// Outside, and turns the phase over.
+    TurnOver,
+    /// On its way out, with its command in the log.
+    Leave,
+}
