@@ -21,11 +21,11 @@ one_owes c rate k low object is =
     let price : rate * blocks_of c.width k ≤ 131070 * 1024 = mul-le rate (blocks_of c.width k) 131070 1024 low (omega (arith, blocks_low c k is, object)) in
     omega (arith, price, told_low c k is)
 
--- what a thread's command owes
-pub owes_low : (l : LocalState) → IsLocal l → (k : Command) → IsCommandInBounds l.config k → (n told : ℕ) → n ≡ blocks_of l.config.width k → told ≡ units_told k → l.rate * n + told ≤ 134346750
-owes_low l is k fits n told blocks units =
-    let price : l.rate * n ≡ l.rate * blocks_of l.config.width k = ap (λ x. l.rate * x) blocks in
-    omega (arith, price, units, one_owes l.config l.rate k (rate_low l.config l.rate is.bounds is.plan is.rate) is.bounds.object fits)
+-- and as it is reckoned, of so many blocks and units that it is told of
+pub price_few : (c : Config) (rate : ℕ) (k : Command) → rate ≤ 131070 → IsInBounds c → IsCommandInBounds c k → (n told : ℕ) → n ≡ blocks_of c.width k → told ≡ units_told k → rate * n + told ≤ 134346750
+price_few c rate k low bounds fits n told blocks units =
+    let price : rate * n ≡ rate * blocks_of c.width k = ap (λ x. rate * x) blocks in
+    omega (arith, price, units, one_owes c rate k low bounds.object fits)
 
 all_owe : (c : Config) (rate : ℕ) (ks : List Command) → rate ≤ 131070 → c.object ≤ 1024 → AllByRecursion (IsCommandInBounds c) ks → sum_after (units_owed c.width rate) 0 ks ≤ length ks * 134346750
 all_owe c rate [] low object all = omega arith

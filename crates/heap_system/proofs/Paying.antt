@@ -408,6 +408,21 @@ begun_with l k before log part is one more none same =
     (subst (λ x. IsLocal (record l { before = l.before + works l.log; trace = set l.trace 0 k; log = x })) (sym none)
     (subst (λ x. IsLocal (record l { before = l.before + works l.log; trace = x; log = [] })) (sym (one_set l.trace k one)) is)))
 
+-- the price of the command that it has then
+pub begun_price : (l : LocalState) (k : Command) (log : List Entry) (price : ℕ) → length l.trace ≡ 1 → log ≡ []
+    → price ≡ units_owed l.config.width l.rate k
+    → price ≡ units_owed l.config.width l.rate (command_behind (set l.trace 0 k) log)
+begun_price l k log price one none is =
+    is ∙ sym (λ i. units_owed l.config.width l.rate (command_behind (one_set l.trace k one i) (none i)))
+
+-- and of the next one, where one more is in the log
+pub next_price : (l : LocalState) (log : List Entry) (e : Entry) (price : ℕ) → log ≡ l.log ++ e ∷ []
+    → price ≡ units_owed l.config.width l.rate (get_or l.trace (length l.log + 1) (commands.Nil 0))
+    → price ≡ units_owed l.config.width l.rate (command_behind l.trace log)
+next_price l log e price same is =
+    let long : length log ≡ length l.log + 1 = ap length same ∙ length-append l.log (e ∷ []) ∙ omega arith in
+    is ∙ sym (ap (λ n. units_owed l.config.width l.rate (get_or l.trace n (commands.Nil 0))) long)
+
 -- a thread at rest looks at no command
 pub rest_same : (c : Config) (q : Pass) (k n : Command) (f : FieldRow) (g : GateRow) (b : BuildState) (r : Row) → is_rest (part_at c q k f g b r) ≡ true → part_at c q n f g b r ≡ part_at c q k f g b r
 rest_same c q k n f g b rows.Rest e = refl

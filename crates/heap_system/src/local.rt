@@ -1,6 +1,6 @@
 //! One thread's whole state, one event at a time.
 
-ghost use Rattle.std.specs.Prelude.{◌≡◌, ◌≤◌, ◌<◌, ◌+◌, ◌^◌, ◌-◌, ◌++◌, ◌∷◌, [], true, false, Some, if◌then◌else◌, length, IfOk};
+ghost use Rattle.std.specs.Prelude.{◌≡◌, ◌≤◌, ◌<◌, ◌+◌, ◌^◌, ◌-◌, ◌++◌, ◌∷◌, [], true, false, Some, if◌then◌else◌, length, IfOk, slice_index_or};
 ghost use Rattle.block_store.specs.Configs.{IsInBounds};
 ghost use Rattle.block_store.specs.Places.{extent, words_count};
 ghost use Rattle.rate_plan.specs.Rates.{IsRate, IsAdmitted};
@@ -15,9 +15,10 @@ ghost use Rattle.heap_machine.specs.Passes.{IsPass};
 ghost use Rattle.never_heap.specs.Bounds.{IsCommandInBounds};
 ghost use Rattle.heap_system.specs.Lives.{IsLife, objects_of, most_units, most_objects};
 ghost use Rattle.heap_machine.specs.declared.gate.GateRow.{GateRow};
+ghost use Rattle.never_heap.specs.declared.Command.{Command};
 ghost use Rattle.heap_system.specs.Parts.{Part};
 ghost use Rattle.heap_system.specs.declared.rows.Row.TheVariants as rows;
-ghost use Rattle.heap_system.specs.Locals.{LocalReads, HasGot, is_done, is_rest, is_build, is_at_gate, is_serving, is_marking, is_sweeping, is_on_way_out, part_want, part_step, local_got, at_start, turn_of, is_last, pass_by, first_part, errand_of, command_of, op_wanted, owed, made_got, works, entry_of, balance_over, commands_decided, begun};
+ghost use Rattle.heap_system.specs.Locals.{LocalReads, HasGot, is_done, is_rest, is_build, is_at_gate, is_serving, is_marking, is_sweeping, is_on_way_out, part_want, part_step, local_got, at_start, turn_of, is_last, pass_by, first_part, errand_of, command_of, op_wanted, owed, made_got, works, entry_of, balance_over, commands_decided, begun, command_behind};
 
 use crate::Turn;
 use crate::counting::{count, if_decided, is_new, made_after, settle, sum_of_works};
@@ -48,6 +49,8 @@ pub struct Local {
     log: Vec<Entry>,
     // What is paid for the command in hand, and the units and blocks of the cycle entered last.
     account: Account,
+    // The units that the command in hand owes.
+    price: u64,
     // The units made for the command in hand. Those of an idle are not paid, and so no part of the
     // account; those of any other command are.
     spent: u64,
@@ -66,6 +69,7 @@ pub struct Local {
 impl Model for Local {
     ghost use Rattle.std.specs.Prelude.{◌≡◌, ◌≤◌, length};
     ghost use Rattle.std.specs.Vec.{vec_capacity};
+    ghost use Rattle.never_heap.specs.RightWork.{units_owed};
     ghost use Rattle.heap_system.specs.Locals.{LocalState, IsLocal, command_behind};
     ghost use Rattle.heap_system.specs.Parts.{part_at};
 
@@ -102,7 +106,33 @@ impl Model for Local {
       part = part_at l.config l.pass (command_behind l.trace.items l.log.items)
           l.field l.gate l.builder l.row;
     }) × (l.account.rate ≡ l.rate) × (l.account.object ≡ l.config.object)
-        × (length l.trace.items ≤ vec_capacity l.log) };
+        × (length l.trace.items ≤ vec_capacity l.log)
+        × (l.price ≡ units_owed l.config.width l.rate
+        (command_behind l.trace.items l.log.items)) };
+}
+
+// The units that a command owes at this rate.
+fn price_of(c: &Config, rate: u64, command: &Command) -> u64
+    requires bounds { IsInBounds c.now }
+    requires command { IsCommandInBounds c.now command.now }
+    requires rate { rate ≤ 131070 }
+    ensures price { result ≡ units_owed c.now.width rate command.now }
+    ensures few { result ≤ most_units }
+{
+    rate * u64::from(command.blocks(c.width)) + command.told()
+}
+
+// The units that the first command of a trace owes, where it has one.
+fn first_price(c: &Config, rate: u64, trace: &[Command]) -> u64
+    requires bounds { IsInBounds c.now }
+    requires trace { IsLife c.now trace.now }
+    requires rate { rate ≤ 131070 }
+    ensures { result ≡ units_owed c.now.width rate (command_behind trace.now []) }
+{
+    match trace.first() {
+        Some(command) => price_of(c, rate, command),
+        None => 0,
+    }
 }
 
 // What a turn answers after this step of a part.
@@ -191,6 +221,7 @@ impl Local {
         let Ok(rate) = plan(c) else {
             unreachable!();
         };
+        let price = first_price(c, rate, &trace);
         Ok(Local {
             config: *c,
             rate,
@@ -199,6 +230,7 @@ impl Local {
             trace,
             log,
             account: Account::new(rate, c.object),
+            price,
             spent: 0,
             made: 0,
             pass: Pass {
@@ -272,7 +304,7 @@ impl Local {
         ensures price { result ≡ units_owed self.now.config.width self.now.rate command.now }
         ensures few { result ≤ most_units }
     {
-        self.rate * u64::from(command.blocks(self.config.width)) + command.told()
+        price_of(&self.config, self.rate, command)
     }
 
     /// Has one command more in place of its one command, which is done. The entry of that is let
@@ -287,7 +319,9 @@ impl Local {
         requires objects { self.old.made + objects_of command ≤ most_objects }
         ensures { self.new ≡ begun command self.old }
     {
+        let price = self.owes(&command);
         self.before = self.units_done();
+        self.price = price;
         self.log.clear();
         self.trace[0] = command;
     }
@@ -634,8 +668,8 @@ impl Local {
                   (pass_by self.old.thread self.old.config.threads phase) (errand_of self.old);
             } }
     {
+        let due = self.price - self.spent;
         let command = self.command();
-        let due = self.due(&command);
         let pass = self.pass_by(phase);
         self.account.enter(phase.cycle);
         self.pass = pass;
@@ -664,14 +698,16 @@ impl Local {
         }
     }
 
-    // The units that the command in hand still owes.
-    fn due(&self, command: &Command) -> u64
-        requires command { command.now ≡ command_of self.now }
-        requires there { length self.now.log < length self.now.trace }
-        ensures { result ≡ owed self.now - self.now.spent }
+    // The units that the command behind the one in hand owes, where there is one.
+    fn next_price(&self) -> u64
+        requires { length self.now.log < length self.now.trace }
+        ensures { result ≡ units_owed self.now.config.width self.now.rate
+            (slice_index_or self.now.trace (length self.now.log + 1) (Command.Nil 0)) }
     {
-        let spent = self.spent;
-        self.owes(command) - spent
+        match self.trace.get(self.log.len() + 1) {
+            Some(command) => self.owes(command),
+            None => 0,
+        }
     }
 
     // The command in hand is done.
@@ -690,6 +726,7 @@ impl Local {
             } }
     {
         let command = self.command();
+        let price = self.next_price();
         self.log.push_reserved(Entry {
             thread: self.thread,
             command,
@@ -698,6 +735,7 @@ impl Local {
         });
         let blocks = command.blocks(self.config.width);
         settle(&mut self.account, reply, blocks);
+        self.price = price;
         self.spent = 0;
         self.made = made_after(self.made, command, reply);
         self.row = Row::Leave;

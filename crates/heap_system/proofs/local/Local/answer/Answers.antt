@@ -1,7 +1,10 @@
-use Rattle.std.proofs.Common.{◌≡◌, ap, sym, ◌∙◌, arith, subst, length, ◌<◌}
+use Rattle.std.proofs.Common.{◌≡◌, ap, sym, ◌∙◌, arith, subst, length, ◌<◌, ◌+◌}
+use Rattle.std.specs.Prelude.{slice_index_or}
+use Rattle.never_heap.specs.declared.Command.TheVariants as commands
+use Rattle.never_heap.specs.RightWork.{units_owed}
 use Rattle.work_account.specs.Accounts.{AccountState}
 use Rattle.heap_system.specs.Locals.{LocalState, owed, command_of, balance_over}
-use Rattle.heap_system.proofs.Paying.{view_of, answered_with}
+use Rattle.heap_system.proofs.Paying.{view_of, answered_with, next_price}
 use Rattle.heap_system.proofs.local.Local.answer.Goals as goal
 
 pub invariant_of-self : goal.invariant_of-self
@@ -13,4 +16,5 @@ invariant_of-self c =
       ap (λ (a : AccountState). a.rate) c.settle.ensures ∙ c.self.invariant.1,
       ap (λ (a : AccountState). a.object) c.settle.ensures ∙ c.self.invariant.2,
       omega (arith, c.push_reserved.ensures.capacity, c.self.invariant.3),
+      next_price (view_of c.self.inside) _ _ _ c.push_reserved.ensures.items (c.next_price-price.ensures ∙ ap (λ (l : LocalState). units_owed l.config.width l.rate (slice_index_or l.trace (length l.log + 1) (commands.Nil 0))) (sym c.self.view_is)),
     )

@@ -11,6 +11,7 @@ invariant_of-self-else-is_last g c = (
   c.self.invariant.1,
   c.self.invariant.2,
   c.self.invariant.3,
+  c.self.invariant.4,
 )
 
 pub returns-then-is_last : goal.returns-then-is_last

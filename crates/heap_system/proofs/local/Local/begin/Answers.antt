@@ -3,7 +3,7 @@ use Rattle.never_heap.specs.Bounds.{IsCommandInBounds}
 use Rattle.never_heap.specs.RightWork.{units_owed}
 use Rattle.heap_system.specs.Lives.{objects_of, most_units, most_objects}
 use Rattle.heap_system.specs.Locals.{LocalState, is_rest, works}
-use Rattle.heap_system.proofs.Paying.{view_of, begun_local, begun_with, begun_long, rest_same}
+use Rattle.heap_system.proofs.Paying.{view_of, begun_local, begun_with, begun_long, begun_price, rest_same}
 use Rattle.heap_system.proofs.local.Local.begin.Goals as goal
 
 pub invariant_of-self : goal.invariant_of-self
@@ -20,4 +20,5 @@ invariant_of-self c =
       c.self.invariant.1,
       c.self.invariant.2,
       begun_long c.self.inside.trace.items c.args.command _ one (omega (arith, c.self.invariant.3, c.clear.ensures.capacity)),
+      begun_price l c.args.command _ _ one c.clear.ensures.items (c.owes-price.ensures.price ∙ ap (λ (x : LocalState). units_owed x.config.width x.rate c.args.command) (sym is)),
     )

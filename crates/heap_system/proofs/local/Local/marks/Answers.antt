@@ -43,6 +43,7 @@ invariant_of-self g c =
       both.0,
       both.1,
       k.3,
+      k.4,
     )
 
 pub invariant_of-self-else-is_last : goal.invariant_of-self-else-is_last
@@ -60,4 +61,5 @@ invariant_of-self-else-is_last g c =
       both.0,
       both.1,
       k.3,
+      k.4,
     )
