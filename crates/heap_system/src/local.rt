@@ -25,7 +25,7 @@ use barrier_steps::FieldPass;
 use block_store::{Config, OutOfMemory, PhaseWord, Places};
 use build_steps::BuildPass;
 use grey_steps::GreyPass;
-use heap_machine::{Gate, Memory, Op, Pass, Step};
+use heap_machine::{Gate, Given, Memory, Op, Pass, Step};
 use never_heap::{Command, Entry, Reply};
 use rate_plan::plan;
 use std::alloc::Global;
@@ -59,29 +59,6 @@ pub enum Part {
     TurnOver(Gate),
     /// On its way out, with its command in the log.
     Leave,
-}
-
-// A memory that answers one word, whatever is asked of it: it stands for an operation that was made
-// elsewhere.
-#[derive(Drop)]
-struct Given {
-    word: u64,
-}
-
-impl Memory for Given {
-    ghost use Rattle.std.specs.Prelude.{◌≡◌};
-
-    type Shared = ();
-
-    ghost may = { λ given none op. Unit {0} };
-
-    ghost acts = { λ given none op word after. word ≡ given.word };
-
-    #[inline(always)]
-    fn act(&mut self, shared: &(), op: &Op) -> u64 {
-        let (_shared, _op) = (shared, op);
-        self.word
-    }
 }
 
 /// A thread's whole state: its commands, the entries of those that are done, and where it is in the
