@@ -11,8 +11,6 @@ mod memory;
 mod op;
 mod pass;
 mod reuse;
-#[cfg(test)]
-mod tests;
 mod turning;
 mod turnover;
 mod words;
