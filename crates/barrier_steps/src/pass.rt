@@ -571,21 +571,6 @@ impl FieldPass {
         Op::load(register(places, self.pass.thread, r))
     }
 
-    /// Moves on by one event, whose operation read the word: one that its place can hold, and at a
-    /// link a reference. A part that is over stays as it is.
-    #[inline(never)]
-    #[tactic(auto, using(crate::proofs::FieldRows::field_fits))]
-    pub fn got(&mut self, places: &Places, word: u64) -> Step
-        requires fits { FieldFits places.now self.old }
-        requires word { FieldReads places.now self.old word }
-        ensures row { self.new ≡ field_got (extent places.now) self.old word }
-        ensures step { result ≡ field_step (extent places.now) self.old word }
-        ensures fits { FieldFits places.now self.new }
-    {
-        self.row = self.after(places, self.row, word);
-        step_at(self.row)
-    }
-
     // The row after the event at this one, whose operation read the word.
     #[inline(always)]
     fn after(&self, places: &Places, row: FieldRow, read: u64) -> FieldRow
@@ -637,7 +622,9 @@ impl FieldPass {
         }
     }
 
-    /// One event: `want` and `got` at once, with the operation made by this memory.
+    /// One event: this memory makes the operation of `want`, and the part moves on by the word that
+    /// it read, which is one that its place can hold, and at a link a reference. A part that is over
+    /// stays as it is.
     #[inline(always)]
     pub fn event<M: Memory>(&mut self, places: &Places, memory: &mut M, shared: &M::Shared) -> Step
         requires fits { FieldFits places.now self.old }

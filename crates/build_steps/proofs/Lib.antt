@@ -10,7 +10,6 @@ pub mod Together
 pub mod Once
 pub mod Ends
 pub mod Order
-pub mod Zeros
 pub mod Shapes
 pub mod Building
 pub mod Pictures

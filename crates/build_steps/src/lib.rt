@@ -8,8 +8,6 @@ mod names;
 mod objects;
 mod pass;
 mod rows;
-#[cfg(test)]
-mod tests;
 
 pub use laws::{
     held_blocks_are_distinct, replies_are_decided, rows_keep_marking, rows_keep_reuse,

@@ -241,20 +241,8 @@ impl BuildPass {
         self.operation(places, self.row)
     }
 
-    /// Moves on by one event, whose operation read the word: one that its place can hold. The
-    /// places are those that `want` was given. A part that is over stays as it is.
-    #[inline(never)]
-    pub fn got(&mut self, places: &Places, word: u64) -> Step
-        requires fits { BuildFits places.now self.old }
-        requires word { BuildReads places.now self.old word }
-        ensures state { self.new ≡ build_got (extent places.now) self.old word }
-        ensures step { result ≡ build_step self.old word }
-        ensures fits { BuildFits places.now self.new }
-    {
-        self.moves(self.row, places, word)
-    }
-
-    /// One event: `want` and `got` at once, with the operation made by this memory.
+    /// One event: this memory makes the operation of `want`, and the part moves on by the word that
+    /// it read. The places are those that `want` was given. A part that is over stays as it is.
     #[inline(always)]
     pub fn event<M: Memory>(&mut self, places: &Places, memory: &mut M, shared: &M::Shared) -> Step
         requires fits { BuildFits places.now self.old }

@@ -8,8 +8,6 @@ mod names;
 mod pass;
 mod reuse;
 mod rows;
-#[cfg(test)]
-mod tests;
 
 pub use laws::{
     a_unit_is_a_blackening, nothing_is_each_list_empty, rows_keep_grey, rows_keep_solid,

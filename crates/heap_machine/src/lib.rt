@@ -11,8 +11,6 @@ mod memory;
 mod op;
 mod pass;
 mod reuse;
-#[cfg(test)]
-mod tests;
 mod turning;
 mod turnover;
 mod words;
@@ -25,7 +23,7 @@ pub use laws::{
     stores_are_held, turn_over_checks_every_list, turn_over_keeps_the_gate,
     unshaded_stores_break_tricolour, what_keeps_solid, what_keeps_the_heap, what_keeps_tricolour,
 };
-pub use memory::Memory;
+pub use memory::{Given, Memory};
 pub use op::Op;
 pub use pass::Pass;
 pub use reuse::{

@@ -21,3 +21,28 @@ pub trait Memory {
         requires { may self.old shared.now op.now }
         ensures { acts self.old shared.now op.now result self.new };
 }
+
+/// A memory that answers one word, whatever is asked of it: it stands for an operation that was
+/// made elsewhere.
+#[derive(Drop)]
+pub struct Given {
+    /// The word.
+    pub word: u64,
+}
+
+impl Memory for Given {
+    ghost use Rattle.std.specs.Prelude.{◌≡◌};
+
+    // It is one event's alone.
+    type Shared = ();
+
+    ghost may = { λ given none op. Unit {0} };
+
+    ghost acts = { λ given none op word after. word ≡ given.word };
+
+    #[inline(always)]
+    fn act(&mut self, shared: &(), op: &Op) -> u64 {
+        let (_shared, _op) = (shared, op);
+        self.word
+    }
+}

@@ -1,5 +1,5 @@
 -- What the place can hold that an operation is on.
-use Rattle.std.proofs.Common.{◌≡◌, ℕ, true, refl, sym, ap, ◌∙◌, subst}
+use Rattle.std.proofs.Common.{◌≡◌, ℕ, List, slice_index, true, refl, sym, ap, ◌∙◌, subst}
 use Rattle.block_store.specs.declared.Config.{Config}
 use Rattle.block_store.specs.Places.{Extent, extent, index, in_range, place_at}
 use Rattle.block_store.proofs.Indexes.{back}
@@ -25,3 +25,8 @@ held_there c p is want w i op range wanted place holds =
     let here : op ≡ op_at (extent c) (want (extent c)) = subst (λ (x : Config). op ≡ op_at (extent x) (want (extent x))) is wanted in
     subst (λ (x : Config). CanHold (extent x) (place_of (want (extent x))) w) (sym is)
     (at_place (extent c) (want (extent c)) i w range (place ∙ ap op_place here) holds)
+
+-- what an event at the words read is the word that stood there
+pub read_there : (ws : List ℕ) (op wanted : Op) → op ≡ wanted → (good : ℕ → Type 0) (word : ℕ) → word ≡ slice_index ws (op_place op) → (w : ℕ) → w ≡ slice_index ws (op_place wanted) → good word → good w
+read_there ws op wanted is good word there w read holds =
+    subst good (there ∙ ap (λ (o : Op). slice_index ws (op_place o)) is ∙ sym read) holds

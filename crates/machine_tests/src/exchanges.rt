@@ -2,61 +2,13 @@
 //! register 1 refers to a record of one field, in block 9.
 
 use crate::hand::{behind, over};
-use block_store::{Config, Name, PhaseWord, Places, Value, Width};
+use crate::small::{
+    FOUR, GREY, GREY_TO_6, INSIDE, MARK, NIL, ONE, SHARED, SHARED_NAME, SWEEP, THREE, TO_7, TO_8,
+    TO_9, WHITE, WIDE,
+};
+use block_store::{Places, Value};
 use heap_machine::Op;
 use never_heap::{Command, Reply};
-
-const WIDE: Config = Config {
-    width: Width::Eight,
-    threads: 1,
-    blocks: 20,
-    live: 10,
-    object: 1,
-    shared: 5,
-};
-
-// The phase words with which the thread went in.
-const MARK: PhaseWord = PhaseWord {
-    inside: 0,
-    sweep: false,
-    closed: false,
-    cycle: 1,
-};
-
-const SWEEP: PhaseWord = PhaseWord {
-    inside: 0,
-    sweep: true,
-    closed: false,
-    cycle: 1,
-};
-
-// The phase word with the thread inside, in Mark of cycle 1.
-const INSIDE: u64 = 1025;
-
-// A white block, and grey ones behind which no block or block 6 stands.
-const WHITE: u64 = 1;
-
-const GREY: u64 = 3;
-
-const GREY_TO_6: u64 = 51;
-
-// Payloads: nil, numbers, and references to blocks 7, 8 and 9; the shape of the record, and the
-// owner of a first object of number 1.
-const NIL: u64 = 0;
-
-const THREE: u64 = 7;
-
-const FOUR: u64 = 9;
-
-const TO_7: u64 = 14;
-
-const TO_8: u64 = 16;
-
-const TO_9: u64 = 18;
-
-const ONE: u64 = 2;
-
-const SHARED: u64 = 1 << 40;
 
 const SWAP: Command = Command::Swap { s: 1, i: 0, v: 3 };
 
@@ -74,13 +26,6 @@ fn to_record() -> [(Op, u64); 2] {
         (Op::load(places.payload(2, 1)), TO_9),
         (Op::load(places.shape(9)), ONE),
     ]
-}
-
-fn first_object() -> Reply {
-    Reply::Val(Value::Ref(Name {
-        thread: 1,
-        serial: 0,
-    }))
 }
 
 // It shades the block of its own register before the exchange, and that of the field before it
@@ -106,7 +51,7 @@ fn swap_shades_both_ways(rt: HostRuntime) {
         (Op::exchange(places.grey_list(0), 7), 0),
         (Op::exchange(places.payload(2, 3), TO_7), TO_8),
     ];
-    assert_eq!(rt; behind(&WIDE, MARK, SWAP, &events), over(7, first_object()));
+    assert_eq!(rt; behind(&WIDE, MARK, SWAP, &events), over(7, SHARED_NAME));
 }
 
 // Nothing is shaded in Sweep, nor for nil and numbers.
@@ -123,7 +68,7 @@ fn swap_shades_nothing(rt: HostRuntime) {
         (Op::load(places.owner(7)), SHARED),
         (Op::exchange(places.payload(2, 3), TO_7), TO_8),
     ];
-    assert_eq!(rt; behind(&WIDE, SWEEP, SWAP, &sweep), over(4, first_object()));
+    assert_eq!(rt; behind(&WIDE, SWEEP, SWAP, &sweep), over(4, SHARED_NAME));
     let number = [
         register,
         shape,

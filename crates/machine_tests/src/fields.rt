@@ -1,51 +1,14 @@
 //! Commands done by hand on the words of a heap with one thread. Its register 0 refers to an array
 //! of five elements, in blocks 6 to 8, and register 1 to a record of one field, in block 9.
 
-use crate::hand::{behind, over};
+use crate::hand::{behind, got, over};
+use crate::small::{
+    FIVE, FOUR, MARK, NIL, ONE, SEVEN, SHARED, SHARED_NAME, SMALL, THREE, TO_6, TO_8, TO_9,
+};
 use barrier_steps::FieldPass;
-use block_store::{Config, Name, OutOfMemory, PhaseWord, Places, Value, Width};
+use block_store::{OutOfMemory, Places, Value};
 use heap_machine::{Op, Step, Words};
 use never_heap::{Command, Reply};
-
-const SMALL: Config = Config {
-    width: Width::Four,
-    threads: 1,
-    blocks: 20,
-    live: 10,
-    object: 1,
-    shared: 5,
-};
-
-// The phase word with which the thread went in.
-const MARK: PhaseWord = PhaseWord {
-    inside: 0,
-    sweep: false,
-    closed: false,
-    cycle: 1,
-};
-
-// Payloads: nil, numbers, and references to blocks 6, 8 and 9.
-const NIL: u64 = 0;
-
-const THREE: u64 = 7;
-
-const FOUR: u64 = 9;
-
-const SEVEN: u64 = 15;
-
-const TO_6: u64 = 12;
-
-const TO_8: u64 = 16;
-
-const TO_9: u64 = 18;
-
-// The shapes of an array of five elements and of a record of one field, and the owner of block 6,
-// which is the first object of number 1.
-const FIVE: u64 = 11;
-
-const ONE: u64 = 2;
-
-const SHARED: u64 = 1 << 40;
 
 #[test]
 #[tactic(auto, unfolding(block_store::specs::Payloads::payload_of, block_store::specs::Payloads::target, block_store::specs::Shapes::shape_of, array_trees::specs::Levels::tree_depth))]
@@ -53,21 +16,21 @@ fn get_of_an_element(rt: HostRuntime) {
     let places = Places::new(&SMALL);
     let mut get = FieldPass::new(0, 1, MARK, Command::Get { d: 3, s: 0, i: 4 });
     assert_eq!(rt; get.want(&places), Op::load(places.payload(2, 0)));
-    assert_eq!(rt; get.got(&places, TO_6), Step::Went);
+    assert_eq!(rt; got(&mut get, &places, TO_6), Step::Went);
     assert_eq!(rt; get.want(&places), Op::load(places.shape(6)));
-    assert_eq!(rt; get.got(&places, FIVE), Step::Went);
+    assert_eq!(rt; got(&mut get, &places, FIVE), Step::Went);
     assert_eq!(rt; get.want(&places), Op::load(places.payload(6, 1)));
-    assert_eq!(rt; get.got(&places, TO_8), Step::Went);
+    assert_eq!(rt; got(&mut get, &places, TO_8), Step::Went);
     assert_eq!(rt; get.want(&places), Op::load(places.payload(8, 0)));
     assert!(rt; !get.decided());
-    assert_eq!(rt; get.got(&places, SEVEN), Step::Went);
+    assert_eq!(rt; got(&mut get, &places, SEVEN), Step::Went);
     assert!(rt; get.decided());
     assert_eq!(rt; get.reply(), None);
     assert_eq!(rt;
         get.want(&places),
         Op::exchange(places.payload(2, 3), SEVEN)
     );
-    assert_eq!(rt; get.got(&places, NIL), Step::Over);
+    assert_eq!(rt; got(&mut get, &places, NIL), Step::Over);
     assert_eq!(rt; get.reply(), Some(Reply::Val(Value::Int(7))));
 }
 
@@ -99,13 +62,9 @@ fn registers_are_shown(rt: HostRuntime) {
         over(2, Reply::No)
     );
     let say = [from, (Op::load(places.owner(6)), SHARED)];
-    let shared = Name {
-        thread: 1,
-        serial: 0,
-    };
     assert_eq!(rt;
         behind(&SMALL, MARK, Command::Say { s: 0 }, &say),
-        over(1, Reply::Val(Value::Ref(shared)))
+        over(1, SHARED_NAME)
     );
 }
 

@@ -4,15 +4,15 @@
 ghost use Rattle.std.specs.Prelude.{ℕ, ◌≡◌, ◌≢◌, ◌≤◌, ◌<◌, ◌+◌, false, IfSome};
 ghost use Rattle.block_store.specs.Configs.{IsInBounds};
 ghost use Rattle.block_store.specs.Payloads.{target};
-ghost use Rattle.heap_machine.specs.Operations.{op_place};
-ghost use Rattle.barrier_steps.specs.Rows.{first_row, field_decided};
-ghost use Rattle.barrier_steps.specs.Fits.{FieldFits};
+ghost use Rattle.block_store.specs.Places.{extent};
+ghost use Rattle.barrier_steps.specs.Rows.{first_row, field_decided, field_got, field_step};
+ghost use Rattle.barrier_steps.specs.Fits.{FieldFits, FieldReads};
 ghost use Rattle.machine_tests.specs.Links.{before_link};
 
-use crate::held::can_hold;
+use crate::held::{can_hold, place_of};
 use barrier_steps::{FieldPass, rows_stay_in_the_heap};
 use block_store::{Config, PhaseWord, Places};
-use heap_machine::{Op, Step};
+use heap_machine::{Given, Op, Step};
 use never_heap::{Command, Reply};
 
 /// Behind how many events a command was decided, what it wants now, and its reply.
@@ -82,19 +82,6 @@ fn events_before_link(command: Command) -> u32
     }
 }
 
-/// The place of an operation.
-pub fn place_of(op: &Op) -> usize
-    ensures { result ≡ op_place op.now }
-{
-    match *op {
-        Op::Load { place } => place,
-        Op::Exchange { place, .. } => place,
-        Op::CompareExchange { place, .. } => place,
-        Op::FetchAdd { place, .. } => place,
-        Op::FetchSub { place, .. } => place,
-    }
-}
-
 // Where a load may follow a link, a word that refers to something.
 #[tactic(auto, unfolding(block_store::specs::Payloads::target))]
 fn may_follow(free: u32, op: &Op, word: u64) -> Option<()>
@@ -126,5 +113,16 @@ fn event(c: &Config, pass: &mut FieldPass, free: u32, op: &Op, word: u64) -> Opt
     }
     can_hold(c, place_of(&wanted), word)?;
     may_follow(free, &wanted, word)?;
-    Some(pass.got(&places, word))
+    Some(got(pass, &places, word))
+}
+
+/// One event, whose operation reads the word.
+pub fn got(pass: &mut FieldPass, places: &Places, word: u64) -> Step
+    requires fits { FieldFits places.now pass.old }
+    requires word { FieldReads places.now pass.old word }
+    ensures row { pass.new ≡ field_got (extent places.now) pass.old word }
+    ensures step { result ≡ field_step (extent places.now) pass.old word }
+    ensures fits { FieldFits places.now pass.new }
+{
+    pass.event(places, &mut Given { word }, &())
 }

@@ -1,14 +1,16 @@
 //! Which words a place of a heap can hold, asked while a test runs.
 
-ghost use Rattle.std.specs.Prelude.{ℕ, ◌≡◌, ◌≤◌, ◌<◌, ◌+◌, ◌*◌, IsSome, IfSome};
+ghost use Rattle.std.specs.Prelude.{ℕ, ◌≡◌, ◌≤◌, ◌<◌, ◌+◌, ◌*◌, IsSome, IfSome, slice_index};
 ghost use Rattle.block_store.specs.Payloads.{payload_of, target};
 ghost use Rattle.block_store.specs.Colours.{colour_of, link};
 ghost use Rattle.block_store.specs.Places.{extent, place_at, in_block, block_size, Phase, Cursor};
+ghost use Rattle.heap_machine.specs.Operations.{op_place, SumFits, MayAct};
 ghost use Rattle.heap_machine.specs.Readings.{CanHold, IsPhaseWord};
 
 use block_store::{
     Colour, Config, Payload, read_colour, read_payload, read_phase, read_shape, read_wide,
 };
+use heap_machine::{Op, Words};
 
 // A number that is no higher.
 fn at_most(n: u64, most: u64) -> Option<()>
@@ -95,4 +97,47 @@ pub fn can_hold(c: &Config, index: usize, word: u64) -> Option<()>
     }
     let size = 3 + c.width.payloads() as usize;
     holds_in_block(c, (index - lists) % size, word)
+}
+
+/// The place of an operation.
+pub fn place_of(op: &Op) -> usize
+    ensures { result ≡ op_place op.now }
+{
+    match *op {
+        Op::Load { place } => place,
+        Op::Exchange { place, .. } => place,
+        Op::CompareExchange { place, .. } => place,
+        Op::FetchAdd { place, .. } => place,
+        Op::FetchSub { place, .. } => place,
+    }
+}
+
+// Whether the sum or difference of an operation on this word stays in 64 bits.
+fn sum_fits(op: &Op, word: u64) -> Option<()>
+    ensures { IfSome result (λ u. SumFits op.now word) }
+{
+    match *op {
+        Op::Load { .. } | Op::Exchange { .. } | Op::CompareExchange { .. } => Some(()),
+        Op::FetchAdd { by, .. } => word.checked_add(by).map(|_sum| ()),
+        Op::FetchSub { by, .. } => at_most(by, word),
+    }
+}
+
+/// The word on which an operation is, where it can be made at these words.
+pub fn word_at(words: &Words, op: &Op) -> Option<u64>
+    ensures may { IfSome result (λ w. MayAct words.now op.now) }
+    ensures word { IfSome result (λ w. w ≡ slice_index words.now (op_place op.now)) }
+{
+    let place = place_of(op);
+    if place >= words.len() {
+        return None;
+    }
+    let word = words.word(place);
+    sum_fits(op, word)?;
+    Some(word)
+}
+
+/// Whether the word at this place is this one.
+pub fn has(words: &Words, place: usize, word: u64) -> bool {
+    place < words.len() && words.word(place) == word
 }

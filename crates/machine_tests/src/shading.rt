@@ -2,65 +2,13 @@
 //! in cycle 1. Its register 1 refers to a record of one field, in block 9.
 
 use crate::hand::{behind, over};
-use block_store::{Config, Name, PhaseWord, Places, Value, Width};
+use crate::small::{
+    BLACK, GREY, GREY_TO_6, MARK, NIL, ONE, SHARED, SHARED_NAME, SMALL, SWEEP, THREE, TO_8, TO_9,
+    WHITE, WIDE,
+};
+use block_store::Places;
 use heap_machine::Op;
 use never_heap::{Command, Reply};
-
-const SMALL: Config = Config {
-    width: Width::Four,
-    threads: 1,
-    blocks: 20,
-    live: 10,
-    object: 1,
-    shared: 5,
-};
-
-const WIDE: Config = Config {
-    width: Width::Eight,
-    threads: 1,
-    blocks: 20,
-    live: 10,
-    object: 1,
-    shared: 5,
-};
-
-// The phase words with which the thread went in.
-const MARK: PhaseWord = PhaseWord {
-    inside: 0,
-    sweep: false,
-    closed: false,
-    cycle: 1,
-};
-
-const SWEEP: PhaseWord = PhaseWord {
-    inside: 0,
-    sweep: true,
-    closed: false,
-    cycle: 1,
-};
-
-// A white block, a black one, and grey ones behind which no block or block 6 stands.
-const WHITE: u64 = 1;
-
-const BLACK: u64 = 2;
-
-const GREY: u64 = 3;
-
-const GREY_TO_6: u64 = 51;
-
-// Payloads: nil, a number, and references to blocks 8 and 9; the shape of the record, and the owner
-// of a first object of number 1.
-const NIL: u64 = 0;
-
-const THREE: u64 = 7;
-
-const TO_8: u64 = 16;
-
-const TO_9: u64 = 18;
-
-const ONE: u64 = 2;
-
-const SHARED: u64 = 1 << 40;
 
 #[test]
 fn mov_shades_a_white_block(rt: HostRuntime) {
@@ -113,14 +61,7 @@ fn get_shades_what_it_loaded(rt: HostRuntime) {
         (Op::exchange(places.grey_list(0), 8), 0),
         (Op::exchange(places.payload(2, 3), TO_8), NIL),
     ];
-    let shared = Name {
-        thread: 1,
-        serial: 0,
-    };
-    assert_eq!(rt;
-        behind(&SMALL, MARK, get, &events),
-        over(3, Reply::Val(Value::Ref(shared)))
-    );
+    assert_eq!(rt; behind(&SMALL, MARK, get, &events), over(3, SHARED_NAME));
 }
 
 // Nothing is shaded for a number, nor in Sweep.

@@ -7,8 +7,6 @@ mod laws;
 mod names;
 mod pass;
 mod rows;
-#[cfg(test)]
-mod tests;
 
 pub use laws::{
     a_unit_is_a_passed_block, claims_move_the_cursor, only_white_blocks_are_freed,

@@ -220,23 +220,8 @@ impl SweepPass {
         self.operation(places, self.row)
     }
 
-    /// Moves on by one event, whose operation read the word: one that its place can hold. The
-    /// places are those that `want` was given. A part that is over stays as it is.
-    #[inline(never)]
-    #[tactic(auto, using(crate::proofs::Ranges::fits_next))]
-    pub fn got(&mut self, places: &Places, word: u64) -> Step
-        requires fits { SweepFits places.now self.old }
-        requires word { SweepReads places.now self.old word }
-        ensures state { self.new ≡ sweep_got self.old word }
-        ensures step { result ≡ sweep_step self.old word }
-        ensures fits { SweepFits places.now self.new }
-    {
-        let next = self.after(places, self.row, word);
-        self.row = next;
-        step_to(next)
-    }
-
-    /// One event: `want` and `got` at once, with the operation made by this memory.
+    /// One event: this memory makes the operation of `want`, and the part moves on by the word that
+    /// it read. The places are those that `want` was given. A part that is over stays as it is.
     #[inline(always)]
     pub fn event<M: Memory>(&mut self, places: &Places, memory: &mut M, shared: &M::Shared) -> Step
         requires fits { SweepFits places.now self.old }

@@ -11,4 +11,4 @@ got-requires-clause-word c = (
 )
 
 pub returns-clause-free : goal.returns-clause-free
-returns-clause-free c = goes_on (extent c.new-places.result) c.args.pass.now c.args.word c.args.free c.got.new.self c.got.ensures.row c.requires.free
+returns-clause-free c = goes_on (extent c.new-places.result) c.args.pass.now c.args.word c.args.free c.got.new.pass c.got.ensures.row c.requires.free
