@@ -293,6 +293,13 @@ impl BuildPass {
         }
     }
 
+    /// For how many blocks there is room.
+    pub fn room(&self) -> usize
+        ensures { result ≡ self.now.capacity }
+    {
+        self.room.capacity()
+    }
+
     // The cycle before this one, or 1.
     fn full_cycle(&self) -> u64
         ensures { result ≡ Rows.full_cycle self.now.cycle }

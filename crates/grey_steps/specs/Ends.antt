@@ -2,14 +2,19 @@
 -- where a part has found nothing.
 use Rattle.std.specs.Prelude.{ℕ, zero, suc, ◌==◌, ◌&&◌, Bool, true, false, List, [], ◌∷◌}
 use Rattle.block_store.specs.Places.{Extent}
+use Rattle.heap_machine.specs.declared.Outcome.{Outcome}
 use Rattle.grey_steps.specs.declared.rows.GreyRow.{GreyRow}
 use Rattle.grey_steps.specs.declared.rows.GreyRow.TheVariants.{Blacken, Put, TakeOwn, ShadeStored, PutOwn, Shaded}
-use Rattle.grey_steps.specs.Rows.{GreyState, grey_got}
+use Rattle.grey_steps.specs.Rows.{GreyState, grey_got, grey_step}
 
 -- the event that makes the block under scan black
 abbrev pub is_blackening : GreyRow → Bool
 is_blackening (Blacken x hand) = true
 is_blackening _ = false
+
+-- what an event is: its step, and whether it makes a unit
+abbrev pub grey_outcome : Extent → GreyState → ℕ → Outcome
+grey_outcome e s w = record { step = grey_step e s w; unit = is_blackening s.row }
 
 -- the events that put a hand in the thread's own list
 abbrev pub is_putting : GreyRow → Bool

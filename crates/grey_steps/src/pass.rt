@@ -11,11 +11,12 @@ ghost use Rattle.heap_machine.specs.Memories.{ReadsOnly, ActsOnce};
 ghost use Rattle.heap_machine.specs.Passes.{IsPass};
 ghost use Rattle.grey_steps.specs.Rows;
 ghost use Rattle.grey_steps.specs.Rows.{GreyState, grey_want, grey_got, grey_step, grey_unit, grey_nothing, grey_over, scanning, shading};
+ghost use Rattle.grey_steps.specs.Ends.{is_blackening, grey_outcome};
 ghost use Rattle.grey_steps.specs.Fits.{GreyFits, GreyReads};
 
 use crate::GreyRow;
 use block_store::{Colour, Payload, Places, black, colour_word, read_colour, read_payload, white};
-use heap_machine::{Memory, Op, Pass, Step};
+use heap_machine::{Memory, Op, Outcome, Pass, Step};
 use std::marker::Model;
 
 /// Marking, done one event at a time while its thread is inside: a grey list is taken, one block of
@@ -173,6 +174,14 @@ fn step_to(row: GreyRow) -> Step
     if is_end(row) { Step::Over } else { Step::Went }
 }
 
+// Whether the event at this row makes the block under scan black.
+#[inline(always)]
+fn blackens(row: GreyRow) -> bool
+    ensures { result ≡ is_blackening row }
+{
+    matches!(row, GreyRow::Blacken { .. })
+}
+
 // Whether there is no event more at this row.
 #[inline(always)]
 fn is_end(row: GreyRow) -> bool
@@ -292,7 +301,12 @@ impl GreyPass {
 
     /// One event: `want` and `got` at once, with the operation made by this memory.
     #[inline(always)]
-    pub fn event<M: Memory>(&mut self, places: &Places, memory: &mut M, shared: &M::Shared) -> Step
+    pub fn event<M: Memory>(
+        &mut self,
+        places: &Places,
+        memory: &mut M,
+        shared: &M::Shared,
+    ) -> Outcome
         requires fits { GreyFits places.now self.old }
         requires may { M.may memory.old shared.now
             (op_at (extent places.now) (grey_want self.old)) }
@@ -301,7 +315,7 @@ impl GreyPass {
         ensures acted { ActsOnce M.acts memory.old shared.now
             (op_at (extent places.now) (grey_want self.old)) memory.new
             (λ w. (self.new ≡ grey_got (extent places.now) self.old w)
-            × (result ≡ grey_step (extent places.now) self.old w)) }
+            × (result ≡ grey_outcome (extent places.now) self.old w)) }
         ensures fits { GreyFits places.now self.new }
     {
         use GreyRow::*;
@@ -406,7 +420,7 @@ impl GreyPass {
         places: &Places,
         memory: &mut M,
         shared: &M::Shared,
-    ) -> Step
+    ) -> Outcome
         requires row { self.old.row ≡ row }
         requires fits { GreyFits places.now self.old }
         requires may { M.may memory.old shared.now
@@ -416,13 +430,16 @@ impl GreyPass {
         ensures acted { ActsOnce M.acts memory.old shared.now
             (op_at (extent places.now) (grey_want self.old)) memory.new
             (λ w. (self.new ≡ grey_got (extent places.now) self.old w)
-            × (result ≡ grey_step (extent places.now) self.old w)) }
+            × (result ≡ grey_outcome (extent places.now) self.old w)) }
         ensures fits { GreyFits places.now self.new }
     {
         let word = memory.act(shared, &self.operation(places, row));
         let next = self.after(places, row, word);
         self.row = next;
-        step_to(next)
+        Outcome {
+            step: step_to(next),
+            unit: blackens(row),
+        }
     }
 
     /// Whether there is no event more.

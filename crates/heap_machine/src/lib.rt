@@ -49,3 +49,12 @@ pub enum Step {
     /// It was the last of the part, and waited.
     WaitedOver,
 }
+
+/// What an event of a part that may make units of work was.
+#[derive(Clone, Copy, Debug, PartialEq, Eq)]
+pub struct Outcome {
+    /// What it was to the part.
+    pub step: Step,
+    /// Whether it made a unit: it made the block under scan black, or passed a block of the sweep.
+    pub unit: bool,
+}

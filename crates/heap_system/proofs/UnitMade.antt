@@ -3,11 +3,11 @@ use Rattle.std.proofs.Common.{◌≡◌, ℕ, ◌+◌, ◌-◌, ◌*◌, ◌<◌
 use Rattle.block_store.specs.declared.Config.{Config}
 use Rattle.block_store.specs.Phases.{bit}
 use Rattle.block_store.specs.Places.{Extent}
-use Rattle.heap_machine.specs.declared.Step.{Step}
+use Rattle.heap_machine.specs.declared.Outcome.{Outcome}
 use Rattle.grey_steps.specs.Ends.{is_blackening}
 use Rattle.grey_steps.specs.Rows.{GreyState, grey_got, grey_unit}
-use Rattle.grey_steps.proofs.Ends.{unit_after}
-use Rattle.sweep_steps.specs.Ends.{row_passes}
+use Rattle.grey_steps.proofs.Ends.{unit_after, unit_once}
+use Rattle.sweep_steps.specs.Ends.{row_passes, sweep_outcome}
 use Rattle.sweep_steps.specs.Fits.{SweepFits}
 use Rattle.sweep_steps.specs.Rows.{SweepState, sweep_got, sweep_passed, sweep_over, sweep_nothing, sweep_step}
 use Rattle.sweep_steps.proofs.Passing.{passed_bits, passed_few}
@@ -28,7 +28,7 @@ use Rattle.never_heap.specs.RightWork.{units_told}
 use Rattle.never_heap.specs.Steps.{blocks_of}
 use Rattle.heap_system.specs.Locals.{LocalState, command_behind, told_behind, IsLocal, LocalReads, PartReads, PartFits, IsRoomy, IsAllMade, IsPassAt, balance_on, spent_got, command_of, owed, unit_to_come, works, is_last, local_got}
 use Rattle.heap_system.proofs.Balances.{paid_after, part_low, units_on, sound_on}
-use Rattle.heap_system.proofs.Paying.{part_of, view_of, price_low, paid_low, worked_low, passed_more, swept_last}
+use Rattle.heap_system.proofs.Paying.{part_of, view_of, price_low, paid_low, worked_low, swept_last}
 use Rattle.heap_system.proofs.parts.InPass.{paid_more}
 
 -- what the command in hand is told to make, read off the trace behind the log
@@ -37,38 +37,32 @@ pub units_read : (l : LocalState) (trace : List Command) (log : List Entry)
 units_read l trace log same logged = λ i. told_behind (same i) (logged i)
 
 -- a Mark pass makes one unit at most
-mark_sum : (a black : Bool) (paid due : ℕ) → paid + bit (not a) ≤ due
-    → paid + bit ((a || black) && not a) + bit (not (a || black)) ≤ due
-mark_sum true black paid due low = omega (arith, low)
-mark_sum false true paid due low = omega (arith, low)
-mark_sum false false paid due low = omega (arith, low)
+mark_sum : (a black : Bool) (paid due : ℕ) → (a ≡ true → black ≡ false) → paid + bit (not a) ≤ due
+    → paid + bit black + bit (not (a || black)) ≤ due
+mark_sum true black paid due once low = let none : bit black ≡ 0 = ap bit (once refl) in omega (arith, low, none)
+mark_sum false true paid due once low = omega (arith, low)
+mark_sum false false paid due once low = omega (arith, low)
 
-pub mark_owes : (e : Extent) (m n : GreyState) (w : ℕ) (before now unit : Bool)
-    → n ≡ grey_got e m w → before ≡ grey_unit m.row → now ≡ grey_unit n.row
-    → unit ≡ (now && not before) → (paid due : ℕ) → paid + bit (not (grey_unit m.row)) ≤ due
+pub mark_owes : (e : Extent) (m n : GreyState) (w : ℕ) (unit : Bool)
+    → n ≡ grey_got e m w → unit ≡ is_blackening m.row
+    → (paid due : ℕ) → paid + bit (not (grey_unit m.row)) ≤ due
     → paid + bit unit + bit (not (grey_unit n.row)) ≤ due
-mark_owes e m n w before now unit got was is new paid due low =
+mark_owes e m n w unit got new paid due low =
     let after : grey_unit n.row ≡ (grey_unit m.row || is_blackening m.row) =
     ap (λ (x : GreyState). grey_unit x.row) got ∙ unit_after e m w in
-    let made : unit ≡ ((grey_unit m.row || is_blackening m.row) && not (grey_unit m.row)) =
-    new ∙ (λ i. (is ∙ after) i && not (was i)) in
-    subst (λ u. paid + bit u + bit (not (grey_unit n.row)) ≤ due) (sym made)
-    (subst (λ u. paid + bit ((grey_unit m.row || is_blackening m.row) && not (grey_unit m.row))
-    + bit (not u) ≤ due) (sym after)
-    (mark_sum (grey_unit m.row) (is_blackening m.row) paid due low))
+    subst (λ u. paid + bit u + bit (not (grey_unit n.row)) ≤ due) (sym new)
+    (subst (λ u. paid + bit (is_blackening m.row) + bit (not u) ≤ due) (sym after)
+    (mark_sum (grey_unit m.row) (is_blackening m.row) paid due (unit_once m) low))
 
 -- and a Sweep pass as many as are owed
-pub sweep_owes : (s n : SweepState) (w before now : ℕ) (unit : Bool) → n ≡ sweep_got s w
-    → before ≡ sweep_passed s.row → now ≡ sweep_passed n.row → unit ≡ ltb before now
+pub sweep_owes : (s n : SweepState) (w : ℕ) (unit : Bool) → n ≡ sweep_got s w
+    → unit ≡ is_some (row_passes s.cycle s.row w)
     → sweep_passed n.row ≤ s.owed → (paid due : ℕ) → paid + (s.owed - sweep_passed s.row) ≤ due
     → paid + bit unit + (s.owed - sweep_passed n.row) ≤ due
-sweep_owes s n w before now unit got was is new few paid due low =
-    let u : unit ≡ is_some (row_passes s.cycle s.row w) =
-    new ∙ (λ i. ltb (was i) ((is ∙ ap (λ (x : SweepState). sweep_passed x.row) got) i))
-    ∙ passed_more s w in
+sweep_owes s n w unit got new few paid due low =
     let more : sweep_passed n.row ≡ sweep_passed s.row + bit (is_some (row_passes s.cycle s.row w)) =
     ap (λ (x : SweepState). sweep_passed x.row) got ∙ passed_bits s w in
-    let one : bit unit ≡ bit (is_some (row_passes s.cycle s.row w)) = ap bit u in
+    let one : bit unit ≡ bit (is_some (row_passes s.cycle s.row w)) = ap bit new in
     omega (arith, more, one, few, low)
 
 module _ (i : Inside) (k : IsLocal (view_of i)) (rate : i.account.rate ≡ i.rate)
@@ -156,31 +150,28 @@ module _ (i : Inside) (k : IsLocal (view_of i)) (s n : SweepState) (at : part_of
   pub swept_fits : PartFits i.config (length i.log.items) (length i.trace.items) i.pass (Sweep s)
   swept_fits = subst (λ p. PartFits i.config (length i.log.items) (length i.trace.items) i.pass p) at k.part
 
-  pub swept_owes : (x : Config) (w before now : ℕ) → n ≡ sweep_got s w → before ≡ sweep_passed s.row
-      → now ≡ sweep_passed n.row → SweepFits x n
-      → i.spent + bit (ltb before now) + (n.owed - sweep_passed n.row) ≤ owed (view_of i)
-  swept_owes x w before now got was is fits =
+  pub swept_owes : (x : Config) (w : ℕ) (unit : Bool) → n ≡ sweep_got s w
+      → unit ≡ is_some (row_passes s.cycle s.row w) → SweepFits x n
+      → i.spent + bit unit + (n.owed - sweep_passed n.row) ≤ owed (view_of i)
+  swept_owes x w unit got new fits =
       let same : n.owed ≡ s.owed = ap (λ (y : SweepState). y.owed) got in
       omega (
         arith,
         same,
-        sweep_owes s n w before now (ltb before now) got was is refl
-            (omega (arith, same, (passed_few x n fits).1)) i.spent (owed (view_of i))
-            (subst (λ p. i.spent + unit_to_come i.config p ≤ owed (view_of i)) at k.paid),
+        sweep_owes s n w unit got new (omega (arith, same, (passed_few x n fits).1)) i.spent
+            (owed (view_of i)) (subst (λ p. i.spent + unit_to_come i.config p ≤ owed (view_of i)) at k.paid),
       )
 
 -- a Sweep pass that is not over
-pub swept_got : (i : Inside) (s n : SweepState) (w : ℕ) (a : AccountState) (told spent before now : ℕ) (step : Step)
-    → part_of i ≡ Sweep s → n ≡ sweep_got s w → is_last step ≡ false → step ≡ sweep_step s w
-    → before ≡ sweep_passed s.row → now ≡ sweep_passed n.row
-    → a ≡ record i.account { balance = balance_on (ltb before now) told i.account.balance }
-    → told ≡ units_told (command_of (view_of i)) → spent ≡ spent_got None (ltb before now) i.spent
+pub swept_got : (i : Inside) (s n : SweepState) (w : ℕ) (a : AccountState) (told spent : ℕ) (o : Outcome)
+    → part_of i ≡ Sweep s → n ≡ sweep_got s w → is_last o.step ≡ false → o ≡ sweep_outcome s w
+    → a ≡ record i.account { balance = balance_on o.unit told i.account.balance }
+    → told ≡ units_told (command_of (view_of i)) → spent ≡ spent_got None o.unit i.spent
     → record (view_of i) { balance = a.balance; spent = spent; part = Sweep n } ≡ local_got (view_of i) w
-swept_got i s n w a told spent before now step at got on stepped was is counts same makes =
-    let unit : ltb before now ≡ is_some (row_passes s.cycle s.row w) =
-    (λ j. ltb (was j) ((is ∙ ap (λ (x : SweepState). sweep_passed x.row) got) j)) ∙ passed_more s w in
+swept_got i s n w a told spent o at got on was counts same makes =
+    let unit : o.unit ≡ is_some (row_passes s.cycle s.row w) = ap (λ (x : Outcome). x.unit) was in
     let goes : sweep_over (sweep_got s w).row ≡ false =
-    sym (swept_last s w) ∙ sym (ap is_last stepped) ∙ on in
+    sym (swept_last s w) ∙ sym (ap (λ (x : Outcome). is_last x.step) was) ∙ on in
     (λ j. record (view_of i) { balance = (counts j).balance; spent = makes j; part = Sweep (got j) })
     ∙ (λ j. record (view_of i) {
       log = sym (append-nil i.log.items) j;

@@ -1,7 +1,7 @@
 //! What an event makes of the numbers that a thread keeps: its account, the units made for the
 //! command in hand, the objects made, and the commands that are decided.
 
-ghost use Rattle.std.specs.Prelude.{◌≡◌, ◌≤◌, ◌<◌, ◌+◌, ◌^◌, ◌*◌, ◌&&◌, not, true, None, Some, length};
+ghost use Rattle.std.specs.Prelude.{◌≡◌, ◌≤◌, ◌<◌, ◌+◌, ◌^◌, ◌*◌, true, None, Some, length};
 ghost use Rattle.block_store.specs.Phases.{bit};
 ghost use Rattle.heap_system.specs.Lives.{objects_of};
 ghost use Rattle.heap_system.specs.Locals.{works, told_behind, balance_on, balance_over, spent_got, made_got};
@@ -31,13 +31,6 @@ pub fn count(account: &mut Account, spent: &mut u64, trace: &[Command], log: &[E
         }
         *spent += 1;
     }
-}
-
-/// Whether what is so now was not so before.
-pub fn is_new(now: bool, before: bool) -> bool
-    ensures { result ≡ (now && not before) }
-{
-    now && !before
 }
 
 /// The reply to a command of so many blocks, whose price was paid.

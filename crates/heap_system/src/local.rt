@@ -21,13 +21,13 @@ ghost use Rattle.heap_system.specs.declared.rows.Row.TheVariants as rows;
 ghost use Rattle.heap_system.specs.Locals.{LocalReads, HasGot, is_done, is_rest, is_build, is_at_gate, is_serving, is_marking, is_sweeping, is_on_way_out, part_want, part_step, local_got, at_start, turn_of, is_last, pass_by, first_part, errand_of, command_of, op_wanted, owed, made_got, works, entry_of, balance_over, commands_decided, begun, command_behind};
 
 use crate::Turn;
-use crate::counting::{count, if_decided, is_new, made_after, settle, sum_of_works};
+use crate::counting::{count, if_decided, made_after, settle, sum_of_works};
 use crate::rows::Row;
 use barrier_steps::{FieldPass, FieldRow};
 use block_store::{Config, OutOfMemory, PhaseWord, Places, read_phase};
 use build_steps::BuildPass;
 use grey_steps::{GreyPass, GreyRow};
-use heap_machine::{Gate, Memory, Op, Pass, Step, entering};
+use heap_machine::{Gate, Memory, Op, Outcome, Pass, Step, entering};
 use never_heap::{Command, Entry, Reply};
 use rate_plan::plan;
 use std::alloc::Global;
@@ -531,7 +531,6 @@ impl Local {
 
     // `event`, of a part that marks.
     #[inline(always)]
-    #[tactic(auto, using(crate::proofs::Paying::unit_is_new))]
     fn marks<M: Memory>(&mut self, memory: &mut M, shared: &M::Shared) -> Turn
         requires part { is_marking self.old.part ≡ true }
         requires may { M.may memory.old shared.now (op_wanted self.old) }
@@ -544,9 +543,7 @@ impl Local {
         match &mut self.row {
             Row::Mark(row) => {
                 let mut scan = GreyPass::at_row(self.pass, *row);
-                let before = scan.unit();
-                let step = scan.event(&places, memory, shared);
-                let unit = is_new(scan.unit(), before);
+                let Outcome { step, unit } = scan.event(&places, memory, shared);
                 count(
                     &mut self.account,
                     &mut self.spent,
@@ -568,7 +565,7 @@ impl Local {
 
     // `event`, of a part that sweeps.
     #[inline(always)]
-    #[tactic(auto, using(crate::proofs::Paying::passed_more, crate::proofs::Paying::swept_last))]
+    #[tactic(auto, using(crate::proofs::Paying::swept_last))]
     fn sweeps<M: Memory>(&mut self, memory: &mut M, shared: &M::Shared) -> Turn
         requires part { is_sweeping self.old.part ≡ true }
         requires may { M.may memory.old shared.now (op_wanted self.old) }
@@ -582,9 +579,7 @@ impl Local {
             Row::Sweep { owed, row } => {
                 let Pass { thread, cycle, .. } = self.pass;
                 let mut pass = SweepPass::at_row(thread, cycle, self.config.blocks, *owed, *row);
-                let passed = pass.passed();
-                let step = pass.event(&places, memory, shared);
-                let unit = pass.passed() > passed;
+                let Outcome { step, unit } = pass.event(&places, memory, shared);
                 count(
                     &mut self.account,
                     &mut self.spent,

@@ -36,8 +36,8 @@ pub type Building = (Op, Option<Reply>);
 
 /// Where a building is behind events as these rows say, the writing of these blocks, and events as
 /// the last rows say. `None` where it is not so, a place can't hold the word, there is a reply before
-/// the last event of the part or none behind it, the heap has no such thread or command, or the room
-/// that it gives back does not serve the same once more.
+/// the last event of the part or none behind it, the heap has no such thread or command, or the part
+/// does not begin the same once more.
 pub fn building(
     c: &Config,
     making: Making,
@@ -46,14 +46,14 @@ pub fn building(
     blocks: &[Written],
     last: &[Row],
 ) -> Option<Building> {
-    let mut pass = begun(c, making, room)?;
+    let mut pass = begun(c, making, BuildPass::idle(room))?;
     events(c, &mut pass, rows)?;
     for block in blocks {
         writes(c, &mut pass, block)?;
     }
     events(c, &mut pass, last)?;
     let behind = (pass.want(&Places::new(c)), pass.reply());
-    let again = begun(c, making, pass.into_room())?;
+    let again = begun(c, making, pass)?;
     if again.reply().is_some() {
         return None;
     }
@@ -69,7 +69,7 @@ pub fn building_words(
     words: &mut Words,
     rows: &[(Step, usize, u64)],
 ) -> Option<Building> {
-    let mut pass = begun(c, making, room)?;
+    let mut pass = begun(c, making, BuildPass::idle(room))?;
     for (step, place, word) in rows {
         if made(c, &mut pass, words)? != *step || !has(words, *place, *word) {
             return None;
@@ -79,7 +79,7 @@ pub fn building_words(
 }
 
 // Before the first event.
-fn begun(c: &Config, making: Making, room: Vec<u32>) -> Option<BuildPass>
+fn begun(c: &Config, making: Making, idle: BuildPass) -> Option<BuildPass>
     ensures bounds { IfSome result (λ p. IsInBounds c.now) }
     ensures fits { IfSome result (λ p. BuildFits c.now p) }
 {
@@ -100,10 +100,12 @@ fn begun(c: &Config, making: Making, room: Vec<u32>) -> Option<BuildPass>
     if serial == 0 || serial >= 1 << 43 || blocks == 0 {
         return None;
     }
-    if !room.is_empty() || room.capacity() < blocks as usize {
+    let mut pass = idle;
+    if pass.room() < blocks as usize {
         return None;
     }
-    Some(BuildPass::new(c.width, thread, c.threads, cycle, serial, command, room))
+    pass.begin(c.width, thread, c.threads, cycle, serial, command);
+    Some(pass)
 }
 
 // Events as these rows say.

@@ -107,7 +107,7 @@ fn got(pass: &mut GreyPass, places: &Places, word: u64) -> Step
     requires word { GreyReads places.now pass.old word }
     ensures { GreyFits places.now pass.new }
 {
-    pass.event(places, &mut Given { word }, &())
+    pass.event(places, &mut Given { word }, &()).step
 }
 
 // One event at the words.
@@ -121,7 +121,7 @@ fn made(c: &Config, pass: &mut GreyPass, words: &mut Words) -> Option<Step>
     let wanted = pass.want(&places);
     let word = word_at(words, &wanted)?;
     can_hold(c, place_of(&wanted), word)?;
-    Some(pass.event(&places, words, &()))
+    Some(pass.event(&places, words, &()).step)
 }
 
 // One event whose operation is made at the words before it.

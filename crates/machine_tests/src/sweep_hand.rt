@@ -93,7 +93,7 @@ fn got(pass: &mut SweepPass, places: &Places, word: u64) -> Step
     requires word { SweepReads places.now pass.old word }
     ensures { SweepFits places.now pass.new }
 {
-    pass.event(places, &mut Given { word }, &())
+    pass.event(places, &mut Given { word }, &()).step
 }
 
 // One event at the words.
@@ -107,5 +107,5 @@ fn made(c: &Config, pass: &mut SweepPass, words: &mut Words) -> Option<Step>
     let wanted = pass.want(&places);
     let word = word_at(words, &wanted)?;
     can_hold(c, place_of(&wanted), word)?;
-    Some(pass.event(&places, words, &()))
+    Some(pass.event(&places, words, &()).step)
 }

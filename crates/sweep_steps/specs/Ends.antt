@@ -1,17 +1,22 @@
 -- Which events pass a block, free one and put a hand, and which blocks a part claims and passes.
-use Rattle.std.specs.Prelude.{ℕ, zero, suc, ◌+◌, ◌-◌, ◌==◌, Bool, true, false, if◌then◌else◌, Option, Some, None, List, [], ◌∷◌, ◌++◌}
+use Rattle.std.specs.Prelude.{ℕ, zero, suc, ◌+◌, ◌-◌, ◌==◌, Bool, true, false, if◌then◌else◌, Option, Some, None, List, [], ◌∷◌, ◌++◌, is_some}
 use Rattle.block_store.specs.Colours.{white_word}
 use Rattle.block_store.specs.Places.{Place, Cursor, FreeCount, FreeList, ColourOf}
 use Rattle.heap_machine.specs.Holdings.{Holding}
+use Rattle.heap_machine.specs.declared.Outcome.{Outcome}
 use Rattle.sweep_steps.specs.declared.rows.SweepRow.{SweepRow}
 use Rattle.sweep_steps.specs.declared.rows.SweepRow.TheVariants.{ReadCursor, ClaimRange, PassBlock, FreeBlock, PutFree}
-use Rattle.sweep_steps.specs.Rows.{SweepState, sweep_got, sweep_holding}
+use Rattle.sweep_steps.specs.Rows.{SweepState, sweep_got, sweep_step, sweep_holding}
 
 -- the event passes this block: it read a block that is not white, or freed one
 abbrev pub row_passes : ℕ → SweepRow → ℕ → Option ℕ
 row_passes c (PassBlock x high passed hand freed) w = if w == white_word c then None else Some x
 row_passes c (FreeBlock x high passed hand freed) w = Some x
 row_passes c r w = None
+
+-- what an event is: its step, and whether it makes a unit
+abbrev pub sweep_outcome : SweepState → ℕ → Outcome
+sweep_outcome s w = record { step = sweep_step s w; unit = is_some (row_passes s.cycle s.row w) }
 
 abbrev pub is_reading : SweepRow → Bool
 is_reading ReadCursor = true

@@ -5,12 +5,13 @@ ghost use Rattle.block_store.specs.Places.{extent, FreeCount};
 ghost use Rattle.heap_machine.specs.Operations.{op_at, FetchAdd};
 ghost use Rattle.heap_machine.specs.Memories.{ReadsOnly, ActsOnce};
 ghost use Rattle.sweep_steps.specs.Rows;
-ghost use Rattle.sweep_steps.specs.Rows.{SweepState, sweep_want, sweep_got, sweep_step, sweep_unit, sweep_passed, sweep_nothing, sweeping};
+ghost use Rattle.sweep_steps.specs.Rows.{SweepState, sweep_want, sweep_got, sweep_unit, sweep_passed, sweep_nothing, sweeping};
+ghost use Rattle.sweep_steps.specs.Ends.{sweep_outcome};
 ghost use Rattle.sweep_steps.specs.Fits.{SweepFits, SweepReads};
 
 use crate::SweepRow;
 use block_store::{Colour, Places, colour_word, white};
-use heap_machine::{Memory, Op, Step};
+use heap_machine::{Memory, Op, Outcome, Step};
 use std::marker::Model;
 
 // The most blocks that are claimed at once.
@@ -223,7 +224,12 @@ impl SweepPass {
     /// One event: this memory makes the operation of `want`, and the part moves on by the word that
     /// it read. The places are those that `want` was given. A part that is over stays as it is.
     #[inline(always)]
-    pub fn event<M: Memory>(&mut self, places: &Places, memory: &mut M, shared: &M::Shared) -> Step
+    pub fn event<M: Memory>(
+        &mut self,
+        places: &Places,
+        memory: &mut M,
+        shared: &M::Shared,
+    ) -> Outcome
         requires fits { SweepFits places.now self.old }
         requires may { M.may memory.old shared.now
             (op_at (extent places.now) (sweep_want self.old)) }
@@ -231,7 +237,7 @@ impl SweepPass {
             (op_at (extent places.now) (sweep_want self.old)) (SweepReads places.now self.old) }
         ensures acted { ActsOnce M.acts memory.old shared.now
             (op_at (extent places.now) (sweep_want self.old)) memory.new
-            (λ w. (self.new ≡ sweep_got self.old w) × (result ≡ sweep_step self.old w)) }
+            (λ w. (self.new ≡ sweep_got self.old w) × (result ≡ sweep_outcome self.old w)) }
         ensures fits { SweepFits places.now self.new }
     {
         use SweepRow::*;
@@ -258,7 +264,7 @@ impl SweepPass {
         places: &Places,
         memory: &mut M,
         shared: &M::Shared,
-    ) -> Step
+    ) -> Outcome
         requires row { self.old.row ≡ row }
         requires fits { SweepFits places.now self.old }
         requires may { M.may memory.old shared.now
@@ -267,13 +273,17 @@ impl SweepPass {
             (op_at (extent places.now) (sweep_want self.old)) (SweepReads places.now self.old) }
         ensures acted { ActsOnce M.acts memory.old shared.now
             (op_at (extent places.now) (sweep_want self.old)) memory.new
-            (λ w. (self.new ≡ sweep_got self.old w) × (result ≡ sweep_step self.old w)) }
+            (λ w. (self.new ≡ sweep_got self.old w) × (result ≡ sweep_outcome self.old w)) }
         ensures fits { SweepFits places.now self.new }
     {
         let word = memory.act(shared, &self.operation(places, row));
+        let unit = self.passes(row, word);
         let next = self.after(places, row, word);
         self.row = next;
-        step_to(next)
+        Outcome {
+            step: step_to(next),
+            unit,
+        }
     }
 
     /// Whether the last event passed a block.
@@ -337,6 +347,22 @@ impl SweepPass {
             PutFree { hand, .. } => Op::exchange(places.free_list(self.thread), hand as u64),
             Credit { freed, .. } => credit(places, freed),
             Swept { .. } | NothingLeft => Op::load(places.phase()),
+        }
+    }
+
+    // Whether the event at this row, which is the part's, passes a block where it read the word.
+    #[inline(always)]
+    fn passes(&self, row: SweepRow, read: u64) -> bool
+        requires row { self.now.row ≡ row }
+        ensures { result ≡ (sweep_outcome self.now read).unit }
+    {
+        use SweepRow::*;
+
+        match row {
+            PassBlock { .. } => read != colour_word(white(self.cycle)),
+            FreeBlock { .. } => true,
+            ReadCursor | ClaimRange { .. } | TakeFree { .. } => false,
+            PutFree { .. } | Credit { .. } | Swept { .. } | NothingLeft => false,
         }
     }
 
