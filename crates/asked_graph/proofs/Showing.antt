@@ -60,7 +60,7 @@ small_start c g (Started ∷ h) z l m s = elim (cases_eq z 1) [
 ]
 small_start c g (Did e ∷ h) z l m s = small_start c (after g (Did e)) h z l m s.1
 
-starts_small : (c : Config) (h : List HistoryItem) → StaySmall c (start_graph c) h → StartsSmall c h
+pub starts_small : (c : Config) (h : List HistoryItem) → StaySmall c (start_graph c) h → StartsSmall c h
 starts_small c h s z l m = small_start c (start_graph c) h z l m s
 
 -- ---- items of which one is an entry

@@ -5,6 +5,7 @@ ghost use Rattle.std.specs.Prelude.{◌≡◌, ◌≤◌, List, IfOk, IfErr, OnO
 ghost use Rattle.block_store.specs.declared.Config.{Config};
 ghost use Rattle.never_heap.specs.declared.Command.{Command};
 ghost use Rattle.never_heap.specs.Graphs.{Graph, start_graph};
+ghost use Rattle.never_heap.specs.Licensed.{NoFulls};
 ghost use Rattle.heap_system.specs.Machines.{Run};
 ghost use Rattle.control_heap.specs.declared.control.Refused.{Refused};
 ghost use Rattle.control_heap.specs.Controls.{Control, Stands, CanOpen, asked, units};
@@ -77,6 +78,13 @@ pub fn lives_add_up()
         → Stands h r → HasDoneAll h ks z → HasUsed h ks z }
     ensures fits { (h z : Control) (ks : List Command) (r : Run) (x : Refused)
         → Stands h r → HasRoomFor h ks → RefusesOne h ks x z → ⊥ }
+{
+    histories_are_right();
+}
+
+/// No command of a heap that shows a graph was answered full, of all that it was asked.
+pub fn shown_heaps_met_no_full()
+    ensures { (h : Control) (g : Graph) (s : Shows h g) → NoFulls s.run.order }
 {
     histories_are_right();
 }

@@ -4,10 +4,12 @@
 ghost use Rattle.std.specs.Prelude.{◌≡◌, ◌≤◌, ◌<◌, ◌+◌, ◌%◌, ◌^◌, ◌∷◌, ◌++◌, ℕ, min, max, List, [], length, slice_index_or, IfOk, IfErr, OnOk, OnErr};
 ghost use Rattle.block_store.specs.declared.Value.TheVariants.{Int};
 ghost use Rattle.never_heap.specs.declared.Reply.TheVariants.{Val};
-ghost use Rattle.control_heap.specs.Controls.{asked};
+ghost use Rattle.never_heap.specs.Licensed.{NoFulls};
+ghost use Rattle.control_heap.specs.Controls.{Control, asked};
 ghost use Rattle.control_heap.specs.Refusals.{IsOpenFault};
 ghost use Rattle.trace_text.specs.Faults.{Rose};
 ghost use Rattle.trace_text.specs.Streams.{Appends, AppendsPrefix};
+ghost use Rattle.historian_core.specs.declared.Limits.{Limits};
 ghost use Rattle.historian_core.specs.Kept.{Holds, Keeps, heap_config, listed_from, refers};
 ghost use Rattle.historian_core.specs.Windows as windows;
 
@@ -15,7 +17,7 @@ ghost use Rattle.historian_core.specs.Windows as windows;
 mod tests;
 mod texts;
 
-use asked_graph::{ask_all, lives_add_up, open};
+use asked_graph::{ask_all, lives_add_up, open, shown_heaps_met_no_full};
 use block_store::{Config, Value, Width};
 use control_heap::{ControlHeap, OpenFault};
 use never_heap::{Command, Reply};
@@ -172,6 +174,14 @@ pub fn tell<K: Sink>(
 {
     let line = take(heap, limits, count, reading).line();
     sink.put(line.bytes())
+}
+
+/// No allocation of a heap that keeps readings was answered full.
+pub fn readings_met_no_full()
+    ensures { (h : Control) (l : Limits) (xs : List ℕ) (k : Keeps h l xs)
+        → NoFulls k.holds.shows.run.order }
+{
+    shown_heaps_met_no_full();
 }
 
 /// Keeps one reading more in a heap that has `count`, and tells the figures of the last 40. The life

@@ -8,10 +8,11 @@ use Rattle.mail_post.specs.declared.views.View.TheVariants.{Taking}
 use Rattle.mail_post.specs.Letters.{numbers_of, sent_by}
 use Rattle.mail_post.specs.Rule.{letters_in, gathered_in}
 
--- a post: which it is, and how many senders it has
+-- a post: which it is, how many senders it has, and how many letters its queue has room for
 pub record PostState : Type 0 where
   pub id : TableId
   pub senders : ℕ
+  pub room : ℕ
 
 -- a sender: its post, its thread, and the numbers that it sent
 pub record SenderState : Type 0 where

@@ -25,11 +25,16 @@ pub struct Post {
 }
 
 impl Model for Post {
+    ghost use Rattle.crossbeam_queue.specs.Passes.{ruled_capacity};
     ghost use Rattle.mail_post.specs.Ends.{PostState};
 
     ghost Value = { PostState };
 
-    ghost view = { λ p. record { id = p.line.table.shared.table_id; senders = p.senders } };
+    ghost view = { λ p. record {
+      id = p.line.table.shared.table_id;
+      senders = p.senders;
+      room = ruled_capacity p.line;
+    } };
 }
 
 /// The end at which one thread sends.
@@ -178,7 +183,8 @@ fn take_in(line: &Line, pass: &mut End, sender: Sender)
 }
 
 impl Post {
-    /// A post with so many senders, 1 or 2, and its ends. The queue has so much room, at least 1.
+    /// A post with so many senders, 1 or 2, and its ends. The queue has room for so many letters, at
+    /// least 1.
     pub fn new(
         alloc: Global,
         senders: u32,
@@ -187,6 +193,7 @@ impl Post {
         requires senders { (1 ≤ senders) × (senders ≤ 2) }
         requires room { 1 ≤ room }
         ensures post { IfOk result (λ r. r.0.senders ≡ senders) }
+        ensures room { IfOk result (λ r. r.0.room ≡ room) }
         ensures senders { IfOk result (λ r. r.1.items ≡ fresh_senders r.0.id senders) }
         ensures taker { IfOk result (λ r. r.2 ≡ fresh_taker r.0.id senders) }
     {

@@ -164,9 +164,8 @@ end
     expect_round_trip(&rt, rt.alloc(), text, &PAIR, &[&FIRST, &SECOND])
 }
 
-#[test]
-fn thirteen_commands_of_version_2_are_read_and_written(rt: HostRuntime) -> Result<(), Fail> {
-    let text = b"rtheap 2 threads 3 blocks 64 live 20 object 2 shared 4
+/// A job with all of them.
+const THIRTEEN: &[u8] = b"rtheap 2 threads 3 blocks 64 live 20 object 2 shared 4
 thread 0
 new 1 6
 arr 15 4
@@ -188,6 +187,9 @@ idle 131070
 idle 0
 end
 ";
+
+#[test]
+fn thirteen_commands_of_version_2_are_read_and_written(rt: HostRuntime) -> Result<(), Fail> {
     let third = [
         Command::New { d: 1, fields: 14 },
         Command::Arr { d: 2, elements: 8 },
@@ -210,7 +212,13 @@ end
         threads: 3,
         ..PAIR
     };
-    expect_round_trip(&rt, rt.alloc(), text, &config, &[&FIRST, &SECOND, &third])
+    expect_round_trip(
+        &rt,
+        rt.alloc(),
+        THIRTEEN,
+        &config,
+        &[&FIRST, &SECOND, &third],
+    )
 }
 
 /// So many bytes of one letter.

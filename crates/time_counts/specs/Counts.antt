@@ -1,5 +1,5 @@
 -- Counts of times.
-use Rattle.std.specs.Prelude.{ℕ, suc, ◌+◌, ◌-◌, ◌*◌, ◌<◌, ◌≤◌, nat_lt, if◌then◌else◌, List, [], ◌∷◌, length, Contains}
+use Rattle.std.specs.Prelude.{ℕ, suc, ◌+◌, ◌-◌, ◌*◌, ◌^◌, ◌<◌, ◌≤◌, ◌≡◌, ◌⊎◌, nat_lt, if◌then◌else◌, List, [], ◌∷◌, length, Contains}
 
 -- how many of the times are below the bound
 abbrev pub below : ℕ → List ℕ → ℕ
@@ -16,3 +16,8 @@ pub record IsPercentile (thousandths : ℕ) (times : List ℕ) (time : ℕ) : Ty
 -- how many of the times are at least the first number, and below the second
 abbrev pub between : ℕ → ℕ → List ℕ → ℕ
 between least bound times = below bound times - below least times
+
+-- a number is 0, or that of one of the first n bars of powers of two
+abbrev pub IsOneOf : List ℕ → ℕ → ℕ → Type 0
+IsOneOf times n m =
+    (m ≡ 0) ⊎ ((k : ℕ) × (k < n) × (m ≡ between (2 ^ k) (2 * 2 ^ k) times))

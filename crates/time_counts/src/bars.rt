@@ -1,7 +1,8 @@
 //! A histogram by powers of two.
 
-ghost use Rattle.std.specs.Prelude.{◌≡◌, ◌<◌, ◌*◌, ◌^◌};
-ghost use Rattle.time_counts.specs.Counts.{between};
+ghost use Rattle.std.specs.Prelude.{ℕ, ◌≡◌, ◌<◌, ◌≤◌, ◌*◌, ◌^◌};
+ghost use Rattle.time_counts.specs.Counts.{between, IsOneOf};
+ghost use Rattle.time_counts.specs.declared.bars.TheConstants.{CLASSES};
 
 use crate::counting::count_below;
 use std::fmt;
@@ -32,8 +33,11 @@ pub fn bar_of(times: &[u64], least: u64, most: usize) -> Bar
     Bar { least, count, most }
 }
 
-/// How many times the fullest bar has.
-pub fn fullest(times: &[u64]) -> usize {
+/// How many times the fullest of the bars of powers of two has.
+pub fn fullest(times: &[u64]) -> usize
+    ensures most { (k : ℕ) → k < CLASSES → between (2 ^ k) (2 * 2 ^ k) times.now ≤ result }
+    ensures one { IsOneOf times.now CLASSES result }
+{
     let mut most = 0;
     for class in 0..CLASSES {
         most = most.max(bar_of(times, power(class), 0).count);
@@ -42,7 +46,10 @@ pub fn fullest(times: &[u64]) -> usize {
 }
 
 /// This power of two; 0 past 2^63.
-pub fn power(class: u32) -> u64 {
+pub fn power(class: u32) -> u64
+    ensures in_range { class < 64 → result ≡ 2 ^ class }
+    ensures beyond { 64 ≤ class → result ≡ 0 }
+{
     1u64.checked_shl(class).unwrap_or(0)
 }
 

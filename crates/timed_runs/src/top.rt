@@ -1,7 +1,8 @@
 //! The top call.
 
-ghost use Rattle.std.specs.Prelude.{◌≡◌, ◌≢◌, map, string_bytes, IfOk, OnErr};
+ghost use Rattle.std.specs.Prelude.{◌≡◌, ◌≢◌, map, string_bytes, IfOk, OnErr, IfSome};
 ghost use Rattle.rtheap_core.specs.Calls.{IsCarriedOut, IsComplete};
+ghost use Rattle.rtheap_core.specs.Exits.{NeverFull};
 ghost use Rattle.call_exits.specs.Exits.{IsToldBy};
 ghost use Rattle.call_exits.specs.Sides.{sides, IsUntouched};
 ghost use Rattle.timed_runs.specs.Calls.{run_words, silent, IsReported, IsTimed};
@@ -56,6 +57,8 @@ pub fn timed<R: Threads + Wait + Sync, C: Clock + Sync, S: Source, K: Sink>(
       sink = silent;
       exit = x.exit;
     })) }
+    ensures never_full { IfOk result (λ x. IfSome x.exit.run
+        (NeverFull (sides S.left S.faults source.old source.new) silent x.exit.status)) }
     ensures status { IfOk result (λ x. IsTimed (sides K.held K.faults sink.old sink.new) x.exit.run
         x.exit.status x.status) }
     ensures unread { OnErr result (IsUntouched (sides S.left S.faults source.old source.new)) }
