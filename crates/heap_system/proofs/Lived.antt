@@ -11,7 +11,6 @@ use Rattle.never_heap.specs.Jobs.{IsTraceInBounds, IsJobInBounds}
 use Rattle.never_heap.specs.RightWork.{units_told, units_owed}
 use Rattle.never_heap.specs.Steps.{blocks_of}
 use Rattle.heap_system.specs.Lives.{sum_after, objects_of, IsLife}
-use Rattle.heap_system.specs.Locals.{LocalState, IsLocal}
 use Rattle.heap_system.specs.Machines.{IsJob}
 use Rattle.heap_system.specs.Systems.{commands_in}
 use Rattle.heap_system.proofs.Paying.{blocks_low, told_low, rate_low, one_object}

@@ -34,9 +34,6 @@ use Rattle.heap_machine.specs.declared.pass.Pass.{Pass}
 use Rattle.heap_machine.specs.declared.gate.GateRow.{GateRow}
 use Rattle.heap_machine.specs.declared.gate.GateRow.TheVariants as gates
 use Rattle.barrier_steps.specs.Rows.{FieldState, at_first_row}
-use Rattle.barrier_steps.specs.declared.rows.FieldRow.{FieldRow}
-use Rattle.heap_system.specs.declared.rows.Row.{Row}
-use Rattle.heap_system.specs.declared.rows.Row.TheVariants as rows
 use Rattle.barrier_steps.specs.Fits.{IsThread}
 use Rattle.barrier_steps.proofs.FieldRows.{first_fits}
 use Rattle.grey_steps.specs.Rows.{GreyState, grey_got, grey_unit, scanning}
@@ -63,7 +60,7 @@ use Rattle.heap_system.proofs.Balances.{none_spent, units_entered, paid_over, al
 
 -- the part at which a thread is, and what is seen of it
 abbrev pub part_of : Inside → Part
-part_of l = part_at l.config l.pass (command_behind l.trace.items l.log.items) l.field l.gate l.builder l.row
+part_of l = part_at l.config l.pass l.field l.gate l.builder l.row
 
 abbrev pub view_of : Inside → LocalState
 view_of l = record { config = l.config; rate = l.rate; thread = l.thread; before = l.before; trace = l.trace.items; log = l.log.items; balance = l.account.balance; spent = l.spent; made = l.made; space = l.builder.capacity; pass = l.pass; part = part_of l }
@@ -223,11 +220,10 @@ begins_build l phase p command b k low by pass is some none built =
     (begins l p (Build (building l.config.width p.thread p.threads p.cycle (l.made + 1) (command_of l) l.space)) k
     (build_fits l k low p (ap (λ (q : Pass). q.thread) by) (ap (λ (q : Pass). q.threads) by) pass (subst (λ x. 0 < blocks_of l.config.width x) is some)) (omega (arith, k.paid)) (omega (arith, k.paid, none)) refl)
 
--- a command that makes no object begins, at its first row
-pub begins_serve : (l : LocalState) (phase : PhaseWord) (p : Pass) (command : Command) (f : FieldState) (row : FieldRow) → IsLocal l → length l.log < length l.trace → p ≡ pass_by l.thread l.config.threads phase → IsPass p → command ≡ command_of l → owed l - l.spent ≡ 0 → f ≡ at_first_row p command → row ≡ f.row → IsLocal (record l { pass = p; part = Serve (record { pass = p; command = command_of l; row = row }) })
-begins_serve l phase p command f row k low by pass is none first at =
-    let whole : row ≡ (at_first_row p (command_of l)).row = at ∙ ap (λ (x : FieldState). x.row) (first ∙ ap (at_first_row p) is) in
-    subst (λ r. IsLocal (record l { pass = p; part = Serve (record { pass = p; command = command_of l; row = r }) })) (sym whole)
+-- a command that makes no object begins
+pub begins_serve : (l : LocalState) (phase : PhaseWord) (p : Pass) (command : Command) (f : FieldState) → IsLocal l → length l.log < length l.trace → p ≡ pass_by l.thread l.config.threads phase → IsPass p → command ≡ command_of l → owed l - l.spent ≡ 0 → f ≡ at_first_row p command → IsLocal (record l { pass = p; part = Serve f })
+begins_serve l phase p command f k low by pass is none first =
+    subst (λ x. IsLocal (record l { pass = p; part = Serve x })) (sym (first ∙ ap (at_first_row p) is))
     (begins l p (Serve (at_first_row p (command_of l))) k (serve_fits l k low p (ap (λ (q : Pass). q.thread) by) (ap (λ (q : Pass). q.threads) by) pass) (omega (arith, k.paid)) (omega (arith, k.paid, none)) tt)
 
 -- a part that turns over goes on with such rows
@@ -401,12 +397,11 @@ one_set [] k e = absurd (omega arith)
 one_set (x ∷ []) k e = refl
 one_set (x ∷ y ∷ zs) k e = absurd (omega arith)
 
-pub begun_with : (l : LocalState) (k : Command) (before : ℕ) (log : List Entry) (part : Part) → IsLocal (begun k l) → length l.trace ≡ 1 → before ≡ l.before + works l.log → log ≡ [] → part ≡ l.part → IsLocal (record l { before = before; trace = set l.trace 0 k; log = log; part = part })
-begun_with l k before log part is one more none same =
-    subst (λ p. IsLocal (record l { before = before; trace = set l.trace 0 k; log = log; part = p })) (sym same)
-    (subst (λ n. IsLocal (record l { before = n; trace = set l.trace 0 k; log = log })) (sym more)
+pub begun_with : (l : LocalState) (k : Command) (before : ℕ) (log : List Entry) → IsLocal (begun k l) → length l.trace ≡ 1 → before ≡ l.before + works l.log → log ≡ [] → IsLocal (record l { before = before; trace = set l.trace 0 k; log = log })
+begun_with l k before log is one more none =
+    subst (λ n. IsLocal (record l { before = n; trace = set l.trace 0 k; log = log })) (sym more)
     (subst (λ x. IsLocal (record l { before = l.before + works l.log; trace = set l.trace 0 k; log = x })) (sym none)
-    (subst (λ x. IsLocal (record l { before = l.before + works l.log; trace = x; log = [] })) (sym (one_set l.trace k one)) is)))
+    (subst (λ x. IsLocal (record l { before = l.before + works l.log; trace = x; log = [] })) (sym (one_set l.trace k one)) is))
 
 -- the price of the command that it has then
 pub begun_price : (l : LocalState) (k : Command) (log : List Entry) (price : ℕ) → length l.trace ≡ 1 → log ≡ []
@@ -422,11 +417,6 @@ pub next_price : (l : LocalState) (log : List Entry) (e : Entry) (price : ℕ) �
 next_price l log e price same is =
     let long : length log ≡ length l.log + 1 = ap length same ∙ length-append l.log (e ∷ []) ∙ omega arith in
     is ∙ sym (ap (λ n. units_owed l.config.width l.rate (get_or l.trace n (commands.Nil 0))) long)
-
--- a thread at rest looks at no command
-pub rest_same : (c : Config) (q : Pass) (k n : Command) (f : FieldRow) (g : GateRow) (b : BuildState) (r : Row) → is_rest (part_at c q k f g b r) ≡ true → part_at c q n f g b r ≡ part_at c q k f g b r
-rest_same c q k n f g b rows.Rest e = refl
-rest_same c q k n f g b _ e = absurd cc
 
 pub begun_long : (xs : List Command) (k : Command) (n : ℕ) → length xs ≡ 1 → length xs ≤ n → length (set xs 0 k) ≤ n
 begun_long xs k n one low = let e : length (set xs 0 k) ≡ 1 = ap length (one_set xs k one) in omega arith

@@ -1,5 +1,5 @@
 -- The laws, from what every run keeps.
-use Rattle.std.proofs.Common.{◌≤◌, ◌≡◌, ℕ, ◌<◌, ◌*◌, true, false, cond, inl, inr, ne_eqb, List, ◌++◌, ◌∷◌, [], append-nil, ap, ◌∙◌, subst, sym, arith, length, ◌+◌}
+use Rattle.std.proofs.Common.{◌≤◌, ◌≡◌, ℕ, ◌<◌, ◌*◌, true, false, cond, inl, inr, ne_eqb, List, ◌++◌, ◌∷◌, [], append-nil, ap, ◌∙◌, subst, sym, arith, length}
 use Rattle.std.proofs.lemmas.Bool.{cases_eq}
 use Rattle.block_store.specs.declared.Width.{Width}
 use Rattle.block_store.specs.declared.Config.{Config}

@@ -1,5 +1,5 @@
 -- What the code of a pass that pays meets: a unit that it makes is owed, and counts once.
-use Rattle.std.proofs.Common.{◌≡◌, ℕ, ◌+◌, ◌-◌, ◌*◌, ◌<◌, ◌≤◌, ◌^◌, Bool, true, false, not, ◌&&◌, ◌||◌, cond, ltb, None, List, [], length, append-nil, is_some, refl, sym, ap, ◌∙◌, subst, arith}
+use Rattle.std.proofs.Common.{◌≡◌, ℕ, ◌+◌, ◌-◌, ◌*◌, ◌<◌, ◌≤◌, ◌^◌, Bool, true, false, not, ◌||◌, cond, None, List, length, append-nil, is_some, refl, sym, ap, ◌∙◌, subst, arith}
 use Rattle.block_store.specs.declared.Config.{Config}
 use Rattle.block_store.specs.Phases.{bit}
 use Rattle.block_store.specs.Places.{Extent}
@@ -9,24 +9,22 @@ use Rattle.grey_steps.specs.Rows.{GreyState, grey_got, grey_unit}
 use Rattle.grey_steps.proofs.Ends.{unit_after, unit_once}
 use Rattle.sweep_steps.specs.Ends.{row_passes, sweep_outcome}
 use Rattle.sweep_steps.specs.Fits.{SweepFits}
-use Rattle.sweep_steps.specs.Rows.{SweepState, sweep_got, sweep_passed, sweep_over, sweep_nothing, sweep_step}
+use Rattle.sweep_steps.specs.Rows.{SweepState, sweep_got, sweep_passed, sweep_over, sweep_nothing}
 use Rattle.sweep_steps.proofs.Passing.{passed_bits, passed_few}
 use Rattle.work_account.specs.Accounts.{AccountState}
 use Rattle.heap_system.specs.declared.local.Local.TheInside.{Inside}
-use Rattle.heap_system.specs.Parts.{part_at, Part, Serve, Mark, Sweep, Again, Idle, TurnOver}
+use Rattle.heap_system.specs.Parts.{part_at, Part, Mark, Sweep, Again, Idle, TurnOver}
 use Rattle.heap_system.specs.declared.rows.Row.{Row}
 use Rattle.heap_system.specs.declared.rows.Row.TheVariants as rows
 use Rattle.heap_machine.specs.declared.pass.Pass.{Pass}
 use Rattle.heap_machine.specs.declared.gate.GateRow.{GateRow}
-use Rattle.barrier_steps.specs.Rows.{FieldState}
-use Rattle.barrier_steps.specs.Fits.{FieldFits, FieldReads}
 use Rattle.grey_steps.specs.declared.rows.GreyRow.{GreyRow}
 use Rattle.sweep_steps.specs.declared.rows.SweepRow.{SweepRow}
 use Rattle.never_heap.specs.declared.Command.{Command}
 use Rattle.never_heap.specs.declared.Entry.{Entry}
 use Rattle.never_heap.specs.RightWork.{units_told}
 use Rattle.never_heap.specs.Steps.{blocks_of}
-use Rattle.heap_system.specs.Locals.{LocalState, command_behind, told_behind, IsLocal, LocalReads, PartReads, PartFits, IsRoomy, IsAllMade, IsPassAt, balance_on, spent_got, command_of, owed, unit_to_come, works, is_last, local_got}
+use Rattle.heap_system.specs.Locals.{LocalState, told_behind, IsLocal, PartFits, IsRoomy, IsAllMade, IsPassAt, balance_on, spent_got, command_of, owed, unit_to_come, works, is_last, local_got}
 use Rattle.heap_system.proofs.Balances.{paid_after, part_low, units_on, sound_on}
 use Rattle.heap_system.proofs.Paying.{part_of, view_of, price_low, paid_low, worked_low, swept_last}
 use Rattle.heap_system.proofs.parts.InPass.{paid_more}
@@ -184,30 +182,12 @@ swept_got i s n w a told spent o at got on was counts same makes =
 
 -- a part that turns the phase over, as the code keeps it, with this row of the gate
 pub turn_to : (i : Inside) (g : GateRow) → i.row ≡ rows.TurnOver
-    → part_at i.config i.pass (command_behind i.trace.items i.log.items) i.field g i.builder i.row ≡ TurnOver g
-turn_to i g is = ap (part_at i.config i.pass (command_behind i.trace.items i.log.items) i.field g i.builder) is
-
--- a command that makes no object
-pub serve_at : (i : Inside) (k : Command) (f : FieldState) → i.row ≡ rows.Serve → k ≡ command_of (view_of i)
-    → f ≡ record { pass = i.pass; command = k; row = i.field } → part_of i ≡ Serve f
-serve_at i k f is same at =
-    let whole : f ≡ record { pass = i.pass; command = command_of (view_of i); row = i.field } = at ∙ ap (λ x. record { pass = i.pass; command = x; row = i.field }) same in
-    ap (part_at i.config i.pass (command_behind i.trace.items i.log.items) i.field i.gate i.builder) is ∙ sym (ap Serve whole)
-
-pub serve_fits : (i : Inside) (c : Config) (k : Command) (f : FieldState) → IsLocal (view_of i) → i.row ≡ rows.Serve
-    → k ≡ command_of (view_of i) → f ≡ record { pass = i.pass; command = k; row = i.field } → c ≡ i.config → FieldFits c f
-serve_fits i c k f inside is same at there =
-    subst (λ x. FieldFits x f) (sym there) (subst (λ p. PartFits i.config (length i.log.items) (length i.trace.items) i.pass p) (serve_at i k f is same at) inside.part).0
-
-pub serve_reads : (i : Inside) (c : Config) (k : Command) (f : FieldState) (w : ℕ) → i.row ≡ rows.Serve
-    → k ≡ command_of (view_of i) → f ≡ record { pass = i.pass; command = k; row = i.field } → c ≡ i.config
-    → LocalReads i.config (view_of i) w → FieldReads c f w
-serve_reads i c k f w is same at there reads =
-    subst (λ x. FieldReads x f w) (sym there) (subst (λ p. PartReads i.config p w) (serve_at i k f is same at) reads.0)
+    → part_at i.config i.pass i.field g i.builder i.row ≡ TurnOver g
+turn_to i g is = ap (part_at i.config i.pass i.field g i.builder) is
 
 -- a part on its way out
 abbrev pub over_part : Inside → Row → Part
-over_part i r = part_at i.config i.pass (command_behind i.trace.items i.log.items) i.field i.gate i.builder r
+over_part i r = part_at i.config i.pass i.field i.gate i.builder r
 
 pub over_at : (i : Inside) (r : Row) (none : Bool) → r ≡ cond none rows.Idle rows.Again
     → over_part i r ≡ cond none Idle Again
@@ -220,7 +200,7 @@ over_at i r none is = ap (over_part i) is ∙ by none
 -- a Mark pass as the code keeps it, and behind its event
 pub mark_at : (i : Inside) (r : GreyRow) (m : GreyState) → i.row ≡ rows.Mark r
     → m ≡ record { pass = i.pass; row = r } → part_of i ≡ Mark m
-mark_at i r m is at = ap (part_at i.config i.pass (command_behind i.trace.items i.log.items) i.field i.gate i.builder) is
+mark_at i r m is at = ap (part_at i.config i.pass i.field i.gate i.builder) is
     ∙ sym (ap Mark at)
 
 pub mark_back : (q : Pass) (r s : GreyRow) (e : Extent) (m n : GreyState) (w : ℕ)
@@ -234,7 +214,7 @@ mark_back q r s e m n w at got is =
 pub sweep_at : (i : Inside) (owed : ℕ) (r : SweepRow) (s : SweepState) → i.row ≡ rows.Sweep owed r
     → s ≡ record { thread = i.pass.thread; cycle = i.pass.cycle; blocks = i.config.blocks; owed = owed; row = r }
     → part_of i ≡ Sweep s
-sweep_at i owed r s is at = ap (part_at i.config i.pass (command_behind i.trace.items i.log.items) i.field i.gate i.builder) is
+sweep_at i owed r s is at = ap (part_at i.config i.pass i.field i.gate i.builder) is
     ∙ sym (ap Sweep at)
 
 pub sweep_back : (t c b owed : ℕ) (r : SweepRow) (s n : SweepState) (row : SweepRow) (w : ℕ)

@@ -1,14 +1,11 @@
 -- The part of its work at which a thread is, and how the code keeps it: as a row, beside what
 -- passes, commands and objects have in common.
-use Rattle.std.specs.Prelude.{ℕ}
 use Rattle.block_store.specs.declared.Config.{Config}
-use Rattle.never_heap.specs.declared.Command.{Command}
 use Rattle.heap_machine.specs.declared.gate.GateRow.{GateRow}
 use Rattle.heap_machine.specs.declared.gate.GateRow.TheVariants as gates
 use Rattle.heap_machine.specs.declared.pass.Pass.{Pass}
 use Rattle.grey_steps.specs.Rows.{GreyState}
 use Rattle.barrier_steps.specs.Rows.{FieldState}
-use Rattle.barrier_steps.specs.declared.rows.FieldRow.{FieldRow}
 use Rattle.sweep_steps.specs.Rows.{SweepState}
 use Rattle.build_steps.specs.Rows.{BuildState}
 use Rattle.heap_system.specs.declared.rows.Row.{Row}
@@ -38,23 +35,23 @@ pub data Part : Type 0 where
   -- on its way out, with its command in the log
   Leave : Part
 
--- the part that a row is in a pass of a thread, for this command, with the rows of a command, of
--- the gate and of a builder that stand beside it
-abbrev pub part_at : Config → Pass → Command → FieldRow → GateRow → BuildState → Row → Part
-part_at c q k f g b rows.Rest = Rest
-part_at c q k f g b rows.Look = Enter gates.Look
-part_at c q k f g b (rows.Enter seen) = Enter (gates.Enter seen)
-part_at c q k f g b rows.Serve = Serve (record { pass = q; command = k; row = f })
-part_at c q k f g b (rows.Mark r) = Mark (record { pass = q; row = r })
-part_at c q k f g b (rows.Sweep owed r) = Sweep (record {
+-- the part that a row is in a pass of a thread, with the command, the gate and the builder that
+-- stand beside it
+abbrev pub part_at : Config → Pass → FieldState → GateRow → BuildState → Row → Part
+part_at c q f g b rows.Rest = Rest
+part_at c q f g b rows.Look = Enter gates.Look
+part_at c q f g b (rows.Enter seen) = Enter (gates.Enter seen)
+part_at c q f g b rows.Serve = Serve f
+part_at c q f g b (rows.Mark r) = Mark (record { pass = q; row = r })
+part_at c q f g b (rows.Sweep owed r) = Sweep (record {
   thread = q.thread;
   cycle = q.cycle;
   blocks = c.blocks;
   owed = owed;
   row = r;
 })
-part_at c q k f g b rows.Build = Build b
-part_at c q k f g b rows.Again = Again
-part_at c q k f g b rows.Idle = Idle
-part_at c q k f g b rows.TurnOver = TurnOver g
-part_at c q k f g b rows.Leave = Leave
+part_at c q f g b rows.Build = Build b
+part_at c q f g b rows.Again = Again
+part_at c q f g b rows.Idle = Idle
+part_at c q f g b rows.TurnOver = TurnOver g
+part_at c q f g b rows.Leave = Leave

@@ -59,8 +59,8 @@ pub struct Local {
     // The pass of the last entry at the gate.
     pass: Pass,
     row: Row,
-    // At `Serve` the row of the command, and at `TurnOver` that of the gate.
-    field: FieldRow,
+    // What does the command at `Serve`, and what turns the phase over at `TurnOver`.
+    field: FieldPass,
     gate: Gate,
     // What builds an object at `Build`. It has room for the blocks of the largest object.
     builder: BuildPass,
@@ -87,8 +87,7 @@ impl Model for Local {
       made = l.made;
       space = l.builder.capacity;
       pass = l.pass;
-      part = part_at l.config l.pass (command_behind l.trace.items l.log.items)
-          l.field l.gate l.builder l.row;
+      part = part_at l.config l.pass l.field l.gate l.builder l.row;
     } };
 
     ghost invariant = { λ l. IsLocal (record {
@@ -103,8 +102,7 @@ impl Model for Local {
       made = l.made;
       space = l.builder.capacity;
       pass = l.pass;
-      part = part_at l.config l.pass (command_behind l.trace.items l.log.items)
-          l.field l.gate l.builder l.row;
+      part = part_at l.config l.pass l.field l.gate l.builder l.row;
     }) × (l.account.rate ≡ l.rate) × (l.account.object ≡ l.config.object)
         × (length l.trace.items ≤ vec_capacity l.log)
         × (l.price ≡ units_owed l.config.width l.rate
@@ -222,6 +220,12 @@ impl Local {
             unreachable!();
         };
         let price = first_price(c, rate, &trace);
+        let pass = Pass {
+            thread,
+            threads: c.threads,
+            cycle: 0,
+            sweep: false,
+        };
         Ok(Local {
             config: *c,
             rate,
@@ -233,14 +237,9 @@ impl Local {
             price,
             spent: 0,
             made: 0,
-            pass: Pass {
-                thread,
-                threads: c.threads,
-                cycle: 0,
-                sweep: false,
-            },
+            pass,
             row: Row::Rest,
-            field: FieldRow::IdleLook,
+            field: FieldPass::at_row(pass, Command::Nil { d: 0 }, FieldRow::StoreConstant),
             gate: Gate::enter(),
             builder: BuildPass::idle(room),
         })
@@ -358,7 +357,7 @@ impl Local {
         match &self.row {
             Row::Rest | Row::Look => Op::load(places.phase()),
             Row::Enter { seen } => entering(&places, *seen),
-            Row::Serve => { FieldPass::at_row(self.pass, self.command(), self.field).want(&places) }
+            Row::Serve => self.field.want(&places),
             Row::Mark(row) => GreyPass::at_row(self.pass, *row).want(&places),
             Row::Sweep { owed, row } => {
                 let Pass { thread, cycle, .. } = self.pass;
@@ -486,17 +485,13 @@ impl Local {
         let places = Places::new(&self.config);
         match self.row {
             Row::Serve => {
-                let mut pass = FieldPass::at_row(self.pass, self.command(), self.field);
-                let turn = turn_after(pass.event(&places, memory, shared));
-                match pass.reply() {
+                let turn = turn_after(self.field.event(&places, memory, shared));
+                match self.field.reply() {
                     Some(reply) => {
                         self.answer(reply);
                         turn
                     }
-                    None => {
-                        self.field = pass.row();
-                        turn
-                    }
+                    None => turn,
                 }
             }
             _ => unreachable!(),
@@ -688,7 +683,7 @@ impl Local {
             );
             self.row = Row::Build;
         } else {
-            self.field = FieldPass::new_in(pass, command).row();
+            self.field = FieldPass::new_in(pass, command);
             self.row = Row::Serve;
         }
     }

@@ -1,4 +1,4 @@
-use Rattle.std.proofs.Common.{refl, sym, ◌∙◌, arith}
+use Rattle.std.proofs.Common.{refl, ◌∙◌, arith}
 use Rattle.never_heap.specs.RightWork.{units_told}
 use Rattle.heap_system.proofs.Lived.{price_few}
 use Rattle.heap_system.proofs.local.price_of.Goals as goal

@@ -1,4 +1,4 @@
-use Rattle.std.proofs.Common.{rules, ap, sym, ◌∙◌, subst}
+use Rattle.std.proofs.Common.{rules, sym, subst}
 use Rattle.heap_system.specs.Locals.{LocalState, IsLocal, PartReads}
 use Rattle.heap_system.proofs.Paying.{view_of, turned_on, turns_on}
 use Rattle.heap_system.proofs.UnitMade.{turn_to}

@@ -3,7 +3,7 @@ use Rattle.never_heap.specs.Bounds.{IsCommandInBounds}
 use Rattle.never_heap.specs.RightWork.{units_owed}
 use Rattle.heap_system.specs.Lives.{objects_of, most_units, most_objects}
 use Rattle.heap_system.specs.Locals.{LocalState, is_rest, works}
-use Rattle.heap_system.proofs.Paying.{view_of, begun_local, begun_with, begun_long, begun_price, rest_same}
+use Rattle.heap_system.proofs.Paying.{view_of, begun_local, begun_with, begun_long, begun_price}
 use Rattle.heap_system.proofs.local.Local.begin.Goals as goal
 
 pub invariant_of-self : goal.invariant_of-self
@@ -12,11 +12,10 @@ invariant_of-self c =
     let is : l ≡ c.args.self.now = c.self.view_is in
     let one : length l.trace ≡ 1 = subst (λ (x : LocalState). length x.trace ≡ 1) (sym is) c.requires.one in
     let long : c.units_done-self-inside.result ≡ l.before + works l.log = c.units_done-self-inside.ensures.sum ∙ ap (λ (x : LocalState). x.before + works x.log) (sym is) in (
-      begun_with l c.args.command _ _ _
+      begun_with l c.args.command _ _
           (begun_local l c.args.command c.self.invariant.0 (subst (λ (x : LocalState). is_rest x.part ≡ true) (sym is) c.requires.rest) (subst (λ (x : LocalState). x.spent ≡ 0) (sym is) c.requires.settled)
           (subst (λ (x : LocalState). IsCommandInBounds x.config c.args.command) (sym is) c.requires.bounds) (subst (λ (x : LocalState). x.before + works x.log + units_owed x.config.width x.rate c.args.command ≤ most_units) (sym is) c.requires.units) (subst (λ (x : LocalState). x.made + objects_of c.args.command ≤ most_objects) (sym is) c.requires.objects))
-          one long c.clear.ensures.items
-          (rest_same c.self.inside.config c.self.inside.pass _ _ c.self.inside.field c.self.inside.gate c.self.inside.builder c.self.inside.row (subst (λ (x : LocalState). is_rest x.part ≡ true) (sym is) c.requires.rest)),
+          one long c.clear.ensures.items,
       c.self.invariant.1,
       c.self.invariant.2,
       begun_long c.self.inside.trace.items c.args.command _ one (omega (arith, c.self.invariant.3, c.clear.ensures.capacity)),

@@ -25,8 +25,8 @@ invariant_of-self-else-blocks-gt0 c =
     let k = c.self.invariant in
     let there = entered_local c.self.inside c.args.phase.cycle c.enter.new.self k.0 c.enter.ensures.value in
     let none : owed (view_of c.self.inside) - c.self.inside.spent ≡ 0 = omega (arith, k.4, c.if-due-gt0.false) in (
-      begins_serve (record (view_of c.self.inside) { balance = c.enter.new.self.balance }) c.args.phase c.pass_by-pass.result c.command-command.result c.new_in.result c.row-self-inside.result there low (c.pass_by-pass.ensures.is ∙ ap (λ (l : LocalState). pass_by l.thread l.config.threads c.args.phase) (sym c.self.view_is)) c.pass_by-pass.ensures.fits
-          (c.command-command.ensures ∙ ap command_of (sym c.self.view_is)) none c.new_in.ensures c.row-self-inside.ensures,
+      begins_serve (record (view_of c.self.inside) { balance = c.enter.new.self.balance }) c.args.phase c.pass_by-pass.result c.command-command.result c.new_in-self-inside.result there low (c.pass_by-pass.ensures.is ∙ ap (λ (l : LocalState). pass_by l.thread l.config.threads c.args.phase) (sym c.self.view_is)) c.pass_by-pass.ensures.fits
+          (c.command-command.ensures ∙ ap command_of (sym c.self.view_is)) none c.new_in-self-inside.ensures,
       ap (λ (a : AccountState). a.rate) c.enter.ensures.value ∙ k.1,
       ap (λ (a : AccountState). a.object) c.enter.ensures.value ∙ k.2,
       k.3,
@@ -40,7 +40,7 @@ begin-requires-clause-serial c =
     (subst (λ n. 0 < n) c.blocks-else-due-gt0.ensures c.if-blocks-gt0.true) in
     (omega arith, omega (arith, few))
 
-pub new_in-requires-clause-allocates : goal.new_in-requires-clause-allocates
-new_in-requires-clause-allocates c =
+pub new_in-self-inside-requires-clause-allocates : goal.new_in-self-inside-requires-clause-allocates
+new_in-self-inside-requires-clause-allocates c =
     first_undecided c.self.inside.config.width c.command-command.result
     (omega (arith, c.blocks-else-due-gt0.ensures, c.if-blocks-gt0.false))

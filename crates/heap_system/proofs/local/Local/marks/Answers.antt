@@ -1,12 +1,11 @@
-use Rattle.std.proofs.Common.{◌+◌, ◌≤◌, not, subst, rules, ap, sym, ◌∙◌, ◌≡◌, length, arith}
+use Rattle.std.proofs.Common.{◌+◌, ◌≤◌, not, subst, rules, ap, length, arith}
 use Rattle.block_store.specs.Phases.{bit}
 use Rattle.block_store.specs.Places.{extent}
 use Rattle.heap_machine.specs.declared.Outcome.{Outcome}
 use Rattle.grey_steps.specs.Fits.{GreyFits}
 use Rattle.grey_steps.specs.Rows.{grey_unit}
 use Rattle.heap_system.specs.Parts.{Mark}
-use Rattle.never_heap.specs.RightWork.{units_told}
-use Rattle.heap_system.specs.Locals.{owed, unit_to_come, LocalState, IsLocal, command_of, PartFits}
+use Rattle.heap_system.specs.Locals.{owed, unit_to_come, IsLocal, PartFits}
 use Rattle.heap_system.proofs.Paying.{view_of}
 use Rattle.heap_system.proofs.UnitMade.{counted_local, mark_owes, units_few, spent_few, unit_owed, ties, over_local, mark_at, mark_back, over_part, over_at, units_read}
 use Rattle.heap_system.proofs.local.Local.marks.Goals as goal

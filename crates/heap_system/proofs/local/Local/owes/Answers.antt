@@ -1,5 +1,3 @@
-use Rattle.std.proofs.Common.{sym, subst}
-use Rattle.heap_system.specs.Locals.{LocalState}
 use Rattle.heap_system.proofs.Paying.{view_of, rate_low}
 use Rattle.heap_system.proofs.local.Local.owes.Goals as goal
 
