@@ -484,13 +484,6 @@ impl FieldPass {
         FieldPass { pass, command, row }
     }
 
-    /// The row to which the part has come.
-    pub fn row(&self) -> FieldRow
-        ensures { result ≡ self.now.row }
-    {
-        self.row
-    }
-
     /// The operation of the next event. A part that is over wants no more than a look at the phase.
     /// The places are those of a heap that has the part's thread and the row's blocks.
     #[inline(never)]

@@ -8,7 +8,6 @@ ghost use Rattle.block_store.specs.Payloads.{payload_of, payload_target};
 ghost use Rattle.block_store.specs.Places.{extent, ColourOf, IsBlock};
 ghost use Rattle.heap_machine.specs.Operations.{op_at, CompareExchange};
 ghost use Rattle.heap_machine.specs.Memories.{ReadsOnly, ActsOnce};
-ghost use Rattle.heap_machine.specs.Passes.{IsPass};
 ghost use Rattle.grey_steps.specs.Rows;
 ghost use Rattle.grey_steps.specs.Rows.{GreyState, grey_want, grey_got, grey_step, grey_unit, grey_nothing, grey_over, scanning, shading};
 ghost use Rattle.grey_steps.specs.Ends.{is_blackening, grey_outcome};
@@ -228,16 +227,8 @@ impl GreyPass {
             ≡ scanning
             (record { thread = thread; threads = threads; cycle = cycle; sweep = false }) }
     {
-        GreyPass::scan_in(marking(thread, threads, cycle))
-    }
-
-    /// The same in this pass of a thread.
-    pub fn scan_in(pass: Pass) -> GreyPass
-        requires { IsPass pass }
-        ensures { result ≡ scanning pass }
-    {
         GreyPass {
-            pass,
+            pass: marking(thread, threads, cycle),
             row: GreyRow::Take { u: 0 },
         }
     }

@@ -246,21 +246,12 @@ turns_on W (gates.StartedCycle y) w e = refl
 turns_on W gates.KeptOut w e = refl
 turns_on W _ w e = absurd cc
 
--- a unit is new behind the event that makes the block under scan black
-new_unit : (a b u : Bool) → b ≡ (a || u) → (a ≡ true → u ≡ false) → (b && not a) ≡ u
-new_unit true b u e once = ap (λ x. x && not true) e ∙ sym (once refl)
-new_unit false true u e once = e
-new_unit false false u e once = e
-
-pub unit_is_new : (e : Extent) (m : GreyState) (w : ℕ) → (grey_unit (grey_got e m w).row && not (grey_unit m.row)) ≡ is_blackening m.row
-unit_is_new e m w = new_unit (grey_unit m.row) (grey_unit (grey_got e m w).row) (is_blackening m.row) (unit_after e m w) (unit_once m)
-
 pub going_at : (c : Config) (g : GateRow) → is_going_in g ≡ true → GateAt c g
 going_at c gates.Look e = tt
 going_at c (gates.Enter seen) e = tt
 going_at c _ e = absurd cc
 
--- a sweep is over at its last step, and a unit is a block more that was passed
+-- a sweep is over at its last step
 pub swept_last : (s : SweepState) (w : ℕ) → is_last (step_to (sweep_got s w).row) ≡ sweep_over (sweep_got s w).row
 swept_last s w = here (sweep_got s w).row
   where
@@ -268,16 +259,6 @@ swept_last s w = here (sweep_got s w).row
     here (sweeps.Swept passed freed) = refl
     here sweeps.NothingLeft = refl
     here _ = refl
-
-more_than : (n : ℕ) (u : Bool) → ltb n (n + bit u) ≡ u
-more_than n true = lt-ltb n (n + 1) (omega arith)
-more_than n false = elim (cases_Bool (ltb n (n + 0))) [
-  | inl is ↦ absurd (let l : n < n + 0 = ltb-true n (n + 0) is in omega arith)
-  | inr is ↦ is
-]
-
-pub passed_more : (s : SweepState) (w : ℕ) → ltb (sweep_passed s.row) (sweep_passed (sweep_got s w).row) ≡ is_some (row_passes s.cycle s.row w)
-passed_more s w = ap (ltb (sweep_passed s.row)) (passed_bits s w) ∙ more_than (sweep_passed s.row) (is_some (row_passes s.cycle s.row w))
 
 -- a part that turns over goes on
 pub turned_on : (l : LocalState) (g n : GateRow) (w : ℕ) (c : Config) → IsLocal l → PartReads l.config l.part w → l.part ≡ TurnOver g → c ≡ l.config → n ≡ gate_got c.width g w → GateAt c n → IsLocal (record l { part = TurnOver n })
