@@ -65,6 +65,7 @@ fn opened(alloc: Global, job: Job) -> Result<(Office, Vec<Speaker>, Taker), OutO
         × (r.0.board.traces ≡ job.traces)) }
     ensures speakers { IfOk result (λ r. AreSpeakers r.0 r.1.items) }
     ensures taker { IfOk result (λ r. IsFirst r.0 r.2) }
+    ensures room { IfOk result (λ r. r.0.post.room ≡ room_of job.traces) }
 {
     let threads = job.config.threads;
     let room = room_for(&job);
