@@ -1,5 +1,5 @@
 -- What holds along an order of a job's commands.
-use Rattle.std.proofs.Common.{ℕ, suc, ◌+◌, ◌*◌, ◌^◌, ◌≡◌, ◌<◌, ◌≤◌, ◌==◌, inl, inr, max, Bool, true, false, cond, List, [], ◌∷◌, ◌++◌, length, take, drop, get_or, ap, sym, ◌∙◌, refl, subst, arith, eq-eqb, length-append, add-one}
+use Rattle.std.proofs.Common.{ℕ, suc, ◌+◌, ◌*◌, ◌^◌, ◌≡◌, ◌<◌, ◌≤◌, ◌==◌, inl, inr, Bool, true, false, cond, List, [], ◌∷◌, ◌++◌, length, take, drop, get_or, ap, sym, ◌∙◌, refl, subst, arith, eq-eqb, length-append, add-one}
 use Rattle.std.specs.List.{All, sum_by}
 use Rattle.std.proofs.lemmas.Bool.{cases_eq, cases_lt}
 use Rattle.std.proofs.lemmas.List.{take-append-drop}
@@ -23,8 +23,8 @@ use Rattle.rt_check.specs.declared.moves.Move.{Move}
 use Rattle.rt_check.specs.Moves.{commands_of}
 use Rattle.rt_limit.specs.declared.counts.Counter.{Counter}
 use Rattle.rt_limit.specs.Counting.{Knows, HasRoom, IsMoveInRange}
-use Rattle.rt_limit.specs.Moments.{graph_after, graph_behind, most_live}
-use Rattle.rt_limit.proofs.CountLaws.{behind_more, most_more}
+use Rattle.rt_limit.specs.Moments.{graph_after, graph_behind}
+use Rattle.rt_limit.proofs.CountLaws.{behind_more}
 
 -- ---- the commands of a thread
 
@@ -183,18 +183,3 @@ module _ (c : Config) (moves : List Move) (i : ℕ) (m : Move) (bounds : IsInBou
       (subst (λ (w : Width). Knows w (start_graph c) past k) (sym width) knows)
       graph
       (subst (λ (w : Width). made ≡ blocks_of w next.command) (sym width) blocks)))
-
-  -- and the greatest number so far, where what is live now is counted
-  pub next_most : (g : WideGraph) → g ≡ wide (take (i + 1) moves) → (most live next_is : ℕ)
-      → most ≡ most_live c.width (start_graph c) past
-      → live ≡ live_blocks g.width g.graph → next_is ≡ max most live
-      → next_is ≡ most_live c.width (start_graph c) (take (i + 1) moves)
-  next_most g is most live next_is before counted greatest =
-      greatest
-      ∙ (λ j. max (before j) (counted j))
-      ∙ ap (λ (x : WideGraph). max (most_live c.width (start_graph c) past)
-      (live_blocks x.width x.graph)) is
-      ∙ ap (λ (ms : List Move). max (most_live c.width (start_graph c) past)
-      (live_blocks c.width (graph_behind (start_graph c) ms))) one_further
-      ∙ sym (most_more c.width (start_graph c) past next)
-      ∙ ap (most_live c.width (start_graph c)) (sym one_further)

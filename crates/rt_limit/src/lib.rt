@@ -5,8 +5,6 @@ mod blocks;
 mod counts;
 mod laws;
 mod orders;
-#[cfg(test)]
-mod tests;
 mod texts;
 mod top;
 

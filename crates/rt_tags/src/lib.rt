@@ -8,20 +8,12 @@ ghost use Rattle.array_scripts.specs.Kinds.{Tokens};
 ghost use Rattle.array_scripts.specs.Parts.{IsFirstBad};
 ghost use Rattle.rt_tags.specs.Lines.{tag_kind, IsTagScript};
 
-#[cfg(test)]
-mod calls;
-#[cfg(test)]
-mod drawn;
 mod exit;
 mod kind;
 mod line;
 mod planning;
 mod running;
 mod script;
-#[cfg(test)]
-mod testing;
-#[cfg(test)]
-mod tests;
 mod top;
 
 pub use array_scripts::{Fault, Header};

@@ -1,6 +1,7 @@
-//! Whole calls: the lines that they write, their statuses, and threads beside each other.
+//! Whole calls of `tags`: the lines that they write, their statuses, and threads beside each other.
 
-use crate::testing::{Call, FirstTwo, made};
+use crate::calling::{Program, ends, made, meets};
+use lent_calls::Call;
 use never_heap::NoPace;
 use std::alloc::Global;
 use std::collections::HashSet;
@@ -8,6 +9,8 @@ use std::process::Abort;
 use std::sync::Wait;
 use std::test::Fail;
 use std::thread::Threads;
+
+const TAGS: Program = Program::Tags;
 
 /// One thread's operations on two places, and their lines.
 const OPERATIONS: &str = "thread 0
@@ -22,21 +25,6 @@ end
 
 const LINES: &str = "0 none\n0 none\n0 5 1\n0 6 2\n0 6 2\n0 none\n";
 
-/// Whether a call ends with these statuses and lines.
-fn ends<R: Threads + Wait + Sync + Abort>(
-    rt: &R,
-    alloc: Global,
-    call: &Call<'_>,
-    statuses: (u8, u8),
-    lines: &str,
-) -> Result<(), Fail> {
-    let (exit, sink) = made(rt, alloc, call, &NoPace)?;
-    assert_eq!(rt; (exit.status, exit.due), statuses);
-    assert_eq!(rt; exit.run.is_some(), exit.due == 0);
-    assert_eq!(rt; sink.bytes(), lines.as_bytes());
-    Ok(())
-}
-
 #[test]
 fn a_table_is_kept_where_its_heap_has_a_rate(rt: HostRuntime) -> Result<(), Fail> {
     let alloc = rt.alloc();
@@ -47,7 +35,14 @@ fn a_table_is_kept_where_its_heap_has_a_rate(rt: HostRuntime) -> Result<(), Fail
     ];
     for (blocks, statuses, lines) in rows {
         let input = format!(in alloc; "tags 1 threads 1 tags 2 blocks {blocks}\n{OPERATIONS}")?;
-        ends(&rt, alloc, &Call::of(&input), statuses, lines)?;
+        ends(
+            &rt,
+            alloc,
+            TAGS,
+            &Call::of(input.as_bytes()),
+            statuses,
+            lines,
+        )?;
     }
     Ok(())
 }
@@ -57,22 +52,36 @@ fn each_refusal_has_its_status_and_line(rt: HostRuntime) -> Result<(), Fail> {
     let alloc = rt.alloc();
     let input = format!(in alloc; "tags 1 threads 1 tags 2 blocks 64\n{OPERATIONS}")?;
     let bad = "tags 1 threads 1 tags 2 blocks 64\nthread 0\nread 2\nend\n";
-    ends(&rt, alloc, &Call::of(bad), (3, 3), "rt_tags: line 3\n")?;
+    ends(
+        &rt,
+        alloc,
+        TAGS,
+        &Call::of(bad.as_bytes()),
+        (3, 3),
+        "rt_tags: line 3\n",
+    )?;
     let with_words = Call {
         words: &["run"],
-        ..Call::of(&input)
+        ..Call::of(input.as_bytes())
     };
-    ends(&rt, alloc, &with_words, (2, 2), "rt_tags: usage\n")?;
+    ends(&rt, alloc, TAGS, &with_words, (2, 2), "rt_tags: usage\n")?;
     let unread = Call {
         read_fails: &[1],
-        ..Call::of(&input)
+        ..Call::of(input.as_bytes())
     };
-    ends(&rt, alloc, &unread, (5, 5), "rt_tags: read fault\n")?;
+    ends(&rt, alloc, TAGS, &unread, (5, 5), "rt_tags: read fault\n")?;
     let unwritten = Call {
         write_fails: &[3],
-        ..Call::of(&input)
+        ..Call::of(input.as_bytes())
     };
-    ends(&rt, alloc, &unwritten, (6, 0), "0 none\n0 none\n0 5 1\n")
+    ends(
+        &rt,
+        alloc,
+        TAGS,
+        &unwritten,
+        (6, 0),
+        "0 none\n0 none\n0 5 1\n",
+    )
 }
 
 #[test]
@@ -86,15 +95,8 @@ read 0
 read 0
 end
 ";
-    let pace = FirstTwo::new();
-    let (exit, sink) = made(&rt, rt.alloc(), &Call::of(input), &pace)?;
-    assert_eq!(rt; (exit.status, exit.due), (0, 0));
-    assert_eq!(rt;
-        sink.bytes(),
-        b"0 none\n0 none\n1 none\n1 none\n".as_slice()
-    );
-    assert!(rt; pace.meeting.took_place());
-    Ok(())
+    let lines = "0 none\n0 none\n1 none\n1 none\n";
+    meets(&rt, rt.alloc(), TAGS, input, lines)
 }
 
 /// Whether writes by threads beside each other, each of a pair that nobody else writes, show no
@@ -114,9 +116,11 @@ fn shows_none_twice<R: Threads + Wait + Sync + Abort>(
         }
     }
     input.push_str("end\n")?;
-    let (exit, sink) = made(rt, alloc, &Call::of(&input), &NoPace)?;
-    assert_eq!(rt; (exit.status, exit.due), (0, 0));
-    let text = std::str::from_utf8(sink.bytes()).ok().ok_or("no text")?;
+    let ended = made(rt, alloc, TAGS, &Call::of(input.as_bytes()), &NoPace)?;
+    assert_eq!(rt; ended.statuses, (0, 0));
+    let text = std::str::from_utf8(ended.sink.bytes())
+        .ok()
+        .ok_or("no text")?;
     let mut shown = HashSet::new(alloc);
     let mut lines = 0u64;
     for line in text.lines() {
@@ -147,6 +151,13 @@ fn sixteen_threads_do_with_the_least_blocks(rt: HostRuntime) -> Result<(), Fail>
         idle.push_str(format!(in alloc; "thread {t}\n")?.as_str())?;
     }
     idle.push_str("end\n")?;
-    ends(&rt, alloc, &Call::of(&idle), (4, 4), "rt_tags: no rate\n")?;
+    ends(
+        &rt,
+        alloc,
+        TAGS,
+        &Call::of(idle.as_bytes()),
+        (4, 4),
+        "rt_tags: no rate\n",
+    )?;
     shows_none_twice(&rt, alloc, (16, 1, 100), 200)
 }

@@ -1,12 +1,16 @@
-//! Whole calls: the lines that they write, their statuses, and threads beside each other.
+//! Whole calls of `handles`: the lines that they write, their statuses, and threads beside each
+//! other.
 
-use crate::testing::{Call, FirstTwo, made};
+use crate::calling::{Program, ends, made, meets};
+use lent_calls::Call;
 use never_heap::NoPace;
 use std::alloc::Global;
 use std::process::Abort;
 use std::sync::Wait;
 use std::test::Fail;
 use std::thread::Threads;
+
+const HANDLES: Program = Program::Handles;
 
 /// One thread's operations on one slot, and their lines.
 const OPERATIONS: &str = "thread 0
@@ -37,21 +41,6 @@ const LINES: &str = "0 none
 0 0.3 9
 ";
 
-/// Whether a call ends with these statuses and lines.
-fn ends<R: Threads + Wait + Sync + Abort>(
-    rt: &R,
-    alloc: Global,
-    call: &Call<'_>,
-    statuses: (u8, u8),
-    lines: &str,
-) -> Result<(), Fail> {
-    let (exit, sink) = made(rt, alloc, call, &NoPace)?;
-    assert_eq!(rt; (exit.status, exit.due), statuses);
-    assert_eq!(rt; exit.run.is_some(), exit.due == 0);
-    assert_eq!(rt; sink.bytes(), lines.as_bytes());
-    Ok(())
-}
-
 #[test]
 fn slots_are_kept_where_their_heap_has_a_rate(rt: HostRuntime) -> Result<(), Fail> {
     let alloc = rt.alloc();
@@ -62,7 +51,14 @@ fn slots_are_kept_where_their_heap_has_a_rate(rt: HostRuntime) -> Result<(), Fai
     ];
     for (blocks, statuses, lines) in rows {
         let input = format!(in alloc; "handles 1 threads 1 slots 1 blocks {blocks}\n{OPERATIONS}")?;
-        ends(&rt, alloc, &Call::of(&input), statuses, lines)?;
+        ends(
+            &rt,
+            alloc,
+            HANDLES,
+            &Call::of(input.as_bytes()),
+            statuses,
+            lines,
+        )?;
     }
     Ok(())
 }
@@ -72,24 +68,46 @@ fn each_refusal_has_its_status_and_line(rt: HostRuntime) -> Result<(), Fail> {
     let alloc = rt.alloc();
     let input = format!(in alloc; "handles 1 threads 1 slots 1 blocks 128\n{OPERATIONS}")?;
     let bad = "handles 1 threads 1 slots 1 blocks 128\nthread 0\nsee 0 0\nend\n";
-    ends(&rt, alloc, &Call::of(bad), (3, 3), "rt_handles: line 3\n")?;
+    ends(
+        &rt,
+        alloc,
+        HANDLES,
+        &Call::of(bad.as_bytes()),
+        (3, 3),
+        "rt_handles: line 3\n",
+    )?;
     let with_words = Call {
         words: &["run"],
-        ..Call::of(&input)
-    };
-    ends(&rt, alloc, &with_words, (2, 2), "rt_handles: usage\n")?;
-    let unread = Call {
-        read_fails: &[1],
-        ..Call::of(&input)
-    };
-    ends(&rt, alloc, &unread, (5, 5), "rt_handles: read fault\n")?;
-    let unwritten = Call {
-        write_fails: &[3],
-        ..Call::of(&input)
+        ..Call::of(input.as_bytes())
     };
     ends(
         &rt,
         alloc,
+        HANDLES,
+        &with_words,
+        (2, 2),
+        "rt_handles: usage\n",
+    )?;
+    let unread = Call {
+        read_fails: &[1],
+        ..Call::of(input.as_bytes())
+    };
+    ends(
+        &rt,
+        alloc,
+        HANDLES,
+        &unread,
+        (5, 5),
+        "rt_handles: read fault\n",
+    )?;
+    let unwritten = Call {
+        write_fails: &[3],
+        ..Call::of(input.as_bytes())
+    };
+    ends(
+        &rt,
+        alloc,
+        HANDLES,
         &unwritten,
         (6, 0),
         "0 none\n0 made 0.1\n0 0.1 7\n",
@@ -107,15 +125,8 @@ take 0
 take 0
 end
 ";
-    let pace = FirstTwo::new();
-    let (exit, sink) = made(&rt, rt.alloc(), &Call::of(input), &pace)?;
-    assert_eq!(rt; (exit.status, exit.due), (0, 0));
-    assert_eq!(rt;
-        sink.bytes(),
-        b"0 none\n0 none\n1 none\n1 none\n".as_slice()
-    );
-    assert!(rt; pace.meeting.took_place());
-    Ok(())
+    let lines = "0 none\n0 none\n1 none\n1 none\n";
+    meets(&rt, rt.alloc(), HANDLES, input, lines)
 }
 
 /// How often each of sixteen threads makes and drops a handle.
@@ -132,9 +143,11 @@ fn sixteen_threads_meet_at_one_slot(rt: HostRuntime) -> Result<(), Fail> {
         }
     }
     input.push_str("end\n")?;
-    let (exit, sink) = made(&rt, alloc, &Call::of(&input), &NoPace)?;
-    assert_eq!(rt; (exit.status, exit.due), (0, 0));
-    let text = std::str::from_utf8(sink.bytes()).ok().ok_or("no text")?;
+    let ended = made(&rt, alloc, HANDLES, &Call::of(input.as_bytes()), &NoPace)?;
+    assert_eq!(rt; ended.statuses, (0, 0));
+    let text = std::str::from_utf8(ended.sink.bytes())
+        .ok()
+        .ok_or("no text")?;
     let mut lines = 0u64;
     let mut kept = false;
     for line in text.lines() {

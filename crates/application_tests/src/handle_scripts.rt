@@ -1,8 +1,9 @@
-//! Scripts that are read, and scripts that are refused.
+//! Scripts of handles that are read, and scripts that are refused.
 
-use crate::{Fault, script_of};
+use crate::calling::Program;
+use crate::refused::Refused;
 use handle_table::Operation;
-use std::alloc::{AllocError, Global};
+use rt_handles::script_of;
 use std::test::Fail;
 
 #[test]
@@ -38,8 +39,7 @@ end
     Ok(())
 }
 
-/// In each row how many threads the header has (and - for a text without the usual header), what
-/// stands behind it with a slash for each line feed, and the first line that cannot stand.
+/// Texts that are refused, as `Refused` has them.
 const REFUSED: &str = "-||1
 -|/|1
 -|handles 2 threads 1 slots 2 blocks 128/thread 0/end/|1
@@ -90,47 +90,16 @@ const REFUSED: &str = "-||1
 2|/thread 0/make 0 0 7/thread 1/see 0 0/end/|5
 2|/thread 0/evict 1/thread 1/thread 2/end/|5";
 
-/// The bytes of a row.
-fn bytes_of(alloc: Global, threads: &str, body: &str) -> Result<Vec<u8>, AllocError> {
-    let header = match threads {
-        "1" => "handles 1 threads 1 slots 2 blocks 128",
-        "2" => "handles 1 threads 2 slots 2 blocks 128",
-        _ => "",
-    };
-    let mut bytes = Vec::from_slice(alloc, header.as_bytes())?;
-    for byte in body.bytes() {
-        bytes.push(if byte == b'/' { b'\n' } else { byte })?;
-    }
-    Ok(bytes)
-}
-
-/// What reading bytes of fewer than 2^39 answers, as the table spells it.
-fn answer_of(alloc: Global, bytes: &[u8]) -> Result<String, AllocError> {
-    if bytes.len() >= 1 << 39 {
-        return String::from_str(alloc, "too many");
-    }
-    match script_of(alloc, bytes) {
-        Ok(_) => String::from_str(alloc, "a script"),
-        Err(Fault::BadLine(line)) => format!(in alloc; "{line}"),
-        Err(Fault::OutOfMemory) => Err(AllocError),
-    }
-}
-
 #[test]
 fn each_row_is_refused_for_its_first_bad_line(rt: HostRuntime) -> Result<(), Fail> {
-    let mut rows = 0u64;
-    for row in REFUSED.split('\n') {
-        let Some((threads, rest)) = row.split_once('|') else {
-            panic!(rt; "a row without a header: {row}");
-        };
-        let Some((body, answer)) = rest.split_once('|') else {
-            panic!(rt; "a row without an answer: {row}");
-        };
-        let bytes = bytes_of(rt.alloc(), threads, body)?;
-        let found = answer_of(rt.alloc(), &bytes)?;
-        assert_eq!(rt; found.as_str(), answer, "at {row}");
-        rows = rows.saturating_add(1);
-    }
-    assert_eq!(rt; rows, 49);
-    Ok(())
+    let headers = [
+        "handles 1 threads 1 slots 2 blocks 128",
+        "handles 1 threads 2 slots 2 blocks 128",
+    ];
+    let refused = Refused {
+        program: Program::Handles,
+        headers,
+        rows: REFUSED,
+    };
+    refused.are_refused(&rt, rt.alloc(), 49)
 }

@@ -1,0 +1,23 @@
+//! Tests of what stands on the heap as a program of its own: whole calls, and drawn scripts.
+#![tactic(auto)]
+
+#[cfg(test)]
+mod calling;
+#[cfg(test)]
+mod deeds;
+#[cfg(test)]
+mod handle_calls;
+#[cfg(test)]
+mod handle_deeds;
+#[cfg(test)]
+mod handle_scripts;
+#[cfg(test)]
+mod refused;
+#[cfg(test)]
+mod replaying;
+#[cfg(test)]
+mod tag_calls;
+#[cfg(test)]
+mod tag_deeds;
+#[cfg(test)]
+mod tag_scripts;

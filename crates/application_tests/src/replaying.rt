@@ -1,0 +1,107 @@
+//! The job of a run, by drawn turns.
+
+ghost use Rattle.std.specs.Prelude.{◌≡◌, true, map, IfOk, IfSome};
+ghost use Rattle.std.specs.List.{AllByRecursion};
+ghost use Rattle.never_heap.specs.Bounds.{IsCommandInBounds};
+ghost use Rattle.never_heap.specs.Jobs.{IsTraceInBounds, IsJobInBounds};
+ghost use Rattle.rate_plan.specs.Rates.{IsAdmitted};
+
+use atom_board::Closed;
+use block_store::{Config, OutOfMemory};
+use heap_system::{Finished, System};
+use never_heap::{Command, Logs, Reply};
+use plain_runs::{Happened, history_of};
+use rate_plan::plan;
+use schedules::{Schedule, replay};
+use std::alloc::{AllocError, Global};
+
+/// More turns than any of the jobs takes.
+const TURNS: u64 = 200_000;
+
+/// The logs of a job by drawn turns, and what happened in which order.
+#[derive(Drop)]
+pub struct Replayed {
+    pub run: Finished,
+    pub history: Vec<Happened>,
+}
+
+impl Replayed {
+    /// Whether an allocation was answered full.
+    pub fn has_full(&self) -> bool {
+        self.history.iter().any(is_full)
+    }
+}
+
+fn is_full(happened: &Happened) -> bool {
+    matches!(happened, Happened::Did(entry) if matches!(entry.reply, Reply::Full(_)))
+}
+
+/// The job that a run shows, by the turns of a drawn schedule. `None` where it is no job of a rate,
+/// or a thread is not done.
+pub fn replay_of(alloc: Global, run: &Closed, key: u64) -> Result<Option<Replayed>, OutOfMemory> {
+    let config = *run.config();
+    let traces = traces_of(alloc, run)?;
+    if !config.in_bounds() || plan(&config).is_err() || !are_job(&config, &traces) {
+        return Ok(None);
+    }
+    let mut system = opened(alloc, config, traces)?;
+    replay(&mut system, Schedule::Key(key), TURNS);
+    let Ok(run) = system.finish() else {
+        return Ok(None);
+    };
+    let Some(order) = run.order() else {
+        return Ok(None);
+    };
+    let Some(history) = history_of(alloc, order, &run)? else {
+        return Ok(None);
+    };
+    Ok(Some(Replayed { run, history }))
+}
+
+/// The opening of a job, of which the order is kept.
+fn opened(alloc: Global, config: Config, traces: Vec<Vec<Command>>) -> Result<System, OutOfMemory>
+    requires job { IsJobInBounds config (map (λ v. v.items) traces.items) }
+    requires plan { IsAdmitted config }
+    ensures { IfOk result (λ s. IfSome s.ordered (λ k. k.left ≡ TURNS)) }
+{
+    System::new_ordered(alloc, config, traces, TURNS)
+}
+
+/// The commands of each thread of a run.
+fn traces_of(alloc: Global, run: &Closed) -> Result<Vec<Vec<Command>>, AllocError> {
+    let mut traces = Vec::new(alloc);
+    for t in 0..run.threads() {
+        let mut trace = Vec::new(alloc);
+        for entry in run.entries(t) {
+            trace.push(entry.command)?;
+        }
+        traces.push(trace)?;
+    }
+    Ok(traces)
+}
+
+/// Whether these are the traces of a job.
+fn are_job(c: &Config, traces: &[Vec<Command>]) -> bool
+    ensures { result ≡ true → IsJobInBounds c.now (map (λ v. v.items) traces.now) }
+{
+    c.in_bounds() && traces.len() == c.threads as usize && are_traces(c, traces)
+}
+
+fn are_traces(c: &Config, traces: &[Vec<Command>]) -> bool
+    ensures { result ≡ true
+        → AllByRecursion (IsTraceInBounds c.now) (map (λ v. v.items) traces.now) }
+{
+    let Some((trace, others)) = traces.split_first() else {
+        return true;
+    };
+    trace.len() <= 131_072 && are_commands(c, trace) && are_traces(c, others)
+}
+
+fn are_commands(c: &Config, trace: &[Command]) -> bool
+    ensures { result ≡ true → AllByRecursion (IsCommandInBounds c.now) trace.now }
+{
+    let Some((command, others)) = trace.split_first() else {
+        return true;
+    };
+    command.in_bounds(c) && are_commands(c, others)
+}
