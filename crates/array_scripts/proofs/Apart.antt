@@ -6,10 +6,10 @@ use Rattle.call_exits.specs.declared.refusal.Refusal.TheVariants as refusals
 use Rattle.call_exits.specs.Exits.{IsDue}
 use Rattle.call_exits.specs.Refusals.{AreNone, status_of, IsReadWhole, IsReadRefusal, HasRead}
 use Rattle.call_exits.specs.Sides.{Sides, IsUnfailed}
-use Rattle.call_exits.proofs.Ending.{AreApart}
+use Rattle.call_exits.proofs.CallEnds.{AreApart}
 use Rattle.call_exits.proofs.WholeTexts.{few_taken, refused_unread}
 use Rattle.scripts.specs.Scripts.{Reads}
-use Rattle.scripts.proofs.Reading.{never_both, scripts_are_one}
+use Rattle.scripts.proofs.ScriptOrBadLine.{never_both, scripts_are_one}
 use Rattle.trace_text.specs.Reading.{tokenized}
 use Rattle.trace_text.specs.Jobs.{input_limit}
 use Rattle.array_scripts.specs.declared.header.Header.{Header}

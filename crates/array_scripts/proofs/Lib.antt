@@ -1,10 +1,10 @@
-pub mod Spelling
-pub mod Telling
-pub mod Going
+pub mod TokenLaws
+pub mod LineLaws
+pub mod LinesSoFar
 pub mod Threads
 pub mod Ranges
 pub mod Apart
 pub mod Items
-pub mod Answered
-pub mod Writing
+pub mod AnswersInOrder
+pub mod WrittenAnswers
 pub mod CarriedOut

@@ -1,7 +1,7 @@
 -- One thread's operations more of a script.
 use Rattle.std.proofs.Common.{◌≡◌, ℕ, ◌+◌, Option, Some, None, List, [], ◌∷◌, ◌++◌, length, sym, refl, ap, ◌∙◌, subst, append_assoc, append-nil, length-append, arith}
 use Rattle.scripts.specs.Scripts.{Language, Place, Start, Among, Reads, place_after, begins, begin_thread, told, told_next, or_bad, bad_line}
-use Rattle.scripts.proofs.Reading.{told_is_script}
+use Rattle.scripts.proofs.ScriptOrBadLine.{told_is_script}
 use Rattle.trace_text.specs.Reading.{parted}
 use Rattle.array_scripts.specs.declared.header.Header.{Header}
 use Rattle.array_scripts.specs.declared.line.Line.{Line}
@@ -9,7 +9,7 @@ use Rattle.array_scripts.specs.declared.line.Line.TheVariants as lines
 use Rattle.array_scripts.specs.Kinds.{Kind, Tokens, language, IsHeader, Fits, IsScriptIn}
 use Rattle.array_scripts.specs.Parts.{with_front, with_scripts, IsTurned, IsTurn, HasTold, AreRead}
 use Rattle.array_scripts.specs.Said.{said}
-use Rattle.array_scripts.proofs.Going.{parted_is, parted_none}
+use Rattle.array_scripts.proofs.LinesSoFar.{parted_is, parted_none}
 
 module _ {Op : Type 0} (kind : Kind Op) where
   abbrev lang : Language Tokens Header (List Op) Op

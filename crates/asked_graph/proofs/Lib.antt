@@ -1,2 +1,2 @@
-pub mod Showing
-pub mod Using
+pub mod GraphAnswers
+pub mod LifeUse

@@ -15,7 +15,7 @@ use Rattle.heap_system.specs.Locals.{LocalState, is_done, at_start}
 use Rattle.heap_system.specs.Machines.{State, no_local, IsJob, IsOpening}
 use Rattle.heap_system.specs.Systems.{Whole, traces_of}
 use Rattle.heap_system.proofs.Always.{here}
-use Rattle.heap_system.proofs.Starting.{length_starts}
+use Rattle.heap_system.proofs.SystemStart.{length_starts}
 use Rattle.atom_board.specs.declared.rules.Held.{Held}
 use Rattle.atom_board.specs.declared.rules.View.{View}
 use Rattle.atom_board.specs.Boards.{BoardKept, first_view, one_view}

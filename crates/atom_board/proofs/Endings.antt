@@ -13,8 +13,8 @@ use Rattle.heap_system.specs.Locals.{LocalState, is_done}
 use Rattle.heap_system.specs.Machines.{State, no_local, local_at, local_in}
 use Rattle.heap_system.specs.Serials.{AreOfThreads, AreFew}
 use Rattle.heap_system.specs.Systems.{Whole, traces_of, logs_of, AllDone, IsReached, IsFinished}
-use Rattle.heap_system.proofs.Finishing.{all_done, done_run, done_turns}
-use Rattle.heap_system.proofs.Reached.{reached_kept}
+use Rattle.heap_system.proofs.FinishedRun.{all_done, done_run, done_turns}
+use Rattle.heap_system.proofs.TurnFacts.{reached_kept}
 use Rattle.atom_board.specs.declared.rules.Held.{Held}
 use Rattle.atom_board.specs.declared.rules.View.{View}
 use Rattle.atom_board.specs.Boards.{HeldFits, AllFit, BoardKept}

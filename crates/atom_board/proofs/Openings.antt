@@ -10,7 +10,7 @@ use Rattle.never_heap.specs.declared.Command.{Command}
 use Rattle.heap_system.specs.Locals.{LocalState, at_start}
 use Rattle.heap_system.specs.Machines.{State, starts_from, opened, IsJob, IsOpening, IsRunOf}
 use Rattle.heap_system.specs.Systems.{Whole, traces_of}
-use Rattle.heap_system.proofs.Starting.{opened_traces}
+use Rattle.heap_system.proofs.SystemStart.{opened_traces}
 use Rattle.atom_board.specs.declared.rules.View.{View}
 use Rattle.atom_board.specs.Boards.{IsStateAfter, AllFit, helds_of, BoardKept, start_held, first_view}
 

@@ -15,7 +15,7 @@ use Rattle.heap_machine.specs.Operations.{op_place, words_after, SumFits}
 use Rattle.heap_system.specs.Locals.{LocalState, is_done, part_step, turn_of, local_got, op_wanted}
 use Rattle.heap_system.specs.Machines.{State, Run, no_local, local_at, next, turned, after_turns, opened, IsJob, IsRunOf}
 use Rattle.heap_system.specs.Systems.{Whole, traces_of, IsReached}
-use Rattle.heap_system.proofs.Reached.{reached_kept, turned_traces, turn_facts, turn_made}
+use Rattle.heap_system.proofs.TurnFacts.{reached_kept, turned_traces, turn_facts, turn_made}
 use Rattle.atom_board.proofs.InTime.{in_time, own_more, few_more}
 use Rattle.atom_board.specs.Ends.{EndsAlone}
 use Rattle.atom_board.specs.declared.rules.Held.{Held}

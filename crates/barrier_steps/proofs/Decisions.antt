@@ -6,7 +6,7 @@ use Rattle.barrier_steps.proofs.Common.{eqb-false, Config, Payload, Shape, Exten
 use Rattle.block_store.specs.declared.Payload.TheVariants as payloads
 use Rattle.block_store.specs.declared.Value.TheVariants as values
 use Rattle.never_heap.specs.declared.Reply.TheVariants as replies
-use Rattle.never_heap.proofs.Answering.{makers_have_blocks}
+use Rattle.never_heap.proofs.StepAnswers.{makers_have_blocks}
 
 pub either_is : {A : Type 0} (P : A → Type 0) (b : Bool) (q r : A) → (b ≡ true → P q) → (b ≡ false → P r)
     → P (cond b q r)

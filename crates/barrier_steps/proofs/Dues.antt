@@ -10,10 +10,10 @@ use Rattle.shown_graph.proofs.Names.{same_is}
 use Rattle.barrier_steps.proofs.Decisions.{Refused, value_there, answer_is, object_refused, shape_refused, get_is, put_is, swap_is, cas_is, constant_is, mov_is, same_step_is, say_is, idle_is, field_is, before_is, barrier_is, after_owner_is, goes_on, decided_once}
 use Rattle.shown_graph.specs.Read.{value_payload}
 use Rattle.barrier_steps.proofs.FieldRows.{to_low, get_takes, swap_takes, taken_register}
-use Rattle.barrier_steps.proofs.Projecting.{swap_register, within, register_leaves, graph_stays}
+use Rattle.barrier_steps.proofs.RowEvents.{swap_register, within, register_leaves, graph_stays}
 use Rattle.never_heap.proofs.FieldStores.{threads_with_field, registers_with_field}
-use Rattle.never_heap.proofs.Stepping.{has_field}
-use Rattle.barrier_steps.proofs.Showing.{NameIs, name_is, row_shown}
+use Rattle.never_heap.proofs.StepChanges.{has_field}
+use Rattle.barrier_steps.proofs.RowReads.{NameIs, name_is, row_shown}
 
 -- values with one payload are the same
 one_payload : (head : Name → ℕ) (u v : Value) → value_payload head u ≡ value_payload head v → ((x y : Name) → u ≡ values.Ref x → v ≡ values.Ref y → head x ≡ head y → x ≡ y) → same_value u v ≡ true

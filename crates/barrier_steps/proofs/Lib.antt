@@ -1,8 +1,8 @@
 pub mod Common
 pub mod Decisions
 pub mod FieldRows
-pub mod Projecting
-pub mod Showing
+pub mod RowEvents
+pub mod RowReads
 pub mod Dues
-pub mod Keeping
-pub mod Naming
+pub mod PhaseRulesKept
+pub mod NameRulesKept

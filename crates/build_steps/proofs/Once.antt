@@ -58,8 +58,8 @@ use Rattle.build_steps.specs.Rows.{
 use Rattle.build_steps.specs.Fits.{RowFits, BuildFits}
 use Rattle.build_steps.specs.Standing.{HeldOnce, left_of}
 use Rattle.build_steps.proofs.Held.{stands_once, first_has}
-use Rattle.build_steps.proofs.Keeping.{collected}
-use Rattle.build_steps.proofs.Standing.{one_ordinal}
+use Rattle.build_steps.proofs.ReuseRulesKept.{collected}
+use Rattle.build_steps.proofs.WrittenBlocks.{one_ordinal}
 
 pub one_place : (held : List ℕ) (i j : ℕ) → HeldOnce held → i < length held → j < length held
     → block_at held i ≡ block_at held j → i ≡ j

@@ -28,7 +28,7 @@ use Rattle.kept_names.specs.Events.KeptEvent.{Answer, Reserve, Collect, WriteOwn
 use Rattle.kept_names.specs.Kept.{IsKept}
 use Rattle.kept_names.specs.Pictures.{Names, Task, picture}
 use Rattle.kept_names.specs.States.{KeptState}
-use Rattle.kept_names.proofs.Pictured.{build_changed}
+use Rattle.kept_names.proofs.ChangedTasks.{build_changed}
 use Rattle.kept_names.proofs.Steps.{step_kept}
 use Rattle.build_steps.specs.Naming.{names_made, with_task_build}
 

@@ -13,7 +13,7 @@ use Rattle.heap_machine.specs.Operations.{place_of, heap_after}
 use Rattle.heap_machine.specs.PhaseKept.{PhaseKept}
 use Rattle.heap_machine.specs.Solid.{SolidKept}
 use Rattle.heap_machine.specs.Tricolour.{TricolourHolding, TricolourKept}
-use Rattle.heap_machine.proofs.Keeping.{part_changed}
+use Rattle.heap_machine.proofs.HeapRules.{part_changed}
 use Rattle.build_steps.specs.declared.rows.BuildRow.{BuildRow}
 use Rattle.build_steps.specs.declared.rows.BuildRow.TheVariants.{
   ReadCount,
@@ -38,8 +38,8 @@ use Rattle.build_steps.specs.Rows.{
 }
 use Rattle.build_steps.specs.Fits.{BuildFits}
 use Rattle.build_steps.specs.Standing.{Stands}
-use Rattle.build_steps.proofs.Keeping.{keeps_reuse}
-use Rattle.build_steps.proofs.Marking.{keeps_grey, keeps_tricolour, keeps_solid}
+use Rattle.build_steps.proofs.ReuseRulesKept.{keeps_reuse}
+use Rattle.build_steps.proofs.MarkRulesKept.{keeps_grey, keeps_tricolour, keeps_solid}
 
 phase_row : (w : Width) (h : Heap) (s : BuildState) (r : BuildRow)
     → heap_after h (row_want w s r) Phase ≡ h Phase

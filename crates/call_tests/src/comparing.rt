@@ -26,7 +26,7 @@ fn blocks_at_start(starts: &[(u64, u64)], before: u64, after: u64) -> Option<u64
 
 /// Does the commands of a run on the heap that never frees, and compares each reply, and how many
 /// blocks are reachable at these starts of cycles.
-#[tactic(auto, using(never_heap::proofs::Stepping::step_threads, never_heap::proofs::Stepping::step_count))]
+#[tactic(auto, using(never_heap::proofs::StepChanges::step_threads, never_heap::proofs::StepChanges::step_count))]
 fn agrees(
     rt: &impl Abort,
     alloc: Global,

@@ -7,9 +7,9 @@ use Rattle.never_heap.specs.Bounds.{IsCommandInBounds}
 use Rattle.never_heap.specs.RightWork.{units_owed}
 use Rattle.heap_system.specs.Lives.{objects_of, most_commands, most_units, most_objects}
 use Rattle.heap_system.specs.Machines.{Run}
-use Rattle.heap_system.proofs.Starting.{one_rate}
+use Rattle.heap_system.proofs.SystemStart.{one_rate}
 use Rattle.control_heap.specs.Controls.{Control, HasLeft, Stands, asked, units}
-use Rattle.control_heap.proofs.Ending.{config_is, rate_is}
+use Rattle.control_heap.proofs.CommandBound.{config_is, rate_is}
 
 module _ (h : Control) (r : Run) (st : Stands h r) (k : Command) where
   pub thread_fits : (now : Control) → h ≡ now → IsCommandInBounds now.config k → IsCommandInBounds h.thread.config k

@@ -1,10 +1,10 @@
 pub mod Behind
-pub mod Carried
-pub mod Ending
-pub mod Growing
+pub mod HeapAsRun
+pub mod CommandBound
+pub mod GrownRuns
 pub mod Histories
 pub mod Items
 pub mod Left
-pub mod Opened
-pub mod Opening
-pub mod Serving
+pub mod OpeningRun
+pub mod GrownJobs
+pub mod ServeLoop

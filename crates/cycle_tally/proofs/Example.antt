@@ -14,7 +14,7 @@ use Rattle.never_heap.specs.LiveBlocks.{live_blocks}
 use Rattle.never_heap.specs.Reach.{reachable}
 use Rattle.cycle_tally.specs.Tallies.{units}
 use Rattle.cycle_tally.specs.Events.{Guarded}
-use Rattle.cycle_tally.proofs.Testing.{in_bounds, all_small, all_guarded}
+use Rattle.cycle_tally.proofs.GuardTests.{in_bounds, all_small, all_guarded}
 use Rattle.cycle_tally.specs.Example.{tight, tight_rate, asked_entry, full_events, full_start, full_end, small, small_rate, blacks, some_events, example_start, example_end}
 
 most : (a b : ℕ) → leb a b ≡ true → a ≤ b

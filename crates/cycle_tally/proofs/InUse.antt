@@ -16,15 +16,15 @@ use Rattle.never_heap.specs.LiveBlocks.{object_blocks, live_of, live_blocks}
 use Rattle.never_heap.specs.Reach.{reachable, names}
 use Rattle.never_heap.specs.Taken.{taken_in}
 use Rattle.never_heap.proofs.ReachSteps.{reachable_named}
-use Rattle.never_heap.proofs.Staying.{replay_shape}
+use Rattle.never_heap.proofs.UnchangedBySteps.{replay_shape}
 use Rattle.never_heap.proofs.Sums.{sum_same, all_named}
-use Rattle.never_heap.proofs.Starting.{threads_of_start}
-use Rattle.never_heap.proofs.Naming.{same_itself, any_of_names}
+use Rattle.never_heap.proofs.StartGraph.{threads_of_start}
+use Rattle.never_heap.proofs.NameLists.{same_itself, any_of_names}
 use Rattle.block_store.specs.Counts.{times, total}
 use Rattle.cycle_tally.specs.InUse.{IsBlockOfThese, IsCovered, count_free}
 use Rattle.cycle_tally.specs.Entries.{InThreads}
-use Rattle.cycle_tally.proofs.Listing.{times_append, listed, these, length_these, times_these, blocks_at, length_blocks, times_blocks}
-use Rattle.cycle_tally.proofs.Making.{made_from, threads_of_replay, in_made, replay_parts, legal_rest, threads_rest, starts_rest, taken_first, same_blocks, made_taken}
+use Rattle.cycle_tally.proofs.BlockLists.{times_append, listed, these, length_these, times_these, blocks_at, length_blocks, times_blocks}
+use Rattle.cycle_tally.proofs.MadeNames.{made_from, threads_of_replay, in_made, replay_parts, legal_rest, threads_rest, starts_rest, taken_first, same_blocks, made_taken}
 
 legal_from : (c : Config) (h : List HistoryItem) → Legal c h
     → (1 ≤ starts_in h) × LegalFrom (start_graph c) h

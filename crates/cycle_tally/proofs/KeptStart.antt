@@ -16,7 +16,7 @@ use Rattle.kept_names.specs.States.{KeptState}
 use Rattle.kept_names.specs.Kept.{IsKept}
 use Rattle.kept_names.specs.Events.KeptEvent.{Start}
 use Rattle.kept_names.specs.Events.{Guard}
-use Rattle.kept_names.proofs.Showing.{marked_is}
+use Rattle.kept_names.proofs.ReachedBlocks.{marked_is}
 use Rattle.cycle_tally.specs.Entries.{InThreads}
 use Rattle.cycle_tally.specs.InUse.{ReachedOrMade, IsCovered, count_free}
 use Rattle.cycle_tally.proofs.InUse.{few_in_use}

@@ -23,8 +23,8 @@ use Rattle.cycle_tally.specs.Kept.{most_work, SpendingKept, live_before, TallyKe
 use Rattle.cycle_tally.specs.Openings.{Opened}
 use Rattle.cycle_tally.specs.Bounds.{AsksNothing, Bound}
 use Rattle.cycle_tally.proofs.Sums.{given_nought, no_claims}
-use Rattle.cycle_tally.proofs.Counting.{one_less, few_units, all_given_now}
-use Rattle.cycle_tally.proofs.Moving.{passed_all}
+use Rattle.cycle_tally.proofs.CycleUnits.{one_less, few_units, all_given_now}
+use Rattle.cycle_tally.proofs.GateAndPhaseEvents.{passed_all}
 use Rattle.cycle_tally.proofs.Steps.{step_kept}
 
 both_parts : (x y z : ℕ) → (x + y) * z ≡ x * z + y * z

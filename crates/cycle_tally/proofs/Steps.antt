@@ -5,9 +5,9 @@ use Rattle.rate_plan.specs.Rates.{KeepsUp}
 use Rattle.cycle_tally.specs.Tallies.{Tally}
 use Rattle.cycle_tally.specs.Events.{Event, Enter, Leave, SetCursor, Flip, Start, Paint, Scan, Claim, Pass, Clear, Credit, Reserve, Publish, Refuse, Answer, Next, apply, Guard}
 use Rattle.cycle_tally.specs.Kept.{TallyKept}
-use Rattle.cycle_tally.proofs.Moving.{enters, leaves, asks, clears, cursor_set, flips, begins}
-use Rattle.cycle_tally.proofs.Working.{paints, scans_one, claims_more, passes_one}
-use Rattle.cycle_tally.proofs.Deciding.{credits, reserves, gives, answers, refuses}
+use Rattle.cycle_tally.proofs.GateAndPhaseEvents.{enters, leaves, asks, clears, cursor_set, flips, begins}
+use Rattle.cycle_tally.proofs.MarkAndSweepEvents.{paints, scans_one, claims_more, passes_one}
+use Rattle.cycle_tally.proofs.DecisionEvents.{credits, reserves, gives, answers, refuses}
 
 module _ (c : Config) (rate : ℕ) (black : ℕ → ℕ) (some : 0 < rate) (s : Tally)
     (k : TallyKept c rate black s) where

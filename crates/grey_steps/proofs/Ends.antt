@@ -19,7 +19,7 @@ use Rattle.grey_steps.specs.declared.rows.GreyRow.TheVariants.{Take, Pop, ScanWo
 use Rattle.grey_steps.specs.Rows.{GreyState, list_of, row_got, row_want, after_take, after_word, shaded_hand, grey_want, grey_got, grey_over, grey_unit, grey_nothing, grey_holding, holding_at, scanning}
 use Rattle.grey_steps.specs.Fits.{GreyFits}
 use Rattle.grey_steps.specs.Ends.{is_blackening, is_putting, is_shading, block_stored, grey_after, begins_with_zeros}
-use Rattle.grey_steps.proofs.Marking.{low_thread}
+use Rattle.grey_steps.proofs.GreyRuleKept.{low_thread}
 
 -- what a test says of both rows of a choice it says of the one that is taken
 either : (P : GreyRow → Type 0) (b : Bool) (p q : GreyRow) → P p → P q → P (cond b p q)

@@ -1,5 +1,5 @@
 pub mod Ranges
-pub mod Marking
+pub mod GreyRuleKept
 pub mod Ends
 pub mod Tricolours
 pub mod Solids

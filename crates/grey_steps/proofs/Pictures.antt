@@ -21,15 +21,15 @@ use Rattle.kept_names.specs.Events.{loaded_word}
 use Rattle.kept_names.specs.Kept.{IsKept}
 use Rattle.kept_names.specs.Pictures.{Task, Names, picture}
 use Rattle.kept_names.specs.States.{KeptState}
-use Rattle.kept_names.proofs.Painting.{reads_word, shades_read, blackens, shades_loaded}
-use Rattle.kept_names.proofs.Pictured.{scan_changed}
-use Rattle.kept_names.proofs.Standing.{scanned}
+use Rattle.kept_names.proofs.ColourEvents.{reads_word, shades_read, blackens, shades_loaded}
+use Rattle.kept_names.proofs.ChangedTasks.{scan_changed}
+use Rattle.kept_names.proofs.KeptStates.{scanned}
 use Rattle.grey_steps.specs.declared.rows.GreyRow.{GreyRow}
 use Rattle.grey_steps.specs.declared.rows.GreyRow.TheVariants.{Take, Pop, ScanWord, Shade, Blacken, Put, Scanned, NothingGrey, TakeOwn, ShadeStored, PutOwn, Shaded}
 use Rattle.grey_steps.specs.Ends.{is_shading, block_stored}
 use Rattle.grey_steps.specs.Fits.{RowFits, GreyFits}
 use Rattle.grey_steps.specs.Rows.{GreyState, list_of, row_want, row_got, after_take, after_word, after_scan, after_black, shaded_hand, grey_want, grey_got, grey_holding, holding_at}
-use Rattle.grey_steps.proofs.Marking.{low_thread}
+use Rattle.grey_steps.proofs.GreyRuleKept.{low_thread}
 
 -- the block that a row has found in a payload
 abbrev found_at : ℕ → GreyRow → ℕ

@@ -18,7 +18,7 @@ use Rattle.grey_steps.specs.declared.rows.GreyRow.{GreyRow}
 use Rattle.grey_steps.specs.declared.rows.GreyRow.TheVariants.{Take, Pop, ScanWord, Shade, Blacken, Put, Scanned, NothingGrey, TakeOwn, ShadeStored, PutOwn, Shaded}
 use Rattle.grey_steps.specs.Rows.{GreyState, list_of, row_want, row_got, after_word, after_stored, shaded_hand, grey_want, grey_got, scanning, shading}
 use Rattle.grey_steps.specs.Fits.{RowFits, GreyFits, GreyReads}
-use Rattle.grey_steps.proofs.Marking.{list_low, low_thread}
+use Rattle.grey_steps.proofs.GreyRuleKept.{list_low, low_thread}
 
 pub scan_fits : (c : Config) (p : Pass) → p.threads ≡ c.threads → p.threads ≤ 16 → c.blocks ≤ 65535
     → p.thread < p.threads → GreyFits c (scanning p)

@@ -19,14 +19,14 @@ use Rattle.heap_machine.specs.PhaseKept.{PhaseKept}
 use Rattle.heap_machine.specs.ReuseKept.{ReuseKept}
 use Rattle.heap_machine.specs.Sweeping.{no_claim}
 use Rattle.heap_machine.proofs.GreyBlocks.{scan_is_grey}
-use Rattle.heap_machine.proofs.Phasing.{in_mark, from_mark}
-use Rattle.heap_machine.proofs.Reusing.{reuse_stays, reuse_other, reuse_colour}
+use Rattle.heap_machine.proofs.PhaseRules.{in_mark, from_mark}
+use Rattle.heap_machine.proofs.ReuseRules.{reuse_stays, reuse_other, reuse_colour}
 use Rattle.grey_steps.specs.declared.rows.GreyRow.{GreyRow}
 use Rattle.grey_steps.specs.declared.rows.GreyRow.TheVariants.{Take, Pop, ScanWord, Shade, Blacken, Put, Scanned, NothingGrey, TakeOwn, ShadeStored, PutOwn, Shaded}
 use Rattle.grey_steps.specs.Rows.{GreyState, list_of, row_want, grey_want, grey_got, grey_holding, holding_at}
 use Rattle.grey_steps.specs.Fits.{GreyFits}
 use Rattle.grey_steps.proofs.Together.{keeps_heap}
-use Rattle.grey_steps.proofs.Marking.{low_thread}
+use Rattle.grey_steps.proofs.GreyRuleKept.{low_thread}
 
 -- marking holds nothing of either rule
 none_held : (m : ℕ) (r : GreyRow)

@@ -18,7 +18,7 @@ use Rattle.grey_steps.specs.declared.rows.GreyRow.{GreyRow}
 use Rattle.grey_steps.specs.declared.rows.GreyRow.TheVariants.{Take, Pop, ScanWord, Shade, Blacken, Put, Scanned, NothingGrey, TakeOwn, ShadeStored, PutOwn, Shaded}
 use Rattle.grey_steps.specs.Rows.{GreyState, list_of, row_want, grey_want, grey_holding, holding_at}
 use Rattle.grey_steps.specs.Fits.{GreyFits}
-use Rattle.grey_steps.proofs.Marking.{low_thread}
+use Rattle.grey_steps.proofs.GreyRuleKept.{low_thread}
 
 grey_or_free : (w : ℕ) → is_grey w ≡ true → is_free w ≡ true → ⊥
 grey_or_free w g f = omega (arith, eqb-true (kind w) 3 g, eqb-true (kind w) 0 f)

@@ -9,10 +9,10 @@ use Rattle.heap_machine.specs.HeapKept.{HeapKept}
 use Rattle.heap_machine.specs.Holdings.{Holding, grey_held, tricolour_held}
 use Rattle.heap_machine.specs.Operations.{place_of, heap_after}
 use Rattle.heap_machine.specs.Tricolour.{TricolourHolding, TricolourKept}
-use Rattle.heap_machine.proofs.Keeping.{part_changed}
+use Rattle.heap_machine.proofs.HeapRules.{part_changed}
 use Rattle.grey_steps.specs.Rows.{GreyState, grey_want, grey_got, holding_at}
 use Rattle.grey_steps.specs.Fits.{GreyFits}
-use Rattle.grey_steps.proofs.Marking.{keeps}
+use Rattle.grey_steps.proofs.GreyRuleKept.{keeps}
 use Rattle.grey_steps.proofs.Solids.{keeps_solid}
 use Rattle.grey_steps.proofs.Tricolours.{keeps_tricolour}
 

@@ -20,7 +20,7 @@ use Rattle.grey_steps.specs.Ends.{is_blackening, is_shading, grey_after}
 use Rattle.grey_steps.proofs.Ends.{shade_is_over, scan_is_over}
 use Rattle.grey_steps.specs.Rows.{GreyState, list_of, row_want, row_got, after_word, after_take, after_scan, after_black, after_stored, shaded_hand, grey_want, grey_got, grey_over, grey_holding, holding_at, scanning, shading}
 use Rattle.grey_steps.specs.Fits.{RowFits, GreyFits}
-use Rattle.grey_steps.proofs.Marking.{low_thread}
+use Rattle.grey_steps.proofs.GreyRuleKept.{low_thread}
 
 -- a thread that has dealt with j payloads of x, one that has found z in the next, and one that has
 -- shaded y

@@ -5,13 +5,13 @@ use Rattle.never_heap.specs.declared.Reply.TheVariants.{Stored}
 use Rattle.never_heap.specs.Graphs.{Graph, shared_name, register_of, with_field}
 use Rattle.never_heap.specs.Steps.{step}
 use Rattle.operations.specs.Applications.{moved, acted, said, Tells}
-use Rattle.operations.proofs.Sharing.{Holds}
+use Rattle.operations.proofs.SharedArray.{Holds}
 use Rattle.handle_table.specs.Handles.{Answer}
 use Rattle.handle_table.specs.Handles.{Matched, Found}
 use Rattle.handle_table.specs.Handles.{Slot, is_free, holds, slot_at, answer, slots_after, Row, NewItem, SetNumber, PutNumber, NewBox, PutItem, SetId, PutId, Clean, Claim, Look, Compare, Calm, Release, Fetch, Blank, Withdraw, TellId, TellItem, TellNumber, command_at, decides, ends, is_yes, found_told}
 use Rattle.handle_table.proofs.Places.{Here, InPlace, Shows, id_reply, owed}
 use Rattle.handle_table.proofs.Gets.{tell_number, yes_of, yes_same, done_again, found_again}
-use Rattle.handle_table.proofs.Moving.{thread, inside, was, place}
+use Rattle.handle_table.proofs.RowMoves.{thread, inside, was, place}
 use Rattle.handle_table.proofs.Rows.{new_item, set_number, put_number, new_box, put_item, set_id, put_id, clean, look, fetch, compare, calm, blank, withdraw, tell_id_row, tell_item_row, tell_number_row, claim_step, claim, release_step, release, compare_step}
 
 -- any row keeps the invariant

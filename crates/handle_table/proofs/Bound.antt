@@ -12,8 +12,8 @@ use Rattle.never_heap.specs.declared.Reply.{Reply}
 use Rattle.never_heap.specs.Graphs.{Graph, Object, shared_name, register_of, object_of, field_of}
 use Rattle.never_heap.specs.LiveBlocks.{live_blocks, object_blocks, blocks_of_kind}
 use Rattle.operations.proofs.Among.{refs, thread_of}
-use Rattle.operations.proofs.Holding.{IsPlain, no_ref, Carries, IsIn, few as few_of}
-use Rattle.operations.proofs.Sharing.{HoldsBy, Thread}
+use Rattle.operations.proofs.LiveBound.{IsPlain, no_ref, Carries, IsIn, few as few_of}
+use Rattle.operations.proofs.SharedArray.{HoldsBy, Thread}
 use Rattle.handle_table.specs.Handles.{Answer}
 use Rattle.handle_table.specs.Handles.{Slot, id, Row, NewItem, SetNumber, PutNumber, NewBox, PutItem, SetId, PutId, Clean, Claim, Look, Compare, Calm, Release, Fetch, Blank, Withdraw, TellId, TellItem, TellNumber}
 use Rattle.handle_table.proofs.Places.{Here, InPlace, item_name, box_name, item_object, box_object, Shows, IsSmall, IsLoose, HoldsHandle, At, owed, IsIdle}

@@ -10,7 +10,7 @@ use Rattle.never_heap.specs.declared.Reply.TheVariants.{Val, Null, Kind, Yes, No
 use Rattle.never_heap.specs.Graphs.{Graph, Object, shared_name, mutator_at, register_of, object_of, field_of, with_register, with_field}
 use Rattle.never_heap.specs.Steps.{step, at_field, same_value}
 use Rattle.operations.proofs.Effects.{Effect, nothing, stores, at_field_is}
-use Rattle.operations.proofs.Holding.{IsPlain}
+use Rattle.operations.proofs.LiveBound.{IsPlain}
 use Rattle.handle_table.specs.Handles.{Matched, Found}
 use Rattle.handle_table.specs.Handles.{Slot, id, holds, shown, is_free, is_yes, last_of, done_told, found_by, found_behind, found_told}
 use Rattle.handle_table.proofs.Places.{item_name, box_name, item_object, box_object, Shows, IsSmall, id_reply, HasItem}

@@ -13,7 +13,7 @@ use Rattle.operations.specs.Linearizations.{traces_of}
 use Rattle.handle_table.specs.declared.operation.Operation.{Operation}
 use Rattle.handle_table.specs.declared.operation.Operation.TheVariants as said
 use Rattle.handle_table.specs.Handles.{Deed, rows_of, command_at, deeds_of, all_deeds, commands_from, AreInTurn, IsScriptInRange, handle_config}
-use Rattle.handle_table.proofs.Numbering.{commands_are, deeds_count}
+use Rattle.handle_table.proofs.NumberedDeeds.{commands_are, deeds_count}
 
 module _ (n slots blocks t : ℕ) (few_slots : slots ≤ 512) (few_threads : t < 16) where
   abbrev Fit : List Command → Type 0

@@ -7,8 +7,8 @@ use Rattle.never_heap.specs.declared.Reply.{Reply}
 use Rattle.never_heap.specs.declared.Reply.TheVariants.{Val, Null}
 use Rattle.never_heap.specs.Graphs.{Object, Record}
 use Rattle.operations.specs.Applications.{Progress}
-use Rattle.operations.proofs.Holding.{IsPlain}
-use Rattle.operations.proofs.Sharing.{Frame, IsMade, Layout}
+use Rattle.operations.proofs.LiveBound.{IsPlain}
+use Rattle.operations.proofs.SharedArray.{Frame, IsMade, Layout}
 use Rattle.handle_table.specs.Handles.{Answer}
 use Rattle.handle_table.specs.Handles.{Matched, Found}
 use Rattle.handle_table.specs.Handles.{Slot, id, holds, shown, last_after, Row, NewItem, SetNumber, PutNumber, NewBox, PutItem, SetId, PutId, Clean, Claim, Look, Compare, Calm, Release, Fetch, Blank, Withdraw, TellId, TellItem, TellNumber}

@@ -10,17 +10,17 @@ use Rattle.never_heap.specs.declared.Reply.{Reply}
 use Rattle.never_heap.specs.declared.Reply.TheVariants.{Val, Stored, Yes, No}
 use Rattle.never_heap.specs.Graphs.{Graph, Object, Record, nil_object, shared_name, next_name, register_of, object_of, field_of, set_field, with_register, with_field}
 use Rattle.never_heap.specs.Steps.{step, made, same_value}
-use Rattle.never_heap.proofs.Stepping.{has_field}
+use Rattle.never_heap.proofs.StepChanges.{has_field}
 use Rattle.operations.specs.Applications.{moved, acted}
 use Rattle.operations.proofs.Effects.{Effect, nothing, stores, puts, makes, swaps, at_field_is}
-use Rattle.operations.proofs.Holding.{IsPlain}
-use Rattle.operations.proofs.Sharing.{Frame, HoldsBy, Holds, out_after, out_same, stores_there, finishes}
+use Rattle.operations.proofs.LiveBound.{IsPlain}
+use Rattle.operations.proofs.SharedArray.{Frame, HoldsBy, Holds, out_after, out_same, stores_there, finishes}
 use Rattle.handle_table.specs.Handles.{Answer}
 use Rattle.handle_table.specs.Handles.{Matched, Found}
 use Rattle.handle_table.specs.Handles.{Slot, id, is_free, holds, shown, slot_at, answer, slots_after, Row, NewItem, SetNumber, PutNumber, NewBox, PutItem, SetId, PutId, Clean, Claim, Look, Compare, Calm, Release, Fetch, Blank, Withdraw, TellId, TellItem, TellNumber, command_at, decides, ends, last_after}
 use Rattle.handle_table.proofs.Places.{Here, InPlace, layout, item_name, box_name, item_object, box_object, IsBox, Shows, IsSmall, IsLoose, HoldsHandle, HasItem, At, owed, IsIdle, shows_move, small_move, loose_move, handle_move}
 use Rattle.handle_table.proofs.Gets.{tell_id, tell_item, tell_number, same_handle, same_nil, cas_is}
-use Rattle.handle_table.proofs.Moving.{second_on, third_on, handle_on, rest_at, first_owes, at_rows, owes_of, idle_of, shared_apart, box_apart, shows_loose, small_of_plain, there, thread, inside, room, was, place, proper, owes, handle, quietly, frame_of, filling, far_on}
+use Rattle.handle_table.proofs.RowMoves.{second_on, third_on, handle_on, rest_at, first_owes, at_rows, owes_of, idle_of, shared_apart, box_apart, shows_loose, small_of_plain, there, thread, inside, room, was, place, proper, owes, handle, quietly, frame_of, filling, far_on}
 
 module _ (n slots : ℕ) (g : Graph) (at new : ℕ → Here) (table : List Slot) (out : ℕ → ℕ)
     (h : HoldsBy Shows (InPlace slots) owed None n slots g at table out) (t : ℕ)

@@ -10,7 +10,7 @@ use Rattle.heap_machine.specs.Chains.{Chain}
 use Rattle.block_store.specs.Counts.{changed, times, total}
 use Rattle.heap_machine.specs.FreeBlocks.{FreeHolding, FreeOf, FreeKept, is_of_free}
 use Rattle.heap_machine.specs.Operations.{Operation, Load, Exchange, CompareExchange, FetchAdd, FetchSub, place_of, heap_after}
-use Rattle.heap_machine.proofs.Chaining.{Chain-zero, Chain-step, Chain-outside, Chain-front}
+use Rattle.heap_machine.proofs.ChainLaws.{Chain-zero, Chain-step, Chain-outside, Chain-front}
 use Rattle.heap_machine.proofs.GreyBlocks.{first_stands}
 use Rattle.block_store.proofs.Functions.{changed_both, total_changed, total_part, total_parts, total_same, total_bits, bit_one, bit_le}
 

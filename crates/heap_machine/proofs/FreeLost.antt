@@ -8,7 +8,7 @@ use Rattle.block_store.specs.Places.{Extent, FreeList, ColourOf, is_block}
 use Rattle.heap_machine.specs.Chains.{Chain}
 use Rattle.block_store.specs.Counts.{changed, times}
 use Rattle.heap_machine.specs.FreeBlocks.{FreeHolding, FreeKept}
-use Rattle.heap_machine.proofs.Chaining.{Chain-zero, Chain-one}
+use Rattle.heap_machine.proofs.ChainLaws.{Chain-zero, Chain-one}
 use Rattle.heap_machine.proofs.FreeBlocks.{colours, free_first}
 use Rattle.block_store.proofs.Functions.{total_none, total_part, total_parts, bit_le}
 use Rattle.heap_machine.proofs.GreyBlocks.{first_stands}

@@ -21,7 +21,7 @@ use Rattle.heap_machine.specs.declared.gate.GateRow.{GateRow}
 use Rattle.heap_machine.specs.declared.gate.GateRow.TheVariants.{Look, Enter, Entered, Leave, Left, CloseLook, Close, CheckList, SetCursor, Flip, Reopen, ShadeRoot, PutRoots, Start, TurnedOver, StartedCycle, KeptOut}
 use Rattle.heap_machine.specs.declared.pass.Pass.{Pass}
 use Rattle.heap_machine.proofs.Gatings.{open_parts, closed_phase}
-use Rattle.heap_machine.proofs.Reusing.{reuse_phase, reuse_turns, reuse_cursor, reuse_colour, reuse_other}
+use Rattle.heap_machine.proofs.ReuseRules.{reuse_phase, reuse_turns, reuse_cursor, reuse_colour, reuse_other}
 
 -- the word of an empty gate counts nobody
 nobody : (w : ℕ) → is_empty w ≡ true → inside_of w ≡ 0

@@ -9,7 +9,7 @@ use Rattle.heap_machine.specs.Chains.{Chain}
 use Rattle.block_store.specs.Counts.{changed, times, total}
 use Rattle.heap_machine.specs.Grey.{GreyHolding, GreyKept, Stands, is_of_grey}
 use Rattle.heap_machine.specs.Operations.{Operation, Load, Exchange, CompareExchange, FetchAdd, FetchSub, place_of, heap_after}
-use Rattle.heap_machine.proofs.Chaining.{Chain-zero, Chain-step, Chain-outside}
+use Rattle.heap_machine.proofs.ChainLaws.{Chain-zero, Chain-step, Chain-outside}
 use Rattle.block_store.proofs.Functions.{changed_both, total_changed, total_part, total_parts, total_none, bit_one, bit_zero, bit_le}
 
 pub Stands-outside : (c : ℕ → ℕ) (y v : ℕ) (o : Option ℕ) (a : ℕ) (xs : List ℕ) → times y xs ≡ 0 → Stands c o a xs → Stands (λ x. cond (eqb y x) v (c x)) o a xs

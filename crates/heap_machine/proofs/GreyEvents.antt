@@ -9,7 +9,7 @@ use Rattle.block_store.specs.Phases.{bit}
 use Rattle.heap_machine.specs.Chains.{Chain}
 use Rattle.block_store.specs.Counts.{changed, times, total}
 use Rattle.heap_machine.specs.Grey.{GreyHolding, no_grey, GreyKept, Stands}
-use Rattle.heap_machine.proofs.Chaining.{Chain-zero, Chain-step, Chain-outside, Chain-front}
+use Rattle.heap_machine.proofs.ChainLaws.{Chain-zero, Chain-step, Chain-outside, Chain-front}
 use Rattle.block_store.proofs.Functions.{total_part, bit_le}
 use Rattle.heap_machine.proofs.GreyBlocks.{Stands-scan, none_stands, colours, kept_held, kept_list, kept_colour}
 

@@ -6,7 +6,7 @@ use Rattle.block_store.specs.Heaps.{Heap, put_at}
 use Rattle.heap_machine.specs.Chains.{Chain}
 use Rattle.block_store.specs.Counts.{changed, times}
 use Rattle.heap_machine.specs.Grey.{GreyHolding, no_grey, GreyKept, Stands}
-use Rattle.heap_machine.proofs.Chaining.{Chain-zero, Chain-one}
+use Rattle.heap_machine.proofs.ChainLaws.{Chain-zero, Chain-one}
 use Rattle.block_store.proofs.Functions.{total_none}
 use Rattle.heap_machine.proofs.GreyBlocks.{Stands-scan, colours, stands_once, one_list, list_or_hand, first_is_grey, first_stands}
 

@@ -1,4 +1,4 @@
-pub mod Chaining
+pub mod ChainLaws
 pub mod HeapAfter
 pub mod GateRows
 pub mod Gatings
@@ -9,14 +9,14 @@ pub mod GreyLost
 pub mod Held
 pub mod Tricolours
 pub mod Solids
-pub mod Keeping
+pub mod HeapRules
 pub mod FreeBlocks
-pub mod Sweeping
-pub mod Reusing
+pub mod SweepRule
+pub mod ReuseRules
 pub mod GateReuse
 pub mod TurningRules
 pub mod TurningKnown
-pub mod Starting
-pub mod Opening
+pub mod RootsBeforeStart
+pub mod OpeningFreeList
 pub mod FreeLost
-pub mod Phasing
+pub mod PhaseRules

@@ -30,9 +30,9 @@ use Rattle.heap_machine.proofs.GateReuse.{enter_keeps, leave_keeps}
 use Rattle.heap_machine.proofs.Gatings.{closed_phase, open_parts}
 use Rattle.heap_machine.proofs.GreyBlocks.{colours, first_is_grey, kept_held, kept_other}
 use Rattle.heap_machine.proofs.GreyEvents.{shades, puts}
-use Rattle.heap_machine.proofs.Keeping.{part_changed}
-use Rattle.heap_machine.proofs.Phasing.{from_mark, from_sweep, phase_stays, phase_flips}
-use Rattle.heap_machine.proofs.Reusing.{reuse_stays, reuse_other, reuse_colour, reuse_turns, reuse_cursor}
+use Rattle.heap_machine.proofs.HeapRules.{part_changed}
+use Rattle.heap_machine.proofs.PhaseRules.{from_mark, from_sweep, phase_stays, phase_flips}
+use Rattle.heap_machine.proofs.ReuseRules.{reuse_stays, reuse_other, reuse_colour, reuse_turns, reuse_cursor}
 use Rattle.heap_machine.proofs.Solids.{solid_other}
 use Rattle.heap_machine.proofs.Tricolours.{begins, tricolour_other}
 use Rattle.heap_machine.proofs.Turnovers.{closing_pass, empty_gate, of_pass}

@@ -11,7 +11,7 @@ use Rattle.block_store.proofs.PhaseWords.{inside-code, sweep-code, closed-code, 
 use Rattle.never_heap.specs.declared.Command.{Command}
 use Rattle.never_heap.specs.Graphs.{start_graph}
 use Rattle.never_heap.specs.Histories.{Started, replay}
-use Rattle.never_heap.proofs.Starting.{count_of_start}
+use Rattle.never_heap.proofs.StartGraph.{count_of_start}
 use Rattle.heap_machine.specs.Gating.{Gating, is_outside, is_inside, is_closing}
 use Rattle.heap_machine.specs.Holdings.{holds_nothing}
 use Rattle.kept_names.specs.Pictures.{no_task}
@@ -30,10 +30,10 @@ use Rattle.heap_system.proofs.Grounds.{opening_held}
 use Rattle.heap_system.proofs.Kept.{LocalKept, Kept}
 use Rattle.heap_system.proofs.Openings.{opening_rules, opening_names_kept}
 use Rattle.heap_system.proofs.PartLaws.{PartLaws}
-use Rattle.heap_system.proofs.Paying.{each_at}
-use Rattle.heap_system.proofs.Seeing.{lead}
-use Rattle.heap_system.proofs.Starting.{length_starts}
-use Rattle.heap_system.proofs.Turning.{next_kept}
+use Rattle.heap_system.proofs.OwedAndPaid.{each_at}
+use Rattle.heap_system.proofs.SeenAndKept.{lead}
+use Rattle.heap_system.proofs.SystemStart.{length_starts}
+use Rattle.heap_system.proofs.KeptByTurns.{next_kept}
 
 starts_at : (c : Config) (rate : ℕ) (space : ℕ → ℕ) (t i : ℕ) (traces : List (List Command)) (d : LocalState) → i < length traces → get_or (starts_from c rate space t traces) i d ≡ at_start c rate (space (t + i)) (t + i) (get_or traces i [])
 starts_at c rate space t i [] d low = absurd (omega arith)

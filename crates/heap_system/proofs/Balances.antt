@@ -10,7 +10,7 @@ use Rattle.work_account.proofs.Balances.{entered_sound, unit_sound, idle_sound, 
 use Rattle.cycle_tally.proofs.Sums.{paid_entered}
 use Rattle.heap_system.specs.Parts.{Part, Serve, Build}
 use Rattle.heap_system.specs.Locals.{balance_in, balance_made, balance_on, balance_over, balance_paid, spent_got, paid_part, idle_part, effect, IsAllMade}
-use Rattle.heap_system.proofs.Seeing.{IsSettled}
+use Rattle.heap_system.proofs.SeenAndKept.{IsSettled}
 
 -- what is paid after it
 made_paid : (told spent : ℕ) (b : Balance) → b.paid ≡ paid_part told spent

@@ -35,7 +35,7 @@ use Rattle.array_trees.proofs.Arrays.{tree_layout}
 use Rattle.array_trees.proofs.Counts.{few_shared, many}
 use Rattle.array_trees.proofs.RegisterArrays.{array_of}
 use Rattle.never_heap.specs.Graphs.{start_graph, shared_name, register_of}
-use Rattle.never_heap.proofs.Starting.{register_of_start}
+use Rattle.never_heap.proofs.StartGraph.{register_of_start}
 use Rattle.shown_graph.specs.Words.{part_word, value_word}
 use Rattle.shown_graph.specs.Openings.{register_word, shared_word}
 use Rattle.array_trees.specs.Openings.{opening_blocks}

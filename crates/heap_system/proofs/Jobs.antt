@@ -10,7 +10,7 @@ use Rattle.never_heap.specs.declared.Command.{Command}
 use Rattle.never_heap.specs.Bounds.{IsCommandInBounds}
 use Rattle.never_heap.specs.Jobs.{IsTraceInBounds}
 use Rattle.heap_system.specs.Machines.{IsJob}
-use Rattle.heap_system.proofs.Lived.{job_of_text}
+use Rattle.heap_system.proofs.TextLives.{job_of_text}
 
 -- two threads with a small shared array
 abbrev pub config : Width → Config

@@ -20,7 +20,7 @@ use Rattle.heap_system.specs.Machines.{Run, local_at, heap_in}
 use Rattle.heap_system.specs.Pictures.{holding, entries_waiting, gates_in, holdings_in, kept_state}
 use Rattle.heap_system.specs.Systems.{logs_of, units_of}
 use Rattle.heap_system.specs.Units.{IsRight}
-use Rattle.heap_system.proofs.Seeing.{stage, stage_of, PartKept, Knows, IsSettled, lead}
+use Rattle.heap_system.proofs.SeenAndKept.{stage, stage_of, PartKept, Knows, IsSettled, lead}
 
 -- thread t, where the order led to graph g, on this heap and with these names
 pub record LocalKept (c : Config) (given : List Command) (g : Graph) (order : List HistoryItem) (h : Heap) (ns : Names) (t : ℕ) (l : LocalState) : Type 0 where

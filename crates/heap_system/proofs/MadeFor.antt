@@ -12,9 +12,9 @@ use Rattle.heap_system.specs.Machines.{Run, IsJob, IsRunOf, local_at, word_read,
 use Rattle.heap_system.specs.Units.{is_unit, is_unit_for, units_made_for, AreMadeFor}
 use Rattle.heap_system.proofs.Kept.{Kept}
 use Rattle.heap_system.proofs.LawsOf.{laws_of}
-use Rattle.heap_system.proofs.Making.{idle_next, cond_no, cond_yes}
-use Rattle.heap_system.proofs.Sharing.{reply_no_unit}
-use Rattle.heap_system.proofs.Turning.{local_new, paid_new, word_is, word_here, new_run, next_is}
+use Rattle.heap_system.proofs.UnitsOfTurns.{idle_next, cond_no, cond_yes}
+use Rattle.heap_system.proofs.CycleShares.{reply_no_unit}
+use Rattle.heap_system.proofs.KeptByTurns.{local_new, paid_new, word_is, word_here, new_run, next_is}
 use Rattle.heap_system.proofs.Always.{here, opening_kept, turn_kept}
 
 -- the work of entry k, what is paid behind the last entry, and nothing from there on

@@ -21,7 +21,7 @@ use Rattle.never_heap.specs.Histories.{Started}
 use Rattle.shown_graph.specs.Events.{opening_state}
 use Rattle.shown_graph.specs.Openings.{opening_at, opening_words}
 use Rattle.shown_graph.specs.Words.{BlockWords, block_words, Agrees}
-use Rattle.shown_graph.proofs.Opening.{opening_shows}
+use Rattle.shown_graph.proofs.OpeningWords.{opening_shows}
 use Rattle.shown_graph.proofs.Stores.{words_change}
 use Rattle.heap_machine.specs.FreeBlocks.{FreeKept}
 use Rattle.heap_machine.specs.Holdings.{Holding, holds_nothing, grey_held, free_held, sweep_held, tricolour_held}
@@ -29,13 +29,13 @@ use Rattle.heap_machine.specs.PhaseKept.{PhaseKept}
 use Rattle.heap_machine.specs.Sweeping.{SweepKept, no_claim, has_claimed}
 use Rattle.heap_machine.specs.Solid.{SolidKept}
 use Rattle.heap_machine.specs.Tricolour.{TricolourKept}
-use Rattle.heap_machine.proofs.Opening.{free_opens}
+use Rattle.heap_machine.proofs.OpeningFreeList.{free_opens}
 use Rattle.kept_names.specs.Colouring.{NotRoot}
 use Rattle.kept_names.specs.Kept.{IsKept}
 use Rattle.kept_names.specs.Openings.{OpeningColours, opening_kept}
 use Rattle.kept_names.specs.Pictures.{Task, no_task, picture}
 use Rattle.kept_names.proofs.Colours.{differ}
-use Rattle.kept_names.proofs.Opening.{opening_is_kept}
+use Rattle.kept_names.proofs.OpeningKept.{opening_is_kept}
 use Rattle.heap_system.specs.Naming.{opening_names}
 use Rattle.heap_system.specs.Openings.{is_root, opening_colour, opening_heap}
 use Rattle.heap_system.proofs.Grounds.{is_of_thread, is_the_root, block_in, payload_is, opening_taken, opening_grey}

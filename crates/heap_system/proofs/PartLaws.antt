@@ -19,7 +19,7 @@ use Rattle.heap_system.specs.Locals.{view, task, effect, part_want, part_got, sp
 use Rattle.heap_system.specs.Naming.{Same}
 use Rattle.heap_system.specs.Pictures.{gating, stand_of, holding, waiting}
 use Rattle.heap_system.specs.Units.{blackens, passes}
-use Rattle.heap_system.proofs.Seeing.{stage, stage_of, PartKept, Knows, IsSettled, Forward, Seen, errand, EventKept}
+use Rattle.heap_system.proofs.SeenAndKept.{stage, stage_of, PartKept, Knows, IsSettled, Forward, Seen, errand, EventKept}
 
 -- the thread whose turn it is stands at part p
 pub record AtPart (c : Config) (s : Seen c) (p : Part) : Type 0 where

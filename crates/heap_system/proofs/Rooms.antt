@@ -33,7 +33,7 @@ use Rattle.heap_system.specs.Systems.{logs_of}
 use Rattle.kept_names.specs.Pictures.{Names}
 use Rattle.never_heap.specs.Histories.{HistoryItem, Started, replay}
 use Rattle.heap_system.specs.Rooms.{part_without_room, without_room, threads_without_room}
-use Rattle.heap_system.proofs.Starting.{one_rate}
+use Rattle.heap_system.proofs.SystemStart.{one_rate}
 
 -- ---- the place that an index has
 

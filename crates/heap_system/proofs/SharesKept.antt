@@ -10,7 +10,7 @@ use Rattle.never_heap.specs.declared.Command.{Command}
 use Rattle.never_heap.specs.Histories.{HistoryItem, Started, part, replay, starts_in}
 use Rattle.never_heap.specs.RightWork.{units_told}
 use Rattle.never_heap.specs.Steps.{blocks_of}
-use Rattle.never_heap.proofs.Growing.{part_append}
+use Rattle.never_heap.proofs.HistoryGrowth.{part_append}
 use Rattle.work_account.specs.Accounts.{Balance}
 use Rattle.heap_machine.specs.Gating.{is_inside}
 use Rattle.heap_system.specs.Locals.{LocalState, Effect, Verdict, command_of, is_done, effect, makes_unit, spent_got, balance_in, balance_got, entries_of}
@@ -20,15 +20,15 @@ use Rattle.heap_system.specs.Pictures.{stand_of, waiting}
 use Rattle.heap_system.specs.Shares.{is_unit_in, blocks_given}
 use Rattle.heap_system.specs.Units.{is_unit, turns_that}
 use Rattle.heap_system.proofs.Always.{here, opening_kept, turn_kept}
-use Rattle.heap_system.proofs.Growing.{part_starts, entries_told, entries_away}
+use Rattle.heap_system.proofs.OrderGrowth.{part_starts, entries_told, entries_away}
 use Rattle.heap_system.proofs.Kept.{Kept}
 use Rattle.heap_system.proofs.LawsOf.{laws_of}
-use Rattle.heap_system.proofs.Making.{idle_next, cond_no, cond_yes}
-use Rattle.heap_system.proofs.Seeing.{told_by}
-use Rattle.heap_system.proofs.Sharing.{IsShare, given_since, share_same, share_more, units_went_in, given_went_in, cycle_stays, units_grow, given_grows, unit_inside, reply_inside, reply_no_unit, inside_is_in, reply_gives, given_append, waiting_gives_none, since_more, since_late, since_same, entries_start_none}
-use Rattle.heap_system.proofs.Tallied.{RunTallied, opening_tallied, turn_tallied}
+use Rattle.heap_system.proofs.UnitsOfTurns.{idle_next, cond_no, cond_yes}
+use Rattle.heap_system.proofs.SeenAndKept.{told_by}
+use Rattle.heap_system.proofs.CycleShares.{IsShare, given_since, share_same, share_more, units_went_in, given_went_in, cycle_stays, units_grow, given_grows, unit_inside, reply_inside, reply_no_unit, inside_is_in, reply_gives, given_append, waiting_gives_none, since_more, since_late, since_same, entries_start_none}
+use Rattle.heap_system.proofs.RunTally.{RunTallied, opening_tallied, turn_tallied}
 use Rattle.heap_system.proofs.TalliesOf.{tallies_of}
-use Rattle.heap_system.proofs.Turning.{word_is, word_here, new_run, new_part, new_pass, new_graph, next_is, event, local_new}
+use Rattle.heap_system.proofs.KeptByTurns.{word_is, word_here, new_run, new_part, new_pass, new_graph, next_is, event, local_new}
 
 -- thread t of a run, where f tells how many units it made in each cycle
 pub record Shares (c : Config) (r : Run) (t : ℕ) (f : ℕ → ℕ) : Type 0 where

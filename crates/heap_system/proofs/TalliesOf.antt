@@ -1,10 +1,10 @@
 -- How each part moves a tally: one line a part.
 use Rattle.block_store.specs.declared.Config.{Config}
 use Rattle.heap_system.specs.Parts.{Part, Rest, Enter, Serve, Mark, Sweep, Build, Again, Idle, TurnOver, Leave}
-use Rattle.heap_system.proofs.Tallying.{TallyLaw}
+use Rattle.heap_system.proofs.TallyLaw.{TallyLaw}
 use Rattle.heap_system.proofs.tallies.Build.{build_tallied}
-use Rattle.heap_system.proofs.tallies.Entering.{rest_tallied, enter_tallied}
-use Rattle.heap_system.proofs.tallies.Going.{again_tallied, idle_tallied, leave_tallied}
+use Rattle.heap_system.proofs.tallies.Enter.{rest_tallied, enter_tallied}
+use Rattle.heap_system.proofs.tallies.Leave.{again_tallied, idle_tallied, leave_tallied}
 use Rattle.heap_system.proofs.tallies.Mark.{mark_tallied}
 use Rattle.heap_system.proofs.tallies.Serve.{serve_tallied}
 use Rattle.heap_system.proofs.tallies.Sweep.{sweep_tallied}

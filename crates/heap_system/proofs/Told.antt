@@ -8,7 +8,7 @@ use Rattle.never_heap.specs.declared.Command.TheVariants as commands
 use Rattle.never_heap.specs.declared.Reply.{Reply}
 use Rattle.never_heap.specs.Histories.{replay, part}
 use Rattle.never_heap.specs.Steps.{blocks_of}
-use Rattle.never_heap.proofs.Answering.{owes_told}
+use Rattle.never_heap.proofs.StepAnswers.{owes_told}
 use Rattle.build_steps.proofs.Parts.{has_blocks}
 use Rattle.rate_plan.specs.Rates.{IsRate}
 use Rattle.heap_machine.specs.Holdings.{holds_nothing}
@@ -20,16 +20,16 @@ use Rattle.heap_system.specs.Parts.{Part, Rest, Serve, Build, Leave}
 use Rattle.never_heap.specs.RightWork.{units_told, units_owed}
 use Rattle.barrier_steps.specs.Operands.{is_idle}
 use Rattle.heap_system.proofs.Balances.{none_spent, all_paid}
-use Rattle.heap_system.proofs.Paying.{price_paid}
-use Rattle.heap_system.proofs.Looking.{decided_untold}
+use Rattle.heap_system.proofs.OwedAndPaid.{price_paid}
+use Rattle.heap_system.proofs.IdleLook.{decided_untold}
 use Rattle.heap_system.specs.Locals.{PartFits, task, is_rest, command_of, owed, paid_part, entry_of, entries_of}
 use Rattle.heap_system.specs.Machines.{Run, local_at}
 use Rattle.heap_system.specs.Units.{IsRight}
 use Rattle.heap_system.specs.Pictures.{holding, waiting}
 use Rattle.heap_system.proofs.Kept.{Kept}
-use Rattle.heap_system.proofs.Reached.{rest_is}
-use Rattle.heap_system.proofs.Seeing.{PartKept, RowKept, BuildKept, IsSettled}
-use Rattle.heap_system.proofs.Starting.{one_rate}
+use Rattle.heap_system.proofs.TurnFacts.{rest_is}
+use Rattle.heap_system.proofs.SeenAndKept.{PartKept, RowKept, BuildKept, IsSettled}
+use Rattle.heap_system.proofs.SystemStart.{one_rate}
 
 -- what is paid for a command of which so many units are made: all of them, but for an idle
 paid_but_idle : (w : Width) (rate : ℕ) (k : Command) (spent paid : ℕ) → paid ≡ paid_part (units_told k) spent

@@ -10,7 +10,7 @@ use Rattle.grey_steps.proofs.Ends.{unit_after, unit_once}
 use Rattle.sweep_steps.specs.Ends.{row_passes, sweep_outcome}
 use Rattle.sweep_steps.specs.Fits.{SweepFits}
 use Rattle.sweep_steps.specs.Rows.{SweepState, sweep_got, sweep_passed, sweep_over, sweep_nothing}
-use Rattle.sweep_steps.proofs.Passing.{passed_bits, passed_few}
+use Rattle.sweep_steps.proofs.PassedBlocks.{passed_bits, passed_few}
 use Rattle.work_account.specs.Accounts.{AccountState}
 use Rattle.heap_system.specs.declared.local.Local.TheInside.{Inside}
 use Rattle.heap_system.specs.Parts.{part_at, Part, Mark, Sweep, Again, Idle, TurnOver}
@@ -26,7 +26,7 @@ use Rattle.never_heap.specs.RightWork.{units_told}
 use Rattle.never_heap.specs.Steps.{blocks_of}
 use Rattle.heap_system.specs.Locals.{LocalState, told_behind, IsLocal, PartFits, IsRoomy, IsAllMade, IsPassAt, balance_on, spent_got, command_of, owed, unit_to_come, works, is_last, local_got}
 use Rattle.heap_system.proofs.Balances.{paid_after, part_low, units_on, sound_on}
-use Rattle.heap_system.proofs.Paying.{part_of, view_of, price_low, paid_low, worked_low, swept_last}
+use Rattle.heap_system.proofs.OwedAndPaid.{part_of, view_of, price_low, paid_low, worked_low, swept_last}
 use Rattle.heap_system.proofs.parts.InPass.{paid_more}
 
 -- what the command in hand is told to make, read off the trace behind the log

@@ -8,5 +8,5 @@ pub mod Build
 pub mod Again
 pub mod Idle
 pub mod Leave
-pub mod Closing
+pub mod ClosedGate
 pub mod TurnOver

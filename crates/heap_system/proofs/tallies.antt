@@ -1,6 +1,6 @@
 pub mod Moves
-pub mod Entering
-pub mod Going
+pub mod Enter
+pub mod Leave
 pub mod Mark
 pub mod Sweep
 pub mod Build

@@ -346,7 +346,7 @@ impl Local {
     /// The operation of the thread's next event, on one of the heap's words. The thread is not
     /// done.
     #[inline(always)]
-    #[tactic(auto, using(crate::proofs::Paying::going_at, crate::proofs::Wanted::want_low))]
+    #[tactic(auto, using(crate::proofs::OwedAndPaid::going_at, crate::proofs::WantedPlaces::want_low))]
     pub fn want(&self) -> Op
         requires { is_done self.now ≡ false }
         ensures wants { result ≡ op_at (extent self.now.config)
@@ -375,7 +375,7 @@ impl Local {
     /// That the place of the thread's next event is one of the heap's words, as the memory of an
     /// `event` may ask. It does nothing.
     #[inline(always)]
-    #[tactic(auto, using(crate::proofs::Wanted::want_low))]
+    #[tactic(auto, using(crate::proofs::WantedPlaces::want_low))]
     pub fn wants_a_word(&self)
         ensures { op_place (op_wanted self.now) < words_count (extent self.now.config) }
     {
@@ -411,7 +411,7 @@ impl Local {
 
     // `event`, of a part outside.
     #[inline(always)]
-    #[tactic(auto, using(crate::proofs::Paying::turns_on, crate::proofs::Paying::going_at))]
+    #[tactic(auto, using(crate::proofs::OwedAndPaid::turns_on, crate::proofs::OwedAndPaid::going_at))]
     fn at_gate<M: Memory>(&mut self, memory: &mut M, shared: &M::Shared) -> Turn
         requires part { is_at_gate self.old.part ≡ true }
         requires open { is_done self.old ≡ false }
@@ -560,7 +560,7 @@ impl Local {
 
     // `event`, of a part that sweeps.
     #[inline(always)]
-    #[tactic(auto, using(crate::proofs::Paying::swept_last))]
+    #[tactic(auto, using(crate::proofs::OwedAndPaid::swept_last))]
     fn sweeps<M: Memory>(&mut self, memory: &mut M, shared: &M::Shared) -> Turn
         requires part { is_sweeping self.old.part ≡ true }
         requires may { M.may memory.old shared.now (op_wanted self.old) }

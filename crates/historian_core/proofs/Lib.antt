@@ -1,8 +1,8 @@
 pub mod Small
 pub mod Lives
 pub mod Moves
-pub mod Standing
+pub mod AlarmCounts
 pub mod Rings
 pub mod Takes
 pub mod TextLaws
-pub mod Reported
+pub mod ReportSoFar

@@ -12,7 +12,7 @@ use Rattle.never_heap.specs.declared.Reply.TheVariants as replies
 use Rattle.never_heap.specs.Graphs.{Graph, Object, Record, no_object, set_field, field_of, object_of, with_field, nils, start_graph}
 use Rattle.never_heap.specs.Steps.{step}
 use Rattle.control_heap.specs.Controls.{Control, asked, units}
-use Rattle.operations.proofs.Holding as holding
+use Rattle.operations.proofs.LiveBound as holding
 use Rattle.asked_graph.specs.Shown.{IsSmall, AllAreSmall, AllFollow, Shows, graph_behind, last_reply}
 use Rattle.asked_graph.specs.Asked.{HasUsed}
 use Rattle.historian_core.specs.declared.Limits.{Limits}

@@ -9,7 +9,7 @@ use Rattle.never_heap.specs.Graphs.{nils}
 use Rattle.historian_core.specs.declared.Limits.{Limits}
 use Rattle.historian_core.specs.Kept.{IsHeld, IsRing, name_at, listed, references, ref_count}
 use Rattle.historian_core.specs.Windows.{mark, alarms_in, last_ones}
-use Rattle.historian_core.proofs.Standing.{set_before, set_within, counts_listed, alarms_more}
+use Rattle.historian_core.proofs.AlarmCounts.{set_before, set_within, counts_listed, alarms_more}
 
 nil_at : (i : ℕ) → slice_index_or (nils 80) i Nil ≡ Nil
 nil_at i = elim (cases_lt i 80) [

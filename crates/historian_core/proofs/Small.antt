@@ -10,8 +10,8 @@ use Rattle.array_trees.specs.Trees.{array_blocks, tree}
 use Rattle.never_heap.specs.Graphs.{Graph, Object, no_object, no_mutator, object_at, shared_name, register_of, object_of, field_of, nils}
 use Rattle.never_heap.specs.LiveBlocks.{object_blocks}
 use Rattle.operations.proofs.Among.{refs_weigh, thread_of}
-use Rattle.operations.proofs.Holding as holding
-use Rattle.operations.proofs.Holding.{no_ref, Carries, IsIn, few as few_of}
+use Rattle.operations.proofs.LiveBound as holding
+use Rattle.operations.proofs.LiveBound.{no_ref, Carries, IsIn, few as few_of}
 use Rattle.asked_graph.specs.Shown.{IsSmall}
 use Rattle.historian_core.specs.Kept.{heap_config, IsPlain, IsHeld, kept_graph}
 

@@ -25,11 +25,11 @@ use Rattle.kept_names.specs.Events.{apply, build_at, held_at, reserved, collecte
 use Rattle.kept_names.specs.Events.KeptEvent.{Reserve, Collect, WriteOwner, WriteShape, WritePayload, WriteColour}
 use Rattle.kept_names.specs.Kept.{IsKept}
 use Rattle.kept_names.proofs.Colours.{differ, changed_case, changed_here, changed_else, dark_solid, painted_at, painted_built, blackened}
-use Rattle.kept_names.proofs.Holding.{some_case, build_rewritten, build_recoloured}
-use Rattle.kept_names.proofs.Building.{other_owner, other_shape, begins, collects, in_hand, writes_owner, writes_shape, writes_payload, writes_colour}
-use Rattle.kept_names.proofs.Referring.{refers_same, refers_link, behind_roots}
+use Rattle.kept_names.proofs.HeldBlocks.{some_case, build_rewritten, build_recoloured}
+use Rattle.kept_names.proofs.BuildEvents.{other_owner, other_shape, begins, collects, in_hand, writes_owner, writes_shape, writes_payload, writes_colour}
+use Rattle.kept_names.proofs.WordTargets.{refers_same, refers_link, behind_roots}
 use Rattle.kept_names.proofs.Older.{older_words}
-use Rattle.kept_names.proofs.Standing.{shown, build_of, title_of, once_not_held}
+use Rattle.kept_names.proofs.KeptStates.{shown, build_of, title_of, once_not_held}
 
 -- other words at blocks that are not dark
 sweep_same : (W : Width) (n cycle : ℕ) (K : Name → Type 0) (blocks : Name → ℕ) (at : Name → ℕ → ℕ)

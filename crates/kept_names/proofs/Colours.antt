@@ -12,7 +12,7 @@ use Rattle.block_store.proofs.Registers.{one_root}
 use Rattle.kept_names.specs.Colouring.{IfRefers, IsDark, IsColoured, IsRegisterBlock, NotRoot, IsBlockOf, Belongs, IsShadedRoot, SweepColours}
 use Rattle.block_store.specs.Counts.{changed}
 use Rattle.kept_names.specs.Kept.{IsPainted}
-use Rattle.kept_names.proofs.Referring.{root_in}
+use Rattle.kept_names.proofs.WordTargets.{root_in}
 
 pub differ : (b : Bool) → b ≡ true → b ≡ false → ⊥
 differ b t f = let z : true ≡ false = sym t ∙ f in cc

@@ -10,8 +10,8 @@ use Rattle.never_heap.specs.declared.Entry.{Entry}
 use Rattle.never_heap.specs.Graphs.{Graph, mutator_at, object_of, field_of, register_of, has_name, count_of, next_name, with_register, with_field, start_graph}
 use Rattle.never_heap.specs.Histories.{HistoryItem, Did, IsAnswered, after, starts_in}
 use Rattle.never_heap.specs.Reach.{reachable}
-use Rattle.never_heap.proofs.Cycling.{graph_at_more}
-use Rattle.never_heap.proofs.Growing.{replay_more, legal_history_more, starts_append}
+use Rattle.never_heap.proofs.CycleGrowth.{graph_at_more}
+use Rattle.never_heap.proofs.HistoryGrowth.{replay_more, legal_history_more, starts_append}
 use Rattle.never_heap.proofs.GraphMoves.{objects_with, object_with_register, has_name_with_register}
 use Rattle.never_heap.proofs.FieldStores.{has_name_with_field, count_with_field, threads_with_field}
 use Rattle.shown_graph.specs.Layouts.{object_blocks}
@@ -21,7 +21,7 @@ use Rattle.shown_graph.specs.Events.{Loading, GraphState, Event, pending_registe
 use Rattle.shown_graph.specs.Events.Event.{ReadObject, ReadValue, ReadExpected, ReadShape, ReadLink, ReadField, StorePending, StoreValue, StoreConstant, StoreField, ExchangeField, Finish}
 use Rattle.shown_graph.proofs.Blocks.{other_block}
 use Rattle.shown_graph.proofs.ObjectLayouts.{object_layout}
-use Rattle.shown_graph.proofs.Serving.{at_field, step_follows}
+use Rattle.shown_graph.proofs.CommandEvents.{at_field, step_follows}
 use Rattle.shown_graph.proofs.Stores.{blocks_same}
 use Rattle.kept_names.specs.Building.{Build, IsBuild, IsBuilt}
 use Rattle.kept_names.specs.Colouring.{IfRefers, IsBlockOf, Belongs, SweepColours}
@@ -30,10 +30,10 @@ use Rattle.kept_names.specs.Events.{apply, served, leaves_graph, Guard}
 use Rattle.kept_names.specs.Events.KeptEvent.{Serve, Decide, Answer}
 use Rattle.kept_names.specs.Kept.{IsOrdered, IsOlder, IsPainted, IsKept}
 use Rattle.kept_names.proofs.Colours.{differ, payload_written}
-use Rattle.kept_names.proofs.Holding.{some_case, some_more, build_rewritten}
-use Rattle.kept_names.proofs.Referring.{refers_value, refers_more}
+use Rattle.kept_names.proofs.HeldBlocks.{some_case, some_more, build_rewritten}
+use Rattle.kept_names.proofs.WordTargets.{refers_value, refers_more}
 use Rattle.kept_names.proofs.Older.{older_served, older_decided, older_answered}
-use Rattle.kept_names.proofs.Standing.{shown, build_of, belongs_not_held, kept_black, loaded_kept, value_is}
+use Rattle.kept_names.proofs.KeptStates.{shown, build_of, belongs_not_held, kept_black, loaded_kept, value_is}
 
 -- a decided command is the order's last item
 pub entered : (c : Config) (g h : Graph) (order : List HistoryItem) (cycle : ℕ) (L : Name → Type 0)

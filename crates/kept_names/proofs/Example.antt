@@ -38,7 +38,7 @@ use Rattle.never_heap.specs.Graphs.{count_of}
 use Rattle.kept_names.specs.Openings.{OpeningColours}
 use Rattle.kept_names.specs.Example.{array_block, unpaid, one_thread, first_colours, mark_events, build_events, put_events, start_events, nil_swap_events, read_events, cas_events, swap_events, last_events, command_events, some_events, array_name, record_name, example_start, example_end}
 use Rattle.kept_names.proofs.Colours.{changed_else}
-use Rattle.kept_names.proofs.Deciding.{decided, mapped, ◌&◌, is_bool, below, equal, unequal, if_equal, is_none, each_below, at_most, if_true, three, four, five}
+use Rattle.kept_names.proofs.DecidableFacts.{decided, mapped, ◌&◌, is_bool, below, equal, unequal, if_equal, is_none, each_below, at_most, if_true, three, four, five}
 
 -- one guard after another
 infixr 5 ◌▸◌

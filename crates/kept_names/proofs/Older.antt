@@ -9,7 +9,7 @@ use Rattle.block_store.proofs.Registers.{register_low, own_array}
 use Rattle.never_heap.specs.declared.Entry.{Entry}
 use Rattle.never_heap.specs.Graphs.{Graph, register_of}
 use Rattle.never_heap.specs.Histories.{HistoryItem, Did, part, replay}
-use Rattle.never_heap.proofs.Growing.{part_append}
+use Rattle.never_heap.proofs.HistoryGrowth.{part_append}
 use Rattle.shown_graph.specs.Words.{BlockWords, value_word, with_payload}
 use Rattle.shown_graph.specs.Shown.{IsValueOf, heads}
 use Rattle.shown_graph.specs.Events as commanded
@@ -17,13 +17,13 @@ use Rattle.shown_graph.specs.Events.{Loading, Event, is_pending, pending_registe
 use Rattle.shown_graph.specs.Events.Event.{ReadObject, ReadValue, ReadExpected, ReadShape, ReadLink, ReadField, StorePending, StoreValue, StoreConstant, StoreField, ExchangeField, Finish}
 use Rattle.shown_graph.proofs.Blocks.{payload_other}
 use Rattle.shown_graph.proofs.Names.{value_stays, word_stays}
-use Rattle.shown_graph.proofs.Reading.{register_read}
-use Rattle.shown_graph.proofs.Serving.{at_field, load_here, load_other, prompt_register}
+use Rattle.shown_graph.proofs.WordReads.{register_read}
+use Rattle.shown_graph.proofs.CommandEvents.{at_field, load_here, load_other, prompt_register}
 use Rattle.kept_names.specs.States.{KeptState, Kept}
 use Rattle.kept_names.specs.Events.{served, event_thread, leaves_graph, MayDecide}
 use Rattle.kept_names.specs.Kept.{IsOlder, IsKept}
 use Rattle.kept_names.proofs.Colours.{differ}
-use Rattle.kept_names.proofs.Standing.{shown, value_is}
+use Rattle.kept_names.proofs.KeptStates.{shown, value_is}
 
 module _ (c : Config) (order : List HistoryItem) (w : BlockWords) (K : Name → Type 0)
     (at : Name → ℕ → ℕ) (t r : ℕ) (o : IsOlder c order w K at t r) where

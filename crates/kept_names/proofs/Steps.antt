@@ -6,12 +6,12 @@ use Rattle.kept_names.specs.States.{KeptState}
 use Rattle.kept_names.specs.Events.{KeptEvent, apply, Guard, run, Guarded}
 use Rattle.kept_names.specs.Events.KeptEvent.{Serve, Decide, Answer, ReadWord, ShadeRead, PassRead, Blacken, ShadeLoaded, Flip, Free, ShadeRoot, Start, Reserve, Collect, WriteOwner, WriteShape, WritePayload, WriteColour, Publish}
 use Rattle.kept_names.specs.Kept.{IsKept}
-use Rattle.kept_names.proofs.Standing.{scanned}
-use Rattle.kept_names.proofs.Painting.{reads_word, shades_read, blackens, shades_loaded, frees, shades_root}
-use Rattle.kept_names.proofs.Turning.{flips, starts}
+use Rattle.kept_names.proofs.KeptStates.{scanned}
+use Rattle.kept_names.proofs.ColourEvents.{reads_word, shades_read, blackens, shades_loaded, frees, shades_root}
+use Rattle.kept_names.proofs.FlipAndStart.{flips, starts}
 use Rattle.kept_names.proofs.Commands.{serves, decides, answers}
 use Rattle.kept_names.proofs.Builders.{reserves, collects_block, owner_written, shape_written, payload_written, colour_written}
-use Rattle.kept_names.proofs.Publishing.{publishes}
+use Rattle.kept_names.proofs.PublishEvent.{publishes}
 
 module _ (c : Config) (inside : IsInBounds c) where
   pub step_kept : (s : KeptState) (e : KeptEvent) → IsKept c s → Guard c s e

@@ -1,2 +1,2 @@
-pub mod Holding
-pub mod Following
+pub mod HeldWords
+pub mod WayToLink

@@ -1,6 +1,6 @@
 pub mod Eaches
-mod Starting
-mod Ending
-mod Telling
-mod Giving
+mod FreshSpeakers
+mod SpeakersDone
+mod SaidByLogs
+mod BegunThreads
 mod Countable

@@ -126,7 +126,7 @@ fn compared() -> [(Command, Reply); 25] {
 }
 
 /// A graph after commands of thread 0, of which each was answered with the reply beside it.
-#[tactic(auto, using(never_heap::proofs::Stepping::step_threads, never_heap::proofs::Stepping::step_count))]
+#[tactic(auto, using(never_heap::proofs::StepChanges::step_threads, never_heap::proofs::StepChanges::step_count))]
 fn answered(
     rt: &impl Abort,
     alloc: Global,
@@ -200,7 +200,7 @@ const LINKED: [Command; 13] = [
 ];
 
 #[test]
-#[tactic(auto, using(never_heap::proofs::Stepping::step_threads, never_heap::proofs::Stepping::step_count))]
+#[tactic(auto, using(never_heap::proofs::StepChanges::step_threads, never_heap::proofs::StepChanges::step_count))]
 fn one_scan_counts_what_rounds_count(rt: HostRuntime) -> Result<(), OutOfMemory> {
     let config = Config {
         object: 8,
@@ -231,7 +231,7 @@ fn counted_at(round: u32) -> Option<u64> {
 }
 
 /// A round: one more record, which refers to the one before it.
-#[tactic(auto, using(never_heap::proofs::Stepping::step_threads, never_heap::proofs::Stepping::step_count))]
+#[tactic(auto, using(never_heap::proofs::StepChanges::step_threads, never_heap::proofs::StepChanges::step_count))]
 fn link(graph: &mut Graph) -> Result<(), OutOfMemory>
     requires threads { length graph.old.graph.mutators ≡ 1 }
     requires few { count_of graph.old.graph 0 < 1000 }
@@ -257,7 +257,7 @@ fn a_chain_can_be_reached_to_its_end(rt: HostRuntime) -> Result<(), OutOfMemory>
 }
 
 /// Two threads on blocks of this width, of which thread 1 makes a record of 14 fields.
-#[tactic(auto, using(never_heap::proofs::Stepping::step_threads, never_heap::proofs::Stepping::step_count))]
+#[tactic(auto, using(never_heap::proofs::StepChanges::step_threads, never_heap::proofs::StepChanges::step_count))]
 fn other_thread(
     rt: &impl Abort,
     alloc: Global,
@@ -344,7 +344,7 @@ fn last_stored(stored: &[(Value, u64, Value)], object: Value, i: u64) -> Value {
 }
 
 #[test]
-#[tactic(auto, using(never_heap::proofs::Stepping::step_threads, never_heap::proofs::Stepping::step_count))]
+#[tactic(auto, using(never_heap::proofs::StepChanges::step_threads, never_heap::proofs::StepChanges::step_count))]
 fn gets_answer_what_was_last_stored(rt: HostRuntime) -> Result<(), OutOfMemory> {
     let config = Config {
         threads: 2,

@@ -6,8 +6,8 @@ use Rattle.std.specs.List.{sum_by, list_any}
 use Rattle.block_store.specs.declared.Name.{Name}
 use Rattle.never_heap.specs.Graphs.{Graph, same_name, has_name}
 use Rattle.never_heap.specs.Reach.{names}
-use Rattle.never_heap.proofs.Counting.{at, once_below}
-use Rattle.never_heap.proofs.Naming.{one_name, same_itself, any_of_names}
+use Rattle.never_heap.proofs.LiveBlocksBound.{at, once_below}
+use Rattle.never_heap.proofs.NameLists.{one_name, same_itself, any_of_names}
 
 pub same_turned : (a b : Name) → same_name a b ≡ same_name b a
 same_turned a b = elim (cases_Bool (same_name a b)) [

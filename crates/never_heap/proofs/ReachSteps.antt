@@ -14,12 +14,12 @@ use Rattle.never_heap.specs.Reach.{reachable, IsClosed}
 use Rattle.never_heap.specs.Steps.{step, makes_object}
 use Rattle.never_heap.proofs.GraphMoves.{mutator_with, object_with_register, has_name_with_register}
 use Rattle.never_heap.proofs.FieldStores.{object_with_field, object_with_object, has_name_with_object, registers_with_field, registers_with_object}
-use Rattle.never_heap.proofs.Naming.{one_name, same_itself}
-use Rattle.never_heap.proofs.Reaching.{field_there, reachable_closed, reachable_least, reachable_within}
-use Rattle.never_heap.proofs.Starting.{threads_of_start, object_of_start, has_shared, start_at}
-use Rattle.never_heap.proofs.Staying.{step_past, next_is_new, names_of_change, replay_keeps}
+use Rattle.never_heap.proofs.NameLists.{one_name, same_itself}
+use Rattle.never_heap.proofs.ReachableNames.{field_there, reachable_closed, reachable_least, reachable_within}
+use Rattle.never_heap.proofs.StartGraph.{threads_of_start, object_of_start, has_shared, start_at}
+use Rattle.never_heap.proofs.UnchangedBySteps.{step_past, next_is_new, names_of_change, replay_keeps}
 use Rattle.never_heap.proofs.Outcomes.{Stored, nil, number, register, field}
-use Rattle.never_heap.proofs.Stepping.{Change, none, store, put, swap, make, change_of, has_field, with_object_threads, threads_put}
+use Rattle.never_heap.proofs.StepChanges.{Change, none, store, put, swap, make, change_of, has_field, with_object_threads, threads_put}
 
 -- what stands in a list after a write was written, or stood there before
 set_cases : (xs : List Value) (i k : ℕ) (v : Value)

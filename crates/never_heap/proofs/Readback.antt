@@ -17,13 +17,13 @@ use Rattle.never_heap.specs.Reach.{refers}
 use Rattle.never_heap.specs.Steps.{step, made, at_field, makes_object}
 use Rattle.never_heap.specs.Readback.{stored_by, StoresIn, NoneStores, IsLastStore, IsLastStored}
 use Rattle.never_heap.proofs.FieldStores.{object_with_field, object_with_object}
-use Rattle.never_heap.proofs.Growing.{replay_more, legal_front}
-use Rattle.never_heap.proofs.Naming.{one_name, same_itself, refers-ref, ref-refers}
+use Rattle.never_heap.proofs.HistoryGrowth.{replay_more, legal_front}
+use Rattle.never_heap.proofs.NameLists.{one_name, same_itself, refers-ref, ref-refers}
 use Rattle.never_heap.proofs.ReachSteps.{nil_of}
-use Rattle.never_heap.proofs.Starting.{object_of_start}
+use Rattle.never_heap.proofs.StartGraph.{object_of_start}
 use Rattle.never_heap.proofs.Outcomes.{Outcome, unchanged, in_register, in_field, in_both, new_object, outcome_of}
-use Rattle.never_heap.proofs.Stepping.{has_field}
-use Rattle.never_heap.proofs.Staying.{past_with, next_is_new, register_object, field_at, put_apart, replay_shape}
+use Rattle.never_heap.proofs.StepChanges.{has_field}
+use Rattle.never_heap.proofs.UnchangedBySteps.{past_with, next_is_new, register_object, field_at, put_apart, replay_shape}
 
 -- a field of a name that the graph has not is nil
 field_of_none : (g : Graph) (a : Name) (i : ℕ) → has_name g a ≡ false → field_at g a i ≡ Nil

@@ -9,9 +9,9 @@ use Rattle.block_store.specs.declared.Value.{Value}
 use Rattle.never_heap.specs.Graphs.{Graph, object_of, has_name}
 use Rattle.never_heap.specs.Marks.{Marked, has_place, has_mark}
 use Rattle.never_heap.specs.Reach.{stands_in, names, in_round, reachable}
-use Rattle.never_heap.proofs.Naming.{place_of_name, stands_at, any_of_names}
-use Rattle.never_heap.proofs.Reaching.{any_more, from_registers, in_register, field_there, reached_by, round_of_all, reachable_closed, reachable_least}
-use Rattle.never_heap.proofs.Stepping.{has_field}
+use Rattle.never_heap.proofs.NameLists.{place_of_name, stands_at, any_of_names}
+use Rattle.never_heap.proofs.ReachableNames.{any_more, from_registers, in_register, field_there, reached_by, round_of_all, reachable_closed, reachable_least}
+use Rattle.never_heap.proofs.StepChanges.{has_field}
 
 -- what a round over some names adds to marks
 pub record Rounded (g : Graph) (old new : Marked) (is_new : Bool) (xs : List Name) : Type 0 where

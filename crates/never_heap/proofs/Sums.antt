@@ -12,7 +12,7 @@ use Rattle.never_heap.specs.Graphs.{Graph, object_of, has_name, count_of, shared
 use Rattle.never_heap.specs.LiveBlocks.{object_blocks, live_of, live_blocks}
 use Rattle.never_heap.specs.Marks.{Marked, has_mark}
 use Rattle.never_heap.specs.Reach.{names, names_below, thread_names, reachable}
-use Rattle.never_heap.proofs.Naming.{name_of_place, length_of_thread}
+use Rattle.never_heap.proofs.NameLists.{name_of_place, length_of_thread}
 
 -- the blocks of the marked objects among some names
 abbrev pub marked_blocks : Width → Graph → Marked → List Name → ℕ

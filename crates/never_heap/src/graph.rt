@@ -202,7 +202,7 @@ impl Graph {
         }
     }
 
-    #[tactic(auto, using(crate::proofs::Stepping::threads_put))]
+    #[tactic(auto, using(crate::proofs::StepChanges::threads_put))]
     fn swap(&mut self, thread: u32, s: u8, i: u64, v: u8) -> Reply
         requires thread { thread < length self.old.graph.mutators }
         requires registers { (s < REGISTERS) × (v < REGISTERS) }

@@ -12,8 +12,8 @@ use Rattle.operations.specs.Linearizations.{traces_of}
 use Rattle.rate_plan.specs.Rates.{IsAdmitted}
 use Rattle.number_rings.specs.Rings.{Operation, rows_of, command_at, keeps, recalls, script_of, scripts_from, lost_of, left_of, ring_config, ring_traces, IsKeepable}
 use Rattle.number_rings.proofs.Chunks.{rows_long}
-use Rattle.number_rings.proofs.Lasting.{ring_own}
-use Rattle.number_rings.proofs.Showing.{scripts_long}
+use Rattle.number_rings.proofs.LastEight.{ring_own}
+use Rattle.number_rings.proofs.RingRuns.{scripts_long}
 
 module _ (n : ℕ) (few : n ≤ 16) where
   keeps_fit : (t j : ℕ) (vs : List ℕ) (ops : List Operation) → t < n

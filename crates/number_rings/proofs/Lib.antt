@@ -1,10 +1,10 @@
 pub mod Places
 pub mod Rows
 pub mod Bound
-pub mod Keeping
+pub mod RingApplication
 pub mod Chunks
 pub mod Alone
-pub mod Lasting
-pub mod Showing
+pub mod LastEight
+pub mod RingRuns
 pub mod Jobs
-pub mod Tracing
+pub mod TracesSoFar

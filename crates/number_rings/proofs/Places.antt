@@ -8,8 +8,8 @@ use Rattle.never_heap.specs.declared.Reply.TheVariants.{Val, Null}
 use Rattle.never_heap.specs.Graphs.{Object, Record}
 use Rattle.number_rings.specs.Rings.{Cell, Row, Make, SetNumber, PutNumber, Store, Fetch, Tell}
 use Rattle.operations.specs.Applications.{Progress}
-use Rattle.operations.proofs.Holding.{IsPlain}
-use Rattle.operations.proofs.Sharing.{Frame, IsMade, Layout}
+use Rattle.operations.proofs.LiveBound.{IsPlain}
+use Rattle.operations.proofs.SharedArray.{Frame, IsMade, Layout}
 
 abbrev pub Here : Type 0
 Here = Progress Row Cell

@@ -11,13 +11,13 @@ use Rattle.never_heap.specs.declared.Reply.TheVariants.{Val, Null}
 use Rattle.never_heap.specs.declared.Reply.TheVariants as replies
 use Rattle.never_heap.specs.Graphs.{Graph, Object, Record, nil_object, shared_name, next_name, mutator_at, register_of, object_of, field_of, set_field, with_register, with_field}
 use Rattle.never_heap.specs.Steps.{step, made}
-use Rattle.never_heap.proofs.Stepping.{has_field}
+use Rattle.never_heap.proofs.StepChanges.{has_field}
 use Rattle.number_rings.specs.Rings.{Cell, answer, cells_after, Row, Make, SetNumber, PutNumber, Store, Fetch, Tell, command_at, decides, ends, number_of, last_of, number_told}
 use Rattle.operations.specs.Applications.{moved, acted, said, Tells}
 use Rattle.operations.proofs.Effects.{Effect, nothing, stores, puts, makes, at_field_is}
 use Rattle.number_rings.proofs.Places.{Here, InPlace, layout, IsItem, item, Shows, ShowsSome, own_name, number_reply, At, owed, IsFirst, Begins, Leads, IsProper}
-use Rattle.operations.proofs.Holding.{IsPlain}
-use Rattle.operations.proofs.Sharing.{Thread, HoldsBy, Holds, thread_there, out_after, out_same, quiet, fills, stores_there, shows}
+use Rattle.operations.proofs.LiveBound.{IsPlain}
+use Rattle.operations.proofs.SharedArray.{Thread, HoldsBy, Holds, thread_there, out_after, out_same, quiet, fills, stores_there, shows}
 
 -- at rest a thread's place says the same before any first row
 pub rest_at : (obj : Name → Object) (out : ℕ → ℕ) (t : ℕ) (rows : List Row) (seen : List Reply)

@@ -1,6 +1,6 @@
-pub mod Linearizing
+pub mod LinearizedRuns
 pub mod Effects
 pub mod Among
-pub mod Sharing
-pub mod Holding
-pub mod Logged
+pub mod SharedArray
+pub mod LiveBound
+pub mod PartLogs

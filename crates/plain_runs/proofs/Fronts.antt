@@ -8,7 +8,7 @@ use Rattle.never_heap.specs.Histories.{HistoryItem, Started, Did, work_in}
 use Rattle.plain_runs.specs.declared.Happened.{Happened}
 use Rattle.plain_runs.specs.Happenings.{item, history}
 use Rattle.plain_runs.specs.Ranges.{IsHistoryInBounds, IsItemInBounds}
-use Rattle.plain_runs.proofs.Following.{history_length}
+use Rattle.plain_runs.proofs.ReplayInRange.{history_length}
 
 -- some of the items of a history, in their order
 record IsWithin (c : Config) (k h : List HistoryItem) : Type 0 where

@@ -1,5 +1,5 @@
 pub mod Rests
-pub mod Following
+pub mod ReplayInRange
 pub mod Fronts
 pub mod Legality
-pub mod Ordering
+pub mod HistoryOfOrder

@@ -5,8 +5,8 @@ use Rattle.never_heap.specs.declared.Command.{Command}
 use Rattle.never_heap.specs.Coming.{left_of, AllMayCome}
 use Rattle.never_heap.specs.Histories.{HistoryItem, Started, Did, starts_in}
 use Rattle.never_heap.specs.Runs.{IsRun}
-use Rattle.never_heap.proofs.Coming.{all_come, begun, none_left, made}
-use Rattle.never_heap.proofs.Growing.{starts_append}
+use Rattle.never_heap.proofs.ItemsOfRuns.{all_come, begun, none_left, made}
+use Rattle.never_heap.proofs.HistoryGrowth.{starts_append}
 use Rattle.trace_text.specs.Orders.{item_text, end_text, lines_from, order_lines}
 use Rattle.rt_check.specs.Good.{AreGood}
 

@@ -1,13 +1,13 @@
 pub mod Goodness
-pub mod Telling
-mod Settling
-pub mod Followed
-pub mod Judging
-pub mod Parting
-pub mod Passing
+pub mod ItemOfLine
+mod GoodOrFirstBad
+pub mod FollowerState
+pub mod GoodLaws
+pub mod InputParts
+pub mod TokensLeft
 pub mod TakenLaws
-pub mod Following
-pub mod Leading
+pub mod VerdictSoFar
+pub mod AnswerSoFar
 pub mod OneTaken
 pub mod OneAnswer
 pub mod Causes

@@ -13,7 +13,7 @@ use Rattle.rt_check.specs.Answers.{IsAnswerOf, IsAnswerTo}
 use Rattle.rt_check.specs.Good.{AreGood, FirstBad}
 use Rattle.rt_check.specs.Inputs.{job_part, order_part, IsTooLong, IsShort, HasBadLine, HasJob, IsOrderOf, IsBadAt}
 use Rattle.rt_check.proofs.Goodness.{law}
-use Rattle.rt_check.proofs.Telling as telling
+use Rattle.rt_check.proofs.ItemOfLine as telling
 
 one_rate : (c : Config) (p q : ℕ) → IsRate c p → IsRate c q → p ≡ q
 one_rate c p q a b = let f = a.least q b.some b.enough in let h = b.least p a.some a.enough in

@@ -13,13 +13,13 @@ use Rattle.never_heap.specs.Graphs.{Graph, next_name}
 use Rattle.never_heap.specs.Histories.{HistoryItem, Started, Did, part, replay}
 use Rattle.never_heap.specs.RightWork.{units_owed}
 use Rattle.never_heap.specs.Steps.{step, blocks_of}
-use Rattle.never_heap.proofs.Answering.{blocks_answer, owes_told}
+use Rattle.never_heap.proofs.StepAnswers.{blocks_answer, owes_told}
 use Rattle.trace_text.specs.Jobs.{Job, IsJobInBounds}
 use Rattle.trace_text.specs.Texts.{entry_text, name_text, reply_text, totals_text}
 use Rattle.rt_check.specs.Taken.{IsTaken, IsEnd, AreTaken, FirstLeft}
-use Rattle.rt_check.proofs.Judging.{command_in_bounds, work_small}
+use Rattle.rt_check.proofs.GoodLaws.{command_in_bounds, work_small}
 use Rattle.rt_check.proofs.TakenLaws.{totals_begin, no_one_full}
-use Rattle.rt_check.proofs.Telling.{begins_as, differ, stepped, candidate, entry_tells, no_entry, no_start}
+use Rattle.rt_check.proofs.ItemOfLine.{begins_as, differ, stepped, candidate, entry_tells, no_entry, no_start}
 
 module _ (job : Job) (b : IsJobInBounds job) (past : List HistoryItem) where
   few : length job.traces ≤ 16

@@ -1,5 +1,5 @@
 pub mod Slots
-pub mod Telling
+pub mod LineLaws
 pub mod Ranges
-pub mod Answered
-pub mod Rating
+pub mod AnswersByLogs
+pub mod HeapRate

@@ -5,7 +5,7 @@ use Rattle.never_heap.proofs.GraphMoves.{get_or_set}
 use Rattle.handle_table.specs.declared.operation.Operation.{Operation}
 use Rattle.handle_table.specs.declared.operation.Operation.TheVariants.{Make, See, Drop, Take, Evict}
 use Rattle.handle_table.specs.Handles.{slot_of, slot_by}
-use Rattle.handle_table.proofs.Numbering.{slot_more}
+use Rattle.handle_table.proofs.NumberedDeeds.{slot_more}
 use Rattle.rt_handles.specs.Slots.{AreSlotsOf, make_in}
 
 -- what an operation does to the slot of h

@@ -4,7 +4,7 @@ use Rattle.call_exits.specs.declared.refusal.Refusal.{Refusal}
 use Rattle.call_exits.specs.Exits.{IsWritten, IsToldBy}
 use Rattle.call_exits.specs.Refusals.{AreNone, status_of, refusal_line, HasRead}
 use Rattle.call_exits.specs.Sides.{Sides}
-use Rattle.call_exits.proofs.Ending.{never_done, done_is_ended, refusal_is_ended}
+use Rattle.call_exits.proofs.CallEnds.{never_done, done_is_ended, refusal_is_ended}
 use Rattle.trace_text.specs.Streams.{Appends, AppendsPrefix}
 use Rattle.rt_check.specs.Inputs.{check_limit}
 use Rattle.rt_limit.specs.declared.top.LimitExit.{LimitExit}

@@ -12,13 +12,13 @@ use Rattle.never_heap.specs.Bounds.{IsCommandInBounds}
 use Rattle.never_heap.specs.Coming.{left_of}
 use Rattle.never_heap.specs.Histories.{HistoryItem, Started, Did, part}
 use Rattle.never_heap.specs.Jobs.{IsTraceInBounds}
-use Rattle.never_heap.proofs.Growing.{part_append}
+use Rattle.never_heap.proofs.HistoryGrowth.{part_append}
 use Rattle.trace_text.specs.Jobs.{Job, IsJobInBounds}
 use Rattle.rt_check.specs.declared.moves.Move.{Move}
 use Rattle.rt_check.specs.Moves.{moves_in, commands_of, AreMovesOf}
 use Rattle.rt_check.specs.Taken.{IsTaken, AreTaken, AreMoves}
-use Rattle.rt_check.proofs.Judging.{all_or}
-use Rattle.rt_check.proofs.Leading.{moves_append}
+use Rattle.rt_check.proofs.GoodLaws.{all_or}
+use Rattle.rt_check.proofs.AnswerSoFar.{moves_append}
 use Rattle.rt_limit.specs.Counting.{IsMoveInRange}
 use Rattle.rt_limit.specs.Moments.{moves_of, by_threads}
 use Rattle.rt_limit.proofs.OrderLaws.{commands_append}

@@ -14,13 +14,13 @@ use Rattle.never_heap.specs.Graphs.{Graph, Object, ObjectKind, Record, Array, ni
 use Rattle.never_heap.specs.LiveBlocks.{blocks_of_kind, object_blocks, live_of, live_blocks}
 use Rattle.never_heap.specs.Reach.{names, names_below, thread_names, reachable}
 use Rattle.never_heap.specs.Steps.{step, blocks_of, made}
-use Rattle.never_heap.proofs.Answering.{blocks_count, none_make}
+use Rattle.never_heap.proofs.StepAnswers.{blocks_count, none_make}
 use Rattle.never_heap.proofs.FieldStores.{object_with_object}
 use Rattle.never_heap.proofs.GraphMoves.{object_with_register}
-use Rattle.never_heap.proofs.Naming.{same_itself, name_of_place, length_of_thread, thread_names_more}
+use Rattle.never_heap.proofs.NameLists.{same_itself, name_of_place, length_of_thread, thread_names_more}
 use Rattle.never_heap.proofs.ReachSteps.{reached_after}
-use Rattle.never_heap.proofs.Staying.{step_past, next_is_new, step_shape, step_counts}
-use Rattle.never_heap.proofs.Stepping.{step_threads, with_object_threads}
+use Rattle.never_heap.proofs.UnchangedBySteps.{step_past, next_is_new, step_shape, step_counts}
+use Rattle.never_heap.proofs.StepChanges.{step_threads, with_object_threads}
 
 -- sums of what is no more at each element
 sum_le : (f h : Name → ℕ) (xs : List Name) → All (λ a. f a ≤ h a) xs → sum_by f xs ≤ sum_by h xs

@@ -13,10 +13,10 @@ use Rattle.never_heap.specs.Licensed.{NoFulls}
 use Rattle.never_heap.specs.LiveBlocks.{live_blocks}
 use Rattle.never_heap.specs.Runs.{IsRun}
 use Rattle.never_heap.specs.Steps.{step}
-use Rattle.never_heap.proofs.Growing.{replay_more, part_append}
-use Rattle.never_heap.proofs.Walking.{walk_all}
+use Rattle.never_heap.proofs.HistoryGrowth.{replay_more, part_append}
+use Rattle.never_heap.proofs.RunInduction.{walk_all}
 use Rattle.rt_check.specs.declared.moves.Move.{Move}
-use Rattle.rt_check.proofs.Telling.{thread_low}
+use Rattle.rt_check.proofs.ItemOfLine.{thread_low}
 use Rattle.rt_limit.specs.Moments.{graph_behind, most_live, moves_of}
 use Rattle.rt_limit.proofs.CountLaws.{behind_more, moment_most}
 

@@ -15,10 +15,10 @@ use Rattle.never_heap.specs.Bounds.{IsCommandInBounds}
 use Rattle.never_heap.specs.Graphs.{Graph, WideGraph, with_graph, start_graph, count_of}
 use Rattle.never_heap.specs.LiveBlocks.{live_blocks}
 use Rattle.never_heap.specs.Steps.{step, blocks_of}
-use Rattle.never_heap.proofs.Opening.{opening_live}
-use Rattle.never_heap.proofs.Starting.{threads_of_start, count_of_start}
-use Rattle.never_heap.proofs.Staying.{step_past, step_counts}
-use Rattle.never_heap.proofs.Stepping.{step_threads, step_counts_one}
+use Rattle.never_heap.proofs.OpeningLiveBlocks.{opening_live}
+use Rattle.never_heap.proofs.StartGraph.{threads_of_start, count_of_start}
+use Rattle.never_heap.proofs.UnchangedBySteps.{step_past, step_counts}
+use Rattle.never_heap.proofs.StepChanges.{step_threads, step_counts_one}
 use Rattle.rt_check.specs.declared.moves.Move.{Move}
 use Rattle.rt_check.specs.Moves.{commands_of}
 use Rattle.rt_limit.specs.declared.counts.Counter.{Counter}

@@ -6,7 +6,7 @@ use Rattle.call_exits.specs.declared.refusal.Refusal.TheVariants.{BadLine, TooMa
 use Rattle.call_exits.specs.Exits.{IsDue}
 use Rattle.call_exits.specs.Refusals.{AreNone, status_of, refusal_of, IsReadWhole, IsReadRefusal, HasRead}
 use Rattle.call_exits.specs.Sides.{Sides, IsUnfailed}
-use Rattle.call_exits.proofs.Ending.{AreApart}
+use Rattle.call_exits.proofs.CallEnds.{AreApart}
 use Rattle.call_exits.proofs.WholeTexts.{few_taken, refused_unread}
 use Rattle.rate_plan.specs.Rates.{IsAdmitted}
 use Rattle.trace_text.specs.declared.trace_faults.TraceFault.{TraceFault}

@@ -5,7 +5,7 @@ use Rattle.call_exits.specs.declared.refusal.Refusal.{Refusal}
 use Rattle.call_exits.specs.Exits.{IsWritten, IsToldBy}
 use Rattle.call_exits.specs.Refusals.{AreNone, status_of, refusal_line}
 use Rattle.call_exits.specs.Sides.{Sides}
-use Rattle.call_exits.proofs.Ending.{never_done, done_is_ended, refusal_is_ended}
+use Rattle.call_exits.proofs.CallEnds.{never_done, done_is_ended, refusal_is_ended}
 use Rattle.mail_post.specs.Ends.{TakenState}
 use Rattle.trace_text.specs.Jobs.{input_limit}
 use Rattle.trace_text.specs.Streams.{Appends, AppendsPrefix}

@@ -1,6 +1,6 @@
 pub mod Items
-pub mod Ringing
-pub mod Writing
+pub mod RingJob
+pub mod WrittenLines
 pub mod Apart
-pub mod Mailing
+pub mod KeepableMail
 pub mod CarriedOut

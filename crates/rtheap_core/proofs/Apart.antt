@@ -4,7 +4,7 @@ use Rattle.call_exits.specs.declared.refusal.Refusal.{Refusal}
 use Rattle.call_exits.specs.declared.refusal.Refusal.TheVariants.{BadLine, LiveTooSmall, NoRate, TurnsUsed}
 use Rattle.call_exits.specs.Exits.{IsDue}
 use Rattle.call_exits.specs.Refusals.{status_of}
-use Rattle.call_exits.proofs.Ending.{AreApart}
+use Rattle.call_exits.proofs.CallEnds.{AreApart}
 use Rattle.heap_system.specs.Locals.{is_done}
 use Rattle.heap_system.specs.Machines as machines
 use Rattle.heap_system.proofs.Rooms.{done_agree}
@@ -13,7 +13,7 @@ use Rattle.rate_plan.specs.declared.PlanFault.TheVariants as plans
 use Rattle.rate_plan.specs.Rates.{IsAdmitted, IsRefusal}
 use Rattle.schedules.specs.declared.Schedule.{Schedule}
 use Rattle.schedules.specs.Schedules.{turns_of}
-use Rattle.schedules.proofs.Agreeing.{first_run, second_run}
+use Rattle.schedules.proofs.SameTurns.{first_run, second_run}
 use Rattle.trace_text.specs.Jobs.{Job, IsJob, input_limit}
 use Rattle.trace_text.proofs.OneJob.{one_job}
 use Rattle.trace_text.proofs.WholeLaws.{apart}
@@ -23,7 +23,7 @@ use Rattle.rtheap_core.specs.Calls.{IsDoneBy, IsFine}
 use Rattle.rtheap_core.specs.Ends.{EndsIn}
 use Rattle.rtheap_core.specs.Refusals.{LeavesUndone, UsesTurns, Causes}
 use Rattle.rtheap_core.specs.Tasks.{Ask, AskForJob}
-use Rattle.rtheap_core.proofs.Asked.{one_task}
+use Rattle.rtheap_core.proofs.OneTask.{one_task}
 
 -- a replay does not both end and leave a thread undone
 pub not_both_ways : (job : Job) (schedule : Schedule) (turns thread : ℕ) (r q : machines.Run)

@@ -5,7 +5,7 @@ use Rattle.call_exits.specs.declared.refusal.Refusal.{Refusal}
 use Rattle.call_exits.specs.Exits.{IsWritten, IsToldBy}
 use Rattle.call_exits.specs.Refusals.{status_of, refusal_line, HasRead}
 use Rattle.call_exits.specs.Sides.{IsUnfailed, IsUntouched}
-use Rattle.call_exits.proofs.Ending.{never_done, done_is_ended, refusal_is_ended}
+use Rattle.call_exits.proofs.CallEnds.{never_done, done_is_ended, refusal_is_ended}
 use Rattle.heap_system.specs.Systems.{Finish}
 use Rattle.heap_system.specs.Systems.{units_of as units_in}
 use Rattle.schedules.specs.declared.Schedule.{Schedule}
@@ -26,7 +26,7 @@ use Rattle.rtheap_core.specs.Outcomes.{HasRun, HasReplay, HasRate}
 use Rattle.rtheap_core.specs.Refusals.{Causes, IsCause}
 use Rattle.rtheap_core.specs.Tasks.{AsksFor, Ask, AskForRun, AskForJob, Runs, Reads}
 use Rattle.rtheap_core.proofs.Apart.{are_apart}
-use Rattle.rtheap_core.proofs.Asked.{one_task}
+use Rattle.rtheap_core.proofs.OneTask.{one_task}
 use Rattle.rtheap_core.proofs.Headlines.{headline_of, of_threads, replay_of}
 use Rattle.rtheap_core.proofs.Taken.{fine_read}
 

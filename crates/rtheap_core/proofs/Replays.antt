@@ -12,9 +12,9 @@ use Rattle.never_heap.specs.Orders.{item_of, IsHistoryOf}
 use Rattle.heap_system.specs.Machines.{State, Run, next, after_turns, opened, heap_in, IsJob, IsOpening}
 use Rattle.heap_system.specs.Serials.{job_bound}
 use Rattle.heap_system.specs.Systems.{Finish, Whole, Ordered, AllDone, IsLeastUndone, IsReached, IsFinished, traces_of, logs_of, units_of, opening_order, ordered_after, items_kept}
-use Rattle.heap_system.proofs.Finishing.{all_done, done_run, done_turns, logged_all}
-use Rattle.heap_system.proofs.Reached.{turned_traces}
-use Rattle.heap_system.proofs.Starting.{opened_traces}
+use Rattle.heap_system.proofs.FinishedRun.{all_done, done_run, done_turns, logged_all}
+use Rattle.heap_system.proofs.TurnFacts.{turned_traces}
+use Rattle.heap_system.proofs.SystemStart.{opened_traces}
 use Rattle.rate_plan.specs.Rates.{IsRate}
 use Rattle.schedules.specs.declared.Schedule.{Schedule}
 use Rattle.schedules.specs.declared.Schedule.TheVariants.{Serial}

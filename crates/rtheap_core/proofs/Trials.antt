@@ -10,7 +10,7 @@ use Rattle.schedules.specs.declared.Schedule.TheVariants.{Serial}
 use Rattle.schedules.specs.Replays.{IsReplayed, system_after}
 use Rattle.schedules.specs.Schedules.{turns_of}
 use Rattle.never_heap.specs.Jobs.{IsJobInBounds}
-use Rattle.rtheap_core.proofs.Lasting.{job_low}
+use Rattle.rtheap_core.proofs.JobTurnBound.{job_low}
 use Rattle.rtheap_core.proofs.Replays.{RunsLaw, StopLaw, IsAfter, is_after, first_turns, sooner, opens_none, all_of_run}
 
 -- as many turns as can be asked for

@@ -14,7 +14,7 @@ use Rattle.rate_plan.specs.Rates.{IsAdmitted, IsRate, IsRefusal}
 use Rattle.heap_system.specs.Machines as machines
 use Rattle.heap_system.specs.Serials.{job_bound}
 use Rattle.heap_system.specs.Systems.{AllDone}
-use Rattle.heap_system.proofs.Lived.{job_of_text}
+use Rattle.heap_system.proofs.TextLives.{job_of_text}
 use Rattle.schedules.specs.declared.Schedule.{Schedule}
 use Rattle.schedules.specs.declared.Schedule.TheVariants.{Serial}
 use Rattle.schedules.specs.Replays.{IsReplayed}
@@ -27,7 +27,7 @@ use Rattle.rtheap_core.specs.Calls.{Call, IsCarriedOut, IsComplete, IsDoneBy, ex
 use Rattle.rtheap_core.specs.Refusals.{IsCause, LeavesUndone}
 use Rattle.rtheap_core.specs.Tasks.{AsksFor, Ask, AskForJob, Reads}
 use Rattle.rtheap_core.proofs.Apart.{not_jobs}
-use Rattle.rtheap_core.proofs.Asked.{one_task}
+use Rattle.rtheap_core.proofs.OneTask.{one_task}
 
 -- the laws of the ends of replays
 pub record Laws : Type 0 where

@@ -8,8 +8,8 @@ use Rattle.block_store.specs.declared.Config.{Config}
 use Rattle.heap_system.specs.Locals.{LocalState, is_done}
 use Rattle.heap_system.specs.Machines.{State, local_at, no_local, has_event, turned}
 use Rattle.heap_system.specs.Systems.{Ordered, Whole, after_event, ordered_after, AllDone, IsReached}
-use Rattle.heap_system.proofs.Ordering.{left_after}
-use Rattle.heap_system.proofs.Reached.{reached_kept}
+use Rattle.heap_system.proofs.OrderKept.{left_after}
+use Rattle.heap_system.proofs.TurnFacts.{reached_kept}
 use Rattle.schedules.specs.declared.Schedule.{Schedule}
 use Rattle.schedules.specs.declared.Schedule.TheVariants as schedules
 use Rattle.schedules.specs.declared.replaying.Next.{Next}
@@ -17,7 +17,7 @@ use Rattle.schedules.specs.declared.replaying.Next.TheVariants as nexts
 use Rattle.schedules.specs.Schedules.{least_undone, thread_of, turns_on, turns_from}
 use Rattle.schedules.specs.Nexts.{next_at, IsNextBelow, thread_next, after_next}
 use Rattle.schedules.specs.Replays.{system_turned, system_after}
-use Rattle.schedules.proofs.Stopping.{no_event_at, still, done_stays}
+use Rattle.schedules.proofs.DoneThreads.{no_event_at, still, done_stays}
 
 -- ---- the least thread that is not done
 

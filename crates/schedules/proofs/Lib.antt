@@ -1,6 +1,6 @@
-pub mod Stopping
-pub mod Agreeing
+pub mod DoneThreads
+pub mod SameTurns
 pub mod LeftTurns
 pub mod Runs
-pub mod Ending
+pub mod ReplayEnds
 pub mod Drawn

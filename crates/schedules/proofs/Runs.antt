@@ -7,11 +7,11 @@ use Rattle.never_heap.specs.Histories.{HistoryItem}
 use Rattle.never_heap.specs.Orders.{item_of}
 use Rattle.heap_system.specs.Machines.{State, Run, has_event, next_effect, turned, next, opened, after_turns}
 use Rattle.heap_system.specs.Systems.{Ordered, Whole, items_by_effect, items_added, after_event, ordered_after}
-use Rattle.heap_system.proofs.Ordering.{items_grow}
+use Rattle.heap_system.proofs.OrderKept.{items_grow}
 use Rattle.schedules.specs.declared.Schedule.TheVariants.{Serial}
 use Rattle.schedules.specs.Schedules.{least_undone, turns_on, turns_from, turns_of}
 use Rattle.schedules.specs.Replays.{IsReplayed, ShowsRun, system_turned, system_after}
-use Rattle.schedules.proofs.Agreeing.{turns_on_same}
+use Rattle.schedules.proofs.SameTurns.{turns_on_same}
 
 -- the items that are kept are those of the order
 abbrev pub IsOrderOf : List HistoryItem → Option Ordered → Type 0

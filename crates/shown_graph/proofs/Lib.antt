@@ -1,12 +1,12 @@
 pub mod ObjectLayouts
 pub mod Names
 pub mod Blocks
-pub mod Registering
+pub mod RegisterBlocks
 pub mod Stores
 pub mod Publish
-pub mod Reading
-pub mod Opening
+pub mod WordReads
+pub mod OpeningWords
 pub mod Every
-pub mod Serving
+pub mod CommandEvents
 pub mod Loads
 pub mod Example

@@ -15,8 +15,8 @@ use Rattle.shown_graph.specs.Shown.{IsValueOf, heads}
 use Rattle.shown_graph.specs.Read.{value_payload}
 use Rattle.shown_graph.specs.Events.{ObjectLoad, ValueLoad, GraphState, object_at, expected_at, pending_registers, HasExpected, IsAtField, ObjectIs, ValueIs, Follows}
 use Rattle.shown_graph.proofs.ObjectLayouts.{object_layout}
-use Rattle.shown_graph.proofs.Reading.{value_read, owner_read, words_tell}
-use Rattle.shown_graph.proofs.Serving.{expected_is, at_field, field_word}
+use Rattle.shown_graph.proofs.WordReads.{value_read, owner_read, words_tell}
+use Rattle.shown_graph.proofs.CommandEvents.{expected_is, at_field, field_word}
 
 module _ (W : Width) (n m : ℕ) (K : Name → Type 0) (at : Name → ℕ → ℕ) (s : GraphState)
     (k : Follows W n m K at s) (t : ℕ) (there : t < n) where

@@ -14,7 +14,7 @@ use Rattle.shown_graph.specs.Words.{BlockWords, value_word, part_word, kind_word
 use Rattle.shown_graph.specs.Shown.{IsValueOf, heads, BlockShows, Written, Shows}
 use Rattle.shown_graph.specs.Made.{new_object, with_blocks, and_name, IsMade, link_word, IsWritten}
 use Rattle.shown_graph.proofs.Names.{same_parts, same_is, same_self, not_next, value_stays, word_stays}
-use Rattle.shown_graph.proofs.Registering.{registers_renamed, registers_stay}
+use Rattle.shown_graph.proofs.RegisterBlocks.{registers_renamed, registers_stay}
 
 -- each field of a new object is nil
 pub field_of_new : (k : ObjectKind) (n i : ℕ) → field_of (new_object k n) i ≡ Nil

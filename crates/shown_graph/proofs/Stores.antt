@@ -19,7 +19,7 @@ use Rattle.shown_graph.specs.Words.{Agrees, BlockWords, value_word, with_payload
 use Rattle.shown_graph.specs.Shown.{IsValueOf, heads, Placed, Numbered, Closed, IsSized, Shows}
 use Rattle.shown_graph.proofs.Names.{same_is, true≢false, value_stays}
 use Rattle.shown_graph.proofs.Blocks.{other_block, payload_other, field_written, others_written}
-use Rattle.shown_graph.proofs.Registering.{registers_stored, registers_stay, registers_fewer, registers_renamed}
+use Rattle.shown_graph.proofs.RegisterBlocks.{registers_stored, registers_stay, registers_fewer, registers_renamed}
 use Rattle.shown_graph.proofs.ObjectLayouts.{object_layout}
 
 -- other objects of as many blocks, for fewer names

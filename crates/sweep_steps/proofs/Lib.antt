@@ -1,6 +1,6 @@
 pub mod Ranges
-pub mod Keeping
-pub mod Freeing
-pub mod Passing
+pub mod ReuseRulesKept
+pub mod FreedBlocks
+pub mod PassedBlocks
 pub mod Pictures
 pub mod Cursor

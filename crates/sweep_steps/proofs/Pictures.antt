@@ -14,12 +14,12 @@ use Rattle.never_heap.specs.Graphs.{Graph}
 use Rattle.never_heap.specs.Histories.{HistoryItem}
 use Rattle.kept_names.specs.Kept.{IsKept}
 use Rattle.kept_names.specs.Pictures.{Task, Names, picture}
-use Rattle.kept_names.proofs.Painting.{frees}
+use Rattle.kept_names.proofs.ColourEvents.{frees}
 use Rattle.sweep_steps.specs.declared.rows.SweepRow.{SweepRow}
 use Rattle.sweep_steps.specs.declared.rows.SweepRow.TheVariants.{ReadCursor, ClaimRange, PassBlock, TakeFree, FreeBlock, PutFree, Credit, Swept, NothingLeft}
 use Rattle.sweep_steps.specs.Fits.{RowFits, SweepFits, IsSweeping}
 use Rattle.sweep_steps.specs.Rows.{SweepState, row_want, sweep_want, sweep_holding}
-use Rattle.sweep_steps.proofs.Keeping.{doomed_white}
+use Rattle.sweep_steps.proofs.ReuseRulesKept.{doomed_white}
 
 module _ (c : Config) (g : Graph) (order : List HistoryItem) (h : Heap) (names : Names)
     (tasks : ℕ → Task) (hs : ℕ → Holding) (reuse : ReuseKept (extent c) h hs) (t y owed : ℕ)

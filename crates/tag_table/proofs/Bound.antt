@@ -12,8 +12,8 @@ use Rattle.never_heap.specs.Graphs.{Graph, Object, shared_name, register_of, obj
 use Rattle.never_heap.specs.LiveBlocks.{live_blocks, object_blocks, blocks_of_kind}
 use Rattle.tag_table.specs.Tables.{Tag, Row, Make, SetValue, PutValue, SetQuality, PutQuality, Publish, Blank, Withdraw, Fetch, TellValue, TellQuality}
 use Rattle.operations.proofs.Among.{refs_weigh, thread_of}
-use Rattle.operations.proofs.Holding.{IsPlain, no_ref, Carries, IsIn, few as few_of}
-use Rattle.operations.proofs.Sharing.{HoldsBy}
+use Rattle.operations.proofs.LiveBound.{IsPlain, no_ref, Carries, IsIn, few as few_of}
+use Rattle.operations.proofs.SharedArray.{HoldsBy}
 use Rattle.tag_table.proofs.Places.{Here, InPlace, two, Shows, IsMaking, own_name, At, owed}
 
 -- an object of one block that refers to nothing

@@ -2,6 +2,6 @@ pub mod Places
 pub mod Rows
 pub mod Bound
 pub mod Chunks
-pub mod Keeping
+pub mod TableApplication
 pub mod Jobs
-pub mod Answering
+pub mod AnswersSoFar

@@ -8,8 +8,8 @@ use Rattle.never_heap.specs.declared.Reply.TheVariants.{Val, Null}
 use Rattle.never_heap.specs.Graphs.{Object, Record}
 use Rattle.tag_table.specs.Tables.{Tag, Row, Make, SetValue, PutValue, SetQuality, PutQuality, Publish, Blank, Withdraw, Fetch, TellValue, TellQuality}
 use Rattle.operations.specs.Applications.{Progress}
-use Rattle.operations.proofs.Holding.{IsPlain}
-use Rattle.operations.proofs.Sharing.{Frame, IsMade, Layout}
+use Rattle.operations.proofs.LiveBound.{IsPlain}
+use Rattle.operations.proofs.SharedArray.{Frame, IsMade, Layout}
 
 abbrev pub Here : Type 0
 Here = Progress Row Tag

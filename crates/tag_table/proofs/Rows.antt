@@ -10,13 +10,13 @@ use Rattle.never_heap.specs.declared.Reply.{Reply}
 use Rattle.never_heap.specs.declared.Reply.TheVariants.{Val, Stored}
 use Rattle.never_heap.specs.Graphs.{Graph, Object, Record, nil_object, shared_name, next_name, mutator_at, register_of, object_of, field_of, set_field, with_register, with_field}
 use Rattle.never_heap.specs.Steps.{step, made}
-use Rattle.never_heap.proofs.Stepping.{has_field}
+use Rattle.never_heap.proofs.StepChanges.{has_field}
 use Rattle.tag_table.specs.Tables.{Tag, answer, table_after, Row, Make, SetValue, PutValue, SetQuality, PutQuality, Publish, Blank, Withdraw, Fetch, TellValue, TellQuality, command_at, decides, ends, pair_of, pair_behind, pair_told}
 use Rattle.operations.specs.Applications.{moved, acted, said, Tells}
 use Rattle.operations.proofs.Effects.{Effect, nothing, stores, puts, makes, swaps, at_field_is}
 use Rattle.tag_table.proofs.Places.{Here, InPlace, layout, IsPair, pair_object, two, Shows, ShowsSome, own_name, reply_by, value_reply, quality_reply, At, owed, IsFirst, Begins, Leads, IsProper}
-use Rattle.operations.proofs.Holding.{IsPlain}
-use Rattle.operations.proofs.Sharing.{Thread, HoldsBy, Holds, thread_there, out_after, out_same, quiet, fills, stores_there, shows}
+use Rattle.operations.proofs.LiveBound.{IsPlain}
+use Rattle.operations.proofs.SharedArray.{Thread, HoldsBy, Holds, thread_there, out_after, out_same, quiet, fills, stores_there, shows}
 
 -- at rest a thread's place says the same before any first row
 pub rest_at : (obj : Name → Object) (out : ℕ → ℕ) (t : ℕ) (rows : List Row) (seen : List Reply)

@@ -17,7 +17,7 @@ use Rattle.trace_text.specs.Orders.{IsOrderOf, entries_in, left_behind, history_
 use Rattle.trace_text.specs.Places.{left_of, HasNext, next_line, told_after, starts_after}
 use Rattle.trace_text.specs.Streams.{Appends, AppendsPrefix}
 use Rattle.trace_text.specs.Texts.{entry_line, totals_line}
-use Rattle.trace_text.proofs.Appending.{appends_none, appends_in_turn, front_in_turn, front_longer}
+use Rattle.trace_text.proofs.AppendedTexts.{appends_none, appends_in_turn, front_in_turn, front_longer}
 
 -- ---- a history and its order
 

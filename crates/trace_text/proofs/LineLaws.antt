@@ -29,7 +29,7 @@ use Rattle.trace_text.specs.Words.{word_at, word_in, has_word, is_wide, is_comma
 use Rattle.trace_text.specs.Said.{◌>>=◌, HasRegisters, IsOfWidth, is_oversized, register_at, length_at, fitted, count_is, numbers_at, on_none, on_one, on_two, on_three, on_four, told_at, operands_at, in_turn, line_at}
 use Rattle.trace_text.specs.Refusals.{Before, first_of, is_number, value_of, any_operand, is_high_register, is_too_large, is_out_of_turn, word_fault, later_fault}
 use Rattle.trace_text.proofs.Sizes.{in_ranges, not_oversized}
-use Rattle.trace_text.proofs.Spelled.{are_written, operands_low, spelled, word_of}
+use Rattle.trace_text.proofs.CommandWords.{are_written, operands_low, spelled, word_of}
 use Rattle.trace_text.proofs.WordLaws.{word_text, word_known, word_sound, word_complete, count_map, count_length, values_are, AreWritten, numbers_complete, numbers_sound}
 
 -- the reason of an answer

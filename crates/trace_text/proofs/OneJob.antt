@@ -15,7 +15,7 @@ use Rattle.trace_text.specs.Spellings.{header, command_line, trace_lines, traces
 use Rattle.trace_text.specs.Jobs.{Job, IsJob}
 use Rattle.trace_text.specs.Words.{word_at, is_command}
 use Rattle.trace_text.specs.Said.{line_at, header_at}
-use Rattle.trace_text.proofs.Spelled.{spelled, word_again}
+use Rattle.trace_text.proofs.CommandWords.{spelled, word_again}
 use Rattle.trace_text.proofs.LineLaws.{place, line_complete}
 use Rattle.trace_text.proofs.HeaderLaws.{header_complete}
 

@@ -12,7 +12,7 @@ use Rattle.trace_text.specs.declared.reading.lines.Line.TheVariants.{Thread, End
 use Rattle.trace_text.specs.declared.reading.words.Word.{Word}
 use Rattle.trace_text.specs.declared.reading.words.Word.TheVariants as words
 use Rattle.trace_text.specs.Words.{is_command}
-use Rattle.trace_text.proofs.Spelled.{spelled, word_again, word_of}
+use Rattle.trace_text.proofs.CommandWords.{spelled, word_again, word_of}
 use Rattle.trace_text.specs.Spellings.{header, command_line, trace_lines, traces_lines}
 use Rattle.trace_text.specs.Reading.{tokenized}
 use Rattle.trace_text.specs.Refusals.{Before, nothing_before, after_word, after_line, after_lines, later_fault, next_fault, header_fault, config_of, fault_at, IsFirstBadLine}

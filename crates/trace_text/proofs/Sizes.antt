@@ -14,7 +14,7 @@ use Rattle.trace_text.specs.declared.trace_faults.Why.TheVariants as whys
 use Rattle.trace_text.specs.declared.reading.lines.Line.TheVariants.{Told}
 use Rattle.trace_text.specs.declared.reading.lines.Place.{Place}
 use Rattle.trace_text.specs.Said.{HasRegisters, IsOfWidth, is_large, is_oversized, fitted}
-use Rattle.trace_text.proofs.Spelled.{spelled}
+use Rattle.trace_text.proofs.CommandWords.{spelled}
 
 short : (n blocks most : ℕ) → (ltb 65535 n || ltb most blocks) ≡ false
     → (n ≤ 65535) × (blocks ≤ most)

@@ -10,7 +10,7 @@ use Rattle.trace_text.specs.Jobs.{Job}
 use Rattle.trace_text.specs.Spellings.{header, trace_lines, traces_lines}
 use Rattle.trace_text.specs.JobTexts.{line_text, job_text}
 use Rattle.trace_text.specs.Streams.{Appends, AppendsPrefix}
-use Rattle.trace_text.proofs.Appending.{appends_in_turn, front_in_turn, front_longer}
+use Rattle.trace_text.proofs.AppendedTexts.{appends_in_turn, front_in_turn, front_longer}
 
 traces_lines-append : (s : ℕ) (xs ys : List (List Command))
     → traces_lines s (xs ++ ys) ≡ traces_lines s xs ++ traces_lines (s + length xs) ys

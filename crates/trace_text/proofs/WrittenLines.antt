@@ -19,7 +19,7 @@ use Rattle.trace_text.specs.Reading.{tokenized}
 use Rattle.trace_text.specs.Spellings.{version, header, command_line, trace_lines, traces_lines, job_lines}
 use Rattle.trace_text.specs.Jobs.{Job, input_limit, IsJobInBounds, IsJob, IsInput}
 use Rattle.trace_text.specs.JobTexts.{line_text, job_text}
-use Rattle.trace_text.proofs.Spelled.{is_token, operands_low, spelled}
+use Rattle.trace_text.proofs.CommandWords.{is_token, operands_low, spelled}
 
 -- ---- bytes
 

@@ -6,7 +6,7 @@ use Rattle.heap_system.specs.Lives.{objects_of}
 use Rattle.control_heap.specs.declared.control.Refused.{Refused}
 use Rattle.control_heap.specs.Controls.{Control, HasLeft, HasAnswered, asked}
 use Rattle.asked_graph.specs.Asked.{HasDone}
-use Rattle.asked_graph.proofs.Showing.{follows_ok}
+use Rattle.asked_graph.proofs.GraphAnswers.{follows_ok}
 use Rattle.asked_graph.proofs.ask.Goals as goal
 
 pub returns-clause-shown : goal.returns-clause-shown

@@ -1,4 +1,4 @@
-use Rattle.asked_graph.proofs.Using.{used, fits}
+use Rattle.asked_graph.proofs.LifeUse.{used, fits}
 use Rattle.asked_graph.proofs.lives_add_up.Goals as goal
 
 pub returns-clause-used : goal.returns-clause-used

@@ -1,4 +1,4 @@
-use Rattle.asked_graph.proofs.Showing.{starts_small}
+use Rattle.asked_graph.proofs.GraphAnswers.{starts_small}
 use Rattle.asked_graph.proofs.shown_heaps_met_no_full.Goals as goal
 
 pub returns : goal.returns

@@ -1,4 +1,4 @@
-use Rattle.handle_table.proofs.Finding.{makes_are_shown, fates_are_told}
+use Rattle.handle_table.proofs.MakeBeforeUse.{makes_are_shown, fates_are_told}
 use Rattle.handle_table.proofs.handles_are_told.Goals as goal
 
 pub returns-clause-shown : goal.returns-clause-shown

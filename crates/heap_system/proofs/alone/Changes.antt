@@ -21,13 +21,13 @@ use Rattle.heap_system.specs.Machines.{Run, IsJob, local_at, heap_in, next, has_
 use Rattle.heap_system.specs.Rounds.{turns_phase, flips_or_starts}
 use Rattle.heap_system.specs.Units.{is_unit}
 use Rattle.heap_system.proofs.Always.{turn_kept}
-use Rattle.heap_system.proofs.Collecting.{phase_same}
+use Rattle.heap_system.proofs.FlipAndStart.{phase_same}
 use Rattle.heap_system.proofs.Kept.{Kept}
 use Rattle.heap_system.proofs.LawsOf.{laws_of}
-use Rattle.heap_system.proofs.Turning.{word_is, next_is}
-use Rattle.heap_system.proofs.Waiting.{done_stays}
+use Rattle.heap_system.proofs.KeptByTurns.{word_is, next_is}
+use Rattle.heap_system.proofs.WaitingTurns.{done_stays}
 use Rattle.heap_system.proofs.alone.Runs
-use Rattle.heap_system.proofs.alone.Standing.{spot_of, gate_spot, lone_of, is_out}
+use Rattle.heap_system.proofs.alone.LoneThread.{spot_of, gate_spot, lone_of, is_out}
 
 -- behind a change of phase the next pass will make a unit
 turned_fresh : (s z : Lone) (sweep : Bool) → Turns s z sweep → Fresh z.spot z

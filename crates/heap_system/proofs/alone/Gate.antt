@@ -14,9 +14,9 @@ use Rattle.heap_machine.specs.declared.gate.GateRow.TheVariants as gates
 use Rattle.heap_machine.proofs.Gatings.{inside_some, entered_phase}
 use Rattle.lone_bound.specs.Moves.{Spot}
 use Rattle.heap_system.specs.Parts.{Rest, Enter, Again, Idle}
-use Rattle.heap_system.proofs.Seeing.{Seen}
+use Rattle.heap_system.proofs.SeenAndKept.{Seen}
 use Rattle.heap_system.proofs.alone.Heads.{same_lone, open_here, has_pass}
-use Rattle.heap_system.proofs.alone.Standing.{ready_now, some, grey_heads, LoneStep, LoneLaw}
+use Rattle.heap_system.proofs.alone.LoneThread.{ready_now, some, grey_heads, LoneStep, LoneLaw}
 
 pub rest_lone : (c : Config) → LoneLaw c Rest
 rest_lone c s is alone event known =

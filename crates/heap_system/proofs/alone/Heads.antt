@@ -8,8 +8,8 @@ use Rattle.block_store.proofs.Functions.{total_none, bit_zero}
 use Rattle.heap_machine.specs.Gating.{Stand, Gating, Outside, Inside, Closing, is_outside, is_inside, is_closing}
 use Rattle.heap_system.specs.Parts.{Part}
 use Rattle.heap_system.specs.Pictures.{gating, stand_of}
-use Rattle.heap_system.proofs.Seeing.{Seen}
-use Rattle.heap_system.proofs.alone.Standing.{some, IsOfPass, Alone}
+use Rattle.heap_system.proofs.SeenAndKept.{Seen}
+use Rattle.heap_system.proofs.alone.LoneThread.{some, IsOfPass, Alone}
 use Rattle.lone_bound.specs.Moves.{Spot, Lone}
 
 pub some_none : (f : ℕ → ℕ) (n i : ℕ) → ((v : ℕ) → i ≤ v → v < i + n → f v ≡ 0) → some f i n ≡ false

@@ -2,13 +2,13 @@
 use Rattle.std.proofs.Common.{◌≡◌, true, false}
 use Rattle.block_store.specs.declared.Config.{Config}
 use Rattle.heap_system.specs.Parts.{Part, Rest, Enter, Serve, Mark, Sweep, Build, Again, Idle, TurnOver, Leave}
-use Rattle.heap_system.proofs.alone.Building.{build_lone}
-use Rattle.heap_system.proofs.alone.Changing.{turn_lone}
+use Rattle.heap_system.proofs.alone.Build.{build_lone}
+use Rattle.heap_system.proofs.alone.TurnOver.{turn_lone}
 use Rattle.heap_system.proofs.alone.Gate.{rest_lone, again_lone, idle_lone, enter_lone}
-use Rattle.heap_system.proofs.alone.Marking.{mark_lone}
-use Rattle.heap_system.proofs.alone.Serving.{serve_lone}
-use Rattle.heap_system.proofs.alone.Standing.{LoneLaw, is_out}
-use Rattle.heap_system.proofs.alone.Sweeping.{sweep_lone}
+use Rattle.heap_system.proofs.alone.Mark.{mark_lone}
+use Rattle.heap_system.proofs.alone.Serve.{serve_lone}
+use Rattle.heap_system.proofs.alone.LoneThread.{LoneLaw, is_out}
+use Rattle.heap_system.proofs.alone.Sweep.{sweep_lone}
 
 pub lone_law : (c : Config) (p : Part) → is_out p ≡ false → LoneLaw c p
 lone_law c Rest on = rest_lone c

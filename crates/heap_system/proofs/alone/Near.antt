@@ -14,7 +14,7 @@ use Rattle.never_heap.specs.declared.Command.TheVariants as commands
 use Rattle.never_heap.specs.declared.Entry.{Entry}
 use Rattle.never_heap.specs.RightWork.{units_owed, units_told}
 use Rattle.never_heap.specs.Steps.{blocks_of}
-use Rattle.never_heap.proofs.Answering.{blocks_untold}
+use Rattle.never_heap.proofs.StepAnswers.{blocks_untold}
 use Rattle.barrier_steps.specs.Operands.{is_idle}
 use Rattle.lone_bound.specs.Near.{Keeps, near_left, near_bound}
 use Rattle.lone_bound.specs.Prices.{allocation_bound, idle_bound, other_bound}
@@ -25,12 +25,12 @@ use Rattle.heap_system.specs.Locals.{LocalState, command_of, owed, is_done}
 use Rattle.heap_system.specs.Machines.{Run, IsJob, local_at, local_in, heap_in, next}
 use Rattle.heap_system.proofs.Kept.{Kept}
 use Rattle.heap_system.proofs.LawsOf.{laws_of}
-use Rattle.heap_system.proofs.Paying.{opening_room}
-use Rattle.heap_system.proofs.Turning.{at_part, event, next_is}
-use Rattle.heap_system.proofs.alone.Keeping.{scene_of, far_of, far_few, keep_law}
+use Rattle.heap_system.proofs.OwedAndPaid.{opening_room}
+use Rattle.heap_system.proofs.KeptByTurns.{at_part, event, next_is}
+use Rattle.heap_system.proofs.alone.WorkLeft.{scene_of, far_of, far_few, keep_law}
 use Rattle.heap_system.proofs.alone.Runs
 use Rattle.heap_system.proofs.alone.Runs.{wide}
-use Rattle.heap_system.proofs.alone.Standing.{terms_of, spot_of, LoneKnows, is_out, paid_left, grey_heads}
+use Rattle.heap_system.proofs.alone.LoneThread.{terms_of, spot_of, LoneKnows, is_out, paid_left, grey_heads}
 
 module _ (c : Config) (traces : List (List Command)) (job : IsJob c traces) (rate : ℕ)
     (planned : IsRate c rate) (t : ℕ) (tl : t < c.threads) (old : List Entry) (k : Command) where

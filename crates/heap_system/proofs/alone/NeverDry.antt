@@ -10,7 +10,7 @@ use Rattle.block_store.specs.Places.{Extent, FreeList, ColourOf, is_block}
 use Rattle.block_store.proofs.Functions.{total_none, total_part, total_same}
 use Rattle.heap_machine.specs.Chains.{Chain}
 use Rattle.heap_machine.specs.FreeBlocks.{FreeHolding, no_free, count_free, FreeKept}
-use Rattle.heap_machine.proofs.Chaining.{Chain-zero}
+use Rattle.heap_machine.proofs.ChainLaws.{Chain-zero}
 use Rattle.heap_machine.proofs.FreeBlocks.{block_is}
 use Rattle.build_steps.specs.Rows.{list_of}
 

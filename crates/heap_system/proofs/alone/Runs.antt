@@ -16,7 +16,7 @@ use Rattle.never_heap.specs.declared.Entry.{Entry}
 use Rattle.never_heap.specs.declared.Reply.{Reply}
 use Rattle.never_heap.specs.RightWork.{units_told, units_owed}
 use Rattle.never_heap.specs.Steps.{blocks_of}
-use Rattle.never_heap.proofs.Answering.{blocks_untold, owes_told}
+use Rattle.never_heap.proofs.StepAnswers.{blocks_untold, owes_told}
 use Rattle.heap_machine.specs.Gating.{is_outside, is_inside, is_closing}
 use Rattle.heap_machine.specs.Operations.{place_of}
 use Rattle.heap_machine.proofs.Gatings.{stand_out}
@@ -33,16 +33,16 @@ use Rattle.heap_system.specs.Machines.{Run, IsJob, local_at, local_in, heap_in, 
 use Rattle.heap_system.specs.Pictures.{gating, gates_in}
 use Rattle.heap_system.proofs.Kept.{Kept}
 use Rattle.heap_system.proofs.LawsOf.{laws_of}
-use Rattle.heap_system.proofs.Reached.{rest_is}
-use Rattle.heap_system.proofs.Seeing.{IsSettled, Seen}
-use Rattle.heap_system.proofs.Starting.{one_rate}
-use Rattle.heap_system.proofs.Turning.{seen, at_part, event, event_kept, word_is, local_new, heap_new, paid_new, new_local, new_heap, new_run, next_is}
-use Rattle.heap_system.proofs.Waiting.{part_waits}
+use Rattle.heap_system.proofs.TurnFacts.{rest_is}
+use Rattle.heap_system.proofs.SeenAndKept.{IsSettled, Seen}
+use Rattle.heap_system.proofs.SystemStart.{one_rate}
+use Rattle.heap_system.proofs.KeptByTurns.{seen, at_part, event, event_kept, word_is, local_new, heap_new, paid_new, new_local, new_heap, new_run, next_is}
+use Rattle.heap_system.proofs.WaitingTurns.{part_waits}
 use Rattle.heap_system.proofs.alone.FieldsLeft.{field_left, fields_low}
 use Rattle.heap_system.proofs.alone.Heads.{open_here}
 use Rattle.heap_system.proofs.alone.Laws.{lone_law}
 use Rattle.heap_system.proofs.alone.Low.{order_records}
-use Rattle.heap_system.proofs.alone.Standing.{terms_of, spot_of, lone_of, LoneKnows, LoneStep, Alone, is_out, paid_left}
+use Rattle.heap_system.proofs.alone.LoneThread.{terms_of, spot_of, lone_of, LoneKnows, LoneStep, Alone, is_out, paid_left}
 
 -- a price of a unit that serves both widths
 abbrev unit : Config → ℕ

@@ -21,7 +21,7 @@ use Rattle.heap_system.specs.Systems.{AllDone, IsLeastUndone}
 use Rattle.heap_system.proofs.Always.{run_kept}
 use Rattle.heap_system.proofs.Kept.{Kept}
 use Rattle.heap_system.proofs.LawsOf.{laws_of}
-use Rattle.heap_system.proofs.Waiting.{done_stays}
+use Rattle.heap_system.proofs.WaitingTurns.{done_stays}
 use Rattle.heap_system.proofs.alone.Runs.{lone_ends}
 
 -- the bounds of the commands of a trace from the n-th on

@@ -49,7 +49,7 @@ use Rattle.never_heap.specs.declared.Reply.TheVariants as replies
 use Rattle.never_heap.specs.Graphs.{count_of, next_name}
 use Rattle.never_heap.specs.Histories.{Did}
 use Rattle.never_heap.specs.Steps.{step, blocks_of}
-use Rattle.never_heap.proofs.Answering.{blocks_answer, blocks_count}
+use Rattle.never_heap.proofs.StepAnswers.{blocks_answer, blocks_count}
 use Rattle.shown_graph.specs.Events.{unloaded}
 use Rattle.kept_names.specs.Building.{Build as Builder}
 use Rattle.kept_names.specs.Kept.{IsKept}
@@ -96,16 +96,16 @@ use Rattle.build_steps.specs.Rows.{
   row_want,
 }
 use Rattle.build_steps.specs.Standing.{Stands, left_of}
-use Rattle.build_steps.proofs.Building.{holds_build, pictured_stands}
-use Rattle.build_steps.proofs.Deciding.{full, published, replies as step_replies}
+use Rattle.build_steps.proofs.BuildOfState.{holds_build, pictured_stands}
+use Rattle.build_steps.proofs.DecidingEvent.{full, published, replies as step_replies}
 use Rattle.build_steps.proofs.Ends.{decided_after, full_is, refused_after}
-use Rattle.build_steps.proofs.Keeping.{over_holds_none}
-use Rattle.build_steps.proofs.Naming.{goes_on}
+use Rattle.build_steps.proofs.ReuseRulesKept.{over_holds_none}
+use Rattle.build_steps.proofs.NameRulesKept.{goes_on}
 use Rattle.build_steps.proofs.Once.{left_free}
 use Rattle.build_steps.proofs.Ranges.{fits_next}
 use Rattle.build_steps.proofs.Parts.{has_blocks}
 use Rattle.build_steps.proofs.Together.{keeps_phase, phase_stays}
-use Rattle.build_steps.proofs.Wanted.{place_fits, stores_held, sum_fits}
+use Rattle.build_steps.proofs.WantedPlaces.{place_fits, stores_held, sum_fits}
 use Rattle.heap_system.specs.Parts.{Build}
 use Rattle.heap_system.specs.declared.Turn.TheVariants as turns
 use Rattle.heap_system.specs.Locals.{
@@ -128,10 +128,10 @@ use Rattle.heap_system.specs.Machines.{starts_by}
 use Rattle.heap_system.specs.Naming.{Naming, Same, Made, renamed}
 use Rattle.heap_system.specs.Pictures.{gating}
 use Rattle.heap_system.specs.Units.{turns_black}
-use Rattle.heap_system.proofs.Paying.{blocks_object}
+use Rattle.heap_system.proofs.OwedAndPaid.{blocks_object}
 use Rattle.heap_system.proofs.PartLaws.{AtPart, PartEvent, PartLaws}
-use Rattle.heap_system.proofs.Passing.{inside_open}
-use Rattle.heap_system.proofs.Seeing.{
+use Rattle.heap_system.proofs.GatePassage.{inside_open}
+use Rattle.heap_system.proofs.SeenAndKept.{
   EventKept,
   Forward,
   Seen,

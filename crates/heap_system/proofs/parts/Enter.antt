@@ -43,9 +43,9 @@ use Rattle.heap_system.specs.Locals.{part_want, plain, pass_by, first_part, task
 use Rattle.heap_system.specs.Pictures.{gating}
 use Rattle.heap_system.specs.Units.{blackens}
 use Rattle.heap_system.proofs.PartLaws.{AtPart, PartEvent, PartLaws, word_at}
-use Rattle.heap_system.proofs.Passing.{Comes, phase_is, began, look_event, gate_event, is_thread}
-use Rattle.heap_system.proofs.Paying.{blocks_low, blocks_object}
-use Rattle.heap_system.proofs.Seeing.{IsEntering, Knows, Seen, EventKept, errand}
+use Rattle.heap_system.proofs.GatePassage.{Comes, phase_is, began, look_event, gate_event, is_thread}
+use Rattle.heap_system.proofs.OwedAndPaid.{blocks_low, blocks_object}
+use Rattle.heap_system.proofs.SeenAndKept.{IsEntering, Knows, Seen, EventKept, errand}
 
 -- at the first row of a command nothing is loaded or held
 first_unloaded : (c : Config) (q : Pass) (k : Command) → loading_of (extent c) (at_first_row q k) ≡ unloaded

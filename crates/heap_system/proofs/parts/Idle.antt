@@ -11,10 +11,10 @@ use Rattle.heap_machine.specs.declared.gate.GateRow.TheVariants as gates
 use Rattle.heap_machine.specs.declared.pass.Pass.{Pass}
 use Rattle.heap_machine.proofs.Gatings.{inside_some}
 use Rattle.heap_system.specs.Parts.{Idle, TurnOver}
-use Rattle.heap_system.proofs.Passing.{phase_is, inside_low, leave_event, inside_open, same_stage}
-use Rattle.heap_system.proofs.Paying.{opening_room}
+use Rattle.heap_system.proofs.GatePassage.{phase_is, inside_low, leave_event, inside_open, same_stage}
+use Rattle.heap_system.proofs.OwedAndPaid.{opening_room}
 use Rattle.heap_system.proofs.PartLaws.{AtPart, PartEvent, PartLaws}
-use Rattle.heap_system.proofs.Seeing.{stage, stage_of, Forward, IsSwept, Seen}
+use Rattle.heap_system.proofs.SeenAndKept.{stage, stage_of, Forward, IsSwept, Seen}
 
 -- where no stage comes back, what was swept stays swept
 pub swept_stays : (c : Config) (h new : Heap) (q : Pass) → Forward h new → new Cursor ≤ c.blocks + 1 → stage q.cycle q.sweep ≤ stage_of h → IsSwept c h q → IsSwept c new q

@@ -20,7 +20,7 @@ use Rattle.heap_system.specs.Parts.{Part}
 use Rattle.heap_system.specs.Locals.{Effect, plain, task, entries_of, spent_got, unit_to_come, PartFits, IsRoomy}
 use Rattle.heap_system.specs.Pictures.{gating, stand_of, holding, waiting}
 use Rattle.heap_system.proofs.PartLaws.{AtPart}
-use Rattle.heap_system.proofs.Seeing.{stage_of, PartKept, Knows, IsSettled, lead, Seen, EventKept}
+use Rattle.heap_system.proofs.SeenAndKept.{stage_of, PartKept, Knows, IsSettled, lead, Seen, EventKept}
 
 -- what excludes the other is never so with it; and no word is grey and black
 pub not_both : (a b : Bool) → (b ≡ true → a ≡ false) → (a && b) ≡ false

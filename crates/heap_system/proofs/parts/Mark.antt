@@ -29,9 +29,9 @@ use Rattle.heap_system.specs.declared.Turn.TheVariants as turns
 use Rattle.heap_system.specs.Parts.{Mark, Again, Idle}
 use Rattle.heap_system.specs.Locals.{turn_of, task, spent_got}
 use Rattle.heap_system.specs.Units.{blackens}
-use Rattle.heap_system.proofs.Passing.{inside_open}
+use Rattle.heap_system.proofs.GatePassage.{inside_open}
 use Rattle.heap_system.proofs.PartLaws.{AtPart, PartLaws}
-use Rattle.heap_system.proofs.Seeing.{Seen, EventKept}
+use Rattle.heap_system.proofs.SeenAndKept.{Seen, EventKept}
 use Rattle.heap_system.proofs.parts.InPass.{not_both, grey_or_black, of_pass, PassEvent, pass_is, pass_kept, stands, units_are}
 
 -- no event of marking writes the cursor

@@ -16,8 +16,8 @@ use Rattle.never_heap.specs.declared.Reply.TheVariants as replies
 use Rattle.never_heap.specs.Graphs.{Graph, register_of, count_of}
 use Rattle.never_heap.specs.Histories.{HistoryItem, Did}
 use Rattle.never_heap.specs.Steps.{step, blocks_of}
-use Rattle.never_heap.proofs.Answering.{none_make, owes_told}
-use Rattle.never_heap.proofs.Staying.{step_counts}
+use Rattle.never_heap.proofs.StepAnswers.{none_make, owes_told}
+use Rattle.never_heap.proofs.UnchangedBySteps.{step_counts}
 use Rattle.heap_machine.specs.Gating.{Gating, GateOf, is_outside}
 use Rattle.heap_machine.specs.Holdings.{Holding}
 use Rattle.heap_machine.specs.Operations.{place_of, heap_after}
@@ -37,7 +37,7 @@ use Rattle.barrier_steps.specs.Decided.{field_task, graph_on, order_on}
 use Rattle.barrier_steps.specs.Deciding.{is_deciding}
 use Rattle.barrier_steps.specs.Fits.{FieldFits, FieldReads}
 use Rattle.never_heap.specs.RightWork.{units_told}
-use Rattle.heap_system.proofs.Looking.{Looks, looks}
+use Rattle.heap_system.proofs.IdleLook.{Looks, looks}
 use Rattle.barrier_steps.specs.Operands.{to_register, answered_register}
 use Rattle.barrier_steps.specs.Projection.{row_loading, loading_of}
 use Rattle.barrier_steps.specs.Replies.{due_before, due_at, reply_due, IsKnown, KnownBefore, KnownAt}
@@ -45,18 +45,18 @@ use Rattle.barrier_steps.specs.Rows.{FieldState, field_want, field_got, field_re
 use Rattle.barrier_steps.proofs.Decisions.{decided_once, makes_none}
 use Rattle.barrier_steps.proofs.Dues.{none_due}
 use Rattle.barrier_steps.proofs.FieldRows.{sum_at, field_fits}
-use Rattle.barrier_steps.proofs.Keeping.{keeps_phase, keeps_words, over_nothing}
-use Rattle.barrier_steps.proofs.Keeping.{field_phase, field_cursor, row_grey, row_found, row_claims}
-use Rattle.barrier_steps.proofs.Naming.{keeps_names, loaded_solid, due_on, reads_on}
+use Rattle.barrier_steps.proofs.PhaseRulesKept.{keeps_phase, keeps_words, over_nothing}
+use Rattle.barrier_steps.proofs.PhaseRulesKept.{field_phase, field_cursor, row_grey, row_found, row_claims}
+use Rattle.barrier_steps.proofs.NameRulesKept.{keeps_names, loaded_solid, due_on, reads_on}
 use Rattle.sweep_steps.specs.Ends.{unpassed}
 use Rattle.heap_system.specs.Parts.{Part, Serve, Leave}
 use Rattle.heap_system.specs.declared.Turn.TheVariants as turns
 use Rattle.heap_system.specs.Locals.{Verdict, Effect, plain, task, spent_got, made_got, if_replied, if_decides, turn_of, entry_of, entries_of, works}
 use Rattle.heap_system.specs.Pictures.{gating, holding}
 use Rattle.heap_system.specs.Units.{blackens, turns_black}
-use Rattle.heap_system.proofs.Passing.{inside_open}
+use Rattle.heap_system.proofs.GatePassage.{inside_open}
 use Rattle.heap_system.proofs.PartLaws.{AtPart, PartLaws}
-use Rattle.heap_system.proofs.Seeing.{stage, stage_of, lead, Seen, EventKept, graph_decided, told_by, items_told}
+use Rattle.heap_system.proofs.SeenAndKept.{stage, stage_of, lead, Seen, EventKept, graph_decided, told_by, items_told}
 
 -- the other threads' rows say the same of a graph in which their registers are the same
 store_stays : (g new : Graph) (u : ℕ) (k : Command) (store : FieldStore) → ((q : ℕ) → register_of new u q ≡ register_of g u q) → (KnownBefore g u k store → KnownBefore new u k store) × (due_before new u k store ≡ due_before g u k store)

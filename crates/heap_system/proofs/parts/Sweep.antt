@@ -21,18 +21,18 @@ use Rattle.sweep_steps.specs.Ends.{row_passes, unpassed}
 use Rattle.sweep_steps.specs.Fits.{SweepFits, SweepReads, IsSweeping}
 use Rattle.sweep_steps.specs.Rows.{SweepState, row_want, row_got, after_range, next_block, before_free, step_to, sweep_want, sweep_got, sweep_over, sweep_step, sweep_passed, sweep_nothing, sweep_holding}
 use Rattle.sweep_steps.proofs.Cursor.{both_move, cursor_moves, nothing_behind}
-use Rattle.sweep_steps.proofs.Freeing.{keeps_phase, keeps_words, leaves_others}
-use Rattle.sweep_steps.proofs.Keeping.{over_holds_none}
-use Rattle.sweep_steps.proofs.Passing.{passed_bits, passed_few}
+use Rattle.sweep_steps.proofs.FreedBlocks.{keeps_phase, keeps_words, leaves_others}
+use Rattle.sweep_steps.proofs.ReuseRulesKept.{over_holds_none}
+use Rattle.sweep_steps.proofs.PassedBlocks.{passed_bits, passed_few}
 use Rattle.sweep_steps.proofs.Pictures.{keeps_names}
 use Rattle.sweep_steps.proofs.Ranges.{fits_next, place_fits, sum_fits}
 use Rattle.heap_system.specs.declared.Turn.TheVariants as turns
 use Rattle.heap_system.specs.Parts.{Sweep, Again, Idle}
 use Rattle.heap_system.specs.Locals.{turn_of, sweep_waits, task, spent_got}
 use Rattle.heap_system.specs.Units.{blackens}
-use Rattle.heap_system.proofs.Passing.{inside_open}
+use Rattle.heap_system.proofs.GatePassage.{inside_open}
 use Rattle.heap_system.proofs.PartLaws.{AtPart, PartLaws}
-use Rattle.heap_system.proofs.Seeing.{Seen, EventKept}
+use Rattle.heap_system.proofs.SeenAndKept.{Seen, EventKept}
 use Rattle.heap_system.proofs.parts.InPass.{not_both, grey_or_black, of_pass, PassEvent, pass_is, pass_kept, stands, paid_more, units_are}
 
 -- the sweep reads no payload

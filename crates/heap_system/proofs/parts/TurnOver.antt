@@ -39,11 +39,11 @@ use Rattle.heap_system.specs.Naming.{Naming, Same, Lost, Begun, Shaded, renamed}
 use Rattle.heap_system.specs.Pictures.{gating, holding, waiting}
 use Rattle.heap_system.specs.Units.{blackens}
 use Rattle.heap_system.proofs.PartLaws.{AtPart, PartEvent, PartLaws}
-use Rattle.heap_system.proofs.Passing.{began, picture_stays, same_stage}
-use Rattle.heap_system.proofs.Seeing.{stage, stage_of, lead, PartKept, Knows, IsSettled, IsTurning, IsAtFirst, HasShaded, TurnKnows, Forward, Seen}
+use Rattle.heap_system.proofs.GatePassage.{began, picture_stays, same_stage}
+use Rattle.heap_system.proofs.SeenAndKept.{stage, stage_of, lead, PartKept, Knows, IsSettled, IsTurning, IsAtFirst, HasShaded, TurnKnows, Forward, Seen}
 use Rattle.heap_system.proofs.parts.Enter.{gate_turns}
 use Rattle.heap_system.proofs.parts.Idle.{swept_stays}
-use Rattle.heap_system.proofs.parts.Closing.{row_of, at_nothing, none_claimed, empty_outside, at_first, stands, shut, in_phase, alone, knows, turning, close_sees, sweep, behind_last, no_white, own_cycle, all_shaded, may_turn, roomy}
+use Rattle.heap_system.proofs.parts.ClosedGate.{row_of, at_nothing, none_claimed, empty_outside, at_first, stands, shut, in_phase, alone, knows, turning, close_sees, sweep, behind_last, no_white, own_cycle, all_shaded, may_turn, roomy}
 
 -- What its event keeps of the names.
 module _ (c : Config) (s : Seen c) (g : GateRow) (at : AtPart c s (TurnOver g)) where

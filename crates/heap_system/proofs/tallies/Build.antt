@@ -17,7 +17,7 @@ use Rattle.never_heap.specs.Graphs.{next_name}
 use Rattle.never_heap.specs.Histories.{Did, is_full}
 use Rattle.never_heap.specs.Steps.{step, blocks_of}
 use Rattle.never_heap.specs.Taken.{blocks_if_new}
-use Rattle.never_heap.proofs.Answering.{blocks_answer, blocks_untold}
+use Rattle.never_heap.proofs.StepAnswers.{blocks_answer, blocks_untold}
 use Rattle.heap_machine.specs.Gating.{Gating, is_outside}
 use Rattle.heap_machine.specs.Operations.{place_of, heap_after}
 use Rattle.heap_machine.specs.declared.Step.{Step}
@@ -38,9 +38,9 @@ use Rattle.heap_system.specs.Locals.{Open, AsStep, Refused, plain, if_decides, i
 use Rattle.heap_system.proofs.Balances.{no_idle}
 use Rattle.heap_system.specs.Naming.{Same, Made}
 use Rattle.heap_system.proofs.PartLaws.{AtPart}
-use Rattle.heap_system.proofs.Seeing.{Seen}
+use Rattle.heap_system.proofs.SeenAndKept.{Seen}
 use Rattle.heap_system.proofs.parts.Build.{row_no_reply}
-use Rattle.heap_system.proofs.Tallying.{IsSpending, Counted, TallyEvent, TallyLaw, reserved_for, Asking, asking, IsNext}
+use Rattle.heap_system.proofs.TallyLaw.{IsSpending, Counted, TallyEvent, TallyLaw, reserved_for, Asking, asking, IsNext}
 use Rattle.heap_system.proofs.tallies.Moves.{SameWords, same_words, spends_here, spends_twice, others_twice, paid_by, told_none, stays, moves}
 
 -- a builder claims nothing

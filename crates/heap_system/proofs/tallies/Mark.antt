@@ -32,8 +32,8 @@ use Rattle.heap_system.proofs.Balances.{idle_more}
 use Rattle.heap_system.specs.Machines.{starts_by}
 use Rattle.heap_system.specs.Units.{turns_black}
 use Rattle.heap_system.proofs.PartLaws.{AtPart}
-use Rattle.heap_system.proofs.Seeing.{Seen}
-use Rattle.heap_system.proofs.Tallying.{asked_got, IsSpending, Counted, TallyEvent, TallyLaw, more_if, Asking, asking}
+use Rattle.heap_system.proofs.SeenAndKept.{Seen}
+use Rattle.heap_system.proofs.TallyLaw.{asked_got, IsSpending, Counted, TallyEvent, TallyLaw, more_if, Asking, asking}
 use Rattle.heap_system.proofs.parts.InPass.{of_pass, pass_is, grey_or_black}
 use Rattle.heap_system.proofs.parts.Mark.{no_claim}
 use Rattle.heap_system.proofs.tallies.Moves.{SameWords, same_words, spends_here, paid_by, told_none, no_more, same_past, stays, moves}

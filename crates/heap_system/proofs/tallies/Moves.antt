@@ -21,8 +21,8 @@ use Rattle.heap_system.specs.Machines.{starts_by}
 use Rattle.heap_system.specs.Naming.{Naming, Begun}
 use Rattle.heap_system.specs.Pictures.{stand_of, holding}
 use Rattle.heap_system.proofs.Balances.{both_parts}
-use Rattle.heap_system.proofs.Seeing.{Seen, items_told}
-use Rattle.heap_system.proofs.Tallying.{reserved_for, IsSpending, IsTallyOf, Counted, TallyEvent, asked_got, scans_at, passes_at, more_if, in_cycle, past_by, Asking, asking}
+use Rattle.heap_system.proofs.SeenAndKept.{Seen, items_told}
+use Rattle.heap_system.proofs.TallyLaw.{reserved_for, IsSpending, IsTallyOf, Counted, TallyEvent, asked_got, scans_at, passes_at, more_if, in_cycle, past_by, Asking, asking}
 
 -- the words that a tally counts are the same
 pub record SameWords (h new : Heap) : Type 0 where

@@ -14,7 +14,7 @@ use Rattle.never_heap.specs.declared.Entry.{Entry}
 use Rattle.never_heap.specs.declared.Reply.{Reply}
 use Rattle.never_heap.specs.Histories.{Did}
 use Rattle.never_heap.specs.Steps.{step, blocks_of}
-use Rattle.never_heap.proofs.Answering.{owes_told, step_not_full}
+use Rattle.never_heap.proofs.StepAnswers.{owes_told, step_not_full}
 use Rattle.heap_machine.specs.Gating.{Gating, is_outside}
 use Rattle.heap_machine.specs.Operations.{CompareExchange, place_of, heap_after}
 use Rattle.barrier_steps.specs.Operands.{field_index}
@@ -39,11 +39,11 @@ use Rattle.work_account.specs.Accounts.{Balance}
 use Rattle.heap_system.specs.Parts.{Serve, Leave}
 use Rattle.heap_system.specs.Locals.{Open, AsStep, plain, if_decides, if_replied, entry_of, balance_paid}
 use Rattle.heap_system.proofs.Balances.{nothing_paid, all_made, no_idle}
-use Rattle.heap_system.proofs.Looking.{looks}
+use Rattle.heap_system.proofs.IdleLook.{looks}
 use Rattle.heap_system.proofs.PartLaws.{AtPart}
-use Rattle.heap_system.proofs.Seeing.{Seen}
+use Rattle.heap_system.proofs.SeenAndKept.{Seen}
 use Rattle.heap_system.proofs.parts.Mark as mark
-use Rattle.heap_system.proofs.Tallying.{IsSpending, Counted, TallyEvent, TallyLaw, Asking, asking, IsNext}
+use Rattle.heap_system.proofs.TallyLaw.{IsSpending, Counted, TallyEvent, TallyLaw, Asking, asking, IsNext}
 use Rattle.heap_system.proofs.tallies.Mark.{shades}
 use Rattle.heap_system.proofs.tallies.Moves.{SameWords, same_words, spends_here, spends_twice, others_twice, paid_by, told_none, stays, moves}
 

@@ -18,7 +18,7 @@ use Rattle.sweep_steps.specs.declared.rows.SweepRow.TheVariants as sweeps
 use Rattle.sweep_steps.specs.Ends.{row_passes}
 use Rattle.sweep_steps.specs.Fits.{RowFits, IsLeft}
 use Rattle.sweep_steps.specs.Rows.{SweepState, row_want, row_got, after_read, after_range, next_block, before_free, sweep_want, sweep_got, sweep_over, sweep_step, sweep_passed, sweep_nothing, sweep_holding}
-use Rattle.sweep_steps.proofs.Keeping.{over_holds_none}
+use Rattle.sweep_steps.proofs.ReuseRulesKept.{over_holds_none}
 use Rattle.work_account.specs.Accounts.{Balance}
 use Rattle.cycle_tally.specs.Events.{apply}
 use Rattle.cycle_tally.specs.Events as events
@@ -30,8 +30,8 @@ use Rattle.heap_system.specs.Locals.{idle_part, balance_made}
 use Rattle.heap_system.proofs.Balances.{idle_more}
 use Rattle.heap_system.specs.Parts.{Part, Sweep, Again, Idle}
 use Rattle.heap_system.proofs.PartLaws.{AtPart}
-use Rattle.heap_system.proofs.Seeing.{Seen}
-use Rattle.heap_system.proofs.Tallying.{IsSpending, IsTallyOf, Counted, TallyEvent, TallyLaw, more_if, Asking, asking}
+use Rattle.heap_system.proofs.SeenAndKept.{Seen}
+use Rattle.heap_system.proofs.TallyLaw.{IsSpending, IsTallyOf, Counted, TallyEvent, TallyLaw, more_if, Asking, asking}
 use Rattle.heap_system.specs.Units.{turns_black}
 use Rattle.heap_system.proofs.parts.InPass.{of_pass, pass_is, grey_or_black}
 use Rattle.heap_system.proofs.parts.Sweep.{freed_word}

@@ -35,9 +35,9 @@ use Rattle.heap_system.specs.Parts.{TurnOver}
 use Rattle.heap_system.specs.Locals.{plain, is_last, if_turned, turn_naming}
 use Rattle.heap_system.specs.Naming.{Naming, Same, Lost, Begun, Shaded}
 use Rattle.heap_system.proofs.PartLaws.{AtPart}
-use Rattle.heap_system.proofs.Seeing.{Seen}
-use Rattle.heap_system.proofs.Tallying.{IsSpending, Counted, TallyEvent, TallyLaw, Asking, asking}
-use Rattle.heap_system.proofs.parts.Closing.{stands, in_phase, shut, alone, turning, behind_last, no_white, own_cycle, all_shaded}
+use Rattle.heap_system.proofs.SeenAndKept.{Seen}
+use Rattle.heap_system.proofs.TallyLaw.{IsSpending, Counted, TallyEvent, TallyLaw, Asking, asking}
+use Rattle.heap_system.proofs.parts.ClosedGate.{stands, in_phase, shut, alone, turning, behind_last, no_white, own_cycle, all_shaded}
 use Rattle.heap_system.proofs.tallies.Moves.{SameWords, same_words, phase_words, told_none, stays, moves}
 
 -- such a thread is not inside, and has claimed nothing

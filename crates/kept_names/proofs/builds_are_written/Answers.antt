@@ -1,5 +1,5 @@
-use Rattle.kept_names.proofs.Standing.{build_of, title_of}
-use Rattle.kept_names.proofs.Showing.{coloured_refers, in_hand_refers}
+use Rattle.kept_names.proofs.KeptStates.{build_of, title_of}
+use Rattle.kept_names.proofs.ReachedBlocks.{coloured_refers, in_hand_refers}
 use Rattle.kept_names.proofs.builds_are_written.Goals as goal
 
 pub returns : goal.returns

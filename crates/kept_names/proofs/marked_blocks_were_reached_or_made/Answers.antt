@@ -1,4 +1,4 @@
-use Rattle.kept_names.proofs.Showing.{marked_is}
+use Rattle.kept_names.proofs.ReachedBlocks.{marked_is}
 use Rattle.kept_names.proofs.marked_blocks_were_reached_or_made.Goals as goal
 
 pub returns : goal.returns

@@ -1,5 +1,5 @@
 use Rattle.kept_names.specs.Openings.{opening_kept}
-use Rattle.kept_names.proofs.Opening.{opening_is_kept}
+use Rattle.kept_names.proofs.OpeningKept.{opening_is_kept}
 use Rattle.kept_names.proofs.Steps.{run_kept}
 use Rattle.kept_names.proofs.openings_are_kept.Goals as goal
 

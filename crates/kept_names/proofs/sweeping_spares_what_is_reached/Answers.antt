@@ -1,4 +1,4 @@
-use Rattle.kept_names.proofs.Showing.{flipped_black, reached_black, dark_refers, started_black}
+use Rattle.kept_names.proofs.ReachedBlocks.{flipped_black, reached_black, dark_refers, started_black}
 use Rattle.kept_names.proofs.sweeping_spares_what_is_reached.Goals as goal
 
 pub returns : goal.returns

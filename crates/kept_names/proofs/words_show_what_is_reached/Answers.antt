@@ -1,6 +1,6 @@
-use Rattle.kept_names.proofs.Standing.{shown}
-use Rattle.kept_names.proofs.Turning.{reached_kept}
-use Rattle.kept_names.proofs.Showing.{reached_solid, reached_not_held}
+use Rattle.kept_names.proofs.KeptStates.{shown}
+use Rattle.kept_names.proofs.FlipAndStart.{reached_kept}
+use Rattle.kept_names.proofs.ReachedBlocks.{reached_solid, reached_not_held}
 use Rattle.kept_names.proofs.words_show_what_is_reached.Goals as goal
 
 pub returns : goal.returns

@@ -1,5 +1,5 @@
 use Rattle.never_heap.specs.Graphs.{start_graph}
-use Rattle.never_heap.proofs.Growing.{replay_more, legal_history_more, part_append}
+use Rattle.never_heap.proofs.HistoryGrowth.{replay_more, legal_history_more, part_append}
 use Rattle.never_heap.proofs.histories_grow.Goals as goal
 
 pub returns-clause-replay : goal.returns-clause-replay

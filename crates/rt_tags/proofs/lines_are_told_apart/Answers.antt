@@ -1,7 +1,7 @@
 use Rattle.array_scripts.specs.Kinds.{language, IsHeader, Fits}
-use Rattle.scripts.proofs.Reading.{told_apart, never_both, scripts_are_one}
+use Rattle.scripts.proofs.ScriptOrBadLine.{told_apart, never_both, scripts_are_one}
 use Rattle.rt_tags.specs.Lines.{tag_kind}
-use Rattle.rt_tags.proofs.Telling.{tag_reads}
+use Rattle.rt_tags.proofs.LineLaws.{tag_reads}
 use Rattle.rt_tags.proofs.lines_are_told_apart.Goals as goal
 
 pub returns-clause-either : goal.returns-clause-either

@@ -1,5 +1,5 @@
 use Rattle.std.proofs.Common.{IsTrue}
-use Rattle.scripts.proofs.Reading.{told_apart, never_both, scripts_are_one}
+use Rattle.scripts.proofs.ScriptOrBadLine.{told_apart, never_both, scripts_are_one}
 use Rattle.scripts.proofs.lines_are_told_apart.Goals as goal
 
 pub returns-clause-either : goal.returns-clause-either

@@ -1,5 +1,5 @@
 use Rattle.std.proofs.Common.{length, ap, arith, rules}
-use Rattle.short_lines.proofs.Reading.{read_none, read_more, read_line, read_end, read_long, read_cut}
+use Rattle.short_lines.proofs.LineByBytes.{read_none, read_more, read_line, read_end, read_long, read_cut}
 use Rattle.short_lines.proofs.next_line.Goals as goal
 
 pub loop-place-init : goal.loop-place-init

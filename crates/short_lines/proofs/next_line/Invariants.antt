@@ -1,6 +1,6 @@
 -- So many bytes of the line came, and no fault was counted.
 use Rattle.std.proofs.Common.{◌≡◌, length, IfSome}
-use Rattle.short_lines.proofs.Reading.{IsReadTo}
+use Rattle.short_lines.proofs.LineByBytes.{IsReadTo}
 use Rattle.short_lines.proofs.next_line.Given as goal
 
 abbrev pub invariant-loop-place : goal.invariant-loop-place

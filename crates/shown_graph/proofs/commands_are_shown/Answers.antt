@@ -1,5 +1,5 @@
 use Rattle.shown_graph.specs.Shown.{named}
-use Rattle.shown_graph.proofs.Serving.{opening_follows, run_follows}
+use Rattle.shown_graph.proofs.CommandEvents.{opening_follows, run_follows}
 use Rattle.shown_graph.proofs.commands_are_shown.Goals as goal
 
 pub returns : goal.returns

@@ -1,4 +1,4 @@
-use Rattle.shown_graph.proofs.Opening.{opening_shows}
+use Rattle.shown_graph.proofs.OpeningWords.{opening_shows}
 use Rattle.shown_graph.proofs.opening_is_shown.Goals as goal
 
 pub returns : goal.returns

@@ -1,5 +1,5 @@
 use Rattle.shown_graph.specs.Shown.{named}
-use Rattle.shown_graph.proofs.Reading.{owner_read, length_read, value_read, one_value, register_read, walk_ends, blocks_apart}
+use Rattle.shown_graph.proofs.WordReads.{owner_read, length_read, value_read, one_value, register_read, walk_ends, blocks_apart}
 use Rattle.shown_graph.proofs.shown_words_are_read.Goals as goal
 
 pub returns : goal.returns

@@ -1,6 +1,6 @@
 use Rattle.std.proofs.Common.{◌≡◌, sym, subst}
 use Rattle.heap_system.specs.Machines.{IsJob}
-use Rattle.heap_system.proofs.Lived.{job_of_text}
+use Rattle.heap_system.proofs.TextLives.{job_of_text}
 use Rattle.trace_text.specs.Jobs.{Job}
 use Rattle.atom_board.proofs.Orders.{in_order_each}
 use Rattle.threaded_runs.specs.Ends.{HasTurns, job_of}

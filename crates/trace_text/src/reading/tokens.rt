@@ -42,7 +42,7 @@ pub fn first_token(line: &[u8]) -> (&[u8], Option<&[u8]>)
 }
 
 /// That no token is left.
-#[tactic(auto, unfolding(crate::specs::Reading::no_more_of), using(crate::proofs::Counting::some_more))]
+#[tactic(auto, unfolding(crate::specs::Reading::no_more_of), using(crate::proofs::TokenCount::some_more))]
 pub fn no_more(tokens: Option<&[u8]>) -> Option<()>
     ensures { result ≡ no_more_of (tokens_left (option_copied tokens.entry)) }
 {

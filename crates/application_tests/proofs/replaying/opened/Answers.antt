@@ -1,4 +1,4 @@
-use Rattle.heap_system.proofs.Lived.{job_of_text, text_few}
+use Rattle.heap_system.proofs.TextLives.{job_of_text, text_few}
 use Rattle.application_tests.proofs.replaying.opened.Goals as goal
 
 pub new_ordered-requires-clause-job : goal.new_ordered-requires-clause-job

@@ -2,10 +2,10 @@ use Rattle.std.proofs.Common.{◌<◌, rules, length, map, subst, arith}
 use Rattle.std.proofs.lemmas.List.{length-map}
 use Rattle.std.specs.List.{flat_map}
 use Rattle.trace_text.specs.Streams.{Appends, AppendsPrefix}
-use Rattle.trace_text.proofs.Appending.{at_err}
+use Rattle.trace_text.proofs.AppendedTexts.{at_err}
 use Rattle.array_scripts.specs.Tellings.{answer_line}
 use Rattle.array_scripts.proofs.Items.{items_at}
-use Rattle.array_scripts.proofs.Writing.{written_more, written_front}
+use Rattle.array_scripts.proofs.WrittenAnswers.{written_more, written_front}
 use Rattle.array_scripts.proofs.printing.write_answers.Goals as goal
 
 pub returns-in_err-write_thread-clause-prefix : goal.returns-in_err-write_thread-clause-prefix

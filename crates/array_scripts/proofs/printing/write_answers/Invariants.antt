@@ -1,6 +1,6 @@
 -- The lines of the threads so far were put, and no fault was counted.
 use Rattle.std.proofs.Common.{◌≡◌, map}
-use Rattle.array_scripts.proofs.Writing.{IsWrittenTo}
+use Rattle.array_scripts.proofs.WrittenAnswers.{IsWrittenTo}
 use Rattle.array_scripts.proofs.printing.write_answers.Given as goal
 
 abbrev pub invariant-loop-t : goal.invariant-loop-t

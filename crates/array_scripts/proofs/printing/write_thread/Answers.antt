@@ -1,6 +1,6 @@
 use Rattle.std.proofs.Common.{◌∙◌, ap, subst, List, ℕ}
 use Rattle.trace_text.specs.Streams.{AppendsPrefix}
-use Rattle.trace_text.proofs.Appending.{at_err, lines_front}
+use Rattle.trace_text.proofs.AppendedTexts.{at_err, lines_front}
 use Rattle.array_scripts.specs.Tellings.{answer_line}
 use Rattle.array_scripts.proofs.printing.write_thread.Goals as goal
 

@@ -1,7 +1,7 @@
 use Rattle.std.proofs.Common.{arith}
 use Rattle.trace_text.specs.Lines.{tokens_of}
 use Rattle.trace_text.specs.Reading.{tokenized}
-use Rattle.array_scripts.proofs.Going.{turned_at, turn_of}
+use Rattle.array_scripts.proofs.LinesSoFar.{turned_at, turn_of}
 use Rattle.array_scripts.proofs.script.operations_of.Goals as goal
 
 pub returns-in_default-said : goal.returns-in_default-said

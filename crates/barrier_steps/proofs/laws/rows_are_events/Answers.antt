@@ -1,4 +1,4 @@
-use Rattle.barrier_steps.proofs.Projecting.{words_moved, loads_moved, row_guarded, graph_stays, graph_steps}
+use Rattle.barrier_steps.proofs.RowEvents.{words_moved, loads_moved, row_guarded, graph_stays, graph_steps}
 use Rattle.barrier_steps.proofs.laws.rows_are_events.Goals as goal
 
 pub returns : goal.returns

@@ -1,4 +1,4 @@
-use Rattle.barrier_steps.proofs.Keeping.{keeps_phase, first_nothing, over_nothing, keeps_words}
+use Rattle.barrier_steps.proofs.PhaseRulesKept.{keeps_phase, first_nothing, over_nothing, keeps_words}
 use Rattle.barrier_steps.proofs.rules.rows_keep_the_heap.Goals as goal
 
 pub returns : goal.returns

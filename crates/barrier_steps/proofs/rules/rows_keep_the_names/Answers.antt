@@ -1,4 +1,4 @@
-use Rattle.barrier_steps.proofs.Naming.{keeps_names, loaded_solid, due_on, reads_on}
+use Rattle.barrier_steps.proofs.NameRulesKept.{keeps_names, loaded_solid, due_on, reads_on}
 use Rattle.barrier_steps.proofs.rules.rows_keep_the_names.Goals as goal
 
 pub returns : goal.returns

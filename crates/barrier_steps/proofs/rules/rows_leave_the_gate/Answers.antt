@@ -1,4 +1,4 @@
-use Rattle.barrier_steps.proofs.Keeping.{field_phase, field_cursor, row_grey, row_found, row_claims}
+use Rattle.barrier_steps.proofs.PhaseRulesKept.{field_phase, field_cursor, row_grey, row_found, row_claims}
 use Rattle.barrier_steps.proofs.rules.rows_leave_the_gate.Goals as goal
 
 pub returns : goal.returns

@@ -1,4 +1,4 @@
-use Rattle.build_steps.proofs.Marking.{
+use Rattle.build_steps.proofs.MarkRulesKept.{
   keeps_grey,
   keeps_tricolour,
   keeps_solid,

@@ -1,5 +1,5 @@
 use Rattle.std.proofs.Common.{refl}
-use Rattle.build_steps.proofs.Keeping.{keeps_reuse, over_holds_none}
+use Rattle.build_steps.proofs.ReuseRulesKept.{keeps_reuse, over_holds_none}
 use Rattle.build_steps.proofs.laws.rows_keep_reuse.Goals as goal
 
 pub returns : goal.returns

@@ -1,4 +1,4 @@
-use Rattle.build_steps.proofs.Publishing.{
+use Rattle.build_steps.proofs.PublishedObject.{
   written_links_black,
   links_as_laid,
   fields_are_nil,

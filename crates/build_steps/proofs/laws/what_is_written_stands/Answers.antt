@@ -1,4 +1,4 @@
-use Rattle.build_steps.proofs.Standing.{first_stands, keeps_standing, others_leave}
+use Rattle.build_steps.proofs.WrittenBlocks.{first_stands, keeps_standing, others_leave}
 use Rattle.build_steps.proofs.laws.what_is_written_stands.Goals as goal
 
 pub returns : goal.returns

@@ -1,5 +1,5 @@
-use Rattle.build_steps.proofs.Naming.{goes_on}
-use Rattle.build_steps.proofs.Deciding.{full, published, replies}
+use Rattle.build_steps.proofs.NameRulesKept.{goes_on}
+use Rattle.build_steps.proofs.DecidingEvent.{full, published, replies}
 use Rattle.build_steps.proofs.names.rows_keep_the_names.Goals as goal
 
 pub returns : goal.returns

@@ -1,5 +1,5 @@
 use Rattle.std.proofs.Common.{refl}
-use Rattle.build_steps.proofs.Building.{over_builds_none, holds_build}
+use Rattle.build_steps.proofs.BuildOfState.{over_builds_none, holds_build}
 use Rattle.build_steps.proofs.names.states_build_what_they_hold.Goals as goal
 
 pub returns : goal.returns

@@ -1,8 +1,8 @@
 use Rattle.block_store.specs.Places.{extent}
 use Rattle.heap_machine.proofs.Held.{held_after}
 use Rattle.build_steps.specs.Rows.{build_want}
-use Rattle.build_steps.proofs.Building.{stands, pictured_stands}
-use Rattle.build_steps.proofs.Wanted.{stores_held}
+use Rattle.build_steps.proofs.BuildOfState.{stands, pictured_stands}
+use Rattle.build_steps.proofs.WantedPlaces.{stores_held}
 use Rattle.build_steps.proofs.names.written_blocks_stand.Goals as goal
 
 pub returns : goal.returns

@@ -1,7 +1,7 @@
 use Rattle.std.proofs.Common.{ap, ◌∙◌}
 use Rattle.never_heap.specs.declared.Command.TheVariants as commands
 use Rattle.heap_system.specs.Locals.{at_start}
-use Rattle.control_heap.proofs.Opened.{stands_first}
+use Rattle.control_heap.proofs.OpeningRun.{stands_first}
 use Rattle.control_heap.proofs.control.opened.Goals as goal
 
 pub invariant_of-result : goal.invariant_of-result

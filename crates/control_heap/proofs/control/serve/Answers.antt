@@ -1,7 +1,7 @@
 use Rattle.std.proofs.Common.{refl, sym, ◌∙◌, subst, arith}
 use Rattle.heap_system.specs.Locals.{LocalReads, op_wanted}
 use Rattle.control_heap.specs.Controls.{Machine}
-use Rattle.control_heap.proofs.Serving.{few, safe_here, goes_more, moves_on}
+use Rattle.control_heap.proofs.ServeLoop.{few, safe_here, goes_more, moves_on}
 use Rattle.control_heap.proofs.control.serve.Goals as goal
 
 pub event-requires-clause-may : goal.event-requires-clause-may

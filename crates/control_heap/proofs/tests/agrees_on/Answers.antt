@@ -1,6 +1,6 @@
 use Rattle.std.proofs.Common.{◌≡◌, ◌≤◌, ◌+◌, length, sym, ◌∙◌, subst, arith}
 use Rattle.never_heap.specs.Graphs.{WideGraph, count_of}
-use Rattle.never_heap.proofs.Stepping.{step_count, step_threads}
+use Rattle.never_heap.proofs.StepChanges.{step_count, step_threads}
 use Rattle.control_heap.proofs.tests.agrees_on.Goals as goal
 
 pub returns-in_ok-apply-in-Ok-clause-thread : goal.returns-in_ok-apply-in-Ok-clause-thread

@@ -1,4 +1,4 @@
-use Rattle.handle_table.proofs.Answering.{all_commands}
+use Rattle.handle_table.proofs.AnswersSoFar.{all_commands}
 use Rattle.handle_table.proofs.operation.trace_of.Goals as goal
 
 pub returns : goal.returns

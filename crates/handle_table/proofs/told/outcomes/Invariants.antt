@@ -1,5 +1,5 @@
 -- The outcomes so far and those of the operations that are left are all outcomes.
-use Rattle.handle_table.proofs.Answering.{IsToldSoFar}
+use Rattle.handle_table.proofs.AnswersSoFar.{IsToldSoFar}
 use Rattle.handle_table.proofs.told.outcomes.Given as goal
 
 abbrev pub invariant-loop-op : goal.invariant-loop-op

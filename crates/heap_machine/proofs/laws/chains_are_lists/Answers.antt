@@ -1,4 +1,4 @@
-use Rattle.heap_machine.proofs.Chaining.{Chain-zero, Chain-step, Chain-one, Chain-once, Chain-outside, Chain-front}
+use Rattle.heap_machine.proofs.ChainLaws.{Chain-zero, Chain-step, Chain-one, Chain-once, Chain-outside, Chain-front}
 use Rattle.heap_machine.proofs.laws.chains_are_lists.Goals as goal
 
 pub returns : goal.returns

@@ -1,4 +1,4 @@
-use Rattle.heap_machine.proofs.Keeping.{heap_other, heap_colour, heap_payload}
+use Rattle.heap_machine.proofs.HeapRules.{heap_other, heap_colour, heap_payload}
 use Rattle.heap_machine.proofs.laws.what_keeps_the_heap.Goals as goal
 
 pub returns : goal.returns

@@ -1,4 +1,4 @@
-use Rattle.heap_machine.proofs.Opening.{free_opens}
+use Rattle.heap_machine.proofs.OpeningFreeList.{free_opens}
 use Rattle.heap_machine.proofs.reuse.free_blocks_stand_at_the_opening.Goals as goal
 
 pub returns : goal.returns

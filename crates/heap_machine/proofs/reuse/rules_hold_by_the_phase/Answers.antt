@@ -1,4 +1,4 @@
-use Rattle.heap_machine.proofs.Phasing.{in_mark, from_mark, from_sweep, phase_stays, phase_flips}
+use Rattle.heap_machine.proofs.PhaseRules.{in_mark, from_mark, from_sweep, phase_stays, phase_flips}
 use Rattle.heap_machine.proofs.reuse.rules_hold_by_the_phase.Goals as goal
 
 pub returns : goal.returns

@@ -1,4 +1,4 @@
-use Rattle.heap_machine.proofs.Sweeping.{one_claim, claim_below, sweep_over}
+use Rattle.heap_machine.proofs.SweepRule.{one_claim, claim_below, sweep_over}
 use Rattle.heap_machine.proofs.reuse.sweep_claims_do_not_overlap.Goals as goal
 
 pub returns : goal.returns

@@ -1,4 +1,4 @@
-use Rattle.heap_machine.proofs.Reusing.{reuse_stays, reuse_other, reuse_colour, reuse_phase, reuse_turns, reuse_cursor}
+use Rattle.heap_machine.proofs.ReuseRules.{reuse_stays, reuse_other, reuse_colour, reuse_phase, reuse_turns, reuse_cursor}
 use Rattle.heap_machine.proofs.reuse.what_keeps_reuse.Goals as goal
 
 pub returns : goal.returns

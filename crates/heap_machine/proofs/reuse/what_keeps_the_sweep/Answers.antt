@@ -1,4 +1,4 @@
-use Rattle.heap_machine.proofs.Sweeping.{sweep_other, sweep_colour, sweep_phase, sweep_turns, sweep_cursor, sweep_claims, sweep_dooms, sweep_passes, sweep_frees, sweep_begins}
+use Rattle.heap_machine.proofs.SweepRule.{sweep_other, sweep_colour, sweep_phase, sweep_turns, sweep_cursor, sweep_claims, sweep_dooms, sweep_passes, sweep_frees, sweep_begins}
 use Rattle.heap_machine.proofs.reuse.what_keeps_the_sweep.Goals as goal
 
 pub returns : goal.returns

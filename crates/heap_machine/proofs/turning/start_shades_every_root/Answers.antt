@@ -1,4 +1,4 @@
-use Rattle.heap_machine.proofs.Starting.{starts_only, each_root, puts_roots}
+use Rattle.heap_machine.proofs.RootsBeforeStart.{starts_only, each_root, puts_roots}
 use Rattle.heap_machine.proofs.turning.start_shades_every_root.Goals as goal
 
 pub returns : goal.returns

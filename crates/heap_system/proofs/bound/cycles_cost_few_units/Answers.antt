@@ -1,8 +1,8 @@
 use Rattle.std.proofs.Common.{◌∙◌}
 use Rattle.block_store.proofs.Functions.{total_same}
-use Rattle.heap_system.proofs.Bounded.{least, most, right, small, all_done, by_thread}
+use Rattle.heap_system.proofs.RunBounds.{least, most, right, small, all_done, by_thread}
 use Rattle.heap_system.proofs.LawsOf.{laws_of}
-use Rattle.heap_system.proofs.Making.{run_makes}
+use Rattle.heap_system.proofs.UnitsOfTurns.{run_makes}
 use Rattle.heap_system.proofs.TalliesOf.{tallies_of}
 use Rattle.heap_system.proofs.bound.cycles_cost_few_units.Goals as goal
 

@@ -1,4 +1,4 @@
-use Rattle.heap_system.proofs.Bounded.{gives}
+use Rattle.heap_system.proofs.RunBounds.{gives}
 use Rattle.heap_system.proofs.LawsOf.{laws_of}
 use Rattle.heap_system.proofs.TalliesOf.{tallies_of}
 use Rattle.heap_system.proofs.bound.cycles_give_few_blocks.Goals as goal

@@ -1,4 +1,4 @@
-use Rattle.heap_system.proofs.Bounded.{licensed, never_full}
+use Rattle.heap_system.proofs.RunBounds.{licensed, never_full}
 use Rattle.heap_system.proofs.LawsOf.{laws_of}
 use Rattle.heap_system.proofs.TalliesOf.{tallies_of}
 use Rattle.heap_system.proofs.bound.fulls_are_licensed.Goals as goal

@@ -2,7 +2,7 @@ use Rattle.std.proofs.Common.{arith, ◌+◌}
 use Rattle.never_heap.specs.declared.Entry.{Entry}
 use Rattle.never_heap.specs.declared.Command.TheVariants as commands
 use Rattle.never_heap.specs.declared.Reply.TheVariants as replies
-use Rattle.heap_system.proofs.Paying.{works_take, works_at}
+use Rattle.heap_system.proofs.OwedAndPaid.{works_take, works_at}
 use Rattle.heap_system.proofs.counting.sum_of_works.Goals as goal
 
 -- what stands for no entry

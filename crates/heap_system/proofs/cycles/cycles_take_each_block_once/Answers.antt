@@ -1,4 +1,4 @@
-use Rattle.heap_system.proofs.Cycling.{scanned_once, passed_once, passed_all, in_mark, in_sweep, units_taken}
+use Rattle.heap_system.proofs.OncePerCycle.{scanned_once, passed_once, passed_all, in_mark, in_sweep, units_taken}
 use Rattle.heap_system.proofs.LawsOf.{laws_of}
 use Rattle.heap_system.proofs.TalliesOf.{tallies_of}
 use Rattle.heap_system.proofs.cycles.cycles_take_each_block_once.Goals as goal

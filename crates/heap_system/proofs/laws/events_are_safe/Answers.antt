@@ -1,10 +1,10 @@
 use Rattle.std.proofs.Common.{◌<◌, ◌^◌, subst}
 use Rattle.heap_system.proofs.Always.{run_kept}
-use Rattle.heap_system.proofs.Balanced.{local_reads}
-use Rattle.heap_system.proofs.Bounded.{small}
+use Rattle.heap_system.proofs.ThreadAccounts.{local_reads}
+use Rattle.heap_system.proofs.RunBounds.{small}
 use Rattle.heap_system.proofs.LawsOf.{laws_of}
 use Rattle.heap_system.proofs.TalliesOf.{tallies_of}
-use Rattle.heap_system.proofs.Turning.{place, sums}
+use Rattle.heap_system.proofs.KeptByTurns.{place, sums}
 use Rattle.heap_system.proofs.laws.events_are_safe.Goals as goal
 
 pub returns-clause-place : goal.returns-clause-place

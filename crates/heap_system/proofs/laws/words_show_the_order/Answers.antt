@@ -1,15 +1,15 @@
 use Rattle.heap_system.proofs.Always.{run_kept}
 use Rattle.heap_system.proofs.LawsOf.{laws_of}
-use Rattle.kept_names.proofs.Showing.{reached_solid, reached_not_held}
-use Rattle.kept_names.proofs.Turning.{reached_kept}
+use Rattle.kept_names.proofs.ReachedBlocks.{reached_solid, reached_not_held}
+use Rattle.kept_names.proofs.FlipAndStart.{reached_kept}
 use Rattle.kept_names.specs.States.{Kept}
 use Rattle.never_heap.specs.Histories.{replay}
 use Rattle.shown_graph.specs.Events.{pending_registers}
 use Rattle.shown_graph.specs.Words.{block_words}
-use Rattle.shown_graph.proofs.Reading.{blocks_apart}
+use Rattle.shown_graph.proofs.WordReads.{blocks_apart}
 use Rattle.heap_system.specs.Machines.{heap_in}
 use Rattle.heap_system.specs.Pictures.{tasks_in, kept_state}
-use Rattle.heap_system.proofs.Loaded.{loaded_safe, pending_get}
+use Rattle.heap_system.proofs.LoadedBlocks.{loaded_safe, pending_get}
 use Rattle.heap_system.proofs.laws.words_show_the_order.Goals as goal
 
 pub returns-clause-words : goal.returns-clause-words

@@ -1,6 +1,6 @@
 use Rattle.std.proofs.Common.{refl, ◌∙◌, arith}
 use Rattle.never_heap.specs.RightWork.{units_told}
-use Rattle.heap_system.proofs.Lived.{price_few}
+use Rattle.heap_system.proofs.TextLives.{price_few}
 use Rattle.heap_system.proofs.local.price_of.Goals as goal
 
 pub overflow_mul-result : goal.overflow_mul-result

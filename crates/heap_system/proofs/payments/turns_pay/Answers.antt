@@ -6,8 +6,8 @@ use Rattle.heap_system.specs.Locals.{command_of}
 use Rattle.heap_system.specs.Machines.{local_at}
 use Rattle.heap_system.proofs.Always.{run_kept}
 use Rattle.heap_system.proofs.LawsOf.{laws_of}
-use Rattle.heap_system.proofs.Making.{turn_makes, decided_owed}
-use Rattle.heap_system.proofs.Starting.{one_rate}
+use Rattle.heap_system.proofs.UnitsOfTurns.{turn_makes, decided_owed}
+use Rattle.heap_system.proofs.SystemStart.{one_rate}
 use Rattle.heap_system.proofs.payments.turns_pay.Goals as goal
 
 pub returns-clause-units : goal.returns-clause-units

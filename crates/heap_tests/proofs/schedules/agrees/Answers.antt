@@ -2,7 +2,7 @@ use Rattle.std.proofs.Common.{◌≡◌, ◌≤◌, ◌+◌, ◌-◌, ℕ, lengt
 use Rattle.block_store.specs.declared.Width.TheVariants.{Four}
 use Rattle.block_store.specs.declared.Config.{Config}
 use Rattle.never_heap.specs.Graphs.{WideGraph, count_of}
-use Rattle.never_heap.proofs.Starting.{count_of_start, threads_of_start}
+use Rattle.never_heap.proofs.StartGraph.{count_of_start, threads_of_start}
 use Rattle.heap_tests.proofs.schedules.agrees.Goals as goal
 use Rattle.heap_tests.proofs.schedules.agrees.Goals.{then-is_decided+in-Some+in_ok-waiting, then-is_decided+in_default, else-is_decided}
 

@@ -1,6 +1,6 @@
 use Rattle.std.proofs.Common.{◌≤◌, ◌+◌, sym, subst, arith}
 use Rattle.never_heap.specs.Graphs.{WideGraph, count_of}
-use Rattle.never_heap.proofs.Stepping.{step_counts_one}
+use Rattle.never_heap.proofs.StepChanges.{step_counts_one}
 use Rattle.heap_tests.proofs.schedules.model_reply.Goals as goal
 
 pub returns-in_ok-apply-clause-counts : goal.returns-in_ok-apply-clause-counts

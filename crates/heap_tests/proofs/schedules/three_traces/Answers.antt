@@ -7,7 +7,7 @@ use Rattle.never_heap.specs.declared.Command.{Command}
 use Rattle.never_heap.specs.Jobs.{IsTraceInBounds, IsJobInBounds}
 use Rattle.heap_system.specs.Machines.{IsJob}
 use Rattle.heap_system.specs.Systems.{commands_in}
-use Rattle.heap_system.proofs.Lived.{job_of_text, text_few}
+use Rattle.heap_system.proofs.TextLives.{job_of_text, text_few}
 use Rattle.heap_tests.proofs.schedules.three_traces.Goals as goal
 
 abbrev config : Config

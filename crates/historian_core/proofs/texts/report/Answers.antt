@@ -1,5 +1,5 @@
 use Rattle.std.proofs.Common.{Err}
-use Rattle.historian_core.proofs.Reported.{report_told, report_bad, fine_reported}
+use Rattle.historian_core.proofs.ReportSoFar.{report_told, report_bad, fine_reported}
 use Rattle.historian_core.proofs.texts.report.Goals as goal
 
 pub returns-in-Err-clause-report : goal.returns-in-Err-clause-report

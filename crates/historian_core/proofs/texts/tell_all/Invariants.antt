@@ -1,7 +1,7 @@
 -- The lines of the readings so far are written, and no fault was counted.
 use Rattle.std.proofs.Common.{◌≡◌, ℕ, List, length}
 use Rattle.historian_core.specs.Kept.{Keeps}
-use Rattle.historian_core.proofs.Reported.{IsToldTo}
+use Rattle.historian_core.proofs.ReportSoFar.{IsToldTo}
 use Rattle.historian_core.proofs.texts.tell_all.Given as goal
 
 abbrev pub invariant-loop-count : goal.invariant-loop-count

@@ -1,5 +1,5 @@
 use Rattle.heap_machine.specs.Gates.{gate_want}
-use Rattle.machine_tests.proofs.Holding.{held_there}
+use Rattle.machine_tests.proofs.HeldWords.{held_there}
 use Rattle.machine_tests.proofs.gate_hand.event.Goals as goal
 
 pub got-requires-clause-word : goal.got-requires-clause-word

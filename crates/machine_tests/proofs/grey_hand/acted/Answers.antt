@@ -1,5 +1,5 @@
 use Rattle.grey_steps.specs.Rows.{grey_want}
-use Rattle.machine_tests.proofs.Holding.{held_there}
+use Rattle.machine_tests.proofs.HeldWords.{held_there}
 use Rattle.machine_tests.proofs.grey_hand.acted.Goals as goal
 
 pub got-requires-clause-word : goal.got-requires-clause-word

@@ -2,7 +2,7 @@ use Rattle.block_store.specs.Places.{extent}
 use Rattle.heap_machine.specs.Operations.{op_at}
 use Rattle.grey_steps.specs.Fits.{GreyReads}
 use Rattle.grey_steps.specs.Rows.{grey_want}
-use Rattle.machine_tests.proofs.Holding.{held_there, read_there}
+use Rattle.machine_tests.proofs.HeldWords.{held_there, read_there}
 use Rattle.machine_tests.proofs.grey_hand.made.Goals as goal
 
 pub event-requires-clause-reads : goal.event-requires-clause-reads

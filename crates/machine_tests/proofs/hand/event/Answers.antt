@@ -1,7 +1,7 @@
 use Rattle.block_store.specs.Places.{extent}
 use Rattle.barrier_steps.specs.Rows.{field_want}
-use Rattle.machine_tests.proofs.Holding.{held_there}
-use Rattle.machine_tests.proofs.Following.{reads, goes_on}
+use Rattle.machine_tests.proofs.HeldWords.{held_there}
+use Rattle.machine_tests.proofs.WayToLink.{reads, goes_on}
 use Rattle.machine_tests.proofs.hand.event.Goals as goal
 
 pub got-requires-clause-word : goal.got-requires-clause-word

@@ -1,5 +1,5 @@
 use Rattle.std.proofs.Common.{ap, arith, length}
-use Rattle.mail_runs.proofs.Giving.{begun_more}
+use Rattle.mail_runs.proofs.BegunThreads.{begun_more}
 use Rattle.mail_runs.proofs.begun.begin_all.Goals as goal
 
 pub loop-who-preserved : goal.loop-who-preserved

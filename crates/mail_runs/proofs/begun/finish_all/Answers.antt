@@ -1,7 +1,7 @@
 use Rattle.std.proofs.Common.{ap, sym, subst, ◌∙◌, ◌++◌, ◌∷◌, [], arith, length, List, append_assoc}
 use Rattle.mail_runs.specs.Begun.{AllGive}
 use Rattle.mail_runs.specs.declared.begun.Begun.{Begun}
-use Rattle.mail_runs.proofs.Giving.{gives_more}
+use Rattle.mail_runs.proofs.BegunThreads.{gives_more}
 use Rattle.mail_runs.proofs.begun.finish_all.Goals as goal
 
 pub loop-one-preserved : goal.loop-one-preserved

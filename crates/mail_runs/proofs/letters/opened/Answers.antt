@@ -1,12 +1,12 @@
 use Rattle.std.proofs.Common.{ap, sym, subst, ◌∙◌}
 use Rattle.block_store.specs.declared.Config.{Config}
 use Rattle.heap_system.specs.Machines.{IsJob}
-use Rattle.heap_system.proofs.Lived.{job_of_text}
+use Rattle.heap_system.proofs.TextLives.{job_of_text}
 use Rattle.mail_post.specs.Ends.{fresh_senders}
 use Rattle.trace_text.specs.Jobs.{Job}
 use Rattle.mail_runs.specs.declared.office.Office.{Office}
 use Rattle.mail_runs.specs.Speakers.{AreSpeakers}
-use Rattle.mail_runs.proofs.Starting.{ready_count, speakers_ready}
+use Rattle.mail_runs.proofs.FreshSpeakers.{ready_count, speakers_ready}
 use Rattle.mail_runs.proofs.letters.opened.Goals as goal
 
 pub new-requires : goal.new-requires

@@ -1,6 +1,6 @@
 use Rattle.std.proofs.Common.{ap, ◌∙◌}
 use Rattle.atom_board.proofs.Orders.{in_order_each}
-use Rattle.mail_runs.proofs.Ending.{logs_say, logs_count, held}
+use Rattle.mail_runs.proofs.SpeakersDone.{logs_say, logs_count, held}
 use Rattle.mail_runs.proofs.office.closed.Goals as goal
 
 pub close-requires-clause-mutators : goal.close-requires-clause-mutators

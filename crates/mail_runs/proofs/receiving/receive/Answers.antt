@@ -1,7 +1,7 @@
 use Rattle.std.proofs.Common.{ap, sym, subst, ◌∙◌, ◌≡◌, length}
 use Rattle.mail_post.specs.Ends.{TakerState, OfPost, AreAll}
-use Rattle.mail_runs.proofs.Giving.{all_spoken}
-use Rattle.mail_runs.proofs.Ending.{of_post, are_all, fresh_count, received}
+use Rattle.mail_runs.proofs.BegunThreads.{all_spoken}
+use Rattle.mail_runs.proofs.SpeakersDone.{of_post, are_all, fresh_count, received}
 use Rattle.mail_runs.proofs.receiving.receive.Goals as goal
 
 pub take_rest-requires-clause-post : goal.take_rest-requires-clause-post

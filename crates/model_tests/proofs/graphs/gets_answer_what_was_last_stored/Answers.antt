@@ -2,7 +2,7 @@ use Rattle.std.proofs.Common.{ℕ, ◌≡◌, ◌<◌, ◌≤◌, ◌+◌, lengt
 use Rattle.never_heap.specs.declared.Command.{Command}
 use Rattle.never_heap.specs.Graphs.{WideGraph, with_graph, count_of}
 use Rattle.never_heap.specs.Steps.{step}
-use Rattle.never_heap.proofs.Stepping.{step_threads, step_counts_one}
+use Rattle.never_heap.proofs.StepChanges.{step_threads, step_counts_one}
 use Rattle.model_tests.proofs.graphs.gets_answer_what_was_last_stored.Goals as goal
 
 -- two threads, of which neither has more than n objects

@@ -1,4 +1,4 @@
-use Rattle.never_heap.proofs.Staying.{step_names, step_shape, replay_names, replay_shape}
+use Rattle.never_heap.proofs.UnchangedBySteps.{step_names, step_shape, replay_names, replay_shape}
 use Rattle.never_heap.proofs.laws.names_stay.Goals as goal
 
 pub returns-clause-step : goal.returns-clause-step

@@ -1,4 +1,4 @@
-use Rattle.never_heap.proofs.Opening.{opening_live}
+use Rattle.never_heap.proofs.OpeningLiveBlocks.{opening_live}
 use Rattle.never_heap.proofs.laws.opening_blocks_are_live.Goals as goal
 
 pub returns : goal.returns

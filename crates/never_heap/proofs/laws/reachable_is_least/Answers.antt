@@ -1,4 +1,4 @@
-use Rattle.never_heap.proofs.Reaching.{reachable_closed, reachable_within}
+use Rattle.never_heap.proofs.ReachableNames.{reachable_closed, reachable_within}
 use Rattle.never_heap.proofs.laws.reachable_is_least.Goals as goal
 
 pub returns-clause-closed : goal.returns-clause-closed

@@ -1,4 +1,4 @@
-use Rattle.never_heap.proofs.Answering.{step_not_full, makers_have_blocks, others_have_none}
+use Rattle.never_heap.proofs.StepAnswers.{step_not_full, makers_have_blocks, others_have_none}
 use Rattle.never_heap.proofs.laws.steps_answer.Goals as goal
 
 pub returns-clause-full : goal.returns-clause-full

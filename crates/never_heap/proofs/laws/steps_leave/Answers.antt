@@ -1,6 +1,6 @@
-use Rattle.never_heap.proofs.Stepping.{step_threads}
-use Rattle.never_heap.proofs.Staying.{step_register, step_object, stored_other, stored_field, step_counts, step_made}
-use Rattle.never_heap.proofs.Refusing.{step_refused, step_lost}
+use Rattle.never_heap.proofs.StepChanges.{step_threads}
+use Rattle.never_heap.proofs.UnchangedBySteps.{step_register, step_object, stored_other, stored_field, step_counts, step_made}
+use Rattle.never_heap.proofs.RefusedCommands.{step_refused, step_lost}
 use Rattle.never_heap.proofs.laws.steps_leave.Goals as goal
 
 pub returns-clause-registers : goal.returns-clause-registers

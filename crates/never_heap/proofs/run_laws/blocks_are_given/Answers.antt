@@ -1,4 +1,4 @@
-use Rattle.never_heap.proofs.Cycling.{given_none, given_more, given_ended, given_past}
+use Rattle.never_heap.proofs.CycleGrowth.{given_none, given_more, given_ended, given_past}
 use Rattle.never_heap.proofs.run_laws.blocks_are_given.Goals as goal
 
 pub returns-clause-start : goal.returns-clause-start

@@ -1,4 +1,4 @@
-use Rattle.never_heap.proofs.Cycling.{graph_at_more, graph_at_next}
+use Rattle.never_heap.proofs.CycleGrowth.{graph_at_more, graph_at_next}
 use Rattle.never_heap.proofs.run_laws.cycles_start.Goals as goal
 
 pub returns-clause-past : goal.returns-clause-past

@@ -1,4 +1,4 @@
-use Rattle.never_heap.proofs.Unfilled.{none_full}
+use Rattle.never_heap.proofs.NoFullRuns.{none_full}
 use Rattle.never_heap.proofs.run_laws.fulls_need_live_blocks.Goals as goal
 
 pub returns : goal.returns

@@ -1,4 +1,4 @@
-use Rattle.never_heap.proofs.Coming.{comes, all_come, begun, none_left, made}
+use Rattle.never_heap.proofs.ItemsOfRuns.{comes, all_come, begun, none_left, made}
 use Rattle.never_heap.proofs.run_laws.runs_are_items_that_may_come.Goals as goal
 
 pub returns-clause-item : goal.returns-clause-item

@@ -1,5 +1,5 @@
 use Rattle.std.proofs.Common.{◌≡◌, true}
-use Rattle.never_heap.proofs.Walking.{walk_all}
+use Rattle.never_heap.proofs.RunInduction.{walk_all}
 use Rattle.never_heap.proofs.run_laws.runs_are_walked.Goals as goal
 
 pub returns : goal.returns

@@ -1,4 +1,4 @@
-use Rattle.never_heap.proofs.Cycling.{licensed_more, right_work_more}
+use Rattle.never_heap.proofs.CycleGrowth.{licensed_more, right_work_more}
 use Rattle.never_heap.proofs.run_laws.runs_grow.Goals as goal
 
 pub returns-clause-licensed : goal.returns-clause-licensed

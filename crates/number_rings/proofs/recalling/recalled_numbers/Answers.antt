@@ -1,6 +1,6 @@
 use Rattle.std.proofs.Common.{◌*◌}
 use Rattle.number_rings.specs.Rings.{recalled}
-use Rattle.number_rings.proofs.Tracing.{replies, told_none, told_more}
+use Rattle.number_rings.proofs.TracesSoFar.{replies, told_none, told_more}
 use Rattle.number_rings.proofs.recalling.recalled_numbers.Goals as goal
 
 pub loop-rest-init : goal.loop-rest-init

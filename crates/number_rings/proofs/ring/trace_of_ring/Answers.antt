@@ -1,6 +1,6 @@
 use Rattle.std.proofs.Common.{length, rules}
 use Rattle.number_rings.specs.Rings.{script_of}
-use Rattle.number_rings.proofs.Tracing.{commands_of, recall_more}
+use Rattle.number_rings.proofs.TracesSoFar.{commands_of, recall_more}
 use Rattle.number_rings.proofs.ring.trace_of_ring.Goals as goal
 
 pub loop-j-2-preserved : goal.loop-j-2-preserved

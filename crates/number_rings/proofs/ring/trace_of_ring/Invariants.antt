@@ -1,7 +1,7 @@
 -- The commands so far, and those of the operations that are left, are all commands.
 use Rattle.std.proofs.Common.{◌≡◌, ◌++◌, ◌-◌, length, drop}
 use Rattle.number_rings.specs.Rings.{keeps, recalls, script_of}
-use Rattle.number_rings.proofs.Tracing.{commands_of}
+use Rattle.number_rings.proofs.TracesSoFar.{commands_of}
 use Rattle.number_rings.proofs.ring.trace_of_ring.Given as goal
 
 abbrev pub invariant-loop-j : goal.invariant-loop-j

@@ -1,5 +1,5 @@
 use Rattle.plain_runs.specs.Ranges.{IsItemInBounds}
-use Rattle.plain_runs.proofs.Following.{each_at}
+use Rattle.plain_runs.proofs.ReplayInRange.{each_at}
 use Rattle.plain_runs.proofs.counts.is_right_work.Goals as goal
 
 pub is_right_item-requires-clause-item : goal.is_right_item-requires-clause-item

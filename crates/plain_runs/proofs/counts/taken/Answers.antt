@@ -2,7 +2,7 @@ use Rattle.std.proofs.Common.{subst}
 use Rattle.plain_runs.specs.declared.Happened.{Happened}
 use Rattle.plain_runs.specs.Happenings.{item}
 use Rattle.plain_runs.specs.Ranges.{IsItemInBounds}
-use Rattle.plain_runs.proofs.Following.{each_at}
+use Rattle.plain_runs.proofs.ReplayInRange.{each_at}
 use Rattle.plain_runs.proofs.counts.taken.Goals as goal
 
 pub taken_by-sum-requires : goal.taken_by-sum-requires

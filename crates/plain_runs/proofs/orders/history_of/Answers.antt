@@ -3,7 +3,7 @@ use Rattle.std.proofs.lemmas.List.{with_items_is, length-replicate}
 use Rattle.never_heap.specs.declared.Item.TheVariants as items
 use Rattle.plain_runs.specs.declared.Happened.{Happened}
 use Rattle.plain_runs.specs.Making.{IsNext, NoNext, left_of}
-use Rattle.plain_runs.proofs.Ordering.{IsUnderWay, goes_on, no_history, at_first, is_made, none_told}
+use Rattle.plain_runs.proofs.HistoryOfOrder.{IsUnderWay, goes_on, no_history, at_first, is_made, none_told}
 use Rattle.plain_runs.proofs.orders.history_of.Goals as goal
 
 pub loop-item-init : goal.loop-item-init

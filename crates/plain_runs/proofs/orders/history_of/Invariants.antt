@@ -1,5 +1,5 @@
 -- The items so far begin each history that the order makes.
-use Rattle.plain_runs.proofs.Ordering.{IsUnderWay}
+use Rattle.plain_runs.proofs.HistoryOfOrder.{IsUnderWay}
 use Rattle.plain_runs.proofs.orders.history_of.Given as goal
 
 abbrev pub invariant-loop-item : goal.invariant-loop-item

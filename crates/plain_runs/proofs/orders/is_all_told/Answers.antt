@@ -1,6 +1,6 @@
 use Rattle.std.proofs.Common.{◌<◌, List, length, subst, get_or, refl, arith}
 use Rattle.never_heap.specs.declared.Entry.{Entry}
-use Rattle.plain_runs.proofs.Ordering.{not_all_told}
+use Rattle.plain_runs.proofs.HistoryOfOrder.{not_all_told}
 use Rattle.plain_runs.proofs.orders.is_all_told.Goals as goal
 
 pub returns-then-told-t : goal.returns-then-told-t

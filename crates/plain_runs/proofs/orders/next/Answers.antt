@@ -1,6 +1,6 @@
 use Rattle.std.proofs.Common.{◌≡◌, ℕ, ◌<◌, ◌∙◌, List, [], subst, ap, get_or, length}
 use Rattle.never_heap.specs.declared.Entry.{Entry}
-use Rattle.plain_runs.proofs.Ordering.{entry_is_next}
+use Rattle.plain_runs.proofs.HistoryOfOrder.{entry_is_next}
 use Rattle.plain_runs.proofs.orders.next.Goals as goal
 
 pub returns : goal.returns

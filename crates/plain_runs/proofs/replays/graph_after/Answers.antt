@@ -1,7 +1,7 @@
 use Rattle.std.proofs.Common.{◌∙◌, ap}
 use Rattle.never_heap.specs.Graphs.{WideGraph}
 use Rattle.plain_runs.specs.declared.Happened.TheVariants as happened
-use Rattle.plain_runs.proofs.Following.{can_go, has_gone}
+use Rattle.plain_runs.proofs.ReplayInRange.{can_go, has_gone}
 use Rattle.plain_runs.proofs.replays.graph_after.Goals as goal
 
 pub follow-requires : goal.follow-requires

@@ -1,7 +1,7 @@
 use Rattle.std.proofs.Common.{ap, refl}
 use Rattle.never_heap.specs.Graphs.{WideGraph}
 use Rattle.plain_runs.specs.declared.Happened.TheVariants as happened
-use Rattle.plain_runs.proofs.Following.{can_go, has_gone}
+use Rattle.plain_runs.proofs.ReplayInRange.{can_go, has_gone}
 use Rattle.plain_runs.proofs.Legality.{legal_goes_on, legal_ends}
 use Rattle.plain_runs.proofs.replays.is_legal.Goals as goal
 

@@ -1,5 +1,5 @@
 use Rattle.std.proofs.Common.{◌∙◌}
-use Rattle.rt_check.proofs.Followed.{line_is}
+use Rattle.rt_check.proofs.FollowerState.{line_is}
 use Rattle.rt_check.proofs.follower.is_line.Goals as goal
 
 pub returns-then-made-line : goal.returns-then-made-line

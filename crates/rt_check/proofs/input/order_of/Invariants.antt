@@ -1,5 +1,5 @@
 use Rattle.std.proofs.Common.{length}
-use Rattle.rt_check.proofs.Parting.{Passed}
+use Rattle.rt_check.proofs.InputParts.{Passed}
 use Rattle.rt_check.proofs.input.order_of.Given as goal
 
 abbrev pub invariant-loop-line : goal.invariant-loop-line

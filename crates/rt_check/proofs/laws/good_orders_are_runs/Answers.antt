@@ -1,7 +1,7 @@
 use Rattle.std.proofs.Common.{[]}
 use Rattle.rt_check.proofs.Goodness.{law}
-use Rattle.rt_check.proofs.Settling.{settled}
-use Rattle.rt_check.proofs.Telling.{one, apart, first}
+use Rattle.rt_check.proofs.GoodOrFirstBad.{settled}
+use Rattle.rt_check.proofs.ItemOfLine.{one, apart, first}
 use Rattle.rt_check.proofs.laws.good_orders_are_runs.Goals as goal
 
 pub returns-clause-runs : goal.returns-clause-runs

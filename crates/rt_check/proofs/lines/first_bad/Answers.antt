@@ -2,7 +2,7 @@ use Rattle.std.proofs.Common.{subst, arith}
 use Rattle.trace_text.specs.Lines.{lines_of}
 use Rattle.rt_check.specs.declared.follower.Verdict.{Verdict}
 use Rattle.rt_check.specs.Standing.{Says}
-use Rattle.rt_check.proofs.Following.{lead_more}
+use Rattle.rt_check.proofs.VerdictSoFar.{lead_more}
 use Rattle.rt_check.proofs.lines.first_bad.Goals as goal
 
 pub loop-line-preserved : goal.loop-line-preserved

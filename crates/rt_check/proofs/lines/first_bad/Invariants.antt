@@ -1,6 +1,6 @@
 use Rattle.std.proofs.Common.{◌+◌, ◌≤◌, length}
 use Rattle.trace_text.specs.Lines.{lines_of}
-use Rattle.rt_check.proofs.Following.{HasLed}
+use Rattle.rt_check.proofs.VerdictSoFar.{HasLed}
 use Rattle.rt_check.proofs.lines.first_bad.Given as goal
 
 abbrev pub invariant-loop-line : goal.invariant-loop-line

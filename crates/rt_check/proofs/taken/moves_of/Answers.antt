@@ -2,7 +2,7 @@ use Rattle.std.proofs.Common.{inl, ap, refl, subst, ◌∙◌, arith}
 use Rattle.trace_text.specs.Lines.{lines_of}
 use Rattle.rt_check.specs.declared.taken.Line.{Line}
 use Rattle.rt_check.specs.Taking.{SaysTaken}
-use Rattle.rt_check.proofs.Leading.{one_left, go_start, go_entry}
+use Rattle.rt_check.proofs.AnswerSoFar.{one_left, go_start, go_entry}
 use Rattle.rt_check.proofs.taken.moves_of.Goals as goal
 use Rattle.rt_check.proofs.taken.moves_of.Goals.{in-Start, in-Entry+in_ok-push-in-Entry}
 

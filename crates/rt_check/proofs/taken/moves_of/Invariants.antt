@@ -1,6 +1,6 @@
 use Rattle.std.proofs.Common.{◌+◌, ◌≤◌, length}
 use Rattle.trace_text.specs.Lines.{lines_of}
-use Rattle.rt_check.proofs.Leading.{HasTaken}
+use Rattle.rt_check.proofs.AnswerSoFar.{HasTaken}
 use Rattle.rt_check.proofs.taken.moves_of.Given as goal
 
 abbrev pub invariant-loop-line : goal.invariant-loop-line

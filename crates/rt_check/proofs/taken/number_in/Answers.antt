@@ -2,7 +2,7 @@ use Rattle.std.proofs.Common.{sym, ap, ◌∙◌}
 use Rattle.std.specs.Option.{option_copied}
 use Rattle.trace_text.specs.Lines.{tokens_of}
 use Rattle.trace_text.specs.Reading.{tokens_left}
-use Rattle.rt_check.proofs.Passing.{passed_more, passed_all}
+use Rattle.rt_check.proofs.TokensLeft.{passed_more, passed_all}
 use Rattle.rt_check.proofs.taken.number_in.Goals as goal
 
 pub returns-in_err-rest : goal.returns-in_err-rest

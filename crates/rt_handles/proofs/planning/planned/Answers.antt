@@ -1,6 +1,6 @@
 use Rattle.std.proofs.Common.{subst, sym}
 use Rattle.block_store.specs.Configs.{IsInBounds}
-use Rattle.rt_handles.proofs.Rating.{config_fits}
+use Rattle.rt_handles.proofs.HeapRate.{config_fits}
 use Rattle.rt_handles.proofs.planning.planned.Goals as goal
 
 pub plan-requires : goal.plan-requires

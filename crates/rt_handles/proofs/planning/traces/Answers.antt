@@ -3,7 +3,7 @@ use Rattle.std.proofs.lemmas.List.{length-map}
 use Rattle.handle_table.specs.declared.operation.Operation.{Operation}
 use Rattle.handle_table.specs.Handles.{AreNamed, rows_of, command_at, deeds_of}
 use Rattle.std.specs.Prelude.{flat_map}
-use Rattle.rt_handles.proofs.Answered.{named_at, traces_more}
+use Rattle.rt_handles.proofs.AnswersByLogs.{named_at, traces_more}
 use Rattle.array_scripts.proofs.Items.{items_at, pushed_items}
 use Rattle.rt_handles.proofs.planning.traces.Goals as goal
 

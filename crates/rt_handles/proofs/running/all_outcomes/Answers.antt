@@ -3,9 +3,9 @@ use Rattle.std.proofs.lemmas.List.{length-map}
 use Rattle.never_heap.specs.declared.Entry.{Entry}
 use Rattle.handle_table.specs.declared.operation.Operation.{Operation}
 use Rattle.handle_table.specs.Handles.{outcomes_told, sizes_of}
-use Rattle.array_scripts.proofs.Answered.{all_told, turn}
+use Rattle.array_scripts.proofs.AnswersInOrder.{all_told, turn}
 use Rattle.array_scripts.proofs.Items.{items_at, pushed_items}
-use Rattle.rt_handles.proofs.Answered.{enough, same_count}
+use Rattle.rt_handles.proofs.AnswersByLogs.{enough, same_count}
 use Rattle.rt_handles.proofs.running.all_outcomes.Goals as goal
 
 pub outcomes-requires : goal.outcomes-requires

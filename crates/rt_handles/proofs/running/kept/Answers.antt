@@ -14,8 +14,8 @@ use Rattle.array_scripts.proofs.Apart.{without_memory}
 use Rattle.array_scripts.proofs.Ranges.{few_threads}
 use Rattle.rt_handles.specs.Lines.{handle_kind}
 use Rattle.rt_handles.specs.Tellings.{outcomes_in}
-use Rattle.rt_handles.proofs.Answered.{has_outcomes, job_fits, job_is, told_as}
-use Rattle.rt_handles.proofs.Telling.{handle_reads}
+use Rattle.rt_handles.proofs.AnswersByLogs.{has_outcomes, job_fits, job_is, told_as}
+use Rattle.rt_handles.proofs.LineLaws.{handle_reads}
 use Rattle.rt_handles.proofs.running.kept.Goals as goal
 
 pub read_script-requires : goal.read_script-requires

@@ -7,8 +7,8 @@ use Rattle.handle_table.specs.declared.told.Outcome.{Outcome}
 use Rattle.rt_handles.specs.Calls.{Headline}
 use Rattle.rt_handles.specs.Lines.{handle_kind}
 use Rattle.rt_handles.specs.Tellings.{outcome_text}
-use Rattle.rt_handles.proofs.Answered.{slots_tell}
-use Rattle.rt_handles.proofs.Telling.{handle_reads}
+use Rattle.rt_handles.proofs.AnswersByLogs.{slots_tell}
+use Rattle.rt_handles.proofs.LineLaws.{handle_reads}
 use Rattle.rt_handles.proofs.top.handles.Goals as goal
 
 pub returns-in-Ok : goal.returns-in-Ok

@@ -1,5 +1,5 @@
 use Rattle.std.proofs.Common.{◌∙◌, arith}
-use Rattle.rt_mail.proofs.Ringing.{job_fits, has_rings}
+use Rattle.rt_mail.proofs.RingJob.{job_fits, has_rings}
 use Rattle.rt_mail.proofs.keeping.kept.Goals as goal
 
 pub run_job-requires-clause-bounds : goal.run_job-requires-clause-bounds

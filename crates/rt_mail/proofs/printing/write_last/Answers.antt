@@ -1,9 +1,9 @@
 use Rattle.std.proofs.Common.{subst, List, ℕ, codes}
 use Rattle.std.specs.List.{flat_map}
 use Rattle.trace_text.specs.Streams.{AppendsPrefix}
-use Rattle.trace_text.proofs.Appending.{at_err, front_in_turn, front_longer}
+use Rattle.trace_text.proofs.AppendedTexts.{at_err, front_in_turn, front_longer}
 use Rattle.rt_mail.specs.Tellings.{number_text}
-use Rattle.rt_mail.proofs.Writing.{last_is, on_err}
+use Rattle.rt_mail.proofs.WrittenLines.{last_is, on_err}
 use Rattle.rt_mail.proofs.printing.write_last.Goals as goal
 
 pub returns-in_err-put-clause-prefix : goal.returns-in_err-put-clause-prefix

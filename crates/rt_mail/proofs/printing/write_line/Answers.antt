@@ -1,8 +1,8 @@
 use Rattle.std.proofs.Common.{◌∙◌, ◌∷◌, [], ◌++◌, subst, List, ℕ, codes, decimal}
 use Rattle.trace_text.specs.Streams.{Appends, AppendsPrefix}
-use Rattle.trace_text.proofs.Appending.{at_err}
+use Rattle.trace_text.proofs.AppendedTexts.{at_err}
 use Rattle.rt_mail.specs.Tellings.{last_text}
-use Rattle.rt_mail.proofs.Writing.{on_ok, on_err, three_in_turn, first_front, second_front, third_front}
+use Rattle.rt_mail.proofs.WrittenLines.{on_ok, on_err, three_in_turn, first_front, second_front, third_front}
 use Rattle.rt_mail.proofs.printing.write_line.Goals as goal
 
 pub returns-in_err-put-clause-prefix : goal.returns-in_err-put-clause-prefix

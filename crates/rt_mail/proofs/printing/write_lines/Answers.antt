@@ -1,10 +1,10 @@
 use Rattle.std.proofs.Common.{◌<◌, rules, List, ℕ, length, map, subst, arith}
 use Rattle.std.proofs.lemmas.List.{length-map}
 use Rattle.trace_text.specs.Streams.{Appends, AppendsPrefix}
-use Rattle.trace_text.proofs.Appending.{at_err}
+use Rattle.trace_text.proofs.AppendedTexts.{at_err}
 use Rattle.rt_mail.specs.Tellings.{mail_line}
 use Rattle.rt_mail.proofs.Items.{items_at}
-use Rattle.rt_mail.proofs.Writing.{written_more, written_front}
+use Rattle.rt_mail.proofs.WrittenLines.{written_more, written_front}
 use Rattle.rt_mail.proofs.printing.write_lines.Goals as goal
 
 pub returns-in_err-write_line-clause-prefix : goal.returns-in_err-write_line-clause-prefix

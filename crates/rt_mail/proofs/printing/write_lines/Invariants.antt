@@ -1,6 +1,6 @@
 -- The lines of the threads so far were put, and no fault was counted.
 use Rattle.std.proofs.Common.{◌≡◌, map}
-use Rattle.rt_mail.proofs.Writing.{IsWrittenTo}
+use Rattle.rt_mail.proofs.WrittenLines.{IsWrittenTo}
 use Rattle.rt_mail.proofs.printing.write_lines.Given as goal
 
 abbrev pub invariant-loop-t : goal.invariant-loop-t

@@ -1,6 +1,6 @@
 use Rattle.std.proofs.Common.{◌∙◌, subst, List, ℕ}
 use Rattle.trace_text.specs.Streams.{AppendsPrefix}
-use Rattle.trace_text.proofs.Appending.{at_err, lines_front}
+use Rattle.trace_text.proofs.AppendedTexts.{at_err, lines_front}
 use Rattle.rt_mail.specs.Tellings.{number_text}
 use Rattle.rt_mail.proofs.printing.write_numbers.Goals as goal
 

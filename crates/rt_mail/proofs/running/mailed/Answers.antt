@@ -1,7 +1,7 @@
 use Rattle.std.proofs.lemmas.Result.{err_from_is_err_and}
 use Rattle.call_exits.specs.Sides.{sides}
 use Rattle.rt_mail.proofs.Apart.{without_memory}
-use Rattle.rt_mail.proofs.Mailing.{has_first, taken_keepable, has_mail}
+use Rattle.rt_mail.proofs.KeepableMail.{has_first, taken_keepable, has_mail}
 use Rattle.rt_mail.proofs.running.mailed.Goals as goal
 
 pub returns-in_err-first-clause-refused : goal.returns-in_err-first-clause-refused

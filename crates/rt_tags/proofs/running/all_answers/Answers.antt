@@ -4,9 +4,9 @@ use Rattle.std.proofs.lemmas.List.{length-map}
 use Rattle.never_heap.specs.declared.Entry.{Entry}
 use Rattle.tag_table.specs.declared.operation.Operation.{Operation}
 use Rattle.tag_table.specs.Tables.{rows_of, answers_of}
-use Rattle.array_scripts.proofs.Answered.{all_told, turn}
+use Rattle.array_scripts.proofs.AnswersInOrder.{all_told, turn}
 use Rattle.array_scripts.proofs.Items.{items_at, pushed_items}
-use Rattle.rt_tags.proofs.Answered.{enough, same_count}
+use Rattle.rt_tags.proofs.AnswersByLogs.{enough, same_count}
 use Rattle.rt_tags.proofs.running.all_answers.Goals as goal
 
 pub answers-requires : goal.answers-requires

@@ -10,8 +10,8 @@ use Rattle.trace_text.specs.Reading.{tokenized}
 use Rattle.array_scripts.proofs.Apart.{without_memory}
 use Rattle.rt_tags.specs.Lines.{tag_kind}
 use Rattle.rt_tags.specs.Tellings.{answers_in}
-use Rattle.rt_tags.proofs.Answered.{has_answers, job_fits, job_is, told_as}
-use Rattle.rt_tags.proofs.Telling.{tag_reads}
+use Rattle.rt_tags.proofs.AnswersByLogs.{has_answers, job_fits, job_is, told_as}
+use Rattle.rt_tags.proofs.LineLaws.{tag_reads}
 use Rattle.rt_tags.proofs.running.kept.Goals as goal
 
 pub read_script-requires : goal.read_script-requires

@@ -1,4 +1,4 @@
-use Rattle.rt_tags.proofs.Telling.{tag_reads}
+use Rattle.rt_tags.proofs.LineLaws.{tag_reads}
 use Rattle.rt_tags.proofs.script.script_of.Goals as goal
 
 pub script_of-requires-clause-reads : goal.script_of-requires-clause-reads

@@ -7,7 +7,7 @@ use Rattle.tag_table.specs.Tables.{Tag}
 use Rattle.rt_tags.specs.Calls.{Headline}
 use Rattle.rt_tags.specs.Lines.{tag_kind}
 use Rattle.rt_tags.specs.Tellings.{tag_text}
-use Rattle.rt_tags.proofs.Telling.{tag_reads}
+use Rattle.rt_tags.proofs.LineLaws.{tag_reads}
 use Rattle.rt_tags.proofs.top.tags.Goals as goal
 
 pub returns-in-Ok : goal.returns-in-Ok

@@ -1,5 +1,5 @@
 use Rattle.std.proofs.Common.{arith}
-use Rattle.rtheap_core.proofs.Admitting.{arrays_fit}
+use Rattle.rtheap_core.proofs.GeneratedHeap.{arrays_fit}
 use Rattle.rtheap_core.proofs.generated.command_of.Goals as goal
 
 pub returns-in-2-clause-bounds : goal.returns-in-2-clause-bounds

@@ -1,7 +1,7 @@
 use Rattle.std.proofs.Common.{arith}
 use Rattle.never_heap.specs.Bounds.{IsCommandInBounds}
 use Rattle.rtheap_core.specs.Generated.{generated_config}
-use Rattle.rtheap_core.proofs.Drawing.{one_drawn, all_drawn, words_after, counted_more, all_more}
+use Rattle.rtheap_core.proofs.DrawnTraces.{one_drawn, all_drawn, words_after, counted_more, all_more}
 use Rattle.rtheap_core.proofs.generated.trace.Goals as goal
 
 pub loop-line-preserved : goal.loop-line-preserved

@@ -3,7 +3,7 @@ use Rattle.std.proofs.Common.{◌≡◌, length}
 use Rattle.std.specs.List.{AllByRecursion}
 use Rattle.never_heap.specs.Bounds.{IsCommandInBounds}
 use Rattle.rtheap_core.specs.Generated.{generated_config}
-use Rattle.rtheap_core.proofs.Drawing.{IsPart}
+use Rattle.rtheap_core.proofs.DrawnTraces.{IsPart}
 use Rattle.rtheap_core.proofs.generated.trace.Given as goal
 
 abbrev pub invariant-loop-line : goal.invariant-loop-line

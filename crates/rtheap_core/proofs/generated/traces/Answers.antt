@@ -1,7 +1,7 @@
 use Rattle.std.proofs.Common.{arith}
 use Rattle.never_heap.specs.Jobs.{IsTraceInBounds}
 use Rattle.rtheap_core.specs.Generated.{generated_config}
-use Rattle.rtheap_core.proofs.Drawing.{one_traced, all_traced, counted_more, all_more, pushed_items}
+use Rattle.rtheap_core.proofs.DrawnTraces.{one_traced, all_traced, counted_more, all_more, pushed_items}
 use Rattle.rtheap_core.proofs.generated.traces.Goals as goal
 
 pub loop-thread-preserved : goal.loop-thread-preserved

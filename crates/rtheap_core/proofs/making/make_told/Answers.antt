@@ -1,7 +1,7 @@
 use Rattle.call_exits.specs.declared.refusal.Refusal.TheVariants.{OutOfMemory}
 use Rattle.rtheap_core.specs.declared.task.Task.TheVariants.{Make}
 use Rattle.rtheap_core.proofs.CarriedOut.{refusal_is_carried_out}
-use Rattle.rtheap_core.proofs.Untouched.{memory_cause}
+use Rattle.rtheap_core.proofs.GeneratedOutcome.{memory_cause}
 use Rattle.rtheap_core.proofs.making.make_told.Goals as goal
 
 pub returns-in-Err : goal.returns-in-Err

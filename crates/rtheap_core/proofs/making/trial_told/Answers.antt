@@ -1,7 +1,7 @@
 use Rattle.call_exits.specs.declared.refusal.Refusal.TheVariants.{OutOfMemory}
 use Rattle.rtheap_core.specs.declared.task.Task.TheVariants.{Trial}
 use Rattle.rtheap_core.proofs.CarriedOut.{trial_is_carried_out, refusal_is_carried_out}
-use Rattle.rtheap_core.proofs.Untouched.{memory_cause, tried_of}
+use Rattle.rtheap_core.proofs.GeneratedOutcome.{memory_cause, tried_of}
 use Rattle.rtheap_core.proofs.making.trial_told.Goals as goal
 
 pub returns-in-Ok : goal.returns-in-Ok

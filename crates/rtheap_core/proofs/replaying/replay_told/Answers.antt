@@ -1,6 +1,6 @@
 use Rattle.rtheap_core.specs.declared.task.Task.TheVariants.{Replay}
 use Rattle.rtheap_core.proofs.CarriedOut.{replay_is_carried_out, refusal_is_carried_out}
-use Rattle.rtheap_core.proofs.Ordered.{has_order, written_as}
+use Rattle.rtheap_core.proofs.OrderText.{has_order, written_as}
 use Rattle.rtheap_core.proofs.replaying.replay_told.Goals as goal
 
 pub written_in_order-requires : goal.written_in_order-requires

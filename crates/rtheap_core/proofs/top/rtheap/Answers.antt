@@ -1,5 +1,5 @@
 use Rattle.std.proofs.Common.{refl}
-use Rattle.rtheap_core.proofs.Unfilled.{unfilled}
+use Rattle.rtheap_core.proofs.LogsWithoutFulls.{unfilled}
 use Rattle.rtheap_core.proofs.Verdicts.{completes}
 use Rattle.rtheap_core.proofs.top.rtheap.Goals as goal
 

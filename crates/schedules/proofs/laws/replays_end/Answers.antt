@@ -1,4 +1,4 @@
-use Rattle.schedules.proofs.Ending.{serial_replay_ends, single_replay_ends}
+use Rattle.schedules.proofs.ReplayEnds.{serial_replay_ends, single_replay_ends}
 use Rattle.schedules.proofs.laws.replays_end.Goals as goal
 
 pub returns-clause-serial : goal.returns-clause-serial

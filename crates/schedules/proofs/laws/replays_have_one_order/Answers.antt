@@ -2,7 +2,7 @@ use Rattle.std.proofs.Common.{ap}
 use Rattle.heap_system.specs.Machines.{Run}
 use Rattle.heap_system.proofs.Rooms.{runs_agree, logs_agree, done_agree}
 use Rattle.schedules.specs.Schedules.{turns_of}
-use Rattle.schedules.proofs.Agreeing.{first_run, second_run}
+use Rattle.schedules.proofs.SameTurns.{first_run, second_run}
 use Rattle.schedules.proofs.laws.replays_have_one_order.Goals as goal
 
 pub returns-clause-order : goal.returns-clause-order

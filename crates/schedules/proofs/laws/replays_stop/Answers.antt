@@ -1,4 +1,4 @@
-use Rattle.schedules.proofs.Stopping.{stops}
+use Rattle.schedules.proofs.DoneThreads.{stops}
 use Rattle.schedules.proofs.laws.replays_stop.Goals as goal
 
 pub returns : goal.returns

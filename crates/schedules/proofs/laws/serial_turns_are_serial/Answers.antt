@@ -1,5 +1,5 @@
-use Rattle.heap_system.proofs.Reached.{reached_kept}
-use Rattle.schedules.proofs.Ending.{serial_turns, opening_many}
+use Rattle.heap_system.proofs.TurnFacts.{reached_kept}
+use Rattle.schedules.proofs.ReplayEnds.{serial_turns, opening_many}
 use Rattle.schedules.proofs.laws.serial_turns_are_serial.Goals as goal
 
 pub returns-clause-reached : goal.returns-clause-reached

@@ -1,5 +1,5 @@
 use Rattle.std.proofs.Common.{refl}
-use Rattle.sweep_steps.proofs.Passing.{unit_passes, passed_bits, passed_few, claimed_due, nothing_read}
+use Rattle.sweep_steps.proofs.PassedBlocks.{unit_passes, passed_bits, passed_few, claimed_due, nothing_read}
 use Rattle.sweep_steps.proofs.laws.a_unit_is_a_passed_block.Goals as goal
 
 pub returns : goal.returns

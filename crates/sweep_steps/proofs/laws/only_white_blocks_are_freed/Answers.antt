@@ -1,4 +1,4 @@
-use Rattle.sweep_steps.proofs.Freeing.{colours_stay, frees_white, keeps_grey, leaves_others}
+use Rattle.sweep_steps.proofs.FreedBlocks.{colours_stay, frees_white, keeps_grey, leaves_others}
 use Rattle.sweep_steps.proofs.laws.only_white_blocks_are_freed.Goals as goal
 
 pub returns : goal.returns

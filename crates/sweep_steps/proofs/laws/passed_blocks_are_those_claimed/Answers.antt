@@ -1,4 +1,4 @@
-use Rattle.sweep_steps.proofs.Passing.{one_range, claimed_after, passed_all, passed_many}
+use Rattle.sweep_steps.proofs.PassedBlocks.{one_range, claimed_after, passed_all, passed_many}
 use Rattle.sweep_steps.proofs.laws.passed_blocks_are_those_claimed.Goals as goal
 
 pub returns : goal.returns

@@ -1,6 +1,6 @@
 use Rattle.std.proofs.Common.{refl}
-use Rattle.sweep_steps.proofs.Keeping.{keeps_reuse, over_holds_none, puts_on_empty}
-use Rattle.sweep_steps.proofs.Freeing.{keeps_sweeping}
+use Rattle.sweep_steps.proofs.ReuseRulesKept.{keeps_reuse, over_holds_none, puts_on_empty}
+use Rattle.sweep_steps.proofs.FreedBlocks.{keeps_sweeping}
 use Rattle.sweep_steps.proofs.laws.rows_keep_reuse.Goals as goal
 
 pub returns : goal.returns

@@ -1,4 +1,4 @@
-use Rattle.never_heap.proofs.Answering.{none_make}
+use Rattle.never_heap.proofs.StepAnswers.{none_make}
 use Rattle.timed_runs.proofs.bounds.other_alone.Goals as goal
 
 -- src/bounds.rt:58:5

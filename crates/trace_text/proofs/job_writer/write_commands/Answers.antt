@@ -4,7 +4,7 @@ use Rattle.never_heap.specs.declared.Command.{Command}
 use Rattle.trace_text.specs.Streams.{Appends, AppendsPrefix}
 use Rattle.trace_text.specs.Spellings.{command_line}
 use Rattle.trace_text.specs.JobTexts.{line_text}
-use Rattle.trace_text.proofs.Appending.{at_err, lines_front, lines_whole}
+use Rattle.trace_text.proofs.AppendedTexts.{at_err, lines_front, lines_whole}
 use Rattle.trace_text.proofs.job_writer.write_commands.Goals as goal
 
 abbrev text_of : Command → List ℕ

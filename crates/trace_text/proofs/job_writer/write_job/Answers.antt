@@ -1,7 +1,7 @@
 use Rattle.std.proofs.Common.{◌∙◌, subst, List, ℕ}
 use Rattle.std.proofs.lemmas.Result.{on_ok_weaker, on_err_weaker}
 use Rattle.trace_text.specs.Streams.{Appends, AppendsPrefix}
-use Rattle.trace_text.proofs.Appending.{at_err}
+use Rattle.trace_text.proofs.AppendedTexts.{at_err}
 use Rattle.trace_text.proofs.TraceLines.{first_front, middle_front, last_front, all_lines}
 use Rattle.trace_text.proofs.WrittenLines.{text_is_job}
 use Rattle.trace_text.proofs.job_writer.write_job.Goals as goal

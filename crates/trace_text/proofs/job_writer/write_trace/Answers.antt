@@ -1,7 +1,7 @@
 use Rattle.std.proofs.Common.{◌∙◌, subst, List, ℕ}
 use Rattle.std.proofs.lemmas.Result.{on_err_weaker}
 use Rattle.trace_text.specs.Streams.{Appends, AppendsPrefix}
-use Rattle.trace_text.proofs.Appending.{at_err, front_in_turn, front_longer}
+use Rattle.trace_text.proofs.AppendedTexts.{at_err, front_in_turn, front_longer}
 use Rattle.trace_text.proofs.job_writer.write_trace.Goals as goal
 
 pub returns-in_err-put-clause-prefix : goal.returns-in_err-put-clause-prefix

@@ -1,7 +1,7 @@
 use Rattle.std.proofs.Common.{◌<◌, ◌∙◌, subst, List, length, [], arith}
 use Rattle.never_heap.specs.declared.Command.{Command}
 use Rattle.trace_text.specs.Streams.{Appends, AppendsPrefix}
-use Rattle.trace_text.proofs.Appending.{at_err}
+use Rattle.trace_text.proofs.AppendedTexts.{at_err}
 use Rattle.trace_text.proofs.TraceLines.{trace_text, traces_front, traces_more}
 use Rattle.trace_text.proofs.job_writer.write_traces.Goals as goal
 

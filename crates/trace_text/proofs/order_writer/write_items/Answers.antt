@@ -1,5 +1,5 @@
 use Rattle.std.proofs.Common.{◌∙◌}
-use Rattle.trace_text.proofs.Appending.{at_err}
+use Rattle.trace_text.proofs.AppendedTexts.{at_err}
 use Rattle.trace_text.proofs.InOrder.{rest_from, line_written, line_failed}
 use Rattle.trace_text.proofs.order_writer.write_items.Goals as goal
 

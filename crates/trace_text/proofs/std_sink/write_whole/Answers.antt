@@ -1,6 +1,6 @@
 use Rattle.std.proofs.Common.{arith, length-drop}
 use Rattle.std.proofs.lemmas.List.{take_rest}
-use Rattle.trace_text.proofs.Appending.{written_more, kept_more}
+use Rattle.trace_text.proofs.AppendedTexts.{written_more, kept_more}
 use Rattle.trace_text.proofs.std_sink.write_whole.Goals as goal
 use Rattle.trace_text.proofs.std_sink.write_whole.Goals.{in-Ok, in-Err}
 

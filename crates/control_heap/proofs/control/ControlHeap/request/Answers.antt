@@ -8,8 +8,8 @@ use Rattle.heap_system.specs.Locals.{LocalState}
 use Rattle.never_heap.specs.declared.Reply.{Reply}
 use Rattle.heap_system.specs.Lives.{objects_of}
 use Rattle.control_heap.specs.Controls.{Control, Stands, HasAnswered, HasLeft, Machine, Served, asked, given_to}
-use Rattle.control_heap.proofs.Ending.{begin_units, begin_objects, config_is, unspent, later, logged, more_asked, stands_after}
-use Rattle.control_heap.proofs.Serving.{all_answered}
+use Rattle.control_heap.proofs.CommandBound.{begin_units, begin_objects, config_is, unspent, later, logged, more_asked, stands_after}
+use Rattle.control_heap.proofs.ServeLoop.{all_answered}
 use Rattle.control_heap.proofs.control.ControlHeap.request.Goals as goal
 
 pub begin-requires-clause-settled : goal.begin-requires-clause-settled

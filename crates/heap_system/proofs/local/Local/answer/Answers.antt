@@ -4,7 +4,7 @@ use Rattle.never_heap.specs.declared.Command.TheVariants as commands
 use Rattle.never_heap.specs.RightWork.{units_owed}
 use Rattle.work_account.specs.Accounts.{AccountState}
 use Rattle.heap_system.specs.Locals.{LocalState, owed, command_of, balance_over}
-use Rattle.heap_system.proofs.Paying.{view_of, answered_with, next_price}
+use Rattle.heap_system.proofs.OwedAndPaid.{view_of, answered_with, next_price}
 use Rattle.heap_system.proofs.local.Local.answer.Goals as goal
 
 pub invariant_of-self : goal.invariant_of-self

@@ -6,7 +6,7 @@ use Rattle.grey_steps.specs.Fits.{GreyFits}
 use Rattle.grey_steps.specs.Rows.{grey_unit}
 use Rattle.heap_system.specs.Parts.{Mark}
 use Rattle.heap_system.specs.Locals.{owed, unit_to_come, IsLocal, PartFits}
-use Rattle.heap_system.proofs.Paying.{view_of}
+use Rattle.heap_system.proofs.OwedAndPaid.{view_of}
 use Rattle.heap_system.proofs.UnitMade.{counted_local, mark_owes, units_few, spent_few, unit_owed, ties, over_local, mark_at, mark_back, over_part, over_at, units_read}
 use Rattle.heap_system.proofs.local.Local.marks.Goals as goal
 

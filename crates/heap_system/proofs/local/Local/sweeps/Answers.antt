@@ -3,7 +3,7 @@ use Rattle.heap_machine.specs.declared.Outcome.{Outcome}
 use Rattle.sweep_steps.specs.Fits.{SweepFits}
 use Rattle.heap_system.specs.Parts.{Sweep}
 use Rattle.heap_system.specs.Locals.{LocalState, IsLocal, local_got, part_step, turn_of}
-use Rattle.heap_system.proofs.Paying.{view_of, swept_last}
+use Rattle.heap_system.proofs.OwedAndPaid.{view_of, swept_last}
 use Rattle.heap_system.proofs.UnitMade.{units_few, spent_few, unit_owed, ties, counted_local, over_local, swept_fits, swept_owes, sweep_at, sweep_back, over_part, over_at, swept_got, units_read}
 use Rattle.heap_system.proofs.local.Local.sweeps.Goals as goal
 

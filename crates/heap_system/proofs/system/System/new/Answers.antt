@@ -4,7 +4,7 @@ use Rattle.never_heap.specs.declared.Command.{Command}
 use Rattle.rate_plan.proofs.Plans.{found}
 use Rattle.heap_system.specs.Locals.{at_start}
 use Rattle.heap_system.specs.Machines.{starts_from, IsOpening}
-use Rattle.heap_system.proofs.Starting.{AreAtStart, spaces, one_rate, thread_more, opened_traces, opened_reached, number_low, trace_fits, splits_on}
+use Rattle.heap_system.proofs.SystemStart.{AreAtStart, spaces, one_rate, thread_more, opened_traces, opened_reached, number_low, trace_fits, splits_on}
 use Rattle.heap_system.proofs.system.System.new.Goals as goal
 
 -- the trace of a vector

@@ -1,4 +1,4 @@
-use Rattle.mail_runs.proofs.Telling.{speaks_on, grown}
+use Rattle.mail_runs.proofs.SaidByLogs.{speaks_on, grown}
 use Rattle.mail_runs.proofs.speaker.Speaker.turn.Goals as goal
 
 pub returns : goal.returns

@@ -1,7 +1,7 @@
 use Rattle.std.proofs.Common.{◌≡◌, subst, true, arith}
 use Rattle.never_heap.specs.Reach.{stands_in}
 use Rattle.never_heap.specs.Scans.{Finds}
-use Rattle.never_heap.proofs.Scanning.{found_few, led_reached, led_more, all_live}
+use Rattle.never_heap.proofs.LiveScan.{found_few, led_reached, led_more, all_live}
 use Rattle.never_heap.proofs.graph.Graph.count_live.Goals as goal
 
 pub find_all-requires-clause-reached : goal.find_all-requires-clause-reached

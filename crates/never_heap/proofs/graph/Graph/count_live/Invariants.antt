@@ -1,7 +1,7 @@
 use Rattle.std.proofs.Common.{◌-◌, length}
 use Rattle.never_heap.specs.Reach.{names}
 use Rattle.never_heap.specs.Scans.{Scanned, HasRegisters}
-use Rattle.never_heap.proofs.Scanning.{HasLed}
+use Rattle.never_heap.proofs.LiveScan.{HasLed}
 use Rattle.never_heap.proofs.graph.Graph.count_live.Given as goal
 
 abbrev pub invariant-loop-next : goal.invariant-loop-next

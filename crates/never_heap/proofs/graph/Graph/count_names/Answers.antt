@@ -1,5 +1,5 @@
 use Rattle.std.proofs.Common.{◌+◌, ap, sym, ◌∙◌, arith}
-use Rattle.never_heap.proofs.Naming.{count_step}
+use Rattle.never_heap.proofs.NameLists.{count_step}
 use Rattle.never_heap.proofs.graph.Graph.count_names.Goals as goal
 
 pub loop-mutator-preserved : goal.loop-mutator-preserved

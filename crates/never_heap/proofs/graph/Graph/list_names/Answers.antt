@@ -1,5 +1,5 @@
 use Rattle.std.proofs.Common.{arith}
-use Rattle.never_heap.proofs.Naming.{names_step}
+use Rattle.never_heap.proofs.NameLists.{names_step}
 use Rattle.never_heap.proofs.graph.Graph.list_names.Goals as goal
 
 pub loop-thread-preserved : goal.loop-thread-preserved

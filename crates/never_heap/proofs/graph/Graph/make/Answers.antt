@@ -1,7 +1,7 @@
 use Rattle.std.proofs.Common.{ap}
 use Rattle.never_heap.specs.Graphs.{Graph, WideGraph, nils}
 use Rattle.never_heap.specs.Kinds.{kind_of}
-use Rattle.never_heap.proofs.Making.{made_seen, with_both}
+use Rattle.never_heap.proofs.MadeObject.{made_seen, with_both}
 use Rattle.never_heap.proofs.graph.Graph.make.Goals as goal
 
 pub returns-clause-made : goal.returns-clause-made

@@ -1,4 +1,4 @@
-use Rattle.never_heap.proofs.Spreading.{unmarked}
+use Rattle.never_heap.proofs.MarkSpread.{unmarked}
 use Rattle.never_heap.proofs.graph.Graph.no_marks.Goals as goal
 
 pub returns-clause-marks : goal.returns-clause-marks

@@ -2,7 +2,7 @@ use Rattle.std.proofs.Common.{◌≡◌, ◌≤◌, sym, subst, length, true, fa
 use Rattle.block_store.specs.declared.Name.{Name}
 use Rattle.never_heap.specs.Reach.{stands_in}
 use Rattle.never_heap.specs.Scans.{Scanned, Finds}
-use Rattle.never_heap.proofs.Scanning.{scanned_none, register_reached, first_more}
+use Rattle.never_heap.proofs.LiveScan.{scanned_none, register_reached, first_more}
 use Rattle.never_heap.proofs.graph.Graph.scan_registers.Goals as goal
 
 pub loop-mutator-init : goal.loop-mutator-init

@@ -1,5 +1,5 @@
 use Rattle.never_heap.specs.Scans.{Scanned}
-use Rattle.never_heap.proofs.Scanning.{HasFirst}
+use Rattle.never_heap.proofs.LiveScan.{HasFirst}
 use Rattle.never_heap.proofs.graph.Graph.scan_registers.Given as goal
 
 abbrev pub invariant-loop-mutator : goal.invariant-loop-mutator

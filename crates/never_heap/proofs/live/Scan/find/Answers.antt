@@ -1,7 +1,7 @@
 use Rattle.std.proofs.Common.{◌+◌, sym, ◌∙◌, subst, refl, List, arith}
 use Rattle.block_store.specs.declared.Name.{Name}
 use Rattle.never_heap.specs.Scans.{Scanned}
-use Rattle.never_heap.proofs.Scanning.{scanned_more, found_few}
+use Rattle.never_heap.proofs.LiveScan.{scanned_more, found_few}
 use Rattle.never_heap.proofs.live.Scan.find.Goals as goal
 
 pub overflow_add-self : goal.overflow_add-self

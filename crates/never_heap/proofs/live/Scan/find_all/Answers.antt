@@ -1,7 +1,7 @@
 use Rattle.std.proofs.Common.{get_or}
 use Rattle.block_store.specs.declared.Value.TheVariants.{Nil}
-use Rattle.never_heap.proofs.Scanning.{finds_more, finds_other}
-use Rattle.never_heap.proofs.Spreading.{no_reference}
+use Rattle.never_heap.proofs.LiveScan.{finds_more, finds_other}
+use Rattle.never_heap.proofs.MarkSpread.{no_reference}
 use Rattle.never_heap.proofs.live.Scan.find_all.Goals as goal
 use Rattle.never_heap.proofs.live.Scan.find_all.Goals.{in-Ref+in_ok-find, in_default}
 

@@ -1,6 +1,6 @@
 use Rattle.std.proofs.Common.{get_or}
 use Rattle.block_store.specs.declared.Value.TheVariants.{Nil}
-use Rattle.never_heap.proofs.Spreading.{spread_more, spread_other, spread_as, no_reference}
+use Rattle.never_heap.proofs.MarkSpread.{spread_more, spread_other, spread_as, no_reference}
 use Rattle.never_heap.proofs.marks.Marks.spread.Goals as goal
 use Rattle.never_heap.proofs.marks.Marks.spread.Goals.{in-Ref, in_default}
 

@@ -1,5 +1,5 @@
 use Rattle.std.proofs.Common.{take}
-use Rattle.never_heap.proofs.Spreading.{Spread}
+use Rattle.never_heap.proofs.MarkSpread.{Spread}
 use Rattle.never_heap.proofs.marks.Marks.spread.Given as goal
 
 abbrev pub invariant-loop-value : goal.invariant-loop-value

@@ -4,7 +4,7 @@ use Rattle.trace_text.specs.Jobs.{Job}
 use Rattle.trace_text.specs.Texts.{entry_text}
 use Rattle.rt_check.specs.declared.follower.Follower.{Follower}
 use Rattle.rt_check.specs.Standing.{IsFullHere, Counted, entry_here, graph_here}
-use Rattle.rt_check.proofs.Judging.{full_taken, step_taken, none_taken}
+use Rattle.rt_check.proofs.GoodLaws.{full_taken, step_taken, none_taken}
 use Rattle.rt_check.proofs.follower.Follower.answered.Goals as goal
 
 pub returns-then-takes_full : goal.returns-then-takes_full

@@ -1,5 +1,5 @@
 use Rattle.std.proofs.Common.{◌≤◌, ◌∙◌, length, sym, arith}
-use Rattle.rt_check.proofs.Judging.{no_past, left_is, none_begun, none_left_bad, first_bad}
+use Rattle.rt_check.proofs.GoodLaws.{no_past, left_is, none_begun, none_left_bad, first_bad}
 use Rattle.rt_check.proofs.follower.Follower.entry.Goals as goal
 
 pub returns-then-not-has_begun : goal.returns-then-not-has_begun

@@ -1,7 +1,7 @@
 use Rattle.std.proofs.Common.{◌≡◌, ◌<◌, length, false, true, ◌∙◌, subst, get_or, ℕ, List, [], arith}
 use Rattle.std.proofs.lemmas.List.{get_or_default}
 use Rattle.never_heap.specs.declared.Command.{Command}
-use Rattle.rt_check.proofs.Followed.{some_left}
+use Rattle.rt_check.proofs.FollowerState.{some_left}
 use Rattle.rt_check.proofs.follower.Follower.is_done.Goals as goal
 
 no : false ≡ true → ⊥

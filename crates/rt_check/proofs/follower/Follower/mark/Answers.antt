@@ -4,7 +4,7 @@ use Rattle.never_heap.specs.Histories.{Started, starts_in}
 use Rattle.trace_text.specs.Orders.{end_text}
 use Rattle.trace_text.specs.Texts.{totals_line}
 use Rattle.rt_check.specs.Standing.{Stands, StartsHere}
-use Rattle.rt_check.proofs.Judging.{some_past, no_past, none_begun, left_is, start_good, mark_bad}
+use Rattle.rt_check.proofs.GoodLaws.{some_past, no_past, none_begun, left_is, start_good, mark_bad}
 use Rattle.rt_check.proofs.follower.Follower.mark.Goals as goal
 use Rattle.rt_check.proofs.follower.Follower.mark.Goals.{else-is_line-via-then-is_line+then-has_begun+else-is_done, else-is_line-via-then-is_line+else-has_begun, else-is_line-via-else-is_line}
 

@@ -4,7 +4,7 @@ use Rattle.trace_text.specs.Jobs.{Job}
 use Rattle.trace_text.specs.Lines.{tokens_of}
 use Rattle.trace_text.specs.Texts.{entry_text}
 use Rattle.rt_check.specs.Taking.{number_behind}
-use Rattle.rt_check.proofs.Judging.{step_entry}
+use Rattle.rt_check.proofs.GoodLaws.{step_entry}
 use Rattle.rt_check.proofs.TakenLaws.{command_left, command_taken}
 use Rattle.rt_check.proofs.follower.Follower.take_command.Goals as goal
 

@@ -1,5 +1,5 @@
 use Rattle.std.proofs.Common.{◌≤◌, ◌∙◌, length, sym, arith}
-use Rattle.rt_check.proofs.Judging.{no_past, left_is, none_begun, none_left_bad, first_bad}
+use Rattle.rt_check.proofs.GoodLaws.{no_past, left_is, none_begun, none_left_bad, first_bad}
 use Rattle.rt_check.proofs.TakenLaws.{number_left}
 use Rattle.rt_check.proofs.follower.Follower.take_entry.Goals as goal
 

@@ -1,7 +1,7 @@
 use Rattle.std.proofs.Common.{Bool, length, sym, subst, ◌∙◌, arith}
 use Rattle.std.proofs.lemmas.Bool.{both_ways}
 use Rattle.rt_check.specs.Standing.{Stands, StartsHere}
-use Rattle.rt_check.proofs.Judging.{some_past, no_past, none_begun, left_is}
+use Rattle.rt_check.proofs.GoodLaws.{some_past, no_past, none_begun, left_is}
 use Rattle.rt_check.proofs.TakenLaws.{start_taken, mark_left}
 use Rattle.rt_check.proofs.follower.Follower.take_mark.Goals as goal
 use Rattle.rt_check.proofs.follower.Follower.take_mark.Goals.{else-tells_totals-via-then-tells_totals+then-has_begun+else-is_done, else-tells_totals-via-then-tells_totals+else-has_begun, else-tells_totals-via-else-tells_totals}

@@ -5,7 +5,7 @@ use Rattle.never_heap.specs.Histories.{Started, starts_in}
 use Rattle.never_heap.specs.LiveBlocks.{live_blocks}
 use Rattle.trace_text.specs.Orders.{item_text}
 use Rattle.trace_text.specs.Texts.{start_line}
-use Rattle.rt_check.proofs.Followed.{stands_start}
+use Rattle.rt_check.proofs.FollowerState.{stands_start}
 use Rattle.rt_check.proofs.follower.Follower.take_start.Goals as goal
 
 pub returns-then-not-is_line-clause-taken : goal.returns-then-not-is_line-clause-taken

@@ -2,7 +2,7 @@ use Rattle.std.proofs.Common.{◌+◌, ◌-◌, [], length, take, drop, arith, a
 use Rattle.std.proofs.lemmas.Bool.{false_from_ne_true}
 use Rattle.std.proofs.lemmas.Bool.Decides.{nat_tests}
 use Rattle.std.proofs.lemmas.List.{take_rest}
-use Rattle.trace_text.proofs.Splitting.{lines_at, lines_none, first_at, parts_at}
+use Rattle.trace_text.proofs.ByteSplits.{lines_at, lines_none, first_at, parts_at}
 use Rattle.trace_text.proofs.reading.tokens.first_line.Goals as goal
 
 pub returns-in-Some-clause-lines : goal.returns-in-Some-clause-lines

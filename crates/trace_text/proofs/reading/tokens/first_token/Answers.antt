@@ -1,7 +1,7 @@
 use Rattle.std.proofs.Common.{◌+◌, ◌==◌, add-one, sym, ◌∙◌}
 use Rattle.std.proofs.lemmas.List.{take_rest}
 use Rattle.std.proofs.lemmas.List.Quantifiers.{position-Some}
-use Rattle.trace_text.proofs.Splitting.{tokens_at, tokens_none, position_none}
+use Rattle.trace_text.proofs.ByteSplits.{tokens_at, tokens_none, position_none}
 use Rattle.trace_text.proofs.reading.tokens.first_token.Goals as goal
 
 pub returns-in-Some : goal.returns-in-Some
