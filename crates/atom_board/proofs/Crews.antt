@@ -29,6 +29,17 @@ middle : {A : Type 0} (ys zs : List A) (x d : A) → get_or (ys ++ x ∷ zs) (le
 middle [] zs x d = refl
 middle (y ∷ ys) zs x d = middle ys zs x d
 
+-- what holds of each thread holds of the one that is dealt next
+pub dealt_next : (P : LocalState → Type 0) (ys xs all zs : List LocalState) (x : LocalState)
+    → ys ++ xs ≡ all → xs ≡ x ∷ zs
+    → ((i : ℕ) (d : LocalState) → i < length all → P (get_or all i d)) → P x
+dealt_next P ys xs all zs x whole is each =
+    let same : ys ++ x ∷ zs ≡ all = ap (λ l. ys ++ l) (sym is) ∙ whole in
+    let low : length ys < length (ys ++ x ∷ zs) = omega (arith, length-append ys (x ∷ zs)) in
+    subst P (middle ys zs x x)
+    (subst (λ l. (i : ℕ) (d : LocalState) → i < length l → P (get_or l i d)) (sym same) each
+    (length ys) x low)
+
 -- the element behind those that were taken
 pub at_middle : {A : Type 0} (ys zs rest all : List A) (x d : A) → ys ++ rest ≡ all → rest ≡ x ∷ zs → (get_or all (length ys) d ≡ x) × (length ys < length all)
 at_middle ys zs rest all x d split steps =
