@@ -3,9 +3,8 @@
 use grey_steps::GreyRow;
 use sweep_steps::SweepRow;
 
-/// The row at which a thread stands. What it needs beside the row is kept by the thread and is
-/// written once: the pass, the command, the row of a command or of a gate that is turned over, and
-/// the object that is built.
+/// The row at which a thread stands. The thread keeps beside it what rows have in common, the pass
+/// above all, and what does a command, builds an object or turns the phase over.
 #[derive(Clone, Copy)]
 pub enum Row {
     /// At rest outside the gate.
