@@ -2,3 +2,4 @@ pub mod Boards
 pub mod Ends
 pub mod Mutators
 pub mod Ports
+pub mod Courses

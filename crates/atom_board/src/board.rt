@@ -229,6 +229,17 @@ impl AtomBoard {
         who.local.event(&mut who.port, &self.table.shared)
     }
 
+    // Turns of a mutator that is not done, in a row.
+    #[inline(always)]
+    fn events(&self, who: &mut Mutator) -> Turn
+        requires board { who.old.board ≡ self.now.id }
+        requires going { is_done who.old.local ≡ false }
+        ensures later { IsLater who.old who.new }
+        ensures few { HasFewTurns who.new }
+    {
+        who.local.events(&mut who.port, &self.table.shared)
+    }
+
     /// Makes turns of a mutator of this board until it is done, and tells the pace before each
     /// command. After a turn that waited it pauses, longer each time until it gets on: until it
     /// has made a unit or ended a command. Where the configuration has one thread, it makes at most
@@ -251,7 +262,7 @@ impl AtomBoard {
                 }
                 pace.before(rt, who.thread(), who.log().len() as u64);
             }
-            match self.event(&mut who) {
+            match self.events(&mut who) {
                 Turn::Waited => {
                     waited = Some(who.progress());
                     backoff.snooze();

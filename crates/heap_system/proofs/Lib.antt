@@ -1,5 +1,7 @@
 pub mod OpeningArrays
 pub mod OwedAndPaid
+pub mod Runs
+pub mod RunEvents
 pub mod TextLives
 pub mod SeenAndKept
 pub mod PartLaws

@@ -3,6 +3,7 @@ pub mod Openings
 pub mod Lives
 pub mod Parts
 pub mod Locals
+pub mod Courses
 pub mod Machines
 pub mod Rooms
 pub mod Pictures

@@ -5,6 +5,7 @@ mod accounts;
 mod bound;
 mod collector;
 mod counting;
+mod course;
 mod cycles;
 mod laws;
 mod local;
@@ -24,6 +25,7 @@ pub use collector::{
     phases_turn_with_nobody_inside, starts_find_no_white, sweeping_spares_what_is_reached,
     the_flip_finds_what_is_reached,
 };
+pub use course::Course;
 pub use cycles::cycles_take_each_block_once;
 pub use laws::{
     events_are_safe, finished_runs_show_their_logs, logs_are_parts, opening_shows_the_start,

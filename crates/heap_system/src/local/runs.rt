@@ -1,0 +1,189 @@
+//! A thread's events in a row, with the row of a pass that pays in hand.
+
+ghost use Rattle.std.specs.Prelude.{◌≡◌, true, false, if◌then◌else◌};
+ghost use Rattle.sweep_steps.specs.Rows.{sweep_nothing};
+ghost use Rattle.heap_system.specs.declared.rows.Row.TheVariants as rows;
+ghost use Rattle.heap_system.specs.Courses.{HasRunOn, goes_on, has_waited};
+ghost use Rattle.heap_system.specs.Locals.{is_build, is_done, is_last, is_marking, is_serving, is_sweeping};
+
+use super::{Local, after_pass, is_last, turn_after};
+use crate::counting::count;
+use crate::rows::Row;
+use crate::{Course, Turn};
+use block_store::Places;
+use grey_steps::GreyPass;
+use heap_machine::{Outcome, Pass, Step};
+use sweep_steps::SweepPass;
+
+// The most events that are made in a row.
+const LONGEST: u32 = 64;
+
+// Whether the part goes on, and the step did not wait.
+#[inline(always)]
+fn goes_on(step: Step) -> bool
+    ensures { result ≡ goes_on step }
+{
+    matches!(step, Step::Went)
+}
+
+// Whether the turn waited.
+#[inline(always)]
+fn waited(turn: Turn) -> bool
+    ensures { result ≡ has_waited turn }
+{
+    matches!(turn, Turn::Waited)
+}
+
+// Where a thread stands behind this step of a sweep that came in with so many units owed.
+#[inline(always)]
+fn behind(pass: &SweepPass, owed: u64, step: Step) -> Row
+    ensures { result ≡ (if is_last step
+        then (if sweep_nothing pass.now.row then rows.Idle else rows.Again)
+        else rows.Sweep owed pass.now.row) }
+{
+    if is_last(step) {
+        after_pass(pass.nothing())
+    } else {
+        Row::Sweep {
+            owed,
+            row: pass.row(),
+        }
+    }
+}
+
+impl Local {
+    /// Makes events of the thread in a row, one at least: those of its part, up to 64 and to the
+    /// first that waits; on its way in or out, one. The thread is not done. Tells what the last
+    /// event was.
+    #[inline(always)]
+    pub fn events<C: Course>(&mut self, memory: &mut C, shared: &C::Shared) -> Turn
+        requires open { is_done self.old ≡ false }
+        requires stands { C.stands memory.old shared.now self.old }
+        ensures stands { C.stands memory.new shared.now self.new }
+        ensures run { HasRunOn self.old (C.made memory.old) self.new (C.made memory.new) result }
+    {
+        match self.row {
+            Row::Mark(_) => self.marks_on(memory, shared),
+            Row::Sweep { .. } => self.sweeps_on(memory, shared),
+            Row::Serve => self.serves_on(memory, shared),
+            Row::Build => self.builds_on(memory, shared),
+            _ => self.event(memory, shared),
+        }
+    }
+
+    // `events`, of a part that marks.
+    fn marks_on<C: Course>(&mut self, memory: &mut C, shared: &C::Shared) -> Turn
+        requires part { is_marking self.old.part ≡ true }
+        requires stands { C.stands memory.old shared.now self.old }
+        ensures stands { C.stands memory.new shared.now self.new }
+        ensures run { HasRunOn self.old (C.made memory.old) self.new (C.made memory.new) result }
+    {
+        let places = Places::new(&self.config);
+        match self.row {
+            Row::Mark(row) => {
+                let mut scan = GreyPass::at_row(self.pass, row);
+                for _ in 0..LONGEST {
+                    let Outcome { step, unit } = scan.event(&places, memory, shared);
+                    count(
+                        &mut self.account,
+                        &mut self.spent,
+                        &self.trace,
+                        &self.log,
+                        unit,
+                    );
+                    if is_last(step) {
+                        self.row = after_pass(scan.nothing());
+                        return turn_after(step);
+                    }
+                }
+                self.row = Row::Mark(scan.row());
+                Turn::Went
+            }
+            _ => unreachable!(),
+        }
+    }
+
+    // `events`, of a part that sweeps.
+    fn sweeps_on<C: Course>(&mut self, memory: &mut C, shared: &C::Shared) -> Turn
+        requires part { is_sweeping self.old.part ≡ true }
+        requires stands { C.stands memory.old shared.now self.old }
+        ensures stands { C.stands memory.new shared.now self.new }
+        ensures run { HasRunOn self.old (C.made memory.old) self.new (C.made memory.new) result }
+    {
+        let places = Places::new(&self.config);
+        match self.row {
+            Row::Sweep { owed, row } => {
+                let Pass { thread, cycle, .. } = self.pass;
+                let mut pass = SweepPass::at_row(thread, cycle, self.config.blocks, owed, row);
+                for _ in 0..LONGEST {
+                    let Outcome { step, unit } = pass.event(&places, memory, shared);
+                    count(
+                        &mut self.account,
+                        &mut self.spent,
+                        &self.trace,
+                        &self.log,
+                        unit,
+                    );
+                    if !goes_on(step) {
+                        self.row = behind(&pass, owed, step);
+                        return turn_after(step);
+                    }
+                }
+                let row = pass.row();
+                self.row = Row::Sweep { owed, row };
+                Turn::Went
+            }
+            _ => unreachable!(),
+        }
+    }
+
+    // `events`, of a command that makes no object.
+    fn serves_on<C: Course>(&mut self, memory: &mut C, shared: &C::Shared) -> Turn
+        requires part { is_serving self.old.part ≡ true }
+        requires stands { C.stands memory.old shared.now self.old }
+        ensures stands { C.stands memory.new shared.now self.new }
+        ensures run { HasRunOn self.old (C.made memory.old) self.new (C.made memory.new) result }
+    {
+        for _ in 0..LONGEST {
+            self.wants_a_word();
+            let turn = self.serves(memory, shared);
+            if waited(turn) || !self.is_serving() {
+                return turn;
+            }
+        }
+        Turn::Went
+    }
+
+    // `events`, of an object that is built.
+    fn builds_on<C: Course>(&mut self, memory: &mut C, shared: &C::Shared) -> Turn
+        requires part { is_build self.old.part ≡ true }
+        requires stands { C.stands memory.old shared.now self.old }
+        ensures stands { C.stands memory.new shared.now self.new }
+        ensures run { HasRunOn self.old (C.made memory.old) self.new (C.made memory.new) result }
+    {
+        for _ in 0..LONGEST {
+            self.wants_a_word();
+            let turn = self.builds(memory, shared);
+            if waited(turn) || !self.is_building() {
+                return turn;
+            }
+        }
+        Turn::Went
+    }
+
+    // Whether the thread is in a command that makes no object.
+    #[inline(always)]
+    fn is_serving(&self) -> bool
+        ensures { result ≡ is_serving self.now.part }
+    {
+        matches!(self.row, Row::Serve)
+    }
+
+    // Whether it builds one.
+    #[inline(always)]
+    fn is_building(&self) -> bool
+        ensures { result ≡ is_build self.now.part }
+    {
+        matches!(self.row, Row::Build)
+    }
+}
