@@ -1,5 +1,5 @@
 -- Where there is one thread, the list of turns tells how many it has made at most.
-use Rattle.std.proofs.Common.{◌≡◌, ℕ, zero, suc, ◌<◌, ◌≤◌, ◌+◌, false, eqb, eq-eqb, refl, arith, subst, sym, ap, ◌∙◌, List, [], ◌∷◌, ◌++◌, length, length-append, get_or, map}
+use Rattle.std.proofs.Common.{◌≡◌, ℕ, zero, suc, ◌<◌, ◌+◌, false, eqb, eq-eqb, refl, arith, subst, sym, ap, ◌∙◌, List, [], ◌∷◌, ◌++◌, length, length-append, get_or, map}
 use Rattle.block_store.specs.declared.Config.{Config}
 use Rattle.block_store.specs.Counts.{times, total}
 use Rattle.block_store.specs.Phases.{bit}

@@ -1,6 +1,5 @@
 -- A mutator after turns in a row.
-use Rattle.std.proofs.Common.{◌≡◌, ℕ, ◌≤◌, List, [], ◌∷◌, ◌++◌, append-nil, append_assoc, refl, sym, ap, ◌∙◌, arith}
-use Rattle.never_heap.specs.declared.Command.{Command}
+use Rattle.std.proofs.Common.{◌≡◌, ℕ, List, [], ◌∷◌, ◌++◌, append-nil, append_assoc, refl, sym, ap, ◌∙◌, arith}
 use Rattle.never_heap.specs.declared.Entry.{Entry}
 use Rattle.heap_system.specs.declared.Turn.{Turn}
 use Rattle.heap_system.specs.Courses.{after_words, HasRunOn}

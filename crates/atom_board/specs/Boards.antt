@@ -1,6 +1,6 @@
 -- The rule of the board: the words and the threads of all seats are the state after some list of
 -- turns.
-use Rattle.std.specs.Prelude.{ℕ, ◌+◌, ◌-◌, ◌%◌, ◌^◌, ◌<◌, ◌≡◌, ◌==◌, Bool, false, List, [], ◌∷◌, ◌++◌, map, slice_index, slice_index_or}
+use Rattle.std.specs.Prelude.{ℕ, ◌+◌, ◌-◌, ◌%◌, ◌^◌, ◌<◌, ◌≡◌, ◌==◌, false, List, [], ◌∷◌, ◌++◌, map, slice_index, slice_index_or}
 use mathlib.Core.Option.{some}
 use prog.Atomic.{either}
 use lib.ListN.{get_elem?}

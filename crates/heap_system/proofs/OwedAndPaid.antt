@@ -1,6 +1,6 @@
 -- What a thread owes and has paid, and the ranges of the parts that it comes to.
-use Rattle.std.proofs.Common.{◌≡◌, ℕ, zero, suc, ◌+◌, ◌-◌, ◌*◌, ◌<◌, ◌≤◌, ◌^◌, Bool, true, false, not, ◌&&◌, ◌||◌, cond, ltb, eqb, ltb-true, refl, sym, ap, ◌∙◌, subst, arith, List, [], ◌∷◌, ◌++◌, length, length-append, get_or, set, take, Some, is_some, inl, inr, mul_comm, ◌⊎◌, ne_eqb}
-use Rattle.std.proofs.lemmas.Bool.{cases_Bool, cases_eq, cases_lt, lt-ltb}
+use Rattle.std.proofs.Common.{◌≡◌, ℕ, zero, suc, ◌+◌, ◌-◌, ◌*◌, ◌<◌, ◌≤◌, ◌^◌, Bool, true, false, cond, ltb, eqb, refl, sym, ap, ◌∙◌, subst, arith, List, [], ◌∷◌, ◌++◌, length, length-append, get_or, set, take, Some, inl, inr, mul_comm, ◌⊎◌, ne_eqb}
+use Rattle.std.proofs.lemmas.Bool.{cases_eq, cases_lt}
 use Rattle.std.proofs.lemmas.List.{get_or_past}
 use Rattle.std.proofs.Math.Nat.{mul-le-mul_right}
 use Rattle.block_store.specs.declared.Config.{Config}
@@ -8,7 +8,6 @@ use Rattle.block_store.specs.declared.PhaseWord.{PhaseWord}
 use Rattle.block_store.specs.declared.Width.{Width}
 use Rattle.block_store.specs.Configs.{IsInBounds}
 use Rattle.block_store.specs.Phases.{bit}
-use Rattle.block_store.specs.Places.{Extent}
 use Rattle.block_store.specs.Registers.{registers_end, root_block}
 use Rattle.block_store.proofs.Registers.{end_more}
 use Rattle.rate_plan.specs.Rates.{IsRate, IsAdmitted}
@@ -36,15 +35,11 @@ use Rattle.heap_machine.specs.declared.gate.GateRow.TheVariants as gates
 use Rattle.barrier_steps.specs.Rows.{FieldState, at_first_row}
 use Rattle.barrier_steps.specs.Fits.{IsThread}
 use Rattle.barrier_steps.proofs.FieldRows.{first_fits}
-use Rattle.grey_steps.specs.Rows.{GreyState, grey_got, grey_unit, scanning}
-use Rattle.grey_steps.specs.Ends.{is_blackening}
-use Rattle.grey_steps.proofs.Ends.{unit_after, unit_once}
+use Rattle.grey_steps.specs.Rows.{scanning}
 use Rattle.grey_steps.proofs.Ranges.{scan_fits}
-use Rattle.sweep_steps.specs.Rows.{SweepState, sweep_got, sweep_over, sweep_passed, step_to, sweeping}
-use Rattle.sweep_steps.specs.Ends.{row_passes}
+use Rattle.sweep_steps.specs.Rows.{SweepState, sweep_got, sweep_over, step_to, sweeping}
 use Rattle.sweep_steps.specs.declared.rows.SweepRow.{SweepRow}
 use Rattle.sweep_steps.specs.declared.rows.SweepRow.TheVariants as sweeps
-use Rattle.sweep_steps.proofs.PassedBlocks.{passed_bits}
 use Rattle.sweep_steps.proofs.Ranges as sweeping_ranges
 use Rattle.build_steps.specs.Rows.{BuildState, building}
 use Rattle.build_steps.proofs.Ranges as building_ranges
@@ -53,7 +48,7 @@ use Rattle.heap_system.specs.declared.local.Local.TheInside.{Inside}
 use Rattle.heap_system.specs.Parts.{part_at, Part, Rest, Enter, Serve, Mark, Sweep, Build, TurnOver, Leave}
 use Rattle.heap_system.specs.Machines.{IsJob}
 use Rattle.heap_system.specs.Lives.{IsLife, sum_after, objects_of, most_units, most_objects}
-use Rattle.heap_system.specs.Locals.{LocalState, command_behind, IsLocal, PartFits, PartReads, IsRoomy, IsAllMade, errand_of, command_of, owed, pass_by, is_last, is_rest, unit_to_come, works, entry_of, made_got, balance_over, paid_part, begun}
+use Rattle.heap_system.specs.Locals.{LocalState, command_behind, IsLocal, PartFits, PartReads, IsRoomy, IsAllMade, errand_of, answered, command_of, owed, pass_by, is_last, is_rest, unit_to_come, works, entry_of, made_got, balance_over, paid_part, begun}
 use Rattle.work_account.proofs.Balances.{entered_sound}
 use Rattle.cycle_tally.proofs.Sums.{paid_entered}
 use Rattle.heap_system.proofs.Balances.{none_spent, units_entered, paid_over, all_paid, units_over, sound_over}
@@ -295,16 +290,6 @@ works_at xs i d low = let e : i + 1 ≡ suc i = omega arith in ap (λ n. works (
 pub made_low : (k : Command) (r : Reply) (n : ℕ) → made_got k (Some r) n ≤ n + objects_of k
 made_low k (replies.New a) n = omega arith
 made_low k _ n = omega arith
-
--- a thread with its command in the log
-abbrev pub answered : LocalState → Reply → LocalState
-answered l reply = record l {
-  log = l.log ++ entry_of l.thread (command_of l) l.spent reply ∷ [];
-  balance = balance_over reply (blocks_of l.config.width (command_of l)) l.balance;
-  spent = 0;
-  made = made_got (command_of l) (Some reply) l.made;
-  part = Leave;
-}
 
 pub answered_local : (l : LocalState) (reply : Reply) → IsLocal l → length l.log < length l.trace → l.spent ≡ owed l → IsLocal (answered l reply)
 answered_local l reply k low all = record {

@@ -13,7 +13,7 @@ use Rattle.heap_system.specs.declared.local.Local.TheInside.{Inside}
 use Rattle.heap_system.specs.declared.Turn.{Turn}
 use Rattle.heap_system.specs.declared.Turn.TheVariants.{Went}
 use Rattle.heap_system.specs.Parts.{Part, Rest}
-use Rattle.heap_system.specs.Locals.{LocalState, IsLocal, PartReads, LocalReads, command_behind, is_build, is_done, is_rest, is_serving, local_got, op_wanted, part_step, part_want, turn_of}
+use Rattle.heap_system.specs.Locals.{LocalState, IsLocal, PartReads, command_behind, is_build, is_done, is_rest, is_serving, local_got, op_wanted, part_step, part_want, turn_of}
 use Rattle.heap_system.specs.Courses.{after_words, has_waited, last_turn, HasRun, Leads}
 use Rattle.heap_system.proofs.OwedAndPaid.{view_of}
 use Rattle.heap_system.proofs.WantedPlaces.{want_low}

@@ -465,6 +465,16 @@ local_got l w =
       part = part_got l.config l.thread (errand_of l) l.pass l.part w;
     }
 
+-- the thread with its command in the log, and this reply
+abbrev pub answered : LocalState → Reply → LocalState
+answered l reply = record l {
+  log = l.log ++ entry_of l.thread (command_of l) l.spent reply ∷ [];
+  balance = balance_over reply (blocks_of l.config.width (command_of l)) l.balance;
+  spent = 0;
+  made = made_got (command_of l) (Some reply) l.made;
+  part = Leave;
+}
+
 -- the sum of the works
 abbrev pub works : List Entry → ℕ
 works [] = 0

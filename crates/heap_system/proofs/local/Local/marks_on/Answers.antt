@@ -1,13 +1,11 @@
-use Rattle.std.proofs.Common.{◌≡◌, ◌<◌, ◌≤◌, ◌+◌, true, false, not, refl, sym, ap, ◌∙◌, subst, arith, length}
-use Rattle.block_store.specs.Phases.{bit}
+use Rattle.std.proofs.Common.{◌≡◌, true, false, refl, sym, ap, ◌∙◌, subst, arith}
 use Rattle.grey_steps.specs.Fits.{GreyFits}
-use Rattle.grey_steps.specs.Rows.{GreyState, grey_nothing, grey_unit}
-use Rattle.heap_machine.specs.declared.Outcome.{Outcome}
+use Rattle.grey_steps.specs.Rows.{GreyState, grey_nothing}
 use Rattle.heap_system.specs.declared.local.Local.TheInside.{Inside}
 use Rattle.heap_system.specs.declared.rows.Row.TheVariants as rows
 use Rattle.heap_system.specs.Parts.{Mark}
 use Rattle.heap_system.specs.declared.Turn.TheVariants.{Went}
-use Rattle.heap_system.specs.Locals.{LocalState, IsLocal, if_over, is_last, local_got, owed}
+use Rattle.heap_system.specs.Locals.{LocalState, IsLocal, if_over, is_last, local_got}
 use Rattle.heap_system.proofs.OwedAndPaid.{part_of, view_of}
 use Rattle.heap_system.proofs.UnitMade.{units_few, spent_few, unit_owed, ties, counted_local, over_local, over_part, over_at, units_read}
 use Rattle.heap_system.proofs.Runs.{allowed, reads_well, leads_on, leads_at, run_more}

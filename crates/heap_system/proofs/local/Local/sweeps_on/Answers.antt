@@ -8,7 +8,7 @@ use Rattle.heap_system.specs.Parts.{Sweep, Again, Idle}
 use Rattle.heap_system.specs.declared.Turn.TheVariants.{Went}
 use Rattle.heap_system.specs.Locals.{IsLocal, if_over, is_last}
 use Rattle.heap_system.proofs.OwedAndPaid.{part_of, view_of}
-use Rattle.heap_system.proofs.UnitMade.{units_few, spent_few, unit_owed, ties, counted_local, over_local, over_part, over_at, units_read, swept_fits, swept_owes}
+use Rattle.heap_system.proofs.UnitMade.{units_few, spent_few, unit_owed, ties, counted_local, over_local, over_part, units_read, swept_fits, swept_owes}
 use Rattle.heap_system.proofs.Runs.{allowed, reads_well, leads_on, leads_at, run_more}
 use Rattle.heap_system.proofs.RunEvents.{swept, sweep_turn, went_on, behind_at, behind_local}
 use Rattle.heap_system.proofs.local.Local.sweeps_on.Goals as goal
