@@ -484,18 +484,6 @@ impl FieldPass {
         FieldPass { pass, command, row }
     }
 
-    /// The same part once more, for who makes its events by a copy of it.
-    #[inline(always)]
-    pub fn copied(&self) -> FieldPass
-        ensures { result ≡ self.now }
-    {
-        FieldPass {
-            pass: self.pass,
-            command: self.command,
-            row: self.row,
-        }
-    }
-
     /// The operation of the next event. A part that is over wants no more than a look at the phase.
     /// The places are those of a heap that has the part's thread and the row's blocks.
     #[inline(never)]

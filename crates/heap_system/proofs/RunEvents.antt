@@ -1,5 +1,5 @@
 -- One event of a pass that pays, where its row is in hand: what the thread is behind it.
-use Rattle.std.proofs.Common.{◌≡◌, ℕ, ◌+◌, ◌≤◌, Bool, true, false, not, cond, None, Some, Option, ◌++◌, length, append-nil, refl, sym, ap, ◌∙◌, subst, arith}
+use Rattle.std.proofs.Common.{◌≡◌, ℕ, ◌+◌, ◌≤◌, Bool, true, false, not, cond, None, length, append-nil, refl, sym, ap, ◌∙◌, subst}
 use Rattle.block_store.specs.declared.Config.{Config}
 use Rattle.block_store.specs.Phases.{bit}
 use Rattle.block_store.specs.Places.{extent}
@@ -8,23 +8,19 @@ use Rattle.heap_machine.specs.declared.Step.{Step}
 use Rattle.heap_machine.specs.declared.Step.TheVariants as steps
 use Rattle.grey_steps.specs.Ends.{is_blackening, grey_outcome}
 use Rattle.grey_steps.specs.Rows.{GreyState, grey_got, grey_step, grey_over, grey_nothing, grey_unit}
-use Rattle.barrier_steps.specs.Fits.{FieldFits}
-use Rattle.barrier_steps.specs.Rows.{FieldState, field_got, field_reply, step_of}
 use Rattle.sweep_steps.specs.Ends.{sweep_outcome}
 use Rattle.sweep_steps.specs.Rows.{SweepState, sweep_got, sweep_over, sweep_nothing}
-use Rattle.never_heap.specs.declared.Reply.{Reply}
-use Rattle.never_heap.specs.Steps.{blocks_of}
 use Rattle.never_heap.specs.RightWork.{units_told}
 use Rattle.work_account.specs.Accounts.{AccountState}
 use Rattle.heap_system.specs.declared.local.Local.TheInside.{Inside}
 use Rattle.heap_system.specs.declared.Turn.{Turn}
 use Rattle.heap_system.specs.declared.Turn.TheVariants.{Went}
-use Rattle.heap_system.specs.Parts.{Part, Mark, Serve, Sweep, Again, Idle}
+use Rattle.heap_system.specs.Parts.{Part, Mark, Sweep, Again, Idle}
 use Rattle.heap_system.specs.declared.rows.Row.{Row}
 use Rattle.heap_system.specs.declared.rows.Row.TheVariants as rows
-use Rattle.heap_system.specs.Courses.{goes_on, serving}
-use Rattle.heap_system.specs.Locals.{LocalState, IsLocal, IsAllMade, PartFits, answered, balance_on, balance_paid, entries_of, made_got, spent_got, command_of, if_over, if_replied, is_last, local_got, owed, part_step, turn_of, unit_to_come}
-use Rattle.heap_system.proofs.OwedAndPaid.{begins, part_of, view_of, swept_last}
+use Rattle.heap_system.specs.Courses.{goes_on}
+use Rattle.heap_system.specs.Locals.{LocalState, IsLocal, PartFits, balance_on, spent_got, command_of, if_over, is_last, local_got, owed, part_step, turn_of, unit_to_come}
+use Rattle.heap_system.proofs.OwedAndPaid.{part_of, view_of, swept_last}
 use Rattle.heap_system.proofs.UnitMade.{mark_owes, over_part}
 
 -- a step that goes on and does not end its part is one that went
@@ -155,51 +151,3 @@ behind_local l last none p q is idle again goes =
     by true true = idle
     by true false = again
     by false c = goes
-
--- a command in hand, with another row of what does it
-pub serving_local : (l : LocalState) (f n : FieldState) → IsLocal l → l.part ≡ Serve f → FieldFits l.config n
-    → IsLocal (serving l n)
-serving_local l f n k at fits =
-    let was = subst (λ p. PartFits l.config (length l.log) (length l.trace) l.pass p) at k.part in
-    let all : l.spent ≡ owed l = subst (λ p. IsAllMade (owed l) l.spent p) at k.settled in
-    begins l l.pass (Serve n) k (fits, was.1) (omega (arith, all)) all tt
-
--- its event, where it has no reply yet
-pub served_on : (l : LocalState) (f n : FieldState) (w : ℕ) (x : Config) → x ≡ l.config
-    → n ≡ field_got (extent x) f w → field_reply n.row ≡ None
-    → serving l n ≡ local_got (serving l f) w
-served_on l f n w x same got none =
-    let goes : n ≡ field_got (extent l.config) f w = got ∙ ap (λ y. field_got (extent y) f w) same in
-    let reply : None ≡ field_reply (field_got (extent l.config) f w).row =
-    sym none ∙ ap (λ (y : FieldState). field_reply y.row) goes in
-    (λ j. record l { log = sym (append-nil l.log) j; part = Serve (goes j) })
-    ∙ (λ j. record l {
-      log = l.log ++ entries_of l.thread (command_of l) l.spent (reply j);
-      balance = balance_paid (reply j) false (units_told (command_of l))
-          (blocks_of l.config.width (command_of l)) l.balance;
-      spent = spent_got (reply j) false l.spent;
-      made = made_got (command_of l) (reply j) l.made;
-      part = if_replied (reply j) (Serve (field_got (extent l.config) f w));
-    })
-
--- and where it has one
-pub served_over : (l : LocalState) (f n : FieldState) (w : ℕ) (x : Config) (r : Reply) → x ≡ l.config
-    → n ≡ field_got (extent x) f w → field_reply n.row ≡ Some r
-    → answered l r ≡ local_got (serving l f) w
-served_over l f n w x r same got is =
-    let goes : n ≡ field_got (extent l.config) f w = got ∙ ap (λ y. field_got (extent y) f w) same in
-    let reply : Some r ≡ field_reply (field_got (extent l.config) f w).row =
-    sym is ∙ ap (λ (y : FieldState). field_reply y.row) goes in
-    λ j. record l {
-      log = l.log ++ entries_of l.thread (command_of l) l.spent (reply j);
-      balance = balance_paid (reply j) false (units_told (command_of l))
-          (blocks_of l.config.width (command_of l)) l.balance;
-      spent = spent_got (reply j) false l.spent;
-      made = made_got (command_of l) (reply j) l.made;
-      part = if_replied (reply j) (Serve (field_got (extent l.config) f w));
-    }
-
--- no event of a command waits
-pub serve_turn : (reply : Option Reply) → Went ≡ turn_of (step_of reply)
-serve_turn None = refl
-serve_turn (Some r) = refl

@@ -4,8 +4,6 @@ use Rattle.heap_machine.specs.declared.op.Op.{Op}
 use Rattle.heap_machine.specs.declared.Step.{Step}
 use Rattle.heap_machine.specs.declared.Step.TheVariants as steps
 use Rattle.heap_machine.specs.Memories.{Acts, ReadsOnly}
-use Rattle.barrier_steps.specs.Rows.{FieldState}
-use Rattle.heap_system.specs.Parts.{Serve}
 use Rattle.heap_system.specs.declared.Turn.{Turn}
 use Rattle.heap_system.specs.declared.Turn.TheVariants.{Went, Waited}
 use Rattle.heap_system.specs.Locals.{LocalState, LocalReads, local_got, part_step, turn_of, op_wanted}
@@ -20,10 +18,6 @@ abbrev pub last_turn : Turn → LocalState → List ℕ → Turn
 last_turn turn l [] = turn
 last_turn turn l (w ∷ ws) =
     last_turn (turn_of (part_step l.config l.part w)) (local_got l w) ws
-
--- the thread, where this does its command
-abbrev pub serving : LocalState → FieldState → LocalState
-serving l f = record l { part = Serve f }
 
 -- a step that does not wait, of a part that is not over behind it
 abbrev pub goes_on : Step → Bool

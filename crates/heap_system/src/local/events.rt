@@ -217,7 +217,7 @@ impl Local {
 
     // `event`, of a command that makes no object.
     #[inline(always)]
-    fn serves<M: Memory>(&mut self, memory: &mut M, shared: &M::Shared) -> Turn
+    pub(super) fn serves<M: Memory>(&mut self, memory: &mut M, shared: &M::Shared) -> Turn
         requires part { is_serving self.old.part ≡ true }
         requires may { M.may memory.old shared.now (op_wanted self.old) }
         requires reads { ReadsOnly M.acts memory.old shared.now (op_wanted self.old)
@@ -444,7 +444,7 @@ impl Local {
     }
 
     // The command in hand is done.
-    pub(super) fn answer(&mut self, reply: Reply)
+    fn answer(&mut self, reply: Reply)
         requires command { length self.old.log < length self.old.trace }
         requires paid { self.old.spent ≡ owed self.old }
         ensures { self.new ≡ answered self.old reply }

@@ -1,24 +1,19 @@
 //! A thread's events in a row, with the row of a pass that pays in hand.
 
-ghost use Rattle.std.specs.Prelude.{◌≡◌, true, false, if◌then◌else◌, IfNone, IfSome};
+ghost use Rattle.std.specs.Prelude.{◌≡◌, true, false, if◌then◌else◌};
 ghost use Rattle.sweep_steps.specs.Rows.{sweep_nothing};
 ghost use Rattle.heap_system.specs.declared.rows.Row.TheVariants as rows;
-ghost use Rattle.heap_system.specs.Courses.{HasRunOn, goes_on, has_waited, serving};
-ghost use Rattle.heap_system.specs.Locals.{answered, is_build, is_done, is_last, is_marking, is_serving, is_sweeping};
-ghost use Rattle.barrier_steps.specs.Fits.{FieldFits};
-ghost use Rattle.heap_system.specs.Parts.{Part};
-ghost use Rattle.heap_system.specs.declared.Turn.TheVariants as turns;
+ghost use Rattle.heap_system.specs.Courses.{HasRunOn, goes_on, has_waited};
+ghost use Rattle.heap_system.specs.Locals.{is_build, is_done, is_last, is_marking, is_serving, is_sweeping};
 
 use super::Local;
 use super::events::{after_pass, is_last, turn_after};
 use crate::counting::count;
 use crate::rows::Row;
 use crate::{Course, Turn};
-use barrier_steps::FieldPass;
 use block_store::Places;
 use grey_steps::GreyPass;
 use heap_machine::{Outcome, Pass, Step};
-use never_heap::Reply;
 use sweep_steps::SweepPass;
 
 // The most events that are made in a row.
@@ -150,45 +145,14 @@ impl Local {
         ensures stands { C.stands memory.new shared.now self.new }
         ensures run { HasRunOn self.old (C.made memory.old) self.new (C.made memory.new) result }
     {
-        match self.row {
-            Row::Serve => {
-                let mut field = self.field.copied();
-                match self.fields_on(&mut field, memory, shared) {
-                    Some(reply) => self.answer(reply),
-                    None => self.field = field,
-                }
-                Turn::Went
-            }
-            _ => unreachable!(),
-        }
-    }
-
-    // The same with what does the command in hand, up to the reply.
-    #[inline(always)]
-    fn fields_on<C: Course>(
-        &self,
-        field: &mut FieldPass,
-        memory: &mut C,
-        shared: &C::Shared,
-    ) -> Option<Reply>
-        requires part { self.now.part ≡ Part.Serve field.old }
-        requires stands { C.stands memory.old shared.now self.now }
-        ensures on { IfNone result (C.stands memory.new shared.now (serving self.now field.new)
-            × HasRunOn self.now (C.made memory.old) (serving self.now field.new)
-            (C.made memory.new) turns.Went) }
-        ensures over { IfSome result (λ r. C.stands memory.new shared.now (answered self.now r)
-            × HasRunOn self.now (C.made memory.old) (answered self.now r)
-            (C.made memory.new) turns.Went) }
-        ensures fits { FieldFits self.now.config field.new }
-    {
-        let places = Places::new(&self.config);
         for _ in 0..LONGEST {
-            field.event(&places, memory, shared);
-            if let Some(reply) = field.reply() {
-                return Some(reply);
+            self.wants_a_word();
+            let turn = self.serves(memory, shared);
+            if waited(turn) || !self.is_serving() {
+                return turn;
             }
         }
-        None
+        Turn::Went
     }
 
     // `events`, of an object that is built.
@@ -208,7 +172,15 @@ impl Local {
         Turn::Went
     }
 
-    // Whether the thread builds an object.
+    // Whether the thread is in a command that makes no object.
+    #[inline(always)]
+    fn is_serving(&self) -> bool
+        ensures { result ≡ is_serving self.now.part }
+    {
+        matches!(self.row, Row::Serve)
+    }
+
+    // Whether it builds one.
     #[inline(always)]
     fn is_building(&self) -> bool
         ensures { result ≡ is_build self.now.part }
