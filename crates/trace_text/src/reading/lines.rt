@@ -235,6 +235,7 @@ fn idle_of(place: &Place, operands: Option<&[u8]>) -> Result<Line, Why>
 }
 
 /// The command, where its sizes are in their ranges and the thread may have one more.
+#[inline(always)]
 #[tactic(auto, using(crate::proofs::Sizes::told_is))]
 fn told(place: &Place, command: Command) -> Result<Line, Why>
     requires registers { HasRegisters command }
