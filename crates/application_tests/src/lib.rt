@@ -15,6 +15,7 @@ mod handle_scripts;
 mod refused;
 #[cfg(test)]
 mod replaying;
+mod shown_job;
 #[cfg(test)]
 mod tag_calls;
 #[cfg(test)]

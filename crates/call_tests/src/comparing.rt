@@ -3,6 +3,7 @@
 ghost use Rattle.std.specs.Prelude.{◌≡◌, ◌≤◌, length};
 ghost use Rattle.block_store.specs.Configs.{IsInBounds};
 
+use crate::starts::blocks_at_start;
 use crate::testing::{Call, EACH_KIND, job, job_begun, made};
 use block_store::Config;
 use never_heap::{Entry, Graph, Logs};
@@ -12,17 +13,6 @@ use std::process::Abort;
 use std::sync::Wait;
 use std::test::Fail;
 use std::thread::Threads;
-
-/// How many blocks are reachable at the start of a cycle that comes behind so many units, at least
-/// `before` and fewer than `after`.
-fn blocks_at_start(starts: &[(u64, u64)], before: u64, after: u64) -> Option<u64> {
-    for (units, blocks) in starts {
-        if before <= *units && *units < after {
-            return Some(*blocks);
-        }
-    }
-    None
-}
 
 /// Does the commands of a run on the heap that never frees, and compares each reply, and how many
 /// blocks are reachable at these starts of cycles.

@@ -9,6 +9,7 @@ mod generated;
 mod scheduled;
 #[cfg(test)]
 mod several;
+mod starts;
 #[cfg(test)]
 mod testing;
 #[cfg(test)]

@@ -1,18 +1,13 @@
 //! Two threads, of which the first is held after any number of its turns while the other goes on.
 
-ghost use Rattle.std.specs.Prelude.{◌≡◌};
-ghost use Rattle.rate_plan.specs.Rates.{IsAdmitted};
-ghost use Rattle.trace_text.specs.Jobs.{IsJobInBounds};
-
-use block_store::{Config, OutOfMemory, Width};
-use heap_system::System;
+use crate::held_system::opened;
+use block_store::{Config, Width};
 use never_heap::Reply;
 use plain_runs::{Happened, history_of, in_bounds, is_legal};
 use rate_plan::plan;
 use std::alloc::Global;
-use std::marker::Model;
 use std::test::Fail;
-use trace_text::{Job, MemSource, read_trace};
+use trace_text::{MemSource, read_trace};
 
 /// Thread 0 loads an element of the shared array and shows it; thread 1 stores a record there,
 /// lets it go, stores nil over it, and makes more.
@@ -30,51 +25,6 @@ new 2 1
 new 2 1
 end
 ";
-
-/// For so many turns the order is kept.
-const TURNS: u64 = 1_000_000;
-
-/// A system of two threads that keeps its order, and for how many turns at least there is room.
-#[derive(Drop)]
-struct Held {
-    system: System,
-    left: u64,
-}
-
-impl Model for Held {
-    ghost use Rattle.std.specs.Prelude.{◌≡◌, ◌≤◌, IfSome};
-    ghost use Rattle.heap_system.specs.Systems.{Whole};
-
-    ghost Value = { Whole };
-
-    ghost view = { λ h. h.system };
-
-    ghost invariant = { λ h. (h.system.config.threads ≡ 2)
-        × IfSome h.system.ordered (λ o. h.left ≤ o.left) };
-}
-
-/// The opening of a job of two threads.
-fn opened(alloc: Global, job: Job) -> Result<Held, OutOfMemory>
-    requires bounds { IsJobInBounds job }
-    requires admitted { IsAdmitted job.config }
-    requires two { job.config.threads ≡ 2 }
-{
-    let system = System::new_ordered(alloc, job.config, job.traces, TURNS)?;
-    Ok(Held {
-        system,
-        left: TURNS,
-    })
-}
-
-impl Held {
-    /// One turn of the first or the second thread.
-    fn turn(&mut self, second: bool) {
-        if self.left > 0 {
-            self.system.turn(u32::from(second));
-            self.left -= 1;
-        }
-    }
-}
 
 /// What happened where the first thread has `held` turns, the second 400, and then both have turns
 /// one after the other until they are done. `None` where they are not, or nothing was kept.

@@ -11,6 +11,7 @@ mod changed;
 mod failing;
 #[cfg(test)]
 mod held;
+mod held_system;
 #[cfg(test)]
 mod limits;
 #[cfg(test)]

@@ -4,6 +4,7 @@ ghost use Rattle.std.specs.Prelude.{◌≡◌, ◌<◌, ◌≤◌, ◌+◌, leng
 ghost use Rattle.block_store.specs.Configs.{IsInBounds};
 ghost use Rattle.never_heap.specs.Graphs.{count_of};
 
+use crate::stored::last_stored;
 use block_store::{Config, Name, OutOfMemory, Value, Width};
 use never_heap::{Command, Graph, MOST_UNITS, NUMBERS, Reply};
 use std::alloc::Global;
@@ -329,18 +330,6 @@ fn shared() -> [(u32, Command); 20] {
         (0, Command::Swap { s: 1, i: 2, v: 1 }),
         (1, Command::Get { d: 4, s: 1, i: 2 }),
     ]
-}
-
-/// What was last stored in field `i` of the object that a value refers to, by a list of all that
-/// was stored: the object, the field, and the value.
-fn last_stored(stored: &[(Value, u64, Value)], object: Value, i: u64) -> Value {
-    let mut last = Value::Nil;
-    for (other, field, value) in stored {
-        if *other == object && *field == i {
-            last = *value;
-        }
-    }
-    last
 }
 
 #[test]

@@ -12,3 +12,4 @@ mod histories;
 mod needs;
 #[cfg(test)]
 mod orders;
+mod stored;

@@ -16,5 +16,6 @@ mod reading;
 mod refused;
 #[cfg(test)]
 mod std_streams;
+mod ten_commands;
 #[cfg(test)]
 mod testing;

@@ -1,5 +1,5 @@
 use Rattle.std.proofs.Common.{length}
-use Rattle.application_tests.proofs.replaying.+are_traces.Given as goal
+use Rattle.application_tests.proofs.shown_job.+are_traces.Given as goal
 
 abbrev pub decreases-are_traces : goal.decreases-are_traces
 decreases-are_traces l = length l.traces.now
