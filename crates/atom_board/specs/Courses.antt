@@ -1,4 +1,5 @@
--- A seat with one thread makes event after event of it: the proof of what its memory says.
+-- A seat with one thread makes event after event of it: the proof of what its memory says, which an
+-- impl can't take from proofs/.
 use Rattle.std.proofs.Common.{◌≡◌, ℕ, ◌+◌, ◌<◌, false, [], subst, sym, ap, ◌∙◌}
 use Rattle.atomic_table.specs.Table as table
 use Rattle.atomic_table.specs.Seated.{TableId}

@@ -229,12 +229,13 @@ impl AtomBoard {
         who.local.event(&mut who.port, &self.table.shared)
     }
 
-    // Turns of a mutator that is not done, in a row.
+    // Turns of a mutator that is not done, in a row, one at least.
     #[inline(always)]
     fn events(&self, who: &mut Mutator) -> Turn
         requires board { who.old.board ≡ self.now.id }
         requires going { is_done who.old.local ≡ false }
         ensures later { IsLater who.old who.new }
+        ensures more { who.old.turns < who.new.turns }
         ensures few { HasFewTurns who.new }
     {
         who.local.events(&mut who.port, &self.table.shared)

@@ -37,22 +37,16 @@ impl Memory for Port {
 }
 
 impl Course for Port {
-    ghost use Rattle.atom_board.specs.Boards.{turns_in};
     ghost use Rattle.atom_board.specs.Ports.{HasThread};
-    ghost use Rattle.atom_board.specs.Courses.{may_turn, reads_well, one_more, still_has};
+    ghost use Rattle.atom_board.specs.Courses.{may_turn, reads_well, still_has};
 
     ghost stands = { λ p s l. HasThread p.seat.me p.seat.table_id s.table_id l };
-
-    ghost made = { λ p. turns_in p.seat.me.0.locals };
 
     ghost leads = { λ p s l has going low. record {
       allowed = may_turn p.seat.me p.seat.table_id s.table_id l has going low;
       reads = λ w n turned. reads_well p.seat.me p.seat.table_id s.table_id l has w n.seat.me
           turned.2;
-      on = λ w n turned. (
-        still_has p.seat.me p.seat.table_id s.table_id l has w p.seat.id n.seat.id
-            n.seat.table_id n.seat.me turned,
-        one_more p.seat.me p.seat.table_id s.table_id l has w n.seat.me turned.2,
-      );
+      on = λ w n turned. still_has p.seat.me p.seat.table_id s.table_id l has w p.seat.id
+          n.seat.id n.seat.table_id n.seat.me turned;
     } };
 }

@@ -25,8 +25,8 @@ pub fn fulls_are_licensed()
         → StartsSmall c r.order → NoFulls r.order }
 {}
 
-/// In each cycle that has begun few blocks are given: as many as its units pay for, which are at
-/// most two for each block of the heap, and one object more of each thread.
+/// In each cycle that has begun few blocks are given: as many as two units for each block of the heap
+/// pay for, and one object more of each thread.
 pub fn cycles_give_few_blocks()
     ensures { (c : Config) (r : Run) (rate : ℕ) → IsAfterTurns c r → IsRate c rate
         → (z : ℕ) → z ≤ starts_in r.order → given c.width r.order z ≤ most_given c rate }

@@ -26,9 +26,9 @@ job_of run = record { config = run.config; traces = map commands_of run.logs }
 -- and the events that decide its entries are those of that list, and the work of each entry is the
 -- number of units that the turns of its own command made. The logs, cycles and units that the run
 -- shows are those of the history. Where each cycle of the history began with at most L live blocks,
--- none of its commands was answered full. In no cycle are more blocks given than its units pay for,
--- and one object of each thread. The units of C cycles on m blocks are at least (C - 1) m and at
--- most 2 m C.
+-- none of its commands was answered full. In no cycle are more blocks given than two units for each
+-- block pay for, and one object of each thread. The units of C cycles on m blocks are at least
+-- (C - 1) m and at most 2 m C.
 pub record HasHistory (run : ClosedState) : Type 0 where
   pub rate : ℕ
   pub is_rate : IsRate (job_of run).config rate

@@ -54,14 +54,14 @@ fn behind(pass: &SweepPass, owed: u64, step: Step) -> Row
 
 impl Local {
     /// Makes events of the thread in a row, one at least: those of its part, up to 64 and to the
-    /// first that waits; on its way in or out, one. The thread is not done. Tells what the last
+    /// first that waits; at the gate and outside it, one. The thread is not done. Tells what the last
     /// event was.
     #[inline(always)]
     pub fn events<C: Course>(&mut self, memory: &mut C, shared: &C::Shared) -> Turn
         requires open { is_done self.old ≡ false }
         requires stands { C.stands memory.old shared.now self.old }
         ensures stands { C.stands memory.new shared.now self.new }
-        ensures run { HasRunOn self.old (C.made memory.old) self.new (C.made memory.new) result }
+        ensures run { HasRunOn C.acts shared.now memory.old self.old memory.new self.new result }
     {
         match self.row {
             Row::Mark(_) => self.marks_on(memory, shared),
@@ -77,7 +77,7 @@ impl Local {
         requires part { is_marking self.old.part ≡ true }
         requires stands { C.stands memory.old shared.now self.old }
         ensures stands { C.stands memory.new shared.now self.new }
-        ensures run { HasRunOn self.old (C.made memory.old) self.new (C.made memory.new) result }
+        ensures run { HasRunOn C.acts shared.now memory.old self.old memory.new self.new result }
     {
         let places = Places::new(&self.config);
         match self.row {
@@ -109,7 +109,7 @@ impl Local {
         requires part { is_sweeping self.old.part ≡ true }
         requires stands { C.stands memory.old shared.now self.old }
         ensures stands { C.stands memory.new shared.now self.new }
-        ensures run { HasRunOn self.old (C.made memory.old) self.new (C.made memory.new) result }
+        ensures run { HasRunOn C.acts shared.now memory.old self.old memory.new self.new result }
     {
         let places = Places::new(&self.config);
         match self.row {
@@ -143,7 +143,7 @@ impl Local {
         requires part { is_serving self.old.part ≡ true }
         requires stands { C.stands memory.old shared.now self.old }
         ensures stands { C.stands memory.new shared.now self.new }
-        ensures run { HasRunOn self.old (C.made memory.old) self.new (C.made memory.new) result }
+        ensures run { HasRunOn C.acts shared.now memory.old self.old memory.new self.new result }
     {
         for _ in 0..LONGEST {
             self.wants_a_word();
@@ -160,7 +160,7 @@ impl Local {
         requires part { is_build self.old.part ≡ true }
         requires stands { C.stands memory.old shared.now self.old }
         ensures stands { C.stands memory.new shared.now self.new }
-        ensures run { HasRunOn self.old (C.made memory.old) self.new (C.made memory.new) result }
+        ensures run { HasRunOn C.acts shared.now memory.old self.old memory.new self.new result }
     {
         for _ in 0..LONGEST {
             self.wants_a_word();

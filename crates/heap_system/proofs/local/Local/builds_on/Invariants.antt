@@ -1,4 +1,4 @@
-use Rattle.std.proofs.Common.{◌≡◌, ◌+◌, true}
+use Rattle.std.proofs.Common.{◌≡◌, length, true}
 use Rattle.heap_system.specs.declared.Turn.TheVariants.{Went}
 use Rattle.heap_system.specs.Courses.{HasRun}
 use Rattle.heap_system.specs.Locals.{is_build}
@@ -6,6 +6,6 @@ use Rattle.heap_system.proofs.local.Local.builds_on.Given as goal
 
 abbrev pub invariant-loop : goal.invariant-loop
 invariant-loop g l =
-    HasRun l.fn.self (g.C.Course.made l.fn.memory) l.self (g.C.Course.made l.memory) Went
+    (run : HasRun g.C.Memory.acts l.shared l.fn.memory l.fn.self l.memory l.self Went)
     × g.C.Course.stands l.memory l.shared l.self × (is_build l.self.part ≡ true)
-    × (g.C.Course.made l.memory ≡ g.C.Course.made l.fn.memory + l.counter)
+    × (length run.words ≡ l.counter)

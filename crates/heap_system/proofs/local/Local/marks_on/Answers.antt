@@ -1,4 +1,4 @@
-use Rattle.std.proofs.Common.{◌≡◌, true, false, refl, sym, ap, ◌∙◌, subst, arith}
+use Rattle.std.proofs.Common.{◌+◌, [], ◌≡◌, true, false, refl, sym, ap, ◌∙◌, subst, arith}
 use Rattle.grey_steps.specs.Fits.{GreyFits}
 use Rattle.grey_steps.specs.Rows.{GreyState, grey_nothing}
 use Rattle.heap_system.specs.declared.local.Local.TheInside.{Inside}
@@ -6,6 +6,7 @@ use Rattle.heap_system.specs.declared.rows.Row.TheVariants as rows
 use Rattle.heap_system.specs.Parts.{Mark}
 use Rattle.heap_system.specs.declared.Turn.TheVariants.{Went}
 use Rattle.heap_system.specs.Locals.{LocalState, IsLocal, if_over, is_last, local_got}
+use Rattle.heap_system.specs.Courses.{Ran}
 use Rattle.heap_system.proofs.OwedAndPaid.{part_of, view_of}
 use Rattle.heap_system.proofs.UnitMade.{units_few, spent_few, unit_owed, ties, counted_local, over_local, over_part, over_at, units_read}
 use Rattle.heap_system.proofs.Runs.{allowed, reads_well, leads_on, leads_at, run_more}
@@ -18,9 +19,9 @@ event-step-requires-clause-may g c =
     let i : Inside = record c.loop.self-inside { row = rows.Mark c.loop.scan.row } in
     let at : part_of i ≡ Mark c.loop.scan =
     λ j. Mark (record { pass = sym inv.3 j; row = c.loop.scan.row }) in
-    allowed g.C.Memory.may g.C.Memory.acts g.C.Course.stands g.C.Course.made c.loop.memory c.args.shared.now
+    allowed g.C.Memory.may g.C.Memory.acts g.C.Course.stands c.loop.memory c.args.shared.now
     (view_of i) c.new-places.result (Mark c.loop.scan) inv.2 at
-    (leads_at g.C.Memory.may g.C.Memory.acts g.C.Course.stands g.C.Course.made c.loop.memory c.args.shared.now
+    (leads_at g.C.Memory.may g.C.Memory.acts g.C.Course.stands c.loop.memory c.args.shared.now
     (view_of i) g.met.C.Course.leads inv.0.fits inv.1 refl)
 
 pub event-step-requires-clause-reads : goal.event-step-requires-clause-reads
@@ -29,9 +30,9 @@ event-step-requires-clause-reads g c =
     let i : Inside = record c.loop.self-inside { row = rows.Mark c.loop.scan.row } in
     let at : part_of i ≡ Mark c.loop.scan =
     λ j. Mark (record { pass = sym inv.3 j; row = c.loop.scan.row }) in
-    reads_well g.C.Memory.may g.C.Memory.acts g.C.Course.stands g.C.Course.made c.loop.memory c.args.shared.now
+    reads_well g.C.Memory.may g.C.Memory.acts g.C.Course.stands c.loop.memory c.args.shared.now
     (view_of i) c.new-places.result (Mark c.loop.scan) inv.2 at
-    (leads_at g.C.Memory.may g.C.Memory.acts g.C.Course.stands g.C.Course.made c.loop.memory c.args.shared.now
+    (leads_at g.C.Memory.may g.C.Memory.acts g.C.Course.stands c.loop.memory c.args.shared.now
     (view_of i) g.met.C.Course.leads inv.0.fits inv.1 refl)
 
 pub count-requires-clause-owed : goal.count-requires-clause-owed
@@ -94,10 +95,10 @@ returns-then-is_last-clause-stands g c =
     subst (g.C.Course.stands c.event-step.new.memory c.args.shared.now)
     (sym (marked i acted.0 c.count.new.account _ c.count.new.spent c.event-step.result c.count.ensures.account told c.count.ensures.spent
     c.loop.scan c.event-step.new.self c.new-places.result inv.2 at acted.2.0 acted.2.1 (over_part i c.after_pass-self-inside.result) next))
-    (leads_on g.C.Memory.may g.C.Memory.acts g.C.Course.stands g.C.Course.made c.loop.memory c.args.shared.now
+    (leads_on g.C.Memory.may g.C.Memory.acts g.C.Course.stands c.loop.memory c.args.shared.now
     (view_of i) c.new-places.result (Mark c.loop.scan) inv.2 at
-    (leads_at g.C.Memory.may g.C.Memory.acts g.C.Course.stands g.C.Course.made c.loop.memory c.args.shared.now
-    (view_of i) g.met.C.Course.leads inv.0.fits inv.1 refl) acted.0 c.event-step.new.memory acted.1).0
+    (leads_at g.C.Memory.may g.C.Memory.acts g.C.Course.stands c.loop.memory c.args.shared.now
+    (view_of i) g.met.C.Course.leads inv.0.fits inv.1 refl) acted.0 c.event-step.new.memory acted.1).2
 
 pub returns-then-is_last-clause-run : goal.returns-then-is_last-clause-run
 returns-then-is_last-clause-run g c =
@@ -111,16 +112,15 @@ returns-then-is_last-clause-run g c =
     let part = over_at i c.after_pass-self-inside.result c.nothing.result c.after_pass-self-inside.ensures in
     let next : over_part i c.after_pass-self-inside.result ≡ if_over (is_last c.event-step.result.step) (grey_nothing c.event-step.new.self.row) (Mark c.event-step.new.self) =
     part ∙ (λ j. if_over (sym last j) (c.nothing.ensures j) (Mark c.event-step.new.self)) in
-    let more = (leads_on g.C.Memory.may g.C.Memory.acts g.C.Course.stands g.C.Course.made c.loop.memory c.args.shared.now
+    let ahead = leads_on g.C.Memory.may g.C.Memory.acts g.C.Course.stands c.loop.memory c.args.shared.now
     (view_of i) c.new-places.result (Mark c.loop.scan) inv.2 at
-    (leads_at g.C.Memory.may g.C.Memory.acts g.C.Course.stands g.C.Course.made c.loop.memory c.args.shared.now
-    (view_of i) g.met.C.Course.leads inv.0.fits inv.1 refl) acted.0 c.event-step.new.memory acted.1).1 in (
-      run_more c.args.self.now (view_of i) _ (g.C.Course.made c.args.memory.now) (g.C.Course.made c.loop.memory) (g.C.Course.made c.event-step.new.memory) acted.0 c.turn_after.result inv.0.run
-          (marked i acted.0 c.count.new.account _ c.count.new.spent c.event-step.result c.count.ensures.account told c.count.ensures.spent
-          c.loop.scan c.event-step.new.self c.new-places.result inv.2 at acted.2.0 acted.2.1 (over_part i c.after_pass-self-inside.result) next)
-          more (mark_turn i c.loop.scan c.new-places.result acted.0 c.event-step.result c.turn_after.result inv.2 at acted.2.1 c.turn_after.ensures),
-      omega (arith, more, inv.4),
-    )
+    (leads_at g.C.Memory.may g.C.Memory.acts g.C.Course.stands c.loop.memory c.args.shared.now
+    (view_of i) g.met.C.Course.leads inv.0.fits inv.1 refl) acted.0 c.event-step.new.memory acted.1 in
+    let more = run_more g.C.Memory.acts c.args.shared.now c.args.memory.now c.args.self.now c.loop.memory (view_of i) acted.0 c.event-step.new.memory _ c.turn_after.result inv.0.run ahead.0 ahead.1
+    (marked i acted.0 c.count.new.account _ c.count.new.spent c.event-step.result c.count.ensures.account told c.count.ensures.spent
+    c.loop.scan c.event-step.new.self c.new-places.result inv.2 at acted.2.0 acted.2.1 (over_part i c.after_pass-self-inside.result) next)
+    (mark_turn i c.loop.scan c.new-places.result acted.0 c.event-step.result c.turn_after.result inv.2 at acted.2.1 c.turn_after.ensures) in
+    (more.0, omega (arith, more.1))
 
 pub loop-preserved : goal.loop-preserved
 loop-preserved g c =
@@ -145,10 +145,12 @@ loop-preserved g c =
     c.loop.scan c.event-step.new.self c.new-places.result inv.2 at acted.2.0 acted.2.1 (Mark c.event-step.new.self) next in
     let view : record (view_of i) { balance = c.count.new.account.balance; spent = c.count.new.spent; part = Mark (record { pass = i.pass; row = c.event-step.new.self.row }) } ≡ local_got (view_of i) acted.0 =
     ap (λ p. record (view_of i) { balance = c.count.new.account.balance; spent = c.count.new.spent; part = p }) (sym back) ∙ got in
-    let ahead = leads_on g.C.Memory.may g.C.Memory.acts g.C.Course.stands g.C.Course.made c.loop.memory c.args.shared.now
+    let ahead = leads_on g.C.Memory.may g.C.Memory.acts g.C.Course.stands c.loop.memory c.args.shared.now
     (view_of i) c.new-places.result (Mark c.loop.scan) inv.2 at
-    (leads_at g.C.Memory.may g.C.Memory.acts g.C.Course.stands g.C.Course.made c.loop.memory c.args.shared.now
-    (view_of i) g.met.C.Course.leads k.fits inv.1 refl) acted.0 c.event-step.new.memory acted.1 in (
+    (leads_at g.C.Memory.may g.C.Memory.acts g.C.Course.stands c.loop.memory c.args.shared.now
+    (view_of i) g.met.C.Course.leads k.fits inv.1 refl) acted.0 c.event-step.new.memory acted.1 in
+    let more = run_more g.C.Memory.acts c.args.shared.now c.args.memory.now c.args.self.now c.loop.memory (view_of i) acted.0 c.event-step.new.memory _ Went k.run ahead.0 ahead.1
+    view (mark_turn i c.loop.scan c.new-places.result acted.0 c.event-step.result Went inv.2 at acted.2.1 (mark_went c.loop.scan c.new-places.result acted.0 c.event-step.result acted.2.1 on)) in (
       record {
         fits = subst (λ p. IsLocal (record (view_of i) { balance = c.count.new.account.balance; spent = c.count.new.spent; part = p })) back
             (counted_local i k.fits k.rate k.object c.count.new.account c.event-step.result.unit _ c.count.new.spent c.count.ensures.account told c.count.ensures.spent
@@ -157,11 +159,44 @@ loop-preserved g c =
         object = both.1;
         room = k.room;
         price = k.price;
-        run = run_more c.args.self.now (view_of i) _ (g.C.Course.made c.args.memory.now) (g.C.Course.made c.loop.memory) (g.C.Course.made c.event-step.new.memory) acted.0 Went k.run
-            view ahead.1 (mark_turn i c.loop.scan c.new-places.result acted.0 c.event-step.result Went inv.2 at acted.2.1 (mark_went c.loop.scan c.new-places.result acted.0 c.event-step.result acted.2.1 on));
+        run = more.0;
       },
-      subst (g.C.Course.stands c.event-step.new.memory c.args.shared.now) (sym view) ahead.0,
+      subst (g.C.Course.stands c.event-step.new.memory c.args.shared.now) (sym view) ahead.2,
       inv.2,
       pass,
-      omega (arith, ahead.1, inv.4),
+      more.1 ∙ ap (λ n. n + 1) inv.4,
+    )
+
+pub loop-init : goal.loop-init
+loop-init g c =
+    let k = c.self.invariant in
+    let row : rows.Mark c.at_row-scan.result.row ≡ c.self.inside.row =
+    ap (λ (m : GreyState). rows.Mark m.row) c.at_row-scan.ensures ∙ sym c.in-Mark.is in
+    let here : view_of (record c.self.inside { row = rows.Mark c.at_row-scan.result.row }) ≡ c.args.self.now =
+    ap (λ r. view_of (record c.self.inside { row = r })) row ∙ c.self.view_is in (
+      record {
+        fits = subst IsLocal (sym (ap (λ r. view_of (record c.self.inside { row = r })) row)) k.0;
+        rate = k.1;
+        object = k.2;
+        room = k.3;
+        price = k.4;
+        run = record { words = []; ran = (refl, sym here); told = refl };
+      },
+      subst (g.C.Course.stands c.args.memory.now c.args.shared.now) (sym here) c.requires.stands,
+      c.new-places.ensures,
+      ap (λ (m : GreyState). m.pass) c.at_row-scan.ensures,
+      refl,
+    )
+
+pub returns-clause-run : goal.returns-clause-run
+returns-clause-run g c =
+    let inv = c.loop.invariant in
+    let run = inv.0.run in
+    let here = ap (λ r. view_of (record c.loop.self-inside { row = rows.Mark r })) (sym c.row.ensures) in (
+      record {
+        words = run.words;
+        ran = subst (λ l. Ran g.C.Memory.acts c.args.shared.now c.args.memory.now c.args.self.now run.words c.loop.memory l) here run.ran;
+        told = run.told;
+      },
+      omega (arith, inv.4, c.loop-test.false),
     )

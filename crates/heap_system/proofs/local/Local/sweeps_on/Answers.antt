@@ -1,4 +1,4 @@
-use Rattle.std.proofs.Common.{◌≡◌, true, false, refl, sym, ap, ◌∙◌, subst, arith}
+use Rattle.std.proofs.Common.{◌≡◌, true, false, ◌+◌, [], refl, sym, ap, ◌∙◌, subst, arith}
 use Rattle.sweep_steps.specs.Fits.{SweepFits}
 use Rattle.sweep_steps.specs.Rows.{SweepState, sweep_nothing}
 use Rattle.heap_machine.specs.declared.Outcome.{Outcome}
@@ -7,6 +7,7 @@ use Rattle.heap_system.specs.declared.rows.Row.TheVariants as rows
 use Rattle.heap_system.specs.Parts.{Sweep, Again, Idle}
 use Rattle.heap_system.specs.declared.Turn.TheVariants.{Went}
 use Rattle.heap_system.specs.Locals.{IsLocal, if_over, is_last}
+use Rattle.heap_system.specs.Courses.{Ran}
 use Rattle.heap_system.proofs.OwedAndPaid.{part_of, view_of}
 use Rattle.heap_system.proofs.UnitMade.{units_few, spent_few, unit_owed, ties, counted_local, over_local, over_part, units_read, swept_fits, swept_owes}
 use Rattle.heap_system.proofs.Runs.{allowed, reads_well, leads_on, leads_at, run_more}
@@ -18,9 +19,9 @@ event-step-requires-clause-may g c =
     let inv = c.loop.invariant in
     let i : Inside = record c.loop.self-inside { row = rows.Sweep c.in-Sweep.owed c.loop.pass.row } in
     let at : part_of i ≡ Sweep c.loop.pass = sym (ap Sweep inv.3) in
-    allowed g.C.Memory.may g.C.Memory.acts g.C.Course.stands g.C.Course.made c.loop.memory c.args.shared.now
+    allowed g.C.Memory.may g.C.Memory.acts g.C.Course.stands c.loop.memory c.args.shared.now
     (view_of i) c.new-places.result (Sweep c.loop.pass) inv.2 at
-    (leads_at g.C.Memory.may g.C.Memory.acts g.C.Course.stands g.C.Course.made c.loop.memory c.args.shared.now
+    (leads_at g.C.Memory.may g.C.Memory.acts g.C.Course.stands c.loop.memory c.args.shared.now
     (view_of i) g.met.C.Course.leads inv.0.fits inv.1 refl)
 
 pub event-step-requires-clause-reads : goal.event-step-requires-clause-reads
@@ -28,9 +29,9 @@ event-step-requires-clause-reads g c =
     let inv = c.loop.invariant in
     let i : Inside = record c.loop.self-inside { row = rows.Sweep c.in-Sweep.owed c.loop.pass.row } in
     let at : part_of i ≡ Sweep c.loop.pass = sym (ap Sweep inv.3) in
-    reads_well g.C.Memory.may g.C.Memory.acts g.C.Course.stands g.C.Course.made c.loop.memory c.args.shared.now
+    reads_well g.C.Memory.may g.C.Memory.acts g.C.Course.stands c.loop.memory c.args.shared.now
     (view_of i) c.new-places.result (Sweep c.loop.pass) inv.2 at
-    (leads_at g.C.Memory.may g.C.Memory.acts g.C.Course.stands g.C.Course.made c.loop.memory c.args.shared.now
+    (leads_at g.C.Memory.may g.C.Memory.acts g.C.Course.stands c.loop.memory c.args.shared.now
     (view_of i) g.met.C.Course.leads inv.0.fits inv.1 refl)
 
 pub count-requires-clause-owed : goal.count-requires-clause-owed
@@ -112,11 +113,11 @@ returns-then-not-goes_on-clause-stands g c =
     let part = behind_at i c.in-Sweep.owed n (is_last o.step) c.behind-self-inside.result c.behind-self-inside.ensures same in
     let got = swept i acted.0 c.count.new.account _ c.count.new.spent o c.count.ensures.account told c.count.ensures.spent
     c.loop.pass n at acted.2.0 acted.2.1 (over_part i c.behind-self-inside.result) part in
-    let ahead = leads_on g.C.Memory.may g.C.Memory.acts g.C.Course.stands g.C.Course.made c.loop.memory c.args.shared.now
+    let ahead = leads_on g.C.Memory.may g.C.Memory.acts g.C.Course.stands c.loop.memory c.args.shared.now
     (view_of i) c.new-places.result (Sweep c.loop.pass) inv.2 at
-    (leads_at g.C.Memory.may g.C.Memory.acts g.C.Course.stands g.C.Course.made c.loop.memory c.args.shared.now
+    (leads_at g.C.Memory.may g.C.Memory.acts g.C.Course.stands c.loop.memory c.args.shared.now
     (view_of i) g.met.C.Course.leads k.fits inv.1 refl) acted.0 c.event-step.new.memory acted.1 in
-    subst (g.C.Course.stands c.event-step.new.memory c.args.shared.now) (sym got) ahead.0
+    subst (g.C.Course.stands c.event-step.new.memory c.args.shared.now) (sym got) ahead.2
 
 pub returns-then-not-goes_on-clause-run : goal.returns-then-not-goes_on-clause-run
 returns-then-not-goes_on-clause-run g c =
@@ -139,14 +140,13 @@ returns-then-not-goes_on-clause-run g c =
     let part = behind_at i c.in-Sweep.owed n (is_last o.step) c.behind-self-inside.result c.behind-self-inside.ensures same in
     let got = swept i acted.0 c.count.new.account _ c.count.new.spent o c.count.ensures.account told c.count.ensures.spent
     c.loop.pass n at acted.2.0 acted.2.1 (over_part i c.behind-self-inside.result) part in
-    let ahead = leads_on g.C.Memory.may g.C.Memory.acts g.C.Course.stands g.C.Course.made c.loop.memory c.args.shared.now
+    let ahead = leads_on g.C.Memory.may g.C.Memory.acts g.C.Course.stands c.loop.memory c.args.shared.now
     (view_of i) c.new-places.result (Sweep c.loop.pass) inv.2 at
-    (leads_at g.C.Memory.may g.C.Memory.acts g.C.Course.stands g.C.Course.made c.loop.memory c.args.shared.now
-    (view_of i) g.met.C.Course.leads k.fits inv.1 refl) acted.0 c.event-step.new.memory acted.1 in (
-      run_more c.args.self.now (view_of i) _ (g.C.Course.made c.args.memory.now) (g.C.Course.made c.loop.memory) (g.C.Course.made c.event-step.new.memory) acted.0 c.turn_after.result k.run
-          got ahead.1 (sweep_turn i c.loop.pass acted.0 o c.turn_after.result at acted.2.1 c.turn_after.ensures),
-      omega (arith, ahead.1, inv.4),
-    )
+    (leads_at g.C.Memory.may g.C.Memory.acts g.C.Course.stands c.loop.memory c.args.shared.now
+    (view_of i) g.met.C.Course.leads k.fits inv.1 refl) acted.0 c.event-step.new.memory acted.1 in
+    let more = run_more g.C.Memory.acts c.args.shared.now c.args.memory.now c.args.self.now c.loop.memory (view_of i) acted.0 c.event-step.new.memory _ c.turn_after.result k.run ahead.0 ahead.1
+    got (sweep_turn i c.loop.pass acted.0 o c.turn_after.result at acted.2.1 c.turn_after.ensures) in
+    (more.0, omega (arith, more.1))
 
 pub loop-preserved : goal.loop-preserved
 loop-preserved g c =
@@ -171,27 +171,68 @@ loop-preserved g c =
     let both = ties i k.fits k.rate k.object c.count.new.account o.unit _ c.count.new.spent c.count.ensures.account told c.count.ensures.spent in
     let goes = counted_local i k.fits k.rate k.object c.count.new.account o.unit _ c.count.new.spent c.count.ensures.account told c.count.ensures.spent
     (Sweep n) (subst (λ x. SweepFits x n) inv.2 c.event-step.ensures.fits, fits.1, fits.2) owes tt tt in
-    let ahead = leads_on g.C.Memory.may g.C.Memory.acts g.C.Course.stands g.C.Course.made c.loop.memory c.args.shared.now
+    let ahead = leads_on g.C.Memory.may g.C.Memory.acts g.C.Course.stands c.loop.memory c.args.shared.now
     (view_of i) c.new-places.result (Sweep c.loop.pass) inv.2 at
-    (leads_at g.C.Memory.may g.C.Memory.acts g.C.Course.stands g.C.Course.made c.loop.memory c.args.shared.now
+    (leads_at g.C.Memory.may g.C.Memory.acts g.C.Course.stands c.loop.memory c.args.shared.now
     (view_of i) g.met.C.Course.leads k.fits inv.1 refl) acted.0 c.event-step.new.memory acted.1 in
     let went = went_on o.step (sym c.goes_on.ensures ∙ c.if-not-goes_on.false) in
     let next : Sweep n ≡ if_over (is_last o.step) (sweep_nothing n.row) (Sweep n) =
     λ j. if_over (sym went.0 j) (sweep_nothing n.row) (Sweep n) in
     let got = ap (λ p. record (view_of i) { balance = c.count.new.account.balance; spent = c.count.new.spent; part = p }) (sym (ap Sweep same))
     ∙ swept i acted.0 c.count.new.account _ c.count.new.spent o c.count.ensures.account told c.count.ensures.spent
-    c.loop.pass n at acted.2.0 acted.2.1 (Sweep n) next in (
+    c.loop.pass n at acted.2.0 acted.2.1 (Sweep n) next in
+    let more = run_more g.C.Memory.acts c.args.shared.now c.args.memory.now c.args.self.now c.loop.memory (view_of i) acted.0 c.event-step.new.memory _ Went k.run ahead.0 ahead.1
+    got (sweep_turn i c.loop.pass acted.0 o Went at acted.2.1 went.1) in (
       record {
         fits = subst (λ p. IsLocal (record (view_of i) { balance = c.count.new.account.balance; spent = c.count.new.spent; part = p })) (ap Sweep same) goes;
         rate = both.0;
         object = both.1;
         room = k.room;
         price = k.price;
-        run = run_more c.args.self.now (view_of i) _ (g.C.Course.made c.args.memory.now) (g.C.Course.made c.loop.memory) (g.C.Course.made c.event-step.new.memory) acted.0 Went k.run
-            got ahead.1 (sweep_turn i c.loop.pass acted.0 o Went at acted.2.1 went.1);
+        run = more.0;
       },
-      subst (g.C.Course.stands c.event-step.new.memory c.args.shared.now) (sym got) ahead.0,
+      subst (g.C.Course.stands c.event-step.new.memory c.args.shared.now) (sym got) ahead.2,
       inv.2,
       same,
-      omega (arith, ahead.1, inv.4),
+      more.1 ∙ ap (λ n. n + 1) inv.4,
+    )
+
+pub loop-init : goal.loop-init
+loop-init g c =
+    let k = c.self.invariant in
+    let row : rows.Sweep c.in-Sweep.owed c.at_row-pass.result.row ≡ c.self.inside.row =
+    ap (λ (s : SweepState). rows.Sweep c.in-Sweep.owed s.row) c.at_row-pass.ensures ∙ sym c.in-Sweep.is in
+    let here : view_of (record c.self.inside { row = rows.Sweep c.in-Sweep.owed c.at_row-pass.result.row }) ≡ c.args.self.now =
+    ap (λ r. view_of (record c.self.inside { row = r })) row ∙ c.self.view_is in (
+      record {
+        fits = subst IsLocal (sym (ap (λ r. view_of (record c.self.inside { row = r })) row)) k.0;
+        rate = k.1;
+        object = k.2;
+        room = k.3;
+        price = k.4;
+        run = record { words = []; ran = (refl, sym here); told = refl };
+      },
+      subst (g.C.Course.stands c.args.memory.now c.args.shared.now) (sym here) c.requires.stands,
+      c.new-places.ensures,
+      c.at_row-pass.ensures ∙ (λ j. record {
+        thread = c.self.inside.pass.thread;
+        cycle = c.self.inside.pass.cycle;
+        blocks = c.self.inside.config.blocks;
+        owed = c.in-Sweep.owed;
+        row = ap (λ (s : SweepState). s.row) (sym c.at_row-pass.ensures) j;
+      }),
+      refl,
+    )
+
+pub returns-clause-run : goal.returns-clause-run
+returns-clause-run g c =
+    let inv = c.loop.invariant in
+    let run = inv.0.run in
+    let here = ap (λ r. view_of (record c.loop.self-inside { row = rows.Sweep c.in-Sweep.owed r })) (sym c.row-row.ensures) in (
+      record {
+        words = run.words;
+        ran = subst (λ l. Ran g.C.Memory.acts c.args.shared.now c.args.memory.now c.args.self.now run.words c.loop.memory l) here run.ran;
+        told = run.told;
+      },
+      omega (arith, inv.4, c.loop-test.false),
     )
