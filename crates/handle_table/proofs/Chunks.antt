@@ -1,19 +1,12 @@
 -- The answers that replies tell row by row are those that they tell operation by operation.
-use Rattle.std.proofs.Common.{◌≡◌, ℕ, ◌+◌, ◌-◌, ◌≤◌, List, [], ◌∷◌, length, map, slice_index_or, refl, ap, ◌∙◌, arith}
+use Rattle.std.proofs.Common.{◌≡◌, ℕ, ◌+◌, ◌-◌, ◌≤◌, List, [], ◌∷◌, length, map, refl, ap, ◌∙◌, arith}
 use Rattle.std.specs.Prelude.{flat_map}
-use Rattle.std.proofs.lemmas.List.{length-map}
-use Rattle.std.proofs.Math.ListN.{get_or-map}
-use Rattle.block_store.specs.declared.Config.{Config}
-use Rattle.never_heap.specs.declared.Command.{Command}
-use Rattle.never_heap.specs.declared.Entry.{Entry}
 use Rattle.never_heap.specs.declared.Reply.{Reply}
-use Rattle.never_heap.specs.Histories.{HistoryItem, part}
-use Rattle.never_heap.specs.Runs.{IsRun}
-use Rattle.operations.specs.Linearizations.{Call, answers_told, replies_in, traces_of}
+use Rattle.operations.specs.Linearizations.{Call, answers_told}
 use Rattle.handle_table.specs.declared.operation.Operation.{Operation}
 use Rattle.handle_table.specs.declared.operation.Operation.TheVariants as said
 use Rattle.handle_table.specs.declared.told.Outcome.{Outcome}
-use Rattle.handle_table.specs.Handles.{Deed, Make, See, Drop, Take, Evict, Answer, Matched, Found, outcome_of, outcomes_told, numbered, last_after, rows_of, command_at, ends, is_yes, found_by}
+use Rattle.handle_table.specs.Handles.{Deed, Make, See, Drop, Take, Evict, Answer, Matched, Found, outcome_of, outcomes_told, numbered, last_after, rows_of, ends, is_yes, found_by}
 
 -- what calls came to, of operations of thread t behind n makes
 -- lists that agree in their heads and tails
@@ -88,21 +81,3 @@ by_chunks t n last (said.Make h i x ∷ ops)
     one_more call cs (Make t n h i x) (Matched (is_yes r)) _ _ _ each is
     (λ e. by_chunks t (n + 1) (last_after last h (n + 1)) ops rs cs e.0 e.1 (omega arith))
 by_chunks t n last (op ∷ ops) rs (call ∷ cs) each is enough = absurd (omega arith)
-
--- the replies of a run are as many as its rows
-pub enough_replies : (c : Config) (rate : ℕ) (scripts : List (List Deed))
-    (h : List HistoryItem) → IsRun c rate (traces_of rows_of command_at scripts) h → (t : ℕ)
-    → length (flat_map rows_of (slice_index_or scripts t [])) ≤ length (replies_in t h)
-enough_replies c rate scripts h run t =
-    let f : Entry → Command = λ e. e.command in
-    let r : Entry → Reply = λ e. e.reply in
-    let whole : map f (part t h) ≡ map command_at (flat_map rows_of (slice_index_or scripts t [])) =
-    run.traces_whole t
-    ∙ get_or-map (λ (ops : List Deed). map command_at (flat_map rows_of ops)) scripts t [] in
-    let same = ap length whole in
-    omega (
-      arith,
-      length-map (part t h) f,
-      length-map (part t h) r,
-      length-map (flat_map rows_of (slice_index_or scripts t [])) command_at,
-    )

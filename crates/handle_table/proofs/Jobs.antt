@@ -10,6 +10,7 @@ use Rattle.never_heap.specs.Bounds.{IsCommandInBounds}
 use Rattle.never_heap.specs.Jobs.{IsTraceInBounds, IsJobInBounds}
 use Rattle.never_heap.proofs.Ranges.{plain_fits}
 use Rattle.operations.specs.Linearizations.{traces_of}
+use Rattle.operations.proofs.Pairs.{◌▸◌}
 use Rattle.handle_table.specs.declared.operation.Operation.{Operation}
 use Rattle.handle_table.specs.declared.operation.Operation.TheVariants as said
 use Rattle.handle_table.specs.Handles.{Deed, rows_of, command_at, deeds_of, all_deeds, commands_from, AreInTurn, IsScriptInRange, handle_config}
@@ -22,77 +23,40 @@ module _ (n slots blocks t : ℕ) (few_slots : slots ≤ 512) (few_threads : t <
   each_fits : (k : ℕ) (before ops : List Operation) → k + length ops ≤ 14000
       → AreInTurn slots before ops → Fit (commands_from t k ops)
   each_fits k before [] few all = tt
-  each_fits k before (said.Make h i x ∷ ops) few all = (
-    record { range = omega arith; blocks = omega arith; units = omega arith; version = tt },
-    (
-      plain_fits refl refl tt (omega (arith, all.0.2)),
-      (
-        plain_fits refl refl tt (omega arith),
-        (
-          record { range = omega (arith, all.0.0); blocks = omega arith; units = omega arith; version = tt },
-          (
-            plain_fits refl refl tt (omega (arith, all.0.0)),
-            (
-              plain_fits refl refl tt (omega (arith, few_threads, few)),
-              (
-                plain_fits refl refl tt (omega (arith, all.0.0)),
-                (
-                  plain_fits refl refl tt (omega arith),
-                  (
-                    plain_fits refl refl refl (omega arith, omega (arith, all.0.1), omega arith, omega (arith, all.0.0)),
-                    each_fits (k + 1) (before ++ said.Make h i x ∷ []) ops (omega (arith, few)) all.1,
-                  ),
-                ),
-              ),
-            ),
-          ),
-        ),
-      ),
-    ),
-  )
-  each_fits k before (said.See h i ∷ ops) few all = (
-    plain_fits refl refl tt (omega (arith, all.0.1)),
-    (
-      plain_fits refl refl tt (omega arith, omega (arith, all.0.0)),
-      each_fits (k + 0) (before ++ said.See h i ∷ []) ops (omega (arith, few)) all.1,
-    ),
-  )
-  each_fits k before (said.Drop h i ∷ ops) few all = (
-    plain_fits refl refl tt (omega arith),
-    (
-      plain_fits refl refl refl (omega arith, omega (arith, all.0.1), omega (arith, all.0.0), omega arith),
-      each_fits (k + 0) (before ++ said.Drop h i ∷ []) ops (omega (arith, few)) all.1,
-    ),
-  )
-  each_fits k before (said.Take i ∷ ops) few all = (
-    plain_fits refl refl tt (omega (arith, all.0)),
-    (
-      plain_fits refl refl tt (omega arith),
-      (
-        plain_fits refl refl tt (omega arith),
-        (
-          plain_fits refl refl tt (omega arith),
-          each_fits (k + 0) (before ++ said.Take i ∷ []) ops (omega (arith, few)) all.1,
-        ),
-      ),
-    ),
-  )
-  each_fits k before (said.Evict i ∷ ops) few all = (
-    plain_fits refl refl tt (omega arith),
-    (
-      plain_fits refl refl refl (omega arith, omega (arith, all.0), omega arith),
-      (
-        plain_fits refl refl tt (omega arith),
-        (
-          plain_fits refl refl tt (omega arith),
-          (
-            plain_fits refl refl tt (omega arith),
-            each_fits (k + 0) (before ++ said.Evict i ∷ []) ops (omega (arith, few)) all.1,
-          ),
-        ),
-      ),
-    ),
-  )
+  each_fits k before (said.Make h i x ∷ ops) few all =
+      record { range = omega arith; blocks = omega arith; units = omega arith; version = tt }
+      ▸ plain_fits refl refl tt (omega (arith, all.0.2))
+      ▸ plain_fits refl refl tt (omega arith)
+      ▸ record { range = omega (arith, all.0.0); blocks = omega arith; units = omega arith; version = tt }
+      ▸ plain_fits refl refl tt (omega (arith, all.0.0))
+      ▸ plain_fits refl refl tt (omega (arith, few_threads, few))
+      ▸ plain_fits refl refl tt (omega (arith, all.0.0))
+      ▸ plain_fits refl refl tt (omega arith)
+      ▸ plain_fits refl refl refl
+      (omega arith, omega (arith, all.0.1), omega arith, omega (arith, all.0.0))
+      ▸ each_fits (k + 1) (before ++ said.Make h i x ∷ []) ops (omega (arith, few)) all.1
+  each_fits k before (said.See h i ∷ ops) few all =
+      plain_fits refl refl tt (omega (arith, all.0.1))
+      ▸ plain_fits refl refl tt (omega arith, omega (arith, all.0.0))
+      ▸ each_fits (k + 0) (before ++ said.See h i ∷ []) ops (omega (arith, few)) all.1
+  each_fits k before (said.Drop h i ∷ ops) few all =
+      plain_fits refl refl tt (omega arith)
+      ▸ plain_fits refl refl refl
+      (omega arith, omega (arith, all.0.1), omega (arith, all.0.0), omega arith)
+      ▸ each_fits (k + 0) (before ++ said.Drop h i ∷ []) ops (omega (arith, few)) all.1
+  each_fits k before (said.Take i ∷ ops) few all =
+      plain_fits refl refl tt (omega (arith, all.0))
+      ▸ plain_fits refl refl tt (omega arith)
+      ▸ plain_fits refl refl tt (omega arith)
+      ▸ plain_fits refl refl tt (omega arith)
+      ▸ each_fits (k + 0) (before ++ said.Take i ∷ []) ops (omega (arith, few)) all.1
+  each_fits k before (said.Evict i ∷ ops) few all =
+      plain_fits refl refl tt (omega arith)
+      ▸ plain_fits refl refl refl (omega arith, omega (arith, all.0), omega arith)
+      ▸ plain_fits refl refl tt (omega arith)
+      ▸ plain_fits refl refl tt (omega arith)
+      ▸ plain_fits refl refl tt (omega arith)
+      ▸ each_fits (k + 0) (before ++ said.Evict i ∷ []) ops (omega (arith, few)) all.1
 
   few_commands : (k : ℕ) (ops : List Operation) → length (commands_from t k ops) ≤ 9 * length ops
   few_commands k [] = omega arith

@@ -1,9 +1,3 @@
-pub mod Places
-pub mod Gets
-pub mod RowMoves
-pub mod Rows
-pub mod AnyRow
-pub mod Bound
 pub mod NumberedDeeds
 pub mod Chunks
 pub mod SlotApplication
@@ -12,3 +6,7 @@ pub mod SlotsByFate
 pub mod MakeBeforeUse
 pub mod Jobs
 pub mod AnswersSoFar
+pub mod Boxes
+pub mod SlotTable
+pub mod Compared
+pub mod SlotRows

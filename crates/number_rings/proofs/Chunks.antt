@@ -1,16 +1,10 @@
 -- The numbers that replies tell row by row are those that they tell recall by recall.
-use Rattle.std.proofs.Common.{◌≡◌, ℕ, zero, suc, ◌+◌, ◌*◌, ◌≤◌, None, List, [], ◌∷◌, ◌++◌, length, drop, map, slice_index_or, refl, sym, ap, ◌∙◌, arith}
+use Rattle.std.proofs.Common.{◌≡◌, ℕ, zero, suc, ◌+◌, ◌*◌, ◌≤◌, None, List, [], ◌∷◌, ◌++◌, length, drop, refl, sym, ap, ◌∙◌, arith}
 use Rattle.std.specs.Prelude.{flat_map}
-use Rattle.std.proofs.lemmas.List.{length-map, length-drop}
-use Rattle.std.proofs.Math.ListN.{get_or-map}
-use Rattle.block_store.specs.declared.Config.{Config}
-use Rattle.never_heap.specs.declared.Command.{Command}
-use Rattle.never_heap.specs.declared.Entry.{Entry}
+use Rattle.std.proofs.lemmas.List.{length-drop}
 use Rattle.never_heap.specs.declared.Reply.{Reply}
-use Rattle.never_heap.specs.Histories.{HistoryItem, part}
-use Rattle.never_heap.specs.Runs.{IsRun}
-use Rattle.operations.specs.Linearizations.{answers_told, replies_in, traces_of}
-use Rattle.number_rings.specs.Rings.{Operation, Keep, Recall, Cell, keeps, recalls, rows_of, command_at, ends, number_of, with_number, numbers_told, recalled, script_of, lost_of, left_of}
+use Rattle.operations.specs.Linearizations.{answers_told}
+use Rattle.number_rings.specs.Rings.{Operation, Keep, Recall, Cell, keeps, recalls, rows_of, ends, number_of, with_number, numbers_told, recalled, script_of, lost_of, left_of}
 
 -- the answers of operations, four replies to a keep and two to a recall
 abbrev pub answers_of : List Operation → List Reply → List Cell
@@ -88,21 +82,3 @@ script_tells t vs rs long =
     keeps_tell t 0 vs (recalls t (lost_of (length vs)) (left_of (length vs))) rs (omega arith)
     ∙ recalls_tell t (lost_of (length vs)) (left_of (length vs)) (drop (4 * length vs) rs)
     (omega (arith, length-drop (4 * length vs) rs))
-
--- the replies of a run are as many as its rows
-pub as_many_replies : (c : Config) (rate : ℕ) (scripts : List (List Operation))
-    (h : List HistoryItem) → IsRun c rate (traces_of rows_of command_at scripts) h → (t : ℕ)
-    → length (replies_in t h) ≡ length (flat_map rows_of (slice_index_or scripts t []))
-as_many_replies c rate scripts h run t =
-    let f : Entry → Command = λ e. e.command in
-    let r : Entry → Reply = λ e. e.reply in
-    let whole : map f (part t h) ≡ map command_at (flat_map rows_of (slice_index_or scripts t [])) =
-    run.traces_whole t
-    ∙ get_or-map (λ (ops : List Operation). map command_at (flat_map rows_of ops)) scripts t [] in
-    let same = ap length whole in
-    omega (
-      arith,
-      length-map (part t h) f,
-      length-map (part t h) r,
-      length-map (flat_map rows_of (slice_index_or scripts t [])) command_at,
-    )

@@ -9,6 +9,7 @@ use Rattle.never_heap.specs.Bounds.{IsCommandInBounds}
 use Rattle.never_heap.specs.Jobs.{IsTraceInBounds, IsJobInBounds}
 use Rattle.never_heap.proofs.Ranges.{plain_fits}
 use Rattle.operations.specs.Linearizations.{traces_of}
+use Rattle.operations.proofs.Pairs.{◌▸◌}
 use Rattle.rate_plan.specs.Rates.{IsAdmitted}
 use Rattle.number_rings.specs.Rings.{Operation, rows_of, command_at, keeps, recalls, script_of, scripts_from, lost_of, left_of, ring_config, ring_traces, IsKeepable}
 use Rattle.number_rings.proofs.Chunks.{rows_long}
@@ -23,32 +24,22 @@ module _ (n : ℕ) (few : n ≤ 16) where
       (map command_at (flat_map rows_of (keeps t j vs ++ ops)))
   keeps_fit t j [] ops low small rest = rest
   keeps_fit t j (v ∷ vs) ops low small rest =
-      let own = ring_own t j in (
-        record { range = omega arith; blocks = omega arith; units = omega arith; version = tt },
-        (
-          plain_fits refl refl tt (omega arith, small.0),
-          (
-            plain_fits refl refl tt (omega arith),
-            (
-              plain_fits refl refl tt (omega arith, omega (arith, own.low), omega arith),
-              keeps_fit t (j + 1) vs ops low small.1 rest,
-            ),
-          ),
-        ),
-      )
+      let own = ring_own t j in
+      record { range = omega arith; blocks = omega arith; units = omega arith; version = tt }
+      ▸ plain_fits refl refl tt (omega arith, small.0)
+      ▸ plain_fits refl refl tt (omega arith)
+      ▸ plain_fits refl refl tt (omega arith, omega (arith, own.low), omega arith)
+      ▸ keeps_fit t (j + 1) vs ops low small.1 rest
 
   recalls_fit : (t j k : ℕ) → t < n
       → AllByRecursion (IsCommandInBounds (ring_config n))
       (map command_at (flat_map rows_of (recalls t j k)))
   recalls_fit t j zero low = tt
   recalls_fit t j (suc k) low =
-      let own = ring_own t j in (
-        plain_fits refl refl tt (omega arith, omega arith, omega (arith, own.low)),
-        (
-          plain_fits refl refl tt (omega arith, omega arith, omega arith),
-          recalls_fit t (j + 1) k low,
-        ),
-      )
+      let own = ring_own t j in
+      plain_fits refl refl tt (omega arith, omega arith, omega (arith, own.low))
+      ▸ plain_fits refl refl tt (omega arith, omega arith, omega arith)
+      ▸ recalls_fit t (j + 1) k low
 
   trace_fits : (t : ℕ) (vs : List ℕ) → t < n → IsKeepable vs
       → IsTraceInBounds (ring_config n) (map command_at (flat_map rows_of (script_of t vs)))

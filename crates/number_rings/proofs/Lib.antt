@@ -1,10 +1,7 @@
-pub mod Places
-pub mod Rows
-pub mod Bound
-pub mod RingApplication
 pub mod Chunks
 pub mod Alone
 pub mod LastEight
 pub mod RingRuns
 pub mod Jobs
 pub mod TracesSoFar
+pub mod RingTable

@@ -8,14 +8,12 @@ use Rattle.never_heap.specs.Histories.{HistoryItem}
 use Rattle.never_heap.specs.Licensed.{NoFulls}
 use Rattle.never_heap.specs.Runs.{IsRun}
 use Rattle.operations.specs.Linearizations.{Call, calls_of, replies_in, IsLinearization}
-use Rattle.operations.proofs.LinearizedRuns.{linearized}
-use Rattle.operations.proofs.SharedArray.{Holds}
+use Rattle.operations.proofs.Applied.{ordered, as_many_replies}
 use Rattle.number_rings.specs.Rings.{Operation, Cell, answer, cells_after, empty_cells, rows_of, command_at, decides, ends, AreInCells, ring_config, ring_traces, scripts_from, script_of, recalled, last_numbers}
 use Rattle.number_rings.proofs.Alone.{IsOwn, Agree, alone, all_own, answers_alone}
-use Rattle.number_rings.proofs.Chunks.{numbers_in, by_chunks, script_tells, as_many_replies, answers_of}
-use Rattle.number_rings.proofs.RingApplication.{rings_go}
+use Rattle.number_rings.proofs.Chunks.{numbers_in, by_chunks, script_tells, answers_of}
 use Rattle.number_rings.proofs.LastEight.{script_own, script_shows}
-use Rattle.number_rings.proofs.Places.{InPlace, Shows, owed}
+use Rattle.number_rings.proofs.RingTable.{rings, rings_owe}
 
 pub scripts_long : (t : ℕ) (lists : List (List ℕ)) → length (scripts_from t lists) ≡ length lists
 scripts_long t [] = refl
@@ -84,7 +82,7 @@ shown lists rate h order run linear t low =
     let scripts = scripts_from 0 lists in
     let rs = replies_in t h in
     let is : slice_index_or scripts t [] ≡ script_of t vs = own_script lists t low in
-    let many = as_many_replies (ring_config (length lists)) rate scripts h run t in
+    let many = as_many_replies (ring_config (length lists)) rate rows_of command_at scripts h run t in
     let enough = by_chunks (slice_index_or scripts t []) rs (omega (arith, many)) in
     let by_log : map (λ (d : Call Operation Cell). d.answer) (calls_of t order)
     ≡ answers_of (script_of t vs) rs =
@@ -111,7 +109,6 @@ pub rings_show : (rate : ℕ) (lists : List (List ℕ)) (h : List HistoryItem) �
 rings_show rate lists h run =
     let n = length lists in
     let scripts = scripts_from 0 lists in
-    let all = linearized (ring_config n) rows_of command_at decides ends answer cells_after
-    (empty_cells (8 * n)) scripts (Holds Shows (InPlace (8 * n)) owed None n (8 * n))
-    (rings_go n (8 * n) _ scripts (scripts_long 0 lists) (each_low lists)) rate h run in
+    let all = ordered (rings (8 * n)) (ring_config n) rows_of scripts
+    (rings_owe n (8 * n) _ scripts (scripts_long 0 lists) (each_low lists)) rate h run in
     (shown lists rate h all.0 run all.1, all.2)

@@ -1,6 +1,13 @@
 pub mod LinearizedRuns
 pub mod Effects
 pub mod Among
-pub mod SharedArray
 pub mod LiveBound
 pub mod PartLogs
+pub mod Tables
+pub mod Turns
+pub mod RowRules
+pub mod Weights
+pub mod Records
+pub mod Applied
+pub mod RecordRows
+pub mod Pairs

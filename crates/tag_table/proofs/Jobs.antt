@@ -9,6 +9,7 @@ use Rattle.never_heap.specs.Bounds.{IsCommandInBounds}
 use Rattle.never_heap.specs.Jobs.{IsTraceInBounds, IsJobInBounds}
 use Rattle.never_heap.proofs.Ranges.{plain_fits}
 use Rattle.operations.specs.Linearizations.{traces_of}
+use Rattle.operations.proofs.Pairs.{◌▸◌}
 use Rattle.tag_table.specs.declared.operation.Operation.{Operation}
 use Rattle.tag_table.specs.declared.operation.Operation.TheVariants.{Write, Clear, Read}
 use Rattle.tag_table.specs.Tables.{rows_of, command_at, IsScriptInRange, IsOperationInRange, tag_config}
@@ -18,54 +19,27 @@ module _ (n tags blocks : ℕ) (few_tags : tags ≤ 1024) where
       → AllByRecursion (IsCommandInBounds (tag_config n tags blocks))
       (map command_at (flat_map rows_of ops))
   each_fits [] all = tt
-  each_fits (Write i v q ∷ ops) all = (
-    record { range = omega arith; blocks = omega arith; units = omega arith; version = tt },
-    (
-      plain_fits refl refl tt (omega (arith, all.0.1)),
-      (
-        plain_fits refl refl tt (omega arith),
-        (
-          plain_fits refl refl tt (omega (arith, all.0.2)),
-          (
-            plain_fits refl refl tt (omega arith),
-            (
-              plain_fits refl refl refl (omega arith, omega (arith, all.0.0), omega arith),
-              (
-                plain_fits refl refl tt (omega arith),
-                (
-                  plain_fits refl refl tt (omega arith),
-                  each_fits ops all.1,
-                ),
-              ),
-            ),
-          ),
-        ),
-      ),
-    ),
-  )
-  each_fits (Clear i ∷ ops) all = (
-    plain_fits refl refl tt (omega arith),
-    (
-      plain_fits refl refl refl (omega arith, omega (arith, all.0), omega arith),
-      (
-        plain_fits refl refl tt (omega arith),
-        (
-          plain_fits refl refl tt (omega arith),
-          each_fits ops all.1,
-        ),
-      ),
-    ),
-  )
-  each_fits (Read i ∷ ops) all = (
-    plain_fits refl refl tt (omega (arith, all.0)),
-    (
-      plain_fits refl refl tt (omega arith),
-      (
-        plain_fits refl refl tt (omega arith),
-        each_fits ops all.1,
-      ),
-    ),
-  )
+  each_fits (Write i v q ∷ ops) all =
+      record { range = omega arith; blocks = omega arith; units = omega arith; version = tt }
+      ▸ plain_fits refl refl tt (omega (arith, all.0.1))
+      ▸ plain_fits refl refl tt (omega arith)
+      ▸ plain_fits refl refl tt (omega (arith, all.0.2))
+      ▸ plain_fits refl refl tt (omega arith)
+      ▸ plain_fits refl refl refl (omega arith, omega (arith, all.0.0), omega arith)
+      ▸ plain_fits refl refl tt (omega arith)
+      ▸ plain_fits refl refl tt (omega arith)
+      ▸ each_fits ops all.1
+  each_fits (Clear i ∷ ops) all =
+      plain_fits refl refl tt (omega arith)
+      ▸ plain_fits refl refl refl (omega arith, omega (arith, all.0), omega arith)
+      ▸ plain_fits refl refl tt (omega arith)
+      ▸ plain_fits refl refl tt (omega arith)
+      ▸ each_fits ops all.1
+  each_fits (Read i ∷ ops) all =
+      plain_fits refl refl tt (omega (arith, all.0))
+      ▸ plain_fits refl refl tt (omega arith)
+      ▸ plain_fits refl refl tt (omega arith)
+      ▸ each_fits ops all.1
 
   few_rows : (ops : List Operation) → length (flat_map rows_of ops) ≤ 8 * length ops
   few_rows [] = omega arith

@@ -1,6 +1,4 @@
-pub mod Places
-pub mod Rows
-pub mod Bound
+pub mod TagRows
 pub mod Chunks
 pub mod TableApplication
 pub mod Jobs

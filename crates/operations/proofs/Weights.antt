@@ -1,0 +1,278 @@
+-- How many blocks are live at most where an application's table says what registers and objects hold.
+use Rattle.std.proofs.Common.{◌≡◌, ℕ, zero, suc, ◌+◌, ◌*◌, ◌<◌, ◌≤◌, ◌&&◌, inl, inr, cond, ltb, leb, Bool, true, false, List, [], ◌∷◌, length, map, get_or, slice_index_or, eq-eqb, ne_eqb, sym, refl, ap, ◌∙◌, subst, arith}
+use Rattle.std.specs.List.{sum_by}
+use Rattle.std.proofs.lemmas.Bool.{cases_eq, cases_lt, and_parts, ltb-true, leb-true}
+use Rattle.std.proofs.lemmas.List.{get_or_past, length-map}
+use Rattle.std.proofs.lemmas.List.Sums.{sum_by-append}
+use Rattle.block_store.specs.declared.Name.{Name}
+use Rattle.block_store.specs.declared.Value.{Value}
+use Rattle.block_store.specs.declared.Value.TheVariants.{Nil, Int, Ref}
+use Rattle.block_store.specs.declared.Width.TheVariants.{Eight}
+use Rattle.array_trees.specs.Trees.{array_blocks}
+use Rattle.object_lists.specs.Records.{record_blocks}
+use Rattle.never_heap.specs.Graphs.{Graph, Object, shared_name, register_of, object_of, field_of}
+use Rattle.never_heap.specs.LiveBlocks.{live_blocks, object_blocks, blocks_of_kind}
+use Rattle.operations.specs.Applications.{Progress}
+use Rattle.operations.proofs.Among.{refs, thread_of}
+use Rattle.operations.proofs.LiveBound.{IsPlain, no_ref, Carries, IsIn, total, few as few_of}
+use Rattle.operations.proofs.Turns.{HoldsBy, Thread}
+use Rattle.operations.proofs.Tables.{Sym, Empty, Number, Own, Lasting, Plain, Shown, Any, Meant, Hold, Is, Has, Spot, Table, own_name, value_of, record_of, held, spot_of, IsProper, Lasts, Meets}
+
+-- fields that refer to no object in the making; and an object of one block that has such fields
+abbrev pub all_plain : List Sym → Bool
+all_plain [] = true
+all_plain (Own k ∷ fs) = false
+all_plain (_ ∷ fs) = all_plain fs
+
+abbrev pub is_slim : List Sym → Bool
+is_slim fs = all_plain fs && leb (record_blocks Eight (length fs)) 1
+
+-- all to which an object refers are such ones
+abbrev pub refers_slim : List (List Sym) → List Sym → Bool
+refers_slim made [] = true
+refers_slim made (Own j ∷ fs) =
+    (ltb j (length made) && is_slim (get_or made j [])) && refers_slim made fs
+refers_slim made (_ ∷ fs) = refers_slim made fs
+
+-- the blocks of an object with those to which it refers
+abbrev pub weight : List Sym → ℕ
+weight [] = 1
+weight (Own j ∷ fs) = suc (weight fs)
+weight (_ ∷ fs) = weight fs
+
+-- the k-th object in the making has at most so many
+abbrev pub light_own : List (List Sym) → ℕ → ℕ → Bool
+light_own made m k =
+    (ltb k (length made) && leb (record_blocks Eight (length (get_or made k []))) 1)
+    && (refers_slim made (get_or made k []) && leb (weight (get_or made k [])) m)
+
+module _ (t o : ℕ) where
+  plain_fields : (fs : List Sym) → all_plain fs ≡ true → (i : ℕ)
+      → IsPlain (get_or (map (value_of t o) fs) i Nil)
+  plain_fields [] e i = tt
+  plain_fields (Own k ∷ fs) e i = absurd cc
+  plain_fields (Empty ∷ fs) e zero = tt
+  plain_fields (Empty ∷ fs) e (suc i) = plain_fields fs e i
+  plain_fields (Number n ∷ fs) e zero = tt
+  plain_fields (Number n ∷ fs) e (suc i) = plain_fields fs e i
+
+  -- an object in the making to which one refers
+  record Inner (made : List (List Sym)) (c : Name) : Type 0 where
+    index : ℕ
+    low : index < length made
+    slim : is_slim (get_or made index []) ≡ true
+    is : c ≡ own_name t o index
+
+  abbrev name_in : Name → Value → Name
+  name_in d (Ref a) = a
+  name_in d _ = d
+
+  inner_of : (made : List (List Sym)) (fs : List Sym) (i : ℕ) (c : Name)
+      → refers_slim made fs ≡ true → get_or (map (value_of t o) fs) i Nil ≡ Ref c → Inner made c
+  inner_of made [] i c s e = absurd cc
+  inner_of made (Own j ∷ fs) zero c s e =
+      let first = and_parts (ltb j (length made) && is_slim (get_or made j [])) (refers_slim made fs) s in
+      let parts = and_parts (ltb j (length made)) (is_slim (get_or made j [])) first.0 in
+      record {
+        index = j;
+        low = ltb-true j (length made) parts.0;
+        slim = parts.1;
+        is = sym (ap (name_in c) e);
+      }
+  inner_of made (Own j ∷ fs) (suc i) c s e =
+      inner_of made fs i c (and_parts (ltb j (length made) && is_slim (get_or made j [])) (refers_slim made fs) s).1 e
+  inner_of made (Empty ∷ fs) zero c s e = absurd cc
+  inner_of made (Empty ∷ fs) (suc i) c s e = inner_of made fs i c s e
+  inner_of made (Number n ∷ fs) zero c s e = absurd cc
+  inner_of made (Number n ∷ fs) (suc i) c s e = inner_of made fs i c s e
+
+  module _ (g : Graph) (made : List (List Sym))
+      (own : (k : ℕ) → k < length made → object_of g (own_name t o k) ≡ record_of t o (get_or made k []))
+    where
+      abbrev blocks : Name → ℕ
+      blocks c = object_blocks Eight (object_of g c)
+
+      slim_blocks : (j : ℕ) → j < length made → is_slim (get_or made j []) ≡ true
+          → object_blocks Eight (object_of g (own_name t o j)) ≤ 1
+      slim_blocks j low s =
+          let parts = and_parts (all_plain (get_or made j [])) (leb (record_blocks Eight (length (get_or made j []))) 1) s in
+          subst (λ (x : Object). object_blocks Eight x ≤ 1) (sym (own j low))
+          (subst (λ (k : ℕ). record_blocks Eight k ≤ 1) (sym (length-map (get_or made j []) (value_of t o)))
+          (leb-true (record_blocks Eight (length (get_or made j []))) 1 parts.1))
+
+      inner_weight : (fs : List Sym) → refers_slim made fs ≡ true
+          → sum_by blocks (refs (map (value_of t o) fs)) + 1 ≤ weight fs
+      inner_weight [] s = omega arith
+      inner_weight (Own j ∷ fs) s =
+          let first = and_parts (ltb j (length made) && is_slim (get_or made j [])) (refers_slim made fs) s in
+          let parts = and_parts (ltb j (length made)) (is_slim (get_or made j [])) first.0 in
+          let rest = inner_weight fs first.1 in
+          let one = slim_blocks j (ltb-true j (length made) parts.0) parts.1 in
+          let split = sum_by-append blocks (own_name t o j ∷ []) (refs (map (value_of t o) fs)) in
+          omega arith
+      inner_weight (Empty ∷ fs) s = inner_weight fs s
+      inner_weight (Number n ∷ fs) s = inner_weight fs s
+
+      pub carries_own : (m k : ℕ) → light_own made m k ≡ true → Carries Eight g (own_name t o k) m
+      carries_own m k s =
+          let fs : List Sym = get_or made k [] in
+          let two = and_parts (ltb k (length made) && leb (record_blocks Eight (length fs)) 1)
+          (refers_slim made fs && leb (weight fs) m) s in
+          let left = and_parts (ltb k (length made)) (leb (record_blocks Eight (length fs)) 1) two.0 in
+          let right = and_parts (refers_slim made fs) (leb (weight fs) m) two.1 in
+          let is : object_of g (own_name t o k) ≡ record_of t o fs =
+          own k (ltb-true k (length made) left.0) in
+          let light = leb-true (weight fs) m right.1 in
+          let sum = inner_weight fs right.0 in
+          let one : object_blocks Eight (object_of g (own_name t o k)) ≤ 1 =
+          subst (λ (x : Object). object_blocks Eight x ≤ 1) (sym is)
+          (subst (λ (j : ℕ). record_blocks Eight j ≤ 1) (sym (length-map fs (value_of t o)))
+          (leb-true (record_blocks Eight (length fs)) 1 left.1)) in
+          record {
+            inner = λ i c e j.
+                let d = inner_of made fs i c right.0 (ap (λ (x : Object). field_of x i) (sym is) ∙ e) in
+                subst (λ (x : Name). IsPlain (field_of (object_of g x) j)) (sym d.is)
+                (subst (λ (x : Object). IsPlain (field_of x j)) (sym (own d.index d.low))
+                (plain_fields (get_or made d.index []) (and_parts (all_plain (get_or made d.index []))
+                (leb (record_blocks Eight (length (get_or made d.index []))) 1) d.slim).0 j));
+            weight =
+                let same : sum_by blocks (refs (object_of g (own_name t o k)).fields)
+                ≡ sum_by blocks (refs (map (value_of t o) fs)) =
+                ap (λ (x : Object). sum_by blocks (refs x.fields)) is in
+                omega arith;
+          }
+
+-- registers from a on
+abbrev pub upto : ℕ → ℕ → List ℕ
+upto a zero = []
+upto a (suc k) = a ∷ upto (a + 1) k
+
+pub in_upto : (a k d : ℕ) → a ≤ d → d < a + k → IsIn d (upto a k)
+in_upto a zero d low high = absurd (omega arith)
+in_upto a (suc k) d low high = elim (cases_eq a d) [
+  | inl is ↦ inl is
+  | inr ne ↦ inr (in_upto (a + 1) k d (omega arith) (omega arith))
+]
+
+pub upto_has : (a k d : ℕ) → IsIn d (upto a k) → (a ≤ d) × (d < a + k)
+upto_has a zero d i = absurd i
+upto_has a (suc k) d (inl is) = (omega arith, omega arith)
+upto_has a (suc k) d (inr i) = let u = upto_has (a + 1) k d i in (omega (arith, u.0), omega (arith, u.1))
+
+module _ {Cell K : Type 0} (most : ℕ) (weigh : K → ℕ) where
+  abbrev pub light_lasting : ℕ → Lasting Cell K → Bool
+  light_lasting m Plain = true
+  light_lasting m (Meant y) = leb (weigh y) m
+  light_lasting m _ = leb most m
+
+  abbrev pub light_hold : List (List Sym) → ℕ → Hold Cell K → Bool
+  light_hold made m (Is (Own k)) = light_own made m k
+  light_hold made m (Is _) = true
+  light_hold made m (Has y) = light_lasting m y
+
+  abbrev pub all_light : (ℕ → ℕ) → List (List Sym) → List (ℕ × Hold Cell K) → Bool
+  all_light limit made [] = true
+  all_light limit made (p ∷ ps) = light_hold made (limit p.0) p.1 && all_light limit made ps
+
+  light_held : (limit : ℕ → ℕ) (made : List (List Sym)) (rest : ℕ → Lasting Cell K) (q : ℕ)
+      → light_lasting (limit q) (rest q) ≡ true → (puts : List (ℕ × Hold Cell K))
+      → all_light limit made puts ≡ true → light_hold made (limit q) (held rest puts q) ≡ true
+  light_held limit made rest q r [] s = r
+  light_held limit made rest q r (p ∷ ps) s =
+      let parts = and_parts (light_hold made (limit p.0) p.1) (all_light limit made ps) s in
+      let P : Bool → Type 0 = λ z.
+      light_hold made (limit q) (cond z p.1 (held rest ps q)) ≡ true in
+      elim (cases_eq p.0 q) [
+        | inl is ↦ subst P (sym (eq-eqb p.0 q is))
+            (subst (λ (z : ℕ). light_hold made (limit z) p.1 ≡ true) is parts.0)
+        | inr ne ↦ subst P (sym (ne_eqb p.0 q ne)) (light_held limit made rest q r ps parts.1)
+      ]
+
+module _ {Op Row Answer Cell K L : Type 0} (a : Table Op Row Answer Cell K L) where
+  -- what an application owes: how many blocks a cell, a register and another value carry at most
+  pub record Weights : Type 0 where
+    pub most : ℕ
+    pub weigh : K → ℕ
+    pub limit : ℕ → ℕ
+    pub shown : (g : Graph) (out : ℕ → ℕ) (v : Value) (c : Cell) (x : Name)
+        → a.Shows (object_of g) out v c → v ≡ Ref x → Carries Eight g x most
+    pub meant : (g : Graph) (out : ℕ → ℕ) (v : Value) (y : K) (x : Name)
+        → a.Means (object_of g) out v y → v ≡ Ref x → Carries Eight g x (weigh y)
+    pub rests : (t : ℕ) (l : L) (q : ℕ) → light_lasting most weigh (limit q) (a.rest t l q) ≡ true
+    pub rows : (t : ℕ) (l : L) (row : Row) (c : Cell) → a.Fits t l row
+        → all_light most weigh limit (a.before row c).made (a.before row c).puts ≡ true
+
+  more : (g : Graph) (x : Name) (m k : ℕ) → leb m k ≡ true → Carries Eight g x m → Carries Eight g x k
+  more g x m k low c =
+      let le = leb-true m k low in record { inner = c.inner; weight = omega (arith, c.weight) }
+
+  module _ (w : Weights) (n : ℕ) (g : Graph) (at : ℕ → Progress Row Answer) (cells : List Cell)
+      (out : ℕ → ℕ) (h : HoldsBy a n g at cells out) where
+    of_lasting : (m : ℕ) (y : Lasting Cell K) (v : Value) (x : Name)
+        → light_lasting w.most w.weigh m y ≡ true → Lasts a (object_of g) out y v → v ≡ Ref x
+        → Carries Eight g x m
+    of_lasting m Plain v x s p e = absurd (no_ref v x p e)
+    of_lasting m (Shown c) v x s p e = more g x w.most m s (w.shown g out v c x p e)
+    of_lasting m Any v x s p e = more g x w.most m s (w.shown g out v p.0 x p.1 e)
+    of_lasting m (Meant y) v x s p e = more g x (w.weigh y) m s (w.meant g out v y x p e)
+
+    of_hold : (t m : ℕ) (made : List (List Sym)) (y : Hold Cell K) (v : Value) (x : Name)
+        → ((k : ℕ) → k < length made
+        → object_of g (own_name t (out t) k) ≡ record_of t (out t) (get_or made k []))
+        → light_hold w.most w.weigh made m y ≡ true → Meets a (object_of g) out t y v → v ≡ Ref x
+        → Carries Eight g x m
+    of_hold t m made (Is (Own k)) v x own s p e =
+        subst (λ (z : Name). Carries Eight g z m) (ap (name_in 0 0 x) (sym p ∙ e))
+        (carries_own t (out t) g made own m k s)
+    of_hold t m made (Is Empty) v x own s p e = let bad : Nil ≡ Ref x = sym p ∙ e in absurd cc
+    of_hold t m made (Is (Number i)) v x own s p e =
+        let bad : Int i ≡ Ref x = sym p ∙ e in absurd cc
+    of_hold t m made (Has y) v x own s p e = of_lasting m y v x s p e
+
+    one_of : (t d : ℕ) (x : Name) → register_of g t d ≡ Ref x
+        → Thread a n g out (at t) t
+    one_of t d x e = h.each t (omega (arith, thread_of g t d x e, h.threads))
+
+    light_todo : (t : ℕ) (l : L) (rows : List Row) (c : Cell) → IsProper a t l rows
+        → all_light w.most w.weigh w.limit (spot_of a rows c).made (spot_of a rows c).puts ≡ true
+    light_todo t l [] c p = refl
+    light_todo t l (row ∷ rows) c p = w.rows t l row c p.0.0
+
+    by_register : (t d : ℕ) (x : Name) → 1 ≤ d → register_of g t d ≡ Ref x
+        → Carries Eight g x (w.limit d)
+    by_register t d x some e =
+        let p = (one_of t d x e).place in
+        let s : Spot Answer Cell K = spot_of a (at t).todo p.cell in
+        of_hold t (w.limit d) s.made (held (a.rest t p.state) s.puts d) (register_of g t d) x p.spot.own
+        (light_held w.most w.weigh w.limit s.made (a.rest t p.state) d (w.rests t p.state d) s.puts
+        (light_todo t p.state (at t).todo p.cell p.proper)) (p.spot.regs d some) e
+
+    by_cell : (i : ℕ) (x : Name) → field_of (object_of g (shared_name n)) i ≡ Ref x
+        → Carries Eight g x w.most
+    by_cell i x e = elim (cases_lt i a.size) [
+      | inl low ↦ w.shown g out (field_of (object_of g (shared_name n)) i)
+          (slice_index_or cells i a.none) x (h.shared.slots i low) e
+      | inr high ↦ (let is_none : Nil ≡ Ref x =
+          sym (get_or_past (object_of g (shared_name n)).fields i Nil
+          (omega (arith, h.shared.long))) ∙ e in absurd cc)
+    ]
+
+    register_low : (t d : ℕ) (x : Name) → register_of g t d ≡ Ref x → d < 16
+    register_low t d x e = elim (cases_lt d 16) [
+      | inl low ↦ low
+      | inr high ↦ (let is_none : Nil ≡ Ref x =
+          sym (get_or_past (Rattle.never_heap.specs.Graphs.mutator_at g t).registers d Nil
+          (omega (arith, (one_of t d x e).sixteen))) ∙ e in absurd cc)
+    ]
+
+    pub few : live_blocks Eight g
+        ≤ 3 * n + (array_blocks Eight a.size + (a.size * w.most + total w.limit n (upto 1 15)))
+    few =
+        let all = few_of Eight n g w.most (upto 1 15) w.limit h.threads (λ t low. (h.each t low).zero)
+        (λ t d x some e. in_upto 1 15 d some (omega (arith, register_low t d x e)))
+        by_cell (λ t d x is e. by_register t d x (upto_has 1 15 d is).0 e) in
+        let array : object_blocks Eight (object_of g (shared_name n)) ≡ array_blocks Eight a.size =
+        (λ i. blocks_of_kind Eight (h.shared.kind i) (h.shared.long i)) in
+        let long : length (object_of g (shared_name n)).fields * w.most ≡ a.size * w.most =
+        ap (λ (k : ℕ). k * w.most) h.shared.long in
+        omega (arith, all, array, long)
